@@ -1,0 +1,2 @@
+-- Octets, their bits and numbers.
+use Rattle.std.proofs.Common.{◌≡◌}

@@ -1,0 +1,38 @@
+//! The bits of a text capture.
+
+ghost use Rattle.std.specs.Prelude.{◌≡◌, ℕ, List, [], ◌∷◌, ◌++◌, length, IsTrue, MatchResult, IsOk, IsErr, ◌↔◌, Some, None};
+ghost use Rattle.std.specs.Option.{option_to_list};
+ghost use Rattle.bus_bits.specs.Capture.{text_bits, text_fault, BadMark};
+
+/// The octet is no `0`, no `1` and no space.
+#[derive(Clone, Copy, Debug, PartialEq, Eq)]
+pub struct BadMark;
+
+/// Reads a text capture: the octets `0` and `1` are bits in the order received, and space, tab,
+/// CR and LF between them are skipped.
+#[derive(Clone, Copy, Debug, PartialEq, Eq)]
+pub struct TextBits;
+
+impl TextBits {
+    /// A reader that has taken no octet.
+    pub fn new() -> Self {
+        TextBits
+    }
+
+    /// The bit of the next octet, or None where it is skipped.
+    ///
+    /// An octet that is neither a bit nor a space is refused as [`BadMark`], and changes nothing.
+    pub fn step(&mut self, octet: u8) -> Result<Option<bool>, BadMark>
+        ensures given { (xs : List ℕ) → text_fault xs ≡ None → MatchResult result
+            (λ bit. (text_fault (xs ++ octet ∷ []) ≡ None) × (text_bits (xs ++ octet ∷ []) ≡ text_bits xs ++ option_to_list bit))
+            (λ _. (text_fault (xs ++ octet ∷ []) ≡ Some (BadMark (length xs))) × (text_bits (xs ++ octet ∷ []) ≡ text_bits xs)) }
+        ensures kept { self.new ≡ self.old }
+    {
+        match octet {
+            b'0' => Ok(Some(false)),
+            b'1' => Ok(Some(true)),
+            b' ' | b'\t' | b'\r' | b'\n' => Ok(None),
+            _ => Err(BadMark),
+        }
+    }
+}

@@ -1,0 +1,13 @@
+//! Octets and bits, spans of places, counted steps, and the bits of a capture.
+#![tactic(auto)]
+
+mod capture;
+pub mod laws;
+mod octet;
+mod span;
+mod spent;
+
+pub use capture::{BadMark, TextBits};
+pub use octet::{bits_octet, octet_bits};
+pub use span::Span;
+pub use spent::Spent;
