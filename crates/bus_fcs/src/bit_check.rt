@@ -1,0 +1,47 @@
+//! The frame check bit by bit.
+
+ghost use Rattle.std.specs.Prelude.{◌≡◌, ◌+◌, ◌-◌, ◌≤◌, ◌<◌, ◌^◌, ◌↔◌, ℕ, List, [], ◌∷◌, ◌++◌, IsTrue, length};
+ghost use Rattle.bus_fcs.specs.Register.{IsStateAfter};
+
+use crate::check::Check;
+use crate::register::{START, is_residue, trailer_of, turn};
+use bus_bits::Spent;
+
+/// Works bit by bit: eight units of work an octet.
+#[derive(Drop)]
+pub struct BitCheck {
+    state: u16,
+}
+
+impl Check for BitCheck {
+    ghost use Rattle.std.proofs.Common.{rules};
+
+    ghost folded = { λ check octets. IsStateAfter check.state octets };
+
+    ghost COST = { 8 };
+
+    const COST: u64 = 8;
+
+    #[tactic(auto, using(crate::proofs::Registering::state_none))]
+    fn fresh() -> Self {
+        BitCheck { state: START }
+    }
+
+    fn fold(&mut self, octet: u8, spent: &mut Spent) {
+        self.state ^= octet as u16;
+        for _turn in 0..8u64 {
+            self.state = turn(self.state);
+            spent.tick_folded();
+        }
+    }
+
+    fn is_good(&self) -> bool {
+        is_residue(self.state)
+    }
+
+    fn trailer(&self) -> [u8; 2] {
+        trailer_of(self.state)
+    }
+
+    ghost cost_in_range = { Prim.search rules };
+}

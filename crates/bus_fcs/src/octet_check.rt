@@ -1,0 +1,45 @@
+//! The frame check by a table.
+
+ghost use Rattle.std.specs.Prelude.{◌≡◌, ◌+◌, ◌-◌, ◌≤◌, ◌<◌, ◌^◌, ◌↔◌, ℕ, List, [], ◌∷◌, ◌++◌, IsTrue, length};
+ghost use Rattle.bus_fcs.specs.Register.{IsStateAfter};
+
+use crate::check::Check;
+use crate::register::{START, is_residue, trailer_of, turned_octet};
+use bus_bits::Spent;
+
+/// Works by a table of 256 values: one unit of work an octet.
+#[derive(Drop)]
+pub struct OctetCheck {
+    state: u16,
+}
+
+impl Check for OctetCheck {
+    ghost use Rattle.std.proofs.Common.{rules};
+
+    ghost folded = { λ check octets. IsStateAfter check.state octets };
+
+    ghost COST = { 1 };
+
+    const COST: u64 = 1;
+
+    #[tactic(auto, using(crate::proofs::Registering::state_none))]
+    fn fresh() -> Self {
+        OctetCheck { state: START }
+    }
+
+    fn fold(&mut self, octet: u8, spent: &mut Spent) {
+        let place = (self.state ^ octet as u16) & 0xff;
+        self.state = (self.state >> 8) ^ turned_octet(place);
+        spent.tick_folded();
+    }
+
+    fn is_good(&self) -> bool {
+        is_residue(self.state)
+    }
+
+    fn trailer(&self) -> [u8; 2] {
+        trailer_of(self.state)
+    }
+
+    ghost cost_in_range = { Prim.search rules };
+}

@@ -1,0 +1,8 @@
+pub mod Runs
+pub mod SpellingLemmas
+pub mod RunLemmas
+pub mod MarkLemmas
+pub mod LastLemmas
+pub mod DueLemmas
+pub mod MoreLemmas
+pub mod AllLemmas
