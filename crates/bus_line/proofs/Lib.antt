@@ -7,3 +7,4 @@ pub mod DueLemmas
 pub mod MoreLemmas
 pub mod AllLemmas
 pub mod WholeLemmas
+mod Examples
