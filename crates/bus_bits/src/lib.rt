@@ -7,7 +7,7 @@ mod octet;
 mod span;
 mod spent;
 
-pub use capture::{BadMark, TextBits};
+pub use capture::{BadMark, HeadFault, PackedBits, PackedFault, PackedHead, TextBits};
 pub use octet::{bits_octet, octet_bits};
 pub use span::Span;
 pub use spent::Spent;
