@@ -1,11 +1,12 @@
 -- Packed captures, one octet more and any cut.
-use Rattle.std.proofs.Common.{◌≡◌, ℕ, zero, suc, ◌+◌, ◌-◌, ◌*◌, ◌/◌, ◌%◌, ◌^◌, ◌<◌, ◌≤◌, ◌==◌, ◌⊎◌, inl, inr, Bool, true, false, cond, nat_lt, if◌then◌else◌, List, [], ◌∷◌, ◌++◌, length, min, nat_cmp, take, drop, codes, slice_range, Option, Some, None, refl, sym, ap, ◌∙◌, arith, append_assoc, length-append}
+use Rattle.std.proofs.Common.{◌≡◌, ℕ, zero, suc, ◌+◌, ◌-◌, ◌*◌, ◌/◌, ◌%◌, ◌^◌, ◌<◌, ◌≤◌, ◌==◌, ◌⊎◌, inl, inr, Bool, true, false, cond, nat_lt, if◌then◌else◌, List, [], ◌∷◌, ◌++◌, length, min, nat_cmp, take, drop, codes, slice_range, Option, Some, None, refl, sym, ap, subst, ◌∙◌, arith, append_assoc, length-append}
 use Rattle.std.proofs.lemmas.List.{append-nil, length-take, length-take-le, take_all, drop_all, take_at, take-append-le, drop-append-le, drop-drop, drop_at, length-drop, drop-take}
 use Rattle.std.proofs.Math.Seq.{take-append-add, drop-append-add}
 use Rattle.std.proofs.lemmas.Bool.Decides.{nat_tests}
 use Rattle.std.specs.Int.{w64, from_le_bytes, next_multiple_of}
 use Rattle.std.specs.Ordering.{ord_min}
 use Rattle.std.specs.List.{list_any, starts_with}
+use Rattle.std.specs.Cmp.Lexicographic.{pointwise}
 use Rattle.bus_bits.specs.Octet.{bits_of, bits_of_octets}
 use Rattle.bus_bits.specs.Capture.{Capture, CaptureFault, magic, too_many, pad_bits, trailing, short_head, short_body, place_limit, GrowsTo, placed}
 use Rattle.bus_bits.specs.Packed.{head_bits, head_fault, unused, wanted, packed_body, headed, packed_capture, or_fault, filled, packed_whole, PackedAfter}
@@ -49,19 +50,19 @@ wanted-clean n d h l =
 
 wanted-bits : (n : ℕ) (d : List Bool) → pads n d ≡ false → (wanted n d).bits ≡ take n d
 wanted-bits n d h = elim (le_or_lt (length d) (next_multiple_of n 8)) [
-      | inl l ↦ ap (λ (c : Capture). c.bits) (wanted-clean n d h l)
-      | inr l ↦ ap (λ (c : Capture). c.bits) (wanted-long n d h l)
-    ]
+  | inl l ↦ ap (λ (c : Capture). c.bits) (wanted-clean n d h l)
+  | inr l ↦ ap (λ (c : Capture). c.bits) (wanted-long n d h l)
+]
 
 -- wanted bits with no fault have no unused 1, and no octet too many
 wanted_is_clean : (n : ℕ) (d : List Bool) → (wanted n d).fault ≡ None → (pads n d ≡ false) × (length d ≤ next_multiple_of n 8)
 wanted_is_clean n d h = elim (same (pads n d)) [
-      | inl t ↦ let e = ap (λ (c : Capture). c.fault) (wanted-pads n d t) in let z : ⊥ = cc in absurd z
-      | inr f ↦ elim (le_or_lt (length d) (next_multiple_of n 8)) [
-        | inl l ↦ (f, l)
-        | inr l ↦ let e = ap (λ (c : Capture). c.fault) (wanted-long n d f l) in let z : ⊥ = cc in absurd z
-      ]
-    ]
+  | inl t ↦ let e = ap (λ (c : Capture). c.fault) (wanted-pads n d t) in let z : ⊥ = cc in absurd z
+  | inr f ↦ elim (le_or_lt (length d) (next_multiple_of n 8)) [
+    | inl l ↦ (f, l)
+    | inr l ↦ let e = ap (λ (c : Capture). c.fault) (wanted-long n d f l) in let z : ⊥ = cc in absurd z
+  ]
+]
 
 -- ---- numbers of bits
 
@@ -117,36 +118,36 @@ clean_grows c d rest n e = (rest, e, λ f h. let z : ⊥ = cc in absurd z)
 
 wanted-grows : (n : ℕ) (d e : List Bool) → length d % 8 ≡ 0 → length e % 8 ≡ 0 → GrowsTo (wanted n d) (wanted n (d ++ e))
 wanted-grows n d e h k = elim (le_or_lt (next_multiple_of n 8) (length d)) [
-      | inl full ↦ let t : take n (d ++ e) ≡ take n d = take-append-le n d e (omega arith) in
-        let u : take (n / 8 * 8) (d ++ e) ≡ take (n / 8 * 8) d = take-append-le (n / 8 * 8) d e (omega arith) in
-        let p = pads_kept n d e full in
-        elim (same (pads n d)) [
-          | inl y ↦ same_grows (wanted n d) (wanted n (d ++ e)) (
+  | inl full ↦ let t : take n (d ++ e) ≡ take n d = take-append-le n d e (omega arith) in
+      let u : take (n / 8 * 8) (d ++ e) ≡ take (n / 8 * 8) d = take-append-le (n / 8 * 8) d e (omega arith) in
+      let p = pads_kept n d e full in
+      elim (same (pads n d)) [
+        | inl y ↦ same_grows (wanted n d) (wanted n (d ++ e)) (
             wanted-pads n (d ++ e) (p ∙ y) ∙ ap (λ (x : List Bool). record { bits = x; fault = Some pad_bits }) u
             ∙ sym (wanted-pads n d y))
-          | inr f ↦ elim (le_or_lt (length d) (next_multiple_of n 8)) [
-            | inl l ↦ clean_grows (wanted n d) (wanted n (d ++ e)) [] (ap (λ (c : Capture). c.fault) (wanted-clean n d f l)) (
+        | inr f ↦ elim (le_or_lt (length d) (next_multiple_of n 8)) [
+          | inl l ↦ clean_grows (wanted n d) (wanted n (d ++ e)) [] (ap (λ (c : Capture). c.fault) (wanted-clean n d f l)) (
               wanted-bits n (d ++ e) (p ∙ f) ∙ t ∙ sym (wanted-bits n d f) ∙ sym (append-nil (wanted n d).bits))
-            | inr l ↦ same_grows (wanted n d) (wanted n (d ++ e)) (
+          | inr l ↦ same_grows (wanted n d) (wanted n (d ++ e)) (
               wanted-long n (d ++ e) (p ∙ f) (omega (arith, length-append d e))
               ∙ ap (λ (x : List Bool). record { bits = x; fault = Some trailing }) t ∙ sym (wanted-long n d f l))
-          ]
         ]
-      | inr short ↦ let b = short_before n (length d) h short in
-        let c : wanted n d ≡ record { bits = d; fault = None } =
-        wanted-clean n d (pads_none n d (omega arith)) (omega arith)
-        ∙ ap (λ (x : List Bool). record { bits = x; fault = None }) (take_all n d (omega arith)) in
-        let g : (wanted n d).bits ≡ d = ap (λ (x : Capture). x.bits) c in
-        let f : (wanted n d).fault ≡ None = ap (λ (x : Capture). x.fault) c in
-        let w = whole_before n (length d) h short in
-        elim (same (pads n (d ++ e))) [
-          | inl y ↦ clean_grows (wanted n d) (wanted n (d ++ e)) (take (n / 8 * 8 - length d) e) f (
+      ]
+  | inr short ↦ let b = short_before n (length d) h short in
+      let c : wanted n d ≡ record { bits = d; fault = None } =
+      wanted-clean n d (pads_none n d (omega arith)) (omega arith)
+      ∙ ap (λ (x : List Bool). record { bits = x; fault = None }) (take_all n d (omega arith)) in
+      let g : (wanted n d).bits ≡ d = ap (λ (x : Capture). x.bits) c in
+      let f : (wanted n d).fault ≡ None = ap (λ (x : Capture). x.fault) c in
+      let w = whole_before n (length d) h short in
+      elim (same (pads n (d ++ e))) [
+        | inl y ↦ clean_grows (wanted n d) (wanted n (d ++ e)) (take (n / 8 * 8 - length d) e) f (
             ap (λ (x : Capture). x.bits) (wanted-pads n (d ++ e) y) ∙ take_past (n / 8 * 8) d e w
             ∙ ap (λ (x : List Bool). x ++ take (n / 8 * 8 - length d) e) (sym g))
-          | inr z ↦ clean_grows (wanted n d) (wanted n (d ++ e)) (take (n - length d) e) f (
+        | inr z ↦ clean_grows (wanted n d) (wanted n (d ++ e)) (take (n - length d) e) f (
             wanted-bits n (d ++ e) z ∙ take_past n d e (omega arith) ∙ ap (λ (x : List Bool). x ++ take (n - length d) e) (sym g))
-        ]
-    ]
+      ]
+]
 
 -- an octet after the last
 wanted_end : (n : ℕ) (d e : List Bool) → length d % 8 ≡ 0 → length e ≡ 8 → (wanted n d).fault ≡ None → length (wanted n d).bits ≡ n
@@ -178,7 +179,7 @@ pads_next n left d e h k o p =
     let r = room_left n (length d) left h o p in
     let u : drop n (d ++ e) ≡ drop left e = ap (λ (m : ℕ). drop m (d ++ e)) (sym o) ∙ drop-append-add d e left in
     ap (list_any (λ b. b)) (
-      ap (take (next_multiple_of n 8 - n)) u ∙ take_all (next_multiple_of n 8 - n) (drop left e) (omega (arith, length-drop left e)))
+    ap (take (next_multiple_of n 8 - n)) u ∙ take_all (next_multiple_of n 8 - n) (drop left e) (omega (arith, length-drop left e)))
 
 wanted_pad : (n left : ℕ) (d e : List Bool) → length d % 8 ≡ 0 → length e ≡ 8 → (wanted n d).fault ≡ None
     → length (wanted n d).bits + left ≡ n → 0 < left → list_any (λ b. b) (drop left e) ≡ true
@@ -187,7 +188,7 @@ wanted_pad n left d e h k c l p y =
     let w = wanted_open n left d c l p in
     let few : left < 8 = elim (le_or_lt 8 left) [
       | inl m ↦ let z = drop_all left e (omega arith) in
-        let q : false ≡ true = ap (list_any (λ b. b)) (sym z) ∙ y in let x : ⊥ = cc in absurd x
+          let q : false ≡ true = ap (list_any (λ b. b)) (sym z) ∙ y in let x : ⊥ = cc in absurd x
       | inr m ↦ m
     ] in
     let q = last_before n (length d) left h w.1 few in
@@ -263,3 +264,132 @@ packed-short n xs left h p =
 
 pub least : (a b : ℕ) → ord_min nat_cmp a b ≡ min a b
 least a b = grind (arith, nat_tests)
+
+-- ---- any cut of a capture
+
+capture_short : (xs : List ℕ) → length xs < 16 → packed_capture xs ≡ record { bits = []; fault = None }
+unfolding packed_capture
+capture_short xs h =
+    ap (λ (t : Bool). if t then record { bits = []; fault = None } else headed (head_fault xs) (packed_body (head_bits xs) (drop 16 xs)))
+    (lt_true (length xs) 16 h)
+
+capture_long : (xs : List ℕ) → 16 ≤ length xs
+    → packed_capture xs ≡ headed (head_fault xs) (packed_body (head_bits xs) (drop 16 xs))
+unfolding packed_capture
+capture_long xs h =
+    ap (λ (t : Bool). if t then record { bits = []; fault = None } else headed (head_fault xs) (packed_body (head_bits xs) (drop 16 xs)))
+    (le_false (length xs) 16 h)
+
+whole_short : (xs : List ℕ) → length xs < 16 → packed_whole xs ≡ record { bits = []; fault = Some short_head }
+unfolding packed_whole
+whole_short xs h =
+    ap (λ (t : Bool). if t then record { bits = []; fault = Some short_head } else filled (head_bits xs) (packed_capture xs))
+    (lt_true (length xs) 16 h)
+
+whole_long : (xs : List ℕ) → 16 ≤ length xs → packed_whole xs ≡ filled (head_bits xs) (packed_capture xs)
+unfolding packed_whole
+whole_long xs h =
+    ap (λ (t : Bool). if t then record { bits = []; fault = Some short_head } else filled (head_bits xs) (packed_capture xs))
+    (le_false (length xs) 16 h)
+
+slice_kept : (a b : ℕ) (xs ys : List ℕ) → a ≤ b → b ≤ length xs → slice_range (xs ++ ys) a b ≡ slice_range xs a b
+slice_kept a b xs ys h k =
+    ap (take (b - a)) (drop-append-le a xs ys (omega arith))
+    ∙ take-append-le (b - a) (drop a xs) ys (omega (arith, length-drop a xs))
+
+starts_kept : (n : List ℕ) (xs ys : List ℕ) → length n ≤ length xs
+    → starts_with (λ x y. x == y) (xs ++ ys) n ≡ starts_with (λ x y. x == y) xs n
+starts_kept n xs ys h = ap (pointwise (λ x y. x == y) n) (take-append-le (length n) xs ys h)
+
+head_kept : (xs ys : List ℕ) → 16 ≤ length xs → (head_bits (xs ++ ys) ≡ head_bits xs) × (head_fault (xs ++ ys) ≡ head_fault xs)
+head_kept xs ys h =
+    let b : head_bits (xs ++ ys) ≡ head_bits xs = ap (from_le_bytes w64) (slice_kept 8 16 xs ys (omega arith) h) in
+    let s : starts_with (λ x y. x == y) (xs ++ ys) (codes "TS2BITS1") ≡ starts_with (λ x y. x == y) xs (codes "TS2BITS1") =
+    starts_kept (codes "TS2BITS1") xs ys (let e : length (codes "TS2BITS1") ≡ 8 = refl in omega arith) in (
+      b,
+      ap (λ (t : Bool). if t then (if nat_lt (2 ^ 60) (head_bits (xs ++ ys)) then Some too_many else None) else Some magic) s
+          ∙ ap (λ (k : ℕ). if starts_with (λ x y. x == y) xs (codes "TS2BITS1") then (if nat_lt (2 ^ 60) k then Some too_many else None) else Some magic) b,
+    )
+
+grows_along : (c c' d d' : Capture) → c ≡ c' → d ≡ d' → GrowsTo c' d' → GrowsTo c d
+grows_along c c' d d' p q g =
+    let P : Capture → Type 0 = λ x. GrowsTo x d' in
+    let Q : Capture → Type 0 = λ x. GrowsTo c x in subst Q (sym q) (subst P (sym p) g)
+
+headed_grows : (f : Option CaptureFault) (c d : Capture) → GrowsTo c d → GrowsTo (headed f c) (headed f d)
+headed_grows None c d g = g
+headed_grows (Some f) c d g = same_grows (headed (Some f) c) (headed (Some f) d) refl
+
+pub packed-grows : (xs ys : List ℕ) → GrowsTo (packed_capture xs) (packed_capture (xs ++ ys))
+packed-grows xs ys = elim (le_or_lt 16 (length xs)) [
+  | inr short ↦ let e = capture_short xs short in
+      let b : (packed_capture xs).bits ≡ [] = ap (λ (c : Capture). c.bits) e in
+      clean_grows (packed_capture xs) (packed_capture (xs ++ ys)) (packed_capture (xs ++ ys)).bits (ap (λ (c : Capture). c.fault) e)
+      (ap (λ (x : List Bool). x ++ (packed_capture (xs ++ ys)).bits) (sym b))
+  | inl long ↦ let k = head_kept xs ys long in
+      let n = head_bits xs in
+      let body : packed_body (head_bits (xs ++ ys)) (drop 16 (xs ++ ys)) ≡ wanted n (bits_of_octets (drop 16 xs) ++ bits_of_octets ys) =
+      ap (λ (m : ℕ). packed_body m (drop 16 (xs ++ ys))) k.0
+      ∙ ap (λ (z : List ℕ). packed_body n z) (drop-append-le 16 xs ys long)
+      ∙ ap (wanted n) (bits_of_octets-append (drop 16 xs) ys) in
+      let e : packed_capture (xs ++ ys) ≡ headed (head_fault xs) (wanted n (bits_of_octets (drop 16 xs) ++ bits_of_octets ys)) =
+      capture_long (xs ++ ys) (omega (arith, length-append xs ys))
+      ∙ ap (λ (f : Option CaptureFault). headed f (packed_body (head_bits (xs ++ ys)) (drop 16 (xs ++ ys)))) k.1
+      ∙ ap (headed (head_fault xs)) body in
+      grows_along (packed_capture xs) (headed (head_fault xs) (packed_body n (drop 16 xs))) (packed_capture (xs ++ ys))
+      (headed (head_fault xs) (wanted n (bits_of_octets (drop 16 xs) ++ bits_of_octets ys))) (capture_long xs long) e (
+      headed_grows (head_fault xs) (packed_body n (drop 16 xs)) (wanted n (bits_of_octets (drop 16 xs) ++ bits_of_octets ys))
+      (wanted-grows n (bits_of_octets (drop 16 xs)) (bits_of_octets ys) (by_eights (drop 16 xs)) (by_eights ys)))
+]
+
+filled_grows : (n : ℕ) (c : Capture) → GrowsTo c (filled n c)
+filled_grows n c = (
+  [],
+  sym (append-nil c.bits),
+  λ f h.
+      ap (λ (g : Option CaptureFault). record { bits = c.bits; fault = or_fault g (if nat_lt (length c.bits) n then Some short_body else None) }) h
+      ∙ ap (λ (g : Option CaptureFault). record { bits = c.bits; fault = g }) (sym h),
+)
+
+pub packed-ends : (xs : List ℕ) → GrowsTo (packed_capture xs) (packed_whole xs)
+packed-ends xs = elim (le_or_lt 16 (length xs)) [
+  | inr short ↦ let e = capture_short xs short in
+      let w = whole_short xs short in
+      clean_grows (packed_capture xs) (packed_whole xs) [] (ap (λ (c : Capture). c.fault) e) (
+      ap (λ (c : Capture). c.bits) w ∙ ap (λ (c : Capture). c.bits) (sym e) ∙ sym (append-nil (packed_capture xs).bits))
+  | inl long ↦ grows_along (packed_capture xs) (packed_capture xs) (packed_whole xs) (filled (head_bits xs) (packed_capture xs))
+      refl (whole_long xs long) (filled_grows (head_bits xs) (packed_capture xs))
+]
+
+-- ---- places
+
+placed_cut : (origin : ℕ) (c : Capture) → 2 ^ 60 - origin < length c.bits
+    → placed origin c ≡ record { bits = take (2 ^ 60 - origin) c.bits; fault = Some place_limit }
+placed_cut origin c h =
+    ap (λ (t : Bool). if t then record { bits = take (2 ^ 60 - origin) c.bits; fault = Some place_limit } else c)
+    (lt_true (2 ^ 60 - origin) (length c.bits) h)
+
+placed_all : (origin : ℕ) (c : Capture) → length c.bits ≤ 2 ^ 60 - origin → placed origin c ≡ c
+placed_all origin c h =
+    ap (λ (t : Bool). if t then record { bits = take (2 ^ 60 - origin) c.bits; fault = Some place_limit } else c)
+    (le_false (2 ^ 60 - origin) (length c.bits) h)
+
+pub placed-grows : (origin : ℕ) (c d : Capture) → GrowsTo c d → GrowsTo (placed origin c) (placed origin d)
+placed-grows origin c d g =
+    let m = 2 ^ 60 - origin in
+    let l : length d.bits ≡ length c.bits + length g.0 = ap length g.1 ∙ length-append c.bits g.0 in
+    elim (le_or_lt (length c.bits) m) [
+      | inr over ↦ let t : take m d.bits ≡ take m c.bits = ap (take m) g.1 ∙ take-append-le m c.bits g.0 (omega arith) in
+          same_grows (placed origin c) (placed origin d) (
+          placed_cut origin d (omega arith) ∙ ap (λ (x : List Bool). record { bits = x; fault = Some place_limit }) t
+          ∙ sym (placed_cut origin c over))
+      | inl fit ↦ elim (le_or_lt (length d.bits) m) [
+        | inl all ↦ grows_along (placed origin c) c (placed origin d) d (placed_all origin c fit) (placed_all origin d all) g
+        | inr cut ↦ grows_along (placed origin c) c (placed origin d) (record { bits = take m d.bits; fault = Some place_limit })
+            (placed_all origin c fit) (placed_cut origin d cut) (
+              take (m - length c.bits) g.0,
+              ap (take m) g.1 ∙ take_past m c.bits g.0 fit,
+              λ f h. let e : length d.bits ≡ length c.bits = ap (λ (x : Capture). length x.bits) (g.2 f h) in absurd (omega arith),
+            )
+      ]
+    ]

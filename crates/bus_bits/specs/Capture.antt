@@ -3,14 +3,14 @@ use Rattle.std.specs.Prelude.{◌≡◌, ℕ, ◌-◌, ◌^◌, ◌==◌, ◌||�
 
 -- why a capture can't be read on
 pub data CaptureFault : Type 0 where
-  bad_mark : ℕ → CaptureFault     -- the octet at this place is no bit and no space
-  magic : CaptureFault            -- the head begins with other octets
-  too_many : CaptureFault         -- the head counts more than 2^60 bits
-  pad_bits : CaptureFault         -- an unused bit of the last octet is 1
-  trailing : CaptureFault         -- an octet follows the last
-  place_limit : CaptureFault      -- the next bit's place would be 2^60
-  short_head : CaptureFault       -- the input ended in the head
-  short_body : CaptureFault       -- the input ended before the last bit
+  bad_mark : ℕ → CaptureFault  -- the octet at this place is no bit and no space
+  magic : CaptureFault  -- the head begins with other octets
+  too_many : CaptureFault  -- the head counts more than 2^60 bits
+  pad_bits : CaptureFault  -- an unused bit of the last octet is 1
+  trailing : CaptureFault  -- an octet follows the last
+  place_limit : CaptureFault  -- the next bit's place would be 2^60
+  short_head : CaptureFault  -- the input ended in the head
+  short_body : CaptureFault  -- the input ended before the last bit
 
 -- the bits of some octets, and the first fault in them
 pub record Capture : Type 0 where

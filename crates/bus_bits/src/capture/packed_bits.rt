@@ -4,13 +4,11 @@ ghost use Rattle.std.specs.Prelude.{◌≡◌, ℕ, List, [], ◌∷◌, ◌++�
 ghost use Rattle.std.specs.List.{list_any};
 ghost use Rattle.bus_bits.specs.Packed.{PackedAfter, packed_body, packed_fault_of, filled};
 
-use std::cmp::min;
-use std::marker::Model;
-
-use arrayvec::ArrayVec;
-
 use crate::capture::packed_head::PackedHead;
 use crate::octet::octet_bits;
+use arrayvec::ArrayVec;
+use std::cmp::min;
+use std::marker::Model;
 
 /// Why the octets after a head are not its bits.
 #[derive(Clone, Copy, Debug, PartialEq, Eq)]

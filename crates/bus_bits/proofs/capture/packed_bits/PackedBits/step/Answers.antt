@@ -1,4 +1,4 @@
-use Rattle.std.proofs.Common.{◌≡◌, ℕ, ◌<◌, ◌-◌, ◌∷◌, [], ◌++◌, List, Bool, true, false, cond, take, drop, arith, sym, ap, ◌∙◌, subst, length, min}
+use Rattle.std.proofs.Common.{◌≡◌, ℕ, ◌<◌, ◌-◌, ◌∷◌, [], ◌++◌, List, Bool, true, false, take, drop, arith, sym, ap, ◌∙◌, subst, length, min}
 use Rattle.std.proofs.lemmas.List.{length-drop, take_all, take_min, drop_min}
 use Rattle.std.specs.List.{list_any}
 use Rattle.bus_bits.specs.Octet.{bits_of}
@@ -27,8 +27,8 @@ unused_ones : (left used o : ℕ) (bits : List Bool) → bits ≡ bits_of 8 o �
 unused_ones left used o bits b e =
     ap (λ (x : List Bool). list_any (λ b. b) (take (8 - used) (drop used x))) b
     ∙ ap (list_any (λ b. b)) (
-      take_all (8 - used) (drop used (bits_of 8 o)) (omega (arith, length-drop used (bits_of 8 o), length-bits 8 o))
-      ∙ (used_is left used o e).1)
+    take_all (8 - used) (drop used (bits_of 8 o)) (omega (arith, length-drop used (bits_of 8 o), length-bits 8 o))
+    ∙ (used_is left used o e).1)
 
 pub returns-then-has_one-clause-given : goal.returns-then-has_one-clause-given
 returns-then-has_one-clause-given c =
