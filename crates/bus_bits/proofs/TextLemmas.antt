@@ -121,5 +121,5 @@ text-grows xs ys = elim (front_cases is_text xs) [
       let f : text_fault (xs ++ ys) ≡ text_fault xs =
       ap (λ (z : List ℕ). if nat_lt (length z) (length (xs ++ ys)) then Some (bad_mark (length z)) else None) e
       ∙ ap (λ t. if t then Some (bad_mark (length (text_front xs))) else None) (l ∙ sym s) in
-      ([], b ∙ sym (append-nil (text_bits xs)), λ g h. let z : text_capture (xs ++ ys) ≡ text_capture xs = cc in z)
+      ([], b ∙ sym (append-nil (text_bits xs)), λ g h. ap (λ (z : List Bool). record { bits = z; fault = text_fault (xs ++ ys) }) b ∙ ap (λ z. record { bits = text_bits xs; fault = z }) f)
 ]
