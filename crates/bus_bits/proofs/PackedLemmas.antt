@@ -1,6 +1,6 @@
 -- Packed captures, one octet more and any cut.
 use Rattle.std.proofs.Common.{◌≡◌, ℕ, zero, suc, ◌+◌, ◌-◌, ◌*◌, ◌/◌, ◌%◌, ◌^◌, ◌<◌, ◌≤◌, ◌==◌, ◌⊎◌, inl, inr, Bool, true, false, nat_lt, if◌then◌else◌, List, [], ◌∷◌, ◌++◌, length, min, nat_cmp, take, drop, codes, slice_range, Option, Some, None, refl, sym, ap, subst, ◌∙◌, arith, length-append}
-use Rattle.std.proofs.lemmas.List.{append-nil, length-take, take_all, drop_all, take_at, take-append-le, drop-append-le, length-drop}
+use Rattle.std.proofs.lemmas.List.{append-nil, length-take, take_all, drop_all, take_at, take-append-le, drop-append-le, length-drop, drop_at}
 use Rattle.std.proofs.Math.Seq.{take-append-add, drop-append-add}
 use Rattle.std.proofs.lemmas.Bool.Decides.{nat_tests}
 use Rattle.std.specs.Int.{w64, from_le_bytes, next_multiple_of}
@@ -341,6 +341,25 @@ packed-grows xs ys = elim (le_or_lt 16 (length xs)) [
       headed_grows (head_fault xs) (packed_body n (drop 16 xs)) (wanted n (bits_of_octets (drop 16 xs) ++ bits_of_octets ys))
       (wanted-grows n (bits_of_octets (drop 16 xs)) (bits_of_octets ys) (by_eights (drop 16 xs)) (by_eights ys)))
 ]
+
+pub packed-short_head : (xs : List ℕ) → length xs < 16
+    → (packed_capture xs ≡ record { bits = []; fault = None }) × (packed_whole xs ≡ record { bits = []; fault = Some short_head })
+packed-short_head xs h = (capture_short xs h, whole_short xs h)
+
+pub packed-headed : (head xs : List ℕ) → length head ≡ 16
+    → (packed_capture (head ++ xs) ≡ headed (head_fault head) (packed_body (head_bits head) xs))
+    × (packed_whole (head ++ xs) ≡ filled (head_bits head) (headed (head_fault head) (packed_body (head_bits head) xs)))
+packed-headed head xs h =
+    let l : 16 ≤ length (head ++ xs) = omega (arith, length-append head xs) in
+    let k = head_kept head xs (omega arith) in
+    let c : packed_capture (head ++ xs) ≡ headed (head_fault head) (packed_body (head_bits head) xs) =
+    capture_long (head ++ xs) l
+    ∙ ap (λ (f : Option CaptureFault). headed f (packed_body (head_bits (head ++ xs)) (drop 16 (head ++ xs)))) k.1
+    ∙ ap (λ (m : ℕ). headed (head_fault head) (packed_body m (drop 16 (head ++ xs)))) k.0
+    ∙ ap (λ (z : List ℕ). headed (head_fault head) (packed_body (head_bits head) z)) (drop_at head xs 16 h) in (
+      c,
+      whole_long (head ++ xs) l ∙ ap (λ (m : ℕ). filled m (packed_capture (head ++ xs))) k.0 ∙ ap (filled (head_bits head)) c,
+    )
 
 filled_grows : (n : ℕ) (c : Capture) → GrowsTo c (filled n c)
 filled_grows n c = (

@@ -1,5 +1,5 @@
 -- Packed captures: a head of sixteen octets, and the bits by eights, the least significant of an octet first.
-use Rattle.std.specs.Prelude.{◌≡◌, ℕ, ◌+◌, ◌-◌, ◌*◌, ◌/◌, ◌^◌, ◌==◌, Bool, List, [], ◌++◌, length, take, drop, codes, slice_range, nat_lt, if◌then◌else◌, Option, Some, None}
+use Rattle.std.specs.Prelude.{◌≡◌, ℕ, ◌+◌, ◌-◌, ◌*◌, ◌/◌, ◌^◌, ◌<◌, ◌==◌, Bool, List, [], ◌++◌, length, take, drop, codes, slice_range, nat_lt, if◌then◌else◌, Option, Some, None}
 use Rattle.std.specs.Int.{w64, from_le_bytes, next_multiple_of}
 use Rattle.std.specs.List.{list_any, starts_with}
 use Rattle.bus_bits.specs.Octet.{bits_of_octets}
@@ -72,6 +72,19 @@ packed_whole xs =
 pub record PackedAfter (n : ℕ) (xs : List ℕ) (left : ℕ) : Type 0 where
   pub clean : (packed_body n xs).fault ≡ None
   pub left_over : length (packed_body n xs).bits + left ≡ n
+
+-- sixteen octets are the head of all octets that begin with them
+abbrev pub PackedIsHeaded : Type 0
+PackedIsHeaded =
+    (head xs : List ℕ) → length head ≡ 16
+    → (packed_capture (head ++ xs) ≡ headed (head_fault head) (packed_body (head_bits head) xs))
+    × (packed_whole (head ++ xs) ≡ filled (head_bits head) (headed (head_fault head) (packed_body (head_bits head) xs)))
+
+-- and fewer are none
+abbrev pub PackedIsShort : Type 0
+PackedIsShort =
+    (xs : List ℕ) → length xs < 16
+    → (packed_capture xs ≡ record { bits = []; fault = None }) × (packed_whole xs ≡ record { bits = []; fault = Some short_head })
 
 -- however a packed capture is cut, its bits are the same
 abbrev pub PackedGrows : Type 0

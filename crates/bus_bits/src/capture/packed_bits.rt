@@ -1,6 +1,6 @@
 //! The bits of a packed capture, after its head.
 
-ghost use Rattle.std.specs.Prelude.{◌≡◌, ℕ, List, [], ◌∷◌, ◌++◌, length, Some, None, MatchResult, OnErr, ◌<◌, ◌≤◌, ◌^◌};
+ghost use Rattle.std.specs.Prelude.{◌≡◌, ℕ, List, [], ◌∷◌, ◌++◌, length, Some, None, MatchResult, OnErr, ◌≤◌};
 ghost use Rattle.std.specs.List.{list_any};
 ghost use Rattle.bus_bits.specs.Packed.{PackedAfter, packed_body, packed_fault_of, filled};
 
@@ -32,8 +32,6 @@ impl Model for PackedBits {
     ghost Value = { ℕ };
 
     ghost view = { λ reader. reader.left };
-
-    ghost invariant = { λ reader. reader.left < 2 ^ 64 };
 
     ghost inverse = { λ left. record { left = left } };
 }
