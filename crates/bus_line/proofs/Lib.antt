@@ -16,4 +16,7 @@ pub mod HoldLemmas
 pub mod StepLemmas
 pub mod DecideLemmas
 pub mod ClassLemmas
+pub mod StoredLemmas
+pub mod FrameLemmas
+pub mod BufferLemmas
 mod Examples

@@ -1,4 +1,4 @@
--- The places of data whose bit is decided.
+-- The ledger of a finished list: which places are settled, and which of them fill an octet that is stored.
 use Rattle.std.specs.Prelude.{◌≡◌, ℕ, zero, suc, ◌+◌, ◌-◌, ◌*◌, ◌%◌, ◌==◌, ◌<◌, ◌≤◌, Bool, true, false, not, ◌&&◌, List, [], ◌∷◌, ◌++◌, length, nat_lt, nat_le, count_by}
 use Rattle.bus_line.specs.Spelling.{ones}
 use Rattle.bus_line.specs.Mark.{flag, StandsAt, IsFlag, IsAbort, IsMark}
@@ -14,6 +14,7 @@ pub record Belongs (b : List Bool) (i p : ℕ) : Type 0 where
 abbrev pub IsInserted : List Bool → ℕ → Type 0
 IsInserted b i = (q : ℕ) × (q + 5 ≡ i) × StandsAt b q (ones 5 ++ false ∷ [])
 
+-- the place is settled: it belongs to a flag, eight later bits were taken, no abort mark follows, and its bit is no inserted 0
 pub record IsSettled (b : List Bool) (i : ℕ) : Type 0 where
   pub flag : ℕ
   pub belongs : Belongs b i flag
@@ -21,6 +22,7 @@ pub record IsSettled (b : List Bool) (i : ℕ) : Type 0 where
   pub no_abort : IsAbort b (i + 1) → ⊥
   pub no_inserted : IsInserted b i → ⊥
 
+-- computed
 abbrev pub is_inserted : List Bool → ℕ → Bool
 is_inserted b i = nat_le 5 i && stands_at b (i - 5) (ones 5 ++ false ∷ [])
 
@@ -32,6 +34,7 @@ belongs (AbortAt a) i = false
 abbrev pub is_settled : List Bool → ℕ → Bool
 is_settled b i = nat_lt (i + 8) (length b) && (belongs (last_mark b (suc i)) i && (not (is_abort b (suc i)) && not (is_inserted b i)))
 
+-- how many places are settled
 abbrev pub assembled : List Bool → ℕ
 assembled b = count_by (is_settled b) (places (length b))
 
@@ -47,5 +50,10 @@ is_stored longest b i =
     let rank = rank_under b (last_mark b (suc i)) i in
     is_settled b i && ((rank % 8 == 0) && nat_le rank (8 * (longest + 2)))
 
+-- how many octets are stored
 abbrev pub stored : ℕ → List Bool → ℕ
 stored longest b = count_by (is_stored longest b) (places (length b))
+
+-- the octets stored for the piece that begins at `first`, and which no mark has ended
+abbrev pub stored_from : ℕ → List Bool → ℕ → ℕ
+stored_from longest b first = count_by (λ i. nat_le first i && is_stored longest b i) (places (length b))
