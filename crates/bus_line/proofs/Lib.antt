@@ -19,4 +19,5 @@ pub mod ClassLemmas
 pub mod StoredLemmas
 pub mod FrameLemmas
 pub mod BufferLemmas
+pub mod PaidLemmas
 mod Examples

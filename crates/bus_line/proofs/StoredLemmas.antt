@@ -16,7 +16,7 @@ use Rattle.bus_line.proofs.RankLemmas.{rank-data}
 abbrev ranked : List Bool → ℕ → ℕ → Bool
 ranked b p j = nat_le (p + 8) j && is_settled b j
 
-abbrev kept : ℕ → List Bool → ℕ → ℕ → Bool
+abbrev pub kept : ℕ → List Bool → ℕ → ℕ → Bool
 kept longest b p j = nat_le (p + 8) j && is_stored longest b j
 
 -- one more settled place stores an octet where it is the eighth of one that fits

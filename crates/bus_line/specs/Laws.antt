@@ -2,7 +2,7 @@
 use Rattle.std.specs.Prelude.{◌≡◌, ℕ, ◌+◌, ◌-◌, ◌*◌, ◌≤◌, ◌↔◌, Bool, true, if◌then◌else◌, slice_range, List, [], ◌∷◌, ◌++◌, length, option_to_list, Option, Some}
 use Rattle.bus_bits.specs.Octet.{bits_of_octets}
 use Rattle.bus_fcs.specs.FrameCheck.{Good}
-use Rattle.bus_line.specs.Ledger.{IsSettled, is_settled, assembled, is_stored, stored}
+use Rattle.bus_line.specs.Ledger.{IsSettled, is_settled, assembled, is_stored, stored, copied}
 use Rattle.bus_line.specs.Spelling.{IsSpelledBy, spelling, unspelled}
 use Rattle.bus_line.specs.Mark.{HasBegun}
 use Rattle.bus_line.specs.Report.{Report, Frame, IsReport, AreReports, due}
@@ -75,6 +75,10 @@ AssembledWithin = (b : List Bool) → assembled b ≤ length b
 -- each stored octet has eight settled places
 abbrev pub StoredPaid : Type 0
 StoredPaid = (longest : ℕ) (b : List Bool) → 8 * stored longest b ≤ assembled b
+
+-- the octets of all frames are among those that were stored
+abbrev pub FramesStored : Type 0
+FramesStored = (longest : ℕ) (b : List Bool) → copied longest b ≤ stored longest b
 
 -- the raw bits of a frame spell the bits of its octets
 abbrev pub FrameIsSpelled : Type 0

@@ -1,8 +1,9 @@
 -- The ledger of a finished list: which places are settled, and which of them fill an octet that is stored.
-use Rattle.std.specs.Prelude.{◌≡◌, ℕ, zero, suc, ◌+◌, ◌-◌, ◌*◌, ◌%◌, ◌==◌, ◌<◌, ◌≤◌, Bool, true, false, not, ◌&&◌, List, [], ◌∷◌, ◌++◌, length, nat_lt, nat_le, count_by}
+use Rattle.std.specs.Prelude.{◌≡◌, ℕ, zero, suc, ◌+◌, ◌-◌, ◌*◌, ◌%◌, ◌==◌, ◌<◌, ◌≤◌, Bool, true, false, not, ◌&&◌, List, [], ◌∷◌, ◌++◌, length, nat_lt, nat_le, count_by, sum_by}
+use Rattle.bus_line.specs.Report.{Kind, Frame, Damaged, Overlong, Abort, Idle, Report}
 use Rattle.bus_line.specs.Spelling.{ones}
 use Rattle.bus_line.specs.Mark.{flag, StandsAt, IsFlag, IsAbort, IsMark}
-use Rattle.bus_line.specs.Due.{stands_at, is_abort, Mark, NoMark, FlagAt, AbortAt, last_mark, places}
+use Rattle.bus_line.specs.Due.{stands_at, is_abort, Mark, NoMark, FlagAt, AbortAt, last_mark, places, reports}
 
 -- the flag at p is the last mark up to place i, which comes after it
 pub record Belongs (b : List Bool) (i p : ℕ) : Type 0 where
@@ -57,3 +58,18 @@ stored longest b = count_by (is_stored longest b) (places (length b))
 -- the octets stored for the piece that begins at `first`, and which no mark has ended
 abbrev pub stored_from : ℕ → List Bool → ℕ → ℕ
 stored_from longest b first = count_by (λ i. nat_le first i && is_stored longest b i) (places (length b))
+
+-- how many octets a report hands on: those of a frame
+abbrev pub kind_octets : Kind → ℕ
+kind_octets (Frame octets) = length octets
+kind_octets (Damaged cause) = 0
+kind_octets Overlong = 0
+kind_octets Abort = 0
+kind_octets Idle = 0
+
+abbrev pub octet_count : Report → ℕ
+octet_count r = kind_octets r.kind
+
+-- the octets of all frames
+abbrev pub copied : ℕ → List Bool → ℕ
+copied longest b = sum_by octet_count (reports longest b)

@@ -2,6 +2,7 @@ use Rattle.std.proofs.Common.{arith, length, ◌≤◌, ◌++◌}
 use Rattle.std.proofs.lemmas.List.{length-append}
 use Rattle.bus_line.proofs.SettledLemmas.{settled-true, settled-is, settled-stays, assembled-more, stored-more, assembled-within}
 use Rattle.bus_line.proofs.RankLemmas.{stored-paid}
+use Rattle.bus_line.proofs.PaidLemmas.{frames-paid}
 use Rattle.bus_line.proofs.laws.settled_places.Goals as goal
 
 pub returns-clause-settled : goal.returns-clause-settled
@@ -21,3 +22,6 @@ returns-clause-within c = assembled-within
 
 pub returns-clause-paid : goal.returns-clause-paid
 returns-clause-paid c = stored-paid
+
+pub returns-clause-frames : goal.returns-clause-frames
+returns-clause-frames c = frames-paid
