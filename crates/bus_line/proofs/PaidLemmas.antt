@@ -76,6 +76,7 @@ kept-more longest b bit p =
     none-behind : (x y : Bool) → y ≡ false → (x && y) ≡ false
     none-behind true y h = h
     none-behind false y h = refl
+
     late : (d : List Bool) (i : ℕ) → length d ≤ i + 8 → is_stored longest d i ≡ false
     late d i l = rw (is_settled-late d i l) refl
 
@@ -144,8 +145,8 @@ closed-octets longest b bit p e l =
                 let g = length_push (settled_data b p) (get_or b (length b - 8) false) in
                 let settled = data-settled b bit p e (omega arith) t in
                 let now : is_stored longest c (length b - 8) ≡ true =
-                    stores-now longest b bit p e (omega arith)
-                    ∙ and_from _ _ settled (and_from _ _ (eq-eqb ((length (settled_data b p) + 1) % 8) 0 (omega (arith, f.1, d, g))) (le-leb (length (settled_data b p) + 1) (8 * (longest + 2)) (omega (arith, f.0, d, g)))) in
+                stores-now longest b bit p e (omega arith)
+                ∙ and_from _ _ settled (and_from _ _ (eq-eqb ((length (settled_data b p) + 1) % 8) 0 (omega (arith, f.1, d, g))) (le-leb (length (settled_data b p) + 1) (8 * (longest + 2)) (omega (arith, f.0, d, g)))) in
                 omega (arith, f.2, f.0, f.1, s, d, g, ap one_if now)
           ]
     ]

@@ -1,5 +1,6 @@
 -- The ledger of a finished list: which places are settled, and which of them fill an octet that is stored.
 use Rattle.std.specs.Prelude.{◌≡◌, ℕ, zero, suc, ◌+◌, ◌-◌, ◌*◌, ◌%◌, ◌==◌, ◌<◌, ◌≤◌, Bool, true, false, not, ◌&&◌, List, [], ◌∷◌, ◌++◌, length, nat_lt, nat_le, count_by, sum_by}
+use Rattle.bus_bits.specs.declared.spent.Spent.{Spent}
 use Rattle.bus_line.specs.Report.{Kind, Frame, Damaged, Overlong, Abort, Idle, Report}
 use Rattle.bus_line.specs.Spelling.{ones}
 use Rattle.bus_line.specs.Mark.{flag, StandsAt, IsFlag, IsAbort, IsMark}
@@ -73,3 +74,12 @@ octet_count r = kind_octets r.kind
 -- the octets of all frames
 abbrev pub copied : ℕ → List Bool → ℕ
 copied longest b = sum_by octet_count (reports longest b)
+
+-- the counters of a decoder after the bits b, whose check costs so much an octet
+pub record IsLedger (cost longest : ℕ) (b : List Bool) (spent : Spent) : Type 0 where
+  pub bits : spent.shifted ≡ length b
+  pub settled : spent.assembled ≡ assembled b
+  pub filled : spent.stored ≡ stored longest b
+  pub paid : spent.folded ≡ cost * stored longest b
+  pub none_copied : spent.copied ≡ 0
+  pub none_handled : spent.handled ≡ 0

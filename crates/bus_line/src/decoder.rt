@@ -10,7 +10,7 @@ ghost use Rattle.std.specs.Option.{option_map};
 ghost use Rattle.std.specs.Borrow.{sem};
 ghost use Rattle.std.specs.Io.BufRead.{Rests};
 ghost use Rattle.bus_line.specs.Due.{due_at, begun};
-ghost use Rattle.bus_line.specs.Ledger.{stored_from};
+ghost use Rattle.bus_line.specs.Ledger.{stored_from, IsLedger};
 
 use crate::line_fault::LineFault;
 use crate::piece::Piece;
@@ -163,6 +163,7 @@ impl<C: Check> LineDecoder<C> {
     /// The steps so far.
     pub fn spent(&self) -> Spent
         ensures value { result ≡ self.now.spent }
+        ensures ledger { (b : List Bool) → After C.folded C.COST self.now b → IsLedger C.COST self.now.longest b result }
     {
         self.spent
     }
