@@ -1,1 +1,2 @@
 pub mod OctetLemmas
+pub mod TextLemmas

@@ -3,8 +3,8 @@ use Rattle.std.specs.Prelude.{ℕ, ◌-◌, ◌^◌, ◌==◌, ◌||◌, Bool, L
 
 -- why a capture can't be read on
 pub data CaptureFault : Type 0 where
-  BadMark : ℕ → CaptureFault      -- the octet at this place is no bit and no space
-  PlaceLimit : CaptureFault       -- the next bit's place would be 2^60
+  bad_mark : ℕ → CaptureFault  -- the octet at this place is no bit and no space
+  place_limit : CaptureFault  -- the next bit's place would be 2^60
 
 -- the bits of some octets, and the first fault in them
 pub record Capture : Type 0 where
@@ -27,7 +27,7 @@ abbrev pub text_bits : List ℕ → List Bool
 text_bits xs = map (λ x. x == 49) (filter is_mark (text_front xs))
 
 abbrev pub text_fault : List ℕ → Option CaptureFault
-text_fault xs = if nat_lt (length (text_front xs)) (length xs) then Some (BadMark (length (text_front xs))) else None
+text_fault xs = if nat_lt (length (text_front xs)) (length xs) then Some (bad_mark (length (text_front xs))) else None
 
 -- text: a `0` or `1` is a bit
 abbrev pub text_capture : List ℕ → Capture
@@ -35,4 +35,4 @@ text_capture xs = record { bits = text_bits xs; fault = text_fault xs }
 
 -- no bit has the place 2^60, where the first has the place of the origin
 abbrev pub placed : ℕ → Capture → Capture
-placed origin c = if nat_lt (2 ^ 60 - origin) (length c.bits) then record { bits = take (2 ^ 60 - origin) c.bits; fault = Some PlaceLimit } else c
+placed origin c = if nat_lt (2 ^ 60 - origin) (length c.bits) then record { bits = take (2 ^ 60 - origin) c.bits; fault = Some place_limit } else c

@@ -28,3 +28,11 @@ BitsOfOctets = (os : List ℕ) → All (λ o. o < 256) os → octets (bits_of_oc
 -- and data of whole octets are the bits of these
 abbrev pub OctetsOfBits : Type 0
 OctetsOfBits = (d : List Bool) → length d % 8 ≡ 0 → bits_of_octets (octets d) ≡ d
+
+-- a number below 256 is that of its eight bits
+abbrev pub NumberOfBits : Type 0
+NumberOfBits = (o : ℕ) → o < 256 → number (bits_of 8 o) ≡ o
+
+-- and eight bits are those of their number
+abbrev pub BitsOfNumber : Type 0
+BitsOfNumber = (b : List Bool) → length b ≡ 8 → bits_of 8 (number b) ≡ b

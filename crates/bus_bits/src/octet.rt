@@ -9,14 +9,14 @@ pub fn octet_bits(o: u8) -> [bool; 8]
     ensures { result ≡ bits_of 8 o }
 {
     [
-        o & 1 != 0,
-        o & 2 != 0,
-        o & 4 != 0,
-        o & 8 != 0,
-        o & 16 != 0,
-        o & 32 != 0,
-        o & 64 != 0,
-        o & 128 != 0,
+        o % 2 == 1,
+        o / 2 % 2 == 1,
+        o / 4 % 2 == 1,
+        o / 8 % 2 == 1,
+        o / 16 % 2 == 1,
+        o / 32 % 2 == 1,
+        o / 64 % 2 == 1,
+        o / 128 % 2 == 1,
     ]
 }
 
@@ -24,5 +24,12 @@ pub fn octet_bits(o: u8) -> [bool; 8]
 pub fn bits_octet(b: &[bool; 8]) -> u8
     ensures { result ≡ number b.now }
 {
-    b.iter().rev().fold(0, |octet, bit| (octet << 1) | u8::from(*bit))
+    u8::from(b[0])
+        + 2 * u8::from(b[1])
+        + 4 * u8::from(b[2])
+        + 8 * u8::from(b[3])
+        + 16 * u8::from(b[4])
+        + 32 * u8::from(b[5])
+        + 64 * u8::from(b[6])
+        + 128 * u8::from(b[7])
 }

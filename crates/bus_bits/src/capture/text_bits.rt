@@ -2,7 +2,9 @@
 
 ghost use Rattle.std.specs.Prelude.{◌≡◌, ℕ, List, [], ◌∷◌, ◌++◌, length, IsTrue, MatchResult, IsOk, IsErr, ◌↔◌, Some, None};
 ghost use Rattle.std.specs.Option.{option_to_list};
-ghost use Rattle.bus_bits.specs.Capture.{text_bits, text_fault, BadMark};
+ghost use Rattle.bus_bits.specs.Capture.{text_bits, text_fault, bad_mark, is_space};
+
+const ONE: u8 = b'1';
 
 /// The octet is no `0`, no `1` and no space.
 #[derive(Clone, Copy, Debug, PartialEq, Eq)]
@@ -25,14 +27,21 @@ impl TextBits {
     pub fn step(&mut self, octet: u8) -> Result<Option<bool>, BadMark>
         ensures given { (xs : List ℕ) → text_fault xs ≡ None → MatchResult result
             (λ bit. (text_fault (xs ++ octet ∷ []) ≡ None) × (text_bits (xs ++ octet ∷ []) ≡ text_bits xs ++ option_to_list bit))
-            (λ _. (text_fault (xs ++ octet ∷ []) ≡ Some (BadMark (length xs))) × (text_bits (xs ++ octet ∷ []) ≡ text_bits xs)) }
+            (λ _. (text_fault (xs ++ octet ∷ []) ≡ Some (bad_mark (length xs))) × (text_bits (xs ++ octet ∷ []) ≡ text_bits xs)) }
         ensures kept { self.new ≡ self.old }
     {
-        match octet {
-            b'0' => Ok(Some(false)),
-            b'1' => Ok(Some(true)),
-            b' ' | b'\t' | b'\r' | b'\n' => Ok(None),
-            _ => Err(BadMark),
+        if octet / 2 == ONE / 2 {
+            Ok(Some(octet == ONE))
+        } else if is_skipped(octet) {
+            Ok(None)
+        } else {
+            Err(BadMark)
         }
     }
+}
+
+fn is_skipped(octet: u8) -> bool
+    ensures { result ≡ is_space octet }
+{
+    octet == b' ' || octet == b'\t' || octet == b'\r' || octet == b'\n'
 }
