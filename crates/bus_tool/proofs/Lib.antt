@@ -1,0 +1,5 @@
+pub mod Bytes
+pub mod FrameLemmas
+pub mod CaptureLemmas
+pub mod GatherLemmas
+pub mod RunLemmas
