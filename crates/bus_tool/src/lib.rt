@@ -3,10 +3,13 @@
 
 mod fault;
 mod list;
+mod options;
+mod run;
 mod text;
 
 pub use fault::ToolFault;
 pub use list::list_pieces;
+pub use run::run;
 
 #[cfg(test)]
 mod fakes;
