@@ -4,3 +4,4 @@ pub mod Ends
 pub mod Checking
 pub mod Registering
 pub mod Tabled
+mod Examples

@@ -116,9 +116,9 @@ reports-only longest b rs h =
 -- the report that is due at a place is computed
 pub due-it : (longest : ℕ) (b : List Bool) (i : ℕ) (r : Report) → (IsReport longest b r × (due r ≡ i)) ↔ (due_at longest b i ≡ Some r)
 due-it longest b i r = (
-    λ h. ap (due_at longest b) (sym h.1) ∙ due_at-is longest b r h.0,
-    λ e. due_at-report longest b i r e,
-  )
+  λ h. ap (due_at longest b) (sym h.1) ∙ due_at-is longest b r h.0,
+  λ e. due_at-report longest b i r e,
+)
 
 -- a mark stands within the list
 mark-within : (b : List Bool) (q : ℕ) → IsMark b q → q < length b

@@ -6,3 +6,5 @@ pub mod LastLemmas
 pub mod DueLemmas
 pub mod MoreLemmas
 pub mod AllLemmas
+pub mod WholeLemmas
+mod Examples

@@ -4,28 +4,20 @@ use Rattle.std.proofs.lemmas.List.{length-take, length-drop, length-append, get_
 use Rattle.std.proofs.lemmas.Bool.{and_parts, and_from, cases_Bool, false_from_ne_true, both_ways}
 use Rattle.bus_line.specs.Spelling.{ones}
 use Rattle.bus_line.specs.Mark.{flag, StandsAt, IsFresh, IsFlag, IsAbort, IsIdle, IsMark}
-use Rattle.bus_line.specs.Due.{same_bits, stands_at, is_fresh, is_flag, is_abort, is_idle, Mark, NoMark, FlagAt, AbortAt, last_mark}
+use Rattle.std.specs.Bool.{beq, Decides}
+use Rattle.std.specs.Cmp.{booleans_Decides}
+use Rattle.std.proofs.lemmas.Slice.Eq.{slice_eq-Decides}
+use Rattle.std.specs.Cmp.Lexicographic.{pointwise}
+use Rattle.bus_line.specs.Due.{stands_at, is_fresh, is_flag, is_abort, is_idle, Mark, NoMark, FlagAt, AbortAt, last_mark}
 
-same_bits-true : (xs ys : List Bool) → same_bits xs ys ≡ true → xs ≡ ys
-same_bits-true [] [] h = refl
-same_bits-true (true ∷ xs) (true ∷ ys) h = ap (λ zs. true ∷ zs) (same_bits-true xs ys h)
-same_bits-true (false ∷ xs) (false ∷ ys) h = ap (λ zs. false ∷ zs) (same_bits-true xs ys h)
-same_bits-true (true ∷ xs) (false ∷ ys) h = absurd (cc)
-same_bits-true (false ∷ xs) (true ∷ ys) h = absurd (cc)
-same_bits-true [] (y ∷ ys) h = absurd (cc)
-same_bits-true (true ∷ xs) [] h = absurd (cc)
-same_bits-true (false ∷ xs) [] h = absurd (cc)
-
-same_bits-refl : (xs : List Bool) → same_bits xs xs ≡ true
-same_bits-refl [] = refl
-same_bits-refl (true ∷ xs) = same_bits-refl xs
-same_bits-refl (false ∷ xs) = same_bits-refl xs
+decided : (b : List Bool) (p : ℕ) (w : List Bool) → Decides (stands_at b p w) (w ≡ take (length w) (drop p b))
+decided b p w = slice_eq-Decides booleans_Decides w (take (length w) (drop p b)) (stands_at b p w) refl
 
 pub stands-true : (b : List Bool) (p : ℕ) (w : List Bool) → stands_at b p w ≡ true → StandsAt b p w
-stands-true b p w h = same_bits-true (take (length w) (drop p b)) w h
+stands-true b p w h = sym ((decided b p w).0 h)
 
 pub stands-is : (b : List Bool) (p : ℕ) (w : List Bool) → StandsAt b p w → stands_at b p w ≡ true
-stands-is b p w h = subst (λ (xs : List Bool). same_bits xs w ≡ true) (sym h) (same_bits-refl w)
+stands-is b p w h = (decided b p w).1 (sym h)
 
 pub fresh-true : (b : List Bool) (a : ℕ) → is_fresh b a ≡ true → IsFresh b a
 fresh-true b zero h = tt
@@ -66,7 +58,7 @@ pub window-append : (n p : ℕ) (b c : List Bool) → p + n ≤ length b → tak
 window-append n p b c h = ap (take n) (drop-append-le p b c (omega arith)) ∙ take-append-le n (drop p b) c (omega (arith, length-drop p b))
 
 pub stands_at-append : (b c : List Bool) (p : ℕ) (w : List Bool) → p + length w ≤ length b → stands_at (b ++ c) p w ≡ stands_at b p w
-stands_at-append b c p w h = ap (λ xs. same_bits xs w) (window-append (length w) p b c h)
+stands_at-append b c p w h = ap (pointwise beq w) (window-append (length w) p b c h)
 
 pub is_fresh-append : (b c : List Bool) (a : ℕ) → a ≤ length b → is_fresh (b ++ c) a ≡ is_fresh b a
 is_fresh-append b c zero h = refl

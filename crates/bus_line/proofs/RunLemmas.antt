@@ -4,7 +4,8 @@ use Rattle.std.proofs.lemmas.Bool.{cases_lt}
 use Rattle.std.specs.Option.{option_map}
 use Rattle.bus_line.specs.Spelling.{IsSpelledBy, ends, short, five, spelling, unspelled, ones}
 use Rattle.bus_line.proofs.Runs.{ones_after, ones_at_end, data_after, data_so_far, HasSix}
-use Rattle.bus_line.proofs.SpellingLemmas.{unspelled-is, unspelled-short}
+use Rattle.std.proofs.lemmas.Bool.Decides.{nat_tests}
+use Rattle.bus_line.proofs.SpellingLemmas.{unspelled-is, unspelled-short, none_back}
 
 pub ones_after-more : (k : ℕ) (r : List Bool) (x : Bool) → ones_after k (r ++ x ∷ []) ≡ (if x then suc (ones_after k r) else 0)
 ones_after-more k [] true = refl
@@ -128,3 +129,31 @@ low-or-zero_six k (false ∷ r) h = elim (low-or-zero_six 0 r (omega arith)) [
 -- behind a 0, six ones in a row have a 0 before them, if one looks far enough
 pub zero-six : (r : List Bool) → HasSix r → HasZeroSix (false ∷ r)
 zero-six r h = elim (low-or-zero_six 0 r (omega arith)) [ inl i ↦ absurd (low-no_six r i h) | inr s ↦ s ]
+
+-- one raw bit more keeps to five ones in a row
+pub low-more : (k : ℕ) (r : List Bool) (x : Bool) → IsLow k r → (x ≡ true → ones_after k r ≤ 4) → IsLow k (r ++ x ∷ [])
+low-more k [] true h f = let g = f refl in omega arith
+low-more k [] false h f = (h, omega arith)
+low-more k (true ∷ r) x h f = low-more (suc k) r x h f
+low-more k (false ∷ r) x h f = (h.0, low-more 0 r x h.1 f)
+
+-- before a 1 there are four ones at most
+pub low-front : (k : ℕ) (u v : List Bool) → IsLow k (u ++ true ∷ v) → ones_after k u ≤ 4
+low-front k [] v h = omega (arith, IsLow-start (suc k) v h)
+low-front k (true ∷ u) v h = low-front (suc k) u v h
+low-front k (false ∷ u) v h = low-front 0 u v h.1
+
+-- a sixth 1 spells nothing
+pub six-unspelled : (u v : List Bool) → 5 ≤ ones_at_end u → unspelled (u ++ true ∷ v) ≡ None
+six-unspelled u v h = none_back (u ++ true ∷ v) (λ d s. omega (arith, low-front 0 u v (spelled-low d (u ++ true ∷ v) s)))
+
+-- a raw bit that is no inserted 0 is a bit of data
+pub data-push : (r : List Bool) (x : Bool) → ones_at_end r ≤ 4 → data_so_far (r ++ x ∷ []) ≡ data_so_far r ++ x ∷ []
+data-push r true h = data_after-more 0 r true
+data-push r false h =
+    let f : (ones_at_end r == 5) ≡ false = grind (arith, nat_tests) in
+    data_after-more 0 r false ∙ rw f refl
+
+pub data-inserted : (r : List Bool) (x : Bool) → x ≡ false → ones_at_end r ≡ 5 → data_so_far (r ++ x ∷ []) ≡ data_so_far r
+data-inserted r true e h = absurd (cc)
+data-inserted r false e h = data_after-more 0 r false ∙ rw h refl

@@ -1,18 +1,15 @@
 -- The same, computed: the report that is due at a place, and all of them by due place.
 use Rattle.std.specs.Prelude.{◌≡◌, ℕ, zero, suc, ◌+◌, ◌-◌, ◌<◌, Bool, true, false, not, ◌&&◌, List, [], ◌∷◌, ◌++◌, length, take, drop, slice_range, nat_lt, nat_le, if◌then◌else◌, Option, Some, None, filter_map}
+use Rattle.std.specs.List.{starts_with}
+use Rattle.std.specs.Bool.{beq}
 use Rattle.bus_line.specs.Spelling.{unspelled, ones}
 use Rattle.bus_line.specs.Mark.{flag}
 use Rattle.bus_line.specs.Report.{Kind, Damaged, Abort, Idle, Report, class_of_data}
 use Rattle.bus_line.specs.declared.cause.Cause.TheVariants.{Unstuffed}
 
-abbrev pub same_bits : List Bool → List Bool → Bool
-same_bits [] [] = true
-same_bits (true ∷ xs) (true ∷ ys) = same_bits xs ys
-same_bits (false ∷ xs) (false ∷ ys) = same_bits xs ys
-same_bits xs ys = false
-
+-- the bits from place `p` on begin with `w`
 abbrev pub stands_at : List Bool → ℕ → List Bool → Bool
-stands_at b p w = same_bits (take (length w) (drop p b)) w
+stands_at b p w = starts_with beq (drop p b) w
 
 abbrev pub is_fresh : List Bool → ℕ → Bool
 is_fresh b zero = true
@@ -36,6 +33,12 @@ pub data Mark : Type 0 where
 abbrev pub last_mark : List Bool → ℕ → Mark
 last_mark b zero = NoMark
 last_mark b (suc p) = if is_flag b p then FlagAt p else (if is_abort b p then AbortAt p else last_mark b p)
+
+-- the flag, if it is one
+abbrev pub flag_of : Mark → Option ℕ
+flag_of NoMark = None
+flag_of (FlagAt p) = Some p
+flag_of (AbortAt a) = None
 
 abbrev pub class_of_read : ℕ → Option (List Bool) → Kind
 class_of_read longest None = Damaged Unstuffed

@@ -8,7 +8,7 @@ use Rattle.bus_line.specs.declared.cause.Cause.{Cause}
 use Rattle.bus_line.specs.declared.cause.Cause.TheVariants.{Unstuffed, Short, Unaligned, Fcs}
 
 pub data Kind : Type 0 where
-  Frame : List ℕ → Kind -- its octets, the frame checking sequence included
+  Frame : List ℕ → Kind  -- its octets, the frame checking sequence included
   Damaged : Cause → Kind
   Overlong : Kind
   Abort : Kind
@@ -46,7 +46,7 @@ pub data IsClass (longest : ℕ) (raw : List Bool) : Kind → Type 0 where
 -- a report of the list: a piece that a flag closes, a piece that an abort ends, or an idle
 pub data IsReport (longest : ℕ) (b : List Bool) : Report → Type 0 where
   closed : (p m : ℕ) (kind : Kind) → IsPiece b p m → IsFlag b m → IsClass longest (slice_range b (p + 8) m) kind
-    → IsReport longest b (record { kind = kind; first = p + 8; past = m })
+      → IsReport longest b (record { kind = kind; first = p + 8; past = m })
   aborted : (p m : ℕ) → IsPiece b p m → IsAbort b m → IsReport longest b (record { kind = Abort; first = p + 8; past = m })
   idle : (a : ℕ) → IsIdle b a → IsReport longest b (record { kind = Idle; first = a; past = a + 15 })
 
