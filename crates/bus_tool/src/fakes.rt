@@ -76,3 +76,29 @@ impl Write for Narrow {
         Ok(())
     }
 }
+
+/// Takes what it has room for, and asks for no memory.
+#[derive(Drop)]
+pub struct Fixed {
+    pub room: [u8; 64],
+    pub len: usize,
+}
+
+impl Write for Fixed {
+    fn write(&mut self, buf: &[u8]) -> io::Result<usize> {
+        let mut count = 0;
+        for octet in buf {
+            if self.len >= self.room.len() {
+                break;
+            }
+            self.room[self.len] = *octet;
+            self.len += 1;
+            count += 1;
+        }
+        Ok(count)
+    }
+
+    fn flush(&mut self) -> io::Result<()> {
+        Ok(())
+    }
+}

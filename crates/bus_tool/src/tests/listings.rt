@@ -1,6 +1,6 @@
 //! Listings of text captures, by honest and by failing readers and writers.
 
-use crate::fakes::{Endless, Narrow, Pieces};
+use crate::fakes::{Endless, Fixed, Narrow, Pieces};
 use crate::{ToolFault, list_pieces};
 use std::test::Fail;
 
