@@ -1,2 +1,3 @@
 pub mod OctetLemmas
+pub mod PackedLemmas
 pub mod TextLemmas

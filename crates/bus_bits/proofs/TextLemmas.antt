@@ -5,7 +5,7 @@ use Rattle.std.proofs.lemmas.List.Elements.{filter-append}
 use Rattle.std.proofs.lemmas.List.Sums.{take_while-cons}
 use Rattle.std.proofs.Math.Bool.{or-true}
 use Rattle.std.proofs.lemmas.Bool.Decides.{nat_tests}
-use Rattle.bus_bits.specs.Capture.{bad_mark, is_mark, is_space, text_front, text_bits, text_fault}
+use Rattle.bus_bits.specs.Capture.{bad_mark, is_mark, is_space, text_front, text_bits, text_fault, text_capture, GrowsTo}
 
 same : (b : Bool) → (b ≡ true) ⊎ (b ≡ false)
 same true = inl refl
@@ -99,3 +99,27 @@ mark_by_half x h = grind (arith, nat_tests)
 
 pub text_space : (x : ℕ) → is_space x ≡ true → is_text x ≡ true
 text_space x h = ap (λ b. is_mark x || b) h ∙ or-true (is_mark x)
+
+-- however a text is cut, its bits are the same
+pub text-grows : (xs ys : List ℕ) → GrowsTo (text_capture xs) (text_capture (xs ++ ys))
+text-grows xs ys = elim (front_cases is_text xs) [
+  | inl w ↦ let e : text_front (xs ++ ys) ≡ text_front xs ++ text_front ys = w.1 ys ∙ ap (λ (z : List ℕ). z ++ text_front ys) (sym w.0) in
+      let n : nat_lt (length (text_front xs)) (length xs) ≡ false =
+      ap (λ (z : List ℕ). nat_lt (length z) (length xs)) w.0 ∙ le_false (length xs) (length xs) (omega arith) in
+      let f : text_fault xs ≡ None = ap (λ b. if b then Some (bad_mark (length (text_front xs))) else None) n in (
+        text_bits ys,
+        ap (λ (z : List ℕ). map (λ y. y == 49) (filter is_mark z)) e
+            ∙ ap (map (λ y. y == 49)) (filter-append is_mark (text_front xs) (text_front ys))
+            ∙ map-append (λ y. y == 49) (filter is_mark (text_front xs)) (filter is_mark (text_front ys)),
+        λ g h. let z : ⊥ = cc in absurd z,
+      )
+  | inr c ↦ let e : text_front (xs ++ ys) ≡ text_front xs = c.1 ys in
+      let s : nat_lt (length (text_front xs)) (length xs) ≡ true = lt_true (length (text_front xs)) (length xs) c.0 in
+      let l : nat_lt (length (text_front xs)) (length (xs ++ ys)) ≡ true =
+      lt_true (length (text_front xs)) (length (xs ++ ys)) (omega (arith, length-append xs ys)) in
+      let b : text_bits (xs ++ ys) ≡ text_bits xs = ap (λ (z : List ℕ). map (λ y. y == 49) (filter is_mark z)) e in
+      let f : text_fault (xs ++ ys) ≡ text_fault xs =
+      ap (λ (z : List ℕ). if nat_lt (length z) (length (xs ++ ys)) then Some (bad_mark (length z)) else None) e
+      ∙ ap (λ t. if t then Some (bad_mark (length (text_front xs))) else None) (l ∙ sym s) in
+      ([], b ∙ sym (append-nil (text_bits xs)), λ g h. ap (λ (z : List Bool). record { bits = z; fault = text_fault (xs ++ ys) }) b ∙ ap (λ z. record { bits = text_bits xs; fault = z }) f)
+]

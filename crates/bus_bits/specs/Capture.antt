@@ -1,15 +1,25 @@
 -- The bits of a capture: those before the first fault, and the fault.
-use Rattle.std.specs.Prelude.{ℕ, ◌-◌, ◌^◌, ◌==◌, ◌||◌, Bool, List, length, map, filter, take, take_while, nat_lt, if◌then◌else◌, Option, Some, None}
+use Rattle.std.specs.Prelude.{◌≡◌, ℕ, ◌-◌, ◌^◌, ◌==◌, ◌||◌, Bool, List, ◌++◌, length, map, filter, take, take_while, nat_lt, if◌then◌else◌, Option, Some, None}
 
 -- why a capture can't be read on
 pub data CaptureFault : Type 0 where
   bad_mark : ℕ → CaptureFault  -- the octet at this place is no bit and no space
+  magic : CaptureFault  -- the head begins with other octets
+  too_many : CaptureFault  -- the head counts more than 2^60 bits
+  pad_bits : CaptureFault  -- an unused bit of the last octet is 1
+  trailing : CaptureFault  -- an octet follows the last
   place_limit : CaptureFault  -- the next bit's place would be 2^60
+  short_head : CaptureFault  -- the input ended in the head
+  short_body : CaptureFault  -- the input ended before the last bit
 
 -- the bits of some octets, and the first fault in them
 pub record Capture : Type 0 where
   pub bits : List Bool
   pub fault : Option CaptureFault
+
+-- octets that gave `c` gave `d` with more octets after them: bits only came to the end, and after a fault nothing changed
+abbrev pub GrowsTo : Capture → Capture → Type 0
+GrowsTo c d = (rest : List Bool) × (d.bits ≡ c.bits ++ rest) × ((f : CaptureFault) → c.fault ≡ Some f → d ≡ c)
 
 -- `0` or `1`
 abbrev pub is_mark : ℕ → Bool
@@ -36,3 +46,11 @@ text_capture xs = record { bits = text_bits xs; fault = text_fault xs }
 -- no bit has the place 2^60, where the first has the place of the origin
 abbrev pub placed : ℕ → Capture → Capture
 placed origin c = if nat_lt (2 ^ 60 - origin) (length c.bits) then record { bits = take (2 ^ 60 - origin) c.bits; fault = Some place_limit } else c
+
+-- however a text is cut, its bits are the same
+abbrev pub TextGrows : Type 0
+TextGrows = (xs ys : List ℕ) → GrowsTo (text_capture xs) (text_capture (xs ++ ys))
+
+-- and so with places
+abbrev pub PlacedGrows : Type 0
+PlacedGrows = (origin : ℕ) (c d : Capture) → GrowsTo c d → GrowsTo (placed origin c) (placed origin d)

@@ -1,2 +1,3 @@
 pub mod Octet
 pub mod Capture
+pub mod Packed

@@ -1,5 +1,7 @@
 //! Laws over the definitions.
 
+ghost use Rattle.bus_bits.specs.Capture.{TextGrows, PlacedGrows};
+ghost use Rattle.bus_bits.specs.Packed.{PackedIsHeaded, PackedIsShort, PackedGrows, PackedEnds};
 ghost use Rattle.bus_bits.specs.Octet.{NumberOfBits, BitsOfNumber, BitsOfOctets, OctetsOfBits};
 
 /// An octet and its eight bits determine each other.
@@ -12,4 +14,20 @@ pub fn octet_is_bits()
 pub fn octets_are_bits()
     ensures octets { BitsOfOctets }
     ensures bits { OctetsOfBits }
+{}
+
+/// A packed capture of sixteen octets or more is a head and what follows it, and one of fewer
+/// gives no bit.
+pub fn packed_is_head_and_body()
+    ensures headed { PackedIsHeaded }
+    ensures short { PackedIsShort }
+{}
+
+/// A longer front of the octets of a capture gives the same bits and more, or the same fault:
+/// however the octets are cut, their bits are the same. The end of the input adds no bit.
+pub fn captures_grow()
+    ensures text { TextGrows }
+    ensures packed { PackedGrows }
+    ensures ended { PackedEnds }
+    ensures placed { PlacedGrows }
 {}

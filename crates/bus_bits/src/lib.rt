@@ -6,8 +6,10 @@ pub mod laws;
 mod octet;
 mod span;
 mod spent;
+#[cfg(test)]
+mod tests;
 
-pub use capture::{BadMark, TextBits};
+pub use capture::{BadMark, HeadFault, PackedBits, PackedFault, PackedHead, TextBits};
 pub use octet::{bits_octet, octet_bits};
 pub use span::Span;
 pub use spent::Spent;

@@ -1,6 +1,6 @@
 //! The bits of a text capture.
 
-ghost use Rattle.std.specs.Prelude.{◌≡◌, ℕ, List, [], ◌∷◌, ◌++◌, length, IsTrue, MatchResult, IsOk, IsErr, ◌↔◌, Some, None};
+ghost use Rattle.std.specs.Prelude.{◌≡◌, ℕ, List, [], ◌∷◌, ◌++◌, length, MatchResult, Some, None};
 ghost use Rattle.std.specs.Option.{option_to_list};
 ghost use Rattle.bus_bits.specs.Capture.{text_bits, text_fault, bad_mark, is_space};
 
@@ -30,6 +30,7 @@ impl TextBits {
             (λ _. (text_fault (xs ++ octet ∷ []) ≡ Some (bad_mark (length xs))) × (text_bits (xs ++ octet ∷ []) ≡ text_bits xs)) }
         ensures kept { self.new ≡ self.old }
     {
+        // `0` and `1` are even and odd, and share the other bits.
         if octet / 2 == ONE / 2 {
             Ok(Some(octet == ONE))
         } else if is_skipped(octet) {
@@ -40,6 +41,7 @@ impl TextBits {
     }
 }
 
+/// Whether the octet is space, tab, CR or LF.
 fn is_skipped(octet: u8) -> bool
     ensures { result ≡ is_space octet }
 {

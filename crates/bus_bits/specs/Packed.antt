@@ -1,0 +1,95 @@
+-- Packed captures: a head of sixteen octets, and the bits by eights, the least significant of an octet first.
+use Rattle.std.specs.Prelude.{◌≡◌, ℕ, ◌+◌, ◌-◌, ◌*◌, ◌/◌, ◌^◌, ◌<◌, ◌==◌, Bool, List, [], ◌++◌, length, take, drop, codes, slice_range, nat_lt, if◌then◌else◌, Option, Some, None}
+use Rattle.std.specs.Int.{w64, from_le_bytes, next_multiple_of}
+use Rattle.std.specs.List.{list_any, starts_with}
+use Rattle.bus_bits.specs.Octet.{bits_of_octets}
+use Rattle.bus_bits.specs.Capture.{Capture, CaptureFault, magic, too_many, pad_bits, trailing, short_head, short_body, GrowsTo}
+use Rattle.bus_bits.specs.declared.capture.packed_head.HeadFault.{HeadFault}
+use Rattle.bus_bits.specs.declared.capture.packed_head.HeadFault.TheVariants.{Magic, TooMany}
+use Rattle.bus_bits.specs.declared.capture.packed_bits.PackedFault.{PackedFault}
+use Rattle.bus_bits.specs.declared.capture.packed_bits.PackedFault.TheVariants.{Trailing, PadBits, ShortBody}
+
+-- the faults as the readers name them
+abbrev pub head_fault_of : HeadFault → CaptureFault
+head_fault_of Magic = magic
+head_fault_of TooMany = too_many
+
+abbrev pub packed_fault_of : PackedFault → CaptureFault
+packed_fault_of Trailing = trailing
+packed_fault_of PadBits = pad_bits
+packed_fault_of ShortBody = short_body
+
+-- the number of bits that a head counts: its last eight octets, the lowest first
+abbrev pub head_bits : List ℕ → ℕ
+head_bits xs = from_le_bytes w64 (slice_range xs 8 16)
+
+-- the fault of a head
+abbrev pub head_fault : List ℕ → Option CaptureFault
+head_fault xs =
+    if starts_with (λ x y. x == y) xs (codes "TS2BITS1") then (if nat_lt (2 ^ 60) (head_bits xs) then Some too_many else None)
+    else Some magic
+
+-- of the bits `d` of whole octets, those after the first `n` that share an octet with one of these
+abbrev pub unused : ℕ → List Bool → List Bool
+unused n d = take (next_multiple_of n 8 - n) (drop n d)
+
+-- what the bits `d` of whole octets give, of which `n` are wanted
+unfoldable pub wanted : ℕ → List Bool → Capture
+wanted n d =
+    if list_any (λ b. b) (unused n d) then record { bits = take (n / 8 * 8) d; fault = Some pad_bits }
+    else record { bits = take n d; fault = if nat_lt (next_multiple_of n 8) (length d) then Some trailing else None }
+
+-- what the octets after a head give
+abbrev pub packed_body : ℕ → List ℕ → Capture
+packed_body n xs = wanted n (bits_of_octets xs)
+
+-- a fault of the head stands before all others
+abbrev pub headed : Option CaptureFault → Capture → Capture
+headed None c = c
+headed (Some f) c = record { bits = []; fault = Some f }
+
+-- what octets give, while more may come
+unfoldable pub packed_capture : List ℕ → Capture
+packed_capture xs =
+    if nat_lt (length xs) 16 then record { bits = []; fault = None }
+    else headed (head_fault xs) (packed_body (head_bits xs) (drop 16 xs))
+
+-- the first fault
+abbrev pub or_fault : Option CaptureFault → Option CaptureFault → Option CaptureFault
+or_fault None g = g
+or_fault (Some f) g = Some f
+
+-- at the end of the input all `n` bits came
+abbrev pub filled : ℕ → Capture → Capture
+filled n c = record { bits = c.bits; fault = or_fault c.fault (if nat_lt (length c.bits) n then Some short_body else None) }
+
+-- what octets give that are the whole input
+unfoldable pub packed_whole : List ℕ → Capture
+packed_whole xs =
+    if nat_lt (length xs) 16 then record { bits = []; fault = Some short_head } else filled (head_bits xs) (packed_capture xs)
+
+-- the octets `xs` after a head that counts `n` bits have no fault, and `left` bits are still to come
+pub record PackedAfter (n : ℕ) (xs : List ℕ) (left : ℕ) : Type 0 where
+  pub clean : (packed_body n xs).fault ≡ None
+  pub left_over : length (packed_body n xs).bits + left ≡ n
+
+-- sixteen octets are the head of all octets that begin with them
+abbrev pub PackedIsHeaded : Type 0
+PackedIsHeaded =
+    (head xs : List ℕ) → length head ≡ 16
+    → (packed_capture (head ++ xs) ≡ headed (head_fault head) (packed_body (head_bits head) xs))
+    × (packed_whole (head ++ xs) ≡ filled (head_bits head) (headed (head_fault head) (packed_body (head_bits head) xs)))
+
+-- and fewer are none
+abbrev pub PackedIsShort : Type 0
+PackedIsShort =
+    (xs : List ℕ) → length xs < 16
+    → (packed_capture xs ≡ record { bits = []; fault = None }) × (packed_whole xs ≡ record { bits = []; fault = Some short_head })
+
+-- however a packed capture is cut, its bits are the same
+abbrev pub PackedGrows : Type 0
+PackedGrows = (xs ys : List ℕ) → GrowsTo (packed_capture xs) (packed_capture (xs ++ ys))
+
+-- and the end of the input adds no bit
+abbrev pub PackedEnds : Type 0
+PackedEnds = (xs : List ℕ) → GrowsTo (packed_capture xs) (packed_whole xs)
