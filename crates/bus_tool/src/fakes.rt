@@ -1,5 +1,6 @@
 //! Readers and writers that fail where a test wants it.
 
+use arrayvec::ArrayVec;
 use std::io;
 use std::io::{ErrorKind, Read, Write};
 
@@ -80,20 +81,16 @@ impl Write for Narrow {
 /// Takes what it has room for, and asks for no memory.
 #[derive(Drop)]
 pub struct Fixed {
-    pub room: [u8; 64],
-    pub len: usize,
+    pub out: ArrayVec<u8, 64>,
 }
 
 impl Write for Fixed {
     fn write(&mut self, buf: &[u8]) -> io::Result<usize> {
-        let mut count = 0;
-        for octet in buf {
-            if self.len >= self.room.len() {
-                break;
+        let count = buf.len().min(self.out.remaining_capacity());
+        for octet in &buf[..count] {
+            if self.out.try_push(*octet).is_err() {
+                return Err(io::Error::from(ErrorKind::Other));
             }
-            self.room[self.len] = *octet;
-            self.len += 1;
-            count += 1;
         }
         Ok(count)
     }

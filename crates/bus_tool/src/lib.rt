@@ -4,12 +4,12 @@
 mod fault;
 mod list;
 mod options;
-mod run;
+mod program;
 mod text;
 
 pub use fault::ToolFault;
 pub use list::list_pieces;
-pub use run::run;
+pub use program::run;
 
 #[cfg(test)]
 mod fakes;

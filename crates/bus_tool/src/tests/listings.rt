@@ -2,6 +2,7 @@
 
 use crate::fakes::{Endless, Fixed, Narrow, Pieces};
 use crate::{ToolFault, list_pieces};
+use arrayvec::ArrayVec;
 use std::test::Fail;
 
 /// One call frame between two flags.
@@ -131,15 +132,14 @@ fn flushes(rt: HostRuntime) -> Result<(), Fail> {
 #[test]
 fn refused_memory(rt: HostRuntime) -> Result<(), Fail> {
     let mut writer = Fixed {
-        room: [0; 64],
-        len: 0,
+        out: ArrayVec::new(),
     };
     let mut reader = ONE_CALL;
     match list_pieces(rt.alloc(), 100, &mut reader, &mut writer) {
-        Ok(()) => assert_eq!(rt; writer.room.get(..writer.len).ok_or("len")?, ONE_CALL_TEXT.as_bytes()),
+        Ok(()) => assert_eq!(rt; writer.out.as_slice(), ONE_CALL_TEXT.as_bytes()),
         Err(fault) => {
             assert_eq!(rt; fault, ToolFault::Memory);
-            assert_eq!(rt; writer.len, 0);
+            assert!(rt; writer.out.is_empty());
         }
     }
     Ok(())
