@@ -1,5 +1,5 @@
 -- How what a writer holds grows, in parts.
-use Rattle.std.proofs.Common.{◌≡◌, ℕ, ◌+◌, ◌-◌, ◌<◌, ◌≤◌, List, [], ◌++◌, length, take, drop, refl, sym, ◌∙◌, ap, subst, append_assoc, arith, Option, Some, None}
+use Rattle.std.proofs.Common.{◌≡◌, ℕ, ◌+◌, ◌-◌, ◌≤◌, List, [], ◌++◌, length, take, drop, refl, sym, ◌∙◌, ap, subst, append_assoc, arith, Option, Some, None}
 use Rattle.std.specs.Io.KnownBytes.{Appends, Keeps, Consumes}
 use Rattle.std.proofs.lemmas.Grind.{common_steps}
 use Rattle.std.proofs.Math.Seq.{take-add, take-append-add}
@@ -60,6 +60,6 @@ consumes_kept (Some x) (Some y) (Some z) bs p q = p ∙ ap (λ l. bs ++ l) (sym 
 pub part_out : (start before now : Option (List ℕ)) (front rest more : List ℕ) (n sent : ℕ) → Appends start before front → n ≡ length front
     → sent ≤ length rest → Appends before now (take sent rest) → Appends start now (take (n + sent) ((front ++ rest) ++ more))
 part_out start before now front rest more n sent out e short part =
-    let text : take (n + sent) ((front ++ rest) ++ more) ≡ front ++ take sent rest = 
-      rw (e, append_assoc, take-append-add) (ap (λ l. front ++ l) (take-append-le sent rest more short)) in
+    let text : take (n + sent) ((front ++ rest) ++ more) ≡ front ++ take sent rest =
+    rw (e, append_assoc, take-append-add) (ap (λ l. front ++ l) (take-append-le sent rest more short)) in
     subst (Appends start now) (sym text) (appends_both start before now _ _ out part)

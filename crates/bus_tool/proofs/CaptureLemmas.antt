@@ -1,11 +1,11 @@
 -- The fault of a capture, and what more octets change.
-use Rattle.std.proofs.Common.{◌≡◌, ℕ, ◌+◌, ◌^◌, ◌<◌, ◌≤◌, ◌==◌, ◌||◌, ◌⊎◌, inl, inr, Bool, true, false, cond, nat_lt, if◌then◌else◌, List, [], ◌∷◌, ◌++◌, length, map, filter, take, take_while, Option, Some, None, refl, sym, ap, ◌∙◌, arith, length-append}
+use Rattle.std.proofs.Common.{◌≡◌, ℕ, ◌^◌, ◌<◌, ◌≤◌, ◌==◌, ◌||◌, ◌⊎◌, inl, inr, Bool, true, false, nat_lt, if◌then◌else◌, List, [], ◌∷◌, ◌++◌, length, map, filter, take, Option, Some, None, refl, sym, ap, ◌∙◌, arith, length-append}
 use Rattle.std.proofs.lemmas.List.{map-append, take-append-le}
 use Rattle.std.proofs.lemmas.List.Elements.{filter-append}
 use Rattle.std.proofs.Math.Seq.{take-append_seam}
 use Rattle.std.proofs.lemmas.Bool.Decides.{nat_tests}
 use Rattle.bus_bits.specs.Capture.{Capture, CaptureFault, bad_mark, place_limit, is_mark, is_space, text_front, text_bits, text_fault, text_capture, placed}
-use Rattle.bus_bits.proofs.TextLemmas.{front_cases, text-whole}
+use Rattle.bus_bits.proofs.TextLemmas.{front_cases}
 use Rattle.bus_tool.specs.Listing.{capture}
 
 same : (b : Bool) → (b ≡ true) ⊎ (b ≡ false)
@@ -59,8 +59,8 @@ capture_bad xs ys h e =
     let bad : Option CaptureFault = Some (bad_mark (length (text_front xs))) in
     let bits : text_bits (xs ++ ys) ≡ text_bits xs = ap (λ (z : List ℕ). map (λ y. y == 49) (filter is_mark z)) e in
     let fault : text_fault (xs ++ ys) ≡ text_fault xs =
-      ap (λ (z : List ℕ). if nat_lt (length z) (length (xs ++ ys)) then Some (bad_mark (length z)) else None) e
-      ∙ ap (λ b. if b then bad else None) (two ∙ sym one) in
+    ap (λ (z : List ℕ). if nat_lt (length z) (length (xs ++ ys)) then Some (bad_mark (length z)) else None) e
+    ∙ ap (λ b. if b then bad else None) (two ∙ sym one) in
     ap (λ (c : Capture). placed 0 c) (same_capture (text_bits (xs ++ ys)) (text_bits xs) (text_fault (xs ++ ys)) (text_fault xs) bits fault)
 
 -- more octets give more bits
@@ -87,7 +87,7 @@ capture-stays xs ys f h = elim (front_cases (λ x. is_mark x || is_space x) xs) 
             let long : 2 ^ 60 < length (text_bits xs) = true_lt (2 ^ 60) (length (text_bits xs)) t in
             let longer : 2 ^ 60 < length (text_bits (xs ++ ys)) = rw more (omega (arith, long, length-append (text_bits xs) (text_bits ys))) in
             let part : take (2 ^ 60) (text_bits (xs ++ ys)) ≡ take (2 ^ 60) (text_bits xs) =
-              ap (take (2 ^ 60)) more ∙ take-append-le (2 ^ 60) (text_bits xs) (text_bits ys) (omega (arith, long)) in
+            ap (take (2 ^ 60)) more ∙ take-append-le (2 ^ 60) (text_bits xs) (text_bits ys) (omega (arith, long)) in
             capture-long (xs ++ ys) longer
             ∙ ap (λ (z : List Bool). let c : Capture = record { bits = z; fault = Some place_limit } in c) part
             ∙ sym (capture-long xs long)

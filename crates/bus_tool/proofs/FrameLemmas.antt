@@ -1,5 +1,5 @@
 -- No report holds more octets than the longest frame and its check.
-use Rattle.std.proofs.Common.{◌≡◌, ℕ, suc, ◌+◌, ◌*◌, ◌-◌, ◌%◌, ◌<◌, ◌≤◌, ◌==◌, ◌⊎◌, inl, inr, not, Bool, true, false, cond, nat_lt, nat_le, ◌&&◌, if◌then◌else◌, List, [], ◌∷◌, ◌++◌, length, map, slice_range, Option, Some, None, IfSome, All, refl, sym, ap, subst, ◌∙◌, arith}
+use Rattle.std.proofs.Common.{◌≡◌, ℕ, ◌+◌, ◌*◌, ◌-◌, ◌%◌, ◌≤◌, ◌==◌, not, Bool, true, false, nat_lt, nat_le, ◌&&◌, if◌then◌else◌, List, [], ◌∷◌, length, map, slice_range, Option, Some, None, IfSome, All, refl, sym, subst, arith}
 use Rattle.std.specs.List.{filter_map, cons_option}
 use Rattle.std.proofs.lemmas.List.Elements.{All-nil, All-cons, All-head, All-tail}
 use Rattle.std.proofs.lemmas.Bool.Decides.{nat_tests}
@@ -8,7 +8,7 @@ use Rattle.bus_fcs.specs.FrameCheck.{is_good}
 use Rattle.bus_line.specs.Spelling.{unspelled}
 use Rattle.bus_line.specs.Report.{Kind, Frame, Damaged, Overlong, Abort, Idle, Report, class_of_data}
 use Rattle.bus_line.specs.Due.{Mark, NoMark, FlagAt, AbortAt, class_of, class_of_read, piece_report, last_mark, due_at, places, reports, is_flag, is_abort, is_idle}
-use Rattle.bus_line.specs.declared.cause.Cause.TheVariants.{Unstuffed, Short, Unaligned, Fcs}
+use Rattle.bus_line.specs.declared.cause.Cause.TheVariants.{Short, Unaligned, Fcs}
 use Rattle.bus_line.specs.Owned.{report_of}
 use Rattle.bus_line.specs.declared.owned_piece.OwnedPiece.{OwnedPiece}
 use Rattle.bus_tool.specs.Listing.{octets_of, octets_held}
@@ -70,8 +70,8 @@ due_fits longest b i =
     let closed = piece_fits longest (λ p. class_of longest (slice_range b (p + 8) (i - 7))) (last_mark b (i - 7)) (i - 7) (λ p. read_fits longest (unspelled (slice_range b (p + 8) (i - 7)))) in
     let aborted = piece_fits longest (λ p. Abort) (last_mark b (i - 6)) (i - 6) (λ p. none) in
     if_fits (Held longest) (nat_le 7 i && is_flag b (i - 7)) _ _ closed
-      (if_fits (Held longest) (nat_le 6 i && is_abort b (i - 6)) _ _ aborted
-        (if_fits (Held longest) (nat_le 14 i && is_idle b (i - 14)) (Some (record { kind = Idle; first = i - 14; past = i + 1 })) None none tt))
+    (if_fits (Held longest) (nat_le 6 i && is_abort b (i - 6)) _ _ aborted
+    (if_fits (Held longest) (nat_le 14 i && is_idle b (i - 14)) (Some (record { kind = Idle; first = i - 14; past = i + 1 })) None none tt))
 
 more_fits : (P : Report → Type 0) (o : Option Report) (rs : List Report) → IfSome o P → All P rs → All P (cons_option o rs)
 more_fits P None rs h k = k

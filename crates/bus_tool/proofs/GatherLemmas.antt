@@ -1,6 +1,5 @@
 -- The steps of a gatherer.
 use Rattle.std.proofs.Common.{◌≡◌, ℕ, ◌+◌, ◌^◌, ◌<◌, ◌≤◌, Bool, List, [], ◌∷◌, ◌++◌, length, get_or, take, drop, Option, Some, None, Result, Ok, Err, MatchResult, refl, sym, ap, subst, ◌∙◌, arith, length-append, length-take}
-use Rattle.std.specs.Io.KnownBytes.{IsAtEnd}
 use Rattle.std.specs.Option.{option_to_list}
 use Rattle.std.proofs.lemmas.List.{append-nil}
 use Rattle.std.proofs.lemmas.Grind.{common_steps}
@@ -21,7 +20,7 @@ pub more_gathers : (at octet : ℕ) (bits more after : List Bool) (xs : List ℕ
 more_gathers at octet bits more after xs s given e = record {
   count = grind (arith, common_steps, s.count);
   given = given.1 ∙ ap (λ (b : List Bool). b ++ more) s.given ∙ sym e;
-  clean = given.0
+  clean = given.0;
 }
 
 -- an octet that is neither

@@ -1,10 +1,8 @@
 -- From the reading of a capture to its listing.
 use Rattle.std.proofs.Common.{◌≡◌, ℕ, ◌+◌, ◌<◌, ◌≤◌, Bool, List, [], ◌∷◌, ◌++◌, length, map, get_or, take, drop, Option, Result, Ok, Err, refl, sym, ap, subst, ◌∙◌, arith, length-append}
-use Rattle.std.specs.List.{flat_map}
 use Rattle.std.specs.Io.KnownBytes.{Appends}
 use Rattle.std.proofs.lemmas.List.{append-nil, map_more, map-append, take-append-drop}
-use Rattle.std.proofs.lemmas.Grind.{common_steps, flat_map-append}
-use Rattle.bus_line.specs.Report.{Report}
+use Rattle.std.proofs.lemmas.Grind.{flat_map-append}
 use Rattle.bus_line.specs.Due.{reports}
 use Rattle.bus_line.specs.Owned.{report_of}
 use Rattle.bus_line.specs.declared.owned_piece.OwnedPiece.{OwnedPiece}
@@ -41,7 +39,7 @@ pub next_line : (start before now : Option (List ℕ)) (ps : List OwnedPiece) (i
     → Appends start now (listing (map report_of (take (i + 1) ps)))
 next_line start before now ps i p text h is e out line =
     subst (λ (l : List ℕ). Appends start now l) (ap (λ (l : List ℕ). listing (map report_of (take i ps)) ++ l) e ∙ sym (listing-more ps i p h is))
-      (appends_both start before now _ _ out line)
+    (appends_both start before now _ _ out line)
 
 pub next_count : (ps : List OwnedPiece) (i : ℕ) (p : OwnedPiece) (text : List ℕ) (written : ℕ) → i < length ps → p ≡ get_or ps i p
     → text ≡ line_of (report_of p) → written ≡ length (listing (map report_of (take i ps)))
@@ -57,9 +55,9 @@ pub part_line : (start before now : Option (List ℕ)) (ps : List OwnedPiece) (i
     → Appends start now (take (written + sent) (listing (map report_of ps)))
 part_line start before now ps i p text written sent h is e n short out part =
     let whole : listing (map report_of ps) ≡ (listing (map report_of (take i ps)) ++ text) ++ listing (map report_of (drop (i + 1) ps)) =
-      listing-at ps i p h is ∙ ap (λ (l : List ℕ). (listing (map report_of (take i ps)) ++ l) ++ listing (map report_of (drop (i + 1) ps))) (sym e) in
+    listing-at ps i p h is ∙ ap (λ (l : List ℕ). (listing (map report_of (take i ps)) ++ l) ++ listing (map report_of (drop (i + 1) ps))) (sym e) in
     subst (λ (l : List ℕ). Appends start now (take (written + sent) l)) (sym whole)
-      (part_out start before now (listing (map report_of (take i ps))) text (listing (map report_of (drop (i + 1) ps))) written sent out n short part)
+    (part_out start before now (listing (map report_of (take i ps))) text (listing (map report_of (drop (i + 1) ps))) written sent out n short part)
 
 pub part_count : (ps : List OwnedPiece) (i : ℕ) (p : OwnedPiece) (text : List ℕ) (written sent : ℕ) → i < length ps → p ≡ get_or ps i p
     → text ≡ line_of (report_of p) → written ≡ length (listing (map report_of (take i ps))) → sent ≤ length text
@@ -69,7 +67,7 @@ part_count ps i p text written sent h is e n short =
     let rest : List ℕ = listing (map report_of (drop (i + 1) ps)) in
     let line : length text ≡ length (line_of (report_of p)) = ap length e in
     let whole : length (listing (map report_of ps)) ≡ length front + length (line_of (report_of p)) + length rest =
-      ap length (listing-at ps i p h is) ∙ length-append (front ++ line_of (report_of p)) rest ∙ ap (λ (k : ℕ). k + length rest) (length-append front (line_of (report_of p))) in
+    ap length (listing-at ps i p h is) ∙ length-append (front ++ line_of (report_of p)) rest ∙ ap (λ (k : ℕ). k + length rest) (length-append front (line_of (report_of p))) in
     omega (arith, whole, line, n, short)
 
 -- ---- the whole call

@@ -38,7 +38,12 @@ fn wants_memory(ending: &Result<(), ToolFault>) -> bool
 ///   capture had no fault so far, and the lines of its bits were written.
 /// - `Memory`: memory was refused. Nothing was written.
 /// - `Write`: a write or the flush failed, or a write took nothing. It comes in place of any other.
-pub fn list_pieces<R: Read, W: Write>(alloc: Global, reads: u64, r: &mut R, w: &mut W) -> Result<(), ToolFault>
+pub fn list_pieces<R: Read, W: Write>(
+    alloc: Global,
+    reads: u64,
+    r: &mut R,
+    w: &mut W,
+) -> Result<(), ToolFault>
     ensures { (xs : List ℕ) × Consumes (R.remaining r.old) (R.remaining r.new) xs
         × Lists reads (R.remaining r.new) (W.contents w.old) (W.contents w.new) xs result }
 {

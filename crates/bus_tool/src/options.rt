@@ -16,17 +16,21 @@ fn list_command<'a>(alloc: Global) -> Result<Command<'a>, Error> {
         .action(ArgAction::SetTrue)
         .required(true)
         .help("The capture is text: the octets 0 and 1, with spaces and line ends between them");
-    Ok(Command::new(alloc, "list")
-        .about("Lists what stands on the line, from a capture on standard input")
-        .arg(bits)?)
+    Ok(
+        Command::new(alloc, "list")
+            .about("Lists what stands on the line, from a capture on standard input")
+            .arg(bits)?,
+    )
 }
 
 fn whole_command<'a>(alloc: Global) -> Result<Command<'a>, Error> {
-    Ok(Command::new(alloc, "port1")
-        .bin_name("port1")?
-        .about("Analyses the Port 1 bus of a cabinet; without words it does `list --bits`")
-        .no_binary_name(true)
-        .subcommand(list_command(alloc)?)?)
+    Ok(
+        Command::new(alloc, "port1")
+            .bin_name("port1")?
+            .about("Analyses the Port 1 bus of a cabinet; without words it does `list --bits`")
+            .no_binary_name(true)
+            .subcommand(list_command(alloc)?)?,
+    )
 }
 
 /// Reads the words, the arguments of the program without its name. No words at all ask for what

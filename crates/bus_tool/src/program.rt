@@ -22,7 +22,13 @@ const FAULT: u8 = 2;
 ///
 /// `words` are its arguments without its name. A capture is read from `r`. Output and help go to
 /// `w`, and faults to `e`; that `e` fails is ignored.
-pub fn run<R: Read, W: Write, E: Write>(alloc: Global, words: &[&str], r: &mut R, w: &mut W, e: &mut E) -> u8 {
+pub fn run<R: Read, W: Write, E: Write>(
+    alloc: Global,
+    words: &[&str],
+    r: &mut R,
+    w: &mut W,
+    e: &mut E,
+) -> u8 {
     match read_words(alloc, words) {
         Ok(Request::List) => status(list_pieces(alloc, READS, r, w), e),
         Err(error) => refuse(alloc, &error, w, e),

@@ -1,8 +1,8 @@
 //! The program `port1`: lists what stands on the Port 1 bus, from a capture on standard input.
 #![tactic(auto)]
 
-use bus_tool::run;
-use std::io::{BufWriter, Write};
+use bus_tool::{ToolFault, run};
+use std::io::{BufWriter, ErrorKind, Write};
 use std::process::ExitCode;
 use std::{env, io};
 
@@ -10,10 +10,19 @@ fn main(rt: HostRuntime) -> ExitCode {
     match start(&rt) {
         Ok(status) => ExitCode::from(status),
         Err(error) => {
-            let _ = writeln!(rt.stderr(), "port1: {error}");
+            tell(&rt, &error);
             ExitCode::from(2)
         }
     }
+}
+
+/// Tells why the program did not start; that this fails is ignored.
+fn tell(rt: &HostRuntime, error: &io::Error) {
+    let _ = if error.kind() == ErrorKind::OutOfMemory {
+        writeln!(rt.stderr(), "port1: {}", ToolFault::Memory)
+    } else {
+        writeln!(rt.stderr(), "port1: {error}")
+    };
 }
 
 /// Runs the words of the process, and answers the status.

@@ -21,7 +21,9 @@ pub fn put_lines<W: Write>(pieces: &[OwnedPiece], w: &mut W) -> Result<(), Cut>
         let line = line_of(piece);
         let text = line.as_str();
         if let Err(cut) = put_text(w, text.as_bytes()) {
-            return Err(Cut { sent: written + cut.sent });
+            return Err(Cut {
+                sent: written + cut.sent,
+            });
         }
         written += text.len() as u128;
     }

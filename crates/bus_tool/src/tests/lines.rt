@@ -39,7 +39,10 @@ fn others(rt: HostRuntime) {
         past: 18446744073709551615,
     };
     let idle = line_of(&OwnedPiece::Idle { span });
-    assert_eq!(rt; idle.as_str(), "1152921504606846975 18446744073709551615 idle\n");
+    assert_eq!(rt;
+        idle.as_str(),
+        "1152921504606846975 18446744073709551615 idle\n"
+    );
 }
 
 #[test]

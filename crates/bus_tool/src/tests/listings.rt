@@ -7,6 +7,7 @@ use std::test::Fail;
 
 /// One call frame between two flags.
 const ONE_CALL: &[u8] = b"01111110 00001000110000010000000010111110110100111 01111110\n";
+
 const ONE_CALL_TEXT: &str = "8 49 frame 108300fde5\n";
 
 #[test]
@@ -54,7 +55,10 @@ fn any_cut(rt: HostRuntime) -> Result<(), Fail> {
 fn endless_reader(rt: HostRuntime) -> Result<(), Fail> {
     let mut reader = Endless { calls: 0 };
     let mut out = Vec::new(rt.alloc());
-    assert_eq!(rt; list_pieces(rt.alloc(), 20, &mut reader, &mut out), Err(ToolFault::ReadsLimit));
+    assert_eq!(rt;
+        list_pieces(rt.alloc(), 20, &mut reader, &mut out),
+        Err(ToolFault::ReadsLimit)
+    );
     assert_eq!(rt; out.as_slice(), "0 15 idle\n".as_bytes());
     assert_eq!(rt; reader.calls, 20);
     Ok(())
@@ -71,7 +75,10 @@ fn failing_reader(rt: HostRuntime) -> Result<(), Fail> {
             fails_at,
         };
         let mut out = Vec::new(rt.alloc());
-        assert_eq!(rt; list_pieces(rt.alloc(), 100, &mut reader, &mut out), Err(ToolFault::Read));
+        assert_eq!(rt;
+            list_pieces(rt.alloc(), 100, &mut reader, &mut out),
+            Err(ToolFault::Read)
+        );
         assert_eq!(rt; out.as_slice(), text.as_bytes());
         assert_eq!(rt; reader.calls, fails_at);
     }
@@ -102,8 +109,16 @@ fn failing_writer(rt: HostRuntime) -> Result<(), Fail> {
         let mut writer = narrow(&rt, room, takes_none, fails_flush);
         let mut reader = ONE_CALL;
         let got = list_pieces(rt.alloc(), 100, &mut reader, &mut writer);
-        assert_eq!(rt; got, Err(ToolFault::Write { written: room as u128 }));
-        assert_eq!(rt; writer.out.as_slice(), ONE_CALL_TEXT.as_bytes().get(..room).ok_or("cut")?);
+        assert_eq!(rt;
+            got,
+            Err(ToolFault::Write {
+                written: room as u128
+            })
+        );
+        assert_eq!(rt;
+            writer.out.as_slice(),
+            ONE_CALL_TEXT.as_bytes().get(..room).ok_or("cut")?
+        );
         assert_eq!(rt; writer.flushes, u64::from(room == whole));
     }
     Ok(())
@@ -116,13 +131,26 @@ fn flushes(rt: HostRuntime) -> Result<(), Fail> {
         (b"", true, Ok(()), 0),
         (b"2", true, Err(ToolFault::BadMark { at: 0 }), 0),
         (ONE_CALL, false, Ok(()), 1),
-        (b"111111111111111 2", false, Err(ToolFault::BadMark { at: 16 }), 1),
-        (b"111111111111111 2", true, Err(ToolFault::Write { written: 10 }), 1),
+        (
+            b"111111111111111 2",
+            false,
+            Err(ToolFault::BadMark { at: 16 }),
+            1,
+        ),
+        (
+            b"111111111111111 2",
+            true,
+            Err(ToolFault::Write { written: 10 }),
+            1,
+        ),
     ];
     for (octets, fails, want, flushes) in cases {
         let mut writer = narrow(&rt, 100, false, fails);
         let mut reader = octets;
-        assert_eq!(rt; list_pieces(rt.alloc(), 100, &mut reader, &mut writer), want);
+        assert_eq!(rt;
+            list_pieces(rt.alloc(), 100, &mut reader, &mut writer),
+            want
+        );
         assert_eq!(rt; writer.flushes, flushes);
     }
     Ok(())

@@ -41,15 +41,26 @@ fn words(rt: HostRuntime) -> Result<(), Fail> {
         (&["list", "--help"], 0, "Usage: port1 list --bits\n"),
         (&["list"], 2, "Usage: port1 list --bits\n"),
         (&["list", "--bits", "more"], 2, "unexpected argument 'more'"),
-        (&["list", "--nonsense"], 2, "unexpected argument '--nonsense'"),
+        (
+            &["list", "--nonsense"],
+            2,
+            "unexpected argument '--nonsense'",
+        ),
         (&["nonsense"], 2, "unrecognized subcommand 'nonsense'"),
     ];
     for (words, status, part) in cases {
         let mut reader = IDLE;
         let mut out = Vec::new(rt.alloc());
         let mut err = Vec::new(rt.alloc());
-        assert_eq!(rt; run(rt.alloc(), words, &mut reader, &mut out, &mut err), status);
-        let (told, other) = if status == 0 { (&out, &err) } else { (&err, &out) };
+        assert_eq!(rt;
+            run(rt.alloc(), words, &mut reader, &mut out, &mut err),
+            status
+        );
+        let (told, other) = if status == 0 {
+            (&out, &err)
+        } else {
+            (&err, &out)
+        };
         let text = std::str::from_utf8(told.as_slice()).ok().ok_or("text")?;
         assert!(rt; text.contains(part), "{words:?}");
         assert!(rt; other.is_empty());
@@ -72,7 +83,10 @@ fn writers_fail(rt: HostRuntime) -> Result<(), Fail> {
             };
             let mut reader = IDLE;
             let mut err = Vec::new(rt.alloc());
-            assert_eq!(rt; run(rt.alloc(), words, &mut reader, &mut writer, &mut err), 2);
+            assert_eq!(rt;
+                run(rt.alloc(), words, &mut reader, &mut writer, &mut err),
+                2
+            );
             assert_eq!(rt; err.as_slice(), "port1: write failed\n".as_bytes());
         }
     }

@@ -8,5 +8,5 @@ abbrev pub invariant-loop-piece : goal.invariant-loop-piece
 invariant-loop-piece g l = record {
   written : l.written ≡ length (listing (map report_of (take l.piece-index l.pieces)));
   few : l.written ≤ 640 * l.piece-index;
-  out : Appends (g.W.Write.contents l.initial.w) (g.W.Write.contents l.w) (listing (map report_of (take l.piece-index l.pieces)))
+  out : Appends (g.W.Write.contents l.initial.w) (g.W.Write.contents l.w) (listing (map report_of (take l.piece-index l.pieces)));
 }

@@ -11,8 +11,8 @@ pub loop-octet-preserved : goal.loop-octet-preserved
 loop-octet-preserved c = record {
   count = search rules;
   taken = λ xs s.
-    let after = c.in_default.ensures.taken _ (c.loop-octet.invariant.taken xs s) in
-    next_gathers _ _ _ c.loop-octet.octet-index xs c.args.octets.now (search rules) (search rules) after
+      let after = c.in_default.ensures.taken _ (c.loop-octet.invariant.taken xs s) in
+      next_gathers _ _ _ c.loop-octet.octet-index xs c.args.octets.now (search rules) (search rules) after;
 }
 
 pub returns-clause-taken : goal.returns-clause-taken
