@@ -1,11 +1,11 @@
 -- The fault of a capture, and what more octets change.
-use Rattle.std.proofs.Common.{◌≡◌, ℕ, ◌^◌, ◌<◌, ◌≤◌, ◌==◌, ◌||◌, ◌⊎◌, inl, inr, Bool, true, false, nat_lt, if◌then◌else◌, List, [], ◌∷◌, ◌++◌, length, map, filter, take, Option, Some, None, refl, sym, ap, ◌∙◌, arith, length-append}
+use Rattle.std.proofs.Common.{◌≡◌, ℕ, ◌+◌, ◌-◌, ◌^◌, ◌<◌, ◌≤◌, ◌==◌, ◌||◌, ◌⊎◌, inl, inr, Bool, true, false, nat_lt, if◌then◌else◌, List, [], ◌∷◌, ◌++◌, length, map, filter, take, Option, Some, None, refl, sym, ap, ◌∙◌, arith, length-append}
 use Rattle.std.proofs.lemmas.List.{map-append, take-append-le}
 use Rattle.std.proofs.lemmas.List.Elements.{filter-append}
-use Rattle.std.proofs.Math.Seq.{take-append_seam}
+use Rattle.std.proofs.Math.Seq.{take-append_seam, take-append-add}
 use Rattle.std.proofs.lemmas.Bool.Decides.{nat_tests}
 use Rattle.bus_bits.specs.Capture.{Capture, CaptureFault, bad_mark, place_limit, is_mark, is_space, text_front, text_bits, text_fault, text_capture, placed}
-use Rattle.bus_bits.proofs.TextLemmas.{front_cases}
+use Rattle.bus_bits.proofs.TextLemmas.{front_cases, text-whole}
 use Rattle.bus_tool.specs.Listing.{capture}
 
 same : (b : Bool) → (b ≡ true) ⊎ (b ≡ false)
@@ -76,6 +76,28 @@ clean_front xs w =
     let no : nat_lt (length (text_front xs)) (length xs) ≡ false = ap (λ (z : List ℕ). nat_lt (length z) (length xs)) w ∙ lt_false (length xs) (length xs) (omega arith) in
     ap (λ b. if b then Some (bad_mark (length (text_front xs))) else None) no
 
+take_behind : (n : ℕ) (b c : List Bool) → length b ≤ n → take n (b ++ c) ≡ b ++ take (n - length b) c
+take_behind n b c h =
+    let e : length b + (n - length b) ≡ n = omega arith in
+    ap (λ (k : ℕ). take k (b ++ c)) (sym e) ∙ take-append-add b c (n - length b)
+
+behind_cases : (xs ys : List ℕ) (b c : List Bool) (over : Bool) → nat_lt (2 ^ 60) (length (text_bits (xs ++ ys))) ≡ over → length b ≤ 2 ^ 60 → text_bits (xs ++ ys) ≡ b ++ c
+    → (more : List Bool) × ((capture (xs ++ ys)).bits ≡ b ++ more)
+behind_cases xs ys b c true t few e =
+    let is = capture-long (xs ++ ys) (true_lt (2 ^ 60) (length (text_bits (xs ++ ys))) t) in
+    (take (2 ^ 60 - length b) c, ap (λ (d : Capture). d.bits) is ∙ ap (take (2 ^ 60)) e ∙ take_behind (2 ^ 60) b c few)
+behind_cases xs ys b c false t few e =
+    let is = capture-short (xs ++ ys) (false_le (2 ^ 60) (length (text_bits (xs ++ ys))) t) in
+    (c, ap (λ (d : Capture). d.bits) is ∙ e)
+
+bits_behind : (xs ys : List ℕ) → length (text_bits xs) ≤ 2 ^ 60 → (capture xs).fault ≡ None → (more : List Bool) × ((capture (xs ++ ys)).bits ≡ (capture xs).bits ++ more)
+bits_behind xs ys few h =
+    let is = capture-short xs few in
+    let clean : text_fault xs ≡ None = sym (ap (λ (c : Capture). c.fault) is) ∙ h in
+    let whole = text-whole xs clean in
+    let behind = behind_cases xs ys (text_bits xs) (text_bits ys) (nat_lt (2 ^ 60) (length (text_bits (xs ++ ys)))) refl few (bits_front xs ys whole.0 (whole.1 ys)) in
+    (behind.0, behind.1 ∙ ap (λ (b : List Bool). b ++ behind.0) (sym (ap (λ (c : Capture). c.bits) is)))
+
 -- the capture of octets that hold a fault is that of any octets that begin with them
 pub capture-stays : (xs ys : List ℕ) (f : CaptureFault) → (capture xs).fault ≡ Some f → capture (xs ++ ys) ≡ capture xs
 capture-stays xs ys f h = elim (front_cases (λ x. is_mark x || is_space x) xs) [
@@ -96,4 +118,14 @@ capture-stays xs ys f h = elim (front_cases (λ x. is_mark x || is_space x) xs) 
             let none : None ≡ Some f = sym (clean_front xs w.0) ∙ sym (ap (λ (c : Capture). c.fault) is) ∙ h in
             let z : ⊥ = cc in absurd z
       ]
+]
+
+-- more octets behind such without a fault give more bits
+pub bits-more : (xs ys : List ℕ) → (capture xs).fault ≡ None → (more : List Bool) × ((capture (xs ++ ys)).bits ≡ (capture xs).bits ++ more)
+bits-more xs ys h = elim (same (nat_lt (2 ^ 60) (length (text_bits xs)))) [
+  | inl t ↦
+      let long = capture-long xs (true_lt (2 ^ 60) (length (text_bits xs)) t) in
+      let some : None ≡ Some place_limit = sym h ∙ ap (λ (c : Capture). c.fault) long in
+      let z : ⊥ = cc in absurd z
+  | inr u ↦ bits_behind xs ys (false_le (2 ^ 60) (length (text_bits xs)) u) h
 ]

@@ -3,3 +3,4 @@ pub mod FrameLemmas
 pub mod CaptureLemmas
 pub mod GatherLemmas
 pub mod RunLemmas
+pub mod KnownLemmas

@@ -1,3 +1,4 @@
 pub mod Listing
 pub mod Gather
 pub mod Run
+pub mod Known

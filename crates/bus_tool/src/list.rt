@@ -1,7 +1,8 @@
 //! Lists a capture.
 
-ghost use Rattle.std.specs.Prelude.{◌≡◌, ◌↔◌, ℕ, List, IsTrue, Err};
+ghost use Rattle.std.specs.Prelude.{◌≡◌, ◌↔◌, ℕ, List, IsTrue, IfSome, Err};
 ghost use Rattle.std.specs.Io.KnownBytes.{Consumes};
+ghost use Rattle.bus_tool.specs.Known.{Answers};
 ghost use Rattle.bus_tool.specs.Run.{Lists};
 
 mod gather;
@@ -44,8 +45,9 @@ pub fn list_pieces<R: Read, W: Write>(
     r: &mut R,
     w: &mut W,
 ) -> Result<(), ToolFault>
-    ensures { (xs : List ℕ) × Consumes (R.remaining r.old) (R.remaining r.new) xs
+    ensures listed { (xs : List ℕ) × Consumes (R.remaining r.old) (R.remaining r.new) xs
         × Lists reads (R.remaining r.new) (W.contents w.old) (W.contents w.new) xs result }
+    ensures known { IfSome (R.remaining r.old) (λ all. Answers (W.contents w.old) (W.contents w.new) all result) }
 {
     let mut gatherer = Gatherer::new(alloc);
     let ending = gatherer.take_input(reads, r);
