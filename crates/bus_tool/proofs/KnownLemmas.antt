@@ -4,7 +4,6 @@ use Rattle.std.specs.Io.KnownBytes.{Appends, Consumes}
 use Rattle.std.proofs.lemmas.List.{append-nil, take-append-le}
 use Rattle.std.proofs.lemmas.Grind.{common_steps, flat_map-append}
 use Rattle.bus_bits.specs.Capture.{Capture, CaptureFault, bad_mark, place_limit}
-use Rattle.bus_line.specs.Report.{Report}
 use Rattle.bus_line.specs.Due.{reports}
 use Rattle.bus_line.proofs.MoreLemmas.{reports-append}
 use Rattle.bus_tool.specs.Listing.{line_of, listing, capture, text_listing}
