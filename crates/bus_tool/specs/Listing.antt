@@ -15,9 +15,11 @@ hex_digit d = if nat_lt d 10 then 48 + d else 87 + d
 abbrev pub hex_octet : ℕ → List ℕ
 hex_octet o = hex_digit (o / 16) ∷ hex_digit (o % 16) ∷ []
 
+-- two digits for each octet
 abbrev pub hex_of : List ℕ → List ℕ
 hex_of os = flat_map hex_octet os
 
+-- why a piece is damaged
 abbrev pub cause_word : Cause → List ℕ
 cause_word Unstuffed = codes "unstuffed"
 cause_word Short = codes "short"
@@ -36,9 +38,11 @@ kind_text Idle = codes "idle"
 abbrev pub line_of : Report → List ℕ
 line_of r = decimal r.first ++ codes " " ++ decimal r.past ++ codes " " ++ kind_text r.kind ++ codes "\n"
 
+-- a line for each report, in their order
 abbrev pub listing : List Report → List ℕ
 listing rs = flat_map line_of rs
 
+-- the octets of a frame; nothing else has any
 abbrev pub octets_of : Kind → List ℕ
 octets_of (Frame octets) = octets
 octets_of (Damaged cause) = []
