@@ -1,0 +1,4 @@
+pub mod Listing
+pub mod Gather
+pub mod Run
+pub mod Known

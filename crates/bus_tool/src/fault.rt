@@ -1,0 +1,27 @@
+//! What can go wrong.
+
+use thiserror::Error;
+
+/// Why a call of the tool stopped. The text is what the program prints behind its name.
+#[derive(Debug, Drop, PartialEq, Eq, Error)]
+pub enum ToolFault {
+    /// Memory was refused.
+    #[error("no memory")]
+    Memory,
+    /// The octet of the capture at place `at` is neither a bit nor a space. Octets count from 0.
+    #[error("capture: octet {at} is no bit")]
+    BadMark { at: u128 },
+    /// The next bit's place would be 2^60.
+    #[error("capture: place limit")]
+    PlaceLimit,
+    /// The reader answered an error.
+    #[error("read failed")]
+    Read,
+    /// The reader was called as often as is allowed and did not answer the end.
+    #[error("too many reads")]
+    ReadsLimit,
+    /// A write or the flush failed, or a write took nothing. The first `written` octets of the
+    /// text went out.
+    #[error("write failed")]
+    Write { written: u128 },
+}

@@ -1,0 +1,17 @@
+//! Texts of what stands on a line, and the program `port1`.
+#![tactic(auto)]
+
+mod fault;
+mod list;
+mod options;
+mod program;
+mod text;
+
+pub use fault::ToolFault;
+pub use list::list_pieces;
+pub use program::run;
+
+#[cfg(test)]
+mod fakes;
+#[cfg(test)]
+mod tests;

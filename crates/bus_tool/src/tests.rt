@@ -1,0 +1,5 @@
+//! Worked rows of lines, listings and the program.
+
+mod lines;
+mod listings;
+mod program;

@@ -1,0 +1,104 @@
+//! The program, by its words.
+
+use crate::fakes::Narrow;
+use crate::run;
+use std::test::Fail;
+
+const IDLE: &[u8] = b"11111111 1111111\n";
+
+#[test]
+fn lists_by_words(rt: HostRuntime) -> Result<(), Fail> {
+    let calls: [&[&str]; 2] = [&[], &["list", "--bits"]];
+    let cases: [(&[u8], u8, &str, &str); 4] = [
+        (IDLE, 0, "0 15 idle\n", ""),
+        (b"", 0, "", ""),
+        (b"1 2", 2, "", "port1: capture: octet 2 is no bit\n"),
+        (
+            b"1111111111111112",
+            2,
+            "0 15 idle\n",
+            "port1: capture: octet 15 is no bit\n",
+        ),
+    ];
+    for words in calls {
+        for (octets, status, text, told) in cases {
+            let mut reader = octets;
+            let mut out = Vec::new(rt.alloc());
+            let mut err = Vec::new(rt.alloc());
+            let got = run(rt.alloc(), words, &mut reader, &mut out, &mut err);
+            assert_eq!(rt; got, status);
+            assert_eq!(rt; out.as_slice(), text.as_bytes());
+            assert_eq!(rt; err.as_slice(), told.as_bytes());
+        }
+    }
+    Ok(())
+}
+
+#[test]
+fn words(rt: HostRuntime) -> Result<(), Fail> {
+    let cases: [(&[&str], u8, &str); 6] = [
+        (&["--help"], 0, "Usage: port1 [COMMAND]\n"),
+        (&["list", "--help"], 0, "Usage: port1 list --bits\n"),
+        (&["list"], 2, "Usage: port1 list --bits\n"),
+        (&["list", "--bits", "more"], 2, "unexpected argument 'more'"),
+        (
+            &["list", "--nonsense"],
+            2,
+            "unexpected argument '--nonsense'",
+        ),
+        (&["nonsense"], 2, "unrecognized subcommand 'nonsense'"),
+    ];
+    for (words, status, part) in cases {
+        let mut reader = IDLE;
+        let mut out = Vec::new(rt.alloc());
+        let mut err = Vec::new(rt.alloc());
+        assert_eq!(rt;
+            run(rt.alloc(), words, &mut reader, &mut out, &mut err),
+            status
+        );
+        let (told, other) = if status == 0 {
+            (&out, &err)
+        } else {
+            (&err, &out)
+        };
+        let text = std::str::from_utf8(told.as_slice()).ok().ok_or("text")?;
+        assert!(rt; text.contains(part), "{words:?}");
+        assert!(rt; other.is_empty());
+        assert_eq!(rt; reader.len(), IDLE.len());
+    }
+    Ok(())
+}
+
+#[test]
+fn writers_fail(rt: HostRuntime) -> Result<(), Fail> {
+    let cases: [&[&str]; 2] = [&["--help"], &["list", "--bits"]];
+    for words in cases {
+        for (room, fails_flush) in [(5, false), (1000, true)] {
+            let mut writer = Narrow {
+                out: Vec::new(rt.alloc()),
+                room,
+                takes_none: false,
+                fails_flush,
+                flushes: 0,
+            };
+            let mut reader = IDLE;
+            let mut err = Vec::new(rt.alloc());
+            assert_eq!(rt;
+                run(rt.alloc(), words, &mut reader, &mut writer, &mut err),
+                2
+            );
+            assert_eq!(rt; err.as_slice(), "port1: write failed\n".as_bytes());
+        }
+    }
+    let mut deaf = Narrow {
+        out: Vec::new(rt.alloc()),
+        room: 0,
+        takes_none: false,
+        fails_flush: true,
+        flushes: 0,
+    };
+    let mut reader: &[u8] = b"2";
+    let mut out = Vec::new(rt.alloc());
+    assert_eq!(rt; run(rt.alloc(), &[], &mut reader, &mut out, &mut deaf), 2);
+    Ok(())
+}

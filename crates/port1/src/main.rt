@@ -1,0 +1,47 @@
+//! The program `port1`: lists what stands on the Port 1 bus, from a capture on standard input.
+#![tactic(auto)]
+
+use bus_tool::{ToolFault, run};
+use std::io::{BufWriter, ErrorKind, Write};
+use std::process::ExitCode;
+use std::{env, io};
+
+fn main(rt: HostRuntime) -> ExitCode {
+    match start(&rt) {
+        Ok(status) => ExitCode::from(status),
+        Err(error) => {
+            tell(&rt, &error);
+            ExitCode::from(2)
+        }
+    }
+}
+
+/// Tells why the program did not start; that this fails is ignored.
+fn tell(rt: &HostRuntime, error: &io::Error) {
+    let _ = if error.kind() == ErrorKind::OutOfMemory {
+        writeln!(rt.stderr(), "port1: {}", ToolFault::Memory)
+    } else {
+        writeln!(rt.stderr(), "port1: {error}")
+    };
+}
+
+/// Runs the words of the process, and answers the status.
+fn start(rt: &HostRuntime) -> io::Result<u8> {
+    let alloc = rt.alloc();
+    let owned: Vec<String> = env::args(rt)?.collect(alloc)?;
+    let mut words: Vec<&str> = Vec::new(alloc);
+    for word in owned.iter().skip(1) {
+        words.push(word.as_str())?;
+    }
+    let mut input = rt.reader();
+    let mut output = BufWriter::new(alloc, io::writer(rt))?;
+    let mut faults = rt.stderr();
+    let status = run(
+        alloc,
+        words.as_slice(),
+        &mut input,
+        &mut output,
+        &mut faults,
+    );
+    Ok(status)
+}
