@@ -1,3 +1,4 @@
+pub mod CaptureLemmas
 pub mod OctetLemmas
 pub mod PackedLemmas
 pub mod TextLemmas

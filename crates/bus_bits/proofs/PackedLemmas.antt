@@ -1,29 +1,15 @@
 -- Packed captures, one octet more and any cut.
-use Rattle.std.proofs.Common.{◌≡◌, ℕ, zero, suc, ◌+◌, ◌-◌, ◌*◌, ◌/◌, ◌%◌, ◌^◌, ◌<◌, ◌≤◌, ◌==◌, ◌⊎◌, inl, inr, Bool, true, false, nat_lt, if◌then◌else◌, List, [], ◌∷◌, ◌++◌, length, min, nat_cmp, take, drop, codes, slice_range, Option, Some, None, refl, sym, ap, subst, ◌∙◌, arith, length-append}
+use Rattle.std.proofs.Common.{◌≡◌, ℕ, zero, suc, ◌+◌, ◌-◌, ◌*◌, ◌/◌, ◌%◌, ◌^◌, ◌<◌, ◌≤◌, ◌==◌, inl, inr, Bool, true, false, nat_lt, if◌then◌else◌, List, [], ◌∷◌, ◌++◌, length, take, drop, codes, slice_range, Option, Some, None, refl, sym, ap, ◌∙◌, arith, length-append}
 use Rattle.std.proofs.lemmas.List.{append-nil, length-take, take_all, drop_all, take_at, take-append-le, drop-append-le, length-drop, drop_at}
 use Rattle.std.proofs.Math.Seq.{take-append-add, drop-append-add}
-use Rattle.std.proofs.lemmas.Bool.Decides.{nat_tests}
 use Rattle.std.specs.Int.{w64, from_le_bytes, next_multiple_of}
-use Rattle.std.specs.Ordering.{ord_min}
 use Rattle.std.specs.List.{list_any, starts_with}
 use Rattle.std.specs.Cmp.Lexicographic.{pointwise}
 use Rattle.bus_bits.specs.Octet.{bits_of, bits_of_octets}
-use Rattle.bus_bits.specs.Capture.{Capture, CaptureFault, magic, too_many, pad_bits, trailing, short_head, short_body, place_limit, GrowsTo, placed}
+use Rattle.bus_bits.specs.Capture.{Capture, CaptureFault, magic, too_many, pad_bits, trailing, short_head, short_body, GrowsTo}
 use Rattle.bus_bits.specs.Packed.{head_bits, head_fault, unused, wanted, packed_body, headed, packed_capture, or_fault, filled, packed_whole, PackedAfter}
+use Rattle.bus_bits.proofs.CaptureLemmas.{lt_true, le_false, same, le_or_lt, take_past, same_grows, clean_grows, grows_along}
 use Rattle.bus_bits.proofs.OctetLemmas.{length-bits, length-bits_of_octets, bits_of_octets-push, bits_of_octets-append}
-
-lt_true : (a b : ℕ) → a < b → nat_lt a b ≡ true
-lt_true a b h = grind (arith, nat_tests)
-
-le_false : (a b : ℕ) → b ≤ a → nat_lt a b ≡ false
-le_false a b h = grind (arith, nat_tests)
-
-same : (b : Bool) → (b ≡ true) ⊎ (b ≡ false)
-same true = inl refl
-same false = inr refl
-
-le_or_lt : (a b : ℕ) → (a ≤ b) ⊎ (b < a)
-le_or_lt a b = grind arith
 
 -- an unused bit is 1
 abbrev pub pads : ℕ → List Bool → Bool
@@ -104,17 +90,6 @@ unused_kept n d e h =
 
 pads_kept : (n : ℕ) (d e : List Bool) → next_multiple_of n 8 ≤ length d → pads n (d ++ e) ≡ pads n d
 pads_kept n d e h = ap (list_any (λ b. b)) (unused_kept n d e h)
-
-take_past : (m : ℕ) (d e : List Bool) → length d ≤ m → take m (d ++ e) ≡ d ++ take (m - length d) e
-take_past m d e h =
-    let s : m ≡ length d + (m - length d) = omega arith in
-    ap (λ (k : ℕ). take k (d ++ e)) s ∙ take-append-add d e (m - length d)
-
-same_grows : (c d : Capture) → d ≡ c → GrowsTo c d
-same_grows c d e = ([], ap (λ (x : Capture). x.bits) e ∙ sym (append-nil c.bits), λ f h. e)
-
-clean_grows : (c d : Capture) (rest : List Bool) → c.fault ≡ None → d.bits ≡ c.bits ++ rest → GrowsTo c d
-clean_grows c d rest n e = (rest, e, λ f h. let z : ⊥ = cc in absurd z)
 
 wanted-grows : (n : ℕ) (d e : List Bool) → length d % 8 ≡ 0 → length e % 8 ≡ 0 → GrowsTo (wanted n d) (wanted n (d ++ e))
 wanted-grows n d e h k = elim (le_or_lt (next_multiple_of n 8) (length d)) [
@@ -262,9 +237,6 @@ packed-short n xs left h p =
     ap (λ (g : Option CaptureFault). or_fault g (if nat_lt (length (packed_body n xs).bits) n then Some short_body else None)) h.clean
     ∙ ap (λ (b : Bool). if b then Some short_body else None) (lt_true (length (packed_body n xs).bits) n (omega (arith, h.left_over)))
 
-pub least : (a b : ℕ) → ord_min nat_cmp a b ≡ min a b
-least a b = grind (arith, nat_tests)
-
 -- ---- any cut of a capture
 
 capture_short : (xs : List ℕ) → length xs < 16 → packed_capture xs ≡ record { bits = []; fault = None }
@@ -310,11 +282,6 @@ head_kept xs ys h =
       ap (λ (t : Bool). if t then (if nat_lt (2 ^ 60) (head_bits (xs ++ ys)) then Some too_many else None) else Some magic) s
           ∙ ap (λ (k : ℕ). if starts_with (λ x y. x == y) xs (codes "TS2BITS1") then (if nat_lt (2 ^ 60) k then Some too_many else None) else Some magic) b,
     )
-
-grows_along : (c c' d d' : Capture) → c ≡ c' → d ≡ d' → GrowsTo c' d' → GrowsTo c d
-grows_along c c' d d' p q g =
-    let P : Capture → Type 0 = λ x. GrowsTo x d' in
-    let Q : Capture → Type 0 = λ x. GrowsTo c x in subst Q (sym q) (subst P (sym p) g)
 
 headed_grows : (f : Option CaptureFault) (c d : Capture) → GrowsTo c d → GrowsTo (headed f c) (headed f d)
 headed_grows None c d g = g
@@ -379,36 +346,3 @@ packed-ends xs = elim (le_or_lt 16 (length xs)) [
   | inl long ↦ grows_along (packed_capture xs) (packed_capture xs) (packed_whole xs) (filled (head_bits xs) (packed_capture xs))
       refl (whole_long xs long) (filled_grows (head_bits xs) (packed_capture xs))
 ]
-
--- ---- places
-
-placed_cut : (origin : ℕ) (c : Capture) → 2 ^ 60 - origin < length c.bits
-    → placed origin c ≡ record { bits = take (2 ^ 60 - origin) c.bits; fault = Some place_limit }
-placed_cut origin c h =
-    ap (λ (t : Bool). if t then record { bits = take (2 ^ 60 - origin) c.bits; fault = Some place_limit } else c)
-    (lt_true (2 ^ 60 - origin) (length c.bits) h)
-
-placed_all : (origin : ℕ) (c : Capture) → length c.bits ≤ 2 ^ 60 - origin → placed origin c ≡ c
-placed_all origin c h =
-    ap (λ (t : Bool). if t then record { bits = take (2 ^ 60 - origin) c.bits; fault = Some place_limit } else c)
-    (le_false (2 ^ 60 - origin) (length c.bits) h)
-
-pub placed-grows : (origin : ℕ) (c d : Capture) → GrowsTo c d → GrowsTo (placed origin c) (placed origin d)
-placed-grows origin c d g =
-    let m = 2 ^ 60 - origin in
-    let l : length d.bits ≡ length c.bits + length g.0 = ap length g.1 ∙ length-append c.bits g.0 in
-    elim (le_or_lt (length c.bits) m) [
-      | inr over ↦ let t : take m d.bits ≡ take m c.bits = ap (take m) g.1 ∙ take-append-le m c.bits g.0 (omega arith) in
-          same_grows (placed origin c) (placed origin d) (
-          placed_cut origin d (omega arith) ∙ ap (λ (x : List Bool). record { bits = x; fault = Some place_limit }) t
-          ∙ sym (placed_cut origin c over))
-      | inl fit ↦ elim (le_or_lt (length d.bits) m) [
-        | inl all ↦ grows_along (placed origin c) c (placed origin d) d (placed_all origin c fit) (placed_all origin d all) g
-        | inr cut ↦ grows_along (placed origin c) c (placed origin d) (record { bits = take m d.bits; fault = Some place_limit })
-            (placed_all origin c fit) (placed_cut origin d cut) (
-              take (m - length c.bits) g.0,
-              ap (take m) g.1 ∙ take_past m c.bits g.0 fit,
-              λ f h. let e : length d.bits ≡ length c.bits = ap (λ (x : Capture). length x.bits) (g.2 f h) in absurd (omega arith),
-            )
-      ]
-    ]

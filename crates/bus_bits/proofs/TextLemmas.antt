@@ -1,15 +1,12 @@
 -- Text captures, one octet more and any cut.
-use Rattle.std.proofs.Common.{◌≡◌, ℕ, ◌/◌, ◌<◌, ◌≤◌, ◌==◌, ◌||◌, ◌⊎◌, inl, inr, Bool, true, false, cond, nat_lt, if◌then◌else◌, ◌≢◌, length-append, List, [], ◌∷◌, ◌++◌, length, map, filter, take_while, Some, None, refl, sym, ap, ◌∙◌, arith}
+use Rattle.std.proofs.Common.{◌≡◌, ℕ, ◌/◌, ◌<◌, ◌==◌, ◌||◌, ◌⊎◌, inl, inr, Bool, true, false, cond, nat_lt, if◌then◌else◌, ◌≢◌, length-append, List, [], ◌∷◌, ◌++◌, length, map, filter, take_while, Some, None, refl, sym, ap, ◌∙◌, arith}
 use Rattle.std.proofs.lemmas.List.{append-nil, map-append}
 use Rattle.std.proofs.lemmas.List.Elements.{filter-append}
 use Rattle.std.proofs.lemmas.List.Sums.{take_while-cons}
 use Rattle.std.proofs.Math.Bool.{or-true}
 use Rattle.std.proofs.lemmas.Bool.Decides.{nat_tests}
+use Rattle.bus_bits.proofs.CaptureLemmas.{lt_true, le_false, same}
 use Rattle.bus_bits.specs.Capture.{bad_mark, is_mark, is_space, text_front, text_bits, text_fault, text_capture, GrowsTo}
-
-same : (b : Bool) → (b ≡ true) ⊎ (b ≡ false)
-same true = inl refl
-same false = inr refl
 
 passes : (p : ℕ → Bool) (x : ℕ) (xs : List ℕ) → p x ≡ true → take_while p (x ∷ xs) ≡ x ∷ take_while p xs
 passes p x xs h = take_while-cons p x xs ∙ ap (λ b. cond b (x ∷ take_while p xs) []) h
@@ -33,12 +30,6 @@ front_cases p (x ∷ xs) =
       ]
       | inr f ↦ inr ((let e = fails p x xs f in rw e (omega arith)), λ ys. fails p x (xs ++ ys) f ∙ sym (fails p x xs f))
     ]
-
-lt_true : (a b : ℕ) → a < b → nat_lt a b ≡ true
-lt_true a b h = grind (arith, nat_tests)
-
-le_false : (a b : ℕ) → b ≤ a → nat_lt a b ≡ false
-le_false a b h = grind (arith, nat_tests)
 
 abbrev is_text : ℕ → Bool
 is_text x = is_mark x || is_space x

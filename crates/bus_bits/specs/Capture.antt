@@ -17,7 +17,7 @@ pub record Capture : Type 0 where
   pub bits : List Bool
   pub fault : Option CaptureFault
 
--- octets that gave `c` gave `d` with more octets after them: bits only came to the end, and after a fault nothing changed
+-- octets that gave `c` may give `d` with more octets after them: more bits at the end, and nothing new after a fault
 abbrev pub GrowsTo : Capture → Capture → Type 0
 GrowsTo c d = (rest : List Bool) × (d.bits ≡ c.bits ++ rest) × ((f : CaptureFault) → c.fault ≡ Some f → d ≡ c)
 

@@ -29,11 +29,12 @@ head_fault xs =
     if starts_with (λ x y. x == y) xs (codes "TS2BITS1") then (if nat_lt (2 ^ 60) (head_bits xs) then Some too_many else None)
     else Some magic
 
--- of the bits `d` of whole octets, those after the first `n` that share an octet with one of these
+-- of the bits `d` of whole octets, those that share an octet with the `n`th and come after it
 abbrev pub unused : ℕ → List Bool → List Bool
 unused n d = take (next_multiple_of n 8 - n) (drop n d)
 
--- what the bits `d` of whole octets give, of which `n` are wanted
+-- what the bits `d` of whole octets give, of which the first `n` are wanted: an octet with an unused 1 gives none, and an octet
+-- past the last wanted bit is one too many
 unfoldable pub wanted : ℕ → List Bool → Capture
 wanted n d =
     if list_any (λ b. b) (unused n d) then record { bits = take (n / 8 * 8) d; fault = Some pad_bits }
@@ -68,7 +69,7 @@ unfoldable pub packed_whole : List ℕ → Capture
 packed_whole xs =
     if nat_lt (length xs) 16 then record { bits = []; fault = Some short_head } else filled (head_bits xs) (packed_capture xs)
 
--- the octets `xs` after a head that counts `n` bits have no fault, and `left` bits are still to come
+-- the octets `xs` after a head that counts `n` bits have no fault, and `left` of the bits are still to come
 pub record PackedAfter (n : ℕ) (xs : List ℕ) (left : ℕ) : Type 0 where
   pub clean : (packed_body n xs).fault ≡ None
   pub left_over : length (packed_body n xs).bits + left ≡ n

@@ -42,6 +42,7 @@ fn text_stops_at_a_bad_mark(rt: HostRuntime) {
             Err(BadMark) => assert!(rt; false),
         }
     }
+    assert_eq!(rt; given.len(), 0);
     assert_eq!(rt; text.step(b'2'), Err(BadMark));
     assert_eq!(rt; text.step(b'\t'), Ok(None));
 }

@@ -1,4 +1,3 @@
-pub mod Runs
 pub mod SpellingLemmas
 pub mod RunLemmas
 pub mod MarkLemmas
@@ -7,4 +6,14 @@ pub mod DueLemmas
 pub mod MoreLemmas
 pub mod AllLemmas
 pub mod WholeLemmas
+pub mod Stream
+pub mod StreamLemmas
+pub mod SettledLemmas
+pub mod RawLemmas
+pub mod RankLemmas
+pub mod WindowLemmas
+pub mod HoldLemmas
+pub mod StepLemmas
+pub mod DecideLemmas
+pub mod ClassLemmas
 mod Examples

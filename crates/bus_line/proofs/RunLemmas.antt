@@ -3,9 +3,13 @@ use Rattle.std.proofs.lemmas.List.{append_assoc}
 use Rattle.std.proofs.lemmas.Bool.{cases_lt}
 use Rattle.std.specs.Option.{option_map}
 use Rattle.bus_line.specs.Spelling.{IsSpelledBy, ends, short, five, spelling, unspelled, ones}
-use Rattle.bus_line.proofs.Runs.{ones_after, ones_at_end, data_after, data_so_far, HasSix}
+use Rattle.bus_line.specs.Run.{ones_after, ones_at_end, data_after, data_so_far}
 use Rattle.std.proofs.lemmas.Bool.Decides.{nat_tests}
 use Rattle.bus_line.proofs.SpellingLemmas.{unspelled-is, unspelled-short, none_back}
+
+-- six ones in a row
+abbrev pub HasSix : List Bool → Type 0
+HasSix r = (u v : List Bool) × (r ≡ u ++ ones 6 ++ v)
 
 pub ones_after-more : (k : ℕ) (r : List Bool) (x : Bool) → ones_after k (r ++ x ∷ []) ≡ (if x then suc (ones_after k r) else 0)
 ones_after-more k [] true = refl

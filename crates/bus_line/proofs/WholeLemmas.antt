@@ -41,7 +41,7 @@ pub take_next : {X : Type 0} (xs : List X) (i : ℕ) (d : X) → i < length xs �
 take_next xs i d h = grind (arith, common_steps)
 
 -- fewer than eight bits are no octet
-octets-short : (d : List Bool) → length d / 8 ≡ 0 → octets d ≡ []
+pub octets-short : (d : List Bool) → length d / 8 ≡ 0 → octets d ≡ []
 unfolding octets
 octets-short ([]) h = refl
 octets-short (s ∷ []) h = refl
@@ -86,7 +86,7 @@ map-push f (y ∷ xs) x = ap (λ ys. f y ∷ ys) (map-push f xs x)
 pub split_at : {X : Type 0} (xs : List X) (i : ℕ) (d x : X) → i < length xs → get_or xs i d ≡ x → xs ≡ take i xs ++ x ∷ drop (i + 1) xs
 split_at xs i d x h e = grind (arith, common_steps)
 
-same_bool : (x y : Bool) → (x ≡ true → y ≡ true) → (y ≡ true → x ≡ true) → x ≡ y
+pub same_bool : (x y : Bool) → (x ≡ true → y ≡ true) → (y ≡ true → x ≡ true) → x ≡ y
 same_bool true true f g = refl
 same_bool true false f g = sym (f refl)
 same_bool false true f g = g refl

@@ -34,6 +34,10 @@ abbrev pub last_mark : List Bool → ℕ → Mark
 last_mark b zero = NoMark
 last_mark b (suc p) = if is_flag b p then FlagAt p else (if is_abort b p then AbortAt p else last_mark b p)
 
+-- the mark with the greatest place
+abbrev pub current : List Bool → Mark
+current b = last_mark b (length b)
+
 -- the flag, if it is one
 abbrev pub flag_of : Mark → Option ℕ
 flag_of NoMark = None
@@ -76,4 +80,4 @@ begun_by (AbortAt a) n = None
 begun_by (FlagAt p) n = if nat_lt (p + 8) n then Some (p + 8) else None
 
 abbrev pub begun : List Bool → Option ℕ
-begun b = begun_by (last_mark b (length b)) (length b)
+begun b = begun_by (current b) (length b)

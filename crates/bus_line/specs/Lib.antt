@@ -2,5 +2,11 @@ pub mod Spelling
 pub mod Mark
 pub mod Report
 pub mod Due
+pub mod Ledger
 pub mod Owned
+pub mod Run
+pub mod LineState
+pub mod LineView
+pub mod After
+pub mod Look
 pub mod Laws

@@ -3,11 +3,21 @@
 #![tactic(auto)]
 
 mod cause;
+mod decoder;
 pub mod laws;
+mod line_fault;
 mod owned_piece;
+mod piece;
+mod place_limit;
+#[cfg(test)]
+mod tests;
 mod whole;
 
 pub use bus_bits::Span;
 pub use cause::Cause;
+pub use decoder::LineDecoder;
+pub use line_fault::LineFault;
 pub use owned_piece::OwnedPiece;
+pub use piece::Piece;
+pub use place_limit::PlaceLimit;
 pub use whole::reports_whole;

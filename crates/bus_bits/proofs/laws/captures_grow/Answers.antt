@@ -1,4 +1,5 @@
-use Rattle.bus_bits.proofs.PackedLemmas.{packed-grows, packed-ends, placed-grows}
+use Rattle.bus_bits.proofs.CaptureLemmas.{placed-grows}
+use Rattle.bus_bits.proofs.PackedLemmas.{packed-grows, packed-ends}
 use Rattle.bus_bits.proofs.TextLemmas.{text-grows}
 use Rattle.bus_bits.proofs.laws.captures_grow.Goals as goal
 

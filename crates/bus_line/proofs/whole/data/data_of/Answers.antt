@@ -4,7 +4,7 @@ use Rattle.std.proofs.lemmas.Bool.Decides.{nat_tests}
 use Rattle.std.proofs.lemmas.Bool.{both_ways}
 use Rattle.std.proofs.lemmas.List.{take_all}
 use Rattle.bus_line.specs.Spelling.{unspelled}
-use Rattle.bus_line.proofs.Runs.{ones_at_end, data_so_far}
+use Rattle.bus_line.specs.Run.{ones_at_end, data_so_far}
 use Rattle.bus_line.proofs.RunLemmas.{IsLow, low-more, six-unspelled, data-push, data-inserted, ones_after-more, low-unspelled}
 use Rattle.bus_line.proofs.WholeLemmas.{take_next, split_at}
 use Rattle.bus_line.proofs.whole.data.data_of.Goals as goal

@@ -1,10 +1,12 @@
-use Rattle.std.proofs.Common.{◌≡◌, ℕ, ◌<◌, ◌-◌, ◌∷◌, [], ◌++◌, List, Bool, true, false, take, drop, arith, sym, ap, ◌∙◌, subst, length, min}
+use Rattle.std.proofs.Common.{◌≡◌, ℕ, ◌<◌, ◌-◌, ◌∷◌, [], ◌++◌, List, Bool, true, false, take, drop, arith, sym, ap, ◌∙◌, subst, length, min, nat_cmp}
 use Rattle.std.proofs.lemmas.List.{length-drop, take_all, take_min, drop_min}
+use Rattle.std.proofs.lemmas.Bool.Decides.{nat_tests}
+use Rattle.std.specs.Ordering.{ord_min}
 use Rattle.std.specs.List.{list_any}
 use Rattle.bus_bits.specs.Octet.{bits_of}
 use Rattle.bus_bits.specs.Packed.{PackedAfter, packed_body}
 use Rattle.bus_bits.proofs.OctetLemmas.{length-bits}
-use Rattle.bus_bits.proofs.PackedLemmas.{packed-trailing, packed-pad, packed-more, least}
+use Rattle.bus_bits.proofs.PackedLemmas.{packed-trailing, packed-pad, packed-more}
 use Rattle.bus_bits.proofs.capture.packed_bits.PackedBits.step.Goals as goal
 
 pub returns-then-self-eq0-clause-given : goal.returns-then-self-eq0-clause-given
@@ -13,6 +15,9 @@ returns-then-self-eq0-clause-given c =
     let e : c.args.self.now ≡ 0 = sym c.self.view_is ∙ c.if-self-eq0.true in
     let P : ℕ → Type 0 = λ left. PackedAfter n xs left in
     packed-trailing n xs c.args.octet (subst P e h)
+
+least : (a b : ℕ) → ord_min nat_cmp a b ≡ min a b
+least a b = grind (arith, nat_tests)
 
 used_is : (left used o : ℕ) → used ≡ min left 8
     → (take used (bits_of 8 o) ≡ take left (bits_of 8 o)) × (drop used (bits_of 8 o) ≡ drop left (bits_of 8 o))

@@ -1,0 +1,161 @@
+-- A window of the last bits, the newest lowest.
+use Rattle.std.proofs.Common.{◌≡◌, ℕ, zero, suc, ◌+◌, ◌-◌, ◌*◌, ◌/◌, ◌%◌, ◌^◌, ◌≤◌, ◌<◌, ◌==◌, Bool, true, false, cond, List, [], ◌∷◌, ◌++◌, length, take, drop, reverse, get_or, refl, sym, ap, ◌∙◌, subst, arith, length-append, if◌then◌else◌}
+use Rattle.std.proofs.Math.Seq.{take-add}
+use Rattle.std.proofs.lemmas.List.{append_assoc, reverse-append, reverse-reverse, length-reverse, length-take, length-drop, take-append-drop, take-append-le, drop-drop}
+use Rattle.std.proofs.lemmas.Grind.{common_steps}
+use Rattle.bus_bits.specs.Octet.{number}
+use Rattle.bus_bits.proofs.OctetLemmas.{number-cons, number-lt, number-append, same_number}
+use Rattle.bus_line.specs.Spelling.{ones}
+use Rattle.bus_line.specs.Mark.{StandsAt}
+use Rattle.bus_line.specs.Run.{ones_after, ones_at_end}
+use Rattle.bus_line.specs.Ledger.{IsInserted, is_inserted}
+use Rattle.bus_line.proofs.RunLemmas.{ones_after-more}
+use Rattle.bus_line.proofs.SettledLemmas.{inserted-true, inserted-is}
+use Rattle.bus_line.proofs.WholeLemmas.{take_next}
+
+-- the window takes a bit
+pub window-more : (w : ℕ) (b : List Bool) (x : Bool) → w ≡ number (reverse b) % 2 ^ 32 → (w * 2 + cond x 1 0) % 2 ^ 32 ≡ number (reverse (b ++ x ∷ [])) % 2 ^ 32
+window-more w b x h =
+    let e : number (reverse (b ++ x ∷ [])) ≡ number (reverse b) * 2 + cond x 1 0 = ap number (reverse-append b (x ∷ [])) ∙ number-cons x (reverse b) in
+    omega (arith, h, e)
+
+-- the number of a list and of its last eight bits
+late-number : (u v : List Bool) → length v ≡ 8 → number (reverse (u ++ v)) / 256 ≡ number (reverse u)
+late-number u v h =
+    let k : length (reverse v) ≡ 8 = length-reverse v ∙ h in
+    let e : number (reverse (u ++ v)) ≡ number (reverse v) + number (reverse u) * 256 =
+    ap number (reverse-append u v) ∙ (number-append (reverse v) (reverse u) ∙ ap (λ (n : ℕ). number (reverse v) + number (reverse u) * 2 ^ n) k) in
+    let l : number (reverse v) < 256 = rw k at (number-lt (reverse v)) in
+    omega (arith, e)
+
+-- what the window shows of the bits up to the last eight
+late : (w n : ℕ) (u v : List Bool) → length v ≡ 8 → w ≡ number (reverse (u ++ v)) % 2 ^ 32 → w / 256 ≡ number (reverse u) % 2 ^ 24
+late w n u v h e = let k = late-number u v h in omega (arith, e, k)
+
+-- the last eight bits of a list that has as many
+cut : (b : List Bool) (bit : Bool) → 7 ≤ length b → ((b ++ bit ∷ []) ≡ take (length b - 7) b ++ drop (length b - 7) (b ++ bit ∷ [])) × (length (drop (length b - 7) (b ++ bit ∷ [])) ≡ 8)
+cut b bit h = (
+  sym (take-append-drop (length b - 7) (b ++ bit ∷ [])) ∙ ap (λ (z : List Bool). z ++ drop (length b - 7) (b ++ bit ∷ [])) (take-append-le (length b - 7) b (bit ∷ []) (omega arith)),
+  length-drop (length b - 7) (b ++ bit ∷ []) ∙ omega (arith, length-append b (bit ∷ [])),
+)
+
+-- the window beside its last eight bits
+pub window-late : (w : ℕ) (b : List Bool) (bit : Bool) → 7 ≤ length b → w ≡ number (reverse (b ++ bit ∷ [])) % 2 ^ 32 → w / 256 ≡ number (reverse (take (length b - 7) b)) % 2 ^ 24
+window-late w b bit h e =
+    let p = cut b bit h in
+    late w 0 (take (length b - 7) b) (drop (length b - 7) (b ++ bit ∷ [])) p.1 (e ∙ ap (λ (z : List Bool). number (reverse z) % 2 ^ 32) p.0)
+
+-- the last six bits of a list
+six-last : (s t : List Bool) → length t ≡ 6 → number (reverse (s ++ t)) % 64 ≡ number (reverse t)
+six-last s t h =
+    let k : length (reverse t) ≡ 6 = length-reverse t ∙ h in
+    let e : number (reverse (s ++ t)) ≡ number (reverse t) + number (reverse s) * 64 =
+    ap number (reverse-append s t) ∙ (number-append (reverse t) (reverse s) ∙ ap (λ (n : ℕ). number (reverse t) + number (reverse s) * 2 ^ n) k) in
+    let l : number (reverse t) < 64 = rw k at (number-lt (reverse t)) in
+    omega (arith, e)
+
+abbrev pattern : List Bool
+pattern = ones 5 ++ false ∷ []
+
+pattern-number : number (reverse pattern) ≡ 62
+unfolding number
+pattern-number = refl
+
+-- the six bits that end eight before the newest
+six : (b : List Bool) → 13 ≤ length b → (take (length b - 7) b ≡ take (length b - 13) b ++ take 6 (drop (length b - 13) b)) × (length (take 6 (drop (length b - 13) b)) ≡ 6)
+six b h = (
+  (let e : length b - 7 ≡ (length b - 13) + 6 = omega arith in rw e (take-add (length b - 13) 6 b)),
+  length-take 6 (drop (length b - 13) b) ∙ omega (arith, length-drop (length b - 13) b),
+)
+
+-- an inserted 0 shows
+pub window-inserted : (w : ℕ) (b : List Bool) (bit : Bool) → 13 ≤ length b → w ≡ number (reverse (b ++ bit ∷ [])) % 2 ^ 32 → w / 256 % 64 ≡ 62 → is_inserted b (length b - 8) ≡ true
+window-inserted w b bit h e k =
+    let parts = six b h in
+    let t = take 6 (drop (length b - 13) b) in
+    let n : number (reverse t) ≡ 62 = sym (six-last (take (length b - 13) b) t parts.1) ∙ (ap (λ (z : List Bool). number (reverse z) % 64) (sym parts.0) ∙ omega (arith, window-late w b bit (omega arith) e, k)) in
+    let l : length (reverse t) ≡ length (reverse pattern) = length-reverse t ∙ parts.1 in
+    let r : reverse t ≡ reverse pattern = same_number (reverse t) (reverse pattern) l (n ∙ sym pattern-number) in
+    let s : t ≡ pattern = sym (reverse-reverse t) ∙ ap reverse r in
+    inserted-is b (length b - 8) (length b - 13, omega arith, s)
+
+pub window-not_inserted : (w : ℕ) (b : List Bool) (bit : Bool) → 13 ≤ length b → w ≡ number (reverse (b ++ bit ∷ [])) % 2 ^ 32 → is_inserted b (length b - 8) ≡ true → w / 256 % 64 ≡ 62
+window-not_inserted w b bit h e k =
+    let parts = six b h in
+    let t = take 6 (drop (length b - 13) b) in
+    let i = inserted-true b (length b - 8) k in
+    let q : i.0 ≡ length b - 13 = omega (arith, i.1) in
+    let s : t ≡ pattern = subst (λ (n : ℕ). StandsAt b n pattern) q i.2 in
+    let n : number (reverse t) ≡ 62 = ap (λ (z : List Bool). number (reverse z)) s ∙ pattern-number in
+    let m : number (reverse (take (length b - 7) b)) % 64 ≡ 62 = ap (λ (z : List Bool). number (reverse z) % 64) parts.0 ∙ (six-last (take (length b - 13) b) t parts.1 ∙ n) in
+    omega (arith, window-late w b bit (omega arith) e, m)
+
+-- and so does the bit
+pub window-bit : (w : ℕ) (b : List Bool) (bit : Bool) → 8 ≤ length b → w ≡ number (reverse (b ++ bit ∷ [])) % 2 ^ 32 → w / 256 % 2 ≡ cond (get_or b (length b - 8) false) 1 0
+window-bit w b bit h e =
+    let n : length b - 7 ≡ (length b - 8) + 1 = omega arith in
+    let x = get_or b (length b - 8) false in
+    let front = take (length b - 8) b in
+    let u : take (length b - 7) b ≡ front ++ x ∷ [] = ap (λ (k : ℕ). take k b) n ∙ take_next b (length b - 8) false (omega arith) in
+    let m : number (reverse (take (length b - 7) b)) ≡ number (reverse front) * 2 + cond x 1 0 =
+    ap (λ (z : List Bool). number (reverse z)) u ∙ (ap number (reverse-append front (x ∷ [])) ∙ number-cons x (reverse front)) in
+    let l = bit-below x in
+    omega (arith, window-late w b bit (omega arith) e, m, l)
+  where
+    bit-below : (x : Bool) → cond x 1 0 < 2
+    bit-below true = omega arith
+    bit-below false = omega arith
+
+-- the ones at the front of a list
+abbrev lead : List Bool → ℕ
+lead [] = 0
+lead (true ∷ r) = suc (lead r)
+lead (false ∷ r) = 0
+
+lead-back : (r : List Bool) → ones_at_end (reverse r) ≡ lead r
+lead-back [] = refl
+lead-back (true ∷ r) = ap ones_at_end (reverse-append (true ∷ []) r) ∙ (ones_after-more 0 (reverse r) true ∙ ap suc (lead-back r))
+lead-back (false ∷ r) = ap ones_at_end (reverse-append (false ∷ []) r) ∙ ones_after-more 0 (reverse r) false
+
+lead-is : (u : List Bool) → ones_at_end u ≡ lead (reverse u)
+lead-is u = ap ones_at_end (sym (reverse-reverse u)) ∙ lead-back (reverse u)
+
+lead-1 : (r : List Bool) → (number r % 2 ≡ 1 → 1 ≤ lead r) × (1 ≤ lead r → number r % 2 ≡ 1)
+unfolding number
+lead-1 [] = (λ e. absurd (omega (arith, e)), λ l. absurd (omega (arith, l)))
+lead-1 (false ∷ r) = (λ e. absurd (omega (arith, e)), λ l. absurd (omega (arith, l)))
+lead-1 (true ∷ r) = (λ e. omega arith, λ l. omega arith)
+
+lead-2 : (r : List Bool) → (number r % 4 ≡ 3 → 2 ≤ lead r) × (2 ≤ lead r → number r % 4 ≡ 3)
+unfolding number
+lead-2 [] = (λ e. absurd (omega (arith, e)), λ l. absurd (omega (arith, l)))
+lead-2 (false ∷ r) = (λ e. absurd (omega (arith, e)), λ l. absurd (omega (arith, l)))
+lead-2 (true ∷ r) = let i = lead-1 r in (λ e. omega (arith, i.0 (omega (arith, e))), λ l. omega (arith, i.1 (omega (arith, l))))
+
+lead-3 : (r : List Bool) → (number r % 8 ≡ 7 → 3 ≤ lead r) × (3 ≤ lead r → number r % 8 ≡ 7)
+unfolding number
+lead-3 [] = (λ e. absurd (omega (arith, e)), λ l. absurd (omega (arith, l)))
+lead-3 (false ∷ r) = (λ e. absurd (omega (arith, e)), λ l. absurd (omega (arith, l)))
+lead-3 (true ∷ r) = let i = lead-2 r in (λ e. omega (arith, i.0 (omega (arith, e))), λ l. omega (arith, i.1 (omega (arith, l))))
+
+lead-4 : (r : List Bool) → (number r % 16 ≡ 15 → 4 ≤ lead r) × (4 ≤ lead r → number r % 16 ≡ 15)
+unfolding number
+lead-4 [] = (λ e. absurd (omega (arith, e)), λ l. absurd (omega (arith, l)))
+lead-4 (false ∷ r) = (λ e. absurd (omega (arith, e)), λ l. absurd (omega (arith, l)))
+lead-4 (true ∷ r) = let i = lead-3 r in (λ e. omega (arith, i.0 (omega (arith, e))), λ l. omega (arith, i.1 (omega (arith, l))))
+
+lead-5 : (r : List Bool) → (number r % 32 ≡ 31 → 5 ≤ lead r) × (5 ≤ lead r → number r % 32 ≡ 31)
+unfolding number
+lead-5 [] = (λ e. absurd (omega (arith, e)), λ l. absurd (omega (arith, l)))
+lead-5 (false ∷ r) = (λ e. absurd (omega (arith, e)), λ l. absurd (omega (arith, l)))
+lead-5 (true ∷ r) = let i = lead-4 r in (λ e. omega (arith, i.0 (omega (arith, e))), λ l. omega (arith, i.1 (omega (arith, l))))
+
+-- five ones before the last eight bits show
+pub window-five : (w : ℕ) (b : List Bool) (bit : Bool) → 7 ≤ length b → w ≡ number (reverse (b ++ bit ∷ [])) % 2 ^ 32
+    → (w / 256 % 32 ≡ 31 → 5 ≤ ones_at_end (take (length b - 7) b)) × (5 ≤ ones_at_end (take (length b - 7) b) → w / 256 % 32 ≡ 31)
+window-five w b bit h e =
+    let u = take (length b - 7) b in
+    let l = window-late w b bit h e in
+    let i = lead-5 (reverse u) in
+    let k = lead-is u in
+    (λ m. omega (arith, k, i.0 (omega (arith, l, m))), λ m. omega (arith, l, i.1 (omega (arith, k, m))))

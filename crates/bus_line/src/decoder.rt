@@ -1,0 +1,177 @@
+//! The decoder: one bit at a time, in fixed memory.
+
+mod decide;
+mod event;
+mod look;
+mod step;
+
+ghost use Rattle.std.specs.Prelude.{◌≡◌, ◌+◌, ◌*◌, ◌-◌, ◌%◌, ◌/◌, ◌≤◌, ◌<◌, ◌^◌, ◌↔◌, ◌⊎◌, List, Bool, [], ◌∷◌, ◌++◌, IsErr, IfOk, OnOk, OnErr, IsErrOf, IsTrue, length, ℕ, cond, Some, None, IsSome};
+ghost use Rattle.std.specs.Option.{option_map};
+ghost use Rattle.std.specs.Borrow.{sem};
+ghost use Rattle.std.specs.Io.BufRead.{Rests};
+ghost use Rattle.bus_line.specs.Due.{Mark, FlagAt, current, due_at, begun};
+
+use crate::line_fault::LineFault;
+use crate::piece::Piece;
+use crate::place_limit::PlaceLimit;
+use arrayvec::ArrayVec;
+use bus_bits::Spent;
+use bus_fcs::Check;
+use event::Event;
+use std::marker::Model;
+
+/// The first place that no bit can have.
+const PLACES: u64 = 1 << 60;
+
+/// Finds the frames, damaged pieces, overlong pieces, aborts and idles of a line (ISO/IEC 13239)
+/// from its bits, one at a time.
+///
+/// It keeps a few words and the octets of one piece, at most the longest frame and two octets, and
+/// takes no memory.
+#[derive(Drop)]
+pub struct LineDecoder<C: Check> {
+    /// The longest frame in octets, address through information.
+    longest: usize,
+    origin: u64,
+    /// The place of the next bit.
+    place: u64,
+    /// How many ones stand at the end of the bits so far.
+    run: u64,
+    /// The last bits, the newest lowest.
+    window: u32,
+    /// The place behind the last mark, where that is a flag.
+    first: Option<u64>,
+    /// How many data bits of the piece from there are settled.
+    gathered: u64,
+    /// The last eight of them, the newest highest.
+    octet: u8,
+    /// The octets of the piece, or of the frame before it until the first octet is full.
+    buffer: ArrayVec<u8, 258>,
+    /// The check of these octets.
+    check: C,
+    spent: Spent,
+}
+
+impl<C: Check> Model for LineDecoder<C> {
+    ghost use Rattle.bus_line.specs.LineState.{LineState};
+
+    ghost Value = { LineState C };
+
+    ghost use Rattle.bus_line.specs.LineView.{line_state, IsWithin};
+
+    ghost view = { line_state };
+
+    ghost invariant = { IsWithin };
+}
+
+impl<C: Check> LineDecoder<C> {
+    ghost use Rattle.bus_line.specs.contracts.decoder.LineDecoder.{the_row};
+    ghost use Rattle.bus_line.specs.LineState.{LineState};
+    ghost use Rattle.bus_line.specs.After.{After, Tracks, Lags, Pushed, FitsFrame, shown, event_shown, moved};
+
+    /// A decoder that took no bit, whose first bit has the place `origin`.
+    ///
+    /// `longest` is the longest frame in octets, address through information, 3 to 256. `origin` is
+    /// at most 2^60.
+    pub fn new(longest: usize, origin: u64) -> Result<Self, LineFault>
+        ensures range { (result ≡ Err LineFault.LongestRange) ↔ ((longest < 3) ⊎ (256 < longest)) }
+        ensures origin { (result ≡ Err LineFault.Origin) ↔ ((3 ≤ longest) × (longest ≤ 256) × (2 ^ 60 < origin)) }
+        ensures after { IfOk result (λ d. After C.folded C.COST d []) }
+        ensures given { IfOk result (λ d. (d.longest ≡ longest) × (d.origin ≡ origin) × (d.place ≡ origin)) }
+    {
+        if longest < 3 || longest > 256 {
+            return Err(LineFault::LongestRange);
+        }
+        if origin > PLACES {
+            return Err(LineFault::Origin);
+        }
+        Ok(LineDecoder {
+            longest,
+            origin,
+            place: origin,
+            run: 0,
+            window: 0,
+            first: None,
+            gathered: 0,
+            octet: 0,
+            buffer: ArrayVec::new(),
+            check: C::fresh(),
+            spent: Spent::zero(),
+        })
+    }
+
+    /// Takes a bit, and answers the report that it decides, if there is one. A frame's octets are
+    /// borrowed from the decoder.
+    ///
+    /// Refuses as [`PlaceLimit`], with nothing changed, where the bit's place would be 2^60.
+    pub fn push(&mut self, bit: bool) -> Result<Option<Piece<'_>>, PlaceLimit>
+        ensures limit { IsErr result ↔ (2 ^ 60 ≤ self.old.place) }
+        ensures answer { IfOk result (λ o. (b : List Bool) → After C.folded C.COST self.old b →
+            shown o ≡ option_map (moved self.old.origin) (due_at self.old.longest (b ++ bit ∷ []) (length b))) }
+        ensures fits { IfOk result (λ o. FitsFrame self.old.longest o) }
+        ensures* rests { sem 𝓛 (Rests (the_row C.row C.Check) self.entry (λ new.
+            IfOk result (λ o. Pushed C.folded C.COST self.old bit o new) × OnErr result (new ≡ self.old))) }
+    {
+        if self.place >= PLACES {
+            return Err(PlaceLimit);
+        }
+        let event = self.step(bit);
+        match event {
+            Event::Nothing => Ok(None),
+            Event::Frame(span) => Ok(Some(Piece::Frame {
+                span,
+                octets: self.buffer.as_slice(),
+            })),
+            Event::Damaged(span, cause) => Ok(Some(Piece::Damaged { span, cause })),
+            Event::Overlong(span) => Ok(Some(Piece::Overlong { span })),
+            Event::Abort(span) => Ok(Some(Piece::Abort { span })),
+            Event::Idle(span) => Ok(Some(Piece::Idle { span })),
+        }
+    }
+
+    /// The octets of the frame that the last bit closed.
+    pub fn octets(&self) -> &[u8]
+        ensures value { result.now ≡ self.now.octets }
+        ensures bound { length result.now ≤ self.now.longest + 2 }
+    {
+        self.buffer.as_slice()
+    }
+
+    /// How many octets of the piece that has begun are in the frame buffer: at most the longest
+    /// frame and two.
+    pub fn buffered(&self) -> usize
+        ensures bound { result ≤ self.now.longest + 2 }
+    {
+        if self.gathered < 8 {
+            0
+        } else {
+            self.buffer.len()
+        }
+    }
+
+    /// The place of the next bit: the origin and the bits so far.
+    pub fn place(&self) -> u64
+        ensures value { result ≡ self.now.place }
+        ensures fits { result ≤ 2 ^ 60 }
+        ensures after { (b : List Bool) → After C.folded C.COST self.now b → result ≡ self.now.origin + length b }
+    {
+        self.place
+    }
+
+    /// The steps so far.
+    pub fn spent(&self) -> Spent
+        ensures value { result ≡ self.now.spent }
+    {
+        self.spent
+    }
+
+    /// The first place of a piece that has begun and is not ended yet.
+    pub fn begun(&self) -> Option<u64>
+        ensures after { (b : List Bool) → After C.folded C.COST self.now b → result ≡ option_map (λ first. self.now.origin + first) (begun b) }
+    {
+        match self.first {
+            Some(first) if first < self.place => Some(first),
+            _ => None,
+        }
+    }
+}
