@@ -16,7 +16,7 @@ unfoldable pub number : List Bool → ℕ
 number [] = 0
 number (b ∷ d) = number d * 2 + cond b 1 0
 
--- the octets of data: its bits cut by eights
+-- the number of each eight bits in turn; fewer than eight at the end give none
 unfoldable pub octets : List Bool → List ℕ
 octets (s ∷ t ∷ u ∷ v ∷ w ∷ x ∷ y ∷ z ∷ d) = number (s ∷ t ∷ u ∷ v ∷ w ∷ x ∷ y ∷ z ∷ []) ∷ octets d
 octets d = []

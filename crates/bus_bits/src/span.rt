@@ -1,7 +1,7 @@
 //! Spans of bit places.
 
-/// The bits from place `first` up to, and without, place `past`. Places count bits from 0 in the
-/// order received, with the origin added.
+/// The bits from place `first` up to, and without, place `past`. The first bit received has the
+/// place of the origin, each later one the next place.
 #[derive(Clone, Copy, Debug, PartialEq, Eq)]
 pub struct Span {
     pub first: u64,

@@ -7,11 +7,11 @@ use Rattle.bus_fcs.specs.Division.{add, remainder}
 unfoldable pub ends_inverted : List Bool → List Bool
 ends_inverted d = map not (take 16 d) ++ take (length d - 32) (drop 16 d) ++ map not (drop (length d - 16) d)
 
--- data of at least 32 bits are good: with their ends inverted they are a multiple of the divisor
+-- good data, of 32 bits or more: with both ends inverted the divisor leaves nothing; of fewer bits this says nothing
 unfoldable pub Good : List Bool → Type 0
 Good d = remainder (ends_inverted d) ≡ replicate 16 false
 
--- the same as a test
+-- the same, computed
 unfoldable pub is_good : List Bool → Bool
 is_good d = list_all not (remainder (ends_inverted d))
 

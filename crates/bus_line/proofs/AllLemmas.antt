@@ -90,7 +90,7 @@ same-rising (x ∷ xs) (y ∷ ys) h k f g =
     let t = same-rising xs ys (pairs-tail Before x xs h) (pairs-tail Before y ys k) (tail-within x y xs ys e (pairs-head Before x xs h) f) (tail-within y x ys xs (sym e) (pairs-head Before y ys k) g) in
     cc
 
--- no two reports share a due place
+-- one bit decides at most one report
 pub due-once : (longest : ℕ) (b : List Bool) (r s : Report) → IsReport longest b r → IsReport longest b s → due r ≡ due s → r ≡ s
 due-once longest b r s h k e = let x = due_at-is longest b r h in let y = due_at-is longest b s k in let z = ap (due_at longest b) e in cc
 
@@ -125,7 +125,7 @@ mark-within : (b : List Bool) (q : ℕ) → IsMark b q → q < length b
 mark-within b q (inl h) = omega (arith, stands-within b q flag h (omega arith))
 mark-within b q (inr h) = omega (arith, stands-within b q (ones 7) h.0 (omega arith))
 
-begun_by-Some : (mark : Mark) (n first : ℕ) → begun_by mark n ≡ Some first → (p : ℕ) × (mark ≡ FlagAt p) × (p + 8 < n) × (p + 8 ≡ first)
+pub begun_by-Some : (mark : Mark) (n first : ℕ) → begun_by mark n ≡ Some first → (p : ℕ) × (mark ≡ FlagAt p) × (p + 8 < n) × (p + 8 ≡ first)
 begun_by-Some NoMark n first h = absurd (cc)
 begun_by-Some (AbortAt a) n first h = absurd (cc)
 begun_by-Some (FlagAt p) n first h = let x = cond_some _ _ _ h in (p, refl, ltb-true (p + 8) n x.0, x.1)

@@ -16,4 +16,8 @@ pub mod HoldLemmas
 pub mod StepLemmas
 pub mod DecideLemmas
 pub mod ClassLemmas
+pub mod StoredLemmas
+pub mod FrameLemmas
+pub mod BufferLemmas
+pub mod PaidLemmas
 mod Examples

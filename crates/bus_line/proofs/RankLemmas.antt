@@ -92,7 +92,7 @@ open_rank b NoMark m = 0
 open_rank b (AbortAt a) m = 0
 open_rank b (FlagAt p) m = count_by (λ j. nat_le (p + 8) j && is_settled b j) (places m)
 
-count-none : (f : ℕ → Bool) (n : ℕ) → ((i : ℕ) → i < n → f i ≡ false) → count_by f (places n) ≡ 0
+pub count-none : (f : ℕ → Bool) (n : ℕ) → ((i : ℕ) → i < n → f i ≡ false) → count_by f (places n) ≡ 0
 count-none f zero h = refl
 count-none f (suc n) h = omega (arith, count-more f n, count-none f n (λ i l. h i (omega arith)), ap one_if (h n (omega arith)))
 

@@ -69,7 +69,7 @@ pub is_settled-late : (b : List Bool) (i : ℕ) → length b ≤ i + 8 → is_se
 is_settled-late b i h = and_left _ _ (le-ltb (i + 8) (length b) h)
 
 -- a test of places that a longer list keeps, and that is false within eight of the end: one bit more adds one at most
-one-place : (p q : ℕ → Bool) (n : ℕ) → ((i : ℕ) → i + 8 < n → p i ≡ q i) → ((i : ℕ) → suc n ≤ i + 8 → p i ≡ false) → ((i : ℕ) → n ≤ i + 8 → q i ≡ false) → count_by p (places (suc n)) ≡ count_by q (places n) + one_if (p (n - 8))
+pub one-place : (p q : ℕ → Bool) (n : ℕ) → ((i : ℕ) → i + 8 < n → p i ≡ q i) → ((i : ℕ) → suc n ≤ i + 8 → p i ≡ false) → ((i : ℕ) → n ≤ i + 8 → q i ≡ false) → count_by p (places (suc n)) ≡ count_by q (places n) + one_if (p (n - 8))
 one-place p q n same late before =
     let z : one_if (p n) ≡ 0 = ap one_if (late n (omega arith)) in
     elim (cases_lt n 8) [

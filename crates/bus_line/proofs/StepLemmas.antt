@@ -69,7 +69,7 @@ inserted-settled b bit h = settles-now b bit ∙ last-false (nat_le 8 (length b)
     last-false true false z h = refl
     last-false false y z h = refl
 
-data-settled : (b : List Bool) (bit : Bool) (p : ℕ) → current b ≡ FlagAt p → p + 16 ≤ length b → is_inserted b (length b - 8) ≡ false → is_settled (b ++ bit ∷ []) (length b - 8) ≡ true
+pub data-settled : (b : List Bool) (bit : Bool) (p : ℕ) → current b ≡ FlagAt p → p + 16 ≤ length b → is_inserted b (length b - 8) ≡ false → is_settled (b ++ bit ∷ []) (length b - 8) ≡ true
 data-settled b bit p h l f =
     settles-now b bit
     ∙ and_from _ _ (le-leb 8 (length b) (omega arith)) (and_from _ _ (ap (λ m. belongs m (length b - 8)) h ∙ le-leb (p + 8) (length b - 8) (omega arith)) (rw f refl))

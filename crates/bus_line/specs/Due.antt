@@ -1,4 +1,4 @@
--- The same, computed: the report that is due at a place, and all of them by due place.
+-- Marks, classes, reports and begun pieces once more, as functions; Laws.antt says that they are those of Mark.antt and Report.antt.
 use Rattle.std.specs.Prelude.{◌≡◌, ℕ, zero, suc, ◌+◌, ◌-◌, ◌<◌, Bool, true, false, not, ◌&&◌, List, [], ◌∷◌, ◌++◌, length, take, drop, slice_range, nat_lt, nat_le, if◌then◌else◌, Option, Some, None, filter_map}
 use Rattle.std.specs.List.{starts_with}
 use Rattle.std.specs.Bool.{beq}
@@ -11,10 +11,12 @@ use Rattle.bus_line.specs.declared.cause.Cause.TheVariants.{Unstuffed}
 abbrev pub stands_at : List Bool → ℕ → List Bool → Bool
 stands_at b p w = starts_with beq (drop p b) w
 
+-- the bit before place `a`, if there is one, is 0
 abbrev pub is_fresh : List Bool → ℕ → Bool
 is_fresh b zero = true
 is_fresh b (suc q) = stands_at b q (false ∷ [])
 
+-- a flag, an abort mark and an idle mark
 abbrev pub is_flag : List Bool → ℕ → Bool
 is_flag b p = stands_at b p flag
 
@@ -44,6 +46,7 @@ flag_of NoMark = None
 flag_of (FlagAt p) = Some p
 flag_of (AbortAt a) = None
 
+-- what raw bits between two flags are, by the data that they spell
 abbrev pub class_of_read : ℕ → Option (List Bool) → Kind
 class_of_read longest None = Damaged Unstuffed
 class_of_read longest (Some d) = class_of_data longest d
@@ -51,7 +54,7 @@ class_of_read longest (Some d) = class_of_data longest d
 abbrev pub class_of : ℕ → List Bool → Kind
 class_of longest raw = class_of_read longest (unspelled raw)
 
--- the report of the piece between the last mark and one at `m`, by what it is
+-- the report of the piece that a mark at `m` ends, where `last` is the last mark below it
 abbrev pub piece_report : (ℕ → Kind) → Mark → ℕ → Option Report
 piece_report kind NoMark m = None
 piece_report kind (AbortAt a) m = None
@@ -70,6 +73,7 @@ abbrev pub places : ℕ → List ℕ
 places zero = []
 places (suc n) = places n ++ n ∷ []
 
+-- all of them, by rising due place
 abbrev pub reports : ℕ → List Bool → List Report
 reports longest b = filter_map (due_at longest b) (places (length b))
 

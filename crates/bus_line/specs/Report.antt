@@ -29,7 +29,7 @@ due_by kind first past = past + 7
 abbrev pub due : Report → ℕ
 due r = due_by r.kind r.first r.past
 
--- what data between two flags are, the first that fits, where the longest frame has `longest` octets without its check
+-- what the data between two flags are, without inserted 0s: the first case that holds; a frame has at most `longest` octets and its check
 abbrev pub class_of_data : ℕ → List Bool → Kind
 class_of_data longest d =
     if nat_lt (8 * (longest + 2)) (length d) then Overlong else

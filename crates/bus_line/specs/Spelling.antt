@@ -5,7 +5,7 @@ use Rattle.std.specs.Option.{option_map}
 abbrev pub ones : ℕ → List Bool
 ones k = replicate k true
 
--- the raw bits are the data with a 0 after every five ones: by cases on the first run of ones
+-- the raw bits are the data with a 0 put in behind each five ones in a row; told by the ones with which both begin
 pub data IsSpelledBy : List Bool → List Bool → Type 0 where
   ends : (k : ℕ) → k ≤ 4 → IsSpelledBy (ones k) (ones k)
   short : (k : ℕ) (d r : List Bool) → k ≤ 4 → IsSpelledBy d r → IsSpelledBy (ones k ++ false ∷ d) (ones k ++ false ∷ r)

@@ -9,7 +9,8 @@ ghost use Rattle.std.specs.Prelude.{◌≡◌, ◌+◌, ◌*◌, ◌-◌, ◌%�
 ghost use Rattle.std.specs.Option.{option_map};
 ghost use Rattle.std.specs.Borrow.{sem};
 ghost use Rattle.std.specs.Io.BufRead.{Rests};
-ghost use Rattle.bus_line.specs.Due.{Mark, FlagAt, current, due_at, begun};
+ghost use Rattle.bus_line.specs.Due.{due_at, begun};
+ghost use Rattle.bus_line.specs.Ledger.{stored_from, IsLedger};
 
 use crate::line_fault::LineFault;
 use crate::piece::Piece;
@@ -141,6 +142,7 @@ impl<C: Check> LineDecoder<C> {
     /// frame and two.
     pub fn buffered(&self) -> usize
         ensures bound { result ≤ self.now.longest + 2 }
+        ensures stored { (b : List Bool) (first : ℕ) → After C.folded C.COST self.now b → begun b ≡ Some first → result ≡ stored_from self.now.longest b first }
     {
         if self.gathered < 8 {
             0
@@ -161,6 +163,7 @@ impl<C: Check> LineDecoder<C> {
     /// The steps so far.
     pub fn spent(&self) -> Spent
         ensures value { result ≡ self.now.spent }
+        ensures ledger { (b : List Bool) → After C.folded C.COST self.now b → IsLedger C.COST self.now.longest b result }
     {
         self.spent
     }

@@ -1,6 +1,6 @@
 //! Laws over the definitions.
 
-ghost use Rattle.bus_line.specs.Laws.{HasOneSpelling, SpellsOne, SpellingIsIt, UnspelledIsIt, ReportsAre, ReportsOnly, DueOnce, DueIsIt, BegunIsIt, OneMore, ReportsGrow};
+ghost use Rattle.bus_line.specs.Laws.{HasOneSpelling, SpellsOne, SpellingIsIt, UnspelledIsIt, ReportsAre, ReportsOnly, DueOnce, DueIsIt, BegunIsIt, OneMore, ReportsGrow, SettledIs, SettledStays, SettlesOne, StoresOne, AssembledWithin, StoredPaid, FramesStored, FrameIsSpelled};
 
 /// Each data has one spelling with inserted 0s, and each row of raw bits is that of one data at most.
 pub fn spelling_is_one()
@@ -23,4 +23,23 @@ pub fn reports_are()
 pub fn reports_grow()
     ensures more { OneMore }
     ensures grow { ReportsGrow }
+{}
+
+/// The places that the ledger counts: which are settled, that they stay so, that one bit settles
+/// one at most, that each stored octet has eight of them, and that the octets of all frames were
+/// stored.
+pub fn settled_places()
+    ensures settled { SettledIs }
+    ensures stays { SettledStays }
+    ensures one { SettlesOne }
+    ensures stored { StoresOne }
+    ensures within { AssembledWithin }
+    ensures paid { StoredPaid }
+    ensures frames { FramesStored }
+{}
+
+/// A frame's raw bits spell its octets, which are good, at least four, and no more than the
+/// longest frame and its check.
+pub fn frame_is_spelled()
+    ensures { FrameIsSpelled }
 {}

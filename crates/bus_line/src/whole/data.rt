@@ -26,7 +26,7 @@ pub(crate) fn data_of(alloc: Global, raw: &[bool]) -> Result<Option<Vec<bool>>, 
     Ok(if ones == 5 { None } else { Some(data) })
 }
 
-/// The octets of data: its bits cut by eights.
+/// The octets of data; fewer than eight bits at the end give none.
 pub(crate) fn octets_of(alloc: Global, data: &[bool]) -> Result<Vec<u8>, AllocError>
     ensures octets { IfOk result (λ os. os.items ≡ octets data.now) }
     ensures count { IfOk result (λ os. length os.items ≡ length data.now / 8) }
