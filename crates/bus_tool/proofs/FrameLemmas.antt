@@ -1,10 +1,9 @@
 -- No report holds more octets than the longest frame and its check.
-use Rattle.std.proofs.Common.{◌≡◌, ℕ, ◌+◌, ◌*◌, ◌-◌, ◌%◌, ◌≤◌, ◌==◌, not, Bool, true, false, nat_lt, nat_le, ◌&&◌, if◌then◌else◌, List, [], ◌∷◌, length, map, slice_range, Option, Some, None, IfSome, All, refl, sym, subst, arith}
+use Rattle.std.proofs.Common.{◌≡◌, ℕ, ◌+◌, ◌*◌, ◌-◌, ◌≤◌, Bool, true, false, nat_lt, nat_le, ◌&&◌, if◌then◌else◌, List, [], ◌∷◌, length, map, slice_range, Option, Some, None, IfSome, All, refl, sym, subst, arith}
 use Rattle.std.specs.List.{filter_map, cons_option}
 use Rattle.std.proofs.lemmas.List.Elements.{All-nil, All-cons, All-head, All-tail}
 use Rattle.std.proofs.lemmas.Bool.Decides.{nat_tests}
 use Rattle.bus_bits.specs.Octet.{octets}
-use Rattle.bus_fcs.specs.FrameCheck.{is_good}
 use Rattle.bus_line.specs.Spelling.{unspelled}
 use Rattle.bus_line.specs.Report.{Kind, Frame, Damaged, Overlong, Abort, Idle, Report, class_of_data}
 use Rattle.bus_line.specs.Due.{Mark, NoMark, FlagAt, AbortAt, class_of, class_of_read, piece_report, last_mark, due_at, places, reports, is_flag, is_abort, is_idle}
@@ -29,23 +28,23 @@ octets-few (s ∷ t ∷ u ∷ v ∷ w ∷ x ∷ y ∷ []) = omega arith
 abbrev Fits : ℕ → Kind → Type 0
 Fits longest kind = length (octets_of kind) ≤ longest + 2
 
-frame_fits : (longest : ℕ) (d : List Bool) (short unaligned good : Bool) → length d ≤ 8 * (longest + 2)
-    → Fits longest (if short then Damaged Short else (if unaligned then Damaged Unaligned else (if good then Damaged Fcs else Frame (octets d))))
-frame_fits longest d true unaligned good h = omega arith
-frame_fits longest d false true good h = omega arith
+frame_fits : (longest : ℕ) (d : List Bool) (short unaligned bad : Bool) → length d ≤ 8 * (longest + 2)
+    → Fits longest (if short then Damaged Short else (if unaligned then Damaged Unaligned else (if bad then Damaged Fcs else Frame (octets d))))
+frame_fits longest d true unaligned bad h = omega arith
+frame_fits longest d false true bad h = omega arith
 frame_fits longest d false false true h = omega arith
 frame_fits longest d false false false h = omega (arith, octets-few d)
 
 le_of : (a b : ℕ) → nat_lt a b ≡ false → b ≤ a
 le_of a b h = grind (arith, nat_tests)
 
-data_cases : (longest : ℕ) (d : List Bool) (over : Bool) → nat_lt (8 * (longest + 2)) (length d) ≡ over
-    → Fits longest (if over then Overlong else (if nat_lt (length d) 32 then Damaged Short else (if not (length d % 8 == 0) then Damaged Unaligned else (if not (is_good d) then Damaged Fcs else Frame (octets d)))))
-data_cases longest d true h = omega arith
-data_cases longest d false h = frame_fits longest d (nat_lt (length d) 32) (not (length d % 8 == 0)) (not (is_good d)) (le_of (8 * (longest + 2)) (length d) h)
+data_cases : (longest : ℕ) (d : List Bool) (over short unaligned bad : Bool) → nat_lt (8 * (longest + 2)) (length d) ≡ over
+    → Fits longest (if over then Overlong else (if short then Damaged Short else (if unaligned then Damaged Unaligned else (if bad then Damaged Fcs else Frame (octets d)))))
+data_cases longest d true short unaligned bad h = omega arith
+data_cases longest d false short unaligned bad h = frame_fits longest d short unaligned bad (le_of (8 * (longest + 2)) (length d) h)
 
 data_fits : (longest : ℕ) (d : List Bool) → Fits longest (class_of_data longest d)
-data_fits longest d = data_cases longest d (nat_lt (8 * (longest + 2)) (length d)) refl
+data_fits longest d = data_cases longest d (nat_lt (8 * (longest + 2)) (length d)) _ _ _ refl
 
 read_fits : (longest : ℕ) (d : Option (List Bool)) → Fits longest (class_of_read longest d)
 read_fits longest None = omega arith

@@ -8,7 +8,7 @@ use Rattle.bus_tool.specs.Listing.{capture}
 use Rattle.bus_tool.specs.Gather.{Gathers, Refuses, Stops, Ends}
 use Rattle.bus_tool.specs.declared.fault.ToolFault.{ToolFault}
 use Rattle.bus_tool.specs.declared.fault.ToolFault.TheVariants.{Memory, BadMark, PlaceLimit, Read, ReadsLimit, Write}
-use Rattle.bus_tool.proofs.CaptureLemmas.{capture-short, capture-over, capture-stays}
+use Rattle.bus_tool.proofs.CaptureLemmas.{capture-short, capture-over, capture-grows}
 
 pub none_gathers : (at : ℕ) (bits : List Bool) → at ≡ 0 → bits ≡ [] → Gathers at bits []
 none_gathers at bits a b = record { count = a; given = sym b; clean = refl }
@@ -70,8 +70,8 @@ bit_gathers at now octet bits after bit given xs r n is s more taken = rw n (
 
 -- what stopped at these octets stops there with any more behind them
 stops_stays : (bits : List Bool) (xs ys : List ℕ) (e : ToolFault) → Stops bits xs e → Stops bits (xs ++ ys) e
-stops_stays bits xs ys (BadMark at) s = let same = capture-stays xs ys (bad_mark at) s.1 in rw same s
-stops_stays bits xs ys PlaceLimit s = let same = capture-stays xs ys place_limit s.1 in rw same s
+stops_stays bits xs ys (BadMark at) s = let same = (capture-grows xs ys).2 (bad_mark at) s.1 in rw same s
+stops_stays bits xs ys PlaceLimit s = let same = (capture-grows xs ys).2 place_limit s.1 in rw same s
 stops_stays bits xs ys Memory s = tt
 stops_stays bits xs ys Read s = absurd s
 stops_stays bits xs ys ReadsLimit s = absurd s

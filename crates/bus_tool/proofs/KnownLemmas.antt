@@ -1,5 +1,5 @@
 -- From what a call read to all that its reader had.
-use Rattle.std.proofs.Common.{◌≡◌, ℕ, ◌≤◌, Bool, List, [], ◌++◌, length, take, Option, Some, None, Result, Ok, Err, IfSome, refl, sym, ap, subst, ◌∙◌, arith, length-append}
+use Rattle.std.proofs.Common.{◌≡◌, ℕ, ◌≤◌, Bool, List, ◌++◌, length, take, Option, Some, None, Result, Ok, Err, IfSome, sym, ap, subst, ◌∙◌, arith, length-append}
 use Rattle.std.specs.Io.KnownBytes.{Appends, Consumes}
 use Rattle.std.proofs.lemmas.List.{append-nil, take-append-le}
 use Rattle.std.proofs.lemmas.Grind.{common_steps, flat_map-append}
@@ -11,25 +11,19 @@ use Rattle.bus_tool.specs.Run.{Lists}
 use Rattle.bus_tool.specs.Known.{Answers}
 use Rattle.bus_tool.specs.declared.fault.ToolFault.{ToolFault}
 use Rattle.bus_tool.specs.declared.fault.ToolFault.TheVariants.{Memory, BadMark, PlaceLimit, Read, ReadsLimit, Write}
-use Rattle.bus_tool.proofs.CaptureLemmas.{capture-stays, bits-more}
+use Rattle.bus_tool.proofs.CaptureLemmas.{capture-grows}
 
 listing_same : (xs ys : List ℕ) → capture xs ≡ capture ys → text_listing xs ≡ text_listing ys
 unfolding text_listing
 listing_same xs ys e = ap (λ (c : Capture). listing (reports 256 c.bits)) e
 
-listing_bits : (xs ys : List ℕ) (more : List Bool) → (capture (xs ++ ys)).bits ≡ (capture xs).bits ++ more → (rest : List ℕ) × (text_listing (xs ++ ys) ≡ text_listing xs ++ rest)
-unfolding text_listing
-listing_bits xs ys more e =
-    let grown = reports-append 256 (capture xs).bits more in
-    (listing grown.0, ap (λ (b : List Bool). listing (reports 256 b)) e ∙ ap listing grown.1 ∙ flat_map-append line_of (reports 256 (capture xs).bits) grown.0)
-
-listing_cases : (xs ys : List ℕ) (fault : Option CaptureFault) → (capture xs).fault ≡ fault → (rest : List ℕ) × (text_listing (xs ++ ys) ≡ text_listing xs ++ rest)
-listing_cases xs ys None h = let more = bits-more xs ys h in listing_bits xs ys more.0 more.1
-listing_cases xs ys (Some f) h = ([], listing_same (xs ++ ys) xs (capture-stays xs ys f h) ∙ sym (append-nil (text_listing xs)))
-
 -- the listing of some octets is at the front of that of more
 pub listing-front : (xs ys : List ℕ) → (rest : List ℕ) × (text_listing (xs ++ ys) ≡ text_listing xs ++ rest)
-listing-front xs ys = listing_cases xs ys (capture xs).fault refl
+unfolding text_listing
+listing-front xs ys =
+    let more = capture-grows xs ys in
+    let grown = reports-append 256 (capture xs).bits more.0 in
+    (listing grown.0, ap (λ (b : List Bool). listing (reports 256 b)) more.1 ∙ ap listing grown.1 ∙ flat_map-append line_of (reports 256 (capture xs).bits) grown.0)
 
 front_is : (all xs ys : List ℕ) → all ≡ xs ++ ys → take (length xs) all ≡ xs
 front_is all xs ys e = grind (arith, common_steps)
@@ -37,7 +31,7 @@ front_is all xs ys e = grind (arith, common_steps)
 fault_at : (all xs ys : List ℕ) (start now : Option (List ℕ)) (f : CaptureFault) → all ≡ xs ++ ys → (capture xs).fault ≡ Some f → Appends start now (text_listing xs)
     → ((capture all).fault ≡ Some f) × Appends start now (text_listing all)
 fault_at all xs ys start now f e h out =
-    let is : capture all ≡ capture xs = ap capture e ∙ capture-stays xs ys f h in
+    let is : capture all ≡ capture xs = ap capture e ∙ (capture-grows xs ys).2 f h in
     (ap (λ (c : Capture). c.fault) is ∙ h, subst (λ (l : List ℕ). Appends start now l) (sym (listing_same all xs is)) out)
 
 short_at : (all xs ys : List ℕ) (start now : Option (List ℕ)) → all ≡ xs ++ ys → (capture xs).fault ≡ None → Appends start now (text_listing xs)

@@ -6,7 +6,7 @@ use Rattle.bus_tool.proofs.RunLemmas.{whole_lists, part_lists}
 use Rattle.bus_tool.proofs.list.list_pieces.Goals as goal
 
 pub put_lines-requires : goal.put_lines-requires
-put_lines-requires g c = rw c.deref-2.ensures.value (pieces_fit c.in-Ok.pieces.items c.deref.result.now (c.in-Ok.ensures {u = tt}))
+put_lines-requires g c = rw c.deref-2.ensures.value (pieces_fit c.in-Ok.pieces.items c.deref.result.now (c.in-Ok.ensures {u = tt}).computed)
 
 pub returns-in-Ok-put_lines-clause-listed : goal.returns-in-Ok-put_lines-clause-listed
 returns-in-Ok-put_lines-clause-listed g c =
