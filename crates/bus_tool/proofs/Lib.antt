@@ -1,6 +1,6 @@
 pub mod Bytes
-pub mod FrameLemmas
 pub mod CaptureLemmas
 pub mod GatherLemmas
 pub mod RunLemmas
+pub mod LineLemmas
 pub mod KnownLemmas

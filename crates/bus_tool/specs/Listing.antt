@@ -1,10 +1,11 @@
 -- The text of a listing.
-use Rattle.std.specs.Prelude.{ℕ, ◌+◌, ◌/◌, ◌%◌, List, [], ◌∷◌, ◌++◌, length, decimal, codes, if◌then◌else◌, nat_lt}
+use Rattle.std.specs.Prelude.{Bool, ℕ, ◌+◌, ◌/◌, ◌%◌, List, [], ◌∷◌, ◌++◌, length, decimal, codes, if◌then◌else◌, nat_lt}
 use Rattle.std.specs.List.{flat_map}
 use Rattle.bus_line.specs.declared.cause.Cause.{Cause}
 use Rattle.bus_line.specs.declared.cause.Cause.TheVariants.{Unstuffed, Short, Unaligned, Fcs}
 use Rattle.bus_line.specs.Report.{Kind, Frame, Damaged, Overlong, Abort, Idle, Report}
-use Rattle.bus_line.specs.Due.{reports}
+use Rattle.std.specs.Option.{option_to_list}
+use Rattle.bus_line.specs.Due.{reports, due_at}
 use Rattle.bus_bits.specs.Capture.{Capture, text_capture, placed}
 
 -- the character of a digit below 16
@@ -53,6 +54,10 @@ octets_of Idle = []
 -- how many octets a report holds
 abbrev pub octets_held : Report → ℕ
 octets_held r = length (octets_of r.kind)
+
+-- the line of the report that one bit more decides, if there is one
+abbrev pub due_text : List Bool → Bool → List ℕ
+due_text b bit = listing (option_to_list (due_at 256 (b ++ bit ∷ []) (length b)))
 
 -- the bits of a text capture whose first bit has the place 0, and its fault
 unfoldable pub capture : List ℕ → Capture

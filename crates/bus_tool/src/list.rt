@@ -9,14 +9,11 @@ mod gather;
 mod lines;
 
 use crate::fault::ToolFault;
-use bus_line::reports_whole;
+use bus_fcs::OctetCheck;
 use gather::Gatherer;
-use lines::put_lines;
+use lines::put_reports;
 use std::alloc::Global;
 use std::io::{Read, Write};
-
-/// The longest frame in octets, address through information.
-const LONGEST: usize = 256;
 
 /// Whether memory was refused.
 fn wants_memory(ending: &Result<(), ToolFault>) -> bool
@@ -54,11 +51,7 @@ pub fn list_pieces<R: Read, W: Write>(
     if wants_memory(&ending) {
         return Err(ToolFault::Memory);
     }
-    let pieces = match reports_whole(alloc, &gatherer.bits, LONGEST) {
-        Ok(pieces) => pieces,
-        Err(_) => return Err(ToolFault::Memory),
-    };
-    match put_lines(&pieces, w) {
+    match put_reports::<OctetCheck, W>(&gatherer.bits, w) {
         Ok(()) => ending,
         Err(cut) => Err(ToolFault::Write { written: cut.sent }),
     }

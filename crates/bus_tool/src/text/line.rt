@@ -2,11 +2,11 @@
 
 ghost use Rattle.std.specs.Prelude.{◌≡◌, ◌+◌, ◌*◌, ◌++◌, ◌<◌, ◌≤◌, ◌^◌, length, decimal, codes};
 ghost use Rattle.arrayvec.specs.ArrayString.{array_string_len};
-ghost use Rattle.bus_line.specs.Owned.{report_of};
+ghost use Rattle.bus_line.specs.After.{report_of};
 ghost use Rattle.bus_tool.specs.Listing.{hex_digit, hex_octet, hex_of, cause_word, line_of, octets_held};
 
 use arrayvec::ArrayString;
-use bus_line::{Cause, OwnedPiece, Span};
+use bus_line::{Cause, Piece, Span};
 use itoa::Buffer;
 
 /// The longest line is shorter.
@@ -116,15 +116,15 @@ fn bare_line(span: Span, kind: &str) -> Line
 }
 
 /// The line of a report, with its line end.
-pub fn line_of(piece: &OwnedPiece) -> Line
-    requires { octets_held (report_of piece.now) ≤ 258 }
-    ensures { result.bytes ≡ line_of (report_of piece.now) }
+pub fn line_of(piece: Piece<'_>) -> Line
+    requires { octets_held (report_of piece) ≤ 258 }
+    ensures { result.bytes ≡ line_of (report_of piece.entry) }
 {
     match piece {
-        OwnedPiece::Frame { span, octets } => frame_line(*span, octets),
-        OwnedPiece::Damaged { span, cause } => damaged_line(*span, *cause),
-        OwnedPiece::Overlong { span } => bare_line(*span, "overlong"),
-        OwnedPiece::Abort { span } => bare_line(*span, "abort"),
-        OwnedPiece::Idle { span } => bare_line(*span, "idle"),
+        Piece::Frame { span, octets } => frame_line(span, octets),
+        Piece::Damaged { span, cause } => damaged_line(span, cause),
+        Piece::Overlong { span } => bare_line(span, "overlong"),
+        Piece::Abort { span } => bare_line(span, "abort"),
+        Piece::Idle { span } => bare_line(span, "idle"),
     }
 }
