@@ -82,54 +82,57 @@ fn worked_lists_bit_by_bit(rt: HostRuntime) -> Result<(), Fail> {
     Ok(())
 }
 
+/// Each case with its origin, the bits between two flags, and the report.
+const FRAMES: [(&str, u64, &str, &str); 7] = [
+    (
+        "a frame from the place 100 on",
+        100,
+        "00001000 11000001 00000000 101111101 10100111",
+        "108 149 frame 108300fde5",
+    ),
+    (
+        "to all stations, two inserted 0s",
+        0,
+        "111110111 110000001 10010000 01011010 11011100",
+        "8 50 frame ff83095a3b",
+    ),
+    (
+        "to all stations, a command",
+        0,
+        "111110111 110000001 00000000 11011001 01100101",
+        "8 50 frame ff83009ba6",
+    ),
+    (
+        "an address and a control octet alone",
+        0,
+        "00001000 11000001 10100010 00110100",
+        "8 40 frame 1083452c",
+    ),
+    (
+        "another control octet",
+        0,
+        "00001000 11001000 00110011 00011101",
+        "8 40 frame 1013ccb8",
+    ),
+    (
+        "three octets and their check",
+        0,
+        "00001000 11000001 10000000 00101110 00101111",
+        "8 48 frame 10830174f4",
+    ),
+    (
+        "five 1 bits before the closing flag",
+        0,
+        "00011111",
+        "8 16 damaged unstuffed",
+    ),
+];
+
 /// Frames of both addresses, of two octets and more, where the longest has five; and the places
 /// count from the origin.
 #[test]
 fn worked_frames(rt: HostRuntime) -> Result<(), Fail> {
-    for (case, origin, bits, want) in [
-        (
-            "a frame from the place 100 on",
-            100,
-            "00001000 11000001 00000000 101111101 10100111",
-            "108 149 frame 108300fde5",
-        ),
-        (
-            "to all stations, two inserted 0s",
-            0,
-            "111110111 110000001 10010000 01011010 11011100",
-            "8 50 frame ff83095a3b",
-        ),
-        (
-            "to all stations, a command",
-            0,
-            "111110111 110000001 00000000 11011001 01100101",
-            "8 50 frame ff83009ba6",
-        ),
-        (
-            "an address and a control octet alone",
-            0,
-            "00001000 11000001 10100010 00110100",
-            "8 40 frame 1083452c",
-        ),
-        (
-            "another control octet",
-            0,
-            "00001000 11001000 00110011 00011101",
-            "8 40 frame 1013ccb8",
-        ),
-        (
-            "three octets and their check",
-            0,
-            "00001000 11000001 10000000 00101110 00101111",
-            "8 48 frame 10830174f4",
-        ),
-        (
-            "five 1 bits before the closing flag",
-            0,
-            "00011111",
-            "8 16 damaged unstuffed",
-        ),
-    ] {
+    for (case, origin, bits, want) in FRAMES {
         let text = format!(in rt.alloc(); "01111110 {bits} 01111110")?;
         let bits = bits_of(rt.alloc(), &text)?;
         let heard = heard_alike(&rt, rt.alloc(), &bits, 5, origin)?;
@@ -151,50 +154,38 @@ fn octets_of_a_frame(rt: HostRuntime) -> Result<(), Fail> {
     Ok(())
 }
 
-/// The steps of each kind: bits, data, the check's work by bits and by octets, and octets.
+/// Each case with its bits: how many are taken, how many are data, the work of the check by bits and
+/// by octets, and the octets that are stored.
+const STEPS: [(&str, &str, [u64; 5]); 6] = [
+    ("an empty list", "", [0, 0, 0, 0, 0]),
+    ("a flag", "01111110", [8, 0, 0, 0, 0]),
+    (
+        "two flags that share a 0",
+        "011111101111110",
+        [15, 0, 0, 0, 0],
+    ),
+    (
+        "two frames, each with an inserted 0, and one flag between them",
+        "01111110 00001000 11000001 00000000 101111101 10100111 01111110
+            00001000 11000001 00000001 10101111 100000110 01111110",
+        [106, 80, 80, 10, 10],
+    ),
+    (
+        "an octet and an abort",
+        "01111110 00001000 1111111",
+        [23, 7, 0, 0, 0],
+    ),
+    (
+        "an octet, an abort and an idle line",
+        "01111110 00001000 1111111 11111111",
+        [31, 7, 0, 0, 0],
+    ),
+];
+
+/// The steps of each kind, and none of copying or handling.
 #[test]
 fn steps(rt: HostRuntime) -> Result<(), Fail> {
-    for (case, bits, shifted, assembled, by_bits, by_octets, stored) in [
-        ("an empty list", "", 0, 0, 0, 0, 0),
-        ("a flag", "01111110", 8, 0, 0, 0, 0),
-        (
-            "two flags that share a 0",
-            "011111101111110",
-            15,
-            0,
-            0,
-            0,
-            0,
-        ),
-        (
-            "two frames with three inserted 0s, one flag between them",
-            "01111110 00001000 11000001 00000000 101111101 10100111 01111110
-                00001000 11000001 00000001 10101111 100000110 01111110",
-            106,
-            80,
-            80,
-            10,
-            10,
-        ),
-        (
-            "an octet and an abort",
-            "01111110 00001000 1111111",
-            23,
-            7,
-            0,
-            0,
-            0,
-        ),
-        (
-            "an octet, an abort and an idle line",
-            "01111110 00001000 1111111 11111111",
-            31,
-            7,
-            0,
-            0,
-            0,
-        ),
-    ] {
+    for (case, bits, [shifted, assembled, by_bits, by_octets, stored]) in STEPS {
         let bits = bits_of(rt.alloc(), bits)?;
         let slow = hear::<BitCheck>(rt.alloc(), &bits, 3, 0)?;
         let fast = hear::<OctetCheck>(rt.alloc(), &bits, 3, 0)?;
