@@ -1,7 +1,12 @@
-//! Whole lists of bits: worked lists with their reports, and a second reading of the rules.
+//! Whole lists of bits and lists bit by bit: worked lists with their reports, and a second reading of
+//! the rules.
 
+mod decoder;
+mod every_list;
+mod limits;
 mod plain_reading;
 mod rows;
+mod told;
 
 use std::alloc::{AllocError, Global};
 
@@ -15,5 +20,24 @@ fn bits_of(alloc: Global, text: &str) -> Result<Vec<bool>, AllocError> {
             _ => {}
         }
     }
+    Ok(bits)
+}
+
+/// The lowest `count` bits of `pattern`, the least significant first, between two given lists.
+fn list_of(
+    alloc: Global,
+    before: &[bool],
+    pattern: u32,
+    count: u32,
+    behind: &[bool],
+) -> Result<Vec<bool>, AllocError> {
+    let mut bits = Vec::new(alloc);
+    bits.extend_from_slice(before)?;
+    let mut rest = pattern;
+    for _ in 0..count {
+        bits.push(rest % 2 == 1)?;
+        rest /= 2;
+    }
+    bits.extend_from_slice(behind)?;
     Ok(bits)
 }

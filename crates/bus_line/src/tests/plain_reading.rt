@@ -1,32 +1,11 @@
 //! A second reading of the framing rules, which goes over all places of a list and shares nothing
 //! with the product, beside what `reports_whole` answers.
 
-use super::bits_of;
-use crate::{Cause, OwnedPiece, reports_whole};
+use super::told::{Told, What, owned_told};
+use super::{bits_of, list_of};
+use crate::reports_whole;
 use std::alloc::{AllocError, Global};
 use std::test::Fail;
-
-/// What stands in a span.
-#[derive(Clone, Copy, Debug, PartialEq, Eq)]
-enum What {
-    Frame,
-    Unstuffed,
-    Short,
-    Unaligned,
-    Fcs,
-    Overlong,
-    Abort,
-    Idle,
-}
-
-/// A report. Where it is a frame, `octets` has its octets as digits to the base 256, after a 1.
-#[derive(Clone, Copy, Debug, PartialEq, Eq)]
-struct Told {
-    what: What,
-    first: usize,
-    past: usize,
-    octets: u64,
-}
 
 /// A flag, or the beginning of seven or more 1 bits in a row.
 #[derive(Clone, Copy)]
@@ -63,6 +42,21 @@ fn marks_of(alloc: Global, bits: &[bool]) -> Result<Vec<Mark>, AllocError> {
         }
     }
     Ok(marks)
+}
+
+/// Where a piece has begun that no mark ends: behind the flag that is the last mark, if a bit came
+/// after it.
+pub(super) fn open_piece(alloc: Global, bits: &[bool]) -> Result<Option<usize>, AllocError> {
+    let mut open = None;
+    for mark in &marks_of(alloc, bits)? {
+        let first = mark.at.saturating_add(8);
+        open = if mark.is_flag && first < bits.len() {
+            Some(first)
+        } else {
+            None
+        };
+    }
+    Ok(open)
 }
 
 /// The nearest mark above `at`.
@@ -198,39 +192,6 @@ fn unsorted(alloc: Global, bits: &[bool]) -> Result<Vec<(usize, Told)>, AllocErr
     Ok(all)
 }
 
-fn told_by(piece: &OwnedPiece) -> Told {
-    let (what, span, octets) = match piece {
-        OwnedPiece::Frame { span, octets } => (What::Frame, span, number_of(octets)),
-        OwnedPiece::Damaged { span, cause } => (damage(*cause), span, 0),
-        OwnedPiece::Overlong { span } => (What::Overlong, span, 0),
-        OwnedPiece::Abort { span } => (What::Abort, span, 0),
-        OwnedPiece::Idle { span } => (What::Idle, span, 0),
-    };
-    Told {
-        what,
-        first: span.first as usize,
-        past: span.past as usize,
-        octets,
-    }
-}
-
-fn damage(cause: Cause) -> What {
-    match cause {
-        Cause::Unstuffed => What::Unstuffed,
-        Cause::Short => What::Short,
-        Cause::Unaligned => What::Unaligned,
-        Cause::Fcs => What::Fcs,
-    }
-}
-
-fn number_of(octets: &[u8]) -> u64 {
-    let mut number: u64 = 1;
-    for octet in octets {
-        number = number.wrapping_mul(256).wrapping_add(*octet as u64);
-    }
-    number
-}
-
 /// Whether both readings of a list tell the same, and no bit decides two reports.
 fn agree(alloc: Global, bits: &[bool]) -> Result<bool, AllocError> {
     if bits.len() > 1000 {
@@ -253,28 +214,9 @@ fn agree(alloc: Global, bits: &[bool]) -> Result<bool, AllocError> {
     }
     let mut told = Vec::new(alloc);
     for piece in &answered {
-        told.push(told_by(piece))?;
+        told.push(owned_told(piece))?;
     }
     Ok(sorted.len() == all.len() && told.as_slice() == sorted.as_slice())
-}
-
-/// The lowest `count` bits of `pattern`, the least significant first, between two given lists.
-fn list_of(
-    alloc: Global,
-    before: &[bool],
-    pattern: u32,
-    count: u32,
-    behind: &[bool],
-) -> Result<Vec<bool>, AllocError> {
-    let mut bits = Vec::new(alloc);
-    bits.extend_from_slice(before)?;
-    let mut rest = pattern;
-    for _ in 0..count {
-        bits.push(rest % 2 == 1)?;
-        rest /= 2;
-    }
-    bits.extend_from_slice(behind)?;
-    Ok(bits)
 }
 
 /// The first pattern of `count` bits on which the readings differ, between two given lists.
