@@ -11,7 +11,8 @@ use Rattle.bus_line.specs.Look.{IsFound}
 use Rattle.bus_line.specs.declared.decoder.look.Found.{Found}
 use Rattle.bus_line.specs.declared.decoder.look.Found.TheVariants.{Closing, Seven, Fifteen, Other}
 use Rattle.bus_line.specs.LineState.{LineState}
-use Rattle.bus_line.specs.After.{first_of, settled_data, Holds, HoldsFor, Counts, Stands, Tracks, After, moved, event_shown}
+use Rattle.bus_line.specs.After.{first_of, settled_data, Holds, HoldsFor, Counts, Stands, Tracks, After, event_shown}
+use Rattle.bus_line.specs.Report.{moved}
 use Rattle.bus_line.specs.declared.decoder.event.Event.{Event}
 use Rattle.bus_line.specs.declared.decoder.event.Event.TheVariants as event
 use Rattle.bus_line.proofs.Stream.{Decides}

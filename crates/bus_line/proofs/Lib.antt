@@ -20,4 +20,6 @@ pub mod StoredLemmas
 pub mod FrameLemmas
 pub mod BufferLemmas
 pub mod PaidLemmas
+pub mod SuffixLemmas
+pub mod OwnedLemmas
 mod Examples

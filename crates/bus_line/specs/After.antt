@@ -79,10 +79,6 @@ pub record Fills {C : Type 0} (folded : C → List ℕ → Type 0) (d : LineStat
   pub held : 8 ≤ length bits → d.octets ≡ take (d.longest + 2) (octets bits)
   pub checked : 8 ≤ length bits → folded d.check (take (d.longest + 2) (octets bits))
 
--- places count from the origin
-abbrev pub moved : ℕ → Report → Report
-moved origin r = record { kind = r.kind; first = origin + r.first; past = origin + r.past }
-
 -- what a piece reports
 abbrev pub report_of : Piece → Report
 report_of (piece.Frame span octets) = record { kind = Kind.Frame octets.now; first = span.first; past = span.past }

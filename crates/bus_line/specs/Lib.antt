@@ -9,4 +9,6 @@ pub mod LineState
 pub mod LineView
 pub mod After
 pub mod Look
+pub mod OwnedBits
+pub mod Suffix
 pub mod Laws

@@ -29,6 +29,10 @@ due_by kind first past = past + 7
 abbrev pub due : Report → ℕ
 due r = due_by r.kind r.first r.past
 
+-- the same report, its places moved
+abbrev pub moved : ℕ → Report → Report
+moved n r = record { kind = r.kind; first = n + r.first; past = n + r.past }
+
 -- what the data between two flags are, without inserted 0s: the first case that holds; a frame has at most `longest` octets and its check
 abbrev pub class_of_data : ℕ → List Bool → Kind
 class_of_data longest d =

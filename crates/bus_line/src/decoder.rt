@@ -68,7 +68,8 @@ impl<C: Check> Model for LineDecoder<C> {
 impl<C: Check> LineDecoder<C> {
     ghost use Rattle.bus_line.specs.contracts.decoder.LineDecoder.{the_row};
     ghost use Rattle.bus_line.specs.LineState.{LineState};
-    ghost use Rattle.bus_line.specs.After.{After, Tracks, Lags, Pushed, FitsFrame, shown, event_shown, moved};
+    ghost use Rattle.bus_line.specs.After.{After, Tracks, Lags, Pushed, FitsFrame, shown, event_shown};
+    ghost use Rattle.bus_line.specs.Report.{moved};
 
     /// A decoder that took no bit, whose first bit has the place `origin`.
     ///

@@ -1,6 +1,8 @@
 //! Laws over the definitions.
 
 ghost use Rattle.bus_line.specs.Laws.{HasOneSpelling, SpellsOne, SpellingIsIt, UnspelledIsIt, ReportsAre, ReportsOnly, DueOnce, DueIsIt, BegunIsIt, OneMore, ReportsGrow, SettledIs, SettledStays, SettlesOne, StoresOne, AssembledWithin, StoredPaid, FramesStored, FrameIsSpelled};
+ghost use Rattle.bus_line.specs.OwnedBits.{OwnsEight, FrameOwns, OwnApart};
+ghost use Rattle.bus_line.specs.Suffix.{FlagAlike, IdleAlike};
 
 /// Each data has one spelling with inserted 0s, and each row of raw bits is that of one data at most.
 pub fn spelling_is_one()
@@ -42,4 +44,17 @@ pub fn settled_places()
 /// longest frame and its check.
 pub fn frame_is_spelled()
     ensures { FrameIsSpelled }
+{}
+
+/// Each report has at least eight bits that no other report has, and a frame at least forty.
+pub fn reports_own_bits()
+    ensures eight { OwnsEight }
+    ensures forty { FrameOwns }
+    ensures apart { OwnApart }
+{}
+
+/// What stands before a flag changes nothing of its report but the places, and so with an idle.
+pub fn suffix_is_alike()
+    ensures flag { FlagAlike }
+    ensures idle { IdleAlike }
 {}

@@ -5,7 +5,8 @@ use Rattle.std.specs.Io.KnownBytes.{Appends}
 use Rattle.std.proofs.lemmas.List.{append-nil}
 use Rattle.bus_line.specs.Report.{Report}
 use Rattle.bus_line.specs.Due.{due_at}
-use Rattle.bus_line.specs.After.{moved, report_of, shown}
+use Rattle.bus_line.specs.After.{report_of, shown}
+use Rattle.bus_line.specs.Report.{moved}
 use Rattle.bus_line.specs.declared.piece.Piece.{Piece}
 use Rattle.bus_tool.specs.Listing.{line_of, listing, due_text}
 

@@ -14,7 +14,8 @@ use bus_bits::Span;
 use bus_fcs::Check;
 
 impl<C: Check> LineDecoder<C> {
-    ghost use Rattle.bus_line.specs.After.{After, Tracks, event_shown, moved};
+    ghost use Rattle.bus_line.specs.After.{After, Tracks, event_shown};
+    ghost use Rattle.bus_line.specs.Report.{moved};
 
     /// Finds whether the bit ends a flag, or is the seventh or the fifteenth one of a run, and
     /// answers what that decides. `run` ones came before the bit.

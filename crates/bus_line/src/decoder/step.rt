@@ -9,7 +9,8 @@ use crate::decoder::event::Event;
 use bus_fcs::Check;
 
 impl<C: Check> LineDecoder<C> {
-    ghost use Rattle.bus_line.specs.After.{After, Tracks, Lags, Fills, Holds, event_shown, moved};
+    ghost use Rattle.bus_line.specs.After.{After, Tracks, Lags, Fills, Holds, event_shown};
+    ghost use Rattle.bus_line.specs.Report.{moved};
 
     /// Takes a bit, and answers what it decides.
     #[inline(always)]

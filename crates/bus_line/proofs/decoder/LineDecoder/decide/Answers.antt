@@ -5,7 +5,8 @@ use Rattle.bus_line.specs.Report.{Report, Idle}
 use Rattle.bus_line.specs.Due.{current, due_at}
 use Rattle.bus_line.specs.LineState.{LineState}
 use Rattle.bus_line.specs.LineView.{line_state}
-use Rattle.bus_line.specs.After.{Tracks, moved, event_shown}
+use Rattle.bus_line.specs.After.{Tracks, event_shown}
+use Rattle.bus_line.specs.Report.{moved}
 use Rattle.bus_line.specs.Look.{IsFound}
 use Rattle.bus_line.specs.declared.decoder.look.Found.TheVariants.{Closing, Seven, Fifteen, Other}
 use Rattle.bus_line.proofs.DecideLemmas.{closing, seven, fifteen, other, tracks-flag, tracks-abort, event-flag, event-abort, ones_within}

@@ -3,7 +3,8 @@ use Rattle.std.specs.Option.{option_map}
 use Rattle.bus_line.specs.Report.{Report}
 use Rattle.bus_line.specs.Due.{current, due_at}
 use Rattle.bus_line.specs.LineState.{LineState}
-use Rattle.bus_line.specs.After.{Tracks, moved}
+use Rattle.bus_line.specs.After.{Tracks}
+use Rattle.bus_line.specs.Report.{moved}
 use Rattle.bus_line.proofs.DecideLemmas.{nothing-due, mark-kept}
 use Rattle.bus_line.proofs.decoder.LineDecoder.step.Goals as goal
 
