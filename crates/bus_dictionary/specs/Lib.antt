@@ -1,0 +1,5 @@
+pub mod DictFault
+pub mod BitName
+pub mod Entry
+pub mod EntryView
+pub mod Dictionary
