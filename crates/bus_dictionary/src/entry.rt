@@ -2,7 +2,7 @@
 
 pub(crate) mod read;
 
-ghost use Rattle.std.specs.Prelude.{◌≡◌, ◌≤◌, IsTrue, length};
+ghost use Rattle.std.specs.Prelude.{◌≡◌, ◌≤◌, IsTrue, map};
 
 use crate::bit_name::BitName;
 use arrayvec::ArrayString;
@@ -33,7 +33,7 @@ impl Model for Entry {
 }
 
 impl Entry {
-    ghost use Rattle.bus_dictionary.specs.BitName.{is_name};
+    ghost use Rattle.bus_dictionary.specs.BitName.{is_name, named_bit};
 
     /// The name, 1 to 40 printable octets without space.
     pub fn name(&self) -> &str
@@ -56,6 +56,13 @@ impl Entry {
         ensures { result ≡ self.now.answered }
     {
         self.answered
+    }
+
+    /// The names of bits, by rising place.
+    pub(crate) fn bits(&self) -> &[BitName]
+        ensures { map named_bit result.now ≡ self.now.bits }
+    {
+        &self.bits
     }
 
     /// The frame type.

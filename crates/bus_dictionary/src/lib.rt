@@ -7,8 +7,12 @@ mod dictionary;
 mod entry;
 mod fault;
 mod fields;
+mod name_walk;
+mod standing;
 
 pub use bit_name::BitName;
 pub use dictionary::Dictionary;
 pub use entry::Entry;
 pub use fault::DictFault;
+pub use name_walk::{NameWalk, set_names};
+pub use standing::Standing;

@@ -1,6 +1,6 @@
 //! Reads an entry.
-ghost use Rattle.std.specs.Prelude.{◌≡◌, ◌==◌, ◌≤◌, [], map, codes, OnOk};
-ghost use Rattle.std.specs.List.{list_any};
+ghost use Rattle.std.specs.Prelude.{◌≡◌, ◌==◌, ◌≤◌, [], map, codes, nat_lt, length, OnOk};
+ghost use Rattle.std.specs.List.{list_any, position, position_or_len};
 ghost use Rattle.toml.specs.Data.{get};
 ghost use Rattle.toml.specs.View.{view, items_view};
 ghost use Rattle.bus_dictionary.specs.DictFault.{Gives, need};
@@ -115,7 +115,7 @@ fn read_members(
 }
 
 /// A bit of entry n, with the bits before it.
-#[tactic(auto, unfolding(crate::specs::BitName::bit_of))]
+#[tactic(auto, using(crate::proofs::Laws::has_place_map), unfolding(crate::specs::BitName::bit_of))]
 fn read_bit(before: &[BitName], n: u64, member: &Value, size: u8) -> Result<BitName, DictFault>
     requires { size ≤ 253 }
     ensures { Gives named_bit result (bit_of n size (map named_bit before.now) (view member.now)) }
@@ -133,21 +133,35 @@ fn read_bit(before: &[BitName], n: u64, member: &Value, size: u8) -> Result<BitN
 }
 
 /// Whether one of the bits has the place.
-#[tactic(auto, using(crate::proofs::Laws::has_place_map))]
 fn has_place(bits: &[BitName], at: u16) -> bool
-    ensures { result ≡ has_place at (map named_bit bits.now) }
+    ensures { result ≡ list_any (λ b. b.at == at) bits.now }
 {
     bits.iter().any(|bit| bit.at == at)
+}
+
+/// The first bit of a higher place, by its index.
+fn first_above(bits: &[BitName], at: u16) -> Option<usize>
+    ensures { result ≡ position (λ b. nat_lt at b.at) bits.now }
+{
+    bits.iter().position(|bit| at < bit.at)
+}
+
+/// Where a bit of this place goes: before the first of a higher place.
+fn place_above(bits: &[BitName], at: u16) -> usize
+    ensures place { result ≡ position_or_len (λ b. nat_lt at b.at) bits.now }
+    ensures bound { result ≤ length bits.now }
+{
+    match first_above(bits, at) {
+        Some(place) => place,
+        None => bits.len(),
+    }
 }
 
 /// Puts a bit before the first of a higher place.
 fn put_bit(bits: &mut Vec<BitName>, bit: BitName) -> Result<(), AllocError>
     ensures { OnOk result (map named_bit bits.new.items ≡ put_bit (named_bit bit) (map named_bit bits.old.items)) }
 {
-    let place = match bits.iter().position(|other| bit.at < other.at) {
-        Some(place) => place,
-        None => bits.len(),
-    };
+    let place = place_above(bits, bit.at);
     match bits.insert(place, bit) {
         Ok(()) => Ok(()),
         Err(_) => Err(AllocError),

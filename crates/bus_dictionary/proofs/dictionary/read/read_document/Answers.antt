@@ -18,7 +18,23 @@ returns-in-Err c =
     subst (λ (r : Result (List FrameType) DictFault). Fails c.in-Err.fault r) (sym whole) (fails_then c.in-Err.fault (entries_of 1 [] (items_view c.in-Some.frames.now.items)) if_answered failed)
 
 pub returns-in-Some-without_answer : goal.returns-in-Some-without_answer
-returns-in-Some-without_answer c = ?
+returns-in-Some-without_answer c =
+    let one : option_and_then as_integer (get (codes "version") (view c.args.root.now)) ≡ Some (pos 1) = search rules in
+    let frames : option_and_then as_array (get (codes "frame") (view c.args.root.now)) ≡ Some (items_view c.in-Some.frames.now.items) = search rules in
+    let some : 0 < length c.in-Some.frames.now.items = search rules in
+    let whole = dictionary_entries (view c.args.root.now) c.in-Some.frames.now.items one frames some in
+    let es = c.in-Ok.entries.items in
+    let read : entries_of 1 [] (items_view c.in-Some.frames.now.items) ≡ Ok es = search rules in
+    let lacking : Some c.in-Some-without_answer.ftype ≡ option_map (λ (e : FrameType). e.ftype) (find (lacks_answer es) es) = search rules in
+    whole ∙ ap (λ (r : Result (List FrameType) DictFault). r >>= if_answered) read ∙ refuse_some es (find (lacks_answer es) es) c.in-Some-without_answer.ftype lacking
 
 pub returns-in-None : goal.returns-in-None
-returns-in-None c = ?
+returns-in-None c =
+    let one : option_and_then as_integer (get (codes "version") (view c.args.root.now)) ≡ Some (pos 1) = search rules in
+    let frames : option_and_then as_array (get (codes "frame") (view c.args.root.now)) ≡ Some (items_view c.in-Some.frames.now.items) = search rules in
+    let some : 0 < length c.in-Some.frames.now.items = search rules in
+    let whole = dictionary_entries (view c.args.root.now) c.in-Some.frames.now.items one frames some in
+    let es = c.in-Ok.entries.items in
+    let read : entries_of 1 [] (items_view c.in-Some.frames.now.items) ≡ Ok es = search rules in
+    let lacking : None ≡ option_map (λ (e : FrameType). e.ftype) (find (lacks_answer es) es) = search rules in
+    whole ∙ ap (λ (r : Result (List FrameType) DictFault). r >>= if_answered) read ∙ refuse_none es (find (lacks_answer es) es) lacking
