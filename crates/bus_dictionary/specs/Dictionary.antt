@@ -46,8 +46,8 @@ document_of None = Err NotToml
 document_of (Some ms) = dictionary_of (table ms)
 
 -- the dictionary of a text
-abbrev pub reading : List ℕ → Result (List FrameType) DictFault
-reading text = document_of (parse_document text)
+abbrev pub dictionary_of_text : List ℕ → Result (List FrameType) DictFault
+dictionary_of_text text = document_of (parse_document text)
 
 -- the entry of a type
 abbrev pub entry_at : ℕ → List FrameType → Option FrameType

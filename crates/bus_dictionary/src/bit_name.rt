@@ -1,4 +1,7 @@
 //! The name of a bit.
+
+pub(crate) mod read;
+
 use arrayvec::ArrayString;
 
 /// A bit of a frame's octets, and its name.

@@ -28,11 +28,11 @@ impl Model for Dictionary {
 
 impl Dictionary {
     ghost use Rattle.bus_dictionary.specs.DictFault.{Gives};
-    ghost use Rattle.bus_dictionary.specs.Dictionary.{reading, entry_at, longest_of};
+    ghost use Rattle.bus_dictionary.specs.Dictionary.{dictionary_of_text, entry_at, longest_of};
 
     /// Reads a TOML text.
     pub fn read(alloc: Global, text: &str) -> Result<Dictionary, DictFault>
-        ensures { Gives (λ d. d) result (reading text.now) }
+        ensures { Gives (λ d. d) result (dictionary_of_text text.now) }
     {
         let root = match toml::table_from_str(alloc, text) {
             Ok(table) => Value::Table(table),

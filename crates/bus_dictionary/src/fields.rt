@@ -1,9 +1,10 @@
 //! The fields of a dictionary's tables, one function for each kind of value.
-ghost use Rattle.std.specs.Prelude.{◌≡◌, ◌<◌, IsTrue, IfSome, option_map, option_and_then};
+ghost use Rattle.std.specs.Prelude.{◌≡◌, ◌<◌, IsTrue, IfSome, codes, option_map, option_and_then};
 ghost use Rattle.std.specs.List.{list_all};
 ghost use Rattle.toml.specs.Data.{get, as_integer, as_array};
 ghost use Rattle.toml.specs.View.{view, array_view};
 ghost use Rattle.bus_dictionary.specs.BitName.{number_at, name_at, is_name, is_printable};
+ghost use Rattle.bus_dictionary.specs.Entry.{answered_in};
 
 use arrayvec::ArrayString;
 use toml::Value;
@@ -55,6 +56,19 @@ pub fn name_at(value: &Value) -> Option<ArrayString<40>>
     match text {
         Some(text) if name_fits(text) => ArrayString::from(text).ok(),
         _ => None,
+    }
+}
+
+/// Whether a command of the type is to be answered, where that may be said.
+pub fn answered_at(value: &Value, ftype: u8) -> Option<bool>
+    ensures { result ≡ answered_in ftype (get (codes "answered") (view value.now)) }
+{
+    let Some(found) = value.get("answered") else {
+        return Some(false);
+    };
+    match found.as_bool() {
+        Some(true) if ftype >= 128 => None,
+        answered => answered,
     }
 }
 

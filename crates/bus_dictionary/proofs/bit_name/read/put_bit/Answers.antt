@@ -2,7 +2,7 @@ use Rattle.std.proofs.Common.{◌≡◌, rules, ◌∙◌, ap, map}
 use Rattle.std.specs.List.{insert}
 use Rattle.bus_dictionary.specs.BitName.{named_bit}
 use Rattle.bus_dictionary.proofs.Laws.{put_bit_at}
-use Rattle.bus_dictionary.proofs.entry.read.put_bit.Goals as goal
+use Rattle.bus_dictionary.proofs.bit_name.read.put_bit.Goals as goal
 
 pub returns-in-Ok : goal.returns-in-Ok
 returns-in-Ok c =

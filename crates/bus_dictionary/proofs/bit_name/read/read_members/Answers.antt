@@ -4,7 +4,7 @@ use Rattle.bus_dictionary.specs.declared.fault.DictFault.{DictFault}
 use Rattle.bus_dictionary.specs.DictFault.{◌>>=◌, Fails}
 use Rattle.bus_dictionary.specs.BitName.{NamedBit, named_bit, put_bit, bit_of, bits_from}
 use Rattle.bus_dictionary.proofs.Laws.{bits_step, bits_done, fails_then, values_from, none_from}
-use Rattle.bus_dictionary.proofs.entry.read.read_members.Goals as goal
+use Rattle.bus_dictionary.proofs.bit_name.read.read_members.Goals as goal
 
 pub returns-in-Err : goal.returns-in-Err
 returns-in-Err c =
