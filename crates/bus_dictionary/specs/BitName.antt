@@ -1,6 +1,6 @@
 -- The names of bits, and the rules for names and numbers.
-use Rattle.std.specs.Prelude.{ℕ, ◌+◌, ◌*◌, ◌==◌, ◌&&◌, Bool, List, [], ◌∷◌, length, ℤ, pos, negsuc, Option, Some, None, Result, Ok, Err, if◌then◌else◌, nat_lt, nat_le, codes, option_and_then}
-use Rattle.std.specs.List.{list_all, list_any}
+use Rattle.std.specs.Prelude.{ℕ, ◌+◌, ◌*◌, ◌==◌, ◌&&◌, ◌<◌, Bool, IsTrue, List, [], ◌∷◌, length, ℤ, pos, negsuc, Option, Some, None, Result, Ok, Err, if◌then◌else◌, nat_lt, nat_le, codes, option_and_then}
+use Rattle.std.specs.List.{list_all, list_any, All, AllPairs}
 use Rattle.toml.specs.Data.{Data, Items, no_items, item, as_integer, as_str, as_array, get}
 use Rattle.bus_dictionary.specs.DictFault.{◌>>=◌, need}
 use Rattle.bus_dictionary.specs.declared.fault.DictFault.{DictFault}
@@ -39,6 +39,12 @@ below limit (negsuc n) = None
 -- the integer at a key, where it is there and below the limit
 abbrev pub number_at : ℕ → List ℕ → Data → Option ℕ
 number_at limit key d = option_and_then (below limit) (option_and_then as_integer (get key d))
+
+-- the named bits of octets that are `size` after the type octet: by rising place, each within the octets and with a name
+pub record AreBits (size : ℕ) (bits : List NamedBit) : Type 0 where
+  pub rising : AllPairs (λ a b. a.at < b.at) bits
+  pub within : All (λ b. b.at < 8 * size) bits
+  pub named : All (λ b. IsTrue (is_name b.name)) bits
 
 abbrev pub has_place : ℕ → List NamedBit → Bool
 has_place at bits = list_any (λ b. b.at == at) bits

@@ -16,3 +16,6 @@ pub use entry::Entry;
 pub use fault::DictFault;
 pub use name_walk::{NameWalk, set_names};
 pub use standing::Standing;
+
+#[cfg(test)]
+mod tests;
