@@ -1,14 +1,15 @@
 -- What holds of each dictionary: it is a finite map, and its parts keep their bounds.
 use Rattle.std.proofs.Common.{◌≡◌, ℕ, ◌+◌, ◌*◌, ◌<◌, ◌≤◌, ◌==◌, ◌||◌, List, [], ◌∷◌, ◌++◌, length, nat_lt, nat_le, zero, suc, ℤ, pos, negsuc, codes, option_and_then, refl, sym, ◌∙◌, ap, arith, rules, Result, Ok, Err, Option, Some, None, Bool, true, false, cond, if◌then◌else◌, IsTrue, subst}
 use Rattle.std.specs.List.{list_any, AllByRecursion, All, AllPairs}
-use Rattle.std.proofs.lemmas.List.Elements.{All-cons}
-use Rattle.std.proofs.lemmas.List.Kept.{AllPairs-cons}
+use Rattle.std.proofs.lemmas.List.Elements.{All-cons, All-filter}
+use Rattle.std.proofs.lemmas.List.Kept.{AllPairs-cons, AllPairs-filter}
 use Rattle.std.proofs.lemmas.Bool.Decides.{nat_tests}
 use Rattle.toml.specs.Data.{Data, Items, item, no_items, get, as_integer, as_str, as_array}
 use Rattle.bus_dictionary.specs.declared.fault.DictFault.{DictFault}
 use Rattle.bus_dictionary.specs.declared.fault.DictFault.TheVariants.{BadBit}
 use Rattle.bus_dictionary.specs.DictFault.{◌>>=◌, need}
 use Rattle.bus_dictionary.specs.BitName.{NamedBit, AreBits, is_name, if_name, name_at, below, number_at, has_place, put_bit, bit_of, bits_from, bits_in}
+use Rattle.bus_dictionary.specs.NameWalk.{is_one, ones}
 
 -- a step that went well, and the next
 pub then_ok : {A B : Type 0} (step : Result A DictFault) (next : A → Result B DictFault) (y : B) → (step >>= next) ≡ Ok y → (x : A) × (step ≡ Ok x) × (next x ≡ Ok y)
@@ -131,3 +132,11 @@ bits_in_ok n size None bits h = let same : [] ≡ bits = cc in are_bits size bit
 bits_in_ok n size (Some d) bits h =
     let (ds, is, h1) = then_ok (need (as_array d) (BadBit n)) _ bits h in
     are_bits size bits (bits_from_ok n size [] ds bits (record { rise = tt; fit = tt }) h1)
+
+-- the bits that are 1 are such bits too
+pub ones_are_bits : (size : ℕ) (octets : List ℕ) (bits : List NamedBit) → AreBits size bits → AreBits size (ones octets bits)
+ones_are_bits size octets bits r = record {
+  rising = AllPairs-filter (λ (x y : NamedBit). x.at < y.at) (λ (b : NamedBit). is_one octets b.at) bits r.rising;
+  within = All-filter (λ (b : NamedBit). is_one octets b.at) (λ (b : NamedBit). b.at < 8 * size) bits r.within;
+  named = All-filter (λ (b : NamedBit). is_one octets b.at) (λ (b : NamedBit). IsTrue (is_name b.name)) bits r.named
+}

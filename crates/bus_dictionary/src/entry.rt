@@ -33,7 +33,7 @@ impl Model for Entry {
 }
 
 impl Entry {
-    ghost use Rattle.bus_dictionary.specs.BitName.{is_name, named_bit};
+    ghost use Rattle.bus_dictionary.specs.BitName.{is_name, named_bit, AreBits};
 
     /// The name, 1 to 40 printable octets without space.
     pub fn name(&self) -> &str
@@ -60,7 +60,8 @@ impl Entry {
 
     /// The names of bits, by rising place.
     pub(crate) fn bits(&self) -> &[BitName]
-        ensures { map named_bit result.now ≡ self.now.bits }
+        ensures value { map named_bit result.now ≡ self.now.bits }
+        ensures kept { AreBits self.now.size self.now.bits }
     {
         &self.bits
     }

@@ -1,10 +1,10 @@
 //! Reads the names of bits.
-ghost use Rattle.std.specs.Prelude.{◌≡◌, ◌==◌, ◌≤◌, [], map, codes, nat_lt, length, OnOk};
+ghost use Rattle.std.specs.Prelude.{◌≡◌, ◌==◌, ◌≤◌, [], map, codes, nat_lt, length, IfOk, OnOk};
 ghost use Rattle.std.specs.List.{list_any, position, position_or_len};
 ghost use Rattle.toml.specs.Data.{get};
 ghost use Rattle.toml.specs.View.{view, items_view};
 ghost use Rattle.bus_dictionary.specs.DictFault.{Gives};
-ghost use Rattle.bus_dictionary.specs.BitName.{named_bit, put_bit, bit_of, bits_from, bits_in};
+ghost use Rattle.bus_dictionary.specs.BitName.{AreBits, named_bit, put_bit, bit_of, bits_from, bits_in};
 
 use super::BitName;
 use crate::fault::DictFault;
@@ -20,7 +20,8 @@ pub fn read_bits(
     size: u8,
 ) -> Result<Vec<BitName>, DictFault>
     requires { size ≤ 253 }
-    ensures { Gives (λ v. map named_bit v.items) result (bits_in n size (get (codes "bits") (view value.now))) }
+    ensures value { Gives (λ v. map named_bit v.items) result (bits_in n size (get (codes "bits") (view value.now))) }
+    ensures kept { IfOk result (λ v. AreBits size (map named_bit v.items)) }
 {
     let Some(found) = value.get("bits") else {
         return Ok(Vec::new(alloc));
