@@ -6,3 +6,4 @@ pub mod Dictionary
 pub mod Standing
 pub mod NameWalk
 pub mod NameWalkView
+pub mod Laws

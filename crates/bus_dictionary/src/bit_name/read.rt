@@ -56,7 +56,7 @@ fn read_members(
 }
 
 /// A bit of entry n, with the bits before it.
-#[tactic(auto, using(crate::proofs::Laws::has_place_map), unfolding(crate::specs::BitName::bit_of))]
+#[tactic(auto, using(crate::proofs::ReadLemmas::has_place_map), unfolding(crate::specs::BitName::bit_of))]
 fn read_bit(before: &[BitName], n: u64, member: &Value, size: u8) -> Result<BitName, DictFault>
     requires { size ≤ 253 }
     ensures { Gives named_bit result (bit_of n size (map named_bit before.now) (view member.now)) }

@@ -5,7 +5,7 @@ use Rattle.bus_dictionary.specs.declared.bit_name.BitName.{BitName}
 use Rattle.bus_dictionary.specs.declared.fault.DictFault.{DictFault}
 use Rattle.bus_dictionary.specs.DictFault.{Gives}
 use Rattle.bus_dictionary.specs.BitName.{AreBits, named_bit, bits_from}
-use Rattle.bus_dictionary.proofs.MapLaws.{are_bits, bits_from_ok}
+use Rattle.bus_dictionary.proofs.BitLemmas.{are_bits, bits_from_ok}
 use Rattle.bus_dictionary.proofs.bit_name.read.read_bits.Goals as goal
 
 kept : (n size : ℕ) (ds : Items) (read : Result (Vec BitName Global) DictFault)

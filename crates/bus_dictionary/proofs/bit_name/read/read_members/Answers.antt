@@ -3,7 +3,7 @@ use Rattle.toml.specs.View.{view, items_view}
 use Rattle.bus_dictionary.specs.declared.fault.DictFault.{DictFault}
 use Rattle.bus_dictionary.specs.DictFault.{◌>>=◌, Fails}
 use Rattle.bus_dictionary.specs.BitName.{NamedBit, named_bit, put_bit, bit_of, bits_from}
-use Rattle.bus_dictionary.proofs.Laws.{bits_step, bits_done, fails_then, values_from, none_from}
+use Rattle.bus_dictionary.proofs.ReadLemmas.{bits_step, bits_done, fails_then, values_from, none_from}
 use Rattle.bus_dictionary.proofs.bit_name.read.read_members.Goals as goal
 
 pub returns-in-Err : goal.returns-in-Err

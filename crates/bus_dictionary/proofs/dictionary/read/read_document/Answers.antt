@@ -5,7 +5,7 @@ use Rattle.bus_dictionary.specs.declared.fault.DictFault.{DictFault}
 use Rattle.bus_dictionary.specs.DictFault.{◌>>=◌, Fails}
 use Rattle.bus_dictionary.specs.Entry.{FrameType}
 use Rattle.bus_dictionary.specs.Dictionary.{dictionary_of, entries_of, lacks_answer, if_answered}
-use Rattle.bus_dictionary.proofs.Laws.{dictionary_entries, fails_then, refuse_some, refuse_none}
+use Rattle.bus_dictionary.proofs.ReadLemmas.{dictionary_entries, fails_then, refuse_some, refuse_none}
 use Rattle.bus_dictionary.proofs.dictionary.read.read_document.Goals as goal
 
 pub returns-in-Err : goal.returns-in-Err

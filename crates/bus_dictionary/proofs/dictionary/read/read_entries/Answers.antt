@@ -4,7 +4,7 @@ use Rattle.bus_dictionary.specs.declared.fault.DictFault.{DictFault}
 use Rattle.bus_dictionary.specs.DictFault.{◌>>=◌, Fails}
 use Rattle.bus_dictionary.specs.Entry.{FrameType, entry_of}
 use Rattle.bus_dictionary.specs.Dictionary.{entries_of}
-use Rattle.bus_dictionary.proofs.Laws.{entries_step, entries_done, fails_then, values_from, none_from}
+use Rattle.bus_dictionary.proofs.ReadLemmas.{entries_step, entries_done, fails_then, values_from, none_from}
 use Rattle.bus_dictionary.proofs.dictionary.read.read_entries.Goals as goal
 
 pub returns-in-Err : goal.returns-in-Err
