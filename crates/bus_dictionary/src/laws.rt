@@ -1,0 +1,10 @@
+//! Laws of the definitions.
+ghost use Rattle.bus_dictionary.specs.Laws.{DictionariesAreMaps};
+
+/// What a document says, where it is a dictionary, is a finite map from types: no two entries have
+/// one type, each keeps its bounds, its bits rise and lie within it, and each that is marked
+/// answered has its answer's entry.
+pub fn dictionaries_are_maps()
+    ensures { DictionariesAreMaps }
+{
+}
