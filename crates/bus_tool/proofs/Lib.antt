@@ -4,3 +4,4 @@ pub mod GatherLemmas
 pub mod RunLemmas
 pub mod LineLemmas
 pub mod KnownLemmas
+pub mod ShowLemmas

@@ -1,5 +1,6 @@
 //! What can go wrong.
 
+use bus_dictionary::DictFault;
 use thiserror::Error;
 
 /// Why a call of the tool stopped. The text is what the program prints behind its name.
@@ -8,6 +9,9 @@ pub enum ToolFault {
     /// Memory was refused.
     #[error("no memory")]
     Memory,
+    /// The text is no dictionary.
+    #[error("{0}")]
+    Dictionary(DictFault),
     /// The octet of the capture at place `at` is neither a bit nor a space. Octets count from 0.
     #[error("capture: octet {at} is no bit")]
     BadMark { at: u128 },
@@ -24,4 +28,10 @@ pub enum ToolFault {
     /// text went out.
     #[error("write failed")]
     Write { written: u128 },
+    /// The text is no even number of hexadecimal digits, or has none.
+    #[error("bad hex")]
+    Hex,
+    /// A frame that is typed does not have 4 to 258 octets, its check among them.
+    #[error("frame is not 4 to 258 octets")]
+    FrameSize,
 }

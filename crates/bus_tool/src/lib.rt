@@ -5,11 +5,13 @@ mod fault;
 mod list;
 mod options;
 mod program;
+mod show;
 mod text;
 
 pub use fault::ToolFault;
 pub use list::list_pieces;
 pub use program::run;
+pub use show::show_frame;
 
 #[cfg(test)]
 mod fakes;

@@ -35,7 +35,7 @@ fn push_octet(line: &mut Line, octet: u8)
 }
 
 /// Appends two hexadecimal digits for each octet.
-fn push_hex(line: &mut Line, octets: &[u8])
+pub fn push_hex(line: &mut Line, octets: &[u8])
     requires { array_string_len line.old + 2 * length octets.now ≤ 640 }
     ensures bytes { line.new.bytes ≡ line.old.bytes ++ hex_of octets.now }
     ensures len { array_string_len line.new ≡ array_string_len line.old + 2 * length octets.now }
@@ -46,7 +46,7 @@ fn push_hex(line: &mut Line, octets: &[u8])
 }
 
 /// Appends a number in decimal.
-fn push_number(line: &mut Line, n: u64)
+pub fn push_number(line: &mut Line, n: u64)
     requires { array_string_len line.old + 20 ≤ 640 }
     ensures bytes { line.new.bytes ≡ line.old.bytes ++ decimal n }
     ensures len { array_string_len line.new ≤ array_string_len line.old + 20 }

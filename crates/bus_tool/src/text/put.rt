@@ -1,8 +1,10 @@
 //! Writes a text, and counts what went out.
 
-ghost use Rattle.std.specs.Prelude.{◌≡◌, ◌<◌, OnOk, IfErr, length, take};
+ghost use Rattle.std.specs.Prelude.{◌≡◌, ◌+◌, ◌<◌, ◌≤◌, ◌++◌, ℕ, List, Option, OnOk, IfOk, IfErr, length, take};
 ghost use Rattle.std.specs.Io.KnownBytes.{Appends};
+ghost use Rattle.bus_tool.specs.Put.{Puts};
 
+use crate::text::line::Line;
 use std::io::Write;
 
 /// A write failed, or took nothing, after `sent` octets of the text.
@@ -25,4 +27,20 @@ pub fn put_text<W: Write>(w: &mut W, text: &[u8]) -> Result<(), Cut>
         }
     }
     Ok(())
+}
+
+/// Writes a line behind `sent` octets of a text. Answers how many octets of the text went out.
+pub fn put_line<W: Write>(line: &Line, sent: u128, w: &mut W) -> Result<u128, Cut>
+    requires { sent ≤ 2000000 }
+    ensures put { (start : Option (List ℕ)) (before : List ℕ) → Appends start (W.contents w.old) before → sent ≡ length before
+        → Puts start (W.contents w.new) (before ++ line.now.bytes) result }
+    ensures few { IfOk result (λ now. now ≤ sent + 640) }
+{
+    let text = line.as_str();
+    match put_text(w, text.as_bytes()) {
+        Ok(()) => Ok(sent + text.len() as u128),
+        Err(cut) => Err(Cut {
+            sent: sent + cut.sent,
+        }),
+    }
 }

@@ -1,0 +1,212 @@
+-- The parts of what is shown of a frame.
+use Rattle.std.proofs.Common.{◌≡◌, ◌≢◌, ◌↔◌, ◌⊎◌, inl, inr, ℕ, ◌+◌, ◌-◌, ◌*◌, ◌/◌, ◌%◌, ◌≤◌, ◌<◌, ◌==◌, ◌&&◌, Bool, true, false, IsTrue, List, [], ◌∷◌, ◌++◌, length, map, take, drop, slice_range, nat_le, Option, Some, None, append_assoc, zero, suc, get_or, slice_index, codes, if◌then◌else◌, Result, Ok, Err, MatchResult, refl, sym, ap, ◌∙◌, subst, arith, length-append}
+use Rattle.std.proofs.lemmas.Grind.{common_steps, flat_map-append}
+use Rattle.std.proofs.lemmas.List.{append-nil, take-append-le}
+use Rattle.std.specs.Io.KnownBytes.{Appends}
+use Rattle.std.specs.List.{AllPass, flat_map, AllPairs, All}
+use Rattle.hex.specs.Hex.{decode_of, decode_sized, is_hex_digit}
+use Rattle.hex.specs.declared.error.FromHexError.{FromHexError}
+use Rattle.hex.proofs.HexLemmas.{decode_of-ok, decode_of-digits, decode_sized-twice}
+use Rattle.bus_fcs.specs.FrameCheck.{Good, is_good}
+use Rattle.bus_fcs.specs.Laws.{GoodIsComputed}
+use Rattle.std.proofs.lemmas.Bool.Decides.{nat_tests}
+use Rattle.bus_dictionary.specs.BitName.{NamedBit, AreBits}
+use Rattle.bus_dictionary.specs.Entry.{FrameType}
+use Rattle.bus_dictionary.specs.Dictionary.{entry_at}
+use Rattle.bus_dictionary.specs.DictFault.{Fails}
+use Rattle.bus_dictionary.specs.Standing.{standing, standing_of_type, standing_of_information}
+use Rattle.bus_dictionary.specs.declared.fault.DictFault.{DictFault}
+use Rattle.bus_dictionary.specs.declared.fault.DictFault.TheVariants.{Memory, NotToml, Version, NoFrames, BadType, BadName, BadLength, BadAnswered, BadBit, TwiceType, NoAnswerEntry}
+use Rattle.bus_dictionary.specs.declared.standing.Standing.{Standing}
+use Rattle.bus_dictionary.specs.declared.standing.Standing.TheVariants.{OtherControl, Untyped, Unknown, WrongLength, Known}
+use Rattle.bus_tool.specs.declared.text.put.Cut.{Cut}
+use Rattle.bus_tool.specs.Put.{Puts}
+use Rattle.bus_tool.specs.Show.{typed_frame, if_frame, if_decoded, name_text, frame_text, bits_text, names_text, shown_text, given_dictionary, Shows}
+use Rattle.bus_tool.specs.HeadText.{head_text}
+use Rattle.bus_tool.specs.declared.fault.ToolFault.{ToolFault}
+use Rattle.bus_tool.specs.declared.fault.ToolFault.TheVariants.{Hex, FrameSize}
+use Rattle.bus_tool.specs.declared.fault.ToolFault.TheVariants as tool
+use Rattle.bus_tool.proofs.Bytes.{appends_nothing}
+
+same_bool : (x y : Bool) → (x ≡ true → y ≡ true) → (y ≡ true → x ≡ true) → x ≡ y
+same_bool true true f g = refl
+same_bool true false f g = sym (f refl)
+same_bool false true f g = g refl
+same_bool false false f g = refl
+
+-- a test that tells good data computes as the definition's test does
+pub same_test : (x : Bool) (d : List Bool) → GoodIsComputed → (IsTrue x ↔ Good d) → x ≡ is_good d
+same_test x d computed h =
+    let good = computed d in
+    same_bool x (is_good d) (λ e. good.1 (h.0 e)) (λ e. h.1 (good.0 e))
+
+-- no digits, an odd number of them, or another character
+pub no_hex : (s : List ℕ) → (1 ≤ length s → length s % 2 ≡ 0 → AllPass is_hex_digit s → ⊥) → typed_frame s ≡ Err Hex
+no_hex s h = answered (decode_of s) refl
+  where
+    answered : (r : Result (List ℕ) FromHexError) → decode_of s ≡ r → if_decoded r ≡ Err Hex
+    answered (Err e) is = refl
+    answered (Ok []) is = refl
+    answered (Ok (o ∷ os)) is =
+        let d = decode_of-ok s (o ∷ os) is in
+        absurd (h (omega (arith, d.2)) d.0 d.1)
+
+-- digits that give octets, at least one
+pub hex_frame : (s bytes : List ℕ) → decode_of s ≡ Ok bytes → 1 ≤ length bytes → typed_frame s ≡ if_frame bytes
+hex_frame s [] is some = absurd (none some)
+  where
+    none : (1 ≤ 0) → ⊥
+    none h = omega (arith, h)
+hex_frame s (o ∷ os) is some = ap if_decoded is
+
+pub frame_fits : (bytes : List ℕ) → 4 ≤ length bytes → length bytes ≤ 258 → if_frame bytes ≡ Ok bytes
+frame_fits bytes least most =
+    let a : nat_le 4 (length bytes) ≡ true = grind (arith, least) in
+    let b : nat_le (length bytes) 258 ≡ true = grind (arith, most) in
+    rw (a, b) refl
+
+pub frame_short : (bytes : List ℕ) → length bytes < 4 → if_frame bytes ≡ Err FrameSize
+frame_short bytes few =
+    let a : nat_le 4 (length bytes) ≡ false = grind (arith, few) in
+    rw a refl
+
+pub frame_long : (bytes : List ℕ) → 258 < length bytes → if_frame bytes ≡ Err FrameSize
+frame_long bytes many =
+    let a : nat_le 4 (length bytes) ≡ true = grind (arith, many) in
+    let b : nat_le (length bytes) 258 ≡ false = grind (arith, many) in
+    rw (a, b) refl
+
+-- digits of even number give octets, half as many
+pub even_digits : (s : List ℕ) → length s % 2 ≡ 0 → AllPass is_hex_digit s → (bytes : List ℕ) × (decode_of s ≡ Ok bytes) × (length s ≡ 2 * length bytes)
+even_digits s even all =
+    let d = decode_of-digits s even all in
+    (d.0, d.1, (decode_of-ok s d.0 d.1).2)
+
+pub too_short : (s : List ℕ) → 1 ≤ length s → length s % 2 ≡ 0 → AllPass is_hex_digit s → length s / 2 < 4 → typed_frame s ≡ Err FrameSize
+too_short s some even all few =
+    let d = even_digits s even all in
+    hex_frame s d.0 d.1 (omega (arith, d.2, some)) ∙ frame_short d.0 (omega (arith, d.2, few))
+
+pub too_long : (s : List ℕ) → length s % 2 ≡ 0 → AllPass is_hex_digit s → 258 < length s / 2 → typed_frame s ≡ Err FrameSize
+too_long s even all many =
+    let d = even_digits s even all in
+    hex_frame s d.0 d.1 (omega (arith, d.2, many)) ∙ frame_long d.0 (omega (arith, d.2, many))
+
+-- octets that were decoded in place of others
+pub in_place : (s old out : List ℕ) (r : Result (Unit {0}) FromHexError) → length s % 2 ≡ 0 → AllPass is_hex_digit s → length s / 2 ≡ length old → 4 ≤ length old → length old ≤ 258
+    → MatchResult (decode_sized s (length old)) (λ bytes. (r ≡ Ok tt) × (out ≡ bytes)) (λ e. r ≡ Err e)
+    → typed_frame s ≡ Ok (take (length old) (out ++ drop (length out) old))
+in_place s old out r even all half least most h =
+    let d = even_digits s even all in
+    let sized : decode_sized s (length old) ≡ Ok d.0 = decode_sized-twice s (length old) (omega (arith, half, even)) ∙ d.1 in
+    let m = subst (λ (x : Result (List ℕ) FromHexError). MatchResult x (λ bytes. (r ≡ Ok tt) × (out ≡ bytes)) (λ e. r ≡ Err e)) sized h in
+    let same : length out ≡ length old = omega (arith, ap length m.1, d.2, half) in
+    let whole : take (length old) (out ++ drop (length out) old) ≡ out = grind (arith, common_steps, same) in
+    hex_frame s d.0 d.1 (omega (arith, d.2, half, least)) ∙ frame_fits d.0 (omega (arith, d.2, half, least)) (omega (arith, d.2, half, most)) ∙ ap Ok (sym m.1 ∙ sym whole)
+
+-- a front of what was to be written went out, and so a front of more
+pub cut_more : (start now : Option (List ℕ)) (front more : List ℕ) (cut : Cut) → Puts start now front (Err cut) → Puts start now (front ++ more) (Err cut)
+cut_more start now front more cut p = (
+  subst (λ (l : List ℕ). Appends start now l) (sym (take-append-le cut.sent front more p.1)) p.0,
+  omega (arith, p.1, length-append front more),
+)
+
+-- the text up to one name, that name, and the others
+pub names_text_at : (before : List ℕ) (done rest : List NamedBit) (b : NamedBit)
+    → before ++ flat_map name_text (done ++ b ∷ rest) ≡ ((before ++ flat_map name_text done) ++ name_text b) ++ flat_map name_text rest
+names_text_at before done rest b =
+    ap (λ (l : List ℕ). before ++ l) (flat_map-append name_text done (b ∷ rest))
+    ∙ (sym (append_assoc before (flat_map name_text done) (name_text b ++ flat_map name_text rest))
+    ∙ sym (append_assoc (before ++ flat_map name_text done) (name_text b) (flat_map name_text rest)))
+
+-- the place of each is at least how many stand before it
+place_least : (bits : List NamedBit) → AllPairs (λ a b. a.at < b.at) bits → (i : ℕ) (d : NamedBit) → i < length bits → i ≤ (get_or bits i d).at
+place_least bits rising zero d h = omega arith
+place_least bits rising (suc i) d h =
+    let before = place_least bits rising i d (omega (arith, h)) in
+    omega (arith, before, rising i (suc i) d (omega arith) h)
+
+-- so there are no more than places
+pub names_few : (size : ℕ) (bits : List NamedBit) → AreBits size bits → length bits ≤ 8 * size
+names_few size [] r = omega arith
+names_few size (b ∷ bits) r =
+    let last = place_least (b ∷ bits) r.rising (length bits) b (omega arith) in
+    omega (arith, last, r.within (length bits) b (omega arith))
+
+-- a frame that is known has as many octets after its type as its entry says
+size_known : (station t n size st ftype : ℕ) → (if n == size then Known station t else WrongLength station t) ≡ Known st ftype → (t ≡ ftype) × (n ≡ size)
+size_known station t n size st ftype h =
+    elim (n == size) as (λ b. (n == size) ≡ b → (if b then Known station t else WrongLength station t) ≡ Known st ftype → (t ≡ ftype) × (n ≡ size)) [
+      | true ↦ λ is k. let same : t ≡ ftype = cc in (same, grind (arith, nat_tests))
+      | false ↦ λ is k. cc k
+    ] refl h
+
+information_known : (station : ℕ) (information : List ℕ) (d : List FrameType) (st ftype : ℕ) → standing_of_information station information d ≡ Known st ftype
+    → (e : FrameType) × (entry_at ftype d ≡ Some e) × (length information ≡ 1 + e.size)
+information_known station [] d st ftype h = cc h
+information_known station (t ∷ after) d st ftype h = of_entry (entry_at t d) refl h
+  where
+    of_entry : (o : Option FrameType) → entry_at t d ≡ o → standing_of_type station t (length after) o ≡ Known st ftype
+        → (e : FrameType) × (entry_at ftype d ≡ Some e) × (length (t ∷ after) ≡ 1 + e.size)
+    of_entry None is k = cc k
+    of_entry (Some e) is k =
+        let p = size_known station t (length after) e.size st ftype k in
+        (e, subst (λ (n : ℕ). entry_at n d ≡ Some e) p.0 is, omega (arith, p.1))
+
+pub known_size : (octets : List ℕ) (d : List FrameType) (st ftype : ℕ) (e : FrameType) → 4 ≤ length octets → standing octets d ≡ Known st ftype → entry_at ftype d ≡ Some e
+    → length (take (length octets - 2 - 3) (drop 3 octets)) ≡ e.size
+known_size octets d st ftype e least h is = by_control (slice_index octets 1 == 0x83) h
+  where
+    by_control : (b : Bool) → (if b then standing_of_information (slice_index octets 0) (slice_range octets 2 (length octets - 2)) d else OtherControl (slice_index octets 0) (slice_index octets 1)) ≡ Known st ftype
+        → length (take (length octets - 2 - 3) (drop 3 octets)) ≡ e.size
+    by_control false k = cc k
+    by_control true k =
+        let x = information_known (slice_index octets 0) (slice_range octets 2 (length octets - 2)) d st ftype k in
+        let some : Some x.0 ≡ Some e = sym x.1 ∙ is in
+        let same : x.0 ≡ e = cc in
+        let size : x.0.size ≡ e.size = ap (λ (f : FrameType). f.size) same in
+        let long : length (slice_range octets 2 (length octets - 2)) ≡ length octets - 2 - 2 = grind (arith, common_steps, least) in
+        let rest : length (take (length octets - 2 - 3) (drop 3 octets)) ≡ length octets - 2 - 3 = grind (arith, common_steps, least) in
+        omega (arith, x.2, size, long, rest)
+
+-- want of memory, or the reading's fault
+by_fault : {A : Type 0} (e : DictFault) (reading : Result A DictFault) → Fails e reading → (e ≡ Memory) ⊎ ((e ≢ Memory) × (reading ≡ Err e))
+by_fault Memory reading h = inl refl
+by_fault NotToml reading h = inr (λ k. cc k, h)
+by_fault Version reading h = inr (λ k. cc k, h)
+by_fault NoFrames reading h = inr (λ k. cc k, h)
+by_fault (BadType n) reading h = inr (λ k. cc k, h)
+by_fault (BadName n) reading h = inr (λ k. cc k, h)
+by_fault (BadLength n) reading h = inr (λ k. cc k, h)
+by_fault (BadAnswered n) reading h = inr (λ k. cc k, h)
+by_fault (BadBit n) reading h = inr (λ k. cc k, h)
+by_fault (TwiceType t) reading h = inr (λ k. cc k, h)
+by_fault (NoAnswerEntry t) reading h = inr (λ k. cc k, h)
+
+-- a dictionary that is not read
+pub unread_shows : (text : Option (List ℕ)) (hex octets : List ℕ) (now : Option (List ℕ)) (e : DictFault) (fault : ToolFault) → typed_frame hex ≡ Ok octets
+    → (text ≡ None → e ≢ Memory) → Fails e (given_dictionary text) → (e ≡ Memory → fault ≡ tool.Memory) → (e ≢ Memory → fault ≡ tool.Dictionary e)
+    → Shows text hex now now (Err fault)
+unread_shows text hex octets now e fault typed given h memory others =
+    elim (by_fault e (given_dictionary text) h) [
+      | inl is ↦ subst (λ (f : ToolFault). Shows text hex now now (Err f)) (sym (memory is)) (octets, typed, λ none. given none is, appends_nothing now)
+      | inr p ↦ subst (λ (f : ToolFault). Shows text hex now now (Err f)) (sym (others p.0)) (octets, typed, p.1, appends_nothing now)
+    ]
+
+-- the two lines that each frame has, and the others
+pub shown_front : (octets : List ℕ) (d : List FrameType) → shown_text octets d ≡ (frame_text octets ++ (head_text (standing octets d) d ++ codes "\n")) ++ names_text (standing octets d) octets d
+unfolding shown_text
+shown_front octets d = refl
+
+pub no_names : (s : Standing) (octets : List ℕ) (d : List FrameType) → ((station ftype : ℕ) → s ≡ Known station ftype → ⊥) → names_text s octets d ≡ []
+no_names (Known station ftype) octets d other = absurd (other station ftype refl)
+no_names (Unknown station ftype) octets d other = refl
+no_names (WrongLength station ftype) octets d other = refl
+no_names (OtherControl station control) octets d other = refl
+no_names (Untyped station) octets d other = refl
+
+-- where no names follow
+pub shown_alone : (octets : List ℕ) (d : List FrameType) → names_text (standing octets d) octets d ≡ [] → frame_text octets ++ (head_text (standing octets d) d ++ codes "\n") ≡ shown_text octets d
+shown_alone octets d none =
+    let front = frame_text octets ++ (head_text (standing octets d) d ++ codes "\n") in
+    sym (shown_front octets d ∙ (ap (λ (l : List ℕ). front ++ l) none ∙ append-nil front))
