@@ -3,6 +3,7 @@
 use crate::fault::ToolFault;
 use crate::list::list_pieces;
 use crate::options::{Request, read_words};
+use crate::show::show_frame;
 use crate::text::put_text;
 use clap::Error;
 use clap::error::ErrorKind;
@@ -31,6 +32,7 @@ pub fn run<R: Read, W: Write, E: Write>(
 ) -> u8 {
     match read_words(alloc, words) {
         Ok(Request::List) => status(list_pieces(alloc, READS, r, w), e),
+        Ok(Request::Show { dictionary, hex }) => status(show_frame(alloc, dictionary, hex, w), e),
         Err(error) => refuse(alloc, &error, w, e),
     }
 }

@@ -15,7 +15,6 @@ use std::alloc::Global;
 use std::io::Write;
 use typed::typed_frame;
 
-
 /// The dictionary of a text. Without a text it is empty, and takes no memory.
 fn read_dictionary(alloc: Global, text: Option<&str>) -> Result<Dictionary, DictFault>
     ensures value { Gives (λ d. d) result (given_dictionary (option_map (λ s. s.now) text.entry)) }

@@ -3,3 +3,4 @@
 mod lines;
 mod listings;
 mod program;
+mod shows;

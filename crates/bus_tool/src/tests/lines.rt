@@ -2,6 +2,7 @@
 
 use crate::ToolFault;
 use crate::text::line_of;
+use bus_dictionary::DictFault;
 use bus_line::{Cause, Piece, Span};
 use std::test::Fail;
 
@@ -53,6 +54,12 @@ fn fault_texts(rt: HostRuntime) -> Result<(), Fail> {
         (ToolFault::Read, "read failed"),
         (ToolFault::ReadsLimit, "too many reads"),
         (ToolFault::Write { written: 3 }, "write failed"),
+        (ToolFault::Hex, "bad hex"),
+        (ToolFault::FrameSize, "frame is not 4 to 258 octets"),
+        (
+            ToolFault::Dictionary(DictFault::TwiceType(128)),
+            "dictionary: type 128 twice",
+        ),
     ];
     for (fault, text) in &cases {
         let shown = format!(in rt.alloc(); "{fault}")?;

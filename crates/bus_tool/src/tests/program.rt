@@ -35,11 +35,66 @@ fn lists_by_words(rt: HostRuntime) -> Result<(), Fail> {
 }
 
 #[test]
+fn shows_by_words(rt: HostRuntime) -> Result<(), Fail> {
+    let dictionary = "version = 1\n[[frame]]\ntype = 0\nname = \"call\"\nlength = 0\n";
+    let cases: [(&[&str], u8, &str, &str); 6] = [
+        (
+            &["show", "108300fde5"],
+            0,
+            "frame 108300fde5 good\nstation 16 type 0 unknown\n",
+            "",
+        ),
+        (
+            &["show", "--dict", dictionary, "108300fde5"],
+            0,
+            "frame 108300fde5 good\nstation 16 type 0 call\n",
+            "",
+        ),
+        (
+            &["show", "108300fde5", "--dict", "version = 2"],
+            2,
+            "",
+            "port1: dictionary: version is not 1\n",
+        ),
+        (
+            &["show", "--dict=", "108300fde5"],
+            2,
+            "",
+            "port1: dictionary: version is not 1\n",
+        ),
+        (&["show", "10835"], 2, "", "port1: bad hex\n"),
+        (
+            &["show", "108345"],
+            2,
+            "",
+            "port1: frame is not 4 to 258 octets\n",
+        ),
+    ];
+    for (words, status, text, told) in cases {
+        let mut reader = IDLE;
+        let mut out = Vec::new(rt.alloc());
+        let mut err = Vec::new(rt.alloc());
+        let got = run(rt.alloc(), words, &mut reader, &mut out, &mut err);
+        assert_eq!(rt; got, status);
+        assert_eq!(rt; out.as_slice(), text.as_bytes());
+        assert_eq!(rt; err.as_slice(), told.as_bytes());
+        assert_eq!(rt; reader.len(), IDLE.len());
+    }
+    Ok(())
+}
+
+#[test]
 fn words(rt: HostRuntime) -> Result<(), Fail> {
-    let cases: [(&[&str], u8, &str); 6] = [
+    let cases: [(&[&str], u8, &str); 8] = [
         (&["--help"], 0, "Usage: port1 [COMMAND]\n"),
         (&["list", "--help"], 0, "Usage: port1 list --bits\n"),
         (&["list"], 2, "Usage: port1 list --bits\n"),
+        (
+            &["show", "--help"],
+            0,
+            "Usage: port1 show [OPTIONS] <HEX>\n",
+        ),
+        (&["show"], 2, "Usage: port1 show <HEX>\n"),
         (&["list", "--bits", "more"], 2, "unexpected argument 'more'"),
         (
             &["list", "--nonsense"],
@@ -71,7 +126,7 @@ fn words(rt: HostRuntime) -> Result<(), Fail> {
 
 #[test]
 fn writers_fail(rt: HostRuntime) -> Result<(), Fail> {
-    let cases: [&[&str]; 2] = [&["--help"], &["list", "--bits"]];
+    let cases: [&[&str]; 3] = [&["--help"], &["list", "--bits"], &["show", "108300fde5"]];
     for words in cases {
         for (room, fails_flush) in [(5, false), (1000, true)] {
             let mut writer = Narrow {

@@ -51,5 +51,5 @@ returns-in-Some g c =
     let front = subst (λ (s : Standing). Puts start (g.W.Write.contents c.put_front.new.w) (frame_text octets ++ (head_text s d ++ codes "\n")) (Ok c.in-Ok.sent)) c.read-standing.ensures c.in-Ok.ensures.put in
     let put = c.put_names.ensures.put start text front.0 front.1 in
     let names : flat_map name_text c.set_names.result ≡ names_text (standing octets d) octets d =
-        ap (flat_map name_text) c.set_names.ensures.value ∙ (ap (bits_text octets) c.in-Some.ensures ∙ ap (λ (s : Standing). names_text s octets d) c.in-Known.ensures) in
+    ap (flat_map name_text) c.set_names.ensures.value ∙ (ap (bits_text octets) c.in-Some.ensures ∙ ap (λ (s : Standing). names_text s octets d) c.in-Known.ensures) in
     subst (λ (l : List ℕ). Puts start now l c.put_names.result) (ap (λ (l : List ℕ). text ++ l) names ∙ sym (shown_front octets d)) put

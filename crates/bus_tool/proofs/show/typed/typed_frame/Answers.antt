@@ -39,4 +39,4 @@ returns-in-Ok-clause-octets c =
     in_place s c.truncate.new.self.items c.decode_to_slice.new.out c.decode_to_slice.result even all half
     (omega (arith, c.if-count-lt4.false, ap length same, half)) (omega (arith, c.if-count-gt-MOST.false, ap length same, half))
     (subst (λ (old : List ℕ). MatchResult (decode_sized s (length old)) (λ bytes. (c.decode_to_slice.result ≡ Ok tt) × (c.decode_to_slice.new.out ≡ bytes)) (λ e. c.decode_to_slice.result ≡ Err e)) c.as_mut_slice.ensures.value
-        (subst (λ (t : List ℕ). MatchResult (decode_sized t (length c.as_mut_slice.result.now)) (λ bytes. (c.decode_to_slice.result ≡ Ok tt) × (c.decode_to_slice.new.out ≡ bytes)) (λ e. c.decode_to_slice.result ≡ Err e)) same c.decode_to_slice.ensures.value))
+    (subst (λ (t : List ℕ). MatchResult (decode_sized t (length c.as_mut_slice.result.now)) (λ bytes. (c.decode_to_slice.result ≡ Ok tt) × (c.decode_to_slice.new.out ≡ bytes)) (λ e. c.decode_to_slice.result ≡ Err e)) same c.decode_to_slice.ensures.value))

@@ -1,0 +1,213 @@
+//! Frames that are typed, by honest and by failing writers.
+
+use crate::fakes::{Fixed, Narrow};
+use crate::{ToolFault, show_frame};
+use arrayvec::ArrayVec;
+use bus_dictionary::DictFault;
+use std::test::Fail;
+
+/// The types of one example dictionary, without bits.
+const CALLS: &str = r#"version = 1
+[[frame]]
+type = 0
+name = "call"
+length = 0
+answered = true
+[[frame]]
+type = 128
+name = "reply"
+length = 0
+[[frame]]
+type = 9
+name = "notice"
+length = 0
+"#;
+
+/// The types of another, one of them with bits.
+const STATES: &str = r#"version = 1
+[[frame]]
+type = 1
+name = "poll"
+length = 1
+answered = true
+[[frame]]
+type = 129
+name = "state"
+length = 2
+bits = [ { at = 9, name = "flash" }, { at = 0, name = "call1" }, { at = 7, name = "ped" } ]
+"#;
+
+/// One frame of the second.
+const STATE: &str = "10838101026e1f";
+
+const STATE_TEXT: &str = "\
+frame 10838101026e1f good
+station 16 type 129 state
+0 call1
+9 flash
+";
+
+#[test]
+fn shows(rt: HostRuntime) -> Result<(), Fail> {
+    let cases = [
+        (Some(STATES), STATE, STATE_TEXT),
+        (Some(STATES), "10838101026E1F", STATE_TEXT),
+        (
+            Some(STATES),
+            "1083810102ffff",
+            "frame 1083810102ffff bad\nstation 16 type 129 state\n0 call1\n9 flash\n",
+        ),
+        (
+            Some(STATES),
+            "10830174f4",
+            "frame 10830174f4 good\nstation 16 type 1 length\n",
+        ),
+        (
+            Some(CALLS),
+            "108300fde5",
+            "frame 108300fde5 good\nstation 16 type 0 call\n",
+        ),
+        (
+            Some(CALLS),
+            "ff83095a3b",
+            "frame ff83095a3b good\nstation 255 type 9 notice\n",
+        ),
+        (
+            Some(CALLS),
+            "1083fe0cfb",
+            "frame 1083fe0cfb good\nstation 16 type 254 unknown\n",
+        ),
+        (Some(CALLS), "1083452c", "frame 1083452c good\nuntyped\n"),
+        (None, "1013ccb8", "frame 1013ccb8 good\ncontrol 19\n"),
+        (
+            None,
+            STATE,
+            "frame 10838101026e1f good\nstation 16 type 129 unknown\n",
+        ),
+    ];
+    for (dictionary, hex, text) in cases {
+        let mut out = Vec::new(rt.alloc());
+        assert_eq!(rt; show_frame(rt.alloc(), dictionary, hex, &mut out), Ok(()));
+        assert_eq!(rt; out.as_slice(), text.as_bytes());
+    }
+    Ok(())
+}
+
+/// The digits of as many octets, each of them 0x10.
+fn digits(rt: &HostRuntime, octets: usize) -> Result<String, Fail> {
+    let mut text = String::new(rt.alloc());
+    for _octet in 0..octets {
+        text.push_str("10")?;
+    }
+    Ok(text)
+}
+
+#[test]
+fn sizes(rt: HostRuntime) -> Result<(), Fail> {
+    for (octets, want) in [
+        (1, Err(ToolFault::FrameSize)),
+        (3, Err(ToolFault::FrameSize)),
+        (4, Ok(())),
+        (258, Ok(())),
+        (259, Err(ToolFault::FrameSize)),
+        (1000, Err(ToolFault::FrameSize)),
+    ] {
+        let mut hex = digits(&rt, octets)?;
+        let mut out = Vec::new(rt.alloc());
+        assert_eq!(rt; show_frame(rt.alloc(), None, hex.as_str(), &mut out), want);
+        assert_eq!(rt; out.is_empty(), want.is_err());
+        hex.push_str("1G")?;
+        assert_eq!(rt;
+            show_frame(rt.alloc(), None, hex.as_str(), &mut out),
+            Err(ToolFault::Hex)
+        );
+    }
+    Ok(())
+}
+
+#[test]
+fn refuses(rt: HostRuntime) -> Result<(), Fail> {
+    let cases = [
+        ("version = 2", "", ToolFault::Hex),
+        ("version = 2", "10835", ToolFault::Hex),
+        ("version = 2", "10 83 00 fd e5", ToolFault::Hex),
+        ("version = 2", "108300fde:", ToolFault::Hex),
+        ("version = 2", "108345", ToolFault::FrameSize),
+        (
+            "version = 2",
+            STATE,
+            ToolFault::Dictionary(DictFault::Version),
+        ),
+        ("version", STATE, ToolFault::Dictionary(DictFault::NotToml)),
+        (
+            "version = 1",
+            STATE,
+            ToolFault::Dictionary(DictFault::NoFrames),
+        ),
+    ];
+    for (dictionary, hex, fault) in cases {
+        let mut out = Vec::new(rt.alloc());
+        assert_eq!(rt;
+            show_frame(rt.alloc(), Some(dictionary), hex, &mut out),
+            Err(fault)
+        );
+        assert!(rt; out.is_empty());
+    }
+    Ok(())
+}
+
+#[test]
+fn failing_writers(rt: HostRuntime) -> Result<(), Fail> {
+    let whole = STATE_TEXT.len();
+    for (room, takes_none, fails_flush) in [
+        (0, true, false),
+        (12, false, false),
+        (30, true, false),
+        (whole - 1, false, false),
+        (whole, false, true),
+    ] {
+        let mut writer = Narrow {
+            out: Vec::new(rt.alloc()),
+            room,
+            takes_none,
+            fails_flush,
+            flushes: 0,
+        };
+        assert_eq!(rt;
+            show_frame(rt.alloc(), Some(STATES), STATE, &mut writer),
+            Err(ToolFault::Write {
+                written: room as u128
+            })
+        );
+        assert_eq!(rt;
+            writer.out.as_slice(),
+            STATE_TEXT.as_bytes().get(..room).ok_or("cut")?
+        );
+        assert_eq!(rt; writer.flushes, u64::from(room == whole));
+    }
+    Ok(())
+}
+
+/// To be run with each request for memory refused in turn. Without a dictionary there is none.
+#[test]
+fn refused_memory(rt: HostRuntime) -> Result<(), Fail> {
+    let mut writer = Fixed {
+        out: ArrayVec::new(),
+    };
+    assert_eq!(rt;
+        show_frame(rt.alloc(), None, "1013ccb8", &mut writer),
+        Ok(())
+    );
+    writer.out.clear();
+    match show_frame(rt.alloc(), Some(CALLS), "108300fde5", &mut writer) {
+        Ok(()) => assert_eq!(rt;
+            writer.out.as_slice(),
+            "frame 108300fde5 good\nstation 16 type 0 call\n".as_bytes()
+        ),
+        Err(fault) => {
+            assert_eq!(rt; fault, ToolFault::Memory);
+            assert!(rt; writer.out.is_empty());
+        }
+    }
+    Ok(())
+}
