@@ -36,7 +36,7 @@ fn agree(alloc: Global, bits: &[bool]) -> Result<bool, Fail> {
     for piece in &reports_whole(alloc, bits, 3)? {
         reports.push(owned_told(piece))?;
     }
-    let open = open_piece(alloc, bits)?;
+    let open = open_piece(bits);
     Ok(answers::<BitCheck>(bits, &reports, open)? && answers::<OctetCheck>(bits, &reports, open)?)
 }
 
