@@ -1,17 +1,15 @@
 -- Every dictionary is a finite map, each entry within its bounds.
-use Rattle.std.proofs.Common.{◌≡◌, ◌≢◌, ℕ, ◌+◌, ◌<◌, ◌≤◌, ◌==◌, ◌||◌, ◌&&◌, not, List, [], ◌∷◌, ◌++◌, length, get_or, nat_le, zero, suc, codes, option_and_then, find, refl, sym, ◌∙◌, ap, arith, rules, Result, Ok, Err, Option, Some, None, Bool, true, false, cond, if◌then◌else◌, IsTrue, subst}
-use Rattle.std.specs.List.{list_any, All, AllPairs}
+use Rattle.std.proofs.Common.{◌≡◌, ◌≢◌, ℕ, ◌+◌, ◌<◌, ◌==◌, ◌||◌, ◌&&◌, not, List, [], ◌∷◌, ◌++◌, length, get_or, nat_le, zero, suc, codes, option_and_then, find, refl, arith, Ok, Option, Some, None, Bool, true, false, cond, if◌then◌else◌, IsTrue, subst}
+use Rattle.std.specs.List.{All, AllPairs}
 use Rattle.std.proofs.lemmas.List.Elements.{All-cons}
 use Rattle.std.proofs.lemmas.List.Quantifiers.{all_pairs_push}
-use Rattle.std.proofs.lemmas.Grind.{common_steps}
 use Rattle.std.proofs.lemmas.Bool.Decides.{nat_tests}
 use Rattle.toml.specs.Data.{Data, Items, item, no_items, get, as_bool, as_array, as_integer}
-use Rattle.bus_dictionary.specs.declared.fault.DictFault.{DictFault}
-use Rattle.bus_dictionary.specs.declared.fault.DictFault.TheVariants.{Version, NoFrames, BadType, BadName, BadLength, BadAnswered, TwiceType, NoAnswerEntry}
-use Rattle.bus_dictionary.specs.DictFault.{◌>>=◌, need}
-use Rattle.bus_dictionary.specs.BitName.{AreBits, is_name, name_at, bits_in}
+use Rattle.bus_dictionary.specs.declared.fault.DictFault.TheVariants.{Version, NoFrames, BadType, BadName, BadLength, BadAnswered, TwiceType}
+use Rattle.bus_dictionary.specs.DictFault.{need}
+use Rattle.bus_dictionary.specs.BitName.{name_at, bits_in}
 use Rattle.bus_dictionary.specs.Entry.{FrameType, type_at, size_at, if_may_be_answered, answered_in, has_type, entry_of}
-use Rattle.bus_dictionary.specs.Dictionary.{entries_of, lacks_answer, refuse_lacking, if_answered, if_some, if_one, dictionary_of}
+use Rattle.bus_dictionary.specs.Dictionary.{entries_of, lacks_answer, refuse_lacking, if_some, if_one, dictionary_of}
 use Rattle.bus_dictionary.specs.Laws.{IsFrameType, IsDictionary}
 use Rattle.bus_dictionary.proofs.BitLemmas.{then_ok, need_ok, unless_ok, name_at_ok, number_at_ok, bits_in_ok}
 
@@ -48,7 +46,7 @@ entry_of_ok n before d e h =
     let command = answered_in_ok ftype (get (codes "answered") d) answered (need_ok _ (BadAnswered n) answered is_answered) in
     let within = bits_in_ok n size (get (codes "bits") d) bits are_bits in
     subst (λ (x : FrameType). (has_type x.ftype before ≡ false) × IsFrameType x) is
-      (free, record { octet = octet; named = named; short = omega arith; command = command; bits = within })
+    (free, record { octet = octet; named = named; short = omega arith; command = command; bits = within })
 
 other : (a b : ℕ) (r : Bool) → ((a == b) || r) ≡ false → (a ≢ b) × (r ≡ false)
 other a b r h = (λ is. grind (arith, nat_tests), grind (arith, nat_tests))
@@ -73,9 +71,9 @@ entries_of_ok n before (item d ds) es r h =
     let (e, is, h1) = then_ok (entry_of n before d) _ es h in
     let (free, whole) = entry_of_ok n before d e is in
     let more : AreEntries (before ++ e ∷ []) = record {
-          map = all_pairs_push (λ (a b : FrameType). a.ftype ≢ b.ftype) before e r.map (not_there e.ftype before free);
-          each = all_push before e r.each whole
-        } in
+      map = all_pairs_push (λ (a b : FrameType). a.ftype ≢ b.ftype) before e r.map (not_there e.ftype before free);
+      each = all_push before e r.each whole;
+    } in
     entries_of_ok (n + 1) (before ++ e ∷ []) ds es more h1
 
 answer_here : (answered has : Bool) (e : FrameType) (rest : Option FrameType) → cond (answered && not has) (Some e) rest ≡ None → (IsTrue answered → IsTrue has) × (rest ≡ None)

@@ -6,5 +6,4 @@ ghost use Rattle.bus_dictionary.specs.Laws.{DictionariesAreMaps};
 /// answered has its answer's entry.
 pub fn dictionaries_are_maps()
     ensures { DictionariesAreMaps }
-{
-}
+{}
