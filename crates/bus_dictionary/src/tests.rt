@@ -4,7 +4,7 @@ use crate::{BitName, DictFault, Dictionary, Entry, Standing, set_names};
 use std::alloc::Global;
 use std::test::Fail;
 
-/// Numbers and names of this example only.
+/// Made up: no cabinet has these types.
 const CALLS: &str = "version = 1
 [[frame]]
 type = 0
@@ -21,7 +21,7 @@ name = \"notice\"
 length = 0
 ";
 
-/// Numbers and names of this example only.
+/// Made up: no cabinet has these types.
 const POLLS: &str = "version = 1
 [[frame]]
 type = 1
