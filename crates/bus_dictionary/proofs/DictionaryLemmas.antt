@@ -31,7 +31,7 @@ answered_in_ok ftype None r h marked = let no : false ≡ r = cc in cc
 answered_in_ok ftype (Some d) r h marked = answered_ok ftype (as_bool d) r h marked
 
 -- what an entry that was read is
-entry_of_ok : (n : ℕ) (before : List FrameType) (d : Data) (e : FrameType) → entry_of n before d ≡ Ok e → (has_type e.ftype before ≡ false) × IsFrameType e
+pub entry_of_ok : (n : ℕ) (before : List FrameType) (d : Data) (e : FrameType) → entry_of n before d ≡ Ok e → (has_type e.ftype before ≡ false) × IsFrameType e
 unfolding entry_of
 entry_of_ok n before d e h =
     let (ftype, is_type, h1) = then_ok (need (type_at d) (BadType n)) _ e h in
@@ -81,13 +81,13 @@ answer_here false has e rest h = (λ marked. cc, h)
 answer_here true true e rest h = (λ marked. refl, h)
 answer_here true false e rest h = cc
 
-none_lacks : (all es : List FrameType) → find (lacks_answer all) es ≡ None → All (λ e. IsTrue e.answered → IsTrue (has_type (e.ftype + 128) all)) es
+pub none_lacks : (all es : List FrameType) → find (lacks_answer all) es ≡ None → All (λ e. IsTrue e.answered → IsTrue (has_type (e.ftype + 128) all)) es
 none_lacks all [] h = λ k d less. absurd (omega arith)
 none_lacks all (e ∷ es) h =
     let (here, more) = answer_here e.answered (has_type (e.ftype + 128) all) e (find (lacks_answer all) es) h in
     All-cons (λ (x : FrameType). IsTrue x.answered → IsTrue (has_type (x.ftype + 128) all)) e es here (none_lacks all es more)
 
-refused_ok : (all : List FrameType) (o : Option FrameType) (es : List FrameType) → refuse_lacking all o ≡ Ok es → (o ≡ None) × (all ≡ es)
+pub refused_ok : (all : List FrameType) (o : Option FrameType) (es : List FrameType) → refuse_lacking all o ≡ Ok es → (o ≡ None) × (all ≡ es)
 refused_ok all None es h = (refl, cc)
 refused_ok all (Some e) es h = cc
 

@@ -1,6 +1,5 @@
 -- The fault of a document is a row that holds.
-use Rattle.std.proofs.Common.{◌≡◌, ℕ, ◌+◌, ◌*◌, ◌<◌, ◌≤◌, ◌==◌, ◌||◌, ◌&&◌, not, List, [], ◌∷◌, ◌++◌, length, zero, suc, ◌⊎◌, inl, inr, codes, option_and_then, find, refl, sym, ◌∙◌, ap, arith, rules, Result, Ok, Err, Option, Some, None, Bool, true, false, cond, if◌then◌else◌, IsTrue, subst, Contains}
-use Rattle.std.specs.List.{list_any}
+use Rattle.std.proofs.Common.{◌≡◌, ℕ, ◌+◌, ◌*◌, ◌<◌, ◌≤◌, ◌==◌, ◌||◌, ◌&&◌, not, List, [], ◌∷◌, ◌++◌, suc, ◌⊎◌, inl, inr, codes, option_and_then, find, refl, sym, ◌∙◌, ap, arith, Result, Ok, Err, Option, Some, None, Bool, true, false, cond, if◌then◌else◌, IsTrue, IsOk, ◌↔◌, subst, Contains}
 use Rattle.std.proofs.lemmas.Bool.Decides.{nat_tests}
 use Rattle.toml.specs.Data.{Data, Items, item, no_items, get, as_array, as_integer}
 use Rattle.bus_dictionary.specs.declared.fault.DictFault.{DictFault}
@@ -11,6 +10,7 @@ use Rattle.bus_dictionary.specs.Entry.{FrameType, type_at, size_at, answered_in,
 use Rattle.bus_dictionary.specs.Dictionary.{entries_of, lacks_answer, refuse_lacking, if_answered, if_some, if_one, dictionary_of}
 use Rattle.bus_dictionary.specs.FaultTable.{IsEntry, here, later, IsEntryFault, no_type, no_name, no_length, no_answered, no_bits, twice, IsFault, no_version, no_frames, in_entry, no_answer}
 use Rattle.bus_dictionary.proofs.BitLemmas.{then_ok, need_ok, unless_ok}
+use Rattle.bus_dictionary.proofs.DictionaryLemmas.{entry_of_ok, none_lacks, refused_ok}
 
 -- a failure is that of the step, or of what comes after it
 then_err : {A B : Type 0} (step : Result A DictFault) (next : A → Result B DictFault) (f : DictFault) → (step >>= next) ≡ Err f → (step ≡ Err f) ⊎ ((x : A) × (step ≡ Ok x) × (next x ≡ Err f))
@@ -177,3 +177,144 @@ fault_is_row d f h =
             ]
       ]
     ]
+
+-- each entry of a dictionary was read
+entry_good : (k : ℕ) (before : List FrameType) (ds : Items) (es : List FrameType) (n : ℕ) (e : Data) → entries_of k before ds ≡ Ok es → IsEntry k ds n e
+    → (old : List FrameType) × (x : FrameType) × (entry_of n old e ≡ Ok x)
+unfolding entries_of
+entry_good _ before _ es _ _ h (here k d ds) = let (x, is, h1) = then_ok (entry_of k before d) _ es h in (before, x, is)
+entry_good _ before _ es _ _ h (later k n c d ds more) =
+    let (x, is, h1) = then_ok (entry_of k before c) _ es h in entry_good (k + 1) (before ++ x ∷ []) ds es n d h1 more
+
+has_kept : (t : ℕ) (es : List FrameType) (e : FrameType) → has_type t es ≡ true → has_type t (es ++ e ∷ []) ≡ true
+has_kept t [] e h = cc
+has_kept t (x ∷ es) e h =
+    elim (x.ftype == t) as (λ b. (b || has_type t es) ≡ true → (b || has_type t (es ++ e ∷ [])) ≡ true) [
+      | true ↦ λ g. refl
+      | false ↦ λ g. has_kept t es e g
+    ] h
+
+has_new : (t : ℕ) (es : List FrameType) (e : FrameType) → e.ftype ≡ t → has_type t (es ++ e ∷ []) ≡ true
+has_new t [] e same = grind (arith, nat_tests)
+has_new t (x ∷ es) e same =
+    elim (x.ftype == t) as (λ b. (b || has_type t (es ++ e ∷ [])) ≡ true) [
+      | true ↦ refl
+      | false ↦ has_new t es e same
+    ]
+
+-- no entry of a dictionary has a type of those before it
+entry_new : (k t : ℕ) (before : List FrameType) (ds : Items) (es : List FrameType) (n : ℕ) (e : Data) → entries_of k before ds ≡ Ok es → has_type t before ≡ true
+    → IsEntry k ds n e → type_at e ≡ Some t → ⊥
+unfolding entries_of
+entry_new _ t before _ es _ _ h taken (here k d ds) typed =
+    let (x, is, h1) = then_ok (entry_of k before d) _ es h in
+    let same : x.ftype ≡ t = let some = sym (entry_type k before d x is) ∙ typed in cc in
+    let free = (entry_of_ok k before d x is).0 in
+    let kept = ap (λ (y : ℕ). has_type y before) same in
+    cc
+entry_new _ t before _ es _ _ h taken (later k n c d ds more) typed =
+    let (x, is, h1) = then_ok (entry_of k before c) _ es h in
+    entry_new (k + 1) t (before ++ x ∷ []) ds es n d h1 (has_kept t before x taken) more typed
+
+none_here : (k n : ℕ) (e : Data) → IsEntry k no_items n e → ⊥
+none_here k n e is = elim is [ ]
+
+-- an entry is the first, or one behind it
+behind : (k n : ℕ) (d : Data) (ds : Items) (e : Data) → IsEntry k (item d ds) n e → ((n ≡ k) × (e ≡ d)) ⊎ IsEntry (k + 1) ds n e
+behind k _ d ds _ (here _ _ _) = inl (refl, refl)
+behind k n d ds e (later _ _ _ _ _ more) = inr more
+
+twice_bad : (k t : ℕ) (before : List FrameType) (ds : Items) (es : List FrameType) (m : ℕ) (c : Data) (n : ℕ) (e : Data) → entries_of k before ds ≡ Ok es
+    → IsEntry k ds m c → type_at c ≡ Some t → m < n → IsEntry k ds n e → type_at e ≡ Some t → ⊥
+unfolding entries_of
+twice_bad k t before no_items es m c n e h is_c typed less is_e typed_e = none_here k m c is_c
+twice_bad k t before (item d ds) es m c n e h is_c typed less is_e typed_e =
+    let (x, is, h1) = then_ok (entry_of k before d) _ es h in
+    elim (behind k n d ds e is_e) [
+      | inl first ↦ elim (behind k m d ds c is_c) [
+        | inl same ↦ omega arith
+        | inr more ↦ let least = after (k + 1) ds m c more in omega arith
+      ]
+      | inr more_e ↦ elim (behind k m d ds c is_c) [
+        | inl same ↦
+            let some = sym (entry_type k before d x is) ∙ ap type_at (sym same.1) ∙ typed in
+            let is_t : x.ftype ≡ t = cc in
+            entry_new (k + 1) t (before ++ x ∷ []) ds es n e h1 (has_new t before x is_t) more_e typed_e
+        | inr more_c ↦ twice_bad (k + 1) t (before ++ x ∷ []) ds es m c n e h1 more_c typed less more_e typed_e
+      ]
+    ]
+
+entries_good : (k : ℕ) (before : List FrameType) (ds : Items) (es : List FrameType) (f : DictFault) → entries_of k before ds ≡ Ok es → IsEntryFault k ds f → ⊥
+unfolding entry_of
+entries_good k before ds es _ h (no_type n e is none) =
+    let (old, x, read) = entry_good k before ds es n e h is in
+    let (t, is_type, h1) = then_ok (need (type_at e) (BadType n)) _ x read in
+    let some = need_ok _ (BadType n) t is_type in cc
+entries_good k before ds es _ h (no_name n e is none) =
+    let (old, x, read) = entry_good k before ds es n e h is in
+    let (t, is_type, h1) = then_ok (need (type_at e) (BadType n)) _ x read in
+    let (name, is_named, h2) = then_ok (need (name_at e) (BadName n)) _ x h1 in
+    let some = need_ok _ (BadName n) name is_named in cc
+entries_good k before ds es _ h (no_length n e is none) =
+    let (old, x, read) = entry_good k before ds es n e h is in
+    let (t, is_type, h1) = then_ok (need (type_at e) (BadType n)) _ x read in
+    let (name, is_named, h2) = then_ok (need (name_at e) (BadName n)) _ x h1 in
+    let (size, is_size, h3) = then_ok (need (size_at e) (BadLength n)) _ x h2 in
+    let some = need_ok _ (BadLength n) size is_size in cc
+entries_good k before ds es _ h (no_answered n s e is typed none) =
+    let (old, x, read) = entry_good k before ds es n e h is in
+    let (t, is_type, h1) = then_ok (need (type_at e) (BadType n)) _ x read in
+    let (name, is_named, h2) = then_ok (need (name_at e) (BadName n)) _ x h1 in
+    let (size, is_size, h3) = then_ok (need (size_at e) (BadLength n)) _ x h2 in
+    let (answered, is_answered, h4) = then_ok (need (answered_in t (get (codes "answered") e)) (BadAnswered n)) _ x h3 in
+    let same : s ≡ t = let both = sym typed ∙ need_ok _ (BadType n) t is_type in cc in
+    let some = need_ok _ (BadAnswered n) answered is_answered in
+    let none_too = subst (λ (y : ℕ). answered_in y (get (codes "answered") e) ≡ None) same none in cc
+entries_good k before ds es _ h (no_bits n s e is sized none) =
+    let (old, x, read) = entry_good k before ds es n e h is in
+    let (t, is_type, h1) = then_ok (need (type_at e) (BadType n)) _ x read in
+    let (name, is_named, h2) = then_ok (need (name_at e) (BadName n)) _ x h1 in
+    let (size, is_size, h3) = then_ok (need (size_at e) (BadLength n)) _ x h2 in
+    let (answered, is_answered, h4) = then_ok (need (answered_in t (get (codes "answered") e)) (BadAnswered n)) _ x h3 in
+    let (bits, are_bits, h5) = then_ok (bits_in n size (get (codes "bits") e)) _ x h4 in
+    let same : s ≡ size = let both = sym sized ∙ need_ok _ (BadLength n) size is_size in cc in
+    let none_too = subst (λ (y : ℕ). bits_in n y (get (codes "bits") e) ≡ Err (BadBit n)) same none in cc
+entries_good k before ds es _ h (twice m n t c e less is_c is_e typed_c typed_e) = twice_bad k t before ds es m c n e h is_c typed_c less is_e typed_e
+
+dictionary_good : (d : Data) (es : List FrameType) (f : DictFault) → dictionary_of d ≡ Ok es → IsFault d f → ⊥
+unfolding dictionary_of
+dictionary_good d es _ h (no_version none) =
+    let (version, is_one, h1) = then_ok (need (option_and_then if_one (option_and_then as_integer (get (codes "version") d))) Version) _ es h in
+    let some = need_ok _ Version version is_one in cc
+dictionary_good d es _ h (no_frames none) =
+    let (version, is_one, h1) = then_ok (need (option_and_then if_one (option_and_then as_integer (get (codes "version") d))) Version) _ es h in
+    let (ds, are_frames, h2) = then_ok (need (option_and_then if_some (option_and_then as_array (get (codes "frame") d))) NoFrames) _ es h1 in
+    let some = need_ok _ NoFrames ds are_frames in cc
+dictionary_good d es _ h (in_entry ds f frames fault) =
+    let (version, is_one, h1) = then_ok (need (option_and_then if_one (option_and_then as_integer (get (codes "version") d))) Version) _ es h in
+    let (ds2, are_frames, h2) = then_ok (need (option_and_then if_some (option_and_then as_array (get (codes "frame") d))) NoFrames) _ es h1 in
+    let (all, are_all, h3) = then_ok (entries_of 1 [] ds2) _ es h2 in
+    let same : ds2 ≡ ds = let both = sym (some_frames _ ds2 (need_ok _ NoFrames ds2 are_frames)) ∙ frames in cc in
+    entries_good 1 [] ds all f (ap (entries_of 1 []) (sym same) ∙ are_all) fault
+dictionary_good d es _ h (no_answer ds read e frames are_read there marked none) =
+    let (version, is_one, h1) = then_ok (need (option_and_then if_one (option_and_then as_integer (get (codes "version") d))) Version) _ es h in
+    let (ds2, are_frames, h2) = then_ok (need (option_and_then if_some (option_and_then as_array (get (codes "frame") d))) NoFrames) _ es h1 in
+    let (all, are_all, h3) = then_ok (entries_of 1 [] ds2) _ es h2 in
+    let same : ds2 ≡ ds = let both = sym (some_frames _ ds2 (need_ok _ NoFrames ds2 are_frames)) ∙ frames in cc in
+    let same_all : all ≡ read = let both = sym are_all ∙ ap (entries_of 1 []) same ∙ are_read in cc in
+    let (found_none, is) = refused_ok all (find (lacks_answer all) all) es h3 in
+    let none_there = subst (λ (xs : List FrameType). find (lacks_answer xs) xs ≡ None) same_all found_none in
+    let answer = subst (λ (x : FrameType). IsTrue x.answered → IsTrue (has_type (x.ftype + 128) read)) there.2 (none_lacks read read none_there there.0 e there.1) in
+    let yes_there = answer marked in cc
+
+is_ok : {A : Type 0} (r : Result A DictFault) → IsOk r → (x : A) × (r ≡ Ok x)
+is_ok (Ok x) h = (x, refl)
+is_ok (Err e) h = cc
+
+ok_unless : {A : Type 0} (r : Result A DictFault) → ((f : DictFault) → r ≡ Err f → ⊥) → IsOk r
+ok_unless (Ok x) h = refl
+ok_unless (Err e) h = absurd (h e refl)
+
+pub dictionary_has_no_fault : (d : Data) → IsOk (dictionary_of d) ↔ ((f : DictFault) → IsFault d f → ⊥)
+dictionary_has_no_fault d =
+    (λ ok f fault. let (es, is) = is_ok (dictionary_of d) ok in dictionary_good d es f is fault, λ none. ok_unless (dictionary_of d) (λ f is. none f (fault_is_row d f is)))

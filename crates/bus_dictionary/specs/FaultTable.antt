@@ -1,6 +1,6 @@
 -- What can be wrong with a document, row by row.
-use Rattle.std.specs.Prelude.{◌≡◌, ℕ, ◌+◌, ◌<◌, Option, Some, None, Err, IsTrue, false, codes, option_and_then, List, [], Ok, Contains}
-use Rattle.toml.specs.Data.{Data, Items, no_items, item, as_integer, as_array, get}
+use Rattle.std.specs.Prelude.{◌≡◌, ℕ, ◌+◌, ◌<◌, Some, None, Err, IsTrue, false, codes, option_and_then, List, [], Ok, Contains, IsOk, ◌↔◌}
+use Rattle.toml.specs.Data.{Data, Items, item, as_integer, as_array, get}
 use Rattle.bus_dictionary.specs.BitName.{name_at, bits_in}
 use Rattle.bus_dictionary.specs.Entry.{FrameType, type_at, size_at, answered_in, has_type}
 use Rattle.bus_dictionary.specs.Dictionary.{if_one, if_some, entries_of, dictionary_of}
@@ -32,3 +32,7 @@ pub data IsFault (d : Data) : DictFault → Type 0 where
 -- the fault that is answered is one of these
 abbrev pub FaultsAreRows : Type 0
 FaultsAreRows = (d : Data) (f : DictFault) → dictionary_of d ≡ Err f → IsFault d f
+
+-- a document is a dictionary exactly if nothing is wrong with it
+abbrev pub DictionariesHaveNoFault : Type 0
+DictionariesHaveNoFault = (d : Data) → IsOk (dictionary_of d) ↔ ((f : DictFault) → IsFault d f → ⊥)

@@ -1,5 +1,5 @@
 //! Laws of the definitions.
-ghost use Rattle.bus_dictionary.specs.FaultTable.{FaultsAreRows};
+ghost use Rattle.bus_dictionary.specs.FaultTable.{DictionariesHaveNoFault, FaultsAreRows};
 ghost use Rattle.bus_dictionary.specs.Laws.{DictionariesAreMaps};
 
 /// What a document says, where it is a dictionary, is a finite map from types: no two entries have
@@ -13,4 +13,9 @@ pub fn dictionaries_are_maps()
 /// entry that has it.
 pub fn faults_are_rows()
     ensures { FaultsAreRows }
+{}
+
+/// A document is a dictionary exactly if nothing is wrong with it.
+pub fn dictionaries_have_no_fault()
+    ensures { DictionariesHaveNoFault }
 {}
