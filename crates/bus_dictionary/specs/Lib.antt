@@ -1,0 +1,10 @@
+pub mod DictFault
+pub mod BitName
+pub mod Entry
+pub mod EntryView
+pub mod Dictionary
+pub mod Standing
+pub mod NameWalk
+pub mod NameWalkView
+pub mod Laws
+pub mod FaultTable
