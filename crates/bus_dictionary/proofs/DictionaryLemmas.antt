@@ -1,17 +1,15 @@
 -- Every dictionary is a finite map, each entry within its bounds.
-use Rattle.std.proofs.Common.{◌≡◌, ◌≢◌, ℕ, ◌+◌, ◌<◌, ◌≤◌, ◌==◌, ◌||◌, ◌&&◌, not, List, [], ◌∷◌, ◌++◌, length, get_or, nat_le, zero, suc, codes, option_and_then, find, refl, sym, ◌∙◌, ap, arith, rules, Result, Ok, Err, Option, Some, None, Bool, true, false, cond, if◌then◌else◌, IsTrue, subst}
-use Rattle.std.specs.List.{list_any, All, AllPairs}
+use Rattle.std.proofs.Common.{◌≡◌, ◌≢◌, ℕ, ◌+◌, ◌<◌, ◌==◌, ◌||◌, ◌&&◌, not, List, [], ◌∷◌, ◌++◌, length, get_or, nat_le, zero, suc, codes, option_and_then, find, refl, arith, Ok, Option, Some, None, Bool, true, false, cond, if◌then◌else◌, IsTrue, subst}
+use Rattle.std.specs.List.{All, AllPairs}
 use Rattle.std.proofs.lemmas.List.Elements.{All-cons}
 use Rattle.std.proofs.lemmas.List.Quantifiers.{all_pairs_push}
-use Rattle.std.proofs.lemmas.Grind.{common_steps}
 use Rattle.std.proofs.lemmas.Bool.Decides.{nat_tests}
 use Rattle.toml.specs.Data.{Data, Items, item, no_items, get, as_bool, as_array, as_integer}
-use Rattle.bus_dictionary.specs.declared.fault.DictFault.{DictFault}
-use Rattle.bus_dictionary.specs.declared.fault.DictFault.TheVariants.{Version, NoFrames, BadType, BadName, BadLength, BadAnswered, TwiceType, NoAnswerEntry}
-use Rattle.bus_dictionary.specs.DictFault.{◌>>=◌, need}
-use Rattle.bus_dictionary.specs.BitName.{AreBits, is_name, name_at, bits_in}
+use Rattle.bus_dictionary.specs.declared.fault.DictFault.TheVariants.{Version, NoFrames, BadType, BadName, BadLength, BadAnswered, TwiceType}
+use Rattle.bus_dictionary.specs.DictFault.{need}
+use Rattle.bus_dictionary.specs.BitName.{name_at, bits_in}
 use Rattle.bus_dictionary.specs.Entry.{FrameType, type_at, size_at, if_may_be_answered, answered_in, has_type, entry_of}
-use Rattle.bus_dictionary.specs.Dictionary.{entries_of, lacks_answer, refuse_lacking, if_answered, if_some, if_one, dictionary_of}
+use Rattle.bus_dictionary.specs.Dictionary.{entries_of, lacks_answer, refuse_lacking, if_some, if_one, dictionary_of}
 use Rattle.bus_dictionary.specs.Laws.{IsFrameType, IsDictionary}
 use Rattle.bus_dictionary.proofs.BitLemmas.{then_ok, need_ok, unless_ok, name_at_ok, number_at_ok, bits_in_ok}
 
@@ -33,7 +31,7 @@ answered_in_ok ftype None r h marked = let no : false ≡ r = cc in cc
 answered_in_ok ftype (Some d) r h marked = answered_ok ftype (as_bool d) r h marked
 
 -- what an entry that was read is
-entry_of_ok : (n : ℕ) (before : List FrameType) (d : Data) (e : FrameType) → entry_of n before d ≡ Ok e → (has_type e.ftype before ≡ false) × IsFrameType e
+pub entry_of_ok : (n : ℕ) (before : List FrameType) (d : Data) (e : FrameType) → entry_of n before d ≡ Ok e → (has_type e.ftype before ≡ false) × IsFrameType e
 unfolding entry_of
 entry_of_ok n before d e h =
     let (ftype, is_type, h1) = then_ok (need (type_at d) (BadType n)) _ e h in
@@ -48,7 +46,7 @@ entry_of_ok n before d e h =
     let command = answered_in_ok ftype (get (codes "answered") d) answered (need_ok _ (BadAnswered n) answered is_answered) in
     let within = bits_in_ok n size (get (codes "bits") d) bits are_bits in
     subst (λ (x : FrameType). (has_type x.ftype before ≡ false) × IsFrameType x) is
-      (free, record { octet = octet; named = named; short = omega arith; command = command; bits = within })
+    (free, record { octet = octet; named = named; short = omega arith; command = command; bits = within })
 
 other : (a b : ℕ) (r : Bool) → ((a == b) || r) ≡ false → (a ≢ b) × (r ≡ false)
 other a b r h = (λ is. grind (arith, nat_tests), grind (arith, nat_tests))
@@ -73,9 +71,9 @@ entries_of_ok n before (item d ds) es r h =
     let (e, is, h1) = then_ok (entry_of n before d) _ es h in
     let (free, whole) = entry_of_ok n before d e is in
     let more : AreEntries (before ++ e ∷ []) = record {
-          map = all_pairs_push (λ (a b : FrameType). a.ftype ≢ b.ftype) before e r.map (not_there e.ftype before free);
-          each = all_push before e r.each whole
-        } in
+      map = all_pairs_push (λ (a b : FrameType). a.ftype ≢ b.ftype) before e r.map (not_there e.ftype before free);
+      each = all_push before e r.each whole;
+    } in
     entries_of_ok (n + 1) (before ++ e ∷ []) ds es more h1
 
 answer_here : (answered has : Bool) (e : FrameType) (rest : Option FrameType) → cond (answered && not has) (Some e) rest ≡ None → (IsTrue answered → IsTrue has) × (rest ≡ None)
@@ -83,13 +81,13 @@ answer_here false has e rest h = (λ marked. cc, h)
 answer_here true true e rest h = (λ marked. refl, h)
 answer_here true false e rest h = cc
 
-none_lacks : (all es : List FrameType) → find (lacks_answer all) es ≡ None → All (λ e. IsTrue e.answered → IsTrue (has_type (e.ftype + 128) all)) es
+pub none_lacks : (all es : List FrameType) → find (lacks_answer all) es ≡ None → All (λ e. IsTrue e.answered → IsTrue (has_type (e.ftype + 128) all)) es
 none_lacks all [] h = λ k d less. absurd (omega arith)
 none_lacks all (e ∷ es) h =
     let (here, more) = answer_here e.answered (has_type (e.ftype + 128) all) e (find (lacks_answer all) es) h in
     All-cons (λ (x : FrameType). IsTrue x.answered → IsTrue (has_type (x.ftype + 128) all)) e es here (none_lacks all es more)
 
-refused_ok : (all : List FrameType) (o : Option FrameType) (es : List FrameType) → refuse_lacking all o ≡ Ok es → (o ≡ None) × (all ≡ es)
+pub refused_ok : (all : List FrameType) (o : Option FrameType) (es : List FrameType) → refuse_lacking all o ≡ Ok es → (o ≡ None) × (all ≡ es)
 refused_ok all None es h = (refl, cc)
 refused_ok all (Some e) es h = cc
 

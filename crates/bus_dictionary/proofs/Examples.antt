@@ -1,4 +1,4 @@
--- Worked texts and frames, computed from the definitions. Numbers and names are of these examples only.
+-- Texts and frames, computed from the definitions. Their types and names are made up.
 use Rattle.std.specs.Prelude.{◌≡◌, ℕ, List, codes, Bool, false, true, [], ◌∷◌, ◌++◌, Ok, Err, refl}
 use Rattle.toml.proofs.OnLiterals.{toml_on_literals}
 use Rattle.bus_dictionary.specs.declared.fault.DictFault.TheVariants.{NotToml, Version, NoFrames, BadType, BadName, BadLength, BadAnswered, BadBit, TwiceType, NoAnswerEntry}

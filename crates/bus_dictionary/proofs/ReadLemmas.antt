@@ -1,5 +1,5 @@
 -- Laws of the definitions, step by step as the reader goes.
-use Rattle.std.proofs.Common.{◌≡◌, ℕ, ◌+◌, ◌<◌, ◌≤◌, ◌==◌, ◌||◌, List, [], ◌∷◌, ◌++◌, length, get_or, drop, take, map, nat_lt, zero, suc, pos, codes, option_and_then, option_map, refl, sym, ◌∙◌, ap, arith, rules, Result, Ok, Err, Option, Some, None, Bool, true, false, cond}
+use Rattle.std.proofs.Common.{◌≡◌, ℕ, ◌+◌, ◌<◌, ◌≤◌, ◌==◌, ◌||◌, List, [], ◌∷◌, ◌++◌, length, get_or, drop, map, nat_lt, suc, pos, codes, option_and_then, option_map, refl, sym, ◌∙◌, ap, arith, Result, Ok, Err, Option, Some, None, Bool, true, false}
 use Rattle.std.specs.List.{list_any, position_or_len, insert}
 use Rattle.std.proofs.lemmas.Grind.{common_steps}
 use Rattle.toml.specs.View.{view, items_view}
@@ -9,7 +9,7 @@ use Rattle.toml.specs.Data.{Data, Items, item, no_items, get, as_integer, as_arr
 use Rattle.bus_dictionary.specs.declared.fault.DictFault.{DictFault}
 use Rattle.bus_dictionary.specs.declared.fault.DictFault.TheVariants.{Memory, NotToml, Version, NoFrames, BadType, BadName, BadLength, BadAnswered, BadBit, TwiceType, NoAnswerEntry}
 use Rattle.bus_dictionary.specs.declared.bit_name.BitName.{BitName}
-use Rattle.bus_dictionary.specs.DictFault.{◌>>=◌, need, Fails}
+use Rattle.bus_dictionary.specs.DictFault.{◌>>=◌, Fails}
 use Rattle.bus_dictionary.specs.BitName.{NamedBit, named_bit, has_place, put_bit, bit_of, bits_from}
 use Rattle.bus_dictionary.specs.Entry.{FrameType, entry_of}
 use Rattle.bus_dictionary.specs.Dictionary.{entries_of, dictionary_of, if_answered, refuse_lacking}

@@ -5,7 +5,7 @@ use Rattle.toml.specs.Data.{Data, as_bool, get}
 use Rattle.bus_dictionary.specs.DictFault.{◌>>=◌, need}
 use Rattle.bus_dictionary.specs.BitName.{NamedBit, number_at, name_at, bits_in}
 use Rattle.bus_dictionary.specs.declared.fault.DictFault.{DictFault}
-use Rattle.bus_dictionary.specs.declared.fault.DictFault.TheVariants.{BadType, BadName, BadLength, BadAnswered, BadBit, TwiceType}
+use Rattle.bus_dictionary.specs.declared.fault.DictFault.TheVariants.{BadType, BadName, BadLength, BadAnswered, TwiceType}
 
 -- what a dictionary says of one frame type: its name, how many octets follow the type octet, whether a command of it is to be answered, and the names of its bits by rising place
 pub record FrameType : Type 0 where
@@ -42,4 +42,4 @@ entry_of n before d = do
   answered ← need (answered_in ftype (get (codes "answered") d)) (BadAnswered n)
   bits ← bits_in n size (get (codes "bits") d)
   if has_type ftype before then Err (TwiceType ftype) else
-    Ok (record { ftype = ftype; name = name; size = size; answered = answered; bits = bits })
+      Ok (record { ftype = ftype; name = name; size = size; answered = answered; bits = bits })

@@ -1,5 +1,5 @@
 -- What holds of every dictionary.
-use Rattle.std.specs.Prelude.{◌≡◌, ◌≢◌, ℕ, ◌+◌, ◌<◌, ◌≤◌, List, Ok, IsTrue}
+use Rattle.std.specs.Prelude.{◌≡◌, ◌≢◌, ◌+◌, ◌<◌, ◌≤◌, List, Ok, IsTrue}
 use Rattle.std.specs.List.{All, AllPairs}
 use Rattle.toml.specs.Data.{Data}
 use Rattle.bus_dictionary.specs.BitName.{AreBits, is_name}

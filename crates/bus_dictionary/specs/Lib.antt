@@ -7,3 +7,4 @@ pub mod Standing
 pub mod NameWalk
 pub mod NameWalkView
 pub mod Laws
+pub mod FaultTable

@@ -19,5 +19,5 @@ standing_of_information station (ftype ∷ after) d = standing_of_type station f
 abbrev pub standing : List ℕ → List FrameType → Standing
 standing octets d =
     if slice_index octets 1 == 0x83
-      then standing_of_information (slice_index octets 0) (slice_range octets 2 (length octets - 2)) d
-      else OtherControl (slice_index octets 0) (slice_index octets 1)
+    then standing_of_information (slice_index octets 0) (slice_range octets 2 (length octets - 2)) d
+    else OtherControl (slice_index octets 0) (slice_index octets 1)

@@ -11,6 +11,11 @@ use std::marker::Model;
 use toml::Value;
 
 /// What a user's text says of frame types.
+///
+/// The text is TOML: `version = 1`, and an array `frame` of tables, one for each type, with `type`,
+/// `name` and `length`, with `answered = true` where a command of the type is to be answered by a
+/// frame whose type is 128 higher, and with an array `bits` of tables where bits have names, each
+/// with the bit's place `at` and its `name`. All other keys are skipped.
 #[derive(Debug, Drop)]
 pub struct Dictionary {
     /// In the order of the text.
@@ -30,7 +35,7 @@ impl Dictionary {
     ghost use Rattle.bus_dictionary.specs.DictFault.{Gives};
     ghost use Rattle.bus_dictionary.specs.Dictionary.{dictionary_of_text, entry_at, longest_of};
 
-    /// Reads a TOML text.
+    /// The dictionary of a text, or its first fault.
     pub fn read(alloc: Global, text: &str) -> Result<Dictionary, DictFault>
         ensures { Gives (λ d. d) result (dictionary_of_text text.now) }
     {

@@ -6,17 +6,18 @@ use crate::dictionary::Dictionary;
 /// The control octet of the frames that carry a type.
 const CONTROL: u8 = 0x83;
 
-/// What the head of a frame says, by a dictionary: the first that fits.
+/// What the head of a frame says, by a dictionary. Where several hold, the earlier one counts.
 #[derive(Clone, Copy, Debug, PartialEq, Eq)]
 pub enum Standing {
-    /// The control octet is not 0x83.
+    /// A control octet other than 0x83: the rest is not judged.
     OtherControl { station: u8, control: u8 },
-    /// There is no information field, and so no type.
+    /// Nothing stands between control and check, so there is no type.
     Untyped { station: u8 },
     /// The dictionary has no entry for the type.
     Unknown { station: u8, ftype: u8 },
-    /// The octets after the type are not as many as the entry says.
+    /// The dictionary gives the type another length.
     WrongLength { station: u8, ftype: u8 },
+    /// A frame as the dictionary tells of it.
     Known { station: u8, ftype: u8 },
 }
 

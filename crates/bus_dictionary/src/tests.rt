@@ -1,10 +1,10 @@
 //! What no clause says: that calls succeed, worked dictionaries and frames, and the faults' texts.
 
-use crate::{BitName, DictFault, Dictionary, Standing, set_names};
+use crate::{BitName, DictFault, Dictionary, Entry, Standing, set_names};
 use std::alloc::Global;
 use std::test::Fail;
 
-/// Numbers and names of this example only.
+/// Made up: no cabinet has these types.
 const CALLS: &str = "version = 1
 [[frame]]
 type = 0
@@ -21,7 +21,7 @@ name = \"notice\"
 length = 0
 ";
 
-/// Numbers and names of this example only.
+/// Made up: no cabinet has these types.
 const POLLS: &str = "version = 1
 [[frame]]
 type = 1
@@ -100,7 +100,10 @@ fn refuses_by_the_first_fault(rt: HostRuntime) -> Result<(), Fail> {
             DictFault::BadName(1),
         ),
         ("type = 1\nname = 'x'", DictFault::BadLength(1)),
-        ("type = 1\nname = 'x'\nlength = 254", DictFault::BadLength(1)),
+        (
+            "type = 1\nname = 'x'\nlength = 254",
+            DictFault::BadLength(1),
+        ),
         (
             "type = 1\nname = 'x'\nlength = 1\nanswered = 1",
             DictFault::BadAnswered(1),
@@ -181,7 +184,9 @@ fn refuses(alloc: Global, text: &str, want: DictFault) -> Result<(), Fail> {
 fn reads_the_edges(rt: HostRuntime) -> Result<(), Fail> {
     let longest = entry_text(
         rt.alloc(),
-        format!(in rt.alloc(); "type = 255\nname = '{FORTY}'\nlength = 253\nbits = [ {{ at = 2023, name = '~' }} ]")?.as_str(),
+        format!(in rt.alloc();
+            "type = 255\nname = '{FORTY}'\nlength = 253\nbits = [ {{ at = 2023, name = '~' }} ]"
+        )?.as_str(),
     )?;
     let dictionary = Dictionary::read(rt.alloc(), longest.as_str())?;
     let entry = dictionary.entry(255).ok_or("no entry")?;
@@ -189,7 +194,9 @@ fn reads_the_edges(rt: HostRuntime) -> Result<(), Fail> {
     assert_eq!(rt; dictionary.longest(), 256);
     let mut all = String::from_str(rt.alloc(), "version = 1\n")?;
     for ftype in 0..256u32 {
-        let entry = format!(in rt.alloc(); "[[frame]]\ntype = {ftype}\nname = 'n{ftype}'\nlength = 0\n")?;
+        let entry = format!(in rt.alloc();
+            "[[frame]]\ntype = {ftype}\nname = 'n{ftype}'\nlength = 0\n"
+        )?;
         all.push_str(entry.as_str())?;
     }
     let dictionary = Dictionary::read(rt.alloc(), all.as_str())?;
@@ -202,32 +209,29 @@ fn reads_the_edges(rt: HostRuntime) -> Result<(), Fail> {
 fn walks_the_names(rt: HostRuntime) -> Result<(), Fail> {
     let dictionary = Dictionary::read(rt.alloc(), POLLS)?;
     let state = dictionary.entry(129).ok_or("no entry")?;
-    let none: [(u16, &str); 0] = [];
-    walks(state, &[0x00, 0x00], &none)?;
-    walks(state, &[0x01, 0x02], &[(0, "call1"), (9, "flash")])?;
-    walks(state, &[0xFE, 0xFD], &[(7, "ped")])?;
-    walks(state, &[0xFF, 0xFF], &[(0, "call1"), (7, "ped"), (9, "flash")])
+    for (rest, want) in [
+        ([0x00u8, 0x00], ""),
+        ([0x01, 0x02], "0 call1\n9 flash\n"),
+        ([0xFE, 0xFD], "7 ped\n"),
+        ([0xFF, 0xFF], "0 call1\n7 ped\n9 flash\n"),
+    ] {
+        let names = names_text(rt.alloc(), state, &rest)?;
+        assert_eq!(rt; names.as_str(), want);
+    }
+    Ok(())
 }
 
-fn walks(entry: &crate::Entry, rest: &[u8], want: &[(u16, &str)]) -> Result<(), Fail> {
+/// A line for each name whose bit is 1.
+fn names_text<'a>(alloc: Global, entry: &'a Entry, rest: &'a [u8]) -> Result<String, Fail> {
+    let mut text = String::new(alloc);
     if rest.len() != entry.length() {
-        return Err(Fail::new("octets of another length"));
+        return Ok(text);
     }
-    let mut left = want;
     for BitName { at, name } in set_names(entry, rest) {
-        let Some((first, others)) = left.split_first() else {
-            return Err(Fail::new("a name too many"));
-        };
-        if first.0 != at || first.1 != name.as_str() {
-            return Err(Fail::new("another name"));
-        }
-        left = others;
+        let line = format!(in alloc; "{at} {name}\n")?;
+        text.push_str(line.as_str())?;
     }
-    if left.is_empty() {
-        Ok(())
-    } else {
-        Err(Fail::new("a name is missing"))
-    }
+    Ok(text)
 }
 
 #[test]
@@ -236,14 +240,54 @@ fn tells_the_standing(rt: HostRuntime) -> Result<(), Fail> {
     let polls = Dictionary::read(rt.alloc(), POLLS)?;
     let station = 0x10;
     for (dictionary, octets, want) in [
-        (&calls, &[0x10u8, 0x83, 0x45, 0x2C][..], Standing::Untyped { station }),
-        (&calls, &[0x10, 0x13, 0xCC, 0xB8], Standing::OtherControl { station, control: 19 }),
-        (&polls, &[0x10, 0x83, 0x01, 0x74, 0xF4], Standing::WrongLength { station, ftype: 1 }),
-        (&calls, &[0x10, 0x83, 0xFE, 0x0C, 0xFB], Standing::Unknown { station, ftype: 254 }),
-        (&calls, &[0xFF, 0x83, 0x09, 0x5A, 0x3B], Standing::Known { station: 255, ftype: 9 }),
-        (&calls, &[0xFF, 0x83, 0x00, 0x9B, 0xA6], Standing::Known { station: 255, ftype: 0 }),
+        (
+            &calls,
+            &[0x10u8, 0x83, 0x45, 0x2C][..],
+            Standing::Untyped { station },
+        ),
+        (
+            &calls,
+            &[0x10, 0x13, 0xCC, 0xB8],
+            Standing::OtherControl {
+                station,
+                control: 19,
+            },
+        ),
+        (
+            &polls,
+            &[0x10, 0x83, 0x01, 0x74, 0xF4],
+            Standing::WrongLength { station, ftype: 1 },
+        ),
+        (
+            &calls,
+            &[0x10, 0x83, 0xFE, 0x0C, 0xFB],
+            Standing::Unknown {
+                station,
+                ftype: 254,
+            },
+        ),
+        (
+            &calls,
+            &[0xFF, 0x83, 0x09, 0x5A, 0x3B],
+            Standing::Known {
+                station: 255,
+                ftype: 9,
+            },
+        ),
+        (
+            &calls,
+            &[0xFF, 0x83, 0x00, 0x9B, 0xA6],
+            Standing::Known {
+                station: 255,
+                ftype: 0,
+            },
+        ),
     ] {
-        let read = if octets.len() >= 4 { Some(Standing::read(octets, dictionary)) } else { None };
+        let read = if octets.len() >= 4 {
+            Some(Standing::read(octets, dictionary))
+        } else {
+            None
+        };
         assert_eq!(rt; read, Some(want));
     }
     Ok(())
@@ -259,10 +303,16 @@ fn prints_the_faults(rt: HostRuntime) -> Result<(), Fail> {
         (DictFault::BadType(1), "dictionary: frame 1: bad type"),
         (DictFault::BadName(2), "dictionary: frame 2: bad name"),
         (DictFault::BadLength(3), "dictionary: frame 3: bad length"),
-        (DictFault::BadAnswered(10), "dictionary: frame 10: bad answered"),
+        (
+            DictFault::BadAnswered(10),
+            "dictionary: frame 10: bad answered",
+        ),
         (DictFault::BadBit(256), "dictionary: frame 256: bad bit"),
         (DictFault::TwiceType(9), "dictionary: type 9 twice"),
-        (DictFault::NoAnswerEntry(0), "dictionary: type 0 has no answer entry"),
+        (
+            DictFault::NoAnswerEntry(0),
+            "dictionary: type 0 has no answer entry",
+        ),
     ] {
         assert_eq!(rt; format!(in rt.alloc(); "{fault}")?.as_str(), want);
     }

@@ -15,7 +15,9 @@ use toml::Value;
 pub fn has_type(entries: &[Entry], ftype: u16) -> bool
     ensures { result ≡ has_type ftype entries.now }
 {
-    entries.iter().any(|entry| u16::from(entry.ftype()) == ftype)
+    entries
+        .iter()
+        .any(|entry| u16::from(entry.ftype()) == ftype)
 }
 
 /// Entry n, behind those before it.

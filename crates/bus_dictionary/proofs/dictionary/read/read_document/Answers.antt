@@ -1,10 +1,10 @@
-use Rattle.std.proofs.Common.{◌≡◌, ◌<◌, List, [], length, rules, Some, None, pos, codes, option_and_then, option_map, find, Ok, Err, Result, sym, ◌∙◌, ap, subst}
+use Rattle.std.proofs.Common.{◌≡◌, ◌<◌, List, [], length, rules, Some, None, pos, codes, option_and_then, option_map, find, Ok, Result, sym, ◌∙◌, ap, subst}
 use Rattle.toml.specs.View.{view, items_view}
 use Rattle.toml.specs.Data.{get, as_integer, as_array}
 use Rattle.bus_dictionary.specs.declared.fault.DictFault.{DictFault}
 use Rattle.bus_dictionary.specs.DictFault.{◌>>=◌, Fails}
 use Rattle.bus_dictionary.specs.Entry.{FrameType}
-use Rattle.bus_dictionary.specs.Dictionary.{dictionary_of, entries_of, lacks_answer, if_answered}
+use Rattle.bus_dictionary.specs.Dictionary.{entries_of, lacks_answer, if_answered}
 use Rattle.bus_dictionary.proofs.ReadLemmas.{dictionary_entries, fails_then, refuse_some, refuse_none}
 use Rattle.bus_dictionary.proofs.dictionary.read.read_document.Goals as goal
 

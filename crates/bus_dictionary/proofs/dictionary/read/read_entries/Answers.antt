@@ -22,15 +22,15 @@ pub loop-value-preserved : goal.loop-value-preserved
 loop-value-preserved c = record {
   number = search rules;
   rest =
-    let n = c.loop-value.n in
-    let before = c.loop-value.entries.items in
-    let more = items_view (drop (c.loop-value.value-index + 1) c.args.frames.now) in
-    let values = values_from c.args.frames.now c.loop-value.value-index c.value-item.result (search rules) c.value-item.is in
-    let read : entry_of n before (view c.value-item.result) ≡ Ok c.in-Ok.entry = search rules in
-    let grown : c.push.new.self.items ≡ before ++ c.in-Ok.entry ∷ [] = search rules in
-    ap (λ (es : List FrameType). entries_of (n + 1) es more) grown
+      let n = c.loop-value.n in
+      let before = c.loop-value.entries.items in
+      let more = items_view (drop (c.loop-value.value-index + 1) c.args.frames.now) in
+      let values = values_from c.args.frames.now c.loop-value.value-index c.value-item.result (search rules) c.value-item.is in
+      let read : entry_of n before (view c.value-item.result) ≡ Ok c.in-Ok.entry = search rules in
+      let grown : c.push.new.self.items ≡ before ++ c.in-Ok.entry ∷ [] = search rules in
+      ap (λ (es : List FrameType). entries_of (n + 1) es more) grown
       ∙ ap (λ (r : Result FrameType DictFault). r >>= λ e. entries_of (n + 1) (before ++ e ∷ []) more) (sym read)
-      ∙ sym (entries_step n before (view c.value-item.result) more) ∙ ap (entries_of n before) (sym values) ∙ c.loop-value.invariant.rest
+      ∙ sym (entries_step n before (view c.value-item.result) more) ∙ ap (entries_of n before) (sym values) ∙ c.loop-value.invariant.rest;
 }
 
 pub returns : goal.returns

@@ -6,5 +6,5 @@ use Rattle.bus_dictionary.proofs.dictionary.read.read_entries.Given as goal
 abbrev pub invariant-loop-value : goal.invariant-loop-value
 invariant-loop-value l = record {
   number : l.n ≡ l.value-index + 1;
-  rest : entries_of l.n l.entries.items (items_view (drop l.value-index l.frames)) ≡ entries_of 1 [] (items_view l.frames)
+  rest : entries_of l.n l.entries.items (items_view (drop l.value-index l.frames)) ≡ entries_of 1 [] (items_view l.frames);
 }
