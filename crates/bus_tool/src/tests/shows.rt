@@ -199,10 +199,10 @@ fn refused_memory(rt: HostRuntime) -> Result<(), Fail> {
         Ok(())
     );
     writer.out.clear();
-    match show_frame(rt.alloc(), Some(CALLS), "108300fde5", &mut writer) {
+    match show_frame(rt.alloc(), Some(STATES), "10830174f4", &mut writer) {
         Ok(()) => assert_eq!(rt;
             writer.out.as_slice(),
-            "frame 108300fde5 good\nstation 16 type 0 call\n".as_bytes()
+            "frame 10830174f4 good\nstation 16 type 1 length\n".as_bytes()
         ),
         Err(fault) => {
             assert_eq!(rt; fault, ToolFault::Memory);
