@@ -1,11 +1,11 @@
 -- The line of the report that a bit decides.
-use Rattle.std.proofs.Common.{◌≡◌, ℕ, ◌+◌, ◌≤◌, ◌<◌, Bool, List, [], ◌∷◌, ◌++◌, length, take, Option, Some, None, refl, sym, ap, ◌∙◌, subst, arith, zero-add}
+use Rattle.std.proofs.Common.{◌≡◌, ℕ, ◌+◌, Bool, List, [], ◌∷◌, ◌++◌, length, take, Option, Some, None, refl, sym, ap, ◌∙◌, subst, zero-add}
 use Rattle.std.specs.Option.{option_map, option_to_list}
 use Rattle.std.specs.Io.KnownBytes.{Appends}
 use Rattle.std.proofs.lemmas.List.{append-nil}
 use Rattle.bus_line.specs.Report.{Report}
 use Rattle.bus_line.specs.Due.{due_at}
-use Rattle.bus_line.specs.After.{report_of, shown}
+use Rattle.bus_line.specs.After.{report_of}
 use Rattle.bus_line.specs.Report.{moved}
 use Rattle.bus_line.specs.declared.piece.Piece.{Piece}
 use Rattle.bus_tool.specs.Listing.{line_of, listing, due_text}

@@ -1,7 +1,7 @@
 -- From the reading of a capture to its listing.
-use Rattle.std.proofs.Common.{◌≡◌, ℕ, ◌+◌, ◌<◌, ◌≤◌, Bool, false, List, [], ◌∷◌, ◌++◌, length, map, get_or, take, drop, Option, Result, Ok, Err, refl, sym, ap, subst, ◌∙◌, arith, length-append}
+use Rattle.std.proofs.Common.{◌≡◌, ℕ, ◌+◌, ◌<◌, ◌≤◌, Bool, false, List, [], ◌∷◌, ◌++◌, length, get_or, take, drop, Option, Result, Ok, Err, refl, sym, ap, subst, ◌∙◌, arith}
 use Rattle.std.specs.Io.KnownBytes.{Appends}
-use Rattle.std.proofs.lemmas.List.{append-nil, map_more, map-append, take-append-drop}
+use Rattle.std.proofs.lemmas.List.{take-append-drop}
 use Rattle.std.proofs.lemmas.Grind.{flat_map-append, common_steps}
 use Rattle.std.specs.Option.{option_to_list}
 use Rattle.bus_line.specs.Laws.{OneMore, ReportsGrow}
@@ -12,7 +12,6 @@ use Rattle.bus_tool.specs.Gather.{Ends}
 use Rattle.bus_tool.specs.Run.{Lists}
 use Rattle.bus_tool.specs.declared.fault.ToolFault.{ToolFault}
 use Rattle.bus_tool.specs.declared.fault.ToolFault.TheVariants.{Memory, BadMark, PlaceLimit, Read, ReadsLimit, Write, Dictionary, Hex, FrameSize}
-use Rattle.bus_tool.proofs.Bytes.{appends_both, part_out}
 
 -- ---- lines
 

@@ -1,9 +1,9 @@
 -- The parts of what is shown of a frame.
-use Rattle.std.proofs.Common.{◌≡◌, ◌≢◌, ◌↔◌, ◌⊎◌, inl, inr, ℕ, ◌+◌, ◌-◌, ◌*◌, ◌/◌, ◌%◌, ◌≤◌, ◌<◌, ◌==◌, ◌&&◌, Bool, true, false, IsTrue, List, [], ◌∷◌, ◌++◌, length, map, take, drop, slice_range, nat_le, Option, Some, None, append_assoc, zero, suc, get_or, slice_index, codes, if◌then◌else◌, Result, Ok, Err, MatchResult, refl, sym, ap, ◌∙◌, subst, arith, length-append}
+use Rattle.std.proofs.Common.{◌≡◌, ◌≢◌, ◌↔◌, ◌⊎◌, inl, inr, ℕ, ◌+◌, ◌-◌, ◌*◌, ◌/◌, ◌%◌, ◌≤◌, ◌<◌, ◌==◌, Bool, true, false, IsTrue, List, [], ◌∷◌, ◌++◌, length, take, drop, slice_range, nat_le, Option, Some, None, append_assoc, zero, suc, get_or, slice_index, codes, if◌then◌else◌, Result, Ok, Err, MatchResult, refl, sym, ap, ◌∙◌, subst, arith, length-append}
 use Rattle.std.proofs.lemmas.Grind.{common_steps, flat_map-append}
 use Rattle.std.proofs.lemmas.List.{append-nil, take-append-le}
 use Rattle.std.specs.Io.KnownBytes.{Appends}
-use Rattle.std.specs.List.{AllPass, flat_map, AllPairs, All}
+use Rattle.std.specs.List.{AllPass, flat_map, AllPairs}
 use Rattle.hex.specs.Hex.{decode_of, decode_sized, is_hex_digit}
 use Rattle.hex.specs.declared.error.FromHexError.{FromHexError}
 use Rattle.hex.proofs.HexLemmas.{decode_of-ok, decode_of-digits, decode_sized-twice}
@@ -21,7 +21,7 @@ use Rattle.bus_dictionary.specs.declared.standing.Standing.{Standing}
 use Rattle.bus_dictionary.specs.declared.standing.Standing.TheVariants.{OtherControl, Untyped, Unknown, WrongLength, Known}
 use Rattle.bus_tool.specs.declared.text.put.Cut.{Cut}
 use Rattle.bus_tool.specs.Put.{Puts}
-use Rattle.bus_tool.specs.Show.{typed_frame, if_frame, if_decoded, name_text, frame_text, bits_text, names_text, shown_text, given_dictionary, Shows}
+use Rattle.bus_tool.specs.Show.{typed_frame, if_frame, if_decoded, name_text, frame_text, names_text, shown_text, given_dictionary, Shows}
 use Rattle.bus_tool.specs.HeadText.{head_text}
 use Rattle.bus_tool.specs.declared.fault.ToolFault.{ToolFault}
 use Rattle.bus_tool.specs.declared.fault.ToolFault.TheVariants.{Hex, FrameSize}

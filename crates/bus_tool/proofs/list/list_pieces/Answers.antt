@@ -1,4 +1,4 @@
-use Rattle.std.proofs.Common.{rules, ◌≡◌, true, Err, ℕ, List, ap, subst, length, take, ◌≤◌}
+use Rattle.std.proofs.Common.{◌≡◌, true, Err, List, subst, length, take, ◌≤◌}
 use Rattle.std.specs.Io.KnownBytes.{Appends}
 use Rattle.bus_line.specs.Due.{reports}
 use Rattle.bus_tool.specs.Listing.{listing}

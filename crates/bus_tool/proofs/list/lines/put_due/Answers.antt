@@ -1,4 +1,4 @@
-use Rattle.std.proofs.Common.{◌≡◌, ℕ, List, length, rules, sym, ap, ◌∙◌, arith, refl}
+use Rattle.std.proofs.Common.{◌≡◌, length, rules, sym, ap, ◌∙◌, arith, refl}
 use Rattle.bus_tool.proofs.Bytes.{appends_nothing}
 use Rattle.bus_tool.proofs.LineLemmas.{due-line, due-nothing, line-out, line-part}
 use Rattle.bus_tool.specs.Listing.{line_of}

@@ -1,4 +1,4 @@
-use Rattle.std.proofs.Common.{◌≡◌, ℕ, ◌+◌, ◌*◌, Bool, false, List, [], ◌∷◌, ◌++◌, length, take, drop, get_or, sym, ap, ◌∙◌, subst, arith, length-append}
+use Rattle.std.proofs.Common.{ℕ, ◌+◌, false, List, ◌++◌, length, take, get_or, sym, ap, ◌∙◌, subst, arith, length-append}
 use Rattle.std.specs.Io.KnownBytes.{Appends}
 use Rattle.bus_line.specs.Due.{reports}
 use Rattle.bus_line.specs.After.{After}

@@ -1,4 +1,4 @@
-use Rattle.std.proofs.Common.{◌≡◌, ℕ, List, [], ◌++◌, codes, Err, refl, subst}
+use Rattle.std.proofs.Common.{ℕ, List, [], ◌++◌, codes, Err, refl, subst}
 use Rattle.bus_tool.specs.Put.{Puts}
 use Rattle.bus_tool.specs.Show.{frame_text}
 use Rattle.bus_tool.specs.HeadText.{head_text}

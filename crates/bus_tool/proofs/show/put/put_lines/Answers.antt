@@ -1,12 +1,10 @@
-use Rattle.std.proofs.Common.{◌≡◌, ℕ, ◌-◌, ◌*◌, ◌≤◌, List, [], ◌++◌, length, take, drop, codes, Ok, Err, Some, refl, sym, ap, ◌∙◌, subst, arith}
+use Rattle.std.proofs.Common.{◌≡◌, ℕ, ◌-◌, ◌≤◌, List, ◌++◌, length, take, drop, codes, Ok, Err, sym, ap, ◌∙◌, subst, arith}
 use Rattle.std.proofs.lemmas.Grind.{common_steps}
 use Rattle.std.specs.List.{flat_map}
-use Rattle.bus_dictionary.specs.Dictionary.{entry_at}
 use Rattle.bus_dictionary.specs.Standing.{standing}
 use Rattle.bus_dictionary.specs.declared.standing.Standing.{Standing}
-use Rattle.bus_dictionary.specs.declared.standing.Standing.TheVariants.{Known}
 use Rattle.bus_tool.specs.Put.{Puts}
-use Rattle.bus_tool.specs.Show.{frame_text, shown_text, names_text, name_text, bits_text}
+use Rattle.bus_tool.specs.Show.{frame_text, names_text, name_text, bits_text}
 use Rattle.bus_tool.specs.HeadText.{head_text}
 use Rattle.bus_tool.proofs.ShowLemmas.{cut_more, names_few, known_size, shown_front, shown_alone, no_names}
 use Rattle.bus_tool.proofs.show.put.put_lines.Goals as goal
