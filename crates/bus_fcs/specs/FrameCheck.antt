@@ -1,5 +1,5 @@
 -- The frame check (ISO/IEC 13239, 16-bit frame checking sequence).
-use Rattle.std.specs.Prelude.{◌≡◌, ℕ, ◌-◌, Bool, true, false, not, List, ◌++◌, length, map, replicate, take, drop}
+use Rattle.std.specs.Prelude.{◌≡◌, ◌-◌, Bool, true, false, not, List, ◌++◌, length, map, replicate, take, drop}
 use Rattle.std.specs.List.{list_all}
 use Rattle.bus_fcs.specs.Division.{add, remainder}
 

@@ -1,19 +1,18 @@
 -- What a piece between two flags is, by what a decoder holds.
-use Rattle.std.proofs.Common.{◌≡◌, ◌≢◌, ℕ, zero, suc, ◌+◌, ◌-◌, ◌*◌, ◌/◌, ◌%◌, ◌^◌, ◌≤◌, ◌<◌, ◌==◌, Bool, true, false, not, ◌&&◌, cond, List, [], ◌∷◌, ◌++◌, length, take, drop, get_or, Option, Some, None, refl, sym, ap, ◌∙◌, subst, arith, if◌then◌else◌}
+use Rattle.std.proofs.Common.{◌≡◌, ◌≢◌, ℕ, suc, ◌+◌, ◌-◌, ◌*◌, ◌/◌, ◌%◌, ◌≤◌, ◌<◌, ◌==◌, Bool, true, false, List, [], ◌∷◌, ◌++◌, length, take, get_or, refl, sym, ap, ◌∙◌, subst, arith, if◌then◌else◌}
 use Rattle.std.specs.List.{slice_range}
-use Rattle.std.specs.Prelude.{nat_le, nat_lt, IsTrue, ◌↔◌}
+use Rattle.std.specs.Prelude.{nat_lt, IsTrue, ◌↔◌}
 use Rattle.std.proofs.Math.Seq.{take-add}
 use Rattle.std.proofs.lemmas.List.{length_push, take_all}
 use Rattle.std.proofs.lemmas.Bool.{false_from_ne_true, eqb-true}
 use Rattle.std.proofs.lemmas.Bool.Decides.{nat_tests}
 use Rattle.bus_bits.specs.Octet.{octets, bits_of_octets}
 use Rattle.bus_fcs.specs.FrameCheck.{Good, is_good}
-use Rattle.bus_line.specs.Spelling.{unspelled}
 use Rattle.bus_line.specs.Run.{ones_after, ones_at_end, data_so_far}
 use Rattle.bus_line.specs.Mark.{flag, IsFlag}
-use Rattle.bus_line.specs.Report.{Kind, Frame, Damaged, Overlong, class_of_data}
+use Rattle.bus_line.specs.Report.{Frame, Damaged, Overlong, class_of_data}
 use Rattle.bus_line.specs.declared.cause.Cause.TheVariants.{Unstuffed, Short, Unaligned, Fcs}
-use Rattle.bus_line.specs.Due.{Mark, FlagAt, current, class_of, class_of_read}
+use Rattle.bus_line.specs.Due.{FlagAt, current, class_of, class_of_read}
 use Rattle.bus_line.specs.LineState.{LineState}
 use Rattle.bus_line.specs.After.{settled_data, Holds, HoldsFor, Tracks}
 use Rattle.bus_line.proofs.RunLemmas.{IsLow, low-from, low-unspelled, ones_after-more}

@@ -1,18 +1,13 @@
 -- What the bit after six ones or fourteen decides.
-use Rattle.std.proofs.Common.{◌≡◌, ◌≢◌, ℕ, zero, suc, ◌+◌, ◌-◌, ◌*◌, ◌/◌, ◌%◌, ◌^◌, ◌≤◌, ◌<◌, ◌==◌, Bool, true, false, not, ◌&&◌, cond, List, [], ◌∷◌, ◌++◌, length, take, drop, reverse, get_or, Option, Some, None, refl, sym, ap, ◌∙◌, subst, arith, length-append, if◌then◌else◌, inl, inr, ◌⊎◌}
+use Rattle.std.proofs.Common.{◌≡◌, ◌≢◌, ℕ, suc, ◌+◌, ◌-◌, ◌%◌, ◌≤◌, Bool, true, false, List, [], ◌∷◌, ◌++◌, length, Option, Some, None, refl, sym, ap, ◌∙◌, arith}
 use Rattle.std.specs.List.{slice_range}
-use Rattle.std.specs.Option.{option_map}
-use Rattle.std.specs.Prelude.{nat_le, nat_lt}
-use Rattle.std.proofs.lemmas.List.{length_push}
-use Rattle.bus_line.specs.Run.{ones_after, ones_at_end, data_so_far}
-use Rattle.bus_line.specs.Report.{Report, Kind, Abort, Idle}
-use Rattle.bus_line.specs.Due.{Mark, NoMark, FlagAt, AbortAt, current, class_of, piece_report, due_at}
+use Rattle.bus_line.specs.Run.{ones_after, ones_at_end}
+use Rattle.bus_line.specs.Report.{Abort, Idle}
+use Rattle.bus_line.specs.Due.{Mark, FlagAt, AbortAt, current, class_of, piece_report, due_at}
 use Rattle.bus_line.specs.Look.{IsFound}
-use Rattle.bus_line.specs.declared.decoder.look.Found.{Found}
 use Rattle.bus_line.specs.declared.decoder.look.Found.TheVariants.{Closing, Seven, Fifteen, Other}
 use Rattle.bus_line.specs.LineState.{LineState}
-use Rattle.bus_line.specs.After.{first_of, settled_data, Holds, HoldsFor, Counts, Stands, Tracks, After, event_shown}
-use Rattle.bus_line.specs.Report.{moved}
+use Rattle.bus_line.specs.After.{settled_data, Tracks, event_shown}
 use Rattle.bus_line.specs.declared.decoder.event.Event.{Event}
 use Rattle.bus_line.specs.declared.decoder.event.Event.TheVariants as event
 use Rattle.bus_line.proofs.Stream.{Decides}

@@ -1,10 +1,10 @@
 -- The reports of lists that were worked out by hand, computed from the definitions alone: the longest frame has three octets.
-use Rattle.std.proofs.Common.{◌≡◌, List, Bool, [], ◌∷◌, Some, None, codes, refl}
+use Rattle.std.proofs.Common.{◌≡◌, [], ◌∷◌, Some, None, codes, refl}
 use Rattle.bus_bits.specs.Octet.{number, octets}
 use Rattle.bus_bits.specs.Capture.{text_bits}
 use Rattle.bus_fcs.specs.Division.{add, step, divided, remainder}
 use Rattle.bus_fcs.specs.FrameCheck.{ends_inverted, is_good}
-use Rattle.bus_line.specs.Report.{Report, Frame, Damaged, Overlong, Abort, Idle}
+use Rattle.bus_line.specs.Report.{Frame, Damaged, Overlong, Abort, Idle}
 use Rattle.bus_line.specs.declared.cause.Cause.TheVariants.{Unstuffed, Short, Unaligned, Fcs}
 use Rattle.bus_line.specs.Due.{reports, begun}
 

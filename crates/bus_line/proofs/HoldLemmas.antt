@@ -1,8 +1,8 @@
 -- Data bits as octets, one bit more.
-use Rattle.std.proofs.Common.{◌≡◌, ◌≢◌, ℕ, zero, suc, ◌+◌, ◌-◌, ◌*◌, ◌/◌, ◌%◌, ◌≤◌, ◌<◌, ◌==◌, Bool, true, false, not, ◌&&◌, cond, List, [], ◌∷◌, ◌++◌, length, take, drop, refl, sym, ap, ◌∙◌, subst, arith, length-append, if◌then◌else◌}
+use Rattle.std.proofs.Common.{◌≡◌, ◌≢◌, ℕ, zero, suc, ◌+◌, ◌-◌, ◌*◌, ◌/◌, ◌%◌, ◌≤◌, ◌<◌, Bool, true, false, cond, List, [], ◌∷◌, ◌++◌, length, take, drop, refl, sym, ap, ◌∙◌, subst, arith, length-append, if◌then◌else◌}
 use Rattle.std.proofs.lemmas.List.{append_assoc, append-nil, length-take, length-drop, take-append-drop, take_all, take-append-le}
 use Rattle.bus_bits.specs.Octet.{number, octets}
-use Rattle.bus_bits.proofs.OctetLemmas.{number-cons, octets-append, octets-cons, octets-push}
+use Rattle.bus_bits.proofs.OctetLemmas.{octets-append, octets-cons, octets-push}
 use Rattle.bus_line.specs.After.{shifted_in}
 use Rattle.bus_line.proofs.WholeLemmas.{octets-short}
 

@@ -1,28 +1,26 @@
 -- The octets of all frames were stored.
-use Rattle.std.proofs.Common.{◌≡◌, ◌≢◌, ℕ, zero, suc, ◌+◌, ◌-◌, ◌*◌, ◌/◌, ◌%◌, ◌≤◌, ◌<◌, ◌==◌, min, Bool, true, false, not, ◌&&◌, List, [], ◌∷◌, ◌++◌, length, take, get_or, Option, Some, None, refl, sym, ap, ◌∙◌, subst, arith, inl, inr, ◌⊎◌, if◌then◌else◌}
+use Rattle.std.proofs.Common.{◌≡◌, ℕ, zero, suc, ◌+◌, ◌-◌, ◌*◌, ◌/◌, ◌%◌, ◌≤◌, ◌<◌, ◌==◌, Bool, true, false, not, ◌&&◌, List, [], ◌∷◌, ◌++◌, length, take, get_or, Option, Some, None, refl, sym, ap, ◌∙◌, subst, arith, inl, inr, ◌⊎◌, if◌then◌else◌}
 use Rattle.std.specs.List.{slice_range, count_by, sum_by}
 use Rattle.std.specs.Option.{option_to_list}
 use Rattle.std.specs.Prelude.{nat_le, nat_lt}
 use Rattle.std.proofs.lemmas.List.{length_push, take_all}
-use Rattle.std.proofs.lemmas.Bool.{cases_lt, cases_eq, cases_Bool, leb-true, le-leb, lt-leb, and_left, and_from, and_right, eq-eqb, eqb-true, ltb-true}
-use Rattle.std.proofs.lemmas.Option.{cond_some}
+use Rattle.std.proofs.lemmas.Bool.{cases_lt, cases_eq, cases_Bool, le-leb, lt-leb, and_left, and_from, eq-eqb, eqb-true, ltb-true}
 use Rattle.std.proofs.lemmas.List.Sums.{sum_by-append}
 use Rattle.bus_bits.specs.Octet.{octets}
 use Rattle.bus_line.specs.Spelling.{unspelled}
 use Rattle.bus_line.specs.Run.{ones_at_end, data_so_far}
-use Rattle.bus_line.specs.Report.{Report, Kind, Frame, Damaged, Overlong, Abort, Idle, IsReport, class_of_data}
+use Rattle.bus_line.specs.Report.{Report, Kind, Frame, Damaged, Overlong, Abort, class_of_data}
 use Rattle.bus_line.specs.Due.{Mark, NoMark, FlagAt, AbortAt, current, class_of, class_of_read, piece_report, due_at, reports, places}
-use Rattle.bus_line.specs.Ledger.{is_settled, is_inserted, is_stored, stored, stored_from, kind_octets, octet_count, copied}
+use Rattle.bus_line.specs.Ledger.{is_inserted, is_stored, stored, stored_from, kind_octets, octet_count, copied}
 use Rattle.bus_line.specs.Look.{IsFound}
 use Rattle.bus_line.specs.declared.decoder.look.Found.{Found}
 use Rattle.bus_line.specs.declared.decoder.look.Found.TheVariants.{Closing, Seven, Fifteen, Other}
 use Rattle.bus_line.specs.After.{settled_data}
-use Rattle.bus_line.proofs.Stream.{Decides}
 use Rattle.bus_line.proofs.MoreLemmas.{reports-more}
-use Rattle.bus_line.proofs.SettledLemmas.{one_if, count-more, one-place, stored-more, is_stored-append, is_settled-late}
+use Rattle.bus_line.proofs.SettledLemmas.{one_if, one-place, stored-more, is_stored-append, is_settled-late}
 use Rattle.bus_line.proofs.StoredLemmas.{kept, stored_from-is}
 use Rattle.bus_fcs.specs.FrameCheck.{is_good}
-use Rattle.bus_line.specs.declared.cause.Cause.TheVariants.{Unstuffed, Short, Unaligned, Fcs}
+use Rattle.bus_line.specs.declared.cause.Cause.TheVariants.{Short, Unaligned, Fcs}
 use Rattle.bus_line.proofs.RunLemmas.{IsLow, low-from, low-unspelled}
 use Rattle.bus_line.proofs.RawLemmas.{current-low}
 use Rattle.bus_line.proofs.MoreLemmas.{range-append}

@@ -1,11 +1,11 @@
 -- One bit more of what a decoder tracks.
-use Rattle.std.proofs.Common.{◌≡◌, ◌≢◌, ℕ, zero, suc, ◌+◌, ◌-◌, ◌*◌, ◌/◌, ◌%◌, ◌^◌, ◌≤◌, ◌<◌, ◌==◌, Bool, true, false, not, ◌&&◌, cond, List, [], ◌∷◌, ◌++◌, length, take, drop, reverse, get_or, Option, Some, None, refl, sym, ap, ◌∙◌, subst, arith, length-append, if◌then◌else◌, inl, inr, ◌⊎◌}
+use Rattle.std.proofs.Common.{◌≡◌, ◌≢◌, ℕ, suc, ◌+◌, ◌-◌, ◌*◌, ◌/◌, ◌%◌, ◌^◌, ◌≤◌, ◌<◌, ◌==◌, Bool, true, false, not, ◌&&◌, cond, List, [], ◌∷◌, ◌++◌, length, take, drop, get_or, Some, None, refl, sym, ap, ◌∙◌, subst, arith, if◌then◌else◌, inl, inr}
 use Rattle.std.specs.List.{slice_range}
 use Rattle.std.proofs.Math.Nat.{mul-add, mul-zero, mul-one}
 use Rattle.bus_line.proofs.WholeLemmas.{octets-short, same_bool}
 use Rattle.std.specs.Prelude.{nat_le, nat_lt}
-use Rattle.std.proofs.lemmas.List.{length_push, length-take, append-nil, take_all}
-use Rattle.std.proofs.lemmas.Bool.{false_from_ne_true, cases_Bool, cases_lt, leb-true, le-leb, ltb-true, lt-ltb, and_from, and_parts, both_ways}
+use Rattle.std.proofs.lemmas.List.{length_push, length-take}
+use Rattle.std.proofs.lemmas.Bool.{false_from_ne_true, cases_lt, leb-true, le-leb, ltb-true, lt-ltb, and_from}
 use Rattle.std.proofs.lemmas.Bool.Decides.{nat_tests}
 use Rattle.bus_bits.specs.Octet.{number, octets}
 use mir.Val.{bool_byte}
@@ -13,12 +13,11 @@ use Rattle.std.specs.Prelude.{bit_or}
 use Rattle.std.proofs.lemmas.Nat.{or_shifted}
 use Rattle.bus_bits.specs.declared.spent.Spent.{Spent}
 use Rattle.bus_line.specs.Run.{ones_at_end, data_so_far}
-use Rattle.bus_line.specs.Mark.{IsFlag}
 use Rattle.bus_line.specs.Due.{Mark, NoMark, FlagAt, AbortAt, current}
 use Rattle.bus_line.specs.Ledger.{is_settled, belongs, is_inserted, assembled, is_stored, stored}
 use Rattle.bus_line.specs.LineState.{LineState}
 use Rattle.bus_line.specs.After.{first_of, settled_data, shifted_in, Holds, HoldsFor, Counts, Stands, Tracks, After, Lags, Fills}
-use Rattle.bus_line.proofs.RunLemmas.{ones_after-more, data_after-more, HasSix}
+use Rattle.bus_line.proofs.RunLemmas.{ones_after-more, data_after-more}
 use Rattle.bus_line.proofs.LastLemmas.{last_mark-flag}
 use Rattle.bus_line.proofs.StreamLemmas.{range-more, flag-fits}
 use Rattle.bus_line.proofs.SettledLemmas.{assembled-more, stored-more}

@@ -1,14 +1,13 @@
 -- A window of the last bits, the newest lowest.
-use Rattle.std.proofs.Common.{◌≡◌, ℕ, zero, suc, ◌+◌, ◌-◌, ◌*◌, ◌/◌, ◌%◌, ◌^◌, ◌≤◌, ◌<◌, ◌==◌, Bool, true, false, cond, List, [], ◌∷◌, ◌++◌, length, take, drop, reverse, get_or, refl, sym, ap, ◌∙◌, subst, arith, length-append, if◌then◌else◌}
+use Rattle.std.proofs.Common.{◌≡◌, ℕ, suc, ◌+◌, ◌-◌, ◌*◌, ◌/◌, ◌%◌, ◌^◌, ◌≤◌, ◌<◌, Bool, true, false, cond, List, [], ◌∷◌, ◌++◌, length, take, drop, reverse, get_or, refl, sym, ap, ◌∙◌, subst, arith, length-append}
 use Rattle.std.proofs.Math.Seq.{take-add}
-use Rattle.std.proofs.lemmas.List.{append_assoc, reverse-append, reverse-reverse, length-reverse, length-take, length-drop, take-append-drop, take-append-le, drop-drop}
-use Rattle.std.proofs.lemmas.Grind.{common_steps}
+use Rattle.std.proofs.lemmas.List.{reverse-append, reverse-reverse, length-reverse, length-take, length-drop, take-append-drop, take-append-le}
 use Rattle.bus_bits.specs.Octet.{number}
 use Rattle.bus_bits.proofs.OctetLemmas.{number-cons, number-lt, number-append, same_number}
 use Rattle.bus_line.specs.Spelling.{ones}
 use Rattle.bus_line.specs.Mark.{StandsAt}
-use Rattle.bus_line.specs.Run.{ones_after, ones_at_end}
-use Rattle.bus_line.specs.Ledger.{IsInserted, is_inserted}
+use Rattle.bus_line.specs.Run.{ones_at_end}
+use Rattle.bus_line.specs.Ledger.{is_inserted}
 use Rattle.bus_line.proofs.RunLemmas.{ones_after-more}
 use Rattle.bus_line.proofs.SettledLemmas.{inserted-true, inserted-is}
 use Rattle.bus_line.proofs.WholeLemmas.{take_next}

@@ -1,5 +1,5 @@
 -- The lists of bits after which a decoder may stand.
-use Rattle.std.specs.Prelude.{◌≡◌, ℕ, ◌+◌, ◌-◌, ◌*◌, ◌/◌, ◌%◌, ◌≤◌, ◌^◌, Bool, true, false, List, [], ◌∷◌, ◌++◌, length, take, reverse, slice_range, Option, Some, None, if◌then◌else◌}
+use Rattle.std.specs.Prelude.{◌≡◌, ℕ, ◌+◌, ◌-◌, ◌*◌, ◌/◌, ◌%◌, ◌≤◌, ◌^◌, Bool, List, [], ◌∷◌, ◌++◌, length, take, reverse, slice_range, Option, Some, None, if◌then◌else◌}
 use Rattle.bus_bits.specs.Octet.{number, octets}
 use Rattle.bus_line.specs.Run.{ones_at_end, data_so_far}
 use Rattle.bus_line.specs.Report.{Report, Kind}

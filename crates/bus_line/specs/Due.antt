@@ -1,5 +1,5 @@
 -- Marks, classes, reports and begun pieces once more, as functions; Laws.antt says that they are those of Mark.antt and Report.antt.
-use Rattle.std.specs.Prelude.{◌≡◌, ℕ, zero, suc, ◌+◌, ◌-◌, ◌<◌, Bool, true, false, not, ◌&&◌, List, [], ◌∷◌, ◌++◌, length, take, drop, slice_range, nat_lt, nat_le, if◌then◌else◌, Option, Some, None, filter_map}
+use Rattle.std.specs.Prelude.{ℕ, zero, suc, ◌+◌, ◌-◌, Bool, true, false, ◌&&◌, List, [], ◌∷◌, ◌++◌, length, drop, slice_range, nat_lt, nat_le, if◌then◌else◌, Option, Some, None, filter_map}
 use Rattle.std.specs.List.{starts_with}
 use Rattle.std.specs.Bool.{beq}
 use Rattle.bus_line.specs.Spelling.{unspelled, ones}

@@ -1,5 +1,5 @@
 -- Laws over the definitions.
-use Rattle.std.specs.Prelude.{◌≡◌, ℕ, ◌+◌, ◌-◌, ◌*◌, ◌≤◌, ◌↔◌, Bool, true, if◌then◌else◌, slice_range, List, [], ◌∷◌, ◌++◌, length, option_to_list, Option, Some}
+use Rattle.std.specs.Prelude.{◌≡◌, ℕ, ◌+◌, ◌-◌, ◌*◌, ◌≤◌, ◌↔◌, Bool, true, if◌then◌else◌, slice_range, List, [], ◌∷◌, ◌++◌, length, option_to_list, Some}
 use Rattle.bus_bits.specs.Octet.{bits_of_octets}
 use Rattle.bus_fcs.specs.FrameCheck.{Good}
 use Rattle.bus_line.specs.Ledger.{IsSettled, is_settled, assembled, is_stored, stored, copied}

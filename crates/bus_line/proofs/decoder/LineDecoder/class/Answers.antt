@@ -1,6 +1,6 @@
-use Rattle.std.proofs.Common.{◌≡◌, ◌≢◌, ℕ, ◌+◌, ◌-◌, ◌*◌, ◌/◌, ◌%◌, Bool, true, false, List, [], ◌∷◌, ◌++◌, Option, Some, length, refl, sym, ap, ◌∙◌, arith, if◌then◌else◌}
+use Rattle.std.proofs.Common.{◌/◌, Bool, Some, sym, ap, ◌∙◌, arith, if◌then◌else◌}
 use Rattle.std.proofs.lemmas.Nat.{and_mask}
-use Rattle.bus_line.specs.Report.{Kind, Report, Frame, Damaged}
+use Rattle.bus_line.specs.Report.{Kind, Frame, Damaged}
 use Rattle.bus_line.specs.declared.cause.Cause.TheVariants.{Fcs}
 use Rattle.bus_line.specs.LineState.{LineState}
 use Rattle.bus_line.specs.LineView.{line_state}

@@ -1,8 +1,8 @@
-use Rattle.std.proofs.Common.{◌≡◌, ◌≢◌, ℕ, ◌+◌, ◌-◌, ◌%◌, Bool, List, [], ◌∷◌, ◌++◌, Option, Some, None, length, refl, sym, ap, ◌∙◌, subst, arith}
+use Rattle.std.proofs.Common.{◌≡◌, ℕ, ◌+◌, ◌-◌, [], ◌∷◌, ◌++◌, Some, None, length, sym, ap, ◌∙◌, subst, arith}
 use Rattle.std.specs.Option.{option_map}
 use Rattle.std.proofs.lemmas.List.{length_push}
-use Rattle.bus_line.specs.Report.{Report, Idle}
-use Rattle.bus_line.specs.Due.{current, due_at}
+use Rattle.bus_line.specs.Report.{Idle}
+use Rattle.bus_line.specs.Due.{current}
 use Rattle.bus_line.specs.LineState.{LineState}
 use Rattle.bus_line.specs.LineView.{line_state}
 use Rattle.bus_line.specs.After.{Tracks, event_shown}

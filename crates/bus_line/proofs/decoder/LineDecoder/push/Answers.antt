@@ -1,4 +1,4 @@
-use Rattle.std.proofs.Common.{◌≡◌, ℕ, ◌+◌, ◌≤◌, ◌<◌, ◌^◌, Bool, true, false, List, [], ◌∷◌, ◌++◌, Option, Some, None, length, refl, sym, ap, ◌∙◌, subst, arith}
+use Rattle.std.proofs.Common.{◌≡◌, ℕ, ◌<◌, ◌^◌, List, Some, None, length, refl, sym, ap, ◌∙◌, subst, arith}
 use Rattle.bus_line.specs.Report.{Frame}
 use Rattle.bus_line.specs.LineState.{LineState}
 use Rattle.bus_line.specs.After.{Pushed}

@@ -1,4 +1,4 @@
-use Rattle.std.proofs.Common.{◌≡◌, ◌+◌, suc, true, false, refl, sym, ap, ◌∙◌, arith, if◌then◌else◌}
+use Rattle.std.proofs.Common.{◌≡◌, suc, refl, arith, if◌then◌else◌}
 use Rattle.bus_line.proofs.StepLemmas.{lags-shift, window-or}
 use Rattle.bus_line.proofs.decoder.LineDecoder.shift.Goals as goal
 use Rattle.bus_line.proofs.decoder.LineDecoder.shift.Goals.{then-bit, else-bit}

@@ -1,8 +1,6 @@
-use Rattle.std.proofs.Common.{◌≡◌, ◌≢◌, ℕ, ◌+◌, ◌*◌, Bool, List, [], ◌∷◌, ◌++◌, take, length, refl, sym, ap, ◌∙◌, subst, arith, if◌then◌else◌}
+use Rattle.std.proofs.Common.{◌≡◌, ℕ, ◌+◌, Bool, List, [], ◌∷◌, ◌++◌, take, sym, ap, ◌∙◌, subst, if◌then◌else◌}
 use Rattle.std.proofs.Math.Seq.{take-nil}
-use Rattle.std.specs.Prelude.{nat_le, nat_lt}
 use Rattle.bus_bits.specs.Octet.{octets}
-use Rattle.bus_bits.specs.declared.spent.Spent.{Spent}
 use Rattle.bus_line.specs.LineState.{LineState}
 use Rattle.bus_line.proofs.StepLemmas.{holds-filled, fills-first, fills-later, fills-room}
 use Rattle.bus_line.proofs.decoder.LineDecoder.store.Goals as goal

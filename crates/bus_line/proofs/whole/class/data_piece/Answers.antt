@@ -1,7 +1,7 @@
 use Rattle.std.proofs.Common.{◌≡◌, true, false, List, ℕ, sym, ap, ◌∙◌, if◌then◌else◌, arith}
 use Rattle.bus_bits.specs.Octet.{octets, bits_of_octets}
 use Rattle.bus_fcs.specs.FrameCheck.{is_good}
-use Rattle.bus_line.specs.Report.{Kind, Report, Frame, Damaged, class_of_data}
+use Rattle.bus_line.specs.Report.{Kind, Frame, Damaged, class_of_data}
 use Rattle.bus_line.specs.declared.cause.Cause.TheVariants.{Fcs}
 use Rattle.bus_line.proofs.WholeLemmas.{data-checked}
 use Rattle.bus_line.proofs.whole.class.data_piece.Goals as goal

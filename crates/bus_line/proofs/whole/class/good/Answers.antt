@@ -1,7 +1,6 @@
-use Rattle.std.proofs.Common.{◌≡◌, true, List, ℕ, length, take, sym, ap, ◌∙◌, subst, arith, ◌≤◌}
+use Rattle.std.proofs.Common.{◌≡◌, List, ℕ, take, subst, arith}
 use Rattle.std.proofs.lemmas.List.{take_all}
 use Rattle.bus_bits.specs.Octet.{bits_of_octets}
-use Rattle.bus_fcs.specs.FrameCheck.{is_good}
 use Rattle.bus_line.proofs.WholeLemmas.{same_test}
 use Rattle.bus_line.proofs.whole.class.good.Goals as goal
 
