@@ -9,6 +9,7 @@ mod line_fault;
 mod owned_piece;
 mod piece;
 mod place_limit;
+mod sink_refused;
 #[cfg(test)]
 mod tests;
 mod whole;
@@ -20,4 +21,5 @@ pub use line_fault::LineFault;
 pub use owned_piece::OwnedPiece;
 pub use piece::Piece;
 pub use place_limit::PlaceLimit;
+pub use sink_refused::SinkRefused;
 pub use whole::reports_whole;
