@@ -1,8 +1,6 @@
 //! What a piece between two flags is.
 
-ghost use Rattle.std.specs.Prelude.{◌≡◌, ◌+◌, ◌*◌, ◌≤◌, length, IfOk};
-ghost use Rattle.bus_bits.specs.Octet.{bits_of_octets};
-ghost use Rattle.bus_fcs.specs.FrameCheck.{is_good};
+ghost use Rattle.std.specs.Prelude.{◌≡◌, ◌≤◌, IfOk};
 ghost use Rattle.bus_line.specs.Owned.{report_of};
 ghost use Rattle.bus_line.specs.Report.{class_of_data};
 ghost use Rattle.bus_line.specs.Due.{class_of};
@@ -10,23 +8,9 @@ ghost use Rattle.bus_line.specs.Due.{class_of};
 use crate::cause::Cause;
 use crate::owned_piece::OwnedPiece;
 use crate::whole::data::{data_of, octets_of};
-use bus_bits::{Span, Spent};
-use bus_fcs::{BitCheck, Check};
+use bus_bits::Span;
+use bus_fcs::{BitCheck, are_good};
 use std::alloc::{AllocError, Global};
-
-/// Whether these octets, the last two of them the frame check, are good.
-fn good<C: Check>(octets: &[u8]) -> bool
-    requires at_least { 4 ≤ length octets.now }
-    requires at_most { length octets.now ≤ 258 }
-    ensures { result ≡ is_good (bits_of_octets octets.now) }
-{
-    let mut check = C::fresh();
-    let mut spent = Spent::zero();
-    for octet in octets {
-        check.fold(*octet, &mut spent);
-    }
-    check.is_good()
-}
 
 /// What data between two flags are.
 fn data_piece(
@@ -54,7 +38,7 @@ fn data_piece(
         });
     }
     let octets = octets_of(alloc, data)?;
-    if !good::<BitCheck>(&octets) {
+    if !are_good::<BitCheck>(&octets) {
         return Ok(OwnedPiece::Damaged {
             span,
             cause: Cause::Fcs,
