@@ -7,7 +7,7 @@ use Rattle.toml.proofs.Views.{items_view-drop}
 use Rattle.toml.specs.declared.value.Value.{Value}
 use Rattle.toml.specs.Data.{Data, Items, item, no_items, get, as_integer, as_array}
 use Rattle.bus_dictionary.specs.declared.fault.DictFault.{DictFault}
-use Rattle.bus_dictionary.specs.declared.fault.DictFault.TheVariants.{Memory, NotToml, Version, NoFrames, BadType, BadName, BadLength, BadAnswered, BadBit, TwiceType, NoAnswerEntry}
+use Rattle.bus_dictionary.specs.declared.fault.DictFault.TheVariants.{NoAnswerEntry}
 use Rattle.bus_dictionary.specs.declared.bit_name.BitName.{BitName}
 use Rattle.bus_dictionary.specs.DictFault.{◌>>=◌, Fails}
 use Rattle.bus_dictionary.specs.BitName.{NamedBit, named_bit, has_place, put_bit, bit_of, bits_from}
@@ -16,17 +16,7 @@ use Rattle.bus_dictionary.specs.Dictionary.{entries_of, dictionary_of, if_answer
 
 -- the fault of a step is that of the steps from it on
 pub fails_then : {A B : Type 0} (f : DictFault) (step : Result A DictFault) (next : A → Result B DictFault) → Fails f step → Fails f (step >>= next)
-fails_then Memory step next h = tt
-fails_then NotToml step next h = rw h
-fails_then Version step next h = rw h
-fails_then NoFrames step next h = rw h
-fails_then (BadType n) step next h = rw h
-fails_then (BadName n) step next h = rw h
-fails_then (BadLength n) step next h = rw h
-fails_then (BadAnswered n) step next h = rw h
-fails_then (BadBit n) step next h = rw h
-fails_then (TwiceType t) step next h = rw h
-fails_then (NoAnswerEntry t) step next h = rw h
+fails_then {A = A} f step next h = λ other. ap (λ (r : Result A DictFault). r >>= next) (h other)
 
 -- an entry, and then the rest
 pub entries_step : (n : ℕ) (before : List FrameType) (d : Data) (ds : Items)

@@ -26,7 +26,7 @@ returns-in-Some-without_answer c =
     let es = c.in-Ok.entries.items in
     let read : entries_of 1 [] (items_view c.in-Some.frames.now.items) ≡ Ok es = search rules in
     let lacking : Some c.in-Some-without_answer.ftype ≡ option_map (λ (e : FrameType). e.ftype) (find (lacks_answer es) es) = search rules in
-    whole ∙ ap (λ (r : Result (List FrameType) DictFault). r >>= if_answered) read ∙ refuse_some es (find (lacks_answer es) es) c.in-Some-without_answer.ftype lacking
+    λ other. whole ∙ ap (λ (r : Result (List FrameType) DictFault). r >>= if_answered) read ∙ refuse_some es (find (lacks_answer es) es) c.in-Some-without_answer.ftype lacking
 
 pub returns-in-None : goal.returns-in-None
 returns-in-None c =
