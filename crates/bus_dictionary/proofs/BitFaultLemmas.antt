@@ -100,16 +100,18 @@ bits_err n size k before (item d ds) f h =
     elim (then_err (bit_of n size before d) _ f h) [
       | inl a ↦ bit_err n size k before d ds f a
       | inr (x, is, h1) ↦
-          let (is_f, fault) = bits_err n size (k + 1) (put_bit x before) ds f h1 in
-          (is_f, elim fault [
-            | inl row ↦ inl (lift_bit size k d ds row)
-            | inr (m, at, b, is_b, is_at, taken) ↦ elim (one_of x.at at (has_place at before) (sym (has_put at x before) ∙ taken)) [
-              | inl old ↦ inr (m, at, b, later k m d b ds is_b, is_at, old)
-              | inr same ↦
-                  let less = after (k + 1) ds m b is_b in
-                  inl (same_place k m at d b (omega arith) (here k d ds) (later k m d b ds is_b) ((bit_place n size before d x is).0 ∙ ap (λ (y : ℕ). Some y) same) is_at)
-            ]
-          ])
+          let (is_f, fault) = bits_err n size (k + 1) (put_bit x before) ds f h1 in (
+            is_f,
+            elim fault [
+              | inl row ↦ inl (lift_bit size k d ds row)
+              | inr (m, at, b, is_b, is_at, taken) ↦ elim (one_of x.at at (has_place at before) (sym (has_put at x before) ∙ taken)) [
+                | inl old ↦ inr (m, at, b, later k m d b ds is_b, is_at, old)
+                | inr same ↦
+                    let less = after (k + 1) ds m b is_b in
+                    inl (same_place k m at d b (omega arith) (here k d ds) (later k m d b ds is_b) ((bit_place n size before d x is).0 ∙ ap (λ (y : ℕ). Some y) same) is_at)
+              ]
+            ],
+          )
     ]
 
 none_taken : (size : ℕ) (ds : Items) → IsBitFault size 1 ds ⊎ IsTaken size 1 [] ds → IsBitFault size 1 ds

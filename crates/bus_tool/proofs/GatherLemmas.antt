@@ -7,7 +7,7 @@ use Rattle.bus_bits.specs.Capture.{Capture, CaptureFault, bad_mark, place_limit,
 use Rattle.bus_tool.specs.Listing.{capture}
 use Rattle.bus_tool.specs.Gather.{Gathers, Refuses, Stops, Ends}
 use Rattle.bus_tool.specs.declared.fault.ToolFault.{ToolFault}
-use Rattle.bus_tool.specs.declared.fault.ToolFault.TheVariants.{Memory, BadMark, PlaceLimit, Read, ReadsLimit, Write, Dictionary, Hex, FrameSize}
+use Rattle.bus_tool.specs.declared.fault.ToolFault.TheVariants.{Memory, BadMark, PlaceLimit}
 use Rattle.bus_tool.proofs.CaptureLemmas.{capture-short, capture-over, capture-grows}
 
 pub none_gathers : (at : ℕ) (bits : List Bool) → at ≡ 0 → bits ≡ [] → Gathers at bits []
@@ -40,13 +40,7 @@ refused_stops : (octet : ℕ) (bits after : List Bool) (bit : Bool) (xs : List �
 refused_stops octet bits after bit xs PlaceLimit given same r =
     let over = capture-over (xs ++ octet ∷ []) bits bit given r in (over.0 ∙ sym same, over.1)
 refused_stops octet bits after bit xs Memory given same r = tt
-refused_stops octet bits after bit xs (BadMark at) given same r = absurd r
-refused_stops octet bits after bit xs Read given same r = absurd r
-refused_stops octet bits after bit xs ReadsLimit given same r = absurd r
-refused_stops octet bits after bit xs (Write written) given same r = absurd r
-refused_stops octet bits after bit xs (Dictionary fault) given same r = absurd r
-refused_stops octet bits after bit xs Hex given same r = absurd r
-refused_stops octet bits after bit xs FrameSize given same r = absurd r
+refused_stops octet bits after bit xs _ given same r = absurd r
 
 -- a space
 pub space_gathers : (at octet : ℕ) (bits : List Bool) (given : Option Bool) (xs : List ℕ) → given ≡ None → Gathers at bits xs
@@ -76,12 +70,7 @@ stops_stays : (bits : List Bool) (xs ys : List ℕ) (e : ToolFault) → Stops bi
 stops_stays bits xs ys (BadMark at) s = let same = (capture-grows xs ys).2 (bad_mark at) s.1 in rw same s
 stops_stays bits xs ys PlaceLimit s = let same = (capture-grows xs ys).2 place_limit s.1 in rw same s
 stops_stays bits xs ys Memory s = tt
-stops_stays bits xs ys Read s = absurd s
-stops_stays bits xs ys ReadsLimit s = absurd s
-stops_stays bits xs ys (Write written) s = absurd s
-stops_stays bits xs ys (Dictionary fault) s = absurd s
-stops_stays bits xs ys Hex s = absurd s
-stops_stays bits xs ys FrameSize s = absurd s
+stops_stays bits xs ys _ s = absurd s
 
 -- what stopped in the middle of some octets stops them all
 pub middle_stops : (bits : List Bool) (x i : ℕ) (xs ys : List ℕ) (e : ToolFault) → i < length ys → x ≡ get_or ys i 0
@@ -115,12 +104,7 @@ pub stops_ends : (reads : ℕ) (after : Option (List ℕ)) (bits : List Bool) (x
 stops_ends reads after bits xs (BadMark at) s = s
 stops_ends reads after bits xs PlaceLimit s = s
 stops_ends reads after bits xs Memory s = tt
-stops_ends reads after bits xs Read s = absurd s
-stops_ends reads after bits xs ReadsLimit s = absurd s
-stops_ends reads after bits xs (Write written) s = absurd s
-stops_ends reads after bits xs (Dictionary fault) s = absurd s
-stops_ends reads after bits xs Hex s = absurd s
-stops_ends reads after bits xs FrameSize s = absurd s
+stops_ends reads after bits xs _ s = absurd s
 
 -- each read gave an octet at least
 pub longer : (xs buf : List ℕ) (count turn : ℕ) → turn ≤ length xs → 0 < count → count ≤ length buf → turn + 1 ≤ length (xs ++ take count buf)

@@ -10,7 +10,7 @@ use Rattle.bus_tool.specs.Listing.{line_of, listing, capture, text_listing}
 use Rattle.bus_tool.specs.Run.{Lists}
 use Rattle.bus_tool.specs.Known.{Answers}
 use Rattle.bus_tool.specs.declared.fault.ToolFault.{ToolFault}
-use Rattle.bus_tool.specs.declared.fault.ToolFault.TheVariants.{Memory, BadMark, PlaceLimit, Read, ReadsLimit, Write, Dictionary, Hex, FrameSize}
+use Rattle.bus_tool.specs.declared.fault.ToolFault.TheVariants.{Memory, BadMark, PlaceLimit, Read, ReadsLimit, Write}
 use Rattle.bus_tool.proofs.CaptureLemmas.{capture-grows}
 
 listing_same : (xs ys : List ℕ) → capture xs ≡ capture ys → text_listing xs ≡ text_listing ys
@@ -60,9 +60,7 @@ answers_at reads all xs ys start now (Err Memory) e s = s
 answers_at reads all xs ys start now (Err Read) e s = short_at all xs ys start now e s.0 s.1
 answers_at reads all xs ys start now (Err ReadsLimit) e s = short_at all xs ys start now e s.1 s.2
 answers_at reads all xs ys start now (Err (Write written)) e s = written_at all xs ys start now written e s.0 s.1
-answers_at reads all xs ys start now (Err (Dictionary fault)) e s = absurd s
-answers_at reads all xs ys start now (Err Hex) e s = absurd s
-answers_at reads all xs ys start now (Err FrameSize) e s = absurd s
+answers_at reads all xs ys start now (Err _) e s = absurd s
 
 -- what a call answered is what all octets of a reader that tells give
 pub known_answers : (reads : ℕ) (before after start now : Option (List ℕ)) (xs : List ℕ) (r : Result (Unit {0}) ToolFault) → Consumes before after xs

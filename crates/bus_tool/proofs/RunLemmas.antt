@@ -11,7 +11,7 @@ use Rattle.bus_tool.specs.Listing.{line_of, listing, due_text, capture, text_lis
 use Rattle.bus_tool.specs.Gather.{Ends}
 use Rattle.bus_tool.specs.Run.{Lists}
 use Rattle.bus_tool.specs.declared.fault.ToolFault.{ToolFault}
-use Rattle.bus_tool.specs.declared.fault.ToolFault.TheVariants.{Memory, BadMark, PlaceLimit, Read, ReadsLimit, Write, Dictionary, Hex, FrameSize}
+use Rattle.bus_tool.specs.declared.fault.ToolFault.TheVariants.{Memory, BadMark, PlaceLimit, Read, ReadsLimit, Write}
 
 -- ---- lines
 
@@ -56,10 +56,7 @@ bits_of_ending reads after bits xs (Err PlaceLimit) had s = s.0
 bits_of_ending reads after bits xs (Err Memory) had s = absurd (had refl)
 bits_of_ending reads after bits xs (Err Read) had s = s.0
 bits_of_ending reads after bits xs (Err ReadsLimit) had s = s.1
-bits_of_ending reads after bits xs (Err (Write written)) had s = absurd s
-bits_of_ending reads after bits xs (Err (Dictionary fault)) had s = absurd s
-bits_of_ending reads after bits xs (Err Hex) had s = absurd s
-bits_of_ending reads after bits xs (Err FrameSize) had s = absurd s
+bits_of_ending reads after bits xs (Err _) had s = absurd s
 
 ending_lists : (reads : ℕ) (after start now : Option (List ℕ)) (bits : List Bool) (xs : List ℕ) (r : Result (Unit {0}) ToolFault) → (r ≡ Err Memory → ⊥)
     → Ends reads after bits xs r → Appends start now (text_listing xs) → Lists reads after start now xs r
@@ -69,10 +66,7 @@ ending_lists reads after start now bits xs (Err PlaceLimit) had s out = (s.1, ou
 ending_lists reads after start now bits xs (Err Memory) had s out = absurd (had refl)
 ending_lists reads after start now bits xs (Err Read) had s out = (s.1, out)
 ending_lists reads after start now bits xs (Err ReadsLimit) had s out = (s.0, s.2, out)
-ending_lists reads after start now bits xs (Err (Write written)) had s out = absurd s
-ending_lists reads after start now bits xs (Err (Dictionary fault)) had s out = absurd s
-ending_lists reads after start now bits xs (Err Hex) had s out = absurd s
-ending_lists reads after start now bits xs (Err FrameSize) had s out = absurd s
+ending_lists reads after start now bits xs (Err _) had s out = absurd s
 
 -- all lines went out
 pub whole_lists : (reads : ℕ) (after start now : Option (List ℕ)) (bits : List Bool) (xs : List ℕ) (r : Result (Unit {0}) ToolFault) → (r ≡ Err Memory → ⊥)

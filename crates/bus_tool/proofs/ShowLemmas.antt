@@ -1,5 +1,5 @@
 -- The parts of what is shown of a frame.
-use Rattle.std.proofs.Common.{◌≡◌, ◌≢◌, ◌↔◌, ◌⊎◌, inl, inr, ℕ, ◌+◌, ◌-◌, ◌*◌, ◌/◌, ◌%◌, ◌≤◌, ◌<◌, ◌==◌, Bool, true, false, IsTrue, List, [], ◌∷◌, ◌++◌, length, take, drop, slice_range, nat_le, Option, Some, None, append_assoc, zero, suc, get_or, slice_index, codes, if◌then◌else◌, Result, Ok, Err, MatchResult, refl, sym, ap, ◌∙◌, subst, arith, length-append}
+use Rattle.std.proofs.Common.{◌≡◌, ℕ, ◌-◌, ◌*◌, ◌/◌, ◌%◌, ◌≤◌, ◌<◌, true, false, List, [], ◌∷◌, ◌++◌, length, take, drop, nat_le, Option, Some, append_assoc, zero, suc, get_or, codes, Result, Ok, Err, MatchResult, refl, sym, ap, ◌∙◌, subst, arith, length-append}
 use Rattle.std.proofs.lemmas.Grind.{common_steps, flat_map-append}
 use Rattle.std.proofs.lemmas.List.{append-nil, take-append-le}
 use Rattle.std.specs.Io.KnownBytes.{Appends}
@@ -7,38 +7,19 @@ use Rattle.std.specs.List.{AllPass, flat_map, AllPairs}
 use Rattle.hex.specs.Hex.{decode_of, decode_sized, is_hex_digit}
 use Rattle.hex.specs.declared.error.FromHexError.{FromHexError}
 use Rattle.hex.proofs.HexLemmas.{decode_of-ok, decode_of-digits, decode_sized-twice}
-use Rattle.bus_fcs.specs.FrameCheck.{Good, is_good}
-use Rattle.bus_fcs.specs.Laws.{GoodIsComputed}
-use Rattle.std.proofs.lemmas.Bool.Decides.{nat_tests}
 use Rattle.bus_dictionary.specs.BitName.{NamedBit, AreBits}
 use Rattle.bus_dictionary.specs.Entry.{FrameType}
 use Rattle.bus_dictionary.specs.Dictionary.{entry_at}
-use Rattle.bus_dictionary.specs.DictFault.{Fails}
-use Rattle.bus_dictionary.specs.Standing.{standing, standing_of_type, standing_of_information}
-use Rattle.bus_dictionary.specs.declared.fault.DictFault.{DictFault}
-use Rattle.bus_dictionary.specs.declared.fault.DictFault.TheVariants.{Memory, NotToml, Version, NoFrames, BadType, BadName, BadLength, BadAnswered, BadBit, TwiceType, NoAnswerEntry}
+use Rattle.bus_dictionary.specs.Standing.{standing, Means}
 use Rattle.bus_dictionary.specs.declared.standing.Standing.{Standing}
-use Rattle.bus_dictionary.specs.declared.standing.Standing.TheVariants.{OtherControl, Untyped, Unknown, WrongLength, Known}
+use Rattle.bus_dictionary.specs.declared.standing.Standing.TheVariants.{Known}
 use Rattle.bus_tool.specs.declared.text.put.Cut.{Cut}
 use Rattle.bus_tool.specs.Put.{Puts}
-use Rattle.bus_tool.specs.Show.{typed_frame, if_frame, if_decoded, name_text, frame_text, names_text, shown_text, given_dictionary, Shows}
+use Rattle.bus_tool.specs.Show.{typed_frame, if_frame, if_decoded, name_text, frame_text, names_text, shown_text, Reads, Shows}
 use Rattle.bus_tool.specs.HeadText.{head_text}
 use Rattle.bus_tool.specs.declared.fault.ToolFault.{ToolFault}
-use Rattle.bus_tool.specs.declared.fault.ToolFault.TheVariants.{Hex, FrameSize}
-use Rattle.bus_tool.specs.declared.fault.ToolFault.TheVariants as tool
+use Rattle.bus_tool.specs.declared.fault.ToolFault.TheVariants.{Memory, Dictionary, Hex, FrameSize}
 use Rattle.bus_tool.proofs.Bytes.{appends_nothing}
-
-same_bool : (x y : Bool) → (x ≡ true → y ≡ true) → (y ≡ true → x ≡ true) → x ≡ y
-same_bool true true f g = refl
-same_bool true false f g = sym (f refl)
-same_bool false true f g = g refl
-same_bool false false f g = refl
-
--- a test that tells good data computes as the definition's test does
-pub same_test : (x : Bool) (d : List Bool) → GoodIsComputed → (IsTrue x ↔ Good d) → x ≡ is_good d
-same_test x d computed h =
-    let good = computed d in
-    same_bool x (is_good d) (λ e. good.1 (h.0 e)) (λ e. h.1 (good.0 e))
 
 -- no digits, an odd number of them, or another character
 pub no_hex : (s : List ℕ) → (1 ≤ length s → length s % 2 ≡ 0 → AllPass is_hex_digit s → ⊥) → typed_frame s ≡ Err Hex
@@ -134,64 +115,19 @@ names_few size (b ∷ bits) r =
     omega (arith, last, r.within (length bits) b (omega arith))
 
 -- a frame that is known has as many octets after its type as its entry says
-size_known : (station t n size st ftype : ℕ) → (if n == size then Known station t else WrongLength station t) ≡ Known st ftype → (t ≡ ftype) × (n ≡ size)
-size_known station t n size st ftype h =
-    elim (n == size) as (λ b. (n == size) ≡ b → (if b then Known station t else WrongLength station t) ≡ Known st ftype → (t ≡ ftype) × (n ≡ size)) [
-      | true ↦ λ is k. let same : t ≡ ftype = cc in (same, grind (arith, nat_tests))
-      | false ↦ λ is k. cc k
-    ] refl h
-
-information_known : (station : ℕ) (information : List ℕ) (d : List FrameType) (st ftype : ℕ) → standing_of_information station information d ≡ Known st ftype
-    → (e : FrameType) × (entry_at ftype d ≡ Some e) × (length information ≡ 1 + e.size)
-information_known station [] d st ftype h = cc h
-information_known station (t ∷ after) d st ftype h = of_entry (entry_at t d) refl h
-  where
-    of_entry : (o : Option FrameType) → entry_at t d ≡ o → standing_of_type station t (length after) o ≡ Known st ftype
-        → (e : FrameType) × (entry_at ftype d ≡ Some e) × (length (t ∷ after) ≡ 1 + e.size)
-    of_entry None is k = cc k
-    of_entry (Some e) is k =
-        let p = size_known station t (length after) e.size st ftype k in
-        (e, subst (λ (n : ℕ). entry_at n d ≡ Some e) p.0 is, omega (arith, p.1))
-
-pub known_size : (octets : List ℕ) (d : List FrameType) (st ftype : ℕ) (e : FrameType) → 4 ≤ length octets → standing octets d ≡ Known st ftype → entry_at ftype d ≡ Some e
+pub known_size : (octets : List ℕ) (d : List FrameType) (st ftype : ℕ) (e : FrameType) → Means (Known st ftype) octets d → Some e ≡ entry_at ftype d
     → length (take (length octets - 2 - 3) (drop 3 octets)) ≡ e.size
-known_size octets d st ftype e least h is = by_control (slice_index octets 1 == 0x83) h
-  where
-    by_control : (b : Bool) → (if b then standing_of_information (slice_index octets 0) (slice_range octets 2 (length octets - 2)) d else OtherControl (slice_index octets 0) (slice_index octets 1)) ≡ Known st ftype
-        → length (take (length octets - 2 - 3) (drop 3 octets)) ≡ e.size
-    by_control false k = cc k
-    by_control true k =
-        let x = information_known (slice_index octets 0) (slice_range octets 2 (length octets - 2)) d st ftype k in
-        let some : Some x.0 ≡ Some e = sym x.1 ∙ is in
-        let same : x.0 ≡ e = cc in
-        let size : x.0.size ≡ e.size = ap (λ (f : FrameType). f.size) same in
-        let long : length (slice_range octets 2 (length octets - 2)) ≡ length octets - 2 - 2 = grind (arith, common_steps, least) in
-        let rest : length (take (length octets - 2 - 3) (drop 3 octets)) ≡ length octets - 2 - 3 = grind (arith, common_steps, least) in
-        omega (arith, x.2, size, long, rest)
-
--- want of memory, or the reading's fault
-by_fault : {A : Type 0} (e : DictFault) (reading : Result A DictFault) → Fails e reading → (e ≡ Memory) ⊎ ((e ≢ Memory) × (reading ≡ Err e))
-by_fault Memory reading h = inl refl
-by_fault NotToml reading h = inr (λ k. cc k, h)
-by_fault Version reading h = inr (λ k. cc k, h)
-by_fault NoFrames reading h = inr (λ k. cc k, h)
-by_fault (BadType n) reading h = inr (λ k. cc k, h)
-by_fault (BadName n) reading h = inr (λ k. cc k, h)
-by_fault (BadLength n) reading h = inr (λ k. cc k, h)
-by_fault (BadAnswered n) reading h = inr (λ k. cc k, h)
-by_fault (BadBit n) reading h = inr (λ k. cc k, h)
-by_fault (TwiceType t) reading h = inr (λ k. cc k, h)
-by_fault (NoAnswerEntry t) reading h = inr (λ k. cc k, h)
+known_size octets d st ftype e (x, there, long) is =
+    let same : x.size ≡ e.size = let some = sym there ∙ sym is in cc in
+    let rest : length (take (length octets - 2 - 3) (drop 3 octets)) ≡ length octets - 2 - 3 = grind (arith, common_steps, long) in
+    omega (arith, long, same, rest)
 
 -- a dictionary that is not read
-pub unread_shows : (text : Option (List ℕ)) (hex octets : List ℕ) (now : Option (List ℕ)) (e : DictFault) (fault : ToolFault) → typed_frame hex ≡ Ok octets
-    → (text ≡ None → e ≢ Memory) → Fails e (given_dictionary text) → (e ≡ Memory → fault ≡ tool.Memory) → (e ≢ Memory → fault ≡ tool.Dictionary e)
-    → Shows text hex now now (Err fault)
-unread_shows text hex octets now e fault typed given h memory others =
-    elim (by_fault e (given_dictionary text) h) [
-      | inl is ↦ subst (λ (f : ToolFault). Shows text hex now now (Err f)) (sym (memory is)) (octets, typed, λ none. given none is, appends_nothing now)
-      | inr p ↦ subst (λ (f : ToolFault). Shows text hex now now (Err f)) (sym (others p.0)) (octets, typed, p.1, appends_nothing now)
-    ]
+pub unread_shows : (text : Option (List ℕ)) (hex octets : List ℕ) (now : Option (List ℕ)) (fault : ToolFault) → typed_frame hex ≡ Ok octets
+    → Reads text (Err fault) → Shows text hex now now (Err fault)
+unread_shows text hex octets now Memory typed r = (octets, typed, r, appends_nothing now)
+unread_shows text hex octets now (Dictionary fault) typed r = (octets, typed, r, appends_nothing now)
+unread_shows text hex octets now _ typed r = absurd r
 
 -- the two lines that each frame has, and the others
 pub shown_front : (octets : List ℕ) (d : List FrameType) → shown_text octets d ≡ (frame_text octets ++ (head_text (standing octets d) d ++ codes "\n")) ++ names_text (standing octets d) octets d
@@ -200,10 +136,7 @@ shown_front octets d = refl
 
 pub no_names : (s : Standing) (octets : List ℕ) (d : List FrameType) → ((station ftype : ℕ) → s ≡ Known station ftype → ⊥) → names_text s octets d ≡ []
 no_names (Known station ftype) octets d other = absurd (other station ftype refl)
-no_names (Unknown station ftype) octets d other = refl
-no_names (WrongLength station ftype) octets d other = refl
-no_names (OtherControl station control) octets d other = refl
-no_names (Untyped station) octets d other = refl
+no_names _ octets d other = refl
 
 -- where no names follow
 pub shown_alone : (octets : List ℕ) (d : List FrameType) → names_text (standing octets d) octets d ≡ [] → frame_text octets ++ (head_text (standing octets d) d ++ codes "\n") ≡ shown_text octets d

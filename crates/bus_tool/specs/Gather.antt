@@ -4,7 +4,7 @@ use Rattle.std.specs.Io.KnownBytes.{IsAtEnd}
 use Rattle.bus_bits.specs.Capture.{text_bits, text_fault, bad_mark, place_limit}
 use Rattle.bus_tool.specs.Listing.{capture}
 use Rattle.bus_tool.specs.declared.fault.ToolFault.{ToolFault}
-use Rattle.bus_tool.specs.declared.fault.ToolFault.TheVariants.{Memory, BadMark, PlaceLimit, Read, ReadsLimit, Write, Dictionary, Hex, FrameSize}
+use Rattle.bus_tool.specs.declared.fault.ToolFault.TheVariants.{Memory, BadMark, PlaceLimit, Read, ReadsLimit}
 
 -- these octets were taken, none of them is a fault, and these are their bits
 pub record Gathers (at : ℕ) (bits : List Bool) (xs : List ℕ) : Type 0 where
@@ -16,25 +16,14 @@ pub record Gathers (at : ℕ) (bits : List Bool) (xs : List ℕ) : Type 0 where
 abbrev pub Refuses : ℕ → ToolFault → Type 0
 Refuses taken PlaceLimit = taken ≡ 2 ^ 60
 Refuses taken Memory = Unit {0}
-Refuses taken (BadMark at) = ⊥
-Refuses taken Read = ⊥
-Refuses taken ReadsLimit = ⊥
-Refuses taken (Write written) = ⊥
-Refuses taken (Dictionary fault) = ⊥
-Refuses taken Hex = ⊥
-Refuses taken FrameSize = ⊥
+Refuses taken _ = ⊥
 
 -- these octets have this fault, and these are the bits before it
 abbrev pub Stops : List Bool → List ℕ → ToolFault → Type 0
 Stops bits xs (BadMark at) = ((capture xs).bits ≡ bits) × ((capture xs).fault ≡ Some (bad_mark at))
 Stops bits xs PlaceLimit = ((capture xs).bits ≡ bits) × ((capture xs).fault ≡ Some place_limit)
 Stops bits xs Memory = Unit {0}
-Stops bits xs Read = ⊥
-Stops bits xs ReadsLimit = ⊥
-Stops bits xs (Write written) = ⊥
-Stops bits xs (Dictionary fault) = ⊥
-Stops bits xs Hex = ⊥
-Stops bits xs FrameSize = ⊥
+Stops bits xs _ = ⊥
 
 -- how the reading of these octets ended, whose reader has `after` left: these are the bits before the first fault
 abbrev pub Ends : ℕ → Option (List ℕ) → List Bool → List ℕ → Result (Unit {0}) ToolFault → Type 0
@@ -44,7 +33,4 @@ Ends reads after bits xs (Err PlaceLimit) = Stops bits xs PlaceLimit
 Ends reads after bits xs (Err Memory) = Unit {0}
 Ends reads after bits xs (Err Read) = ((capture xs).bits ≡ bits) × ((capture xs).fault ≡ None)
 Ends reads after bits xs (Err ReadsLimit) = (reads ≤ length xs) × ((capture xs).bits ≡ bits) × ((capture xs).fault ≡ None)
-Ends reads after bits xs (Err (Write written)) = ⊥
-Ends reads after bits xs (Err (Dictionary fault)) = ⊥
-Ends reads after bits xs (Err Hex) = ⊥
-Ends reads after bits xs (Err FrameSize) = ⊥
+Ends reads after bits xs (Err _) = ⊥

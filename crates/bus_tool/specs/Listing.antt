@@ -46,10 +46,7 @@ listing rs = flat_map line_of rs
 -- the octets of a frame; nothing else has any
 abbrev pub octets_of : Kind → List ℕ
 octets_of (Frame octets) = octets
-octets_of (Damaged cause) = []
-octets_of Overlong = []
-octets_of Abort = []
-octets_of Idle = []
+octets_of _ = []
 
 -- how many octets a report holds
 abbrev pub octets_held : Report → ℕ

@@ -13,11 +13,11 @@ use Rattle.bus_dictionary.specs.Dictionary.{dictionary_of_text, entry_at}
 use Rattle.bus_dictionary.specs.Standing.{standing}
 use Rattle.bus_dictionary.specs.declared.fault.DictFault.{DictFault}
 use Rattle.bus_dictionary.specs.declared.standing.Standing.{Standing}
-use Rattle.bus_dictionary.specs.declared.standing.Standing.TheVariants.{OtherControl, Untyped, Unknown, WrongLength, Known}
+use Rattle.bus_dictionary.specs.declared.standing.Standing.TheVariants.{Known}
 use Rattle.bus_tool.specs.Listing.{hex_of}
 use Rattle.bus_tool.specs.HeadText.{head_text}
 use Rattle.bus_tool.specs.declared.fault.ToolFault.{ToolFault}
-use Rattle.bus_tool.specs.declared.fault.ToolFault.TheVariants.{Memory, BadMark, PlaceLimit, Read, ReadsLimit, Write, Dictionary, Hex, FrameSize}
+use Rattle.bus_tool.specs.declared.fault.ToolFault.TheVariants.{Memory, Write, Dictionary, Hex, FrameSize}
 
 -- a frame with its check has 4 to 258 octets
 abbrev pub if_frame : List ℕ → Result (List ℕ) ToolFault
@@ -38,6 +38,13 @@ abbrev pub given_dictionary : Option (List ℕ) → Result (List FrameType) Dict
 given_dictionary None = Ok []
 given_dictionary (Some text) = dictionary_of_text text
 
+-- what the reading of a dictionary's text answers; want of memory may come in place of any reading, where there is a text
+abbrev pub Reads : Option (List ℕ) → Result (List FrameType) ToolFault → Type 0
+Reads text (Ok d) = given_dictionary text ≡ Ok d
+Reads text (Err (Dictionary fault)) = given_dictionary text ≡ Err fault
+Reads text (Err Memory) = text ≢ None
+Reads text (Err _) = ⊥
+
 -- whether the check is good, and LF
 abbrev pub verdict_text : List ℕ → List ℕ
 verdict_text octets = if is_good (bits_of_octets octets) then codes " good\n" else codes " bad\n"
@@ -57,10 +64,7 @@ bits_text octets (Some e) = flat_map name_text (ones (slice_range octets 3 (leng
 -- only where the dictionary knows the frame
 abbrev pub names_text : Standing → List ℕ → List FrameType → List ℕ
 names_text (Known station ftype) octets d = bits_text octets (entry_at ftype d)
-names_text (Unknown station ftype) octets d = []
-names_text (WrongLength station ftype) octets d = []
-names_text (OtherControl station control) octets d = []
-names_text (Untyped station) octets d = []
+names_text _ octets d = []
 
 -- what is shown of a frame
 unfoldable pub shown_text : List ℕ → List FrameType → List ℕ
@@ -74,7 +78,4 @@ Shows text hex start now (Err (Dictionary fault)) = (octets : List ℕ) × (type
 Shows text hex start now (Err Memory) = (octets : List ℕ) × (typed_frame hex ≡ Ok octets) × (text ≢ None) × Appends start now []
 Shows text hex start now (Ok _) = (octets : List ℕ) × (d : List FrameType) × (typed_frame hex ≡ Ok octets) × (given_dictionary text ≡ Ok d) × Appends start now (shown_text octets d)
 Shows text hex start now (Err (Write written)) = (octets : List ℕ) × (d : List FrameType) × (typed_frame hex ≡ Ok octets) × (given_dictionary text ≡ Ok d) × (written ≤ length (shown_text octets d)) × Appends start now (take written (shown_text octets d))
-Shows text hex start now (Err (BadMark at)) = ⊥
-Shows text hex start now (Err PlaceLimit) = ⊥
-Shows text hex start now (Err Read) = ⊥
-Shows text hex start now (Err ReadsLimit) = ⊥
+Shows text hex start now (Err _) = ⊥

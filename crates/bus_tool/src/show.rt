@@ -1,8 +1,7 @@
 //! Shows one frame that is typed in hexadecimal.
 
-ghost use Rattle.std.specs.Prelude.{◌≡◌, ◌≢◌, None, Err, option_map};
-ghost use Rattle.bus_dictionary.specs.DictFault.{Gives};
-ghost use Rattle.bus_tool.specs.Show.{Shows, given_dictionary};
+ghost use Rattle.std.specs.Prelude.{option_map};
+ghost use Rattle.bus_tool.specs.Show.{Reads, Shows};
 
 mod names;
 mod put;
@@ -16,24 +15,16 @@ use std::io::Write;
 use typed::typed_frame;
 
 /// The dictionary of a text. Without a text it is empty, and takes no memory.
-fn read_dictionary(alloc: Global, text: Option<&str>) -> Result<Dictionary, DictFault>
-    ensures value { Gives (λ d. d) result (given_dictionary (option_map (λ s. s.now) text.entry)) }
-    ensures memory { (option_map (λ s. s.now) text.entry ≡ None) → result ≢ Err DictFault.Memory }
+fn read_dictionary(alloc: Global, text: Option<&str>) -> Result<Dictionary, ToolFault>
+    ensures { Reads (option_map (λ s. s.now) text.entry) result }
 {
-    match text {
-        Some(text) => Dictionary::read(alloc, text),
-        None => Ok(Dictionary::empty(alloc)),
-    }
-}
-
-/// The tool's fault for one of the dictionary's.
-fn tool_fault(fault: DictFault) -> ToolFault
-    ensures memory { fault ≡ DictFault.Memory → result ≡ ToolFault.Memory }
-    ensures others { fault ≢ DictFault.Memory → result ≡ ToolFault.Dictionary fault }
-{
-    match fault {
-        DictFault::Memory => ToolFault::Memory,
-        fault => ToolFault::Dictionary(fault),
+    let Some(text) = text else {
+        return Ok(Dictionary::empty(alloc));
+    };
+    match Dictionary::read(alloc, text) {
+        Ok(dictionary) => Ok(dictionary),
+        Err(DictFault::Memory) => Err(ToolFault::Memory),
+        Err(fault) => Err(ToolFault::Dictionary(fault)),
     }
 }
 
@@ -62,7 +53,7 @@ pub fn show_frame<W: Write>(
     };
     let dictionary = match read_dictionary(alloc, dictionary) {
         Ok(dictionary) => dictionary,
-        Err(fault) => return Err(tool_fault(fault)),
+        Err(fault) => return Err(fault),
     };
     match put_frame(&octets, &dictionary, w) {
         Ok(()) => Ok(()),

@@ -1,36 +1,16 @@
 //! Writes what a frame is.
 
-ghost use Rattle.std.specs.Prelude.{◌≡◌, ◌+◌, ◌≤◌, ◌++◌, length, take, codes, OnOk, IfOk, IfErr};
+ghost use Rattle.std.specs.Prelude.{◌≡◌, ◌≤◌, ◌++◌, length, take, codes, OnOk, IfOk, IfErr};
 ghost use Rattle.std.specs.Io.KnownBytes.{Appends};
-ghost use Rattle.arrayvec.specs.ArrayString.{array_string_len};
-ghost use Rattle.bus_bits.specs.Octet.{bits_of_octets};
-ghost use Rattle.bus_fcs.specs.FrameCheck.{is_good};
 ghost use Rattle.bus_tool.specs.Put.{Puts};
 ghost use Rattle.bus_tool.specs.Show.{frame_text, shown_text};
 ghost use Rattle.bus_tool.specs.HeadText.{head_text};
 
 use crate::show::names::put_names;
 use crate::text::{Cut, Line, push_head, push_hex, put_line};
-use bus_bits::Spent;
 use bus_dictionary::{Dictionary, Standing, set_names};
-use bus_fcs::laws::good_is_computed;
-use bus_fcs::{Check, OctetCheck};
+use bus_fcs::{OctetCheck, are_good};
 use std::io::Write;
-
-/// Whether these octets, the last two of them the frame check, are good.
-fn good<C: Check>(octets: &[u8]) -> bool
-    requires at_least { 4 ≤ length octets.now }
-    requires at_most { length octets.now ≤ 258 }
-    ensures { result ≡ is_good (bits_of_octets octets.now) }
-{
-    good_is_computed();
-    let mut check = C::fresh();
-    let mut spent = Spent::zero();
-    for octet in octets {
-        check.fold(*octet, &mut spent);
-    }
-    check.is_good()
-}
 
 /// The first line: the octets, and whether their check is good.
 fn frame_line(octets: &[u8]) -> Line
@@ -41,7 +21,7 @@ fn frame_line(octets: &[u8]) -> Line
     let mut line = Line::new();
     line.push_str("frame ");
     push_hex(&mut line, octets);
-    line.push_str(if good::<OctetCheck>(octets) {
+    line.push_str(if are_good::<OctetCheck>(octets) {
         " good\n"
     } else {
         " bad\n"
