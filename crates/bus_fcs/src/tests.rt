@@ -1,6 +1,6 @@
 //! Values from outside, by both checks.
 
-use crate::{BitCheck, Check, OctetCheck};
+use crate::{BitCheck, Check, OctetCheck, are_good};
 use bus_bits::Spent;
 
 /// `10 83 00` and its frame checking sequence.
@@ -59,6 +59,8 @@ fn good_and_exchanged(rt: HostRuntime) {
     for (octets, want) in [(FRAME, true), ([0x10, 0x83, 0x00, 0xe5, 0xfd], false)] {
         assert_eq!(rt; folded::<BitCheck>(&octets).is_good(), want);
         assert_eq!(rt; folded::<OctetCheck>(&octets).is_good(), want);
+        assert_eq!(rt; are_good::<BitCheck>(&octets), want);
+        assert_eq!(rt; are_good::<OctetCheck>(&octets), want);
     }
 }
 
