@@ -1,12 +1,13 @@
 -- The reports of lists that were worked out by hand, computed from the definitions alone: the longest frame has three octets.
 use Rattle.std.proofs.Common.{◌≡◌, [], ◌∷◌, Some, None, codes, refl}
-use Rattle.bus_bits.specs.Octet.{number, octets}
+use Rattle.bus_bits.specs.Octet.{number, octets, bits_of, bits_of_octets}
 use Rattle.bus_bits.specs.Capture.{text_bits}
 use Rattle.bus_fcs.specs.Division.{add, step, divided, remainder}
-use Rattle.bus_fcs.specs.FrameCheck.{ends_inverted, is_good}
+use Rattle.bus_fcs.specs.FrameCheck.{ends_inverted, is_good, fcs}
 use Rattle.bus_line.specs.Report.{Frame, Damaged, Overlong, Abort, Idle}
 use Rattle.bus_line.specs.declared.cause.Cause.TheVariants.{Unstuffed, Short, Unaligned, Fcs}
 use Rattle.bus_line.specs.Due.{reports, begun}
+use Rattle.bus_line.specs.Line.{Call, raw_bits, line}
 
 -- an empty list
 empty : reports 3 (text_bits (codes "")) ≡ []
@@ -138,3 +139,13 @@ begun_flag = refl
 
 begun_abort : begun (text_bits (codes "01111110 00001000 1111111 000")) ≡ None
 begun_abort = refl
+
+-- the line of a frame, an idle, and a frame whose check ends in five ones
+sent_line : line (Call.Frame (0x10 ∷ 0x83 ∷ 0x00 ∷ []) ∷ Call.Idle ∷ Call.Frame (0x10 ∷ 0x83 ∷ 0xfe ∷ []) ∷ []) ≡ text_bits (codes "01111110 00001000 11000001 00000000 101111101 10100111 01111110 111111111111111 01111110 00001000 11000001 011111011 00110000 110111110 01111110")
+unfolding raw_bits fcs remainder divided step add bits_of bits_of_octets
+sent_line = refl
+
+-- one flag between two frames, and none more behind a flag
+shared_flags : line (Call.Flag ∷ Call.Frame (0x10 ∷ 0x83 ∷ 0x00 ∷ []) ∷ Call.Frame (0x10 ∷ 0x83 ∷ 0x80 ∷ []) ∷ Call.Flag ∷ []) ≡ text_bits (codes "01111110 00001000 11000001 00000000 101111101 10100111 01111110 00001000 11000001 00000001 10101111 100000110 01111110 01111110")
+unfolding raw_bits fcs remainder divided step add bits_of bits_of_octets
+shared_flags = refl

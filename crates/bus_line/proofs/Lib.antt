@@ -22,4 +22,6 @@ pub mod BufferLemmas
 pub mod PaidLemmas
 pub mod SuffixLemmas
 pub mod OwnedLemmas
+pub mod SendLemmas
+pub mod EncoderLemmas
 mod Examples

@@ -1,0 +1,15 @@
+use Rattle.std.proofs.Common.{refl, ap}
+use Rattle.bus_line.specs.Spelling.{ones}
+use Rattle.bus_line.specs.Line.{Idle}
+use Rattle.bus_line.specs.declared.encoder.outgoing.Outgoing.{Outgoing}
+use Rattle.bus_line.specs.EncoderState.{EncoderState}
+use Rattle.bus_line.proofs.EncoderLemmas.{encoded, refused}
+use Rattle.bus_line.proofs.encoder.LineEncoder.idle.Goals as goal
+
+pub returns-in-Ok-clause-encoded : goal.returns-in-Ok-clause-encoded
+returns-in-Ok-clause-encoded g c =
+    encoded g.S.BitSink.taken g.S.BitSink.refusals Idle (ones 15) c.args.self.now _ c.new-out.result c.send_all.new.self _ _ (ap (λ (s : EncoderState). s.ended) c.self.view_is) refl c.in-Ok.ensures.sent (λ calls h. refl)
+
+pub returns-in-Err-clause-refused : goal.returns-in-Err-clause-refused
+returns-in-Err-clause-refused g c = λ written e.
+    refused g.S.BitSink.taken g.S.BitSink.refusals Idle (ones 15) written c.args.self.now _ c.new-out.result c.send_all.new.self _ _ refl (ap (λ (o : Outgoing). o.written) c.new-out.ensures) (cc) c.in-Err.ensures.cut (λ calls h. refl)
