@@ -24,4 +24,6 @@ pub mod SuffixLemmas
 pub mod OwnedLemmas
 pub mod SendLemmas
 pub mod EncoderLemmas
+pub mod SentLemmas
+pub mod BackLemmas
 mod Examples

@@ -17,4 +17,5 @@ pub mod Told
 pub mod EncoderState
 pub mod EncoderView
 pub mod Encoding
+pub mod Sent
 pub mod Laws

@@ -1,7 +1,7 @@
 -- The bits that a sender puts on the line.
 use Rattle.std.specs.Prelude.{ℕ, Bool, true, false, List, [], ◌∷◌, ◌++◌, Option, Some, None, if◌then◌else◌}
 use Rattle.std.specs.List.{last_or}
-use Rattle.bus_bits.specs.Octet.{bits_of_octets}
+use Rattle.bus_bits.specs.Octet.{octets, bits_of_octets}
 use Rattle.bus_fcs.specs.FrameCheck.{fcs}
 use Rattle.bus_line.specs.Spelling.{ones, spelling}
 use Rattle.bus_line.specs.Mark.{flag}
@@ -15,6 +15,10 @@ pub data Call : Type 0 where
 -- the raw bits of a frame between its flags: the bits of its octets and their check, with inserted 0s (ISO/IEC 13239, transparency)
 unfoldable pub raw_bits : List ℕ → List Bool
 raw_bits o = spelling (bits_of_octets o ++ fcs (bits_of_octets o))
+
+-- the octets of a frame as it is read: these and the two of their check
+unfoldable pub with_check : List ℕ → List ℕ
+with_check o = o ++ octets (fcs (bits_of_octets o))
 
 -- the call, if there is one, ends with a flag
 abbrev pub ends_with_flag : Option Call → Bool
