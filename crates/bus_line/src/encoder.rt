@@ -75,12 +75,7 @@ impl LineEncoder {
                 self.behind_flag = true;
                 Ok(())
             }
-            Err(SinkRefused) => {
-                self.ended = true;
-                Err(EncodeFault::Sink {
-                    written: out.written,
-                })
-            }
+            Err(SinkRefused) => Err(self.end(out.written)),
         }
     }
 
@@ -107,12 +102,7 @@ impl LineEncoder {
                 self.behind_flag = false;
                 Ok(())
             }
-            Err(SinkRefused) => {
-                self.ended = true;
-                Err(EncodeFault::Sink {
-                    written: out.written,
-                })
-            }
+            Err(SinkRefused) => Err(self.end(out.written)),
         }
     }
 
@@ -146,12 +136,16 @@ impl LineEncoder {
                 self.behind_flag = true;
                 Ok(())
             }
-            Err(SinkRefused) => {
-                self.ended = true;
-                Err(EncodeFault::Sink {
-                    written: out.written,
-                })
-            }
+            Err(SinkRefused) => Err(self.end(out.written)),
         }
+    }
+
+    /// Ends at a sink's refusal, and gives the fault of a call of which so many bits went out.
+    fn end(&mut self, written: u64) -> EncodeFault
+        ensures fault { result ≡ EncodeFault.Sink written }
+        ensures ended { self.new ≡ record self.old { ended = true } }
+    {
+        self.ended = true;
+        EncodeFault::Sink { written }
     }
 }
