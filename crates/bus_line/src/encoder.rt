@@ -64,7 +64,7 @@ impl LineEncoder {
         ensures unchanged { result ≡ Err EncodeFault.Ended → (self.new ≡ self.old) × (sink.new ≡ sink.old) }
         ensures encoded { OnOk result (Encoded S.taken S.refusals Call.Flag self.old self.new sink.old sink.new) }
         ensures refused { (written : ℕ) → result ≡ Err (EncodeFault.Sink written) → Refused S.taken S.refusals Call.Flag written self.old self.new sink.old sink.new }
-        ensures counted { S.refusals sink.old < S.refusals sink.new → (written : ℕ) × (result ≡ Err (EncodeFault.Sink written)) }
+        ensures counted { (S.refusals sink.old < S.refusals sink.new) ↔ ((written : ℕ) × (result ≡ Err (EncodeFault.Sink written))) }
     {
         if self.ended {
             return Err(EncodeFault::Ended);
@@ -91,7 +91,7 @@ impl LineEncoder {
         ensures unchanged { result ≡ Err EncodeFault.Ended → (self.new ≡ self.old) × (sink.new ≡ sink.old) }
         ensures encoded { OnOk result (Encoded S.taken S.refusals Call.Idle self.old self.new sink.old sink.new) }
         ensures refused { (written : ℕ) → result ≡ Err (EncodeFault.Sink written) → Refused S.taken S.refusals Call.Idle written self.old self.new sink.old sink.new }
-        ensures counted { S.refusals sink.old < S.refusals sink.new → (written : ℕ) × (result ≡ Err (EncodeFault.Sink written)) }
+        ensures counted { (S.refusals sink.old < S.refusals sink.new) ↔ ((written : ℕ) × (result ≡ Err (EncodeFault.Sink written))) }
     {
         if self.ended {
             return Err(EncodeFault::Ended);
@@ -121,7 +121,7 @@ impl LineEncoder {
         ensures unchanged { (result ≡ Err EncodeFault.Ended) ⊎ (result ≡ Err EncodeFault.LengthRange) → (self.new ≡ self.old) × (sink.new ≡ sink.old) }
         ensures encoded { OnOk result (Encoded S.taken S.refusals (Call.Frame octets.now) self.old self.new sink.old sink.new) }
         ensures refused { (written : ℕ) → result ≡ Err (EncodeFault.Sink written) → Refused S.taken S.refusals (Call.Frame octets.now) written self.old self.new sink.old sink.new }
-        ensures counted { S.refusals sink.old < S.refusals sink.new → (written : ℕ) × (result ≡ Err (EncodeFault.Sink written)) }
+        ensures counted { (S.refusals sink.old < S.refusals sink.new) ↔ ((written : ℕ) × (result ≡ Err (EncodeFault.Sink written))) }
         ensures bound { OnOk result ((before : Option Call) → length (added before (Call.Frame octets.now)) ≤ 2492) }
     {
         if self.ended {
