@@ -22,4 +22,8 @@ pub mod BufferLemmas
 pub mod PaidLemmas
 pub mod SuffixLemmas
 pub mod OwnedLemmas
+pub mod SendLemmas
+pub mod EncoderLemmas
+pub mod SentLemmas
+pub mod BackLemmas
 mod Examples

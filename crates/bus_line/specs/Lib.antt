@@ -11,4 +11,11 @@ pub mod After
 pub mod Look
 pub mod OwnedBits
 pub mod Suffix
+pub mod Line
+pub mod Inserting
+pub mod Told
+pub mod EncoderState
+pub mod EncoderView
+pub mod Encoding
+pub mod Sent
 pub mod Laws

@@ -3,6 +3,7 @@
 ghost use Rattle.bus_line.specs.Laws.{HasOneSpelling, SpellsOne, SpellingIsIt, UnspelledIsIt, ReportsAre, ReportsOnly, DueOnce, DueIsIt, BegunIsIt, OneMore, ReportsGrow, SettledIs, SettledStays, SettlesOne, StoresOne, AssembledWithin, StoredPaid, FramesStored, FrameIsSpelled};
 ghost use Rattle.bus_line.specs.OwnedBits.{OwnsEight, FrameOwns, OwnApart};
 ghost use Rattle.bus_line.specs.Suffix.{FlagAlike, IdleAlike};
+ghost use Rattle.bus_line.specs.Sent.{FrameWasSent, SentIsFrame, LineIsReadBack};
 
 /// Each data has one spelling with inserted 0s, and each row of raw bits is that of one data at most.
 pub fn spelling_is_one()
@@ -57,4 +58,18 @@ pub fn reports_own_bits()
 pub fn suffix_is_alike()
     ensures flag { FlagAlike }
     ensures idle { IdleAlike }
+{}
+
+/// Between its flags a frame has the bits that are sent for its octets without their check, and a
+/// piece with the bits that are sent for octets is their frame.
+pub fn frame_is_as_sent()
+    ensures was_sent { FrameWasSent }
+    ensures is_frame { SentIsFrame }
+{}
+
+/// A line is read back: from the bits of calls whose frames have 2 octets or more, and no more than
+/// the longest, exactly these frames with their check are reported, in order and at their places,
+/// and one idle for each unbroken row of idles.
+pub fn line_is_read_back()
+    ensures { LineIsReadBack }
 {}

@@ -2,8 +2,11 @@
 //! and idles, each with its bit places.
 #![tactic(auto)]
 
+mod bit_sink;
 mod cause;
 mod decoder;
+mod encode_fault;
+mod encoder;
 pub mod laws;
 mod line_fault;
 mod owned_piece;
@@ -14,9 +17,12 @@ mod sink_refused;
 mod tests;
 mod whole;
 
+pub use bit_sink::BitSink;
 pub use bus_bits::Span;
 pub use cause::Cause;
 pub use decoder::LineDecoder;
+pub use encode_fault::EncodeFault;
+pub use encoder::LineEncoder;
 pub use line_fault::LineFault;
 pub use owned_piece::OwnedPiece;
 pub use piece::Piece;

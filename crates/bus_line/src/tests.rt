@@ -2,6 +2,7 @@
 //! the rules.
 
 mod decoder;
+mod encoder;
 mod every_list;
 mod limits;
 mod plain_reading;
