@@ -1,0 +1,24 @@
+//! Watches a line: which frames passed, which were damaged, and which station failed to answer.
+#![tactic(auto)]
+
+mod counts;
+mod ending;
+mod feed_fault;
+mod journal;
+mod kept;
+mod new_fault;
+mod outcome;
+mod pending;
+mod seen;
+mod verdict;
+
+pub use bus_bits::Span;
+pub use counts::Counts;
+pub use ending::Ending;
+pub use feed_fault::FeedFault;
+pub use kept::Kept;
+pub use new_fault::NewFault;
+pub use outcome::Outcome;
+pub use pending::Pending;
+pub use seen::Seen;
+pub use verdict::Verdict;
