@@ -1,2 +1,5 @@
 pub mod TalkLemmas
 pub mod KeepLemmas
+pub mod SeenLemmas
+pub mod RoomLemmas
+pub mod StandLemmas

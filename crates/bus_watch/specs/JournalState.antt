@@ -1,6 +1,5 @@
 -- What contracts see of a journal, and the lists of reports after which it may stand.
 use Rattle.std.specs.Prelude.{◌≡◌, ℕ, ◌+◌, ◌<◌, ◌^◌, List, map, sum_by, Option, Some, slice_get}
-use Rattle.std.specs.List.{All}
 use Rattle.bus_line.specs.Report.{Report}
 use Rattle.bus_line.specs.Ledger.{octet_count}
 use Rattle.bus_dictionary.specs.Entry.{FrameType}
@@ -45,7 +44,7 @@ pub record Keeps (j : JournalState) (rs : List Report) : Type 0 where
 
 -- a verdict more can be counted
 abbrev pub CanCount : List Counts → Type 0
-CanCount tally = All (λ c. (c.answered + 1 < 2 ^ 64) × (c.missing + 1 < 2 ^ 64) × (c.spoilt + 1 < 2 ^ 64)) tally
+CanCount tally = (station : ℕ) (c : Counts) → station < 256 → slice_get tally station ≡ Some c → (c.answered + 1 < 2 ^ 64) × (c.missing + 1 < 2 ^ 64) × (c.spoilt + 1 < 2 ^ 64)
 
 -- a report more can be counted
 pub record HasRoom (j : JournalState) : Type 0 where

@@ -5,3 +5,6 @@ pub mod Ledger
 pub mod Counted
 pub mod JournalState
 pub mod Noted
+pub mod Stands
+pub mod AnalyserView
+pub mod Shown

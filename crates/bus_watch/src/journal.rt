@@ -1,6 +1,6 @@
 //! What is kept of the reports so far.
 
-ghost use Rattle.std.specs.Prelude.{◌≡◌, ◌+◌, ◌≤◌, ◌<◌, ◌^◌, List, [], ◌∷◌, ◌++◌, IfOk, length, replicate, true};
+ghost use Rattle.std.specs.Prelude.{◌≡◌, ◌+◌, ◌≤◌, ◌<◌, ◌^◌, List, [], ◌∷◌, ◌++◌, IfOk, length, replicate, true, Some, slice_get, option_copied};
 
 mod keep;
 mod noted;
@@ -142,5 +142,41 @@ impl Journal {
         self.spent.tick_handled();
         self.spent.tick_handled();
         Standing::read(octets, &self.dictionary)
+    }
+
+    /// A frame of the history, of which the oldest has the number 0.
+    pub(crate) fn kept(&self, i: usize) -> Option<&Kept>
+        ensures { option_copied result ≡ slice_get self.now.history.items i }
+    {
+        self.history.get(i)
+    }
+
+    /// How many frames the history has.
+    pub(crate) fn kept_len(&self) -> usize
+        ensures value { result ≡ length self.now.history.items }
+        ensures within { result ≤ self.now.history.capacity }
+    {
+        self.history.len()
+    }
+
+    /// How many verdicts named a station.
+    pub(crate) fn counts(&self, station: u8) -> Counts
+        ensures { slice_get self.now.tally station ≡ Some result }
+    {
+        self.tally[usize::from(station)]
+    }
+
+    /// The command that waits.
+    pub(crate) fn pending(&self) -> Option<Pending>
+        ensures { result ≡ self.now.waiting }
+    {
+        self.waiting
+    }
+
+    /// The dictionary.
+    pub(crate) fn dictionary(&self) -> &Dictionary
+        ensures { result.now ≡ self.now.dictionary }
+    {
+        &self.dictionary
     }
 }

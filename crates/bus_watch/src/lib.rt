@@ -1,6 +1,7 @@
 //! Watches a line: which frames passed, which were damaged, and which station failed to answer.
 #![tactic(auto)]
 
+mod analyser;
 mod counts;
 mod ending;
 mod feed_fault;
@@ -12,6 +13,7 @@ mod pending;
 mod seen;
 mod verdict;
 
+pub use analyser::Analyser;
 pub use bus_bits::Span;
 pub use counts::Counts;
 pub use ending::Ending;
