@@ -3,3 +3,6 @@ pub mod KeepLemmas
 pub mod SeenLemmas
 pub mod RoomLemmas
 pub mod StandLemmas
+pub mod PaceLemmas
+pub mod LawLemmas
+pub mod FedLemmas

@@ -1,16 +1,14 @@
 -- The counters have room, and frames are whole.
-use Rattle.std.proofs.Common.{◌≡◌, ℕ, zero, suc, ◌+◌, ◌*◌, ◌<◌, ◌≤◌, ◌^◌, Bool, true, false, List, [], ◌∷◌, ◌++◌, length, Option, Some, None, refl, sym, ap, ◌∙◌, arith, slice_get, get_or, map, not}
-use Rattle.std.specs.List.{filter, filter_map, cons_option, count_by, sum_by}
+use Rattle.std.proofs.Common.{◌≡◌, ℕ, zero, suc, ◌+◌, ◌*◌, ◌<◌, ◌≤◌, ◌^◌, Bool, List, [], ◌∷◌, length, Option, Some, None, refl, sym, ap, ◌∙◌, arith, get_or, map, not}
+use Rattle.std.specs.List.{filter_map, cons_option, sum_by}
 use Rattle.std.specs.Option.{option_map}
 use Rattle.std.proofs.lemmas.List.{length-map, length-append}
 use Rattle.std.proofs.lemmas.List.Sums.{count_by-le-length, length-filter, sum_by-le, sum_by-append}
-use Rattle.std.proofs.lemmas.Option.{get_or_from_slice_get}
 use Rattle.bus_line.specs.Report.{Report, Kind, Frame, IsReport, moved}
 use Rattle.bus_line.specs.Due.{places, reports, placed, due_at}
-use Rattle.bus_line.specs.Ledger.{octet_count, copied, stored, assembled}
+use Rattle.bus_line.specs.Ledger.{octet_count}
 use Rattle.bus_line.specs.Laws.{FramesStored, StoredPaid, AssembledWithin, DueIsIt, FrameIsSpelled}
-use Rattle.bus_line.specs.LineState.{LineState}
-use Rattle.bus_line.specs.After.{After, FitsFrame, report_of}
+use Rattle.bus_line.specs.After.{FitsFrame, report_of}
 use Rattle.bus_line.specs.declared.piece.Piece.{Piece}
 use Rattle.bus_line.specs.declared.piece.Piece.TheVariants as piece
 use Rattle.bus_dictionary.specs.Entry.{FrameType}
@@ -18,7 +16,7 @@ use Rattle.bus_dictionary.specs.Dictionary.{longest_of}
 use Rattle.bus_watch.specs.Talk.{is_idle, talk, neighbours, verdict_on, verdicts}
 use Rattle.bus_watch.specs.History.{tally, verdicts_of}
 use Rattle.bus_watch.specs.Ledger.{kind_steps, steps}
-use Rattle.bus_watch.specs.JournalState.{JournalState, Keeps, HasRoom, CanCount}
+use Rattle.bus_watch.specs.JournalState.{HasRoom}
 use Rattle.bus_watch.specs.Noted.{IsWhole}
 use Rattle.bus_watch.specs.Stands.{AnalyserState, Stands, line}
 use Rattle.bus_watch.specs.declared.outcome.Outcome.{Outcome}

@@ -1,7 +1,6 @@
 -- One report more is seen.
-use Rattle.std.proofs.Common.{◌≡◌, ℕ, zero, suc, ◌+◌, ◌<◌, ◌≤◌, Bool, List, [], ◌∷◌, ◌++◌, length, take, Option, Some, None, refl, sym, ap, ◌∙◌, arith, slice_get}
+use Rattle.std.proofs.Common.{◌≡◌, ℕ, zero, suc, ◌<◌, List, [], ◌∷◌, ◌++◌, length, Option, Some, refl, ap, ◌∙◌, arith}
 use Rattle.std.specs.List.{filter_map, cons_option}
-use Rattle.std.specs.Option.{option_map, option_to_list}
 use Rattle.std.proofs.lemmas.List.{length_push, take-append-le}
 use Rattle.std.proofs.lemmas.List.Elements.{filter_map-append}
 use Rattle.std.proofs.Math.Seq.{take-append_seam}
@@ -9,7 +8,7 @@ use Rattle.circular_buffer.proofs.Places.{slice_get-append_left, slice_get-appen
 use Rattle.bus_line.specs.Report.{Report}
 use Rattle.bus_line.specs.Due.{places}
 use Rattle.bus_dictionary.specs.Entry.{FrameType}
-use Rattle.bus_watch.specs.Seen.{SeenReport, seen_of, seen_number, seen}
+use Rattle.bus_watch.specs.Seen.{seen_of, seen_number, seen}
 
 filter_map-places : {Y : Type 0} (f g : ℕ → Option Y) (n : ℕ) → ((i : ℕ) → i < n → f i ≡ g i) → filter_map f (places n) ≡ filter_map g (places n)
 filter_map-places f g zero h = refl

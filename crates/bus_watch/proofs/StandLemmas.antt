@@ -1,13 +1,14 @@
 -- One bit more leads an analyser on.
-use Rattle.std.proofs.Common.{◌≡◌, ℕ, ◌+◌, Bool, List, [], ◌∷◌, ◌++◌, length, Option, Some, None, refl, sym, ap, ◌∙◌, subst, append-nil}
+use Rattle.std.proofs.Common.{◌≡◌, ℕ, Bool, List, [], ◌∷◌, ◌++◌, Option, Some, None, refl, sym, ap, ◌∙◌, subst, append-nil}
 use Rattle.std.specs.Option.{option_to_list}
 use Rattle.bus_line.specs.Report.{Report}
-use Rattle.bus_line.specs.Due.{placed}
+use Rattle.bus_bits.specs.declared.spent.Spent.{Spent}
+use Rattle.bus_line.specs.Due.{reports, placed}
+use Rattle.bus_line.specs.Ledger.{IsLedger as IsLineLedger}
 use Rattle.bus_line.specs.LineState.{LineState}
 use Rattle.bus_line.specs.After.{After, Pushed, ShowsHeld, report_of, shown}
 use Rattle.bus_line.specs.declared.piece.Piece.{Piece}
 use Rattle.bus_line.specs.declared.piece.Piece.TheVariants as piece
-use Rattle.bus_dictionary.specs.Entry.{FrameType}
 use Rattle.bus_dictionary.specs.Dictionary.{longest_of}
 use Rattle.bus_watch.specs.Seen.{SeenReport, seen_of, seen}
 use Rattle.bus_watch.specs.JournalState.{JournalState, Keeps}
@@ -15,7 +16,9 @@ use Rattle.bus_watch.specs.Noted.{Says}
 use Rattle.bus_watch.specs.Shown.{HasOctets, held_report, told_report}
 use Rattle.bus_watch.specs.declared.analyser.Told.{Told}
 use Rattle.bus_watch.specs.Stands.{AnalyserState, Stands, Sees, line, seen_after}
+use Rattle.bus_watch.specs.Ledger.{IsLedger}
 use Rattle.bus_watch.proofs.SeenLemmas.{seen-more}
+use Rattle.bus_watch.proofs.RoomLemmas.{octets-moved, steps-moved}
 
 -- what the decoder's contract says of a bit
 abbrev pub GrowsBy : {C : Type 0} → (C → List ℕ → Type 0) → ℕ → LineState C → Bool → Option Piece → Type 0
@@ -79,4 +82,17 @@ sees-some folded cost old new bit piece told p grows keeps says dictionary depth
   depth = depth;
   origin = p.origin;
   place = p.place;
+}
+
+-- the steps of the decoder, and those of the journal
+pub ledger-is : {C : Type 0} (folded : C → List ℕ → Type 0) (cost : ℕ) (a : AnalyserState C) (b : List Bool) (d j : Spent) → Stands folded cost a b
+    → IsLineLedger cost a.decoder.longest b d → j.copied ≡ a.journal.copied → j.handled ≡ a.journal.handled
+    → IsLedger cost (longest_of a.journal.dictionary) b (record d { copied = j.copied; handled = j.handled })
+ledger-is folded cost a b d j s l copied handled = record {
+  bits = l.bits;
+  settled = l.settled;
+  filled = rw (← s.longest) l.filled;
+  paid = rw (← s.longest) l.paid;
+  kept = copied ∙ s.journal.copied ∙ octets-moved a.decoder.origin (reports (longest_of a.journal.dictionary) b);
+  reported = handled ∙ s.journal.handled ∙ steps-moved a.decoder.origin (reports (longest_of a.journal.dictionary) b);
 }

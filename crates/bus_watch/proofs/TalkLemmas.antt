@@ -1,6 +1,6 @@
 -- One report more: the talk, its verdicts, the command that waits, and the tally.
-use Rattle.std.proofs.Common.{◌≡◌, ℕ, ◌+◌, ◌==◌, ◌&&◌, not, Bool, true, false, if◌then◌else◌, List, [], ◌∷◌, ◌++◌, Option, Some, None, refl, sym, ap, ◌∙◌, arith, subst}
-use Rattle.std.specs.List.{filter, filter_map, cons_option, last_or, count_by}
+use Rattle.std.proofs.Common.{◌≡◌, not, Bool, true, false, if◌then◌else◌, List, [], ◌∷◌, ◌++◌, Option, Some, None, refl, sym, ap, ◌∙◌}
+use Rattle.std.specs.List.{filter_map, cons_option, last_or}
 use Rattle.std.specs.Option.{option_map, option_and_then, option_to_list}
 use Rattle.std.proofs.lemmas.List.{append-nil}
 use Rattle.std.proofs.lemmas.List.Elements.{filter-append, filter_map-append}
@@ -8,10 +8,6 @@ use Rattle.bus_line.specs.Report.{Report}
 use Rattle.bus_dictionary.specs.Entry.{FrameType}
 use Rattle.bus_watch.specs.Talk.{is_idle, talk, neighbours, standing_of, waits, verdict, verdict_on, verdicts, pending}
 use Rattle.bus_watch.specs.Seen.{decided}
-use Rattle.bus_watch.specs.History.{tally, verdicts_of, is_outcome}
-use Rattle.bus_watch.specs.Counted.{one_more, counted}
-use Rattle.bus_watch.specs.declared.outcome.Outcome.{Outcome}
-use Rattle.bus_watch.specs.declared.outcome.Outcome.TheVariants.{Answered, Missing, Spoilt}
 use Rattle.bus_watch.specs.declared.pending.Pending.{Pending}
 use Rattle.bus_watch.specs.declared.verdict.Verdict.{Verdict}
 

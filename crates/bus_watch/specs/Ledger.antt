@@ -1,5 +1,5 @@
 -- The ledger of a finished list of bits, the steps of its reports included.
-use Rattle.std.specs.Prelude.{◌≡◌, ℕ, ◌*◌, Bool, List, length, sum_by}
+use Rattle.std.specs.Prelude.{◌≡◌, ℕ, ◌+◌, ◌*◌, Bool, List, length, sum_by}
 use Rattle.bus_bits.specs.declared.spent.Spent.{Spent}
 use Rattle.bus_line.specs.Report.{Kind, Frame, Report}
 use Rattle.bus_line.specs.Due.{reports}
@@ -15,6 +15,10 @@ steps r = kind_steps r.kind
 
 abbrev pub handled : List Report → ℕ
 handled rs = sum_by steps rs
+
+-- all steps
+abbrev pub total : Spent → ℕ
+total s = s.shifted + s.assembled + s.folded + s.stored + s.copied + s.handled
 
 -- the counters of an analyser after the bits b, whose check costs so much an octet
 pub record IsLedger (cost longest : ℕ) (b : List Bool) (spent : Spent) : Type 0 where

@@ -8,3 +8,6 @@ pub mod Noted
 pub mod Stands
 pub mod AnalyserView
 pub mod Shown
+pub mod Sink
+pub mod Fed
+pub mod Laws

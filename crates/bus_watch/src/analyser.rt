@@ -10,13 +10,14 @@ ghost use Rattle.bus_line.specs.Due.{begun};
 ghost use Rattle.bus_line.specs.Ledger.{stored_from};
 ghost use Rattle.bus_dictionary.specs.Dictionary.{longest_of};
 
-use crate::journal::{Journal, Noted};
 use crate::counts::Counts;
 use crate::ending::Ending;
+use crate::journal::{Journal, Noted};
 use crate::kept::Kept;
+use crate::laws::{seen_grows, steps_are_bounded};
 use crate::new_fault::NewFault;
 use crate::seen::Seen;
-use bus_bits::Span;
+use bus_bits::{Span, Spent};
 use bus_dictionary::Dictionary;
 use bus_fcs::Check;
 use bus_line::laws::{frame_is_spelled, reports_are, settled_places};
@@ -57,15 +58,22 @@ impl<C: Check> Model for Analyser<C> {
 impl<C: Check> Analyser<C> {
     ghost use Rattle.bus_watch.specs.contracts.analyser.Analyser.{the_row};
     ghost use Rattle.bus_watch.specs.Stands.{Stands, Sees, line};
+    ghost use Rattle.bus_watch.specs.Seen.{seen_at};
     ghost use Rattle.bus_watch.specs.Shown.{shown, shown_option, told_report, told_option, kept_option, begun_span};
     ghost use Rattle.bus_watch.specs.History.{history, tally};
     ghost use Rattle.bus_watch.specs.Talk.{pending};
+    ghost use Rattle.bus_watch.specs.Ledger.{IsLedger, total};
 
     /// An analyser that took no bit, whose first bit has the place `origin`.
     ///
     /// `depth` is how many frames the history keeps, 1 to 1024. `origin` is at most 2^60. Where it
     /// refuses, the dictionary is dropped.
-    pub fn new(alloc: Global, dictionary: Dictionary, depth: usize, origin: u64) -> Result<Self, NewFault>
+    pub fn new(
+        alloc: Global,
+        dictionary: Dictionary,
+        depth: usize,
+        origin: u64,
+    ) -> Result<Self, NewFault>
         ensures depth { (result ≡ Err NewFault.DepthRange) ↔ ((depth < 1) ⊎ (1024 < depth)) }
         ensures origin { (result ≡ Err NewFault.Origin) ↔ ((1 ≤ depth) × (depth ≤ 1024) × (2 ^ 60 < origin)) }
         ensures stands { IfOk result (λ a. Stands C.folded C.COST a []) }
@@ -88,9 +96,12 @@ impl<C: Check> Analyser<C> {
     /// Takes a bit, and keeps what it decides.
     fn note(&mut self, bit: bool) -> Result<Option<Told>, PlaceLimit>
         ensures limit { IsErr result ↔ (2 ^ 60 ≤ self.old.decoder.place) }
+        ensures answer { IfOk result (λ told. (b : List Bool) → Stands C.folded C.COST self.old b →
+            told_option self.new.decoder.octets told ≡ seen_at self.old.journal.dictionary (line self.old (b ++ bit ∷ [])) self.old.decoder.place) }
         ensures sees { IfOk result (λ told. Sees C.folded C.COST self.old (bit ∷ []) (option_to_list (told_option self.new.decoder.octets told)) self.new) }
         ensures err { OnErr result (self.new ≡ self.old) }
     {
+        seen_grows();
         match self.decoder.push(bit) {
             Err(PlaceLimit) => Err(PlaceLimit),
             Ok(None) => Ok(None),
@@ -124,6 +135,8 @@ impl<C: Check> Analyser<C> {
     /// Refuses as [`PlaceLimit`], with nothing changed, where the bit's place would be 2^60.
     pub fn push(&mut self, bit: bool) -> Result<Option<Seen<'_>>, PlaceLimit>
         ensures limit { IsErr result ↔ (2 ^ 60 ≤ self.old.decoder.place) }
+        ensures answer { IfOk result (λ o. (b : List Bool) → Stands C.folded C.COST self.old b →
+            shown_option o ≡ seen_at self.old.journal.dictionary (line self.old (b ++ bit ∷ [])) self.old.decoder.place) }
         ensures* rests { sem 𝓛 (Rests (the_row C.row C.Check) self.entry (λ new.
             IfOk result (λ o. Sees C.folded C.COST self.old (bit ∷ []) (option_to_list (shown_option o)) new) × OnErr result (new ≡ self.old))) }
     {
@@ -184,6 +197,27 @@ impl<C: Check> Analyser<C> {
             result ≡ stored_from (longest_of self.now.journal.dictionary) b first }
     {
         self.decoder.buffered()
+    }
+
+    /// The steps so far: those of the ledger of the bits, at most seventeen for each.
+    ///
+    /// A bit is taken and settles at most one other; an octet is stored and folded, at up to eight
+    /// units, once for eight bits, and copied once at most; and a frame's six steps come once for
+    /// forty bits, the three of any other report once for eight. So all come to less than four for
+    /// each bit, and to less than three with a check that costs one.
+    pub fn spent(&self) -> Spent
+        ensures ledger { (b : List Bool) → Stands C.folded C.COST self.now b → IsLedger C.COST (longest_of self.now.journal.dictionary) b result }
+        ensures seventeen { (b : List Bool) → Stands C.folded C.COST self.now b → total result ≤ 17 * length b }
+        ensures four { (b : List Bool) → Stands C.folded C.COST self.now b → total result ≤ 4 * length b }
+        ensures three { C.COST ≡ 1 → (b : List Bool) → Stands C.folded C.COST self.now b → (result.folded ≡ result.stored) × (total result ≤ 3 * length b) }
+    {
+        steps_are_bounded();
+        let journal = self.journal.spent();
+        Spent {
+            copied: journal.copied,
+            handled: journal.handled,
+            ..self.decoder.spent()
+        }
     }
 
     /// The place of the next bit: the origin and the bits so far.

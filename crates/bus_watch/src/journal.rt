@@ -50,7 +50,11 @@ impl Journal {
     ghost use Rattle.bus_dictionary.specs.Standing.{standing};
 
     /// A journal of no reports, whose history has room for `depth` frames.
-    pub(crate) fn new(alloc: Global, dictionary: Dictionary, depth: usize) -> Result<Self, AllocError>
+    pub(crate) fn new(
+        alloc: Global,
+        dictionary: Dictionary,
+        depth: usize,
+    ) -> Result<Self, AllocError>
         ensures keeps { IfOk result (λ j. Keeps (journal_state j) []) }
         ensures given { IfOk result (λ j. (j.dictionary ≡ dictionary) × (j.history.capacity ≡ depth)) }
     {
@@ -178,5 +182,12 @@ impl Journal {
         ensures { result.now ≡ self.now.dictionary }
     {
         &self.dictionary
+    }
+
+    /// The steps that are counted here: `copied` and `handled`.
+    pub(crate) fn spent(&self) -> Spent
+        ensures { result ≡ self.now.spent }
+    {
+        self.spent
     }
 }

@@ -31,7 +31,13 @@ fn type_in(standing: Standing) -> Option<u8>
 fn answers(verdict: Option<Verdict>) -> bool
     ensures { result ≡ answers verdict }
 {
-    matches!(verdict, Some(Verdict { outcome: Outcome::Answered, .. }))
+    matches!(
+        verdict,
+        Some(Verdict {
+            outcome: Outcome::Answered,
+            ..
+        })
+    )
 }
 
 impl Noted {

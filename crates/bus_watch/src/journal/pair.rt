@@ -24,8 +24,7 @@ impl Pending {
         match right {
             None => Outcome::Spoilt,
             Some(Standing::Known { station, ftype })
-                if station == self.station && u16::from(ftype) == u16::from(self.ftype) + 128 =>
-            {
+                if station == self.station && u16::from(ftype) == u16::from(self.ftype) + 128 => {
                 Outcome::Answered
             }
             Some(_) => Outcome::Missing,

@@ -1,4 +1,4 @@
-use Rattle.std.proofs.Common.{refl, rules, subst}
+use Rattle.std.proofs.Common.{rules, subst}
 use Rattle.bus_watch.specs.Counted.{Counted}
 use Rattle.bus_watch.proofs.KeepLemmas.{keeps-frame}
 use Rattle.bus_watch.proofs.journal.Journal.frame.Goals as goal

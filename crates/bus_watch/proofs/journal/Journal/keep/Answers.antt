@@ -1,4 +1,4 @@
-use Rattle.std.proofs.Common.{◌≡◌, refl, rules, ap, arith, ◌∙◌}
+use Rattle.std.proofs.Common.{◌≡◌, ap}
 use Rattle.std.proofs.lemmas.List.{take_all}
 use Rattle.bus_watch.specs.History.{KeptFrame}
 use Rattle.bus_watch.specs.JournalState.{kept_frame}
