@@ -29,3 +29,6 @@ pub use pending::Pending;
 pub use report_sink::ReportSink;
 pub use seen::Seen;
 pub use verdict::Verdict;
+
+#[cfg(test)]
+mod tests;
