@@ -6,3 +6,4 @@ pub mod StandLemmas
 pub mod PaceLemmas
 pub mod LawLemmas
 pub mod FedLemmas
+mod Examples
