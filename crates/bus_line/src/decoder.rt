@@ -6,10 +6,10 @@ mod look;
 mod step;
 
 ghost use Rattle.std.specs.Prelude.{◌≡◌, ◌+◌, ◌*◌, ◌-◌, ◌%◌, ◌/◌, ◌≤◌, ◌<◌, ◌^◌, ◌↔◌, ◌⊎◌, List, Bool, [], ◌∷◌, ◌++◌, IsErr, IfOk, OnOk, OnErr, IsErrOf, IsTrue, length, ℕ, cond, Some, None, IsSome};
-ghost use Rattle.std.specs.Option.{option_map};
+ghost use Rattle.std.specs.Option.{option_map, option_to_list};
 ghost use Rattle.std.specs.Borrow.{sem};
 ghost use Rattle.std.specs.Io.BufRead.{Rests};
-ghost use Rattle.bus_line.specs.Due.{due_at, begun};
+ghost use Rattle.bus_line.specs.Due.{due_at, begun, placed};
 ghost use Rattle.bus_line.specs.Ledger.{stored_from, IsLedger};
 
 use crate::line_fault::LineFault;
@@ -110,6 +110,8 @@ impl<C: Check> LineDecoder<C> {
         ensures limit { IsErr result ↔ (2 ^ 60 ≤ self.old.place) }
         ensures answer { IfOk result (λ o. (b : List Bool) → After C.folded C.COST self.old b →
             shown o ≡ option_map (moved self.old.origin) (due_at self.old.longest (b ++ bit ∷ []) (length b))) }
+        ensures more { IfOk result (λ o. (b : List Bool) → After C.folded C.COST self.old b →
+            placed self.old.origin self.old.longest (b ++ bit ∷ []) ≡ placed self.old.origin self.old.longest b ++ option_to_list (shown o)) }
         ensures fits { IfOk result (λ o. FitsFrame self.old.longest o) }
         ensures* rests { sem 𝓛 (Rests (the_row C.row C.Check) self.entry (λ new.
             IfOk result (λ o. Pushed C.folded C.COST self.old bit o new) × OnErr result (new ≡ self.old))) }

@@ -1,0 +1,37 @@
+-- What feeding bits does to an analyser and a sink.
+use Rattle.std.specs.Prelude.{◌≡◌, ℕ, ◌<◌, ◌≤◌, Bool, List, [], ◌∷◌, ◌++◌, length, take, Option}
+use Rattle.bus_watch.specs.Seen.{SeenReport}
+use Rattle.bus_watch.specs.Sink.{told}
+use Rattle.bus_watch.specs.Stands.{AnalyserState, Sees}
+use Rattle.bus_watch.specs.declared.feed_fault.FeedFault.{FeedFault}
+use Rattle.bus_watch.specs.declared.feed_fault.FeedFault.TheVariants.{PlaceLimit, Sink}
+
+module _ {C S : Type 0} (folded : C → List ℕ → Type 0) (cost : ℕ) (taken : S → Option (List SeenReport)) where
+  -- these bits led from old to new, and the sink took what is seen at them
+  pub record Fed (old : AnalyserState C) (bits : List Bool) (new : AnalyserState C) (before after : S) : Type 0 where
+    pub seen : List SeenReport
+    pub sees : Sees folded cost old bits seen new
+    pub took : taken after ≡ told (taken before) seen
+
+  -- these bits led from old to new, and the sink took what is seen at them but the last, which is seen at the last bit
+  pub record Refused (old : AnalyserState C) (bits : List Bool) (new : AnalyserState C) (before after : S) : Type 0 where
+    pub seen : List SeenReport
+    pub lost : SeenReport
+    pub before_last : AnalyserState C
+    pub last : Bool
+    pub front : List Bool
+    pub all : bits ≡ front ++ last ∷ []
+    pub sees : Sees folded cost old front seen before_last
+    pub sees_last : Sees folded cost before_last (last ∷ []) (lost ∷ []) new
+    pub took : taken after ≡ told (taken before) seen
+
+  -- of the first bits of a list
+  pub record RefusedAt (old : AnalyserState C) (bits : List Bool) (consumed : ℕ) (new : AnalyserState C) (before after : S) : Type 0 where
+    pub some : 0 < consumed
+    pub within : consumed ≤ length bits
+    pub refused : Refused old (take consumed bits) new before after
+
+-- where it was the sink
+abbrev pub ForSink : FeedFault → (ℕ → Type 0) → Type 0
+ForSink PlaceLimit P = Unit {0}
+ForSink (Sink consumed) P = P consumed

@@ -1,0 +1,13 @@
+pub mod Talk
+pub mod Seen
+pub mod History
+pub mod Ledger
+pub mod Counted
+pub mod JournalState
+pub mod Noted
+pub mod Stands
+pub mod AnalyserView
+pub mod Shown
+pub mod Sink
+pub mod Fed
+pub mod Laws

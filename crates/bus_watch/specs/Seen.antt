@@ -1,0 +1,70 @@
+-- What is seen: each report, and what follows from it and the reports before it.
+use Rattle.std.specs.Prelude.{ℕ, ◌==◌, not, ◌&&◌, nat_le, Bool, true, false, List, length, take, find, filter_map, slice_get, Option, Some, None, option_map, option_and_then, if◌then◌else◌}
+use Rattle.std.specs.List.{last_or}
+use Rattle.bus_line.specs.Report.{Report, due}
+use Rattle.bus_line.specs.Due.{places}
+use Rattle.bus_dictionary.specs.Entry.{FrameType}
+use Rattle.bus_dictionary.specs.declared.standing.Standing.{Standing}
+use Rattle.bus_dictionary.specs.declared.standing.Standing.TheVariants.{OtherControl, Untyped, Unknown, WrongLength, Known}
+use Rattle.bus_watch.specs.Talk.{talk, is_idle, standing_of, verdict_on}
+use Rattle.bus_watch.specs.declared.outcome.Outcome.{Outcome}
+use Rattle.bus_watch.specs.declared.outcome.Outcome.TheVariants.{Answered}
+use Rattle.bus_watch.specs.declared.verdict.Verdict.{Verdict}
+
+pub record SeenReport : Type 0 where
+  pub report : Report
+  pub standing : Option Standing
+  pub verdict : Option Verdict
+  pub stray : Bool
+
+-- the verdict that a report decides: that on its left neighbour in the talk
+abbrev pub decided : List FrameType → List Report → Report → Option Verdict
+decided d before r = if is_idle r.kind then None else option_and_then (λ left. verdict_on d left r) (last_or None (talk before))
+
+-- the frame type, where control octet and information give one
+abbrev pub type_in : Standing → Option ℕ
+type_in (OtherControl station control) = None
+type_in (Untyped station) = None
+type_in (Unknown station ftype) = Some ftype
+type_in (WrongLength station ftype) = Some ftype
+type_in (Known station ftype) = Some ftype
+
+abbrev pub type_of : Option Standing → Option ℕ
+type_of s = option_and_then type_in s
+
+abbrev pub is_answer_type : Option ℕ → Bool
+is_answer_type None = false
+is_answer_type (Some t) = nat_le 128 t
+
+abbrev pub is_answered : Outcome → Bool
+is_answered Answered = true
+is_answered outcome = false
+
+abbrev pub answers : Option Verdict → Bool
+answers None = false
+answers (Some v) = is_answered v.outcome
+
+-- of a type of 128 or more, and no answer
+abbrev pub is_stray : Option Standing → Option Verdict → Bool
+is_stray standing verdict = is_answer_type (type_of standing) && not (answers verdict)
+
+-- a report, with those before it
+abbrev pub seen_of : List FrameType → List Report → Report → SeenReport
+seen_of d before r = record {
+  report = r;
+  standing = standing_of d r.kind;
+  verdict = decided d before r;
+  stray = is_stray (standing_of d r.kind) (decided d before r);
+}
+
+-- report number i, with those before it
+abbrev pub seen_number : List FrameType → List Report → ℕ → Option SeenReport
+seen_number d rs i = option_map (seen_of d (take i rs)) (slice_get rs i)
+
+-- what is seen of these reports, in their order
+abbrev pub seen : List FrameType → List Report → List SeenReport
+seen d rs = filter_map (seen_number d rs) (places (length rs))
+
+-- what is seen of the report that is due at a place, if there is one
+abbrev pub seen_at : List FrameType → List Report → ℕ → Option SeenReport
+seen_at d rs place = find (λ s. due s.report == place) (seen d rs)

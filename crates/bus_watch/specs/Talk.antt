@@ -1,0 +1,69 @@
+-- The talk on a line: its commands that wait for an answer, and the verdicts on them.
+use Rattle.std.specs.Prelude.{◌+◌, ◌==◌, ◌&&◌, not, nat_lt, Bool, true, false, List, [], ◌∷◌, filter, filter_map, Option, Some, None, option_map, option_and_then, if◌then◌else◌}
+use Rattle.std.specs.List.{last_or}
+use Rattle.bus_bits.specs.declared.span.Span.{Span}
+use Rattle.bus_line.specs.Report.{Kind, Frame, Idle, Report}
+use Rattle.bus_dictionary.specs.Entry.{FrameType}
+use Rattle.bus_dictionary.specs.Dictionary.{entry_at}
+use Rattle.bus_dictionary.specs.Standing.{standing}
+use Rattle.bus_dictionary.specs.declared.standing.Standing.{Standing}
+use Rattle.bus_dictionary.specs.declared.standing.Standing.TheVariants.{Known}
+use Rattle.bus_watch.specs.declared.outcome.Outcome.{Outcome}
+use Rattle.bus_watch.specs.declared.outcome.Outcome.TheVariants.{Answered, Missing, Spoilt}
+use Rattle.bus_watch.specs.declared.pending.Pending.{Pending}
+use Rattle.bus_watch.specs.declared.verdict.Verdict.{Verdict}
+
+abbrev pub is_idle : Kind → Bool
+is_idle Idle = true
+is_idle kind = false
+
+-- the reports without idles
+abbrev pub talk : List Report → List Report
+talk rs = filter (λ r. not (is_idle r.kind)) rs
+
+-- each item but the last, with the one right of it
+abbrev pub neighbours : {A : Type 0} → List A → List (A × A)
+neighbours [] = []
+neighbours (x ∷ []) = []
+neighbours (x ∷ y ∷ rest) = (x, y) ∷ neighbours (y ∷ rest)
+
+-- how a frame stands to the dictionary; nothing else has a standing
+abbrev pub standing_of : List FrameType → Kind → Option Standing
+standing_of d (Frame octets) = Some (standing octets d)
+standing_of d kind = None
+
+-- whether an entry says that commands of its type are answered
+abbrev pub asks : Option FrameType → Bool
+asks None = false
+asks (Some e) = e.answered
+
+-- a frame of this standing is a command that waits: known, of a type below 128 that is answered, to one station and not to all
+abbrev pub command : List FrameType → Span → Standing → Option Pending
+command d span (Known station ftype) =
+    if nat_lt ftype 128 && (asks (entry_at ftype d) && not (station == 255)) then Some (record { span = span; station = station; ftype = ftype }) else None
+command d span standing = None
+
+-- the command that a report is, if it waits
+abbrev pub waits : List FrameType → Report → Option Pending
+waits d r = option_and_then (command d (record { first = r.first; past = r.past })) (standing_of d r.kind)
+
+-- what becomes of a command, by the standing of what is right of it: answered by a known frame of the same station whose type is 128 more
+abbrev pub outcome : Pending → Option Standing → Outcome
+outcome p None = Spoilt
+outcome p (Some (Known station ftype)) = if station == p.station && ftype == p.ftype + 128 then Answered else Missing
+outcome p (Some standing) = Missing
+
+abbrev pub verdict : Option Standing → Pending → Verdict
+verdict right p = record { outcome = outcome p right; span = p.span; station = p.station; ftype = p.ftype }
+
+-- the verdict on a report, where it waits, by its right neighbour
+abbrev pub verdict_on : List FrameType → Report → Report → Option Verdict
+verdict_on d left right = option_map (verdict (standing_of d right.kind)) (waits d left)
+
+-- the verdicts on all commands that have a right neighbour in the talk
+abbrev pub verdicts : List FrameType → List Report → List Verdict
+verdicts d rs = filter_map (λ pair. verdict_on d pair.0 pair.1) (neighbours (talk rs))
+
+-- the command that has none
+abbrev pub pending : List FrameType → List Report → Option Pending
+pending d rs = option_and_then (waits d) (last_or None (talk rs))

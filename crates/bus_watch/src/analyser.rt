@@ -1,0 +1,230 @@
+//! The analyser: what is seen on a line, one bit at a time, in fixed memory.
+
+mod held;
+
+ghost use Rattle.std.specs.Prelude.{◌≡◌, ◌+◌, ◌*◌, ◌≤◌, ◌<◌, ◌^◌, ◌↔◌, ◌⊎◌, List, Bool, [], ◌∷◌, ◌++◌, IsErr, IfOk, OnOk, OnErr, length, ℕ, Some, Err, slice_get};
+ghost use Rattle.std.specs.Option.{option_map, option_to_list};
+ghost use Rattle.std.specs.Borrow.{sem};
+ghost use Rattle.std.specs.Io.BufRead.{Rests};
+ghost use Rattle.bus_line.specs.Due.{begun};
+ghost use Rattle.bus_line.specs.Ledger.{stored_from};
+ghost use Rattle.bus_dictionary.specs.Dictionary.{longest_of};
+
+use crate::counts::Counts;
+use crate::ending::Ending;
+use crate::journal::{Journal, Noted};
+use crate::kept::Kept;
+use crate::laws::{seen_grows, steps_are_bounded};
+use crate::new_fault::NewFault;
+use crate::seen::Seen;
+use bus_bits::{Span, Spent};
+use bus_dictionary::Dictionary;
+use bus_fcs::Check;
+use bus_line::laws::{frame_is_spelled, reports_are, settled_places};
+use bus_line::{LineDecoder, LineFault, PlaceLimit};
+use held::Held;
+use std::alloc::Global;
+use std::marker::Model;
+
+/// Watches one line: finds its frames and whatever else stands on it, pairs commands with answers,
+/// and keeps the last frames.
+///
+/// It takes memory once, for the history, when it is made.
+#[derive(Drop)]
+pub struct Analyser<C: Check> {
+    decoder: LineDecoder<C>,
+    journal: Journal,
+}
+
+/// What a bit decided, and what follows from it.
+#[derive(Clone, Copy)]
+struct Told {
+    held: Held,
+    noted: Noted,
+}
+
+impl<C: Check> Model for Analyser<C> {
+    ghost use Rattle.bus_watch.specs.Stands.{AnalyserState};
+
+    ghost Value = { AnalyserState C };
+
+    ghost use Rattle.bus_watch.specs.AnalyserView.{analyser_state, IsWithin};
+
+    ghost view = { analyser_state };
+
+    ghost invariant = { IsWithin C.folded C.COST };
+}
+
+impl<C: Check> Analyser<C> {
+    ghost use Rattle.bus_watch.specs.contracts.analyser.Analyser.{the_row};
+    ghost use Rattle.bus_watch.specs.Stands.{Stands, Sees, line};
+    ghost use Rattle.bus_watch.specs.Seen.{seen_at};
+    ghost use Rattle.bus_watch.specs.Shown.{shown, shown_option, told_report, told_option, kept_option, begun_span};
+    ghost use Rattle.bus_watch.specs.History.{history, tally};
+    ghost use Rattle.bus_watch.specs.Talk.{pending};
+    ghost use Rattle.bus_watch.specs.Ledger.{IsLedger, total};
+
+    /// An analyser that took no bit, whose first bit has the place `origin`.
+    ///
+    /// `depth` is how many frames the history keeps, 1 to 1024. `origin` is at most 2^60. Where it
+    /// refuses, the dictionary is dropped.
+    pub fn new(
+        alloc: Global,
+        dictionary: Dictionary,
+        depth: usize,
+        origin: u64,
+    ) -> Result<Self, NewFault>
+        ensures depth { (result ≡ Err NewFault.DepthRange) ↔ ((depth < 1) ⊎ (1024 < depth)) }
+        ensures origin { (result ≡ Err NewFault.Origin) ↔ ((1 ≤ depth) × (depth ≤ 1024) × (2 ^ 60 < origin)) }
+        ensures stands { IfOk result (λ a. Stands C.folded C.COST a []) }
+        ensures given { IfOk result (λ a. (a.journal.dictionary ≡ dictionary) × (a.journal.depth ≡ depth) × (a.decoder.origin ≡ origin) × (a.decoder.place ≡ origin)) }
+    {
+        if depth < 1 || depth > 1024 {
+            return Err(NewFault::DepthRange);
+        }
+        let decoder = match LineDecoder::new(dictionary.longest(), origin) {
+            Ok(decoder) => decoder,
+            Err(LineFault::Origin) => return Err(NewFault::Origin),
+            Err(LineFault::LongestRange) => unreachable!(),
+        };
+        match Journal::new(alloc, dictionary, depth) {
+            Ok(journal) => Ok(Analyser { decoder, journal }),
+            Err(_) => Err(NewFault::Memory),
+        }
+    }
+
+    /// Takes a bit, and keeps what it decides.
+    fn note(&mut self, bit: bool) -> Result<Option<Told>, PlaceLimit>
+        ensures limit { IsErr result ↔ (2 ^ 60 ≤ self.old.decoder.place) }
+        ensures answer { IfOk result (λ told. (b : List Bool) → Stands C.folded C.COST self.old b →
+            told_option self.new.decoder.octets told ≡ seen_at self.old.journal.dictionary (line self.old (b ++ bit ∷ [])) self.old.decoder.place) }
+        ensures sees { IfOk result (λ told. Sees C.folded C.COST self.old (bit ∷ []) (option_to_list (told_option self.new.decoder.octets told)) self.new) }
+        ensures err { OnErr result (self.new ≡ self.old) }
+    {
+        seen_grows();
+        match self.decoder.push(bit) {
+            Err(PlaceLimit) => Err(PlaceLimit),
+            Ok(None) => Ok(None),
+            Ok(Some(piece)) => {
+                reports_are();
+                frame_is_spelled();
+                settled_places();
+                Ok(Some(Told {
+                    held: Held::of(piece),
+                    noted: self.journal.take(piece),
+                }))
+            }
+        }
+    }
+
+    /// What was decided, as it is handed out.
+    fn seen(&self, told: Told) -> Seen<'_>
+        ensures { shown result ≡ told_report self.now.decoder.octets told }
+    {
+        Seen {
+            piece: told.held.lend(self.decoder.octets()),
+            standing: told.noted.standing,
+            verdict: told.noted.verdict,
+            stray: told.noted.stray,
+        }
+    }
+
+    /// Takes a bit, and answers what is seen at it, if it decides a report. A frame's octets are
+    /// borrowed from the analyser.
+    ///
+    /// Refuses as [`PlaceLimit`], with nothing changed, where the bit's place would be 2^60.
+    pub fn push(&mut self, bit: bool) -> Result<Option<Seen<'_>>, PlaceLimit>
+        ensures limit { IsErr result ↔ (2 ^ 60 ≤ self.old.decoder.place) }
+        ensures answer { IfOk result (λ o. (b : List Bool) → Stands C.folded C.COST self.old b →
+            shown_option o ≡ seen_at self.old.journal.dictionary (line self.old (b ++ bit ∷ [])) self.old.decoder.place) }
+        ensures* rests { sem 𝓛 (Rests (the_row C.row C.Check) self.entry (λ new.
+            IfOk result (λ o. Sees C.folded C.COST self.old (bit ∷ []) (option_to_list (shown_option o)) new) × OnErr result (new ≡ self.old))) }
+    {
+        match self.note(bit) {
+            Ok(Some(told)) => Ok(Some(self.seen(told))),
+            Ok(None) => Ok(None),
+            Err(PlaceLimit) => Err(PlaceLimit),
+        }
+    }
+
+    /// A frame of the history, of which the oldest has the number 0.
+    pub fn history(&self, i: usize) -> Option<&Kept>
+        ensures { (b : List Bool) → Stands C.folded C.COST self.now b → kept_option result ≡ slice_get (history self.now.journal.depth (line self.now b)) i }
+    {
+        self.journal.kept(i)
+    }
+
+    /// How many frames the history has: at most its depth, which is at most 1024.
+    pub fn history_len(&self) -> usize
+        ensures value { (b : List Bool) → Stands C.folded C.COST self.now b → result ≡ length (history self.now.journal.depth (line self.now b)) }
+        ensures depth { result ≤ self.now.journal.depth }
+        ensures bound { self.now.journal.depth ≤ 1024 }
+    {
+        self.journal.kept_len()
+    }
+
+    /// How many verdicts named a station.
+    pub fn tally(&self, station: u8) -> Counts
+        ensures { (b : List Bool) → Stands C.folded C.COST self.now b → result ≡ tally self.now.journal.dictionary (line self.now b) station }
+    {
+        self.journal.counts(station)
+    }
+
+    /// What has begun and is not decided yet.
+    pub fn ending(&self) -> Ending
+        ensures begun { (b : List Bool) → Stands C.folded C.COST self.now b → result.begun ≡ begun_span self.now.decoder.origin b }
+        ensures pending { (b : List Bool) → Stands C.folded C.COST self.now b → result.pending ≡ pending self.now.journal.dictionary (line self.now b) }
+    {
+        let past = self.decoder.place();
+        Ending {
+            begun: self.decoder.begun().map(|first| Span { first, past }),
+            pending: self.journal.pending(),
+        }
+    }
+
+    /// The dictionary that was handed in.
+    pub fn dictionary(&self) -> &Dictionary
+        ensures { result.now ≡ self.now.journal.dictionary }
+    {
+        self.journal.dictionary()
+    }
+
+    /// How many octets of the piece that has begun are in the frame buffer: at most the dictionary's
+    /// longest frame and two.
+    pub fn buffered(&self) -> usize
+        ensures bound { result ≤ longest_of self.now.journal.dictionary + 2 }
+        ensures stored { (b : List Bool) (first : ℕ) → Stands C.folded C.COST self.now b → begun b ≡ Some first →
+            result ≡ stored_from (longest_of self.now.journal.dictionary) b first }
+    {
+        self.decoder.buffered()
+    }
+
+    /// The steps so far: those of the ledger of the bits, at most seventeen for each.
+    ///
+    /// A bit is taken and settles at most one other; an octet is stored and folded, at up to eight
+    /// units, once for eight bits, and copied once at most; and a frame's six steps come once for
+    /// forty bits, the three of any other report once for eight. So all come to less than four for
+    /// each bit, and to less than three with a check that costs one.
+    pub fn spent(&self) -> Spent
+        ensures ledger { (b : List Bool) → Stands C.folded C.COST self.now b → IsLedger C.COST (longest_of self.now.journal.dictionary) b result }
+        ensures seventeen { (b : List Bool) → Stands C.folded C.COST self.now b → total result ≤ 17 * length b }
+        ensures four { (b : List Bool) → Stands C.folded C.COST self.now b → total result ≤ 4 * length b }
+        ensures three { C.COST ≡ 1 → (b : List Bool) → Stands C.folded C.COST self.now b → (result.folded ≡ result.stored) × (total result ≤ 3 * length b) }
+    {
+        steps_are_bounded();
+        let journal = self.journal.spent();
+        Spent {
+            copied: journal.copied,
+            handled: journal.handled,
+            ..self.decoder.spent()
+        }
+    }
+
+    /// The place of the next bit: the origin and the bits so far.
+    pub(crate) fn place(&self) -> u64
+        ensures value { result ≡ self.now.decoder.place }
+        ensures fits { result ≤ 2 ^ 60 }
+    {
+        self.decoder.place()
+    }
+}

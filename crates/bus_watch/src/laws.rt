@@ -1,0 +1,33 @@
+//! Laws over the definitions.
+
+ghost use Rattle.bus_watch.specs.Laws.{SeenGrows, SeenAreReports, SeenDecides, StepsWithinFour, StepsWithinThree, AnyCut};
+
+use bus_fcs::Check;
+use bus_line::laws::{reports_are, reports_grow, reports_own_bits, settled_places};
+
+/// What is seen of a list of bits is its reports, each with what follows from it: one bit more adds
+/// what is seen at it, and the verdicts are those of the talk.
+pub fn seen_grows()
+    ensures grows { SeenGrows }
+    ensures reports { SeenAreReports }
+    ensures decides { SeenDecides }
+{
+    reports_are();
+    reports_grow();
+}
+
+/// The counted steps are at most four for each bit, and three where the check costs one an octet.
+pub fn steps_are_bounded()
+    ensures four { StepsWithinFour }
+    ensures three { StepsWithinThree }
+{
+    reports_are();
+    reports_own_bits();
+    settled_places();
+}
+
+/// For every list of bits, however it is cut into calls of `push` and `feed`, what they tell is what
+/// is seen of the whole list, in order.
+pub fn any_cut<C: Check>()
+    ensures { AnyCut C.folded C.COST }
+{}

@@ -1,0 +1,34 @@
+//! Watches a line: which frames passed, which were damaged, and which station failed to answer.
+#![tactic(auto)]
+
+mod analyser;
+mod counts;
+mod ending;
+mod feed;
+mod feed_fault;
+mod journal;
+mod kept;
+pub mod laws;
+mod new_fault;
+mod outcome;
+mod pending;
+mod report_sink;
+mod seen;
+mod verdict;
+
+pub use analyser::Analyser;
+pub use bus_bits::Span;
+pub use bus_line::SinkRefused;
+pub use counts::Counts;
+pub use ending::Ending;
+pub use feed_fault::FeedFault;
+pub use kept::Kept;
+pub use new_fault::NewFault;
+pub use outcome::Outcome;
+pub use pending::Pending;
+pub use report_sink::ReportSink;
+pub use seen::Seen;
+pub use verdict::Verdict;
+
+#[cfg(test)]
+mod tests;

@@ -1,0 +1,12 @@
+//! What became of a command.
+
+/// What became of a command that waited for its answer.
+#[derive(Clone, Copy, Debug, PartialEq, Eq)]
+pub enum Outcome {
+    /// The next thing on the line was its answer.
+    Answered,
+    /// The next thing on the line was another frame.
+    Missing,
+    /// The next thing on the line was no frame: a damaged or overlong piece, or an abort.
+    Spoilt,
+}
