@@ -1,5 +1,5 @@
 -- The steps of a session.
-use Rattle.std.proofs.Common.{◌≡◌, ◌≢◌, ℕ, ◌+◌, ◌-◌, ◌^◌, ◌<◌, ◌≤◌, ◌==◌, min, true, false, List, [], ◌∷◌, ◌++◌, length, get_or, take, drop, Option, Some, None, Result, Ok, Err, IfSome, MatchResult, inl, inr, refl, sym, ap, subst, ◌∙◌, arith, length-append}
+use Rattle.std.proofs.Common.{◌≡◌, ◌≢◌, ℕ, ◌+◌, ◌<◌, ◌≤◌, ◌==◌, true, false, List, [], ◌∷◌, ◌++◌, length, get_or, take, drop, Option, Some, None, Result, Ok, Err, IfSome, MatchResult, inl, inr, refl, sym, ap, subst, ◌∙◌, arith, length-append}
 use Rattle.std.specs.Io.KnownBytes.{Appends, Consumes, Keeps, IsAtEnd}
 use Rattle.std.specs.Io.BufRead.{strip_last}
 use Rattle.std.proofs.lemmas.List.{append-nil, take-append-le}
@@ -119,7 +119,7 @@ push_is xs one clean is =
     ∙ (asked-push (ended_lines xs) (open_line xs) ∙ (then-clean a (line_asked (length (ended_lines xs)) (open_line xs)) (ended_clean xs clean) ∙ ap (behind a.calls) (sym is)))
 
 pub lf_takes : (start before now : Option (List ℕ)) (line new : List ℕ) (number next : ℕ) (e f : EncoderState) (written more : ℕ) (xs : List ℕ) → Takes start before line number e written xs
-    → Ends start now f more (asked_behind 0 (ended_lines xs)).calls (one_asked (line_call number (strip_last 13 line))) (Ok tt) → new ≡ [] → next ≡ min (number + 1) (2 ^ 64 - 1)
+    → Ends start now f more (asked_behind 0 (ended_lines xs)).calls (one_asked (line_call number (strip_last 13 line))) (Ok tt) → new ≡ [] → next ≡ number + 1
     → Takes start now new next f more (xs ++ 10 ∷ [])
 lf_takes start before now line new number next e f written more xs t ends empty is =
     let one = one_asked (line_call number (strip_last 13 line)) in

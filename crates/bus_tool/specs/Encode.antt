@@ -1,5 +1,5 @@
 -- What lines ask an encoder for, and the text of its bits.
-use Rattle.std.specs.Prelude.{ℕ, ◌+◌, ◌-◌, ◌^◌, ◌==◌, ◌&&◌, nat_lt, nat_le, min, Bool, List, [], ◌∷◌, ◌++◌, length, take, drop, map, codes, Option, Some, None, Result, Ok, Err, if◌then◌else◌}
+use Rattle.std.specs.Prelude.{ℕ, ◌+◌, ◌==◌, ◌&&◌, nat_lt, nat_le, Bool, List, [], ◌∷◌, ◌++◌, length, take, drop, map, codes, Option, Some, None, Result, Ok, Err, if◌then◌else◌}
 use Rattle.std.specs.Cmp.Lexicographic.{pointwise}
 use Rattle.std.specs.Io.BufRead.{strip_last}
 use Rattle.hex.specs.Hex.{decode_of}
@@ -9,9 +9,9 @@ use Rattle.bus_tool.specs.Lines.{ended_lines, open_line, all_lines}
 use Rattle.bus_tool.specs.declared.fault.ToolFault.{ToolFault}
 use Rattle.bus_tool.specs.declared.fault.ToolFault.TheVariants.{BadLine, FrameLength}
 
--- the number of the line behind so many others; the greatest u64 stands for all numbers above it
+-- the number of the line behind so many others
 abbrev pub line_number : ℕ → ℕ
-line_number before = min (before + 1) (2 ^ 64 - 1)
+line_number before = before + 1
 
 -- the line is this text
 abbrev pub is_text : List ℕ → List ℕ → Bool

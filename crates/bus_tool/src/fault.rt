@@ -37,8 +37,8 @@ pub enum ToolFault {
     /// The line of this number has another form than lines may have, or is too long. Lines count
     /// from 1; the greatest number stands for all above it.
     #[error("line {0}: bad line")]
-    BadLine(u64),
+    BadLine(u128),
     /// The frame of the line of this number does not have 2 to 256 octets.
     #[error("line {0}: frame is not 2 to 256 octets")]
-    FrameLength(u64),
+    FrameLength(u128),
 }

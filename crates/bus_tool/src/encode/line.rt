@@ -1,6 +1,6 @@
 //! The line that stands open.
 
-ghost use Rattle.std.specs.Prelude.{◌≡◌, ◌+◌, ◌-◌, ◌^◌, ◌<◌, ◌≤◌, [], ◌∷◌, ◌++◌, length, min, MatchResult};
+ghost use Rattle.std.specs.Prelude.{◌≡◌, ◌+◌, ◌-◌, ◌^◌, ◌<◌, ◌≤◌, [], ◌∷◌, ◌++◌, length, MatchResult};
 ghost use Rattle.std.specs.Io.BufRead.{strip_last};
 
 use crate::fault::ToolFault;
@@ -16,8 +16,8 @@ const ROOM: usize = 601;
 #[derive(Drop)]
 pub struct OpenLine {
     octets: ArrayVec<u8, ROOM>,
-    /// Lines count from 1. The greatest number stands for all above it.
-    number: u64,
+    /// Lines count from 1.
+    number: u128,
     ghost fits: { length (strip_last 13 octets.items) ≤ 600 },
 }
 
@@ -34,9 +34,10 @@ impl OpenLine {
 
     /// Takes an octet. It is refused where the line is then too long, however it goes on.
     pub fn push(&mut self, octet: u8) -> Result<(), ToolFault>
-        ensures { MatchResult result
+        ensures taken { MatchResult result
             (λ _. (self.new.octets.items ≡ self.old.octets.items ++ octet ∷ []) × (self.new.number ≡ self.old.number))
             (λ fault. (fault ≡ ToolFault.BadLine self.old.number) × (600 < length (strip_last 13 (self.old.octets.items ++ octet ∷ [])))) }
+        ensures number { self.new.number ≡ self.old.number }
     {
         let count = self.octets.len();
         if LONGEST < count || (count == LONGEST && octet != b'\r') {
@@ -61,7 +62,7 @@ impl OpenLine {
     }
 
     /// The line's number.
-    pub fn number(&self) -> u64
+    pub fn number(&self) -> u128
         ensures { result ≡ self.now.number }
     {
         self.number
@@ -69,9 +70,10 @@ impl OpenLine {
 
     /// Goes on to the next line.
     pub fn next(&mut self)
-        ensures { (self.new.octets.items ≡ []) × (self.new.number ≡ min (self.old.number + 1) (2 ^ 64 - 1)) }
+        requires { self.old.number < 2 ^ 100 }
+        ensures { (self.new.octets.items ≡ []) × (self.new.number ≡ self.old.number + 1) }
     {
         self.octets.clear();
-        self.number = self.number.saturating_add(1);
+        self.number += 1;
     }
 }

@@ -22,7 +22,7 @@ pub enum Order {
 }
 
 /// The octets of a frame, from the digits of a line of this number.
-fn frame_octets(digits: &[u8], number: u64) -> Result<ArrayVec<u8, MOST>, ToolFault>
+fn frame_octets(digits: &[u8], number: u128) -> Result<ArrayVec<u8, MOST>, ToolFault>
     ensures octets { MatchResult result (λ octets. decoded_frame number (decode_of digits.now) ≡ Ok (Some (Frame octets.items))) (λ fault. decoded_frame number (decode_of digits.now) ≡ Err fault) }
     ensures at_least { IfOk result (λ octets. 2 ≤ length octets.items) }
     ensures at_most { IfOk result (λ octets. length octets.items ≤ 256) }
@@ -44,7 +44,7 @@ fn frame_octets(digits: &[u8], number: u64) -> Result<ArrayVec<u8, MOST>, ToolFa
 }
 
 /// What a line of this number asks for, without its end; an empty one asks for nothing.
-pub fn read_order(line: &[u8], number: u64) -> Result<Option<Order>, ToolFault>
+pub fn read_order(line: &[u8], number: u128) -> Result<Option<Order>, ToolFault>
     requires { length line.now ≤ 600 }
     ensures value { MatchResult result (λ order. line_call number line.now ≡ Ok (option_map call_of order)) (λ fault. line_call number line.now ≡ Err fault) }
     ensures sized { IfOk result (λ order. IfSome order (λ order. IsSized (call_of order))) }

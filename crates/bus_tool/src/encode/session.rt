@@ -40,7 +40,7 @@ impl Session {
     /// No octets.
     pub fn new() -> Self
         ensures fresh { (start : Option (List ℕ)) → Takes start start result.line.octets.items result.line.number result.encoder result.written [] }
-        ensures none { result.written ≡ 0 }
+        ensures none { (result.written ≡ 0) × (result.line.number ≡ 1) }
     {
         Session {
             line: OpenLine::first(),
@@ -88,11 +88,13 @@ impl Session {
 
     /// Takes the next octet.
     fn take_one<W: Write>(&mut self, octet: u8, w: &mut W) -> Result<(), ToolFault>
-        requires { self.old.written < 2 ^ 100 }
+        requires few { self.old.written < 2 ^ 100 }
+        requires lines { self.old.line.number < 2 ^ 100 }
         ensures taken { (start : Option (List ℕ)) (xs : List ℕ) → Takes start (W.contents w.old) self.old.line.octets.items self.old.line.number self.old.encoder self.old.written xs → MatchResult result
             (λ _. Takes start (W.contents w.new) self.new.line.octets.items self.new.line.number self.new.encoder self.new.written (xs ++ octet ∷ []))
             (λ fault. Halts start (W.contents w.new) self.new.written (asked_so_far (xs ++ octet ∷ [])) fault) }
         ensures few { self.new.written ≤ self.old.written + 2493 }
+        ensures lines { self.new.line.number ≤ self.old.line.number + 1 }
     {
         if octet != b'\n' {
             return self.line.push(octet);
@@ -106,11 +108,13 @@ impl Session {
 
     /// Takes some octets, up to the first fault.
     fn take_all<W: Write>(&mut self, octets: &[u8], w: &mut W) -> Result<(), ToolFault>
-        requires { self.old.written + 2493 * length octets.now < 2 ^ 100 }
+        requires few { self.old.written + 2493 * length octets.now < 2 ^ 100 }
+        requires lines { self.old.line.number + length octets.now < 2 ^ 100 }
         ensures taken { (start : Option (List ℕ)) (xs : List ℕ) → Takes start (W.contents w.old) self.old.line.octets.items self.old.line.number self.old.encoder self.old.written xs → MatchResult result
             (λ _. Takes start (W.contents w.new) self.new.line.octets.items self.new.line.number self.new.encoder self.new.written (xs ++ octets.now))
             (λ fault. Halts start (W.contents w.new) self.new.written (asked_so_far (xs ++ octets.now)) fault) }
         ensures few { self.new.written ≤ self.old.written + 2493 * length octets.now }
+        ensures lines { self.new.line.number ≤ self.old.line.number + length octets.now }
     {
         for octet in octets {
             if let Err(fault) = self.take_one(*octet, w) {
@@ -128,7 +132,7 @@ impl Session {
         w: &mut W,
     ) -> Result<(), ToolFault>
         requires fresh { (start : Option (List ℕ)) → Takes start start self.old.line.octets.items self.old.line.number self.old.encoder self.old.written [] }
-        requires none { self.old.written ≡ 0 }
+        requires none { (self.old.written ≡ 0) × (self.old.line.number ≡ 1) }
         ensures { (xs : List ℕ) × Consumes (R.remaining r.old) (R.remaining r.new) xs
             × Finishes reads (R.remaining r.new) (W.contents w.old) (W.contents w.new) self.new.written xs result }
     {

@@ -9,4 +9,5 @@ invariant-loop-octet g l = record {
       → Takes start (g.W.Write.contents l.initial.w) l.initial.self.line.octets.items l.initial.self.line.number l.initial.self.encoder l.initial.self.written xs
       → Takes start (g.W.Write.contents l.w) l.self.line.octets.items l.self.line.number l.self.encoder l.self.written (xs ++ take l.octet-index l.octets);
   few : l.self.written ≤ l.initial.self.written + 2493 * l.octet-index;
+  lines : l.self.line.number ≤ l.initial.self.line.number + l.octet-index;
 }

@@ -9,6 +9,7 @@ use Rattle.bus_tool.proofs.encode.session.Session.take_input.Goals as goal
 pub loop-turn-init : goal.loop-turn-init
 loop-turn-init g c = record {
   few = search rules;
+  lines = search rules;
   taken = ([], consumes_nothing _, c.requires.fresh (g.W.Write.contents c.args.w.now), search rules);
 }
 
@@ -42,6 +43,7 @@ pub loop-turn-preserved : goal.loop-turn-preserved
 loop-turn-preserved g c =
     let before = c.loop-turn.invariant.taken in record {
       few = search rules;
+      lines = search rules;
       taken = (
         _,
         consumes_both _ _ _ before.0 _ before.1 c.in-Ok.ensures.bytes.0,
