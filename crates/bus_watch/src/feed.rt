@@ -32,7 +32,7 @@ impl<C: Check> Analyser<C> {
         if bits.len() as u64 > PLACES - self.place() {
             return Err(FeedFault::PlaceLimit);
         }
-        let mut consumed = 0;
+        let mut consumed: usize = 0;
         for bit in bits {
             consumed += 1;
             match self.feed_one(*bit, sink) {

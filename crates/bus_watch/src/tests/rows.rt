@@ -1,6 +1,6 @@
 //! Worked lists: what is seen, the end, the history and the tally, however the bits are cut.
 
-use super::sinks::Collector;
+use super::sinks::{Collector, feed};
 use super::text::push_seen;
 use super::{A, B, C, CALLS, D, FLAG, G, H, STATES, U, V, bits_of};
 use crate::{Analyser, Counts, Ending, Pending};
@@ -145,16 +145,16 @@ fn any_cut(rt: HostRuntime) -> Result<(), Fail> {
         let dictionary = Dictionary::read(alloc, CALLS)?;
         let mut analyser = Analyser::<OctetCheck>::new(alloc, dictionary, 2, 0)?;
         let mut sink = Collector::new(alloc, 0);
-        analyser.feed(&bits[..cut], &mut sink)?;
-        analyser.feed(&bits[cut..], &mut sink)?;
+        feed(&mut analyser, &bits[..cut], &mut sink)??;
+        feed(&mut analyser, &bits[cut..], &mut sink)??;
         assert_eq!(rt; sink.text.as_str(), CALL_AND_REPLY, "{cut}");
     }
     let dictionary = Dictionary::read(alloc, CALLS)?;
     let mut analyser = Analyser::<OctetCheck>::new(alloc, dictionary, 2, 0)?;
     let mut sink = Collector::new(alloc, 0);
     for bit in &bits {
-        analyser.feed(&[], &mut sink)?;
-        analyser.feed(&[*bit], &mut sink)?;
+        feed(&mut analyser, &[], &mut sink)??;
+        feed(&mut analyser, &[*bit], &mut sink)??;
     }
     assert_eq!(rt; sink.text.as_str(), CALL_AND_REPLY);
     Ok(())

@@ -55,6 +55,18 @@ impl ReportSink for Collector {
     }
 }
 
+/// Feeds bits to a sink whose count of refusals has room for one more.
+pub(super) fn feed(
+    analyser: &mut Analyser<OctetCheck>,
+    bits: &[bool],
+    sink: &mut Collector,
+) -> Result<Result<(), FeedFault>, Fail> {
+    if sink.refused() == u64::MAX {
+        return Err(Fail::from("no room"));
+    }
+    Ok(analyser.feed(bits, sink))
+}
+
 const TOLD_A: &str = "8 49 frame 108300fde5 station 16 type 0";
 
 const TOLD_B: &str = "57 98 frame 108380f561 station 16 type 128, answered 8 49 station 16 type 0";
@@ -89,7 +101,7 @@ fn refusing_sinks(rt: HostRuntime) -> Result<(), Fail> {
         let dictionary = Dictionary::read(alloc, CALLS)?;
         let mut analyser = Analyser::<OctetCheck>::new(alloc, dictionary, 2, 0)?;
         let mut sink = Collector::new(alloc, refuses);
-        let fault = analyser.feed(&bits, &mut sink).err();
+        let fault = feed(&mut analyser, &bits, &mut sink)?.err();
         assert_eq!(rt; fault, Some(FeedFault::Sink { consumed }), "{refuses}");
         assert_eq!(rt; sink.refused(), 1, "{refuses}");
         assert_eq!(rt;
@@ -103,7 +115,9 @@ fn refusing_sinks(rt: HostRuntime) -> Result<(), Fail> {
             spoilt: 0,
         };
         assert_eq!(rt; analyser.tally(16), counts, "{refuses}");
-        analyser.feed(&bits[consumed..], &mut sink)?;
+        for bit in bits.iter().skip(consumed) {
+            feed(&mut analyser, &[*bit], &mut sink)??;
+        }
         assert_eq!(rt;
             sink.text.as_str(),
             joined(alloc, all)?.as_str(),
