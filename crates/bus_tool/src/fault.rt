@@ -35,7 +35,7 @@ pub enum ToolFault {
     #[error("frame is not 4 to 258 octets")]
     FrameSize,
     /// The line of this number has another form than lines may have, or is too long. Lines count
-    /// from 1; the greatest number stands for all above it.
+    /// from 1.
     #[error("line {0}: bad line")]
     BadLine(u128),
     /// The frame of the line of this number does not have 2 to 256 octets.
