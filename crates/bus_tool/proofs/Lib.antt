@@ -5,3 +5,6 @@ pub mod RunLemmas
 pub mod LineLemmas
 pub mod KnownLemmas
 pub mod ShowLemmas
+pub mod EncodeLemmas
+pub mod SessionLemmas
+pub mod OrderLemmas

@@ -5,3 +5,7 @@ pub mod Known
 pub mod HeadText
 pub mod Show
 pub mod Put
+pub mod Lines
+pub mod Encode
+pub mod Encodes
+pub mod EncodeState

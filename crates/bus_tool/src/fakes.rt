@@ -44,6 +44,23 @@ impl Read for Endless {
     }
 }
 
+/// Gives one LF each call, and never ends.
+#[derive(Drop)]
+pub struct LineFeeds {
+    pub calls: u64,
+}
+
+impl Read for LineFeeds {
+    fn read(&mut self, buf: &mut [u8]) -> io::Result<usize> {
+        self.calls = self.calls.saturating_add(1);
+        if buf.is_empty() {
+            return Ok(0);
+        }
+        buf[0] = b'\n';
+        Ok(1)
+    }
+}
+
 /// Takes `room` octets in all, and then fails, or takes none.
 #[derive(Drop)]
 pub struct Narrow {

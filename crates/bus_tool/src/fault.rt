@@ -34,4 +34,11 @@ pub enum ToolFault {
     /// A frame that is typed does not have 4 to 258 octets, its check among them.
     #[error("frame is not 4 to 258 octets")]
     FrameSize,
+    /// The line of this number has another form than lines may have, or is too long. Lines count
+    /// from 1.
+    #[error("line {0}: bad line")]
+    BadLine(u128),
+    /// The frame of the line of this number does not have 2 to 256 octets.
+    #[error("line {0}: frame is not 2 to 256 octets")]
+    FrameLength(u128),
 }

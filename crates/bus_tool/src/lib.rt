@@ -1,6 +1,7 @@
 //! Texts of what stands on a line, and the program `port1`.
 #![tactic(auto)]
 
+mod encode;
 mod fault;
 mod list;
 mod options;
@@ -8,6 +9,7 @@ mod program;
 mod show;
 mod text;
 
+pub use encode::encode_frames;
 pub use fault::ToolFault;
 pub use list::list_pieces;
 pub use program::run;

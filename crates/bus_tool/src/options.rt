@@ -13,6 +13,8 @@ pub enum Request<'a> {
         dictionary: Option<&'a str>,
         hex: &'a str,
     },
+    /// Encode the lines that are read.
+    Encode,
 }
 
 fn list_command<'a>(alloc: Global) -> Result<Command<'a>, Error> {
@@ -47,6 +49,12 @@ fn show_command<'a>(alloc: Global) -> Result<Command<'a>, Error> {
     )
 }
 
+fn encode_command<'a>(alloc: Global) -> Command<'a> {
+    Command::new(alloc, "encode").about(
+        "Encodes the lines flag, idle and frame HEX on standard input as bits, a line for each",
+    )
+}
+
 fn whole_command<'a>(alloc: Global) -> Result<Command<'a>, Error> {
     Ok(
         Command::new(alloc, "port1")
@@ -54,7 +62,8 @@ fn whole_command<'a>(alloc: Global) -> Result<Command<'a>, Error> {
             .about("Analyses the Port 1 bus of a cabinet; without words it does `list --bits`")
             .no_binary_name(true)
             .subcommand(list_command(alloc)?)?
-            .subcommand(show_command(alloc)?)?,
+            .subcommand(show_command(alloc)?)?
+            .subcommand(encode_command(alloc))?,
     )
 }
 
@@ -72,6 +81,7 @@ pub fn read_words<'a>(alloc: Global, words: &'a [&'a str]) -> Result<Request<'a>
             // It is there: it is required.
             hex: shown.get_str("hex").unwrap_or(""),
         }),
+        Some(("encode", _)) => Ok(Request::Encode),
         _ => Ok(Request::List),
     }
 }

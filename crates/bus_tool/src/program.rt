@@ -1,5 +1,6 @@
 //! The program.
 
+use crate::encode::encode_frames;
 use crate::fault::ToolFault;
 use crate::list::list_pieces;
 use crate::options::{Request, read_words};
@@ -21,7 +22,7 @@ const FAULT: u8 = 2;
 
 /// Runs the program `port1`, and answers its status: 0, or 2 for any fault.
 ///
-/// `words` are its arguments without its name. A capture is read from `r`. Output and help go to
+/// `words` are its arguments without its name. A capture, or lines to encode, are read from `r`. Output and help go to
 /// `w`, and faults to `e`; that `e` fails is ignored.
 pub fn run<R: Read, W: Write, E: Write>(
     alloc: Global,
@@ -33,6 +34,7 @@ pub fn run<R: Read, W: Write, E: Write>(
     match read_words(alloc, words) {
         Ok(Request::List) => status(list_pieces(alloc, READS, r, w), e),
         Ok(Request::Show { dictionary, hex }) => status(show_frame(alloc, dictionary, hex, w), e),
+        Ok(Request::Encode) => status(encode_frames(READS, r, w), e),
         Err(error) => refuse(alloc, &error, w, e),
     }
 }

@@ -1,5 +1,6 @@
 //! Worked rows of lines, listings and the program.
 
+mod encodes;
 mod lines;
 mod listings;
 mod program;

@@ -17,7 +17,7 @@ use Rattle.bus_watch.specs.Stands.{AnalyserState, Stands, line, seen_after}
 use Rattle.bus_watch.specs.Laws.{SeenGrows, joined, Runs, ended, called}
 use Rattle.bus_watch.proofs.TalkLemmas.{verdicts-more}
 use Rattle.bus_watch.specs.declared.verdict.Verdict.{Verdict}
-use Rattle.bus_watch.proofs.PaceLemmas.{due-below}
+use Rattle.bus_watch.proofs.PaceLemmas.{DueBelow}
 use Rattle.bus_watch.proofs.SeenLemmas.{seen-more}
 
 -- what holds of no reports, and stays with one more, holds of all
@@ -60,11 +60,11 @@ find-none place (s ∷ ss) h =
     let apart : (due s.report == place) ≡ false = ne_eqb (due s.report) place (λ e. omega (arith, e, h 0 s.report (omega arith))) in
     rw apart (find-none place ss (λ i d l. h (suc i) d (omega (arith, l))))
 
-line-due : (longest origin : ℕ) (b : List Bool) → DueIsIt → All (λ r. due r < origin + length b) (placed origin longest b)
-line-due longest origin b it =
+line-due : (longest origin : ℕ) (b : List Bool) → DueBelow → All (λ r. due r < origin + length b) (placed origin longest b)
+line-due longest origin b below =
     All-map (λ r. due r < origin + length b) (moved origin) (reports longest b) (λ i d l.
     let r = get_or (reports longest b) i d in
-    omega (arith, due-below longest b r it (Contains-get_or (reports longest b) i d l), due-moved origin r.kind r.first r.past))
+    omega (arith, below longest b r (Contains-get_or (reports longest b) i d l), due-moved origin r.kind r.first r.past))
 
 at-none : (d : List FrameType) (rs : List Report) (place : ℕ) → All (λ r. due r < place) rs → seen_at d rs place ≡ None
 at-none d rs place h = find-none place (seen d rs) (subst (All (λ r. due r < place)) (sym (seen-reports d rs)) h)
@@ -75,28 +75,28 @@ at-last d rs r place h e =
     let yes : (due r == place) ≡ true = eq-eqb (due r) place e in
     ap (find p) (seen-more d rs r) ∙ (find-append p (seen d rs) (seen_of d rs r ∷ []) ∙ (ap (λ o. option_or o (find p (seen_of d rs r ∷ []))) (at-none d rs place h) ∙ rw yes refl))
 
-grows-by : (d : List FrameType) (longest origin : ℕ) (b longer : List Bool) → DueIsIt → (o : Option Report) → due_at longest longer (length b) ≡ o
+grows-by : (d : List FrameType) (longest origin : ℕ) (b longer : List Bool) → DueIsIt → DueBelow → (o : Option Report) → due_at longest longer (length b) ≡ o
     → placed origin longest longer ≡ placed origin longest b ++ option_to_list (option_map (moved origin) o)
     → seen d (placed origin longest longer) ≡ seen d (placed origin longest b) ++ option_to_list (seen_at d (placed origin longest longer) (origin + length b))
-grows-by d longest origin b longer it None e grown =
+grows-by d longest origin b longer it below None e grown =
     let rs = placed origin longest b in
     let same : placed origin longest longer ≡ rs = grown ∙ append-nil rs in
-    rw (same, at-none d rs (origin + length b) (line-due longest origin b it)) (sym (append-nil (seen d rs)))
-grows-by d longest origin b longer it (Some r) e grown =
+    rw (same, at-none d rs (origin + length b) (line-due longest origin b below)) (sym (append-nil (seen d rs)))
+grows-by d longest origin b longer it below (Some r) e grown =
     let rs = placed origin longest b in
     let is : due r ≡ length b = ((it longest longer (length b) r).1 e).1 in
     let at : due (moved origin r) ≡ origin + length b = due-moved origin r.kind r.first r.past ∙ ap (λ n. origin + n) is in
-    rw (grown, at-last d rs (moved origin r) (origin + length b) (line-due longest origin b it) at) (seen-more d rs (moved origin r))
+    rw (grown, at-last d rs (moved origin r) (origin + length b) (line-due longest origin b below) at) (seen-more d rs (moved origin r))
 
 map-option : {X Y : Type 0} (f : X → Y) (o : Option X) → map f (option_to_list o) ≡ option_to_list (option_map f o)
 map-option f None = refl
 map-option f (Some x) = refl
 
-pub seen-grows : OneMore → DueIsIt → (d : List FrameType) (longest origin : ℕ) (b : List Bool) (bit : Bool)
+pub seen-grows : OneMore → DueIsIt → DueBelow → (d : List FrameType) (longest origin : ℕ) (b : List Bool) (bit : Bool)
     → seen d (placed origin longest (b ++ bit ∷ [])) ≡ seen d (placed origin longest b) ++ option_to_list (seen_at d (placed origin longest (b ++ bit ∷ [])) (origin + length b))
-seen-grows more it d longest origin b bit =
+seen-grows more it below d longest origin b bit =
     let o = due_at longest (b ++ bit ∷ []) (length b) in
-    grows-by d longest origin b (b ++ bit ∷ []) it o refl
+    grows-by d longest origin b (b ++ bit ∷ []) it below o refl
     (ap (map (moved origin)) (more longest b bit) ∙ (map-append (moved origin) (reports longest b) (option_to_list o) ∙ ap (λ rs. placed origin longest b ++ rs) (map-option (moved origin) o)))
 
 same-told : (o p : Option SeenReport) → option_to_list o ≡ option_to_list p → o ≡ p

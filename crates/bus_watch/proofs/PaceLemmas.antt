@@ -5,11 +5,10 @@ use Rattle.std.proofs.lemmas.List.Sums.{sum_by-append}
 use Rattle.std.proofs.lemmas.List.Elements.{Contains-get_or}
 use Rattle.bus_bits.specs.declared.spent.Spent.{Spent}
 use Rattle.bus_line.specs.Report.{Report, Kind, Frame, Damaged, Overlong, Abort, Idle, IsReport, due}
-use Rattle.bus_line.specs.Due.{reports, due_at}
+use Rattle.bus_line.specs.Due.{reports}
 use Rattle.bus_line.specs.Ledger.{stored}
-use Rattle.bus_line.specs.Laws.{ReportsAre, DueIsIt, FramesStored, StoredPaid, AssembledWithin}
+use Rattle.bus_line.specs.Laws.{ReportsAre, DueWithin, FramesStored, StoredPaid, AssembledWithin}
 use Rattle.bus_line.specs.OwnedBits.{owned_from, OwnsEight, FrameOwns, OwnApart}
-use Rattle.bus_line.proofs.AllLemmas.{places-from}
 use Rattle.bus_watch.specs.Ledger.{kind_steps, steps, handled, total, IsLedger}
 
 -- eight times the steps of a report are at most three times its own bits
@@ -31,18 +30,20 @@ chain n lo (r ∷ rs) pays apart above l =
     let rest = chain n (due r + 1) rs (λ i d m. pays (suc i) d (omega (arith, m))) (λ i j d m k. apart (suc i) (suc j) d (omega (arith, m)) (omega (arith, k))) (λ i d m. let a = apart 0 (suc i) d (omega arith) (omega (arith, m)) in omega (arith, a)) (omega (arith, p.1)) in
     omega (arith, p.0, rest, above 0 r (omega arith), sum_by-append steps (r ∷ []) rs)
 
-pub due-below : (longest : ℕ) (b : List Bool) (r : Report) → DueIsIt → Contains (reports longest b) r → due r < length b
-due-below longest b r it h =
-    let w = places-from (due_at longest b) (length b) r h in
-    omega (arith, w.1, ((it longest b w.0 r).1 w.2).1)
+-- reports are due at places of the list
+abbrev pub DueBelow : Type 0
+DueBelow = (longest : ℕ) (b : List Bool) (r : Report) → Contains (reports longest b) r → due r < length b
 
-pub handled-paid : (longest : ℕ) (b : List Bool) → ReportsAre → DueIsIt → OwnsEight → FrameOwns → OwnApart → 8 * handled (reports longest b) ≤ 3 * length b
-handled-paid longest b are it eight forty apart =
+pub due-below : ReportsAre → DueWithin → DueBelow
+due-below are within longest b r h = within longest b r (((are longest b).all r).1 h)
+
+pub handled-paid : (longest : ℕ) (b : List Bool) → ReportsAre → DueBelow → OwnsEight → FrameOwns → OwnApart → 8 * handled (reports longest b) ≤ 3 * length b
+handled-paid longest b are below eight forty apart =
     let rs = reports longest b in
     let a = are longest b in
     let has : (i : ℕ) (d : Report) → i < length rs → Contains rs (get_or rs i d) = λ i d l. Contains-get_or rs i d l in
     let is : (i : ℕ) (d : Report) → i < length rs → IsReport longest b (get_or rs i d) = λ i d l. (a.all (get_or rs i d)).1 (has i d l) in
-    let pays : All (Pays (length b)) rs = λ i d l. (pays-kind longest b (get_or rs i d) _ eight forty (is i d l) refl, due-below longest b (get_or rs i d) it (has i d l)) in
+    let pays : All (Pays (length b)) rs = λ i d l. (pays-kind longest b (get_or rs i d) _ eight forty (is i d l) refl, below longest b (get_or rs i d) (has i d l)) in
     let own : AllPairs (λ r s. due r < owned_from s) rs = λ i j d l m. apart longest b (get_or rs i d) (get_or rs j d) (is i d (omega (arith, l, m))) (is j d m) (a.rising i j d l m) in
     omega (arith, chain (length b) 0 rs pays own (λ i d l. omega arith) (omega arith))
 

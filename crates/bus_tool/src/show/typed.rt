@@ -19,7 +19,7 @@ fn is_hex_digit(character: u8) -> bool
 }
 
 /// Whether all characters are hexadecimal digits.
-fn all_digits(text: &[u8]) -> bool
+pub fn all_digits(text: &[u8]) -> bool
     ensures { IsTrue result ↔ AllPass is_hex_digit text.now }
 {
     text.iter().all(|character| is_hex_digit(*character))

@@ -56,6 +56,11 @@ fn fault_texts(rt: HostRuntime) -> Result<(), Fail> {
         (ToolFault::Write { written: 3 }, "write failed"),
         (ToolFault::Hex, "bad hex"),
         (ToolFault::FrameSize, "frame is not 4 to 258 octets"),
+        (ToolFault::BadLine(3), "line 3: bad line"),
+        (
+            ToolFault::FrameLength(12),
+            "line 12: frame is not 2 to 256 octets",
+        ),
         (
             ToolFault::Dictionary(DictFault::TwiceType(128)),
             "dictionary: type 128 twice",

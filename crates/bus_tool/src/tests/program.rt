@@ -84,8 +84,66 @@ fn shows_by_words(rt: HostRuntime) -> Result<(), Fail> {
 }
 
 #[test]
+fn encodes_by_words(rt: HostRuntime) -> Result<(), Fail> {
+    let cases: [(&[u8], u8, &str, &str); 4] = [
+        (b"flag\r\n\nidle", 0, "01111110\n111111111111111\n", ""),
+        (b"", 0, "", ""),
+        (
+            b"flag\nframes 1083\n",
+            2,
+            "01111110\n",
+            "port1: line 2: bad line\n",
+        ),
+        (
+            b"frame 10\n",
+            2,
+            "",
+            "port1: line 1: frame is not 2 to 256 octets\n",
+        ),
+    ];
+    for (octets, status, text, told) in cases {
+        let mut reader = octets;
+        let mut out = Vec::new(rt.alloc());
+        let mut err = Vec::new(rt.alloc());
+        let got = run(rt.alloc(), &["encode"], &mut reader, &mut out, &mut err);
+        assert_eq!(rt; got, status);
+        assert_eq!(rt; out.as_slice(), text.as_bytes());
+        assert_eq!(rt; err.as_slice(), told.as_bytes());
+    }
+    Ok(())
+}
+
+/// What is encoded is listed again: the frames with their check, and the idle, each at its places.
+#[test]
+fn encoded_is_listed(rt: HostRuntime) -> Result<(), Fail> {
+    let mut reader: &[u8] = b"frame 108300\nidle\nframe 1083fe\n";
+    let mut bits = Vec::new(rt.alloc());
+    let mut out = Vec::new(rt.alloc());
+    let mut err = Vec::new(rt.alloc());
+    assert_eq!(rt;
+        run(rt.alloc(), &["encode"], &mut reader, &mut bits, &mut err),
+        0
+    );
+    let mut reader = bits.as_slice();
+    assert_eq!(rt;
+        run(
+            rt.alloc(),
+            &["list", "--bits"],
+            &mut reader,
+            &mut out,
+            &mut err
+        ),
+        0
+    );
+    let text = "8 49 frame 108300fde5\n57 72 idle\n80 122 frame 1083fe0cfb\n";
+    assert_eq!(rt; out.as_slice(), text.as_bytes());
+    assert!(rt; err.is_empty());
+    Ok(())
+}
+
+#[test]
 fn words(rt: HostRuntime) -> Result<(), Fail> {
-    let cases: [(&[&str], u8, &str); 8] = [
+    let cases: [(&[&str], u8, &str); 11] = [
         (&["--help"], 0, "Usage: port1 [COMMAND]\n"),
         (&["list", "--help"], 0, "Usage: port1 list --bits\n"),
         (&["list"], 2, "Usage: port1 list --bits\n"),
@@ -95,6 +153,9 @@ fn words(rt: HostRuntime) -> Result<(), Fail> {
             "Usage: port1 show [OPTIONS] <HEX>\n",
         ),
         (&["show"], 2, "Usage: port1 show <HEX>\n"),
+        (&["--help"], 0, "encode"),
+        (&["encode", "--help"], 0, "Usage: port1 encode\n"),
+        (&["encode", "more"], 2, "unexpected argument 'more'"),
         (&["list", "--bits", "more"], 2, "unexpected argument 'more'"),
         (
             &["list", "--nonsense"],
@@ -126,8 +187,13 @@ fn words(rt: HostRuntime) -> Result<(), Fail> {
 
 #[test]
 fn writers_fail(rt: HostRuntime) -> Result<(), Fail> {
-    let cases: [&[&str]; 3] = [&["--help"], &["list", "--bits"], &["show", "108300fde5"]];
-    for words in cases {
+    let cases: [(&[&str], &[u8]); 4] = [
+        (&["--help"], IDLE),
+        (&["list", "--bits"], IDLE),
+        (&["show", "108300fde5"], IDLE),
+        (&["encode"], b"idle\n"),
+    ];
+    for (words, octets) in cases {
         for (room, fails_flush) in [(5, false), (1000, true)] {
             let mut writer = Narrow {
                 out: Vec::new(rt.alloc()),
@@ -136,7 +202,7 @@ fn writers_fail(rt: HostRuntime) -> Result<(), Fail> {
                 fails_flush,
                 flushes: 0,
             };
-            let mut reader = IDLE;
+            let mut reader = octets;
             let mut err = Vec::new(rt.alloc());
             assert_eq!(rt;
                 run(rt.alloc(), words, &mut reader, &mut writer, &mut err),

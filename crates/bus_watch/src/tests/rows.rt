@@ -18,14 +18,76 @@ const FIFTEEN: &str = "111111111111111 ";
 const CALL_AND_REPLY: &str = "8 49 frame 108300fde5 station 16 type 0; \
     57 98 frame 108380f561 station 16 type 128, answered 8 49 station 16 type 0";
 
-/// A command to station 16 that waits.
-fn call_at(first: u64, past: u64) -> Option<Pending> {
-    Some(Pending {
-        span: Span { first, past },
-        station: 16,
-        ftype: 0,
-    })
-}
+/// The command to station 16 that waits.
+const WAITING: Option<Pending> = Some(Pending {
+    span: Span { first: 8, past: 49 },
+    station: 16,
+    ftype: 0,
+});
+
+/// A dictionary, the bits of a list, what is seen of them, and what is pending at their end.
+const ROWS: [(&str, &[&str], &str, Option<Pending>); 11] = [
+    (CALLS, &[], "", None),
+    (CALLS, &[FLAG, A, FLAG, B, FLAG], CALL_AND_REPLY, None),
+    (
+        CALLS,
+        &[FLAG, C, FLAG],
+        "8 50 frame ff83095a3b station 255 type 9",
+        None,
+    ),
+    (
+        CALLS,
+        &[FLAG, D, FLAG],
+        "8 50 frame ff83009ba6 station 255 type 0",
+        None,
+    ),
+    (
+        CALLS,
+        &[FLAG, A, FLAG, FIFTEEN],
+        "8 49 frame 108300fde5 station 16 type 0; 57 72 idle",
+        WAITING,
+    ),
+    (
+        CALLS,
+        &[FLAG, A, FLAG, A, FLAG, ZEROS, FLAG],
+        "8 49 frame 108300fde5 station 16 type 0; \
+         57 98 frame 108300fde5 station 16 type 0, missing 8 49 station 16 type 0; \
+         106 130 short, spoilt 57 98 station 16 type 0",
+        None,
+    ),
+    (
+        CALLS,
+        &[FLAG, B, FLAG],
+        "8 49 frame 108380f561 station 16 type 128, stray",
+        None,
+    ),
+    (
+        CALLS,
+        &[FLAG, A, FLAG, FIFTEEN, FLAG, G, FLAG],
+        "8 49 frame 108300fde5 station 16 type 0; 57 72 idle; \
+         80 122 frame 1083fe0cfb station 16 type 254 unknown, \
+         missing 8 49 station 16 type 0, stray",
+        None,
+    ),
+    (
+        CALLS,
+        &[FLAG, U, FLAG],
+        "8 40 frame 1083452c station 16 untyped",
+        None,
+    ),
+    (
+        CALLS,
+        &[FLAG, H, FLAG],
+        "8 40 frame 1013ccb8 station 16 control 19",
+        None,
+    ),
+    (
+        STATES,
+        &[FLAG, V, FLAG],
+        "8 48 frame 10830174f4 station 16 type 1 length",
+        None,
+    ),
+];
 
 /// What is seen of a list pushed bit by bit.
 fn pushed<C: Check>(
@@ -62,72 +124,10 @@ fn check_row<C: Check>(
     Ok(())
 }
 
-/// What is seen of whole lists, with both checks, and what is pending at their end.
+/// The whole lists, bit by bit, with both checks.
 #[test]
 fn worked_lists(rt: HostRuntime) -> Result<(), Fail> {
-    let rows: [(&str, &[&str], &str, Option<Pending>); 11] = [
-        (CALLS, &[], "", None),
-        (CALLS, &[FLAG, A, FLAG, B, FLAG], CALL_AND_REPLY, None),
-        (
-            CALLS,
-            &[FLAG, C, FLAG],
-            "8 50 frame ff83095a3b station 255 type 9",
-            None,
-        ),
-        (
-            CALLS,
-            &[FLAG, D, FLAG],
-            "8 50 frame ff83009ba6 station 255 type 0",
-            None,
-        ),
-        (
-            CALLS,
-            &[FLAG, A, FLAG, FIFTEEN],
-            "8 49 frame 108300fde5 station 16 type 0; 57 72 idle",
-            call_at(8, 49),
-        ),
-        (
-            CALLS,
-            &[FLAG, A, FLAG, A, FLAG, ZEROS, FLAG],
-            "8 49 frame 108300fde5 station 16 type 0; \
-             57 98 frame 108300fde5 station 16 type 0, missing 8 49 station 16 type 0; \
-             106 130 short, spoilt 57 98 station 16 type 0",
-            None,
-        ),
-        (
-            CALLS,
-            &[FLAG, B, FLAG],
-            "8 49 frame 108380f561 station 16 type 128, stray",
-            None,
-        ),
-        (
-            CALLS,
-            &[FLAG, A, FLAG, FIFTEEN, FLAG, G, FLAG],
-            "8 49 frame 108300fde5 station 16 type 0; 57 72 idle; \
-             80 122 frame 1083fe0cfb station 16 type 254 unknown, \
-             missing 8 49 station 16 type 0, stray",
-            None,
-        ),
-        (
-            CALLS,
-            &[FLAG, U, FLAG],
-            "8 40 frame 1083452c station 16 untyped",
-            None,
-        ),
-        (
-            CALLS,
-            &[FLAG, H, FLAG],
-            "8 40 frame 1013ccb8 station 16 control 19",
-            None,
-        ),
-        (
-            STATES,
-            &[FLAG, V, FLAG],
-            "8 48 frame 10830174f4 station 16 type 1 length",
-            None,
-        ),
-    ];
-    for (dictionary, texts, want, pending) in rows {
+    for (dictionary, texts, want, pending) in ROWS {
         let bits = bits_of(rt.alloc(), texts)?;
         check_row::<BitCheck>(&rt, rt.alloc(), dictionary, &bits, want, pending)?;
         check_row::<OctetCheck>(&rt, rt.alloc(), dictionary, &bits, want, pending)?;
