@@ -1,5 +1,5 @@
 -- One bit more of what a decoder tracks.
-use Rattle.std.proofs.Common.{◌≡◌, ◌≢◌, ℕ, suc, ◌+◌, ◌-◌, ◌*◌, ◌/◌, ◌%◌, ◌^◌, ◌≤◌, ◌<◌, ◌==◌, Bool, true, false, not, ◌&&◌, cond, List, [], ◌∷◌, ◌++◌, length, take, drop, get_or, Some, None, refl, sym, ap, ◌∙◌, subst, arith, if◌then◌else◌, inl, inr}
+use Rattle.std.proofs.Common.{◌≡◌, ◌≢◌, ℕ, ◌+◌, ◌-◌, ◌*◌, ◌/◌, ◌%◌, ◌^◌, ◌≤◌, ◌<◌, ◌==◌, Bool, true, false, not, ◌&&◌, cond, List, [], ◌∷◌, ◌++◌, length, take, drop, get_or, Option, Some, None, refl, sym, ap, ◌∙◌, subst, arith, if◌then◌else◌, inl, inr}
 use Rattle.std.specs.List.{slice_range}
 use Rattle.std.proofs.Math.Nat.{mul-add, mul-zero, mul-one}
 use Rattle.bus_line.proofs.WholeLemmas.{octets-short, same_bool}
@@ -16,8 +16,9 @@ use Rattle.bus_line.specs.Run.{ones_at_end, data_so_far}
 use Rattle.bus_line.specs.Due.{Mark, NoMark, FlagAt, AbortAt, current}
 use Rattle.bus_line.specs.Ledger.{is_settled, belongs, is_inserted, assembled, is_stored, stored}
 use Rattle.bus_line.specs.LineState.{LineState}
+use Rattle.bus_line.specs.LineView.{settles_from}
 use Rattle.bus_line.specs.After.{first_of, settled_data, shifted_in, Holds, HoldsFor, Counts, Stands, Tracks, After, Lags, Fills}
-use Rattle.bus_line.proofs.RunLemmas.{ones_after-more, data_after-more}
+use Rattle.bus_line.proofs.RunLemmas.{data_after-more}
 use Rattle.bus_line.proofs.LastLemmas.{last_mark-flag}
 use Rattle.bus_line.proofs.StreamLemmas.{range-more, flag-fits}
 use Rattle.bus_line.proofs.SettledLemmas.{assembled-more, stored-more}
@@ -127,13 +128,13 @@ holds-for : {C : Type 0} (folded : C → List ℕ → Type 0) (d : LineState C) 
 holds-for folded d b p mark h k = subst (HoldsFor folded d b) (sym h) k
 
 -- nothing settled: the last mark is no flag
-pub tracks-none : {C : Type 0} (folded : C → List ℕ → Type 0) (cost : ℕ) (d : LineState C) (b : List Bool) (bit : Bool) → Lags folded cost d b bit → d.first ≡ None → Tracks folded cost d (b ++ bit ∷ []) (current b)
+tracks-none : {C : Type 0} (folded : C → List ℕ → Type 0) (cost : ℕ) (d : LineState C) (b : List Bool) (bit : Bool) → Lags folded cost d b bit → d.first ≡ None → Tracks folded cost d (b ++ bit ∷ []) (current b)
 tracks-none folded cost d b bit h e =
     let none : first_of d.origin (current b) ≡ None = sym h.first ∙ e in
     record { stands = h.stands; first = h.first; piece = none-holds folded d (b ++ bit ∷ []) d.origin (current b) none; counts = counts-kept cost d b bit (none-settled b bit d.origin none) h.counts }
 
 -- or the bit comes too early behind the flag
-pub tracks-early : {C : Type 0} (folded : C → List ℕ → Type 0) (cost first : ℕ) (d : LineState C) (b : List Bool) (bit : Bool) → Lags folded cost d b bit → d.first ≡ Some first → d.place < first + 9 → Tracks folded cost d (b ++ bit ∷ []) (current b)
+tracks-early : {C : Type 0} (folded : C → List ℕ → Type 0) (cost first : ℕ) (d : LineState C) (b : List Bool) (bit : Bool) → Lags folded cost d b bit → d.first ≡ Some first → d.place < first + 9 → Tracks folded cost d (b ++ bit ∷ []) (current b)
 tracks-early folded cost first d b bit h e l =
     let s = first-Some d.origin first (current b) (sym h.first ∙ e) in
     let early : length b < s.0 + 16 = omega (arith, h.stands.place, length_push b bit, s.2) in
@@ -144,7 +145,17 @@ tracks-early folded cost first d b bit h e l =
       counts = counts-kept cost d b bit (early-settled b bit s.0 s.1 early) h.counts;
     }
 
--- or it is an inserted 0
+-- so it is up to the place at which the open piece settles
+pub tracks-unsettled : {C : Type 0} (folded : C → List ℕ → Type 0) (cost at : ℕ) (first : Option ℕ) (d : LineState C) (b : List Bool) (bit : Bool) → Lags folded cost d b bit → d.first ≡ first → at ≡ settles_from first → d.place < at → Tracks folded cost d (b ++ bit ∷ []) (current b)
+tracks-unsettled folded cost at None d b bit h e s l = tracks-none folded cost d b bit h e
+tracks-unsettled folded cost at (Some first) d b bit h e s l = tracks-early folded cost first d b bit h e (omega (arith, s, l))
+
+-- from there on a piece is open
+pub settles-open : (at place : ℕ) (first : Option ℕ) → at ≡ settles_from first → place ≤ 2 ^ 60 → at ≤ place → (f : ℕ) × (first ≡ Some f) × (f + 9 ≤ place)
+settles-open at place None s p l = absurd (omega (arith, s, p, l))
+settles-open at place (Some f) s p l = (f, refl, omega (arith, s, l))
+
+-- where it is, the bit may be an inserted 0
 pub tracks-inserted : {C : Type 0} (folded : C → List ℕ → Type 0) (cost first : ℕ) (d : LineState C) (b : List Bool) (bit : Bool) → Lags folded cost d b bit → d.first ≡ Some first → first + 9 ≤ d.place → d.window / 256 % 64 ≡ 62 → Tracks folded cost d (b ++ bit ∷ []) (current b)
 tracks-inserted folded cost first d b bit h e l w =
     let s = first-Some d.origin first (current b) (sym h.first ∙ e) in
@@ -243,32 +254,30 @@ holds-unfilled folded d e bits x h f g o l s c =
       checked = λ m. rw (c, l, same) (h.checked (eight-before bits x f m));
     }
 
-moved-holds : {C : Type 0} (folded : C → List ℕ → Type 0) (d : LineState C) (b : List Bool) (place run window : ℕ) (spent : Spent) (mark : Mark) → HoldsFor folded d b mark → HoldsFor folded (record d { place = place; run = run; window = window; spent = spent }) b mark
-moved-holds folded d b place run window spent NoMark h = h
-moved-holds folded d b place run window spent (AbortAt a) h = h
-moved-holds folded d b place run window spent (FlagAt p) h = record { count = h.count; last = h.last; held = h.held; checked = h.checked }
+moved-holds : {C : Type 0} (folded : C → List ℕ → Type 0) (d : LineState C) (b : List Bool) (place window : ℕ) (spent : Spent) (mark : Mark) → HoldsFor folded d b mark → HoldsFor folded (record d { place = place; window = window; spent = spent }) b mark
+moved-holds folded d b place window spent NoMark h = h
+moved-holds folded d b place window spent (AbortAt a) h = h
+moved-holds folded d b place window spent (FlagAt p) h = record { count = h.count; last = h.last; held = h.held; checked = h.checked }
 
--- a bit more in the window and the run
-pub lags-shift : {C : Type 0} (folded : C → List ℕ → Type 0) (cost : ℕ) (d : LineState C) (b : List Bool) (bit : Bool) (place run window : ℕ) (spent : Spent) → After folded cost d b
-    → place ≡ d.place + 1 → run ≡ (if bit then suc d.run else 0) → window ≡ (d.window * 2 + cond bit 1 0) % 2 ^ 32 → spent ≡ record d.spent { shifted = d.spent.shifted + 1 }
-    → Lags folded cost (record d { place = place; run = run; window = window; spent = spent }) b bit
-lags-shift folded cost d b bit place run window spent h p r w s =
+-- a bit more in the window
+pub lags-shift : {C : Type 0} (folded : C → List ℕ → Type 0) (cost : ℕ) (d : LineState C) (b : List Bool) (bit : Bool) (place window shifted : ℕ) → After folded cost d b
+    → place ≡ d.place + 1 → window ≡ (d.window * 2 + cond bit 1 0) % 2 ^ 32
+    → Lags folded cost (record d { place = place; window = window; spent = record d.spent { shifted = shifted } }) b bit
+lags-shift folded cost d b bit place window shifted h p w =
     let n = length_push b bit in
     record {
       stands = record {
         place = p ∙ omega (arith, h.stands.place, n);
-        run = r ∙ (ap (λ k. if bit then suc k else 0) h.stands.run ∙ sym (ones_after-more 0 b bit));
         window = w ∙ window-more d.window b bit h.stands.window;
-        shifted = ap (λ (t : Spent). t.shifted) s ∙ omega (arith, h.stands.shifted, n);
       };
       first = h.first;
-      piece = moved-holds folded d b place run window spent (current b) h.piece;
+      piece = moved-holds folded d b place window (record d.spent { shifted = shifted }) (current b) h.piece;
       counts = record {
-        settled = ap (λ (t : Spent). t.assembled) s ∙ h.counts.settled;
-        filled = ap (λ (t : Spent). t.stored) s ∙ h.counts.filled;
-        paid = ap (λ (t : Spent). t.folded) s ∙ h.counts.paid;
-        copied = ap (λ (t : Spent). t.copied) s ∙ h.counts.copied;
-        handled = ap (λ (t : Spent). t.handled) s ∙ h.counts.handled;
+        settled = h.counts.settled;
+        filled = h.counts.filled;
+        paid = h.counts.paid;
+        copied = h.counts.copied;
+        handled = h.counts.handled;
       };
     }
 
@@ -286,9 +295,9 @@ unfolding number
 none_value = refl
 
 -- before the first bit
-pub fresh-tracks : {C : Type 0} (folded : C → List ℕ → Type 0) (cost : ℕ) (d : LineState C) → d.place ≡ d.origin → d.run ≡ 0 → d.window ≡ 0 → d.first ≡ None → d.spent ≡ record { shifted = 0; assembled = 0; folded = 0; stored = 0; copied = 0; handled = 0 } → Tracks folded cost d [] NoMark
-fresh-tracks folded cost d p r w f s = record {
-  stands = record { place = omega (arith, p); run = r; window = w ∙ sym (ap (λ n. n % 2 ^ 32) none_value); shifted = ap (λ (t : Spent). t.shifted) s };
+pub fresh-tracks : {C : Type 0} (folded : C → List ℕ → Type 0) (cost shifted : ℕ) (d : LineState C) → d.place ≡ d.origin → d.window ≡ 0 → d.first ≡ None → d.spent ≡ record { shifted = shifted; assembled = 0; folded = 0; stored = 0; copied = 0; handled = 0 } → Tracks folded cost d [] NoMark
+fresh-tracks folded cost shifted d p w f s = record {
+  stands = record { place = omega (arith, p); window = w ∙ sym (ap (λ n. n % 2 ^ 32) none_value) };
   first = f;
   piece = tt;
   counts = record {
@@ -348,8 +357,8 @@ stores-full n limit h =
     let t : ((n + 1) % 8 == 0) ≡ true = grind (arith, nat_tests) in
     rw t refl
 
-pub stands-same : {C : Type 0} (d e : LineState C) (b : List Bool) → e.place ≡ d.place → e.origin ≡ d.origin → e.run ≡ d.run → e.window ≡ d.window → e.spent.shifted ≡ d.spent.shifted → Stands d b → Stands e b
-stands-same d e b p o r w s h = record { place = p ∙ (h.place ∙ ap (λ n. n + length b) (sym o)); run = r ∙ h.run; window = w ∙ h.window; shifted = s ∙ h.shifted }
+pub stands-same : {C : Type 0} (d e : LineState C) (b : List Bool) → e.place ≡ d.place → e.origin ≡ d.origin → e.window ≡ d.window → Stands d b → Stands e b
+stands-same d e b p o w h = record { place = p ∙ (h.place ∙ ap (λ n. n + length b) (sym o)); window = w ∙ h.window }
 
 -- a bit of data that fills no octet
 pub tracks-unfilled : {C : Type 0} (folded : C → List ℕ → Type 0) (cost : ℕ) (d : LineState C) (b : List Bool) (bit : Bool) (octet : ℕ) (spent : Spent) → Lags folded cost d b bit → IsData folded cost d b bit
@@ -361,7 +370,7 @@ tracks-unfilled folded cost d b bit octet spent h i o s f =
     let bits = settled_data b i.flag in
     let n = length_push bits x in
     tracks-data folded cost d b bit h i e
-    (stands-same d e (b ++ bit ∷ []) refl refl refl refl (ap (λ (t : Spent). t.shifted) s) h.stands) refl refl
+    (stands-same d e (b ++ bit ∷ []) refl refl refl h.stands) refl refl
     (holds-unfilled folded d e bits x i.holds (λ k. f (omega (arith, i.holds.count, n, k))) refl (o ∙ shifted-bit d.octet (d.window / 256 % 2) bits x i.holds.last i.shows) refl refl refl)
     (counts-data folded cost d b bit h i e refl (ap (λ (t : Spent). t.assembled) s) 0
     (sym (stores-none (length bits) (8 * (d.longest + 2)) (λ k. f (omega (arith, i.holds.count, k)))))
@@ -408,7 +417,7 @@ tracks-filled folded cost d m e b bit h i ms mg ml full stands first origin kept
     let same : t ≡ nat_le (length bits + 1) (8 * (d.longest + 2)) =
     ap (λ k. nat_le k (8 * (m.longest + 2))) (mg ∙ ap (λ k. k + 1) i.holds.count) ∙ ap (λ k. nat_le (length bits + 1) (8 * (k + 2))) ml in
     tracks-data folded cost d b bit h i e
-    (stands-same m e (b ++ bit ∷ []) (ap (λ (x : LineState _). x.place) kept) (ap (λ (x : LineState _). x.origin) kept) (ap (λ (x : LineState _). x.run) kept) (ap (λ (x : LineState _). x.window) kept) (ap (λ (x : Spent). x.shifted) s) stands)
+    (stands-same m e (b ++ bit ∷ []) (ap (λ (x : LineState _). x.place) kept) (ap (λ (x : LineState _). x.origin) kept) (ap (λ (x : LineState _). x.window) kept) stands)
     (ap (λ (x : LineState _). x.first) kept ∙ first) (ap (λ (x : LineState _). x.origin) kept ∙ origin) holds
     (counts-data folded cost d b bit h i e (ap (λ (x : LineState _). x.longest) kept ∙ ml) (ap (λ (x : Spent). x.assembled) s ∙ ap (λ (x : Spent). x.assembled) ms) n
     (ap one_more same ∙ sym (stores-full (length bits) (8 * (d.longest + 2)) (omega (arith, i.holds.count, full))))

@@ -1,6 +1,9 @@
 -- A window of the last bits, the newest lowest.
-use Rattle.std.proofs.Common.{◌≡◌, ℕ, suc, ◌+◌, ◌-◌, ◌*◌, ◌/◌, ◌%◌, ◌^◌, ◌≤◌, ◌<◌, Bool, true, false, cond, List, [], ◌∷◌, ◌++◌, length, take, drop, reverse, get_or, refl, sym, ap, ◌∙◌, subst, arith, length-append}
+use Rattle.std.proofs.Common.{◌≡◌, ◌≢◌, ℕ, zero, suc, ◌+◌, ◌-◌, ◌*◌, ◌/◌, ◌%◌, ◌^◌, ◌≤◌, ◌<◌, Bool, true, false, cond, List, [], ◌∷◌, ◌++◌, length, take, drop, reverse, get_or, refl, sym, ap, ◌∙◌, subst, arith, length-append}
 use Rattle.std.proofs.Math.Seq.{take-add}
+use Rattle.std.proofs.Math.Nat.{mod-one, zero-mod, pow-suc}
+use Rattle.std.proofs.lemmas.Nat.{mod-pow-add, pow_pos, and_mask}
+use Rattle.std.specs.Prelude.{bit_and}
 use Rattle.std.proofs.lemmas.List.{reverse-append, reverse-reverse, length-reverse, length-take, length-drop, take-append-drop, take-append-le}
 use Rattle.bus_bits.specs.Octet.{number}
 use Rattle.bus_bits.proofs.OctetLemmas.{number-cons, number-lt, number-append, same_number}
@@ -17,6 +20,10 @@ pub window-more : (w : ℕ) (b : List Bool) (x : Bool) → w ≡ number (reverse
 window-more w b x h =
     let e : number (reverse (b ++ x ∷ [])) ≡ number (reverse b) * 2 + cond x 1 0 = ap number (reverse-append b (x ∷ [])) ∙ number-cons x (reverse b) in
     omega (arith, h, e)
+
+bit-below : (x : Bool) → cond x 1 0 < 2
+bit-below true = omega arith
+bit-below false = omega arith
 
 -- the number of a list and of its last eight bits
 late-number : (u v : List Bool) → length v ≡ 8 → number (reverse (u ++ v)) / 256 ≡ number (reverse u)
@@ -100,10 +107,6 @@ window-bit w b bit h e =
     ap (λ (z : List Bool). number (reverse z)) u ∙ (ap number (reverse-append front (x ∷ [])) ∙ number-cons x (reverse front)) in
     let l = bit-below x in
     omega (arith, window-late w b bit (omega arith) e, m, l)
-  where
-    bit-below : (x : Bool) → cond x 1 0 < 2
-    bit-below true = omega arith
-    bit-below false = omega arith
 
 -- the ones at the front of a list
 abbrev lead : List Bool → ℕ
@@ -119,35 +122,90 @@ lead-back (false ∷ r) = ap ones_at_end (reverse-append (false ∷ []) r) ∙ o
 lead-is : (u : List Bool) → ones_at_end u ≡ lead (reverse u)
 lead-is u = ap ones_at_end (sym (reverse-reverse u)) ∙ lead-back (reverse u)
 
-lead-1 : (r : List Bool) → (number r % 2 ≡ 1 → 1 ≤ lead r) × (1 ≤ lead r → number r % 2 ≡ 1)
-unfolding number
-lead-1 [] = (λ e. absurd (omega (arith, e)), λ l. absurd (omega (arith, l)))
-lead-1 (false ∷ r) = (λ e. absurd (omega (arith, e)), λ l. absurd (omega (arith, l)))
-lead-1 (true ∷ r) = (λ e. omega arith, λ l. omega arith)
+-- a number and its list without the first bit
+number-halved : (x : Bool) (r : List Bool) (k : ℕ) → number (x ∷ r) % 2 ^ suc k ≡ number r % 2 ^ k * 2 + cond x 1 0
+number-halved x r k =
+    let n = number-cons x r in
+    let l = bit-below x in
+    let e : number (x ∷ r) / 2 ≡ number r = omega (arith, n, l) in
+    let s : suc k ≡ k + 1 = omega arith in
+    ap (λ (j : ℕ). number (x ∷ r) % 2 ^ j) s ∙ (mod-pow-add (number (x ∷ r)) k 1 ∙ (ap (λ (m : ℕ). m % 2 ^ k * 2 + number (x ∷ r) % 2) e ∙ omega (arith, n, l)))
 
-lead-2 : (r : List Bool) → (number r % 4 ≡ 3 → 2 ≤ lead r) × (2 ≤ lead r → number r % 4 ≡ 3)
+-- at least so many ones at the front show in as many low bits
+lead-least : (k : ℕ) (r : List Bool) → (number r % 2 ^ k + 1 ≡ 2 ^ k → k ≤ lead r) × (k ≤ lead r → number r % 2 ^ k + 1 ≡ 2 ^ k)
 unfolding number
-lead-2 [] = (λ e. absurd (omega (arith, e)), λ l. absurd (omega (arith, l)))
-lead-2 (false ∷ r) = (λ e. absurd (omega (arith, e)), λ l. absurd (omega (arith, l)))
-lead-2 (true ∷ r) = let i = lead-1 r in (λ e. omega (arith, i.0 (omega (arith, e))), λ l. omega (arith, i.1 (omega (arith, l))))
+lead-least zero r = (λ e. omega arith, λ l. omega (arith, mod-one (number r)))
+lead-least (suc k) [] = (λ e. absurd (let p = pow_pos k in let q = pow-suc 2 k in omega (arith, sym e ∙ ap (λ (m : ℕ). m + 1) (zero-mod (2 ^ suc k)), p, q)), λ l. absurd (omega (arith, l)))
+lead-least (suc k) (true ∷ r) =
+    let i = lead-least k r in
+    let n = number-halved true r k in
+    let p = pow-suc 2 k in
+    (λ e. omega (arith, i.0 (omega (arith, n, p, e))), λ l. omega (arith, i.1 (omega (arith, l)), n, p))
+lead-least (suc k) (false ∷ r) =
+    let n = number-halved false r k in
+    let p = pow-suc 2 k in
+    (λ e. absurd (omega (arith, n, p, e)), λ l. absurd (omega (arith, l)))
 
-lead-3 : (r : List Bool) → (number r % 8 ≡ 7 → 3 ≤ lead r) × (3 ≤ lead r → number r % 8 ≡ 7)
+-- so many ones at the front, and no more, show in one bit more
+lead-just : (k : ℕ) (r : List Bool) → (number r % 2 ^ suc k + 1 ≡ 2 ^ k → lead r ≡ k) × (lead r ≡ k → number r % 2 ^ suc k + 1 ≡ 2 ^ k)
 unfolding number
-lead-3 [] = (λ e. absurd (omega (arith, e)), λ l. absurd (omega (arith, l)))
-lead-3 (false ∷ r) = (λ e. absurd (omega (arith, e)), λ l. absurd (omega (arith, l)))
-lead-3 (true ∷ r) = let i = lead-2 r in (λ e. omega (arith, i.0 (omega (arith, e))), λ l. omega (arith, i.1 (omega (arith, l))))
+lead-just zero [] = (λ e. refl, λ l. refl)
+lead-just zero (true ∷ r) = (λ e. absurd (omega (arith, e)), λ l. absurd (omega (arith, l)))
+lead-just zero (false ∷ r) = (λ e. refl, λ l. omega arith)
+lead-just (suc k) [] = (λ e. absurd (let p = pow_pos k in let q = pow-suc 2 k in omega (arith, sym e ∙ ap (λ (m : ℕ). m + 1) (zero-mod (2 ^ suc (suc k))), p, q)), λ l. absurd (omega (arith, l)))
+lead-just (suc k) (true ∷ r) =
+    let i = lead-just k r in
+    let n = number-halved true r (suc k) in
+    let p = pow-suc 2 k in
+    (λ e. omega (arith, i.0 (omega (arith, n, p, e))), λ l. omega (arith, i.1 (omega (arith, l)), n, p))
+lead-just (suc k) (false ∷ r) =
+    let n = number-halved false r (suc k) in
+    let p = pow-suc 2 k in
+    (λ e. absurd (omega (arith, n, p, e)), λ l. absurd (omega (arith, l)))
 
-lead-4 : (r : List Bool) → (number r % 16 ≡ 15 → 4 ≤ lead r) × (4 ≤ lead r → number r % 16 ≡ 15)
-unfolding number
-lead-4 [] = (λ e. absurd (omega (arith, e)), λ l. absurd (omega (arith, l)))
-lead-4 (false ∷ r) = (λ e. absurd (omega (arith, e)), λ l. absurd (omega (arith, l)))
-lead-4 (true ∷ r) = let i = lead-3 r in (λ e. omega (arith, i.0 (omega (arith, e))), λ l. omega (arith, i.1 (omega (arith, l))))
+-- six ones at the end, or fourteen, and no more, show
+pub window-six : (w : ℕ) (b : List Bool) → w ≡ number (reverse b) % 2 ^ 32 → (w % 128 ≡ 63 → ones_at_end b ≡ 6) × (ones_at_end b ≡ 6 → w % 128 ≡ 63)
+window-six w b h =
+    let i = lead-just 6 (reverse b) in
+    let k = lead-is b in
+    (λ m. k ∙ i.0 (omega (arith, h, m)), λ m. omega (arith, h, i.1 (sym k ∙ m)))
 
-lead-5 : (r : List Bool) → (number r % 32 ≡ 31 → 5 ≤ lead r) × (5 ≤ lead r → number r % 32 ≡ 31)
-unfolding number
-lead-5 [] = (λ e. absurd (omega (arith, e)), λ l. absurd (omega (arith, l)))
-lead-5 (false ∷ r) = (λ e. absurd (omega (arith, e)), λ l. absurd (omega (arith, l)))
-lead-5 (true ∷ r) = let i = lead-4 r in (λ e. omega (arith, i.0 (omega (arith, e))), λ l. omega (arith, i.1 (omega (arith, l))))
+pub window-fourteen : (w : ℕ) (b : List Bool) → w ≡ number (reverse b) % 2 ^ 32 → (w % 32768 ≡ 16383 → ones_at_end b ≡ 14) × (ones_at_end b ≡ 14 → w % 32768 ≡ 16383)
+window-fourteen w b h =
+    let i = lead-just 14 (reverse b) in
+    let k = lead-is b in
+    (λ m. k ∙ i.0 (omega (arith, h, m)), λ m. omega (arith, h, i.1 (sym k ∙ m)))
+
+-- the newest bit, and the window before it
+newest : (w : ℕ) (b : List Bool) (bit : Bool) → w ≡ number (reverse (b ++ bit ∷ [])) % 2 ^ 32 → w ≡ number (reverse b) % 2 ^ 31 * 2 + cond bit 1 0
+newest w b bit h = h ∙ (ap (λ (z : List Bool). number z % 2 ^ 32) (reverse-append b (bit ∷ [])) ∙ number-halved bit (reverse b) 31)
+
+-- what the newest bit ends shows: a flag behind any bit
+pub window-closing : (w : ℕ) (b : List Bool) (bit : Bool) → w ≡ number (reverse (b ++ bit ∷ [])) % 2 ^ 32
+    → (w % 256 ≡ 126 → (bit ≡ false) × (ones_at_end b ≡ 6)) × (bit ≡ false → ones_at_end b ≡ 6 → w % 256 ≡ 126)
+window-closing w b true h = let n = newest w b true h in (λ e. absurd (omega (arith, n, e)), λ e. absurd (cc))
+window-closing w b false h =
+    let n = newest w b false h in
+    let i = window-six (number (reverse b) % 2 ^ 32) b refl in
+    (λ e. (refl, i.0 (omega (arith, n, e))), λ e k. omega (arith, n, i.1 k))
+
+-- the seventh one of a run
+pub window-seven : (w : ℕ) (b : List Bool) (bit : Bool) → w ≡ number (reverse (b ++ bit ∷ [])) % 2 ^ 32
+    → (w % 256 ≡ 127 → (bit ≡ true) × (ones_at_end b ≡ 6)) × (bit ≡ true → ones_at_end b ≡ 6 → w % 256 ≡ 127)
+window-seven w b false h = let n = newest w b false h in (λ e. absurd (omega (arith, n, e)), λ e. absurd (cc))
+window-seven w b true h =
+    let n = newest w b true h in
+    let i = window-six (number (reverse b) % 2 ^ 32) b refl in
+    (λ e. (refl, i.0 (omega (arith, n, e))), λ e k. omega (arith, n, i.1 k))
+
+-- and the fifteenth
+pub window-fifteen : (w : ℕ) (b : List Bool) (bit : Bool) → w ≡ number (reverse (b ++ bit ∷ [])) % 2 ^ 32
+    → (w % 65536 ≡ 32767 → (bit ≡ true) × (ones_at_end b ≡ 14)) × (bit ≡ true → ones_at_end b ≡ 14 → w % 65536 ≡ 32767)
+window-fifteen w b false h = let n = newest w b false h in (λ e. absurd (omega (arith, n, e)), λ e. absurd (cc))
+window-fifteen w b true h =
+    let n = newest w b true h in
+    let i = window-fourteen (number (reverse b) % 2 ^ 32) b refl in
+    (λ e. (refl, i.0 (omega (arith, n, e))), λ e k. omega (arith, n, i.1 k))
 
 -- five ones before the last eight bits show
 pub window-five : (w : ℕ) (b : List Bool) (bit : Bool) → 7 ≤ length b → w ≡ number (reverse (b ++ bit ∷ [])) % 2 ^ 32
@@ -155,6 +213,24 @@ pub window-five : (w : ℕ) (b : List Bool) (bit : Bool) → 7 ≤ length b → 
 window-five w b bit h e =
     let u = take (length b - 7) b in
     let l = window-late w b bit h e in
-    let i = lead-5 (reverse u) in
+    let i = lead-least 5 (reverse u) in
     let k = lead-is u in
     (λ m. omega (arith, k, i.0 (omega (arith, l, m))), λ m. omega (arith, l, i.1 (omega (arith, k, m))))
+
+-- whether a run of six or of fourteen stands at the end, by the masks
+pub masked : (w : ℕ) (b : List Bool) → w ≡ number (reverse b) % 2 ^ 32
+    → ((bit_and w 127 ≡ 63 → ones_at_end b ≡ 6) × (ones_at_end b ≡ 6 → bit_and w 127 ≡ 63)) × ((bit_and w 32767 ≡ 16383 → ones_at_end b ≡ 14) × (ones_at_end b ≡ 14 → bit_and w 32767 ≡ 16383))
+masked w b h =
+    let six = window-six w b h in
+    let more = window-fourteen w b h in
+    let a = and_mask w 7 in
+    let c = and_mask w 15 in
+    ((λ e. six.0 (sym a ∙ e), λ e. a ∙ six.1 e), (λ e. more.0 (sym c ∙ e), λ e. c ∙ more.1 e))
+
+-- the six lowest bits of both
+pub masked-low : (w : ℕ) → bit_and w 63 ≢ 63 → (bit_and w 127 ≢ 63) × (bit_and w 32767 ≢ 16383)
+masked-low w h =
+    let l = and_mask w 6 in
+    let a = and_mask w 7 in
+    let c = and_mask w 15 in
+    (λ e. h (omega (arith, l, a, e)), λ e. h (omega (arith, l, c, e)))

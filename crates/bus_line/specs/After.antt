@@ -1,7 +1,7 @@
 -- The lists of bits after which a decoder may stand.
 use Rattle.std.specs.Prelude.{◌≡◌, ℕ, ◌+◌, ◌-◌, ◌*◌, ◌/◌, ◌%◌, ◌≤◌, ◌^◌, Bool, List, [], ◌∷◌, ◌++◌, length, take, reverse, slice_range, Option, Some, None, if◌then◌else◌}
 use Rattle.bus_bits.specs.Octet.{number, octets}
-use Rattle.bus_line.specs.Run.{ones_at_end, data_so_far}
+use Rattle.bus_line.specs.Run.{data_so_far}
 use Rattle.bus_line.specs.Report.{Report, Kind}
 use Rattle.bus_line.specs.Due.{Mark, NoMark, FlagAt, AbortAt, current}
 use Rattle.bus_line.specs.Ledger.{assembled, stored}
@@ -49,9 +49,7 @@ pub record Counts {C : Type 0} (cost : ℕ) (d : LineState C) (b : List Bool) : 
 -- the bits b were taken
 pub record Stands {C : Type 0} (d : LineState C) (b : List Bool) : Type 0 where
   pub place : d.place ≡ d.origin + length b
-  pub run : d.run ≡ ones_at_end b
   pub window : d.window ≡ number (reverse b) % 2 ^ 32
-  pub shifted : d.spent.shifted ≡ length b
 
 -- the bits b were taken and settled, and this mark was the last
 pub record Tracks {C : Type 0} (folded : C → List ℕ → Type 0) (cost : ℕ) (d : LineState C) (b : List Bool) (mark : Mark) : Type 0 where

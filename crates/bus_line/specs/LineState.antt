@@ -6,7 +6,6 @@ pub record LineState (C : Type 0) : Type 0 where
   pub longest : ℕ
   pub origin : ℕ
   pub place : ℕ
-  pub run : ℕ
   pub window : ℕ
   pub first : Option ℕ
   pub gathered : ℕ

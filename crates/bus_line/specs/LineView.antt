@@ -1,5 +1,5 @@
--- A decoder's fields, as they are seen, and their bounds.
-use Rattle.std.specs.Prelude.{◌+◌, ◌*◌, ◌≤◌, ◌^◌}
+-- A decoder's fields, as they are seen, and their bounds. The bits taken are not counted apart: they are as many as the places behind the origin.
+use Rattle.std.specs.Prelude.{◌≡◌, ℕ, ◌+◌, ◌-◌, ◌*◌, ◌≤◌, ◌^◌, Option, Some, None}
 use Rattle.std.specs.Option.{ForSome}
 use Rattle.arrayvec.specs.ArrayVec.{array_vec_len}
 use Rattle.bus_line.specs.LineState.{LineState}
@@ -10,25 +10,28 @@ line_state d = record {
   longest = d.longest;
   origin = d.origin;
   place = d.place;
-  run = d.run;
   window = d.window;
   first = d.first;
   gathered = d.gathered;
   octet = d.octet;
   octets = d.buffer.items;
   check = d.check;
-  spent = d.spent;
+  spent = record d.spent { shifted = d.place - d.origin };
 }
+
+-- the first place behind which a bit of the piece is settled that begins there; with no piece open, no bit's place comes so far
+abbrev pub settles_from : Option ℕ → ℕ
+settles_from None = 2 ^ 62
+settles_from (Some first) = first + 9
 
 pub record IsWithin {C : Type 0} (d : Inside C) : Type 0 where
   pub longest_fits : d.longest ≤ 256
   pub room : array_vec_len d.buffer ≤ d.longest + 2
   pub place_fits : d.place ≤ 2 ^ 60
   pub begins : d.origin ≤ d.place
-  pub run_fits : d.run ≤ d.place
   pub first_fits : ForSome d.first (λ first. first ≤ d.place)
+  pub settles : d.settles_at ≡ settles_from d.first
   pub gathered_fits : d.gathered ≤ d.spent.assembled
-  pub ticked : d.spent.shifted ≤ d.place
-  pub settled : d.spent.assembled ≤ d.spent.shifted
+  pub settled : d.spent.assembled ≤ d.place - d.origin
   pub filled : d.spent.stored ≤ d.spent.assembled
   pub paid : d.spent.folded ≤ 8 * d.spent.stored

@@ -5,12 +5,13 @@ mod event;
 mod look;
 mod step;
 
-ghost use Rattle.std.specs.Prelude.{◌≡◌, ◌+◌, ◌*◌, ◌-◌, ◌%◌, ◌/◌, ◌≤◌, ◌<◌, ◌^◌, ◌↔◌, ◌⊎◌, List, Bool, [], ◌∷◌, ◌++◌, IsErr, IfOk, OnOk, OnErr, IsErrOf, IsTrue, length, ℕ, cond, Some, None, IsSome};
+ghost use Rattle.std.specs.Prelude.{◌≡◌, ◌≢◌, ◌+◌, ◌*◌, ◌-◌, ◌%◌, ◌/◌, ◌≤◌, ◌<◌, ◌^◌, ◌↔◌, ◌⊎◌, List, Bool, [], ◌∷◌, ◌++◌, IsErr, IfOk, OnOk, OnErr, IsErrOf, IsTrue, false, length, ℕ, cond, Some, None, IsSome};
 ghost use Rattle.std.specs.Option.{option_map, option_to_list};
 ghost use Rattle.std.specs.Borrow.{sem};
 ghost use Rattle.std.specs.Io.BufRead.{Rests};
 ghost use Rattle.bus_line.specs.Due.{due_at, begun, placed};
 ghost use Rattle.bus_line.specs.Ledger.{stored_from, IsLedger};
+ghost use Rattle.bus_line.specs.Run.{ones_at_end};
 
 use crate::line_fault::LineFault;
 use crate::piece::Piece;
@@ -24,6 +25,9 @@ use std::marker::Model;
 /// The first place that no bit can have.
 const PLACES: u64 = 1 << 60;
 
+/// A place that is never reached.
+const NEVER: u64 = 1 << 62;
+
 /// Finds the frames, damaged pieces, overlong pieces, aborts and idles of a line (ISO/IEC 13239)
 /// from its bits, one at a time.
 ///
@@ -36,12 +40,13 @@ pub struct LineDecoder<C: Check> {
     origin: u64,
     /// The place of the next bit.
     place: u64,
-    /// How many ones stand at the end of the bits so far.
-    run: u64,
     /// The last bits, the newest lowest.
     window: u32,
     /// The place behind the last mark, where that is a flag.
     first: Option<u64>,
+    /// The first place behind which a bit of the open piece is settled: nine past its beginning, and
+    /// where no piece is open a place that is never reached.
+    settles_at: u64,
     /// How many data bits of the piece from there are settled.
     gathered: u64,
     /// The last eight of them, the newest highest.
@@ -50,6 +55,7 @@ pub struct LineDecoder<C: Check> {
     buffer: ArrayVec<u8, 258>,
     /// The check of these octets.
     check: C,
+    /// The steps so far but the bits taken, which are the places behind the origin.
     spent: Spent,
 }
 
@@ -91,9 +97,9 @@ impl<C: Check> LineDecoder<C> {
             longest,
             origin,
             place: origin,
-            run: 0,
             window: 0,
             first: None,
+            settles_at: NEVER,
             gathered: 0,
             octet: 0,
             buffer: ArrayVec::new(),
@@ -133,10 +139,32 @@ impl<C: Check> LineDecoder<C> {
         }
     }
 
+    /// Takes a bit at once, if no value of it can decide a report. Behind six 1 bits or fourteen, and
+    /// no more, and where the bit's place would be 2^60, it answers false and changes nothing: `push`
+    /// takes that bit.
+    #[inline(always)]
+    pub fn pass(&mut self, bit: bool) -> bool
+        ensures passes { (b : List Bool) → After C.folded C.COST self.old b → (IsTrue result ↔ ((self.old.place < 2 ^ 60) × (ones_at_end b ≢ 6) × (ones_at_end b ≢ 14))) }
+        ensures limit { IsTrue result → self.old.place < 2 ^ 60 }
+        ensures passed { IsTrue result → Pushed C.folded C.COST self.old bit None self.new }
+        ensures nothing { IsTrue result → (b : List Bool) → After C.folded C.COST self.old b → due_at self.old.longest (b ++ bit ∷ []) (length b) ≡ None }
+        ensures more { IsTrue result → (b : List Bool) → After C.folded C.COST self.old b →
+            placed self.old.origin self.old.longest (b ++ bit ∷ []) ≡ placed self.old.origin self.old.longest b }
+        ensures kept { result ≡ false → self.new ≡ self.old }
+    {
+        if self.can_decide() || self.place >= PLACES {
+            return false;
+        }
+        self.shift(bit);
+        self.settle();
+        true
+    }
+
     /// The octets of the frame that the last bit closed.
     pub fn octets(&self) -> &[u8]
         ensures value { result.now ≡ self.now.octets }
         ensures bound { length result.now ≤ self.now.longest + 2 }
+        ensures room { length result.now ≤ 258 }
     {
         self.buffer.as_slice()
     }
@@ -168,7 +196,10 @@ impl<C: Check> LineDecoder<C> {
         ensures value { result ≡ self.now.spent }
         ensures ledger { (b : List Bool) → After C.folded C.COST self.now b → IsLedger C.COST self.now.longest b result }
     {
-        self.spent
+        Spent {
+            shifted: self.place - self.origin,
+            ..self.spent
+        }
     }
 
     /// The first place of a piece that has begun and is not ended yet.

@@ -5,6 +5,7 @@ mod decoder;
 mod encoder;
 mod every_list;
 mod limits;
+mod pass;
 mod plain_reading;
 mod rows;
 mod told;

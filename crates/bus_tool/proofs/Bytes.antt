@@ -1,5 +1,5 @@
 -- How what a writer holds grows, in parts.
-use Rattle.std.proofs.Common.{◌≡◌, ℕ, ◌+◌, ◌-◌, ◌≤◌, List, [], ◌++◌, length, take, drop, refl, sym, ◌∙◌, ap, subst, append_assoc, arith, Option, Some, None}
+use Rattle.std.proofs.Common.{◌≡◌, ℕ, ◌+◌, ◌-◌, ◌<◌, ◌≤◌, List, [], ◌++◌, length, take, drop, refl, sym, ◌∙◌, ap, subst, append_assoc, length-append, length-take, arith, Option, Some, None}
 use Rattle.std.specs.Io.KnownBytes.{Appends, Keeps, Consumes}
 use Rattle.std.proofs.lemmas.Grind.{common_steps}
 use Rattle.std.proofs.Math.Seq.{take-add, take-append-add}
@@ -63,3 +63,7 @@ part_out start before now front rest more n sent out e short part =
     let text : take (n + sent) ((front ++ rest) ++ more) ≡ front ++ take sent rest =
     rw (e, append_assoc, take-append-add) (ap (λ l. front ++ l) (take-append-le sent rest more short)) in
     subst (Appends start now) (sym text) (appends_both start before now _ _ out part)
+
+-- each read gave an octet at least
+pub longer : (xs buf : List ℕ) (count turn : ℕ) → turn ≤ length xs → 0 < count → count ≤ length buf → turn + 1 ≤ length (xs ++ take count buf)
+longer xs buf count turn h some fits = simp (length-append, length-take) (omega arith)

@@ -9,8 +9,12 @@ abbrev pub name_of : Option FrameType → List ℕ
 name_of None = []
 name_of (Some e) = e.name
 
+-- a station and a frame type
+abbrev pub station_text : ℕ → ℕ → List ℕ
+station_text station ftype = codes "station " ++ decimal station ++ codes " type " ++ decimal ftype
+
 abbrev pub typed_text : ℕ → ℕ → List ℕ → List ℕ
-typed_text station ftype what = codes "station " ++ decimal station ++ codes " type " ++ decimal ftype ++ codes " " ++ what
+typed_text station ftype what = station_text station ftype ++ codes " " ++ what
 
 abbrev pub head_text : Standing → List FrameType → List ℕ
 head_text (Known station ftype) d = typed_text station ftype (name_of (entry_at ftype d))

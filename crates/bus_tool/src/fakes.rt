@@ -27,6 +27,22 @@ impl Read for Pieces<'_> {
     }
 }
 
+/// Gives two pieces, each as far as it is asked for. An empty one is passed over.
+#[derive(Drop)]
+pub struct Halves<'a> {
+    pub first: &'a [u8],
+    pub second: &'a [u8],
+}
+
+impl Read for Halves<'_> {
+    fn read(&mut self, buf: &mut [u8]) -> io::Result<usize> {
+        if self.first.is_empty() {
+            return self.second.read(buf);
+        }
+        self.first.read(buf)
+    }
+}
+
 /// Gives one octet `1` each call, and never ends.
 #[derive(Drop)]
 pub struct Endless {
@@ -98,7 +114,7 @@ impl Write for Narrow {
 /// Takes what it has room for, and asks for no memory.
 #[derive(Drop)]
 pub struct Fixed {
-    pub out: ArrayVec<u8, 64>,
+    pub out: ArrayVec<u8, 256>,
 }
 
 impl Write for Fixed {

@@ -12,6 +12,30 @@ pub enum ToolFault {
     /// The text is no dictionary.
     #[error("{0}")]
     Dictionary(DictFault),
+    /// The depth of the history is not 1 to 1024.
+    #[error("depth is not 1 to 1024")]
+    Depth,
+    /// The origin is above 2^60.
+    #[error("origin is above 1152921504606846976")]
+    Origin,
+    /// The input ended within the head of a packed capture.
+    #[error("capture: short head")]
+    ShortHead,
+    /// The head of a packed capture begins with other octets.
+    #[error("capture: wrong magic")]
+    Magic,
+    /// The head of a packed capture counts more than 2^60 bits.
+    #[error("capture: too many bits")]
+    TooMany,
+    /// The input ended before the last bit of a packed capture.
+    #[error("capture: short body")]
+    ShortBody,
+    /// An unused bit of the last octet of a packed capture is 1.
+    #[error("capture: spare bits are not 0")]
+    PadBits,
+    /// An octet follows the last of a packed capture.
+    #[error("capture: octets after the end")]
+    Trailing,
     /// The octet of the capture at place `at` is neither a bit nor a space. Octets count from 0.
     #[error("capture: octet {at} is no bit")]
     BadMark { at: u128 },
@@ -34,6 +58,9 @@ pub enum ToolFault {
     /// A frame that is typed does not have 4 to 258 octets, its check among them.
     #[error("frame is not 4 to 258 octets")]
     FrameSize,
+    /// The word names no kind of line.
+    #[error("unknown kind")]
+    Kind,
     /// The line of this number has another form than lines may have, or is too long. Lines count
     /// from 1.
     #[error("line {0}: bad line")]

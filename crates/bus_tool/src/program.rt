@@ -1,29 +1,32 @@
 //! The program.
 
+use crate::check::check_capture;
 use crate::encode::encode_frames;
 use crate::fault::ToolFault;
-use crate::list::list_pieces;
-use crate::options::{Request, read_words};
+use crate::list::list_capture;
 use crate::show::show_frame;
+use crate::summary::Summary;
 use crate::text::put_text;
+use crate::words::{READS, Refusal, Request, read_words};
 use clap::Error;
 use clap::error::ErrorKind;
 use std::alloc::{AllocError, Global};
 use std::io::{Read, Write};
 
-/// How often the reader is called at most.
-const READS: u64 = 1 << 40;
-
 /// The status of a call without fault.
 const FINE: u8 = 0;
+
+/// The status of a check that found something amiss on the line.
+const AMISS: u8 = 1;
 
 /// The status of any fault.
 const FAULT: u8 = 2;
 
-/// Runs the program `port1`, and answers its status: 0, or 2 for any fault.
+/// Runs the program `port1`, and answers its status: 0, or 1 for a check that found something
+/// damaged, overlong, missing or spoilt, or 2 for any fault.
 ///
-/// `words` are its arguments without its name. A capture, or lines to encode, are read from `r`. Output and help go to
-/// `w`, and faults to `e`; that `e` fails is ignored.
+/// `words` are its arguments without its name. A capture, or lines to encode, are read from `r`.
+/// Output and help go to `w`, and faults to `e`; that `e` fails is ignored.
 pub fn run<R: Read, W: Write, E: Write>(
     alloc: Global,
     words: &[&str],
@@ -32,28 +35,57 @@ pub fn run<R: Read, W: Write, E: Write>(
     e: &mut E,
 ) -> u8 {
     match read_words(alloc, words) {
-        Ok(Request::List) => status(list_pieces(alloc, READS, r, w), e),
-        Ok(Request::Show { dictionary, hex }) => status(show_frame(alloc, dictionary, hex, w), e),
-        Ok(Request::Encode) => status(encode_frames(READS, r, w), e),
-        Err(error) => refuse(alloc, &error, w, e),
+        Ok(request) => serve(alloc, &request, r, w, e),
+        Err(Refusal::Words(error)) => refuse(alloc, &error, w, e),
+        Err(Refusal::Kind) => fail(&ToolFault::Kind, e),
     }
 }
 
-/// Tells a fault, and answers the status.
+/// Does what was asked for, and answers the status.
+fn serve<R: Read, W: Write, E: Write>(
+    alloc: Global,
+    request: &Request<'_>,
+    r: &mut R,
+    w: &mut W,
+    e: &mut E,
+) -> u8 {
+    match request {
+        Request::List(options) => match list_capture(alloc, options, r, w) {
+            Ok(_) => FINE,
+            Err(fault) => fail(&fault, e),
+        },
+        Request::Check(options) => match check_capture(alloc, options, r, w) {
+            Ok(summary) => verdict(&summary),
+            Err(fault) => fail(&fault, e),
+        },
+        Request::Show { dictionary, hex } => status(show_frame(alloc, *dictionary, hex, w), e),
+        Request::Encode => status(encode_frames(READS, r, w), e),
+    }
+}
+
+/// The status of a check that reached the end.
+fn verdict(summary: &Summary) -> u8 {
+    if summary.is_clean() { FINE } else { AMISS }
+}
+
+/// Tells a fault, and answers its status.
+fn fail<E: Write>(fault: &ToolFault, e: &mut E) -> u8 {
+    let _ = writeln!(e, "port1: {fault}");
+    FAULT
+}
+
+/// The status of a call, whose fault is told.
 fn status<E: Write>(ending: Result<(), ToolFault>, e: &mut E) -> u8 {
     match ending {
         Ok(()) => FINE,
-        Err(fault) => {
-            let _ = writeln!(e, "port1: {fault}");
-            FAULT
-        }
+        Err(fault) => fail(&fault, e),
     }
 }
 
 /// Tells what the words have wrong, or the help that they ask for.
 fn refuse<W: Write, E: Write>(alloc: Global, error: &Error, w: &mut W, e: &mut E) -> u8 {
     if error.kind() == ErrorKind::OutOfMemory {
-        return status(Err(ToolFault::Memory), e);
+        return fail(&ToolFault::Memory, e);
     }
     if error.use_stderr() {
         let _ = write!(e, "{error}");

@@ -16,7 +16,7 @@ pub use typed::all_digits;
 use typed::typed_frame;
 
 /// The dictionary of a text. Without a text it is empty, and takes no memory.
-fn read_dictionary(alloc: Global, text: Option<&str>) -> Result<Dictionary, ToolFault>
+pub fn read_dictionary(alloc: Global, text: Option<&str>) -> Result<Dictionary, ToolFault>
     ensures { Reads (option_map (λ s. s.now) text.entry) result }
 {
     let Some(text) = text else {

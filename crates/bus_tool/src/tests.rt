@@ -1,7 +1,10 @@
-//! Worked rows of lines, listings and the program.
+//! Worked rows of listings, lines and the program.
 
 mod encodes;
-mod lines;
 mod listings;
+mod packed;
 mod program;
+mod rows;
 mod shows;
+mod texts;
+mod worked;

@@ -58,6 +58,13 @@ sees-none folded cost old new bit p grows same = record {
   place = p.place;
 }
 
+-- a bit that was passed
+pub sees-passed : {C : Type 0} (folded : C → List ℕ → Type 0) (cost : ℕ) (old new : AnalyserState C) (bit : Bool)
+    → Pushed folded cost old.decoder bit None new.decoder
+    → ((b : List Bool) → After folded cost old.decoder b → placed old.decoder.origin old.decoder.longest (b ++ bit ∷ []) ≡ placed old.decoder.origin old.decoder.longest b)
+    → new.journal ≡ old.journal → Sees folded cost old (bit ∷ []) [] new
+sees-passed folded cost old new bit p more same = sees-none folded cost old new bit p (λ b h. more b h ∙ sym (append-nil (placed old.decoder.origin old.decoder.longest b))) same
+
 -- a bit that decides a report
 pub sees-some : {C : Type 0} (folded : C → List ℕ → Type 0) (cost : ℕ) (old new : AnalyserState C) (bit : Bool) (piece : Piece) (told : SeenReport)
     → Pushed folded cost old.decoder bit (Some piece) new.decoder → GrowsBy folded cost old.decoder bit (Some piece)

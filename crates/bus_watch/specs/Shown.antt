@@ -1,5 +1,5 @@
 -- What is handed out, as it is seen.
-use Rattle.std.specs.Prelude.{◌≡◌, ℕ, ◌+◌, Bool, List, length, Option, Some, None, option_map}
+use Rattle.std.specs.Prelude.{◌≡◌, ℕ, ◌+◌, ◌≤◌, Bool, List, length, Option, Some, None, option_map}
 use Rattle.std.specs.Borrow.{Bor}
 use Rattle.bus_bits.specs.declared.span.Span.{Span}
 use Rattle.bus_line.specs.Report.{Kind, Report}
@@ -7,6 +7,7 @@ use Rattle.bus_line.specs.After.{report_of}
 use Rattle.bus_line.specs.declared.piece.Piece.{Piece}
 use Rattle.bus_line.specs.declared.piece.Piece.TheVariants as piece
 use Rattle.bus_line.specs.Due.{begun}
+use Rattle.bus_line.specs.Ledger.{octet_count}
 use Rattle.bus_watch.specs.History.{KeptFrame}
 use Rattle.bus_watch.specs.JournalState.{kept_frame}
 use Rattle.bus_watch.specs.Seen.{SeenReport}
@@ -42,6 +43,11 @@ told_report octets t = record { report = held_report octets t.held; standing = t
 abbrev pub told_option : List ℕ → Option Told → Option SeenReport
 told_option octets None = None
 told_option octets (Some t) = Some (told_report octets t)
+
+-- a frame has no more octets than are kept of one
+abbrev pub IsKeepable : Option Seen → Type 0
+IsKeepable None = Unit {0}
+IsKeepable (Some s) = octet_count (shown s).report ≤ 258
 
 -- a kept frame that is lent
 abbrev pub kept_option : Option (Bor Kept) → Option KeptFrame

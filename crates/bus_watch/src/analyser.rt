@@ -2,12 +2,13 @@
 
 mod held;
 
-ghost use Rattle.std.specs.Prelude.{◌≡◌, ◌+◌, ◌*◌, ◌≤◌, ◌<◌, ◌^◌, ◌↔◌, ◌⊎◌, List, Bool, [], ◌∷◌, ◌++◌, IsErr, IfOk, OnOk, OnErr, length, ℕ, Some, Err, slice_get};
+ghost use Rattle.std.specs.Prelude.{◌≡◌, ◌≢◌, ◌+◌, ◌*◌, ◌≤◌, ◌<◌, ◌^◌, ◌↔◌, ◌⊎◌, List, Bool, [], ◌∷◌, ◌++◌, IsErr, IfOk, OnOk, OnErr, IsTrue, false, length, ℕ, Some, Err, slice_get};
 ghost use Rattle.std.specs.Option.{option_map, option_to_list};
 ghost use Rattle.std.specs.Borrow.{sem};
 ghost use Rattle.std.specs.Io.BufRead.{Rests};
 ghost use Rattle.bus_line.specs.Due.{begun};
 ghost use Rattle.bus_line.specs.Ledger.{stored_from};
+ghost use Rattle.bus_line.specs.Run.{ones_at_end};
 ghost use Rattle.bus_dictionary.specs.Dictionary.{longest_of};
 
 use crate::counts::Counts;
@@ -59,7 +60,8 @@ impl<C: Check> Analyser<C> {
     ghost use Rattle.bus_watch.specs.contracts.analyser.Analyser.{the_row};
     ghost use Rattle.bus_watch.specs.Stands.{Stands, Sees, line};
     ghost use Rattle.bus_watch.specs.Seen.{seen_at};
-    ghost use Rattle.bus_watch.specs.Shown.{shown, shown_option, told_report, told_option, kept_option, begun_span};
+    ghost use Rattle.bus_watch.specs.Shown.{shown, shown_option, told_report, told_option, kept_option, begun_span, IsKeepable};
+    ghost use Rattle.bus_line.specs.Ledger.{octet_count};
     ghost use Rattle.bus_watch.specs.History.{history, tally};
     ghost use Rattle.bus_watch.specs.Talk.{pending};
     ghost use Rattle.bus_watch.specs.Ledger.{IsLedger, total};
@@ -119,7 +121,8 @@ impl<C: Check> Analyser<C> {
 
     /// What was decided, as it is handed out.
     fn seen(&self, told: Told) -> Seen<'_>
-        ensures { shown result ≡ told_report self.now.decoder.octets told }
+        ensures shown { shown result ≡ told_report self.now.decoder.octets told }
+        ensures fits { octet_count (shown result).report ≤ 258 }
     {
         Seen {
             piece: told.held.lend(self.decoder.octets()),
@@ -137,6 +140,7 @@ impl<C: Check> Analyser<C> {
         ensures limit { IsErr result ↔ (2 ^ 60 ≤ self.old.decoder.place) }
         ensures answer { IfOk result (λ o. (b : List Bool) → Stands C.folded C.COST self.old b →
             shown_option o ≡ seen_at self.old.journal.dictionary (line self.old (b ++ bit ∷ [])) self.old.decoder.place) }
+        ensures fits { IfOk result IsKeepable }
         ensures* rests { sem 𝓛 (Rests (the_row C.row C.Check) self.entry (λ new.
             IfOk result (λ o. Sees C.folded C.COST self.old (bit ∷ []) (option_to_list (shown_option o)) new) × OnErr result (new ≡ self.old))) }
     {
@@ -145,6 +149,19 @@ impl<C: Check> Analyser<C> {
             Ok(None) => Ok(None),
             Err(PlaceLimit) => Err(PlaceLimit),
         }
+    }
+
+    /// Takes a bit at once, if no value of it can decide a report. Behind six 1 bits or fourteen, and
+    /// no more, and where the bit's place would be 2^60, it answers false and changes nothing: `push`
+    /// takes that bit.
+    #[inline(always)]
+    pub fn pass(&mut self, bit: bool) -> bool
+        ensures passes { (b : List Bool) → Stands C.folded C.COST self.old b → (IsTrue result ↔ ((self.old.decoder.place < 2 ^ 60) × (ones_at_end b ≢ 6) × (ones_at_end b ≢ 14))) }
+        ensures limit { IsTrue result → self.old.decoder.place < 2 ^ 60 }
+        ensures passed { IsTrue result → Sees C.folded C.COST self.old (bit ∷ []) [] self.new }
+        ensures kept { result ≡ false → self.new ≡ self.old }
+    {
+        self.decoder.pass(bit)
     }
 
     /// A frame of the history, of which the oldest has the number 0.

@@ -69,6 +69,7 @@ impl Journal {
     }
 
     /// Takes a report, and says what follows from it.
+    #[inline(never)]
     pub(crate) fn take(&mut self, piece: Piece<'_>) -> Noted
         requires whole { IsWhole piece }
         requires room { HasRoom (journal_state self.old) }

@@ -2,7 +2,7 @@
 #![tactic(auto)]
 
 use bus_tool::{ToolFault, run};
-use std::io::{BufWriter, ErrorKind, Write};
+use std::io::{ErrorKind, Write};
 use std::process::ExitCode;
 use std::{env, io};
 
@@ -34,7 +34,7 @@ fn start(rt: &HostRuntime) -> io::Result<u8> {
         words.push(word.as_str())?;
     }
     let mut input = rt.reader();
-    let mut output = BufWriter::new(alloc, io::writer(rt))?;
+    let mut output = io::writer(rt);
     let mut faults = rt.stderr();
     let status = run(
         alloc,

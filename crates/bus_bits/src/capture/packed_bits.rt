@@ -65,6 +65,10 @@ impl PackedBits {
             return Err(PackedFault::Trailing);
         }
         let bits = octet_bits(octet);
+        if self.left >= 8 {
+            self.left -= 8;
+            return Ok(ArrayVec::from(bits));
+        }
         let used = min(self.left, 8) as usize;
         if has_one(&bits[used..]) {
             return Err(PackedFault::PadBits);

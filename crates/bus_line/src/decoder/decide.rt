@@ -4,12 +4,11 @@ ghost use Rattle.std.specs.Prelude.{◌≡◌, ◌+◌, ◌*◌, ◌-◌, ◌%�
 ghost use Rattle.std.specs.Option.{option_map};
 ghost use Rattle.bus_line.specs.Due.{Mark, FlagAt, current, due_at, class_of, piece_report};
 ghost use Rattle.bus_line.specs.Report.{Abort};
-ghost use Rattle.bus_line.specs.Run.{ones_at_end};
 
 use crate::cause::Cause;
-use crate::decoder::LineDecoder;
 use crate::decoder::event::Event;
 use crate::decoder::look::{Found, look};
+use crate::decoder::{LineDecoder, NEVER};
 use bus_bits::Span;
 use bus_fcs::Check;
 
@@ -17,35 +16,37 @@ impl<C: Check> LineDecoder<C> {
     ghost use Rattle.bus_line.specs.After.{After, Tracks, event_shown};
     ghost use Rattle.bus_line.specs.Report.{moved};
 
-    /// Finds whether the bit ends a flag, or is the seventh or the fifteenth one of a run, and
-    /// answers what that decides. `run` ones came before the bit.
+    /// Finds whether the newest bit ends a flag, or is the seventh or the fifteenth one of a run, and
+    /// answers what that decides.
     #[inline(never)]
-    pub(crate) fn decide(&mut self, bit: bool, run: u64) -> Event
-        requires some { self.old.origin < self.old.place }
-        requires run { run < self.old.place }
-        ensures answer { (b : List Bool) → Tracks C.folded C.COST self.old (b ++ bit ∷ []) (current b) → run ≡ ones_at_end b →
+    pub(crate) fn decide(&mut self) -> Event
+        requires { self.old.origin < self.old.place }
+        ensures answer { (b : List Bool) (bit : Bool) → Tracks C.folded C.COST self.old (b ++ bit ∷ []) (current b) →
             event_shown self.new result ≡ option_map (moved self.old.origin) (due_at self.old.longest (b ++ bit ∷ []) (length b)) }
-        ensures after { (b : List Bool) → Tracks C.folded C.COST self.old (b ++ bit ∷ []) (current b) → run ≡ ones_at_end b → After C.folded C.COST self.new (b ++ bit ∷ []) }
+        ensures after { (b : List Bool) (bit : Bool) → Tracks C.folded C.COST self.old (b ++ bit ∷ []) (current b) → After C.folded C.COST self.new (b ++ bit ∷ []) }
         ensures longest { self.new.longest ≡ self.old.longest }
         ensures origin { self.new.origin ≡ self.old.origin }
         ensures place { self.new.place ≡ self.old.place }
     {
+        // The bits of a mark were all taken, so no place before it is cut off at 0.
         let place = self.place;
-        match look(bit, run, place - 1 - self.origin) {
+        match look(self.window, place - 1 - self.origin) {
             Found::Closing => {
-                let event = self.closed(place - 8);
+                let event = self.closed(place.saturating_sub(8));
                 self.first = Some(place);
+                self.settles_at = place + 9;
                 self.gathered = 0;
                 self.octet = 0;
                 event
             }
             Found::Seven => {
-                let event = self.aborted(place - 7);
+                let event = self.aborted(place.saturating_sub(7));
                 self.first = None;
+                self.settles_at = NEVER;
                 event
             }
             Found::Fifteen => Event::Idle(Span {
-                first: place - 15,
+                first: place.saturating_sub(15),
                 past: place,
             }),
             Found::Other => Event::Nothing,

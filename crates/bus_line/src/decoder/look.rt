@@ -1,6 +1,9 @@
-//! What a bit ends, by the ones before it.
+//! What the newest bit ends, by the last bits.
 
+ghost use Rattle.std.specs.Prelude.{◌≡◌, ◌%◌, ◌^◌, List, Bool, [], ◌∷◌, ◌++◌, length, reverse};
+ghost use Rattle.bus_bits.specs.Octet.{number};
 ghost use Rattle.bus_line.specs.Look.{IsFound};
+ghost use Rattle.bus_line.specs.Run.{ones_at_end};
 
 /// What the newest bit ends.
 #[derive(Clone, Copy)]
@@ -14,21 +17,18 @@ pub(crate) enum Found {
     Other,
 }
 
-/// What `bit` ends, which comes after `run` ones at the end of `count` bits.
-pub(crate) fn look(bit: bool, run: u64, count: u64) -> Found
-    ensures { IsFound bit run count result }
+/// What the newest bit ends, by the last bits, the newest lowest. `count` bits came before it.
+pub(crate) fn look(window: u32, count: u64) -> Found
+    ensures { (b : List Bool) (bit : Bool) → window ≡ number (reverse (b ++ bit ∷ [])) % 2 ^ 32 → count ≡ length b → IsFound bit (ones_at_end b) count result }
 {
-    if bit {
-        if run == 6 {
-            Found::Seven
-        } else if run == 14 {
-            Found::Fifteen
-        } else {
-            Found::Other
-        }
-    } else if run == 6 && count > 6 {
-        Found::Closing
-    } else {
-        Found::Other
+    if window & 0xff == 0x7f {
+        return Found::Seven;
     }
+    if window & 0xffff == 0x7fff {
+        return Found::Fifteen;
+    }
+    if window & 0xff == 0x7e && count > 6 {
+        return Found::Closing;
+    }
+    Found::Other
 }

@@ -1,8 +1,9 @@
 //! One bit more.
 
-ghost use Rattle.std.specs.Prelude.{◌≡◌, ◌+◌, ◌*◌, ◌-◌, ◌%◌, ◌/◌, ◌≤◌, ◌<◌, ◌^◌, ◌↔◌, List, Bool, [], ◌∷◌, ◌++◌, length, ℕ, take, Some, None, nat_le, nat_lt, if◌then◌else◌};
+ghost use Rattle.std.specs.Prelude.{◌≡◌, ◌+◌, ◌*◌, ◌-◌, ◌%◌, ◌/◌, ◌≤◌, ◌<◌, ◌^◌, ◌↔◌, ◌⊎◌, IsTrue, List, Bool, [], ◌∷◌, ◌++◌, length, ℕ, take, Some, None, nat_le, nat_lt, if◌then◌else◌};
 ghost use Rattle.std.specs.Option.{option_map};
 ghost use Rattle.bus_line.specs.Due.{current, due_at};
+ghost use Rattle.bus_line.specs.Run.{ones_at_end};
 
 use crate::decoder::LineDecoder;
 use crate::decoder::event::Event;
@@ -23,45 +24,50 @@ impl<C: Check> LineDecoder<C> {
         ensures origin { self.new.origin ≡ self.old.origin }
         ensures place { self.new.place ≡ self.old.place + 1 }
     {
-        let run = self.run;
+        let decides = self.can_decide();
         self.shift(bit);
         self.settle();
-        if run % 8 != 6 {
+        if !decides {
             return Event::Nothing;
         }
-        self.decide(bit, run)
+        self.decide()
     }
 
-    /// Puts a bit into the window and the run of ones.
+    /// Says whether the next bit may decide a report: whether six 1 bits or fourteen, and no more,
+    /// stand at the end.
     #[inline(always)]
-    fn shift(&mut self, bit: bool)
+    pub(crate) fn can_decide(&self) -> bool
+        ensures { (b : List Bool) → After C.folded C.COST self.now b → (IsTrue result ↔ ((ones_at_end b ≡ 6) ⊎ (ones_at_end b ≡ 14))) }
+    {
+        self.window & 0x3f == 0x3f && (self.window & 0x7f == 0x3f || self.window & 0x7fff == 0x3fff)
+    }
+
+    /// Puts a bit into the window.
+    #[inline(always)]
+    pub(crate) fn shift(&mut self, bit: bool)
         requires { self.old.place < 2 ^ 60 }
         ensures lags { (b : List Bool) → After C.folded C.COST self.old b → Lags C.folded C.COST self.new b bit }
         ensures longest { self.new.longest ≡ self.old.longest }
         ensures origin { self.new.origin ≡ self.old.origin }
         ensures place { self.new.place ≡ self.old.place + 1 }
+        ensures begun { self.new.origin < self.new.place }
         ensures room { self.new.spent.assembled < self.new.spent.shifted }
     {
-        self.spent.tick_shifted();
         self.place += 1;
-        self.run = if bit { self.run + 1 } else { 0 };
         self.window = self.window << 1 | u32::from(bit);
     }
 
     /// Settles the bit that eight later ones have followed: where a piece has begun and the bit is
     /// no inserted 0 (ISO/IEC 13239, transparency), it is data.
     #[inline(always)]
-    fn settle(&mut self)
+    pub(crate) fn settle(&mut self)
         requires room { self.old.spent.assembled < self.old.spent.shifted }
         ensures tracks { (b : List Bool) (bit : Bool) → Lags C.folded C.COST self.old b bit → Tracks C.folded C.COST self.new (b ++ bit ∷ []) (current b) }
         ensures longest { self.new.longest ≡ self.old.longest }
         ensures origin { self.new.origin ≡ self.old.origin }
         ensures place { self.new.place ≡ self.old.place }
     {
-        let Some(first) = self.first else {
-            return;
-        };
-        if self.place < first + 9 {
+        if self.place < self.settles_at {
             return;
         }
         let late = self.window >> 8;

@@ -22,11 +22,13 @@ struct Heard {
     spent: Spent,
 }
 
+/// Where `passes`, no bit is pushed that `pass` takes.
 fn hear<C: Check>(
     alloc: Global,
     bits: &[bool],
     longest: usize,
     origin: u64,
+    passes: bool,
 ) -> Result<Heard, Fail> {
     let mut decoder = LineDecoder::<C>::new(longest, origin)?;
     let mut reports = String::new(alloc);
@@ -34,13 +36,15 @@ fn hear<C: Check>(
     let mut most = 0;
     for bit in bits {
         let place = decoder.place();
-        if let Some(piece) = decoder.push(*bit)? {
-            if !reports.is_empty() {
-                reports.push_str(", ")?;
-                places.push_str(", ")?;
+        if !(passes && decoder.pass(*bit)) {
+            if let Some(piece) = decoder.push(*bit)? {
+                if !reports.is_empty() {
+                    reports.push_str(", ")?;
+                    places.push_str(", ")?;
+                }
+                reports.push_str(&text_of(alloc, &piece)?)?;
+                write!(places, "{place}")?;
             }
-            reports.push_str(&text_of(alloc, &piece)?)?;
-            write!(places, "{place}")?;
         }
         most = most.max(decoder.buffered());
     }
@@ -53,7 +57,7 @@ fn hear<C: Check>(
     })
 }
 
-/// The reports of a list, as both checks give them.
+/// The reports of a list, as both checks give them, with and without `pass`.
 fn heard_alike(
     rt: &impl Abort,
     alloc: Global,
@@ -61,12 +65,16 @@ fn heard_alike(
     longest: usize,
     origin: u64,
 ) -> Result<Heard, Fail> {
-    let by_bits = hear::<BitCheck>(alloc, bits, longest, origin)?;
-    let by_octets = hear::<OctetCheck>(alloc, bits, longest, origin)?;
+    let by_bits = hear::<BitCheck>(alloc, bits, longest, origin, false)?;
+    let by_octets = hear::<OctetCheck>(alloc, bits, longest, origin, false)?;
+    let passing = hear::<OctetCheck>(alloc, bits, longest, origin, true)?;
     assert_eq!(rt; by_bits.reports.as_str(), by_octets.reports.as_str());
     assert_eq!(rt; by_bits.places.as_str(), by_octets.places.as_str());
+    assert_eq!(rt; by_octets.reports.as_str(), passing.reports.as_str());
+    assert_eq!(rt; by_octets.places.as_str(), passing.places.as_str());
+    assert_eq!(rt; by_octets.spent, passing.spent);
     let room = longest.saturating_add(2);
-    assert!(rt; by_bits.most <= room && by_octets.most <= room);
+    assert!(rt; by_bits.most <= room && by_octets.most <= room && passing.most <= room);
     Ok(by_bits)
 }
 
@@ -187,8 +195,8 @@ const STEPS: [(&str, &str, [u64; 5]); 6] = [
 fn steps(rt: HostRuntime) -> Result<(), Fail> {
     for (case, bits, [shifted, assembled, by_bits, by_octets, stored]) in STEPS {
         let bits = bits_of(rt.alloc(), bits)?;
-        let slow = hear::<BitCheck>(rt.alloc(), &bits, 3, 0)?;
-        let fast = hear::<OctetCheck>(rt.alloc(), &bits, 3, 0)?;
+        let slow = hear::<BitCheck>(rt.alloc(), &bits, 3, 0, false)?;
+        let fast = hear::<OctetCheck>(rt.alloc(), &bits, 3, 0, true)?;
         for (spent, folded) in [(slow.spent, by_bits), (fast.spent, by_octets)] {
             let want = Spent {
                 shifted,

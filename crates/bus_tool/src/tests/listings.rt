@@ -1,88 +1,29 @@
-//! Listings of text captures, by honest and by failing readers and writers.
+//! Captures by honest and by failing readers and writers.
 
-use crate::fakes::{Endless, Fixed, Narrow, Pieces};
-use crate::{ToolFault, list_pieces};
+use crate::fakes::{Endless, Fixed, Halves, Narrow, Pieces};
+use crate::tests::worked::{
+    CALL, CALL_AND_REPLY, CALL_AND_REPLY_TEXT, CALL_TEXT, CALLS, FLAG, IDLE, MISSING_AND_SPOILT,
+    MISSING_AND_SPOILT_REPORT, ONE_CALL_TEXT, joined, of_text, run_over, summary,
+};
+use crate::{Options, Summary, ToolFault, check_capture, list_capture};
 use arrayvec::ArrayVec;
+use bus_dictionary::DictFault;
+use std::alloc::{AllocError, Global};
 use std::test::Fail;
 
-/// One call frame between two flags.
-const ONE_CALL: &[u8] = b"01111110 00001000110000010000000010111110110100111 01111110\n";
-
-const ONE_CALL_TEXT: &str = "8 49 frame 108300fde5\n";
-
-#[test]
-fn lists(rt: HostRuntime) -> Result<(), Fail> {
-    let cases: [(&[u8], Result<(), ToolFault>, &str); 8] = [
-        (b"", Ok(()), ""),
-        (b" \t\r\n", Ok(()), ""),
-        (ONE_CALL, Ok(()), ONE_CALL_TEXT),
-        (b"01111110 2", Err(ToolFault::BadMark { at: 9 }), ""),
-        (
-            b"01111110 00001000110000010000000010111110110100111 01111110 x 01111111",
-            Err(ToolFault::BadMark { at: 60 }),
-            ONE_CALL_TEXT,
-        ),
-        (b"01111110 0000 01111110", Ok(()), "8 12 damaged short\n"),
-        (b"01111110 0000 11111110", Ok(()), "8 12 abort\n"),
-        (b"111111111111111111", Ok(()), "0 15 idle\n"),
-    ];
-    for (octets, want, text) in cases {
-        let mut reader = octets;
-        let mut out = Vec::new(rt.alloc());
-        assert_eq!(rt; list_pieces(rt.alloc(), 100, &mut reader, &mut out), want);
-        assert_eq!(rt; out.as_slice(), text.as_bytes());
-    }
-    Ok(())
+/// What is counted of a call and its reply.
+fn answered() -> Result<Summary, ToolFault> {
+    Ok(summary([2, 0, 0, 0, 0, 0, 1, 0, 0]))
 }
 
-#[test]
-fn any_cut(rt: HostRuntime) -> Result<(), Fail> {
-    for piece in [1, 3, 7, 4096] {
-        let mut reader = Pieces {
-            rest: ONE_CALL,
-            piece,
-            calls: 0,
-            fails_at: 0,
-        };
-        let mut out = Vec::new(rt.alloc());
-        assert_eq!(rt; list_pieces(rt.alloc(), 100, &mut reader, &mut out), Ok(()));
-        assert_eq!(rt; out.as_slice(), ONE_CALL_TEXT.as_bytes());
+/// A reader of so many octets a call, which fails at one of them if that is not 0.
+fn pieces(rest: &[u8], piece: usize, fails_at: u64) -> Pieces<'_> {
+    Pieces {
+        rest,
+        piece,
+        calls: 0,
+        fails_at,
     }
-    Ok(())
-}
-
-#[test]
-fn endless_reader(rt: HostRuntime) -> Result<(), Fail> {
-    let mut reader = Endless { calls: 0 };
-    let mut out = Vec::new(rt.alloc());
-    assert_eq!(rt;
-        list_pieces(rt.alloc(), 20, &mut reader, &mut out),
-        Err(ToolFault::ReadsLimit)
-    );
-    assert_eq!(rt; out.as_slice(), "0 15 idle\n".as_bytes());
-    assert_eq!(rt; reader.calls, 20);
-    Ok(())
-}
-
-#[test]
-fn failing_reader(rt: HostRuntime) -> Result<(), Fail> {
-    // The frame closes with the octet at place 58, in the tenth piece of six.
-    for (fails_at, text) in [(1, ""), (9, ""), (11, ONE_CALL_TEXT)] {
-        let mut reader = Pieces {
-            rest: ONE_CALL,
-            piece: 6,
-            calls: 0,
-            fails_at,
-        };
-        let mut out = Vec::new(rt.alloc());
-        assert_eq!(rt;
-            list_pieces(rt.alloc(), 100, &mut reader, &mut out),
-            Err(ToolFault::Read)
-        );
-        assert_eq!(rt; out.as_slice(), text.as_bytes());
-        assert_eq!(rt; reader.calls, fails_at);
-    }
-    Ok(())
 }
 
 /// A writer with this room, and whether it takes nothing then in place of failing.
@@ -97,61 +38,347 @@ fn narrow(rt: &HostRuntime, room: usize, takes_none: bool, fails_flush: bool) ->
 }
 
 #[test]
-fn failing_writer(rt: HostRuntime) -> Result<(), Fail> {
-    let whole = ONE_CALL_TEXT.len();
-    for (room, takes_none, fails_flush) in [
-        (12, false, false),
-        (12, true, false),
-        (0, false, false),
-        (0, true, true),
-        (whole, false, true),
-    ] {
-        let mut writer = narrow(&rt, room, takes_none, fails_flush);
-        let mut reader = ONE_CALL;
-        let got = list_pieces(rt.alloc(), 100, &mut reader, &mut writer);
-        assert_eq!(rt;
-            got,
-            Err(ToolFault::Write {
-                written: room as u128
-            })
-        );
-        assert_eq!(rt;
-            writer.out.as_slice(),
-            ONE_CALL_TEXT.as_bytes().get(..room).ok_or("cut")?
-        );
-        assert_eq!(rt; writer.flushes, u64::from(room == whole));
+fn any_cut(rt: HostRuntime) -> Result<(), Fail> {
+    let capture = joined(rt.alloc(), &CALL_AND_REPLY)?;
+    assert_eq!(rt; capture.len(), 106);
+    for at in 0..=capture.len() {
+        let (first, second) = capture.as_slice().split_at_checked(at).ok_or("cut")?;
+        let mut reader = Halves { first, second };
+        let mut out = Vec::new(rt.alloc());
+        let ending = list_capture(rt.alloc(), &of_text(Some(CALLS)), &mut reader, &mut out);
+        assert_eq!(rt; ending, answered(), "{at}");
+        assert_eq!(rt; out.as_slice(), CALL_AND_REPLY_TEXT.as_bytes());
+    }
+    Ok(())
+}
+
+/// A place counts the octets of all reads.
+#[test]
+fn bad_mark_of_any_read(rt: HostRuntime) -> Result<(), Fail> {
+    for piece in [1, 4, 9, 10] {
+        for checks in [false, true] {
+            let mut reader = pieces(b"01111110 2", piece, 0);
+            let mut out = Vec::new(rt.alloc());
+            let ending = run_over(checks, rt.alloc(), &of_text(None), &mut reader, &mut out);
+            assert_eq!(rt; ending, Err(ToolFault::BadMark { at: 9 }), "{piece}");
+            assert!(rt; out.is_empty());
+        }
+    }
+    Ok(())
+}
+
+/// A text capture with so many spaces behind each bit.
+fn spaced(alloc: Global, capture: &[u8], spaces: usize) -> Result<Vec<u8>, AllocError> {
+    let mut wide = Vec::new(alloc);
+    for mark in capture {
+        wide.push(*mark)?;
+        for _space in 0..spaces {
+            wide.push(b' ')?;
+        }
+    }
+    Ok(wide)
+}
+
+#[test]
+fn many_spaces(rt: HostRuntime) -> Result<(), Fail> {
+    let capture = joined(rt.alloc(), &CALL_AND_REPLY)?;
+    let wide = spaced(rt.alloc(), capture.as_slice(), 5000)?;
+    for piece in [4097, 1000000] {
+        let mut reader = pieces(wide.as_slice(), piece, 0);
+        let mut out = Vec::new(rt.alloc());
+        let ending = list_capture(rt.alloc(), &of_text(Some(CALLS)), &mut reader, &mut out);
+        assert_eq!(rt; ending, answered());
+        assert_eq!(rt; out.as_slice(), CALL_AND_REPLY_TEXT.as_bytes());
     }
     Ok(())
 }
 
 #[test]
+fn endless_reader(rt: HostRuntime) -> Result<(), Fail> {
+    let options = Options {
+        reads: 20,
+        ..of_text(None)
+    };
+    for (checks, text) in [(false, "0 15 idle\n"), (true, "")] {
+        let mut reader = Endless { calls: 0 };
+        let mut out = Vec::new(rt.alloc());
+        let ending = run_over(checks, rt.alloc(), &options, &mut reader, &mut out);
+        assert_eq!(rt; ending, Err(ToolFault::ReadsLimit));
+        assert_eq!(rt; out.as_slice(), text.as_bytes());
+        assert_eq!(rt; reader.calls, 20);
+    }
+    Ok(())
+}
+
+/// Only a call that answers the end ends the input; one call fewer is too few.
+#[test]
+fn fewest_reads(rt: HostRuntime) -> Result<(), Fail> {
+    let capture = joined(rt.alloc(), &CALL_AND_REPLY)?;
+    for (reads, want) in [
+        (107, answered()),
+        (106, Err(ToolFault::ReadsLimit)),
+        (0, Err(ToolFault::ReadsLimit)),
+    ] {
+        let options = Options {
+            reads,
+            ..of_text(Some(CALLS))
+        };
+        let mut reader = pieces(capture.as_slice(), 1, 0);
+        let mut out = Vec::new(rt.alloc());
+        let ending = list_capture(rt.alloc(), &options, &mut reader, &mut out);
+        assert_eq!(rt; ending, want, "{reads}");
+        assert_eq!(rt; reader.calls, reads);
+    }
+    Ok(())
+}
+
+#[test]
+fn failing_reader(rt: HostRuntime) -> Result<(), Fail> {
+    let capture = joined(rt.alloc(), &CALL_AND_REPLY)?;
+    // The first line is decided by octet 57, the others by octet 106.
+    for fails_at in 1..=107 {
+        let text = match fails_at {
+            ..=57 => "",
+            ..=106 => CALL_TEXT,
+            _ => CALL_AND_REPLY_TEXT,
+        };
+        for (checks, text) in [(false, text), (true, "")] {
+            let mut reader = pieces(capture.as_slice(), 1, fails_at);
+            let mut out = Vec::new(rt.alloc());
+            let ending = run_over(
+                checks,
+                rt.alloc(),
+                &of_text(Some(CALLS)),
+                &mut reader,
+                &mut out,
+            );
+            assert_eq!(rt; ending, Err(ToolFault::Read));
+            assert_eq!(rt; out.as_slice(), text.as_bytes(), "{fails_at}");
+            assert_eq!(rt; reader.calls, fails_at);
+        }
+    }
+    Ok(())
+}
+
+/// A write fails behind each octet of the listing. The reader was called last for what decided the
+/// line that failed: no line waits for a further read.
+#[test]
+fn failing_writer(rt: HostRuntime) -> Result<(), Fail> {
+    let capture = joined(rt.alloc(), &CALL_AND_REPLY)?;
+    let whole = CALL_AND_REPLY_TEXT.len();
+    assert_eq!(rt; whole, 126);
+    for room in 0..whole {
+        for (piece, first, last) in [(1, 57, 106), (60, 1, 2), (1000, 1, 1)] {
+            for takes_none in [false, true] {
+                let mut writer = narrow(&rt, room, takes_none, true);
+                let mut reader = pieces(capture.as_slice(), piece, 0);
+                let ending = list_capture(
+                    rt.alloc(),
+                    &of_text(Some(CALLS)),
+                    &mut reader,
+                    &mut writer,
+                );
+                let written = room as u128;
+                assert_eq!(rt; ending, Err(ToolFault::Write { written }));
+                let text = CALL_AND_REPLY_TEXT.as_bytes().get(..room).ok_or("cut")?;
+                assert_eq!(rt; writer.out.as_slice(), text);
+                assert_eq!(rt; writer.flushes, 0);
+                let calls = if room < CALL_TEXT.len() { first } else { last };
+                assert_eq!(rt; reader.calls, calls, "{room} {piece}");
+            }
+        }
+    }
+    Ok(())
+}
+
+#[test]
+fn failing_writer_of_a_check(rt: HostRuntime) -> Result<(), Fail> {
+    let capture = joined(rt.alloc(), &MISSING_AND_SPOILT)?;
+    let whole = MISSING_AND_SPOILT_REPORT.len();
+    for room in 0..=whole {
+        let mut writer = narrow(&rt, room, room % 2 == 0, true);
+        let mut reader = capture.as_slice();
+        let ending = check_capture(rt.alloc(), &of_text(Some(CALLS)), &mut reader, &mut writer);
+        let written = room as u128;
+        assert_eq!(rt; ending, Err(ToolFault::Write { written }));
+        let text = MISSING_AND_SPOILT_REPORT.as_bytes().get(..room);
+        assert_eq!(rt; Some(writer.out.as_slice()), text);
+        assert_eq!(rt; writer.flushes, u64::from(room == whole));
+    }
+    Ok(())
+}
+
+/// Once behind a text that is not empty, also before a fault, whose place a failing flush takes.
+#[test]
 fn flushes(rt: HostRuntime) -> Result<(), Fail> {
-    // Once behind the lines, also before a fault of the capture, whose place a failing flush takes.
-    let cases: [(&[u8], bool, Result<(), ToolFault>, u64); 5] = [
-        (b"", true, Ok(()), 0),
-        (b"2", true, Err(ToolFault::BadMark { at: 0 }), 0),
-        (ONE_CALL, false, Ok(()), 1),
+    let cases: [(&[&str], bool, Option<ToolFault>, u64); 8] = [
+        (&[], true, None, 0),
+        (&["2"], true, Some(ToolFault::BadMark { at: 0 }), 0),
+        (&[FLAG, CALL, FLAG], false, None, 1),
         (
-            b"111111111111111 2",
-            false,
-            Err(ToolFault::BadMark { at: 16 }),
-            1,
-        ),
-        (
-            b"111111111111111 2",
+            &CALL_AND_REPLY,
             true,
-            Err(ToolFault::Write { written: 10 }),
+            Some(ToolFault::Write { written: 126 }),
             1,
         ),
+        (&[IDLE, "2"], false, Some(ToolFault::BadMark { at: 15 }), 1),
+        (
+            &[IDLE, "2"],
+            true,
+            Some(ToolFault::Write { written: 10 }),
+            1,
+        ),
+        // The only line is that of the end.
+        (&[FLAG, "0"], false, None, 1),
+        (&[FLAG, "0"], true, Some(ToolFault::Write { written: 9 }), 1),
     ];
-    for (octets, fails, want, flushes) in cases {
-        let mut writer = narrow(&rt, 100, false, fails);
-        let mut reader = octets;
-        assert_eq!(rt;
-            list_pieces(rt.alloc(), 100, &mut reader, &mut writer),
-            want
-        );
-        assert_eq!(rt; writer.flushes, flushes);
+    for (parts, fails, want, flushes) in cases {
+        let capture = joined(rt.alloc(), parts)?;
+        let mut writer = narrow(&rt, 1000, false, fails);
+        let mut reader = capture.as_slice();
+        let ending = list_capture(rt.alloc(), &of_text(Some(CALLS)), &mut reader, &mut writer);
+        assert_eq!(rt; ending.err(), want, "{parts:?}");
+        assert_eq!(rt; writer.flushes, flushes, "{parts:?}");
+    }
+    // The error of a reader behind a line gives way to that of the flush, too.
+    let capture = joined(rt.alloc(), &CALL_AND_REPLY)?;
+    let mut writer = narrow(&rt, 1000, false, true);
+    let mut reader = pieces(capture.as_slice(), 1, 107);
+    let ending = list_capture(rt.alloc(), &of_text(Some(CALLS)), &mut reader, &mut writer);
+    assert_eq!(rt; ending, Err(ToolFault::Write { written: 126 }));
+    Ok(())
+}
+
+/// The dictionary is judged first, then the depth, then the origin, each before reader and writer
+/// are called.
+#[test]
+fn judged_before(rt: HostRuntime) -> Result<(), Fail> {
+    let past = (1 << 60) + 1;
+    let cases = [
+        (
+            Some("version"),
+            0,
+            past,
+            ToolFault::Dictionary(DictFault::NotToml),
+        ),
+        (Some(""), 16, 0, ToolFault::Dictionary(DictFault::Version)),
+        (
+            Some("version = 1"),
+            16,
+            0,
+            ToolFault::Dictionary(DictFault::NoFrames),
+        ),
+        (None, 0, past, ToolFault::Depth),
+        (Some(CALLS), 1025, 0, ToolFault::Depth),
+        (Some(CALLS), 1024, past, ToolFault::Origin),
+        (None, 1, past, ToolFault::Origin),
+    ];
+    for (dictionary, depth, origin, fault) in &cases {
+        for checks in [false, true] {
+            let options = Options {
+                depth: *depth,
+                origin: *origin,
+                ..of_text(*dictionary)
+            };
+            let mut reader = pieces(b"2", 1, 0);
+            let mut writer = narrow(&rt, 0, false, true);
+            let ending = run_over(checks, rt.alloc(), &options, &mut reader, &mut writer);
+            assert_eq!(rt; ending.as_ref().err(), Some(fault));
+            assert_eq!(rt; reader.calls, 0);
+            assert_eq!(rt; writer.flushes, 0);
+        }
+    }
+    Ok(())
+}
+
+/// So many calls, each without an answer but perhaps the last.
+fn calls(alloc: Global, count: usize) -> Result<Vec<u8>, AllocError> {
+    let mut capture = joined(alloc, &[FLAG])?;
+    let frame = joined(alloc, &[CALL, FLAG])?;
+    for _frame in 0..count {
+        capture.extend_from_slice(frame.as_slice())?;
+    }
+    Ok(capture)
+}
+
+/// Their listing: frame number `i` begins at place `8 + 49 * i` and has 41 bits.
+fn calls_text(alloc: Global, count: u16) -> Result<String, Fail> {
+    let mut text = String::new(alloc);
+    let mut waits = None;
+    for i in 0..count {
+        let first = 8 + 49 * u32::from(i);
+        let past = first + 41;
+        let line = format!(in alloc; "{first} {past} frame 108300fde5 station 16 type 0 call\n")?;
+        text.push_str(line.as_str())?;
+        if let Some((first, past)) = waits {
+            let line = format!(in alloc; "{first} {past} missing station 16 type 0\n")?;
+            text.push_str(line.as_str())?;
+        }
+        waits = Some((first, past));
+    }
+    if let Some((first, past)) = waits {
+        let line = format!(in alloc; "{first} {past} pending station 16 type 0\n")?;
+        text.push_str(line.as_str())?;
+    }
+    Ok(text)
+}
+
+/// A listing of some eighty thousand octets, by readers of few octets and of many.
+#[test]
+fn long_listing(rt: HostRuntime) -> Result<(), Fail> {
+    let capture = calls(rt.alloc(), 1000)?;
+    let text = calls_text(rt.alloc(), 1000)?;
+    let whole = text.len();
+    for piece in [100, 1000000] {
+        for room in [0, 15000, 16383, 16384, 16385, 20000, 50000, whole, 1000000] {
+            let mut reader = pieces(capture.as_slice(), piece, 0);
+            let mut writer = narrow(&rt, room, false, false);
+            let ending = list_capture(rt.alloc(), &of_text(Some(CALLS)), &mut reader, &mut writer);
+            let out = text.as_bytes().get(..room.min(whole)).ok_or("cut")?;
+            assert_eq!(rt; writer.out.len(), out.len(), "{room}");
+            assert!(rt; writer.out.as_slice() == out, "{room}");
+            if room < whole {
+                let written = room as u128;
+                assert_eq!(rt; ending, Err(ToolFault::Write { written }));
+            } else {
+                assert_eq!(rt; ending, Ok(summary([1000, 0, 0, 0, 0, 0, 0, 999, 0])));
+            }
+        }
+    }
+    Ok(())
+}
+
+/// A report of some thirty thousand octets: the last 1024 of 1100 frames.
+#[test]
+fn long_report(rt: HostRuntime) -> Result<(), Fail> {
+    let capture = calls(rt.alloc(), 1100)?;
+    let mut text = String::from_str(
+        rt.alloc(),
+        "frames 1100\ndamaged 0\noverlong 0\naborts 0\nidles 0\nstrays 0\nanswered 0\nmissing 1099\nspoilt 0\nstation 16 answered 0 missing 1099 spoilt 0\n",
+    )?;
+    for i in 76..1100u64 {
+        let first = 8 + 49 * i;
+        let past = first + 41;
+        let line = format!(in rt.alloc(); "last {first} {past} 108300fde5\n")?;
+        text.push_str(line.as_str())?;
+    }
+    let whole = text.len();
+    let options = Options {
+        depth: 1024,
+        ..of_text(Some(CALLS))
+    };
+    for room in [16000, 20000, whole] {
+        let mut reader = capture.as_slice();
+        let mut writer = narrow(&rt, room, false, false);
+        let ending = check_capture(rt.alloc(), &options, &mut reader, &mut writer);
+        let out = text.as_bytes().get(..room).ok_or("cut")?;
+        assert!(rt; writer.out.as_slice() == out, "{room}");
+        if room < whole {
+            let written = room as u128;
+            assert_eq!(rt; ending, Err(ToolFault::Write { written }));
+        } else {
+            assert_eq!(rt; ending, Ok(summary([1100, 0, 0, 0, 0, 0, 0, 1099, 0])));
+        }
     }
     Ok(())
 }
@@ -159,16 +386,39 @@ fn flushes(rt: HostRuntime) -> Result<(), Fail> {
 /// To be run with each request for memory refused in turn.
 #[test]
 fn refused_memory(rt: HostRuntime) -> Result<(), Fail> {
-    let mut writer = Fixed {
-        out: ArrayVec::new(),
-    };
-    let mut reader = ONE_CALL;
-    match list_pieces(rt.alloc(), 100, &mut reader, &mut writer) {
-        Ok(()) => assert_eq!(rt; writer.out.as_slice(), ONE_CALL_TEXT.as_bytes()),
-        Err(fault) => {
-            assert_eq!(rt; fault, ToolFault::Memory);
-            assert!(rt; writer.out.is_empty());
+    let capture = b"01111110 00001000 11000001 00000000 101111101 10100111 01111110";
+    for (checks, text) in [(false, ONE_CALL_TEXT), (true, CALL_REPORT)] {
+        let mut writer = Fixed {
+            out: ArrayVec::new(),
+        };
+        let mut reader = capture.as_slice();
+        match run_over(
+            checks,
+            rt.alloc(),
+            &of_text(Some(CALLS)),
+            &mut reader,
+            &mut writer,
+        ) {
+            Ok(_) => assert_eq!(rt; writer.out.as_slice(), text.as_bytes()),
+            Err(fault) => {
+                assert_eq!(rt; fault, ToolFault::Memory);
+                assert!(rt; writer.out.is_empty());
+            }
         }
     }
     Ok(())
 }
+
+/// The report of one call that is pending.
+const CALL_REPORT: &str = "\
+frames 1
+damaged 0
+overlong 0
+aborts 0
+idles 0
+strays 0
+answered 0
+missing 0
+spoilt 0
+last 8 49 108300fde5
+";

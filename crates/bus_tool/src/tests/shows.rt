@@ -1,41 +1,11 @@
 //! Frames that are typed, by honest and by failing writers.
 
 use crate::fakes::{Fixed, Narrow};
+use crate::tests::worked::{CALLS, STATES};
 use crate::{ToolFault, show_frame};
 use arrayvec::ArrayVec;
 use bus_dictionary::DictFault;
 use std::test::Fail;
-
-/// The types of one example dictionary, without bits.
-const CALLS: &str = r#"version = 1
-[[frame]]
-type = 0
-name = "call"
-length = 0
-answered = true
-[[frame]]
-type = 128
-name = "reply"
-length = 0
-[[frame]]
-type = 9
-name = "notice"
-length = 0
-"#;
-
-/// The types of another, one of them with bits.
-const STATES: &str = r#"version = 1
-[[frame]]
-type = 1
-name = "poll"
-length = 1
-answered = true
-[[frame]]
-type = 129
-name = "state"
-length = 2
-bits = [ { at = 9, name = "flash" }, { at = 0, name = "call1" }, { at = 7, name = "ped" } ]
-"#;
 
 /// One frame of the second.
 const STATE: &str = "10838101026e1f";

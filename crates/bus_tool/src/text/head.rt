@@ -2,25 +2,12 @@
 
 ghost use Rattle.std.specs.Prelude.{◌≡◌, ◌+◌, ◌++◌, ◌≤◌, length, codes};
 ghost use Rattle.arrayvec.specs.ArrayString.{array_string_len};
-ghost use Rattle.bus_tool.specs.HeadText.{typed_text, head_text};
+ghost use Rattle.bus_dictionary.specs.Dictionary.{entry_at};
+ghost use Rattle.bus_tool.specs.HeadText.{name_of, typed_text, head_text};
 
-use crate::text::line::{Line, push_number};
+use crate::text::line::{push_octet_number, push_station};
+use arrayvec::ArrayString;
 use bus_dictionary::{Dictionary, Standing};
-
-/// Appends a station, a type, and what is said of them.
-fn push_typed(line: &mut Line, station: u8, ftype: u8, what: &str)
-    requires room { array_string_len line.old + 100 ≤ 640 }
-    requires short { length what.now ≤ 40 }
-    ensures bytes { line.new.bytes ≡ line.old.bytes ++ typed_text station ftype what.now }
-    ensures len { array_string_len line.new ≤ array_string_len line.old + 100 }
-{
-    line.push_str("station ");
-    push_number(line, u64::from(station));
-    line.push_str(" type ");
-    push_number(line, u64::from(ftype));
-    line.push(' ');
-    line.push_str(what);
-}
 
 /// The name of a type that the dictionary has.
 fn type_name(dictionary: &Dictionary, ftype: u8) -> &str
@@ -33,14 +20,27 @@ fn type_name(dictionary: &Dictionary, ftype: u8) -> &str
     }
 }
 
-ghost use Rattle.bus_dictionary.specs.Dictionary.{entry_at};
-ghost use Rattle.bus_tool.specs.HeadText.{name_of};
+/// Appends a station, a type, and what is said of them.
+fn push_typed<const N: usize>(line: &mut ArrayString<N>, station: u8, ftype: u8, what: &str)
+    requires room { array_string_len line.old + 61 ≤ N }
+    requires short { length what.now ≤ 40 }
+    ensures bytes { line.new.bytes ≡ line.old.bytes ++ typed_text station ftype what.now }
+    ensures len { array_string_len line.new ≤ array_string_len line.old + 61 }
+{
+    push_station(line, station, ftype);
+    line.push(' ');
+    line.push_str(what);
+}
 
 /// Appends what the head of a frame says.
-pub fn push_head(line: &mut Line, standing: Standing, dictionary: &Dictionary)
-    requires { array_string_len line.old + 100 ≤ 640 }
+pub fn push_head<const N: usize>(
+    line: &mut ArrayString<N>,
+    standing: Standing,
+    dictionary: &Dictionary,
+)
+    requires { array_string_len line.old + 61 ≤ N }
     ensures bytes { line.new.bytes ≡ line.old.bytes ++ head_text standing dictionary.now }
-    ensures len { array_string_len line.new ≤ array_string_len line.old + 100 }
+    ensures len { array_string_len line.new ≤ array_string_len line.old + 61 }
 {
     match standing {
         Standing::Known { station, ftype } => {
@@ -50,7 +50,7 @@ pub fn push_head(line: &mut Line, standing: Standing, dictionary: &Dictionary)
         Standing::WrongLength { station, ftype } => push_typed(line, station, ftype, "length"),
         Standing::OtherControl { control, .. } => {
             line.push_str("control ");
-            push_number(line, u64::from(control));
+            push_octet_number(line, control);
         }
         Standing::Untyped { .. } => line.push_str("untyped"),
     }

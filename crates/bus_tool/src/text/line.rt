@@ -1,15 +1,16 @@
-//! The line of a report, in a string of fixed room.
+//! Parts of lines, in strings of fixed room.
 
 ghost use Rattle.std.specs.Prelude.{◌≡◌, ◌+◌, ◌*◌, ◌++◌, ◌<◌, ◌≤◌, ◌^◌, length, decimal, codes};
 ghost use Rattle.arrayvec.specs.ArrayString.{array_string_len};
 ghost use Rattle.bus_line.specs.After.{report_of};
-ghost use Rattle.bus_tool.specs.Listing.{hex_digit, hex_octet, hex_of, cause_word, line_of, octets_held};
+ghost use Rattle.bus_tool.specs.Listing.{hex_digit, hex_octet, hex_of, cause_word, span_text, span_of, report_word, octets_held};
+ghost use Rattle.bus_tool.specs.HeadText.{station_text};
 
 use arrayvec::ArrayString;
 use bus_line::{Cause, Piece, Span};
 use itoa::Buffer;
 
-/// The longest line is shorter.
+/// A line of a frame that is shown; the longest is shorter.
 pub type Line = ArrayString<640>;
 
 /// The digit as a lower-case hexadecimal character.
@@ -25,8 +26,8 @@ fn hex_char(digit: u8) -> char
 }
 
 /// Appends two hexadecimal digits.
-fn push_octet(line: &mut Line, octet: u8)
-    requires { array_string_len line.old + 2 ≤ 640 }
+fn push_octet<const N: usize>(line: &mut ArrayString<N>, octet: u8)
+    requires { array_string_len line.old + 2 ≤ N }
     ensures bytes { line.new.bytes ≡ line.old.bytes ++ hex_octet octet }
     ensures len { array_string_len line.new ≡ array_string_len line.old + 2 }
 {
@@ -35,8 +36,8 @@ fn push_octet(line: &mut Line, octet: u8)
 }
 
 /// Appends two hexadecimal digits for each octet.
-pub fn push_hex(line: &mut Line, octets: &[u8])
-    requires { array_string_len line.old + 2 * length octets.now ≤ 640 }
+pub fn push_hex<const N: usize>(line: &mut ArrayString<N>, octets: &[u8])
+    requires { array_string_len line.old + 2 * length octets.now ≤ N }
     ensures bytes { line.new.bytes ≡ line.old.bytes ++ hex_of octets.now }
     ensures len { array_string_len line.new ≡ array_string_len line.old + 2 * length octets.now }
 {
@@ -46,8 +47,8 @@ pub fn push_hex(line: &mut Line, octets: &[u8])
 }
 
 /// Appends a number in decimal.
-pub fn push_number(line: &mut Line, n: u64)
-    requires { array_string_len line.old + 20 ≤ 640 }
+pub fn push_number<const N: usize>(line: &mut ArrayString<N>, n: u64)
+    requires { array_string_len line.old + 20 ≤ N }
     ensures bytes { line.new.bytes ≡ line.old.bytes ++ decimal n }
     ensures len { array_string_len line.new ≤ array_string_len line.old + 20 }
 {
@@ -55,17 +56,38 @@ pub fn push_number(line: &mut Line, n: u64)
     line.push_str(buffer.format(n));
 }
 
-/// The front of a line: two places, each with a space behind it.
-fn span_front(span: Span) -> Line
-    ensures bytes { result.bytes ≡ decimal span.first ++ codes " " ++ decimal span.past ++ codes " " }
-    ensures len { array_string_len result ≤ 42 }
+/// Appends the number that an octet is, in decimal.
+pub fn push_octet_number<const N: usize>(line: &mut ArrayString<N>, octet: u8)
+    requires { array_string_len line.old + 3 ≤ N }
+    ensures bytes { line.new.bytes ≡ line.old.bytes ++ decimal octet }
+    ensures len { array_string_len line.new ≤ array_string_len line.old + 3 }
 {
-    let mut line = Line::new();
-    push_number(&mut line, span.first);
+    let mut buffer = Buffer::new();
+    line.push_str(buffer.format(octet));
+}
+
+/// Appends a station and a type.
+pub fn push_station<const N: usize>(line: &mut ArrayString<N>, station: u8, ftype: u8)
+    requires { array_string_len line.old + 20 ≤ N }
+    ensures bytes { line.new.bytes ≡ line.old.bytes ++ station_text station ftype }
+    ensures len { array_string_len line.new ≤ array_string_len line.old + 20 }
+{
+    line.push_str("station ");
+    push_octet_number(line, station);
+    line.push_str(" type ");
+    push_octet_number(line, ftype);
+}
+
+/// Appends two places, each with a space behind it.
+pub fn push_span<const N: usize>(line: &mut ArrayString<N>, span: Span)
+    requires { array_string_len line.old + 42 ≤ N }
+    ensures bytes { line.new.bytes ≡ line.old.bytes ++ span_text span }
+    ensures len { array_string_len line.new ≤ array_string_len line.old + 42 }
+{
+    push_number(line, span.first);
     line.push(' ');
-    push_number(&mut line, span.past);
+    push_number(line, span.past);
     line.push(' ');
-    line
 }
 
 /// Why a piece is damaged, in one word.
@@ -81,50 +103,48 @@ fn cause_word(cause: Cause) -> &'static str
     }
 }
 
-/// The line of a frame.
-fn frame_line(span: Span, octets: &[u8]) -> Line
-    requires { length octets.now ≤ 258 }
-    ensures { result.bytes ≡ decimal span.first ++ codes " " ++ decimal span.past ++ codes " " ++ (codes "frame " ++ hex_of octets.now) ++ codes "\n" }
-{
-    let mut line = span_front(span);
-    line.push_str("frame ");
-    push_hex(&mut line, octets);
-    line.push('\n');
-    line
-}
-
-/// The line of a damaged piece.
-fn damaged_line(span: Span, cause: Cause) -> Line
-    ensures { result.bytes ≡ decimal span.first ++ codes " " ++ decimal span.past ++ codes " " ++ (codes "damaged " ++ cause_word cause) ++ codes "\n" }
-{
-    let mut line = span_front(span);
-    line.push_str("damaged ");
-    line.push_str(cause_word(cause));
-    line.push('\n');
-    line
-}
-
-/// The line of a report that has nothing but its places and its kind.
-fn bare_line(span: Span, kind: &str) -> Line
-    requires { length kind.now ≤ 20 }
-    ensures { result.bytes ≡ decimal span.first ++ codes " " ++ decimal span.past ++ codes " " ++ kind.now ++ codes "\n" }
-{
-    let mut line = span_front(span);
-    line.push_str(kind);
-    line.push('\n');
-    line
-}
-
-/// The line of a report, with its line end.
-pub fn line_of(piece: Piece<'_>) -> Line
-    requires { octets_held (report_of piece) ≤ 258 }
-    ensures { result.bytes ≡ line_of (report_of piece.entry) }
+/// Appends what a report is.
+fn push_word<const N: usize>(line: &mut ArrayString<N>, piece: Piece<'_>)
+    requires room { array_string_len line.old + 522 ≤ N }
+    requires held { octets_held (report_of piece) ≤ 258 }
+    ensures bytes { line.new.bytes ≡ line.old.bytes ++ report_word (report_of piece.entry).kind }
+    ensures len { array_string_len line.new ≤ array_string_len line.old + 522 }
 {
     match piece {
-        Piece::Frame { span, octets } => frame_line(span, octets),
-        Piece::Damaged { span, cause } => damaged_line(span, cause),
-        Piece::Overlong { span } => bare_line(span, "overlong"),
-        Piece::Abort { span } => bare_line(span, "abort"),
-        Piece::Idle { span } => bare_line(span, "idle"),
+        Piece::Frame { octets, .. } => {
+            line.push_str("frame ");
+            push_hex(line, octets);
+        }
+        Piece::Damaged { cause, .. } => {
+            line.push_str("damaged ");
+            line.push_str(cause_word(cause));
+        }
+        Piece::Overlong { .. } => line.push_str("overlong"),
+        Piece::Abort { .. } => line.push_str("abort"),
+        Piece::Idle { .. } => line.push_str("idle"),
     }
+}
+
+/// Where a report stands.
+pub fn span_of(piece: Piece<'_>) -> Span
+    ensures { result ≡ span_of (report_of piece.entry) }
+{
+    match piece {
+        Piece::Frame { span, .. } => span,
+        Piece::Damaged { span, .. } => span,
+        Piece::Overlong { span } => span,
+        Piece::Abort { span } => span,
+        Piece::Idle { span } => span,
+    }
+}
+
+/// Appends the places of a report and what it is, without the end of its line.
+pub fn push_front<const N: usize>(line: &mut ArrayString<N>, piece: Piece<'_>)
+    requires room { array_string_len line.old + 564 ≤ N }
+    requires held { octets_held (report_of piece) ≤ 258 }
+    ensures bytes { line.new.bytes ≡ line.old.bytes ++ (span_text (span_of (report_of piece.entry)) ++ report_word (report_of piece.entry).kind) }
+    ensures len { array_string_len line.new ≤ array_string_len line.old + 564 }
+{
+    push_span(line, span_of(piece));
+    push_word(line, piece);
 }

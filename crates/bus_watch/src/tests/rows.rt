@@ -104,6 +104,24 @@ fn pushed<C: Check>(
     Ok(text)
 }
 
+/// What is seen of a list of which only the bits are pushed that `pass` does not take.
+fn passed<C: Check>(
+    analyser: &mut Analyser<C>,
+    alloc: Global,
+    bits: &[bool],
+) -> Result<String, Fail> {
+    let mut text = String::new(alloc);
+    for bit in bits {
+        if analyser.pass(*bit) {
+            continue;
+        }
+        if let Some(seen) = analyser.push(*bit)? {
+            push_seen(&mut text, &seen)?;
+        }
+    }
+    Ok(text)
+}
+
 fn check_row<C: Check>(
     rt: &impl Abort,
     alloc: Global,
@@ -121,10 +139,16 @@ fn check_row<C: Check>(
         pending,
     };
     assert_eq!(rt; analyser.ending(), ending, "{want}");
+    let read = Dictionary::read(alloc, dictionary)?;
+    let mut passing = Analyser::<C>::new(alloc, read, 16, 0)?;
+    let text = passed(&mut passing, alloc, bits)?;
+    assert_eq!(rt; text.as_str(), want);
+    assert_eq!(rt; passing.ending(), ending, "{want}");
+    assert_eq!(rt; passing.spent(), analyser.spent(), "{want}");
     Ok(())
 }
 
-/// The whole lists, bit by bit, with both checks.
+/// The whole lists, bit by bit, with both checks, pushed alone and passed where that is done.
 #[test]
 fn worked_lists(rt: HostRuntime) -> Result<(), Fail> {
     for (dictionary, texts, want, pending) in ROWS {

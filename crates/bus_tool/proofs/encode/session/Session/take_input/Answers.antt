@@ -1,8 +1,7 @@
 use Rattle.std.proofs.Common.{rules, [], ◌++◌, take, inl, refl}
 use Rattle.bus_tool.specs.Lines.{ended_lines}
 use Rattle.bus_tool.specs.Encode.{asked_behind, asked_so_far}
-use Rattle.bus_tool.proofs.Bytes.{consumes_nothing, consumes_both, consumes_end, consumes_kept}
-use Rattle.bus_tool.proofs.GatherLemmas.{longer}
+use Rattle.bus_tool.proofs.Bytes.{consumes_nothing, consumes_both, consumes_end, consumes_kept, longer}
 use Rattle.bus_tool.proofs.SessionLemmas.{end_finishes, halts_finishes, clean_so_far}
 use Rattle.bus_tool.proofs.encode.session.Session.take_input.Goals as goal
 

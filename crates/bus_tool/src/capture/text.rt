@@ -1,0 +1,89 @@
+//! Takes the octets of a text capture.
+
+ghost use Rattle.std.specs.Prelude.{◌≡◌, ◌+◌, ◌<◌, ◌^◌, ℕ, List, [], ◌∷◌, ◌++◌, Option, MatchResult, OnOk, IsTrue, length, true, false};
+ghost use Rattle.bus_tool.specs.Watching.{IsSound, IsSame};
+ghost use Rattle.bus_tool.specs.Sessions.{FollowsMarks, FollowsText, Stops};
+
+use crate::capture::watch::Watch;
+use crate::fault::ToolFault;
+use bus_bits::laws::captures_grow;
+use bus_bits::{BadMark, TextBits};
+use bus_fcs::Check;
+use std::io::Write;
+
+/// A text capture, as far as it was read.
+#[derive(Clone, Copy)]
+pub struct TextCapture {
+    /// How many octets were taken.
+    pub at: u128,
+}
+
+/// Takes one octet if it decides nothing, and answers whether it did; else nothing changed.
+#[inline(always)]
+fn pass_one<C: Check>(octet: u8, watch: &mut Watch<C>) -> bool
+    requires { IsSound watch.old }
+    ensures passed { IsTrue result → (start now : Option (List ℕ)) (xs : List ℕ) → FollowsMarks C.folded C.COST start now watch.old xs → FollowsMarks C.folded C.COST start now watch.new (xs ++ octet ∷ []) }
+    ensures kept { result ≡ false → watch.new ≡ watch.old }
+    ensures same { IsSame watch.old watch.new }
+    ensures sound { IsSound watch.new }
+{
+    match TextBits::new().step(octet) {
+        Ok(Some(bit)) => watch.pass(bit),
+        Ok(None) => true,
+        Err(BadMark) => false,
+    }
+}
+
+/// Takes one octet, before which there were `at` others.
+#[inline(always)]
+fn take_one<C: Check, W: Write>(
+    octet: u8,
+    at: u128,
+    watch: &mut Watch<C>,
+    w: &mut W,
+) -> Result<(), ToolFault>
+    requires { IsSound watch.old }
+    ensures taken { (start : Option (List ℕ)) (xs : List ℕ) → at ≡ length xs → FollowsMarks C.folded C.COST start (W.contents w.old) watch.old xs → MatchResult result
+        (λ _. FollowsMarks C.folded C.COST start (W.contents w.new) watch.new (xs ++ octet ∷ []))
+        (λ fault. Stops C.folded C.COST true start (W.contents w.new) watch.new (xs ++ octet ∷ []) fault) }
+    ensures same { IsSame watch.old watch.new }
+    ensures sound { IsSound watch.new }
+{
+    match TextBits::new().step(octet) {
+        Ok(Some(bit)) => watch.take_bit(bit, w),
+        Ok(None) => Ok(()),
+        Err(BadMark) => Err(ToolFault::BadMark { at }),
+    }
+}
+
+impl TextCapture {
+    /// Takes some octets, up to the first fault.
+    #[inline(never)]
+    pub fn take<C: Check, W: Write>(
+        &mut self,
+        octets: &[u8],
+        watch: &mut Watch<C>,
+        w: &mut W,
+    ) -> Result<(), ToolFault>
+        requires sound { IsSound watch.old }
+        requires few { self.old.at + length octets.now < 2 ^ 100 }
+        ensures taken { (start : Option (List ℕ)) (xs : List ℕ) → FollowsText C.folded C.COST start (W.contents w.old) self.old watch.old xs → MatchResult result
+            (λ _. FollowsText C.folded C.COST start (W.contents w.new) self.new watch.new (xs ++ octets.now))
+            (λ fault. Stops C.folded C.COST true start (W.contents w.new) watch.new (xs ++ octets.now) fault) }
+        ensures at { OnOk result (self.new.at ≡ self.old.at + length octets.now) }
+        ensures same { IsSame watch.old watch.new }
+        ensures sound { IsSound watch.new }
+    {
+        captures_grow();
+        for (i, octet) in octets.iter().enumerate() {
+            if pass_one(*octet, watch) {
+                continue;
+            }
+            if let Err(fault) = take_one(*octet, self.at + i as u128, watch, w) {
+                return Err(fault);
+            }
+        }
+        self.at += octets.len() as u128;
+        Ok(())
+    }
+}

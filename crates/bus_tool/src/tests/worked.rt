@@ -1,0 +1,195 @@
+//! Captures, dictionaries and texts of worked examples.
+
+use crate::{Options, Summary, ToolFault, check_capture, list_capture};
+use std::alloc::{AllocError, Global};
+use std::io::{Read, Write};
+
+/// A flag. What follows stands between flags, in the order sent; a group of nine has one inserted 0.
+pub const FLAG: &str = "01111110";
+
+/// `10 83 00 fd e5`: to station 16, of type 0.
+pub const CALL: &str = "00001000 11000001 00000000 101111101 10100111";
+
+/// `10 83 80 f5 61`: from station 16, of type 128.
+pub const REPLY: &str = "00001000 11000001 00000001 10101111 100000110";
+
+/// `ff 83 09 5a 3b`: to all stations, of type 9.
+pub const NOTICE: &str = "111110111 110000001 10010000 01011010 11011100";
+
+/// `ff 83 00 9b a6`: to all stations, of type 0.
+pub const CALL_TO_ALL: &str = "111110111 110000001 00000000 11011001 01100101";
+
+/// `10 83 fe 0c fb`: of type 254; the second inserted 0 is its last bit.
+pub const TYPE_254: &str = "00001000 11000001 011111011 00110000 110111110";
+
+/// `10 13 cc b8`: with another control octet.
+pub const CONTROL_19: &str = "00001000 11001000 00110011 00011101";
+
+/// `10 83 45 2c`: without information.
+pub const UNTYPED: &str = "00001000 11000001 10100010 00110100";
+
+/// `10 83 01 74 f4`: of type 1, with nothing behind it.
+pub const TYPE_1: &str = "00001000 11000001 10000000 00101110 00101111";
+
+/// Twenty-four bits that are too few for a frame.
+pub const SHORT: &str = "00000000 00000000 00000000";
+
+/// A silent line.
+pub const IDLE: &str = "111111111111111";
+
+/// A call and its reply, 106 bits.
+pub const CALL_AND_REPLY: [&str; 5] = [FLAG, CALL, FLAG, REPLY, FLAG];
+
+pub const CALL_AND_REPLY_TEXT: &str = "\
+8 49 frame 108300fde5 station 16 type 0 call
+57 98 frame 108380f561 station 16 type 128 reply
+8 49 answered station 16 type 0
+";
+
+/// The first of these lines.
+pub const CALL_TEXT: &str = "8 49 frame 108300fde5 station 16 type 0 call\n";
+
+/// One call, and nothing behind its last flag.
+pub const ONE_CALL_TEXT: &str = "\
+8 49 frame 108300fde5 station 16 type 0 call
+8 49 pending station 16 type 0
+";
+
+/// Two calls, the first without an answer, and damage in place of the answer to the second.
+pub const MISSING_AND_SPOILT: [&str; 7] = [FLAG, CALL, FLAG, CALL, FLAG, SHORT, FLAG];
+
+pub const MISSING_AND_SPOILT_TEXT: &str = "\
+8 49 frame 108300fde5 station 16 type 0 call
+57 98 frame 108300fde5 station 16 type 0 call
+8 49 missing station 16 type 0
+106 130 damaged short
+57 98 spoilt station 16 type 0
+";
+
+pub const MISSING_AND_SPOILT_REPORT: &str = "\
+frames 2
+damaged 1
+overlong 0
+aborts 0
+idles 0
+strays 0
+answered 0
+missing 1
+spoilt 1
+station 16 answered 0 missing 1 spoilt 1
+last 8 49 108300fde5
+last 57 98 108300fde5
+";
+
+/// A dictionary whose longest frame has three octets.
+pub const CALLS: &str = r#"version = 1
+[[frame]]
+type = 0
+name = "call"
+length = 0
+answered = true
+[[frame]]
+type = 128
+name = "reply"
+length = 0
+[[frame]]
+type = 9
+name = "notice"
+length = 0
+"#;
+
+/// A dictionary with names for bits, whose longest frame has five octets.
+pub const STATES: &str = r#"version = 1
+[[frame]]
+type = 1
+name = "poll"
+length = 1
+answered = true
+[[frame]]
+type = 129
+name = "state"
+length = 2
+bits = [ { at = 9, name = "flash" }, { at = 0, name = "call1" }, { at = 7, name = "ped" } ]
+"#;
+
+/// A packed capture of one call: 57 bits, a flag, the frame and a flag.
+pub const PACKED: [u8; 24] = [
+    0x54, 0x53, 0x32, 0x42, 0x49, 0x54, 0x53, 0x31, 57, 0, 0, 0, 0, 0, 0, 0, 0x7e, 0x10, 0x83,
+    0x00, 0x7d, 0xcb, 0xfd, 0x00,
+];
+
+/// A text capture by its parts, of which spaces are left out.
+pub fn joined(alloc: Global, parts: &[&str]) -> Result<Vec<u8>, AllocError> {
+    let mut capture = Vec::new(alloc);
+    for part in parts {
+        for mark in part.bytes() {
+            if mark != b' ' {
+                capture.push(mark)?;
+            }
+        }
+    }
+    Ok(capture)
+}
+
+/// A text capture from place 0 on, of which everything is listed, and all frames are kept.
+pub fn of_text(dictionary: Option<&str>) -> Options<'_> {
+    Options {
+        dictionary,
+        text: true,
+        origin: 0,
+        depth: 16,
+        station: None,
+        ftype: None,
+        kind: None,
+        reads: 1000000,
+    }
+}
+
+/// The same of a packed capture, by the first dictionary.
+pub fn of_packed() -> Options<'static> {
+    Options {
+        text: false,
+        ..of_text(Some(CALLS))
+    }
+}
+
+/// The counts in their order.
+pub fn summary(counts: [u64; 9]) -> Summary {
+    let [
+        frames,
+        damaged,
+        overlong,
+        aborts,
+        idles,
+        strays,
+        answered,
+        missing,
+        spoilt,
+    ] = counts;
+    Summary {
+        frames,
+        damaged,
+        overlong,
+        aborts,
+        idles,
+        strays,
+        answered,
+        missing,
+        spoilt,
+    }
+}
+
+/// Checks a capture, or else lists it.
+pub fn run_over<R: Read, W: Write>(
+    checks: bool,
+    alloc: Global,
+    options: &Options<'_>,
+    r: &mut R,
+    w: &mut W,
+) -> Result<Summary, ToolFault> {
+    if checks {
+        check_capture(alloc, options, r, w)
+    } else {
+        list_capture(alloc, options, r, w)
+    }
+}
