@@ -55,11 +55,11 @@ loop-i-preserved-then-pass_one g c = record {
   sound = c.pass_one.ensures.sound;
   same = same-both c.args.watch.now c.loop-i.watch c.pass_one.new.watch c.loop-i.invariant.same c.pass_one.ensures.same;
   front = λ start xs t.
-    let os = c.args.octets.now in
-    let i = c.loop-i.i in
-    subst (FollowsMarks g.C.Check.folded g.C.Check.COST start (g.W.Write.contents c.loop-i.w) c.pass_one.new.watch)
-    (octet-next xs os i (get_or os i 0) c.loop-i-test.true refl)
-    (c.if-pass_one.ensures.passed refl start (g.W.Write.contents c.loop-i.w) (xs ++ take i os) (c.loop-i.invariant.front start xs t));
+      let os = c.args.octets.now in
+      let i = c.loop-i.i in
+      subst (FollowsMarks g.C.Check.folded g.C.Check.COST start (g.W.Write.contents c.loop-i.w) c.pass_one.new.watch)
+      (octet-next xs os i (get_or os i 0) c.loop-i-test.true refl)
+      (c.if-pass_one.ensures.passed refl start (g.W.Write.contents c.loop-i.w) (xs ++ take i os) (c.loop-i.invariant.front start xs t));
 }
 
 pub returns-clause-taken : goal.returns-clause-taken
