@@ -88,6 +88,9 @@ mark_is_text x h = (grind (arith, nat_tests), grind (arith, nat_tests))
 pub mark_by_half : (x : ℕ) → x / 2 ≢ 24 → is_mark x ≡ false
 mark_by_half x h = grind (arith, nat_tests)
 
+pub mark_text : (x : ℕ) → is_mark x ≡ true → is_text x ≡ true
+mark_text x h = ap (λ b. b || is_space x) h
+
 pub text_space : (x : ℕ) → is_space x ≡ true → is_text x ≡ true
 text_space x h = ap (λ b. is_mark x || b) h ∙ or-true (is_mark x)
 

@@ -10,6 +10,6 @@ mod spent;
 mod tests;
 
 pub use capture::{BadMark, HeadFault, PackedBits, PackedFault, PackedHead, TextBits};
-pub use octet::{bits_octet, octet_bits};
+pub use octet::{bits_octet, octet_bits, reversed};
 pub use span::Span;
 pub use spent::Spent;

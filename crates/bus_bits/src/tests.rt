@@ -48,6 +48,18 @@ fn text_stops_at_a_bad_mark(rt: HostRuntime) {
 }
 
 #[test]
+fn eight_marks_are_an_octet(rt: HostRuntime) {
+    for (octets, want) in [
+        (&b"0010011011"[..], Some(0x64)),
+        (&b"0010 0110"[..], None),
+        (&b"0010011"[..], None),
+        (&b"00100112"[..], None),
+    ] {
+        assert_eq!(rt; TextBits::eight(octets), want);
+    }
+}
+
+#[test]
 fn heads_are_read(rt: HostRuntime) {
     let most = *b"TS2BITS1\0\0\0\0\0\0\0\x10";
     let over = *b"TS2BITS1\x01\0\0\0\0\0\0\x10";

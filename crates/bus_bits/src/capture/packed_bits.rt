@@ -1,7 +1,8 @@
 //! The bits of a packed capture, after its head.
 
-ghost use Rattle.std.specs.Prelude.{◌≡◌, ℕ, List, [], ◌∷◌, ◌++◌, length, Some, None, MatchResult, OnErr, ◌≤◌};
+ghost use Rattle.std.specs.Prelude.{◌≡◌, ℕ, List, [], ◌∷◌, ◌++◌, length, Some, None, MatchResult, OnErr, ◌≤◌, ◌-◌};
 ghost use Rattle.std.specs.List.{list_any};
+ghost use Rattle.bus_bits.specs.Octet.{bits_of};
 ghost use Rattle.bus_bits.specs.Packed.{PackedAfter, packed_body, packed_fault_of, filled};
 
 use crate::capture::packed_head::PackedHead;
@@ -66,7 +67,7 @@ impl PackedBits {
         }
         let bits = octet_bits(octet);
         if self.left >= 8 {
-            self.left -= 8;
+            self.take_whole();
             return Ok(ArrayVec::from(bits));
         }
         let used = min(self.left, 8) as usize;
@@ -75,6 +76,17 @@ impl PackedBits {
         }
         self.left -= used as u64;
         Ok(gathered(&bits[..used]))
+    }
+
+    /// Takes an octet of which all eight bits are wanted, without giving them.
+    #[inline(always)]
+    pub fn take_whole(&mut self)
+        requires { 8 ≤ self.old }
+        ensures given { (n : ℕ) (xs : List ℕ) (octet : ℕ) → PackedAfter n xs self.old →
+            PackedAfter n (xs ++ octet ∷ []) self.new × ((packed_body n (xs ++ octet ∷ [])).bits ≡ (packed_body n xs).bits ++ bits_of 8 octet) }
+        ensures left { self.new ≡ self.old - 8 }
+    {
+        self.left -= 8;
     }
 
     /// Refuses the end of the input as [`PackedFault::ShortBody`] where bits are left.

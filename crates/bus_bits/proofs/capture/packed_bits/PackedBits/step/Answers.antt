@@ -1,5 +1,5 @@
-use Rattle.std.proofs.Common.{◌≡◌, ℕ, ◌<◌, ◌≤◌, ◌-◌, ◌∷◌, [], ◌++◌, List, Bool, true, false, take, drop, arith, sym, ap, ◌∙◌, subst, length, min, nat_cmp}
-use Rattle.std.proofs.lemmas.List.{length-drop, take_all, drop_all, take_min, drop_min}
+use Rattle.std.proofs.Common.{◌≡◌, ℕ, ◌<◌, ◌-◌, ◌∷◌, [], ◌++◌, List, Bool, true, false, take, drop, arith, sym, ap, ◌∙◌, subst, length, min, nat_cmp}
+use Rattle.std.proofs.lemmas.List.{length-drop, take_all, take_min, drop_min}
 use Rattle.std.proofs.lemmas.Bool.Decides.{nat_tests}
 use Rattle.std.specs.Ordering.{ord_min}
 use Rattle.std.specs.List.{list_any}
@@ -70,18 +70,7 @@ returns-clause-given c =
 pub returns-then-self-ge8-clause-given : goal.returns-then-self-ge8-clause-given
 returns-then-self-ge8-clause-given c =
     λ n xs h.
-    let left = c.args.self.now in
     let o = c.args.octet in
-    let v : c.self.inside.left ≡ left = c.self.view_is in
-    let g : 8 ≤ c.self.inside.left = c.if-self-ge8.true in
-    let l : 8 ≤ left = omega arith in
-    let y : list_any (λ b. b) (drop left (bits_of 8 o)) ≡ false =
-    ap (list_any (λ b. b)) (drop_all left (bits_of 8 o) (omega (arith, length-bits 8 o))) in
-    let r = packed-more n xs o left h (omega arith) y in
-    let s : left - 8 ≡ c.self.inside.left - 8 = omega arith in
-    let t : take left (bits_of 8 o) ≡ bits_of 8 o = take_all left (bits_of 8 o) (omega (arith, length-bits 8 o)) in
+    let r = c.take_whole.ensures.given n xs o h in
     let i : c.from.result.items ≡ bits_of 8 o = c.from.ensures.0 ∙ c.octet_bits-bits.ensures in
-    let P : ℕ → Type 0 = λ k. PackedAfter n (xs ++ o ∷ []) k in (
-      subst P s r.0,
-      r.1 ∙ ap (λ (x : List Bool). (packed_body n xs).bits ++ x) (t ∙ sym i),
-    )
+    (r.0, r.1 ∙ ap (λ (x : List Bool). (packed_body n xs).bits ++ x) (sym i))
