@@ -37,18 +37,21 @@ octets-here d =
     ap octets (sym (append-nil d))
     ∙ octets-whole d [] (ap (λ (z : List Bool). length z / 8) (append-nil (part d)) ∙ omega (arith, length-part d))
 
--- a bit that fills no octet adds none
+-- bits that fill no octet add none
+pub octets-kept : (d e : List Bool) → length d % 8 + length e < 8 → octets (d ++ e) ≡ octets d
+octets-kept d e h = octets-whole d e (omega (arith, length-append (part d) e, length-part d)) ∙ sym (octets-here d)
+
+-- nor does one such bit
 pub octets-unfilled : (d : List Bool) (x : Bool) → length (d ++ x ∷ []) % 8 ≢ 0 → octets (d ++ x ∷ []) ≡ octets d
 octets-unfilled d x h =
-    let k = length-part d in
-    let m : length (part d) ≢ 7 = λ e. h (omega (arith, length-append d (x ∷ []), e, k)) in
-    octets-whole d (x ∷ []) (omega (arith, length-append (part d) (x ∷ []), k, m)) ∙ sym (octets-here d)
+    let m : length d % 8 ≢ 7 = λ e. h (omega (arith, length-append d (x ∷ []), e)) in
+    octets-kept d (x ∷ []) (omega (arith, m))
 
 pub shifted_in-append : (o : ℕ) (d e : List Bool) → shifted_in o (d ++ e) ≡ shifted_in (shifted_in o d) e
 shifted_in-append o [] e = refl
 shifted_in-append o (x ∷ d) e = shifted_in-append (o / 2 + (if x then 128 else 0)) d e
 
-shifted_in-lt : (o : ℕ) (d : List Bool) → o < 256 → shifted_in o d < 256
+pub shifted_in-lt : (o : ℕ) (d : List Bool) → o < 256 → shifted_in o d < 256
 shifted_in-lt o [] h = h
 shifted_in-lt o (true ∷ d) h = shifted_in-lt (o / 2 + 128) d (omega arith)
 shifted_in-lt o (false ∷ d) h = shifted_in-lt (o / 2 + 0) d (omega arith)

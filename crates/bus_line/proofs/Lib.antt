@@ -12,9 +12,14 @@ pub mod SettledLemmas
 pub mod RawLemmas
 pub mod RankLemmas
 pub mod WindowLemmas
+pub mod LateLemmas
+pub mod KeptLemmas
 pub mod HoldLemmas
 pub mod StepLemmas
+pub mod AppendLemmas
 pub mod DecideLemmas
+pub mod SettleLemmas
+pub mod PassLemmas
 pub mod ClassLemmas
 pub mod StoredLemmas
 pub mod FrameLemmas

@@ -39,7 +39,7 @@ none-belongs origin i NoMark h = refl
 none-belongs origin i (AbortAt a) h = refl
 none-belongs origin i (FlagAt p) h = absurd (cc)
 
-none-holds : {C : Type 0} (folded : C → List ℕ → Type 0) (d : LineState C) (b : List Bool) (origin : ℕ) (mark : Mark) → first_of origin mark ≡ None → HoldsFor folded d b mark
+pub none-holds : {C : Type 0} (folded : C → List ℕ → Type 0) (d : LineState C) (b : List Bool) (origin : ℕ) (mark : Mark) → first_of origin mark ≡ None → HoldsFor folded d b mark
 none-holds folded d b origin NoMark h = tt
 none-holds folded d b origin (AbortAt a) h = tt
 none-holds folded d b origin (FlagAt p) h = absurd (cc)
@@ -49,11 +49,11 @@ and-false true y z h = rw h refl
 and-false false y z h = refl
 
 -- a bit whose place belongs to no flag settles nothing
-none-settled : (b : List Bool) (bit : Bool) (origin : ℕ) → first_of origin (current b) ≡ None → is_settled (b ++ bit ∷ []) (length b - 8) ≡ false
+pub none-settled : (b : List Bool) (bit : Bool) (origin : ℕ) → first_of origin (current b) ≡ None → is_settled (b ++ bit ∷ []) (length b - 8) ≡ false
 none-settled b bit origin h = settles-now b bit ∙ and-false (nat_le 8 (length b)) (belongs (current b) (length b - 8)) _ (none-belongs origin (length b - 8) (current b) h)
 
 -- a bit that comes too early behind its flag does not either
-early-settled : (b : List Bool) (bit : Bool) (p : ℕ) → current b ≡ FlagAt p → length b < p + 16 → is_settled (b ++ bit ∷ []) (length b - 8) ≡ false
+pub early-settled : (b : List Bool) (bit : Bool) (p : ℕ) → current b ≡ FlagAt p → length b < p + 16 → is_settled (b ++ bit ∷ []) (length b - 8) ≡ false
 early-settled b bit p h l =
     let early : nat_le (p + 8) (length b - 8) ≡ false = false_from_ne_true _ (λ t. absurd (omega (arith, leb-true (p + 8) (length b - 8) t, last_mark-flag-behind b p h))) in
     settles-now b bit ∙ and-false (nat_le 8 (length b)) (belongs (current b) (length b - 8)) _ (ap (λ m. belongs m (length b - 8)) h ∙ early)
@@ -61,7 +61,7 @@ early-settled b bit p h l =
     last_mark-flag-behind : (b : List Bool) (p : ℕ) → current b ≡ FlagAt p → p + 8 ≤ length b
     last_mark-flag-behind b p h = flag-fits b p (last_mark-flag b (length b) p h).flag
 
-inserted-settled : (b : List Bool) (bit : Bool) → is_inserted b (length b - 8) ≡ true → is_settled (b ++ bit ∷ []) (length b - 8) ≡ false
+pub inserted-settled : (b : List Bool) (bit : Bool) → is_inserted b (length b - 8) ≡ true → is_settled (b ++ bit ∷ []) (length b - 8) ≡ false
 inserted-settled b bit h = settles-now b bit ∙ last-false (nat_le 8 (length b)) (belongs (current b) (length b - 8)) (is_inserted b (length b - 8)) h
   where
     last-false : (x y z : Bool) → z ≡ true → (x && (y && not z)) ≡ false
@@ -75,7 +75,7 @@ data-settled b bit p h l f =
     ∙ and_from _ _ (le-leb 8 (length b) (omega arith)) (and_from _ _ (ap (λ m. belongs m (length b - 8)) h ∙ le-leb (p + 8) (length b - 8) (omega arith)) (rw f refl))
 
 -- what the ledger counts, where nothing settles
-stored-false : (longest : ℕ) (c : List Bool) (i : ℕ) → is_settled c i ≡ false → is_stored longest c i ≡ false
+pub stored-false : (longest : ℕ) (c : List Bool) (i : ℕ) → is_settled c i ≡ false → is_stored longest c i ≡ false
 stored-false longest c i h = rw h refl
 
 pub counts-kept : {C : Type 0} (cost : ℕ) (d : LineState C) (b : List Bool) (bit : Bool) → is_settled (b ++ bit ∷ []) (length b - 8) ≡ false → Counts cost d b → Counts cost d (b ++ bit ∷ [])
@@ -121,10 +121,10 @@ pub data-more : (b : List Bool) (bit : Bool) (p : ℕ) → current b ≡ FlagAt 
 data-more b bit p h l f =
     ap data_so_far (raw-more b bit p l) ∙ more-data (slice_range b (p + 8) (length b - 8)) (get_or b (length b - 8) false) (sym (inserted-here b p h l) ∙ f)
 
-holds-of : {C : Type 0} (folded : C → List ℕ → Type 0) (d : LineState C) (b : List Bool) (p : ℕ) (mark : Mark) → mark ≡ FlagAt p → HoldsFor folded d b mark → Holds folded d (settled_data b p)
+pub holds-of : {C : Type 0} (folded : C → List ℕ → Type 0) (d : LineState C) (b : List Bool) (p : ℕ) (mark : Mark) → mark ≡ FlagAt p → HoldsFor folded d b mark → Holds folded d (settled_data b p)
 holds-of folded d b p mark h k = subst (HoldsFor folded d b) h k
 
-holds-for : {C : Type 0} (folded : C → List ℕ → Type 0) (d : LineState C) (b : List Bool) (p : ℕ) (mark : Mark) → mark ≡ FlagAt p → Holds folded d (settled_data b p) → HoldsFor folded d b mark
+pub holds-for : {C : Type 0} (folded : C → List ℕ → Type 0) (d : LineState C) (b : List Bool) (p : ℕ) (mark : Mark) → mark ≡ FlagAt p → Holds folded d (settled_data b p) → HoldsFor folded d b mark
 holds-for folded d b p mark h k = subst (HoldsFor folded d b) (sym h) k
 
 -- nothing settled: the last mark is no flag
@@ -254,7 +254,7 @@ holds-unfilled folded d e bits x h f g o l s c =
       checked = λ m. rw (c, l, same) (h.checked (eight-before bits x f m));
     }
 
-moved-holds : {C : Type 0} (folded : C → List ℕ → Type 0) (d : LineState C) (b : List Bool) (place window : ℕ) (spent : Spent) (mark : Mark) → HoldsFor folded d b mark → HoldsFor folded (record d { place = place; window = window; spent = spent }) b mark
+pub moved-holds : {C : Type 0} (folded : C → List ℕ → Type 0) (d : LineState C) (b : List Bool) (place window : ℕ) (spent : Spent) (mark : Mark) → HoldsFor folded d b mark → HoldsFor folded (record d { place = place; window = window; spent = spent }) b mark
 moved-holds folded d b place window spent NoMark h = h
 moved-holds folded d b place window spent (AbortAt a) h = h
 moved-holds folded d b place window spent (FlagAt p) h = record { count = h.count; last = h.last; held = h.held; checked = h.checked }
@@ -344,7 +344,7 @@ fills-room folded d bits x f h =
     (λ t. lt-ltb (length d.octets) (d.longest + 2) (omega (arith, leb-true d.gathered (8 * (d.longest + 2)) t, m, k, f.count, f.full, n)))
 
 -- one octet more, or none
-abbrev one_more : Bool → ℕ
+abbrev pub one_more : Bool → ℕ
 one_more t = if t then 1 else 0
 
 stores-none : (n limit : ℕ) → (n + 1) % 8 ≢ 0 → one_more (((n + 1) % 8 == 0) && nat_le (n + 1) limit) ≡ 0
@@ -393,7 +393,8 @@ fills-data folded cost d b bit octet spent h i o f =
       checked = i.holds.checked;
     }
 
-one-stored : (t : Bool) (s : Spent) (cost : ℕ) → (if t then record s { stored = s.stored + 1; folded = s.folded + cost } else s) ≡ record s { stored = s.stored + one_more t; folded = s.folded + cost * one_more t }
+-- what is paid for an octet more, or none
+pub one-stored : (t : Bool) (s : Spent) (cost : ℕ) → (if t then record s { stored = s.stored + 1; folded = s.folded + cost } else s) ≡ record s { stored = s.stored + one_more t; folded = s.folded + cost * one_more t }
 one-stored true s cost = let e = mul-one cost in rw e refl
 one-stored false s cost =
     let e = mul-zero cost in

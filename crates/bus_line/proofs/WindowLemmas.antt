@@ -109,7 +109,7 @@ window-bit w b bit h e =
     omega (arith, window-late w b bit (omega arith) e, m, l)
 
 -- the ones at the front of a list
-abbrev lead : List Bool → ℕ
+abbrev pub lead : List Bool → ℕ
 lead [] = 0
 lead (true ∷ r) = suc (lead r)
 lead (false ∷ r) = 0
@@ -119,7 +119,7 @@ lead-back [] = refl
 lead-back (true ∷ r) = ap ones_at_end (reverse-append (true ∷ []) r) ∙ (ones_after-more 0 (reverse r) true ∙ ap suc (lead-back r))
 lead-back (false ∷ r) = ap ones_at_end (reverse-append (false ∷ []) r) ∙ ones_after-more 0 (reverse r) false
 
-lead-is : (u : List Bool) → ones_at_end u ≡ lead (reverse u)
+pub lead-is : (u : List Bool) → ones_at_end u ≡ lead (reverse u)
 lead-is u = ap ones_at_end (sym (reverse-reverse u)) ∙ lead-back (reverse u)
 
 -- a number and its list without the first bit
@@ -132,7 +132,7 @@ number-halved x r k =
     ap (λ (j : ℕ). number (x ∷ r) % 2 ^ j) s ∙ (mod-pow-add (number (x ∷ r)) k 1 ∙ (ap (λ (m : ℕ). m % 2 ^ k * 2 + number (x ∷ r) % 2) e ∙ omega (arith, n, l)))
 
 -- at least so many ones at the front show in as many low bits
-lead-least : (k : ℕ) (r : List Bool) → (number r % 2 ^ k + 1 ≡ 2 ^ k → k ≤ lead r) × (k ≤ lead r → number r % 2 ^ k + 1 ≡ 2 ^ k)
+pub lead-least : (k : ℕ) (r : List Bool) → (number r % 2 ^ k + 1 ≡ 2 ^ k → k ≤ lead r) × (k ≤ lead r → number r % 2 ^ k + 1 ≡ 2 ^ k)
 unfolding number
 lead-least zero r = (λ e. omega arith, λ l. omega (arith, mod-one (number r)))
 lead-least (suc k) [] = (λ e. absurd (let p = pow_pos k in let q = pow-suc 2 k in omega (arith, sym e ∙ ap (λ (m : ℕ). m + 1) (zero-mod (2 ^ suc k)), p, q)), λ l. absurd (omega (arith, l)))

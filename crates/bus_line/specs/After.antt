@@ -3,7 +3,7 @@ use Rattle.std.specs.Prelude.{◌≡◌, ℕ, ◌+◌, ◌-◌, ◌*◌, ◌/◌
 use Rattle.bus_bits.specs.Octet.{number, octets}
 use Rattle.bus_line.specs.Run.{data_so_far}
 use Rattle.bus_line.specs.Report.{Report, Kind}
-use Rattle.bus_line.specs.Due.{Mark, NoMark, FlagAt, AbortAt, current}
+use Rattle.bus_line.specs.Due.{Mark, NoMark, FlagAt, AbortAt, current, placed}
 use Rattle.bus_line.specs.Ledger.{assembled, stored}
 use Rattle.bus_line.specs.LineState.{LineState}
 use Rattle.bus_line.specs.declared.piece.Piece.{Piece}
@@ -114,6 +114,14 @@ pub record Pushed {C : Type 0} (folded : C → List ℕ → Type 0) (cost : ℕ)
   pub origin : new.origin ≡ old.origin
   pub place : new.place ≡ old.place + 1
   pub held : ShowsHeld new answer
+
+-- these bits lead from old to new, and none of them decides a report
+pub record Passed {C : Type 0} (folded : C → List ℕ → Type 0) (cost : ℕ) (old : LineState C) (bits : List Bool) (new : LineState C) : Type 0 where
+  pub after : (b : List Bool) → After folded cost old b → After folded cost new (b ++ bits)
+  pub more : (b : List Bool) → After folded cost old b → placed old.origin old.longest (b ++ bits) ≡ placed old.origin old.longest b
+  pub longest : new.longest ≡ old.longest
+  pub origin : new.origin ≡ old.origin
+  pub place : new.place ≡ old.place + length bits
 
 -- a frame has no more octets than the longest and its check
 abbrev pub FitsFrame : ℕ → Option Piece → Type 0

@@ -2,7 +2,9 @@
 
 mod decide;
 mod event;
+mod late;
 mod look;
+mod octet;
 mod step;
 
 ghost use Rattle.std.specs.Prelude.{◌≡◌, ◌≢◌, ◌+◌, ◌*◌, ◌-◌, ◌%◌, ◌/◌, ◌≤◌, ◌<◌, ◌^◌, ◌↔◌, ◌⊎◌, List, Bool, [], ◌∷◌, ◌++◌, IsErr, IfOk, OnOk, OnErr, IsErrOf, IsTrue, false, length, ℕ, cond, Some, None, IsSome};
@@ -12,14 +14,16 @@ ghost use Rattle.std.specs.Io.BufRead.{Rests};
 ghost use Rattle.bus_line.specs.Due.{due_at, begun, placed};
 ghost use Rattle.bus_line.specs.Ledger.{stored_from, IsLedger};
 ghost use Rattle.bus_line.specs.Run.{ones_at_end};
+ghost use Rattle.bus_bits.specs.Octet.{bits_of};
 
 use crate::line_fault::LineFault;
 use crate::piece::Piece;
 use crate::place_limit::PlaceLimit;
 use arrayvec::ArrayVec;
-use bus_bits::Spent;
+use bus_bits::{Spent, reversed};
 use bus_fcs::Check;
 use event::Event;
+use late::has_six;
 use std::marker::Model;
 
 /// The first place that no bit can have.
@@ -74,8 +78,9 @@ impl<C: Check> Model for LineDecoder<C> {
 impl<C: Check> LineDecoder<C> {
     ghost use Rattle.bus_line.specs.contracts.decoder.LineDecoder.{the_row};
     ghost use Rattle.bus_line.specs.LineState.{LineState};
-    ghost use Rattle.bus_line.specs.After.{After, Tracks, Lags, Pushed, FitsFrame, shown, event_shown};
+    ghost use Rattle.bus_line.specs.After.{After, Tracks, Lags, Pushed, Passed, FitsFrame, shown, event_shown};
     ghost use Rattle.bus_line.specs.Report.{moved};
+    ghost use Rattle.bus_line.specs.Late.{IsCalm};
 
     /// A decoder that took no bit, whose first bit has the place `origin`.
     ///
@@ -157,6 +162,27 @@ impl<C: Check> LineDecoder<C> {
         }
         self.shift(bit);
         self.settle();
+        true
+    }
+
+    /// Takes the eight bits of an octet at once, the lowest first, if none of them stands behind six
+    /// 1 bits or more and so none can decide a report. Else, and where a bit's place would be 2^60, it
+    /// answers false and changes nothing: `pass` and `push` take these bits.
+    #[inline(always)]
+    pub fn pass_octet(&mut self, octet: u8) -> bool
+        ensures passes { (b : List Bool) → After C.folded C.COST self.old b → (IsTrue result ↔ ((self.old.place + 8 ≤ 2 ^ 60) × IsCalm b (bits_of 8 octet))) }
+        ensures limit { IsTrue result → self.old.place + 8 ≤ 2 ^ 60 }
+        ensures place { IsTrue result → self.new.place ≡ self.old.place + 8 }
+        ensures passed { IsTrue result → Passed C.folded C.COST self.old (bits_of 8 octet) self.new }
+        ensures kept { result ≡ false → self.new ≡ self.old }
+    {
+        let window = self.window << 8 | u32::from(reversed(octet));
+        if has_six(window) || self.place > PLACES - 8 {
+            return false;
+        }
+        self.place += 8;
+        self.window = window;
+        self.settle_octet();
         true
     }
 

@@ -85,12 +85,12 @@ impl<C: Check> LineDecoder<C> {
 
     /// Stores a full octet, as long as the frame buffer has room. The first octet of a piece
     /// empties the buffer.
-    #[inline(never)]
-    fn store(&mut self)
+    pub(crate) fn store(&mut self)
         requires { self.old.spent.stored < self.old.spent.assembled }
         ensures holds { (bits : List Bool) (x : Bool) → Fills C.folded self.old bits x → Holds C.folded self.new (bits ++ x ∷ []) }
         ensures spent { (bits : List Bool) (x : Bool) → Fills C.folded self.old bits x →
             self.new.spent ≡ (if nat_le self.old.gathered (8 * (self.old.longest + 2)) then record self.old.spent { stored = self.old.spent.stored + 1; folded = self.old.spent.folded + C.COST } else self.old.spent) }
+        ensures assembled { self.new.spent.assembled ≡ self.old.spent.assembled }
         ensures kept { self.new ≡ record self.old { octets = self.new.octets; check = self.new.check; spent = self.new.spent } }
     {
         if self.gathered == 8 {

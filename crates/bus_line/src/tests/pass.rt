@@ -27,6 +27,23 @@ const BEHIND: [(&str, bool); 16] = [
     ("01111110 00001000 011111111111111", false),
 ];
 
+/// Each list of bits, an octet behind it, and whether its bits are passed at once.
+const OCTETS: [(&str, u8, bool); 13] = [
+    ("", 0x00, true),
+    ("", 0x1f, true),
+    ("", 0xfc, true),
+    ("", 0x3f, false),
+    ("", 0x7e, false),
+    ("", 0xff, false),
+    ("11111", 0x00, true),
+    ("11111", 0x01, false),
+    ("111111", 0x00, false),
+    ("1111111", 0x00, false),
+    ("01111110", 0x10, true),
+    ("01111110", 0x7e, false),
+    ("01111110 00001000 011111 0", 0xbe, true),
+];
+
 fn passes_behind<C: Check>(rt: &impl Abort, alloc: Global) -> Result<(), Fail> {
     for (text, want) in BEHIND {
         for bit in [false, true] {
@@ -69,6 +86,31 @@ fn at_the_place_limit(rt: HostRuntime) -> Result<(), Fail> {
         for _ in 0..2 {
             assert!(&rt; !decoder.pass(true), "room {room}");
             assert_eq!(&rt; decoder.place(), far, "room {room}");
+        }
+    }
+    Ok(())
+}
+
+/// An octet is passed exactly where none of its bits stands behind six ones or more, and all have a
+/// place.
+#[test]
+fn octets_at_once(rt: HostRuntime) -> Result<(), Fail> {
+    for (text, octet, want) in OCTETS {
+        let bits = bits_of(rt.alloc(), text)?;
+        for room in [7, 8] {
+            let end = bits.len() as u64 + room;
+            let mut decoder = LineDecoder::<OctetCheck>::new(3, (1 << 60) - end)?;
+            for before in &bits {
+                decoder.push(*before)?;
+            }
+            let count = decoder.place();
+            let want = want && room == 8;
+            assert_eq!(&rt; decoder.pass_octet(octet), want, "{octet} behind {text}");
+            assert_eq!(&rt;
+                decoder.place(),
+                if want { count + 8 } else { count },
+                "{octet} behind {text}"
+            );
         }
     }
     Ok(())
