@@ -6,7 +6,7 @@ use Rattle.bus_bits.specs.declared.spent.Spent.{Spent}
 use Rattle.bus_line.specs.Due.{reports, placed}
 use Rattle.bus_line.specs.Ledger.{IsLedger as IsLineLedger}
 use Rattle.bus_line.specs.LineState.{LineState}
-use Rattle.bus_line.specs.After.{After, Pushed, ShowsHeld, report_of, shown}
+use Rattle.bus_line.specs.After.{After, Pushed, Passed, ShowsHeld, report_of, shown}
 use Rattle.bus_line.specs.declared.piece.Piece.{Piece}
 use Rattle.bus_line.specs.declared.piece.Piece.TheVariants as piece
 use Rattle.bus_dictionary.specs.Dictionary.{longest_of}
@@ -64,6 +64,26 @@ pub sees-passed : {C : Type 0} (folded : C → List ℕ → Type 0) (cost : ℕ)
     → ((b : List Bool) → After folded cost old.decoder b → placed old.decoder.origin old.decoder.longest (b ++ bit ∷ []) ≡ placed old.decoder.origin old.decoder.longest b)
     → new.journal ≡ old.journal → Sees folded cost old (bit ∷ []) [] new
 sees-passed folded cost old new bit p more same = sees-none folded cost old new bit p (λ b h. more b h ∙ sym (append-nil (placed old.decoder.origin old.decoder.longest b))) same
+
+-- bits that were passed
+pub sees-passed_on : {C : Type 0} (folded : C → List ℕ → Type 0) (cost : ℕ) (old new : AnalyserState C) (bits : List Bool)
+    → Passed folded cost old.decoder bits new.decoder → new.journal ≡ old.journal → Sees folded cost old bits [] new
+sees-passed_on folded cost old new bits p same = record {
+  stands = λ b s.
+      let grown : line old (b ++ bits) ≡ line old b = rw (← s.longest) (p.more b s.decoder) in
+      record {
+        decoder = p.after b s.decoder;
+        longest = p.longest ∙ s.longest ∙ ap (λ (j : JournalState). longest_of j.dictionary) (sym same);
+        journal = rw (same, p.origin, grown) s.journal;
+      };
+  seen = λ b s.
+      let grown : line old (b ++ bits) ≡ line old b = rw (← s.longest) (p.more b s.decoder) in
+      ap (seen old.journal.dictionary) grown ∙ sym (append-nil (seen_after old b));
+  dictionary = ap (λ (j : JournalState). j.dictionary) same;
+  depth = ap (λ (j : JournalState). j.depth) same;
+  origin = p.origin;
+  place = p.place;
+}
 
 -- a bit that decides a report
 pub sees-some : {C : Type 0} (folded : C → List ℕ → Type 0) (cost : ℕ) (old new : AnalyserState C) (bit : Bool) (piece : Piece) (told : SeenReport)

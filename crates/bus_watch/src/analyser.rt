@@ -9,6 +9,8 @@ ghost use Rattle.std.specs.Io.BufRead.{Rests};
 ghost use Rattle.bus_line.specs.Due.{begun};
 ghost use Rattle.bus_line.specs.Ledger.{stored_from};
 ghost use Rattle.bus_line.specs.Run.{ones_at_end};
+ghost use Rattle.bus_line.specs.Late.{IsCalm};
+ghost use Rattle.bus_bits.specs.Octet.{bits_of};
 ghost use Rattle.bus_dictionary.specs.Dictionary.{longest_of};
 
 use crate::counts::Counts;
@@ -162,6 +164,20 @@ impl<C: Check> Analyser<C> {
         ensures kept { result ≡ false → self.new ≡ self.old }
     {
         self.decoder.pass(bit)
+    }
+
+    /// Takes the eight bits of an octet at once, the lowest first, if none of them stands behind six
+    /// 1 bits or more and so none can decide a report. Else, and where a bit's place would be 2^60, it
+    /// answers false and changes nothing: `pass` and `push` take these bits.
+    #[inline(always)]
+    pub fn pass_octet(&mut self, octet: u8) -> bool
+        ensures passes { (b : List Bool) → Stands C.folded C.COST self.old b → (IsTrue result ↔ ((self.old.decoder.place + 8 ≤ 2 ^ 60) × IsCalm b (bits_of 8 octet))) }
+        ensures limit { IsTrue result → self.old.decoder.place + 8 ≤ 2 ^ 60 }
+        ensures place { IsTrue result → self.new.decoder.place ≡ self.old.decoder.place + 8 }
+        ensures passed { IsTrue result → Sees C.folded C.COST self.old (bits_of 8 octet) [] self.new }
+        ensures kept { result ≡ false → self.new ≡ self.old }
+    {
+        self.decoder.pass_octet(octet)
     }
 
     /// A frame of the history, of which the oldest has the number 0.

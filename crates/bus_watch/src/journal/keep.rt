@@ -24,8 +24,8 @@ impl Journal {
         let mut copy = ArrayVec::new();
         for octet in octets {
             copy.push(*octet);
-            self.spent.tick_copied();
         }
+        self.spent.copied += octets.len() as u64;
         self.spent.tick_handled();
         self.history.push_back(Kept { span, octets: copy });
     }
