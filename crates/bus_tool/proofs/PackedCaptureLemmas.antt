@@ -122,3 +122,9 @@ head-filled items xs os h n e k short enough is =
 -- a slice to the end
 pub slice-rest : (k : ℕ) (os : List ℕ) → take (length os - k) (drop k os) ≡ drop k os
 slice-rest k os = grind (arith, common_steps)
+
+-- what is kept was followed as before
+pub kept-both : {C : Type 0} (folded : C → List ℕ → Type 0) (cost : ℕ) (start now : Option (List ℕ)) (old new : ℕ) (w v : Watch C) (xs : List ℕ)
+    → (new ≡ old) × (v ≡ w) → FollowsBody folded cost start now old w xs → FollowsBody folded cost start now new v xs
+kept-both folded cost start now old new w v xs k f =
+    subst (λ n. FollowsBody folded cost start now n v xs) (sym k.0) (subst (λ u. FollowsBody folded cost start now old u xs) (sym k.1) f)

@@ -1,5 +1,7 @@
 -- Text captures, one octet more at a time.
-use Rattle.std.proofs.Common.{◌≡◌, ℕ, ◌+◌, ◌<◌, ◌≤◌, ◌^◌, Bool, List, [], ◌∷◌, ◌++◌, length, take, drop, get_or, Option, None, refl, sym, subst, arith, append-nil, true, Result, Ok, Err, MatchResult}
+use Rattle.std.proofs.Common.{◌≡◌, ℕ, ◌+◌, ◌-◌, ◌<◌, ◌≤◌, ◌^◌, Bool, List, [], ◌∷◌, ◌++◌, length, take, drop, get_or, Option, None, refl, sym, ap, ◌∙◌, subst, arith, append_assoc, append-nil, true, Result, Ok, Err, MatchResult}
+use Rattle.std.proofs.Math.Seq.{take-add}
+use Rattle.std.proofs.lemmas.List.{take_all, length-drop}
 use Rattle.std.proofs.lemmas.Grind.{common_steps}
 use Rattle.bus_tool.specs.Watching.{Watches, Halts}
 use Rattle.bus_tool.specs.Sessions.{FollowsMarks, Stops}
@@ -14,6 +16,12 @@ octet-middle xs os i x h is = grind (arith, common_steps)
 
 pub octet-next : (xs os : List ℕ) (i x : ℕ) → i < length os → x ≡ get_or os i 0 → (xs ++ take i os) ++ x ∷ [] ≡ xs ++ take (i + 1) os
 octet-next xs os i x h is = grind (arith, common_steps)
+
+-- the eight octets behind those before it
+pub eight-next : (xs os : List ℕ) (i : ℕ) → (xs ++ take i os) ++ take 8 (take (length os - i) (drop i os)) ≡ xs ++ take (i + 8) os
+eight-next xs os i =
+    append_assoc xs (take i os) _ ∙ ap (λ (ys : List ℕ). xs ++ (take i os ++ take 8 ys)) (take_all (length os - i) (drop i os) (omega (arith, length-drop i os)))
+    ∙ ap (λ (ys : List ℕ). xs ++ ys) (sym (take-add i 8 os))
 
 -- how many octets stand before it
 pub octets-before : (xs os : List ℕ) (i : ℕ) → i < length os → length (xs ++ take i os) ≡ length xs + i
@@ -40,3 +48,8 @@ pub mark-taken : {C : Type 0} (folded : C → List ℕ → Type 0) (cost : ℕ) 
 mark-taken folded cost start now w xs b (Ok u) low clean is h = record { clean = clean; bits = subst (Watches folded cost start now w) (sym is) h }
 mark-taken folded cost start now w xs b (Err f) low clean is h =
     halts-stops folded cost start now w (text_capture xs) f low (subst (λ (x : List Bool). Halts folded cost start now w x f) (sym is) h)
+
+-- what is kept was followed as before
+pub kept-marks : {C : Type 0} (folded : C → List ℕ → Type 0) (cost : ℕ) (start now : Option (List ℕ)) (w v : Watch C) (xs : List ℕ)
+    → v ≡ w → FollowsMarks folded cost start now w xs → FollowsMarks folded cost start now v xs
+kept-marks folded cost start now w v xs k f = subst (λ u. FollowsMarks folded cost start now u xs) (sym k) f

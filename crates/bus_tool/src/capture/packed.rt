@@ -1,6 +1,6 @@
 //! Takes the octets of a packed capture.
 
-ghost use Rattle.std.specs.Prelude.{◌≡◌, ◌+◌, ◌≤◌, ◌<◌, ◌^◌, ℕ, List, [], ◌∷◌, ◌++◌, Option, MatchResult, Some, None, length, true, false};
+ghost use Rattle.std.specs.Prelude.{◌≡◌, ◌+◌, ◌≤◌, ◌<◌, ◌^◌, ℕ, List, [], ◌∷◌, ◌++◌, Option, MatchResult, Some, None, IsTrue, length, true, false};
 ghost use Rattle.bus_bits.specs.Capture.{CaptureFault};
 ghost use Rattle.bus_bits.specs.Packed.{PackedAfter, packed_capture, packed_whole, head_bits, head_fault, head_fault_of, packed_fault_of};
 ghost use Rattle.bus_tool.specs.Watching.{IsSound, IsSame};
@@ -47,6 +47,24 @@ fn body_fault(fault: PackedFault) -> ToolFault
     }
 }
 
+/// Takes one octet after the head if its eight bits are wanted and decide nothing, and answers whether
+/// it did; else nothing changed.
+#[inline(always)]
+fn pass_octet<C: Check>(body: &mut PackedBits, octet: u8, watch: &mut Watch<C>) -> bool
+    requires { IsSound watch.old }
+    ensures passed { IsTrue result → (start now : Option (List ℕ)) (xs : List ℕ) → FollowsBody C.folded C.COST start now body.old watch.old xs → FollowsBody C.folded C.COST start now body.new watch.new (xs ++ octet ∷ []) }
+    ensures kept { result ≡ false → (body.new ≡ body.old) × (watch.new ≡ watch.old) }
+    ensures same { IsSame watch.old watch.new }
+    ensures sound { IsSound watch.new }
+{
+    packed_is_head_and_body();
+    if body.left() < 8 || !watch.pass_octet(octet) {
+        return false;
+    }
+    body.take_whole();
+    true
+}
+
 /// Takes one octet after the head.
 #[inline(always)]
 fn take_octet<C: Check, W: Write>(
@@ -86,6 +104,9 @@ fn take_body<C: Check, W: Write>(
 {
     captures_grow();
     for octet in octets {
+        if pass_octet(body, *octet, watch) {
+            continue;
+        }
         if let Err(fault) = take_octet(body, *octet, watch, w) {
             return Err(fault);
         }

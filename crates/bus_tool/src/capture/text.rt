@@ -1,6 +1,6 @@
 //! Takes the octets of a text capture.
 
-ghost use Rattle.std.specs.Prelude.{◌≡◌, ◌+◌, ◌<◌, ◌^◌, ℕ, List, [], ◌∷◌, ◌++◌, Option, MatchResult, OnOk, IsTrue, length, true, false};
+ghost use Rattle.std.specs.Prelude.{◌≡◌, ◌+◌, ◌≤◌, ◌<◌, ◌^◌, ℕ, List, [], ◌∷◌, ◌++◌, Option, MatchResult, OnOk, IsTrue, length, take, true, false};
 ghost use Rattle.bus_tool.specs.Watching.{IsSound, IsSame};
 ghost use Rattle.bus_tool.specs.Sessions.{FollowsMarks, FollowsText, Stops};
 
@@ -16,6 +16,23 @@ use std::io::Write;
 pub struct TextCapture {
     /// How many octets were taken.
     pub at: u128,
+}
+
+/// Takes the first eight octets at once if they are bits and decide nothing, and answers whether it
+/// did; else nothing changed.
+#[inline(always)]
+fn pass_eight<C: Check>(octets: &[u8], watch: &mut Watch<C>) -> bool
+    requires { IsSound watch.old }
+    ensures enough { IsTrue result → 8 ≤ length octets.now }
+    ensures passed { IsTrue result → (start now : Option (List ℕ)) (xs : List ℕ) → FollowsMarks C.folded C.COST start now watch.old xs → FollowsMarks C.folded C.COST start now watch.new (xs ++ take 8 octets.now) }
+    ensures kept { result ≡ false → watch.new ≡ watch.old }
+    ensures same { IsSame watch.old watch.new }
+    ensures sound { IsSound watch.new }
+{
+    match TextBits::eight(octets) {
+        Some(octet) => watch.pass_octet(octet),
+        None => false,
+    }
 }
 
 /// Takes one octet if it decides nothing, and answers whether it did; else nothing changed.
@@ -75,13 +92,21 @@ impl TextCapture {
         ensures sound { IsSound watch.new }
     {
         captures_grow();
-        for (i, octet) in octets.iter().enumerate() {
-            if pass_one(*octet, watch) {
+        let mut taken = 0;
+        while taken < octets.len() {
+            if pass_eight(&octets[taken..], watch) {
+                taken += 8;
                 continue;
             }
-            if let Err(fault) = take_one(*octet, self.at + i as u128, watch, w) {
+            let octet = octets[taken];
+            if pass_one(octet, watch) {
+                taken += 1;
+                continue;
+            }
+            if let Err(fault) = take_one(octet, self.at + taken as u128, watch, w) {
                 return Err(fault);
             }
+            taken += 1;
         }
         self.at += octets.len() as u128;
         Ok(())

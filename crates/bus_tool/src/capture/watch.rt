@@ -2,6 +2,7 @@
 
 ghost use Rattle.std.specs.Io.KnownBytes.{Appends};
 ghost use Rattle.arrayvec.specs.ArrayString.{array_string_len};
+ghost use Rattle.bus_bits.specs.Octet.{bits_of};
 ghost use Rattle.bus_tool.specs.Watching.{ended};
 ghost use Rattle.std.specs.Prelude.{◌≡◌, ◌+◌, ◌≤◌, ℕ, List, Bool, [], ◌∷◌, ◌++◌, Option, MatchResult, IsTrue, false};
 
@@ -50,6 +51,19 @@ impl<C: Check> Watch<C> {
         ensures sound { IsSound self.new }
     {
         self.analyser.pass(bit)
+    }
+
+    /// Takes the eight bits of an octet at once, the lowest first, if they can decide nothing, and
+    /// answers whether it did; else nothing changed.
+    #[inline(always)]
+    pub fn pass_octet(&mut self, octet: u8) -> bool
+        requires { IsSound self.old }
+        ensures passed { IsTrue result → (start now : Option (List ℕ)) (b : List Bool) → Watches C.folded C.COST start now self.old b → Watches C.folded C.COST start now self.new (b ++ bits_of 8 octet) }
+        ensures kept { result ≡ false → self.new ≡ self.old }
+        ensures same { IsSame self.old self.new }
+        ensures sound { IsSound self.new }
+    {
+        self.analyser.pass_octet(octet)
     }
 
     /// Takes the next bit.
