@@ -99,7 +99,7 @@ fn octets_at_once(rt: HostRuntime) -> Result<(), Fail> {
         let bits = bits_of(rt.alloc(), text)?;
         for room in [7, 8] {
             let end = bits.len() as u64 + room;
-            let mut decoder = LineDecoder::<OctetCheck>::new(3, (1 << 60) - end)?;
+            let mut decoder = LineDecoder::<OctetCheck>::new(3, (1u64 << 60).saturating_sub(end))?;
             for before in &bits {
                 decoder.push(*before)?;
             }
