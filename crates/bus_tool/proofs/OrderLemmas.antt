@@ -11,9 +11,7 @@ use Rattle.bus_line.specs.EncoderState.{EncoderState}
 use Rattle.bus_line.specs.Encoding.{AfterCalls, Refused}
 use Rattle.bus_line.specs.declared.encode_fault.EncodeFault.{EncodeFault}
 use Rattle.bus_line.specs.declared.encode_fault.EncodeFault.TheVariants.{Ended, LengthRange, Sink}
-use Rattle.bus_line.proofs.EncoderLemmas.{frame-few}
 use Rattle.bus_tool.specs.Encode.{sized_frame, decoded_frame, line_call, is_text}
-use Rattle.bus_tool.specs.EncodeState.{IsSized}
 use Rattle.bus_tool.specs.declared.fault.ToolFault.{ToolFault}
 use Rattle.bus_tool.specs.declared.fault.ToolFault.TheVariants.{BadLine, FrameLength}
 use Rattle.bus_tool.specs.declared.encode.bits.CallBits.{CallBits}
@@ -122,13 +120,14 @@ some_calls e going = cases e.behind_flag refl
     cases false is = ([], record { going = going; last = is })
 
 -- no call has more bits than there is room for
-pub call_fits : (call : Call) (before : Option Call) → IsSized call → length (added before call) ≤ 2492
-call_fits Flag before s = omega arith
-call_fits Idle before s = omega arith
-call_fits (Frame o) before s = frame-few before o s.1
+abbrev pub Fits : Call → Type 0
+Fits call = (before : Option Call) → length (added before call) ≤ 2492
 
-pub gain_fits : (calls : List Call) (call : Call) → IsSized call → length (gain calls call) ≤ 2492
-gain_fits calls call s = call_fits call (last_or None calls) s
+pub flag_fits : Fits Flag
+flag_fits before = omega arith
+
+pub idle_fits : Fits Idle
+idle_fits before = omega arith
 
 abbrev pub bits_taken : CallBits → Option (List Bool)
 bits_taken sink = Some sink.bits.items
@@ -136,27 +135,27 @@ bits_taken sink = Some sink.bits.items
 abbrev pub bits_refused : CallBits → ℕ
 bits_refused sink = sink.refused
 
-never_refused : (call : Call) (written : ℕ) (old new : EncoderState) (before after : CallBits) → old.ended ≡ false → IsSized call → before.bits.items ≡ [] → before.refused ≡ 0
+never_refused : (call : Call) (written : ℕ) (old new : EncoderState) (before after : CallBits) → old.ended ≡ false → Fits call → before.bits.items ≡ [] → before.refused ≡ 0
     → Refused bits_taken bits_refused call written old new before after → ⊥
-never_refused call written old new before after going sized empty none r =
+never_refused call written old new before after going fits empty none r =
     let s = some_calls old going in
     let within = r.within s.0 s.1 in
     let took : after.bits.items ≡ before.bits.items ++ take written (gain s.0 call) = let t = r.took s.0 s.1 in cc in
     let full : length after.bits.items ≡ 2492 = after.full (omega (arith, r.failed)) in
     let count : length after.bits.items ≤ written = rw took (rw empty (length_take (gain s.0 call) written)) in
-    omega (arith, full, count, within, gain_fits s.0 call sized)
+    omega (arith, full, count, within, fits (last_or None s.0))
   where
     length_take : (b : List Bool) (k : ℕ) → length ([] ++ take k b) ≤ k
     length_take b k = simp length-take (omega arith)
 
 -- there is room for the bits of a call
-pub never_fails : (call : Call) (old new : EncoderState) (before after : CallBits) (r : Result (Unit {0}) EncodeFault) (e : EncodeFault) → r ≡ Err e → old.ended ≡ false → IsSized call
+pub never_fails : (call : Call) (old new : EncoderState) (before after : CallBits) (r : Result (Unit {0}) EncodeFault) (e : EncodeFault) → r ≡ Err e → old.ended ≡ false → Fits call
     → before.bits.items ≡ [] → before.refused ≡ 0 → (r ≡ Err Ended → IsTrue old.ended) → (r ≡ Err LengthRange → ⊥)
     → ((written : ℕ) → r ≡ Err (Sink written) → Refused bits_taken bits_refused call written old new before after) → ⊥
-never_fails call old new before after r Ended is going sized empty none ended range refused = let t : old.ended ≡ true = ended is in cc
-never_fails call old new before after r LengthRange is going sized empty none ended range refused = range is
-never_fails call old new before after r (Sink written) is going sized empty none ended range refused =
-    never_refused call written old new before after going sized empty none (refused written is)
+never_fails call old new before after r Ended is going fits empty none ended range refused = let t : old.ended ≡ true = ended is in cc
+never_fails call old new before after r LengthRange is going fits empty none ended range refused = range is
+never_fails call old new before after r (Sink written) is going fits empty none ended range refused =
+    never_refused call written old new before after going fits empty none (refused written is)
 
 pub all_bits : (i : ℕ) (bits : List Bool) → length bits ≤ i → take i bits ≡ bits
 all_bits i bits h = grind (arith, common_steps)

@@ -1,5 +1,5 @@
 -- The lines of a listing, and its text.
-use Rattle.std.specs.Prelude.{Bool, true, false, ℕ, ◌+◌, ◌/◌, ◌%◌, ◌==◌, ◌&&◌, List, [], ◌∷◌, ◌++◌, length, decimal, codes, filter, if◌then◌else◌, nat_lt, Option, Some, None, option_map}
+use Rattle.std.specs.Prelude.{Bool, true, false, ℕ, ◌+◌, ◌/◌, ◌%◌, ◌==◌, ◌&&◌, List, [], ◌∷◌, ◌++◌, decimal, codes, filter, if◌then◌else◌, nat_lt, Option, Some, None, option_map}
 use Rattle.std.specs.List.{flat_map}
 use Rattle.std.specs.Option.{option_to_list}
 use Rattle.bus_bits.specs.declared.span.Span.{Span}
@@ -55,15 +55,6 @@ report_kind (report.Damaged cause) = kind.Damaged
 report_kind report.Overlong = kind.Overlong
 report_kind report.Abort = kind.Abort
 report_kind report.Idle = kind.Idle
-
--- the octets of a frame; nothing else has any
-abbrev pub octets_of : report.Kind → List ℕ
-octets_of (report.Frame octets) = octets
-octets_of kind = []
-
--- how many octets a report holds
-abbrev pub octets_held : Report → ℕ
-octets_held r = length (octets_of r.kind)
 
 -- two places, each with a space behind it
 abbrev pub span_text : Span → List ℕ

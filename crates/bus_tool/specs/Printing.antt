@@ -3,7 +3,7 @@ use Rattle.std.specs.Prelude.{ℕ, Bool, List, [], ◌++◌, codes, option_map, 
 use Rattle.std.specs.Option.{option_to_list}
 use Rattle.bus_dictionary.specs.Entry.{FrameType}
 use Rattle.bus_watch.specs.Seen.{SeenReport, type_of}
-use Rattle.bus_tool.specs.Listing.{text_of, passes, report_kind, report_word, span_text, span_of, station_of, head_part, verdict_line, stray_lines, seen_lines}
+use Rattle.bus_tool.specs.Listing.{text_of, passes, report_kind, report_word, span_text, span_of, station_of, head_part, verdict_line, stray_lines}
 use Rattle.bus_tool.specs.declared.capture.printer.Printer.{Printer}
 use Rattle.bus_tool.specs.declared.capture.printer.Back.{Back}
 
@@ -22,10 +22,6 @@ back_text p d s = if is_fronted p s then head_part p.heads d s.standing ++ codes
 -- the lines behind it
 abbrev pub behind_text : Printer → SeenReport → List ℕ
 behind_text p s = text_of p.filter (option_to_list (option_map verdict_line s.verdict)) ++ text_of p.filter (stray_lines p.heads s)
-
--- all lines of a report
-abbrev pub seen_text : Printer → List FrameType → SeenReport → List ℕ
-seen_text p d s = text_of p.filter (seen_lines p.heads d s)
 
 -- what is told of a report when its front was put on a page
 abbrev pub back_of : Printer → SeenReport → Back

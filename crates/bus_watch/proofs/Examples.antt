@@ -2,16 +2,15 @@
 use Rattle.std.proofs.Common.{◌≡◌, ℕ, Bool, true, false, List, [], ◌∷◌, Option, Some, None, codes, refl}
 use Rattle.bus_bits.specs.Octet.{number, octets}
 use Rattle.bus_bits.specs.Capture.{text_bits}
-use Rattle.bus_bits.specs.declared.span.Span.{Span}
 use Rattle.bus_fcs.specs.Division.{add, step, divided, remainder}
 use Rattle.bus_fcs.specs.FrameCheck.{ends_inverted, is_good}
 use Rattle.bus_line.specs.Report.{Report, Frame, Damaged, Idle}
 use Rattle.bus_line.specs.declared.cause.Cause.TheVariants.{Short}
-use Rattle.bus_line.specs.Due.{placed, reports}
+use Rattle.bus_line.specs.Due.{placed}
 use Rattle.bus_dictionary.specs.Entry.{FrameType}
 use Rattle.bus_dictionary.specs.declared.standing.Standing.{Standing}
 use Rattle.bus_dictionary.specs.declared.standing.Standing.TheVariants.{Unknown, Known}
-use Rattle.bus_watch.specs.Talk.{verdicts, pending}
+use Rattle.bus_watch.specs.Talk.{pending}
 use Rattle.bus_watch.specs.Seen.{SeenReport, seen}
 use Rattle.bus_watch.specs.History.{tally, history}
 use Rattle.bus_watch.specs.Ledger.{handled}

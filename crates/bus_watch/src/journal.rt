@@ -80,9 +80,7 @@ impl Journal {
         match piece {
             Piece::Frame { span, octets } => self.frame(span, octets),
             Piece::Idle { .. } => self.idle(),
-            Piece::Damaged { .. } => self.damage(),
-            Piece::Overlong { .. } => self.damage(),
-            Piece::Abort { .. } => self.damage(),
+            Piece::Damaged { .. } | Piece::Overlong { .. } | Piece::Abort { .. } => self.damage(),
         }
     }
 

@@ -4,10 +4,11 @@ ghost use Rattle.std.specs.Prelude.{◌≡◌, ◌+◌, [], ◌∷◌, ◌++◌,
 ghost use Rattle.std.specs.Option.{option_to_list};
 ghost use Rattle.arrayvec.specs.ArrayString.{array_string_len};
 ghost use Rattle.bus_line.specs.After.{report_of};
+ghost use Rattle.bus_line.specs.Ledger.{octet_count};
 ghost use Rattle.bus_watch.specs.Seen.{SeenReport, type_in};
 ghost use Rattle.bus_watch.specs.Shown.{shown};
 ghost use Rattle.bus_tool.specs.Given.{printer_of};
-ghost use Rattle.bus_tool.specs.Listing.{octets_held, span_of, report_kind, outcome_kind, station_in, frame_line, verdict_line, begun_line, pending_line, strays_at, head_part, text_of, ending_text};
+ghost use Rattle.bus_tool.specs.Listing.{span_of, report_kind, outcome_kind, station_in, frame_line, verdict_line, begun_line, pending_line, strays_at, head_part, text_of, ending_text};
 ghost use Rattle.bus_tool.specs.Printing.{back_of, front_text, back_text, behind_text};
 
 use crate::filter::Filter;
@@ -133,7 +134,7 @@ impl Printer {
     #[inline(never)]
     pub fn put_front(&self, seen: &Seen<'_>, page: &mut Page) -> Back
         requires room { array_string_len page.old.text + 564 ≤ 16384 }
-        requires held { octets_held (shown seen.now).report ≤ 258 }
+        requires held { octet_count (shown seen.now).report ≤ 258 }
         ensures bytes { page.new.text.bytes ≡ page.old.text.bytes ++ front_text self.now (shown seen.now) }
         ensures len { array_string_len page.new.text ≤ array_string_len page.old.text + 564 }
         ensures written { page.new.written ≡ page.old.written }

@@ -308,61 +308,63 @@ fn encoded_is_listed(rt: HostRuntime) -> Result<(), Fail> {
     see(&rt, rt.alloc(), &words, bits.as_slice(), (0, text, ""))
 }
 
+/// Words of a command line, and a part of what is told of them.
+const REFUSED_WORDS: [(&[&str], &str); 22] = [
+    (&["nonsense"], "unrecognized subcommand 'nonsense'"),
+    (&["--bits"], "unexpected argument '--bits'"),
+    (&["list", "more"], "unexpected argument 'more'"),
+    (&["list", "--nonsense"], "Usage: port1 list [OPTIONS]\n"),
+    (&["list", "--depth", "1"], "unexpected argument '--depth'"),
+    (
+        &["list", "--dict"],
+        "a value is required for '--dict <TEXT>'",
+    ),
+    (
+        &["list", "--origin", "x"],
+        "invalid value 'x' for '--origin <N>'",
+    ),
+    (
+        &["list", "--origin", "1152921504606846977"],
+        "is not in 0..=1152921504606846976",
+    ),
+    (
+        &["list", "--origin=-1"],
+        "invalid value '-1' for '--origin <N>'",
+    ),
+    (&["list", "--station", "256"], "256 is not in 0..=255"),
+    (&["list", "--type=256"], "256 is not in 0..=255"),
+    (&["check", "--depth", "0"], "0 is not in 1..=1024"),
+    (&["check", "--depth", "1025"], "1025 is not in 1..=1024"),
+    (
+        &["check", "--origin", "1152921504606846977"],
+        "is not in 0..=",
+    ),
+    (
+        &["check", "--kind", "frame"],
+        "Usage: port1 check [OPTIONS]\n",
+    ),
+    (&["show"], "Usage: port1 show <HEX>\n"),
+    (&["show", "10", "83"], "unexpected argument '83'"),
+    (&["encode", "more"], "Usage: port1 encode\n"),
+    (&["list", "--kind", "Frame"], "port1: unknown kind\n"),
+    (
+        &["list", "--kind", "", "--dict", ""],
+        "port1: unknown kind\n",
+    ),
+    (
+        &["list", "--kind", "begun", "--bits"],
+        "port1: unknown kind\n",
+    ),
+    (
+        &["list", "--kind", "x", "--station", "y"],
+        "invalid value 'y'",
+    ),
+];
+
 /// Faults of the command line, the word of a kind the last of them. Nothing is read or written.
 #[test]
 fn refused_words(rt: HostRuntime) -> Result<(), Fail> {
-    let cases: [(&[&str], &str); 22] = [
-        (&["nonsense"], "unrecognized subcommand 'nonsense'"),
-        (&["--bits"], "unexpected argument '--bits'"),
-        (&["list", "more"], "unexpected argument 'more'"),
-        (&["list", "--nonsense"], "Usage: port1 list [OPTIONS]\n"),
-        (&["list", "--depth", "1"], "unexpected argument '--depth'"),
-        (
-            &["list", "--dict"],
-            "a value is required for '--dict <TEXT>'",
-        ),
-        (
-            &["list", "--origin", "x"],
-            "invalid value 'x' for '--origin <N>'",
-        ),
-        (
-            &["list", "--origin", "1152921504606846977"],
-            "is not in 0..=1152921504606846976",
-        ),
-        (
-            &["list", "--origin=-1"],
-            "invalid value '-1' for '--origin <N>'",
-        ),
-        (&["list", "--station", "256"], "256 is not in 0..=255"),
-        (&["list", "--type=256"], "256 is not in 0..=255"),
-        (&["check", "--depth", "0"], "0 is not in 1..=1024"),
-        (&["check", "--depth", "1025"], "1025 is not in 1..=1024"),
-        (
-            &["check", "--origin", "1152921504606846977"],
-            "is not in 0..=",
-        ),
-        (
-            &["check", "--kind", "frame"],
-            "Usage: port1 check [OPTIONS]\n",
-        ),
-        (&["show"], "Usage: port1 show <HEX>\n"),
-        (&["show", "10", "83"], "unexpected argument '83'"),
-        (&["encode", "more"], "Usage: port1 encode\n"),
-        (&["list", "--kind", "Frame"], "port1: unknown kind\n"),
-        (
-            &["list", "--kind", "", "--dict", ""],
-            "port1: unknown kind\n",
-        ),
-        (
-            &["list", "--kind", "begun", "--bits"],
-            "port1: unknown kind\n",
-        ),
-        (
-            &["list", "--kind", "x", "--station", "y"],
-            "invalid value 'y'",
-        ),
-    ];
-    for (words, part) in cases {
+    for (words, part) in REFUSED_WORDS {
         let mut reader = IDLE;
         let mut out = Vec::new(rt.alloc());
         let mut err = Vec::new(rt.alloc());

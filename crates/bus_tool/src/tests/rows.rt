@@ -52,69 +52,71 @@ fn see(
     Ok(())
 }
 
+/// Parts of a capture, what is counted in it, and its listing.
+const PIECES: [(&[&str], [u64; 9], &str); 20] = [
+    (&[], NONE, ""),
+    (&["\t\r\n"], NONE, ""),
+    (&[FLAG], NONE, ""),
+    (&["011111101111110"], NONE, ""),
+    (&["1111110", CALL, FLAG], NONE, ""),
+    (&["1111110 1111110"], NONE, ""),
+    (&[FLAG, SHORT, FLAG], DAMAGED, "8 32 damaged short\n"),
+    (
+        &[FLAG, SHORT, "00000000", FLAG],
+        DAMAGED,
+        "8 40 damaged fcs\n",
+    ),
+    (
+        &[FLAG, SHORT, "000000000", FLAG],
+        DAMAGED,
+        "8 41 damaged unaligned\n",
+    ),
+    (
+        &[FLAG, "00011111", FLAG],
+        DAMAGED,
+        "8 16 damaged unstuffed\n",
+    ),
+    // The buffer exactly full; past it; past it and cut in other ways.
+    (
+        &[FLAG, SHORT, "0000000000000000", FLAG],
+        DAMAGED,
+        "8 48 damaged fcs\n",
+    ),
+    (
+        &[FLAG, LONG, FLAG],
+        [0, 0, 1, 0, 0, 0, 0, 0, 0],
+        "8 56 overlong\n",
+    ),
+    (
+        &[FLAG, LONG, "11111", FLAG],
+        DAMAGED,
+        "8 61 damaged unstuffed\n",
+    ),
+    (&[FLAG, LONG, "1111111"], ABORT, "8 56 abort\n"),
+    (&[FLAG, "00001000 1111111"], ABORT, "8 16 abort\n"),
+    (
+        &[FLAG, "00001000", IDLE],
+        [0, 0, 0, 1, 1, 0, 0, 0, 0],
+        "8 16 abort\n16 31 idle\n",
+    ),
+    (&[IDLE], [0, 0, 0, 0, 1, 0, 0, 0, 0], "0 15 idle\n"),
+    (&[FLAG, "00001"], NONE, "8 13 open\n"),
+    // A frame with one bit flipped, and one with the octets of its check exchanged.
+    (
+        &[FLAG, "00001000 11000001 10000000 101111101 10100111", FLAG],
+        DAMAGED,
+        "8 49 damaged fcs\n",
+    ),
+    (
+        &[FLAG, "00001000 11000001 00000000 10100111 101111101", FLAG],
+        DAMAGED,
+        "8 49 damaged fcs\n",
+    ),
+];
+
 #[test]
 fn pieces(rt: HostRuntime) -> Result<(), Fail> {
-    let cases: [(&[&str], [u64; 9], &str); 20] = [
-        (&[], NONE, ""),
-        (&["\t\r\n"], NONE, ""),
-        (&[FLAG], NONE, ""),
-        (&["011111101111110"], NONE, ""),
-        (&["1111110", CALL, FLAG], NONE, ""),
-        (&["1111110 1111110"], NONE, ""),
-        (&[FLAG, SHORT, FLAG], DAMAGED, "8 32 damaged short\n"),
-        (
-            &[FLAG, SHORT, "00000000", FLAG],
-            DAMAGED,
-            "8 40 damaged fcs\n",
-        ),
-        (
-            &[FLAG, SHORT, "000000000", FLAG],
-            DAMAGED,
-            "8 41 damaged unaligned\n",
-        ),
-        (
-            &[FLAG, "00011111", FLAG],
-            DAMAGED,
-            "8 16 damaged unstuffed\n",
-        ),
-        // The buffer exactly full; past it; past it and cut in other ways.
-        (
-            &[FLAG, SHORT, "0000000000000000", FLAG],
-            DAMAGED,
-            "8 48 damaged fcs\n",
-        ),
-        (
-            &[FLAG, LONG, FLAG],
-            [0, 0, 1, 0, 0, 0, 0, 0, 0],
-            "8 56 overlong\n",
-        ),
-        (
-            &[FLAG, LONG, "11111", FLAG],
-            DAMAGED,
-            "8 61 damaged unstuffed\n",
-        ),
-        (&[FLAG, LONG, "1111111"], ABORT, "8 56 abort\n"),
-        (&[FLAG, "00001000 1111111"], ABORT, "8 16 abort\n"),
-        (
-            &[FLAG, "00001000", IDLE],
-            [0, 0, 0, 1, 1, 0, 0, 0, 0],
-            "8 16 abort\n16 31 idle\n",
-        ),
-        (&[IDLE], [0, 0, 0, 0, 1, 0, 0, 0, 0], "0 15 idle\n"),
-        (&[FLAG, "00001"], NONE, "8 13 open\n"),
-        // A frame with one bit flipped, and one with the octets of its check exchanged.
-        (
-            &[FLAG, "00001000 11000001 10000000 101111101 10100111", FLAG],
-            DAMAGED,
-            "8 49 damaged fcs\n",
-        ),
-        (
-            &[FLAG, "00001000 11000001 00000000 10100111 101111101", FLAG],
-            DAMAGED,
-            "8 49 damaged fcs\n",
-        ),
-    ];
-    for (parts, counts, text) in cases {
+    for (parts, counts, text) in PIECES {
         see(
             &rt,
             rt.alloc(),
@@ -328,79 +330,86 @@ fn filters(rt: HostRuntime) -> Result<(), Fail> {
     Ok(())
 }
 
+/// Parts of a capture, the station, the type and the kind let through, and the lines that pass.
+const FILTERED_KINDS: [(&[&str], Option<u8>, Option<u8>, Option<Kind>, &str); 12] = [
+    (
+        &[FLAG, UNTYPED, FLAG],
+        Some(16),
+        None,
+        None,
+        "8 40 frame 1083452c untyped\n",
+    ),
+    (&[FLAG, UNTYPED, FLAG], None, Some(69), None, ""),
+    (
+        &[FLAG, CONTROL_19, FLAG],
+        Some(16),
+        None,
+        None,
+        "8 40 frame 1013ccb8 control 19\n",
+    ),
+    (&[FLAG, CONTROL_19, FLAG], None, Some(204), None, ""),
+    (
+        &[FLAG, REPLY, FLAG],
+        Some(16),
+        Some(128),
+        Some(Kind::Stray),
+        "8 49 stray station 16 type 128\n",
+    ),
+    (
+        &CALL_AND_REPLY,
+        None,
+        Some(0),
+        None,
+        "8 49 frame 108300fde5 station 16 type 0 call\n8 49 answered station 16 type 0\n",
+    ),
+    (
+        &[FLAG, CALL, FLAG, "0"],
+        Some(16),
+        Some(0),
+        None,
+        ONE_CALL_TEXT,
+    ),
+    (
+        &[FLAG, CALL, FLAG, "0"],
+        None,
+        None,
+        Some(Kind::Begun),
+        "57 58 open\n",
+    ),
+    (
+        &[FLAG, CALL, FLAG, "0"],
+        None,
+        None,
+        Some(Kind::Pending),
+        "8 49 pending station 16 type 0\n",
+    ),
+    (
+        &[FLAG, CALL, FLAG, IDLE],
+        None,
+        None,
+        Some(Kind::Idle),
+        "57 72 idle\n",
+    ),
+    (
+        &[FLAG, CALL, FLAG, IDLE],
+        Some(16),
+        None,
+        Some(Kind::Idle),
+        "",
+    ),
+    (
+        &[FLAG, CALL, FLAG, IDLE],
+        None,
+        None,
+        Some(Kind::Frame),
+        CALL_TEXT,
+    ),
+];
+
 /// Which of the lines of other kinds have a station or a type.
 #[test]
 fn filtered_kinds(rt: HostRuntime) -> Result<(), Fail> {
-    let untyped = "8 40 frame 1083452c untyped\n";
-    let cases: [(&[&str], Option<u8>, Option<u8>, Option<Kind>, &str); 12] = [
-        (&[FLAG, UNTYPED, FLAG], Some(16), None, None, untyped),
-        (&[FLAG, UNTYPED, FLAG], None, Some(69), None, ""),
-        (
-            &[FLAG, CONTROL_19, FLAG],
-            Some(16),
-            None,
-            None,
-            "8 40 frame 1013ccb8 control 19\n",
-        ),
-        (&[FLAG, CONTROL_19, FLAG], None, Some(204), None, ""),
-        (
-            &[FLAG, REPLY, FLAG],
-            Some(16),
-            Some(128),
-            Some(Kind::Stray),
-            "8 49 stray station 16 type 128\n",
-        ),
-        (
-            &CALL_AND_REPLY,
-            None,
-            Some(0),
-            None,
-            "8 49 frame 108300fde5 station 16 type 0 call\n8 49 answered station 16 type 0\n",
-        ),
-        (
-            &[FLAG, CALL, FLAG, "0"],
-            Some(16),
-            Some(0),
-            None,
-            ONE_CALL_TEXT,
-        ),
-        (
-            &[FLAG, CALL, FLAG, "0"],
-            None,
-            None,
-            Some(Kind::Begun),
-            "57 58 open\n",
-        ),
-        (
-            &[FLAG, CALL, FLAG, "0"],
-            None,
-            None,
-            Some(Kind::Pending),
-            "8 49 pending station 16 type 0\n",
-        ),
-        (
-            &[FLAG, CALL, FLAG, IDLE],
-            None,
-            None,
-            Some(Kind::Idle),
-            "57 72 idle\n",
-        ),
-        (
-            &[FLAG, CALL, FLAG, IDLE],
-            Some(16),
-            None,
-            Some(Kind::Idle),
-            "",
-        ),
-        (
-            &[FLAG, CALL, FLAG, IDLE],
-            None,
-            None,
-            Some(Kind::Frame),
-            CALL_TEXT,
-        ),
-    ];
-    for (parts, station, ftype, kind, text) in cases {
+    for (parts, station, ftype, kind, text) in FILTERED_KINDS {
         let options = Options {
             station,
             ftype,
@@ -429,9 +438,8 @@ fn kept(depth: usize) -> Options<'static> {
     }
 }
 
-#[test]
-fn reports(rt: HostRuntime) -> Result<(), Fail> {
-    let answered = "\
+/// The counts of a call, its reply and a notice.
+const ANSWERED: &str = "\
 frames 3
 damaged 0
 overlong 0
@@ -443,44 +451,49 @@ missing 0
 spoilt 0
 station 16 answered 1 missing 0 spoilt 0
 ";
-    let cases: [(&[&str], usize, bool, &str, &str); 5] = [
-        (
-            &MISSING_AND_SPOILT,
-            16,
-            false,
-            MISSING_AND_SPOILT_REPORT,
-            "",
-        ),
-        (
-            &[FLAG, CALL, FLAG, REPLY, FLAG, NOTICE, FLAG],
-            2,
-            true,
-            answered,
-            "last 57 98 108380f561\nlast 106 148 ff83095a3b\n",
-        ),
-        (
-            &[FLAG, CALL, FLAG, REPLY, FLAG, NOTICE, FLAG],
-            1,
-            true,
-            answered,
-            "last 106 148 ff83095a3b\n",
-        ),
-        (
-            &[FLAG, CALL, FLAG, REPLY, FLAG, NOTICE, FLAG],
-            1024,
-            true,
-            answered,
-            "last 8 49 108300fde5\nlast 57 98 108380f561\nlast 106 148 ff83095a3b\n",
-        ),
-        (
-            &[],
-            16,
-            true,
-            "frames 0\ndamaged 0\noverlong 0\naborts 0\nidles 0\nstrays 0\nanswered 0\nmissing 0\nspoilt 0\n",
-            "",
-        ),
-    ];
-    for (parts, depth, clean, counts, last) in cases {
+
+/// Parts of a capture, the depth, whether it is clean, and its report: the counts and the frames kept.
+const REPORTS: [(&[&str], usize, bool, &str, &str); 5] = [
+    (
+        &MISSING_AND_SPOILT,
+        16,
+        false,
+        MISSING_AND_SPOILT_REPORT,
+        "",
+    ),
+    (
+        &[FLAG, CALL, FLAG, REPLY, FLAG, NOTICE, FLAG],
+        2,
+        true,
+        ANSWERED,
+        "last 57 98 108380f561\nlast 106 148 ff83095a3b\n",
+    ),
+    (
+        &[FLAG, CALL, FLAG, REPLY, FLAG, NOTICE, FLAG],
+        1,
+        true,
+        ANSWERED,
+        "last 106 148 ff83095a3b\n",
+    ),
+    (
+        &[FLAG, CALL, FLAG, REPLY, FLAG, NOTICE, FLAG],
+        1024,
+        true,
+        ANSWERED,
+        "last 8 49 108300fde5\nlast 57 98 108380f561\nlast 106 148 ff83095a3b\n",
+    ),
+    (
+        &[],
+        16,
+        true,
+        "frames 0\ndamaged 0\noverlong 0\naborts 0\nidles 0\nstrays 0\nanswered 0\nmissing 0\nspoilt 0\n",
+        "",
+    ),
+];
+
+#[test]
+fn reports(rt: HostRuntime) -> Result<(), Fail> {
+    for (parts, depth, clean, counts, last) in REPORTS {
         let capture = joined(rt.alloc(), parts)?;
         let mut reader = capture.as_slice();
         let mut out = Vec::new(rt.alloc());

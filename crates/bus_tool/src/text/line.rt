@@ -3,7 +3,8 @@
 ghost use Rattle.std.specs.Prelude.{◌≡◌, ◌+◌, ◌*◌, ◌++◌, ◌<◌, ◌≤◌, ◌^◌, length, decimal, codes};
 ghost use Rattle.arrayvec.specs.ArrayString.{array_string_len};
 ghost use Rattle.bus_line.specs.After.{report_of};
-ghost use Rattle.bus_tool.specs.Listing.{hex_digit, hex_octet, hex_of, cause_word, span_text, span_of, report_word, octets_held};
+ghost use Rattle.bus_line.specs.Ledger.{octet_count};
+ghost use Rattle.bus_tool.specs.Listing.{hex_digit, hex_octet, hex_of, cause_word, span_text, span_of, report_word};
 ghost use Rattle.bus_tool.specs.HeadText.{station_text};
 
 use arrayvec::ArrayString;
@@ -106,7 +107,7 @@ fn cause_word(cause: Cause) -> &'static str
 /// Appends what a report is.
 fn push_word<const N: usize>(line: &mut ArrayString<N>, piece: Piece<'_>)
     requires room { array_string_len line.old + 522 ≤ N }
-    requires held { octets_held (report_of piece) ≤ 258 }
+    requires held { octet_count (report_of piece) ≤ 258 }
     ensures bytes { line.new.bytes ≡ line.old.bytes ++ report_word (report_of piece.entry).kind }
     ensures len { array_string_len line.new ≤ array_string_len line.old + 522 }
 {
@@ -141,7 +142,7 @@ pub fn span_of(piece: Piece<'_>) -> Span
 /// Appends the places of a report and what it is, without the end of its line.
 pub fn push_front<const N: usize>(line: &mut ArrayString<N>, piece: Piece<'_>)
     requires room { array_string_len line.old + 564 ≤ N }
-    requires held { octets_held (report_of piece) ≤ 258 }
+    requires held { octet_count (report_of piece) ≤ 258 }
     ensures bytes { line.new.bytes ≡ line.old.bytes ++ (span_text (span_of (report_of piece.entry)) ++ report_word (report_of piece.entry).kind) }
     ensures len { array_string_len line.new ≤ array_string_len line.old + 564 }
 {

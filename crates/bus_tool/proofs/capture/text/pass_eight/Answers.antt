@@ -1,4 +1,4 @@
-use Rattle.std.proofs.Common.{◌++◌, take, refl, sym, subst}
+use Rattle.std.proofs.Common.{refl, sym, subst}
 use Rattle.bus_bits.specs.Capture.{text_bits}
 use Rattle.bus_tool.specs.Watching.{Watches}
 use Rattle.bus_tool.proofs.capture.text.pass_eight.Goals as goal

@@ -1,4 +1,4 @@
-use Rattle.std.proofs.Common.{rules, ◌≡◌, ℕ, Bool, List, [], ◌∷◌, ◌++◌, Option, Some, None, sym, ap, ◌∙◌, subst, append-nil}
+use Rattle.std.proofs.Common.{◌≡◌, Bool, [], ◌∷◌, ◌++◌, Option, None, sym, ◌∙◌, subst, append-nil}
 use Rattle.std.specs.Option.{option_to_list}
 use Rattle.bus_bits.specs.Capture.{text_bits, text_fault}
 use Rattle.bus_tool.specs.Watching.{Watches}

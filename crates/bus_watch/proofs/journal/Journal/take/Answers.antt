@@ -1,14 +1,15 @@
-use Rattle.std.proofs.Common.{refl}
+use Rattle.std.proofs.Common.{◌≡◌, refl, true, inl, inr}
+use Rattle.bus_line.specs.After.{report_of}
+use Rattle.bus_watch.specs.Noted.{is_damage}
 use Rattle.bus_watch.proofs.journal.Journal.take.Goals as goal
 
 pub returns-in-Idle-clause-says : goal.returns-in-Idle-clause-says
 returns-in-Idle-clause-says c = λ rs k. rw (c.in-Idle.is) (c.idle.ensures.says rs _ k refl)
 
-pub returns-in-Damaged-clause-says : goal.returns-in-Damaged-clause-says
-returns-in-Damaged-clause-says c = λ rs k. rw (c.in-Damaged.is) (c.damage.ensures.says rs _ k refl)
-
-pub returns-in-Overlong-clause-says : goal.returns-in-Overlong-clause-says
-returns-in-Overlong-clause-says c = λ rs k. rw (c.in-Overlong.is) (c.damage-in-Overlong.ensures.says rs _ k refl)
-
-pub returns-in-Abort-clause-says : goal.returns-in-Abort-clause-says
-returns-in-Abort-clause-says c = λ rs k. rw (c.in-Abort.is) (c.damage-in-Abort.ensures.says rs _ k refl)
+pub returns-in-Damaged : goal.returns-in-Damaged
+returns-in-Damaged c =
+    let is_so : is_damage (report_of c.args.piece).kind ≡ true = elim c.in-Damaged.is [
+      | inl damaged ↦ rw (damaged.2) refl
+      | inr others ↦ elim others [ inl overlong ↦ rw (overlong.1) refl | inr abort ↦ rw (abort.1) refl ]
+    ] in
+    record { keeps = λ rs k. c.damage.ensures.keeps rs (report_of c.args.piece) k is_so; says = λ rs k. c.damage.ensures.says rs (report_of c.args.piece) k is_so; given = c.damage.ensures.given }

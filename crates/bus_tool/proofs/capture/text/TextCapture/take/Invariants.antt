@@ -1,4 +1,4 @@
-use Rattle.std.proofs.Common.{◌≡◌, ℕ, ◌+◌, ◌-◌, List, ◌++◌, Option, length, take}
+use Rattle.std.proofs.Common.{ℕ, ◌-◌, List, ◌++◌, Option, length, take}
 use Rattle.bus_tool.specs.Watching.{IsSound, IsSame}
 use Rattle.bus_tool.specs.Sessions.{FollowsText, FollowsMarks}
 use Rattle.bus_tool.proofs.capture.text.TextCapture.take.Given as goal

@@ -1,4 +1,4 @@
-use Rattle.std.proofs.Common.{rules, refl}
+use Rattle.std.proofs.Common.{refl}
 use Rattle.bus_tool.proofs.capture.watch.Watch.take_bit.Goals as goal
 
 pub returns-then-pass-clause-taken : goal.returns-then-pass-clause-taken
