@@ -5,10 +5,11 @@ use Rattle.std.proofs.lemmas.Grind.{common_steps}
 use Rattle.std.proofs.lemmas.Bool.Decides.{nat_tests}
 use Rattle.std.specs.Io.BufRead.{strip_last, ends_with_byte}
 use Rattle.bus_line.specs.Line.{Call, gain}
-use Rattle.bus_tool.specs.Lines.{ended_behind, open_behind, ended_lines, open_line, last_line}
+use Rattle.bus_tool.specs.Lines.{ended_lines, open_line, last_line}
 use Rattle.bus_tool.specs.Encode.{Asked, unless_fault, and_then, line_asked, line_call, line_number, asked_behind, open_asked, asked_so_far, asked_in_all, bits_text, text_behind, encode_text}
 use Rattle.bus_tool.specs.declared.fault.ToolFault.{ToolFault}
 use Rattle.bus_tool.specs.declared.fault.ToolFault.TheVariants.{BadLine}
+use Rattle.bus_tool.proofs.LineLemmas.{ended_behind, open_behind, ended-append, open-append, ended-by_lf, open-by_lf}
 
 -- ---- one thing asked for behind another
 
@@ -74,46 +75,6 @@ asked-one n l = then-nothing (line_asked n l)
 pub asked-push : (ls : List (List ℕ)) (l : List ℕ) → asked_behind 0 (ls ++ l ∷ []) ≡ and_then (asked_behind 0 ls) (line_asked (length ls) l)
 asked-push ls l =
     asked-append 0 ls (l ∷ []) ∙ ap (and_then (asked_behind 0 ls)) (asked-one (0 + length ls) l ∙ ap (λ k. line_asked k l) (zero-add (length ls)))
-
-pub ended-append : (line xs ys : List ℕ) → ended_behind line (xs ++ ys) ≡ ended_behind line xs ++ ended_behind (open_behind line xs) ys
-unfolding ended_behind open_behind
-ended-append line [] ys = refl
-ended-append line (x ∷ xs) ys =
-    elim (x == 10) as (λ b. (if b then line ∷ ended_behind [] (xs ++ ys) else ended_behind (line ++ x ∷ []) (xs ++ ys))
-    ≡ (if b then line ∷ ended_behind [] xs else ended_behind (line ++ x ∷ []) xs) ++ ended_behind (if b then open_behind [] xs else open_behind (line ++ x ∷ []) xs) ys) [
-      | true ↦ ap (λ l. line ∷ l) (ended-append [] xs ys)
-      | false ↦ ended-append (line ++ x ∷ []) xs ys
-    ]
-
-pub open-append : (line xs ys : List ℕ) → open_behind line (xs ++ ys) ≡ open_behind (open_behind line xs) ys
-unfolding open_behind
-open-append line [] ys = refl
-open-append line (x ∷ xs) ys =
-    elim (x == 10) as (λ b. (if b then open_behind [] (xs ++ ys) else open_behind (line ++ x ∷ []) (xs ++ ys))
-    ≡ open_behind (if b then open_behind [] xs else open_behind (line ++ x ∷ []) xs) ys) [
-      | true ↦ open-append [] xs ys
-      | false ↦ open-append (line ++ x ∷ []) xs ys
-    ]
-
--- LF ends the open line
-pub ended-by_lf : (xs : List ℕ) → ended_lines (xs ++ 10 ∷ []) ≡ ended_lines xs ++ open_line xs ∷ []
-unfolding ended_behind
-ended-by_lf xs = ended-append [] xs (10 ∷ [])
-
-pub open-by_lf : (xs : List ℕ) → open_line (xs ++ 10 ∷ []) ≡ []
-unfolding open_behind
-open-by_lf xs = open-append [] xs (10 ∷ [])
-
--- another octet does not
-pub ended-by_other : (xs : List ℕ) (x : ℕ) → (x == 10) ≡ false → ended_lines (xs ++ x ∷ []) ≡ ended_lines xs
-unfolding ended_behind
-ended-by_other xs x h =
-    ended-append [] xs (x ∷ [])
-    ∙ (ap (λ (b : Bool). ended_lines xs ++ (if b then open_line xs ∷ [] else [])) h ∙ append-nil (ended_lines xs))
-
-pub open-by_other : (xs : List ℕ) (x : ℕ) → (x == 10) ≡ false → open_line (xs ++ x ∷ []) ≡ open_line xs ++ x ∷ []
-unfolding open_behind
-open-by_other xs x h = open-append [] xs (x ∷ []) ∙ ap (λ (b : Bool). if b then [] else open_line xs ++ x ∷ []) h
 
 -- ---- lines that are too long
 
@@ -216,8 +177,8 @@ so_far-both xs ys =
     let f = ended_behind (open_line xs) ys in
     let o = open_behind (open_line xs) ys in
     so_far-is (xs ++ ys)
-    ∙ (ap (λ (l : List (List ℕ)). and_then (asked_behind 0 l) (open_asked (length l) (open_line (xs ++ ys)))) (ended-append [] xs ys)
-    ∙ (ap (λ (l : List ℕ). and_then (asked_behind 0 (e ++ f)) (open_asked (length (e ++ f)) l)) (open-append [] xs ys)
+    ∙ (ap (λ (l : List (List ℕ)). and_then (asked_behind 0 l) (open_asked (length l) (open_line (xs ++ ys)))) (ended-append xs ys)
+    ∙ (ap (λ (l : List ℕ). and_then (asked_behind 0 (e ++ f)) (open_asked (length (e ++ f)) l)) (open-append xs ys)
     ∙ (ap (λ (k : ℕ). and_then (asked_behind 0 (e ++ f)) (open_asked k o)) (length-append e f)
     ∙ (ap (λ (a : Asked). and_then a (open_asked (length e + length f) o)) (asked-append 0 e f ∙ ap (λ (k : ℕ). and_then (asked_behind 0 e) (asked_behind k f)) (zero-add (length e)))
     ∙ then-assoc (asked_behind 0 e) (asked_behind (length e) f) (open_asked (length e + length f) o)))))

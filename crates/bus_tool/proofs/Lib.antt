@@ -12,6 +12,7 @@ pub mod ListingLemmas
 pub mod SummaryLemmas
 pub mod CheckLemmas
 pub mod ShowLemmas
+pub mod LineLemmas
 pub mod EncodeLemmas
 pub mod SessionLemmas
 pub mod OrderLemmas

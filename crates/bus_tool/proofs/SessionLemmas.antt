@@ -2,23 +2,25 @@
 use Rattle.std.proofs.Common.{◌≡◌, ◌≢◌, ℕ, ◌+◌, ◌<◌, ◌≤◌, ◌==◌, true, false, List, [], ◌∷◌, ◌++◌, length, get_or, take, drop, Option, Some, None, Result, Ok, Err, IfSome, MatchResult, inl, inr, refl, sym, ap, subst, ◌∙◌, arith, length-append}
 use Rattle.std.specs.Io.KnownBytes.{Appends, Consumes, Keeps, IsAtEnd}
 use Rattle.std.specs.Io.BufRead.{strip_last}
+use Rattle.std.specs.Path.{rsplit_once}
 use Rattle.std.proofs.lemmas.List.{append-nil, take-append-le}
 use Rattle.std.proofs.lemmas.Grind.{common_steps}
 use Rattle.std.proofs.lemmas.Bool.Decides.{nat_tests}
 use Rattle.bus_line.specs.Line.{Call, gain}
 use Rattle.bus_line.specs.EncoderState.{EncoderState}
 use Rattle.bus_line.specs.Encoding.{AfterCalls}
-use Rattle.bus_tool.specs.Lines.{ended_behind, open_behind, ended_lines, open_line}
+use Rattle.bus_tool.specs.Lines.{ended_lines, open_line}
 use Rattle.bus_tool.specs.Encode.{Asked, and_then, one_asked, line_asked, line_call, line_number, asked_behind, asked_so_far, asked_in_all, bits_text, text_behind, encode_text}
 use Rattle.bus_tool.specs.Encodes.{Asks, Encodes, EncodesAll}
 use Rattle.bus_tool.specs.EncodeState.{Encoded, Takes, Halts, Ends, Finishes}
 use Rattle.bus_tool.specs.declared.fault.ToolFault.{ToolFault}
 use Rattle.bus_tool.specs.declared.fault.ToolFault.TheVariants.{Read, ReadsLimit, Write, BadLine, FrameLength}
 use Rattle.bus_tool.proofs.Bytes.{appends_nothing, appends_both, appends_kept, part_out}
-use Rattle.bus_tool.proofs.EncodeLemmas.{bad, is_long, long_is, short_is, then-nothing, then-clean, then-fault, then-text, so_far-short, so_far-long, ended_clean, ended_calls, lf-asked, ended-by_lf, open-by_lf, ended-by_other, open-by_other, asked-push, so_far-grows, in_all-is, all-grows, text-push}
+use Rattle.bus_tool.proofs.LineLemmas.{ended-by_lf, open-by_lf, ended-by_other, open-by_other}
+use Rattle.bus_tool.proofs.EncodeLemmas.{bad, is_long, long_is, short_is, then-nothing, then-clean, then-fault, then-text, so_far-short, so_far-long, ended_clean, ended_calls, lf-asked, asked-push, so_far-grows, in_all-is, all-grows, text-push}
 
 pub none_takes : (start : Option (List ℕ)) (line : List ℕ) (number : ℕ) (e : EncoderState) → line ≡ [] → number ≡ 1 → AfterCalls e [] → Takes start start line number e 0 []
-unfolding asked_so_far asked_behind ended_behind open_behind text_behind
+unfolding asked_so_far asked_behind ended_lines open_line rsplit_once text_behind
 none_takes start line number e l n a = record {
   here = l;
   lines = n;

@@ -1,23 +1,24 @@
 -- The lines of a text.
-use Rattle.std.specs.Prelude.{ℕ, List, [], ◌∷◌, ◌++◌, ◌==◌, if◌then◌else◌}
+use Rattle.std.specs.Prelude.{ℕ, List, [], ◌∷◌, ◌++◌, ◌==◌, length, take, map, filter, slice_index, Option, Some, None}
+use Rattle.std.specs.Path.{rsplit_once}
+use Rattle.bus_line.specs.Due.{places}
 
--- the lines that LF ends, each without it, where `line` stands open before these octets
-unfoldable pub ended_behind : List ℕ → List ℕ → List (List ℕ)
-ended_behind line [] = []
-ended_behind line (x ∷ xs) = if x == 10 then line ∷ ended_behind [] xs else ended_behind (line ++ x ∷ []) xs
-
--- the line that stands open behind them
-unfoldable pub open_behind : List ℕ → List ℕ → List ℕ
-open_behind line [] = line
-open_behind line (x ∷ xs) = if x == 10 then open_behind [] xs else open_behind (line ++ x ∷ []) xs
-
--- the lines of these octets that LF ends
-abbrev pub ended_lines : List ℕ → List (List ℕ)
-ended_lines xs = ended_behind [] xs
+-- what stands behind the last LF, by the split there: all, where there is none
+abbrev pub behind_last : List ℕ → Option (List ℕ × List ℕ) → List ℕ
+behind_last xs None = xs
+behind_last xs (Some parts) = parts.1
 
 -- what stands behind the last LF
-abbrev pub open_line : List ℕ → List ℕ
-open_line xs = open_behind [] xs
+unfoldable pub open_line : List ℕ → List ℕ
+open_line xs = behind_last xs (rsplit_once 10 xs)
+
+-- the places of LF
+abbrev pub line_ends : List ℕ → List ℕ
+line_ends xs = filter (λ i. slice_index xs i == 10) (places (length xs))
+
+-- the lines of these octets that LF ends, each without it: what stands open before each LF
+unfoldable pub ended_lines : List ℕ → List (List ℕ)
+ended_lines xs = map (λ i. open_line (take i xs)) (line_ends xs)
 
 -- what stands behind the last LF is a line where it is not empty
 abbrev pub last_line : List ℕ → List (List ℕ)
