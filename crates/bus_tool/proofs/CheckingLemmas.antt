@@ -15,14 +15,14 @@ use Rattle.bus_tool.specs.Put.{Cuts, Pages}
 use Rattle.bus_tool.specs.Begins.{Begins, Refuses, IsAsked}
 use Rattle.bus_tool.specs.Watching.{Watches, IsSame, IsCutIn, lines, reported, printed}
 use Rattle.bus_tool.specs.Reading.{HasFault, IsClean, IsWhole, Finishes}
-use Rattle.bus_tool.specs.Lists.{so_far, in_all}
+use Rattle.bus_tool.specs.Lists.{in_all}
 use Rattle.bus_tool.specs.Checks.{report_of, IsAll, ChecksSoFar, Checks}
 use Rattle.bus_tool.specs.declared.capture.watch.Watch.{Watch}
 use Rattle.bus_tool.specs.declared.options.Options.{Options}
 use Rattle.bus_tool.specs.declared.summary.Summary.{Summary}
 use Rattle.bus_tool.specs.declared.fault.ToolFault.{ToolFault}
 use Rattle.bus_tool.specs.declared.fault.ToolFault.TheVariants as fault
-use Rattle.bus_tool.proofs.ListLemmas.{counts-are}
+use Rattle.bus_tool.proofs.ListLemmas.{counts-are, so-far-is, in-all-is}
 
 -- what was asked of a check, and is kept
 pub record IsChecked {C : Type 0} (o : Options) (d : List FrameType) (w : Watch C) : Type 0 where
@@ -37,12 +37,6 @@ checked folded cost o d w v p a s = record { printer = s.printer ∙ p; dictiona
 -- a check has no lines
 pub no-lines : {C : Type 0} (w : Watch C) (b : List Bool) → w.printer ≡ None → lines w b ≡ []
 no-lines w b e = ap (λ p. printed p w.analyser.journal.dictionary (seen_after w.analyser b)) e
-
-so-far-is : {C : Type 0} (o : Options) (d : List FrameType) (text : Bool) (w : Watch C) (xs : List ℕ) → text ≡ o.text → IsChecked o d w → capture text w.analyser.decoder.origin xs ≡ so_far o xs
-so-far-is o d text w xs e h = ap (λ (b : Bool). capture b w.analyser.decoder.origin xs) e ∙ ap (λ (n : ℕ). capture o.text n xs) h.origin
-
-in-all-is : {C : Type 0} (o : Options) (d : List FrameType) (text : Bool) (w : Watch C) (xs : List ℕ) → text ≡ o.text → IsChecked o d w → whole_capture text w.analyser.decoder.origin xs ≡ in_all o xs
-in-all-is o d text w xs e h = ap (λ (b : Bool). whole_capture b w.analyser.decoder.origin xs) e ∙ ap (λ (n : ℕ). whole_capture o.text n xs) h.origin
 
 -- the report of bits, as the options tell of it
 report-is : {C : Type 0} (o : Options) (d : List FrameType) (w : Watch C) (b : List Bool) → IsChecked o d w → w.summary ≡ summary_of (seen_in o.origin d b) → reported w b ≡ report_of o d b
@@ -73,7 +67,7 @@ ends-checks {C} folded cost o d text after start now later w xs r begins l e h e
     all = whole_capture text w.analyser.decoder.origin xs
 
     is : all ≡ in_all o xs
-    is = in-all-is o d text w xs e l
+    is = in-all-is o text w.analyser.decoder.origin xs e l.origin
 
     whole : IsAll o after xs
     whole = record { at = h.at; clean = sym (ap (λ (c : Capture). c.fault) is) ∙ h.clean }
@@ -112,7 +106,7 @@ stops-checks {C} folded cost o d text after start now w xs f begins l e = cases 
     out h = none-out start now w.page.text.bytes w.page.written (lines w (capture text w.analyser.decoder.origin xs).bits) (no-lines w (capture text w.analyser.decoder.origin xs).bits l.printer) h.page
 
     clean-is : IsClean folded cost text start now w xs → ChecksSoFar o start now xs
-    clean-is h = record { clean = sym (ap (λ (c : Capture). c.fault) (so-far-is o d text w xs e l)) ∙ h.clean; unwritten = out h.bits }
+    clean-is h = record { clean = sym (ap (λ (c : Capture). c.fault) (so-far-is o text w.analyser.decoder.origin xs e l.origin)) ∙ h.clean; unwritten = out h.bits }
 
     cases : (f : ToolFault) → Finishes folded cost text o.reads after start now w xs (Err f) → Checks o after start now xs (Err f)
     cases fault.Read h = (d, begins, clean-is h)

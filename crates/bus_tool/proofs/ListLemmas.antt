@@ -93,16 +93,16 @@ does-nothing o after start now fault.Memory why out = record { why = why; unread
 does-nothing o after start now _ why out = absurd why
 
 -- a capture as the options tell of it
-so-far-is : {C : Type 0} (o : Options) (d : List FrameType) (text : Bool) (w : Watch C) (xs : List ℕ) → text ≡ o.text → IsListed o d w → capture text w.analyser.decoder.origin xs ≡ so_far o xs
-so-far-is o d text w xs e h = ap (λ (b : Bool). capture b w.analyser.decoder.origin xs) e ∙ ap (λ (n : ℕ). capture o.text n xs) h.origin
+pub so-far-is : (o : Options) (text : Bool) (n : ℕ) (xs : List ℕ) → text ≡ o.text → n ≡ o.origin → capture text n xs ≡ so_far o xs
+so-far-is o text n xs e f = ap (λ (b : Bool). capture b n xs) e ∙ ap (λ (k : ℕ). capture o.text k xs) f
 
-in-all-is : {C : Type 0} (o : Options) (d : List FrameType) (text : Bool) (w : Watch C) (xs : List ℕ) → text ≡ o.text → IsListed o d w → whole_capture text w.analyser.decoder.origin xs ≡ in_all o xs
-in-all-is o d text w xs e h = ap (λ (b : Bool). whole_capture b w.analyser.decoder.origin xs) e ∙ ap (λ (n : ℕ). whole_capture o.text n xs) h.origin
+pub in-all-is : (o : Options) (text : Bool) (n : ℕ) (xs : List ℕ) → text ≡ o.text → n ≡ o.origin → whole_capture text n xs ≡ in_all o xs
+in-all-is o text n xs e f = ap (λ (b : Bool). whole_capture b n xs) e ∙ ap (λ (k : ℕ). whole_capture o.text k xs) f
 
 -- the lines of the bits so far are their listing
 lines-so-far : {C : Type 0} (o : Options) (d : List FrameType) (text : Bool) (w : Watch C) (xs : List ℕ) → text ≡ o.text → IsListed o d w
     → lines w (capture text w.analyser.decoder.origin xs).bits ≡ listing_of o d (so_far o xs).bits
-lines-so-far o d text w xs e h = ap (λ (c : Capture). lines w c.bits) (so-far-is o d text w xs e h) ∙ lines-are o d w (so_far o xs).bits h
+lines-so-far o d text w xs e h = ap (λ (c : Capture). lines w c.bits) (so-far-is o text w.analyser.decoder.origin xs e h.origin) ∙ lines-are o d w (so_far o xs).bits h
 
 -- the end of a clean capture
 pub ends-lists : {C : Type 0} (folded : C → List ℕ → Type 0) (cost : ℕ) (o : Options) (d : List FrameType) (text : Bool) (after start now later : Option (List ℕ)) (w : Watch C) (xs : List ℕ) (r : Result Summary ToolFault)
@@ -117,7 +117,7 @@ ends-lists {C} folded cost o d text after start now later w xs r begins l e h en
     all = whole_capture text w.analyser.decoder.origin xs
 
     is : all ≡ in_all o xs
-    is = in-all-is o d text w xs e l
+    is = in-all-is o text w.analyser.decoder.origin xs e l.origin
 
     clean : (in_all o xs).fault ≡ None
     clean = sym (ap (λ (c : Capture). c.fault) is) ∙ h.clean
@@ -174,7 +174,7 @@ stops-lists {C} folded cost o d text after start now later w xs f answer law beg
     is = lines-so-far o d text w xs e l
 
     clean-is : IsClean folded cost text start now w xs → Appends start later (listing_of o d (so_far o xs).bits) → ListsSoFar o d start later xs
-    clean-is h out = record { clean = sym (ap (λ (c : Capture). c.fault) (so-far-is o d text w xs e l)) ∙ h.clean; out = out }
+    clean-is h out = record { clean = sym (ap (λ (c : Capture). c.fault) (so-far-is o text w.analyser.decoder.origin xs e l.origin)) ∙ h.clean; out = out }
 
     faulty-is : (x : ToolFault) → IsFaulty folded cost text after start now w xs x → Appends start later (listing_of o d (so_far o xs).bits) → ListsToFault o d after start later xs x
     faulty-is x h out = record {
