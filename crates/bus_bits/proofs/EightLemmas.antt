@@ -1,10 +1,11 @@
 -- Eight octets `0` and `1` in one number, and the octet with their bits.
-use Rattle.std.proofs.Common.{◌≡◌, ℕ, zero, suc, ◌+◌, ◌*◌, ◌/◌, ◌%◌, ◌^◌, ◌<◌, ◌==◌, ◌||◌, ◌⊎◌, ◌↔◌, inl, inr, Bool, true, cond, nat_lt, List, [], ◌∷◌, ◌++◌, length, map, None, bit_and, refl, sym, ap, ◌∙◌, arith, append_assoc}
+use Rattle.std.proofs.Common.{◌≡◌, ℕ, zero, suc, ◌+◌, ◌*◌, ◌/◌, ◌%◌, ◌^◌, ◌<◌, ◌==◌, ◌||◌, ◌⊎◌, inl, inr, Bool, true, cond, nat_lt, List, [], ◌∷◌, ◌++◌, length, map, None, bit_and, refl, sym, ap, ◌∙◌, arith, append_assoc}
 use Rattle.std.proofs.lemmas.Bool.{and_parts, and_from, eqb-true}
 use Rattle.std.proofs.lemmas.Bool.Decides.{nat_tests}
 use Rattle.std.proofs.lemmas.List.{append-nil, length-map}
 use Rattle.std.proofs.lemmas.List.Elements.{All-head, All-tail, All-cons}
 use Rattle.std.proofs.lemmas.Nat.{xor_of_8, and_block, xor_block}
+use Rattle.std.proofs.lemmas.Simd.{map-map}
 use Rattle.std.specs.Int.{w64, from_le_bytes}
 use Rattle.std.specs.Int.RustNames.{bit_xor}
 use Rattle.std.specs.List.{All, list_all}
@@ -17,7 +18,7 @@ use Rattle.bus_bits.proofs.ReverseLemmas.{upto, upto-all}
 -- ---- numbers of octets
 
 -- octets as one number, the first the lowest
-pub word : List ℕ → ℕ
+unfoldable pub word : List ℕ → ℕ
 word [] = 0
 word (b ∷ bs) = word bs * 256 + b
 
@@ -59,7 +60,7 @@ word-and c (b ∷ bs) l h =
 -- ---- marks
 
 -- the bits of an octet that are not those of `0` or `1`
-abbrev other : ℕ → ℕ
+abbrev pub other : ℕ → ℕ
 other b = bit_and (bit_xor b 48) 254
 
 marked : ℕ → Bool
@@ -69,14 +70,14 @@ all-marked : upto marked 256 ≡ true
 unfolding upto marked
 all-marked = refl
 
-none_other : (b : ℕ) → b < 256 → other b ≡ 0 → is_mark b ≡ true
+pub none_other : (b : ℕ) → b < 256 → other b ≡ 0 → is_mark b ≡ true
 unfolding marked
 none_other b h e = ap (λ n. nat_lt 0 n || is_mark b) (sym e) ∙ upto-all marked 256 all-marked b h
 
 mark_cases : (b : ℕ) → is_mark b ≡ true → (b ≡ 48) ⊎ (b ≡ 49)
 mark_cases b h = grind (arith, nat_tests)
 
-mark_other : (b : ℕ) → is_mark b ≡ true → other b ≡ 0
+pub mark_other : (b : ℕ) → is_mark b ≡ true → other b ≡ 0
 mark_other b h = elim (mark_cases b h) [ inl e ↦ ap other e | inr e ↦ ap other e ]
 
 mark_bit : (b : ℕ) → is_mark b ≡ true → bit_xor b 48 ≡ cond (b == 49) 1 0
@@ -96,15 +97,16 @@ marks-lt (b ∷ bs) h =
     All-cons (λ n. n < 256) (bit_xor b 48) (map (λ b. bit_xor b 48) bs) (xor_of_8 b 48 (All-head (λ n. n < 256) b bs h) (omega arith))
     (marks-lt bs (All-tail (λ n. n < 256) b bs h))
 
-all_marks : (bs : List ℕ) → All (λ b. b < 256) bs → word (map (λ b. bit_and b 254) (marks bs)) ≡ 0 → list_all is_mark bs ≡ true
-unfolding word marks
+-- a word of what is other in each octet is 0 exactly where all are marks
+pub all_marks : (bs : List ℕ) → All (λ b. b < 256) bs → word (map other bs) ≡ 0 → list_all is_mark bs ≡ true
+unfolding word
 all_marks [] h e = refl
 all_marks (b ∷ bs) h e =
     and_from (is_mark b) (list_all is_mark bs) (none_other b (All-head (λ n. n < 256) b bs h) (omega arith))
     (all_marks bs (All-tail (λ n. n < 256) b bs h) (omega arith))
 
-marks_all : (bs : List ℕ) → list_all is_mark bs ≡ true → word (map (λ b. bit_and b 254) (marks bs)) ≡ 0
-unfolding word marks
+pub marks_all : (bs : List ℕ) → list_all is_mark bs ≡ true → word (map other bs) ≡ 0
+unfolding word
 marks_all [] h = refl
 marks_all (b ∷ bs) h =
     let both = and_parts (is_mark b) (list_all is_mark bs) h in
@@ -151,20 +153,16 @@ xored bs n h =
     ap (λ m. bit_xor m 3472328296227680304) (h.value ∙ word-eight bs h.long)
     ∙ ap (λ k. bit_xor (word bs) (copies 48 k)) (sym h.long) ∙ word-xor 48 bs (omega arith) h.small
 
-others : (bs : List ℕ) (n : ℕ) → IsWord bs n
-    → bit_and (bit_xor n 3472328296227680304) 18374403900871474942 ≡ word (map (λ b. bit_and b 254) (marks bs))
+pub others : (bs : List ℕ) (n : ℕ) → IsWord bs n
+    → bit_and (bit_xor n 3472328296227680304) 18374403900871474942 ≡ word (map other bs)
 unfolding copies marks
 others bs n h =
     ap (λ m. bit_and m 18374403900871474942) (xored bs n h)
     ∙ ap (λ k. bit_and (word (marks bs)) (copies 254 k)) (sym (length-map bs (λ b. bit_xor b 48) ∙ h.long))
     ∙ word-and 254 (marks bs) (omega arith) (marks-lt bs h.small)
+    ∙ ap word (map-map (λ b. bit_and b 254) (λ b. bit_xor b 48) bs)
 
--- the mask finds whether all are marks
-pub masked : (bs : List ℕ) (n : ℕ) → IsWord bs n
-    → (bit_and (bit_xor n 3472328296227680304) 18374403900871474942 ≡ 0) ↔ (list_all is_mark bs ≡ true)
-masked bs n h = (λ z. all_marks bs h.small (sym (others bs n h) ∙ z), λ m. others bs n h ∙ marks_all bs m)
-
--- and then the product has their bits
+-- the product has the bits of marks
 pub gathered-bits : (bs : List ℕ) (n : ℕ) → IsWord bs n → list_all is_mark bs ≡ true
     → bits_of 8 (gathered (bit_xor n 3472328296227680304)) ≡ map (λ y. y == 49) bs
 gathered-bits bs n h m =

@@ -1,5 +1,6 @@
 pub mod CaptureLemmas
 pub mod EightLemmas
+pub mod NineLemmas
 pub mod OctetLemmas
 pub mod ReverseLemmas
 pub mod PackedLemmas

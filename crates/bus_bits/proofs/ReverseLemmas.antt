@@ -1,9 +1,11 @@
 -- An octet with its bits in reverse order.
-use Rattle.std.proofs.Common.{◌≡◌, ℕ, zero, suc, ◌*◌, ◌/◌, ◌%◌, ◌<◌, ◌==◌, Bool, true, ◌&&◌, reverse, refl, sym, ap, ◌∙◌, subst, arith, inl, inr}
-use Rattle.std.specs.Prelude.{bit_and}
-use Rattle.std.proofs.lemmas.Bool.{cases_order, and_parts, eqb-true}
+use Rattle.std.proofs.Common.{◌≡◌, ℕ, zero, suc, ◌<◌, List, map, get_or, Bool, true, ◌&&◌, reverse, refl, sym, ap, ◌∙◌, subst, arith, inl, inr}
+use Rattle.std.specs.List.{range_with_len}
+use Rattle.std.proofs.lemmas.List.FromFn.{get_or-map-range_with_len}
+use Rattle.std.proofs.lemmas.Bool.{cases_order, and_parts}
 use Rattle.std.proofs.lemmas.List.{length-reverse}
 use Rattle.bus_bits.specs.Octet.{bits_of, number}
+use Rattle.bus_bits.specs.declared.octet.reverse.TheConstants.{REVERSED}
 use Rattle.bus_bits.proofs.OctetLemmas.{bits-number, length-bits}
 
 -- a test of each number below n
@@ -22,19 +24,16 @@ upto-all p (suc n) h i l =
       | inr (inr k) ↦ absurd (omega (arith, l, k))
     ]
 
--- five copies, a mask and a product
-abbrev pub swapped : ℕ → ℕ
-swapped o = bit_and (bit_and (o * 2149582850) 36578664720 * 4311810305 % 18446744073709551616 / 4294967296) 255
+turned : ℕ → ℕ
+turned o = number (reverse (bits_of 8 o))
 
-is_swapped : ℕ → Bool
-is_swapped o = swapped o == number (reverse (bits_of 8 o))
+reversed_is : REVERSED ≡ map turned (range_with_len 0 256)
+unfolding turned number bits_of
+reversed_is = refl
 
-all-swapped : upto is_swapped 256 ≡ true
-unfolding upto is_swapped number bits_of
-all-swapped = refl
-
-pub swapped-is : (o n : ℕ) → o < 256 → n ≡ o → bits_of 8 (swapped n) ≡ reverse (bits_of 8 o)
-unfolding is_swapped
-swapped-is o n h e =
-    let here : swapped o ≡ number (reverse (bits_of 8 o)) = eqb-true (swapped o) (number (reverse (bits_of 8 o))) (upto-all is_swapped 256 all-swapped o h) in
-    ap (λ (m : ℕ). bits_of 8 (swapped m)) e ∙ ap (bits_of 8) here ∙ bits-number (reverse (bits_of 8 o)) 8 (length-reverse (bits_of 8 o) ∙ length-bits 8 o)
+-- the table has the octet with the bits in reverse order
+pub reversed_at : (o : ℕ) → o < 256 → bits_of 8 (get_or REVERSED o 0) ≡ reverse (bits_of 8 o)
+unfolding turned
+reversed_at o h =
+    ap (λ (t : List ℕ). bits_of 8 (get_or t o 0)) reversed_is ∙ ap (bits_of 8) (get_or-map-range_with_len turned 0 256 o o 0 h (omega arith))
+    ∙ bits-number (reverse (bits_of 8 o)) 8 (length-reverse (bits_of 8 o) ∙ length-bits 8 o)

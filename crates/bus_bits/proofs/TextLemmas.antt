@@ -31,7 +31,7 @@ front_cases p (x ∷ xs) =
       | inr f ↦ inr ((let e = fails p x xs f in rw e (omega arith)), λ ys. fails p x (xs ++ ys) f ∙ sym (fails p x xs f))
     ]
 
-abbrev is_text : ℕ → Bool
+abbrev pub is_text : ℕ → Bool
 is_text x = is_mark x || is_space x
 
 -- octets with no fault are all read, and so are those before each further one

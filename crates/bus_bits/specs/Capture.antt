@@ -1,5 +1,5 @@
 -- The bits of a capture: those before the first fault, and the fault.
-use Rattle.std.specs.Prelude.{◌≡◌, ℕ, ◌-◌, ◌^◌, ◌==◌, ◌||◌, Bool, List, ◌++◌, length, map, filter, take, take_while, nat_lt, if◌then◌else◌, Option, Some, None}
+use Rattle.std.specs.Prelude.{◌≡◌, ◌≤◌, ℕ, ◌-◌, ◌^◌, ◌==◌, ◌||◌, Bool, List, ◌++◌, length, map, filter, take, take_while, nat_lt, if◌then◌else◌, Option, Some, None}
 
 -- why a capture can't be read on
 pub data CaptureFault : Type 0 where
@@ -38,6 +38,10 @@ text_bits xs = map (λ x. x == 49) (filter is_mark (text_front xs))
 
 abbrev pub text_fault : List ℕ → Option CaptureFault
 text_fault xs = if nat_lt (length (text_front xs)) (length xs) then Some (bad_mark (length (text_front xs))) else None
+
+-- the first `n` octets have no fault and give eight bits
+abbrev pub EightIn : ℕ → List ℕ → Type 0
+EightIn n xs = (n ≤ length xs) × (text_fault (take n xs) ≡ None) × (length (text_bits (take n xs)) ≡ 8)
 
 -- text: a `0` or `1` is a bit
 abbrev pub text_capture : List ℕ → Capture

@@ -9,7 +9,7 @@ mod spent;
 #[cfg(test)]
 mod tests;
 
-pub use capture::{BadMark, HeadFault, PackedBits, PackedFault, PackedHead, TextBits};
+pub use capture::{BadMark, EightBits, HeadFault, PackedBits, PackedFault, PackedHead, TextBits};
 pub use octet::{bits_octet, octet_bits, reversed};
 pub use span::Span;
 pub use spent::Spent;

@@ -1,8 +1,12 @@
 //! Octets as bits, the least significant first, as ISO/IEC 13239 sends them (order of bit
 //! transmission).
 
-ghost use Rattle.std.specs.Prelude.{◌≡◌, reverse};
+mod reverse;
+
+ghost use Rattle.std.specs.Prelude.{◌≡◌};
 ghost use Rattle.bus_bits.specs.Octet.{bits_of, number};
+
+pub use reverse::reversed;
 
 /// The bits of an octet, the least significant first.
 pub fn octet_bits(o: u8) -> [bool; 8]
@@ -32,14 +36,4 @@ pub fn bits_octet(b: &[bool; 8]) -> u8
         + 32 * u8::from(b[5])
         + 64 * u8::from(b[6])
         + 128 * u8::from(b[7])
-}
-
-/// The octet with the same bits in reverse order.
-#[inline(always)]
-pub fn reversed(o: u8) -> u8
-    ensures { bits_of 8 result ≡ reverse (bits_of 8 o) }
-{
-    // Five copies, of which a mask leaves each bit once, where the product brings it to its place.
-    let spread = (u64::from(o) * 0x80200802) & 0x0884422110;
-    (spread.wrapping_mul(0x0101010101) >> 32 & 0xff) as u8
 }

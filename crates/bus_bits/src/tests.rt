@@ -48,13 +48,21 @@ fn text_stops_at_a_bad_mark(rt: HostRuntime) {
 }
 
 #[test]
-fn eight_marks_are_an_octet(rt: HostRuntime) {
+fn eight_bits_are_an_octet(rt: HostRuntime) {
     for (octets, want) in [
-        (&b"0010011011"[..], Some(0x64)),
-        (&b"0010 0110"[..], None),
+        (&b"0010011011"[..], Some((0x64, 8))),
+        (&b"00100110\n"[..], Some((0x64, 8))),
+        (&b"\n00100110"[..], Some((0x64, 9))),
+        (&b"0010 01101"[..], Some((0x64, 9))),
+        (&b"0010011\r0"[..], Some((0x64, 9))),
+        (&b"0010 011 0"[..], None),
+        (&b"0010 011"[..], None),
+        (&b"0010 0112"[..], None),
+        (&b"001020110"[..], None),
         (&b"0010011"[..], None),
         (&b"00100112"[..], None),
     ] {
+        let want = want.map(|(octet, taken)| EightBits { octet, taken });
         assert_eq!(rt; TextBits::eight(octets), want);
     }
 }

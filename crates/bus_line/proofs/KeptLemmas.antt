@@ -1,10 +1,11 @@
 -- What is left of an octet without the inserted 0s.
-use Rattle.std.proofs.Common.{◌≡◌, ◌≢◌, ℕ, zero, suc, ◌+◌, ◌-◌, ◌/◌, ◌%◌, ◌^◌, ◌<◌, ◌≤◌, ◌==◌, Bool, List, [], ◌∷◌, ◌++◌, drop, reverse, refl, sym, ap, ◌∙◌, subst, arith, bit_or, inl, inr}
+use Rattle.std.proofs.Common.{◌≡◌, ◌≢◌, ℕ, zero, suc, ◌+◌, ◌-◌, ◌/◌, ◌%◌, ◌^◌, ◌<◌, ◌≤◌, ◌==◌, Bool, List, [], ◌∷◌, ◌++◌, drop, reverse, refl, sym, ap, ◌∙◌, subst, arith, bit_or, nat_eq, not, inl, inr}
 use Rattle.std.specs.Prelude.{bit_and, bit_xor, true, false, ◌||◌, ◌↔◌}
+use mir.Val.{bool_byte}
 use Rattle.std.specs.Int.Count.{count_trailing_zeros}
 use Rattle.std.specs.Int.{bit_at, w8, trailing_zeros}
-use Rattle.std.proofs.lemmas.Nat.{shr-shr, and_le_l, pow_below}
-use Rattle.std.proofs.lemmas.Nat.Bits.{bit_at-suc, bit_at-zero, bit_at_and, bit_at_or, bit_at_not, bit_at_ones, bit_at_ones_above, bit_at_above, bit_at-trailing_zeros}
+use Rattle.std.proofs.lemmas.Nat.{shr-shr, and_le_l, pow_below, pow_pos}
+use Rattle.std.proofs.lemmas.Nat.Bits.{bit_at-suc, bit_at-zero, bit_at_and, bit_at_or, bit_at_not, bit_at_ones, bit_at_ones_above, bit_at_above, bit_at-lt, bit_at-trailing_zeros}
 use Rattle.std.proofs.lemmas.List.{reverse-append, length-reverse}
 use Rattle.std.proofs.lemmas.Bool.{cases_lt, eq-eqb, ne_eqb, eqb-true}
 use Rattle.std.proofs.Math.Seq.{drop-append_seam}
@@ -168,6 +169,58 @@ squeezed-turn x s (suc k) h z l b =
       ap (kept (without x (below s)) (bit_and (s / 2) (255 - below s))) q
           ∙ kept-without x (without x (below s)) s (bit_and (s / 2) (255 - below s)) j k f t.1 (without-is x (below s) j k m t.0 (omega (arith, l))) (rest-is s (below s) j k m t.0 (omega (arith, l)) t.2),
     )
+
+-- the same without a branch: where none is marked, all places are below
+abbrev pub lower : ℕ → ℕ
+lower s = bit_and (bit_xor s ((s + 4294967295) % 4294967296) / 2) 255
+
+are_lower : ℕ → Bool
+are_lower s = (s == 0) || (lower s == below s)
+
+all-lower : upto are_lower 256 ≡ true
+unfolding upto are_lower
+all-lower = refl
+
+lower-is : (s : ℕ) → 0 < s → s < 256 → lower s ≡ below s
+unfolding are_lower
+lower-is s h l =
+    let z : (s == 0) ≡ false = ne_eqb s 0 (λ e. omega (arith, h, e)) in
+    let here : ((s == 0) || (lower s == below s)) ≡ true = upto-all are_lower 256 all-lower s l in
+    eqb-true _ _ (subst (λ (b : Bool). (b || (lower s == below s)) ≡ true) z here)
+
+abbrev Turned : ℕ → ℕ → ℕ → ℕ → ℕ → Type 0
+Turned x s t n k = (bit_and (s / 2) (255 - lower t) < 2 ^ k) × (kept (without x (lower t)) (bit_and (s / 2) (255 - lower t)) k ≡ kept x s n)
+
+unmarked : (x n : ℕ) → n ≤ 8 → Turned x 0 0 n n
+unmarked x n h = (
+  pow_pos n,
+  kept-same x (without x 255) 0 0 n
+      (λ i l. omega (arith, bit_at_or (bit_and x 255) (bit_and (x / 2) 0) i, bit_at_and x 255 i, bit_at_ones 8 i (omega (arith, l, h)), bit_at_and (x / 2) 0 i, bit_at-zero i, bit_at-lt x i))
+      (λ i l. refl),
+)
+
+octet_below : (s n : ℕ) → s < 2 ^ n → n ≤ 8 → s < 256
+octet_below s n b f = elim (cases_lt n 8) [
+  | inl l ↦ omega (arith, b, pow_below n 8 l)
+  | inr g ↦ let e : n ≡ 8 = omega (arith, f, g) in subst (λ (i : ℕ). s < 2 ^ i) e b
+]
+
+-- one step: the lowest marked bit is taken out, if there is one
+pub lowest-out : (x s t n m : ℕ) → t ≡ s → n ≤ 8 → s < 2 ^ n → m ≡ bool_byte (not (nat_eq s 0)) → Turned x s t n (n - m)
+lowest-out x s t n m e f b d =
+    let l = octet_below s n b f in
+    elim (cases_lt 0 s) [
+      | inl p ↦
+          let some : (s == 0) ≡ false = ne_eqb s 0 (λ z. omega (arith, p, z)) in
+          let k : n - 1 ≡ n - m = ap (λ (i : ℕ). n - i) (sym (d ∙ ap (λ c. bool_byte (not c)) some)) in
+          let u = squeezed-turn x s n l (λ z. omega (arith, p, z)) f b in
+          subst (Turned x s t n) k (subst (λ (i : ℕ). (bit_and (s / 2) (255 - i) < 2 ^ (n - 1)) × (kept (without x i) (bit_and (s / 2) (255 - i)) (n - 1) ≡ kept x s n))
+          (sym (ap lower e ∙ lower-is s p l)) (u.1, u.2))
+      | inr g ↦
+          let z : 0 ≡ s = omega (arith, g) in
+          let k : n ≡ n - m = let i : m ≡ 0 = d ∙ ap (λ (c : ℕ). bool_byte (not (nat_eq c 0))) (sym z) in omega (arith, i) in
+          subst (Turned x s t n) k (subst (λ (i : ℕ). Turned x s i n n) (z ∙ sym e) (subst (λ (i : ℕ). Turned x i 0 n n) z (unmarked x n f)))
+    ]
 
 -- the highest of the bits turned round
 pub turned : (x r n : ℕ) → n ≤ 8 → bits_of 8 r ≡ reverse (bits_of 8 x) → bits_of n (r / 2 ^ (8 - n)) ≡ reverse (bits_of n x)

@@ -4,6 +4,7 @@ mod decide;
 mod event;
 mod late;
 mod look;
+mod marked;
 mod octet;
 mod step;
 

@@ -17,11 +17,11 @@ octet-middle xs os i x h is = grind (arith, common_steps)
 pub octet-next : (xs os : List ℕ) (i x : ℕ) → i < length os → x ≡ get_or os i 0 → (xs ++ take i os) ++ x ∷ [] ≡ xs ++ take (i + 1) os
 octet-next xs os i x h is = grind (arith, common_steps)
 
--- the eight octets behind those before it
-pub eight-next : (xs os : List ℕ) (i : ℕ) → (xs ++ take i os) ++ take 8 (take (length os - i) (drop i os)) ≡ xs ++ take (i + 8) os
-eight-next xs os i =
-    append_assoc xs (take i os) _ ∙ ap (λ (ys : List ℕ). xs ++ (take i os ++ take 8 ys)) (take_all (length os - i) (drop i os) (omega (arith, length-drop i os)))
-    ∙ ap (λ (ys : List ℕ). xs ++ ys) (sym (take-add i 8 os))
+-- some octets behind those before them
+pub octets-next : (xs os : List ℕ) (i n : ℕ) → (xs ++ take i os) ++ take n (take (length os - i) (drop i os)) ≡ xs ++ take (i + n) os
+octets-next xs os i n =
+    append_assoc xs (take i os) _ ∙ ap (λ (ys : List ℕ). xs ++ (take i os ++ take n ys)) (take_all (length os - i) (drop i os) (omega (arith, length-drop i os)))
+    ∙ ap (λ (ys : List ℕ). xs ++ ys) (sym (take-add i n os))
 
 -- how many octets stand before it
 pub octets-before : (xs os : List ℕ) (i : ℕ) → i < length os → length (xs ++ take i os) ≡ length xs + i

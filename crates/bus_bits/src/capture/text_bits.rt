@@ -1,22 +1,13 @@
 //! The bits of a text capture.
 
-ghost use Rattle.std.specs.Prelude.{◌≡◌, ℕ, List, [], ◌∷◌, ◌++◌, ◌≤◌, length, take, MatchResult, Some, None, IsSome, ◌↔◌, true};
-ghost use Rattle.std.specs.List.{list_all};
+ghost use Rattle.std.specs.Prelude.{◌≡◌, ℕ, List, [], ◌∷◌, ◌++◌, ◌≤◌, ◌⊎◌, length, take, MatchResult, Some, None, IsSome, ◌↔◌};
 ghost use Rattle.std.specs.Option.{ForSome, option_to_list};
 ghost use Rattle.bus_bits.specs.Octet.{bits_of};
-ghost use Rattle.bus_bits.specs.Capture.{text_bits, text_fault, bad_mark, is_mark, is_space};
+ghost use Rattle.bus_bits.specs.Capture.{EightIn, text_bits, text_fault, bad_mark, is_space};
+
+use super::eight_bits::{EightBits, gathered, joined, other_bits};
 
 const ONE: u8 = b'1';
-
-/// Eight octets `0`.
-const ZEROS: u64 = 0x3030_3030_3030_3030;
-
-/// All bits of eight octets, without the lowest of each.
-const HIGH: u64 = 0xfefe_fefe_fefe_fefe;
-
-/// The product of this and eight octets, each 0 or 1, has these as the bits of its highest octet,
-/// the first the lowest.
-const GATHER: u64 = 0x0102_0408_1020_4080;
 
 /// The octet is no `0`, no `1` and no space.
 #[derive(Clone, Copy, Debug, PartialEq, Eq)]
@@ -52,22 +43,34 @@ impl TextBits {
         }
     }
 
-    /// The first eight octets as the bits of an octet, the first the lowest; None where there are
-    /// fewer, or one of them is neither `0` nor `1`.
+    /// The next eight bits, and how many octets they take: eight, or nine where one of these is
+    /// skipped. None where the next nine octets do not begin so.
     #[inline(always)]
-    pub fn eight(octets: &[u8]) -> Option<u8>
-        ensures given { ForSome result (λ o. (xs : List ℕ) → text_fault xs ≡ None →
-            (text_fault (xs ++ take 8 octets.now) ≡ None) × (text_bits (xs ++ take 8 octets.now) ≡ text_bits xs ++ bits_of 8 o)) }
-        ensures enough { IsSome result → 8 ≤ length octets.now }
-        ensures some { IsSome result ↔ ((8 ≤ length octets.now) × (list_all is_mark (take 8 octets.now) ≡ true)) }
+    pub fn eight(octets: &[u8]) -> Option<EightBits>
+        ensures given { ForSome result (λ e. (xs : List ℕ) → text_fault xs ≡ None →
+            (text_fault (xs ++ take e.taken octets.now) ≡ None) × (text_bits (xs ++ take e.taken octets.now) ≡ text_bits xs ++ bits_of 8 e.octet)) }
+        ensures fewest { ForSome result (λ e. EightIn e.taken octets.now × ((n : ℕ) → EightIn n octets.now → e.taken ≤ n)) }
+        ensures few { ForSome result (λ e. (8 ≤ e.taken) × (e.taken ≤ 9)) }
+        ensures some { IsSome result ↔ (EightIn 8 octets.now ⊎ EightIn 9 octets.now) }
     {
-        let eight: &[u8; 8] = octets.first_chunk()?;
-        // `0` becomes 0, `1` becomes 1, and each other octet more.
-        let marks = u64::from_le_bytes(*eight) ^ ZEROS;
-        if marks & HIGH != 0 {
+        let front: &[u8; 8] = octets.first_chunk()?;
+        let others = other_bits(front);
+        if others == 0 {
+            return Some(EightBits {
+                octet: gathered(front),
+                taken: 8,
+            });
+        }
+        let back: &[u8; 8] = octets[1..].first_chunk()?;
+        let place = others.trailing_zeros() / 8;
+        let marks = joined(front, back, place);
+        if other_bits(&marks) != 0 || !is_skipped(front[place as usize]) {
             return None;
         }
-        Some((marks.wrapping_mul(GATHER) >> 56) as u8)
+        Some(EightBits {
+            octet: gathered(&marks),
+            taken: 9,
+        })
     }
 }
 

@@ -4,6 +4,7 @@ ghost use Rattle.std.specs.Prelude.{◌≡◌, ◌≤◌, ◌<◌, ◌+◌, ◌/
 ghost use Rattle.bus_bits.specs.Octet.{bits_of, number};
 ghost use Rattle.bus_line.specs.Late.{IsCalm, kept, late_data};
 
+use crate::decoder::marked::Marked;
 use bus_bits::reversed;
 
 /// Data bits, at most eight, the first lowest.
@@ -58,19 +59,18 @@ fn squeezed(octet: u8, inserted: u8) -> Data
     ensures few { result.count ≤ 8 }
     ensures small { result.bits < 2 ^ result.count }
 {
-    let mut bits = octet;
-    let mut rest = inserted;
-    let mut count: u64 = 8;
-    while rest != 0 {
-        // the places below the lowest marked bit, which is taken out
-        let below = (rest ^ (rest - 1)) >> 1;
-        bits = bits & below | bits >> 1 & !below;
-        rest = rest >> 1 & !below;
-        count -= 1;
+    let mut left = Marked {
+        bits: octet,
+        marks: inserted,
+        count: 8,
+    }
+    .without_lowest();
+    while left.marks != 0 {
+        left = left.without_lowest();
     }
     Data {
-        bits: (u32::from(reversed(bits)) >> (8 - count)) as u8,
-        count,
+        bits: (u32::from(reversed(left.bits)) >> (8 - left.count)) as u8,
+        count: left.count,
     }
 }
 

@@ -1,6 +1,7 @@
 //! Takes the octets of a text capture.
 
-ghost use Rattle.std.specs.Prelude.{◌≡◌, ◌+◌, ◌≤◌, ◌<◌, ◌^◌, ℕ, List, [], ◌∷◌, ◌++◌, Option, MatchResult, OnOk, IsTrue, length, take, true, false};
+ghost use Rattle.std.specs.Prelude.{◌≡◌, ◌+◌, ◌≤◌, ◌<◌, ◌^◌, ℕ, List, [], ◌∷◌, ◌++◌, Option, MatchResult, OnOk, IsTrue, length, take, true, false, None};
+ghost use Rattle.std.specs.Option.{ForSome};
 ghost use Rattle.bus_tool.specs.Watching.{IsSound, IsSame};
 ghost use Rattle.bus_tool.specs.Sessions.{FollowsMarks, FollowsText, Stops};
 
@@ -18,21 +19,20 @@ pub struct TextCapture {
     pub at: u128,
 }
 
-/// Takes the first eight octets at once if they are bits and decide nothing, and answers whether it
-/// did; else nothing changed.
+/// Takes the next eight bits at once if the next octets give them and they decide nothing, and
+/// answers how many octets these were; else nothing changed.
 #[inline(always)]
-fn pass_eight<C: Check>(octets: &[u8], watch: &mut Watch<C>) -> bool
+fn pass_eight<C: Check>(octets: &[u8], watch: &mut Watch<C>) -> Option<usize>
     requires { IsSound watch.old }
-    ensures enough { IsTrue result → 8 ≤ length octets.now }
-    ensures passed { IsTrue result → (start now : Option (List ℕ)) (xs : List ℕ) → FollowsMarks C.folded C.COST start now watch.old xs → FollowsMarks C.folded C.COST start now watch.new (xs ++ take 8 octets.now) }
-    ensures kept { result ≡ false → watch.new ≡ watch.old }
+    ensures enough { ForSome result (λ n. (0 < n) × (n ≤ length octets.now)) }
+    ensures passed { ForSome result (λ n. (start now : Option (List ℕ)) (xs : List ℕ) → FollowsMarks C.folded C.COST start now watch.old xs →
+        FollowsMarks C.folded C.COST start now watch.new (xs ++ take n octets.now)) }
+    ensures kept { result ≡ None → watch.new ≡ watch.old }
     ensures same { IsSame watch.old watch.new }
     ensures sound { IsSound watch.new }
 {
-    match TextBits::eight(octets) {
-        Some(octet) => watch.pass_octet(octet),
-        None => false,
-    }
+    let bits = TextBits::eight(octets)?;
+    watch.pass_octet(bits.octet).then_some(bits.taken)
 }
 
 /// Takes one octet if it decides nothing, and answers whether it did; else nothing changed.
@@ -94,8 +94,8 @@ impl TextCapture {
         captures_grow();
         let mut taken = 0;
         while taken < octets.len() {
-            if pass_eight(&octets[taken..], watch) {
-                taken += 8;
+            if let Some(passed) = pass_eight(&octets[taken..], watch) {
+                taken += passed;
                 continue;
             }
             let octet = octets[taken];

@@ -4,7 +4,7 @@ use Rattle.bus_bits.specs.Capture.{text_capture, placed}
 use Rattle.bus_tool.specs.Sessions.{FollowsMarks}
 use Rattle.bus_tool.proofs.WatchLemmas.{same-self, same-both}
 use Rattle.bus_tool.proofs.CaptureLemmas.{stops-more}
-use Rattle.bus_tool.proofs.TextCaptureLemmas.{octets-before, octet-next, eight-next, placed-grown, kept-marks}
+use Rattle.bus_tool.proofs.TextCaptureLemmas.{octets-before, octet-next, octets-next, placed-grown, kept-marks}
 use Rattle.bus_tool.proofs.capture.text.TextCapture.take.Goals as goal
 
 pub loop-taken-init : goal.loop-taken-init
@@ -17,16 +17,16 @@ loop-taken-init g c = record {
 pub pass_eight-requires : goal.pass_eight-requires
 pass_eight-requires g c = c.loop-taken.invariant.sound
 
-pub loop-taken-preserved-then-pass_eight : goal.loop-taken-preserved-then-pass_eight
-loop-taken-preserved-then-pass_eight g c = record {
+pub loop-taken-preserved-in-Some : goal.loop-taken-preserved-in-Some
+loop-taken-preserved-in-Some g c = record {
   sound = c.pass_eight.ensures.sound;
   same = same-both c.args.watch.now c.loop-taken.watch c.pass_eight.new.watch c.loop-taken.invariant.same c.pass_eight.ensures.same;
   front = λ start xs t.
       let os = c.args.octets.now in
       let i = c.loop-taken.taken in
       subst (FollowsMarks g.C.Check.folded g.C.Check.COST start (g.W.Write.contents c.loop-taken.w) c.pass_eight.new.watch)
-      (eight-next xs os i)
-      (c.if-pass_eight.ensures.passed refl start (g.W.Write.contents c.loop-taken.w) (xs ++ take i os) (c.loop-taken.invariant.front start xs t));
+      (octets-next xs os i c.in-Some.passed)
+      (c.in-Some.ensures.passed c.in-Some.passed refl start (g.W.Write.contents c.loop-taken.w) (xs ++ take i os) (c.loop-taken.invariant.front start xs t));
 }
 
 pub pass_one-requires : goal.pass_one-requires
@@ -43,7 +43,7 @@ loop-taken-preserved-then-pass_one g c = record {
       subst (FollowsMarks g.C.Check.folded g.C.Check.COST start (g.W.Write.contents c.loop-taken.w) c.pass_one.new.watch)
       (octet-next xs os i (get_or os i 0) c.loop-taken-test.true refl)
       (c.if-pass_one.ensures.passed refl start (g.W.Write.contents c.loop-taken.w) (xs ++ take i os)
-      (kept-marks g.C.Check.folded g.C.Check.COST start _ _ _ (xs ++ take i os) (c.if-pass_eight.ensures.kept refl) (c.loop-taken.invariant.front start xs t)));
+      (kept-marks g.C.Check.folded g.C.Check.COST start _ _ _ (xs ++ take i os) (c.in_default.ensures.kept refl) (c.loop-taken.invariant.front start xs t)));
 }
 
 pub returns-in-Err-clause-taken : goal.returns-in-Err-clause-taken
@@ -54,7 +54,7 @@ returns-in-Err-clause-taken g c =
     let x = get_or os i 0 in
     let front = xs ++ take i os in
     let at : c.args.self.now.at + i ≡ length front = omega (arith, t.at, octets-before xs os i c.loop-taken-test.true) in
-    let here = kept-marks g.C.Check.folded g.C.Check.COST start _ _ _ front (c.if-pass_one.ensures.kept refl ∙ c.if-pass_eight.ensures.kept refl) (c.loop-taken.invariant.front start xs t) in
+    let here = kept-marks g.C.Check.folded g.C.Check.COST start _ _ _ front (c.if-pass_one.ensures.kept refl ∙ c.in_default.ensures.kept refl) (c.loop-taken.invariant.front start xs t) in
     let stops = c.in-Err.ensures.taken start front at here in
     let origin = c.take_one.new.watch.analyser.decoder.origin in
     stops-more g.C.Check.folded g.C.Check.COST start _ c.take_one.new.watch (placed origin (text_capture (front ++ x ∷ []))) (placed origin (text_capture (xs ++ os))) c.in-Err.fault
@@ -81,8 +81,8 @@ loop-taken-preserved g c = record {
       let at : c.args.self.now.at + i ≡ length front = omega (arith, t.at, octets-before xs os i c.loop-taken-test.true) in
       subst (FollowsMarks g.C.Check.folded g.C.Check.COST start (g.W.Write.contents c.take_one.new.w) c.take_one.new.watch)
       (octet-next xs os i (get_or os i 0) c.loop-taken-test.true refl)
-      (c.in_default.ensures.taken start front at
-      (kept-marks g.C.Check.folded g.C.Check.COST start _ _ _ front (c.if-pass_one.ensures.kept refl ∙ c.if-pass_eight.ensures.kept refl) (c.loop-taken.invariant.front start xs t)));
+      (c.in_default-take_one.ensures.taken start front at
+      (kept-marks g.C.Check.folded g.C.Check.COST start _ _ _ front (c.if-pass_one.ensures.kept refl ∙ c.in_default.ensures.kept refl) (c.loop-taken.invariant.front start xs t)));
 }
 
 pub returns-clause-taken : goal.returns-clause-taken

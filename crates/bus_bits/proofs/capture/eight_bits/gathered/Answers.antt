@@ -1,0 +1,13 @@
+use Rattle.std.proofs.Common.{◌<◌}
+use Rattle.std.proofs.lemmas.List.Elements.{All-from_get_or}
+use Rattle.bus_bits.proofs.EightLemmas.{gathered-bits}
+use Rattle.bus_bits.proofs.capture.eight_bits.gathered.Goals as goal
+
+pub returns : goal.returns
+returns c =
+    let bs = c.args.octets.now in
+    gathered-bits bs c.from_le_bytes.result (record {
+      long = c.told-octets;
+      small = All-from_get_or (λ b. b < 256) bs 0 (λ i l. c.fits-octets i);
+      value = c.from_le_bytes.ensures;
+    }) c.requires

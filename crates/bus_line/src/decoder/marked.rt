@@ -1,0 +1,37 @@
+//! Bits of which some are to be left out.
+
+ghost use Rattle.std.specs.Prelude.{◌≡◌, ◌≢◌, ◌≤◌, ◌<◌, ◌^◌};
+ghost use Rattle.bus_line.specs.Late.{kept};
+
+/// Bits, at most eight, the first highest, and marks on some of them.
+#[derive(Clone, Copy)]
+pub(crate) struct Marked {
+    pub(crate) bits: u8,
+    /// 1 at the place of each bit that is marked.
+    pub(crate) marks: u8,
+    pub(crate) count: u64,
+}
+
+impl Marked {
+    /// The bits without the lowest that is marked, if there is one, found without a branch, since
+    /// the line's data decide whether one is.
+    #[inline(always)]
+    pub(crate) fn without_lowest(self) -> Marked
+        requires few { self.count ≤ 8 }
+        requires marked { self.marks < 2 ^ self.count }
+        ensures same { kept result.bits result.marks result.count ≡ kept self.bits self.marks self.count }
+        ensures few { result.count ≤ 8 }
+        ensures marked { result.marks < 2 ^ result.count }
+        ensures fewer { self.marks ≢ 0 → result.count < self.count }
+    {
+        let Marked { bits, marks, count } = self;
+        // the places below the lowest mark, and all where there is none
+        let wide = u32::from(marks);
+        let below = ((wide ^ wide.wrapping_sub(1)) >> 1 & 0xff) as u8;
+        Marked {
+            bits: bits & below | bits >> 1 & !below,
+            marks: marks >> 1 & !below,
+            count: count - u64::from(marks != 0),
+        }
+    }
+}
