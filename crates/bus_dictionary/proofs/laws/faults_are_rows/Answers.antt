@@ -1,5 +1,0 @@
-use Rattle.bus_dictionary.proofs.FaultLemmas.{fault_is_row}
-use Rattle.bus_dictionary.proofs.laws.faults_are_rows.Goals as goal
-
-pub returns : goal.returns
-returns c = fault_is_row
