@@ -1,13 +1,9 @@
 //! The program.
 
-use crate::check::check_capture;
-use crate::encode::encode_frames;
-use crate::fault::ToolFault;
-use crate::list::list_capture;
-use crate::show::show_frame;
-use crate::summary::Summary;
-use crate::text::put_text;
 use crate::words::{READS, Refusal, Request, read_words};
+use bus_capture::{check_capture, list_capture};
+use bus_encode::encode_frames;
+use bus_text::{Summary, ToolFault, put_text, show_frame};
 use clap::Error;
 use clap::error::ErrorKind;
 use std::alloc::{AllocError, Global};

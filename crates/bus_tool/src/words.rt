@@ -2,8 +2,7 @@
 
 mod help;
 
-use crate::kind::Kind;
-use crate::options::Options;
+use bus_text::{Kind, Options};
 use clap::{Arg, ArgAction, ArgMatches, Command, Error, value_parser};
 use std::alloc::Global;
 

@@ -1,0 +1,49 @@
+use Rattle.std.proofs.Common.{[], Err}
+use Rattle.bus_capture.specs.Captures.{whole_capture}
+use Rattle.bus_capture.specs.Sessions.{is_text}
+use Rattle.bus_text.proofs.Bytes.{consumes_nothing, appends_nothing}
+use Rattle.bus_capture.proofs.CheckingLemmas.{checked, checks-nothing, ends-checks, stops-checks}
+use Rattle.bus_capture.proofs.KnownLemmas.{Laws, known-checks}
+use Rattle.bus_capture.proofs.check.check_capture.Goals as goal
+
+pub returns-in-Err : goal.returns-in-Err
+returns-in-Err g c =
+    let checks = checks-nothing c.args.o.now _ (g.W.Write.contents c.args.w.now) (g.W.Write.contents c.args.w.now) c.in-Err.fault c.in-Err.ensures.made (appends_nothing _) in
+    let law : Laws = record { text = c.captures_grow.ensures.text; packed = c.captures_grow.ensures.packed; ended = c.captures_grow.ensures.ended; places = c.captures_grow.ensures.placed; seen = c.seen_grows.ensures.grows } in
+    record {
+      checked = ([], consumes_nothing _, checks);
+      known = known-checks law c.args.o.now _ _ _ _ [] (Err c.in-Err.fault) (consumes_nothing (g.R.Read.remaining c.args.r.now)) checks;
+    }
+
+pub returns-in-Ok-take_input : goal.returns-in-Ok-take_input
+returns-in-Ok-take_input g c =
+    let o = c.args.o.now in
+    let start = g.W.Write.contents c.args.w.now in
+    let w = c.take_input.new.self.watch in
+    let made = c.in-Ok.ensures.made in
+    let given = c.in-Ok.ensures.given in
+    let read = c.in-Ok-take_input.ensures.read in
+    let asked = checked _ _ o made.0 c.in-Ok.session.watch w given.1 made.2 c.take_input.ensures.same in
+    let checks = ends-checks _ _ o made.0 (is_text c.in-Ok.session.source) (g.R.Read.remaining c.take_input.new.r) start _ _ w read.0 c.report.result made.1 asked given.0 read.2
+    (c.report.ensures start (whole_capture (is_text c.in-Ok.session.source) w.analyser.decoder.origin read.0).bits read.2.bits) in
+    let law : Laws = record { text = c.captures_grow.ensures.text; packed = c.captures_grow.ensures.packed; ended = c.captures_grow.ensures.ended; places = c.captures_grow.ensures.placed; seen = c.seen_grows.ensures.grows } in
+    record {
+      checked = (read.0, read.1, checks);
+      known = known-checks law o (g.R.Read.remaining c.args.r.now) (g.R.Read.remaining c.take_input.new.r) start _ read.0 c.report.result read.1 checks;
+    }
+
+pub returns-in-Err-take_input : goal.returns-in-Err-take_input
+returns-in-Err-take_input g c =
+    let o = c.args.o.now in
+    let start = g.W.Write.contents c.args.w.now in
+    let w = c.take_input.new.self.watch in
+    let made = c.in-Ok.ensures.made in
+    let given = c.in-Ok.ensures.given in
+    let read = c.in-Err-take_input.ensures.read in
+    let asked = checked _ _ o made.0 c.in-Ok.session.watch w given.1 made.2 c.take_input.ensures.same in
+    let checks = stops-checks _ _ o made.0 (is_text c.in-Ok.session.source) (g.R.Read.remaining c.take_input.new.r) start _ w read.0 c.in-Err-take_input.fault made.1 asked given.0 read.2 in
+    let law : Laws = record { text = c.captures_grow.ensures.text; packed = c.captures_grow.ensures.packed; ended = c.captures_grow.ensures.ended; places = c.captures_grow.ensures.placed; seen = c.seen_grows.ensures.grows } in
+    record {
+      checked = (read.0, read.1, checks);
+      known = known-checks law o (g.R.Read.remaining c.args.r.now) (g.R.Read.remaining c.take_input.new.r) start _ read.0 (Err c.in-Err-take_input.fault) read.1 checks;
+    }

@@ -1,0 +1,173 @@
+//! Reads a capture to its end.
+
+ghost use Rattle.std.specs.Prelude.{◌≡◌, ◌+◌, ◌<◌, ◌≤◌, ◌^◌, ℕ, List, [], ◌++◌, Option, Some, None, MatchResult, OnOk, IfOk, length};
+ghost use Rattle.std.specs.Io.KnownBytes.{Consumes};
+ghost use Rattle.bus_bits.specs.Capture.{CaptureFault};
+ghost use Rattle.bus_dictionary.specs.Entry.{FrameType};
+ghost use Rattle.bus_capture.specs.Begins.{Begins, Refuses, IsAsked};
+ghost use Rattle.bus_capture.specs.Captures.{unplaced, unplaced_whole};
+ghost use Rattle.bus_capture.specs.Sessions.{IsCapture, IsReadBy, Follows, Stops, is_text};
+ghost use Rattle.bus_capture.specs.Reading.{marks, IsWhole, IsFaulty, Finishes};
+ghost use Rattle.bus_capture.specs.Watching.{IsSound, IsSame};
+
+use crate::packed::PackedCapture;
+use crate::text::TextCapture;
+use crate::watch::Watch;
+use bus_bits::laws::packed_is_head_and_body;
+use bus_fcs::Check;
+use bus_text::{Cut, Options, Page, Printer, Summary, ToolFault, read_dictionary};
+use bus_watch::{Analyser, NewFault};
+use std::alloc::Global;
+use std::io::{Read, Write};
+
+/// How many octets are asked for at once.
+const ROOM: usize = 16384;
+
+/// What a capture is, as far as it was read.
+#[derive(Drop)]
+pub enum Source {
+    Text(TextCapture),
+    Packed(PackedCapture),
+}
+
+/// A capture that is read, and what is seen at its bits.
+#[derive(Drop)]
+pub struct Session<C: Check> {
+    pub source: Source,
+    pub watch: Watch<C>,
+}
+
+/// An analyser by the dictionary and the depth and the origin that are asked for.
+fn new_analyser<C: Check>(alloc: Global, options: &Options<'_>) -> Result<Analyser<C>, ToolFault>
+    ensures { MatchResult result
+        (λ analyser. (d : List FrameType) × Begins options.now d × IsAsked C.folded C.COST options.now d analyser)
+        (λ fault. Refuses options.now fault) }
+{
+    let dictionary = match read_dictionary(alloc, options.dictionary) {
+        Ok(dictionary) => dictionary,
+        Err(fault) => return Err(fault),
+    };
+    match Analyser::new(alloc, dictionary, options.depth, options.origin) {
+        Ok(analyser) => Ok(analyser),
+        Err(NewFault::DepthRange) => Err(ToolFault::Depth),
+        Err(NewFault::Origin) => Err(ToolFault::Origin),
+        Err(NewFault::Memory) => Err(ToolFault::Memory),
+    }
+}
+
+impl<C: Check> Session<C> {
+    /// No octets of the capture that the options tell of.
+    pub fn new(
+        alloc: Global,
+        options: &Options<'_>,
+        printer: Option<Printer>,
+    ) -> Result<Self, ToolFault>
+        ensures made { MatchResult result
+            (λ session. (d : List FrameType) × Begins options.now d × IsAsked C.folded C.COST options.now d session.watch.analyser)
+            (λ fault. Refuses options.now fault) }
+        ensures fresh { IfOk result (λ session. (start : Option (List ℕ)) → Follows C.folded C.COST start start session.source session.watch []) }
+        ensures given { IfOk result (λ session. (is_text session.source ≡ options.now.text) × (session.watch.printer ≡ printer) × (marks session.source ≡ 0)) }
+        ensures sound { IfOk result (λ session. IsSound session.watch) }
+    {
+        let analyser = match new_analyser(alloc, options) {
+            Ok(analyser) => analyser,
+            Err(fault) => return Err(fault),
+        };
+        let source = if options.text {
+            Source::Text(TextCapture { at: 0 })
+        } else {
+            Source::Packed(PackedCapture::new())
+        };
+        Ok(Session {
+            source,
+            watch: Watch {
+                analyser,
+                summary: Summary::none(),
+                printer,
+                page: Page::new(),
+            },
+        })
+    }
+
+    /// Takes some octets, up to the first fault.
+    fn take<W: Write>(&mut self, octets: &[u8], w: &mut W) -> Result<(), ToolFault>
+        requires sound { IsSound self.old.watch }
+        requires few { marks self.old.source + length octets.now < 2 ^ 100 }
+        ensures taken { (start : Option (List ℕ)) (xs : List ℕ) → Follows C.folded C.COST start (W.contents w.old) self.old.source self.old.watch xs → MatchResult result
+            (λ _. Follows C.folded C.COST start (W.contents w.new) self.new.source self.new.watch (xs ++ octets.now))
+            (λ fault. Stops C.folded C.COST (is_text self.old.source) start (W.contents w.new) self.new.watch (xs ++ octets.now) fault) }
+        ensures text { is_text self.new.source ≡ is_text self.old.source }
+        ensures few { OnOk result (marks self.new.source ≤ marks self.old.source + length octets.now) }
+        ensures same { IsSame self.old.watch self.new.watch }
+        ensures sound { IsSound self.new.watch }
+    {
+        match &mut self.source {
+            Source::Text(text) => text.take(octets, &mut self.watch, w),
+            Source::Packed(packed) => packed.take(octets, &mut self.watch, w),
+        }
+    }
+
+    /// What is wrong where the input ends here.
+    fn finish(&self) -> Result<(), ToolFault>
+        ensures { (xs : List ℕ) → IsReadBy self.now.source xs → MatchResult result
+            (λ _. unplaced_whole (is_text self.now.source) xs ≡ record { bits = (unplaced (is_text self.now.source) xs).bits; fault = None })
+            (λ fault. (cause : CaptureFault) × IsCapture fault cause × (unplaced_whole (is_text self.now.source) xs ≡ record { bits = (unplaced (is_text self.now.source) xs).bits; fault = Some cause })) }
+    {
+        match &self.source {
+            Source::Text(_) => Ok(()),
+            Source::Packed(packed) => packed.finish(),
+        }
+    }
+
+    /// Takes what one read gave, and writes its lines.
+    fn take_read<W: Write>(&mut self, octets: &[u8], w: &mut W) -> Result<(), ToolFault>
+        requires sound { IsSound self.old.watch }
+        requires few { marks self.old.source + length octets.now < 2 ^ 100 }
+        ensures taken { (start : Option (List ℕ)) (xs : List ℕ) → Follows C.folded C.COST start (W.contents w.old) self.old.source self.old.watch xs → MatchResult result
+            (λ _. Follows C.folded C.COST start (W.contents w.new) self.new.source self.new.watch (xs ++ octets.now))
+            (λ fault. Stops C.folded C.COST (is_text self.old.source) start (W.contents w.new) self.new.watch (xs ++ octets.now) fault) }
+        ensures text { is_text self.new.source ≡ is_text self.old.source }
+        ensures few { OnOk result (marks self.new.source ≤ marks self.old.source + length octets.now) }
+        ensures same { IsSame self.old.watch self.new.watch }
+        ensures sound { IsSound self.new.watch }
+    {
+        packed_is_head_and_body();
+        if let Err(fault) = self.take(octets, w) {
+            return Err(fault);
+        }
+        match self.watch.page.turn(w) {
+            Ok(()) => Ok(()),
+            Err(Cut { sent }) => Err(ToolFault::Write { written: sent }),
+        }
+    }
+
+    /// Reads to the end or the first fault, by at most `reads` calls of the reader.
+    pub fn take_input<R: Read, W: Write>(
+        &mut self,
+        reads: u64,
+        r: &mut R,
+        w: &mut W,
+    ) -> Result<(), ToolFault>
+        requires sound { IsSound self.old.watch }
+        requires fresh { (start : Option (List ℕ)) → Follows C.folded C.COST start start self.old.source self.old.watch [] }
+        requires few { marks self.old.source ≡ 0 }
+        ensures read { (xs : List ℕ) × Consumes (R.remaining r.old) (R.remaining r.new) xs
+            × Finishes C.folded C.COST (is_text self.old.source) reads (R.remaining r.new) (W.contents w.old) (W.contents w.new) self.new.watch xs result }
+        ensures same { IsSame self.old.watch self.new.watch }
+        ensures sound { IsSound self.new.watch }
+    {
+        packed_is_head_and_body();
+        let mut buffer = [0; ROOM];
+        for _turn in 0..reads {
+            let count = match r.read(&mut buffer) {
+                Ok(0) => return self.finish(),
+                Ok(count) => count,
+                Err(_) => return Err(ToolFault::Read),
+            };
+            if let Err(fault) = self.take_read(&buffer[..count], w) {
+                return Err(fault);
+            }
+        }
+        Err(ToolFault::ReadsLimit)
+    }
+}

@@ -1,0 +1,114 @@
+//! Takes the octets of a text capture.
+
+ghost use Rattle.std.specs.Prelude.{◌≡◌, ◌+◌, ◌≤◌, ◌<◌, ◌^◌, ℕ, List, [], ◌∷◌, ◌++◌, Option, MatchResult, OnOk, IsTrue, length, take, true, false, None};
+ghost use Rattle.std.specs.Option.{ForSome};
+ghost use Rattle.bus_capture.specs.Watching.{IsSound, IsSame};
+ghost use Rattle.bus_capture.specs.Sessions.{FollowsMarks, FollowsText, Stops};
+
+use crate::watch::Watch;
+use bus_bits::laws::captures_grow;
+use bus_bits::{BadMark, TextBits};
+use bus_fcs::Check;
+use bus_text::ToolFault;
+use std::io::Write;
+
+/// A text capture, as far as it was read.
+#[derive(Clone, Copy)]
+pub struct TextCapture {
+    /// How many octets were taken.
+    pub at: u128,
+}
+
+/// Takes the next eight bits at once if the next octets give them and they decide nothing, and
+/// answers how many octets these were; else nothing changed.
+#[inline(always)]
+fn pass_eight<C: Check>(octets: &[u8], watch: &mut Watch<C>) -> Option<usize>
+    requires { IsSound watch.old }
+    ensures enough { ForSome result (λ n. (0 < n) × (n ≤ length octets.now)) }
+    ensures passed { ForSome result (λ n. (start now : Option (List ℕ)) (xs : List ℕ) → FollowsMarks C.folded C.COST start now watch.old xs →
+        FollowsMarks C.folded C.COST start now watch.new (xs ++ take n octets.now)) }
+    ensures kept { result ≡ None → watch.new ≡ watch.old }
+    ensures same { IsSame watch.old watch.new }
+    ensures sound { IsSound watch.new }
+{
+    let bits = TextBits::eight(octets)?;
+    watch.pass_octet(bits.octet).then_some(bits.taken)
+}
+
+/// Takes one octet if it decides nothing, and answers whether it did; else nothing changed.
+#[inline(always)]
+fn pass_one<C: Check>(octet: u8, watch: &mut Watch<C>) -> bool
+    requires { IsSound watch.old }
+    ensures passed { IsTrue result → (start now : Option (List ℕ)) (xs : List ℕ) → FollowsMarks C.folded C.COST start now watch.old xs → FollowsMarks C.folded C.COST start now watch.new (xs ++ octet ∷ []) }
+    ensures kept { result ≡ false → watch.new ≡ watch.old }
+    ensures same { IsSame watch.old watch.new }
+    ensures sound { IsSound watch.new }
+{
+    match TextBits::new().step(octet) {
+        Ok(Some(bit)) => watch.pass(bit),
+        Ok(None) => true,
+        Err(BadMark) => false,
+    }
+}
+
+/// Takes one octet, before which there were `at` others.
+#[inline(always)]
+fn take_one<C: Check, W: Write>(
+    octet: u8,
+    at: u128,
+    watch: &mut Watch<C>,
+    w: &mut W,
+) -> Result<(), ToolFault>
+    requires { IsSound watch.old }
+    ensures taken { (start : Option (List ℕ)) (xs : List ℕ) → at ≡ length xs → FollowsMarks C.folded C.COST start (W.contents w.old) watch.old xs → MatchResult result
+        (λ _. FollowsMarks C.folded C.COST start (W.contents w.new) watch.new (xs ++ octet ∷ []))
+        (λ fault. Stops C.folded C.COST true start (W.contents w.new) watch.new (xs ++ octet ∷ []) fault) }
+    ensures same { IsSame watch.old watch.new }
+    ensures sound { IsSound watch.new }
+{
+    match TextBits::new().step(octet) {
+        Ok(Some(bit)) => watch.take_bit(bit, w),
+        Ok(None) => Ok(()),
+        Err(BadMark) => Err(ToolFault::BadMark { at }),
+    }
+}
+
+impl TextCapture {
+    /// Takes some octets, up to the first fault.
+    #[inline(never)]
+    pub fn take<C: Check, W: Write>(
+        &mut self,
+        octets: &[u8],
+        watch: &mut Watch<C>,
+        w: &mut W,
+    ) -> Result<(), ToolFault>
+        requires sound { IsSound watch.old }
+        requires few { self.old.at + length octets.now < 2 ^ 100 }
+        ensures taken { (start : Option (List ℕ)) (xs : List ℕ) → FollowsText C.folded C.COST start (W.contents w.old) self.old watch.old xs → MatchResult result
+            (λ _. FollowsText C.folded C.COST start (W.contents w.new) self.new watch.new (xs ++ octets.now))
+            (λ fault. Stops C.folded C.COST true start (W.contents w.new) watch.new (xs ++ octets.now) fault) }
+        ensures at { OnOk result (self.new.at ≡ self.old.at + length octets.now) }
+        ensures same { IsSame watch.old watch.new }
+        ensures sound { IsSound watch.new }
+    {
+        captures_grow();
+        let mut taken = 0;
+        while taken < octets.len() {
+            if let Some(passed) = pass_eight(&octets[taken..], watch) {
+                taken += passed;
+                continue;
+            }
+            let octet = octets[taken];
+            if pass_one(octet, watch) {
+                taken += 1;
+                continue;
+            }
+            if let Err(fault) = take_one(octet, self.at + taken as u128, watch, w) {
+                return Err(fault);
+            }
+            taken += 1;
+        }
+        self.at += octets.len() as u128;
+        Ok(())
+    }
+}

@@ -1,0 +1,4 @@
+pub mod LineLemmas
+pub mod EncodeLemmas
+pub mod SessionLemmas
+pub mod OrderLemmas

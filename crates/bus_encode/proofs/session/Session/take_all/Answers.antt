@@ -1,0 +1,14 @@
+use Rattle.std.proofs.Common.{ℕ, List, ◌++◌, take, subst, rules}
+use Rattle.bus_encode.specs.EncodeState.{Takes}
+use Rattle.bus_encode.proofs.SessionLemmas.{middle_halts, all_octets}
+use Rattle.bus_encode.proofs.session.Session.take_all.Goals as goal
+
+pub returns-in-Err-clause-taken : goal.returns-in-Err-clause-taken
+returns-in-Err-clause-taken g c = λ start xs t.
+    middle_halts start (g.W.Write.contents c.take_one.new.w) c.take_one.new.self.written _ c.loop-octet.octet-index xs c.args.octets.now c.in-Err.fault c.loop-octet-test.true (search rules)
+    (c.in-Err.ensures.taken start (xs ++ take c.loop-octet.octet-index c.args.octets.now) (c.loop-octet.invariant.taken start xs t))
+
+pub returns-clause-taken : goal.returns-clause-taken
+returns-clause-taken g c = λ start xs t.
+    subst (λ (l : List ℕ). Takes start (g.W.Write.contents c.loop-octet.w) c.loop-octet.self.line.octets.items c.loop-octet.self.line.number c.loop-octet.self.encoder c.loop-octet.self.written (xs ++ l))
+    (all_octets c.loop-octet.octet-index c.args.octets.now c.loop-octet-test.false) (c.loop-octet.invariant.taken start xs t)

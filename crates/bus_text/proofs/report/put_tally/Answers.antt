@@ -1,0 +1,16 @@
+use Rattle.std.proofs.Common.{◌≡◌, ◌++◌, ◌∙◌, [], Bool, sym, ap, if◌then◌else◌}
+use Rattle.bus_text.specs.CheckText.{tally_line, tally_text}
+use Rattle.bus_text.proofs.PageLemmas.{cuts-more, pages-more}
+use Rattle.bus_text.proofs.report.put_tally.Goals as goal
+
+pub returns-in-Err-clause-put : goal.returns-in-Err-clause-put
+returns-in-Err-clause-put g c = λ start text p.
+    cuts-more start (g.W.Write.contents c.make_room.new.w) text (tally_text c.args.station c.args.counts) c.in-Err.cut.sent (c.in-Err.ensures.turned start text p)
+
+pub returns-clause-put : goal.returns-clause-put
+returns-clause-put g c = λ start text p.
+    let line = tally_line c.args.station c.args.counts in
+    let page = c.make_room.new.self.text.bytes in
+    let told : tally_text c.args.station c.args.counts ≡ line = ap (λ (b : Bool). if b then [] else line) (sym c.has_none.ensures ∙ c.if-has_none.false) in
+    pages-more start (g.W.Write.contents c.make_room.new.w) page c.push_tally.new.line.bytes c.make_room.new.self.written text (tally_text c.args.station c.args.counts)
+    (c.push_tally.ensures.bytes ∙ ap (λ l. page ++ l) (sym told)) (c.in_default.ensures.turned start text p)
