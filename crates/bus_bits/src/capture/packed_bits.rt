@@ -8,7 +8,6 @@ ghost use Rattle.bus_bits.specs.Packed.{PackedAfter, packed_body, packed_fault_o
 use crate::capture::packed_head::PackedHead;
 use crate::octet::octet_bits;
 use arrayvec::ArrayVec;
-use std::cmp::min;
 use std::marker::Model;
 
 /// Why the octets after a head are not its bits.
@@ -70,11 +69,11 @@ impl PackedBits {
             self.take_whole();
             return Ok(ArrayVec::from(bits));
         }
-        let used = min(self.left, 8) as usize;
+        let used = self.left as usize;
         if has_one(&bits[used..]) {
             return Err(PackedFault::PadBits);
         }
-        self.left -= used as u64;
+        self.left = 0;
         Ok(gathered(&bits[..used]))
     }
 
