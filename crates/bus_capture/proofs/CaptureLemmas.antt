@@ -9,25 +9,16 @@ use Rattle.bus_capture.specs.declared.watch.Watch.{Watch}
 use Rattle.bus_text.specs.declared.fault.ToolFault.{ToolFault}
 use Rattle.bus_text.specs.declared.fault.ToolFault.TheVariants as fault
 use Rattle.bus_capture.proofs.WatchLemmas.{within-all, halts-more}
-
-lt_true : (a b : ℕ) → a < b → nat_lt a b ≡ true
-lt_true a b h = grind (arith, nat_tests)
-
-lt_false : (a b : ℕ) → b ≤ a → nat_lt a b ≡ false
-lt_false a b h = grind (arith, nat_tests)
+use Rattle.bus_bits.proofs.CaptureLemmas.{placed_all, lt_true, le_false}
 
 -- of more bits than there are places
 pub placed-over : (origin : ℕ) (c : Capture) → 2 ^ 60 - origin < length c.bits → placed origin c ≡ record { bits = within origin c.bits; fault = Some place_limit }
 placed-over origin c h = ap (λ b. if b then record { bits = take (2 ^ 60 - origin) c.bits; fault = Some place_limit } else c) (lt_true (2 ^ 60 - origin) (length c.bits) h)
 
--- of no more
-pub placed-all : (origin : ℕ) (c : Capture) → length c.bits ≤ 2 ^ 60 - origin → placed origin c ≡ c
-placed-all origin c h = ap (λ b. if b then record { bits = take (2 ^ 60 - origin) c.bits; fault = Some place_limit } else c) (lt_false (2 ^ 60 - origin) (length c.bits) h)
-
 pub placed-bits : (origin : ℕ) (c : Capture) → origin ≤ 2 ^ 60 → (placed origin c).bits ≡ within origin c.bits
 placed-bits origin c low = elim (cases_lt (2 ^ 60 - origin) (length c.bits)) [
   | inl h ↦ ap (λ (d : Capture). d.bits) (placed-over origin c h)
-  | inr h ↦ ap (λ (d : Capture). d.bits) (placed-all origin c h) ∙ sym (within-all origin c.bits (omega (arith, h, low)))
+  | inr h ↦ ap (λ (d : Capture). d.bits) (placed_all origin c h) ∙ sym (within-all origin c.bits (omega (arith, h, low)))
 ]
 
 -- the bits that were followed have a place
@@ -66,7 +57,7 @@ fault-in folded cost start now w c d b cause f sound answered is found grows h =
     let fits : w.analyser.decoder.origin + length b ≤ 2 ^ 60 = followed-fits folded cost start now w b sound h in
     let short : length c.bits ≤ 2 ^ 60 - w.analyser.decoder.origin = omega (arith, fits, ap length is) in
     subst (λ (x : Capture). Faulty folded cost start now w x f)
-    (sym (ap (placed w.analyser.decoder.origin) same ∙ placed-all w.analyser.decoder.origin c short))
+    (sym (ap (placed w.analyser.decoder.origin) same ∙ placed_all w.analyser.decoder.origin c short))
     (record { cause = cause; found = found; answered = answered; bits = subst (Watches folded cost start now w) (sym is) h })
 
 -- what stopped, stops with more octets

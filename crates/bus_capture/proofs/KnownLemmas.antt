@@ -25,6 +25,7 @@ use Rattle.bus_capture.proofs.TextCaptureLemmas.{same-grows}
 use Rattle.bus_capture.proofs.ListLemmas.{seen-on}
 use Rattle.bus_text.proofs.ListingLemmas.{listing-append}
 use Rattle.bus_text.proofs.PageLemmas.{cuts-more}
+use Rattle.bus_bits.proofs.CaptureLemmas.{grows-trans}
 
 -- what is known of captures and of what is seen
 pub record Laws : Type 0 where
@@ -33,13 +34,6 @@ pub record Laws : Type 0 where
   pub ended : PackedEnds
   pub places : PlacedGrows
   pub seen : SeenGrows
-
-grows-on : (c d e : Capture) → GrowsTo c d → GrowsTo d e → GrowsTo c e
-grows-on c d e g h = (
-  g.0 ++ h.0,
-  h.1 ∙ ap (λ (x : List Bool). x ++ h.0) g.1 ∙ append_assoc c.bits g.0 h.0,
-  λ f is. let same : d ≡ c = g.2 f is in h.2 f (ap (λ (x : Capture). x.fault) same ∙ is) ∙ same,
-)
 
 unplaced-grows : Laws → (text : Bool) (xs ys : List ℕ) → GrowsTo (unplaced text xs) (unplaced text (xs ++ ys))
 unplaced-grows law true xs ys = law.text xs ys
@@ -53,7 +47,7 @@ unplaced-ends law false xs = law.ended xs
 all-grows : Laws → (o : Options) (all xs ys : List ℕ) → all ≡ xs ++ ys → GrowsTo (so_far o xs) (in_all o all)
 all-grows law o all xs ys e =
     subst (λ (z : List ℕ). GrowsTo (so_far o xs) (in_all o z)) (sym e)
-    (grows-on (so_far o xs) (so_far o (xs ++ ys)) (in_all o (xs ++ ys))
+    (grows-trans (so_far o xs) (so_far o (xs ++ ys)) (in_all o (xs ++ ys))
     (law.places o.origin (unplaced o.text xs) (unplaced o.text (xs ++ ys)) (unplaced-grows law o.text xs ys))
     (law.places o.origin (unplaced o.text (xs ++ ys)) (unplaced_whole o.text (xs ++ ys)) (unplaced-ends law o.text (xs ++ ys))))
 

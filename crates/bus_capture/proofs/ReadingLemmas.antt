@@ -18,8 +18,9 @@ use Rattle.bus_capture.specs.declared.session.Source.TheVariants as source
 use Rattle.bus_text.specs.declared.fault.ToolFault.{ToolFault}
 use Rattle.bus_text.specs.declared.fault.ToolFault.TheVariants as fault
 use Rattle.bus_capture.proofs.WatchLemmas.{printed-nothing}
-use Rattle.bus_capture.proofs.CaptureLemmas.{placed-all, followed-fits}
+use Rattle.bus_capture.proofs.CaptureLemmas.{followed-fits}
 use Rattle.bus_capture.proofs.PackedCaptureLemmas.{headed-here}
+use Rattle.bus_bits.proofs.CaptureLemmas.{placed_all}
 
 -- nothing was followed yet
 pub watched-none : {C : Type 0} (folded : C → List ℕ → Type 0) (cost : ℕ) (start : Option (List ℕ)) (w : Watch C)
@@ -78,7 +79,7 @@ follows-unplaced folded cost start now (source.Packed p) w xs law short h = reco
 pub all-placed : {C : Type 0} (folded : C → List ℕ → Type 0) (cost : ℕ) (start now : Option (List ℕ)) (w : Watch C) (c : Capture) → IsSound w → Watches folded cost start now w c.bits → placed w.analyser.decoder.origin c ≡ c
 all-placed folded cost start now w c sound h =
     let fits = followed-fits folded cost start now w c.bits sound h in
-    placed-all w.analyser.decoder.origin c (omega (arith, fits))
+    placed_all w.analyser.decoder.origin c (omega (arith, fits))
 
 pub is-clean : {C : Type 0} (folded : C → List ℕ → Type 0) (cost : ℕ) (text : Bool) (start now : Option (List ℕ)) (w : Watch C) (xs : List ℕ)
     → IsSound w → IsUnplaced folded cost text start now w xs → IsClean folded cost text start now w xs

@@ -23,7 +23,8 @@ use Rattle.bus_line.proofs.RawLemmas.{current-low, low-ones}
 use Rattle.bus_line.proofs.StreamLemmas.{flag-fits}
 use Rattle.bus_line.proofs.WindowLemmas.{window-five}
 use Rattle.bus_line.proofs.HoldLemmas.{length-octets}
-use Rattle.bus_line.proofs.WholeLemmas.{take_next, data-checked, same_test}
+use Rattle.bus_fcs.proofs.Ends.{same_test}
+use Rattle.bus_line.proofs.WholeLemmas.{take_next, data-checked}
 
 ones_after-append : (k : ℕ) (x y : List Bool) → ones_after k (x ++ y) ≡ ones_after (ones_after k x) y
 ones_after-append k [] y = refl

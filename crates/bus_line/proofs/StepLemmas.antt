@@ -2,7 +2,8 @@
 use Rattle.std.proofs.Common.{◌≡◌, ◌≢◌, ℕ, ◌+◌, ◌-◌, ◌*◌, ◌/◌, ◌%◌, ◌^◌, ◌≤◌, ◌<◌, ◌==◌, Bool, true, false, not, ◌&&◌, cond, List, [], ◌∷◌, ◌++◌, length, take, drop, get_or, Option, Some, None, refl, sym, ap, ◌∙◌, subst, arith, if◌then◌else◌, inl, inr}
 use Rattle.std.specs.List.{slice_range}
 use Rattle.std.proofs.Math.Nat.{mul-add, mul-zero, mul-one}
-use Rattle.bus_line.proofs.WholeLemmas.{octets-short, same_bool}
+use Rattle.bus_fcs.proofs.Ends.{same_bool}
+use Rattle.bus_line.proofs.WholeLemmas.{octets-short}
 use Rattle.std.specs.Prelude.{nat_le, nat_lt}
 use Rattle.std.proofs.lemmas.List.{length_push, length-take}
 use Rattle.std.proofs.lemmas.Bool.{false_from_ne_true, cases_lt, leb-true, le-leb, ltb-true, lt-ltb, and_from}

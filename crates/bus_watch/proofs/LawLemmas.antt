@@ -19,6 +19,7 @@ use Rattle.bus_watch.proofs.TalkLemmas.{verdicts-more}
 use Rattle.bus_watch.specs.declared.verdict.Verdict.{Verdict}
 use Rattle.bus_watch.proofs.PaceLemmas.{DueBelow}
 use Rattle.bus_watch.proofs.SeenLemmas.{seen-more}
+use Rattle.bus_line.proofs.MoreLemmas.{map-option}
 
 -- what holds of no reports, and stays with one more, holds of all
 from-front : (P : List Report → Type 0) → ((rs : List Report) (r : Report) → P rs → P (rs ++ r ∷ [])) → (before after : List Report) → P before → P (before ++ after)
@@ -87,10 +88,6 @@ grows-by d longest origin b longer it below (Some r) e grown =
     let is : due r ≡ length b = ((it longest longer (length b) r).1 e).1 in
     let at : due (moved origin r) ≡ origin + length b = due-moved origin r.kind r.first r.past ∙ ap (λ n. origin + n) is in
     rw (grown, at-last d rs (moved origin r) (origin + length b) (line-due longest origin b below) at) (seen-more d rs (moved origin r))
-
-map-option : {X Y : Type 0} (f : X → Y) (o : Option X) → map f (option_to_list o) ≡ option_to_list (option_map f o)
-map-option f None = refl
-map-option f (Some x) = refl
 
 pub seen-grows : OneMore → DueIsIt → DueBelow → (d : List FrameType) (longest origin : ℕ) (b : List Bool) (bit : Bool)
     → seen d (placed origin longest (b ++ bit ∷ [])) ≡ seen d (placed origin longest b) ++ option_to_list (seen_at d (placed origin longest (b ++ bit ∷ [])) (origin + length b))
