@@ -1,6 +1,7 @@
 -- How often each thing is seen.
 use Rattle.std.specs.Prelude.{ℕ, ◌+◌, ◌≤◌, Bool, true, false, List, count_by, Option, Some, None, if◌then◌else◌}
-use Rattle.bus_line.specs.Report.{Kind, Frame, Damaged, Overlong, Abort, Idle}
+use Rattle.bus_line.specs.Report.{Kind, Frame, Damaged, Overlong, Abort}
+use Rattle.bus_watch.specs.Talk.{is_idle}
 use Rattle.bus_watch.specs.Seen.{SeenReport}
 use Rattle.bus_watch.specs.History.{is_outcome}
 use Rattle.bus_watch.specs.declared.outcome.Outcome.{Outcome}
@@ -23,10 +24,6 @@ is_overlong kind = false
 abbrev pub is_abort : Kind → Bool
 is_abort Abort = true
 is_abort kind = false
-
-abbrev pub is_idle : Kind → Bool
-is_idle Idle = true
-is_idle kind = false
 
 -- a verdict with this outcome
 abbrev pub has_outcome : Outcome → Option Verdict → Bool
