@@ -2,6 +2,7 @@
 use Rattle.std.proofs.Common.{◌≡◌, ℕ, ◌+◌, ◌-◌, ◌*◌, ◌/◌, ◌<◌, ◌≤◌, ◌^◌, Bool, true, false, nat_lt, if◌then◌else◌, List, [], ◌∷◌, ◌++◌, length, take, drop, get_or, Option, Some, None, Result, Ok, Err, MatchResult, refl, sym, ap, ◌∙◌, subst, arith, append_assoc, append-nil}
 use Rattle.std.specs.Int.{next_multiple_of}
 use Rattle.std.specs.List.{list_any}
+use Rattle.std.specs.Result.{IsErrAnd}
 use Rattle.std.proofs.lemmas.Grind.{common_steps}
 use Rattle.bus_bits.specs.Octet.{bits_of_octets}
 use Rattle.bus_bits.specs.Capture.{Capture, CaptureFault, pad_bits, trailing, GrowsTo, PlacedGrows, placed}
@@ -128,3 +129,15 @@ pub kept-both : {C : Type 0} (folded : C → List ℕ → Type 0) (cost : ℕ) (
     → (new ≡ old) × (v ≡ w) → FollowsBody folded cost start now old w xs → FollowsBody folded cost start now new v xs
 kept-both folded cost start now old new w v xs k f =
     subst (λ n. FollowsBody folded cost start now n v xs) (sym k.0) (subst (λ u. FollowsBody folded cost start now old u xs) (sym k.1) f)
+
+-- what was refused, where `map_err` answered an error
+pub err-mapped : {T E D : Type 0} (P : T → Type 0) (Q : E → Type 0) (Gives : E → D → Type 0) (r : Result T E) (m : Result T D) (d : D)
+    → m ≡ Err d → MatchResult r (λ x. m ≡ Ok x) (λ e. IsErrAnd m (Gives e)) → MatchResult r P Q → (e : E) × Gives e d × Q e
+err-mapped P Q Gives (Ok x) m d is made h = absurd (let never : ⊥ = cc in never)
+err-mapped P Q Gives (Err e) m d is made h = (e, subst (λ k. IsErrAnd k (Gives e)) is made, h)
+
+-- what was made, where it answered a value
+pub ok-mapped : {T E D : Type 0} (P : T → Type 0) (Q : E → Type 0) (Gives : E → D → Type 0) (r : Result T E) (m : Result T D) (y : T)
+    → m ≡ Ok y → MatchResult r (λ x. m ≡ Ok x) (λ e. IsErrAnd m (Gives e)) → MatchResult r P Q → P y
+ok-mapped P Q Gives (Ok x) m y is made h = let same : x ≡ y = cc in subst P same h
+ok-mapped P Q Gives (Err e) m y is made h = absurd (subst (λ k. IsErrAnd k (Gives e)) is made)

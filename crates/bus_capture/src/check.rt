@@ -36,12 +36,7 @@ pub fn check_capture<R: Read, W: Write>(
 {
     captures_grow();
     seen_grows();
-    let mut session = match Session::<OctetCheck>::new(alloc, o, None) {
-        Ok(session) => session,
-        Err(fault) => return Err(fault),
-    };
-    match session.take_input(o.reads, r, w) {
-        Ok(()) => session.watch.report(w),
-        Err(fault) => Err(fault),
-    }
+    let mut session = Session::<OctetCheck>::new(alloc, o, None)?;
+    session.take_input(o.reads, r, w)?;
+    session.watch.report(w)
 }

@@ -10,7 +10,7 @@ ghost use Rattle.bus_capture.specs.Known.{ListsKnown};
 use crate::session::Session;
 use bus_bits::laws::captures_grow;
 use bus_fcs::OctetCheck;
-use bus_text::{Cut, Options, Page, Printer, Summary, ToolFault};
+use bus_text::{Options, Page, Printer, Summary, ToolFault};
 use bus_watch::laws::seen_grows;
 use std::alloc::Global;
 use std::io::{Read, Write};
@@ -46,10 +46,7 @@ pub fn list_capture<R: Read, W: Write>(
 {
     captures_grow();
     seen_grows();
-    let mut session = match Session::<OctetCheck>::new(alloc, o, Some(Printer::of(o))) {
-        Ok(session) => session,
-        Err(fault) => return Err(fault),
-    };
+    let mut session = Session::<OctetCheck>::new(alloc, o, Some(Printer::of(o)))?;
     match session.take_input(o.reads, r, w) {
         Ok(()) => session.watch.end(w),
         Err(fault) => Err(close_behind(fault, &mut session.watch.page, w)),
@@ -69,6 +66,6 @@ fn close_behind<W: Write>(fault: ToolFault, page: &mut Page, w: &mut W) -> ToolF
     }
     match page.close(w) {
         Ok(()) => fault,
-        Err(Cut { sent }) => ToolFault::Write { written: sent },
+        Err(cut) => cut.into(),
     }
 }

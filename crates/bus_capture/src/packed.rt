@@ -107,9 +107,7 @@ fn take_body<C: Check, W: Write>(
         if pass_octet(body, *octet, watch) {
             continue;
         }
-        if let Err(fault) = take_octet(body, *octet, watch, w) {
-            return Err(fault);
-        }
+        take_octet(body, *octet, watch, w)?;
     }
     Ok(())
 }
@@ -167,10 +165,7 @@ impl PackedCapture {
             return Ok(());
         }
         self.gather(&octets[..missing]);
-        let mut body = match self.read_head() {
-            Ok(body) => body,
-            Err(fault) => return Err(head_fault(fault)),
-        };
+        let mut body = self.read_head().map_err(head_fault)?;
         let ending = take_body(&mut body, &octets[missing..], watch, w);
         self.body = Some(body);
         ending
@@ -196,10 +191,7 @@ impl PackedCapture {
     {
         let mut head = [0; HEAD];
         head.copy_from_slice(self.head.as_slice());
-        match PackedHead::read(&head) {
-            Ok(head) => Ok(PackedBits::new(head)),
-            Err(fault) => Err(fault),
-        }
+        Ok(PackedBits::new(PackedHead::read(&head)?))
     }
 
     /// What is wrong where the input ends here.
@@ -212,9 +204,6 @@ impl PackedCapture {
         let Some(body) = &self.body else {
             return Err(ToolFault::ShortHead);
         };
-        match body.finish() {
-            Ok(()) => Ok(()),
-            Err(fault) => Err(body_fault(fault)),
-        }
+        body.finish().map_err(body_fault)
     }
 }

@@ -15,7 +15,7 @@ use crate::text::TextCapture;
 use crate::watch::Watch;
 use bus_bits::laws::packed_is_head_and_body;
 use bus_fcs::Check;
-use bus_text::{Cut, Options, Page, Printer, Summary, ToolFault, read_dictionary};
+use bus_text::{Options, Page, Printer, Summary, ToolFault, read_dictionary};
 use bus_watch::{Analyser, NewFault};
 use std::alloc::Global;
 use std::io::{Read, Write};
@@ -43,10 +43,7 @@ fn new_analyser<C: Check>(alloc: Global, options: &Options<'_>) -> Result<Analys
         (λ analyser. (d : List FrameType) × Begins options.now d × IsAsked C.folded C.COST options.now d analyser)
         (λ fault. Refuses options.now fault) }
 {
-    let dictionary = match read_dictionary(alloc, options.dictionary) {
-        Ok(dictionary) => dictionary,
-        Err(fault) => return Err(fault),
-    };
+    let dictionary = read_dictionary(alloc, options.dictionary)?;
     match Analyser::new(alloc, dictionary, options.depth, options.origin) {
         Ok(analyser) => Ok(analyser),
         Err(NewFault::DepthRange) => Err(ToolFault::Depth),
@@ -69,10 +66,7 @@ impl<C: Check> Session<C> {
         ensures given { IfOk result (λ session. (is_text session.source ≡ options.now.text) × (session.watch.printer ≡ printer) × (marks session.source ≡ 0)) }
         ensures sound { IfOk result (λ session. IsSound session.watch) }
     {
-        let analyser = match new_analyser(alloc, options) {
-            Ok(analyser) => analyser,
-            Err(fault) => return Err(fault),
-        };
+        let analyser = new_analyser(alloc, options)?;
         let source = if options.text {
             Source::Text(TextCapture { at: 0 })
         } else {
@@ -132,13 +126,9 @@ impl<C: Check> Session<C> {
         ensures sound { IsSound self.new.watch }
     {
         packed_is_head_and_body();
-        if let Err(fault) = self.take(octets, w) {
-            return Err(fault);
-        }
-        match self.watch.page.turn(w) {
-            Ok(()) => Ok(()),
-            Err(Cut { sent }) => Err(ToolFault::Write { written: sent }),
-        }
+        self.take(octets, w)?;
+        self.watch.page.turn(w)?;
+        Ok(())
     }
 
     /// Reads to the end or the first fault, by at most `reads` calls of the reader.
@@ -164,9 +154,7 @@ impl<C: Check> Session<C> {
                 Ok(count) => count,
                 Err(_) => return Err(ToolFault::Read),
             };
-            if let Err(fault) = self.take_read(&buffer[..count], w) {
-                return Err(fault);
-            }
+            self.take_read(&buffer[..count], w)?;
         }
         Err(ToolFault::ReadsLimit)
     }

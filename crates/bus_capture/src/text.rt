@@ -103,9 +103,7 @@ impl TextCapture {
                 taken += 1;
                 continue;
             }
-            if let Err(fault) = take_one(octet, self.at + taken as u128, watch, w) {
-                return Err(fault);
-            }
+            take_one(octet, self.at + taken as u128, watch, w)?;
             taken += 1;
         }
         self.at += octets.len() as u128;

@@ -8,7 +8,7 @@ ghost use Rattle.std.specs.Prelude.{◌≡◌, ◌+◌, ◌≤◌, ℕ, List, Bo
 
 use bus_fcs::Check;
 use bus_line::PlaceLimit;
-use bus_text::{Cut, Page, Printer, Summary, ToolFault, put_report};
+use bus_text::{Page, Printer, Summary, ToolFault, put_report};
 use bus_watch::{Analyser, Ending};
 use std::io::Write;
 
@@ -96,9 +96,7 @@ impl<C: Check> Watch<C> {
                 let Some(printer) = self.printer else {
                     return Ok(());
                 };
-                if let Err(Cut { sent }) = self.page.make_room(w) {
-                    return Err(ToolFault::Write { written: sent });
-                }
+                self.page.make_room(w)?;
                 let back = printer.put_front(&seen, &mut self.page);
                 printer.put_back(back, self.analyser.dictionary(), &mut self.page);
                 Ok(())
@@ -120,9 +118,7 @@ impl<C: Check> Watch<C> {
             if self.pass(*bit) {
                 continue;
             }
-            if let Err(fault) = self.decide(*bit, w) {
-                return Err(fault);
-            }
+            self.decide(*bit, w)?;
         }
         Ok(())
     }
@@ -140,14 +136,10 @@ impl<C: Check> Watch<C> {
             printer,
             mut page,
         } = self;
-        if let Err(Cut { sent }) = page.make_room(w) {
-            return Err(ToolFault::Write { written: sent });
-        }
+        page.make_room(w)?;
         put_last(printer, &analyser.ending(), &mut page);
-        match page.close(w) {
-            Ok(()) => Ok(summary),
-            Err(Cut { sent }) => Err(ToolFault::Write { written: sent }),
-        }
+        page.close(w)?;
+        Ok(summary)
     }
 
     /// Writes the report of a check, and flushes.
@@ -163,12 +155,8 @@ impl<C: Check> Watch<C> {
             mut page,
             ..
         } = self;
-        if let Err(Cut { sent }) = put_report(&summary, &analyser, &mut page, w) {
-            return Err(ToolFault::Write { written: sent });
-        }
-        match page.close(w) {
-            Ok(()) => Ok(summary),
-            Err(Cut { sent }) => Err(ToolFault::Write { written: sent }),
-        }
+        put_report(&summary, &analyser, &mut page, w)?;
+        page.close(w)?;
+        Ok(summary)
     }
 }

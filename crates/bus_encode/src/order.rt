@@ -61,8 +61,5 @@ pub fn read_order(line: &[u8], number: u128) -> Result<Option<Order>, ToolFault>
     let Some(digits) = line.strip_prefix(b"frame ".as_slice()) else {
         return Err(ToolFault::BadLine(number));
     };
-    match frame_octets(digits, number) {
-        Ok(octets) => Ok(Some(Order::Frame(octets))),
-        Err(fault) => Err(fault),
-    }
+    Ok(Some(Order::Frame(frame_octets(digits, number)?)))
 }

@@ -78,10 +78,9 @@ impl Session {
         ensures line { self.new.line ≡ self.old.line }
         ensures few { self.new.written ≤ self.old.written + 2493 }
     {
-        match read_order(self.line.text(), self.line.number()) {
-            Ok(Some(order)) => self.put_order(&order, w),
-            Ok(None) => Ok(()),
-            Err(fault) => Err(fault),
+        match read_order(self.line.text(), self.line.number())? {
+            Some(order) => self.put_order(&order, w),
+            None => Ok(()),
         }
     }
 
@@ -98,9 +97,7 @@ impl Session {
         if octet != b'\n' {
             return self.line.push(octet);
         }
-        if let Err(fault) = self.end_line(w) {
-            return Err(fault);
-        }
+        self.end_line(w)?;
         self.line.next();
         Ok(())
     }
@@ -116,9 +113,7 @@ impl Session {
         ensures lines { self.new.line.number ≤ self.old.line.number + length octets.now }
     {
         for octet in octets {
-            if let Err(fault) = self.take_one(*octet, w) {
-                return Err(fault);
-            }
+            self.take_one(*octet, w)?;
         }
         Ok(())
     }
@@ -142,9 +137,7 @@ impl Session {
                 Ok(count) => count,
                 Err(_) => return Err(ToolFault::Read),
             };
-            if let Err(fault) = self.take_all(&buffer[..count], w) {
-                return Err(fault);
-            }
+            self.take_all(&buffer[..count], w)?;
         }
         Err(ToolFault::ReadsLimit)
     }

@@ -1,5 +1,8 @@
 //! What can go wrong.
 
+ghost use Rattle.std.specs.Prelude.{◌≡◌};
+
+use crate::put::Cut;
 use bus_dictionary::DictFault;
 use thiserror::Error;
 
@@ -68,4 +71,14 @@ pub enum ToolFault {
     /// The frame of the line of this number does not have 2 to 256 octets.
     #[error("line {0}: frame is not 2 to 256 octets")]
     FrameLength(u128),
+}
+
+impl From<Cut> for ToolFault {
+    ghost use Rattle.bus_text.specs.declared.fault.ToolFault.TheVariants.{Write};
+
+    ghost from_gives = { λ cut fault. fault ≡ Write cut.sent };
+
+    fn from(cut: Cut) -> ToolFault {
+        ToolFault::Write { written: cut.sent }
+    }
 }

@@ -81,9 +81,7 @@ impl Page {
         ensures empty { OnOk result (array_string_len self.new.text ≡ 0) }
         ensures sum { OnOk result (self.new.written ≡ self.old.written + array_string_len self.old.text) }
     {
-        if let Err(cut) = self.turn(w) {
-            return Err(cut);
-        }
+        self.turn(w)?;
         if self.written == 0 {
             return Ok(());
         }

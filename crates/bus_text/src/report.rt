@@ -94,9 +94,7 @@ fn put_tally<W: Write>(station: u8, counts: Counts, page: &mut Page, w: &mut W) 
     if has_none(counts) {
         return Ok(());
     }
-    if let Err(cut) = page.make_room(w) {
-        return Err(cut);
-    }
+    page.make_room(w)?;
     push_tally(&mut page.text, station, counts);
     Ok(())
 }
@@ -114,9 +112,7 @@ fn put_tallies<C: Check, W: Write>(
     ensures few { OnOk result (page.new.written + array_string_len page.new.text ≤ page.old.written + array_string_len page.old.text + 110 * 256) }
 {
     for station in 0..=255u8 {
-        if let Err(cut) = put_tally(station, analyser.tally(station), page, w) {
-            return Err(cut);
-        }
+        put_tally(station, analyser.tally(station), page, w)?;
     }
     Ok(())
 }
@@ -129,9 +125,7 @@ fn put_kept<W: Write>(kept: &Kept, page: &mut Page, w: &mut W) -> Result<(), Cut
         (λ cut. Cuts start (W.contents w.new) (text ++ kept_text (kept_frame kept.now)) cut.sent) }
     ensures few { OnOk result (page.new.written + array_string_len page.new.text ≤ page.old.written + array_string_len page.old.text + 570) }
 {
-    if let Err(cut) = page.make_room(w) {
-        return Err(cut);
-    }
+    page.make_room(w)?;
     push_kept(&mut page.text, kept);
     Ok(())
 }
@@ -152,9 +146,7 @@ fn put_history<C: Check, W: Write>(
         let Some(kept) = analyser.history(i) else {
             return Ok(());
         };
-        if let Err(cut) = put_kept(kept, page, w) {
-            return Err(cut);
-        }
+        put_kept(kept, page, w)?;
     }
     Ok(())
 }
@@ -172,12 +164,8 @@ pub fn put_report<C: Check, W: Write>(
         (λ cut. Cuts start (W.contents w.new) (text ++ check_text summary.now (tally analyser.now.journal.dictionary (line analyser.now b)) (history analyser.now.journal.depth (line analyser.now b))) cut.sent) }
     ensures few { OnOk result (page.new.written < 2 ^ 96) }
 {
-    if let Err(cut) = page.make_room(w) {
-        return Err(cut);
-    }
+    page.make_room(w)?;
     push_summary(&mut page.text, summary);
-    if let Err(cut) = put_tallies(analyser, page, w) {
-        return Err(cut);
-    }
+    put_tallies(analyser, page, w)?;
     put_history(analyser, page, w)
 }

@@ -48,16 +48,8 @@ pub fn show_frame<W: Write>(
 ) -> Result<(), ToolFault>
     ensures { Shows (option_map (λ s. s.now) dictionary.entry) hex.now (W.contents w.old) (W.contents w.new) result }
 {
-    let octets = match typed_frame(hex) {
-        Ok(octets) => octets,
-        Err(fault) => return Err(fault),
-    };
-    let dictionary = match read_dictionary(alloc, dictionary) {
-        Ok(dictionary) => dictionary,
-        Err(fault) => return Err(fault),
-    };
-    match put_frame(&octets, &dictionary, w) {
-        Ok(()) => Ok(()),
-        Err(cut) => Err(ToolFault::Write { written: cut.sent }),
-    }
+    let octets = typed_frame(hex)?;
+    let dictionary = read_dictionary(alloc, dictionary)?;
+    put_frame(&octets, &dictionary, w)?;
+    Ok(())
 }

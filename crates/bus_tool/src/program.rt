@@ -92,19 +92,10 @@ fn refuse<W: Write, E: Write>(alloc: Global, error: &Error, w: &mut W, e: &mut E
 
 /// Writes and flushes a help text.
 fn show_help<W: Write>(alloc: Global, help: &Error, w: &mut W) -> Result<(), ToolFault> {
-    let text = match help_text(alloc, help) {
-        Ok(text) => text,
-        Err(_) => return Err(ToolFault::Memory),
-    };
-    if let Err(cut) = put_text(w, text.as_bytes()) {
-        return Err(ToolFault::Write { written: cut.sent });
-    }
-    match w.flush() {
-        Ok(()) => Ok(()),
-        Err(_) => Err(ToolFault::Write {
-            written: text.len() as u128,
-        }),
-    }
+    let text = help_text(alloc, help).map_err(|_| ToolFault::Memory)?;
+    put_text(w, text.as_bytes())?;
+    let written = text.len() as u128;
+    w.flush().map_err(|_| ToolFault::Write { written })
 }
 
 fn help_text(alloc: Global, help: &Error) -> Result<String, AllocError> {

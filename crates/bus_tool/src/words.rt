@@ -172,10 +172,7 @@ fn plain_listing<'a>() -> Options<'a> {
 fn list_options<'a>(found: &ArgMatches<'a>) -> Result<Options<'a>, Refusal> {
     let kind = match found.get_str("kind") {
         None => None,
-        Some(word) => match Kind::read(word) {
-            Some(kind) => Some(kind),
-            None => return Err(Refusal::Kind),
-        },
+        Some(word) => Some(Kind::read(word).ok_or(Refusal::Kind)?),
     };
     Ok(Options {
         dictionary: found.get_str("dict"),
@@ -210,15 +207,9 @@ fn parse<'a>(alloc: Global, words: &'a [&'a str]) -> Result<ArgMatches<'a>, Erro
 /// - `Words`: what the words have wrong, or a help text, as `clap` tells them.
 /// - `Kind`: no kind of line is named so. The rest of the words was judged before.
 pub fn read_words<'a>(alloc: Global, words: &'a [&'a str]) -> Result<Request<'a>, Refusal> {
-    let found = match parse(alloc, words) {
-        Ok(found) => found,
-        Err(error) => return Err(Refusal::Words(error)),
-    };
+    let found = parse(alloc, words).map_err(Refusal::Words)?;
     match found.subcommand() {
-        Some(("list", listed)) => match list_options(listed) {
-            Ok(options) => Ok(Request::List(options)),
-            Err(refusal) => Err(refusal),
-        },
+        Some(("list", listed)) => Ok(Request::List(list_options(listed)?)),
         Some(("check", checked)) => Ok(Request::Check(check_options(checked))),
         Some(("show", shown)) => Ok(Request::Show {
             dictionary: shown.get_str("dict"),

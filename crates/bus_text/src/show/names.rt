@@ -33,10 +33,7 @@ pub fn put_names<W: Write>(names: NameWalk<'_>, sent: u128, w: &mut W) -> Result
 {
     let mut written = sent;
     for name in names {
-        written = match put_line(&name_line(&name), written, w) {
-            Ok(sent) => sent,
-            Err(cut) => return Err(cut),
-        };
+        written = put_line(&name_line(&name), written, w)?;
     }
     Ok(written)
 }

@@ -53,10 +53,8 @@ fn put_front<W: Write>(
     ensures put { Puts (W.contents w.old) (W.contents w.new) (frame_text octets.now ++ (head_text standing dictionary.now ++ codes "\n")) result }
     ensures few { IfOk result (λ sent. sent ≤ 1280) }
 {
-    match put_line(&frame_line(octets), 0, w) {
-        Ok(sent) => put_line(&head_line(standing, dictionary), sent, w),
-        Err(cut) => Err(cut),
-    }
+    let sent = put_line(&frame_line(octets), 0, w)?;
+    put_line(&head_line(standing, dictionary), sent, w)
 }
 
 /// Writes all lines of a frame, without the flush. Answers how many octets went out.
@@ -66,10 +64,7 @@ fn put_lines<W: Write>(octets: &[u8], dictionary: &Dictionary, w: &mut W) -> Res
     ensures { Puts (W.contents w.old) (W.contents w.new) (shown_text octets.now dictionary.now) result }
 {
     let standing = Standing::read(octets, dictionary);
-    let sent = match put_front(octets, standing, dictionary, w) {
-        Ok(sent) => sent,
-        Err(cut) => return Err(cut),
-    };
+    let sent = put_front(octets, standing, dictionary, w)?;
     let Standing::Known { ftype, .. } = standing else {
         return Ok(sent);
     };
@@ -87,10 +82,7 @@ pub fn put_frame<W: Write>(octets: &[u8], dictionary: &Dictionary, w: &mut W) ->
     ensures part { IfErr result (λ cut. Appends (W.contents w.old) (W.contents w.new) (take cut.sent (shown_text octets.now dictionary.now))) }
     ensures short { IfErr result (λ cut. cut.sent ≤ length (shown_text octets.now dictionary.now)) }
 {
-    let sent = match put_lines(octets, dictionary, w) {
-        Ok(sent) => sent,
-        Err(cut) => return Err(cut),
-    };
+    let sent = put_lines(octets, dictionary, w)?;
     match w.flush() {
         Ok(()) => Ok(()),
         Err(_) => Err(Cut { sent }),

@@ -1,4 +1,5 @@
 use Rattle.std.proofs.Common.{[], Err}
+use Rattle.std.proofs.lemmas.Result.{err_from_is_err_and}
 use Rattle.bus_capture.specs.Captures.{whole_capture}
 use Rattle.bus_capture.specs.Sessions.{is_text}
 use Rattle.bus_text.proofs.Bytes.{consumes_nothing, appends_nothing}
@@ -6,44 +7,46 @@ use Rattle.bus_capture.proofs.CheckingLemmas.{checked, checks-nothing, ends-chec
 use Rattle.bus_capture.proofs.KnownLemmas.{Laws, known-checks}
 use Rattle.bus_capture.proofs.check.check_capture.Goals as goal
 
-pub returns-in-Err : goal.returns-in-Err
-returns-in-Err g c =
-    let checks = checks-nothing c.args.o.now _ (g.W.Write.contents c.args.w.now) (g.W.Write.contents c.args.w.now) c.in-Err.fault c.in-Err.ensures.made (appends_nothing _) in
+pub returns-in_err-session : goal.returns-in_err-session
+returns-in_err-session g c =
+    let p = err_from_is_err_and c.from_residual.result c.from_residual.ensures.1 in
+    let checks = checks-nothing c.args.o.now _ (g.W.Write.contents c.args.w.now) (g.W.Write.contents c.args.w.now) c.in_err-session.field-0.0 c.in_err-session.ensures.made (appends_nothing _) in
     let law : Laws = record { text = c.captures_grow.ensures.text; packed = c.captures_grow.ensures.packed; ended = c.captures_grow.ensures.ended; places = c.captures_grow.ensures.placed; seen = c.seen_grows.ensures.grows } in
-    record {
+    rw (p.1, p.2) (record {
       checked = ([], consumes_nothing _, checks);
-      known = known-checks law c.args.o.now _ _ _ _ [] (Err c.in-Err.fault) (consumes_nothing (g.R.Read.remaining c.args.r.now)) checks;
-    }
+      known = known-checks law c.args.o.now _ _ _ _ [] (Err c.in_err-session.field-0.0) (consumes_nothing (g.R.Read.remaining c.args.r.now)) checks;
+    })
 
-pub returns-in-Ok-take_input : goal.returns-in-Ok-take_input
-returns-in-Ok-take_input g c =
+pub returns : goal.returns
+returns g c =
     let o = c.args.o.now in
     let start = g.W.Write.contents c.args.w.now in
     let w = c.take_input.new.self.watch in
-    let made = c.in-Ok.ensures.made in
-    let given = c.in-Ok.ensures.given in
-    let read = c.in-Ok-take_input.ensures.read in
-    let asked = checked _ _ o made.0 c.in-Ok.session.watch w given.1 made.2 c.take_input.ensures.same in
-    let checks = ends-checks _ _ o made.0 (is_text c.in-Ok.session.source) (g.R.Read.remaining c.take_input.new.r) start _ _ w read.0 c.report.result made.1 asked given.0 read.2
-    (c.report.ensures start (whole_capture (is_text c.in-Ok.session.source) w.analyser.decoder.origin read.0).bits read.2.bits) in
+    let made = c.in_ok-session.ensures.made in
+    let given = c.in_ok-session.ensures.given in
+    let read = c.in_ok-take_input.ensures.read in
+    let asked = checked _ _ o made.0 c.in_ok-session.session.watch w given.1 made.2 c.take_input.ensures.same in
+    let checks = ends-checks _ _ o made.0 (is_text c.in_ok-session.session.source) (g.R.Read.remaining c.take_input.new.r) start _ _ w read.0 c.report.result made.1 asked given.0 read.2
+    (c.report.ensures start (whole_capture (is_text c.in_ok-session.session.source) w.analyser.decoder.origin read.0).bits read.2.bits) in
     let law : Laws = record { text = c.captures_grow.ensures.text; packed = c.captures_grow.ensures.packed; ended = c.captures_grow.ensures.ended; places = c.captures_grow.ensures.placed; seen = c.seen_grows.ensures.grows } in
     record {
       checked = (read.0, read.1, checks);
       known = known-checks law o (g.R.Read.remaining c.args.r.now) (g.R.Read.remaining c.take_input.new.r) start _ read.0 c.report.result read.1 checks;
     }
 
-pub returns-in-Err-take_input : goal.returns-in-Err-take_input
-returns-in-Err-take_input g c =
+pub returns-in_err-take_input : goal.returns-in_err-take_input
+returns-in_err-take_input g c =
+    let p = err_from_is_err_and c.from_residual-in_err-take_input.result c.from_residual-in_err-take_input.ensures.1 in
     let o = c.args.o.now in
     let start = g.W.Write.contents c.args.w.now in
     let w = c.take_input.new.self.watch in
-    let made = c.in-Ok.ensures.made in
-    let given = c.in-Ok.ensures.given in
-    let read = c.in-Err-take_input.ensures.read in
-    let asked = checked _ _ o made.0 c.in-Ok.session.watch w given.1 made.2 c.take_input.ensures.same in
-    let checks = stops-checks _ _ o made.0 (is_text c.in-Ok.session.source) (g.R.Read.remaining c.take_input.new.r) start _ w read.0 c.in-Err-take_input.fault made.1 asked given.0 read.2 in
+    let made = c.in_ok-session.ensures.made in
+    let given = c.in_ok-session.ensures.given in
+    let read = c.in_err-take_input.ensures.read in
+    let asked = checked _ _ o made.0 c.in_ok-session.session.watch w given.1 made.2 c.take_input.ensures.same in
+    let checks = stops-checks _ _ o made.0 (is_text c.in_ok-session.session.source) (g.R.Read.remaining c.take_input.new.r) start _ w read.0 c.in_err-take_input.field-0.0 made.1 asked given.0 read.2 in
     let law : Laws = record { text = c.captures_grow.ensures.text; packed = c.captures_grow.ensures.packed; ended = c.captures_grow.ensures.ended; places = c.captures_grow.ensures.placed; seen = c.seen_grows.ensures.grows } in
-    record {
+    rw (p.1, p.2) (record {
       checked = (read.0, read.1, checks);
-      known = known-checks law o (g.R.Read.remaining c.args.r.now) (g.R.Read.remaining c.take_input.new.r) start _ read.0 (Err c.in-Err-take_input.fault) read.1 checks;
-    }
+      known = known-checks law o (g.R.Read.remaining c.args.r.now) (g.R.Read.remaining c.take_input.new.r) start _ read.0 (Err c.in_err-take_input.field-0.0) read.1 checks;
+    })

@@ -1,4 +1,5 @@
 use Rattle.std.proofs.Common.{ℕ, List, [], ◌∷◌, ◌++◌, take, get_or, refl, sym, subst, arith, append-nil}
+use Rattle.std.proofs.lemmas.Result.{err_from_is_err_and}
 use Rattle.std.proofs.lemmas.List.{take_all}
 use Rattle.bus_bits.specs.Capture.{placed}
 use Rattle.bus_bits.specs.Packed.{packed_capture}
@@ -19,20 +20,21 @@ loop-octet-init g c = record {
 pub take_octet-requires : goal.take_octet-requires
 take_octet-requires g c = c.pass_octet.ensures.sound
 
-pub returns-in-Err-clause-taken : goal.returns-in-Err-clause-taken
-returns-in-Err-clause-taken g c =
-    λ start xs f.
+pub returns-in_err-take_octet-clause-taken : goal.returns-in_err-take_octet-clause-taken
+returns-in_err-take_octet-clause-taken g c =
+    let p = err_from_is_err_and c.from_residual.result c.from_residual.ensures.1 in
+    rw (p.1, p.2) (λ start xs f.
     let os = c.args.octets.now in
     let i = c.loop-octet.octet-index in
     let x = get_or os i 0 in
     let front = xs ++ take i os in
     let origin = c.take_octet.new.watch.analyser.decoder.origin in
-    stops-more g.C.Check.folded g.C.Check.COST start _ c.take_octet.new.watch (placed origin (packed_capture (front ++ x ∷ []))) (placed origin (packed_capture (xs ++ os))) c.in-Err.fault
+    stops-more g.C.Check.folded g.C.Check.COST start _ c.take_octet.new.watch (placed origin (packed_capture (front ++ x ∷ []))) (placed origin (packed_capture (xs ++ os))) c.in_err-take_octet.field-0.0
     (packed-grown c.captures_grow.ensures.packed c.captures_grow.ensures.placed origin xs os i x c.loop-octet-test.true refl)
-    (c.in-Err.ensures.taken start front (kept-both g.C.Check.folded g.C.Check.COST start _ _ _ _ _ front (c.if-pass_octet.ensures.kept refl) (c.loop-octet.invariant.front start xs f)))
+    (c.in_err-take_octet.ensures.taken start front (kept-both g.C.Check.folded g.C.Check.COST start _ _ _ _ _ front (c.if-pass_octet.ensures.kept refl) (c.loop-octet.invariant.front start xs f))))
 
-pub returns-in-Err-clause-same : goal.returns-in-Err-clause-same
-returns-in-Err-clause-same g c =
+pub returns-in_err-take_octet-clause-same : goal.returns-in_err-take_octet-clause-same
+returns-in_err-take_octet-clause-same g c =
     same-both c.args.watch.now c.pass_octet.new.watch c.take_octet.new.watch (same-both c.args.watch.now c.loop-octet.watch c.pass_octet.new.watch c.loop-octet.invariant.same c.pass_octet.ensures.same) c.take_octet.ensures.same
 
 pub loop-octet-preserved : goal.loop-octet-preserved
@@ -44,7 +46,7 @@ loop-octet-preserved g c = record {
       let i = c.loop-octet.octet-index in
       subst (FollowsBody g.C.Check.folded g.C.Check.COST start (g.W.Write.contents c.take_octet.new.w) c.take_octet.new.body c.take_octet.new.watch)
       (octet-next xs os i (get_or os i 0) c.loop-octet-test.true refl)
-      (c.in_default.ensures.taken start (xs ++ take i os) (kept-both g.C.Check.folded g.C.Check.COST start _ _ _ _ _ (xs ++ take i os) (c.if-pass_octet.ensures.kept refl) (c.loop-octet.invariant.front start xs f)));
+      (c.in_ok-take_octet.ensures.taken start (xs ++ take i os) (kept-both g.C.Check.folded g.C.Check.COST start _ _ _ _ _ (xs ++ take i os) (c.if-pass_octet.ensures.kept refl) (c.loop-octet.invariant.front start xs f)));
 }
 
 pub loop-octet-preserved-then-pass_octet : goal.loop-octet-preserved-then-pass_octet

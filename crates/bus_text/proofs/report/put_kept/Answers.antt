@@ -1,8 +1,11 @@
+use Rattle.std.proofs.lemmas.Result.{err_from_is_err_and}
 use Rattle.bus_watch.specs.JournalState.{kept_frame}
 use Rattle.bus_text.specs.CheckText.{kept_text}
 use Rattle.bus_text.proofs.PageLemmas.{cuts-more}
 use Rattle.bus_text.proofs.report.put_kept.Goals as goal
 
-pub returns-in-Err-clause-put : goal.returns-in-Err-clause-put
-returns-in-Err-clause-put g c = λ start text p.
-    cuts-more start (g.W.Write.contents c.make_room.new.w) text (kept_text (kept_frame c.args.kept.now)) c.in-Err.cut.sent (c.in-Err.ensures.turned start text p)
+pub returns-in_err-make_room-clause-put : goal.returns-in_err-make_room-clause-put
+returns-in_err-make_room-clause-put g c =
+    let p = err_from_is_err_and c.from_residual.result c.from_residual.ensures.1 in
+    rw (p.1, p.2) (λ start text p.
+    cuts-more start (g.W.Write.contents c.make_room.new.w) text (kept_text (kept_frame c.args.kept.now)) c.in_err-make_room.field-0.0.sent (c.in_err-make_room.ensures.turned start text p))

@@ -1,4 +1,5 @@
 use Rattle.std.proofs.Common.{rules, ◌≡◌, ◌+◌, ◌++◌, sym, ap, ◌∙◌, subst, arith, append-nil}
+use Rattle.std.proofs.lemmas.Result.{err_from_is_err_and}
 use Rattle.bus_watch.specs.Stands.{line}
 use Rattle.bus_watch.specs.History.{tally}
 use Rattle.bus_text.specs.CheckText.{tallies_text}
@@ -15,22 +16,24 @@ loop-station-init g c = record {
 }
 
 -- src/check/report.rt:121:13
-pub returns-in-Err-clause-put : goal.returns-in-Err-clause-put
-returns-in-Err-clause-put g c = λ start text b stands p.
+pub returns-in_err-put_tally-clause-put : goal.returns-in_err-put_tally-clause-put
+returns-in_err-put_tally-clause-put g c =
+    let p = err_from_is_err_and c.from_residual.result c.from_residual.ensures.1 in
+    rw (p.1, p.2) (λ start text b stands p.
     let t = tally c.args.analyser.now.journal.dictionary (line c.args.analyser.now b) in
     let k = c.loop-station.station in
-    cuts-tally start (g.W.Write.contents c.put_tally.new.w) text t k 256 c.tally.result c.in-Err.cut.sent (c.tally.ensures b stands) (omega (arith, c.loop-station-test.true))
-    (c.in-Err.ensures.put start (text ++ tallies_text t k) (c.loop-station.invariant.put start text b stands p))
+    cuts-tally start (g.W.Write.contents c.put_tally.new.w) text t k 256 c.tally.result c.in_err-put_tally.field-0.0.sent (c.tally.ensures b stands) (omega (arith, c.loop-station-test.true))
+    (c.in_err-put_tally.ensures.put start (text ++ tallies_text t k) (c.loop-station.invariant.put start text b stands p)))
 
 -- src/check/report.rt:119:5
 pub loop-station-preserved : goal.loop-station-preserved
 loop-station-preserved g c = record {
-  few = omega (arith, c.loop-station.invariant.few, c.in_default.ensures.few);
+  few = omega (arith, c.loop-station.invariant.few, c.in_ok-put_tally.ensures.few);
   put = λ start text b stands p.
       let t = tally c.args.analyser.now.journal.dictionary (line c.args.analyser.now b) in
       let k = c.loop-station.station in
       pages-tally start (g.W.Write.contents c.put_tally.new.w) c.put_tally.new.page.text.bytes c.put_tally.new.page.written text t k c.tally.result (c.tally.ensures b stands)
-      (c.in_default.ensures.put start (text ++ tallies_text t k) (c.loop-station.invariant.put start text b stands p));
+      (c.in_ok-put_tally.ensures.put start (text ++ tallies_text t k) (c.loop-station.invariant.put start text b stands p));
 }
 
 -- src/check/report.rt:108:1
@@ -38,12 +41,12 @@ pub returns-clause-put : goal.returns-clause-put
 returns-clause-put g c = absurd (let never : ⊥ = omega (arith, c.loop-station-test.false, c.loop-station.auto.station-end) in never)
 
 -- src/check/report.rt:108:1
-pub returns-in_default-clause-put : goal.returns-in_default-clause-put
-returns-in_default-clause-put g c = λ start text b stands p.
+pub returns-in_ok-put_tally-clause-put : goal.returns-in_ok-put_tally-clause-put
+returns-in_ok-put_tally-clause-put g c = λ start text b stands p.
     let t = tally c.args.analyser.now.journal.dictionary (line c.args.analyser.now b) in
     let k = c.loop-station.station in
     let last : k ≡ 255 = search rules in
     let all : k + 1 ≡ 256 = omega (arith, last) in
     subst (λ n. Pages start (g.W.Write.contents c.put_tally.new.w) c.put_tally.new.page.text.bytes c.put_tally.new.page.written (text ++ tallies_text t n)) all
     (pages-tally start (g.W.Write.contents c.put_tally.new.w) c.put_tally.new.page.text.bytes c.put_tally.new.page.written text t k c.tally.result (c.tally.ensures b stands)
-    (c.in_default.ensures.put start (text ++ tallies_text t k) (c.loop-station.invariant.put start text b stands p)))
+    (c.in_ok-put_tally.ensures.put start (text ++ tallies_text t k) (c.loop-station.invariant.put start text b stands p)))

@@ -11,9 +11,9 @@ use Rattle.bus_capture.proofs.session.Session.new.Goals.{then-options, else-opti
 pub returns-clause-fresh : goal.returns-clause-fresh
 returns-clause-fresh g c =
     λ start.
-    let none = watched-none g.C.Check.folded g.C.Check.COST start (record { analyser = c.in-Ok.analyser; summary = c.none.result; printer = c.args.printer; page = c.new-2.result })
-    c.in-Ok.ensures.2.stands c.none.ensures.none (c.new-2.ensures.blank start) in
-    let watch : Watch g.row.C.Denot = record { analyser = c.in-Ok.analyser; summary = c.none.result; printer = c.args.printer; page = c.new-2.result } in
+    let none = watched-none g.C.Check.folded g.C.Check.COST start (record { analyser = c.in_ok-analyser.analyser; summary = c.none.result; printer = c.args.printer; page = c.new-2.result })
+    c.in_ok-analyser.ensures.2.stands c.none.ensures.none (c.new-2.ensures.blank start) in
+    let watch : Watch g.row.C.Denot = record { analyser = c.in_ok-analyser.analyser; summary = c.none.result; printer = c.args.printer; page = c.new-2.result } in
     elim c.if-options.branch [
       | then-options w ↦ subst (λ (s : Source). Follows g.C.Check.folded g.C.Check.COST start start s watch []) (sym w.source-is) (record { at = refl; clean = refl; bits = none })
       | else-options w ↦ subst (λ (s : Source). Follows g.C.Check.folded g.C.Check.COST start start s watch []) (sym w.source-is) (record {

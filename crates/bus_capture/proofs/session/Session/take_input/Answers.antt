@@ -1,4 +1,5 @@
 use Rattle.std.proofs.Common.{rules, Bool, ◌++◌, take, ◌∙◌, subst}
+use Rattle.std.proofs.lemmas.Result.{err_from_is_err_and}
 use Rattle.bus_capture.specs.Sessions.{is_text, Stops}
 use Rattle.bus_capture.specs.Reading.{IsClean, Finishes}
 use Rattle.bus_text.proofs.Bytes.{consumes_both, consumes_end, consumes_kept, longer}
@@ -36,16 +37,18 @@ returns-in-Err-clause-read g c =
       subst (λ (b : Bool). IsClean g.C.Check.folded g.C.Check.COST b start now self.watch before.0) c.loop-turn.invariant.text clean,
     )
 
-pub returns-in-Err-take_read-clause-read : goal.returns-in-Err-take_read-clause-read
-returns-in-Err-take_read-clause-read g c =
+pub returns-in_err-take_read-clause-read : goal.returns-in_err-take_read-clause-read
+returns-in_err-take_read-clause-read g c =
+    let p = err_from_is_err_and c.from_residual.result c.from_residual.ensures.1 in
     let before = c.loop-turn.invariant.taken in
     let start = g.W.Write.contents c.args.w.now in
     let now = g.W.Write.contents c.take_read.new.w in
     let xs = before.0 ++ take c.in-Ok.count c.read.new.buf in
-    let stops = subst (λ (b : Bool). Stops g.C.Check.folded g.C.Check.COST b start now c.take_read.new.self.watch xs c.in-Err-take_read.fault) c.loop-turn.invariant.text (c.in-Err-take_read.ensures.taken start before.0 before.2) in (
+    let stops = subst (λ (b : Bool). Stops g.C.Check.folded g.C.Check.COST b start now c.take_read.new.self.watch xs c.in_err-take_read.field-0.0) c.loop-turn.invariant.text (c.in_err-take_read.ensures.taken start before.0 before.2) in
+    rw (p.1, p.2) (
       xs,
       consumes_both _ _ _ before.0 _ before.1 c.in-Ok.ensures.bytes.0,
-      stops-finishes g.C.Check.folded g.C.Check.COST (is_text c.args.self.now.source) c.args.reads (g.R.Read.remaining c.read.new.self) start now c.take_read.new.self.watch xs c.in-Err-take_read.fault stops,
+      stops-finishes g.C.Check.folded g.C.Check.COST (is_text c.args.self.now.source) c.args.reads (g.R.Read.remaining c.read.new.self) start now c.take_read.new.self.watch xs c.in_err-take_read.field-0.0 stops,
     )
 
 pub loop-turn-preserved : goal.loop-turn-preserved
@@ -54,11 +57,11 @@ loop-turn-preserved g c =
       sound = c.take_read.ensures.sound;
       same = same-both c.args.self.now.watch c.loop-turn.self.watch c.take_read.new.self.watch c.loop-turn.invariant.same c.take_read.ensures.same;
       text = c.take_read.ensures.text ∙ c.loop-turn.invariant.text;
-      few = let f = c.in_default.ensures.few in let i = c.loop-turn.invariant.few in search rules;
+      few = let f = c.in_ok-take_read.ensures.few in let i = c.loop-turn.invariant.few in search rules;
       taken = (
         _,
         consumes_both _ _ _ before.0 _ before.1 c.in-Ok.ensures.bytes.0,
-        c.in_default.ensures.taken (g.W.Write.contents c.args.w.now) before.0 before.2,
+        c.in_ok-take_read.ensures.taken (g.W.Write.contents c.args.w.now) before.0 before.2,
         longer before.0 c.read.new.buf c.in-Ok.count c.loop-turn._turn before.3 (search rules) (search rules),
       );
     }

@@ -1,4 +1,5 @@
 use Rattle.std.proofs.Common.{◌++◌, Bool, subst}
+use Rattle.std.proofs.lemmas.Result.{err_from_is_err_and}
 use Rattle.bus_capture.specs.Captures.{capture}
 use Rattle.bus_capture.specs.Watching.{lines}
 use Rattle.bus_capture.specs.Sessions.{is_text}
@@ -7,14 +8,15 @@ use Rattle.bus_capture.proofs.ReadingLemmas.{follows-unplaced, is-clean, is-cut}
 use Rattle.bus_text.proofs.PageLemmas.{cut-short}
 use Rattle.bus_capture.proofs.session.Session.take_read.Goals as goal
 
-pub returns-in-Err-turn-clause-taken : goal.returns-in-Err-turn-clause-taken
-returns-in-Err-turn-clause-taken g c =
-    λ start xs f.
+pub returns-in_err-turn-clause-taken : goal.returns-in_err-turn-clause-taken
+returns-in_err-turn-clause-taken g c =
+    let p = err_from_is_err_and c.from_residual-in_err-turn.result c.from_residual-in_err-turn.ensures.1 in
+    rw (p.1, p.2) (λ start xs f.
     let ys = xs ++ c.args.octets.now in
-    let taken = c.in_default.ensures.taken start xs f in
+    let taken = c.in_ok-take.ensures.taken start xs f in
     let law = c.packed_is_head_and_body.ensures in
     let clean = is-clean g.C.Check.folded g.C.Check.COST (is_text c.take.new.self.source) start _ c.take.new.self.watch ys c.take.ensures.sound
     (follows-unplaced g.C.Check.folded g.C.Check.COST start _ c.take.new.self.source c.take.new.self.watch ys law.headed law.short taken) in
     let here = subst (λ (b : Bool). IsClean g.C.Check.folded g.C.Check.COST b start (g.W.Write.contents c.take.new.w) c.take.new.self.watch ys) c.take.ensures.text clean in
     let bits = (capture (is_text c.args.self.now.source) c.take.new.self.watch.analyser.decoder.origin ys).bits in
-    is-cut start _ (record c.take.new.self.watch { page = c.turn.new.self }) bits _ (c.in-Err-turn.ensures.turned start (lines c.take.new.self.watch bits) here.bits.page) (cut-short start _ _ _ (lines c.take.new.self.watch bits) _ here.bits.page c.in-Err-turn.ensures.short)
+    is-cut start _ (record c.take.new.self.watch { page = c.turn.new.self }) bits _ (c.in_err-turn.ensures.turned start (lines c.take.new.self.watch bits) here.bits.page) (cut-short start _ _ _ (lines c.take.new.self.watch bits) _ here.bits.page c.in_err-turn.ensures.short))

@@ -1,4 +1,5 @@
 use Rattle.std.proofs.Common.{◌+◌, ◌≡◌, ℕ, List, [], ◌∷◌, ◌++◌, length, take, get_or, refl, sym, ◌∙◌, subst, arith, append-nil, length-append}
+use Rattle.std.proofs.lemmas.Result.{err_from_is_err_and}
 use Rattle.std.proofs.lemmas.List.{take_all}
 use Rattle.bus_bits.specs.Capture.{text_capture, placed}
 use Rattle.bus_capture.specs.Sessions.{FollowsMarks}
@@ -46,22 +47,23 @@ loop-taken-preserved-then-pass_one g c = record {
       (kept-marks g.C.Check.folded g.C.Check.COST start _ _ _ (xs ++ take i os) (c.in_default.ensures.kept refl) (c.loop-taken.invariant.front start xs t)));
 }
 
-pub returns-in-Err-clause-taken : goal.returns-in-Err-clause-taken
-returns-in-Err-clause-taken g c =
-    λ start xs t.
+pub returns-in_err-take_one-clause-taken : goal.returns-in_err-take_one-clause-taken
+returns-in_err-take_one-clause-taken g c =
+    let p = err_from_is_err_and c.from_residual.result c.from_residual.ensures.1 in
+    rw (p.1, p.2) (λ start xs t.
     let os = c.args.octets.now in
     let i = c.loop-taken.taken in
     let x = get_or os i 0 in
     let front = xs ++ take i os in
     let at : c.args.self.now.at + i ≡ length front = omega (arith, t.at, octets-before xs os i c.loop-taken-test.true) in
     let here = kept-marks g.C.Check.folded g.C.Check.COST start _ _ _ front (c.if-pass_one.ensures.kept refl ∙ c.in_default.ensures.kept refl) (c.loop-taken.invariant.front start xs t) in
-    let stops = c.in-Err.ensures.taken start front at here in
+    let stops = c.in_err-take_one.ensures.taken start front at here in
     let origin = c.take_one.new.watch.analyser.decoder.origin in
-    stops-more g.C.Check.folded g.C.Check.COST start _ c.take_one.new.watch (placed origin (text_capture (front ++ x ∷ []))) (placed origin (text_capture (xs ++ os))) c.in-Err.fault
-    (placed-grown c.captures_grow.ensures.text c.captures_grow.ensures.placed origin xs os i x c.loop-taken-test.true refl) stops
+    stops-more g.C.Check.folded g.C.Check.COST start _ c.take_one.new.watch (placed origin (text_capture (front ++ x ∷ []))) (placed origin (text_capture (xs ++ os))) c.in_err-take_one.field-0.0
+    (placed-grown c.captures_grow.ensures.text c.captures_grow.ensures.placed origin xs os i x c.loop-taken-test.true refl) stops)
 
-pub returns-in-Err-clause-same : goal.returns-in-Err-clause-same
-returns-in-Err-clause-same g c =
+pub returns-in_err-take_one-clause-same : goal.returns-in_err-take_one-clause-same
+returns-in_err-take_one-clause-same g c =
     same-both c.args.watch.now c.pass_one.new.watch c.take_one.new.watch
     (same-both c.args.watch.now c.pass_eight.new.watch c.pass_one.new.watch
     (same-both c.args.watch.now c.loop-taken.watch c.pass_eight.new.watch c.loop-taken.invariant.same c.pass_eight.ensures.same) c.pass_one.ensures.same)
@@ -81,7 +83,7 @@ loop-taken-preserved g c = record {
       let at : c.args.self.now.at + i ≡ length front = omega (arith, t.at, octets-before xs os i c.loop-taken-test.true) in
       subst (FollowsMarks g.C.Check.folded g.C.Check.COST start (g.W.Write.contents c.take_one.new.w) c.take_one.new.watch)
       (octet-next xs os i (get_or os i 0) c.loop-taken-test.true refl)
-      (c.in_default-take_one.ensures.taken start front at
+      (c.in_ok-take_one.ensures.taken start front at
       (kept-marks g.C.Check.folded g.C.Check.COST start _ _ _ front (c.if-pass_one.ensures.kept refl ∙ c.in_default.ensures.kept refl) (c.loop-taken.invariant.front start xs t)));
 }
 

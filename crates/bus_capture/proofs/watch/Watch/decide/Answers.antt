@@ -1,4 +1,5 @@
 use Rattle.std.proofs.Common.{◌≡◌, List, [], ◌∷◌, ◌++◌, Some, None, OnErr, ◌+◌, ◌≤◌, refl, sym, ap, ◌∙◌, subst, arith}
+use Rattle.std.proofs.lemmas.Result.{err_from_is_err_and}
 use Rattle.arrayvec.specs.ArrayString.{array_string_len}
 use Rattle.bus_watch.specs.Stands.{AnalyserState, seen_after}
 use Rattle.bus_watch.specs.Shown.{shown}
@@ -25,17 +26,18 @@ returns-in_default-clause-sound g c =
     let sees = sees-at g.C.Check.folded g.C.Check.COST c.args.self.now.analyser c.push.follows.lender-at-none c.args.bit c.push.result c.in-Ok-Some.field-0 (Some c.in-Ok-Some.seen) c.in-Ok-Some.is c.in-Ok-Some.field-0-is c.push.follows.holds-at-none.0 in
     sound-next c.args.self.now _ sees.place (below c.args.self.now.analyser.decoder.place c.in-Ok-Some.ensures.limit.1) (c.count.ensures.few c.args.self.now.analyser.decoder.place c.requires.counts) (omega arith) c.requires
 
-pub returns-in-Err-make_room-clause-taken : goal.returns-in-Err-make_room-clause-taken
-returns-in-Err-make_room-clause-taken g c =
-    λ start b h.
+pub returns-in_err-make_room-in-Ok-Some-clause-taken : goal.returns-in_err-make_room-in-Ok-Some-clause-taken
+returns-in_err-make_room-in-Ok-Some-clause-taken g c =
+    let p = err_from_is_err_and c.from_residual.result c.from_residual.ensures.1 in
+    rw (p.1, p.2) (λ start b h.
     let sees = sees-at g.C.Check.folded g.C.Check.COST c.args.self.now.analyser c.push.follows.lender-at-none c.args.bit c.push.result c.in-Ok-Some.field-0 (Some c.in-Ok-Some.seen) c.in-Ok-Some.is c.in-Ok-Some.field-0-is c.push.follows.holds-at-none.0 in
-    cut-off g.C.Check.folded g.C.Check.COST start _ c.args.self.now (record { analyser = c.push.follows.lender-at-none; summary = c.count.new.self; printer = c.args.self.now.printer; page = c.make_room.new.self }) b c.args.bit (shown c.in-Ok-Some.seen ∷ []) c.in-Err-make_room.field-0.sent refl (below c.args.self.now.analyser.decoder.place c.in-Ok-Some.ensures.limit.1) h.stands sees
-    (c.in-Err-make_room.ensures.turned start (lines c.args.self.now b) h.page) (cut-short start _ _ _ (lines c.args.self.now b) _ h.page c.in-Err-make_room.ensures.short)
+    cut-off g.C.Check.folded g.C.Check.COST start _ c.args.self.now (record { analyser = c.push.follows.lender-at-none; summary = c.count.new.self; printer = c.args.self.now.printer; page = c.make_room.new.self }) b c.args.bit (shown c.in-Ok-Some.seen ∷ []) c.in_err-make_room-in-Ok-Some.field-0.0.sent refl (below c.args.self.now.analyser.decoder.place c.in-Ok-Some.ensures.limit.1) h.stands sees
+    (c.in_err-make_room-in-Ok-Some.ensures.turned start (lines c.args.self.now b) h.page) (cut-short start _ _ _ (lines c.args.self.now b) _ h.page c.in_err-make_room-in-Ok-Some.ensures.short))
 
-pub returns-in-Err-make_room-clause-sound : goal.returns-in-Err-make_room-clause-sound
-returns-in-Err-make_room-clause-sound g c =
+pub returns-in_err-make_room-in-Ok-Some-clause-sound : goal.returns-in_err-make_room-in-Ok-Some-clause-sound
+returns-in_err-make_room-in-Ok-Some-clause-sound g c =
     let sees = sees-at g.C.Check.folded g.C.Check.COST c.args.self.now.analyser c.push.follows.lender-at-none c.args.bit c.push.result c.in-Ok-Some.field-0 (Some c.in-Ok-Some.seen) c.in-Ok-Some.is c.in-Ok-Some.field-0-is c.push.follows.holds-at-none.0 in
-    let same : c.make_room.new.self ≡ c.args.self.now.page = c.in-Err-make_room.ensures.kept in
+    let same : c.make_room.new.self ≡ c.args.self.now.page = c.in_err-make_room-in-Ok-Some.ensures.kept in
     sound-next c.args.self.now _ sees.place (below c.args.self.now.analyser.decoder.place c.in-Ok-Some.ensures.limit.1) (c.count.ensures.few c.args.self.now.analyser.decoder.place c.requires.counts)
     (subst (λ (p : Page). p.written + array_string_len p.text ≤ c.args.self.now.page.written + array_string_len c.args.self.now.page.text + 1024) (sym same) (omega arith)) c.requires
 
@@ -53,14 +55,14 @@ returns-in-Ok-None-clause-taken g c =
     let sees = sees-at g.C.Check.folded g.C.Check.COST c.args.self.now.analyser c.push.follows.lender-at-none c.args.bit c.push.result c.in-Ok-None.field-0 None c.in-Ok-None.is c.in-Ok-None.field-0-is c.push.follows.holds-at-none.0 in
     watched-nothing g.C.Check.folded g.C.Check.COST start _ c.args.self.now _ b (c.args.bit ∷ []) refl refl refl sees h
 
-pub returns-in_default-make_room-clause-taken : goal.returns-in_default-make_room-clause-taken
-returns-in_default-make_room-clause-taken g c =
+pub returns-in_ok-make_room-in-Ok-Some-clause-taken : goal.returns-in_ok-make_room-in-Ok-Some-clause-taken
+returns-in_ok-make_room-in-Ok-Some-clause-taken g c =
     λ start b h.
     let sees = sees-at g.C.Check.folded g.C.Check.COST c.args.self.now.analyser c.push.follows.lender-at-none c.args.bit c.push.result c.in-Ok-Some.field-0 (Some c.in-Ok-Some.seen) c.in-Ok-Some.is c.in-Ok-Some.field-0-is c.push.follows.holds-at-none.0 in
     let p = c.in-Some.printer in
     let d = c.args.self.now.analyser.journal.dictionary in
     let s = c.in-Ok-Some.seen in
-    let turned = c.in_default-make_room.ensures.turned start (lines c.args.self.now b) h.page in
+    let turned = c.in_ok-make_room-in-Ok-Some.ensures.turned start (lines c.args.self.now b) h.page in
     let front = subst (λ (x : Seen). c.put_front-back.new.page.text.bytes ≡ c.make_room.new.self.text.bytes ++ front_text p (shown x)) c.in-Ok-Some.seen-is c.put_front-back.ensures.bytes in
     let back = c.put_back.ensures.bytes (shown s) (subst (λ (x : Seen). c.put_front-back.result ≡ back_of p (shown x)) c.in-Ok-Some.seen-is c.put_front-back.ensures.back) in
     let names : c.dictionary.result.now ≡ d = c.dictionary.ensures ∙ sees.dictionary in
@@ -70,10 +72,10 @@ returns-in_default-make_room-clause-taken g c =
     c.in-Some.is front (subst (λ (x : List FrameType). c.put_back.new.page.text.bytes ≡ c.put_front-back.new.page.text.bytes ++ (back_text p x (shown s) ++ behind_text p (shown s))) names back)
     (c.put_back.ensures.written ∙ c.put_front-back.ensures.written) turned)
 
-pub returns-in_default-make_room-clause-sound : goal.returns-in_default-make_room-clause-sound
-returns-in_default-make_room-clause-sound g c =
+pub returns-in_ok-make_room-in-Ok-Some-clause-sound : goal.returns-in_ok-make_room-in-Ok-Some-clause-sound
+returns-in_ok-make_room-in-Ok-Some-clause-sound g c =
     let sees = sees-at g.C.Check.folded g.C.Check.COST c.args.self.now.analyser c.push.follows.lender-at-none c.args.bit c.push.result c.in-Ok-Some.field-0 (Some c.in-Ok-Some.seen) c.in-Ok-Some.is c.in-Ok-Some.field-0-is c.push.follows.holds-at-none.0 in
-    let sum = c.in_default-make_room.ensures.sum in
+    let sum = c.in_ok-make_room-in-Ok-Some.ensures.sum in
     let l1 = c.put_front-back.ensures.len in
     let l2 = c.put_back.ensures.len in
     let w1 = c.put_front-back.ensures.written in

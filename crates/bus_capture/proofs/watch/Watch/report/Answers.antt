@@ -1,12 +1,17 @@
 use Rattle.std.proofs.Common.{◌++◌, refl}
+use Rattle.std.proofs.lemmas.Result.{err_from_is_err_and}
 use Rattle.bus_capture.specs.Watching.{lines, reported}
 use Rattle.bus_capture.proofs.watch.Watch.report.Goals as goal
 
-pub returns-in-Err : goal.returns-in-Err
-returns-in-Err g c = λ start b h. c.in-Err.ensures.put start (lines c.args.self b) b h.stands h.page
-
-pub returns-in-Ok : goal.returns-in-Ok
-returns-in-Ok g c = λ start b h. (c.in-Ok.ensures.closed start (lines c.args.self b ++ reported c.args.self b) (c.in_default.ensures.put start (lines c.args.self b) b h.stands h.page), refl)
+pub returns-in_err-put_report : goal.returns-in_err-put_report
+returns-in_err-put_report g c =
+    let p = err_from_is_err_and c.from_residual.result c.from_residual.ensures.1 in
+    rw (p.1, p.2) (λ start b h. c.in_err-put_report.ensures.put start (lines c.args.self b) b h.stands h.page)
 
 pub returns : goal.returns
-returns g c = λ start b h. c.in-Err-close.ensures.closed start (lines c.args.self b ++ reported c.args.self b) (c.in_default.ensures.put start (lines c.args.self b) b h.stands h.page)
+returns g c = λ start b h. (c.in_ok-close.ensures.closed start (lines c.args.self b ++ reported c.args.self b) (c.in_ok-put_report.ensures.put start (lines c.args.self b) b h.stands h.page), refl)
+
+pub returns-in_err-close : goal.returns-in_err-close
+returns-in_err-close g c =
+    let p = err_from_is_err_and c.from_residual-in_err-close.result c.from_residual-in_err-close.ensures.1 in
+    rw (p.1, p.2) (λ start b h. c.in_err-close.ensures.closed start (lines c.args.self b ++ reported c.args.self b) (c.in_ok-put_report.ensures.put start (lines c.args.self b) b h.stands h.page))

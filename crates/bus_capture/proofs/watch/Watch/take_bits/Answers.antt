@@ -1,4 +1,5 @@
 use Rattle.std.proofs.Common.{List, Bool, [], ◌∷◌, ◌++◌, take, drop, get_or, ◌+◌, false, refl, sym, subst, append-nil, arith}
+use Rattle.std.proofs.lemmas.Result.{err_from_is_err_and}
 use Rattle.std.proofs.lemmas.List.{take_all}
 use Rattle.bus_capture.specs.Watching.{Watches, Halts}
 use Rattle.bus_capture.proofs.WatchLemmas.{same-self, same-both, halts-more, bit-middle, bit-next}
@@ -14,20 +15,21 @@ loop-bit-init g c = record {
 pub decide-requires : goal.decide-requires
 decide-requires g c = c.pass.ensures.sound
 
-pub returns-in-Err-clause-taken : goal.returns-in-Err-clause-taken
-returns-in-Err-clause-taken g c =
-    λ start b h.
+pub returns-in_err-decide-clause-taken : goal.returns-in_err-decide-clause-taken
+returns-in_err-decide-clause-taken g c =
+    let p = err_from_is_err_and c.from_residual.result c.from_residual.ensures.1 in
+    rw (p.1, p.2) (λ start b h.
     let bits = c.args.bits.now in
     let i = c.loop-bit.bit-index in
     let front = b ++ take i bits in
     let here = subst (λ x. Watches g.C.Check.folded g.C.Check.COST start (g.W.Write.contents c.loop-bit.w) x front) (sym (c.if-pass.ensures.kept refl)) (c.loop-bit.invariant.followed start b h) in
-    let halts = c.in-Err.ensures.taken start front here in
-    let more = halts-more g.C.Check.folded g.C.Check.COST start _ c.decide.new.self (front ++ get_or bits i false ∷ []) (drop (i + 1) bits) c.in-Err.fault halts in
-    subst (λ (x : List Bool). Halts g.C.Check.folded g.C.Check.COST start (g.W.Write.contents c.decide.new.w) c.decide.new.self x c.in-Err.fault)
-    (bit-middle b bits i (get_or bits i false) c.loop-bit-test.true refl) more
+    let halts = c.in_err-decide.ensures.taken start front here in
+    let more = halts-more g.C.Check.folded g.C.Check.COST start _ c.decide.new.self (front ++ get_or bits i false ∷ []) (drop (i + 1) bits) c.in_err-decide.field-0.0 halts in
+    subst (λ (x : List Bool). Halts g.C.Check.folded g.C.Check.COST start (g.W.Write.contents c.decide.new.w) c.decide.new.self x c.in_err-decide.field-0.0)
+    (bit-middle b bits i (get_or bits i false) c.loop-bit-test.true refl) more)
 
-pub returns-in-Err-clause-same : goal.returns-in-Err-clause-same
-returns-in-Err-clause-same g c =
+pub returns-in_err-decide-clause-same : goal.returns-in_err-decide-clause-same
+returns-in_err-decide-clause-same g c =
     same-both c.args.self.now c.pass.new.self c.decide.new.self (same-both c.args.self.now c.loop-bit.self c.pass.new.self c.loop-bit.invariant.same c.pass.ensures.same) c.decide.ensures.same
 
 pub loop-bit-preserved-then-pass : goal.loop-bit-preserved-then-pass
@@ -53,7 +55,7 @@ loop-bit-preserved g c = record {
       let here = subst (λ x. Watches g.C.Check.folded g.C.Check.COST start (g.W.Write.contents c.loop-bit.w) x front) (sym (c.if-pass.ensures.kept refl)) (c.loop-bit.invariant.followed start b h) in
       subst (Watches g.C.Check.folded g.C.Check.COST start (g.W.Write.contents c.decide.new.w) c.decide.new.self)
       (bit-next b bits i (get_or bits i false) c.loop-bit-test.true refl)
-      (c.in_default.ensures.taken start front here);
+      (c.in_ok-decide.ensures.taken start front here);
 }
 
 pub returns-clause-taken : goal.returns-clause-taken

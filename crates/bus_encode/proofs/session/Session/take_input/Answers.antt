@@ -1,4 +1,5 @@
 use Rattle.std.proofs.Common.{rules, [], ◌++◌, take, inl, refl}
+use Rattle.std.proofs.lemmas.Result.{err_from_is_err_and}
 use Rattle.bus_encode.specs.Lines.{ended_lines}
 use Rattle.bus_encode.specs.Encode.{asked_behind, asked_so_far}
 use Rattle.bus_text.proofs.Bytes.{consumes_nothing, consumes_both, consumes_end, consumes_kept, longer}
@@ -28,14 +29,16 @@ returns-in-Err g c =
     let before = c.loop-turn.invariant.taken in
     (before.0, consumes_kept _ _ _ _ before.1 c.in-Err.ensures.bytes, clean_so_far _ _ _ _ _ _ before.0 before.2)
 
-pub returns-in-Err-take_all : goal.returns-in-Err-take_all
-returns-in-Err-take_all g c =
+pub returns-in_err-take_all : goal.returns-in_err-take_all
+returns-in_err-take_all g c =
+    let p = err_from_is_err_and c.from_residual.result c.from_residual.ensures.1 in
     let before = c.loop-turn.invariant.taken in
     let start = g.W.Write.contents c.args.w.now in
-    let xs = before.0 ++ take c.in-Ok.count c.read.new.buf in (
+    let xs = before.0 ++ take c.in-Ok.count c.read.new.buf in
+    rw (p.1, p.2) (
       xs,
       consumes_both _ _ _ before.0 _ before.1 c.in-Ok.ensures.bytes.0,
-      halts_finishes c.args.reads (g.R.Read.remaining c.read.new.self) start (g.W.Write.contents c.take_all.new.w) c.take_all.new.self.written xs (asked_so_far xs) c.in-Err-take_all.fault (inl refl) (c.in-Err-take_all.ensures.taken start before.0 before.2),
+      halts_finishes c.args.reads (g.R.Read.remaining c.read.new.self) start (g.W.Write.contents c.take_all.new.w) c.take_all.new.self.written xs (asked_so_far xs) c.in_err-take_all.field-0.0 (inl refl) (c.in_err-take_all.ensures.taken start before.0 before.2),
     )
 
 pub loop-turn-preserved : goal.loop-turn-preserved
@@ -46,7 +49,7 @@ loop-turn-preserved g c =
       taken = (
         _,
         consumes_both _ _ _ before.0 _ before.1 c.in-Ok.ensures.bytes.0,
-        c.in_default.ensures.taken (g.W.Write.contents c.args.w.now) before.0 before.2,
+        c.in_ok-take_all.ensures.taken (g.W.Write.contents c.args.w.now) before.0 before.2,
         longer before.0 c.read.new.buf c.in-Ok.count c.loop-turn._turn before.3 (search rules) (search rules),
       );
     }

@@ -5,16 +5,16 @@ use Rattle.bus_text.proofs.page.Page.close.Goals as goal
 -- src/text/page.rt:82:13
 pub returns-then-self-eq0-clause-closed : goal.returns-then-self-eq0-clause-closed
 returns-then-self-eq0-clause-closed g c = λ start text p.
-    (pages-whole start (g.W.Write.contents c.turn.new.w) c.turn.new.self.text.bytes c.turn.new.self.written text c.in_default.ensures.empty (c.in_default.ensures.turned start text p)).0
+    (pages-whole start (g.W.Write.contents c.turn.new.w) c.turn.new.self.text.bytes c.turn.new.self.written text c.in_ok-turn.ensures.empty (c.in_ok-turn.ensures.turned start text p)).0
 
 -- src/text/page.rt:72:5
 pub returns-in-Ok-clause-closed : goal.returns-in-Ok-clause-closed
 returns-in-Ok-clause-closed g c = λ start text p.
-    let out = pages-whole start (g.W.Write.contents c.turn.new.w) c.turn.new.self.text.bytes c.turn.new.self.written text c.in_default.ensures.empty (c.in_default.ensures.turned start text p) in
+    let out = pages-whole start (g.W.Write.contents c.turn.new.w) c.turn.new.self.text.bytes c.turn.new.self.written text c.in_ok-turn.ensures.empty (c.in_ok-turn.ensures.turned start text p) in
     appends_kept start (g.W.Write.contents c.turn.new.w) (g.W.Write.contents c.flush.new.self) text out.0 c.flush.ensures.bytes
 
 -- src/text/page.rt:72:5
-pub returns-in-Err-flush-clause-closed : goal.returns-in-Err-flush-clause-closed
-returns-in-Err-flush-clause-closed g c = λ start text p.
-    let out = pages-whole start (g.W.Write.contents c.turn.new.w) c.turn.new.self.text.bytes c.turn.new.self.written text c.in_default.ensures.empty (c.in_default.ensures.turned start text p) in
+pub returns-in-Err-clause-closed : goal.returns-in-Err-clause-closed
+returns-in-Err-clause-closed g c = λ start text p.
+    let out = pages-whole start (g.W.Write.contents c.turn.new.w) c.turn.new.self.text.bytes c.turn.new.self.written text c.in_ok-turn.ensures.empty (c.in_ok-turn.ensures.turned start text p) in
     whole-cut start (g.W.Write.contents c.flush.new.self) text c.turn.new.self.written (appends_kept start (g.W.Write.contents c.turn.new.w) (g.W.Write.contents c.flush.new.self) text out.0 c.flush.ensures.bytes, out.1)

@@ -1,4 +1,5 @@
 use Rattle.std.proofs.Common.{◌≡◌, ℕ, List, [], ◌∷◌, ◌++◌, length, Err, sym, ap, ◌∙◌, subst, arith, append_assoc, append-nil, length-append}
+use Rattle.std.proofs.lemmas.Result.{err_from_is_err_and}
 use Rattle.std.specs.List.{flat_map}
 use Rattle.std.specs.Io.KnownBytes.{Appends}
 use Rattle.bus_dictionary.specs.BitName.{NamedBit, named_bit}
@@ -26,18 +27,20 @@ put_line-requires g c =
     let so_far = c.loop-name.invariant.2 in
     omega (arith, so_far.2, c.requires.sent, c.requires.few, ap length so_far.1, length-append so_far.0 c.loop-name.name-iterator)
 
-pub returns-in-Err : goal.returns-in-Err
-returns-in-Err g c = record {
-  put = λ start before out is.
-      let so_far = c.loop-name.invariant.2 in
-      let b = named_bit c.in-Some.name in
-      let front = before ++ flat_map name_text so_far.0 in
-      let now = so_far.3 start before out is in
-      let names : so_far.0 ++ b ∷ c.next.new.self ≡ c.args.names = ap (λ (l : List NamedBit). so_far.0 ++ l) (sym c.in-Some.ensures.steps) ∙ so_far.1 in
-      let text = ap (λ (l : List NamedBit). before ++ flat_map name_text l) (sym names) ∙ names_text_at before so_far.0 c.next.new.self b in
-      let put = subst (λ (l : List ℕ). Puts start (g.W.Write.contents c.put_line.new.w) (front ++ l) (Err c.in-Err.cut)) c.name_line.ensures (c.in-Err.ensures.put start front now.0 now.1) in
-      subst (λ (l : List ℕ). Puts start (g.W.Write.contents c.put_line.new.w) l (Err c.in-Err.cut)) (sym text) (cut_more start (g.W.Write.contents c.put_line.new.w) (front ++ name_text b) (flat_map name_text c.next.new.self) c.in-Err.cut put);
-}
+pub returns-in_err-written : goal.returns-in_err-written
+returns-in_err-written g c =
+    let p = err_from_is_err_and c.from_residual.result c.from_residual.ensures.1 in
+    rw (p.1, p.2) (record {
+      put = λ start before out is.
+          let so_far = c.loop-name.invariant.2 in
+          let b = named_bit c.in-Some.name in
+          let front = before ++ flat_map name_text so_far.0 in
+          let now = so_far.3 start before out is in
+          let names : so_far.0 ++ b ∷ c.next.new.self ≡ c.args.names = ap (λ (l : List NamedBit). so_far.0 ++ l) (sym c.in-Some.ensures.steps) ∙ so_far.1 in
+          let text = ap (λ (l : List NamedBit). before ++ flat_map name_text l) (sym names) ∙ names_text_at before so_far.0 c.next.new.self b in
+          let put = subst (λ (l : List ℕ). Puts start (g.W.Write.contents c.put_line.new.w) (front ++ l) (Err c.in_err-written.field-0.0)) c.name_line.ensures (c.in_err-written.ensures.put start front now.0 now.1) in
+          subst (λ (l : List ℕ). Puts start (g.W.Write.contents c.put_line.new.w) l (Err c.in_err-written.field-0.0)) (sym text) (cut_more start (g.W.Write.contents c.put_line.new.w) (front ++ name_text b) (flat_map name_text c.next.new.self) c.in_err-written.field-0.0 put);
+    })
 
 pub loop-name-preserved : goal.loop-name-preserved
 loop-name-preserved g c =
@@ -48,11 +51,11 @@ loop-name-preserved g c =
       (
         so_far.0 ++ b ∷ [],
         append_assoc so_far.0 (b ∷ []) c.next.new.self ∙ (ap (λ (l : List NamedBit). so_far.0 ++ l) (sym c.in-Some.ensures.steps) ∙ so_far.1),
-        omega (arith, so_far.2, c.in-Ok.ensures.few, length-append so_far.0 (b ∷ [])),
+        omega (arith, so_far.2, c.in_ok-written.ensures.few, length-append so_far.0 (b ∷ [])),
         λ start before out is.
             let front = before ++ flat_map name_text so_far.0 in
             let now = so_far.3 start before out is in
-            let put = c.in-Ok.ensures.put start front now.0 now.1 in
+            let put = c.in_ok-written.ensures.put start front now.0 now.1 in
             let text : before ++ flat_map name_text (so_far.0 ++ b ∷ []) ≡ front ++ c.name_line.result.bytes = names_text_at before so_far.0 [] b ∙ (append-nil (front ++ name_text b) ∙ ap (λ (l : List ℕ). front ++ l) (sym c.name_line.ensures)) in
             (subst (λ (l : List ℕ). Appends start (g.W.Write.contents c.put_line.new.w) l) (sym text) put.0, put.1 ∙ ap length (sym text)),
       ),
