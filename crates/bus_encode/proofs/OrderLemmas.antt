@@ -1,18 +1,17 @@
 -- What one line asks for, and the bits of that.
-use Rattle.std.proofs.Common.{◌≡◌, ℕ, ◌/◌, ◌%◌, ◌≤◌, ◌<◌, ◌==◌, nat_lt, nat_le, Bool, true, false, List, [], ◌∷◌, ◌++◌, length, take, drop, codes, Option, Some, None, Result, Ok, Err, MatchResult, IsTrue, refl, sym, ap, ◌∙◌, subst, arith, length-take}
+use Rattle.std.proofs.Common.{◌≡◌, ℕ, ◌/◌, ◌%◌, ◌≤◌, ◌<◌, ◌==◌, nat_lt, nat_le, Bool, true, false, List, [], ◌∷◌, ◌++◌, length, take, drop, codes, Option, Some, None, Result, Ok, Err, IsTrue, refl, ap, ◌∙◌, arith, length-take}
 use Rattle.std.proofs.lemmas.Grind.{common_steps}
 use Rattle.std.proofs.lemmas.Bool.Decides.{nat_tests}
 use Rattle.std.specs.List.{AllPass, last_or}
-use Rattle.hex.specs.Hex.{decode_of, decode_sized, is_hex_digit}
+use Rattle.hex.specs.Hex.{decode_of, is_hex_digit}
 use Rattle.hex.specs.declared.error.FromHexError.{FromHexError}
-use Rattle.hex.proofs.HexLemmas.{decode_of-ok, decode_sized-twice}
+use Rattle.hex.proofs.HexLemmas.{decode_of-ok}
 use Rattle.bus_line.specs.Line.{Call, Flag, Idle, Frame, added, gain}
 use Rattle.bus_line.specs.EncoderState.{EncoderState}
 use Rattle.bus_line.specs.Encoding.{AfterCalls, Refused}
 use Rattle.bus_line.specs.declared.encode_fault.EncodeFault.{EncodeFault}
 use Rattle.bus_line.specs.declared.encode_fault.EncodeFault.TheVariants.{Ended, LengthRange, Sink}
 use Rattle.bus_encode.specs.Encode.{sized_frame, decoded_frame, line_call, is_text}
-use Rattle.bus_text.specs.declared.fault.ToolFault.{ToolFault}
 use Rattle.bus_text.specs.declared.fault.ToolFault.TheVariants.{BadLine, FrameLength}
 use Rattle.bus_encode.specs.declared.bits.CallBits.{CallBits}
 use Rattle.bus_text.proofs.ShowLemmas.{even_digits}
@@ -65,18 +64,13 @@ too_long n s even all many =
     let d = even_digits s even all in
     frame_of n s d.0 d.1 (omega (arith, d.2, many)) ∙ frame_long n d.0 (omega (arith, d.2, many))
 
--- octets that were decoded in place of others
-pub in_place : (n : ℕ) (s old out : List ℕ) (r : Result (Unit {0}) FromHexError) → length s % 2 ≡ 0 → AllPass is_hex_digit s → length s / 2 ≡ length old → 2 ≤ length old → length old ≤ 256
-    → MatchResult (decode_sized s (length old)) (λ bytes. (r ≡ Ok tt) × (out ≡ bytes)) (λ e. r ≡ Err e)
-    → decoded_frame n (decode_of s) ≡ Ok (Some (Frame (take (length old) (out ++ drop (length out) old))))
-in_place n s old out r even all half least most h =
-    let d = even_digits s even all in
-    let sized : decode_sized s (length old) ≡ Ok d.0 = decode_sized-twice s (length old) (omega (arith, half, even)) ∙ d.1 in
-    let m = subst (λ (x : Result (List ℕ) FromHexError). MatchResult x (λ bytes. (r ≡ Ok tt) × (out ≡ bytes)) (λ e. r ≡ Err e)) sized h in
-    let same : length out ≡ length old = omega (arith, ap length m.1, d.2, half) in
-    let whole : take (length old) (out ++ drop (length out) old) ≡ out = grind (arith, common_steps, same) in
-    frame_of n s d.0 d.1 (omega (arith, d.2, half, least)) ∙ frame_fits n d.0 (omega (arith, d.2, half, least)) (omega (arith, d.2, half, most))
-    ∙ ap (λ (o : List ℕ). let x : Result (Option Call) ToolFault = Ok (Some (Frame o)) in x) (sym m.1 ∙ sym whole)
+-- octets that digits are
+pub framed : (n : ℕ) (s bytes : List ℕ) → decode_of s ≡ Ok bytes → 2 ≤ length s / 2 → length s / 2 ≤ 256 → (decoded_frame n (decode_of s) ≡ Ok (Some (Frame bytes))) × (2 ≤ length bytes) × (length bytes ≤ 256)
+framed n s bytes is least most =
+    let d = (decode_of-ok s bytes is).2 in
+    let few : 2 ≤ length bytes = omega (arith, d, least) in
+    let many : length bytes ≤ 256 = omega (arith, d, most) in
+    (frame_of n s bytes is (omega (arith, few)) ∙ frame_fits n bytes few many, few, many)
 
 -- ---- lines
 

@@ -7,7 +7,7 @@ ghost use Rattle.bus_encode.specs.Encode.{decoded_frame, line_call};
 ghost use Rattle.bus_encode.specs.EncodeState.{call_of, IsSized};
 
 use arrayvec::ArrayVec;
-use bus_text::{ToolFault, all_digits};
+use bus_text::{ToolFault, is_hex, octets_of};
 
 /// The most octets of a frame without its check.
 const MOST: usize = 256;
@@ -27,19 +27,14 @@ fn frame_octets(digits: &[u8], number: u128) -> Result<ArrayVec<u8, MOST>, ToolF
     ensures at_most { IfOk result (λ octets. length octets.items ≤ 256) }
     ensures refused { IfErr result (λ fault. (fault ≡ ToolFault.BadLine number) ⊎ (fault ≡ ToolFault.FrameLength number)) }
 {
-    if digits.is_empty() || digits.len() % 2 == 1 || !all_digits(digits) {
+    if !is_hex(digits) {
         return Err(ToolFault::BadLine(number));
     }
     let count = digits.len() / 2;
     if count < 2 || MOST < count {
         return Err(ToolFault::FrameLength(number));
     }
-    let mut octets = ArrayVec::<u8, MOST>::from([0; MOST]);
-    octets.truncate(count);
-    match hex::decode_to_slice(digits, octets.as_mut_slice()) {
-        Ok(()) => Ok(octets),
-        Err(_) => Err(ToolFault::BadLine(number)),
-    }
+    Ok(octets_of(digits))
 }
 
 /// What a line of this number asks for, without its end; an empty one asks for nothing.

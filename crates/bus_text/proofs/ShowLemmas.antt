@@ -1,12 +1,12 @@
 -- The parts of what is shown of a frame.
-use Rattle.std.proofs.Common.{◌≡◌, ℕ, ◌-◌, ◌*◌, ◌/◌, ◌%◌, ◌≤◌, ◌<◌, true, false, List, [], ◌∷◌, ◌++◌, length, take, drop, nat_le, Option, Some, append_assoc, zero, suc, get_or, codes, Result, Ok, Err, MatchResult, refl, sym, ap, ◌∙◌, subst, arith, length-append}
+use Rattle.std.proofs.Common.{◌≡◌, ℕ, ◌-◌, ◌*◌, ◌/◌, ◌%◌, ◌≤◌, ◌<◌, true, false, List, [], ◌∷◌, ◌++◌, length, take, drop, nat_le, Option, Some, append_assoc, zero, suc, get_or, codes, Result, Ok, Err, refl, sym, ap, ◌∙◌, subst, arith, length-append}
 use Rattle.std.proofs.lemmas.Grind.{common_steps, flat_map-append}
 use Rattle.std.proofs.lemmas.List.{append-nil, take-append-le}
 use Rattle.std.specs.Io.KnownBytes.{Appends}
 use Rattle.std.specs.List.{AllPass, flat_map, AllPairs}
-use Rattle.hex.specs.Hex.{decode_of, decode_sized, is_hex_digit}
+use Rattle.hex.specs.Hex.{decode_of, is_hex_digit}
 use Rattle.hex.specs.declared.error.FromHexError.{FromHexError}
-use Rattle.hex.proofs.HexLemmas.{decode_of-ok, decode_of-digits, decode_sized-twice}
+use Rattle.hex.proofs.HexLemmas.{decode_of-ok, decode_of-digits}
 use Rattle.bus_dictionary.specs.BitName.{NamedBit, AreBits}
 use Rattle.bus_dictionary.specs.Entry.{FrameType}
 use Rattle.bus_dictionary.specs.Dictionary.{entry_at}
@@ -73,17 +73,13 @@ too_long s even all many =
     let d = even_digits s even all in
     hex_frame s d.0 d.1 (omega (arith, d.2, many)) ∙ frame_long d.0 (omega (arith, d.2, many))
 
--- octets that were decoded in place of others
-pub in_place : (s old out : List ℕ) (r : Result (Unit {0}) FromHexError) → length s % 2 ≡ 0 → AllPass is_hex_digit s → length s / 2 ≡ length old → 4 ≤ length old → length old ≤ 258
-    → MatchResult (decode_sized s (length old)) (λ bytes. (r ≡ Ok tt) × (out ≡ bytes)) (λ e. r ≡ Err e)
-    → typed_frame s ≡ Ok (take (length old) (out ++ drop (length out) old))
-in_place s old out r even all half least most h =
-    let d = even_digits s even all in
-    let sized : decode_sized s (length old) ≡ Ok d.0 = decode_sized-twice s (length old) (omega (arith, half, even)) ∙ d.1 in
-    let m = subst (λ (x : Result (List ℕ) FromHexError). MatchResult x (λ bytes. (r ≡ Ok tt) × (out ≡ bytes)) (λ e. r ≡ Err e)) sized h in
-    let same : length out ≡ length old = omega (arith, ap length m.1, d.2, half) in
-    let whole : take (length old) (out ++ drop (length out) old) ≡ out = grind (arith, common_steps, same) in
-    hex_frame s d.0 d.1 (omega (arith, d.2, half, least)) ∙ frame_fits d.0 (omega (arith, d.2, half, least)) (omega (arith, d.2, half, most)) ∙ ap Ok (sym m.1 ∙ sym whole)
+-- octets that digits are
+pub sized_frame : (s bytes : List ℕ) → decode_of s ≡ Ok bytes → 4 ≤ length s / 2 → length s / 2 ≤ 258 → (typed_frame s ≡ Ok bytes) × (4 ≤ length bytes) × (length bytes ≤ 258)
+sized_frame s bytes is least most =
+    let d = (decode_of-ok s bytes is).2 in
+    let few : 4 ≤ length bytes = omega (arith, d, least) in
+    let many : length bytes ≤ 258 = omega (arith, d, most) in
+    (hex_frame s bytes is (omega (arith, few)) ∙ frame_fits bytes few many, few, many)
 
 -- a front of what was to be written went out, and so a front of more
 pub cut_more : (start now : Option (List ℕ)) (front more : List ℕ) (cut : Cut) → Puts start now front (Err cut) → Puts start now (front ++ more) (Err cut)

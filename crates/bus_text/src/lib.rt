@@ -2,6 +2,7 @@
 //! and the pages on which they are written.
 #![tactic(auto)]
 
+mod digits;
 mod fault;
 mod filter;
 mod head;
@@ -15,6 +16,7 @@ mod report;
 mod show;
 mod summary;
 
+pub use digits::{is_hex, octets_of};
 pub use fault::ToolFault;
 pub use kind::Kind;
 pub use options::Options;
@@ -22,5 +24,5 @@ pub use page::Page;
 pub use printer::Printer;
 pub use put::{Cut, put_text};
 pub use report::put_report;
-pub use show::{all_digits, read_dictionary, show_frame};
+pub use show::{read_dictionary, show_frame};
 pub use summary::Summary;

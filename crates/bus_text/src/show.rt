@@ -12,7 +12,6 @@ use bus_dictionary::{DictFault, Dictionary};
 use put::put_frame;
 use std::alloc::Global;
 use std::io::Write;
-pub use typed::all_digits;
 use typed::typed_frame;
 
 /// The dictionary of a text. Without a text it is empty, and takes no memory.

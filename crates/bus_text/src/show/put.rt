@@ -83,8 +83,5 @@ pub fn put_frame<W: Write>(octets: &[u8], dictionary: &Dictionary, w: &mut W) ->
     ensures short { IfErr result (λ cut. cut.sent ≤ length (shown_text octets.now dictionary.now)) }
 {
     let sent = put_lines(octets, dictionary, w)?;
-    match w.flush() {
-        Ok(()) => Ok(()),
-        Err(_) => Err(Cut { sent }),
-    }
+    w.flush().map_err(|_| Cut { sent })
 }
