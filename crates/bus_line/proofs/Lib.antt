@@ -31,4 +31,5 @@ pub mod SendLemmas
 pub mod EncoderLemmas
 pub mod SentLemmas
 pub mod BackLemmas
+pub mod EndLemmas
 mod Examples

@@ -1,9 +1,11 @@
 -- Feeding some bits, and then more.
-use Rattle.std.proofs.Common.{◌≡◌, ℕ, Bool, List, [], ◌∷◌, ◌++◌, Option, Some, None, refl, sym, ap, ◌∙◌, append_assoc, append-nil, arith, length-append, subst}
+use Rattle.std.proofs.Common.{◌≡◌, ℕ, ◌+◌, ◌≤◌, Bool, List, [], ◌∷◌, ◌++◌, length, take, Option, Some, None, refl, sym, ap, ◌∙◌, append_assoc, append-nil, arith, length-append, subst}
+use Rattle.std.proofs.lemmas.List.{take-append-le}
+use Rattle.std.proofs.Math.Seq.{take-append-add}
 use Rattle.bus_watch.specs.Seen.{SeenReport}
 use Rattle.bus_watch.specs.Sink.{told}
 use Rattle.bus_watch.specs.Stands.{AnalyserState, Stands, Sees, seen_after}
-use Rattle.bus_watch.specs.Fed.{Fed, Refused}
+use Rattle.bus_watch.specs.Fed.{Fed, Refused, RefusedAt}
 
 pub told-nil : (t : Option (List SeenReport)) → t ≡ told t []
 told-nil None = refl
@@ -73,3 +75,18 @@ module _ {C : Type 0} (folded : C → List ℕ → Type 0) (cost : ℕ) where
       sees_last = q.sees_last;
       took = q.took ∙ (ap (λ z. told z q.seen) p.took ∙ told-more (taken s) p.seen q.seen);
     }
+
+    -- a refusal at some of the bits behind those that were fed
+    pub refused_at-after : (a b c : AnalyserState C) (xs ys rest all : List Bool) (n consumed : ℕ) (s t u : S) → all ≡ (xs ++ ys) ++ rest → n ≡ length xs
+        → Fed folded cost taken a xs b s t → RefusedAt folded cost taken b ys consumed c t u → RefusedAt folded cost taken a all (n + consumed) c s u
+    refused_at-after a b c xs ys rest all n consumed s t u e l p q =
+        let within : n + consumed ≤ length (xs ++ ys) = omega (arith, length-append xs ys, l, q.within) in
+        let first : take (n + consumed) all ≡ xs ++ take consumed ys =
+        ap (take (n + consumed)) e
+        ∙ (take-append-le (n + consumed) (xs ++ ys) rest within
+        ∙ (ap (λ k. take (k + consumed) (xs ++ ys)) l ∙ take-append-add xs ys consumed)) in
+        record {
+          some = omega (arith, q.some);
+          within = omega (arith, within, ap length e, length-append (xs ++ ys) rest);
+          refused = subst (λ bs. Refused folded cost taken a bs c s u) (sym first) (refused-after a b c xs (take consumed ys) s t u p q.refused);
+        }

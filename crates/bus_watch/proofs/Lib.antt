@@ -6,4 +6,7 @@ pub mod StandLemmas
 pub mod PaceLemmas
 pub mod LawLemmas
 pub mod FedLemmas
+pub mod HeadlineLemmas
+pub mod FailLemmas
+pub mod BitLemmas
 mod Examples

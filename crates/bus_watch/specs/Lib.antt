@@ -11,3 +11,7 @@ pub mod Shown
 pub mod Sink
 pub mod Fed
 pub mod Laws
+pub mod Headline
+pub mod LoggedReport
+pub mod LogState
+pub mod LogView

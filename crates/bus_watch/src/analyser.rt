@@ -182,7 +182,8 @@ impl<C: Check> Analyser<C> {
 
     /// A frame of the history, of which the oldest has the number 0.
     pub fn history(&self, i: usize) -> Option<&Kept>
-        ensures { (b : List Bool) → Stands C.folded C.COST self.now b → kept_option result ≡ slice_get (history self.now.journal.depth (line self.now b)) i }
+        ensures lent { kept_option result ≡ slice_get self.now.journal.history i }
+        ensures value { (b : List Bool) → Stands C.folded C.COST self.now b → kept_option result ≡ slice_get (history self.now.journal.depth (line self.now b)) i }
     {
         self.journal.kept(i)
     }

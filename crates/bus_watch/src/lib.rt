@@ -5,15 +5,21 @@ mod analyser;
 mod counts;
 mod ending;
 mod feed;
+mod feed_all;
 mod feed_fault;
 mod journal;
 mod kept;
 pub mod laws;
+mod logged_report;
 mod new_fault;
 mod outcome;
 mod pending;
+mod report_log;
 mod report_sink;
+mod run;
+mod run_fault;
 mod seen;
+mod usage;
 mod verdict;
 
 pub use analyser::Analyser;
@@ -23,11 +29,16 @@ pub use counts::Counts;
 pub use ending::Ending;
 pub use feed_fault::FeedFault;
 pub use kept::Kept;
+pub use logged_report::{LoggedPiece, LoggedReport};
 pub use new_fault::NewFault;
 pub use outcome::Outcome;
 pub use pending::Pending;
+pub use report_log::ReportLog;
 pub use report_sink::ReportSink;
+pub use run::{Run, reports_of, run_all};
+pub use run_fault::RunFault;
 pub use seen::Seen;
+pub use usage::Usage;
 pub use verdict::Verdict;
 
 #[cfg(test)]

@@ -5,7 +5,6 @@ ghost use Rattle.circular_buffer.specs.Buffer.{keep_last};
 
 use crate::journal::Journal;
 use crate::kept::Kept;
-use arrayvec::ArrayVec;
 use bus_bits::Span;
 
 impl Journal {
@@ -21,12 +20,8 @@ impl Journal {
         ensures spent { self.new.spent ≡ record self.old.spent { copied = self.old.spent.copied + length octets.now; handled = self.old.spent.handled + 1 } }
         ensures kept { self.new ≡ record self.old { history = self.new.history; spent = self.new.spent } }
     {
-        let mut copy = ArrayVec::new();
-        for octet in octets {
-            copy.push(*octet);
-        }
         self.spent.copied += octets.len() as u64;
         self.spent.tick_handled();
-        self.history.push_back(Kept { span, octets: copy });
+        self.history.push_back(Kept::of(span, octets));
     }
 }
