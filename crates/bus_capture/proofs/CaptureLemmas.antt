@@ -3,8 +3,9 @@ use Rattle.std.proofs.Common.{◌≡◌, ℕ, ◌+◌, ◌-◌, ◌<◌, ◌≤�
 use Rattle.std.proofs.lemmas.Bool.{cases_lt}
 use Rattle.std.proofs.lemmas.Bool.Decides.{nat_tests}
 use Rattle.bus_bits.specs.Capture.{Capture, CaptureFault, place_limit, placed, GrowsTo}
-use Rattle.bus_capture.specs.Watching.{IsSound, Watches, Halts, within}
-use Rattle.bus_capture.specs.Sessions.{Faulty, IsCapture, StopsAt}
+use Rattle.bus_capture.specs.Internal.Watching.{IsSound, Watches, Halts, within}
+use Rattle.bus_capture.specs.Internal.Sessions.{Faulty, StopsAt}
+use Rattle.bus_capture.specs.Captures.{IsCapture}
 use Rattle.bus_capture.specs.declared.watch.Watch.{Watch}
 use Rattle.bus_text.specs.declared.fault.ToolFault.{ToolFault}
 use Rattle.bus_text.specs.declared.fault.ToolFault.TheVariants as fault

@@ -8,13 +8,15 @@ use Rattle.bus_dictionary.specs.Entry.{FrameType}
 use Rattle.bus_dictionary.specs.Dictionary.{longest_of}
 use Rattle.bus_watch.specs.History.{history, tally}
 use Rattle.bus_watch.specs.Stands.{line, seen_after}
-use Rattle.bus_capture.specs.Captures.{capture, whole_capture, seen_in}
+use Rattle.bus_capture.specs.Captures.{capture, whole_capture, seen_in, HasFault}
 use Rattle.bus_text.specs.CheckText.{check_text}
 use Rattle.bus_text.specs.Summary.{summary_of}
-use Rattle.bus_text.specs.Put.{Cuts, Pages}
-use Rattle.bus_capture.specs.Begins.{Begins, Refuses, IsAsked}
-use Rattle.bus_capture.specs.Watching.{Watches, IsSame, IsCutIn, lines, reported, printed}
-use Rattle.bus_capture.specs.Reading.{HasFault, IsClean, IsWhole, Finishes}
+use Rattle.bus_text.specs.Put.{Cuts}
+use Rattle.bus_text.specs.Internal.Pages.{Pages}
+use Rattle.bus_capture.specs.Begins.{Begins, Refuses}
+use Rattle.bus_capture.specs.Internal.Asked.{IsAsked}
+use Rattle.bus_capture.specs.Internal.Watching.{Watches, IsSame, IsCutIn, lines, reported, printed}
+use Rattle.bus_capture.specs.Internal.Reading.{IsClean, IsWhole, Finishes}
 use Rattle.bus_capture.specs.Lists.{in_all}
 use Rattle.bus_capture.specs.Checks.{report_of, IsAll, ChecksSoFar, Checks}
 use Rattle.bus_capture.specs.declared.watch.Watch.{Watch}

@@ -11,15 +11,17 @@ use Rattle.bus_watch.specs.Shown.{begun_span}
 use Rattle.bus_watch.specs.Talk.{pending}
 use Rattle.bus_watch.specs.Laws.{SeenGrows}
 use Rattle.bus_watch.specs.Stands.{line, seen_after}
-use Rattle.bus_capture.specs.Captures.{capture, whole_capture, seen_in}
+use Rattle.bus_capture.specs.Captures.{capture, whole_capture, seen_in, HasFault}
 use Rattle.bus_text.specs.Given.{printer_of}
 use Rattle.bus_text.specs.Listing.{listing, ending_text}
 use Rattle.bus_text.specs.Summary.{summary_of}
-use Rattle.bus_text.specs.Put.{Cuts, Pages}
-use Rattle.bus_capture.specs.Closes.{IsNoWrite, Closes}
-use Rattle.bus_capture.specs.Begins.{Begins, Refuses, IsAsked}
-use Rattle.bus_capture.specs.Watching.{IsSame, IsCutOff, IsCutIn, lines, last_lines, printed, ended}
-use Rattle.bus_capture.specs.Reading.{HasFault, IsClean, IsWhole, IsFaulty, Finishes}
+use Rattle.bus_text.specs.Put.{Cuts}
+use Rattle.bus_text.specs.Internal.Pages.{Pages}
+use Rattle.bus_capture.specs.Internal.Closes.{IsNoWrite, Closes}
+use Rattle.bus_capture.specs.Begins.{Begins, Refuses}
+use Rattle.bus_capture.specs.Internal.Asked.{IsAsked}
+use Rattle.bus_capture.specs.Internal.Watching.{IsSame, IsCutOff, IsCutIn, lines, last_lines, printed, ended}
+use Rattle.bus_capture.specs.Internal.Reading.{IsClean, IsWhole, IsFaulty, Finishes}
 use Rattle.bus_capture.specs.Lists.{so_far, in_all, listing_of, ending_of, whole_listing, ListsSoFar, ListsToFault, Lists}
 use Rattle.bus_capture.specs.declared.watch.Watch.{Watch}
 use Rattle.bus_text.specs.declared.options.Options.{Options}

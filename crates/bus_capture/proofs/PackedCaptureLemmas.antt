@@ -7,8 +7,8 @@ use Rattle.std.proofs.lemmas.Grind.{common_steps}
 use Rattle.bus_bits.specs.Octet.{bits_of_octets}
 use Rattle.bus_bits.specs.Capture.{Capture, CaptureFault, pad_bits, trailing, GrowsTo, PlacedGrows, placed}
 use Rattle.bus_bits.specs.Packed.{PackedIsHeaded, PackedGrows, PackedAfter, packed_capture, packed_body, wanted, unused, headed, head_bits, head_fault}
-use Rattle.bus_capture.specs.Watching.{Watches, Halts}
-use Rattle.bus_capture.specs.Sessions.{IsHeaded, IsRead, FollowsBody, FollowsPacked, Faulty, StopsAt, Stops}
+use Rattle.bus_capture.specs.Internal.Watching.{Watches, Halts}
+use Rattle.bus_capture.specs.Internal.Sessions.{IsHeaded, IsRead, FollowsBody, FollowsPacked, Faulty, StopsAt, Stops}
 use Rattle.bus_capture.specs.declared.watch.Watch.{Watch}
 use Rattle.bus_capture.specs.declared.packed.PackedCapture.{PackedCapture}
 use Rattle.bus_text.specs.declared.fault.ToolFault.{ToolFault}

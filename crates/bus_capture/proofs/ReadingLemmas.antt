@@ -4,12 +4,13 @@ use Rattle.std.specs.Io.KnownBytes.{IsAtEnd}
 use Rattle.bus_bits.specs.Capture.{Capture, CaptureFault, placed}
 use Rattle.bus_bits.specs.Packed.{PackedIsHeaded, PackedIsShort, packed_capture}
 use Rattle.bus_watch.specs.Stands.{Stands}
-use Rattle.bus_capture.specs.Captures.{unplaced, unplaced_whole}
+use Rattle.bus_capture.specs.Captures.{unplaced, unplaced_whole, IsCapture}
 use Rattle.bus_text.specs.Summary.{summary_of}
-use Rattle.bus_text.specs.Put.{Pages, Cuts}
-use Rattle.bus_capture.specs.Watching.{IsSound, Watches, IsCutOff, lines}
-use Rattle.bus_capture.specs.Sessions.{IsCapture, IsRead, IsReadBy, is_text, Follows, FollowsText, FollowsPacked, Stops}
-use Rattle.bus_capture.specs.Reading.{IsClean, IsFaulty, Finishes}
+use Rattle.bus_text.specs.Internal.Pages.{Pages}
+use Rattle.bus_text.specs.Put.{Cuts}
+use Rattle.bus_capture.specs.Internal.Watching.{IsSound, Watches, IsCutOff, lines}
+use Rattle.bus_capture.specs.Internal.Sessions.{IsRead, IsReadBy, is_text, Follows, FollowsText, FollowsPacked, Stops}
+use Rattle.bus_capture.specs.Internal.Reading.{IsClean, IsFaulty, Finishes}
 use Rattle.bus_capture.specs.declared.watch.Watch.{Watch}
 use Rattle.bus_capture.specs.declared.text.TextCapture.{TextCapture}
 use Rattle.bus_capture.specs.declared.packed.PackedCapture.{PackedCapture}

@@ -3,8 +3,8 @@ use Rattle.std.proofs.Common.{◌≡◌, ℕ, ◌+◌, ◌-◌, ◌<◌, ◌≤�
 use Rattle.std.proofs.Math.Seq.{take-add}
 use Rattle.std.proofs.lemmas.List.{take_all, length-drop}
 use Rattle.std.proofs.lemmas.Grind.{common_steps}
-use Rattle.bus_capture.specs.Watching.{Watches, Halts}
-use Rattle.bus_capture.specs.Sessions.{FollowsMarks, Stops}
+use Rattle.bus_capture.specs.Internal.Watching.{Watches, Halts}
+use Rattle.bus_capture.specs.Internal.Sessions.{FollowsMarks, Stops}
 use Rattle.bus_capture.specs.declared.watch.Watch.{Watch}
 use Rattle.bus_text.specs.declared.fault.ToolFault.{ToolFault}
 use Rattle.bus_capture.proofs.CaptureLemmas.{halts-stops}

@@ -18,16 +18,18 @@ use Rattle.bus_line.specs.declared.place_limit.PlaceLimit.{PlaceLimit}
 use Rattle.std.specs.Option.{option_to_list}
 use Rattle.bus_watch.specs.Stands.{AnalyserState, Stands, Sees, line, seen_after}
 use Rattle.bus_text.specs.Listing.{listing}
-use Rattle.bus_text.specs.Summary.{summary_of, IsFew}
-use Rattle.bus_text.specs.Put.{Pages, Cuts}
-use Rattle.bus_capture.specs.Watching.{IsSound, Watches, IsSame, Halts, printed, lines, last_lines, ended, within}
+use Rattle.bus_text.specs.Summary.{summary_of}
+use Rattle.bus_text.specs.Internal.Counting.{IsFew}
+use Rattle.bus_text.specs.Internal.Pages.{Pages}
+use Rattle.bus_text.specs.Put.{Cuts}
+use Rattle.bus_capture.specs.Internal.Watching.{IsSound, Watches, IsSame, Halts, printed, lines, last_lines, ended, within}
 use Rattle.bus_text.specs.declared.printer.Printer.{Printer}
 use Rattle.bus_capture.specs.declared.watch.Watch.{Watch}
 use Rattle.bus_text.specs.declared.summary.Summary.{Summary}
 use Rattle.bus_text.specs.declared.fault.ToolFault.{ToolFault}
 use Rattle.bus_text.specs.declared.fault.ToolFault.TheVariants as fault
 use Rattle.bus_text.specs.declared.page.Page.{Page}
-use Rattle.bus_text.specs.Printing.{front_text, back_text, behind_text}
+use Rattle.bus_text.specs.Internal.Printing.{front_text, back_text, behind_text}
 use Rattle.bus_text.proofs.ListingLemmas.{listing-append, listing-one}
 use Rattle.bus_text.proofs.PageLemmas.{pages-more}
 

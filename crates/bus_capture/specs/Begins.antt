@@ -1,7 +1,6 @@
 -- What the options of a call lead to before its capture is read.
-use Rattle.std.specs.Prelude.{◌≡◌, ℕ, ◌<◌, ◌≤◌, ◌^◌, ◌⊎◌, List, [], Ok, Err}
+use Rattle.std.specs.Prelude.{◌≡◌, ◌<◌, ◌≤◌, ◌^◌, ◌⊎◌, List, Ok, Err}
 use Rattle.bus_dictionary.specs.Entry.{FrameType}
-use Rattle.bus_watch.specs.Stands.{AnalyserState, Stands}
 use Rattle.bus_text.specs.Given.{dictionary_text}
 use Rattle.bus_text.specs.Show.{given_dictionary}
 use Rattle.bus_text.specs.declared.options.Options.{Options}
@@ -22,11 +21,3 @@ Refuses o Depth = (d : List FrameType) × (given_dictionary (dictionary_text o) 
 Refuses o Origin = (d : List FrameType) × (given_dictionary (dictionary_text o) ≡ Ok d) × (1 ≤ o.depth) × (o.depth ≤ 1024) × (2 ^ 60 < o.origin)
 Refuses o Memory = Unit {0}
 Refuses o fault = ⊥
-
--- an analyser that took no bit, as they ask
-pub record IsAsked {C : Type 0} (folded : C → List ℕ → Type 0) (cost : ℕ) (o : Options) (d : List FrameType) (a : AnalyserState C) : Type 0 where
-  pub stands : Stands folded cost a []
-  pub dictionary : a.journal.dictionary ≡ d
-  pub depth : a.journal.depth ≡ o.depth
-  pub origin : a.decoder.origin ≡ o.origin
-  pub place : a.decoder.place ≡ o.origin

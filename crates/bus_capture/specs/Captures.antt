@@ -1,11 +1,14 @@
 -- The bits of a capture, and what is seen at them.
-use Rattle.std.specs.Prelude.{ℕ, Bool, List, if◌then◌else◌}
-use Rattle.bus_bits.specs.Capture.{Capture, text_capture, placed}
+use Rattle.std.specs.Prelude.{ℕ, Bool, List, if◌then◌else◌, ◌≡◌, ◌⊎◌, Option, Some}
+use Rattle.bus_bits.specs.Capture.{Capture, text_capture, placed, CaptureFault, bad_mark, magic, too_many, pad_bits, trailing, place_limit, short_head, short_body}
 use Rattle.bus_bits.specs.Packed.{packed_capture, packed_whole}
 use Rattle.bus_dictionary.specs.Entry.{FrameType}
 use Rattle.bus_dictionary.specs.Dictionary.{longest_of}
 use Rattle.bus_line.specs.Due as line
 use Rattle.bus_watch.specs.Seen.{SeenReport, seen}
+use Rattle.bus_text.specs.declared.fault.ToolFault.{ToolFault}
+use Rattle.bus_text.specs.declared.fault.ToolFault.TheVariants.{BadMark, Magic, TooMany, PadBits, Trailing, PlaceLimit, ShortHead, ShortBody}
+use Rattle.std.specs.Io.KnownBytes.{IsAtEnd}
 
 -- what octets give, while more may come: text, or packed
 abbrev pub unplaced : Bool → List ℕ → Capture
@@ -25,3 +28,19 @@ whole_capture text origin xs = placed origin (unplaced_whole text xs)
 -- what is seen at bits, by a dictionary, whose longest frame bounds the frames
 abbrev pub seen_in : ℕ → List FrameType → List Bool → List SeenReport
 seen_in origin d b = seen d (line.placed origin (longest_of d) b)
+
+-- the fault of a capture, as it is answered
+abbrev pub IsCapture : ToolFault → CaptureFault → Type 0
+IsCapture (BadMark at) f = f ≡ bad_mark at
+IsCapture Magic f = f ≡ magic
+IsCapture TooMany f = f ≡ too_many
+IsCapture PadBits f = f ≡ pad_bits
+IsCapture Trailing f = f ≡ trailing
+IsCapture PlaceLimit f = f ≡ place_limit
+IsCapture ShortHead f = f ≡ short_head
+IsCapture ShortBody f = f ≡ short_body
+IsCapture fault f = ⊥
+
+-- the octets have this fault, or they are the whole input and have it
+abbrev pub HasFault : Bool → ℕ → Option (List ℕ) → List ℕ → CaptureFault → Type 0
+HasFault text origin after xs cause = ((capture text origin xs).fault ≡ Some cause) ⊎ (IsAtEnd after × ((whole_capture text origin xs).fault ≡ Some cause))

@@ -6,13 +6,11 @@ use Rattle.bus_line.specs.Due as line
 use Rattle.bus_dictionary.specs.Entry.{FrameType}
 use Rattle.bus_dictionary.specs.Dictionary.{longest_of}
 use Rattle.bus_watch.specs.History.{history, tally}
-use Rattle.bus_capture.specs.Captures.{seen_in}
+use Rattle.bus_capture.specs.Captures.{seen_in, IsCapture, HasFault}
 use Rattle.bus_text.specs.CheckText.{check_text}
 use Rattle.bus_text.specs.Summary.{summary_of}
 use Rattle.bus_text.specs.Put.{Cuts}
 use Rattle.bus_capture.specs.Begins.{Begins}
-use Rattle.bus_capture.specs.Sessions.{IsCapture}
-use Rattle.bus_capture.specs.Reading.{HasFault}
 use Rattle.bus_capture.specs.Lists.{so_far, in_all, DoesNothing}
 use Rattle.bus_text.specs.declared.options.Options.{Options}
 use Rattle.bus_text.specs.declared.summary.Summary.{Summary}

@@ -3,11 +3,10 @@ use Rattle.std.specs.Prelude.{◌≡◌, ℕ, Bool, List, [], ◌++◌, take, Op
 use Rattle.std.specs.Io.KnownBytes.{Appends}
 use Rattle.bus_bits.specs.Capture.{CaptureFault}
 use Rattle.bus_dictionary.specs.Entry.{FrameType}
-use Rattle.bus_capture.specs.Captures.{seen_in}
+use Rattle.bus_capture.specs.Captures.{seen_in, IsCapture}
 use Rattle.bus_text.specs.Summary.{summary_of}
 use Rattle.bus_text.specs.Put.{Cuts}
 use Rattle.bus_capture.specs.Begins.{Begins, Refuses}
-use Rattle.bus_capture.specs.Sessions.{IsCapture}
 use Rattle.bus_capture.specs.Lists.{in_all, listing_of, ending_of, ListsSoFar}
 use Rattle.bus_capture.specs.Checks.{report_of, ChecksSoFar}
 use Rattle.bus_text.specs.declared.options.Options.{Options}

@@ -1,9 +1,6 @@
 pub mod Captures
-pub mod Watching
-pub mod Sessions
-pub mod Reading
 pub mod Begins
-pub mod Closes
 pub mod Lists
 pub mod Checks
 pub mod Known
+pub mod Internal

@@ -7,14 +7,12 @@ use Rattle.bus_dictionary.specs.Entry.{FrameType}
 use Rattle.bus_dictionary.specs.Dictionary.{longest_of}
 use Rattle.bus_watch.specs.Shown.{begun_span}
 use Rattle.bus_watch.specs.Talk.{pending}
-use Rattle.bus_capture.specs.Captures.{capture, whole_capture, seen_in}
+use Rattle.bus_capture.specs.Captures.{capture, whole_capture, seen_in, IsCapture, HasFault}
 use Rattle.bus_text.specs.Given.{printer_of}
 use Rattle.bus_text.specs.Listing.{listing, ending_text}
 use Rattle.bus_text.specs.Summary.{summary_of}
 use Rattle.bus_text.specs.Put.{Cuts}
 use Rattle.bus_capture.specs.Begins.{Begins, Refuses}
-use Rattle.bus_capture.specs.Sessions.{IsCapture}
-use Rattle.bus_capture.specs.Reading.{HasFault}
 use Rattle.bus_text.specs.declared.options.Options.{Options}
 use Rattle.bus_text.specs.declared.summary.Summary.{Summary}
 use Rattle.bus_text.specs.declared.fault.ToolFault.{ToolFault}

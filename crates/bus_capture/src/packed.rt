@@ -3,8 +3,9 @@
 ghost use Rattle.std.specs.Prelude.{◌≡◌, ◌+◌, ◌≤◌, ◌<◌, ◌^◌, ℕ, List, [], ◌∷◌, ◌++◌, Option, MatchResult, Some, None, IsTrue, length, true, false};
 ghost use Rattle.bus_bits.specs.Capture.{CaptureFault};
 ghost use Rattle.bus_bits.specs.Packed.{PackedAfter, packed_capture, packed_whole, head_bits, head_fault, head_fault_of, packed_fault_of};
-ghost use Rattle.bus_capture.specs.Watching.{IsSound, IsSame};
-ghost use Rattle.bus_capture.specs.Sessions.{FollowsPacked, FollowsBody, IsRead, IsCapture, Stops};
+ghost use Rattle.bus_capture.specs.Internal.Watching.{IsSound, IsSame};
+ghost use Rattle.bus_capture.specs.Internal.Sessions.{FollowsPacked, FollowsBody, IsRead, Stops};
+ghost use Rattle.bus_capture.specs.Captures.{IsCapture};
 
 use crate::watch::Watch;
 use arrayvec::ArrayVec;

@@ -4,11 +4,12 @@ ghost use Rattle.std.specs.Prelude.{◌≡◌, ◌+◌, ◌<◌, ◌≤◌, ◌^
 ghost use Rattle.std.specs.Io.KnownBytes.{Consumes};
 ghost use Rattle.bus_bits.specs.Capture.{CaptureFault};
 ghost use Rattle.bus_dictionary.specs.Entry.{FrameType};
-ghost use Rattle.bus_capture.specs.Begins.{Begins, Refuses, IsAsked};
-ghost use Rattle.bus_capture.specs.Captures.{unplaced, unplaced_whole};
-ghost use Rattle.bus_capture.specs.Sessions.{IsCapture, IsReadBy, Follows, Stops, is_text};
-ghost use Rattle.bus_capture.specs.Reading.{marks, IsWhole, IsFaulty, Finishes};
-ghost use Rattle.bus_capture.specs.Watching.{IsSound, IsSame};
+ghost use Rattle.bus_capture.specs.Begins.{Begins, Refuses};
+ghost use Rattle.bus_capture.specs.Internal.Asked.{IsAsked};
+ghost use Rattle.bus_capture.specs.Captures.{unplaced, unplaced_whole, IsCapture};
+ghost use Rattle.bus_capture.specs.Internal.Sessions.{IsReadBy, Follows, Stops, is_text};
+ghost use Rattle.bus_capture.specs.Internal.Reading.{marks, IsWhole, IsFaulty, Finishes};
+ghost use Rattle.bus_capture.specs.Internal.Watching.{IsSound, IsSame};
 
 use crate::packed::PackedCapture;
 use crate::text::TextCapture;

@@ -2,8 +2,8 @@
 
 ghost use Rattle.std.specs.Prelude.{◌≡◌, ◌+◌, ◌≤◌, ◌<◌, ◌^◌, ℕ, List, [], ◌∷◌, ◌++◌, Option, MatchResult, OnOk, IsTrue, length, take, true, false, None};
 ghost use Rattle.std.specs.Option.{ForSome};
-ghost use Rattle.bus_capture.specs.Watching.{IsSound, IsSame};
-ghost use Rattle.bus_capture.specs.Sessions.{FollowsMarks, FollowsText, Stops};
+ghost use Rattle.bus_capture.specs.Internal.Watching.{IsSound, IsSame};
+ghost use Rattle.bus_capture.specs.Internal.Sessions.{FollowsMarks, FollowsText, Stops};
 
 use crate::watch::Watch;
 use bus_bits::laws::captures_grow;

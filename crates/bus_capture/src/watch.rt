@@ -3,7 +3,7 @@
 ghost use Rattle.std.specs.Io.KnownBytes.{Appends};
 ghost use Rattle.arrayvec.specs.ArrayString.{array_string_len};
 ghost use Rattle.bus_bits.specs.Octet.{bits_of};
-ghost use Rattle.bus_capture.specs.Watching.{ended};
+ghost use Rattle.bus_capture.specs.Internal.Watching.{ended};
 ghost use Rattle.std.specs.Prelude.{◌≡◌, ◌+◌, ◌≤◌, ℕ, List, Bool, [], ◌∷◌, ◌++◌, Option, MatchResult, IsTrue, false};
 
 use bus_fcs::Check;
@@ -35,7 +35,7 @@ fn put_last(printer: Option<Printer>, ending: &Ending, page: &mut Page)
 }
 
 impl<C: Check> Watch<C> {
-    ghost use Rattle.bus_capture.specs.Watching.{IsSound, Watches, IsSame, Halts, IsCutIn, lines, last_lines, reported};
+    ghost use Rattle.bus_capture.specs.Internal.Watching.{IsSound, Watches, IsSame, Halts, IsCutIn, lines, last_lines, reported};
 
     /// Takes the next bit if it can decide nothing, and answers whether it did; else nothing changed.
     #[inline(always)]

@@ -7,7 +7,7 @@ use Rattle.hex.specs.Hex.{decode_of, is_hex_digit}
 use Rattle.hex.specs.declared.error.FromHexError.{FromHexError}
 use Rattle.hex.proofs.HexLemmas.{decode_of-ok}
 use Rattle.bus_line.specs.Line.{Call, Flag, Idle, Frame, added, gain}
-use Rattle.bus_line.specs.EncoderState.{EncoderState}
+use Rattle.bus_line.specs.Internal.EncoderState.{EncoderState}
 use Rattle.bus_line.specs.Encoding.{AfterCalls, Refused}
 use Rattle.bus_line.specs.declared.encode_fault.EncodeFault.{EncodeFault}
 use Rattle.bus_line.specs.declared.encode_fault.EncodeFault.TheVariants.{Ended, LengthRange, Sink}

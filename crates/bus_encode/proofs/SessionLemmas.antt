@@ -7,12 +7,12 @@ use Rattle.std.proofs.lemmas.List.{append-nil, take-append-le}
 use Rattle.std.proofs.lemmas.Grind.{common_steps}
 use Rattle.std.proofs.lemmas.Bool.Decides.{nat_tests}
 use Rattle.bus_line.specs.Line.{Call, gain}
-use Rattle.bus_line.specs.EncoderState.{EncoderState}
+use Rattle.bus_line.specs.Internal.EncoderState.{EncoderState}
 use Rattle.bus_line.specs.Encoding.{AfterCalls}
 use Rattle.bus_encode.specs.Lines.{ended_lines, open_line}
 use Rattle.bus_encode.specs.Encode.{Asked, and_then, one_asked, line_asked, line_call, line_number, asked_behind, asked_so_far, asked_in_all, bits_text, text_behind, encode_text}
 use Rattle.bus_encode.specs.Encodes.{Asks, Encodes, EncodesAll}
-use Rattle.bus_encode.specs.EncodeState.{Encoded, Takes, Halts, Ends, Finishes}
+use Rattle.bus_encode.specs.Internal.EncodeState.{Encoded, Takes, Halts, Ends, Finishes}
 use Rattle.bus_text.specs.declared.fault.ToolFault.{ToolFault}
 use Rattle.bus_text.specs.declared.fault.ToolFault.TheVariants.{Read, ReadsLimit, Write, BadLine, FrameLength}
 use Rattle.bus_text.proofs.Bytes.{appends_nothing, appends_both, appends_kept, part_out}

@@ -1,4 +1,4 @@
 pub mod Lines
 pub mod Encode
 pub mod Encodes
-pub mod EncodeState
+pub mod Internal

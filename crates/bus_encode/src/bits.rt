@@ -4,7 +4,7 @@ ghost use Rattle.std.specs.Prelude.{◌≡◌, ◌+◌, ◌-◌, ◌^◌, ◌<�
 ghost use Rattle.bus_line.specs.Line.{Call, gain};
 ghost use Rattle.bus_line.specs.Encoding.{AfterCalls};
 ghost use Rattle.bus_encode.specs.Encode.{bits_text};
-ghost use Rattle.bus_encode.specs.EncodeState.{call_of, IsSized};
+ghost use Rattle.bus_encode.specs.Internal.EncodeState.{call_of, IsSized};
 
 use crate::order::Order;
 use arrayvec::ArrayVec;

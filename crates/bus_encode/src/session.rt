@@ -6,7 +6,7 @@ ghost use Rattle.std.specs.Io.KnownBytes.{Consumes};
 ghost use Rattle.bus_line.specs.Line.{Call};
 ghost use Rattle.bus_encode.specs.Encode.{one_asked, line_call, asked_so_far};
 ghost use Rattle.bus_encode.specs.Encodes.{Encodes};
-ghost use Rattle.bus_encode.specs.EncodeState.{call_of, IsSized, Encoded, Ends, Takes, Halts, Finishes};
+ghost use Rattle.bus_encode.specs.Internal.EncodeState.{call_of, IsSized, Encoded, Ends, Takes, Halts, Finishes};
 
 use crate::bits::call_text;
 use crate::line::OpenLine;

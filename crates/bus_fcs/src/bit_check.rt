@@ -1,7 +1,7 @@
 //! The frame check bit by bit.
 
 ghost use Rattle.std.specs.Prelude.{◌≡◌, ◌+◌, ◌-◌, ◌≤◌, ◌<◌, ◌^◌, ◌↔◌, ℕ, List, [], ◌∷◌, ◌++◌, IsTrue, length};
-ghost use Rattle.bus_fcs.specs.Register.{IsStateAfter};
+ghost use Rattle.bus_fcs.specs.Internal.Register.{IsStateAfter};
 
 use crate::check::Check;
 use crate::register::{START, is_residue, trailer_of, turn};

@@ -3,7 +3,7 @@
 ghost use Rattle.std.specs.Prelude.{◌≡◌, ◌<◌, ◌≤◌, ◌↔◌, ℕ, List, IsTrue, length};
 ghost use Rattle.bus_bits.specs.Octet.{bits_of_octets};
 ghost use Rattle.bus_fcs.specs.FrameCheck.{Good, fcs};
-ghost use Rattle.bus_fcs.specs.Register.{turn_of, turns, IsStateAfter};
+ghost use Rattle.bus_fcs.specs.Internal.Register.{turn_of, turns, IsStateAfter};
 
 use crate::table::TABLE;
 
@@ -17,7 +17,7 @@ const CONSTANT: u16 = 0x8408;
 const RESIDUE: u16 = 0xf0b8;
 
 /// One turn of the register.
-#[tactic(auto, unfolding(crate::specs::Register::turn_of))]
+#[tactic(auto, unfolding(crate::specs::Internal::Register::turn_of))]
 pub(crate) fn turn(state: u16) -> u16
     ensures { result ≡ turn_of state }
 {

@@ -9,9 +9,9 @@ use Rattle.std.proofs.lemmas.List.{append_assoc, length_push, length-take, lengt
 use Rattle.std.proofs.lemmas.Bool.{cases_lt, leb-true, le-leb, false_from_ne_true}
 use Rattle.bus_bits.specs.Octet.{number, bits_of}
 use Rattle.bus_bits.proofs.OctetLemmas.{number-append, number-cons, number-bits, length-bits}
-use Rattle.bus_line.specs.LineState.{LineState}
-use Rattle.bus_line.specs.After.{shifted_in, Holds, Fills}
-use Rattle.bus_line.specs.Late.{octets_more}
+use Rattle.bus_line.specs.Internal.LineState.{LineState}
+use Rattle.bus_line.specs.Internal.Tracks.{shifted_in, Holds, Fills}
+use Rattle.bus_line.specs.Internal.Late.{octets_more}
 use Rattle.bus_line.proofs.HoldLemmas.{octets-kept, shifted_in-append, shifted_in-lt}
 use Rattle.bus_line.proofs.StepLemmas.{one_more}
 

@@ -4,14 +4,14 @@ use Rattle.std.specs.List.{slice_range}
 use Rattle.std.specs.Prelude.{reverse, ◌^◌, ◌↔◌, ◌⊎◌, IsTrue}
 use Rattle.std.proofs.lemmas.List.{length_push}
 use Rattle.bus_bits.specs.Octet.{number}
-use Rattle.bus_line.specs.Run.{ones_after, ones_at_end}
+use Rattle.bus_line.specs.Internal.Run.{ones_after, ones_at_end}
 use Rattle.bus_line.specs.Report.{Abort, Idle}
 use Rattle.bus_line.specs.Due.{Mark, FlagAt, AbortAt, current, class_of, piece_report, due_at}
-use Rattle.bus_line.specs.Look.{IsFound}
+use Rattle.bus_line.specs.Internal.Look.{IsFound}
 use Rattle.bus_line.specs.declared.decoder.look.Found.{Found}
 use Rattle.bus_line.specs.declared.decoder.look.Found.TheVariants.{Closing, Seven, Fifteen, Other}
-use Rattle.bus_line.specs.LineState.{LineState}
-use Rattle.bus_line.specs.After.{settled_data, Stands, Tracks, event_shown}
+use Rattle.bus_line.specs.Internal.LineState.{LineState}
+use Rattle.bus_line.specs.Internal.Tracks.{settled_data, Stands, Tracks, event_shown}
 use Rattle.bus_line.specs.declared.decoder.event.Event.{Event}
 use Rattle.bus_line.specs.declared.decoder.event.Event.TheVariants as event
 use Rattle.bus_line.proofs.Stream.{Decides}

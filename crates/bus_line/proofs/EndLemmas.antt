@@ -3,7 +3,7 @@ use Rattle.std.proofs.Common.{◌≡◌, ℕ, ◌+◌, ◌-◌, ◌≤◌, ◌<�
 use Rattle.std.proofs.lemmas.List.{append_assoc, length-take, length-drop, length-replicate, take_all, take-append-drop, drop-replicate}
 use Rattle.std.proofs.lemmas.Bool.{cases_lt}
 use Rattle.bus_line.specs.Spelling.{ones}
-use Rattle.bus_line.specs.Run.{ones_after, ones_at_end}
+use Rattle.bus_line.specs.Internal.Run.{ones_after, ones_at_end}
 use Rattle.bus_line.specs.Mark.{StandsAt}
 use Rattle.bus_line.specs.Laws.{OnesAtEndAre, CalmIsNoSix}
 use Rattle.bus_line.proofs.MarkLemmas.{window-append}

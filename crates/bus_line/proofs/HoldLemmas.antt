@@ -3,7 +3,7 @@ use Rattle.std.proofs.Common.{◌≡◌, ◌≢◌, ℕ, zero, suc, ◌+◌, ◌
 use Rattle.std.proofs.lemmas.List.{append_assoc, append-nil, length-take, length-drop, take-append-drop, take_all, take-append-le}
 use Rattle.bus_bits.specs.Octet.{number, octets}
 use Rattle.bus_bits.proofs.OctetLemmas.{octets-append, octets-cons, octets-push}
-use Rattle.bus_line.specs.After.{shifted_in}
+use Rattle.bus_line.specs.Internal.Tracks.{shifted_in}
 use Rattle.bus_line.proofs.WholeLemmas.{octets-short}
 
 -- the whole octets of a list, and the bits behind them

@@ -13,7 +13,7 @@ use Rattle.std.proofs.Math.Nat.{pow-suc}
 use Rattle.bus_bits.specs.Octet.{bits_of}
 use Rattle.bus_bits.proofs.OctetLemmas.{length-bits}
 use Rattle.bus_bits.proofs.ReverseLemmas.{upto, upto-all}
-use Rattle.bus_line.specs.Late.{kept, late_data}
+use Rattle.bus_line.specs.Internal.Late.{kept, late_data}
 use Rattle.bus_line.proofs.LateLemmas.{late-inserted, late-bit}
 
 -- ---- bits of a number

@@ -5,12 +5,13 @@ use Rattle.std.proofs.lemmas.Nat.{or_shifted}
 use Rattle.std.proofs.lemmas.List.{append-nil, append_assoc, reverse-append, length-reverse}
 use Rattle.bus_bits.specs.Octet.{number, bits_of}
 use Rattle.bus_bits.proofs.OctetLemmas.{number-append, number-bits, length-bits}
-use Rattle.bus_line.specs.Run.{ones_at_end}
+use Rattle.bus_line.specs.Internal.Run.{ones_at_end}
 use Rattle.bus_line.specs.Due.{current, placed}
 use Rattle.bus_line.specs.Report.{moved}
-use Rattle.bus_line.specs.LineState.{LineState}
-use Rattle.bus_line.specs.After.{Tracks, After}
-use Rattle.bus_line.specs.Late.{IsCalm, LagsBy}
+use Rattle.bus_line.specs.Internal.LineState.{LineState}
+use Rattle.bus_line.specs.Internal.Tracks.{Tracks}
+use Rattle.bus_line.specs.After.{After}
+use Rattle.bus_line.specs.Internal.Late.{IsCalm, LagsBy}
 use Rattle.bus_line.proofs.MoreLemmas.{placed-more}
 use Rattle.bus_line.proofs.DecideLemmas.{nothing-due}
 use Rattle.bus_line.proofs.SettleLemmas.{calm-tail, mark-calm}

@@ -8,13 +8,13 @@ use Rattle.std.proofs.lemmas.Bool.Decides.{nat_tests}
 use Rattle.bus_bits.specs.Octet.{bits_of, number}
 use Rattle.bus_bits.proofs.OctetLemmas.{number-append, number-lt, length-bits}
 use Rattle.bus_bits.specs.declared.spent.Spent.{Spent}
-use Rattle.bus_line.specs.Run.{ones_at_end}
+use Rattle.bus_line.specs.Internal.Run.{ones_at_end}
 use Rattle.bus_line.specs.Due.{FlagAt, current}
 use Rattle.bus_line.specs.Ledger.{is_settled, is_inserted, assembled, stored}
-use Rattle.bus_line.specs.LineState.{LineState}
-use Rattle.bus_line.specs.LineView.{settles_from}
-use Rattle.bus_line.specs.After.{first_of, settled_data, Holds, Counts, Tracks}
-use Rattle.bus_line.specs.Late.{IsCalm, LagsBy, late_data, octets_more}
+use Rattle.bus_line.specs.Internal.LineState.{LineState}
+use Rattle.bus_line.specs.Internal.LineView.{settles_from}
+use Rattle.bus_line.specs.Internal.Tracks.{first_of, settled_data, Holds, Counts, Tracks}
+use Rattle.bus_line.specs.Internal.Late.{IsCalm, LagsBy, late_data, octets_more}
 use Rattle.bus_line.proofs.SettledLemmas.{assembled-more, stored-more}
 use Rattle.bus_line.proofs.RankLemmas.{stores-now}
 use Rattle.bus_line.proofs.WindowLemmas.{window-inserted, window-not_inserted, window-bit}

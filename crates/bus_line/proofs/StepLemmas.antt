@@ -13,12 +13,13 @@ use mir.Val.{bool_byte}
 use Rattle.std.specs.Prelude.{bit_or}
 use Rattle.std.proofs.lemmas.Nat.{or_shifted}
 use Rattle.bus_bits.specs.declared.spent.Spent.{Spent}
-use Rattle.bus_line.specs.Run.{ones_at_end, data_so_far}
+use Rattle.bus_line.specs.Internal.Run.{ones_at_end, data_so_far}
 use Rattle.bus_line.specs.Due.{Mark, NoMark, FlagAt, AbortAt, current}
 use Rattle.bus_line.specs.Ledger.{is_settled, belongs, is_inserted, assembled, is_stored, stored}
-use Rattle.bus_line.specs.LineState.{LineState}
-use Rattle.bus_line.specs.LineView.{settles_from}
-use Rattle.bus_line.specs.After.{first_of, settled_data, shifted_in, Holds, HoldsFor, Counts, Stands, Tracks, After, Lags, Fills}
+use Rattle.bus_line.specs.Internal.LineState.{LineState}
+use Rattle.bus_line.specs.Internal.LineView.{settles_from}
+use Rattle.bus_line.specs.Internal.Tracks.{first_of, settled_data, shifted_in, Holds, HoldsFor, Counts, Stands, Tracks, Lags, Fills}
+use Rattle.bus_line.specs.After.{After}
 use Rattle.bus_line.proofs.RunLemmas.{data_after-more}
 use Rattle.bus_line.proofs.LastLemmas.{last_mark-flag}
 use Rattle.bus_line.proofs.StreamLemmas.{range-more, flag-fits}

@@ -14,7 +14,7 @@ ghost use Rattle.std.specs.Borrow.{sem};
 ghost use Rattle.std.specs.Io.BufRead.{Rests};
 ghost use Rattle.bus_line.specs.Due.{due_at, begun, placed};
 ghost use Rattle.bus_line.specs.Ledger.{stored_from, IsLedger};
-ghost use Rattle.bus_line.specs.Run.{ones_at_end};
+ghost use Rattle.bus_line.specs.Internal.Run.{ones_at_end};
 ghost use Rattle.bus_bits.specs.Octet.{bits_of};
 
 use crate::line_fault::LineFault;
@@ -65,11 +65,11 @@ pub struct LineDecoder<C: Check> {
 }
 
 impl<C: Check> Model for LineDecoder<C> {
-    ghost use Rattle.bus_line.specs.LineState.{LineState};
+    ghost use Rattle.bus_line.specs.Internal.LineState.{LineState};
 
     ghost Value = { LineState C };
 
-    ghost use Rattle.bus_line.specs.LineView.{line_state, IsWithin};
+    ghost use Rattle.bus_line.specs.Internal.LineView.{line_state, IsWithin};
 
     ghost view = { line_state };
 
@@ -78,10 +78,12 @@ impl<C: Check> Model for LineDecoder<C> {
 
 impl<C: Check> LineDecoder<C> {
     ghost use Rattle.bus_line.specs.contracts.decoder.LineDecoder.{the_row};
-    ghost use Rattle.bus_line.specs.LineState.{LineState};
-    ghost use Rattle.bus_line.specs.After.{After, Tracks, Lags, Pushed, Passed, FitsFrame, shown, event_shown};
+    ghost use Rattle.bus_line.specs.Internal.LineState.{LineState};
+    ghost use Rattle.bus_line.specs.After.{After, Pushed, Passed, FitsFrame};
+    ghost use Rattle.bus_line.specs.Internal.Tracks.{Tracks, Lags, event_shown};
+    ghost use Rattle.bus_line.specs.Shown.{shown};
     ghost use Rattle.bus_line.specs.Report.{moved};
-    ghost use Rattle.bus_line.specs.Late.{IsCalm};
+    ghost use Rattle.bus_line.specs.Internal.Late.{IsCalm};
 
     /// A decoder that took no bit, whose first bit has the place `origin`.
     ///

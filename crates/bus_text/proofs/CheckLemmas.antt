@@ -8,7 +8,8 @@ use Rattle.bus_line.specs.Due.{places}
 use Rattle.bus_watch.specs.History.{KeptFrame}
 use Rattle.bus_watch.specs.declared.counts.Counts.{Counts}
 use Rattle.bus_text.specs.CheckText.{tally_text, tallies_text, kept_text, history_text}
-use Rattle.bus_text.specs.Put.{Cuts, Pages}
+use Rattle.bus_text.specs.Put.{Cuts}
+use Rattle.bus_text.specs.Internal.Pages.{Pages}
 use Rattle.bus_text.proofs.PageLemmas.{cuts-more}
 
 pub tallies-none : (t : ℕ → Counts) → tallies_text t 0 ≡ []

@@ -7,7 +7,7 @@ use Rattle.std.proofs.lemmas.List.Elements.{filter-append}
 use Rattle.bus_dictionary.specs.Entry.{FrameType}
 use Rattle.bus_watch.specs.Seen.{SeenReport}
 use Rattle.bus_text.specs.Listing.{Line, is_left, text_of, report_line, report_word, span_text, span_of, head_part, verdict_line, stray_lines, seen_lines, lines_of, listing}
-use Rattle.bus_text.specs.Printing.{is_fronted, front_text, back_text, behind_text}
+use Rattle.bus_text.specs.Internal.Printing.{is_fronted, front_text, back_text, behind_text}
 use Rattle.bus_text.specs.declared.filter.Filter.{Filter}
 use Rattle.bus_text.specs.declared.printer.Printer.{Printer}
 

@@ -3,7 +3,8 @@ use Rattle.std.proofs.Common.{◌≡◌, ℕ, ◌+◌, ◌<◌, List, [], ◌∷
 use Rattle.std.specs.Io.KnownBytes.{Appends}
 use Rattle.std.proofs.Math.Seq.{take-length}
 use Rattle.std.proofs.lemmas.List.{take-append-le}
-use Rattle.bus_text.specs.Put.{Cuts, Pages}
+use Rattle.bus_text.specs.Put.{Cuts}
+use Rattle.bus_text.specs.Internal.Pages.{Pages}
 
 -- what is put on the page is behind the text
 pub pages-more : (start now : Option (List ℕ)) (page page' : List ℕ) (written : ℕ) (text more : List ℕ)

@@ -14,7 +14,7 @@ use Rattle.bus_dictionary.specs.Standing.{standing, Means}
 use Rattle.bus_dictionary.specs.declared.standing.Standing.{Standing}
 use Rattle.bus_dictionary.specs.declared.standing.Standing.TheVariants.{Known}
 use Rattle.bus_text.specs.declared.put.Cut.{Cut}
-use Rattle.bus_text.specs.Put.{Puts}
+use Rattle.bus_text.specs.Internal.Pages.{Puts}
 use Rattle.bus_text.specs.Show.{typed_frame, if_frame, if_decoded, name_text, frame_text, names_text, shown_text, Reads, Shows}
 use Rattle.bus_text.specs.HeadText.{head_text}
 use Rattle.bus_text.specs.declared.fault.ToolFault.{ToolFault}

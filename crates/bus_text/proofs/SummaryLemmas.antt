@@ -6,7 +6,8 @@ use Rattle.std.proofs.lemmas.List.Sums.{sum_by-append}
 use Rattle.bus_watch.specs.Seen.{SeenReport}
 use Rattle.bus_watch.specs.declared.outcome.Outcome.TheVariants.{Answered, Missing, Spoilt}
 use Rattle.bus_watch.specs.Talk.{is_idle}
-use Rattle.bus_text.specs.Summary.{is_frame, is_damaged, is_overlong, is_abort, has_outcome, summary_of, counted, with_seen}
+use Rattle.bus_text.specs.Summary.{is_frame, is_damaged, is_overlong, is_abort, has_outcome, summary_of}
+use Rattle.bus_text.specs.Internal.Counting.{counted, with_seen}
 
 count-last : {X : Type 0} (p : X → Bool) (xs : List X) (x : X) → count_by p (xs ++ x ∷ []) ≡ counted (p x) (count_by p xs)
 count-last p xs x =

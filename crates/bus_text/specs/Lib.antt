@@ -4,6 +4,6 @@ pub mod Listing
 pub mod Summary
 pub mod CheckText
 pub mod Given
-pub mod Printing
 pub mod Put
 pub mod Show
+pub mod Internal

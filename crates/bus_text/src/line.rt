@@ -2,7 +2,7 @@
 
 ghost use Rattle.std.specs.Prelude.{◌≡◌, ◌+◌, ◌*◌, ◌++◌, ◌<◌, ◌≤◌, ◌^◌, length, decimal, codes};
 ghost use Rattle.arrayvec.specs.ArrayString.{array_string_len};
-ghost use Rattle.bus_line.specs.After.{report_of};
+ghost use Rattle.bus_line.specs.Shown.{report_of};
 ghost use Rattle.bus_line.specs.Ledger.{octet_count};
 ghost use Rattle.bus_text.specs.Listing.{hex_digit, hex_octet, hex_of, cause_word, span_text, span_of, report_word};
 ghost use Rattle.bus_text.specs.HeadText.{station_text};

@@ -3,7 +3,8 @@
 ghost use Rattle.std.specs.Prelude.{◌≡◌, ◌+◌, ◌<◌, ◌≤◌, ◌^◌, ℕ, List, [], Option, MatchResult, OnOk, OnErr, IfErr, length};
 ghost use Rattle.std.specs.Io.KnownBytes.{Appends};
 ghost use Rattle.arrayvec.specs.ArrayString.{array_string_len};
-ghost use Rattle.bus_text.specs.Put.{Cuts, Pages};
+ghost use Rattle.bus_text.specs.Put.{Cuts};
+ghost use Rattle.bus_text.specs.Internal.Pages.{Pages};
 
 use crate::put::{Cut, put_text};
 use arrayvec::ArrayString;

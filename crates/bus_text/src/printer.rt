@@ -3,13 +3,13 @@
 ghost use Rattle.std.specs.Prelude.{◌≡◌, ◌+◌, [], ◌∷◌, ◌++◌, ◌≤◌, length, codes, option_map, if◌then◌else◌};
 ghost use Rattle.std.specs.Option.{option_to_list};
 ghost use Rattle.arrayvec.specs.ArrayString.{array_string_len};
-ghost use Rattle.bus_line.specs.After.{report_of};
+ghost use Rattle.bus_line.specs.Shown.{report_of};
 ghost use Rattle.bus_line.specs.Ledger.{octet_count};
 ghost use Rattle.bus_watch.specs.Seen.{SeenReport, type_in};
 ghost use Rattle.bus_watch.specs.Shown.{shown};
 ghost use Rattle.bus_text.specs.Given.{printer_of};
 ghost use Rattle.bus_text.specs.Listing.{span_of, report_kind, outcome_kind, station_in, frame_line, verdict_line, begun_line, pending_line, strays_at, head_part, text_of, ending_text};
-ghost use Rattle.bus_text.specs.Printing.{back_of, front_text, back_text, behind_text};
+ghost use Rattle.bus_text.specs.Internal.Printing.{back_of, front_text, back_text, behind_text};
 
 use crate::filter::Filter;
 use crate::head::push_head;

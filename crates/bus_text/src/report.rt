@@ -2,11 +2,11 @@
 
 ghost use Rattle.std.specs.Prelude.{◌≡◌, ◌+◌, ◌*◌, ◌++◌, ◌<◌, ◌≤◌, ◌^◌, ℕ, Bool, List, Option, MatchResult, OnOk, length};
 ghost use Rattle.arrayvec.specs.ArrayString.{array_string_len};
-ghost use Rattle.bus_watch.specs.JournalState.{kept_frame};
+ghost use Rattle.bus_watch.specs.History.{kept_frame, history, tally};
 ghost use Rattle.bus_watch.specs.Stands.{Stands, line};
-ghost use Rattle.bus_watch.specs.History.{history, tally};
 ghost use Rattle.bus_text.specs.CheckText.{count_text, summary_text, tally_line, has_none, tally_text, kept_text, tallies_text, history_text, check_text};
-ghost use Rattle.bus_text.specs.Put.{Cuts, Pages};
+ghost use Rattle.bus_text.specs.Put.{Cuts};
+ghost use Rattle.bus_text.specs.Internal.Pages.{Pages};
 
 use crate::line::{push_hex, push_number, push_octet_number, push_span};
 use crate::page::Page;

@@ -1,10 +1,11 @@
 //! How often each thing was seen.
 
 ghost use Rattle.std.specs.Prelude.{◌≡◌, ◌↔◌, ◌<◌, ◌^◌, ◌+◌, List, [], ◌∷◌, ◌++◌, ℕ, IsTrue};
-ghost use Rattle.bus_line.specs.After.{report_of};
+ghost use Rattle.bus_line.specs.Shown.{report_of};
 ghost use Rattle.bus_watch.specs.Seen.{SeenReport};
 ghost use Rattle.bus_watch.specs.Shown.{shown};
-ghost use Rattle.bus_text.specs.Summary.{summary_of, with_kind, with_verdict, IsFew};
+ghost use Rattle.bus_text.specs.Summary.{summary_of};
+ghost use Rattle.bus_text.specs.Internal.Counting.{with_kind, with_verdict, IsFew};
 
 use bus_line::Piece;
 use bus_watch::{Outcome, Seen, Verdict};

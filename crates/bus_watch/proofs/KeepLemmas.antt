@@ -14,11 +14,11 @@ use Rattle.bus_dictionary.specs.Entry.{FrameType}
 use Rattle.bus_dictionary.specs.Standing.{standing}
 use Rattle.bus_watch.specs.Talk.{is_idle, standing_of, command, waits, verdict, verdicts, pending}
 use Rattle.bus_watch.specs.Seen.{decided}
-use Rattle.bus_watch.specs.History.{KeptFrame, frame_at, frame_of, frames, history, tally, verdicts_of, is_outcome}
+use Rattle.bus_watch.specs.History.{KeptFrame, frame_at, frame_of, frames, history, tally, verdicts_of, is_outcome, kept_frame}
 use Rattle.bus_watch.specs.Ledger.{kind_steps, steps}
-use Rattle.bus_watch.specs.Counted.{one_more, counted, Counted}
-use Rattle.bus_watch.specs.JournalState.{JournalState, Keeps, kept_frame}
-use Rattle.bus_watch.specs.Noted.{is_damage}
+use Rattle.bus_watch.specs.Internal.Counted.{one_more, counted, Counted}
+use Rattle.bus_watch.specs.Internal.JournalState.{JournalState, Keeps}
+use Rattle.bus_watch.specs.Internal.Noted.{is_damage}
 use Rattle.bus_watch.specs.declared.kept.Kept.{Kept}
 use Rattle.bus_watch.specs.declared.counts.Counts.{Counts}
 use Rattle.bus_watch.specs.declared.outcome.Outcome.{Outcome}

@@ -8,7 +8,8 @@ use Rattle.bus_line.specs.Report.{Report, Kind, Frame, IsReport, moved}
 use Rattle.bus_line.specs.Due.{places, reports, placed, due_at}
 use Rattle.bus_line.specs.Ledger.{octet_count}
 use Rattle.bus_line.specs.Laws.{FramesStored, StoredPaid, AssembledWithin, DueIsIt, FrameIsSpelled}
-use Rattle.bus_line.specs.After.{FitsFrame, report_of}
+use Rattle.bus_line.specs.After.{FitsFrame}
+use Rattle.bus_line.specs.Shown.{report_of}
 use Rattle.bus_line.specs.declared.piece.Piece.{Piece}
 use Rattle.bus_line.specs.declared.piece.Piece.TheVariants as piece
 use Rattle.bus_dictionary.specs.Entry.{FrameType}
@@ -16,8 +17,8 @@ use Rattle.bus_dictionary.specs.Dictionary.{longest_of}
 use Rattle.bus_watch.specs.Talk.{is_idle, talk, neighbours, verdict_on, verdicts}
 use Rattle.bus_watch.specs.History.{tally, verdicts_of}
 use Rattle.bus_watch.specs.Ledger.{kind_steps, steps}
-use Rattle.bus_watch.specs.JournalState.{HasRoom}
-use Rattle.bus_watch.specs.Noted.{IsWhole}
+use Rattle.bus_watch.specs.Internal.JournalState.{HasRoom}
+use Rattle.bus_watch.specs.Internal.Noted.{IsWhole}
 use Rattle.bus_watch.specs.Stands.{AnalyserState, Stands, line}
 use Rattle.bus_watch.specs.declared.outcome.Outcome.{Outcome}
 use Rattle.bus_watch.specs.declared.outcome.Outcome.TheVariants.{Answered, Missing, Spoilt}

@@ -5,15 +5,16 @@ use Rattle.bus_line.specs.Report.{Report}
 use Rattle.bus_bits.specs.declared.spent.Spent.{Spent}
 use Rattle.bus_line.specs.Due.{reports, placed}
 use Rattle.bus_line.specs.Ledger.{IsLedger as IsLineLedger}
-use Rattle.bus_line.specs.LineState.{LineState}
-use Rattle.bus_line.specs.After.{After, Pushed, Passed, ShowsHeld, report_of, shown}
+use Rattle.bus_line.specs.Internal.LineState.{LineState}
+use Rattle.bus_line.specs.After.{After, Pushed, Passed, ShowsHeld}
+use Rattle.bus_line.specs.Shown.{report_of, shown}
 use Rattle.bus_line.specs.declared.piece.Piece.{Piece}
 use Rattle.bus_line.specs.declared.piece.Piece.TheVariants as piece
 use Rattle.bus_dictionary.specs.Dictionary.{longest_of}
 use Rattle.bus_watch.specs.Seen.{SeenReport, seen_of, seen}
-use Rattle.bus_watch.specs.JournalState.{JournalState, Keeps}
-use Rattle.bus_watch.specs.Noted.{Says}
-use Rattle.bus_watch.specs.Shown.{HasOctets, held_report, told_report}
+use Rattle.bus_watch.specs.Internal.JournalState.{JournalState, Keeps}
+use Rattle.bus_watch.specs.Internal.Noted.{Says}
+use Rattle.bus_watch.specs.Internal.Told.{HasOctets, held_report, told_report}
 use Rattle.bus_watch.specs.declared.analyser.Told.{Told}
 use Rattle.bus_watch.specs.Stands.{AnalyserState, Stands, Sees, line, seen_after}
 use Rattle.bus_watch.specs.Ledger.{IsLedger}

@@ -2,11 +2,7 @@ pub mod Talk
 pub mod Seen
 pub mod History
 pub mod Ledger
-pub mod Counted
-pub mod JournalState
-pub mod Noted
 pub mod Stands
-pub mod AnalyserView
 pub mod Shown
 pub mod Sink
 pub mod Fed
@@ -14,4 +10,4 @@ pub mod Laws
 pub mod Headline
 pub mod LoggedReport
 pub mod LogState
-pub mod LogView
+pub mod Internal

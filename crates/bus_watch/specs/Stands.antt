@@ -2,11 +2,11 @@
 use Rattle.std.specs.Prelude.{◌≡◌, ℕ, ◌+◌, Bool, List, ◌++◌, length}
 use Rattle.bus_line.specs.Report.{Report}
 use Rattle.bus_line.specs.Due.{placed}
-use Rattle.bus_line.specs.LineState.{LineState}
+use Rattle.bus_line.specs.Internal.LineState.{LineState}
 use Rattle.bus_line.specs.After.{After}
 use Rattle.bus_dictionary.specs.Dictionary.{longest_of}
 use Rattle.bus_watch.specs.Seen.{SeenReport, seen}
-use Rattle.bus_watch.specs.JournalState.{JournalState, Keeps}
+use Rattle.bus_watch.specs.Internal.JournalState.{JournalState, Keeps}
 
 -- what contracts see of an analyser
 pub record AnalyserState (C : Type 0) : Type 0 where

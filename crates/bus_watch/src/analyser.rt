@@ -8,8 +8,8 @@ ghost use Rattle.std.specs.Borrow.{sem};
 ghost use Rattle.std.specs.Io.BufRead.{Rests};
 ghost use Rattle.bus_line.specs.Due.{begun};
 ghost use Rattle.bus_line.specs.Ledger.{stored_from};
-ghost use Rattle.bus_line.specs.Run.{ones_at_end};
-ghost use Rattle.bus_line.specs.Late.{IsCalm};
+ghost use Rattle.bus_line.specs.Internal.Run.{ones_at_end};
+ghost use Rattle.bus_line.specs.Internal.Late.{IsCalm};
 ghost use Rattle.bus_bits.specs.Octet.{bits_of};
 ghost use Rattle.bus_dictionary.specs.Dictionary.{longest_of};
 
@@ -51,7 +51,7 @@ impl<C: Check> Model for Analyser<C> {
 
     ghost Value = { AnalyserState C };
 
-    ghost use Rattle.bus_watch.specs.AnalyserView.{analyser_state, IsWithin};
+    ghost use Rattle.bus_watch.specs.Internal.AnalyserView.{analyser_state, IsWithin};
 
     ghost view = { analyser_state };
 
@@ -62,7 +62,8 @@ impl<C: Check> Analyser<C> {
     ghost use Rattle.bus_watch.specs.contracts.analyser.Analyser.{the_row};
     ghost use Rattle.bus_watch.specs.Stands.{Stands, Sees, line};
     ghost use Rattle.bus_watch.specs.Seen.{seen_at};
-    ghost use Rattle.bus_watch.specs.Shown.{shown, shown_option, told_report, told_option, kept_option, begun_span, IsKeepable};
+    ghost use Rattle.bus_watch.specs.Shown.{shown, shown_option, kept_option, begun_span, IsKeepable};
+    ghost use Rattle.bus_watch.specs.Internal.Told.{told_report, told_option};
     ghost use Rattle.bus_line.specs.Ledger.{octet_count};
     ghost use Rattle.bus_watch.specs.History.{history, tally};
     ghost use Rattle.bus_watch.specs.Talk.{pending};

@@ -41,10 +41,10 @@ fn no_counts() -> [Counts; 256]
 }
 
 impl Journal {
-    ghost use Rattle.bus_line.specs.After.{report_of};
+    ghost use Rattle.bus_line.specs.Shown.{report_of};
     ghost use Rattle.bus_line.specs.Report.{Report, Frame};
-    ghost use Rattle.bus_watch.specs.JournalState.{journal_state, Keeps, HasRoom};
-    ghost use Rattle.bus_watch.specs.Noted.{Says, is_damage, IsWhole};
+    ghost use Rattle.bus_watch.specs.Internal.JournalState.{journal_state, Keeps, HasRoom};
+    ghost use Rattle.bus_watch.specs.Internal.Noted.{Says, is_damage, IsWhole};
     ghost use Rattle.bus_watch.specs.Seen.{seen_of};
     ghost use Rattle.bus_watch.specs.Talk.{is_idle};
     ghost use Rattle.bus_dictionary.specs.Standing.{standing};

@@ -26,7 +26,7 @@ impl Model for ReportLog {
 
     ghost Value = { LogState };
 
-    ghost use Rattle.bus_watch.specs.LogView.{log_state};
+    ghost use Rattle.bus_watch.specs.Internal.LogView.{log_state};
 
     ghost view = { log_state };
 }

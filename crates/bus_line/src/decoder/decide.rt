@@ -13,7 +13,8 @@ use bus_bits::Span;
 use bus_fcs::Check;
 
 impl<C: Check> LineDecoder<C> {
-    ghost use Rattle.bus_line.specs.After.{After, Tracks, event_shown};
+    ghost use Rattle.bus_line.specs.After.{After};
+    ghost use Rattle.bus_line.specs.Internal.Tracks.{Tracks, event_shown};
     ghost use Rattle.bus_line.specs.Report.{moved};
 
     /// Finds whether the newest bit ends a flag, or is the seventh or the fifteenth one of a run, and

@@ -2,7 +2,7 @@
 
 ghost use Rattle.std.specs.Prelude.{◌≡◌, ◌≤◌, ◌<◌, ◌+◌, ◌/◌, ◌%◌, ◌^◌, ◌↔◌, List, Bool, ◌++◌, length, reverse, ℕ, true, false};
 ghost use Rattle.bus_bits.specs.Octet.{bits_of, number};
-ghost use Rattle.bus_line.specs.Late.{IsCalm, kept, late_data};
+ghost use Rattle.bus_line.specs.Internal.Late.{IsCalm, kept, late_data};
 
 use crate::decoder::marked::Marked;
 use bus_bits::reversed;

@@ -2,8 +2,8 @@
 
 ghost use Rattle.std.specs.Prelude.{◌≡◌, ◌%◌, ◌^◌, List, Bool, [], ◌∷◌, ◌++◌, length, reverse};
 ghost use Rattle.bus_bits.specs.Octet.{number};
-ghost use Rattle.bus_line.specs.Look.{IsFound};
-ghost use Rattle.bus_line.specs.Run.{ones_at_end};
+ghost use Rattle.bus_line.specs.Internal.Look.{IsFound};
+ghost use Rattle.bus_line.specs.Internal.Run.{ones_at_end};
 
 /// What the newest bit ends.
 #[derive(Clone, Copy)]

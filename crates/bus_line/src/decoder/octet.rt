@@ -10,8 +10,8 @@ use bus_fcs::Check;
 use std::cmp::min;
 
 impl<C: Check> LineDecoder<C> {
-    ghost use Rattle.bus_line.specs.After.{Tracks, Holds};
-    ghost use Rattle.bus_line.specs.Late.{IsCalm, LagsBy, octets_more};
+    ghost use Rattle.bus_line.specs.Internal.Tracks.{Tracks, Holds};
+    ghost use Rattle.bus_line.specs.Internal.Late.{IsCalm, LagsBy, octets_more};
 
     /// Settles the eight bits that eight later ones have followed: where a piece has begun, those
     /// that are no inserted 0 (ISO/IEC 13239, transparency) are data.

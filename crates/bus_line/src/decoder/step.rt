@@ -3,14 +3,15 @@
 ghost use Rattle.std.specs.Prelude.{◌≡◌, ◌+◌, ◌*◌, ◌-◌, ◌%◌, ◌/◌, ◌≤◌, ◌<◌, ◌^◌, ◌↔◌, ◌⊎◌, IsTrue, List, Bool, [], ◌∷◌, ◌++◌, length, ℕ, take, Some, None, nat_le, nat_lt, if◌then◌else◌};
 ghost use Rattle.std.specs.Option.{option_map};
 ghost use Rattle.bus_line.specs.Due.{current, due_at};
-ghost use Rattle.bus_line.specs.Run.{ones_at_end};
+ghost use Rattle.bus_line.specs.Internal.Run.{ones_at_end};
 
 use crate::decoder::LineDecoder;
 use crate::decoder::event::Event;
 use bus_fcs::Check;
 
 impl<C: Check> LineDecoder<C> {
-    ghost use Rattle.bus_line.specs.After.{After, Tracks, Lags, Fills, Holds, event_shown};
+    ghost use Rattle.bus_line.specs.After.{After};
+    ghost use Rattle.bus_line.specs.Internal.Tracks.{Tracks, Lags, Fills, Holds, event_shown};
     ghost use Rattle.bus_line.specs.Report.{moved};
 
     /// Takes a bit, and answers what it decides.

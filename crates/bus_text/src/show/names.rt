@@ -5,7 +5,7 @@ ghost use Rattle.std.specs.List.{flat_map};
 ghost use Rattle.std.specs.Io.KnownBytes.{Appends};
 ghost use Rattle.bus_dictionary.specs.BitName.{named_bit, is_name};
 ghost use Rattle.bus_text.specs.Show.{name_text};
-ghost use Rattle.bus_text.specs.Put.{Puts};
+ghost use Rattle.bus_text.specs.Internal.Pages.{Puts};
 
 use crate::line::{Line, push_number};
 use crate::put::{Cut, put_line};

@@ -8,7 +8,7 @@ use crate::kept::Kept;
 use bus_bits::Span;
 
 impl Journal {
-    ghost use Rattle.bus_watch.specs.JournalState.{kept_frame};
+    ghost use Rattle.bus_watch.specs.History.{kept_frame};
 
     /// Copies a frame into the history, in place of the oldest where that is full.
     pub(crate) fn keep(&mut self, span: Span, octets: &[u8])

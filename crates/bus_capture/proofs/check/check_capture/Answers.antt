@@ -1,7 +1,7 @@
 use Rattle.std.proofs.Common.{[], Err}
 use Rattle.std.proofs.lemmas.Result.{err_from_is_err_and}
 use Rattle.bus_capture.specs.Captures.{whole_capture}
-use Rattle.bus_capture.specs.Sessions.{is_text}
+use Rattle.bus_capture.specs.Internal.Sessions.{is_text}
 use Rattle.bus_text.proofs.Bytes.{consumes_nothing, appends_nothing}
 use Rattle.bus_capture.proofs.CheckingLemmas.{checked, checks-nothing, ends-checks, stops-checks}
 use Rattle.bus_capture.proofs.KnownLemmas.{Laws, known-checks}

@@ -2,7 +2,7 @@ use Rattle.std.proofs.Common.{◌≡◌, [], Some, Err, ap, ◌∙◌}
 use Rattle.std.proofs.lemmas.Result.{err_from_is_err_and}
 use Rattle.bus_capture.specs.Captures.{whole_capture}
 use Rattle.bus_text.specs.Given.{printer_of}
-use Rattle.bus_capture.specs.Sessions.{is_text}
+use Rattle.bus_capture.specs.Internal.Sessions.{is_text}
 use Rattle.bus_text.proofs.Bytes.{consumes_nothing, appends_nothing}
 use Rattle.bus_capture.proofs.ListLemmas.{listed, does-nothing, ends-lists, stops-lists}
 use Rattle.bus_capture.proofs.KnownLemmas.{Laws, known-lists}

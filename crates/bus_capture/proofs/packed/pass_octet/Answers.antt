@@ -2,7 +2,7 @@ use Rattle.std.proofs.Common.{◌≡◌, Bool, List, [], ◌∷◌, ◌++◌, re
 use Rattle.bus_bits.specs.Octet.{bits_of}
 use Rattle.bus_bits.specs.Capture.{Capture}
 use Rattle.bus_bits.specs.Packed.{packed_capture, head_bits}
-use Rattle.bus_capture.specs.Watching.{Watches}
+use Rattle.bus_capture.specs.Internal.Watching.{Watches}
 use Rattle.bus_capture.proofs.PackedCaptureLemmas.{headed-here, headed-more, read-on}
 use Rattle.bus_capture.proofs.packed.pass_octet.Goals as goal
 

@@ -3,7 +3,7 @@ use Rattle.std.proofs.lemmas.Result.{err_from_is_err_and}
 use Rattle.std.proofs.lemmas.List.{take_all}
 use Rattle.bus_bits.specs.Capture.{placed}
 use Rattle.bus_bits.specs.Packed.{packed_capture}
-use Rattle.bus_capture.specs.Sessions.{FollowsBody}
+use Rattle.bus_capture.specs.Internal.Sessions.{FollowsBody}
 use Rattle.bus_capture.proofs.WatchLemmas.{same-self, same-both}
 use Rattle.bus_capture.proofs.CaptureLemmas.{stops-more}
 use Rattle.bus_capture.proofs.TextCaptureLemmas.{octet-next}

@@ -1,6 +1,6 @@
 use Rattle.std.proofs.Common.{ℕ, List, ◌++◌, Option, take}
-use Rattle.bus_capture.specs.Watching.{IsSound, IsSame}
-use Rattle.bus_capture.specs.Sessions.{FollowsBody}
+use Rattle.bus_capture.specs.Internal.Watching.{IsSound, IsSame}
+use Rattle.bus_capture.specs.Internal.Sessions.{FollowsBody}
 use Rattle.bus_capture.proofs.packed.take_body.Given as goal
 
 abbrev pub invariant-loop-octet : goal.invariant-loop-octet

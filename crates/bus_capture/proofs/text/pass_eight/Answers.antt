@@ -1,8 +1,8 @@
 use Rattle.std.proofs.Common.{◌≡◌, ℕ, Bool, true, false, ◌++◌, ◌∙◌, take, Some, refl, sym, subst, arith}
 use Rattle.std.specs.Bool.{then_some}
 use Rattle.bus_bits.specs.Capture.{text_bits}
-use Rattle.bus_capture.specs.Sessions.{FollowsMarks}
-use Rattle.bus_capture.specs.Watching.{Watches}
+use Rattle.bus_capture.specs.Internal.Sessions.{FollowsMarks}
+use Rattle.bus_capture.specs.Internal.Watching.{Watches}
 use Rattle.bus_capture.proofs.text.pass_eight.Goals as goal
 
 -- what is answered was taken

@@ -1,7 +1,7 @@
 use Rattle.std.proofs.Common.{◌≡◌, Bool, [], ◌∷◌, ◌++◌, Option, None, sym, ◌∙◌, subst, append-nil}
 use Rattle.std.specs.Option.{option_to_list}
 use Rattle.bus_bits.specs.Capture.{text_bits, text_fault}
-use Rattle.bus_capture.specs.Watching.{Watches}
+use Rattle.bus_capture.specs.Internal.Watching.{Watches}
 use Rattle.bus_capture.proofs.text.pass_one.Goals as goal
 
 pub returns-in-Ok-Some-clause-passed : goal.returns-in-Ok-Some-clause-passed

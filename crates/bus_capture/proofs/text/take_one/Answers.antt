@@ -1,7 +1,7 @@
 use Rattle.std.proofs.Common.{◌≡◌, ◌≤◌, ◌^◌, Bool, [], ◌∷◌, ◌++◌, length, Option, None, sym, ap, ◌∙◌, subst, arith, append-nil}
 use Rattle.std.specs.Option.{option_to_list}
 use Rattle.bus_bits.specs.Capture.{text_capture, text_bits, text_fault, bad_mark}
-use Rattle.bus_capture.specs.Watching.{Watches}
+use Rattle.bus_capture.specs.Internal.Watching.{Watches}
 use Rattle.bus_text.specs.declared.fault.ToolFault.TheVariants as fault
 use Rattle.bus_capture.proofs.CaptureLemmas.{followed-fits, fault-in}
 use Rattle.bus_capture.proofs.TextCaptureLemmas.{mark-taken, same-grows}

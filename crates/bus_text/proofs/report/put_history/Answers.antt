@@ -2,10 +2,9 @@ use Rattle.std.proofs.Common.{◌≡◌, List, ◌++◌, take, subst, arith}
 use Rattle.std.proofs.lemmas.List.{take_all}
 use Rattle.std.proofs.lemmas.Result.{err_from_is_err_and}
 use Rattle.bus_watch.specs.Stands.{line}
-use Rattle.bus_watch.specs.History.{KeptFrame, history}
-use Rattle.bus_watch.specs.JournalState.{kept_frame}
+use Rattle.bus_watch.specs.History.{KeptFrame, history, kept_frame}
 use Rattle.bus_text.specs.CheckText.{history_text}
-use Rattle.bus_text.specs.Put.{Pages}
+use Rattle.bus_text.specs.Internal.Pages.{Pages}
 use Rattle.bus_text.proofs.CheckLemmas.{pages-kept, cuts-kept}
 use Rattle.bus_text.proofs.report.put_history.Goals as goal
 

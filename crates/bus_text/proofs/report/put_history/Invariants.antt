@@ -2,7 +2,7 @@ use Rattle.std.proofs.Common.{ℕ, ◌+◌, ◌*◌, ◌≤◌, Bool, List, ◌+
 use Rattle.bus_watch.specs.Stands.{Stands, line}
 use Rattle.bus_watch.specs.History.{history}
 use Rattle.bus_text.specs.CheckText.{history_text}
-use Rattle.bus_text.specs.Put.{Pages}
+use Rattle.bus_text.specs.Internal.Pages.{Pages}
 use Rattle.bus_text.proofs.report.put_history.Given as goal
 
 -- the first frames were put

@@ -1,5 +1,5 @@
 use Rattle.std.proofs.lemmas.Result.{err_from_is_err_and}
-use Rattle.bus_watch.specs.JournalState.{kept_frame}
+use Rattle.bus_watch.specs.History.{kept_frame}
 use Rattle.bus_text.specs.CheckText.{kept_text}
 use Rattle.bus_text.proofs.PageLemmas.{cuts-more}
 use Rattle.bus_text.proofs.report.put_kept.Goals as goal

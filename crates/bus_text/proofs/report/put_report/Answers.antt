@@ -3,7 +3,8 @@ use Rattle.std.proofs.lemmas.Result.{err_from_is_err_and}
 use Rattle.bus_watch.specs.Stands.{line}
 use Rattle.bus_watch.specs.History.{history, tally}
 use Rattle.bus_text.specs.CheckText.{summary_text, tallies_text, history_text, check_text}
-use Rattle.bus_text.specs.Put.{Cuts, Pages}
+use Rattle.bus_text.specs.Put.{Cuts}
+use Rattle.bus_text.specs.Internal.Pages.{Pages}
 use Rattle.bus_text.proofs.PageLemmas.{cuts-more, pages-more}
 use Rattle.bus_text.proofs.CheckLemmas.{report-parts}
 use Rattle.bus_text.proofs.report.put_report.Goals as goal

@@ -3,7 +3,7 @@ use Rattle.std.proofs.lemmas.Result.{err_from_is_err_and}
 use Rattle.bus_watch.specs.Stands.{line}
 use Rattle.bus_watch.specs.History.{tally}
 use Rattle.bus_text.specs.CheckText.{tallies_text}
-use Rattle.bus_text.specs.Put.{Pages}
+use Rattle.bus_text.specs.Internal.Pages.{Pages}
 use Rattle.bus_text.proofs.CheckLemmas.{tallies-none, pages-tally, cuts-tally}
 use Rattle.bus_text.proofs.report.put_tallies.Goals as goal
 

@@ -2,7 +2,7 @@ use Rattle.std.proofs.Common.{ℕ, ◌+◌, ◌*◌, ◌≤◌, Bool, List, ◌+
 use Rattle.bus_watch.specs.Stands.{Stands, line}
 use Rattle.bus_watch.specs.History.{tally}
 use Rattle.bus_text.specs.CheckText.{tallies_text}
-use Rattle.bus_text.specs.Put.{Pages}
+use Rattle.bus_text.specs.Internal.Pages.{Pages}
 use Rattle.bus_text.proofs.report.put_tallies.Given as goal
 
 -- the lines of the first stations were put

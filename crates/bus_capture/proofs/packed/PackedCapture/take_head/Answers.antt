@@ -3,9 +3,10 @@ use Rattle.std.proofs.lemmas.Result.{err_from_is_err_and}
 use Rattle.bus_bits.specs.declared.capture.packed_head.HeadFault.{HeadFault}
 use Rattle.bus_bits.specs.Capture.{Capture}
 use Rattle.bus_bits.specs.Packed.{packed_capture, head_fault_of}
-use Rattle.bus_capture.specs.Watching.{Watches}
+use Rattle.bus_capture.specs.Internal.Watching.{Watches}
 use Rattle.bus_text.specs.declared.fault.ToolFault.{ToolFault}
-use Rattle.bus_capture.specs.Sessions.{IsRead, IsCapture, FollowsBody}
+use Rattle.bus_capture.specs.Internal.Sessions.{IsRead, FollowsBody}
+use Rattle.bus_capture.specs.Captures.{IsCapture}
 use Rattle.bus_capture.proofs.CaptureLemmas.{fault-in}
 use Rattle.bus_capture.proofs.TextCaptureLemmas.{same-grows}
 use Rattle.bus_capture.proofs.PackedCaptureLemmas.{faulty-stops, body-packed, head-alone, head-faulty, err-mapped, ok-mapped, head-filled, slice-rest}

@@ -1,7 +1,7 @@
 use Rattle.std.proofs.Common.{arith, [], refl, sym, subst}
 use Rattle.bus_bits.specs.Capture.{Capture}
-use Rattle.bus_capture.specs.Watching.{Watches}
-use Rattle.bus_capture.specs.Sessions.{Follows, IsRead}
+use Rattle.bus_capture.specs.Internal.Watching.{Watches}
+use Rattle.bus_capture.specs.Internal.Sessions.{Follows, IsRead}
 use Rattle.bus_capture.specs.declared.session.Source.{Source}
 use Rattle.bus_capture.specs.declared.watch.Watch.{Watch}
 use Rattle.bus_capture.proofs.ReadingLemmas.{watched-none, none-packed}

@@ -1,7 +1,7 @@
 use Rattle.std.proofs.Common.{rules, Bool, ◌++◌, take, ◌∙◌, subst}
 use Rattle.std.proofs.lemmas.Result.{err_from_is_err_and}
-use Rattle.bus_capture.specs.Sessions.{is_text, Stops}
-use Rattle.bus_capture.specs.Reading.{IsClean, Finishes}
+use Rattle.bus_capture.specs.Internal.Sessions.{is_text, Stops}
+use Rattle.bus_capture.specs.Internal.Reading.{IsClean, Finishes}
 use Rattle.bus_text.proofs.Bytes.{consumes_both, consumes_end, consumes_kept, longer}
 use Rattle.bus_capture.proofs.WatchLemmas.{same-both}
 use Rattle.bus_capture.proofs.ReadingLemmas.{follows-unplaced, is-clean, read-by, end-finishes, stops-finishes}

@@ -1,8 +1,8 @@
 use Rattle.std.proofs.Common.{◌≡◌, ℕ, ◌*◌, ◌≤◌, List, length}
 use Rattle.std.specs.Io.KnownBytes.{Consumes}
-use Rattle.bus_capture.specs.Watching.{IsSound, IsSame}
-use Rattle.bus_capture.specs.Sessions.{Follows, is_text}
-use Rattle.bus_capture.specs.Reading.{marks}
+use Rattle.bus_capture.specs.Internal.Watching.{IsSound, IsSame}
+use Rattle.bus_capture.specs.Internal.Sessions.{Follows, is_text}
+use Rattle.bus_capture.specs.Internal.Reading.{marks}
 use Rattle.bus_capture.proofs.session.Session.take_input.Given as goal
 
 -- some octets were read, at least one a turn, and taken

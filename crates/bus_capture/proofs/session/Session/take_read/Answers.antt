@@ -1,9 +1,9 @@
 use Rattle.std.proofs.Common.{◌++◌, Bool, subst}
 use Rattle.std.proofs.lemmas.Result.{err_from_is_err_and}
 use Rattle.bus_capture.specs.Captures.{capture}
-use Rattle.bus_capture.specs.Watching.{lines}
-use Rattle.bus_capture.specs.Sessions.{is_text}
-use Rattle.bus_capture.specs.Reading.{IsClean}
+use Rattle.bus_capture.specs.Internal.Watching.{lines}
+use Rattle.bus_capture.specs.Internal.Sessions.{is_text}
+use Rattle.bus_capture.specs.Internal.Reading.{IsClean}
 use Rattle.bus_capture.proofs.ReadingLemmas.{follows-unplaced, is-clean, is-cut}
 use Rattle.bus_text.proofs.PageLemmas.{cut-short}
 use Rattle.bus_capture.proofs.session.Session.take_read.Goals as goal

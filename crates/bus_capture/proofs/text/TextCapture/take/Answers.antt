@@ -2,7 +2,7 @@ use Rattle.std.proofs.Common.{◌+◌, ◌≡◌, ℕ, List, [], ◌∷◌, ◌+
 use Rattle.std.proofs.lemmas.Result.{err_from_is_err_and}
 use Rattle.std.proofs.lemmas.List.{take_all}
 use Rattle.bus_bits.specs.Capture.{text_capture, placed}
-use Rattle.bus_capture.specs.Sessions.{FollowsMarks}
+use Rattle.bus_capture.specs.Internal.Sessions.{FollowsMarks}
 use Rattle.bus_capture.proofs.WatchLemmas.{same-self, same-both}
 use Rattle.bus_capture.proofs.CaptureLemmas.{stops-more}
 use Rattle.bus_capture.proofs.TextCaptureLemmas.{octets-before, octet-next, octets-next, placed-grown, kept-marks}

@@ -1,6 +1,6 @@
 use Rattle.std.proofs.Common.{ℕ, ◌-◌, List, ◌++◌, Option, length, take}
-use Rattle.bus_capture.specs.Watching.{IsSound, IsSame}
-use Rattle.bus_capture.specs.Sessions.{FollowsText, FollowsMarks}
+use Rattle.bus_capture.specs.Internal.Watching.{IsSound, IsSame}
+use Rattle.bus_capture.specs.Internal.Sessions.{FollowsText, FollowsMarks}
 use Rattle.bus_capture.proofs.text.TextCapture.take.Given as goal
 
 abbrev pub invariant-loop-taken : goal.invariant-loop-taken

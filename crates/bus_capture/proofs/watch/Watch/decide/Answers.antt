@@ -5,8 +5,8 @@ use Rattle.bus_watch.specs.Stands.{AnalyserState, seen_after}
 use Rattle.bus_watch.specs.Shown.{shown}
 use Rattle.bus_watch.specs.declared.seen.Seen.{Seen}
 use Rattle.bus_text.specs.Summary.{summary_of}
-use Rattle.bus_text.specs.Printing.{back_of, front_text, back_text, behind_text}
-use Rattle.bus_capture.specs.Watching.{lines}
+use Rattle.bus_text.specs.Internal.Printing.{back_of, front_text, back_text, behind_text}
+use Rattle.bus_capture.specs.Internal.Watching.{lines}
 use Rattle.bus_text.specs.declared.page.Page.{Page}
 use Rattle.bus_dictionary.specs.Entry.{FrameType}
 use Rattle.bus_capture.proofs.WatchLemmas.{sees-at, watched, watched-nothing, halted, cut-off, pages-none, pages-told, sound-next, below}

@@ -1,6 +1,6 @@
 use Rattle.std.proofs.Common.{◌++◌, refl}
 use Rattle.std.proofs.lemmas.Result.{err_from_is_err_and}
-use Rattle.bus_capture.specs.Watching.{lines, last_lines}
+use Rattle.bus_capture.specs.Internal.Watching.{lines, last_lines}
 use Rattle.bus_text.proofs.PageLemmas.{cuts-more}
 use Rattle.bus_capture.proofs.WatchLemmas.{pages-ended}
 use Rattle.bus_capture.proofs.watch.Watch.end.Goals as goal

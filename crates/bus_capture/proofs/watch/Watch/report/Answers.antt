@@ -1,6 +1,6 @@
 use Rattle.std.proofs.Common.{◌++◌, refl}
 use Rattle.std.proofs.lemmas.Result.{err_from_is_err_and}
-use Rattle.bus_capture.specs.Watching.{lines, reported}
+use Rattle.bus_capture.specs.Internal.Watching.{lines, reported}
 use Rattle.bus_capture.proofs.watch.Watch.report.Goals as goal
 
 pub returns-in_err-put_report : goal.returns-in_err-put_report

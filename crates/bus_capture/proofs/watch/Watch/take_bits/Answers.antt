@@ -1,7 +1,7 @@
 use Rattle.std.proofs.Common.{List, Bool, [], ◌∷◌, ◌++◌, take, drop, get_or, ◌+◌, false, refl, sym, subst, append-nil, arith}
 use Rattle.std.proofs.lemmas.Result.{err_from_is_err_and}
 use Rattle.std.proofs.lemmas.List.{take_all}
-use Rattle.bus_capture.specs.Watching.{Watches, Halts}
+use Rattle.bus_capture.specs.Internal.Watching.{Watches, Halts}
 use Rattle.bus_capture.proofs.WatchLemmas.{same-self, same-both, halts-more, bit-middle, bit-next}
 use Rattle.bus_capture.proofs.watch.Watch.take_bits.Goals as goal
 

@@ -1,5 +1,5 @@
 use Rattle.std.proofs.Common.{ℕ, List, Bool, ◌++◌, Option, take}
-use Rattle.bus_capture.specs.Watching.{IsSound, Watches, IsSame}
+use Rattle.bus_capture.specs.Internal.Watching.{IsSound, Watches, IsSame}
 use Rattle.bus_capture.proofs.watch.Watch.take_bits.Given as goal
 
 abbrev pub invariant-loop-bit : goal.invariant-loop-bit

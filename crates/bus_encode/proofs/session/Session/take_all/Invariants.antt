@@ -1,5 +1,5 @@
 use Rattle.std.proofs.Common.{ℕ, ◌+◌, ◌*◌, ◌≤◌, List, ◌++◌, Option, take}
-use Rattle.bus_encode.specs.EncodeState.{Takes}
+use Rattle.bus_encode.specs.Internal.EncodeState.{Takes}
 use Rattle.bus_encode.proofs.session.Session.take_all.Given as goal
 
 -- the octets so far were taken

@@ -1,6 +1,6 @@
 use Rattle.std.proofs.Common.{ℕ, ◌+◌, ◌*◌, ◌≤◌, List, length}
 use Rattle.std.specs.Io.KnownBytes.{Consumes}
-use Rattle.bus_encode.specs.EncodeState.{Takes}
+use Rattle.bus_encode.specs.Internal.EncodeState.{Takes}
 use Rattle.bus_encode.proofs.session.Session.take_input.Given as goal
 
 -- some octets were read, at least one a turn, and taken

@@ -1,8 +1,8 @@
 use Rattle.std.proofs.Common.{◌+◌, ◌-◌, ◌*◌, ◌/◌, ◌%◌, [], ◌∷◌, ◌++◌, refl, sym, ap, ◌∙◌}
 use Rattle.std.proofs.lemmas.Nat.{and_mask}
 use Rattle.bus_bits.specs.declared.spent.Spent.{Spent}
-use Rattle.bus_line.specs.LineState.{LineState}
-use Rattle.bus_line.specs.LineView.{line_state}
+use Rattle.bus_line.specs.Internal.LineState.{LineState}
+use Rattle.bus_line.specs.Internal.LineView.{line_state}
 use Rattle.bus_line.proofs.StepLemmas.{tracks-unsettled, settles-open, tracks-inserted, is_data, tracks-unfilled, fills-data, tracks-filled, stands-same}
 use Rattle.bus_line.proofs.decoder.LineDecoder.settle.Goals as goal
 

@@ -3,7 +3,7 @@ use Rattle.std.proofs.lemmas.Result.{err_from_is_err_and}
 use Rattle.std.specs.List.{flat_map}
 use Rattle.std.specs.Io.KnownBytes.{Appends}
 use Rattle.bus_dictionary.specs.BitName.{NamedBit, named_bit}
-use Rattle.bus_text.specs.Put.{Puts}
+use Rattle.bus_text.specs.Internal.Pages.{Puts}
 use Rattle.bus_text.specs.Show.{name_text}
 use Rattle.bus_text.proofs.ShowLemmas.{cut_more, names_text_at}
 use Rattle.bus_text.proofs.show.names.put_names.Goals as goal

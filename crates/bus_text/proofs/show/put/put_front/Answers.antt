@@ -1,6 +1,6 @@
 use Rattle.std.proofs.Common.{ℕ, List, [], ◌++◌, codes, Err, refl, subst}
 use Rattle.std.proofs.lemmas.Result.{err_from_is_err_and}
-use Rattle.bus_text.specs.Put.{Puts}
+use Rattle.bus_text.specs.Internal.Pages.{Puts}
 use Rattle.bus_text.specs.Show.{frame_text}
 use Rattle.bus_text.specs.HeadText.{head_text}
 use Rattle.bus_text.proofs.Bytes.{appends_nothing}

@@ -4,7 +4,7 @@ use Rattle.std.proofs.lemmas.Result.{err_from_is_err_and}
 use Rattle.std.specs.List.{flat_map}
 use Rattle.bus_dictionary.specs.Standing.{standing}
 use Rattle.bus_dictionary.specs.declared.standing.Standing.{Standing}
-use Rattle.bus_text.specs.Put.{Puts}
+use Rattle.bus_text.specs.Internal.Pages.{Puts}
 use Rattle.bus_text.specs.Show.{frame_text, names_text, name_text, bits_text}
 use Rattle.bus_text.specs.HeadText.{head_text}
 use Rattle.bus_text.proofs.ShowLemmas.{cut_more, names_few, known_size, shown_front, shown_alone, no_names}

@@ -1,6 +1,6 @@
 use Rattle.std.proofs.Common.{◌≡◌, true, false, Bool, sym, ap, ◌∙◌}
 use Rattle.bus_watch.specs.Shown.{shown}
-use Rattle.bus_text.specs.Summary.{with_kind, with_verdict, with_stray, with_seen}
+use Rattle.bus_text.specs.Internal.Counting.{with_kind, with_verdict, with_stray, with_seen}
 use Rattle.bus_text.proofs.SummaryLemmas.{summary-more}
 use Rattle.bus_text.proofs.summary.Summary.count.Goals as goal
 

@@ -3,13 +3,14 @@ use Rattle.std.specs.Option.{option_map}
 use Rattle.std.proofs.lemmas.Bool.{cases_lt}
 use Rattle.bus_line.specs.Report.{Report, moved}
 use Rattle.bus_line.specs.Due.{due_at}
-use Rattle.bus_line.specs.After.{Pushed, FitsFrame, shown, report_of}
+use Rattle.bus_line.specs.After.{Pushed, FitsFrame}
+use Rattle.bus_line.specs.Shown.{shown, report_of}
 use Rattle.bus_watch.specs.Seen.{seen_of, seen_at}
 use Rattle.bus_dictionary.specs.Dictionary.{longest_of}
-use Rattle.bus_watch.specs.JournalState.{journal_state}
+use Rattle.bus_watch.specs.Internal.JournalState.{journal_state}
 use Rattle.bus_watch.specs.Stands.{AnalyserState, Stands, Sees, line}
-use Rattle.bus_watch.specs.AnalyserView.{analyser_state}
-use Rattle.bus_watch.specs.Shown.{told_report}
+use Rattle.bus_watch.specs.Internal.AnalyserView.{analyser_state}
+use Rattle.bus_watch.specs.Internal.Told.{told_report}
 use Rattle.bus_watch.proofs.StandLemmas.{GrowsBy, sees-none, sees-some, held-octets, told-is}
 use Rattle.bus_watch.proofs.LawLemmas.{answer-is}
 use Rattle.bus_watch.proofs.RoomLemmas.{room, whole}

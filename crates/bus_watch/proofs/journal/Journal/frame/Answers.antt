@@ -1,5 +1,5 @@
 use Rattle.std.proofs.Common.{rules, subst}
-use Rattle.bus_watch.specs.Counted.{Counted}
+use Rattle.bus_watch.specs.Internal.Counted.{Counted}
 use Rattle.bus_watch.proofs.KeepLemmas.{keeps-frame}
 use Rattle.bus_watch.proofs.journal.Journal.frame.Goals as goal
 

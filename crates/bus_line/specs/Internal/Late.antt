@@ -1,9 +1,9 @@
 -- Eight bits at once: what they settle.
 use Rattle.std.specs.Prelude.{◌≡◌, ℕ, zero, suc, ◌+◌, ◌-◌, ◌/◌, ◌%◌, ◌^◌, ◌<◌, ◌==◌, Bool, List, [], ◌∷◌, ◌++◌, length, take, min, if◌then◌else◌}
-use Rattle.bus_line.specs.Run.{ones_at_end}
+use Rattle.bus_line.specs.Internal.Run.{ones_at_end}
 use Rattle.bus_line.specs.Due.{current}
-use Rattle.bus_line.specs.LineState.{LineState}
-use Rattle.bus_line.specs.After.{Stands, HoldsFor, Counts, first_of}
+use Rattle.bus_line.specs.Internal.LineState.{LineState}
+use Rattle.bus_line.specs.Internal.Tracks.{Stands, HoldsFor, Counts, first_of}
 
 -- none of these bits stands behind six ones or more
 abbrev pub IsCalm : List Bool → List Bool → Type 0

@@ -1,28 +1,16 @@
 -- What is known while the octets of a capture are read.
 use Rattle.std.specs.Prelude.{◌≡◌, ℕ, ◌<◌, Bool, true, false, List, ◌++◌, length, Option, Some, None}
-use Rattle.bus_bits.specs.Capture.{Capture, CaptureFault, bad_mark, magic, too_many, pad_bits, trailing, place_limit, short_head, short_body, text_bits, text_fault}
+use Rattle.bus_bits.specs.Capture.{Capture, CaptureFault, text_bits, text_fault}
 use Rattle.bus_bits.specs.Packed.{PackedAfter, packed_capture, head_bits, head_fault}
-use Rattle.bus_capture.specs.Captures.{capture}
-use Rattle.bus_capture.specs.Watching.{Watches, IsCutOff}
+use Rattle.bus_capture.specs.Captures.{capture, IsCapture}
+use Rattle.bus_capture.specs.Internal.Watching.{Watches, IsCutOff}
 use Rattle.bus_capture.specs.declared.watch.Watch.{Watch}
 use Rattle.bus_capture.specs.declared.text.TextCapture.{TextCapture}
 use Rattle.bus_capture.specs.declared.packed.PackedCapture.{PackedCapture}
 use Rattle.bus_capture.specs.declared.session.Source.{Source}
 use Rattle.bus_capture.specs.declared.session.Source.TheVariants as source
 use Rattle.bus_text.specs.declared.fault.ToolFault.{ToolFault}
-use Rattle.bus_text.specs.declared.fault.ToolFault.TheVariants.{BadMark, Magic, TooMany, PadBits, Trailing, PlaceLimit, ShortHead, ShortBody, Write}
-
--- the fault of a capture, as it is answered
-abbrev pub IsCapture : ToolFault → CaptureFault → Type 0
-IsCapture (BadMark at) f = f ≡ bad_mark at
-IsCapture Magic f = f ≡ magic
-IsCapture TooMany f = f ≡ too_many
-IsCapture PadBits f = f ≡ pad_bits
-IsCapture Trailing f = f ≡ trailing
-IsCapture PlaceLimit f = f ≡ place_limit
-IsCapture ShortHead f = f ≡ short_head
-IsCapture ShortBody f = f ≡ short_body
-IsCapture fault f = ⊥
+use Rattle.bus_text.specs.declared.fault.ToolFault.TheVariants.{Write}
 
 -- these octets are a good head, and others after it, at which so many bits are left
 pub record IsHeaded (left : ℕ) (xs : List ℕ) : Type 0 where

@@ -10,8 +10,10 @@ use Rattle.bus_watch.specs.History.{history, tally}
 use Rattle.bus_watch.specs.declared.pending.Pending.{Pending}
 use Rattle.bus_watch.specs.Stands.{Stands, line, seen_after}
 use Rattle.bus_text.specs.Listing.{listing, ending_text}
-use Rattle.bus_text.specs.Summary.{summary_of, IsFew}
-use Rattle.bus_text.specs.Put.{Pages, Cuts}
+use Rattle.bus_text.specs.Summary.{summary_of}
+use Rattle.bus_text.specs.Internal.Counting.{IsFew}
+use Rattle.bus_text.specs.Internal.Pages.{Pages}
+use Rattle.bus_text.specs.Put.{Cuts}
 use Rattle.bus_text.specs.CheckText.{check_text}
 use Rattle.bus_text.specs.declared.printer.Printer.{Printer}
 use Rattle.bus_capture.specs.declared.watch.Watch.{Watch}

@@ -1,10 +1,9 @@
 -- What the reading of a capture to its end did.
-use Rattle.std.specs.Prelude.{◌≡◌, ℕ, ◌≤◌, ◌⊎◌, Bool, List, length, Option, Some, None, Result, Ok, Err}
+use Rattle.std.specs.Prelude.{◌≡◌, ℕ, ◌≤◌, Bool, List, length, Option, None, Result, Ok, Err}
 use Rattle.std.specs.Io.KnownBytes.{IsAtEnd}
 use Rattle.bus_bits.specs.Capture.{CaptureFault}
-use Rattle.bus_capture.specs.Captures.{capture, whole_capture}
-use Rattle.bus_capture.specs.Watching.{Watches, IsCutOff}
-use Rattle.bus_capture.specs.Sessions.{IsCapture}
+use Rattle.bus_capture.specs.Captures.{capture, whole_capture, IsCapture, HasFault}
+use Rattle.bus_capture.specs.Internal.Watching.{Watches, IsCutOff}
 use Rattle.bus_capture.specs.declared.watch.Watch.{Watch}
 use Rattle.bus_capture.specs.declared.session.Source.{Source}
 use Rattle.bus_capture.specs.declared.session.Source.TheVariants as source
@@ -15,10 +14,6 @@ use Rattle.bus_text.specs.declared.fault.ToolFault.TheVariants.{Read, ReadsLimit
 abbrev pub marks : Source → ℕ
 marks (source.Text t) = t.at
 marks (source.Packed p) = 0
-
--- the octets have this fault, or they are the whole input and have it
-abbrev pub HasFault : Bool → ℕ → Option (List ℕ) → List ℕ → CaptureFault → Type 0
-HasFault text origin after xs cause = ((capture text origin xs).fault ≡ Some cause) ⊎ (IsAtEnd after × ((whole_capture text origin xs).fault ≡ Some cause))
 
 module _ {C : Type 0} (folded : C → List ℕ → Type 0) (cost : ℕ) where
   -- the octets so far have no fault, and their bits were followed

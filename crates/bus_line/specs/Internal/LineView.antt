@@ -2,7 +2,7 @@
 use Rattle.std.specs.Prelude.{◌≡◌, ℕ, ◌+◌, ◌-◌, ◌*◌, ◌≤◌, ◌^◌, Option, Some, None}
 use Rattle.std.specs.Option.{ForSome}
 use Rattle.arrayvec.specs.ArrayVec.{array_vec_len}
-use Rattle.bus_line.specs.LineState.{LineState}
+use Rattle.bus_line.specs.Internal.LineState.{LineState}
 use Rattle.bus_line.specs.declared.decoder.LineDecoder.TheInside.{Inside}
 
 abbrev pub line_state : {C : Type 0} → Inside C → LineState C

@@ -4,11 +4,10 @@ use Rattle.bus_line.specs.Report.{Report}
 use Rattle.bus_line.specs.Ledger.{octet_count}
 use Rattle.bus_dictionary.specs.Entry.{FrameType}
 use Rattle.bus_watch.specs.Talk.{pending}
-use Rattle.bus_watch.specs.History.{KeptFrame, history, tally}
+use Rattle.bus_watch.specs.History.{KeptFrame, history, tally, kept_frame}
 use Rattle.bus_watch.specs.Ledger.{handled}
 use Rattle.bus_watch.specs.declared.counts.Counts.{Counts}
 use Rattle.bus_watch.specs.declared.journal.Journal.{Journal}
-use Rattle.bus_watch.specs.declared.kept.Kept.{Kept}
 use Rattle.bus_watch.specs.declared.pending.Pending.{Pending}
 
 pub record JournalState : Type 0 where
@@ -19,9 +18,6 @@ pub record JournalState : Type 0 where
   pub tally : List Counts
   pub copied : ℕ
   pub handled : ℕ
-
-abbrev pub kept_frame : Kept → KeptFrame
-kept_frame k = record { span = k.span; octets = k.octets.items }
 
 abbrev pub journal_state : Journal → JournalState
 journal_state j = record {
