@@ -5,3 +5,4 @@ pub mod OctetLemmas
 pub mod ReverseLemmas
 pub mod PackedLemmas
 pub mod TextLemmas
+mod Examples

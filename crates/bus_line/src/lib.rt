@@ -13,8 +13,6 @@ mod owned_piece;
 mod piece;
 mod place_limit;
 mod sink_refused;
-#[cfg(test)]
-mod tests;
 mod whole;
 
 pub use bit_sink::BitSink;

@@ -40,6 +40,3 @@ pub use run_fault::RunFault;
 pub use seen::Seen;
 pub use usage::Usage;
 pub use verdict::Verdict;
-
-#[cfg(test)]
-mod tests;

@@ -1,6 +1,6 @@
 //! What is seen, as a line of text.
 
-use crate::{Outcome, Seen, Verdict};
+use bus_watch::{Outcome, Seen, Verdict};
 use bus_dictionary::Standing;
 use bus_line::{Cause, Piece, Span};
 use std::alloc::{AllocError, Global};

@@ -1,7 +1,7 @@
 //! The counted steps of worked lists.
 
 use super::{CALL, CALLS, FLAG, REPLY, bits_of};
-use crate::{Analyser, Counts};
+use bus_watch::{Analyser, Counts};
 use bus_bits::Spent;
 use bus_dictionary::Dictionary;
 use bus_fcs::{BitCheck, Check, OctetCheck};

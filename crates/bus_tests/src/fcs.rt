@@ -1,6 +1,6 @@
 //! Values from outside, by both checks.
 
-use crate::{BitCheck, Check, OctetCheck, are_good};
+use bus_fcs::{BitCheck, Check, OctetCheck, are_good};
 use bus_bits::Spent;
 
 /// `10 83 00` and its frame checking sequence.

@@ -3,7 +3,7 @@
 use super::bits_of;
 use super::rows::WORKED;
 use super::told::text_of;
-use crate::LineDecoder;
+use bus_line::LineDecoder;
 use bus_bits::Spent;
 use bus_fcs::{BitCheck, Check, OctetCheck};
 use std::alloc::Global;

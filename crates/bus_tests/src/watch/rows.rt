@@ -6,7 +6,7 @@ use super::{
     CALL, CALL_TO_ALL, CALLS, CONTROL_19, FLAG, NOTICE, REPLY, STATES, TYPE_1, TYPE_254, UNTYPED,
     bits_of,
 };
-use crate::{Analyser, Counts, Ending, Pending};
+use bus_watch::{Analyser, Counts, Ending, Pending};
 use bus_dictionary::Dictionary;
 use bus_fcs::{BitCheck, Check, OctetCheck};
 use bus_line::Span;

@@ -2,7 +2,7 @@
 
 use super::text::push_seen;
 use super::{CALL, CALLS, FLAG, NOTICE, REPLY, bits_of};
-use crate::{Analyser, Counts, FeedFault, ReportSink, Run, RunFault, Seen, SinkRefused, run_all};
+use bus_watch::{Analyser, Counts, FeedFault, ReportSink, Run, RunFault, Seen, SinkRefused, run_all};
 use bus_dictionary::Dictionary;
 use bus_fcs::{BitCheck, Check, OctetCheck};
 use std::alloc::Global;

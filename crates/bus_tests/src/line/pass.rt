@@ -1,7 +1,7 @@
 //! Which bits a decoder passes.
 
 use super::bits_of;
-use crate::LineDecoder;
+use bus_line::LineDecoder;
 use bus_fcs::{BitCheck, Check, OctetCheck};
 use std::alloc::Global;
 use std::process::Abort;

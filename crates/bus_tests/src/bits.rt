@@ -1,32 +1,12 @@
-//! Examples of captures.
+//! Captures, octet by octet.
 
-ghost use Rattle.std.specs.Prelude.{◌≡◌, true, false, [], ◌∷◌, ◌++◌, take, drop, ◌-◌, ◌^◌, Some, None, codes};
-ghost use Rattle.bus_bits.specs.Capture.{Capture, bad_mark, magic, too_many, pad_bits, trailing, place_limit, short_head, short_body, text_bits, text_capture, placed};
-ghost use Rattle.bus_bits.specs.Packed.{packed_whole};
-
-use super::*;
+use bus_bits::{
+    BadMark, EightBits, HeadFault, PackedBits, PackedFault, PackedHead, TextBits,
+};
 
 const HEAD: [u8; 16] = *b"TS2BITS1\x39\0\0\0\0\0\0\0";
 
 const BITS: &[u8] = b"011111100000100011000001000000001011111011010011101111110";
-
-/// The definition gives the bits and the faults of these captures.
-#[tactic(auto, unfolding(crate::specs::Packed::packed_whole, crate::specs::Packed::packed_capture, crate::specs::Packed::wanted, crate::specs::Octet::bits_of_octets, crate::specs::Octet::bits_of))]
-fn captures_are_defined()
-    ensures packed { let head = codes "TS2BITS1" ++ (57 ∷ 0 ∷ 0 ∷ 0 ∷ 0 ∷ 0 ∷ 0 ∷ 0 ∷ []) in
-        let body = 126 ∷ 16 ∷ 131 ∷ 0 ∷ 125 ∷ 203 ∷ 253 ∷ [] in
-        let bits = text_bits (codes "01111110 00001000110000010000000010111110110100111 01111110") in
-        (packed_whole (head ++ body ++ 0 ∷ []) ≡ record { bits = bits; fault = None })
-        × (packed_whole (head ++ body) ≡ record { bits = take 56 bits; fault = Some short_body })
-        × (packed_whole (head ++ body ++ 2 ∷ []) ≡ record { bits = take 56 bits; fault = Some pad_bits })
-        × (packed_whole (head ++ body ++ 0 ∷ 0 ∷ []) ≡ record { bits = bits; fault = Some trailing })
-        × (packed_whole (85 ∷ drop 1 head ++ body ++ 0 ∷ []) ≡ record { bits = []; fault = Some magic })
-        × (packed_whole (take 10 head) ≡ record { bits = []; fault = Some short_head })
-        × (packed_whole (codes "TS2BITS1" ++ 1 ∷ 0 ∷ 0 ∷ 0 ∷ 0 ∷ 0 ∷ 0 ∷ 16 ∷ []) ≡ record { bits = []; fault = Some too_many })
-        × (placed (2 ^ 60 - 56) (packed_whole (head ++ body ++ 2 ∷ [])) ≡ record { bits = take 56 bits; fault = Some pad_bits })
-        × (placed (2 ^ 60 - 56) (packed_whole (head ++ body ++ 0 ∷ [])) ≡ record { bits = take 56 bits; fault = Some place_limit }) }
-    ensures text { text_capture (codes "01111110 2") ≡ record { bits = false ∷ true ∷ true ∷ true ∷ true ∷ true ∷ true ∷ false ∷ []; fault = Some (bad_mark 9) } }
-{}
 
 #[test]
 fn text_stops_at_a_bad_mark(rt: HostRuntime) {

@@ -2,7 +2,7 @@
 
 use super::limits::FAR;
 use super::{CALL, CALLS, FLAG, NOTICE, REPLY, bits_of};
-use crate::{
+use bus_watch::{
     Analyser, FeedFault, LoggedPiece, NewFault, Outcome, ReportLog, ReportSink, RunFault, Seen,
     SinkRefused, Usage, reports_of, run_all,
 };
