@@ -1,7 +1,7 @@
 -- The bits and faults of captures that were worked out by hand, computed from the definitions alone.
 use Rattle.std.proofs.Common.{◌≡◌, ℕ, List, Bool, true, false, [], ◌∷◌, ◌++◌, take, drop, ◌-◌, ◌^◌, Some, None, codes, refl}
 use Rattle.bus_bits.specs.Octet.{bits_of, bits_of_octets}
-use Rattle.bus_bits.specs.Capture.{Capture, bad_mark, magic, too_many, pad_bits, trailing, place_limit, short_head, short_body, text_bits, text_capture, placed}
+use Rattle.bus_bits.specs.Capture.{Capture, bad_mark, magic, too_many, pad_bits, trailing, place_limit, short_head, short_body, text_bits, text_capture, capped}
 use Rattle.bus_bits.specs.Packed.{packed_whole, packed_capture, wanted}
 
 -- a head that counts 57 bits, and the whole octets behind it
@@ -51,12 +51,12 @@ unfolding packed_whole packed_capture wanted bits_of_octets bits_of
 many = refl
 
 -- the last bit has no place, and its octet is bad
-padded_at_limit : placed (2 ^ 60 - 56) (packed_whole (head ++ body ++ 2 ∷ [])) ≡ record { bits = take 56 bits; fault = Some pad_bits }
+padded_at_limit : capped (2 ^ 60 - 56) (packed_whole (head ++ body ++ 2 ∷ [])) ≡ record { bits = take 56 bits; fault = Some pad_bits }
 unfolding packed_whole packed_capture wanted bits_of_octets bits_of
 padded_at_limit = refl
 
 -- the last bit has no place
-at_limit : placed (2 ^ 60 - 56) (packed_whole (head ++ body ++ 0 ∷ [])) ≡ record { bits = take 56 bits; fault = Some place_limit }
+at_limit : capped (2 ^ 60 - 56) (packed_whole (head ++ body ++ 0 ∷ [])) ≡ record { bits = take 56 bits; fault = Some place_limit }
 unfolding packed_whole packed_capture wanted bits_of_octets bits_of
 at_limit = refl
 

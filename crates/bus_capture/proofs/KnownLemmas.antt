@@ -2,7 +2,7 @@
 use Rattle.std.proofs.Common.{◌≡◌, ℕ, ◌-◌, ◌^◌, Bool, true, false, nat_lt, if◌then◌else◌, List, [], ◌++◌, length, take, Option, Some, None, Result, Ok, Err, IfSome, refl, sym, ap, subst, ◌∙◌, arith, append_assoc, append-nil, inl, inr}
 use Rattle.std.specs.Io.KnownBytes.{Appends, Consumes, IsAtEnd}
 use Rattle.std.proofs.lemmas.Grind.{common_steps}
-use Rattle.bus_bits.specs.Capture.{Capture, CaptureFault, TextGrows, PlacedGrows, GrowsTo, short_head}
+use Rattle.bus_bits.specs.Capture.{Capture, CaptureFault, TextGrows, CappedGrows, GrowsTo, short_head}
 use Rattle.bus_bits.specs.Packed.{PackedGrows, PackedEnds, packed_capture, packed_whole, packed_body, headed, head_fault, head_bits, filled}
 use Rattle.std.proofs.Common.{drop}
 use Rattle.bus_dictionary.specs.Entry.{FrameType}
@@ -20,11 +20,11 @@ use Rattle.bus_text.specs.declared.options.Options.{Options}
 use Rattle.bus_text.specs.declared.summary.Summary.{Summary}
 use Rattle.bus_text.specs.declared.fault.ToolFault.{ToolFault}
 use Rattle.bus_text.specs.declared.fault.ToolFault.TheVariants as fault
-use Rattle.bus_capture.proofs.CaptureLemmas.{placed-bits}
-use Rattle.bus_capture.proofs.TextCaptureLemmas.{same-grows}
-use Rattle.bus_capture.proofs.ListLemmas.{seen-on}
+use Rattle.bus_capture.proofs.CapturesLemmas.{placed-bits}
+use Rattle.bus_capture.proofs.SessionsTextLemmas.{same-grows}
+use Rattle.bus_capture.proofs.ListsLemmas.{seen-on}
 use Rattle.bus_text.proofs.ListingLemmas.{listing-append}
-use Rattle.bus_text.proofs.PageLemmas.{cuts-more}
+use Rattle.bus_text.proofs.PagesLemmas.{cuts-more}
 use Rattle.bus_bits.proofs.CaptureLemmas.{grows-trans}
 
 -- what is known of captures and of what is seen
@@ -32,7 +32,7 @@ pub record Laws : Type 0 where
   pub text : TextGrows
   pub packed : PackedGrows
   pub ended : PackedEnds
-  pub places : PlacedGrows
+  pub places : CappedGrows
   pub seen : SeenGrows
 
 unplaced-grows : Laws → (text : Bool) (xs ys : List ℕ) → GrowsTo (unplaced text xs) (unplaced text (xs ++ ys))

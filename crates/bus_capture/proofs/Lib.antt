@@ -1,8 +1,8 @@
-pub mod WatchLemmas
-pub mod CaptureLemmas
-pub mod TextCaptureLemmas
-pub mod PackedCaptureLemmas
+pub mod WatchingLemmas
+pub mod CapturesLemmas
+pub mod SessionsTextLemmas
+pub mod SessionsPackedLemmas
 pub mod ReadingLemmas
-pub mod ListLemmas
+pub mod ListsLemmas
 pub mod KnownLemmas
-pub mod CheckingLemmas
+pub mod ChecksLemmas

@@ -1,6 +1,6 @@
 -- The bits of a capture, and what is seen at them.
 use Rattle.std.specs.Prelude.{ℕ, Bool, List, if◌then◌else◌, ◌≡◌, ◌⊎◌, Option, Some}
-use Rattle.bus_bits.specs.Capture.{Capture, text_capture, placed, CaptureFault, bad_mark, magic, too_many, pad_bits, trailing, place_limit, short_head, short_body}
+use Rattle.bus_bits.specs.Capture.{Capture, text_capture, capped, CaptureFault, bad_mark, magic, too_many, pad_bits, trailing, place_limit, short_head, short_body}
 use Rattle.bus_bits.specs.Packed.{packed_capture, packed_whole}
 use Rattle.bus_dictionary.specs.Entry.{FrameType}
 use Rattle.bus_dictionary.specs.Dictionary.{longest_of}
@@ -20,26 +20,26 @@ unplaced_whole text xs = if text then text_capture xs else packed_whole xs
 
 -- where the first bit has the place `origin`
 abbrev pub capture : Bool → ℕ → List ℕ → Capture
-capture text origin xs = placed origin (unplaced text xs)
+capture text origin xs = capped origin (unplaced text xs)
 
 abbrev pub whole_capture : Bool → ℕ → List ℕ → Capture
-whole_capture text origin xs = placed origin (unplaced_whole text xs)
+whole_capture text origin xs = capped origin (unplaced_whole text xs)
 
 -- what is seen at bits, by a dictionary, whose longest frame bounds the frames
 abbrev pub seen_in : ℕ → List FrameType → List Bool → List SeenReport
 seen_in origin d b = seen d (line.placed origin (longest_of d) b)
 
 -- the fault of a capture, as it is answered
-abbrev pub IsCapture : ToolFault → CaptureFault → Type 0
-IsCapture (BadMark at) f = f ≡ bad_mark at
-IsCapture Magic f = f ≡ magic
-IsCapture TooMany f = f ≡ too_many
-IsCapture PadBits f = f ≡ pad_bits
-IsCapture Trailing f = f ≡ trailing
-IsCapture PlaceLimit f = f ≡ place_limit
-IsCapture ShortHead f = f ≡ short_head
-IsCapture ShortBody f = f ≡ short_body
-IsCapture fault f = ⊥
+abbrev pub IsSameFault : ToolFault → CaptureFault → Type 0
+IsSameFault (BadMark at) f = f ≡ bad_mark at
+IsSameFault Magic f = f ≡ magic
+IsSameFault TooMany f = f ≡ too_many
+IsSameFault PadBits f = f ≡ pad_bits
+IsSameFault Trailing f = f ≡ trailing
+IsSameFault PlaceLimit f = f ≡ place_limit
+IsSameFault ShortHead f = f ≡ short_head
+IsSameFault ShortBody f = f ≡ short_body
+IsSameFault fault f = ⊥
 
 -- the octets have this fault, or they are the whole input and have it
 abbrev pub HasFault : Bool → ℕ → Option (List ℕ) → List ℕ → CaptureFault → Type 0

@@ -6,7 +6,7 @@ use Rattle.bus_line.specs.Due as line
 use Rattle.bus_dictionary.specs.Entry.{FrameType}
 use Rattle.bus_dictionary.specs.Dictionary.{longest_of}
 use Rattle.bus_watch.specs.History.{history, tally}
-use Rattle.bus_capture.specs.Captures.{seen_in, IsCapture, HasFault}
+use Rattle.bus_capture.specs.Captures.{seen_in, IsSameFault, HasFault}
 use Rattle.bus_text.specs.CheckText.{check_text}
 use Rattle.bus_text.specs.Summary.{summary_of}
 use Rattle.bus_text.specs.Put.{Cuts}
@@ -41,7 +41,7 @@ pub record ChecksSoFar (o : Options) (start now : Option (List ℕ)) (xs : List 
 -- they have this fault, and nothing was written
 pub record ChecksToFault (o : Options) (after start now : Option (List ℕ)) (xs : List ℕ) (fault : ToolFault) : Type 0 where
   pub cause : CaptureFault
-  pub answered : IsCapture fault cause
+  pub answered : IsSameFault fault cause
   pub found : HasFault o.text o.origin after xs cause
   pub unwritten : Appends start now []
 

@@ -3,7 +3,7 @@ use Rattle.std.specs.Prelude.{◌≡◌, ℕ, Bool, List, [], ◌++◌, take, Op
 use Rattle.std.specs.Io.KnownBytes.{Appends}
 use Rattle.bus_bits.specs.Capture.{CaptureFault}
 use Rattle.bus_dictionary.specs.Entry.{FrameType}
-use Rattle.bus_capture.specs.Captures.{seen_in, IsCapture}
+use Rattle.bus_capture.specs.Captures.{seen_in, IsSameFault}
 use Rattle.bus_text.specs.Summary.{summary_of}
 use Rattle.bus_text.specs.Put.{Cuts}
 use Rattle.bus_capture.specs.Begins.{Begins, Refuses}
@@ -30,7 +30,7 @@ pub record WritesNothing (o : Options) (start now : Option (List ℕ)) (fault : 
 -- the capture has this fault
 pub record IsItsFault (o : Options) (all : List ℕ) (fault : ToolFault) : Type 0 where
   pub cause : CaptureFault
-  pub answered : IsCapture fault cause
+  pub answered : IsSameFault fault cause
   pub found : (in_all o all).fault ≡ Some cause
 
 -- the capture was listed, to its end or its fault

@@ -7,7 +7,7 @@ use Rattle.bus_dictionary.specs.Entry.{FrameType}
 use Rattle.bus_dictionary.specs.Dictionary.{longest_of}
 use Rattle.bus_watch.specs.Shown.{begun_span}
 use Rattle.bus_watch.specs.Talk.{pending}
-use Rattle.bus_capture.specs.Captures.{capture, whole_capture, seen_in, IsCapture, HasFault}
+use Rattle.bus_capture.specs.Captures.{capture, whole_capture, seen_in, IsSameFault, HasFault}
 use Rattle.bus_text.specs.Given.{printer_of}
 use Rattle.bus_text.specs.Listing.{listing, ending_text}
 use Rattle.bus_text.specs.Summary.{summary_of}
@@ -51,7 +51,7 @@ pub record ListsSoFar (o : Options) (d : List FrameType) (start now : Option (Li
 -- they have this fault: the listing of the bits before it was written, without the lines of the end
 pub record ListsToFault (o : Options) (d : List FrameType) (after start now : Option (List ℕ)) (xs : List ℕ) (fault : ToolFault) : Type 0 where
   pub cause : CaptureFault
-  pub answered : IsCapture fault cause
+  pub answered : IsSameFault fault cause
   pub found : HasFault o.text o.origin after xs cause
   pub out : Appends start now (listing_of o d (so_far o xs).bits)
 

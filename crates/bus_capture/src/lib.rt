@@ -4,9 +4,9 @@
 mod check;
 mod list;
 mod packed;
-mod session;
+mod reader;
+mod run;
 mod text;
-mod watch;
 
 pub use check::check_capture;
 pub use list::list_capture;

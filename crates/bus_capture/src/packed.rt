@@ -5,9 +5,9 @@ ghost use Rattle.bus_bits.specs.Capture.{CaptureFault};
 ghost use Rattle.bus_bits.specs.Packed.{PackedAfter, packed_capture, packed_whole, head_bits, head_fault, head_fault_of, packed_fault_of};
 ghost use Rattle.bus_capture.specs.Internal.Watching.{IsSound, IsSame};
 ghost use Rattle.bus_capture.specs.Internal.Sessions.{FollowsPacked, FollowsBody, IsRead, Stops};
-ghost use Rattle.bus_capture.specs.Captures.{IsCapture};
+ghost use Rattle.bus_capture.specs.Captures.{IsSameFault};
 
-use crate::watch::Watch;
+use crate::run::CaptureRun;
 use arrayvec::ArrayVec;
 use bus_bits::laws::{captures_grow, packed_is_head_and_body};
 use bus_bits::{HeadFault, PackedBits, PackedFault, PackedHead};
@@ -29,7 +29,7 @@ pub struct PackedCapture {
 
 /// The fault of a head.
 fn head_fault(fault: HeadFault) -> ToolFault
-    ensures { IsCapture result (head_fault_of fault) }
+    ensures { IsSameFault result (head_fault_of fault) }
 {
     match fault {
         HeadFault::Magic => ToolFault::Magic,
@@ -39,7 +39,7 @@ fn head_fault(fault: HeadFault) -> ToolFault
 
 /// The fault of the octets after it.
 fn body_fault(fault: PackedFault) -> ToolFault
-    ensures { IsCapture result (packed_fault_of fault) }
+    ensures { IsSameFault result (packed_fault_of fault) }
 {
     match fault {
         PackedFault::Trailing => ToolFault::Trailing,
@@ -48,18 +48,20 @@ fn body_fault(fault: PackedFault) -> ToolFault
     }
 }
 
-/// Takes one octet after the head if its eight bits are wanted and decide nothing, and answers whether
-/// it did; else nothing changed.
+/// Takes one octet after the head if its eight bits are wanted and decide nothing, and returns whether
+/// it did; otherwise nothing changes.
 #[inline(always)]
-fn pass_octet<C: Check>(body: &mut PackedBits, octet: u8, watch: &mut Watch<C>) -> bool
-    requires { IsSound watch.old }
-    ensures passed { IsTrue result → (start now : Option (List ℕ)) (xs : List ℕ) → FollowsBody C.folded C.COST start now body.old watch.old xs → FollowsBody C.folded C.COST start now body.new watch.new (xs ++ octet ∷ []) }
-    ensures kept { result ≡ false → (body.new ≡ body.old) × (watch.new ≡ watch.old) }
-    ensures same { IsSame watch.old watch.new }
-    ensures sound { IsSound watch.new }
+fn pass_octet<C: Check>(body: &mut PackedBits, octet: u8, run: &mut CaptureRun<C>) -> bool
+    requires { IsSound run.old }
+    ensures passed { IsTrue result → (start now : Option (List ℕ)) (xs : List ℕ) →
+        FollowsBody C.folded C.COST start now body.old run.old xs →
+        FollowsBody C.folded C.COST start now body.new run.new (xs ++ octet ∷ []) }
+    ensures kept { result ≡ false → (body.new ≡ body.old) × (run.new ≡ run.old) }
+    ensures same { IsSame run.old run.new }
+    ensures sound { IsSound run.new }
 {
     packed_is_head_and_body();
-    if body.left() < 8 || !watch.pass_octet(octet) {
+    if body.left() < 8 || !run.pass_octet(octet) {
         return false;
     }
     body.take_whole();
@@ -71,19 +73,20 @@ fn pass_octet<C: Check>(body: &mut PackedBits, octet: u8, watch: &mut Watch<C>) 
 fn take_octet<C: Check, W: Write>(
     body: &mut PackedBits,
     octet: u8,
-    watch: &mut Watch<C>,
+    run: &mut CaptureRun<C>,
     w: &mut W,
 ) -> Result<(), ToolFault>
-    requires { IsSound watch.old }
-    ensures taken { (start : Option (List ℕ)) (xs : List ℕ) → FollowsBody C.folded C.COST start (W.contents w.old) body.old watch.old xs → MatchResult result
-        (λ _. FollowsBody C.folded C.COST start (W.contents w.new) body.new watch.new (xs ++ octet ∷ []))
-        (λ fault. Stops C.folded C.COST false start (W.contents w.new) watch.new (xs ++ octet ∷ []) fault) }
-    ensures same { IsSame watch.old watch.new }
-    ensures sound { IsSound watch.new }
+    requires { IsSound run.old }
+    ensures taken { (start : Option (List ℕ)) (xs : List ℕ) →
+        FollowsBody C.folded C.COST start (W.contents w.old) body.old run.old xs → MatchResult result
+        (λ _. FollowsBody C.folded C.COST start (W.contents w.new) body.new run.new (xs ++ octet ∷ []))
+        (λ fault. Stops C.folded C.COST false start (W.contents w.new) run.new (xs ++ octet ∷ []) fault) }
+    ensures same { IsSame run.old run.new }
+    ensures sound { IsSound run.new }
 {
     packed_is_head_and_body();
     match body.step(octet) {
-        Ok(bits) => watch.take_bits(bits.as_slice(), w),
+        Ok(bits) => run.take_bits(bits.as_slice(), w),
         Err(fault) => Err(body_fault(fault)),
     }
 }
@@ -93,22 +96,23 @@ fn take_octet<C: Check, W: Write>(
 fn take_body<C: Check, W: Write>(
     body: &mut PackedBits,
     octets: &[u8],
-    watch: &mut Watch<C>,
+    run: &mut CaptureRun<C>,
     w: &mut W,
 ) -> Result<(), ToolFault>
-    requires { IsSound watch.old }
-    ensures taken { (start : Option (List ℕ)) (xs : List ℕ) → FollowsBody C.folded C.COST start (W.contents w.old) body.old watch.old xs → MatchResult result
-        (λ _. FollowsBody C.folded C.COST start (W.contents w.new) body.new watch.new (xs ++ octets.now))
-        (λ fault. Stops C.folded C.COST false start (W.contents w.new) watch.new (xs ++ octets.now) fault) }
-    ensures same { IsSame watch.old watch.new }
-    ensures sound { IsSound watch.new }
+    requires { IsSound run.old }
+    ensures taken { (start : Option (List ℕ)) (xs : List ℕ) →
+        FollowsBody C.folded C.COST start (W.contents w.old) body.old run.old xs → MatchResult result
+        (λ _. FollowsBody C.folded C.COST start (W.contents w.new) body.new run.new (xs ++ octets.now))
+        (λ fault. Stops C.folded C.COST false start (W.contents w.new) run.new (xs ++ octets.now) fault) }
+    ensures same { IsSame run.old run.new }
+    ensures sound { IsSound run.new }
 {
     captures_grow();
     for octet in octets {
-        if pass_octet(body, *octet, watch) {
+        if pass_octet(body, *octet, run) {
             continue;
         }
-        take_octet(body, *octet, watch, w)?;
+        take_octet(body, *octet, run, w)?;
     }
     Ok(())
 }
@@ -128,19 +132,20 @@ impl PackedCapture {
     pub fn take<C: Check, W: Write>(
         &mut self,
         octets: &[u8],
-        watch: &mut Watch<C>,
+        run: &mut CaptureRun<C>,
         w: &mut W,
     ) -> Result<(), ToolFault>
-        requires sound { IsSound watch.old }
-        ensures taken { (start : Option (List ℕ)) (xs : List ℕ) → FollowsPacked C.folded C.COST start (W.contents w.old) self.old watch.old xs → MatchResult result
-            (λ _. FollowsPacked C.folded C.COST start (W.contents w.new) self.new watch.new (xs ++ octets.now))
-            (λ fault. Stops C.folded C.COST false start (W.contents w.new) watch.new (xs ++ octets.now) fault) }
-        ensures same { IsSame watch.old watch.new }
-        ensures sound { IsSound watch.new }
+        requires sound { IsSound run.old }
+        ensures taken { (start : Option (List ℕ)) (xs : List ℕ) →
+            FollowsPacked C.folded C.COST start (W.contents w.old) self.old run.old xs → MatchResult result
+            (λ _. FollowsPacked C.folded C.COST start (W.contents w.new) self.new run.new (xs ++ octets.now))
+            (λ fault. Stops C.folded C.COST false start (W.contents w.new) run.new (xs ++ octets.now) fault) }
+        ensures same { IsSame run.old run.new }
+        ensures sound { IsSound run.new }
     {
         match &mut self.body {
-            Some(body) => take_body(body, octets, watch, w),
-            None => self.take_head(octets, watch, w),
+            Some(body) => take_body(body, octets, run, w),
+            None => self.take_head(octets, run, w),
         }
     }
 
@@ -148,16 +153,17 @@ impl PackedCapture {
     fn take_head<C: Check, W: Write>(
         &mut self,
         octets: &[u8],
-        watch: &mut Watch<C>,
+        run: &mut CaptureRun<C>,
         w: &mut W,
     ) -> Result<(), ToolFault>
         requires none { self.old.body ≡ None }
-        requires sound { IsSound watch.old }
-        ensures taken { (start : Option (List ℕ)) (xs : List ℕ) → FollowsPacked C.folded C.COST start (W.contents w.old) self.old watch.old xs → MatchResult result
-            (λ _. FollowsPacked C.folded C.COST start (W.contents w.new) self.new watch.new (xs ++ octets.now))
-            (λ fault. Stops C.folded C.COST false start (W.contents w.new) watch.new (xs ++ octets.now) fault) }
-        ensures same { IsSame watch.old watch.new }
-        ensures sound { IsSound watch.new }
+        requires sound { IsSound run.old }
+        ensures taken { (start : Option (List ℕ)) (xs : List ℕ) →
+            FollowsPacked C.folded C.COST start (W.contents w.old) self.old run.old xs → MatchResult result
+            (λ _. FollowsPacked C.folded C.COST start (W.contents w.new) self.new run.new (xs ++ octets.now))
+            (λ fault. Stops C.folded C.COST false start (W.contents w.new) run.new (xs ++ octets.now) fault) }
+        ensures same { IsSame run.old run.new }
+        ensures sound { IsSound run.new }
     {
         packed_is_head_and_body();
         let missing = HEAD - self.head.len();
@@ -167,7 +173,7 @@ impl PackedCapture {
         }
         self.gather(&octets[..missing]);
         let mut body = self.read_head().map_err(head_fault)?;
-        let ending = take_body(&mut body, &octets[missing..], watch, w);
+        let ending = take_body(&mut body, &octets[missing..], run, w);
         self.body = Some(body);
         ending
     }
@@ -199,7 +205,8 @@ impl PackedCapture {
     pub fn finish(&self) -> Result<(), ToolFault>
         ensures { (xs : List ℕ) → IsRead self.now.head.items self.now.body xs → MatchResult result
             (λ _. packed_whole xs ≡ record { bits = (packed_capture xs).bits; fault = None })
-            (λ fault. (cause : CaptureFault) × IsCapture fault cause × (packed_whole xs ≡ record { bits = (packed_capture xs).bits; fault = Some cause })) }
+            (λ fault. (cause : CaptureFault) × IsSameFault fault cause
+            × (packed_whole xs ≡ record { bits = (packed_capture xs).bits; fault = Some cause })) }
     {
         packed_is_head_and_body();
         let Some(body) = &self.body else {

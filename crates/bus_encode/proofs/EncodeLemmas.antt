@@ -9,7 +9,7 @@ use Rattle.bus_encode.specs.Lines.{ended_lines, open_line, last_line}
 use Rattle.bus_encode.specs.Encode.{Asked, unless_fault, and_then, line_asked, line_call, line_number, asked_behind, open_asked, asked_so_far, asked_in_all, bits_text, text_behind, encode_text}
 use Rattle.bus_text.specs.declared.fault.ToolFault.{ToolFault}
 use Rattle.bus_text.specs.declared.fault.ToolFault.TheVariants.{BadLine}
-use Rattle.bus_encode.proofs.LineLemmas.{ended_behind, open_behind, ended-append, open-append, ended-by_lf, open-by_lf}
+use Rattle.bus_encode.proofs.LinesLemmas.{ended_behind, open_behind, ended-append, open-append, ended-by_lf, open-by_lf}
 
 -- ---- one thing asked for behind another
 

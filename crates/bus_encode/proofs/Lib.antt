@@ -1,4 +1,4 @@
-pub mod LineLemmas
+pub mod LinesLemmas
 pub mod EncodeLemmas
-pub mod SessionLemmas
+pub mod EncodeStateLemmas
 pub mod OrderLemmas

@@ -11,10 +11,10 @@ use arrayvec::ArrayVec;
 use bus_line::{BitSink, LineEncoder, SinkRefused};
 
 /// The most bits of a call: those of a frame of 256 octets, its check and two flags, where each
-/// five bits of the data have a 0 inserted behind them.
+/// five bits of the data are followed by an inserted 0.
 const MOST: usize = 2492;
 
-/// The text of a call has LF behind its bits.
+/// The text of a call is its bits and LF.
 const ROOM: usize = 2493;
 
 /// Holds the bits of one call.
@@ -59,7 +59,8 @@ impl BitSink for CallBits {
 fn bits_of(encoder: &mut LineEncoder, order: &Order) -> ArrayVec<bool, MOST>
     requires going { encoder.old.ended ≡ false }
     requires sized { IsSized (call_of order.now) }
-    ensures after { (calls : List Call) → AfterCalls encoder.old calls → AfterCalls encoder.new (calls ++ call_of order.now ∷ []) }
+    ensures after { (calls : List Call) → AfterCalls encoder.old calls →
+        AfterCalls encoder.new (calls ++ call_of order.now ∷ []) }
     ensures bits { (calls : List Call) → AfterCalls encoder.old calls → result.items ≡ gain calls (call_of order.now) }
 {
     let mut sink = CallBits::new();
@@ -74,7 +75,7 @@ fn bits_of(encoder: &mut LineEncoder, order: &Order) -> ArrayVec<bool, MOST>
     }
 }
 
-/// Bits as characters, with LF behind them.
+/// Bits as characters, followed by LF.
 fn text_of(bits: &[bool]) -> ArrayVec<u8, ROOM>
     requires { length bits.now ≤ 2492 }
     ensures { result.items ≡ bits_text bits.now }
@@ -92,8 +93,10 @@ pub fn call_text(encoder: &mut LineEncoder, order: &Order) -> ArrayVec<u8, ROOM>
     requires going { encoder.old.ended ≡ false }
     requires sized { IsSized (call_of order.now) }
     ensures going { encoder.new.ended ≡ false }
-    ensures after { (calls : List Call) → AfterCalls encoder.old calls → AfterCalls encoder.new (calls ++ call_of order.now ∷ []) }
-    ensures text { (calls : List Call) → AfterCalls encoder.old calls → result.items ≡ bits_text (gain calls (call_of order.now)) }
+    ensures after { (calls : List Call) → AfterCalls encoder.old calls →
+        AfterCalls encoder.new (calls ++ call_of order.now ∷ []) }
+    ensures text { (calls : List Call) → AfterCalls encoder.old calls →
+        result.items ≡ bits_text (gain calls (call_of order.now)) }
     ensures few { length result.items ≤ 2493 }
 {
     let bits = bits_of(encoder, order);

@@ -4,7 +4,7 @@ ghost use Rattle.std.specs.Prelude.{ℕ, List, IfSome};
 ghost use Rattle.std.specs.Io.KnownBytes.{Consumes};
 ghost use Rattle.bus_encode.specs.Encodes.{Encodes, EncodesAll};
 
-use crate::session::Session;
+use crate::reader::LineReader;
 use bus_text::ToolFault;
 use std::io::{Read, Write};
 
@@ -23,7 +23,7 @@ use std::io::{Read, Write};
 ///   have 2 to 256 octets. It is the first such line, and what the lines before it ask for was
 ///   written. A line's form is judged at its end, and its length as soon as it is too long, however
 ///   it goes on.
-/// - `Read`: the reader answered an error. `ReadsLimit`: it did not answer the end. In both no line
+/// - `Read`: the reader returned an error. `ReadsLimit`: it did not reach the end. In both no line
 ///   was refused so far, and what the lines that LF ended ask for was written.
 /// - `Write`: a write or the flush failed, or a write took nothing. It comes in place of any other.
 pub fn encode_frames<R: Read, W: Write>(reads: u64, r: &mut R, w: &mut W) -> Result<(), ToolFault>
@@ -31,7 +31,7 @@ pub fn encode_frames<R: Read, W: Write>(reads: u64, r: &mut R, w: &mut W) -> Res
         × Encodes reads (R.remaining r.new) (W.contents w.old) (W.contents w.new) xs result }
     ensures known { IfSome (R.remaining r.old) (λ all. EncodesAll (W.contents w.old) (W.contents w.new) all result) }
 {
-    let mut session = Session::new();
-    let ending = session.take_input(reads, r, w);
-    session.flush(ending, w)
+    let mut reader = LineReader::new();
+    let ending = reader.take_input(reads, r, w);
+    reader.flush(ending, w)
 }

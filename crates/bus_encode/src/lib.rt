@@ -5,6 +5,6 @@ mod bits;
 mod encode;
 mod line;
 mod order;
-mod session;
+mod reader;
 
 pub use encode::encode_frames;

@@ -1,4 +1,4 @@
-//! The line that stands open.
+//! The line that has not ended yet.
 
 ghost use Rattle.std.specs.Prelude.{◌≡◌, ◌+◌, ◌-◌, ◌^◌, ◌<◌, ◌≤◌, [], ◌∷◌, ◌++◌, length, MatchResult};
 ghost use Rattle.std.specs.Io.BufRead.{strip_last};
@@ -36,7 +36,8 @@ impl OpenLine {
     pub fn push(&mut self, octet: u8) -> Result<(), ToolFault>
         ensures taken { MatchResult result
             (λ _. (self.new.octets.items ≡ self.old.octets.items ++ octet ∷ []) × (self.new.number ≡ self.old.number))
-            (λ fault. (fault ≡ ToolFault.BadLine self.old.number) × (600 < length (strip_last 13 (self.old.octets.items ++ octet ∷ [])))) }
+            (λ fault. (fault ≡ ToolFault.BadLine self.old.number)
+            × (600 < length (strip_last 13 (self.old.octets.items ++ octet ∷ [])))) }
         ensures number { self.new.number ≡ self.old.number }
     {
         let count = self.octets.len();

@@ -22,10 +22,13 @@ pub enum Order {
 
 /// The octets of a frame, from the digits of a line of this number.
 fn frame_octets(digits: &[u8], number: u128) -> Result<ArrayVec<u8, MOST>, ToolFault>
-    ensures octets { MatchResult result (λ octets. decoded_frame number (decode_of digits.now) ≡ Ok (Some (Frame octets.items))) (λ fault. decoded_frame number (decode_of digits.now) ≡ Err fault) }
+    ensures octets { MatchResult result
+        (λ octets. decoded_frame number (decode_of digits.now) ≡ Ok (Some (Frame octets.items)))
+        (λ fault. decoded_frame number (decode_of digits.now) ≡ Err fault) }
     ensures at_least { IfOk result (λ octets. 2 ≤ length octets.items) }
     ensures at_most { IfOk result (λ octets. length octets.items ≤ 256) }
-    ensures refused { IfErr result (λ fault. (fault ≡ ToolFault.BadLine number) ⊎ (fault ≡ ToolFault.FrameLength number)) }
+    ensures refused { IfErr result
+        (λ fault. (fault ≡ ToolFault.BadLine number) ⊎ (fault ≡ ToolFault.FrameLength number)) }
 {
     if !is_hex(digits) {
         return Err(ToolFault::BadLine(number));
@@ -40,9 +43,11 @@ fn frame_octets(digits: &[u8], number: u128) -> Result<ArrayVec<u8, MOST>, ToolF
 /// What a line of this number asks for, without its end; an empty one asks for nothing.
 pub fn read_order(line: &[u8], number: u128) -> Result<Option<Order>, ToolFault>
     requires { length line.now ≤ 600 }
-    ensures value { MatchResult result (λ order. line_call number line.now ≡ Ok (option_map call_of order)) (λ fault. line_call number line.now ≡ Err fault) }
+    ensures value { MatchResult result (λ order. line_call number line.now ≡ Ok (option_map call_of order))
+        (λ fault. line_call number line.now ≡ Err fault) }
     ensures sized { IfOk result (λ order. IfSome order (λ order. IsSized (call_of order))) }
-    ensures refused { IfErr result (λ fault. (fault ≡ ToolFault.BadLine number) ⊎ (fault ≡ ToolFault.FrameLength number)) }
+    ensures refused { IfErr result
+        (λ fault. (fault ≡ ToolFault.BadLine number) ⊎ (fault ≡ ToolFault.FrameLength number)) }
 {
     if line.is_empty() {
         return Ok(None);

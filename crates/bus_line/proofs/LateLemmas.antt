@@ -13,7 +13,7 @@ use Rattle.bus_bits.specs.Octet.{number, bits_of}
 use Rattle.bus_bits.proofs.OctetLemmas.{number-lt, number-append, number-bits, bits-number, length-bits}
 use Rattle.bus_line.specs.Internal.Run.{ones_at_end}
 use Rattle.bus_line.specs.Internal.Late.{IsCalm, late_data}
-use Rattle.bus_line.proofs.WindowLemmas.{lead-is, lead-least}
+use Rattle.bus_line.proofs.StepWindowLemmas.{lead-is, lead-least}
 
 -- ---- where ones stand together
 

@@ -8,4 +8,4 @@ pub mod Inserting
 pub mod EncoderState
 pub mod EncoderView
 pub mod Tracks
-pub mod Outgoing
+pub mod StuffingWriter

@@ -1,4 +1,4 @@
-//! What stands on a synchronous HDLC line (ISO/IEC 13239): flags, frames, damaged pieces, aborts
+//! Framing of a synchronous HDLC line (ISO/IEC 13239): flags, frames, damaged pieces, aborts
 //! and idles, each with its bit places.
 #![tactic(auto)]
 

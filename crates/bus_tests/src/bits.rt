@@ -1,8 +1,6 @@
 //! Captures, octet by octet.
 
-use bus_bits::{
-    BadMark, EightBits, HeadFault, PackedBits, PackedFault, PackedHead, TextBits,
-};
+use bus_bits::{BadMark, EightBits, HeadFault, PackedBits, PackedFault, PackedHead, TextBits};
 
 const HEAD: [u8; 16] = *b"TS2BITS1\x39\0\0\0\0\0\0\0";
 

@@ -1,7 +1,7 @@
 //! Values from outside, by both checks.
 
-use bus_fcs::{BitCheck, Check, OctetCheck, are_good};
 use bus_bits::Spent;
+use bus_fcs::{BitCheck, Check, OctetCheck, fcs_is_good};
 
 /// `10 83 00` and its frame checking sequence.
 const FRAME: [u8; 5] = [0x10, 0x83, 0x00, 0xfd, 0xe5];
@@ -59,8 +59,8 @@ fn good_and_exchanged(rt: HostRuntime) {
     for (octets, want) in [(FRAME, true), ([0x10, 0x83, 0x00, 0xe5, 0xfd], false)] {
         assert_eq!(rt; folded::<BitCheck>(&octets).is_good(), want);
         assert_eq!(rt; folded::<OctetCheck>(&octets).is_good(), want);
-        assert_eq!(rt; are_good::<BitCheck>(&octets), want);
-        assert_eq!(rt; are_good::<OctetCheck>(&octets), want);
+        assert_eq!(rt; fcs_is_good::<BitCheck>(&octets), want);
+        assert_eq!(rt; fcs_is_good::<OctetCheck>(&octets), want);
     }
 }
 

@@ -4,10 +4,10 @@
 #[cfg(test)]
 mod bits;
 #[cfg(test)]
+mod dictionary;
+#[cfg(test)]
 mod fcs;
 #[cfg(test)]
 mod line;
-#[cfg(test)]
-mod dictionary;
 #[cfg(test)]
 mod watch;

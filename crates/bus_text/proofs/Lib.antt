@@ -1,6 +1,6 @@
-pub mod Bytes
-pub mod PageLemmas
+pub mod KnownBytesLemmas
+pub mod PagesLemmas
 pub mod ListingLemmas
 pub mod SummaryLemmas
-pub mod CheckLemmas
+pub mod CheckTextLemmas
 pub mod ShowLemmas

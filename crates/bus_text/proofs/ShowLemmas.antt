@@ -13,13 +13,13 @@ use Rattle.bus_dictionary.specs.Dictionary.{entry_at}
 use Rattle.bus_dictionary.specs.Standing.{standing, Means}
 use Rattle.bus_dictionary.specs.declared.standing.Standing.{Standing}
 use Rattle.bus_dictionary.specs.declared.standing.Standing.TheVariants.{Known}
-use Rattle.bus_text.specs.declared.put.Cut.{Cut}
+use Rattle.bus_text.specs.declared.put.ShortWrite.{ShortWrite}
 use Rattle.bus_text.specs.Internal.Pages.{Puts}
 use Rattle.bus_text.specs.Show.{typed_frame, if_frame, if_decoded, name_text, frame_text, names_text, shown_text, Reads, Shows}
 use Rattle.bus_text.specs.HeadText.{head_text}
 use Rattle.bus_text.specs.declared.fault.ToolFault.{ToolFault}
 use Rattle.bus_text.specs.declared.fault.ToolFault.TheVariants.{Memory, Dictionary, Hex, FrameSize}
-use Rattle.bus_text.proofs.Bytes.{appends_nothing}
+use Rattle.bus_text.proofs.KnownBytesLemmas.{appends_nothing}
 
 -- no digits, an odd number of them, or another character
 pub no_hex : (s : List ℕ) → (1 ≤ length s → length s % 2 ≡ 0 → AllPass is_hex_digit s → ⊥) → typed_frame s ≡ Err Hex
@@ -82,7 +82,7 @@ sized_frame s bytes is least most =
     (hex_frame s bytes is (omega (arith, few)) ∙ frame_fits bytes few many, few, many)
 
 -- a front of what was to be written went out, and so a front of more
-pub cut_more : (start now : Option (List ℕ)) (front more : List ℕ) (cut : Cut) → Puts start now front (Err cut) → Puts start now (front ++ more) (Err cut)
+pub cut_more : (start now : Option (List ℕ)) (front more : List ℕ) (cut : ShortWrite) → Puts start now front (Err cut) → Puts start now (front ++ more) (Err cut)
 cut_more start now front more cut p = (
   subst (λ (l : List ℕ). Appends start now l) (sym (take-append-le cut.sent front more p.1)) p.0,
   omega (arith, p.1, length-append front more),

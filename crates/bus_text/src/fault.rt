@@ -2,11 +2,11 @@
 
 ghost use Rattle.std.specs.Prelude.{◌≡◌};
 
-use crate::put::Cut;
+use crate::put::ShortWrite;
 use bus_dictionary::DictFault;
 use thiserror::Error;
 
-/// Why a call of the tool stopped. The text is what the program prints behind its name.
+/// Why a call of the tool stopped. The text is what the program prints after its name.
 #[derive(Debug, Drop, PartialEq, Eq, Error)]
 pub enum ToolFault {
     /// Memory was refused.
@@ -48,7 +48,7 @@ pub enum ToolFault {
     /// The reader answered an error.
     #[error("read failed")]
     Read,
-    /// The reader was called as often as is allowed and did not answer the end.
+    /// The reader was called as often as is allowed and did not reach the end.
     #[error("too many reads")]
     ReadsLimit,
     /// A write or the flush failed, or a write took nothing. The first `written` octets of the
@@ -73,12 +73,12 @@ pub enum ToolFault {
     FrameLength(u128),
 }
 
-impl From<Cut> for ToolFault {
+impl From<ShortWrite> for ToolFault {
     ghost use Rattle.bus_text.specs.declared.fault.ToolFault.TheVariants.{Write};
 
     ghost from_gives = { λ cut fault. fault ≡ Write cut.sent };
 
-    fn from(cut: Cut) -> ToolFault {
+    fn from(cut: ShortWrite) -> ToolFault {
         ToolFault::Write { written: cut.sent }
     }
 }

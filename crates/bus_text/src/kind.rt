@@ -38,7 +38,7 @@ const KINDS: [Kind; 11] = [
 ];
 
 impl Kind {
-    /// The kind that a word names, as it stands in a line.
+    /// The kind that a word of a line names.
     pub fn read(word: &str) -> Option<Kind>
         ensures named { result ≡ kind_named word.now }
         ensures names { IfSome result (λ kind. word.now ≡ kind_word kind) }

@@ -22,7 +22,7 @@ pub use kind::Kind;
 pub use options::Options;
 pub use page::Page;
 pub use printer::Printer;
-pub use put::{Cut, put_text};
+pub use put::{ShortWrite, put_text};
 pub use report::put_report;
 pub use show::{read_dictionary, show_frame};
 pub use summary::Summary;

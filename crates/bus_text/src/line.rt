@@ -79,7 +79,7 @@ pub fn push_station<const N: usize>(line: &mut ArrayString<N>, station: u8, ftyp
     push_octet_number(line, ftype);
 }
 
-/// Appends two places, each with a space behind it.
+/// Appends two places, each followed by a space.
 pub fn push_span<const N: usize>(line: &mut ArrayString<N>, span: Span)
     requires { array_string_len line.old + 42 ≤ N }
     ensures bytes { line.new.bytes ≡ line.old.bytes ++ span_text span }
@@ -126,7 +126,7 @@ fn push_word<const N: usize>(line: &mut ArrayString<N>, piece: Piece<'_>)
     }
 }
 
-/// Where a report stands.
+/// The span of a report.
 pub fn span_of(piece: Piece<'_>) -> Span
     ensures { result ≡ span_of (report_of piece.entry) }
 {
@@ -143,7 +143,8 @@ pub fn span_of(piece: Piece<'_>) -> Span
 pub fn push_front<const N: usize>(line: &mut ArrayString<N>, piece: Piece<'_>)
     requires room { array_string_len line.old + 564 ≤ N }
     requires held { octet_count (report_of piece) ≤ 258 }
-    ensures bytes { line.new.bytes ≡ line.old.bytes ++ (span_text (span_of (report_of piece.entry)) ++ report_word (report_of piece.entry).kind) }
+    ensures bytes { line.new.bytes
+        ≡ line.old.bytes ++ (span_text (span_of (report_of piece.entry)) ++ report_word (report_of piece.entry).kind) }
     ensures len { array_string_len line.new ≤ array_string_len line.old + 564 }
 {
     push_span(line, span_of(piece));

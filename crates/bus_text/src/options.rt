@@ -1,8 +1,8 @@
-//! What a capture is, and what is wanted of it.
+//! The input format and the output filters.
 
 use crate::kind::Kind;
 
-/// What a capture is, and what is wanted of it.
+/// The input format, the analyser's limits and the output filters.
 #[derive(Clone, Copy, Debug)]
 pub struct Options<'a> {
     /// The text of the dictionary, as TOML.

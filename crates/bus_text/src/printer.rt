@@ -30,7 +30,7 @@ pub struct Printer {
     filter: Filter,
 }
 
-/// What is put behind the front of a report's line.
+/// What follows the front of a report's line.
 #[derive(Clone, Copy)]
 pub struct Back {
     /// The line is left by the filter.
@@ -165,7 +165,8 @@ impl Printer {
     pub fn put_back(&self, back: Back, dictionary: &Dictionary, page: &mut Page)
         requires room { array_string_len page.old.text + 400 ≤ 16384 }
         ensures bytes { (s : SeenReport) → back ≡ back_of self.now s →
-            page.new.text.bytes ≡ page.old.text.bytes ++ (back_text self.now dictionary.now s ++ behind_text self.now s) }
+            page.new.text.bytes ≡ page.old.text.bytes
+            ++ (back_text self.now dictionary.now s ++ behind_text self.now s) }
         ensures len { array_string_len page.new.text ≤ array_string_len page.old.text + 400 }
         ensures written { page.new.written ≡ page.old.written }
     {
@@ -177,7 +178,9 @@ impl Printer {
     /// Puts the end of a report's line on the page, if the line is left by the filter.
     fn put_end(&self, back: Back, dictionary: &Dictionary, page: &mut Page)
         requires room { array_string_len page.old.text + 63 ≤ 16384 }
-        ensures bytes { page.new.text.bytes ≡ page.old.text.bytes ++ (if back.fronted then head_part self.now.heads dictionary.now back.standing ++ codes "\n" else []) }
+        ensures bytes { page.new.text.bytes
+            ≡ page.old.text.bytes
+            ++ (if back.fronted then head_part self.now.heads dictionary.now back.standing ++ codes "\n" else []) }
         ensures len { array_string_len page.new.text ≤ array_string_len page.old.text + 63 }
         ensures written { page.new.written ≡ page.old.written }
     {
@@ -208,7 +211,8 @@ impl Printer {
     /// Puts the line of a verdict on the page, if there is one.
     fn put_verdict(&self, verdict: Option<Verdict>, page: &mut Page)
         requires room { array_string_len page.old.text + 100 ≤ 16384 }
-        ensures bytes { page.new.text.bytes ≡ page.old.text.bytes ++ text_of self.now.filter (option_to_list (option_map verdict_line verdict)) }
+        ensures bytes { page.new.text.bytes
+            ≡ page.old.text.bytes ++ text_of self.now.filter (option_to_list (option_map verdict_line verdict)) }
         ensures len { array_string_len page.new.text ≤ array_string_len page.old.text + 100 }
         ensures written { page.new.written ≡ page.old.written }
     {
@@ -222,7 +226,9 @@ impl Printer {
     /// Puts the line of a stray on the page, if there is a dictionary and its type is known.
     fn put_stray(&self, back: Back, page: &mut Page)
         requires room { array_string_len page.old.text + 100 ≤ 16384 }
-        ensures bytes { page.new.text.bytes ≡ page.old.text.bytes ++ text_of self.now.filter (strays_at self.now.heads back.stray back.span back.standing) }
+        ensures bytes { page.new.text.bytes
+            ≡ page.old.text.bytes
+            ++ text_of self.now.filter (strays_at self.now.heads back.stray back.span back.standing) }
         ensures len { array_string_len page.new.text ≤ array_string_len page.old.text + 100 }
         ensures written { page.new.written ≡ page.old.written }
     {
@@ -244,7 +250,8 @@ impl Printer {
     /// Puts a line about a frame on the page.
     fn put_frame(&self, kind: Kind, span: Span, station: u8, ftype: u8, page: &mut Page)
         requires room { array_string_len page.old.text + 100 ≤ 16384 }
-        ensures bytes { page.new.text.bytes ≡ page.old.text.bytes ++ text_of self.now.filter (frame_line kind span station ftype ∷ []) }
+        ensures bytes { page.new.text.bytes
+            ≡ page.old.text.bytes ++ text_of self.now.filter (frame_line kind span station ftype ∷ []) }
         ensures len { array_string_len page.new.text ≤ array_string_len page.old.text + 100 }
         ensures written { page.new.written ≡ page.old.written }
     {
@@ -257,7 +264,8 @@ impl Printer {
     /// Puts the line of a piece that has begun on the page, if one has.
     fn put_begun(&self, begun: Option<Span>, page: &mut Page)
         requires room { array_string_len page.old.text + 100 ≤ 16384 }
-        ensures bytes { page.new.text.bytes ≡ page.old.text.bytes ++ text_of self.now.filter (option_to_list (option_map begun_line begun)) }
+        ensures bytes { page.new.text.bytes
+            ≡ page.old.text.bytes ++ text_of self.now.filter (option_to_list (option_map begun_line begun)) }
         ensures len { array_string_len page.new.text ≤ array_string_len page.old.text + 100 }
         ensures written { page.new.written ≡ page.old.written }
     {
@@ -273,7 +281,8 @@ impl Printer {
     /// Puts the line of a command without a verdict on the page, if there is one.
     fn put_pending(&self, pending: Option<Pending>, page: &mut Page)
         requires room { array_string_len page.old.text + 100 ≤ 16384 }
-        ensures bytes { page.new.text.bytes ≡ page.old.text.bytes ++ text_of self.now.filter (option_to_list (option_map pending_line pending)) }
+        ensures bytes { page.new.text.bytes
+            ≡ page.old.text.bytes ++ text_of self.now.filter (option_to_list (option_map pending_line pending)) }
         ensures len { array_string_len page.new.text ≤ array_string_len page.old.text + 100 }
         ensures written { page.new.written ≡ page.old.written }
     {
@@ -292,7 +301,8 @@ impl Printer {
     /// Puts the lines of the end on the page.
     pub fn put_ending(&self, ending: &Ending, page: &mut Page)
         requires room { array_string_len page.old.text + 200 ≤ 16384 }
-        ensures bytes { page.new.text.bytes ≡ page.old.text.bytes ++ ending_text self.now ending.now.begun ending.now.pending }
+        ensures bytes { page.new.text.bytes
+            ≡ page.old.text.bytes ++ ending_text self.now ending.now.begun ending.now.pending }
         ensures len { array_string_len page.new.text ≤ array_string_len page.old.text + 200 }
         ensures written { page.new.written ≡ page.old.written }
     {

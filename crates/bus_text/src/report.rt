@@ -3,14 +3,14 @@
 ghost use Rattle.std.specs.Prelude.{◌≡◌, ◌+◌, ◌*◌, ◌++◌, ◌<◌, ◌≤◌, ◌^◌, ℕ, Bool, List, Option, MatchResult, OnOk, length};
 ghost use Rattle.arrayvec.specs.ArrayString.{array_string_len};
 ghost use Rattle.bus_watch.specs.History.{kept_frame, history, tally};
-ghost use Rattle.bus_watch.specs.Stands.{Stands, line};
+ghost use Rattle.bus_watch.specs.After.{IsAfter, line};
 ghost use Rattle.bus_text.specs.CheckText.{count_text, summary_text, tally_line, has_none, tally_text, kept_text, tallies_text, history_text, check_text};
 ghost use Rattle.bus_text.specs.Put.{Cuts};
 ghost use Rattle.bus_text.specs.Internal.Pages.{Pages};
 
 use crate::line::{push_hex, push_number, push_octet_number, push_span};
 use crate::page::Page;
-use crate::put::Cut;
+use crate::put::ShortWrite;
 use crate::summary::Summary;
 use arrayvec::ArrayString;
 use bus_fcs::Check;
@@ -84,12 +84,19 @@ fn has_none(counts: Counts) -> bool
 }
 
 /// Puts the line of a station on the page, if it has a verdict.
-fn put_tally<W: Write>(station: u8, counts: Counts, page: &mut Page, w: &mut W) -> Result<(), Cut>
+fn put_tally<W: Write>(
+    station: u8,
+    counts: Counts,
+    page: &mut Page,
+    w: &mut W,
+) -> Result<(), ShortWrite>
     requires { page.old.written < 2 ^ 100 }
-    ensures put { (start : Option (List ℕ)) (text : List ℕ) → Pages start (W.contents w.old) page.old.text.bytes page.old.written text → MatchResult result
+    ensures put { (start : Option (List ℕ)) (text : List ℕ) →
+        Pages start (W.contents w.old) page.old.text.bytes page.old.written text → MatchResult result
         (λ _. Pages start (W.contents w.new) page.new.text.bytes page.new.written (text ++ tally_text station counts))
         (λ cut. Cuts start (W.contents w.new) (text ++ tally_text station counts) cut.sent) }
-    ensures few { OnOk result (page.new.written + array_string_len page.new.text ≤ page.old.written + array_string_len page.old.text + 110) }
+    ensures few { OnOk result
+        (page.new.written + array_string_len page.new.text ≤ page.old.written + array_string_len page.old.text + 110) }
 {
     if has_none(counts) {
         return Ok(());
@@ -104,12 +111,18 @@ fn put_tallies<C: Check, W: Write>(
     analyser: &Analyser<C>,
     page: &mut Page,
     w: &mut W,
-) -> Result<(), Cut>
+) -> Result<(), ShortWrite>
     requires { page.old.written + array_string_len page.old.text < 2 ^ 90 }
-    ensures put { (start : Option (List ℕ)) (text : List ℕ) (b : List Bool) → Stands C.folded C.COST analyser.now b → Pages start (W.contents w.old) page.old.text.bytes page.old.written text → MatchResult result
-        (λ _. Pages start (W.contents w.new) page.new.text.bytes page.new.written (text ++ tallies_text (tally analyser.now.journal.dictionary (line analyser.now b)) 256))
-        (λ cut. Cuts start (W.contents w.new) (text ++ tallies_text (tally analyser.now.journal.dictionary (line analyser.now b)) 256) cut.sent) }
-    ensures few { OnOk result (page.new.written + array_string_len page.new.text ≤ page.old.written + array_string_len page.old.text + 110 * 256) }
+    ensures put { (start : Option (List ℕ)) (text : List ℕ) (b : List Bool) →
+        IsAfter C.folded C.COST analyser.now b →
+        Pages start (W.contents w.old) page.old.text.bytes page.old.written text → MatchResult result
+        (λ _. Pages start (W.contents w.new) page.new.text.bytes page.new.written
+        (text ++ tallies_text (tally analyser.now.journal.dictionary (line analyser.now b)) 256))
+        (λ cut. Cuts start (W.contents w.new)
+        (text ++ tallies_text (tally analyser.now.journal.dictionary (line analyser.now b)) 256) cut.sent) }
+    ensures few { OnOk result
+        (page.new.written + array_string_len page.new.text ≤ page.old.written + array_string_len page.old.text
+        + 110 * 256) }
 {
     for station in 0..=255u8 {
         put_tally(station, analyser.tally(station), page, w)?;
@@ -118,12 +131,15 @@ fn put_tallies<C: Check, W: Write>(
 }
 
 /// Puts a frame of the history on the page.
-fn put_kept<W: Write>(kept: &Kept, page: &mut Page, w: &mut W) -> Result<(), Cut>
+fn put_kept<W: Write>(kept: &Kept, page: &mut Page, w: &mut W) -> Result<(), ShortWrite>
     requires { page.old.written < 2 ^ 100 }
-    ensures put { (start : Option (List ℕ)) (text : List ℕ) → Pages start (W.contents w.old) page.old.text.bytes page.old.written text → MatchResult result
-        (λ _. Pages start (W.contents w.new) page.new.text.bytes page.new.written (text ++ kept_text (kept_frame kept.now)))
+    ensures put { (start : Option (List ℕ)) (text : List ℕ) →
+        Pages start (W.contents w.old) page.old.text.bytes page.old.written text → MatchResult result
+        (λ _. Pages start (W.contents w.new) page.new.text.bytes page.new.written
+        (text ++ kept_text (kept_frame kept.now)))
         (λ cut. Cuts start (W.contents w.new) (text ++ kept_text (kept_frame kept.now)) cut.sent) }
-    ensures few { OnOk result (page.new.written + array_string_len page.new.text ≤ page.old.written + array_string_len page.old.text + 570) }
+    ensures few { OnOk result
+        (page.new.written + array_string_len page.new.text ≤ page.old.written + array_string_len page.old.text + 570) }
 {
     page.make_room(w)?;
     push_kept(&mut page.text, kept);
@@ -135,11 +151,15 @@ fn put_history<C: Check, W: Write>(
     analyser: &Analyser<C>,
     page: &mut Page,
     w: &mut W,
-) -> Result<(), Cut>
+) -> Result<(), ShortWrite>
     requires { page.old.written + array_string_len page.old.text < 2 ^ 95 }
-    ensures put { (start : Option (List ℕ)) (text : List ℕ) (b : List Bool) → Stands C.folded C.COST analyser.now b → Pages start (W.contents w.old) page.old.text.bytes page.old.written text → MatchResult result
-        (λ _. Pages start (W.contents w.new) page.new.text.bytes page.new.written (text ++ history_text (history analyser.now.journal.depth (line analyser.now b))))
-        (λ cut. Cuts start (W.contents w.new) (text ++ history_text (history analyser.now.journal.depth (line analyser.now b))) cut.sent) }
+    ensures put { (start : Option (List ℕ)) (text : List ℕ) (b : List Bool) →
+        IsAfter C.folded C.COST analyser.now b →
+        Pages start (W.contents w.old) page.old.text.bytes page.old.written text → MatchResult result
+        (λ _. Pages start (W.contents w.new) page.new.text.bytes page.new.written
+        (text ++ history_text (history analyser.now.journal.depth (line analyser.now b))))
+        (λ cut. Cuts start (W.contents w.new)
+        (text ++ history_text (history analyser.now.journal.depth (line analyser.now b))) cut.sent) }
     ensures few { OnOk result (page.new.written < 2 ^ 96) }
 {
     for i in 0..analyser.history_len() {
@@ -157,11 +177,17 @@ pub fn put_report<C: Check, W: Write>(
     analyser: &Analyser<C>,
     page: &mut Page,
     w: &mut W,
-) -> Result<(), Cut>
+) -> Result<(), ShortWrite>
     requires { page.old.written + array_string_len page.old.text < 2 ^ 80 }
-    ensures put { (start : Option (List ℕ)) (text : List ℕ) (b : List Bool) → Stands C.folded C.COST analyser.now b → Pages start (W.contents w.old) page.old.text.bytes page.old.written text → MatchResult result
-        (λ _. Pages start (W.contents w.new) page.new.text.bytes page.new.written (text ++ check_text summary.now (tally analyser.now.journal.dictionary (line analyser.now b)) (history analyser.now.journal.depth (line analyser.now b))))
-        (λ cut. Cuts start (W.contents w.new) (text ++ check_text summary.now (tally analyser.now.journal.dictionary (line analyser.now b)) (history analyser.now.journal.depth (line analyser.now b))) cut.sent) }
+    ensures put { (start : Option (List ℕ)) (text : List ℕ) (b : List Bool) →
+        IsAfter C.folded C.COST analyser.now b →
+        Pages start (W.contents w.old) page.old.text.bytes page.old.written text → MatchResult result
+        (λ _. Pages start (W.contents w.new) page.new.text.bytes page.new.written
+        (text ++ check_text summary.now (tally analyser.now.journal.dictionary (line analyser.now b))
+        (history analyser.now.journal.depth (line analyser.now b))))
+        (λ cut. Cuts start (W.contents w.new)
+        (text ++ check_text summary.now (tally analyser.now.journal.dictionary (line analyser.now b))
+        (history analyser.now.journal.depth (line analyser.now b))) cut.sent) }
     ensures few { OnOk result (page.new.written < 2 ^ 96) }
 {
     page.make_room(w)?;

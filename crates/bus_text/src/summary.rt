@@ -29,7 +29,8 @@ pub struct Summary {
 impl Summary {
     /// Whether no piece was damaged or overlong, and no verdict missing or spoilt.
     pub fn is_clean(&self) -> bool
-        ensures { IsTrue result ↔ ((self.now.damaged ≡ 0) × (self.now.overlong ≡ 0) × (self.now.missing ≡ 0) × (self.now.spoilt ≡ 0)) }
+        ensures { IsTrue result ↔
+            ((self.now.damaged ≡ 0) × (self.now.overlong ≡ 0) × (self.now.missing ≡ 0) × (self.now.spoilt ≡ 0)) }
     {
         self.damaged == 0 && self.overlong == 0 && self.missing == 0 && self.spoilt == 0
     }
@@ -55,7 +56,8 @@ impl Summary {
     /// Counts a report, and what follows from it.
     pub fn count(&mut self, seen: &Seen<'_>)
         requires { (most : ℕ) × IsFew most self.old × (most < 2 ^ 60) }
-        ensures counted { (before : List SeenReport) → self.old ≡ summary_of before → self.new ≡ summary_of (before ++ shown seen.now ∷ []) }
+        ensures counted { (before : List SeenReport) → self.old ≡ summary_of before →
+            self.new ≡ summary_of (before ++ shown seen.now ∷ []) }
         ensures few { (most : ℕ) → IsFew most self.old → IsFew (most + 1) self.new }
     {
         self.count_piece(seen.piece);

@@ -1,8 +1,8 @@
-//! Texts of what stands on a line, and the program `port1`.
+//! The public calls of the tool, and the program `port1`.
 #![tactic(auto)]
 
+mod arguments;
 mod program;
-mod words;
 
 pub use bus_capture::{check_capture, list_capture};
 pub use bus_encode::encode_frames;

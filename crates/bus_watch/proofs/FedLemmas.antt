@@ -4,7 +4,7 @@ use Rattle.std.proofs.lemmas.List.{take-append-le}
 use Rattle.std.proofs.Math.Seq.{take-append-add}
 use Rattle.bus_watch.specs.Seen.{SeenReport}
 use Rattle.bus_watch.specs.Sink.{told}
-use Rattle.bus_watch.specs.Stands.{AnalyserState, Stands, Sees, seen_after}
+use Rattle.bus_watch.specs.After.{AnalyserState, IsAfter, Sees, seen_after}
 use Rattle.bus_watch.specs.Fed.{Fed, Refused, RefusedAt}
 
 pub told-nil : (t : Option (List SeenReport)) → t ≡ told t []
@@ -18,7 +18,7 @@ told-more (Some zs) xs ys = ap Some (append_assoc zs xs ys)
 module _ {C : Type 0} (folded : C → List ℕ → Type 0) (cost : ℕ) where
   pub sees-nil : (a : AnalyserState C) → Sees folded cost a [] [] a
   sees-nil a = record {
-    stands = λ b s. subst (Stands folded cost a) (sym (append-nil b)) s;
+    is_after = λ b s. subst (IsAfter folded cost a) (sym (append-nil b)) s;
     seen = λ b s. ap (seen_after a) (append-nil b) ∙ sym (append-nil (seen_after a b));
     dictionary = refl;
     depth = refl;
@@ -28,11 +28,11 @@ module _ {C : Type 0} (folded : C → List ℕ → Type 0) (cost : ℕ) where
 
   pub sees-more : (a b c : AnalyserState C) (xs ys : List Bool) (ss ts : List SeenReport) → Sees folded cost a xs ss b → Sees folded cost b ys ts c → Sees folded cost a (xs ++ ys) (ss ++ ts) c
   sees-more a b c xs ys ss ts p q = record {
-    stands = λ bits s. subst (Stands folded cost c) (append_assoc bits xs ys) (q.stands (bits ++ xs) (p.stands bits s));
+    is_after = λ bits s. subst (IsAfter folded cost c) (append_assoc bits xs ys) (q.is_after (bits ++ xs) (p.is_after bits s));
     seen = λ bits s.
         let same : (bs : List Bool) → seen_after b bs ≡ seen_after a bs = λ bs. rw (p.dictionary, p.origin) refl in
         ap (seen_after a) (sym (append_assoc bits xs ys)) ∙ sym (same ((bits ++ xs) ++ ys))
-        ∙ (q.seen (bits ++ xs) (p.stands bits s) ∙ (ap (λ l. l ++ ts) (same (bits ++ xs) ∙ p.seen bits s) ∙ append_assoc (seen_after a bits) ss ts));
+        ∙ (q.seen (bits ++ xs) (p.is_after bits s) ∙ (ap (λ l. l ++ ts) (same (bits ++ xs) ∙ p.seen bits s) ∙ append_assoc (seen_after a bits) ss ts));
     dictionary = q.dictionary ∙ p.dictionary;
     depth = q.depth ∙ p.depth;
     origin = q.origin ∙ p.origin;

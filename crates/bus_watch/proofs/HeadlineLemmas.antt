@@ -8,7 +8,7 @@ use Rattle.bus_dictionary.specs.Dictionary.{longest_of}
 use Rattle.bus_watch.specs.Seen.{SeenReport}
 use Rattle.bus_watch.specs.History.{history}
 use Rattle.bus_watch.specs.Ledger.{IsLedger, total}
-use Rattle.bus_watch.specs.Stands.{AnalyserState, Stands, line, seen_after}
+use Rattle.bus_watch.specs.After.{AnalyserState, IsAfter, line, seen_after}
 use Rattle.bus_watch.specs.Laws.{AnyCut, Runs, ended, called}
 use Rattle.bus_watch.specs.Fed.{Fed, RefusedAt}
 use Rattle.bus_watch.specs.Headline.{Headline, WholeRun, StoppedAt, all_seen, bits_in}
@@ -30,31 +30,31 @@ runs-alike folded cost start end _ _ (called a c e bits told pieces tolds h r) =
 -- what the getters answer that a usage is made of
 pub record Answers {C : Type 0} (folded : C → List ℕ → Type 0) (cost : ℕ) (e : AnalyserState C) (u : Usage) : Type 0 where
   pub room : u.buffered ≤ longest_of e.journal.dictionary + 2
-  pub buffered : (b : List Bool) (first : ℕ) → Stands folded cost e b → begun b ≡ Some first → u.buffered ≡ stored_from (longest_of e.journal.dictionary) b first
-  pub kept : (b : List Bool) → Stands folded cost e b → u.history_len ≡ length (history e.journal.depth (line e b))
+  pub buffered : (b : List Bool) (first : ℕ) → IsAfter folded cost e b → begun b ≡ Some first → u.buffered ≡ stored_from (longest_of e.journal.dictionary) b first
+  pub kept : (b : List Bool) → IsAfter folded cost e b → u.history_len ≡ length (history e.journal.depth (line e b))
   pub deep : u.history_len ≤ e.journal.depth
-  pub ledger : (b : List Bool) → Stands folded cost e b → IsLedger cost (longest_of e.journal.dictionary) b u.spent
-  pub seventeen : (b : List Bool) → Stands folded cost e b → total u.spent ≤ 17 * length b
-  pub four : (b : List Bool) → Stands folded cost e b → total u.spent ≤ 4 * length b
-  pub three : cost ≡ 1 → (b : List Bool) → Stands folded cost e b → total u.spent ≤ 3 * length b
+  pub ledger : (b : List Bool) → IsAfter folded cost e b → IsLedger cost (longest_of e.journal.dictionary) b u.spent
+  pub seventeen : (b : List Bool) → IsAfter folded cost e b → total u.spent ≤ 17 * length b
+  pub four : (b : List Bool) → IsAfter folded cost e b → total u.spent ≤ 4 * length b
+  pub three : cost ≡ 1 → (b : List Bool) → IsAfter folded cost e b → total u.spent ≤ 3 * length b
 
 pub whole-run : {C : Type 0} (folded : C → List ℕ → Type 0) (cost : ℕ) (e : AnalyserState C) (u : Usage) → AnyCut folded cost → Answers folded cost e u → WholeRun folded cost e u
 whole-run folded cost e u cut h = λ start pieces tolds s r.
     let alike = runs-alike folded cost start e pieces tolds r in
     let both = cut start e pieces tolds s r in
-    let stands = both.0 in
+    let is_after = both.0 in
     rw (← alike.dictionary, ← alike.depth, ← alike.origin)
     (record {
       told = both.1 ∙ rw (alike.dictionary, alike.origin) refl;
       buffer_bound = h.room;
-      buffered = λ first f. h.buffered _ first stands f;
-      history = stands.journal.history;
-      history_len = h.kept _ stands ∙ ap length (sym stands.journal.history);
+      buffered = λ first f. h.buffered _ first is_after f;
+      history = is_after.journal.history;
+      history_len = h.kept _ is_after ∙ ap length (sym is_after.journal.history);
       history_bound = h.deep;
-      ledger = h.ledger _ stands;
-      seventeen = h.seventeen _ stands;
-      four = h.four _ stands;
-      three = λ one. h.three one _ stands;
+      ledger = h.ledger _ is_after;
+      seventeen = h.seventeen _ is_after;
+      four = h.four _ is_after;
+      three = λ one. h.three one _ is_after;
     })
 
 -- one piece more
@@ -79,7 +79,7 @@ pieces-at ps i d l =
 
 -- what was fed to a new analyser is a whole run
 pub fed-headline : {C S : Type 0} (folded : C → List ℕ → Type 0) (cost : ℕ) (taken : S → Option (List SeenReport)) (a e : AnalyserState C) (b : List Bool) (s t : S) (u : Usage)
-    → Stands folded cost a [] → (f : Fed folded cost taken a b e s t) → WholeRun folded cost e u → Headline cost a.journal.dictionary a.journal.depth a.decoder.origin b f.seen e.journal.history u
+    → IsAfter folded cost a [] → (f : Fed folded cost taken a b e s t) → WholeRun folded cost e u → Headline cost a.journal.dictionary a.journal.depth a.decoder.origin b f.seen e.journal.history u
 fed-headline folded cost taken a e b s t u new f whole =
     let d = a.journal.dictionary in
     let depth = a.journal.depth in
@@ -90,12 +90,12 @@ fed-headline folded cost taken a e b s t u new f whole =
 
 -- what a new analyser saw of all it was fed
 pub fed-seen : {C S : Type 0} (folded : C → List ℕ → Type 0) (cost : ℕ) (taken : S → Option (List SeenReport)) (a e : AnalyserState C) (b : List Bool) (s t : S)
-    → Stands folded cost a [] → (f : Fed folded cost taken a b e s t) → f.seen ≡ all_seen a.journal.dictionary a.decoder.origin b
+    → IsAfter folded cost a [] → (f : Fed folded cost taken a b e s t) → f.seen ≡ all_seen a.journal.dictionary a.decoder.origin b
 fed-seen folded cost taken a e b s t new f = sym (f.sees.seen [] new)
 
 -- where a sink refused a report of what a new analyser was fed
 pub stopped : {C S : Type 0} (folded : C → List ℕ → Type 0) (cost : ℕ) (taken : S → Option (List SeenReport)) (a e : AnalyserState C) (b : List Bool) (s t : S) (consumed : ℕ)
-    → Stands folded cost a [] → RefusedAt folded cost taken a b consumed e s t → StoppedAt taken a.journal.dictionary a.decoder.origin b s t consumed
+    → IsAfter folded cost a [] → RefusedAt folded cost taken a b consumed e s t → StoppedAt taken a.journal.dictionary a.decoder.origin b s t consumed
 stopped folded cost taken a e b s t consumed new at =
     let r = at.refused in
     let d = a.journal.dictionary in
@@ -109,7 +109,7 @@ stopped folded cost taken a e b s t consumed new at =
     let before : all_seen d origin r.front ≡ r.seen = r.sees.seen [] new in
     let same : (bs : List Bool) → seen_after r.before_last bs ≡ seen_after a bs = λ bs. rw (r.sees.dictionary, r.sees.origin) refl in
     let grown : all_seen d origin (r.front ++ r.last ∷ []) ≡ all_seen d origin r.front ++ r.lost ∷ [] =
-    sym (same (r.front ++ r.last ∷ [])) ∙ (r.sees_last.seen r.front (r.sees.stands [] new) ∙ ap (λ xs. xs ++ r.lost ∷ []) (same r.front)) in
+    sym (same (r.front ++ r.last ∷ [])) ∙ (r.sees_last.seen r.front (r.sees.is_after [] new) ∙ ap (λ xs. xs ++ r.lost ∷ []) (same r.front)) in
     record {
       some = at.some;
       within = at.within;

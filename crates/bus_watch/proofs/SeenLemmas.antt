@@ -9,7 +9,7 @@ use Rattle.bus_line.specs.Report.{Report}
 use Rattle.bus_line.specs.Due.{places}
 use Rattle.bus_dictionary.specs.Entry.{FrameType}
 use Rattle.bus_watch.specs.Seen.{seen_of, seen_number, seen}
-use Rattle.bus_line.proofs.MoreLemmas.{filter_map-places}
+use Rattle.bus_line.proofs.DueMoreLemmas.{filter_map-places}
 
 -- the reports before keep their numbers
 before-same : (d : List FrameType) (rs : List Report) (r : Report) (i : ℕ) → i < length rs → seen_number d (rs ++ r ∷ []) i ≡ seen_number d rs i

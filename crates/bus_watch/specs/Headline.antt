@@ -10,7 +10,7 @@ use Rattle.bus_watch.specs.Seen.{SeenReport, seen}
 use Rattle.bus_watch.specs.History.{KeptFrame, history}
 use Rattle.bus_watch.specs.Ledger.{IsLedger, total}
 use Rattle.bus_watch.specs.Sink.{told}
-use Rattle.bus_watch.specs.Stands.{AnalyserState, Stands}
+use Rattle.bus_watch.specs.After.{AnalyserState, IsAfter}
 use Rattle.bus_watch.specs.Laws.{joined, Runs}
 use Rattle.bus_watch.specs.declared.usage.Usage.{Usage}
 use Rattle.bus_watch.specs.declared.new_fault.NewFault.TheVariants.{DepthRange, Origin, Memory}
@@ -50,7 +50,7 @@ kept_frames a = a.journal.history
 abbrev pub WholeRun : {C : Type 0} → (C → List ℕ → Type 0) → ℕ → AnalyserState C → Usage → Type 0
 WholeRun {C} folded cost end usage =
     (start : AnalyserState C) (pieces : List (List Bool)) (tolds : List (List SeenReport))
-    → Stands folded cost start [] → Runs folded cost start pieces tolds end
+    → IsAfter folded cost start [] → Runs folded cost start pieces tolds end
     → Headline cost start.journal.dictionary start.journal.depth start.decoder.origin
     (joined pieces) (joined tolds) (kept_frames end) usage
 

@@ -10,7 +10,7 @@ use Rattle.bus_dictionary.specs.Entry.{FrameType}
 use Rattle.bus_watch.specs.Talk.{verdicts}
 use Rattle.bus_watch.specs.Seen.{SeenReport, seen, seen_at}
 use Rattle.bus_watch.specs.Ledger.{IsLedger, total}
-use Rattle.bus_watch.specs.Stands.{AnalyserState, Stands, Sees, seen_after}
+use Rattle.bus_watch.specs.After.{AnalyserState, IsAfter, Sees, seen_after}
 
 -- one bit more adds what is seen at it, if it decides a report
 abbrev pub SeenGrows : Type 0
@@ -46,8 +46,8 @@ pub data Runs {C : Type 0} (folded : C → List ℕ → Type 0) (cost : ℕ) : A
 -- however a list of bits is cut into calls, what they tell, one behind the other, is what is seen of the whole list, and the analyser stands after it
 abbrev pub AnyCut : {C : Type 0} → (C → List ℕ → Type 0) → ℕ → Type 0
 AnyCut {C} folded cost = (start end : AnalyserState C) (pieces : List (List Bool)) (tolds : List (List SeenReport))
-    → Stands folded cost start [] → Runs folded cost start pieces tolds end
-    → Stands folded cost end (joined pieces) × (joined tolds ≡ seen_after start (joined pieces))
+    → IsAfter folded cost start [] → Runs folded cost start pieces tolds end
+    → IsAfter folded cost end (joined pieces) × (joined tolds ≡ seen_after start (joined pieces))
 
 -- the frame octets of what one bit more closes: those of the frame whose closing flag it ends, and none else
 abbrev pub closed_octets : ℕ → List Bool → Bool → ℕ

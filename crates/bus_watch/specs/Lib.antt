@@ -2,7 +2,7 @@ pub mod Talk
 pub mod Seen
 pub mod History
 pub mod Ledger
-pub mod Stands
+pub mod After
 pub mod Shown
 pub mod Sink
 pub mod Fed

@@ -4,7 +4,7 @@ ghost use Rattle.std.specs.Prelude.{◌≡◌, ◌+◌, ◌-◌, ◌<◌, ◌≤
 ghost use Rattle.bus_watch.specs.Headline.{Headline, Fails, StoppedAt, CanBeMade, UnlessStopped, all_seen, bits_in, kept_frames};
 ghost use Rattle.bus_watch.specs.Seen.{SeenReport};
 ghost use Rattle.bus_watch.specs.Sink.{told};
-ghost use Rattle.bus_watch.specs.Stands.{Stands};
+ghost use Rattle.bus_watch.specs.After.{IsAfter};
 
 use crate::analyser::Analyser;
 use crate::feed_fault::FeedFault;
@@ -51,7 +51,7 @@ pub fn run_all<C: Check, S: ReportSink>(
     ensures headline { IfOk result (λ run.
         (reports : List SeenReport) × (S.taken sink.new ≡ told (S.taken sink.old) reports)
         × Headline C.COST dictionary depth origin (bits_in pieces.now) reports (kept_frames run.analyser) run.usage) }
-    ensures stands { IfOk result (λ run. Stands C.folded C.COST run.analyser (bits_in pieces.now)) }
+    ensures is_after { IfOk result (λ run. IsAfter C.folded C.COST run.analyser (bits_in pieces.now)) }
     ensures within_limits { OnOk result (CanBeMade depth origin × (origin + length (bits_in pieces.now) ≤ 2 ^ 60)) }
     ensures none_refused { OnOk result (S.refusals sink.new ≡ S.refusals sink.old) }
     ensures fails { IfErr result (Fails depth origin (length (bits_in pieces.now)) (λ consumed.

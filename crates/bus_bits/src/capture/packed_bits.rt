@@ -57,8 +57,10 @@ impl PackedBits {
     /// bit is 1 as [`PackedFault::PadBits`]. A refusal changes nothing.
     pub fn step(&mut self, octet: u8) -> Result<ArrayVec<bool, 8>, PackedFault>
         ensures given { (n : ℕ) (xs : List ℕ) → PackedAfter n xs self.old → MatchResult result
-            (λ bits. PackedAfter n (xs ++ octet ∷ []) self.new × ((packed_body n (xs ++ octet ∷ [])).bits ≡ (packed_body n xs).bits ++ bits.items))
-            (λ fault. packed_body n (xs ++ octet ∷ []) ≡ record { bits = (packed_body n xs).bits; fault = Some (packed_fault_of fault) }) }
+            (λ bits. PackedAfter n (xs ++ octet ∷ []) self.new
+            × ((packed_body n (xs ++ octet ∷ [])).bits ≡ (packed_body n xs).bits ++ bits.items))
+            (λ fault. packed_body n (xs ++ octet ∷ [])
+            ≡ record { bits = (packed_body n xs).bits; fault = Some (packed_fault_of fault) }) }
         ensures kept { OnErr result (self.new ≡ self.old) }
     {
         if self.left == 0 {
@@ -82,7 +84,8 @@ impl PackedBits {
     pub fn take_whole(&mut self)
         requires { 8 ≤ self.old }
         ensures given { (n : ℕ) (xs : List ℕ) (octet : ℕ) → PackedAfter n xs self.old →
-            PackedAfter n (xs ++ octet ∷ []) self.new × ((packed_body n (xs ++ octet ∷ [])).bits ≡ (packed_body n xs).bits ++ bits_of 8 octet) }
+            PackedAfter n (xs ++ octet ∷ []) self.new
+            × ((packed_body n (xs ++ octet ∷ [])).bits ≡ (packed_body n xs).bits ++ bits_of 8 octet) }
         ensures left { self.new ≡ self.old - 8 }
     {
         self.left -= 8;

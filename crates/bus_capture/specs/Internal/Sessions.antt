@@ -2,13 +2,13 @@
 use Rattle.std.specs.Prelude.{◌≡◌, ℕ, ◌<◌, Bool, true, false, List, ◌++◌, length, Option, Some, None}
 use Rattle.bus_bits.specs.Capture.{Capture, CaptureFault, text_bits, text_fault}
 use Rattle.bus_bits.specs.Packed.{PackedAfter, packed_capture, head_bits, head_fault}
-use Rattle.bus_capture.specs.Captures.{capture, IsCapture}
+use Rattle.bus_capture.specs.Captures.{capture, IsSameFault}
 use Rattle.bus_capture.specs.Internal.Watching.{Watches, IsCutOff}
-use Rattle.bus_capture.specs.declared.watch.Watch.{Watch}
+use Rattle.bus_capture.specs.declared.run.CaptureRun.{CaptureRun}
 use Rattle.bus_capture.specs.declared.text.TextCapture.{TextCapture}
 use Rattle.bus_capture.specs.declared.packed.PackedCapture.{PackedCapture}
-use Rattle.bus_capture.specs.declared.session.Source.{Source}
-use Rattle.bus_capture.specs.declared.session.Source.TheVariants as source
+use Rattle.bus_capture.specs.declared.reader.Source.{Source}
+use Rattle.bus_capture.specs.declared.reader.Source.TheVariants as source
 use Rattle.bus_text.specs.declared.fault.ToolFault.{ToolFault}
 use Rattle.bus_text.specs.declared.fault.ToolFault.TheVariants.{Write}
 
@@ -38,41 +38,41 @@ IsReadBy (source.Packed p) xs = IsRead p.head.items p.body xs
 
 module _ {C : Type 0} (folded : C → List ℕ → Type 0) (cost : ℕ) where
   -- these octets of a text were taken, and their bits followed
-  pub record FollowsText (start now : Option (List ℕ)) (t : TextCapture) (w : Watch C) (xs : List ℕ) : Type 0 where
+  pub record FollowsText (start now : Option (List ℕ)) (t : TextCapture) (w : CaptureRun C) (xs : List ℕ) : Type 0 where
     pub at : t.at ≡ length xs
     pub clean : text_fault xs ≡ None
     pub bits : Watches folded cost start now w (text_bits xs)
 
   -- these octets of a text have no fault, and their bits were followed
-  pub record FollowsMarks (start now : Option (List ℕ)) (w : Watch C) (xs : List ℕ) : Type 0 where
+  pub record FollowsOctets (start now : Option (List ℕ)) (w : CaptureRun C) (xs : List ℕ) : Type 0 where
     pub clean : text_fault xs ≡ None
     pub bits : Watches folded cost start now w (text_bits xs)
 
   -- these octets of a packed capture begin with a good head, and their bits were followed
-  pub record FollowsBody (start now : Option (List ℕ)) (left : ℕ) (w : Watch C) (xs : List ℕ) : Type 0 where
+  pub record FollowsBody (start now : Option (List ℕ)) (left : ℕ) (w : CaptureRun C) (xs : List ℕ) : Type 0 where
     pub read : IsHeaded left xs
     pub bits : Watches folded cost start now w (packed_capture xs).bits
 
   -- these octets of a packed capture were taken, and their bits followed
-  pub record FollowsPacked (start now : Option (List ℕ)) (p : PackedCapture) (w : Watch C) (xs : List ℕ) : Type 0 where
+  pub record FollowsPacked (start now : Option (List ℕ)) (p : PackedCapture) (w : CaptureRun C) (xs : List ℕ) : Type 0 where
     pub read : IsRead p.head.items p.body xs
     pub bits : Watches folded cost start now w (packed_capture xs).bits
 
-  abbrev pub Follows : Option (List ℕ) → Option (List ℕ) → Source → Watch C → List ℕ → Type 0
+  abbrev pub Follows : Option (List ℕ) → Option (List ℕ) → Source → CaptureRun C → List ℕ → Type 0
   Follows start now (source.Text t) w xs = FollowsText start now t w xs
   Follows start now (source.Packed p) w xs = FollowsPacked start now p w xs
 
   -- this capture has a fault, and its bits with a place were followed
-  pub record Faulty (start now : Option (List ℕ)) (w : Watch C) (c : Capture) (fault : ToolFault) : Type 0 where
+  pub record Faulty (start now : Option (List ℕ)) (w : CaptureRun C) (c : Capture) (fault : ToolFault) : Type 0 where
     pub cause : CaptureFault
     pub found : c.fault ≡ Some cause
-    pub answered : IsCapture fault cause
+    pub answered : IsSameFault fault cause
     pub bits : Watches folded cost start now w c.bits
 
   -- why the taking of octets stopped, whose bits are these: their fault, or the writer was cut off in the lines of some of them
-  abbrev pub StopsAt : Option (List ℕ) → Option (List ℕ) → Watch C → Capture → ToolFault → Type 0
+  abbrev pub StopsAt : Option (List ℕ) → Option (List ℕ) → CaptureRun C → Capture → ToolFault → Type 0
   StopsAt start now w c (Write sent) = IsCutOff start now w c.bits sent
   StopsAt start now w c fault = Faulty start now w c fault
 
-  abbrev pub Stops : Bool → Option (List ℕ) → Option (List ℕ) → Watch C → List ℕ → ToolFault → Type 0
+  abbrev pub Stops : Bool → Option (List ℕ) → Option (List ℕ) → CaptureRun C → List ℕ → ToolFault → Type 0
   Stops text start now w xs fault = StopsAt start now w (capture text w.analyser.decoder.origin xs) fault

@@ -3,14 +3,14 @@ use Rattle.std.specs.Prelude.{◌≡◌, ℕ, zero, suc, ◌/◌, ◌%◌, ◌==
 use Rattle.bus_bits.specs.Octet.{bits_of_octets, number}
 use Rattle.bus_fcs.specs.Division.{add, remainder}
 
--- one turn of the register: 0x8408 is the divisor, reflected, without its highest power
-unfoldable pub turn_of : ℕ → ℕ
-turn_of s = cond (s % 2 == 1) (bit_xor (s / 2) 0x8408) (s / 2)
+-- one step of the register: 0x8408 is the divisor, reflected, without its highest power
+unfoldable pub crc_step_of : ℕ → ℕ
+crc_step_of s = cond (s % 2 == 1) (bit_xor (s / 2) 0x8408) (s / 2)
 
--- `n` turns
-unfoldable pub turns : ℕ → ℕ → ℕ
-turns zero s = s
-turns (suc n) s = turns n (turn_of s)
+-- `n` steps
+unfoldable pub crc_steps : ℕ → ℕ → ℕ
+crc_steps zero s = s
+crc_steps (suc n) s = crc_steps n (crc_step_of s)
 
 -- the remainder of the bits `d` followed by sixteen zeros, the first sixteen of all of these inverted
 unfoldable pub register : List Bool → List Bool

@@ -3,7 +3,7 @@ use Rattle.std.specs.Prelude.{◌≡◌, ℕ, zero, suc, ◌+◌, ◌-◌, ◌/�
 use Rattle.bus_line.specs.Internal.Run.{ones_at_end}
 use Rattle.bus_line.specs.Due.{current}
 use Rattle.bus_line.specs.Internal.LineState.{LineState}
-use Rattle.bus_line.specs.Internal.Tracks.{Stands, HoldsFor, Counts, first_of}
+use Rattle.bus_line.specs.Internal.Tracks.{HasTaken, HoldsFor, Counts, first_of}
 
 -- none of these bits stands behind six ones or more
 abbrev pub IsCalm : List Bool → List Bool → Type 0
@@ -21,7 +21,7 @@ kept octet inserted (suc k) = (if inserted / 2 ^ k % 2 == 1 then [] else (octet 
 
 -- more bits were taken, and not yet settled
 pub record LagsBy {C : Type 0} (folded : C → List ℕ → Type 0) (cost : ℕ) (d : LineState C) (b bits : List Bool) : Type 0 where
-  pub stands : Stands d (b ++ bits)
+  pub has_taken : HasTaken d (b ++ bits)
   pub first : d.first ≡ first_of d.origin (current b)
   pub piece : HoldsFor folded d b (current b)
   pub counts : Counts cost d b

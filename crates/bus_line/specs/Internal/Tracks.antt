@@ -45,20 +45,20 @@ pub record Counts {C : Type 0} (cost : ℕ) (d : LineState C) (b : List Bool) : 
   pub handled : d.spent.handled ≡ 0
 
 -- the bits b were taken
-pub record Stands {C : Type 0} (d : LineState C) (b : List Bool) : Type 0 where
+pub record HasTaken {C : Type 0} (d : LineState C) (b : List Bool) : Type 0 where
   pub place : d.place ≡ d.origin + length b
   pub window : d.window ≡ number (reverse b) % 2 ^ 32
 
 -- the bits b were taken and settled, and this mark was the last
 pub record Tracks {C : Type 0} (folded : C → List ℕ → Type 0) (cost : ℕ) (d : LineState C) (b : List Bool) (mark : Mark) : Type 0 where
-  pub stands : Stands d b
+  pub has_taken : HasTaken d b
   pub first : d.first ≡ first_of d.origin mark
   pub piece : HoldsFor folded d b mark
   pub counts : Counts cost d b
 
 -- a bit more was taken, and not yet settled
 pub record Lags {C : Type 0} (folded : C → List ℕ → Type 0) (cost : ℕ) (d : LineState C) (b : List Bool) (bit : Bool) : Type 0 where
-  pub stands : Stands d (b ++ bit ∷ [])
+  pub has_taken : HasTaken d (b ++ bit ∷ [])
   pub first : d.first ≡ first_of d.origin (current b)
   pub piece : HoldsFor folded d b (current b)
   pub counts : Counts cost d b

@@ -3,9 +3,9 @@
 use super::bits_of;
 use super::rows::WORKED;
 use super::told::text_of;
-use bus_line::LineDecoder;
 use bus_bits::Spent;
 use bus_fcs::{BitCheck, Check, OctetCheck};
+use bus_line::LineDecoder;
 use std::alloc::Global;
 use std::process::Abort;
 use std::test::Fail;

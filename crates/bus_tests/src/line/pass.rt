@@ -1,8 +1,8 @@
 //! Which bits a decoder passes.
 
 use super::bits_of;
-use bus_line::LineDecoder;
 use bus_fcs::{BitCheck, Check, OctetCheck};
+use bus_line::LineDecoder;
 use std::alloc::Global;
 use std::process::Abort;
 use std::test::Fail;

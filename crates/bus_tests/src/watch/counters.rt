@@ -1,11 +1,11 @@
 //! The counted steps of worked lists.
 
 use super::{CALL, CALLS, FLAG, REPLY, bits_of};
-use bus_watch::{Analyser, Counts};
 use bus_bits::Spent;
 use bus_dictionary::Dictionary;
 use bus_fcs::{BitCheck, Check, OctetCheck};
 use bus_line::Span;
+use bus_watch::{Analyser, Counts};
 use std::alloc::Global;
 use std::process::Abort;
 use std::test::Fail;

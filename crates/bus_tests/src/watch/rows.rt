@@ -6,10 +6,10 @@ use super::{
     CALL, CALL_TO_ALL, CALLS, CONTROL_19, FLAG, NOTICE, REPLY, STATES, TYPE_1, TYPE_254, UNTYPED,
     bits_of,
 };
-use bus_watch::{Analyser, Counts, Ending, Pending};
 use bus_dictionary::Dictionary;
 use bus_fcs::{BitCheck, Check, OctetCheck};
 use bus_line::Span;
+use bus_watch::{Analyser, Counts, Ending, Pending};
 use std::alloc::Global;
 use std::process::Abort;
 use std::test::Fail;

@@ -2,9 +2,11 @@
 
 use super::text::push_seen;
 use super::{CALL, CALLS, FLAG, NOTICE, REPLY, bits_of};
-use bus_watch::{Analyser, Counts, FeedFault, ReportSink, Run, RunFault, Seen, SinkRefused, run_all};
 use bus_dictionary::Dictionary;
 use bus_fcs::{BitCheck, Check, OctetCheck};
+use bus_watch::{
+    Analyser, Counts, FeedFault, ReportSink, Run, RunFault, Seen, SinkRefused, run_all,
+};
 use std::alloc::Global;
 use std::process::Abort;
 use std::test::Fail;

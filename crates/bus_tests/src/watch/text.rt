@@ -1,8 +1,8 @@
 //! What is seen, as a line of text.
 
-use bus_watch::{Outcome, Seen, Verdict};
 use bus_dictionary::Standing;
 use bus_line::{Cause, Piece, Span};
+use bus_watch::{Outcome, Seen, Verdict};
 use std::alloc::{AllocError, Global};
 
 fn outcome_word(outcome: Outcome) -> &'static str {

@@ -2,14 +2,14 @@
 
 use super::limits::FAR;
 use super::{CALL, CALLS, FLAG, NOTICE, REPLY, bits_of};
-use bus_watch::{
-    Analyser, FeedFault, LoggedPiece, NewFault, Outcome, ReportLog, ReportSink, RunFault, Seen,
-    SinkRefused, Usage, reports_of, run_all,
-};
 use bus_bits::Spent;
 use bus_dictionary::Dictionary;
 use bus_fcs::{BitCheck, Check, OctetCheck};
 use bus_line::Span;
+use bus_watch::{
+    Analyser, FeedFault, LoggedPiece, NewFault, Outcome, ReportLog, ReportSink, RunFault, Seen,
+    SinkRefused, Usage, reports_of, run_all,
+};
 use std::alloc::Global;
 use std::process::Abort;
 use std::test::Fail;

@@ -1,10 +1,10 @@
 -- A text that is written by and by.
 use Rattle.std.specs.Prelude.{◌≡◌, ◌++◌, ◌≤◌, ℕ, List, length, take, Option, Result, Ok, Err}
 use Rattle.std.specs.Io.KnownBytes.{Appends}
-use Rattle.bus_text.specs.declared.put.Cut.{Cut}
+use Rattle.bus_text.specs.declared.put.ShortWrite.{ShortWrite}
 
 -- the writer went from `start` to `now`: with Ok by the whole text, and else by a front of it
-abbrev pub Puts : Option (List ℕ) → Option (List ℕ) → List ℕ → Result ℕ Cut → Type 0
+abbrev pub Puts : Option (List ℕ) → Option (List ℕ) → List ℕ → Result ℕ ShortWrite → Type 0
 Puts start now text (Ok sent) = Appends start now text × (sent ≡ length text)
 Puts start now text (Err cut) = Appends start now (take cut.sent text) × (cut.sent ≤ length text)
 

@@ -8,7 +8,7 @@ ghost use Rattle.bus_text.specs.Show.{name_text};
 ghost use Rattle.bus_text.specs.Internal.Pages.{Puts};
 
 use crate::line::{Line, push_number};
-use crate::put::{Cut, put_line};
+use crate::put::{ShortWrite, put_line};
 use bus_dictionary::{BitName, NameWalk};
 use std::io::Write;
 
@@ -24,11 +24,12 @@ fn name_line(bit: &BitName) -> Line
     line
 }
 
-/// Writes a line for each name, behind `sent` octets. Answers how many octets went out in all.
-pub fn put_names<W: Write>(names: NameWalk<'_>, sent: u128, w: &mut W) -> Result<u128, Cut>
+/// Writes a line for each name, after `sent` octets. Returns how many octets went out in all.
+pub fn put_names<W: Write>(names: NameWalk<'_>, sent: u128, w: &mut W) -> Result<u128, ShortWrite>
     requires sent { sent ≤ 2000 }
     requires few { length names ≤ 2024 }
-    ensures put { (start : Option (List ℕ)) (before : List ℕ) → Appends start (W.contents w.old) before → sent ≡ length before
+    ensures put { (start : Option (List ℕ)) (before : List ℕ) → Appends start (W.contents w.old) before →
+        sent ≡ length before
         → Puts start (W.contents w.new) (before ++ flat_map name_text names.entry) result }
 {
     let mut written = sent;

@@ -8,10 +8,10 @@ ghost use Rattle.bus_text.specs.HeadText.{head_text};
 
 use crate::head::push_head;
 use crate::line::{Line, push_hex};
-use crate::put::{Cut, put_line};
+use crate::put::{ShortWrite, put_line};
 use crate::show::names::put_names;
 use bus_dictionary::{Dictionary, Standing, set_names};
-use bus_fcs::{OctetCheck, are_good};
+use bus_fcs::{OctetCheck, fcs_is_good};
 use std::io::Write;
 
 /// The first line: the octets, and whether their check is good.
@@ -23,7 +23,7 @@ fn frame_line(octets: &[u8]) -> Line
     let mut line = Line::new();
     line.push_str("frame ");
     push_hex(&mut line, octets);
-    line.push_str(if are_good::<OctetCheck>(octets) {
+    line.push_str(if fcs_is_good::<OctetCheck>(octets) {
         " good\n"
     } else {
         " bad\n"
@@ -41,24 +41,29 @@ fn head_line(standing: Standing, dictionary: &Dictionary) -> Line
     line
 }
 
-/// Writes the two lines that each frame has. Answers how many octets went out.
+/// Writes the two lines that each frame has. Returns how many octets went out.
 fn put_front<W: Write>(
     octets: &[u8],
     standing: Standing,
     dictionary: &Dictionary,
     w: &mut W,
-) -> Result<u128, Cut>
+) -> Result<u128, ShortWrite>
     requires at_least { 4 ≤ length octets.now }
     requires at_most { length octets.now ≤ 258 }
-    ensures put { Puts (W.contents w.old) (W.contents w.new) (frame_text octets.now ++ (head_text standing dictionary.now ++ codes "\n")) result }
+    ensures put { Puts (W.contents w.old) (W.contents w.new)
+        (frame_text octets.now ++ (head_text standing dictionary.now ++ codes "\n")) result }
     ensures few { IfOk result (λ sent. sent ≤ 1280) }
 {
     let sent = put_line(&frame_line(octets), 0, w)?;
     put_line(&head_line(standing, dictionary), sent, w)
 }
 
-/// Writes all lines of a frame, without the flush. Answers how many octets went out.
-fn put_lines<W: Write>(octets: &[u8], dictionary: &Dictionary, w: &mut W) -> Result<u128, Cut>
+/// Writes all lines of a frame, without the flush. Returns how many octets went out.
+fn put_lines<W: Write>(
+    octets: &[u8],
+    dictionary: &Dictionary,
+    w: &mut W,
+) -> Result<u128, ShortWrite>
     requires at_least { 4 ≤ length octets.now }
     requires at_most { length octets.now ≤ 258 }
     ensures { Puts (W.contents w.old) (W.contents w.new) (shown_text octets.now dictionary.now) result }
@@ -75,13 +80,18 @@ fn put_lines<W: Write>(octets: &[u8], dictionary: &Dictionary, w: &mut W) -> Res
 }
 
 /// Writes what a frame is, and flushes.
-pub fn put_frame<W: Write>(octets: &[u8], dictionary: &Dictionary, w: &mut W) -> Result<(), Cut>
+pub fn put_frame<W: Write>(
+    octets: &[u8],
+    dictionary: &Dictionary,
+    w: &mut W,
+) -> Result<(), ShortWrite>
     requires at_least { 4 ≤ length octets.now }
     requires at_most { length octets.now ≤ 258 }
     ensures whole { OnOk result (Appends (W.contents w.old) (W.contents w.new) (shown_text octets.now dictionary.now)) }
-    ensures part { IfErr result (λ cut. Appends (W.contents w.old) (W.contents w.new) (take cut.sent (shown_text octets.now dictionary.now))) }
+    ensures part { IfErr result
+        (λ cut. Appends (W.contents w.old) (W.contents w.new) (take cut.sent (shown_text octets.now dictionary.now))) }
     ensures short { IfErr result (λ cut. cut.sent ≤ length (shown_text octets.now dictionary.now)) }
 {
     let sent = put_lines(octets, dictionary, w)?;
-    w.flush().map_err(|_| Cut { sent })
+    w.flush().map_err(|_| ShortWrite { sent })
 }

@@ -12,7 +12,8 @@ const MOST: usize = 258;
 
 /// The octets of a frame that is typed in hexadecimal.
 pub fn typed_frame(hex: &str) -> Result<ArrayVec<u8, MOST>, ToolFault>
-    ensures octets { MatchResult result (λ octets. typed_frame hex.now ≡ Ok octets.items) (λ fault. typed_frame hex.now ≡ Err fault) }
+    ensures octets { MatchResult result (λ octets. typed_frame hex.now ≡ Ok octets.items)
+        (λ fault. typed_frame hex.now ≡ Err fault) }
     ensures at_least { IfOk result (λ octets. 4 ≤ length octets.items) }
     ensures at_most { IfOk result (λ octets. length octets.items ≤ 258) }
 {

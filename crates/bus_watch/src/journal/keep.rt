@@ -15,9 +15,15 @@ impl Journal {
         requires fits { length octets.now ≤ 258 }
         requires copied { self.old.spent.copied + length octets.now < 2 ^ 64 }
         requires handled { self.old.spent.handled + 1 < 2 ^ 64 }
-        ensures history { map kept_frame self.new.history.items ≡ keep_last self.old.history.capacity (map kept_frame self.old.history.items ++ record { span = span; octets = octets.now } ∷ []) }
+        ensures history { map kept_frame self.new.history.items
+            ≡ keep_last self.old.history.capacity
+            (map kept_frame self.old.history.items ++ record { span = span; octets = octets.now } ∷ []) }
         ensures capacity { self.new.history.capacity ≡ self.old.history.capacity }
-        ensures spent { self.new.spent ≡ record self.old.spent { copied = self.old.spent.copied + length octets.now; handled = self.old.spent.handled + 1 } }
+        ensures spent { self.new.spent
+            ≡ record self.old.spent {
+              copied = self.old.spent.copied + length octets.now;
+              handled = self.old.spent.handled + 1;
+            } }
         ensures kept { self.new ≡ record self.old { history = self.new.history; spent = self.new.spent } }
     {
         self.spent.copied += octets.len() as u64;

@@ -65,7 +65,12 @@ impl Journal {
         requires handled { self.old.spent.handled + 2 < 2 ^ 64 }
         ensures value { result ≡ option_map (verdict right) self.old.waiting }
         ensures tally { Counted result self.old.tally self.new.tally }
-        ensures kept { self.new ≡ record self.old { waiting = None; tally = self.new.tally; spent = record self.old.spent { handled = self.old.spent.handled + 2 } } }
+        ensures kept { self.new
+            ≡ record self.old {
+              waiting = None;
+              tally = self.new.tally;
+              spent = record self.old.spent { handled = self.old.spent.handled + 2 };
+            } }
     {
         self.spent.tick_handled();
         self.spent.tick_handled();

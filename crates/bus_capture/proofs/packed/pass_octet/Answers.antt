@@ -3,7 +3,7 @@ use Rattle.bus_bits.specs.Octet.{bits_of}
 use Rattle.bus_bits.specs.Capture.{Capture}
 use Rattle.bus_bits.specs.Packed.{packed_capture, head_bits}
 use Rattle.bus_capture.specs.Internal.Watching.{Watches}
-use Rattle.bus_capture.proofs.PackedCaptureLemmas.{headed-here, headed-more, read-on}
+use Rattle.bus_capture.proofs.SessionsPackedLemmas.{headed-here, headed-more, read-on}
 use Rattle.bus_capture.proofs.packed.pass_octet.Goals as goal
 
 pub returns-clause-passed : goal.returns-clause-passed

@@ -1,9 +1,9 @@
 use Rattle.std.proofs.Common.{◌≡◌, ◌≤◌, ◌^◌, Bool, List, [], ◌∷◌, ◌++◌, sym, ap, ◌∙◌, arith}
 use Rattle.bus_bits.specs.Capture.{Capture}
 use Rattle.bus_bits.specs.Packed.{packed_capture, packed_fault_of, head_bits}
-use Rattle.bus_capture.proofs.CaptureLemmas.{followed-fits, fault-in}
-use Rattle.bus_capture.proofs.TextCaptureLemmas.{same-grows}
-use Rattle.bus_capture.proofs.PackedCaptureLemmas.{faulty-stops, headed-here, headed-more, read-on, octet-taken}
+use Rattle.bus_capture.proofs.CapturesLemmas.{followed-fits, fault-in}
+use Rattle.bus_capture.proofs.SessionsTextLemmas.{same-grows}
+use Rattle.bus_capture.proofs.SessionsPackedLemmas.{faulty-stops, headed-here, headed-more, read-on, octet-taken}
 use Rattle.bus_capture.proofs.packed.take_octet.Goals as goal
 
 pub returns-in-Ok-clause-taken : goal.returns-in-Ok-clause-taken
@@ -18,7 +18,7 @@ returns-in-Ok-clause-taken g c =
     ap (λ (d : Capture). d.bits) (headed-more law left x xs f.read) ∙ given.1
     ∙ ap (λ (b : List Bool). b ++ c.in-Ok.bits.items) (sym (ap (λ (d : Capture). d.bits) (headed-here law left xs f.read)))
     ∙ ap (λ (b : List Bool). (packed_capture xs).bits ++ b) (sym c.as_slice.ensures.value) in
-    let fits = followed-fits g.C.Check.folded g.C.Check.COST start _ c.args.watch.now (packed_capture xs).bits c.requires f.bits in
+    let fits = followed-fits g.C.Check.folded g.C.Check.COST start _ c.args.run.now (packed_capture xs).bits c.requires f.bits in
     let low : c.take_bits.new.self.analyser.decoder.origin ≤ 2 ^ 60 = omega (arith, fits, c.take_bits.ensures.same.origin) in
     octet-taken g.C.Check.folded g.C.Check.COST start _ c.take_bits.new.self (xs ++ x ∷ []) c.step.new.self ((packed_capture xs).bits ++ c.as_slice.result.now) c.take_bits.result low
     (read-on left c.step.new.self x xs f.read given.0) bits (c.take_bits.ensures.taken start (packed_capture xs).bits f.bits)
@@ -34,6 +34,6 @@ returns-in-Err-clause-taken g c =
     let is = headed-more law left x xs f.read ∙ c.in-Err.ensures.given n f.read.body f.read.after in
     let bits : (packed_capture here).bits ≡ (packed_capture xs).bits =
     ap (λ (d : Capture). d.bits) is ∙ sym (ap (λ (d : Capture). d.bits) (headed-here law left xs f.read)) in
-    faulty-stops g.C.Check.folded g.C.Check.COST start _ c.args.watch.now _ c.body_fault.result
-    (fault-in g.C.Check.folded g.C.Check.COST start _ c.args.watch.now (packed_capture here) (packed_capture here) (packed_capture xs).bits (packed_fault_of c.in-Err.fault) c.body_fault.result
+    faulty-stops g.C.Check.folded g.C.Check.COST start _ c.args.run.now _ c.body_fault.result
+    (fault-in g.C.Check.folded g.C.Check.COST start _ c.args.run.now (packed_capture here) (packed_capture here) (packed_capture xs).bits (packed_fault_of c.in-Err.fault) c.body_fault.result
     c.requires c.body_fault.ensures bits (ap (λ (d : Capture). d.fault) is) (same-grows (packed_capture here)) f.bits)

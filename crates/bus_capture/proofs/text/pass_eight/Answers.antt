@@ -1,7 +1,7 @@
 use Rattle.std.proofs.Common.{◌≡◌, ℕ, Bool, true, false, ◌++◌, ◌∙◌, take, Some, refl, sym, subst, arith}
 use Rattle.std.specs.Bool.{then_some}
 use Rattle.bus_bits.specs.Capture.{text_bits}
-use Rattle.bus_capture.specs.Internal.Sessions.{FollowsMarks}
+use Rattle.bus_capture.specs.Internal.Sessions.{FollowsOctets}
 use Rattle.bus_capture.specs.Internal.Watching.{Watches}
 use Rattle.bus_capture.proofs.text.pass_eight.Goals as goal
 
@@ -24,5 +24,5 @@ returns-clause-passed g c =
     let taken = then_some-is c.pass_octet.result c.in_ok-bits.bits.taken n (sym c.then_some.ensures ∙ is) in
     let given = c.in_ok-bits.ensures.given c.in_ok-bits.bits refl xs f.clean in
     let passed = c.pass_octet.ensures.passed taken.0 start now (text_bits xs) f.bits in
-    subst (λ (m : ℕ). FollowsMarks g.C.Check.folded g.C.Check.COST start now c.pass_octet.new.self (xs ++ take m c.args.octets.now)) taken.1
+    subst (λ (m : ℕ). FollowsOctets g.C.Check.folded g.C.Check.COST start now c.pass_octet.new.self (xs ++ take m c.args.octets.now)) taken.1
     (record { clean = given.0; bits = subst (Watches g.C.Check.folded g.C.Check.COST start now c.pass_octet.new.self) (sym given.1) passed })

@@ -16,4 +16,4 @@ returns-in-Ok-None-clause-passed g c =
     λ yes start now xs f.
     let more = xs ++ c.args.octet ∷ [] in
     let given = subst (λ (o : Option Bool). (text_fault more ≡ None) × (text_bits more ≡ text_bits xs ++ option_to_list o)) c.in-Ok-None.field-0-is (c.in-Ok-None.ensures.given xs f.clean) in
-    record { clean = given.0; bits = subst (Watches g.C.Check.folded g.C.Check.COST start now c.args.watch.now) (sym (given.1 ∙ append-nil (text_bits xs))) f.bits }
+    record { clean = given.0; bits = subst (Watches g.C.Check.folded g.C.Check.COST start now c.args.run.now) (sym (given.1 ∙ append-nil (text_bits xs))) f.bits }

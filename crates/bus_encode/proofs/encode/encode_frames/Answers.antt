@@ -1,4 +1,4 @@
-use Rattle.bus_encode.proofs.SessionLemmas.{known_encodes}
+use Rattle.bus_encode.proofs.EncodeStateLemmas.{known_encodes}
 use Rattle.bus_encode.proofs.encode.encode_frames.Goals as goal
 
 pub returns-clause-encoded : goal.returns-clause-encoded

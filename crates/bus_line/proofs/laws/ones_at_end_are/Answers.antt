@@ -1,4 +1,4 @@
-use Rattle.bus_line.proofs.EndLemmas.{ones-are, calm-is}
+use Rattle.bus_line.proofs.RunEndLemmas.{ones-are, calm-is}
 use Rattle.bus_line.proofs.laws.ones_at_end_are.Goals as goal
 
 pub returns-clause-at_end : goal.returns-clause-at_end

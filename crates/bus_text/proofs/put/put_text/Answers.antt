@@ -1,5 +1,5 @@
 use Rattle.std.proofs.Common.{rules}
-use Rattle.bus_text.proofs.Bytes.{appends_rest}
+use Rattle.bus_text.proofs.KnownBytesLemmas.{appends_rest}
 use Rattle.bus_text.proofs.put.put_text.Goals as goal
 
 pub loop-sent-preserved : goal.loop-sent-preserved

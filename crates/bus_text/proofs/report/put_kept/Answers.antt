@@ -1,7 +1,7 @@
 use Rattle.std.proofs.lemmas.Result.{err_from_is_err_and}
 use Rattle.bus_watch.specs.History.{kept_frame}
 use Rattle.bus_text.specs.CheckText.{kept_text}
-use Rattle.bus_text.proofs.PageLemmas.{cuts-more}
+use Rattle.bus_text.proofs.PagesLemmas.{cuts-more}
 use Rattle.bus_text.proofs.report.put_kept.Goals as goal
 
 pub returns-in_err-make_room-clause-put : goal.returns-in_err-make_room-clause-put

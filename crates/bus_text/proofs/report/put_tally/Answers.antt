@@ -1,7 +1,7 @@
 use Rattle.std.proofs.Common.{◌≡◌, ◌++◌, ◌∙◌, [], Bool, sym, ap, if◌then◌else◌}
 use Rattle.std.proofs.lemmas.Result.{err_from_is_err_and}
 use Rattle.bus_text.specs.CheckText.{tally_line, tally_text}
-use Rattle.bus_text.proofs.PageLemmas.{cuts-more, pages-more}
+use Rattle.bus_text.proofs.PagesLemmas.{cuts-more, pages-more}
 use Rattle.bus_text.proofs.report.put_tally.Goals as goal
 
 pub returns-in_err-make_room-clause-put : goal.returns-in_err-make_room-clause-put

@@ -1,4 +1,4 @@
-use Rattle.bus_watch.proofs.BitLemmas.{bit-costs, closed-paid}
+use Rattle.bus_watch.proofs.LawsBitLemmas.{bit-costs, closed-paid}
 use Rattle.bus_watch.proofs.laws.one_bit_is_bounded.Goals as goal
 
 pub returns-clause-costs : goal.returns-clause-costs

@@ -19,5 +19,5 @@ returns-clause-fails c =
     (for-sink c.in-Err-feed.fault
     (λ consumed at full. rw (← given.0, ← given.2)
     (log-lacks (λ log. Some log.reports) c.seen_grows.ensures.reports c.reports_grow.ensures.grow _ _ c.args.room c.args.bits.now c.in-Ok-new.log c.feed.new.sink consumed c.feed.new.sink.reports start refl (full ∙ room)
-    (stopped _ _ (λ log. Some log.reports) c.in-Ok.analyser c.feed.new.self c.args.bits.now c.in-Ok-new.log c.feed.new.sink consumed c.in-Ok.ensures.stands at)))
+    (stopped _ _ (λ log. Some log.reports) c.in-Ok.analyser c.feed.new.self c.args.bits.now c.in-Ok-new.log c.feed.new.sink consumed c.in-Ok.ensures.is_after at)))
     c.in-Err-feed.ensures.refused c.in-Err-feed.ensures.full)

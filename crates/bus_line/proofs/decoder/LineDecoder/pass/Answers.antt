@@ -4,7 +4,7 @@ use Rattle.std.specs.Option.{option_map}
 use Rattle.bus_line.specs.Internal.Tracks.{Tracks}
 use Rattle.bus_line.specs.Report.{moved}
 use Rattle.bus_line.proofs.DecideLemmas.{not_behind, nothing-due, mark-kept}
-use Rattle.bus_line.proofs.MoreLemmas.{placed-more}
+use Rattle.bus_line.proofs.DueMoreLemmas.{placed-more}
 use Rattle.bus_line.proofs.decoder.LineDecoder.pass.Goals as goal
 
 pub returns-clause-passed : goal.returns-clause-passed

@@ -3,7 +3,7 @@ use Rattle.std.proofs.lemmas.Result.{err_from_is_err_and}
 use Rattle.bus_text.specs.Internal.Pages.{Puts}
 use Rattle.bus_text.specs.Show.{frame_text}
 use Rattle.bus_text.specs.HeadText.{head_text}
-use Rattle.bus_text.proofs.Bytes.{appends_nothing}
+use Rattle.bus_text.proofs.KnownBytesLemmas.{appends_nothing}
 use Rattle.bus_text.proofs.ShowLemmas.{cut_more}
 use Rattle.bus_text.proofs.show.put.put_front.Goals as goal
 

@@ -1,5 +1,5 @@
 use Rattle.bus_watch.specs.History.{KeptFrame}
-use Rattle.bus_watch.proofs.KeepLemmas.{keep-frame}
+use Rattle.bus_watch.proofs.JournalStateLemmas.{keep-frame}
 use Rattle.bus_watch.proofs.journal.Journal.keep.Goals as goal
 
 pub returns-clause-history : goal.returns-clause-history
