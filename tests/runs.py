@@ -31,8 +31,10 @@ def input_file(stdin: Union[bytes, Source]) -> Iterator[Optional[int]]:
         yield None
     elif stdin is Source.DIRECTORY:
         directory = os.open("/", os.O_RDONLY | os.O_DIRECTORY)
-        yield directory
-        os.close(directory)
+        try:
+            yield directory
+        finally:
+            os.close(directory)
     else:
         with tempfile.TemporaryFile() as file:
             file.write(stdin)
@@ -53,8 +55,10 @@ def output_file(sink: Sink) -> Iterator[Optional[int]]:
         else:
             reader, file = os.pipe()
             os.close(reader)
-        yield file
-        os.close(file)
+        try:
+            yield file
+        finally:
+            os.close(file)
 
 
 def run(program: Path, case: Case, variables: Optional[Mapping[str, str]] = None) -> Ending:
@@ -101,8 +105,8 @@ def problems_of_case(program: Path, case: Case) -> List[str]:
     """Runs a row, and says what is wrong."""
     try:
         return differences(case, run(program, case))
-    except subprocess.TimeoutExpired:
-        return [f"it had not ended after {SECONDS} seconds"]
+    except (OSError, subprocess.TimeoutExpired) as error:
+        return [str(error)]
 
 
 def read_as_many(file: int, count: int) -> bytes:

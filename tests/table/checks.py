@@ -1,5 +1,7 @@
 """Rows of `check`."""
 
+from typing import List
+
 from .captures import (
     CALL,
     CALLS,
@@ -76,7 +78,7 @@ def notices(count: int) -> bytes:
     return text(FLAG, *[NOTICE + FLAG] * count)
 
 
-def last_notices(first: int, past: int) -> "list[str]":
+def last_notices(first: int, past: int) -> List[str]:
     """The lines of those from `first` up to `past`."""
     places = [8 + 50 * number for number in range(first, past)]
     return [f"last {place} {place + 42} ff83095a3b" for place in places]
