@@ -6,5 +6,6 @@ mod packed;
 mod program;
 mod rows;
 mod shows;
+mod streams;
 mod texts;
 mod worked;

@@ -15,7 +15,7 @@ returns-in_err-put_kept-clause-put g c =
     rw (p.1, p.2) (λ start text b is_after p.
     let h = history c.args.analyser.now.journal.depth (line c.args.analyser.now b) in
     let i = c.loop-i.i in
-    let here = c.in-Some.ensures b is_after in
+    let here = c.in-Some.ensures.value b is_after in
     cuts-kept start (g.W.Write.contents c.put_kept.new.w) text h i (kept_frame c.in-Some.kept.now) c.in_err-put_kept.field-0.0.sent here
     (c.in_err-put_kept.ensures.put start (text ++ history_text (take i h)) (c.loop-i.invariant.put start text b is_after p)))
 
@@ -27,7 +27,7 @@ loop-i-preserved g c = record {
   put = λ start text b is_after p.
       let h = history c.args.analyser.now.journal.depth (line c.args.analyser.now b) in
       let i = c.loop-i.i in
-      let here = c.in-Some.ensures b is_after in
+      let here = c.in-Some.ensures.value b is_after in
       pages-kept start (g.W.Write.contents c.put_kept.new.w) c.put_kept.new.page.text.bytes c.put_kept.new.page.written text h i (kept_frame c.in-Some.kept.now) here
       (c.in_ok-put_kept.ensures.put start (text ++ history_text (take i h)) (c.loop-i.invariant.put start text b is_after p));
 }
