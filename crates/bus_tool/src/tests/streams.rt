@@ -8,7 +8,7 @@ use crate::tests::worked::{
     ANSWERED, CALL, CALL_AND_REPLY, CALL_AND_REPLY_REPORT, CALL_AND_REPLY_TEXT, CALLS, FLAG, IDLE,
     REPLY, STATES, joined, of_text, run_over,
 };
-use crate::words::{READS, Request, read_words};
+use crate::arguments::{READS, Request, read_arguments};
 use crate::{Options, ToolFault, encode_frames, run, show_frame};
 use arrayvec::ArrayVec;
 use std::cell::RefCell;
@@ -417,9 +417,9 @@ fn reads_of(request: &Request<'_>) -> u64 {
 #[test]
 fn reads_of_the_program(rt: HostRuntime) -> Result<(), Fail> {
     assert_eq!(rt; READS, 1099511627776);
-    let none = read_words(rt.alloc(), &[])?;
-    let list = read_words(rt.alloc(), &["list"])?;
-    let check = read_words(rt.alloc(), &["check"])?;
+    let none = read_arguments(rt.alloc(), &[])?;
+    let list = read_arguments(rt.alloc(), &["list"])?;
+    let check = read_arguments(rt.alloc(), &["check"])?;
     let reads = [reads_of(&none), reads_of(&list), reads_of(&check)];
     assert_eq!(rt; reads, [1099511627776; 3]);
     Ok(())
