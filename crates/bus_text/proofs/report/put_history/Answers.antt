@@ -8,7 +8,6 @@ use Rattle.bus_text.specs.Internal.Pages.{Pages}
 use Rattle.bus_text.proofs.CheckTextLemmas.{pages-kept, cuts-kept}
 use Rattle.bus_text.proofs.report.put_history.Goals as goal
 
--- src/check/report.rt:159:13
 pub returns-in_err-put_kept-clause-put : goal.returns-in_err-put_kept-clause-put
 returns-in_err-put_kept-clause-put g c =
     let p = err_from_is_err_and c.from_residual.result c.from_residual.ensures.1 in
@@ -19,7 +18,6 @@ returns-in_err-put_kept-clause-put g c =
     cuts-kept start (g.W.Write.contents c.put_kept.new.w) text h i (kept_frame c.in-Some.kept.now) c.in_err-put_kept.field-0.0.sent here
     (c.in_err-put_kept.ensures.put start (text ++ history_text (take i h)) (c.loop-i.invariant.put start text b is_after p)))
 
--- src/check/report.rt:154:5
 pub loop-i-preserved : goal.loop-i-preserved
 loop-i-preserved g c = record {
   few = omega (arith, c.loop-i.invariant.few, c.in_ok-put_kept.ensures.few);
@@ -32,7 +30,6 @@ loop-i-preserved g c = record {
       (c.in_ok-put_kept.ensures.put start (text ++ history_text (take i h)) (c.loop-i.invariant.put start text b is_after p));
 }
 
--- src/check/report.rt:143:1
 pub returns-clause-put : goal.returns-clause-put
 returns-clause-put g c = λ start text b is_after p.
     let h = history c.args.analyser.now.journal.depth (line c.args.analyser.now b) in

@@ -9,7 +9,6 @@ use Rattle.bus_text.proofs.PagesLemmas.{cuts-more, pages-more}
 use Rattle.bus_text.proofs.CheckTextLemmas.{report-parts}
 use Rattle.bus_text.proofs.report.put_report.Goals as goal
 
--- src/check/report.rt:179:9
 pub returns-in_err-make_room-clause-put : goal.returns-in_err-make_room-clause-put
 returns-in_err-make_room-clause-put g c =
     let p = err_from_is_err_and c.from_residual.result c.from_residual.ensures.1 in
@@ -18,7 +17,6 @@ returns-in_err-make_room-clause-put g c =
     cuts-more start (g.W.Write.contents c.make_room.new.w) text (check_text c.args.summary.now (tally a.journal.dictionary (line a b)) (history a.journal.depth (line a b))) c.in_err-make_room.field-0.0.sent
     (c.in_err-make_room.ensures.turned start text p))
 
--- src/check/report.rt:183:9
 pub returns-in_err-put_tallies-clause-put : goal.returns-in_err-put_tallies-clause-put
 returns-in_err-put_tallies-clause-put g c =
     let p = err_from_is_err_and c.from_residual-in_err-put_tallies.result c.from_residual-in_err-put_tallies.ensures.1 in
@@ -32,7 +30,6 @@ returns-in_err-put_tallies-clause-put g c =
     subst (λ (l : List ℕ). Cuts start (g.W.Write.contents c.put_tallies.new.w) l c.in_err-put_tallies.field-0.0.sent) (report-parts text s t h)
     (cuts-more start (g.W.Write.contents c.put_tallies.new.w) ((text ++ s) ++ t) h c.in_err-put_tallies.field-0.0.sent (c.in_err-put_tallies.ensures.put start (text ++ s) b is_after first)))
 
--- src/check/report.rt:166:1
 pub returns-clause-put : goal.returns-clause-put
 returns-clause-put g c = λ start text b is_after p.
     let a = c.args.analyser.now in

@@ -15,7 +15,6 @@ loop-station-init g c = record {
       subst (Pages start (g.W.Write.contents c.args.w.now) c.args.page.now.text.bytes c.args.page.now.written) (sym (ap (λ l. text ++ l) (tallies-none t) ∙ append-nil text)) p;
 }
 
--- src/check/report.rt:121:13
 pub returns-in_err-put_tally-clause-put : goal.returns-in_err-put_tally-clause-put
 returns-in_err-put_tally-clause-put g c =
     let p = err_from_is_err_and c.from_residual.result c.from_residual.ensures.1 in
@@ -25,7 +24,6 @@ returns-in_err-put_tally-clause-put g c =
     cuts-tally start (g.W.Write.contents c.put_tally.new.w) text t k 256 c.tally.result c.in_err-put_tally.field-0.0.sent (c.tally.ensures b is_after) (omega (arith, c.loop-station-test.true))
     (c.in_err-put_tally.ensures.put start (text ++ tallies_text t k) (c.loop-station.invariant.put start text b is_after p)))
 
--- src/check/report.rt:119:5
 pub loop-station-preserved : goal.loop-station-preserved
 loop-station-preserved g c = record {
   few = omega (arith, c.loop-station.invariant.few, c.in_ok-put_tally.ensures.few);
@@ -36,11 +34,9 @@ loop-station-preserved g c = record {
       (c.in_ok-put_tally.ensures.put start (text ++ tallies_text t k) (c.loop-station.invariant.put start text b is_after p));
 }
 
--- src/check/report.rt:108:1
 pub returns-clause-put : goal.returns-clause-put
 returns-clause-put g c = absurd (let never : ⊥ = omega (arith, c.loop-station-test.false, c.loop-station.auto.station-end) in never)
 
--- src/check/report.rt:108:1
 pub returns-in_ok-put_tally-clause-put : goal.returns-in_ok-put_tally-clause-put
 returns-in_ok-put_tally-clause-put g c = λ start text b is_after p.
     let t = tally c.args.analyser.now.journal.dictionary (line c.args.analyser.now b) in
