@@ -1,5 +1,6 @@
 //! The calls of readers and writers: in which order they come, and how many.
 
+use crate::arguments::{READS, Request, read_arguments};
 use crate::fakes::Event::{Flushed, Gave, Took};
 use crate::fakes::{Counted, Event, Log, Noted, NotedParts, Pieces, Repeated};
 use crate::tests::listings::{calls, calls_text, spaced};
@@ -8,7 +9,6 @@ use crate::tests::worked::{
     ANSWERED, CALL, CALL_AND_REPLY, CALL_AND_REPLY_REPORT, CALL_AND_REPLY_TEXT, CALLS, FLAG, IDLE,
     REPLY, STATES, joined, of_text, run_over,
 };
-use crate::arguments::{READS, Request, read_arguments};
 use crate::{Options, ToolFault, encode_frames, run, show_frame};
 use arrayvec::ArrayVec;
 use std::cell::RefCell;
