@@ -96,7 +96,7 @@ fn kind_arg<'a>(alloc: Global) -> Arg<'a> {
 fn list_command<'a>(alloc: Global) -> Result<Command<'a>, Error> {
     Ok(
         Command::new(alloc, "list")
-            .about("Lists what is_after on the line, from a capture on standard input")
+            .about("Lists what stands on the line, from a capture on standard input")
             .arg(dictionary_arg(alloc))?
             .arg(origin_arg(alloc))?
             .arg(bits_arg(alloc))?
@@ -110,7 +110,7 @@ fn list_command<'a>(alloc: Global) -> Result<Command<'a>, Error> {
 fn check_command<'a>(alloc: Global) -> Result<Command<'a>, Error> {
     Ok(
         Command::new(alloc, "check")
-            .about("Counts what is_after on the line, and says by its status whether all was well")
+            .about("Counts what stands on the line, and says by its status whether all was well")
             .arg(dictionary_arg(alloc))?
             .arg(origin_arg(alloc))?
             .arg(bits_arg(alloc))?
