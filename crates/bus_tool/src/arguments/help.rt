@@ -24,7 +24,7 @@ Example:
 /// Of `list`.
 pub const LIST: &str = "\
 Reads a capture from standard input and writes a line as soon as it is decided: the first
-place, the place past the last bit, and what is_after there. Places count bits.
+place, the place past the last bit, and what stands there. Places count bits.
   frame HEX                 a frame with a good check, its octets and check; with a dictionary
                             also what its head says: `station A type T NAME`, `unknown` or
                             `length` in place of the name, `control C`, or `untyped`
