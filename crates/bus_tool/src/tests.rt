@@ -1,4 +1,4 @@
-//! Worked rows of listings, lines and the program.
+//! Worked examples of listings, lines and the program.
 
 mod encodes;
 mod listings;
