@@ -3,7 +3,7 @@ use Rattle.std.proofs.Common.{◌≡◌, ℕ, ◌+◌, ◌-◌, ◌^◌, ◌<◌
 use Rattle.std.proofs.lemmas.List.{append-nil, take-append-le}
 use Rattle.std.proofs.Math.Seq.{take-append-add}
 use Rattle.std.proofs.lemmas.Bool.Decides.{nat_tests}
-use Rattle.bus_bits.specs.Capture.{Capture, place_limit, GrowsTo, placed}
+use Rattle.bus_bits.specs.Capture.{Capture, place_limit, GrowsTo, capped}
 
 -- ---- cases
 
@@ -51,29 +51,29 @@ grows-trans c d e g h = (
 -- ---- places
 
 pub placed_cut : (origin : ℕ) (c : Capture) → 2 ^ 60 - origin < length c.bits
-    → placed origin c ≡ record { bits = take (2 ^ 60 - origin) c.bits; fault = Some place_limit }
+    → capped origin c ≡ record { bits = take (2 ^ 60 - origin) c.bits; fault = Some place_limit }
 placed_cut origin c h =
     ap (λ (t : Bool). if t then record { bits = take (2 ^ 60 - origin) c.bits; fault = Some place_limit } else c)
     (lt_true (2 ^ 60 - origin) (length c.bits) h)
 
-pub placed_all : (origin : ℕ) (c : Capture) → length c.bits ≤ 2 ^ 60 - origin → placed origin c ≡ c
-placed_all origin c h =
+pub capped_all : (origin : ℕ) (c : Capture) → length c.bits ≤ 2 ^ 60 - origin → capped origin c ≡ c
+capped_all origin c h =
     ap (λ (t : Bool). if t then record { bits = take (2 ^ 60 - origin) c.bits; fault = Some place_limit } else c)
     (le_false (2 ^ 60 - origin) (length c.bits) h)
 
-pub placed-grows : (origin : ℕ) (c d : Capture) → GrowsTo c d → GrowsTo (placed origin c) (placed origin d)
-placed-grows origin c d g =
+pub capped-grows : (origin : ℕ) (c d : Capture) → GrowsTo c d → GrowsTo (capped origin c) (capped origin d)
+capped-grows origin c d g =
     let m = 2 ^ 60 - origin in
     let l : length d.bits ≡ length c.bits + length g.0 = ap length g.1 ∙ length-append c.bits g.0 in
     elim (le_or_lt (length c.bits) m) [
       | inr over ↦ let t : take m d.bits ≡ take m c.bits = ap (take m) g.1 ∙ take-append-le m c.bits g.0 (omega arith) in
-          same_grows (placed origin c) (placed origin d) (
+          same_grows (capped origin c) (capped origin d) (
           placed_cut origin d (omega arith) ∙ ap (λ (x : List Bool). record { bits = x; fault = Some place_limit }) t
           ∙ sym (placed_cut origin c over))
       | inl fit ↦ elim (le_or_lt (length d.bits) m) [
-        | inl all ↦ grows_along (placed origin c) c (placed origin d) d (placed_all origin c fit) (placed_all origin d all) g
-        | inr cut ↦ grows_along (placed origin c) c (placed origin d) (record { bits = take m d.bits; fault = Some place_limit })
-            (placed_all origin c fit) (placed_cut origin d cut) (
+        | inl all ↦ grows_along (capped origin c) c (capped origin d) d (capped_all origin c fit) (capped_all origin d all) g
+        | inr cut ↦ grows_along (capped origin c) c (capped origin d) (record { bits = take m d.bits; fault = Some place_limit })
+            (capped_all origin c fit) (placed_cut origin d cut) (
               take (m - length c.bits) g.0,
               ap (take m) g.1 ∙ take_past m c.bits g.0 fit,
               λ f h. let e : length d.bits ≡ length c.bits = ap (λ (x : Capture). length x.bits) (g.2 f h) in absurd (omega arith),

@@ -1,7 +1,8 @@
 pub mod CaptureLemmas
-pub mod EightLemmas
-pub mod NineLemmas
+pub mod EightBitsLemmas
+pub mod EightBitsOfNineLemmas
 pub mod OctetLemmas
 pub mod ReverseLemmas
 pub mod PackedLemmas
-pub mod TextLemmas
+pub mod TextBitsLemmas
+mod Examples

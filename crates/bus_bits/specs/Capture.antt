@@ -22,8 +22,8 @@ abbrev pub GrowsTo : Capture → Capture → Type 0
 GrowsTo c d = (rest : List Bool) × (d.bits ≡ c.bits ++ rest) × ((f : CaptureFault) → c.fault ≡ Some f → d ≡ c)
 
 -- `0` or `1`
-abbrev pub is_mark : ℕ → Bool
-is_mark x = (x == 48) || (x == 49)
+abbrev pub is_bit : ℕ → Bool
+is_bit x = (x == 48) || (x == 49)
 
 -- space, tab, CR or LF
 abbrev pub is_space : ℕ → Bool
@@ -31,10 +31,10 @@ is_space x = (x == 32) || ((x == 9) || ((x == 13) || (x == 10)))
 
 -- the octets before the first that is no bit and no space
 abbrev pub text_front : List ℕ → List ℕ
-text_front xs = take_while (λ x. is_mark x || is_space x) xs
+text_front xs = take_while (λ x. is_bit x || is_space x) xs
 
 abbrev pub text_bits : List ℕ → List Bool
-text_bits xs = map (λ x. x == 49) (filter is_mark (text_front xs))
+text_bits xs = map (λ x. x == 49) (filter is_bit (text_front xs))
 
 abbrev pub text_fault : List ℕ → Option CaptureFault
 text_fault xs = if nat_lt (length (text_front xs)) (length xs) then Some (bad_mark (length (text_front xs))) else None
@@ -48,13 +48,13 @@ abbrev pub text_capture : List ℕ → Capture
 text_capture xs = record { bits = text_bits xs; fault = text_fault xs }
 
 -- no bit has the place 2^60, where the first has the place of the origin
-abbrev pub placed : ℕ → Capture → Capture
-placed origin c = if nat_lt (2 ^ 60 - origin) (length c.bits) then record { bits = take (2 ^ 60 - origin) c.bits; fault = Some place_limit } else c
+abbrev pub capped : ℕ → Capture → Capture
+capped origin c = if nat_lt (2 ^ 60 - origin) (length c.bits) then record { bits = take (2 ^ 60 - origin) c.bits; fault = Some place_limit } else c
 
 -- however a text is cut, its bits are the same
 abbrev pub TextGrows : Type 0
 TextGrows = (xs ys : List ℕ) → GrowsTo (text_capture xs) (text_capture (xs ++ ys))
 
 -- and so with places
-abbrev pub PlacedGrows : Type 0
-PlacedGrows = (origin : ℕ) (c d : Capture) → GrowsTo c d → GrowsTo (placed origin c) (placed origin d)
+abbrev pub CappedGrows : Type 0
+CappedGrows = (origin : ℕ) (c d : Capture) → GrowsTo c d → GrowsTo (capped origin c) (capped origin d)

@@ -1,6 +1,6 @@
 //! Laws over the definitions.
 
-ghost use Rattle.bus_bits.specs.Capture.{TextGrows, PlacedGrows};
+ghost use Rattle.bus_bits.specs.Capture.{TextGrows, CappedGrows};
 ghost use Rattle.bus_bits.specs.Packed.{PackedIsHeaded, PackedIsShort, PackedGrows, PackedEnds};
 ghost use Rattle.bus_bits.specs.Octet.{NumberOfBits, BitsOfNumber, BitsOfOctets, OctetsOfBits};
 
@@ -29,5 +29,5 @@ pub fn captures_grow()
     ensures text { TextGrows }
     ensures packed { PackedGrows }
     ensures ended { PackedEnds }
-    ensures placed { PlacedGrows }
+    ensures capped { CappedGrows }
 {}

@@ -6,8 +6,6 @@ pub mod laws;
 mod octet;
 mod span;
 mod spent;
-#[cfg(test)]
-mod tests;
 
 pub use capture::{BadMark, EightBits, HeadFault, PackedBits, PackedFault, PackedHead, TextBits};
 pub use octet::{bits_octet, octet_bits, reversed};

@@ -84,7 +84,8 @@ impl Spent {
 
     /// All steps together.
     pub fn total(&self) -> u128
-        ensures { result ≡ self.now.shifted + self.now.assembled + self.now.folded + self.now.stored + self.now.copied + self.now.handled }
+        ensures { result ≡ self.now.shifted + self.now.assembled + self.now.folded + self.now.stored
+            + self.now.copied + self.now.handled }
     {
         u128::from(self.shifted)
             + u128::from(self.assembled)

@@ -1,7 +1,7 @@
-pub mod Adding
-pub mod Dividing
-pub mod Ends
-pub mod Checking
-pub mod Registering
-pub mod Tabled
+pub mod DivisionSumLemmas
+pub mod DivisionLemmas
+pub mod FrameCheckLemmas
+pub mod LawsLemmas
+pub mod RegisterLemmas
+pub mod TableLemmas
 mod Examples

@@ -1,4 +1,4 @@
 pub mod Division
 pub mod FrameCheck
-pub mod Register
 pub mod Laws
+pub mod Internal

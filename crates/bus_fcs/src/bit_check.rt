@@ -1,10 +1,10 @@
 //! The frame check bit by bit.
 
 ghost use Rattle.std.specs.Prelude.{◌≡◌, ◌+◌, ◌-◌, ◌≤◌, ◌<◌, ◌^◌, ◌↔◌, ℕ, List, [], ◌∷◌, ◌++◌, IsTrue, length};
-ghost use Rattle.bus_fcs.specs.Register.{IsStateAfter};
+ghost use Rattle.bus_fcs.specs.Internal.Register.{IsStateAfter};
 
 use crate::check::Check;
-use crate::register::{START, is_residue, trailer_of, turn};
+use crate::register::{INITIAL, crc_step, is_residue, trailer_of};
 use bus_bits::Spent;
 
 /// Works bit by bit: eight units of work an octet.
@@ -22,15 +22,15 @@ impl Check for BitCheck {
 
     const COST: u64 = 8;
 
-    #[tactic(auto, using(crate::proofs::Registering::state_none))]
+    #[tactic(auto, using(crate::proofs::RegisterLemmas::state_none))]
     fn fresh() -> Self {
-        BitCheck { state: START }
+        BitCheck { state: INITIAL }
     }
 
     fn fold(&mut self, octet: u8, spent: &mut Spent) {
         self.state ^= octet as u16;
         for _turn in 0..8u64 {
-            self.state = turn(self.state);
+            self.state = crc_step(self.state);
             spent.tick_folded();
         }
     }

@@ -1,10 +1,10 @@
 //! The frame check by a table.
 
 ghost use Rattle.std.specs.Prelude.{◌≡◌, ◌+◌, ◌-◌, ◌≤◌, ◌<◌, ◌^◌, ◌↔◌, ℕ, List, [], ◌∷◌, ◌++◌, IsTrue, length};
-ghost use Rattle.bus_fcs.specs.Register.{IsStateAfter};
+ghost use Rattle.bus_fcs.specs.Internal.Register.{IsStateAfter};
 
 use crate::check::Check;
-use crate::register::{START, is_residue, trailer_of, turned_octet};
+use crate::register::{INITIAL, crc_octet, is_residue, trailer_of};
 use bus_bits::Spent;
 
 /// Works by a table of 256 values: one unit of work an octet.
@@ -22,14 +22,14 @@ impl Check for OctetCheck {
 
     const COST: u64 = 1;
 
-    #[tactic(auto, using(crate::proofs::Registering::state_none))]
+    #[tactic(auto, using(crate::proofs::RegisterLemmas::state_none))]
     fn fresh() -> Self {
-        OctetCheck { state: START }
+        OctetCheck { state: INITIAL }
     }
 
     fn fold(&mut self, octet: u8, spent: &mut Spent) {
         let place = (self.state ^ octet as u16) & 0xff;
-        self.state = (self.state >> 8) ^ turned_octet(place);
+        self.state = (self.state >> 8) ^ crc_octet(place);
         spent.tick_folded();
     }
 

@@ -9,7 +9,7 @@ use bus_bits::Spent;
 
 /// Whether these octets, the last two of them the frame checking sequence, are undamaged as far as
 /// the check can tell. The work is not counted.
-pub fn are_good<C: Check>(octets: &[u8]) -> bool
+pub fn fcs_is_good<C: Check>(octets: &[u8]) -> bool
     requires { 4 ≤ length octets.now }
     ensures { result ≡ is_good (bits_of_octets octets.now) }
 {

@@ -8,22 +8,23 @@ use Rattle.std.proofs.lemmas.Bool.{false_from_ne_true, eqb-true}
 use Rattle.std.proofs.lemmas.Bool.Decides.{nat_tests}
 use Rattle.bus_bits.specs.Octet.{octets, bits_of_octets}
 use Rattle.bus_fcs.specs.FrameCheck.{Good, is_good}
-use Rattle.bus_line.specs.Run.{ones_after, ones_at_end, data_so_far}
+use Rattle.bus_line.specs.Internal.Run.{ones_after, ones_at_end, data_so_far}
 use Rattle.bus_line.specs.Mark.{flag, IsFlag}
 use Rattle.bus_line.specs.Report.{Frame, Damaged, Overlong, class_of_data}
 use Rattle.bus_line.specs.declared.cause.Cause.TheVariants.{Unstuffed, Short, Unaligned, Fcs}
 use Rattle.bus_line.specs.Due.{FlagAt, current, class_of, class_of_read}
-use Rattle.bus_line.specs.LineState.{LineState}
-use Rattle.bus_line.specs.After.{settled_data, Holds, HoldsFor, Tracks}
+use Rattle.bus_line.specs.Internal.LineState.{LineState}
+use Rattle.bus_line.specs.Internal.Tracks.{settled_data, Holds, HoldsFor, Tracks}
 use Rattle.bus_line.proofs.RunLemmas.{IsLow, low-from, low-unspelled, ones_after-more}
 use Rattle.bus_line.proofs.MarkLemmas.{stands-bit}
-use Rattle.bus_line.proofs.LastLemmas.{last_mark-flag}
-use Rattle.bus_line.proofs.MoreLemmas.{range-append}
-use Rattle.bus_line.proofs.RawLemmas.{current-low, low-ones}
-use Rattle.bus_line.proofs.StreamLemmas.{flag-fits}
-use Rattle.bus_line.proofs.WindowLemmas.{window-five}
-use Rattle.bus_line.proofs.HoldLemmas.{length-octets}
-use Rattle.bus_line.proofs.WholeLemmas.{take_next, data-checked, same_test}
+use Rattle.bus_line.proofs.MarkLastLemmas.{last_mark-flag}
+use Rattle.bus_line.proofs.DueMoreLemmas.{range-append}
+use Rattle.bus_line.proofs.SpellingRawLemmas.{current-low, low-ones}
+use Rattle.bus_line.proofs.DueStreamLemmas.{flag-fits}
+use Rattle.bus_line.proofs.StepWindowLemmas.{window-five}
+use Rattle.bus_line.proofs.TracksHoldLemmas.{length-octets}
+use Rattle.bus_fcs.proofs.FrameCheckLemmas.{same_test}
+use Rattle.bus_line.proofs.WholeLemmas.{take_next, data-checked}
 
 ones_after-append : (k : ℕ) (x y : List Bool) → ones_after k (x ++ y) ≡ ones_after (ones_after k x) y
 ones_after-append k [] y = refl
@@ -60,7 +61,7 @@ is_closed folded cost d b bit p h last some =
     let m = length b - 7 in
     let same : slice_range (b ++ bit ∷ []) (p + 8) m ≡ slice_range b (p + 8) m = range-append b (bit ∷ []) (p + 8) m (omega arith) in
     let n : length (b ++ bit ∷ []) - 8 ≡ m = omega (arith, length_push b bit) in
-    let w = window-five d.window b bit (omega arith) h.stands.window in
+    let w = window-five d.window b bit (omega arith) h.has_taken.window in
     let e : ones_at_end (take m b) ≡ ones_at_end (slice_range (b ++ bit ∷ []) (p + 8) m) =
     piece-ones b p m (last_mark-flag b (length b) p last).flag (omega arith) ∙ ap ones_at_end (sym same) in
     let held : Holds folded d (settled_data (b ++ bit ∷ []) p) = subst (HoldsFor folded d (b ++ bit ∷ [])) last h.piece in

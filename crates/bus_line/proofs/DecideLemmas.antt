@@ -4,18 +4,18 @@ use Rattle.std.specs.List.{slice_range}
 use Rattle.std.specs.Prelude.{reverse, ◌^◌, ◌↔◌, ◌⊎◌, IsTrue}
 use Rattle.std.proofs.lemmas.List.{length_push}
 use Rattle.bus_bits.specs.Octet.{number}
-use Rattle.bus_line.specs.Run.{ones_after, ones_at_end}
+use Rattle.bus_line.specs.Internal.Run.{ones_after, ones_at_end}
 use Rattle.bus_line.specs.Report.{Abort, Idle}
 use Rattle.bus_line.specs.Due.{Mark, FlagAt, AbortAt, current, class_of, piece_report, due_at}
-use Rattle.bus_line.specs.Look.{IsFound}
+use Rattle.bus_line.specs.Internal.Look.{IsFound}
 use Rattle.bus_line.specs.declared.decoder.look.Found.{Found}
 use Rattle.bus_line.specs.declared.decoder.look.Found.TheVariants.{Closing, Seven, Fifteen, Other}
-use Rattle.bus_line.specs.LineState.{LineState}
-use Rattle.bus_line.specs.After.{settled_data, Stands, Tracks, event_shown}
+use Rattle.bus_line.specs.Internal.LineState.{LineState}
+use Rattle.bus_line.specs.Internal.Tracks.{settled_data, HasTaken, Tracks, event_shown}
 use Rattle.bus_line.specs.declared.decoder.event.Event.{Event}
 use Rattle.bus_line.specs.declared.decoder.event.Event.TheVariants as event
-use Rattle.bus_line.proofs.Stream.{Decides}
-use Rattle.bus_line.proofs.StreamLemmas.{at-flag, at-abort, at-idle, at-other}
+use Rattle.bus_line.proofs.StepStreamLemmas.{Decides}
+use Rattle.bus_line.proofs.DueStreamLemmas.{at-flag, at-abort, at-idle, at-other}
 use Rattle.bus_line.proofs.StepLemmas.{data-start}
 
 decides-nothing : (longest : ℕ) (b : List Bool) (bit : Bool) → ones_at_end b ≢ 6 → ones_at_end b ≢ 14 → Decides longest b bit None (current b)
@@ -58,8 +58,8 @@ pub tracks-flag : {C : Type 0} (folded : C → List ℕ → Type 0) (cost : ℕ)
 tracks-flag folded cost d c mark p h e =
     let none : settled_data c p ≡ [] = data-start c p (omega (arith, e)) in
     record {
-      stands = record { place = h.stands.place; window = h.stands.window };
-      first = ap Some (h.stands.place ∙ ap (λ n. d.origin + n) (sym e));
+      has_taken = record { place = h.has_taken.place; window = h.has_taken.window };
+      first = ap Some (h.has_taken.place ∙ ap (λ n. d.origin + n) (sym e));
       piece = rw none (record { count = refl; last = refl; held = λ m. absurd (omega (arith, m)); checked = λ m. absurd (omega (arith, m)) });
       counts = record { settled = h.counts.settled; filled = h.counts.filled; paid = h.counts.paid; copied = h.counts.copied; handled = h.counts.handled };
     }
@@ -68,7 +68,7 @@ tracks-flag folded cost d c mark p h e =
 pub tracks-abort : {C : Type 0} (folded : C → List ℕ → Type 0) (cost : ℕ) (d : LineState C) (c : List Bool) (mark : Mark) (a : ℕ) → Tracks folded cost d c mark
     → Tracks folded cost (record d { first = None }) c (AbortAt a)
 tracks-abort folded cost d c mark a h = record {
-  stands = record { place = h.stands.place; window = h.stands.window };
+  has_taken = record { place = h.has_taken.place; window = h.has_taken.window };
   first = refl;
   piece = tt;
   counts = record { settled = h.counts.settled; filled = h.counts.filled; paid = h.counts.paid; copied = h.counts.copied; handled = h.counts.handled };
@@ -101,10 +101,10 @@ pub ones_within : (b : List Bool) → ones_at_end b ≤ length b
 ones_within b = omega (arith, run-within 0 b)
 
 -- what was found in the window, by the bits
-pub found-here : {C : Type 0} (e d : LineState C) → e ≡ d → (b : List Bool) (bit : Bool) → Stands d (b ++ bit ∷ []) → (f : Found)
+pub found-here : {C : Type 0} (e d : LineState C) → e ≡ d → (b : List Bool) (bit : Bool) → HasTaken d (b ++ bit ∷ []) → (f : Found)
     → ((b : List Bool) (bit : Bool) → e.window ≡ number (reverse (b ++ bit ∷ [])) % 2 ^ 32 → e.place - 1 - e.origin ≡ length b → IsFound bit (ones_at_end b) (e.place - 1 - e.origin) f)
     → IsFound bit (ones_at_end b) (length b) f
 found-here e d same b bit s f found =
-    let here : Stands e (b ++ bit ∷ []) = subst (λ x. Stands x (b ++ bit ∷ [])) (sym same) s in
+    let here : HasTaken e (b ++ bit ∷ []) = subst (λ x. HasTaken x (b ++ bit ∷ [])) (sym same) s in
     let n : e.place - 1 - e.origin ≡ length b = omega (arith, here.place, length_push b bit) in
     subst (λ k. IsFound bit (ones_at_end b) k f) n (found b bit here.window n)

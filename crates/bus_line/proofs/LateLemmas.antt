@@ -11,9 +11,9 @@ use Rattle.std.proofs.lemmas.Bool.Decides.{nat_tests}
 use Rattle.std.proofs.Math.Nat.{pow-suc}
 use Rattle.bus_bits.specs.Octet.{number, bits_of}
 use Rattle.bus_bits.proofs.OctetLemmas.{number-lt, number-append, number-bits, bits-number, length-bits}
-use Rattle.bus_line.specs.Run.{ones_at_end}
-use Rattle.bus_line.specs.Late.{IsCalm, late_data}
-use Rattle.bus_line.proofs.WindowLemmas.{lead-is, lead-least}
+use Rattle.bus_line.specs.Internal.Run.{ones_at_end}
+use Rattle.bus_line.specs.Internal.Late.{IsCalm, late_data}
+use Rattle.bus_line.proofs.StepWindowLemmas.{lead-is, lead-least}
 
 -- ---- where ones stand together
 

@@ -8,16 +8,16 @@ use Rattle.std.proofs.lemmas.Bool.Decides.{nat_tests}
 use Rattle.bus_bits.specs.Octet.{bits_of, number}
 use Rattle.bus_bits.proofs.OctetLemmas.{number-append, number-lt, length-bits}
 use Rattle.bus_bits.specs.declared.spent.Spent.{Spent}
-use Rattle.bus_line.specs.Run.{ones_at_end}
+use Rattle.bus_line.specs.Internal.Run.{ones_at_end}
 use Rattle.bus_line.specs.Due.{FlagAt, current}
 use Rattle.bus_line.specs.Ledger.{is_settled, is_inserted, assembled, stored}
-use Rattle.bus_line.specs.LineState.{LineState}
-use Rattle.bus_line.specs.LineView.{settles_from}
-use Rattle.bus_line.specs.After.{first_of, settled_data, Holds, Counts, Tracks}
-use Rattle.bus_line.specs.Late.{IsCalm, LagsBy, late_data, octets_more}
-use Rattle.bus_line.proofs.SettledLemmas.{assembled-more, stored-more}
-use Rattle.bus_line.proofs.RankLemmas.{stores-now}
-use Rattle.bus_line.proofs.WindowLemmas.{window-inserted, window-not_inserted, window-bit}
+use Rattle.bus_line.specs.Internal.LineState.{LineState}
+use Rattle.bus_line.specs.Internal.LineView.{settles_from}
+use Rattle.bus_line.specs.Internal.Tracks.{first_of, settled_data, Holds, Counts, Tracks}
+use Rattle.bus_line.specs.Internal.Late.{IsCalm, LagsBy, late_data, octets_more}
+use Rattle.bus_line.proofs.LedgerSettledLemmas.{assembled-more, stored-more}
+use Rattle.bus_line.proofs.LedgerRankLemmas.{stores-now}
+use Rattle.bus_line.proofs.StepWindowLemmas.{window-inserted, window-not_inserted, window-bit}
 use Rattle.bus_line.proofs.StepLemmas.{first-Some, none-holds, none-settled, early-settled, inserted-settled, data-settled, stored-false, data-early, data-inserted, data-more, counts-kept, holds-of, holds-for, stands-same}
 use Rattle.bus_line.proofs.DecideLemmas.{mark-kept}
 
@@ -178,7 +178,7 @@ settles-calm longest p w m b (x ∷ bits) h k l e s =
 tracks-none : {C : Type 0} (folded : C → List ℕ → Type 0) (cost : ℕ) (d : LineState C) (b bits : List Bool) → IsCalm b bits → LagsBy folded cost d b bits → d.first ≡ None → Tracks folded cost d (b ++ bits) (current b)
 tracks-none folded cost d b bits k h e =
     let none : first_of d.origin (current b) ≡ None = sym h.first ∙ e in
-    record { stands = h.stands; first = h.first; piece = none-holds folded d (b ++ bits) d.origin (current b) none; counts = counts-none cost d.origin d b bits k none h.counts }
+    record { has_taken = h.has_taken; first = h.first; piece = none-holds folded d (b ++ bits) d.origin (current b) none; counts = counts-none cost d.origin d b bits k none h.counts }
 
 -- data are appended, or none
 tracks-settled : {C : Type 0} (folded : C → List ℕ → Type 0) (cost p : ℕ) (d e : LineState C) (b bits gained : List Bool) → LagsBy folded cost d b bits → current b ≡ FlagAt p → Settles d.longest p b (b ++ bits) gained
@@ -191,7 +191,7 @@ tracks-settled folded cost p d e b bits gained h f s l o q w first holds t =
     let more : length (settled_data (b ++ bits) p) ≡ length (settled_data b p) + length gained = ap length s.more ∙ length-append (settled_data b p) gained in
     let full : stored d.longest (b ++ bits) ≡ stored d.longest b + octets_more d.longest (length (settled_data b p)) (length gained) = omega (arith, s.filled, more) in
     record {
-      stands = stands-same d e (b ++ bits) q o w h.stands;
+      has_taken = stands-same d e (b ++ bits) q o w h.has_taken;
       first = first ∙ (h.first ∙ ap (λ k. first_of k (current b)) (sym o));
       piece = holds-for folded e (b ++ bits) p (current b) f (subst (Holds folded e) (sym s.more) holds);
       counts = rw l (record {
@@ -218,7 +218,7 @@ tracks-early : {C : Type 0} (folded : C → List ℕ → Type 0) (cost first : �
     → Tracks folded cost d (b ++ bits) (current b)
 tracks-early folded cost first d b bits n k h e l =
     let s = first-Some d.origin first (current b) (sym h.first ∙ e) in
-    let z = settles-calm d.longest s.0 d.window 0 b bits s.1 k (omega arith) h.stands.window (omega (arith, h.stands.place, length-append b bits, s.2)) in
+    let z = settles-calm d.longest s.0 d.window 0 b bits s.1 k (omega arith) h.has_taken.window (omega (arith, h.has_taken.place, length-append b bits, s.2)) in
     let none : settled_data b s.0 ++ [] ≡ settled_data b s.0 = append-nil (settled_data b s.0) in
     tracks-settled folded cost s.0 d d b bits [] h s.1 z refl refl refl refl refl
     (subst (Holds folded d) (sym none) (holds-of folded d b s.0 (current b) s.1 h.piece)) (spent-none d.spent cost d.longest (length (settled_data b s.0)))
@@ -239,8 +239,8 @@ pub octet-settled : {C : Type 0} (folded : C → List ℕ → Type 0) (cost firs
 octet-settled folded cost first octet n d e b bits m k h f l value holds spent kept =
     let s = first-Some d.origin first (current b) (sym h.first ∙ f) in
     let held = holds-of folded d b s.0 (current b) s.1 h.piece in
-    let shows : min (d.place - (first + 9) + 1) 8 ≡ min (length b + length bits - (s.0 + 16)) (length bits) = omega (arith, h.stands.place, length-append b bits, s.2) in
-    let z = settles-calm d.longest s.0 d.window (min (d.place - (first + 9) + 1) 8) b bits s.1 k (omega arith) h.stands.window shows in
+    let shows : min (d.place - (first + 9) + 1) 8 ≡ min (length b + length bits - (s.0 + 16)) (length bits) = omega (arith, h.has_taken.place, length-append b bits, s.2) in
+    let z = settles-calm d.longest s.0 d.window (min (d.place - (first + 9) + 1) 8) b bits s.1 k (omega arith) h.has_taken.window shows in
     let size : length (bits_of n octet) ≡ n = length-bits n octet in
     tracks-settled folded cost s.0 d e b bits (bits_of n octet) h s.1 (subst (Settles d.longest s.0 b (b ++ bits)) (sym value) z)
     (ap (λ (x : LineState _). x.longest) kept) (ap (λ (x : LineState _). x.origin) kept) (ap (λ (x : LineState _). x.place) kept) (ap (λ (x : LineState _). x.window) kept) (ap (λ (x : LineState _). x.first) kept)

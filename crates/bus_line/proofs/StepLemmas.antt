@@ -2,7 +2,8 @@
 use Rattle.std.proofs.Common.{◌≡◌, ◌≢◌, ℕ, ◌+◌, ◌-◌, ◌*◌, ◌/◌, ◌%◌, ◌^◌, ◌≤◌, ◌<◌, ◌==◌, Bool, true, false, not, ◌&&◌, cond, List, [], ◌∷◌, ◌++◌, length, take, drop, get_or, Option, Some, None, refl, sym, ap, ◌∙◌, subst, arith, if◌then◌else◌, inl, inr}
 use Rattle.std.specs.List.{slice_range}
 use Rattle.std.proofs.Math.Nat.{mul-add, mul-zero, mul-one}
-use Rattle.bus_line.proofs.WholeLemmas.{octets-short, same_bool}
+use Rattle.bus_fcs.proofs.FrameCheckLemmas.{same_bool}
+use Rattle.bus_line.proofs.WholeLemmas.{octets-short}
 use Rattle.std.specs.Prelude.{nat_le, nat_lt}
 use Rattle.std.proofs.lemmas.List.{length_push, length-take}
 use Rattle.std.proofs.lemmas.Bool.{false_from_ne_true, cases_lt, leb-true, le-leb, ltb-true, lt-ltb, and_from}
@@ -12,20 +13,21 @@ use mir.Val.{bool_byte}
 use Rattle.std.specs.Prelude.{bit_or}
 use Rattle.std.proofs.lemmas.Nat.{or_shifted}
 use Rattle.bus_bits.specs.declared.spent.Spent.{Spent}
-use Rattle.bus_line.specs.Run.{ones_at_end, data_so_far}
+use Rattle.bus_line.specs.Internal.Run.{ones_at_end, data_so_far}
 use Rattle.bus_line.specs.Due.{Mark, NoMark, FlagAt, AbortAt, current}
 use Rattle.bus_line.specs.Ledger.{is_settled, belongs, is_inserted, assembled, is_stored, stored}
-use Rattle.bus_line.specs.LineState.{LineState}
-use Rattle.bus_line.specs.LineView.{settles_from}
-use Rattle.bus_line.specs.After.{first_of, settled_data, shifted_in, Holds, HoldsFor, Counts, Stands, Tracks, After, Lags, Fills}
+use Rattle.bus_line.specs.Internal.LineState.{LineState}
+use Rattle.bus_line.specs.Internal.LineView.{settles_from}
+use Rattle.bus_line.specs.Internal.Tracks.{first_of, settled_data, shifted_in, Holds, HoldsFor, Counts, HasTaken, Tracks, Lags, Fills}
+use Rattle.bus_line.specs.After.{After}
 use Rattle.bus_line.proofs.RunLemmas.{data_after-more}
-use Rattle.bus_line.proofs.LastLemmas.{last_mark-flag}
-use Rattle.bus_line.proofs.StreamLemmas.{range-more, flag-fits}
-use Rattle.bus_line.proofs.SettledLemmas.{assembled-more, stored-more}
-use Rattle.bus_line.proofs.RawLemmas.{settles-now, inserted-raw, current-low}
-use Rattle.bus_line.proofs.RankLemmas.{stores-now}
-use Rattle.bus_line.proofs.WindowLemmas.{window-more, window-inserted, window-not_inserted, window-bit}
-use Rattle.bus_line.proofs.HoldLemmas.{octets-unfilled, octets-filled, length-octets, shifted_in-append}
+use Rattle.bus_line.proofs.MarkLastLemmas.{last_mark-flag}
+use Rattle.bus_line.proofs.DueStreamLemmas.{range-more, flag-fits}
+use Rattle.bus_line.proofs.LedgerSettledLemmas.{assembled-more, stored-more}
+use Rattle.bus_line.proofs.SpellingRawLemmas.{settles-now, inserted-raw, current-low}
+use Rattle.bus_line.proofs.LedgerRankLemmas.{stores-now}
+use Rattle.bus_line.proofs.StepWindowLemmas.{window-more, window-inserted, window-not_inserted, window-bit}
+use Rattle.bus_line.proofs.TracksHoldLemmas.{octets-unfilled, octets-filled, length-octets, shifted_in-append}
 
 -- the flag of a place behind it
 pub first-Some : (origin first : ℕ) (mark : Mark) → first_of origin mark ≡ Some first → (p : ℕ) × (mark ≡ FlagAt p) × (origin + (p + 8) ≡ first)
@@ -131,15 +133,15 @@ holds-for folded d b p mark h k = subst (HoldsFor folded d b) (sym h) k
 tracks-none : {C : Type 0} (folded : C → List ℕ → Type 0) (cost : ℕ) (d : LineState C) (b : List Bool) (bit : Bool) → Lags folded cost d b bit → d.first ≡ None → Tracks folded cost d (b ++ bit ∷ []) (current b)
 tracks-none folded cost d b bit h e =
     let none : first_of d.origin (current b) ≡ None = sym h.first ∙ e in
-    record { stands = h.stands; first = h.first; piece = none-holds folded d (b ++ bit ∷ []) d.origin (current b) none; counts = counts-kept cost d b bit (none-settled b bit d.origin none) h.counts }
+    record { has_taken = h.has_taken; first = h.first; piece = none-holds folded d (b ++ bit ∷ []) d.origin (current b) none; counts = counts-kept cost d b bit (none-settled b bit d.origin none) h.counts }
 
 -- or the bit comes too early behind the flag
 tracks-early : {C : Type 0} (folded : C → List ℕ → Type 0) (cost first : ℕ) (d : LineState C) (b : List Bool) (bit : Bool) → Lags folded cost d b bit → d.first ≡ Some first → d.place < first + 9 → Tracks folded cost d (b ++ bit ∷ []) (current b)
 tracks-early folded cost first d b bit h e l =
     let s = first-Some d.origin first (current b) (sym h.first ∙ e) in
-    let early : length b < s.0 + 16 = omega (arith, h.stands.place, length_push b bit, s.2) in
+    let early : length b < s.0 + 16 = omega (arith, h.has_taken.place, length_push b bit, s.2) in
     record {
-      stands = h.stands;
+      has_taken = h.has_taken;
       first = h.first;
       piece = holds-for folded d (b ++ bit ∷ []) s.0 (current b) s.1 (subst (Holds folded d) (sym (data-early b bit s.0 early)) (holds-of folded d b s.0 (current b) s.1 h.piece));
       counts = counts-kept cost d b bit (early-settled b bit s.0 s.1 early) h.counts;
@@ -159,10 +161,10 @@ settles-open at place (Some f) s p l = (f, refl, omega (arith, s, l))
 pub tracks-inserted : {C : Type 0} (folded : C → List ℕ → Type 0) (cost first : ℕ) (d : LineState C) (b : List Bool) (bit : Bool) → Lags folded cost d b bit → d.first ≡ Some first → first + 9 ≤ d.place → d.window / 256 % 64 ≡ 62 → Tracks folded cost d (b ++ bit ∷ []) (current b)
 tracks-inserted folded cost first d b bit h e l w =
     let s = first-Some d.origin first (current b) (sym h.first ∙ e) in
-    let late : s.0 + 16 ≤ length b = omega (arith, h.stands.place, length_push b bit, s.2) in
-    let t : is_inserted b (length b - 8) ≡ true = window-inserted d.window b bit (omega arith) h.stands.window w in
+    let late : s.0 + 16 ≤ length b = omega (arith, h.has_taken.place, length_push b bit, s.2) in
+    let t : is_inserted b (length b - 8) ≡ true = window-inserted d.window b bit (omega arith) h.has_taken.window w in
     record {
-      stands = h.stands;
+      has_taken = h.has_taken;
       first = h.first;
       piece = holds-for folded d (b ++ bit ∷ []) s.0 (current b) s.1 (subst (Holds folded d) (sym (data-inserted b bit s.0 s.1 late t)) (holds-of folded d b s.0 (current b) s.1 h.piece));
       counts = counts-kept cost d b bit (inserted-settled b bit t) h.counts;
@@ -193,15 +195,15 @@ pub is_data : {C : Type 0} (folded : C → List ℕ → Type 0) (cost first : �
 is_data folded cost first d b bit h e l w =
     let s = first-Some d.origin first (current b) (sym h.first ∙ e) in
     let p = s.0 in
-    let late : p + 16 ≤ length b = omega (arith, h.stands.place, length_push b bit, s.2) in
-    let f : is_inserted b (length b - 8) ≡ false = false_from_ne_true _ (λ t. w (window-not_inserted d.window b bit (omega arith) h.stands.window t)) in
+    let late : p + 16 ≤ length b = omega (arith, h.has_taken.place, length_push b bit, s.2) in
+    let f : is_inserted b (length b - 8) ≡ false = false_from_ne_true _ (λ t. w (window-not_inserted d.window b bit (omega arith) h.has_taken.window t)) in
     let t = data-settled b bit p s.1 late f in
     record {
       flag = p;
       last = s.1;
       late = late;
       holds = holds-of folded d b p (current b) s.1 h.piece;
-      shows = window-bit d.window b bit (omega arith) h.stands.window;
+      shows = window-bit d.window b bit (omega arith) h.has_taken.window;
       more = data-more b bit p s.1 late f;
       settled = t;
       assembled_more = assembled-more b bit ∙ rw t refl;
@@ -226,10 +228,10 @@ counts-data folded cost d b bit h i e long a n stores s f c k =
 
 -- the bit is data: what the decoder holds then, and its ledger, are those of the list
 pub tracks-data : {C : Type 0} (folded : C → List ℕ → Type 0) (cost : ℕ) (d : LineState C) (b : List Bool) (bit : Bool) → Lags folded cost d b bit → (i : IsData folded cost d b bit) → (e : LineState C)
-    → Stands e (b ++ bit ∷ []) → e.first ≡ d.first → e.origin ≡ d.origin
+    → HasTaken e (b ++ bit ∷ []) → e.first ≡ d.first → e.origin ≡ d.origin
     → Holds folded e (settled_data b i.flag ++ get_or b (length b - 8) false ∷ []) → Counts cost e (b ++ bit ∷ []) → Tracks folded cost e (b ++ bit ∷ []) (current b)
-tracks-data folded cost d b bit h i e stands first origin holds counts = record {
-  stands = stands;
+tracks-data folded cost d b bit h i e has_taken first origin holds counts = record {
+  has_taken = has_taken;
   first = first ∙ (h.first ∙ ap (λ o. first_of o (current b)) (sym origin));
   piece = holds-for folded e (b ++ bit ∷ []) i.flag (current b) i.last (subst (Holds folded e) (sym i.more) holds);
   counts = counts;
@@ -266,9 +268,9 @@ pub lags-shift : {C : Type 0} (folded : C → List ℕ → Type 0) (cost : ℕ) 
 lags-shift folded cost d b bit place window shifted h p w =
     let n = length_push b bit in
     record {
-      stands = record {
-        place = p ∙ omega (arith, h.stands.place, n);
-        window = w ∙ window-more d.window b bit h.stands.window;
+      has_taken = record {
+        place = p ∙ omega (arith, h.has_taken.place, n);
+        window = w ∙ window-more d.window b bit h.has_taken.window;
       };
       first = h.first;
       piece = moved-holds folded d b place window (record d.spent { shifted = shifted }) (current b) h.piece;
@@ -297,7 +299,7 @@ none_value = refl
 -- before the first bit
 pub fresh-tracks : {C : Type 0} (folded : C → List ℕ → Type 0) (cost shifted : ℕ) (d : LineState C) → d.place ≡ d.origin → d.window ≡ 0 → d.first ≡ None → d.spent ≡ record { shifted = shifted; assembled = 0; folded = 0; stored = 0; copied = 0; handled = 0 } → Tracks folded cost d [] NoMark
 fresh-tracks folded cost shifted d p w f s = record {
-  stands = record { place = omega (arith, p); window = w ∙ sym (ap (λ n. n % 2 ^ 32) none_value) };
+  has_taken = record { place = omega (arith, p); window = w ∙ sym (ap (λ n. n % 2 ^ 32) none_value) };
   first = f;
   piece = tt;
   counts = record {
@@ -357,7 +359,7 @@ stores-full n limit h =
     let t : ((n + 1) % 8 == 0) ≡ true = grind (arith, nat_tests) in
     rw t refl
 
-pub stands-same : {C : Type 0} (d e : LineState C) (b : List Bool) → e.place ≡ d.place → e.origin ≡ d.origin → e.window ≡ d.window → Stands d b → Stands e b
+pub stands-same : {C : Type 0} (d e : LineState C) (b : List Bool) → e.place ≡ d.place → e.origin ≡ d.origin → e.window ≡ d.window → HasTaken d b → HasTaken e b
 stands-same d e b p o w h = record { place = p ∙ (h.place ∙ ap (λ n. n + length b) (sym o)); window = w ∙ h.window }
 
 -- a bit of data that fills no octet
@@ -370,7 +372,7 @@ tracks-unfilled folded cost d b bit octet spent h i o s f =
     let bits = settled_data b i.flag in
     let n = length_push bits x in
     tracks-data folded cost d b bit h i e
-    (stands-same d e (b ++ bit ∷ []) refl refl refl h.stands) refl refl
+    (stands-same d e (b ++ bit ∷ []) refl refl refl h.has_taken) refl refl
     (holds-unfilled folded d e bits x i.holds (λ k. f (omega (arith, i.holds.count, n, k))) refl (o ∙ shifted-bit d.octet (d.window / 256 % 2) bits x i.holds.last i.shows) refl refl refl)
     (counts-data folded cost d b bit h i e refl (ap (λ (t : Spent). t.assembled) s) 0
     (sym (stores-none (length bits) (8 * (d.longest + 2)) (λ k. f (omega (arith, i.holds.count, k)))))
@@ -405,12 +407,12 @@ one-stored false s cost =
 -- a bit of data that fills an octet
 pub tracks-filled : {C : Type 0} (folded : C → List ℕ → Type 0) (cost : ℕ) (d m e : LineState C) (b : List Bool) (bit : Bool) → Lags folded cost d b bit → (i : IsData folded cost d b bit)
     → m.spent ≡ record d.spent { assembled = d.spent.assembled + 1 } → m.gathered ≡ d.gathered + 1 → m.longest ≡ d.longest → (d.gathered + 1) % 8 ≡ 0
-    → Stands m (b ++ bit ∷ []) → m.first ≡ d.first → m.origin ≡ d.origin
+    → HasTaken m (b ++ bit ∷ []) → m.first ≡ d.first → m.origin ≡ d.origin
     → e ≡ record m { octets = e.octets; check = e.check; spent = e.spent }
     → Holds folded e (settled_data b i.flag ++ get_or b (length b - 8) false ∷ [])
     → e.spent ≡ (if nat_le m.gathered (8 * (m.longest + 2)) then record m.spent { stored = m.spent.stored + 1; folded = m.spent.folded + cost } else m.spent)
     → Tracks folded cost e (b ++ bit ∷ []) (current b)
-tracks-filled folded cost d m e b bit h i ms mg ml full stands first origin kept holds spent =
+tracks-filled folded cost d m e b bit h i ms mg ml full has_taken first origin kept holds spent =
     let bits = settled_data b i.flag in
     let t = nat_le m.gathered (8 * (m.longest + 2)) in
     let n = one_more t in
@@ -418,7 +420,7 @@ tracks-filled folded cost d m e b bit h i ms mg ml full stands first origin kept
     let same : t ≡ nat_le (length bits + 1) (8 * (d.longest + 2)) =
     ap (λ k. nat_le k (8 * (m.longest + 2))) (mg ∙ ap (λ k. k + 1) i.holds.count) ∙ ap (λ k. nat_le (length bits + 1) (8 * (k + 2))) ml in
     tracks-data folded cost d b bit h i e
-    (stands-same m e (b ++ bit ∷ []) (ap (λ (x : LineState _). x.place) kept) (ap (λ (x : LineState _). x.origin) kept) (ap (λ (x : LineState _). x.window) kept) stands)
+    (stands-same m e (b ++ bit ∷ []) (ap (λ (x : LineState _). x.place) kept) (ap (λ (x : LineState _). x.origin) kept) (ap (λ (x : LineState _). x.window) kept) has_taken)
     (ap (λ (x : LineState _). x.first) kept ∙ first) (ap (λ (x : LineState _). x.origin) kept ∙ origin) holds
     (counts-data folded cost d b bit h i e (ap (λ (x : LineState _). x.longest) kept ∙ ml) (ap (λ (x : Spent). x.assembled) s ∙ ap (λ (x : Spent). x.assembled) ms) n
     (ap one_more same ∙ sym (stores-full (length bits) (8 * (d.longest + 2)) (omega (arith, i.holds.count, full))))

@@ -1,102 +1,15 @@
 -- The lists of bits after which a decoder may stand.
-use Rattle.std.specs.Prelude.{◌≡◌, ℕ, ◌+◌, ◌-◌, ◌*◌, ◌/◌, ◌%◌, ◌≤◌, ◌^◌, Bool, List, [], ◌∷◌, ◌++◌, length, take, reverse, slice_range, Option, Some, None, if◌then◌else◌}
-use Rattle.bus_bits.specs.Octet.{number, octets}
-use Rattle.bus_line.specs.Run.{data_so_far}
-use Rattle.bus_line.specs.Report.{Report, Kind}
-use Rattle.bus_line.specs.Due.{Mark, NoMark, FlagAt, AbortAt, current, placed}
-use Rattle.bus_line.specs.Ledger.{assembled, stored}
-use Rattle.bus_line.specs.LineState.{LineState}
+use Rattle.std.specs.Prelude.{◌≡◌, ℕ, ◌+◌, ◌-◌, ◌≤◌, Bool, List, [], ◌∷◌, ◌++◌, length, Option, Some, None}
+use Rattle.bus_bits.specs.Octet.{octets}
+use Rattle.bus_line.specs.Due.{current, placed}
+use Rattle.bus_line.specs.Internal.LineState.{LineState}
 use Rattle.bus_line.specs.declared.piece.Piece.{Piece}
 use Rattle.bus_line.specs.declared.piece.Piece.TheVariants as piece
-use Rattle.bus_line.specs.declared.decoder.event.Event.{Event}
-use Rattle.bus_line.specs.declared.decoder.event.Event.TheVariants as event
-
--- where the piece of the last mark begins, if that is a flag
-abbrev pub first_of : ℕ → Mark → Option ℕ
-first_of origin NoMark = None
-first_of origin (FlagAt p) = Some (origin + (p + 8))
-first_of origin (AbortAt a) = None
-
--- the data of the raw bits behind the flag at p, up to eight bits before the end
-abbrev pub settled_data : List Bool → ℕ → List Bool
-settled_data b p = data_so_far (slice_range b (p + 8) (length b - 8))
-
--- an octet that bits are shifted into, each highest
-abbrev pub shifted_in : ℕ → List Bool → ℕ
-shifted_in o [] = o
-shifted_in o (x ∷ d) = shifted_in (o / 2 + (if x then 128 else 0)) d
-
--- the decoder holds the first octets of this data, and their check
-pub record Holds {C : Type 0} (folded : C → List ℕ → Type 0) (d : LineState C) (bits : List Bool) : Type 0 where
-  pub count : d.gathered ≡ length bits
-  pub last : d.octet ≡ shifted_in 0 bits
-  pub held : 8 ≤ length bits → d.octets ≡ take (d.longest + 2) (octets bits)
-  pub checked : 8 ≤ length bits → folded d.check (take (d.longest + 2) (octets bits))
-
-abbrev pub HoldsFor : {C : Type 0} → (C → List ℕ → Type 0) → LineState C → List Bool → Mark → Type 0
-HoldsFor folded d b NoMark = Unit {0}
-HoldsFor folded d b (FlagAt p) = Holds folded d (settled_data b p)
-HoldsFor folded d b (AbortAt a) = Unit {0}
-
--- the counters are those of the ledger
-pub record Counts {C : Type 0} (cost : ℕ) (d : LineState C) (b : List Bool) : Type 0 where
-  pub settled : d.spent.assembled ≡ assembled b
-  pub filled : d.spent.stored ≡ stored d.longest b
-  pub paid : d.spent.folded ≡ cost * stored d.longest b
-  pub copied : d.spent.copied ≡ 0
-  pub handled : d.spent.handled ≡ 0
-
--- the bits b were taken
-pub record Stands {C : Type 0} (d : LineState C) (b : List Bool) : Type 0 where
-  pub place : d.place ≡ d.origin + length b
-  pub window : d.window ≡ number (reverse b) % 2 ^ 32
-
--- the bits b were taken and settled, and this mark was the last
-pub record Tracks {C : Type 0} (folded : C → List ℕ → Type 0) (cost : ℕ) (d : LineState C) (b : List Bool) (mark : Mark) : Type 0 where
-  pub stands : Stands d b
-  pub first : d.first ≡ first_of d.origin mark
-  pub piece : HoldsFor folded d b mark
-  pub counts : Counts cost d b
+use Rattle.bus_line.specs.Internal.Tracks.{Tracks}
 
 -- a decoder may stand after the bits b
 abbrev pub After : {C : Type 0} → (C → List ℕ → Type 0) → ℕ → LineState C → List Bool → Type 0
 After folded cost d b = Tracks folded cost d b (current b)
-
--- a bit more was taken, and not yet settled
-pub record Lags {C : Type 0} (folded : C → List ℕ → Type 0) (cost : ℕ) (d : LineState C) (b : List Bool) (bit : Bool) : Type 0 where
-  pub stands : Stands d (b ++ bit ∷ [])
-  pub first : d.first ≡ first_of d.origin (current b)
-  pub piece : HoldsFor folded d b (current b)
-  pub counts : Counts cost d b
-
--- the bit x filled an octet, which is not yet stored
-pub record Fills {C : Type 0} (folded : C → List ℕ → Type 0) (d : LineState C) (bits : List Bool) (x : Bool) : Type 0 where
-  pub count : d.gathered ≡ length (bits ++ x ∷ [])
-  pub full : length (bits ++ x ∷ []) % 8 ≡ 0
-  pub last : d.octet ≡ shifted_in 0 (bits ++ x ∷ [])
-  pub held : 8 ≤ length bits → d.octets ≡ take (d.longest + 2) (octets bits)
-  pub checked : 8 ≤ length bits → folded d.check (take (d.longest + 2) (octets bits))
-
--- what a piece reports
-abbrev pub report_of : Piece → Report
-report_of (piece.Frame span octets) = record { kind = Kind.Frame octets.now; first = span.first; past = span.past }
-report_of (piece.Damaged span cause) = record { kind = Kind.Damaged cause; first = span.first; past = span.past }
-report_of (piece.Overlong span) = record { kind = Kind.Overlong; first = span.first; past = span.past }
-report_of (piece.Abort span) = record { kind = Kind.Abort; first = span.first; past = span.past }
-report_of (piece.Idle span) = record { kind = Kind.Idle; first = span.first; past = span.past }
-
-abbrev pub shown : Option Piece → Option Report
-shown None = None
-shown (Some p) = Some (report_of p)
-
--- what an event reports, where the buffer is still as it was
-abbrev pub event_shown : {C : Type 0} → LineState C → Event → Option Report
-event_shown d event.Nothing = None
-event_shown d (event.Frame span) = Some (record { kind = Kind.Frame d.octets; first = span.first; past = span.past })
-event_shown d (event.Damaged span cause) = Some (record { kind = Kind.Damaged cause; first = span.first; past = span.past })
-event_shown d (event.Overlong span) = Some (record { kind = Kind.Overlong; first = span.first; past = span.past })
-event_shown d (event.Abort span) = Some (record { kind = Kind.Abort; first = span.first; past = span.past })
-event_shown d (event.Idle span) = Some (record { kind = Kind.Idle; first = span.first; past = span.past })
 
 -- a frame that is answered stands in the buffer
 abbrev pub ShowsHeld : {C : Type 0} → LineState C → Option Piece → Type 0

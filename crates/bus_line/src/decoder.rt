@@ -14,7 +14,7 @@ ghost use Rattle.std.specs.Borrow.{sem};
 ghost use Rattle.std.specs.Io.BufRead.{Rests};
 ghost use Rattle.bus_line.specs.Due.{due_at, begun, placed};
 ghost use Rattle.bus_line.specs.Ledger.{stored_from, IsLedger};
-ghost use Rattle.bus_line.specs.Run.{ones_at_end};
+ghost use Rattle.bus_line.specs.Internal.Run.{ones_at_end};
 ghost use Rattle.bus_bits.specs.Octet.{bits_of};
 
 use crate::line_fault::LineFault;
@@ -47,9 +47,9 @@ pub struct LineDecoder<C: Check> {
     place: u64,
     /// The last bits, the newest lowest.
     window: u32,
-    /// The place behind the last mark, where that is a flag.
+    /// The first place of the open piece, where the last mark is a flag.
     first: Option<u64>,
-    /// The first place behind which a bit of the open piece is settled: nine past its beginning, and
+    /// The first place from which a bit of the open piece is settled: nine past its beginning, and
     /// where no piece is open a place that is never reached.
     settles_at: u64,
     /// How many data bits of the piece from there are settled.
@@ -60,16 +60,16 @@ pub struct LineDecoder<C: Check> {
     buffer: ArrayVec<u8, 258>,
     /// The check of these octets.
     check: C,
-    /// The steps so far but the bits taken, which are the places behind the origin.
+    /// The steps so far without the bits taken, which are the places since the origin.
     spent: Spent,
 }
 
 impl<C: Check> Model for LineDecoder<C> {
-    ghost use Rattle.bus_line.specs.LineState.{LineState};
+    ghost use Rattle.bus_line.specs.Internal.LineState.{LineState};
 
     ghost Value = { LineState C };
 
-    ghost use Rattle.bus_line.specs.LineView.{line_state, IsWithin};
+    ghost use Rattle.bus_line.specs.Internal.LineView.{line_state, IsWithin};
 
     ghost view = { line_state };
 
@@ -78,10 +78,12 @@ impl<C: Check> Model for LineDecoder<C> {
 
 impl<C: Check> LineDecoder<C> {
     ghost use Rattle.bus_line.specs.contracts.decoder.LineDecoder.{the_row};
-    ghost use Rattle.bus_line.specs.LineState.{LineState};
-    ghost use Rattle.bus_line.specs.After.{After, Tracks, Lags, Pushed, Passed, FitsFrame, shown, event_shown};
+    ghost use Rattle.bus_line.specs.Internal.LineState.{LineState};
+    ghost use Rattle.bus_line.specs.After.{After, Pushed, Passed, FitsFrame};
+    ghost use Rattle.bus_line.specs.Internal.Tracks.{Tracks, Lags, event_shown};
+    ghost use Rattle.bus_line.specs.Shown.{shown};
     ghost use Rattle.bus_line.specs.Report.{moved};
-    ghost use Rattle.bus_line.specs.Late.{IsCalm};
+    ghost use Rattle.bus_line.specs.Internal.Late.{IsCalm};
 
     /// A decoder that took no bit, whose first bit has the place `origin`.
     ///
@@ -114,7 +116,7 @@ impl<C: Check> LineDecoder<C> {
         })
     }
 
-    /// Takes a bit, and answers the report that it decides, if there is one. A frame's octets are
+    /// Takes a bit, and returns the report that it decides, if there is one. A frame's octets are
     /// borrowed from the decoder.
     ///
     /// Refuses as [`PlaceLimit`], with nothing changed, where the bit's place would be 2^60.
@@ -123,7 +125,8 @@ impl<C: Check> LineDecoder<C> {
         ensures answer { IfOk result (λ o. (b : List Bool) → After C.folded C.COST self.old b →
             shown o ≡ option_map (moved self.old.origin) (due_at self.old.longest (b ++ bit ∷ []) (length b))) }
         ensures more { IfOk result (λ o. (b : List Bool) → After C.folded C.COST self.old b →
-            placed self.old.origin self.old.longest (b ++ bit ∷ []) ≡ placed self.old.origin self.old.longest b ++ option_to_list (shown o)) }
+            placed self.old.origin self.old.longest (b ++ bit ∷ [])
+            ≡ placed self.old.origin self.old.longest b ++ option_to_list (shown o)) }
         ensures fits { IfOk result (λ o. FitsFrame self.old.longest o) }
         ensures* rests { sem 𝓛 (Rests (the_row C.row C.Check) self.entry (λ new.
             IfOk result (λ o. Pushed C.folded C.COST self.old bit o new) × OnErr result (new ≡ self.old))) }
@@ -146,14 +149,16 @@ impl<C: Check> LineDecoder<C> {
     }
 
     /// Takes a bit at once, if no value of it can decide a report. Behind six 1 bits or fourteen, and
-    /// no more, and where the bit's place would be 2^60, it answers false and changes nothing: `push`
+    /// no more, and where the bit's place would be 2^60, it returns false and changes nothing: `push`
     /// takes that bit.
     #[inline(always)]
     pub fn pass(&mut self, bit: bool) -> bool
-        ensures passes { (b : List Bool) → After C.folded C.COST self.old b → (IsTrue result ↔ ((self.old.place < 2 ^ 60) × (ones_at_end b ≢ 6) × (ones_at_end b ≢ 14))) }
+        ensures passes { (b : List Bool) → After C.folded C.COST self.old b →
+            (IsTrue result ↔ ((self.old.place < 2 ^ 60) × (ones_at_end b ≢ 6) × (ones_at_end b ≢ 14))) }
         ensures limit { IsTrue result → self.old.place < 2 ^ 60 }
         ensures passed { IsTrue result → Pushed C.folded C.COST self.old bit None self.new }
-        ensures nothing { IsTrue result → (b : List Bool) → After C.folded C.COST self.old b → due_at self.old.longest (b ++ bit ∷ []) (length b) ≡ None }
+        ensures nothing { IsTrue result → (b : List Bool) → After C.folded C.COST self.old b →
+            due_at self.old.longest (b ++ bit ∷ []) (length b) ≡ None }
         ensures more { IsTrue result → (b : List Bool) → After C.folded C.COST self.old b →
             placed self.old.origin self.old.longest (b ++ bit ∷ []) ≡ placed self.old.origin self.old.longest b }
         ensures kept { result ≡ false → self.new ≡ self.old }
@@ -166,12 +171,13 @@ impl<C: Check> LineDecoder<C> {
         true
     }
 
-    /// Takes the eight bits of an octet at once, the lowest first, if none of them stands behind six
+    /// Takes the eight bits of an octet at once, the lowest first, if none of them follows six
     /// 1 bits or more and so none can decide a report. Else, and where a bit's place would be 2^60, it
-    /// answers false and changes nothing: `pass` and `push` take these bits.
+    /// returns false and changes nothing: `pass` and `push` take these bits.
     #[inline(always)]
     pub fn pass_octet(&mut self, octet: u8) -> bool
-        ensures passes { (b : List Bool) → After C.folded C.COST self.old b → (IsTrue result ↔ ((self.old.place + 8 ≤ 2 ^ 60) × IsCalm b (bits_of 8 octet))) }
+        ensures passes { (b : List Bool) → After C.folded C.COST self.old b →
+            (IsTrue result ↔ ((self.old.place + 8 ≤ 2 ^ 60) × IsCalm b (bits_of 8 octet))) }
         ensures limit { IsTrue result → self.old.place + 8 ≤ 2 ^ 60 }
         ensures place { IsTrue result → self.new.place ≡ self.old.place + 8 }
         ensures passed { IsTrue result → Passed C.folded C.COST self.old (bits_of 8 octet) self.new }
@@ -200,7 +206,8 @@ impl<C: Check> LineDecoder<C> {
     /// frame and two.
     pub fn buffered(&self) -> usize
         ensures bound { result ≤ self.now.longest + 2 }
-        ensures stored { (b : List Bool) (first : ℕ) → After C.folded C.COST self.now b → begun b ≡ Some first → result ≡ stored_from self.now.longest b first }
+        ensures stored { (b : List Bool) (first : ℕ) → After C.folded C.COST self.now b → begun b ≡ Some first →
+            result ≡ stored_from self.now.longest b first }
     {
         if self.gathered < 8 {
             0
@@ -221,7 +228,8 @@ impl<C: Check> LineDecoder<C> {
     /// The steps so far.
     pub fn spent(&self) -> Spent
         ensures value { result ≡ self.now.spent }
-        ensures ledger { (b : List Bool) → After C.folded C.COST self.now b → IsLedger C.COST self.now.longest b result }
+        ensures ledger { (b : List Bool) → After C.folded C.COST self.now b →
+            IsLedger C.COST self.now.longest b result }
     {
         Spent {
             shifted: self.place - self.origin,
@@ -231,7 +239,8 @@ impl<C: Check> LineDecoder<C> {
 
     /// The first place of a piece that has begun and is not ended yet.
     pub fn begun(&self) -> Option<u64>
-        ensures after { (b : List Bool) → After C.folded C.COST self.now b → result ≡ option_map (λ first. self.now.origin + first) (begun b) }
+        ensures after { (b : List Bool) → After C.folded C.COST self.now b →
+            result ≡ option_map (λ first. self.now.origin + first) (begun b) }
     {
         match self.first {
             Some(first) if first < self.place => Some(first),

@@ -1,4 +1,4 @@
-//! What stands on a synchronous HDLC line (ISO/IEC 13239): flags, frames, damaged pieces, aborts
+//! Framing of a synchronous HDLC line (ISO/IEC 13239): flags, frames, damaged pieces, aborts
 //! and idles, each with its bit places.
 #![tactic(auto)]
 
@@ -13,8 +13,6 @@ mod owned_piece;
 mod piece;
 mod place_limit;
 mod sink_refused;
-#[cfg(test)]
-mod tests;
 mod whole;
 
 pub use bit_sink::BitSink;

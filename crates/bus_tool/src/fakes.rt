@@ -1,6 +1,7 @@
 //! Readers and writers that fail where a test wants it.
 
 use arrayvec::ArrayVec;
+use std::cell::RefCell;
 use std::io;
 use std::io::{ErrorKind, Read, Write};
 
@@ -43,37 +44,23 @@ impl Read for Halves<'_> {
     }
 }
 
-/// Gives one octet `1` each call, and never ends.
+/// Gives the same octets `left` times, once each call, and then the end.
 #[derive(Drop)]
-pub struct Endless {
+pub struct Repeated<'a> {
+    pub octets: &'a [u8],
+    pub left: u64,
     pub calls: u64,
 }
 
-impl Read for Endless {
+impl Read for Repeated<'_> {
     fn read(&mut self, buf: &mut [u8]) -> io::Result<usize> {
         self.calls = self.calls.saturating_add(1);
-        if buf.is_empty() {
+        if self.left == 0 {
             return Ok(0);
         }
-        buf[0] = b'1';
-        Ok(1)
-    }
-}
-
-/// Gives one LF each call, and never ends.
-#[derive(Drop)]
-pub struct LineFeeds {
-    pub calls: u64,
-}
-
-impl Read for LineFeeds {
-    fn read(&mut self, buf: &mut [u8]) -> io::Result<usize> {
-        self.calls = self.calls.saturating_add(1);
-        if buf.is_empty() {
-            return Ok(0);
-        }
-        buf[0] = b'\n';
-        Ok(1)
+        self.left -= 1;
+        let mut octets = self.octets;
+        octets.read(buf)
     }
 }
 
@@ -117,6 +104,15 @@ pub struct Fixed {
     pub out: ArrayVec<u8, 256>,
 }
 
+impl Fixed {
+    /// Nothing was taken.
+    pub fn new() -> Self {
+        Fixed {
+            out: ArrayVec::new(),
+        }
+    }
+}
+
 impl Write for Fixed {
     fn write(&mut self, buf: &[u8]) -> io::Result<usize> {
         let count = buf.len().min(self.out.remaining_capacity());
@@ -130,5 +126,106 @@ impl Write for Fixed {
 
     fn flush(&mut self) -> io::Result<()> {
         Ok(())
+    }
+}
+
+/// Takes everything, and counts the calls. It asks for no memory.
+#[derive(Clone, Copy, Debug, PartialEq, Eq)]
+pub struct Counted {
+    pub octets: u64,
+    pub writes: u64,
+    /// Those of the writes that had nothing to write.
+    pub empty_writes: u64,
+    pub flushes: u64,
+}
+
+impl Counted {
+    /// Nothing was called.
+    pub fn new() -> Self {
+        Counted {
+            octets: 0,
+            writes: 0,
+            empty_writes: 0,
+            flushes: 0,
+        }
+    }
+}
+
+impl Write for Counted {
+    fn write(&mut self, buf: &[u8]) -> io::Result<usize> {
+        self.octets = self.octets.saturating_add(buf.len() as u64);
+        self.writes = self.writes.saturating_add(1);
+        if buf.is_empty() {
+            self.empty_writes = self.empty_writes.saturating_add(1);
+        }
+        Ok(buf.len())
+    }
+
+    fn flush(&mut self) -> io::Result<()> {
+        self.flushes = self.flushes.saturating_add(1);
+        Ok(())
+    }
+}
+
+/// A call of a reader or of a writer.
+#[derive(Clone, Copy, Debug, Default, PartialEq, Eq)]
+pub enum Event {
+    /// The reader gave so many octets.
+    Gave(usize),
+    /// The writer took so many octets.
+    Took(usize),
+    /// The writer was flushed.
+    #[default]
+    Flushed,
+}
+
+/// The calls of a reader and of a writer, in order.
+pub type Log = RefCell<ArrayVec<Event, 32>>;
+
+/// Notes a call, and fails where there is no room.
+fn note(log: &Log, event: Event) -> io::Result<()> {
+    let Ok(mut events) = log.try_borrow_mut() else {
+        return Err(io::Error::from(ErrorKind::Other));
+    };
+    match events.try_push(event) {
+        Ok(()) => Ok(()),
+        Err(_) => Err(io::Error::from(ErrorKind::Other)),
+    }
+}
+
+/// Gives one part each call, as far as it is asked for, and notes it.
+#[derive(Drop)]
+pub struct NotedParts<'a> {
+    pub parts: &'a [&'a str],
+    pub log: &'a Log,
+}
+
+impl Read for NotedParts<'_> {
+    fn read(&mut self, buf: &mut [u8]) -> io::Result<usize> {
+        let mut count = 0;
+        if !self.parts.is_empty() {
+            let mut part = self.parts[0].as_bytes();
+            count = part.read(buf)?;
+            self.parts = &self.parts[1..];
+        }
+        note(self.log, Event::Gave(count))?;
+        Ok(count)
+    }
+}
+
+/// Takes everything, and notes it.
+#[derive(Drop)]
+pub struct Noted<'a> {
+    pub log: &'a Log,
+}
+
+impl Write for Noted<'_> {
+    fn write(&mut self, buf: &[u8]) -> io::Result<usize> {
+        note(self.log, Event::Took(buf.len()))?;
+        Ok(buf.len())
+    }
+
+    fn flush(&mut self) -> io::Result<()> {
+        note(self.log, Event::Flushed)
     }
 }

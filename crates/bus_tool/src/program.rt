@@ -1,13 +1,9 @@
 //! The program.
 
-use crate::check::check_capture;
-use crate::encode::encode_frames;
-use crate::fault::ToolFault;
-use crate::list::list_capture;
-use crate::show::show_frame;
-use crate::summary::Summary;
-use crate::text::put_text;
-use crate::words::{READS, Refusal, Request, read_words};
+use crate::arguments::{READS, Refusal, Request, read_arguments};
+use bus_capture::{check_capture, list_capture};
+use bus_encode::encode_frames;
+use bus_text::{Summary, ToolFault, put_text, show_frame};
 use clap::Error;
 use clap::error::ErrorKind;
 use std::alloc::{AllocError, Global};
@@ -22,7 +18,7 @@ const AMISS: u8 = 1;
 /// The status of any fault.
 const FAULT: u8 = 2;
 
-/// Runs the program `port1`, and answers its status: 0, or 1 for a check that found something
+/// Runs the program `port1`, and returns its status: 0, or 1 for a check that found something
 /// damaged, overlong, missing or spoilt, or 2 for any fault.
 ///
 /// `words` are its arguments without its name. A capture, or lines to encode, are read from `r`.
@@ -34,14 +30,14 @@ pub fn run<R: Read, W: Write, E: Write>(
     w: &mut W,
     e: &mut E,
 ) -> u8 {
-    match read_words(alloc, words) {
+    match read_arguments(alloc, words) {
         Ok(request) => serve(alloc, &request, r, w, e),
-        Err(Refusal::Words(error)) => refuse(alloc, &error, w, e),
+        Err(Refusal::Arguments(error)) => refuse(alloc, &error, w, e),
         Err(Refusal::Kind) => fail(&ToolFault::Kind, e),
     }
 }
 
-/// Does what was asked for, and answers the status.
+/// Does what was asked for, and returns the status.
 fn serve<R: Read, W: Write, E: Write>(
     alloc: Global,
     request: &Request<'_>,
@@ -68,7 +64,7 @@ fn verdict(summary: &Summary) -> u8 {
     if summary.is_clean() { FINE } else { AMISS }
 }
 
-/// Tells a fault, and answers its status.
+/// Reports a fault, and returns its status.
 fn fail<E: Write>(fault: &ToolFault, e: &mut E) -> u8 {
     let _ = writeln!(e, "port1: {fault}");
     FAULT
@@ -96,19 +92,10 @@ fn refuse<W: Write, E: Write>(alloc: Global, error: &Error, w: &mut W, e: &mut E
 
 /// Writes and flushes a help text.
 fn show_help<W: Write>(alloc: Global, help: &Error, w: &mut W) -> Result<(), ToolFault> {
-    let text = match help_text(alloc, help) {
-        Ok(text) => text,
-        Err(_) => return Err(ToolFault::Memory),
-    };
-    if let Err(cut) = put_text(w, text.as_bytes()) {
-        return Err(ToolFault::Write { written: cut.sent });
-    }
-    match w.flush() {
-        Ok(()) => Ok(()),
-        Err(_) => Err(ToolFault::Write {
-            written: text.len() as u128,
-        }),
-    }
+    let text = help_text(alloc, help).map_err(|_| ToolFault::Memory)?;
+    put_text(w, text.as_bytes())?;
+    let written = text.len() as u128;
+    w.flush().map_err(|_| ToolFault::Write { written })
 }
 
 fn help_text(alloc: Global, help: &Error) -> Result<String, AllocError> {

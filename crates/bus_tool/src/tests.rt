@@ -1,4 +1,4 @@
-//! Worked rows of listings, lines and the program.
+//! Worked examples of listings, lines and the program.
 
 mod encodes;
 mod listings;
@@ -6,5 +6,6 @@ mod packed;
 mod program;
 mod rows;
 mod shows;
+mod streams;
 mod texts;
 mod worked;

@@ -1,9 +1,12 @@
 pub mod TalkLemmas
-pub mod KeepLemmas
+pub mod JournalStateLemmas
 pub mod SeenLemmas
-pub mod RoomLemmas
-pub mod StandLemmas
-pub mod PaceLemmas
-pub mod LawLemmas
+pub mod AnalyserViewLemmas
+pub mod AfterLemmas
+pub mod LedgerLemmas
+pub mod LawsLemmas
 pub mod FedLemmas
+pub mod HeadlineLemmas
+pub mod FailLemmas
+pub mod LawsBitLemmas
 mod Examples

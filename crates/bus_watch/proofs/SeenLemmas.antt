@@ -9,13 +9,7 @@ use Rattle.bus_line.specs.Report.{Report}
 use Rattle.bus_line.specs.Due.{places}
 use Rattle.bus_dictionary.specs.Entry.{FrameType}
 use Rattle.bus_watch.specs.Seen.{seen_of, seen_number, seen}
-
-filter_map-places : {Y : Type 0} (f g : ℕ → Option Y) (n : ℕ) → ((i : ℕ) → i < n → f i ≡ g i) → filter_map f (places n) ≡ filter_map g (places n)
-filter_map-places f g zero h = refl
-filter_map-places f g (suc n) h =
-    let e = filter_map-places f g n (λ i l. h i (omega arith)) in
-    let l : n < suc n = omega arith in
-    rw (filter_map-append f, filter_map-append g, e, h n l) refl
+use Rattle.bus_line.proofs.DueMoreLemmas.{filter_map-places}
 
 -- the reports before keep their numbers
 before-same : (d : List FrameType) (rs : List Report) (r : Report) (i : ℕ) → i < length rs → seen_number d (rs ++ r ∷ []) i ≡ seen_number d rs i

@@ -2,7 +2,7 @@
 use Rattle.std.specs.Prelude.{◌≡◌, ℕ, ◌<◌, ◌≤◌, Bool, List, [], ◌∷◌, ◌++◌, length, take, Option}
 use Rattle.bus_watch.specs.Seen.{SeenReport}
 use Rattle.bus_watch.specs.Sink.{told}
-use Rattle.bus_watch.specs.Stands.{AnalyserState, Sees}
+use Rattle.bus_watch.specs.After.{AnalyserState, Sees}
 use Rattle.bus_watch.specs.declared.feed_fault.FeedFault.{FeedFault}
 use Rattle.bus_watch.specs.declared.feed_fault.FeedFault.TheVariants.{PlaceLimit, Sink}
 

@@ -9,6 +9,7 @@ use Rattle.bus_watch.specs.declared.outcome.Outcome.{Outcome}
 use Rattle.bus_watch.specs.declared.outcome.Outcome.TheVariants.{Answered, Missing, Spoilt}
 use Rattle.bus_watch.specs.declared.counts.Counts.{Counts}
 use Rattle.bus_watch.specs.declared.verdict.Verdict.{Verdict}
+use Rattle.bus_watch.specs.declared.kept.Kept.{Kept}
 
 -- a frame: where it stands, and its octets
 pub record KeptFrame : Type 0 where
@@ -47,3 +48,6 @@ tally d rs station = record {
   missing = verdicts_of Missing station (verdicts d rs);
   spoilt = verdicts_of Spoilt station (verdicts d rs);
 }
+
+abbrev pub kept_frame : Kept → KeptFrame
+kept_frame k = record { span = k.span; octets = k.octets.items }

@@ -2,12 +2,12 @@ pub mod Talk
 pub mod Seen
 pub mod History
 pub mod Ledger
-pub mod Counted
-pub mod JournalState
-pub mod Noted
-pub mod Stands
-pub mod AnalyserView
+pub mod After
 pub mod Shown
 pub mod Sink
 pub mod Fed
 pub mod Laws
+pub mod Headline
+pub mod LoggedReport
+pub mod LogState
+pub mod Internal

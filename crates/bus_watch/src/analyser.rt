@@ -8,8 +8,8 @@ ghost use Rattle.std.specs.Borrow.{sem};
 ghost use Rattle.std.specs.Io.BufRead.{Rests};
 ghost use Rattle.bus_line.specs.Due.{begun};
 ghost use Rattle.bus_line.specs.Ledger.{stored_from};
-ghost use Rattle.bus_line.specs.Run.{ones_at_end};
-ghost use Rattle.bus_line.specs.Late.{IsCalm};
+ghost use Rattle.bus_line.specs.Internal.Run.{ones_at_end};
+ghost use Rattle.bus_line.specs.Internal.Late.{IsCalm};
 ghost use Rattle.bus_bits.specs.Octet.{bits_of};
 ghost use Rattle.bus_dictionary.specs.Dictionary.{longest_of};
 
@@ -29,7 +29,7 @@ use held::Held;
 use std::alloc::Global;
 use std::marker::Model;
 
-/// Watches one line: finds its frames and whatever else stands on it, pairs commands with answers,
+/// Watches one line: finds its frames and all other reports, pairs commands with answers,
 /// and keeps the last frames.
 ///
 /// It takes memory once, for the history, when it is made.
@@ -47,11 +47,11 @@ struct Told {
 }
 
 impl<C: Check> Model for Analyser<C> {
-    ghost use Rattle.bus_watch.specs.Stands.{AnalyserState};
+    ghost use Rattle.bus_watch.specs.After.{AnalyserState};
 
     ghost Value = { AnalyserState C };
 
-    ghost use Rattle.bus_watch.specs.AnalyserView.{analyser_state, IsWithin};
+    ghost use Rattle.bus_watch.specs.Internal.AnalyserView.{analyser_state, IsWithin};
 
     ghost view = { analyser_state };
 
@@ -60,9 +60,10 @@ impl<C: Check> Model for Analyser<C> {
 
 impl<C: Check> Analyser<C> {
     ghost use Rattle.bus_watch.specs.contracts.analyser.Analyser.{the_row};
-    ghost use Rattle.bus_watch.specs.Stands.{Stands, Sees, line};
+    ghost use Rattle.bus_watch.specs.After.{IsAfter, Sees, line};
     ghost use Rattle.bus_watch.specs.Seen.{seen_at};
-    ghost use Rattle.bus_watch.specs.Shown.{shown, shown_option, told_report, told_option, kept_option, begun_span, IsKeepable};
+    ghost use Rattle.bus_watch.specs.Shown.{shown, shown_option, kept_option, begun_span, IsKeepable};
+    ghost use Rattle.bus_watch.specs.Internal.Told.{told_report, told_option};
     ghost use Rattle.bus_line.specs.Ledger.{octet_count};
     ghost use Rattle.bus_watch.specs.History.{history, tally};
     ghost use Rattle.bus_watch.specs.Talk.{pending};
@@ -80,8 +81,10 @@ impl<C: Check> Analyser<C> {
     ) -> Result<Self, NewFault>
         ensures depth { (result ≡ Err NewFault.DepthRange) ↔ ((depth < 1) ⊎ (1024 < depth)) }
         ensures origin { (result ≡ Err NewFault.Origin) ↔ ((1 ≤ depth) × (depth ≤ 1024) × (2 ^ 60 < origin)) }
-        ensures stands { IfOk result (λ a. Stands C.folded C.COST a []) }
-        ensures given { IfOk result (λ a. (a.journal.dictionary ≡ dictionary) × (a.journal.depth ≡ depth) × (a.decoder.origin ≡ origin) × (a.decoder.place ≡ origin)) }
+        ensures is_after { IfOk result (λ a. IsAfter C.folded C.COST a []) }
+        ensures given { IfOk result
+            (λ a. (a.journal.dictionary ≡ dictionary) × (a.journal.depth ≡ depth) × (a.decoder.origin ≡ origin)
+            × (a.decoder.place ≡ origin)) }
     {
         if depth < 1 || depth > 1024 {
             return Err(NewFault::DepthRange);
@@ -100,9 +103,12 @@ impl<C: Check> Analyser<C> {
     /// Takes a bit, and keeps what it decides.
     fn note(&mut self, bit: bool) -> Result<Option<Told>, PlaceLimit>
         ensures limit { IsErr result ↔ (2 ^ 60 ≤ self.old.decoder.place) }
-        ensures answer { IfOk result (λ told. (b : List Bool) → Stands C.folded C.COST self.old b →
-            told_option self.new.decoder.octets told ≡ seen_at self.old.journal.dictionary (line self.old (b ++ bit ∷ [])) self.old.decoder.place) }
-        ensures sees { IfOk result (λ told. Sees C.folded C.COST self.old (bit ∷ []) (option_to_list (told_option self.new.decoder.octets told)) self.new) }
+        ensures answer { IfOk result (λ told. (b : List Bool) → IsAfter C.folded C.COST self.old b →
+            told_option self.new.decoder.octets told
+            ≡ seen_at self.old.journal.dictionary (line self.old (b ++ bit ∷ [])) self.old.decoder.place) }
+        ensures sees { IfOk result
+            (λ told. Sees C.folded C.COST self.old (bit ∷ [])
+            (option_to_list (told_option self.new.decoder.octets told)) self.new) }
         ensures err { OnErr result (self.new ≡ self.old) }
     {
         seen_grows();
@@ -134,17 +140,19 @@ impl<C: Check> Analyser<C> {
         }
     }
 
-    /// Takes a bit, and answers what is seen at it, if it decides a report. A frame's octets are
+    /// Takes a bit, and returns what is seen at it, if it decides a report. A frame's octets are
     /// borrowed from the analyser.
     ///
     /// Refuses as [`PlaceLimit`], with nothing changed, where the bit's place would be 2^60.
     pub fn push(&mut self, bit: bool) -> Result<Option<Seen<'_>>, PlaceLimit>
         ensures limit { IsErr result ↔ (2 ^ 60 ≤ self.old.decoder.place) }
-        ensures answer { IfOk result (λ o. (b : List Bool) → Stands C.folded C.COST self.old b →
-            shown_option o ≡ seen_at self.old.journal.dictionary (line self.old (b ++ bit ∷ [])) self.old.decoder.place) }
+        ensures answer { IfOk result (λ o. (b : List Bool) → IsAfter C.folded C.COST self.old b →
+            shown_option o ≡ seen_at self.old.journal.dictionary
+            (line self.old (b ++ bit ∷ [])) self.old.decoder.place) }
         ensures fits { IfOk result IsKeepable }
         ensures* rests { sem 𝓛 (Rests (the_row C.row C.Check) self.entry (λ new.
-            IfOk result (λ o. Sees C.folded C.COST self.old (bit ∷ []) (option_to_list (shown_option o)) new) × OnErr result (new ≡ self.old))) }
+            IfOk result (λ o. Sees C.folded C.COST self.old (bit ∷ []) (option_to_list (shown_option o)) new)
+            × OnErr result (new ≡ self.old))) }
     {
         match self.note(bit) {
             Ok(Some(told)) => Ok(Some(self.seen(told))),
@@ -154,11 +162,12 @@ impl<C: Check> Analyser<C> {
     }
 
     /// Takes a bit at once, if no value of it can decide a report. Behind six 1 bits or fourteen, and
-    /// no more, and where the bit's place would be 2^60, it answers false and changes nothing: `push`
+    /// no more, and where the bit's place would be 2^60, it returns false and changes nothing: `push`
     /// takes that bit.
     #[inline(always)]
     pub fn pass(&mut self, bit: bool) -> bool
-        ensures passes { (b : List Bool) → Stands C.folded C.COST self.old b → (IsTrue result ↔ ((self.old.decoder.place < 2 ^ 60) × (ones_at_end b ≢ 6) × (ones_at_end b ≢ 14))) }
+        ensures passes { (b : List Bool) → IsAfter C.folded C.COST self.old b →
+            (IsTrue result ↔ ((self.old.decoder.place < 2 ^ 60) × (ones_at_end b ≢ 6) × (ones_at_end b ≢ 14))) }
         ensures limit { IsTrue result → self.old.decoder.place < 2 ^ 60 }
         ensures passed { IsTrue result → Sees C.folded C.COST self.old (bit ∷ []) [] self.new }
         ensures kept { result ≡ false → self.new ≡ self.old }
@@ -166,12 +175,13 @@ impl<C: Check> Analyser<C> {
         self.decoder.pass(bit)
     }
 
-    /// Takes the eight bits of an octet at once, the lowest first, if none of them stands behind six
+    /// Takes the eight bits of an octet at once, the lowest first, if none of them follows six
     /// 1 bits or more and so none can decide a report. Else, and where a bit's place would be 2^60, it
-    /// answers false and changes nothing: `pass` and `push` take these bits.
+    /// returns false and changes nothing: `pass` and `push` take these bits.
     #[inline(always)]
     pub fn pass_octet(&mut self, octet: u8) -> bool
-        ensures passes { (b : List Bool) → Stands C.folded C.COST self.old b → (IsTrue result ↔ ((self.old.decoder.place + 8 ≤ 2 ^ 60) × IsCalm b (bits_of 8 octet))) }
+        ensures passes { (b : List Bool) → IsAfter C.folded C.COST self.old b →
+            (IsTrue result ↔ ((self.old.decoder.place + 8 ≤ 2 ^ 60) × IsCalm b (bits_of 8 octet))) }
         ensures limit { IsTrue result → self.old.decoder.place + 8 ≤ 2 ^ 60 }
         ensures place { IsTrue result → self.new.decoder.place ≡ self.old.decoder.place + 8 }
         ensures passed { IsTrue result → Sees C.folded C.COST self.old (bits_of 8 octet) [] self.new }
@@ -182,14 +192,17 @@ impl<C: Check> Analyser<C> {
 
     /// A frame of the history, of which the oldest has the number 0.
     pub fn history(&self, i: usize) -> Option<&Kept>
-        ensures { (b : List Bool) → Stands C.folded C.COST self.now b → kept_option result ≡ slice_get (history self.now.journal.depth (line self.now b)) i }
+        ensures lent { kept_option result ≡ slice_get self.now.journal.history i }
+        ensures value { (b : List Bool) → IsAfter C.folded C.COST self.now b →
+            kept_option result ≡ slice_get (history self.now.journal.depth (line self.now b)) i }
     {
         self.journal.kept(i)
     }
 
     /// How many frames the history has: at most its depth, which is at most 1024.
     pub fn history_len(&self) -> usize
-        ensures value { (b : List Bool) → Stands C.folded C.COST self.now b → result ≡ length (history self.now.journal.depth (line self.now b)) }
+        ensures value { (b : List Bool) → IsAfter C.folded C.COST self.now b →
+            result ≡ length (history self.now.journal.depth (line self.now b)) }
         ensures depth { result ≤ self.now.journal.depth }
         ensures bound { self.now.journal.depth ≤ 1024 }
     {
@@ -198,15 +211,18 @@ impl<C: Check> Analyser<C> {
 
     /// How many verdicts named a station.
     pub fn tally(&self, station: u8) -> Counts
-        ensures { (b : List Bool) → Stands C.folded C.COST self.now b → result ≡ tally self.now.journal.dictionary (line self.now b) station }
+        ensures { (b : List Bool) → IsAfter C.folded C.COST self.now b →
+            result ≡ tally self.now.journal.dictionary (line self.now b) station }
     {
         self.journal.counts(station)
     }
 
     /// What has begun and is not decided yet.
     pub fn ending(&self) -> Ending
-        ensures begun { (b : List Bool) → Stands C.folded C.COST self.now b → result.begun ≡ begun_span self.now.decoder.origin b }
-        ensures pending { (b : List Bool) → Stands C.folded C.COST self.now b → result.pending ≡ pending self.now.journal.dictionary (line self.now b) }
+        ensures begun { (b : List Bool) → IsAfter C.folded C.COST self.now b →
+            result.begun ≡ begun_span self.now.decoder.origin b }
+        ensures pending { (b : List Bool) → IsAfter C.folded C.COST self.now b →
+            result.pending ≡ pending self.now.journal.dictionary (line self.now b) }
     {
         let past = self.decoder.place();
         Ending {
@@ -226,7 +242,7 @@ impl<C: Check> Analyser<C> {
     /// longest frame and two.
     pub fn buffered(&self) -> usize
         ensures bound { result ≤ longest_of self.now.journal.dictionary + 2 }
-        ensures stored { (b : List Bool) (first : ℕ) → Stands C.folded C.COST self.now b → begun b ≡ Some first →
+        ensures stored { (b : List Bool) (first : ℕ) → IsAfter C.folded C.COST self.now b → begun b ≡ Some first →
             result ≡ stored_from (longest_of self.now.journal.dictionary) b first }
     {
         self.decoder.buffered()
@@ -239,10 +255,12 @@ impl<C: Check> Analyser<C> {
     /// forty bits, the three of any other report once for eight. So all come to less than four for
     /// each bit, and to less than three with a check that costs one.
     pub fn spent(&self) -> Spent
-        ensures ledger { (b : List Bool) → Stands C.folded C.COST self.now b → IsLedger C.COST (longest_of self.now.journal.dictionary) b result }
-        ensures seventeen { (b : List Bool) → Stands C.folded C.COST self.now b → total result ≤ 17 * length b }
-        ensures four { (b : List Bool) → Stands C.folded C.COST self.now b → total result ≤ 4 * length b }
-        ensures three { C.COST ≡ 1 → (b : List Bool) → Stands C.folded C.COST self.now b → (result.folded ≡ result.stored) × (total result ≤ 3 * length b) }
+        ensures ledger { (b : List Bool) → IsAfter C.folded C.COST self.now b →
+            IsLedger C.COST (longest_of self.now.journal.dictionary) b result }
+        ensures seventeen { (b : List Bool) → IsAfter C.folded C.COST self.now b → total result ≤ 17 * length b }
+        ensures four { (b : List Bool) → IsAfter C.folded C.COST self.now b → total result ≤ 4 * length b }
+        ensures three { C.COST ≡ 1 → (b : List Bool) → IsAfter C.folded C.COST self.now b →
+            (result.folded ≡ result.stored) × (total result ≤ 3 * length b) }
     {
         steps_are_bounded();
         let journal = self.journal.spent();

@@ -41,10 +41,10 @@ fn no_counts() -> [Counts; 256]
 }
 
 impl Journal {
-    ghost use Rattle.bus_line.specs.After.{report_of};
+    ghost use Rattle.bus_line.specs.Shown.{report_of};
     ghost use Rattle.bus_line.specs.Report.{Report, Frame};
-    ghost use Rattle.bus_watch.specs.JournalState.{journal_state, Keeps, HasRoom};
-    ghost use Rattle.bus_watch.specs.Noted.{Says, is_damage, IsWhole};
+    ghost use Rattle.bus_watch.specs.Internal.JournalState.{journal_state, Keeps, HasRoom};
+    ghost use Rattle.bus_watch.specs.Internal.Noted.{Says, is_damage, IsWhole};
     ghost use Rattle.bus_watch.specs.Seen.{seen_of};
     ghost use Rattle.bus_watch.specs.Talk.{is_idle};
     ghost use Rattle.bus_dictionary.specs.Standing.{standing};
@@ -73,9 +73,12 @@ impl Journal {
     pub(crate) fn take(&mut self, piece: Piece<'_>) -> Noted
         requires whole { IsWhole piece }
         requires room { HasRoom (journal_state self.old) }
-        ensures keeps { (rs : List Report) → Keeps (journal_state self.old) rs → Keeps (journal_state self.new) (rs ++ report_of piece.entry ∷ []) }
-        ensures says { (rs : List Report) → Keeps (journal_state self.old) rs → Says result (seen_of self.old.dictionary rs (report_of piece.entry)) }
-        ensures given { (self.new.dictionary ≡ self.old.dictionary) × (self.new.history.capacity ≡ self.old.history.capacity) }
+        ensures keeps { (rs : List Report) → Keeps (journal_state self.old) rs →
+            Keeps (journal_state self.new) (rs ++ report_of piece.entry ∷ []) }
+        ensures says { (rs : List Report) → Keeps (journal_state self.old) rs →
+            Says result (seen_of self.old.dictionary rs (report_of piece.entry)) }
+        ensures given { (self.new.dictionary ≡ self.old.dictionary)
+            × (self.new.history.capacity ≡ self.old.history.capacity) }
     {
         match piece {
             Piece::Frame { span, octets } => self.frame(span, octets),
@@ -93,7 +96,8 @@ impl Journal {
             Keeps (journal_state self.new) (rs ++ record { kind = Frame octets.now; first = span.first; past = span.past } ∷ []) }
         ensures says { (rs : List Report) → Keeps (journal_state self.old) rs →
             Says result (seen_of self.old.dictionary rs (record { kind = Frame octets.now; first = span.first; past = span.past })) }
-        ensures given { (self.new.dictionary ≡ self.old.dictionary) × (self.new.history.capacity ≡ self.old.history.capacity) }
+        ensures given { (self.new.dictionary ≡ self.old.dictionary)
+            × (self.new.history.capacity ≡ self.old.history.capacity) }
     {
         self.spent.tick_handled();
         let standing = self.standing(octets);
@@ -106,9 +110,12 @@ impl Journal {
     /// Takes a piece that is no frame.
     fn damage(&mut self) -> Noted
         requires room { HasRoom (journal_state self.old) }
-        ensures keeps { (rs : List Report) (r : Report) → Keeps (journal_state self.old) rs → is_damage r.kind ≡ true → Keeps (journal_state self.new) (rs ++ r ∷ []) }
-        ensures says { (rs : List Report) (r : Report) → Keeps (journal_state self.old) rs → is_damage r.kind ≡ true → Says result (seen_of self.old.dictionary rs r) }
-        ensures given { (self.new.dictionary ≡ self.old.dictionary) × (self.new.history.capacity ≡ self.old.history.capacity) }
+        ensures keeps { (rs : List Report) (r : Report) → Keeps (journal_state self.old) rs →
+            is_damage r.kind ≡ true → Keeps (journal_state self.new) (rs ++ r ∷ []) }
+        ensures says { (rs : List Report) (r : Report) → Keeps (journal_state self.old) rs →
+            is_damage r.kind ≡ true → Says result (seen_of self.old.dictionary rs r) }
+        ensures given { (self.new.dictionary ≡ self.old.dictionary)
+            × (self.new.history.capacity ≡ self.old.history.capacity) }
     {
         self.spent.tick_handled();
         Noted {
@@ -121,9 +128,12 @@ impl Journal {
     /// Takes an idle: neither pairing nor tally changes.
     fn idle(&mut self) -> Noted
         requires room { HasRoom (journal_state self.old) }
-        ensures keeps { (rs : List Report) (r : Report) → Keeps (journal_state self.old) rs → is_idle r.kind ≡ true → Keeps (journal_state self.new) (rs ++ r ∷ []) }
-        ensures says { (rs : List Report) (r : Report) → Keeps (journal_state self.old) rs → is_idle r.kind ≡ true → Says result (seen_of self.old.dictionary rs r) }
-        ensures given { (self.new.dictionary ≡ self.old.dictionary) × (self.new.history.capacity ≡ self.old.history.capacity) }
+        ensures keeps { (rs : List Report) (r : Report) → Keeps (journal_state self.old) rs → is_idle r.kind ≡ true →
+            Keeps (journal_state self.new) (rs ++ r ∷ []) }
+        ensures says { (rs : List Report) (r : Report) → Keeps (journal_state self.old) rs → is_idle r.kind ≡ true →
+            Says result (seen_of self.old.dictionary rs r) }
+        ensures given { (self.new.dictionary ≡ self.old.dictionary)
+            × (self.new.history.capacity ≡ self.old.history.capacity) }
     {
         self.spent.tick_handled();
         self.spent.tick_handled();
@@ -135,12 +145,13 @@ impl Journal {
         }
     }
 
-    /// How a frame stands to the dictionary, by its head and its type's entry.
+    /// How a frame's head matches the dictionary, by its head and its type's entry.
     fn standing(&mut self, octets: &[u8]) -> Standing
         requires whole { 4 ≤ length octets.now }
         requires room { self.old.spent.handled + 2 < 2 ^ 64 }
         ensures value { result ≡ standing octets.now self.old.dictionary }
-        ensures kept { self.new ≡ record self.old { spent = record self.old.spent { handled = self.old.spent.handled + 2 } } }
+        ensures kept { self.new
+            ≡ record self.old { spent = record self.old.spent { handled = self.old.spent.handled + 2 } } }
     {
         self.spent.tick_handled();
         self.spent.tick_handled();

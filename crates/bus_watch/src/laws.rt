@@ -1,9 +1,11 @@
 //! Laws over the definitions.
 
-ghost use Rattle.bus_watch.specs.Laws.{SeenGrows, SeenAreReports, SeenDecides, StepsWithinFour, StepsWithinThree, AnyCut};
+ghost use Rattle.bus_watch.specs.Laws.{SeenGrows, SeenAreReports, SeenDecides, StepsWithinFour, StepsWithinThree, BitCosts, ClosedPaid, AnyCut};
 
 use bus_fcs::Check;
-use bus_line::laws::{reports_are, reports_grow, reports_own_bits, settled_places};
+use bus_line::laws::{
+    frame_is_spelled, reports_are, reports_grow, reports_own_bits, settled_places,
+};
 
 /// What is seen of a list of bits is its reports, each with what follows from it: one bit more adds
 /// what is seen at it, and the verdicts are those of the talk.
@@ -24,6 +26,18 @@ pub fn steps_are_bounded()
     reports_are();
     reports_own_bits();
     settled_places();
+}
+
+/// One bit costs at most seventeen steps and the octets of the frame that it closes, for each of
+/// which eight bits of that frame came before.
+pub fn one_bit_is_bounded()
+    ensures costs { BitCosts }
+    ensures paid { ClosedPaid }
+{
+    reports_are();
+    reports_grow();
+    settled_places();
+    frame_is_spelled();
 }
 
 /// For every list of bits, however it is cut into calls of `push` and `feed`, what they tell is what

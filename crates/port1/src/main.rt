@@ -1,4 +1,4 @@
-//! The program `port1`: lists what stands on the Port 1 bus, from a capture on standard input.
+//! The program `port1`: analyses captures of the Port 1 bus from standard input.
 #![tactic(auto)]
 
 use bus_tool::{ToolFault, run};
@@ -25,7 +25,7 @@ fn tell(rt: &HostRuntime, error: &io::Error) {
     };
 }
 
-/// Runs the words of the process, and answers the status.
+/// Runs the arguments of the process, and returns the status.
 fn start(rt: &HostRuntime) -> io::Result<u8> {
     let alloc = rt.alloc();
     let owned: Vec<String> = env::args(rt)?.collect(alloc)?;

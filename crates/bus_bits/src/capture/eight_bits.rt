@@ -4,7 +4,7 @@ ghost use Rattle.std.specs.Prelude.{◌≡◌, ◌<◌, ◌==◌, ◌++◌, map,
 ghost use Rattle.std.specs.Int.{w64, from_le_bytes};
 ghost use Rattle.std.specs.List.{list_all};
 ghost use Rattle.bus_bits.specs.Octet.{bits_of};
-ghost use Rattle.bus_bits.specs.Capture.{is_mark};
+ghost use Rattle.bus_bits.specs.Capture.{is_bit};
 
 /// Eight octets `0`.
 const ZEROS: u64 = 0x3030_3030_3030_3030;
@@ -36,7 +36,7 @@ pub(crate) fn other_bits(octets: &[u8; 8]) -> u64
 /// The bits of eight octets `0` and `1`, the first the lowest.
 #[inline(always)]
 pub(crate) fn gathered(octets: &[u8; 8]) -> u8
-    requires { list_all is_mark octets.now ≡ true }
+    requires { list_all is_bit octets.now ≡ true }
     ensures { bits_of 8 result ≡ map (λ x. x == 49) octets.now }
 {
     ((u64::from_le_bytes(*octets) ^ ZEROS).wrapping_mul(GATHER) >> 56) as u8

@@ -8,7 +8,6 @@ ghost use Rattle.bus_bits.specs.Packed.{PackedAfter, packed_body, packed_fault_o
 use crate::capture::packed_head::PackedHead;
 use crate::octet::octet_bits;
 use arrayvec::ArrayVec;
-use std::cmp::min;
 use std::marker::Model;
 
 /// Why the octets after a head are not its bits.
@@ -58,8 +57,10 @@ impl PackedBits {
     /// bit is 1 as [`PackedFault::PadBits`]. A refusal changes nothing.
     pub fn step(&mut self, octet: u8) -> Result<ArrayVec<bool, 8>, PackedFault>
         ensures given { (n : ℕ) (xs : List ℕ) → PackedAfter n xs self.old → MatchResult result
-            (λ bits. PackedAfter n (xs ++ octet ∷ []) self.new × ((packed_body n (xs ++ octet ∷ [])).bits ≡ (packed_body n xs).bits ++ bits.items))
-            (λ fault. packed_body n (xs ++ octet ∷ []) ≡ record { bits = (packed_body n xs).bits; fault = Some (packed_fault_of fault) }) }
+            (λ bits. PackedAfter n (xs ++ octet ∷ []) self.new
+            × ((packed_body n (xs ++ octet ∷ [])).bits ≡ (packed_body n xs).bits ++ bits.items))
+            (λ fault. packed_body n (xs ++ octet ∷ [])
+            ≡ record { bits = (packed_body n xs).bits; fault = Some (packed_fault_of fault) }) }
         ensures kept { OnErr result (self.new ≡ self.old) }
     {
         if self.left == 0 {
@@ -70,11 +71,11 @@ impl PackedBits {
             self.take_whole();
             return Ok(ArrayVec::from(bits));
         }
-        let used = min(self.left, 8) as usize;
+        let used = self.left as usize;
         if has_one(&bits[used..]) {
             return Err(PackedFault::PadBits);
         }
-        self.left -= used as u64;
+        self.left = 0;
         Ok(gathered(&bits[..used]))
     }
 
@@ -83,7 +84,8 @@ impl PackedBits {
     pub fn take_whole(&mut self)
         requires { 8 ≤ self.old }
         ensures given { (n : ℕ) (xs : List ℕ) (octet : ℕ) → PackedAfter n xs self.old →
-            PackedAfter n (xs ++ octet ∷ []) self.new × ((packed_body n (xs ++ octet ∷ [])).bits ≡ (packed_body n xs).bits ++ bits_of 8 octet) }
+            PackedAfter n (xs ++ octet ∷ []) self.new
+            × ((packed_body n (xs ++ octet ∷ [])).bits ≡ (packed_body n xs).bits ++ bits_of 8 octet) }
         ensures left { self.new ≡ self.old - 8 }
     {
         self.left -= 8;

@@ -29,8 +29,10 @@ impl TextBits {
     /// An octet that is neither a bit nor a space is refused as [`BadMark`], and changes nothing.
     pub fn step(&mut self, octet: u8) -> Result<Option<bool>, BadMark>
         ensures given { (xs : List ℕ) → text_fault xs ≡ None → MatchResult result
-            (λ bit. (text_fault (xs ++ octet ∷ []) ≡ None) × (text_bits (xs ++ octet ∷ []) ≡ text_bits xs ++ option_to_list bit))
-            (λ _. (text_fault (xs ++ octet ∷ []) ≡ Some (bad_mark (length xs))) × (text_bits (xs ++ octet ∷ []) ≡ text_bits xs)) }
+            (λ bit. (text_fault (xs ++ octet ∷ []) ≡ None)
+            × (text_bits (xs ++ octet ∷ []) ≡ text_bits xs ++ option_to_list bit))
+            (λ _. (text_fault (xs ++ octet ∷ []) ≡ Some (bad_mark (length xs)))
+            × (text_bits (xs ++ octet ∷ []) ≡ text_bits xs)) }
         ensures kept { self.new ≡ self.old }
     {
         // `0` and `1` are even and odd, and share the other bits.
@@ -48,8 +50,10 @@ impl TextBits {
     #[inline(always)]
     pub fn eight(octets: &[u8]) -> Option<EightBits>
         ensures given { ForSome result (λ e. (xs : List ℕ) → text_fault xs ≡ None →
-            (text_fault (xs ++ take e.taken octets.now) ≡ None) × (text_bits (xs ++ take e.taken octets.now) ≡ text_bits xs ++ bits_of 8 e.octet)) }
-        ensures fewest { ForSome result (λ e. EightIn e.taken octets.now × ((n : ℕ) → EightIn n octets.now → e.taken ≤ n)) }
+            (text_fault (xs ++ take e.taken octets.now) ≡ None)
+            × (text_bits (xs ++ take e.taken octets.now) ≡ text_bits xs ++ bits_of 8 e.octet)) }
+        ensures fewest { ForSome result
+            (λ e. EightIn e.taken octets.now × ((n : ℕ) → EightIn n octets.now → e.taken ≤ n)) }
         ensures few { ForSome result (λ e. (8 ≤ e.taken) × (e.taken ≤ 9)) }
         ensures some { IsSome result ↔ (EightIn 8 octets.now ⊎ EightIn 9 octets.now) }
     {

@@ -13,17 +13,20 @@ use bus_bits::Span;
 use bus_fcs::Check;
 
 impl<C: Check> LineDecoder<C> {
-    ghost use Rattle.bus_line.specs.After.{After, Tracks, event_shown};
+    ghost use Rattle.bus_line.specs.After.{After};
+    ghost use Rattle.bus_line.specs.Internal.Tracks.{Tracks, event_shown};
     ghost use Rattle.bus_line.specs.Report.{moved};
 
     /// Finds whether the newest bit ends a flag, or is the seventh or the fifteenth one of a run, and
-    /// answers what that decides.
+    /// returns what that decides.
     #[inline(never)]
     pub(crate) fn decide(&mut self) -> Event
         requires { self.old.origin < self.old.place }
         ensures answer { (b : List Bool) (bit : Bool) → Tracks C.folded C.COST self.old (b ++ bit ∷ []) (current b) →
-            event_shown self.new result ≡ option_map (moved self.old.origin) (due_at self.old.longest (b ++ bit ∷ []) (length b)) }
-        ensures after { (b : List Bool) (bit : Bool) → Tracks C.folded C.COST self.old (b ++ bit ∷ []) (current b) → After C.folded C.COST self.new (b ++ bit ∷ []) }
+            event_shown self.new result
+            ≡ option_map (moved self.old.origin) (due_at self.old.longest (b ++ bit ∷ []) (length b)) }
+        ensures after { (b : List Bool) (bit : Bool) → Tracks C.folded C.COST self.old (b ++ bit ∷ []) (current b) →
+            After C.folded C.COST self.new (b ++ bit ∷ []) }
         ensures longest { self.new.longest ≡ self.old.longest }
         ensures origin { self.new.origin ≡ self.old.origin }
         ensures place { self.new.place ≡ self.old.place }
@@ -55,8 +58,12 @@ impl<C: Check> LineDecoder<C> {
 
     /// The piece that a flag at `past` closes, if it is not empty.
     fn closed(&self, past: u64) -> Event
-        ensures { (b : List Bool) (bit : Bool) → Tracks C.folded C.COST self.now (b ++ bit ∷ []) (current b) → 7 ≤ length b → past ≡ self.now.origin + (length b - 7) →
-            event_shown self.now result ≡ option_map (moved self.now.origin) (piece_report (λ p. class_of self.now.longest (slice_range (b ++ bit ∷ []) (p + 8) (length b - 7))) (current b) (length b - 7)) }
+        ensures { (b : List Bool) (bit : Bool) → Tracks C.folded C.COST self.now (b ++ bit ∷ []) (current b) →
+            7 ≤ length b → past ≡ self.now.origin + (length b - 7) →
+            event_shown self.now result
+            ≡ option_map (moved self.now.origin)
+            (piece_report (λ p. class_of self.now.longest (slice_range (b ++ bit ∷ []) (p + 8) (length b - 7)))
+            (current b) (length b - 7)) }
     {
         match self.first {
             Some(first) if first < past => self.class(Span { first, past }),
@@ -66,8 +73,10 @@ impl<C: Check> LineDecoder<C> {
 
     /// The piece that an abort mark at `past` ends, if it is not empty.
     fn aborted(&self, past: u64) -> Event
-        ensures { (b : List Bool) (bit : Bool) → Tracks C.folded C.COST self.now (b ++ bit ∷ []) (current b) → past ≡ self.now.origin + (length b - 6) →
-            event_shown self.now result ≡ option_map (moved self.now.origin) (piece_report (λ p. Abort) (current b) (length b - 6)) }
+        ensures { (b : List Bool) (bit : Bool) → Tracks C.folded C.COST self.now (b ++ bit ∷ []) (current b) →
+            past ≡ self.now.origin + (length b - 6) →
+            event_shown self.now result
+            ≡ option_map (moved self.now.origin) (piece_report (λ p. Abort) (current b) (length b - 6)) }
     {
         match self.first {
             Some(first) if first < past => Event::Abort(Span { first, past }),
@@ -77,8 +86,15 @@ impl<C: Check> LineDecoder<C> {
 
     /// What a piece between two flags is, the first that fits.
     fn class(&self, span: Span) -> Event
-        ensures { (b : List Bool) (bit : Bool) (p : ℕ) → Tracks C.folded C.COST self.now (b ++ bit ∷ []) (current b) → current b ≡ FlagAt p → p + 15 < length b →
-            event_shown self.now result ≡ Some (record { kind = class_of self.now.longest (slice_range (b ++ bit ∷ []) (p + 8) (length b - 7)); first = span.first; past = span.past }) }
+        ensures { (b : List Bool) (bit : Bool) (p : ℕ) →
+            Tracks C.folded C.COST self.now (b ++ bit ∷ []) (current b) → current b ≡ FlagAt p → p + 15 < length b →
+            event_shown self.now result
+            ≡ Some (record {
+              kind = class_of self.now.longest
+                  (slice_range (b ++ bit ∷ []) (p + 8) (length b - 7));
+              first = span.first;
+              past = span.past;
+            }) }
     {
         if (self.window >> 8) & 0x1f == 0x1f {
             return Event::Damaged(span, Cause::Unstuffed);

@@ -2,7 +2,7 @@
 
 ghost use Rattle.std.specs.Prelude.{◌≡◌, ◌≤◌, ◌<◌, ◌+◌, ◌/◌, ◌%◌, ◌^◌, ◌↔◌, List, Bool, ◌++◌, length, reverse, ℕ, true, false};
 ghost use Rattle.bus_bits.specs.Octet.{bits_of, number};
-ghost use Rattle.bus_line.specs.Late.{IsCalm, kept, late_data};
+ghost use Rattle.bus_line.specs.Internal.Late.{IsCalm, kept, late_data};
 
 use crate::decoder::marked::Marked;
 use bus_bits::reversed;
@@ -14,12 +14,14 @@ pub(crate) struct Data {
     pub(crate) count: u64,
 }
 
-/// Whether six ones stand together before one of the last eight bits, by the last bits, the newest
+/// Whether six ones in a row come before one of the last eight bits, by the last bits, the newest
 /// lowest.
 #[inline(always)]
 pub(crate) fn has_six(window: u32) -> bool
-    ensures calm { (b bits : List Bool) → length bits ≡ 8 → window ≡ number (reverse (b ++ bits)) % 2 ^ 32 → result ≡ false → IsCalm b bits }
-    ensures six { (b bits : List Bool) → length bits ≡ 8 → window ≡ number (reverse (b ++ bits)) % 2 ^ 32 → IsCalm b bits → result ≡ false }
+    ensures calm { (b bits : List Bool) → length bits ≡ 8 → window ≡ number (reverse (b ++ bits)) % 2 ^ 32 →
+        result ≡ false → IsCalm b bits }
+    ensures six { (b bits : List Bool) → length bits ≡ 8 → window ≡ number (reverse (b ++ bits)) % 2 ^ 32 →
+        IsCalm b bits → result ≡ false }
 {
     let two = window & window >> 1;
     let four = two & two >> 2;

@@ -2,13 +2,13 @@
 
 ghost use Rattle.std.specs.Prelude.{◌≡◌, ◌%◌, ◌^◌, List, Bool, [], ◌∷◌, ◌++◌, length, reverse};
 ghost use Rattle.bus_bits.specs.Octet.{number};
-ghost use Rattle.bus_line.specs.Look.{IsFound};
-ghost use Rattle.bus_line.specs.Run.{ones_at_end};
+ghost use Rattle.bus_line.specs.Internal.Look.{IsFound};
+ghost use Rattle.bus_line.specs.Internal.Run.{ones_at_end};
 
 /// What the newest bit ends.
 #[derive(Clone, Copy)]
 pub(crate) enum Found {
-    /// A flag: a 0 after six ones, behind a 0.
+    /// A flag: a 0, six ones and a 0.
     Closing,
     /// The seventh one of a run: an abort mark.
     Seven,
@@ -19,7 +19,8 @@ pub(crate) enum Found {
 
 /// What the newest bit ends, by the last bits, the newest lowest. `count` bits came before it.
 pub(crate) fn look(window: u32, count: u64) -> Found
-    ensures { (b : List Bool) (bit : Bool) → window ≡ number (reverse (b ++ bit ∷ [])) % 2 ^ 32 → count ≡ length b → IsFound bit (ones_at_end b) count result }
+    ensures { (b : List Bool) (bit : Bool) → window ≡ number (reverse (b ++ bit ∷ [])) % 2 ^ 32 → count ≡ length b →
+        IsFound bit (ones_at_end b) count result }
 {
     if window & 0xff == 0x7f {
         return Found::Seven;

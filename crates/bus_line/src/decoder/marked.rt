@@ -1,7 +1,7 @@
 //! Bits of which some are to be left out.
 
 ghost use Rattle.std.specs.Prelude.{◌≡◌, ◌≢◌, ◌≤◌, ◌<◌, ◌^◌};
-ghost use Rattle.bus_line.specs.Late.{kept};
+ghost use Rattle.bus_line.specs.Internal.Late.{kept};
 
 /// Bits, at most eight, the first highest, and marks on some of them.
 #[derive(Clone, Copy)]

@@ -1,6 +1,6 @@
 //! Lines that are encoded, by honest and by failing readers and writers.
 
-use crate::fakes::{LineFeeds, Narrow, Pieces};
+use crate::fakes::{Fixed, Narrow, Pieces, Repeated};
 use crate::{ToolFault, encode_frames};
 use std::alloc::{AllocError, Global};
 use std::test::Fail;
@@ -182,7 +182,11 @@ fn any_cut(rt: HostRuntime) -> Result<(), Fail> {
 
 #[test]
 fn endless_reader(rt: HostRuntime) -> Result<(), Fail> {
-    let mut reader = LineFeeds { calls: 0 };
+    let mut reader = Repeated {
+        octets: b"\n",
+        left: u64::MAX,
+        calls: 0,
+    };
     let mut out = Vec::new(rt.alloc());
     assert_eq!(rt;
         encode_frames(20, &mut reader, &mut out),
@@ -280,4 +284,13 @@ fn flushes(rt: HostRuntime) -> Result<(), Fail> {
         assert_eq!(rt; writer.flushes, flushes);
     }
     Ok(())
+}
+
+/// To be run with each request for memory refused in turn: there is none.
+#[test]
+fn takes_no_memory(rt: HostRuntime) {
+    let mut reader = THREE;
+    let mut writer = Fixed::new();
+    assert_eq!(rt; encode_frames(100, &mut reader, &mut writer), Ok(()));
+    assert_eq!(rt; writer.out.as_slice(), THREE_TEXT.as_bytes());
 }

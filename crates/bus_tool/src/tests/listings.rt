@@ -1,20 +1,14 @@
 //! Captures by honest and by failing readers and writers.
 
-use crate::fakes::{Endless, Fixed, Halves, Narrow, Pieces};
+use crate::fakes::{Counted, Halves, Narrow, Pieces, Repeated};
 use crate::tests::worked::{
-    CALL, CALL_AND_REPLY, CALL_AND_REPLY_TEXT, CALL_TEXT, CALLS, FLAG, IDLE, MISSING_AND_SPOILT,
-    MISSING_AND_SPOILT_REPORT, ONE_CALL_TEXT, joined, of_text, run_over, summary,
+    ANSWERED, CALL, CALL_AND_REPLY, CALL_AND_REPLY_TEXT, CALL_TEXT, CALLS, FLAG, IDLE,
+    MISSING_AND_SPOILT, MISSING_AND_SPOILT_REPORT, NONE, joined, of_text, run_over,
 };
 use crate::{Options, Summary, ToolFault, check_capture, list_capture};
-use arrayvec::ArrayVec;
 use bus_dictionary::DictFault;
 use std::alloc::{AllocError, Global};
 use std::test::Fail;
-
-/// What is counted of a call and its reply.
-fn answered() -> Result<Summary, ToolFault> {
-    Ok(summary([2, 0, 0, 0, 0, 0, 1, 0, 0]))
-}
 
 /// A reader of so many octets a call, which fails at one of them if that is not 0.
 fn pieces(rest: &[u8], piece: usize, fails_at: u64) -> Pieces<'_> {
@@ -46,7 +40,7 @@ fn any_cut(rt: HostRuntime) -> Result<(), Fail> {
         let mut reader = Halves { first, second };
         let mut out = Vec::new(rt.alloc());
         let ending = list_capture(rt.alloc(), &of_text(Some(CALLS)), &mut reader, &mut out);
-        assert_eq!(rt; ending, answered(), "{at}");
+        assert_eq!(rt; ending, Ok(ANSWERED), "{at}");
         assert_eq!(rt; out.as_slice(), CALL_AND_REPLY_TEXT.as_bytes());
     }
     Ok(())
@@ -68,7 +62,7 @@ fn bad_mark_of_any_read(rt: HostRuntime) -> Result<(), Fail> {
 }
 
 /// A text capture with so many spaces behind each bit.
-fn spaced(alloc: Global, capture: &[u8], spaces: usize) -> Result<Vec<u8>, AllocError> {
+pub fn spaced(alloc: Global, capture: &[u8], spaces: usize) -> Result<Vec<u8>, AllocError> {
     let mut wide = Vec::new(alloc);
     for mark in capture {
         wide.push(*mark)?;
@@ -87,7 +81,7 @@ fn many_spaces(rt: HostRuntime) -> Result<(), Fail> {
         let mut reader = pieces(wide.as_slice(), piece, 0);
         let mut out = Vec::new(rt.alloc());
         let ending = list_capture(rt.alloc(), &of_text(Some(CALLS)), &mut reader, &mut out);
-        assert_eq!(rt; ending, answered());
+        assert_eq!(rt; ending, Ok(ANSWERED));
         assert_eq!(rt; out.as_slice(), CALL_AND_REPLY_TEXT.as_bytes());
     }
     Ok(())
@@ -100,34 +94,16 @@ fn endless_reader(rt: HostRuntime) -> Result<(), Fail> {
         ..of_text(None)
     };
     for (checks, text) in [(false, "0 15 idle\n"), (true, "")] {
-        let mut reader = Endless { calls: 0 };
+        let mut reader = Repeated {
+            octets: b"1",
+            left: u64::MAX,
+            calls: 0,
+        };
         let mut out = Vec::new(rt.alloc());
         let ending = run_over(checks, rt.alloc(), &options, &mut reader, &mut out);
         assert_eq!(rt; ending, Err(ToolFault::ReadsLimit));
         assert_eq!(rt; out.as_slice(), text.as_bytes());
         assert_eq!(rt; reader.calls, 20);
-    }
-    Ok(())
-}
-
-/// Only a call that answers the end ends the input; one call fewer is too few.
-#[test]
-fn fewest_reads(rt: HostRuntime) -> Result<(), Fail> {
-    let capture = joined(rt.alloc(), &CALL_AND_REPLY)?;
-    for (reads, want) in [
-        (107, answered()),
-        (106, Err(ToolFault::ReadsLimit)),
-        (0, Err(ToolFault::ReadsLimit)),
-    ] {
-        let options = Options {
-            reads,
-            ..of_text(Some(CALLS))
-        };
-        let mut reader = pieces(capture.as_slice(), 1, 0);
-        let mut out = Vec::new(rt.alloc());
-        let ending = list_capture(rt.alloc(), &options, &mut reader, &mut out);
-        assert_eq!(rt; ending, want, "{reads}");
-        assert_eq!(rt; reader.calls, reads);
     }
     Ok(())
 }
@@ -292,7 +268,7 @@ fn judged_before(rt: HostRuntime) -> Result<(), Fail> {
 }
 
 /// So many calls, each without an answer but perhaps the last.
-fn calls(alloc: Global, count: usize) -> Result<Vec<u8>, AllocError> {
+pub fn calls(alloc: Global, count: usize) -> Result<Vec<u8>, AllocError> {
     let mut capture = joined(alloc, &[FLAG])?;
     let frame = joined(alloc, &[CALL, FLAG])?;
     for _frame in 0..count {
@@ -302,7 +278,7 @@ fn calls(alloc: Global, count: usize) -> Result<Vec<u8>, AllocError> {
 }
 
 /// Their listing: frame number `i` begins at place `8 + 49 * i` and has 41 bits.
-fn calls_text(alloc: Global, count: u16) -> Result<String, Fail> {
+pub fn calls_text(alloc: Global, count: u16) -> Result<String, Fail> {
     let mut text = String::new(alloc);
     let mut waits = None;
     for i in 0..count {
@@ -341,7 +317,12 @@ fn long_listing(rt: HostRuntime) -> Result<(), Fail> {
                 let written = room as u128;
                 assert_eq!(rt; ending, Err(ToolFault::Write { written }));
             } else {
-                assert_eq!(rt; ending, Ok(summary([1000, 0, 0, 0, 0, 0, 0, 999, 0])));
+                let want = Summary {
+                    frames: 1000,
+                    missing: 999,
+                    ..NONE
+                };
+                assert_eq!(rt; ending, Ok(want));
             }
         }
     }
@@ -377,48 +358,51 @@ fn long_report(rt: HostRuntime) -> Result<(), Fail> {
             let written = room as u128;
             assert_eq!(rt; ending, Err(ToolFault::Write { written }));
         } else {
-            assert_eq!(rt; ending, Ok(summary([1100, 0, 0, 0, 0, 0, 0, 1099, 0])));
+            let want = Summary {
+                frames: 1100,
+                missing: 1099,
+                ..NONE
+            };
+            assert_eq!(rt; ending, Ok(want));
         }
     }
     Ok(())
 }
 
-/// To be run with each request for memory refused in turn.
+/// A call, and the flag behind it.
+const CALL_AND_FLAG: &[u8] = b"00001000 11000001 00000000 101111101 10100111 01111110";
+
+/// To be run with each request for memory refused in turn. A refusal comes before the first read
+/// and write, and the next attempt succeeds. The first of the calls has no flag before it.
 #[test]
-fn refused_memory(rt: HostRuntime) -> Result<(), Fail> {
-    let capture = b"01111110 00001000 11000001 00000000 101111101 10100111 01111110";
-    for (checks, text) in [(false, ONE_CALL_TEXT), (true, CALL_REPORT)] {
-        let mut writer = Fixed {
-            out: ArrayVec::new(),
-        };
-        let mut reader = capture.as_slice();
-        match run_over(
-            checks,
-            rt.alloc(),
-            &of_text(Some(CALLS)),
-            &mut reader,
-            &mut writer,
-        ) {
-            Ok(_) => assert_eq!(rt; writer.out.as_slice(), text.as_bytes()),
-            Err(fault) => {
-                assert_eq!(rt; fault, ToolFault::Memory);
-                assert!(rt; writer.out.is_empty());
+fn refused_memory(rt: HostRuntime) {
+    let want = Summary {
+        frames: 1099,
+        missing: 1098,
+        ..NONE
+    };
+    for checks in [false, true] {
+        let mut is_refused = false;
+        for _attempt in 0..2 {
+            let mut reader = Repeated {
+                octets: CALL_AND_FLAG,
+                left: 1100,
+                calls: 0,
+            };
+            let mut writer = Counted::new();
+            let options = Options {
+                depth: 1024,
+                ..of_text(Some(CALLS))
+            };
+            let ending = run_over(checks, rt.alloc(), &options, &mut reader, &mut writer);
+            if ending == Err(ToolFault::Memory) {
+                assert!(rt; !is_refused);
+                assert_eq!(rt; (reader.calls, writer), (0, Counted::new()));
+                is_refused = true;
+            } else {
+                assert_eq!(rt; ending, Ok(want));
+                assert_eq!(rt; (reader.calls, writer.flushes), (1101, 1));
             }
         }
     }
-    Ok(())
 }
-
-/// The report of one call that is pending.
-const CALL_REPORT: &str = "\
-frames 1
-damaged 0
-overlong 0
-aborts 0
-idles 0
-strays 0
-answered 0
-missing 0
-spoilt 0
-last 8 49 108300fde5
-";

@@ -1,20 +1,17 @@
 //! Packed captures.
 
 use crate::fakes::{Halves, Pieces};
-use crate::tests::worked::{CALL_TEXT, ONE_CALL_TEXT, PACKED, of_packed, run_over, summary};
+use crate::tests::worked::{CALL_TEXT, NONE, ONE_CALL_TEXT, PACKED, of_packed, run_over};
 use crate::{Summary, ToolFault, list_capture};
 use std::test::Fail;
 
 /// One frame was seen.
-fn one_frame() -> Result<Summary, ToolFault> {
-    Ok(summary([1, 0, 0, 0, 0, 0, 0, 0, 0]))
-}
+const FRAME: Summary = Summary { frames: 1, ..NONE };
 
 #[test]
 fn faults(rt: HostRuntime) -> Result<(), Fail> {
-    let nothing = Ok(summary([0, 0, 0, 0, 0, 0, 0, 0, 0]));
     let cases: [(&[u8], Result<Summary, ToolFault>, &str); 13] = [
-        (&PACKED, one_frame(), ONE_CALL_TEXT),
+        (&PACKED, Ok(FRAME), ONE_CALL_TEXT),
         (b"", Err(ToolFault::ShortHead), ""),
         (b"TS2BITS1\x39\0", Err(ToolFault::ShortHead), ""),
         // Too short is judged before all else.
@@ -23,7 +20,7 @@ fn faults(rt: HostRuntime) -> Result<(), Fail> {
         (b"TS2BITS1\x01\0\0\0\0\0\0\x10", Err(ToolFault::TooMany), ""),
         (b"TS2BITS2\x01\0\0\0\0\0\0\x10", Err(ToolFault::Magic), ""),
         (b"TS2BITS1\0\0\0\0\0\0\0\x10", Err(ToolFault::ShortBody), ""),
-        (b"TS2BITS1\0\0\0\0\0\0\0\0", nothing, ""),
+        (b"TS2BITS1\0\0\0\0\0\0\0\0", Ok(NONE), ""),
         (b"TS2BITS1\0\0\0\0\0\0\0\0\0", Err(ToolFault::Trailing), ""),
         (
             b"TS2BITS1\x39\0\0\0\0\0\0\0\x7e\x10\x83\x00\x7d\xcb\xfd\x02",
@@ -65,7 +62,7 @@ fn any_cut(rt: HostRuntime) -> Result<(), Fail> {
         let mut reader = Halves { first, second };
         let mut out = Vec::new(rt.alloc());
         let ending = list_capture(rt.alloc(), &of_packed(), &mut reader, &mut out);
-        assert_eq!(rt; ending, one_frame(), "{at}");
+        assert_eq!(rt; ending, Ok(FRAME), "{at}");
         assert_eq!(rt; out.as_slice(), ONE_CALL_TEXT.as_bytes());
     }
     let mut reader = Pieces {
@@ -76,7 +73,7 @@ fn any_cut(rt: HostRuntime) -> Result<(), Fail> {
     };
     let mut out = Vec::new(rt.alloc());
     let ending = list_capture(rt.alloc(), &of_packed(), &mut reader, &mut out);
-    assert_eq!(rt; ending, one_frame());
+    assert_eq!(rt; ending, Ok(FRAME));
     assert_eq!(rt; out.as_slice(), ONE_CALL_TEXT.as_bytes());
     // Each octet by a call of its own, and one call for the end.
     assert_eq!(rt; reader.calls, 25);

@@ -66,6 +66,21 @@ pub const MISSING_AND_SPOILT_TEXT: &str = "\
 57 98 spoilt station 16 type 0
 ";
 
+pub const CALL_AND_REPLY_REPORT: &str = "\
+frames 2
+damaged 0
+overlong 0
+aborts 0
+idles 0
+strays 0
+answered 1
+missing 0
+spoilt 0
+station 16 answered 1 missing 0 spoilt 0
+last 8 49 108300fde5
+last 57 98 108380f561
+";
+
 pub const MISSING_AND_SPOILT_REPORT: &str = "\
 frames 2
 damaged 1
@@ -153,31 +168,25 @@ pub fn of_packed() -> Options<'static> {
     }
 }
 
-/// The counts in their order.
-pub fn summary(counts: [u64; 9]) -> Summary {
-    let [
-        frames,
-        damaged,
-        overlong,
-        aborts,
-        idles,
-        strays,
-        answered,
-        missing,
-        spoilt,
-    ] = counts;
-    Summary {
-        frames,
-        damaged,
-        overlong,
-        aborts,
-        idles,
-        strays,
-        answered,
-        missing,
-        spoilt,
-    }
-}
+/// Nothing was seen.
+pub const NONE: Summary = Summary {
+    frames: 0,
+    damaged: 0,
+    overlong: 0,
+    aborts: 0,
+    idles: 0,
+    strays: 0,
+    answered: 0,
+    missing: 0,
+    spoilt: 0,
+};
+
+/// What is counted in a call and its reply.
+pub const ANSWERED: Summary = Summary {
+    frames: 2,
+    answered: 1,
+    ..NONE
+};
 
 /// Checks a capture, or else lists it.
 pub fn run_over<R: Read, W: Write>(

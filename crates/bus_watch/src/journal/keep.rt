@@ -5,28 +5,29 @@ ghost use Rattle.circular_buffer.specs.Buffer.{keep_last};
 
 use crate::journal::Journal;
 use crate::kept::Kept;
-use arrayvec::ArrayVec;
 use bus_bits::Span;
 
 impl Journal {
-    ghost use Rattle.bus_watch.specs.JournalState.{kept_frame};
+    ghost use Rattle.bus_watch.specs.History.{kept_frame};
 
     /// Copies a frame into the history, in place of the oldest where that is full.
     pub(crate) fn keep(&mut self, span: Span, octets: &[u8])
         requires fits { length octets.now ≤ 258 }
         requires copied { self.old.spent.copied + length octets.now < 2 ^ 64 }
         requires handled { self.old.spent.handled + 1 < 2 ^ 64 }
-        ensures history { map kept_frame self.new.history.items ≡ keep_last self.old.history.capacity (map kept_frame self.old.history.items ++ record { span = span; octets = octets.now } ∷ []) }
+        ensures history { map kept_frame self.new.history.items
+            ≡ keep_last self.old.history.capacity
+            (map kept_frame self.old.history.items ++ record { span = span; octets = octets.now } ∷ []) }
         ensures capacity { self.new.history.capacity ≡ self.old.history.capacity }
-        ensures spent { self.new.spent ≡ record self.old.spent { copied = self.old.spent.copied + length octets.now; handled = self.old.spent.handled + 1 } }
+        ensures spent { self.new.spent
+            ≡ record self.old.spent {
+              copied = self.old.spent.copied + length octets.now;
+              handled = self.old.spent.handled + 1;
+            } }
         ensures kept { self.new ≡ record self.old { history = self.new.history; spent = self.new.spent } }
     {
-        let mut copy = ArrayVec::new();
-        for octet in octets {
-            copy.push(*octet);
-        }
         self.spent.copied += octets.len() as u64;
         self.spent.tick_handled();
-        self.history.push_back(Kept { span, octets: copy });
+        self.history.push_back(Kept::of(span, octets));
     }
 }

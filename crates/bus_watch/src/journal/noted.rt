@@ -44,7 +44,11 @@ impl Noted {
     /// What follows from a frame of this standing that decides this verdict. It is a stray if it has
     /// an answer's type and answers nothing.
     pub(crate) fn of_frame(standing: Standing, verdict: Option<Verdict>) -> Self
-        ensures { result ≡ record { standing = Some standing; verdict = verdict; stray = is_stray (Some standing) verdict } }
+        ensures { result ≡ record {
+          standing = Some standing;
+          verdict = verdict;
+          stray = is_stray (Some standing) verdict;
+        } }
     {
         let stray = match type_in(standing) {
             Some(ftype) if ftype >= 128 => !answers(verdict),

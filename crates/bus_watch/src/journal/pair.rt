@@ -33,9 +33,9 @@ impl Pending {
 }
 
 impl Journal {
-    ghost use Rattle.bus_watch.specs.JournalState.{CanCount};
+    ghost use Rattle.bus_watch.specs.Internal.JournalState.{CanCount};
     ghost use Rattle.bus_watch.specs.Talk.{command, verdict};
-    ghost use Rattle.bus_watch.specs.Counted.{Counted};
+    ghost use Rattle.bus_watch.specs.Internal.Counted.{Counted};
 
     /// The command that a frame is, if it waits for an answer: known, of a type below 128 that is to
     /// be answered, and to one station.
@@ -65,7 +65,12 @@ impl Journal {
         requires handled { self.old.spent.handled + 2 < 2 ^ 64 }
         ensures value { result ≡ option_map (verdict right) self.old.waiting }
         ensures tally { Counted result self.old.tally self.new.tally }
-        ensures kept { self.new ≡ record self.old { waiting = None; tally = self.new.tally; spent = record self.old.spent { handled = self.old.spent.handled + 2 } } }
+        ensures kept { self.new
+            ≡ record self.old {
+              waiting = None;
+              tally = self.new.tally;
+              spent = record self.old.spent { handled = self.old.spent.handled + 2 };
+            } }
     {
         self.spent.tick_handled();
         self.spent.tick_handled();
@@ -92,7 +97,7 @@ impl Journal {
 }
 
 impl Counts {
-    ghost use Rattle.bus_watch.specs.Counted.{one_more};
+    ghost use Rattle.bus_watch.specs.Internal.Counted.{one_more};
 
     /// One verdict more.
     fn counted(self, outcome: Outcome) -> Counts

@@ -1,6 +1,6 @@
-use Rattle.bus_bits.proofs.CaptureLemmas.{placed-grows}
+use Rattle.bus_bits.proofs.CaptureLemmas.{capped-grows}
 use Rattle.bus_bits.proofs.PackedLemmas.{packed-grows, packed-ends}
-use Rattle.bus_bits.proofs.TextLemmas.{text-grows}
+use Rattle.bus_bits.proofs.TextBitsLemmas.{text-grows}
 use Rattle.bus_bits.proofs.laws.captures_grow.Goals as goal
 
 pub returns-clause-text : goal.returns-clause-text
@@ -12,5 +12,5 @@ returns-clause-packed c = packed-grows
 pub returns-clause-ended : goal.returns-clause-ended
 returns-clause-ended c = packed-ends
 
-pub returns-clause-placed : goal.returns-clause-placed
-returns-clause-placed c = placed-grows
+pub returns-clause-capped : goal.returns-clause-capped
+returns-clause-capped c = capped-grows

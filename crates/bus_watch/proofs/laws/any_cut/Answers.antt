@@ -1,5 +1,5 @@
 use Rattle.std.proofs.Common.{[], sym}
-use Rattle.bus_watch.proofs.LawLemmas.{runs-from}
+use Rattle.bus_watch.proofs.LawsLemmas.{runs-from}
 use Rattle.bus_watch.proofs.laws.any_cut.Goals as goal
 
 pub returns : goal.returns

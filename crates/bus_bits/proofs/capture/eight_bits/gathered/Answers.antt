@@ -1,6 +1,6 @@
 use Rattle.std.proofs.Common.{◌<◌}
 use Rattle.std.proofs.lemmas.List.Elements.{All-from_get_or}
-use Rattle.bus_bits.proofs.EightLemmas.{gathered-bits}
+use Rattle.bus_bits.proofs.EightBitsLemmas.{gathered-bits}
 use Rattle.bus_bits.proofs.capture.eight_bits.gathered.Goals as goal
 
 pub returns : goal.returns

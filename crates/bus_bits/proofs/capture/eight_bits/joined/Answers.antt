@@ -1,7 +1,7 @@
 use Rattle.std.proofs.Common.{◌<◌, ◌++◌, take, drop, ◌∙◌}
 use Rattle.std.proofs.lemmas.List.Elements.{All-from_get_or}
 use Rattle.std.proofs.lemmas.Nat.{le_bytes_8}
-use Rattle.bus_bits.proofs.NineLemmas.{joined-long, joined-small, masks-join}
+use Rattle.bus_bits.proofs.EightBitsOfNineLemmas.{joined-long, joined-small, masks-join}
 use Rattle.bus_bits.proofs.capture.eight_bits.joined.Goals as goal
 
 pub returns : goal.returns

@@ -1,7 +1,7 @@
 use Rattle.std.proofs.Common.{◌<◌, map, sym, ◌∙◌}
 use Rattle.std.proofs.lemmas.List.{length-map}
 use Rattle.std.proofs.lemmas.List.Elements.{All-from_get_or}
-use Rattle.bus_bits.proofs.EightLemmas.{other, others, word-eight}
+use Rattle.bus_bits.proofs.EightBitsLemmas.{other, others, word-eight}
 use Rattle.bus_bits.proofs.capture.eight_bits.other_bits.Goals as goal
 
 pub returns : goal.returns

@@ -1,10 +1,10 @@
 use Rattle.std.proofs.Common.{◌≡◌, ◌+◌, ◌-◌, ◌*◌, ◌%◌, ℕ, length, refl, sym, ap, ◌∙◌, arith}
 use Rattle.std.specs.Prelude.{nat_le}
 use Rattle.bus_bits.specs.declared.spent.Spent.{Spent}
-use Rattle.bus_line.specs.LineState.{LineState}
-use Rattle.bus_line.specs.LineView.{line_state}
-use Rattle.bus_line.specs.Late.{octets_more}
-use Rattle.bus_line.proofs.AppendLemmas.{Joins, shifted_by, same-shift, holds-few, fills-first_bits, holds-further, octets_more-first}
+use Rattle.bus_line.specs.Internal.LineState.{LineState}
+use Rattle.bus_line.specs.Internal.LineView.{line_state}
+use Rattle.bus_line.specs.Internal.Late.{octets_more}
+use Rattle.bus_line.proofs.TracksAppendLemmas.{Joins, shifted_by, same-shift, holds-few, fills-first_bits, holds-further, octets_more-first}
 use Rattle.bus_line.proofs.StepLemmas.{one_more, one-stored}
 use Rattle.bus_line.proofs.decoder.LineDecoder.append.Goals as goal
 

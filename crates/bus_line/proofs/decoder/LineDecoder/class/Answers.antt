@@ -2,8 +2,8 @@ use Rattle.std.proofs.Common.{◌/◌, Bool, Some, sym, ap, ◌∙◌, arith, if
 use Rattle.std.proofs.lemmas.Nat.{and_mask}
 use Rattle.bus_line.specs.Report.{Kind, Frame, Damaged}
 use Rattle.bus_line.specs.declared.cause.Cause.TheVariants.{Fcs}
-use Rattle.bus_line.specs.LineState.{LineState}
-use Rattle.bus_line.specs.LineView.{line_state}
+use Rattle.bus_line.specs.Internal.LineState.{LineState}
+use Rattle.bus_line.specs.Internal.LineView.{line_state}
 use Rattle.bus_line.proofs.ClassLemmas.{is_closed, class-five, class-read, data-over, data-short, data-unaligned, class-checked}
 use Rattle.bus_line.proofs.decoder.LineDecoder.class.Goals as goal
 

@@ -1,10 +1,10 @@
 use Rattle.std.proofs.Common.{[], ◌∷◌, ◌++◌, None, sym, ap, ◌∙◌, subst}
 use Rattle.std.proofs.lemmas.List.{append-nil}
 use Rattle.std.specs.Option.{option_map}
-use Rattle.bus_line.specs.After.{Tracks}
+use Rattle.bus_line.specs.Internal.Tracks.{Tracks}
 use Rattle.bus_line.specs.Report.{moved}
 use Rattle.bus_line.proofs.DecideLemmas.{not_behind, nothing-due, mark-kept}
-use Rattle.bus_line.proofs.MoreLemmas.{placed-more}
+use Rattle.bus_line.proofs.DueMoreLemmas.{placed-more}
 use Rattle.bus_line.proofs.decoder.LineDecoder.pass.Goals as goal
 
 pub returns-clause-passed : goal.returns-clause-passed

@@ -1,9 +1,9 @@
 use Rattle.std.proofs.Common.{◌≡◌, ℕ, ◌<◌, ◌^◌, List, Some, None, length, refl, sym, ap, ◌∙◌, subst, arith}
 use Rattle.bus_line.specs.Report.{Frame}
-use Rattle.bus_line.specs.LineState.{LineState}
+use Rattle.bus_line.specs.Internal.LineState.{LineState}
 use Rattle.bus_line.specs.After.{Pushed}
 use Rattle.bus_line.specs.declared.piece.Piece.TheVariants as piece
-use Rattle.bus_line.proofs.MoreLemmas.{placed-more}
+use Rattle.bus_line.proofs.DueMoreLemmas.{placed-more}
 use Rattle.bus_line.proofs.decoder.LineDecoder.push.Goals as goal
 
 pub returns-in-Nothing : goal.returns-in-Nothing

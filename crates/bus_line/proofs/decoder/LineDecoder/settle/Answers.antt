@@ -1,8 +1,8 @@
 use Rattle.std.proofs.Common.{◌+◌, ◌-◌, ◌*◌, ◌/◌, ◌%◌, [], ◌∷◌, ◌++◌, refl, sym, ap, ◌∙◌}
 use Rattle.std.proofs.lemmas.Nat.{and_mask}
 use Rattle.bus_bits.specs.declared.spent.Spent.{Spent}
-use Rattle.bus_line.specs.LineState.{LineState}
-use Rattle.bus_line.specs.LineView.{line_state}
+use Rattle.bus_line.specs.Internal.LineState.{LineState}
+use Rattle.bus_line.specs.Internal.LineView.{line_state}
 use Rattle.bus_line.proofs.StepLemmas.{tracks-unsettled, settles-open, tracks-inserted, is_data, tracks-unfilled, fills-data, tracks-filled, stands-same}
 use Rattle.bus_line.proofs.decoder.LineDecoder.settle.Goals as goal
 
@@ -29,5 +29,5 @@ returns-clause-tracks g c = rw (← c.self.view_is) (λ b bit h.
     let m : LineState g.row.C.Denot = record d { gathered = d.gathered + 1; octet = d.octet / 2 + d.window / 256 % 2 * 128; spent = spent } in
     let fills = fills-data _ _ d b bit _ spent h i refl c.if-self-ne0.false in
     tracks-filled _ _ d m c.store.new.self b bit h i (ap (λ (t : Spent). record t { shifted = d.place - d.origin }) c.tick_assembled.ensures) refl refl c.if-self-ne0.false
-    (stands-same d m (b ++ bit ∷ []) refl refl refl h.stands) refl refl
+    (stands-same d m (b ++ bit ∷ []) refl refl refl h.has_taken) refl refl
     c.store.ensures.kept (c.store.ensures.holds _ _ fills) (c.store.ensures.spent _ _ fills))

@@ -1,9 +1,9 @@
 use Rattle.std.proofs.Common.{◌≡◌, ℕ, ◌+◌, ◌-◌, Some, min, ◌∙◌, sym, ap, refl, arith, nat_cmp}
 use Rattle.std.specs.Ordering.{ord_min}
 use Rattle.std.proofs.lemmas.Bool.Decides.{nat_tests}
-use Rattle.bus_line.specs.LineState.{LineState}
-use Rattle.bus_line.specs.LineView.{settles_from}
-use Rattle.bus_line.specs.Late.{late_data}
+use Rattle.bus_line.specs.Internal.LineState.{LineState}
+use Rattle.bus_line.specs.Internal.LineView.{settles_from}
+use Rattle.bus_line.specs.Internal.Late.{late_data}
 use Rattle.bus_line.proofs.StepLemmas.{settles-open}
 use Rattle.bus_line.proofs.SettleLemmas.{octet-unsettled, octet-settled}
 use Rattle.bus_line.proofs.decoder.LineDecoder.settle_octet.Goals as goal

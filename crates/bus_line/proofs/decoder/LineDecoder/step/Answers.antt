@@ -1,7 +1,7 @@
 use Rattle.std.proofs.Common.{[], ◌∷◌, ◌++◌, length, sym, ap, ◌∙◌, subst}
 use Rattle.std.specs.Option.{option_map}
 use Rattle.bus_line.specs.Due.{due_at}
-use Rattle.bus_line.specs.After.{Tracks}
+use Rattle.bus_line.specs.Internal.Tracks.{Tracks}
 use Rattle.bus_line.specs.Report.{moved}
 use Rattle.bus_line.proofs.DecideLemmas.{not_behind, nothing-due, mark-kept}
 use Rattle.bus_line.proofs.decoder.LineDecoder.step.Goals as goal

@@ -1,7 +1,7 @@
 use Rattle.std.proofs.Common.{◌≡◌, ℕ, ◌+◌, Bool, List, [], ◌∷◌, ◌++◌, take, sym, ap, ◌∙◌, subst, if◌then◌else◌}
 use Rattle.std.proofs.Math.Seq.{take-nil}
 use Rattle.bus_bits.specs.Octet.{octets}
-use Rattle.bus_line.specs.LineState.{LineState}
+use Rattle.bus_line.specs.Internal.LineState.{LineState}
 use Rattle.bus_line.proofs.StepLemmas.{holds-filled, fills-first, fills-later, fills-room}
 use Rattle.bus_line.proofs.decoder.LineDecoder.store.Goals as goal
 

@@ -1,5 +1,5 @@
 use Rattle.std.proofs.Common.{◌∙◌, arith}
-use Rattle.bus_line.proofs.KeptLemmas.{late-octet}
+use Rattle.bus_line.proofs.LateKeptLemmas.{late-octet}
 use Rattle.bus_line.proofs.decoder.late.late_data.Goals as goal
 
 pub returns-clause-value : goal.returns-clause-value

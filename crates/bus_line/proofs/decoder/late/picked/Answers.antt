@@ -2,7 +2,7 @@ use Rattle.std.proofs.Common.{◌≡◌, ℕ, suc, [], ◌+◌, ◌-◌, ◌*◌
 use Rattle.std.specs.Prelude.{bit_and, bit_or}
 use Rattle.std.proofs.lemmas.Nat.{and_mask}
 use Rattle.bus_bits.specs.Octet.{bits_of}
-use Rattle.bus_line.specs.Late.{late_data}
+use Rattle.bus_line.specs.Internal.Late.{late_data}
 use Rattle.bus_line.proofs.LateLemmas.{late-inserted, picked-more}
 use Rattle.bus_line.proofs.decoder.late.picked.Goals as goal
 

@@ -1,6 +1,6 @@
 use Rattle.std.proofs.Common.{◌≡◌, ◌≤◌, ◌<◌, ◌-◌, ◌^◌, ◌++◌}
 use Rattle.bus_bits.specs.Octet.{bits_of}
-use Rattle.bus_line.specs.Late.{late_data}
+use Rattle.bus_line.specs.Internal.Late.{late_data}
 use Rattle.bus_line.proofs.decoder.late.picked.Given as goal
 
 abbrev pub invariant-loop-i : goal.invariant-loop-i

@@ -1,8 +1,8 @@
 use Rattle.std.proofs.Common.{◌≡◌, ◌+◌, ◌-◌, ◌/◌, ◌^◌, ◌<◌, ℕ, sym, ap, ◌∙◌, subst, arith}
 use Rattle.std.proofs.lemmas.Nat.{shr_below}
 use Rattle.bus_bits.specs.Octet.{bits_of}
-use Rattle.bus_line.specs.Late.{kept}
-use Rattle.bus_line.proofs.KeptLemmas.{kept-all, turned}
+use Rattle.bus_line.specs.Internal.Late.{kept}
+use Rattle.bus_line.proofs.LateKeptLemmas.{kept-all, turned}
 use Rattle.bus_line.proofs.decoder.late.squeezed.Goals as goal
 
 pub returns-clause-value : goal.returns-clause-value

@@ -1,5 +1,5 @@
 use Rattle.std.proofs.Common.{◌≡◌, ◌≤◌, ◌<◌, ◌^◌}
-use Rattle.bus_line.specs.Late.{kept}
+use Rattle.bus_line.specs.Internal.Late.{kept}
 use Rattle.bus_line.proofs.decoder.late.squeezed.Given as goal
 
 abbrev pub invariant-loop-left : goal.invariant-loop-left

@@ -1,6 +1,6 @@
 use Rattle.std.proofs.Common.{sym, ◌∙◌, arith}
 use Rattle.std.proofs.lemmas.Nat.{and_mask}
-use Rattle.bus_line.proofs.WindowLemmas.{window-closing, window-seven, window-fifteen}
+use Rattle.bus_line.proofs.StepWindowLemmas.{window-closing, window-seven, window-fifteen}
 use Rattle.bus_line.proofs.decoder.look.look.Goals as goal
 use Rattle.bus_line.proofs.decoder.look.look.Goals.{else-window-eq126-via-then-window-eq126+else-count-gt6, else-window-eq126-via-else-window-eq126}
 

@@ -4,7 +4,7 @@ use Rattle.bus_watch.proofs.FedLemmas.{fed-nil, fed-more, refused-after}
 use Rattle.bus_watch.proofs.analyser.Analyser.feed.Goals as goal
 
 pub loop-bit-init : goal.loop-bit-init
-loop-bit-init g c = record { fed = fed-nil g.C.Check.folded g.C.Check.COST g.S.ReportSink.taken c.args.self.now c.args.sink.now; count = refl; refusals = refl }
+loop-bit-init g c = record { fed = fed-nil g.C.Check.folded g.C.Check.COST g.S.ReportSink.taken c.args.self.now c.args.sink.now; count = refl; refusals = refl; room = refl; within = λ w. w }
 
 pub loop-bit-preserved : goal.loop-bit-preserved
 loop-bit-preserved g c = record {
@@ -13,6 +13,8 @@ loop-bit-preserved g c = record {
       (fed-more g.C.Check.folded g.C.Check.COST g.S.ReportSink.taken _ _ _ _ _ _ _ _ c.loop-bit.invariant.fed (c.in-Ok.ensures.fed));
   count = omega arith;
   refusals = c.in-Ok.ensures.none_refused ∙ c.loop-bit.invariant.refusals;
+  room = c.in-Ok.ensures.room ∙ c.loop-bit.invariant.room;
+  within = λ w. c.in-Ok.ensures.within (c.loop-bit.invariant.within w);
 }
 
 pub returns-in-Err-clause-refused : goal.returns-in-Err-clause-refused

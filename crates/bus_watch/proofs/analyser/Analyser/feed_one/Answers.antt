@@ -1,7 +1,7 @@
 use Rattle.std.proofs.Common.{[], ◌∷◌, rules}
 use Rattle.std.proofs.lemmas.Result.{on_err_weaker}
 use Rattle.bus_watch.specs.Shown.{shown}
-use Rattle.bus_watch.specs.Stands.{Sees}
+use Rattle.bus_watch.specs.After.{Sees}
 use Rattle.bus_watch.proofs.FedLemmas.{refused-one}
 use Rattle.bus_watch.proofs.analyser.Analyser.feed_one.Goals as goal
 

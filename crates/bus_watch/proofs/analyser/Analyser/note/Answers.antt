@@ -3,23 +3,24 @@ use Rattle.std.specs.Option.{option_map}
 use Rattle.std.proofs.lemmas.Bool.{cases_lt}
 use Rattle.bus_line.specs.Report.{Report, moved}
 use Rattle.bus_line.specs.Due.{due_at}
-use Rattle.bus_line.specs.After.{Pushed, FitsFrame, shown, report_of}
+use Rattle.bus_line.specs.After.{Pushed, FitsFrame}
+use Rattle.bus_line.specs.Shown.{shown, report_of}
 use Rattle.bus_watch.specs.Seen.{seen_of, seen_at}
 use Rattle.bus_dictionary.specs.Dictionary.{longest_of}
-use Rattle.bus_watch.specs.JournalState.{journal_state}
-use Rattle.bus_watch.specs.Stands.{AnalyserState, Stands, Sees, line}
-use Rattle.bus_watch.specs.AnalyserView.{analyser_state}
-use Rattle.bus_watch.specs.Shown.{told_report}
-use Rattle.bus_watch.proofs.StandLemmas.{GrowsBy, sees-none, sees-some, held-octets, told-is}
-use Rattle.bus_watch.proofs.LawLemmas.{answer-is}
-use Rattle.bus_watch.proofs.RoomLemmas.{room, whole}
+use Rattle.bus_watch.specs.Internal.JournalState.{journal_state}
+use Rattle.bus_watch.specs.After.{AnalyserState, IsAfter, Sees, line}
+use Rattle.bus_watch.specs.Internal.AnalyserView.{analyser_state}
+use Rattle.bus_watch.specs.Internal.Told.{told_report}
+use Rattle.bus_watch.proofs.AfterLemmas.{GrowsBy, sees-none, sees-some, held-octets, told-is}
+use Rattle.bus_watch.proofs.LawsLemmas.{answer-is}
+use Rattle.bus_watch.proofs.AnalyserViewLemmas.{room, whole}
 use Rattle.bus_watch.proofs.analyser.Analyser.note.Goals as goal
 
 pub take-requires-clause-room : goal.take-requires-clause-room
 take-requires-clause-room g c =
     let place : c.self.inside.decoder.place < 2 ^ 60 = elim (cases_lt c.self.inside.decoder.place (2 ^ 60)) [ inl u ↦ u | inr u ↦ absurd (let e = c.in-Ok-Some.ensures.limit.1 u in cc) ] in
     room g.C.Check.folded g.C.Check.COST _ c.self.invariant.bits c.settled_places.ensures.frames c.settled_places.ensures.paid c.settled_places.ensures.within c.self.invariant.reached
-    (omega (arith, place, c.self.invariant.reached.decoder.stands.place))
+    (omega (arith, place, c.self.invariant.reached.decoder.has_taken.place))
 
 pub take-requires-clause-whole : goal.take-requires-clause-whole
 take-requires-clause-whole g c =
@@ -41,7 +42,7 @@ invariant_of-self-in-Ok-None g c =
       depth = c.self.invariant.depth;
       longest = q.longest ∙ c.self.invariant.longest;
       bits = c.self.invariant.bits ++ c.args.bit ∷ [];
-      reached = sees.stands c.self.invariant.bits c.self.invariant.reached;
+      reached = sees.is_after c.self.invariant.bits c.self.invariant.reached;
     }
 
 pub invariant_of-self-in-Ok-Some : goal.invariant_of-self-in-Ok-Some
@@ -57,7 +58,7 @@ invariant_of-self-in-Ok-Some g c =
       depth = omega (arith, c.self.invariant.depth, c.take.ensures.given.1);
       longest = q.longest ∙ c.self.invariant.longest ∙ ap longest_of (sym c.take.ensures.given.0);
       bits = c.self.invariant.bits ++ c.args.bit ∷ [];
-      reached = sees.stands c.self.invariant.bits c.self.invariant.reached;
+      reached = sees.is_after c.self.invariant.bits c.self.invariant.reached;
     }
 
 pub returns-in-Ok-None-clause-sees : goal.returns-in-Ok-None-clause-sees
@@ -87,7 +88,7 @@ returns-in-Ok-None-clause-answer g c =
     let grows = subst (GrowsBy g.C.Check.folded g.C.Check.COST c.self.inside.decoder c.args.bit) c.in-Ok-None.field-0-is c.in-Ok-None.ensures.more in
     let new : AnalyserState g.row.C.Denot = record { decoder = c.push.follows.lender-at-none; journal = journal_state c.self.inside.journal } in
     let sees = sees-none g.C.Check.folded g.C.Check.COST (analyser_state c.self.inside) new c.args.bit q grows refl in
-    subst (λ (a : AnalyserState g.row.C.Denot). (b : List Bool) → Stands g.C.Check.folded g.C.Check.COST a b → None ≡ seen_at a.journal.dictionary (line a (b ++ c.args.bit ∷ [])) a.decoder.place) c.self.view_is
+    subst (λ (a : AnalyserState g.row.C.Denot). (b : List Bool) → IsAfter g.C.Check.folded g.C.Check.COST a b → None ≡ seen_at a.journal.dictionary (line a (b ++ c.args.bit ∷ [])) a.decoder.place) c.self.view_is
     (λ b s. answer-is g.C.Check.folded g.C.Check.COST (analyser_state c.self.inside) b c.args.bit None c.seen_grows.ensures.grows s (sees.seen b s))
 
 pub returns-in-Ok-Some-clause-answer : goal.returns-in-Ok-Some-clause-answer
@@ -99,5 +100,5 @@ returns-in-Ok-Some-clause-answer g c =
     let told = told_report c.push.follows.lender-at-none.octets (record { held = c.of.result; noted = c.take.result }) in
     let held = c.of.ensures c.push.follows.lender-at-none.octets (held-octets c.push.follows.lender-at-none c.in-Ok-Some.piece q.held) in
     let sees = sees-some g.C.Check.folded g.C.Check.COST (analyser_state c.self.inside) new c.args.bit c.in-Ok-Some.piece told q grows c.take.ensures.keeps (λ rs k. told-is c.push.follows.lender-at-none.octets (record { held = c.of.result; noted = c.take.result }) (seen_of c.self.inside.journal.dictionary rs (report_of c.in-Ok-Some.piece)) held (c.take.ensures.says rs k)) c.take.ensures.given.0 c.take.ensures.given.1 in
-    subst (λ (a : AnalyserState g.row.C.Denot). (b : List Bool) → Stands g.C.Check.folded g.C.Check.COST a b → Some told ≡ seen_at a.journal.dictionary (line a (b ++ c.args.bit ∷ [])) a.decoder.place) c.self.view_is
+    subst (λ (a : AnalyserState g.row.C.Denot). (b : List Bool) → IsAfter g.C.Check.folded g.C.Check.COST a b → Some told ≡ seen_at a.journal.dictionary (line a (b ++ c.args.bit ∷ [])) a.decoder.place) c.self.view_is
     (λ b s. answer-is g.C.Check.folded g.C.Check.COST (analyser_state c.self.inside) b c.args.bit (Some told) c.seen_grows.ensures.grows s (sees.seen b s))

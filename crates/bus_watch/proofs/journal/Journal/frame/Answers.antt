@@ -1,6 +1,6 @@
 use Rattle.std.proofs.Common.{rules, subst}
-use Rattle.bus_watch.specs.Counted.{Counted}
-use Rattle.bus_watch.proofs.KeepLemmas.{keeps-frame}
+use Rattle.bus_watch.specs.Internal.Counted.{Counted}
+use Rattle.bus_watch.proofs.JournalStateLemmas.{keeps-frame}
 use Rattle.bus_watch.proofs.journal.Journal.frame.Goals as goal
 
 pub returns-clause-keeps : goal.returns-clause-keeps

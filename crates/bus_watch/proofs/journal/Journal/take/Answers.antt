@@ -1,6 +1,6 @@
 use Rattle.std.proofs.Common.{◌≡◌, refl, true, inl, inr}
-use Rattle.bus_line.specs.After.{report_of}
-use Rattle.bus_watch.specs.Noted.{is_damage}
+use Rattle.bus_line.specs.Shown.{report_of}
+use Rattle.bus_watch.specs.Internal.Noted.{is_damage}
 use Rattle.bus_watch.proofs.journal.Journal.take.Goals as goal
 
 pub returns-in-Idle-clause-says : goal.returns-in-Idle-clause-says

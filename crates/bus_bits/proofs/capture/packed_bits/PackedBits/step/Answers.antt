@@ -16,34 +16,19 @@ returns-then-self-eq0-clause-given c =
     let P : ℕ → Type 0 = λ left. PackedAfter n xs left in
     packed-trailing n xs c.args.octet (subst P e h)
 
-least : (a b : ℕ) → ord_min nat_cmp a b ≡ min a b
-least a b = grind (arith, nat_tests)
-
-used_is : (left used o : ℕ) → used ≡ min left 8
-    → (take used (bits_of 8 o) ≡ take left (bits_of 8 o)) × (drop used (bits_of 8 o) ≡ drop left (bits_of 8 o))
-used_is left used o e =
-    let m : used ≡ min left (length (bits_of 8 o)) = e ∙ ap (min left) (sym (length-bits 8 o)) in (
-      ap (λ (k : ℕ). take k (bits_of 8 o)) m ∙ take_min left (bits_of 8 o),
-      ap (λ (k : ℕ). drop k (bits_of 8 o)) m ∙ drop_min left (bits_of 8 o),
-    )
-
-unused_ones : (left used o : ℕ) (bits : List Bool) → bits ≡ bits_of 8 o → used ≡ min left 8
-    → list_any (λ b. b) (take (8 - used) (drop used bits)) ≡ list_any (λ b. b) (drop left (bits_of 8 o))
-unused_ones left used o bits b e =
-    ap (λ (x : List Bool). list_any (λ b. b) (take (8 - used) (drop used x))) b
-    ∙ ap (list_any (λ b. b)) (
-    take_all (8 - used) (drop used (bits_of 8 o)) (omega (arith, length-drop used (bits_of 8 o), length-bits 8 o))
-    ∙ (used_is left used o e).1)
+unused_ones : (left o : ℕ) (bits : List Bool) → bits ≡ bits_of 8 o
+    → list_any (λ b. b) (take (8 - left) (drop left bits)) ≡ list_any (λ b. b) (drop left (bits_of 8 o))
+unused_ones left o bits b =
+    ap (λ (x : List Bool). list_any (λ b. b) (take (8 - left) (drop left x))) b
+    ∙ ap (list_any (λ b. b)) (take_all (8 - left) (drop left (bits_of 8 o)) (omega (arith, length-drop left (bits_of 8 o), length-bits 8 o)))
 
 pub returns-then-has_one-clause-given : goal.returns-then-has_one-clause-given
 returns-then-has_one-clause-given c =
     λ n xs h.
     let left = c.args.self.now in
-    let v : c.self.inside.left ≡ left = c.self.view_is in
-    let m : c.min-used.result ≡ min left 8 = c.min-used.ensures ∙ least c.self.inside.left 8 ∙ ap (λ (k : ℕ). min k 8) v in
     let y : list_any (λ b. b) (drop left (bits_of 8 c.args.octet)) ≡ true =
-    sym (unused_ones left c.min-used.result c.args.octet c.octet_bits-bits.result c.octet_bits-bits.ensures m)
-    ∙ sym c.has_one.ensures ∙ c.if-has_one.true in
+    sym (unused_ones left c.args.octet c.octet_bits-bits.result c.octet_bits-bits.ensures)
+    ∙ sym (subst (λ (k : ℕ). c.has_one.result ≡ list_any (λ b. b) (take (8 - k) (drop k c.octet_bits-bits.result))) c.self.view_is c.has_one.ensures) ∙ c.if-has_one.true in
     let p : 0 < left = let z = c.if-self-eq0.false in omega arith in
     packed-pad n xs c.args.octet left h p y
 
@@ -52,16 +37,16 @@ returns-clause-given c =
     λ n xs h.
     let left = c.args.self.now in
     let o = c.args.octet in
-    let used = c.min-used.result in
-    let v : c.self.inside.left ≡ left = c.self.view_is in
-    let m : used ≡ min left 8 = c.min-used.ensures ∙ least c.self.inside.left 8 ∙ ap (λ (k : ℕ). min k 8) v in
     let y : list_any (λ b. b) (drop left (bits_of 8 o)) ≡ false =
-    sym (unused_ones left used o c.octet_bits-bits.result c.octet_bits-bits.ensures m) ∙ sym c.has_one.ensures ∙ c.if-has_one.false in
+    sym (unused_ones left o c.octet_bits-bits.result c.octet_bits-bits.ensures)
+    ∙ sym (subst (λ (k : ℕ). c.has_one.result ≡ list_any (λ b. b) (take (8 - k) (drop k c.octet_bits-bits.result))) c.self.view_is c.has_one.ensures) ∙ c.if-has_one.false in
     let p : 0 < left = let z = c.if-self-eq0.false in omega arith in
     let r = packed-more n xs o left h p y in
-    let s : left - 8 ≡ c.self.inside.left - used = omega arith in
+    let few = c.if-self-ge8.false in
+    let v : c.self.inside.left ≡ left = c.self.view_is in
+    let s : left - 8 ≡ 0 = omega arith in
     let g : c.gathered.result.items ≡ take left (bits_of 8 o) =
-    c.gathered.ensures ∙ ap (take used) c.octet_bits-bits.ensures ∙ (used_is left used o m).0 in
+    c.gathered.ensures ∙ ap (take c.self.inside.left) c.octet_bits-bits.ensures ∙ ap (λ (k : ℕ). take k (bits_of 8 o)) v in
     let P : ℕ → Type 0 = λ k. PackedAfter n (xs ++ o ∷ []) k in (
       subst P s r.0,
       r.1 ∙ ap (λ (x : List Bool). (packed_body n xs).bits ++ x) (sym g),

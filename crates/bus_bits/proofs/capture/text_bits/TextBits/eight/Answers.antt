@@ -6,11 +6,11 @@ use Rattle.std.specs.Array.{IsFirstChunk}
 use Rattle.std.specs.Int.{w64, from_le_bytes, trailing_zeros}
 use Rattle.std.specs.List.{All, list_all}
 use Rattle.bus_bits.specs.Octet.{bits_of}
-use Rattle.bus_bits.specs.Capture.{EightIn, is_mark, is_space, text_bits, text_fault}
+use Rattle.bus_bits.specs.Capture.{EightIn, is_bit, is_space, text_bits, text_fault}
 use Rattle.bus_bits.specs.declared.capture.eight_bits.EightBits.{EightBits}
-use Rattle.bus_bits.proofs.TextLemmas.{is_text}
-use Rattle.bus_bits.proofs.EightLemmas.{other}
-use Rattle.bus_bits.proofs.NineLemmas.{text-all, all_kept, marks_text, eight-least, eight-marks, marks-eight, text-eight, IsNine, nine-long, nine-small, nine-given, nine-text, others-none, others-place}
+use Rattle.bus_bits.proofs.TextBitsLemmas.{is_text}
+use Rattle.bus_bits.proofs.EightBitsLemmas.{other}
+use Rattle.bus_bits.proofs.EightBitsOfNineLemmas.{text-all, all_kept, marks_text, eight-least, eight-marks, marks-eight, text-eight, IsNine, nine-long, nine-small, nine-given, nine-text, others-none, others-place}
 use Rattle.bus_bits.proofs.capture.text_bits.TextBits.eight.Goals.{then-other_bits-ne0-via-then-other_bits-ne0, then-other_bits-ne0-via-else-other_bits-ne0+then-not-is_skipped}
 use Rattle.bus_bits.proofs.capture.text_bits.TextBits.eight.Goals as goal
 
@@ -44,12 +44,12 @@ nine-octets xs ys zs marks n f back is some low joined =
     record {
       place = place.0;
       long = omega (arith, back.enough, ap length all, length-drop 1 xs);
-      other = ap is_mark (sym (front_get xs ys k f place.0)) ∙ place.1;
+      other = ap is_bit (sym (front_get xs ys k f place.0)) ∙ place.1;
       joined = joined ∙ ap (λ (z : List ℕ). take k z ++ drop k zs) f.same ∙ ap (λ (z : List ℕ). take k (take 8 xs) ++ drop k z) (back.same ∙ ap (take 8) all);
     }
 
 -- what is given is what the octets give
-gives : (xs : List ℕ) (o n : ℕ) → list_all is_text (take n xs) ≡ true → bits_of 8 o ≡ map (λ y. y == 49) (filter is_mark (take n xs))
+gives : (xs : List ℕ) (o n : ℕ) → list_all is_text (take n xs) ≡ true → bits_of 8 o ≡ map (λ y. y == 49) (filter is_bit (take n xs))
     → (e : EightBits) → Some (record { octet = o; taken = n }) ≡ Some e
     → (before : List ℕ) → text_fault before ≡ None
     → (text_fault (before ++ take e.taken xs) ≡ None) × (text_bits (before ++ take e.taken xs) ≡ text_bits before ++ bits_of 8 e.octet)
@@ -81,16 +81,16 @@ returns-then-others-eq0-clause-given c =
     let xs = c.args.octets.now in
     let f = first_chunk_front xs c.in_ok-front.front.now c.type_inv.octets c.in_ok-front.ensures.cases in
     let m = (others-none c.in_ok-front.front.now c.other_bits-others.result f.long f.small c.other_bits-others.ensures).0 c.if-others-eq0.true in
-    let marks = ap (list_all is_mark) (sym f.same) ∙ m in
+    let marks = ap (list_all is_bit) (sym f.same) ∙ m in
     gives xs c.gathered.result 8 (marks_text (take 8 xs) marks)
-    (c.gathered.ensures ∙ ap (map (λ y. y == 49)) (f.same ∙ sym (all_kept is_mark (take 8 xs) marks)))
+    (c.gathered.ensures ∙ ap (map (λ y. y == 49)) (f.same ∙ sym (all_kept is_bit (take 8 xs) marks)))
 
 pub returns-then-others-eq0-clause-fewest : goal.returns-then-others-eq0-clause-fewest
 returns-then-others-eq0-clause-fewest c =
     let xs = c.args.octets.now in
     let f = first_chunk_front xs c.in_ok-front.front.now c.type_inv.octets c.in_ok-front.ensures.cases in
     let m = (others-none c.in_ok-front.front.now c.other_bits-others.result f.long f.small c.other_bits-others.ensures).0 c.if-others-eq0.true in
-    fewest xs c.gathered.result 8 (marks-eight xs c.in_ok-front.ensures.cases.enough (ap (list_all is_mark) (sym f.same) ∙ m))
+    fewest xs c.gathered.result 8 (marks-eight xs c.in_ok-front.ensures.cases.enough (ap (list_all is_bit) (sym f.same) ∙ m))
     (λ n h. eight-least n xs h)
 
 pub returns-then-others-eq0-clause-some : goal.returns-then-others-eq0-clause-some
@@ -98,7 +98,7 @@ returns-then-others-eq0-clause-some c =
     let xs = c.args.octets.now in
     let f = first_chunk_front xs c.in_ok-front.front.now c.type_inv.octets c.in_ok-front.ensures.cases in
     let m = (others-none c.in_ok-front.front.now c.other_bits-others.result f.long f.small c.other_bits-others.ensures).0 c.if-others-eq0.true in
-    (λ s. inl (marks-eight xs c.in_ok-front.ensures.cases.enough (ap (list_all is_mark) (sym f.same) ∙ m)), λ h. refl)
+    (λ s. inl (marks-eight xs c.in_ok-front.ensures.cases.enough (ap (list_all is_bit) (sym f.same) ∙ m)), λ h. refl)
 
 pub returns-in_err-back-clause-some : goal.returns-in_err-back-clause-some
 returns-in_err-back-clause-some c =
@@ -108,7 +108,7 @@ returns-in_err-back-clause-some c =
     let few : length xs < 9 = omega (arith, c.in_err-back.ensures.cases, length-take (length xs - 1) (drop 1 xs), length-drop 1 xs) in (
       λ s. absurd (no-some c.from_residual-in_err-back.result c.from_residual-in_err-back.ensures s),
       λ h. absurd (elim h [
-        | inl e ↦ c.if-others-eq0.false (none.1 (ap (list_all is_mark) f.same ∙ eight-marks xs e))
+        | inl e ↦ c.if-others-eq0.false (none.1 (ap (list_all is_bit) f.same ∙ eight-marks xs e))
         | inr e ↦ omega (arith, e.0, few)
       ]),
     )
@@ -124,7 +124,7 @@ returns-then-other_bits-ne0-clause-some c =
     let k = trailing_zeros w64 n / 8 in (
       λ s. absurd (cc),
       λ h. absurd (elim h [
-        | inl e ↦ c.if-others-eq0.false (none.1 (ap (list_all is_mark) f.same ∙ eight-marks xs e))
+        | inl e ↦ c.if-others-eq0.false (none.1 (ap (list_all is_bit) f.same ∙ eight-marks xs e))
         | inr e ↦ let given = nine-given xs c.joined-marks.result k nine e in
             elim c.then-other_bits-ne0.branch [
               | then-other_bits-ne0-via-then-other_bits-ne0 w ↦ w.if-other_bits-ne0.true ((others-none c.joined-marks.result c.other_bits.result (nine-long xs c.joined-marks.result k nine) (nine-small xs c.joined-marks.result k nine (all-small xs c.type_inv.octets)) c.other_bits.ensures).1 given.0)
@@ -174,7 +174,7 @@ returns-clause-fewest c =
     (λ m h. elim (cases_lt 8 m) [
       | inl l ↦ omega (arith, l)
       | inr g ↦ let e : m ≡ 8 = omega (arith, g, eight-least m xs h) in
-          absurd (c.if-others-eq0.false (none.1 (ap (list_all is_mark) f.same ∙ eight-marks xs (subst (λ i. EightIn i xs) e h))))
+          absurd (c.if-others-eq0.false (none.1 (ap (list_all is_bit) f.same ∙ eight-marks xs (subst (λ i. EightIn i xs) e h))))
     ])
 
 pub returns-clause-some : goal.returns-clause-some

@@ -1,6 +1,6 @@
 use Rattle.std.proofs.Common.{◌≡◌, ◌||◌, ◌==◌, ◌∷◌, [], ◌++◌, true, false, cond, ap, ◌∙◌}
 use Rattle.bus_bits.specs.Capture.{is_space, text_bits}
-use Rattle.bus_bits.proofs.TextLemmas.{text-more, text-stop, mark_is_text, mark_by_half, text_space}
+use Rattle.bus_bits.proofs.TextBitsLemmas.{text-more, text-stop, mark_is_text, mark_by_half, text_space}
 use Rattle.bus_bits.proofs.capture.text_bits.TextBits.step.Goals as goal
 
 pub returns-then-octet-clause-given : goal.returns-then-octet-clause-given

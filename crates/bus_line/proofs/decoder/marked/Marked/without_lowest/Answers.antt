@@ -1,4 +1,4 @@
-use Rattle.bus_line.proofs.KeptLemmas.{lowest-out}
+use Rattle.bus_line.proofs.LateKeptLemmas.{lowest-out}
 use Rattle.bus_line.proofs.decoder.marked.Marked.without_lowest.Goals as goal
 
 pub returns-clause-same : goal.returns-clause-same

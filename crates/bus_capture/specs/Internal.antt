@@ -1,0 +1,6 @@
+-- What proofs and private functions speak of: the state behind a contract, and what holds of it between two steps.
+pub mod Watching
+pub mod Sessions
+pub mod Reading
+pub mod Closes
+pub mod Asked

@@ -1,0 +1,74 @@
+//! Lists a capture.
+
+ghost use Rattle.std.specs.Prelude.{◌≡◌, ◌<◌, ◌^◌, ℕ, List, Option, IfSome};
+ghost use Rattle.bus_text.specs.Internal.Pages.{Pages};
+ghost use Rattle.bus_capture.specs.Internal.Closes.{IsNoWrite, Closes};
+ghost use Rattle.std.specs.Io.KnownBytes.{Consumes};
+ghost use Rattle.bus_capture.specs.Lists.{Lists};
+ghost use Rattle.bus_capture.specs.Known.{ListsKnown};
+
+use crate::reader::CaptureReader;
+use bus_bits::laws::captures_grow;
+use bus_fcs::OctetCheck;
+use bus_text::{Options, Page, Printer, Summary, ToolFault};
+use bus_watch::laws::seen_grows;
+use std::alloc::Global;
+use std::io::{Read, Write};
+
+/// Lists the reports of a capture: a line for each report as it is decided, with what
+/// the dictionary says of a frame, one for each verdict and each stray, and at the end one for a
+/// piece that has begun and one for a command that waits. Returns how often each thing was seen,
+/// whatever lines are wanted.
+///
+/// The dictionary is read first, then memory is taken for the history, and then the capture is read,
+/// by at most `reads` calls of the reader. The lines that one read decided are written before the
+/// next; after the last octet the writer is flushed, if anything was written.
+///
+/// # Errors
+///
+/// - `Dictionary`, `Depth`, `Origin`: the options can't be met. `Memory`: memory was refused. Up to
+///   here nothing was read, and nothing is written.
+/// - `BadMark`, `ShortHead`, `Magic`, `TooMany`, `ShortBody`, `PadBits`, `Trailing`, `PlaceLimit`:
+///   the first fault of the capture. The lines of the bits before it were written, and none of
+///   the end.
+/// - `Read`: the reader returned an error. `ReadsLimit`: it did not reach the end. In both the
+///   capture had no fault so far, and the lines of its bits were written, and none of the end.
+/// - `Write`: a write or the flush failed, or a write took nothing. It comes in place of any other.
+pub fn list_capture<R: Read, W: Write>(
+    alloc: Global,
+    o: &Options<'_>,
+    r: &mut R,
+    w: &mut W,
+) -> Result<Summary, ToolFault>
+    ensures listed { (xs : List ℕ) × Consumes (R.remaining r.old) (R.remaining r.new) xs
+        × Lists o.now (R.remaining r.new) (W.contents w.old) (W.contents w.new) xs result }
+    ensures known { IfSome (R.remaining r.old)
+        (λ all. ListsKnown o.now (W.contents w.old) (W.contents w.new) all result) }
+{
+    captures_grow();
+    seen_grows();
+    let mut reader = CaptureReader::<OctetCheck>::new(alloc, o, Some(Printer::of(o)))?;
+    match reader.take_input(o.reads, r, w) {
+        Ok(()) => reader.run.end(w),
+        Err(fault) => Err(close_behind(fault, &mut reader.run.page, w)),
+    }
+}
+
+/// Writes what is left of the page after a fault, and flushes, unless a write was that fault.
+/// Returns the fault, or that a write failed.
+fn close_behind<W: Write>(fault: ToolFault, page: &mut Page, w: &mut W) -> ToolFault
+    requires { page.old.written < 2 ^ 100 }
+    ensures cut { (sent : ℕ) → fault ≡ ToolFault.Write sent →
+        (result ≡ ToolFault.Write sent) × (W.contents w.new ≡ W.contents w.old) }
+    ensures closed { IsNoWrite fault → (start : Option (List ℕ)) (text : List ℕ) →
+        Pages start (W.contents w.old) page.old.text.bytes page.old.written text →
+        Closes start (W.contents w.new) text fault result }
+{
+    if let ToolFault::Write { written } = fault {
+        return ToolFault::Write { written };
+    }
+    match page.close(w) {
+        Ok(()) => fault,
+        Err(cut) => cut.into(),
+    }
+}

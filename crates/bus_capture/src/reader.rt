@@ -1,0 +1,175 @@
+//! Reads a capture to its end.
+
+ghost use Rattle.std.specs.Prelude.{◌≡◌, ◌+◌, ◌<◌, ◌≤◌, ◌^◌, ℕ, List, [], ◌++◌, Option, Some, None, MatchResult, OnOk, IfOk, length};
+ghost use Rattle.std.specs.Io.KnownBytes.{Consumes};
+ghost use Rattle.bus_bits.specs.Capture.{CaptureFault};
+ghost use Rattle.bus_dictionary.specs.Entry.{FrameType};
+ghost use Rattle.bus_capture.specs.Begins.{Begins, Refuses};
+ghost use Rattle.bus_capture.specs.Internal.Asked.{IsAsked};
+ghost use Rattle.bus_capture.specs.Captures.{unplaced, unplaced_whole, IsSameFault};
+ghost use Rattle.bus_capture.specs.Internal.Sessions.{IsReadBy, Follows, Stops, is_text};
+ghost use Rattle.bus_capture.specs.Internal.Reading.{octets_taken, IsWhole, IsFaulty, Finishes};
+ghost use Rattle.bus_capture.specs.Internal.Watching.{IsSound, IsSame};
+
+use crate::packed::PackedCapture;
+use crate::run::CaptureRun;
+use crate::text::TextCapture;
+use bus_bits::laws::packed_is_head_and_body;
+use bus_fcs::Check;
+use bus_text::{Options, Page, Printer, Summary, ToolFault, read_dictionary};
+use bus_watch::{Analyser, NewFault};
+use std::alloc::Global;
+use std::io::{Read, Write};
+
+/// How many octets are asked for at once.
+const ROOM: usize = 16384;
+
+/// What a capture is, as far as it was read.
+#[derive(Drop)]
+pub enum Source {
+    Text(TextCapture),
+    Packed(PackedCapture),
+}
+
+/// A capture that is read, and what is seen at its bits.
+#[derive(Drop)]
+pub struct CaptureReader<C: Check> {
+    pub source: Source,
+    pub run: CaptureRun<C>,
+}
+
+/// An analyser by the dictionary and the depth and the origin that are asked for.
+fn new_analyser<C: Check>(alloc: Global, options: &Options<'_>) -> Result<Analyser<C>, ToolFault>
+    ensures { MatchResult result
+        (λ analyser. (d : List FrameType) × Begins options.now d × IsAsked C.folded C.COST options.now d analyser)
+        (λ fault. Refuses options.now fault) }
+{
+    let dictionary = read_dictionary(alloc, options.dictionary)?;
+    match Analyser::new(alloc, dictionary, options.depth, options.origin) {
+        Ok(analyser) => Ok(analyser),
+        Err(NewFault::DepthRange) => Err(ToolFault::Depth),
+        Err(NewFault::Origin) => Err(ToolFault::Origin),
+        Err(NewFault::Memory) => Err(ToolFault::Memory),
+    }
+}
+
+impl<C: Check> CaptureReader<C> {
+    /// No octets of the capture that the options tell of.
+    pub fn new(
+        alloc: Global,
+        options: &Options<'_>,
+        printer: Option<Printer>,
+    ) -> Result<Self, ToolFault>
+        ensures made { MatchResult result
+            (λ reader. (d : List FrameType) × Begins options.now d
+            × IsAsked C.folded C.COST options.now d reader.run.analyser)
+            (λ fault. Refuses options.now fault) }
+        ensures fresh { IfOk result
+            (λ reader. (start : Option (List ℕ)) → Follows C.folded C.COST start start reader.source reader.run []) }
+        ensures given { IfOk result
+            (λ reader. (is_text reader.source ≡ options.now.text) × (reader.run.printer ≡ printer)
+            × (octets_taken reader.source ≡ 0)) }
+        ensures sound { IfOk result (λ reader. IsSound reader.run) }
+    {
+        let analyser = new_analyser(alloc, options)?;
+        let source = if options.text {
+            Source::Text(TextCapture { at: 0 })
+        } else {
+            Source::Packed(PackedCapture::new())
+        };
+        Ok(CaptureReader {
+            source,
+            run: CaptureRun {
+                analyser,
+                summary: Summary::none(),
+                printer,
+                page: Page::new(),
+            },
+        })
+    }
+
+    /// Takes some octets, up to the first fault.
+    fn take<W: Write>(&mut self, octets: &[u8], w: &mut W) -> Result<(), ToolFault>
+        requires sound { IsSound self.old.run }
+        requires few { octets_taken self.old.source + length octets.now < 2 ^ 100 }
+        ensures taken { (start : Option (List ℕ)) (xs : List ℕ) →
+            Follows C.folded C.COST start (W.contents w.old) self.old.source self.old.run xs → MatchResult result
+            (λ _. Follows C.folded C.COST start (W.contents w.new) self.new.source self.new.run (xs ++ octets.now))
+            (λ fault. Stops C.folded C.COST (is_text self.old.source) start (W.contents w.new) self.new.run
+            (xs ++ octets.now) fault) }
+        ensures text { is_text self.new.source ≡ is_text self.old.source }
+        ensures few { OnOk result (octets_taken self.new.source ≤ octets_taken self.old.source + length octets.now) }
+        ensures same { IsSame self.old.run self.new.run }
+        ensures sound { IsSound self.new.run }
+    {
+        match &mut self.source {
+            Source::Text(text) => text.take(octets, &mut self.run, w),
+            Source::Packed(packed) => packed.take(octets, &mut self.run, w),
+        }
+    }
+
+    /// What is wrong where the input ends here.
+    fn finish(&self) -> Result<(), ToolFault>
+        ensures { (xs : List ℕ) → IsReadBy self.now.source xs → MatchResult result
+            (λ _. unplaced_whole (is_text self.now.source) xs
+            ≡ record { bits = (unplaced (is_text self.now.source) xs).bits; fault = None })
+            (λ fault. (cause : CaptureFault) × IsSameFault fault cause
+            × (unplaced_whole (is_text self.now.source) xs
+            ≡ record { bits = (unplaced (is_text self.now.source) xs).bits; fault = Some cause })) }
+    {
+        match &self.source {
+            Source::Text(_) => Ok(()),
+            Source::Packed(packed) => packed.finish(),
+        }
+    }
+
+    /// Takes what one read gave, and writes its lines.
+    fn take_read<W: Write>(&mut self, octets: &[u8], w: &mut W) -> Result<(), ToolFault>
+        requires sound { IsSound self.old.run }
+        requires few { octets_taken self.old.source + length octets.now < 2 ^ 100 }
+        ensures taken { (start : Option (List ℕ)) (xs : List ℕ) →
+            Follows C.folded C.COST start (W.contents w.old) self.old.source self.old.run xs → MatchResult result
+            (λ _. Follows C.folded C.COST start (W.contents w.new) self.new.source self.new.run (xs ++ octets.now))
+            (λ fault. Stops C.folded C.COST (is_text self.old.source) start (W.contents w.new) self.new.run
+            (xs ++ octets.now) fault) }
+        ensures text { is_text self.new.source ≡ is_text self.old.source }
+        ensures few { OnOk result (octets_taken self.new.source ≤ octets_taken self.old.source + length octets.now) }
+        ensures same { IsSame self.old.run self.new.run }
+        ensures sound { IsSound self.new.run }
+    {
+        packed_is_head_and_body();
+        self.take(octets, w)?;
+        self.run.page.write_out(w)?;
+        Ok(())
+    }
+
+    /// Reads to the end or the first fault, by at most `reads` calls of the reader.
+    pub fn take_input<R: Read, W: Write>(
+        &mut self,
+        reads: u64,
+        r: &mut R,
+        w: &mut W,
+    ) -> Result<(), ToolFault>
+        requires sound { IsSound self.old.run }
+        requires fresh { (start : Option (List ℕ)) →
+            Follows C.folded C.COST start start self.old.source self.old.run [] }
+        requires few { octets_taken self.old.source ≡ 0 }
+        ensures read { (xs : List ℕ) × Consumes (R.remaining r.old) (R.remaining r.new) xs
+            × Finishes C.folded C.COST (is_text self.old.source) reads (R.remaining r.new) (W.contents w.old)
+            (W.contents w.new) self.new.run xs result }
+        ensures same { IsSame self.old.run self.new.run }
+        ensures sound { IsSound self.new.run }
+    {
+        packed_is_head_and_body();
+        let mut buffer = [0; ROOM];
+        for _turn in 0..reads {
+            let count = match r.read(&mut buffer) {
+                Ok(0) => return self.finish(),
+                Ok(count) => count,
+                Err(_) => return Err(ToolFault::Read),
+            };
+            self.take_read(&buffer[..count], w)?;
+        }
+        Err(ToolFault::ReadsLimit)
+    }
+}

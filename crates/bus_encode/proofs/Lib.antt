@@ -1,0 +1,4 @@
+pub mod LinesLemmas
+pub mod EncodeLemmas
+pub mod EncodeStateLemmas
+pub mod OrderLemmas

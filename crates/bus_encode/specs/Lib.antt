@@ -1,0 +1,4 @@
+pub mod Lines
+pub mod Encode
+pub mod Encodes
+pub mod Internal

@@ -1,0 +1,140 @@
+-- Bits on their way out, and the raw bits of data that go on.
+use Rattle.std.proofs.Common.{◌≡◌, ℕ, suc, ◌+◌, ◌*◌, ◌≤◌, ◌<◌, Bool, true, false, List, [], ◌∷◌, ◌++◌, length, take, drop, Option, Some, None, refl, sym, ap, ◌∙◌, subst, inl, inr, arith, nat_lt, get_or, Result, Ok, Err, OnErr, if◌then◌else◌}
+use Rattle.std.proofs.lemmas.List.{append_assoc, append-nil, length-append, take-append-le}
+use Rattle.std.proofs.lemmas.Bool.{cases_lt}
+use Rattle.std.proofs.lemmas.Bool.Decides.{nat_tests}
+use Rattle.bus_bits.specs.Octet.{bits_of, bits_of_octets}
+use Rattle.bus_bits.proofs.OctetLemmas.{bits_of_octets-append, bits_of_octets-push}
+use Rattle.bus_line.proofs.WholeLemmas.{take_next, split_at}
+use Rattle.bus_line.specs.Spelling.{spelling, ones}
+use Rattle.bus_line.specs.Internal.Inserting.{raw_after, run_after}
+use Rattle.bus_line.specs.Told.{told}
+use Rattle.bus_line.specs.Internal.StuffingWriter.{Sent, Cut}
+use Rattle.bus_line.specs.declared.encoder.stuffing_writer.StuffingWriter.{StuffingWriter}
+
+-- ---- what a sink was told
+
+pub told-nil : (t : Option (List Bool)) → t ≡ told t []
+told-nil None = refl
+told-nil (Some xs) = ap Some (sym (append-nil xs))
+
+pub told-more : (t : Option (List Bool)) (xs ys : List Bool) → told (told t xs) ys ≡ told t (xs ++ ys)
+told-more None xs ys = refl
+told-more (Some zs) xs ys = ap Some (append_assoc zs xs ys)
+
+take-both : (xs ys : List Bool) (k : ℕ) → take (length xs + k) (xs ++ ys) ≡ xs ++ take k ys
+take-both [] ys k = ap (λ n. take n ys) (omega arith)
+take-both (x ∷ xs) ys k = let e : length (x ∷ xs) + k ≡ suc (length xs + k) = omega arith in rw e (ap (λ l. x ∷ l) (take-both xs ys k))
+
+module _ {S : Type 0} (taken : S → Option (List Bool)) (refusals : S → ℕ) where
+  pub sent-nil : (a : StuffingWriter) (s : S) → Sent taken refusals [] a a s s
+  sent-nil a s = record { took = told-nil (taken s); kept = refl; written = omega arith }
+
+  pub sent-more : (xs ys : List Bool) (a b c : StuffingWriter) (s t u : S) → Sent taken refusals xs a b s t → Sent taken refusals ys b c t u → Sent taken refusals (xs ++ ys) a c s u
+  sent-more xs ys a b c s t u p q = record {
+    took = q.took ∙ (ap (λ z. told z ys) p.took ∙ told-more (taken s) xs ys);
+    kept = q.kept ∙ p.kept;
+    written = omega (arith, p.written, q.written, length-append xs ys);
+  }
+
+  -- the bits in front went out, and then the sink refused one
+  pub cut-behind : (xs ys : List Bool) (a b c : StuffingWriter) (s t u : S) → Sent taken refusals xs a b s t → Cut taken refusals ys b c t u → Cut taken refusals (xs ++ ys) a c s u
+  cut-behind xs ys a b c s t u p q = record {
+    count = length xs + q.count;
+    within = omega (arith, length-append xs ys, q.within);
+    took = q.took ∙ (ap (λ z. told z (take q.count ys)) p.took ∙ (told-more (taken s) xs (take q.count ys) ∙ ap (told (taken s)) (sym (take-both xs ys q.count))));
+    failed = q.failed ∙ ap (λ n. n + 1) p.kept;
+    written = omega (arith, p.written, q.written);
+  }
+
+  -- more bits would have come behind the one that was refused
+  pub cut-before : (xs ys : List Bool) (a b : StuffingWriter) (s t : S) → Cut taken refusals xs a b s t → Cut taken refusals (xs ++ ys) a b s t
+  cut-before xs ys a b s t q = record {
+    count = q.count;
+    within = omega (arith, length-append xs ys, q.within);
+    took = q.took ∙ ap (told (taken s)) (sym (take-append-le q.count xs ys (omega (arith, q.within))));
+    failed = q.failed;
+    written = q.written;
+  }
+
+-- ---- inserted zeros
+
+-- a 1, which is the fifth in a row or not
+one-append : (t : Bool) (e xs ys xs' ys' : List Bool) (j k : ℕ) → xs' ≡ xs ++ raw_after j e → ys' ≡ ys ++ raw_after k e
+    → (if t then true ∷ xs' else true ∷ false ∷ ys') ≡ (if t then true ∷ xs else true ∷ false ∷ ys) ++ raw_after (if t then j else k) e
+one-append true e xs ys xs' ys' j k p q = ap (λ r. true ∷ r) p
+one-append false e xs ys xs' ys' j k p q = ap (λ r. true ∷ false ∷ r) q
+
+pub raw-append : (k : ℕ) (d e : List Bool) → raw_after k (d ++ e) ≡ raw_after k d ++ raw_after (run_after k d) e
+raw-append k [] e = refl
+raw-append k (false ∷ d) e = ap (λ r. false ∷ r) (raw-append 0 d e)
+raw-append k (true ∷ d) e = one-append (nat_lt k 4) e _ _ _ _ (run_after (suc k) d) (run_after 0 d) (raw-append (suc k) d e) (raw-append 0 d e)
+
+pub run-append : (k : ℕ) (d e : List Bool) → run_after k (d ++ e) ≡ run_after (run_after k d) e
+run-append k [] e = refl
+run-append k (false ∷ d) e = run-append 0 d e
+run-append k (true ∷ d) e = elim (cases_lt k 4) [
+  | inl l ↦ let t : nat_lt k 4 ≡ true = grind (arith, nat_tests) in rw t (run-append (suc k) d e)
+  | inr l ↦ let t : nat_lt k 4 ≡ false = grind (arith, nat_tests) in rw t (run-append 0 d e)
+]
+
+-- at most twice as many
+pub raw-few : (k : ℕ) (d : List Bool) → length (raw_after k d) ≤ 2 * length d
+raw-few k [] = omega arith
+raw-few k (false ∷ d) = omega (arith, raw-few 0 d)
+raw-few k (true ∷ d) = elim (cases_lt k 4) [
+  | inl l ↦ let t : nat_lt k 4 ≡ true = grind (arith, nat_tests) in rw t (omega (arith, raw-few (suc k) d))
+  | inr l ↦ let t : nat_lt k 4 ≡ false = grind (arith, nat_tests) in rw t (omega (arith, raw-few 0 d))
+]
+
+-- one inserted 0 for five ones
+pub raw-bound : (k : ℕ) (d : List Bool) → 5 * length (raw_after k d) ≤ 6 * length d + k
+raw-bound k [] = omega arith
+raw-bound k (false ∷ d) = omega (arith, raw-bound 0 d)
+raw-bound k (true ∷ d) = elim (cases_lt k 4) [
+  | inl l ↦ let t : nat_lt k 4 ≡ true = grind (arith, nat_tests) in rw t (omega (arith, raw-bound (suc k) d))
+  | inr l ↦ let t : nat_lt k 4 ≡ false = grind (arith, nat_tests) in rw t (omega (arith, raw-bound 0 d))
+]
+
+-- from a 0 on, this is the spelling
+pub raw-is : (d : List Bool) → raw_after 0 d ≡ spelling d
+raw-is (true ∷ true ∷ true ∷ true ∷ true ∷ d) = ap (λ r. ones 5 ++ false ∷ r) (raw-is d)
+raw-is [] = refl
+raw-is (true ∷ []) = refl
+raw-is (true ∷ true ∷ []) = refl
+raw-is (true ∷ true ∷ true ∷ []) = refl
+raw-is (true ∷ true ∷ true ∷ true ∷ []) = refl
+raw-is (false ∷ d) = ap (λ r. false ∷ r) (raw-is d)
+raw-is (true ∷ false ∷ d) = ap (λ r. true ∷ false ∷ r) (raw-is d)
+raw-is (true ∷ true ∷ false ∷ d) = ap (λ r. ones 2 ++ false ∷ r) (raw-is d)
+raw-is (true ∷ true ∷ true ∷ false ∷ d) = ap (λ r. ones 3 ++ false ∷ r) (raw-is d)
+raw-is (true ∷ true ∷ true ∷ true ∷ false ∷ d) = ap (λ r. ones 4 ++ false ∷ r) (raw-is d)
+
+-- ---- the first of them went out, and then one more, or not
+
+pub on_err : {T E P : Type 0} (r : Result T E) → P → OnErr r P
+on_err (Ok v) p = tt
+on_err (Err e) p = p
+
+pub next-of : {X : Type 0} (xs : List X) (i : ℕ) (d : X) → i < length xs → xs ≡ (take i xs ++ get_or xs i d ∷ []) ++ drop (i + 1) xs
+next-of xs i d h = split_at xs i d (get_or xs i d) h refl ∙ sym (append_assoc (take i xs) (get_or xs i d ∷ []) (drop (i + 1) xs))
+
+module _ {S : Type 0} (taken : S → Option (List Bool)) (refusals : S → ℕ) where
+  -- data d, and behind it e
+  pub data-sent : (k : ℕ) (d e : List Bool) (a b c : StuffingWriter) (s t u : S) → Sent taken refusals (raw_after k d) a b s t → b.run ≡ run_after k d → Sent taken refusals (raw_after b.run e) b c t u → Sent taken refusals (raw_after k (d ++ e)) a c s u
+  data-sent k d e a b c s t u p r q = subst (λ z. Sent taken refusals z a c s u) (sym (raw-append k d e)) (sent-more taken refusals _ _ a b c s t u p (subst (λ n. Sent taken refusals (raw_after n e) b c t u) r q))
+
+  pub data-cut-before : (k : ℕ) (d e : List Bool) (a b : StuffingWriter) (s t : S) → Cut taken refusals (raw_after k d) a b s t → Cut taken refusals (raw_after k (d ++ e)) a b s t
+  data-cut-before k d e a b s t q = subst (λ z. Cut taken refusals z a b s t) (sym (raw-append k d e)) (cut-before taken refusals _ _ a b s t q)
+
+  pub data-cut-behind : (k : ℕ) (d e : List Bool) (a b c : StuffingWriter) (s t u : S) → Sent taken refusals (raw_after k d) a b s t → b.run ≡ run_after k d → Cut taken refusals (raw_after b.run e) b c t u → Cut taken refusals (raw_after k (d ++ e)) a c s u
+  data-cut-behind k d e a b c s t u p r q = subst (λ z. Cut taken refusals z a c s u) (sym (raw-append k d e)) (cut-behind taken refusals _ _ a b c s t u p (subst (λ n. Cut taken refusals (raw_after n e) b c t u) r q))
+
+  pub data-cut : (k : ℕ) (d e f : List Bool) (a b c : StuffingWriter) (s t u : S) → Sent taken refusals (raw_after k d) a b s t → b.run ≡ run_after k d → Cut taken refusals (raw_after b.run e) b c t u → Cut taken refusals (raw_after k ((d ++ e) ++ f)) a c s u
+  data-cut k d e f a b c s t u p r q = data-cut-before k (d ++ e) f a c s u (data-cut-behind k d e a b c s t u p r q)
+
+pub octets-next : (os : List ℕ) (i : ℕ) → i < length os → bits_of_octets (take (i + 1) os) ≡ bits_of_octets (take i os) ++ bits_of 8 (get_or os i 0)
+octets-next os i h = ap bits_of_octets (take_next os i 0 h) ∙ bits_of_octets-push (take i os) (get_or os i 0)
+
+pub octets-split : (os : List ℕ) (i : ℕ) → i < length os → bits_of_octets os ≡ (bits_of_octets (take i os) ++ bits_of 8 (get_or os i 0)) ++ bits_of_octets (drop (i + 1) os)
+octets-split os i h = ap bits_of_octets (next-of os i 0 h) ∙ (bits_of_octets-append (take i os ++ get_or os i 0 ∷ []) (drop (i + 1) os) ∙ ap (λ z. z ++ bits_of_octets (drop (i + 1) os)) (bits_of_octets-push (take i os) (get_or os i 0)))

@@ -1,0 +1,11 @@
+-- What proofs and private functions speak of: the state behind a contract, and what holds of it between two steps.
+pub mod Run
+pub mod LineState
+pub mod LineView
+pub mod Late
+pub mod Look
+pub mod Inserting
+pub mod EncoderState
+pub mod EncoderView
+pub mod Tracks
+pub mod StuffingWriter

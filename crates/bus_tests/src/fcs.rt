@@ -1,0 +1,79 @@
+//! Values from outside, by both checks.
+
+use bus_bits::Spent;
+use bus_fcs::{BitCheck, Check, OctetCheck, fcs_is_good};
+
+/// `10 83 00` and its frame checking sequence.
+const FRAME: [u8; 5] = [0x10, 0x83, 0x00, 0xfd, 0xe5];
+
+fn folded<C: Check>(octets: &[u8]) -> C {
+    let mut check = C::fresh();
+    for octet in octets {
+        let mut spent = Spent::zero();
+        check.fold(*octet, &mut spent);
+    }
+    check
+}
+
+/// Published check values, as sent.
+#[test]
+fn trailers(rt: HostRuntime) {
+    let cases: [(&[u8], [u8; 2]); 9] = [
+        (b"123456789", [0x6e, 0x90]),
+        (&[0x10, 0x83, 0x00], [0xfd, 0xe5]),
+        (&[0x10, 0x83, 0x80], [0xf5, 0x61]),
+        (&[0xff, 0x83, 0x09], [0x5a, 0x3b]),
+        (&[0xff, 0x83, 0x00], [0x9b, 0xa6]),
+        (&[0x10, 0x83, 0xfe], [0x0c, 0xfb]),
+        (&[0x10, 0x13], [0xcc, 0xb8]),
+        (&[0x10, 0x83, 0x01], [0x74, 0xf4]),
+        (&[0x10, 0x83, 0x81, 0x01, 0x02], [0x6e, 0x1f]),
+    ];
+    for (octets, want) in cases {
+        assert_eq!(rt; folded::<BitCheck>(octets).trailer(), want);
+        assert_eq!(rt; folded::<OctetCheck>(octets).trailer(), want);
+    }
+}
+
+/// The register after each octet of a frame: the check value is its inverse.
+#[test]
+fn registers(rt: HostRuntime) {
+    let cases: [(usize, u16); 5] = [
+        (0, 0xffff),
+        (1, 0x1f06),
+        (2, 0xd3ba),
+        (3, 0x1a02),
+        (5, 0xf0b8),
+    ];
+    for (count, register) in cases {
+        let want = (!register).to_le_bytes();
+        let octets = &FRAME[..count.min(FRAME.len())];
+        assert_eq!(rt; folded::<BitCheck>(octets).trailer(), want);
+        assert_eq!(rt; folded::<OctetCheck>(octets).trailer(), want);
+    }
+}
+
+/// A frame is good, and with the octets of its check exchanged it is not.
+#[test]
+fn good_and_exchanged(rt: HostRuntime) {
+    for (octets, want) in [(FRAME, true), ([0x10, 0x83, 0x00, 0xe5, 0xfd], false)] {
+        assert_eq!(rt; folded::<BitCheck>(&octets).is_good(), want);
+        assert_eq!(rt; folded::<OctetCheck>(&octets).is_good(), want);
+        assert_eq!(rt; fcs_is_good::<BitCheck>(&octets), want);
+        assert_eq!(rt; fcs_is_good::<OctetCheck>(&octets), want);
+    }
+}
+
+/// Each change of a frame within sixteen bits is seen: its first changed bit is one of 25, and any
+/// of the fifteen bits behind it may change too.
+#[test]
+fn changes_within_sixteen_bits(rt: HostRuntime) {
+    let frame = u64::from_le_bytes([0x10, 0x83, 0x00, 0xfd, 0xe5, 0, 0, 0]);
+    for place in 0..25u32 {
+        for rest in 0..32768u64 {
+            let octets = (frame ^ ((2 * rest + 1) << place)).to_le_bytes();
+            assert!(rt; !folded::<BitCheck>(&octets[..5]).is_good());
+            assert!(rt; !folded::<OctetCheck>(&octets[..5]).is_good());
+        }
+    }
+}

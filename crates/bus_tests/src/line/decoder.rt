@@ -1,0 +1,230 @@
+//! The decoder, fed bit by bit, with both frame checks.
+
+use super::bits_of;
+use super::rows::WORKED;
+use super::told::text_of;
+use bus_bits::Spent;
+use bus_fcs::{BitCheck, Check, OctetCheck};
+use bus_line::LineDecoder;
+use std::alloc::Global;
+use std::process::Abort;
+use std::test::Fail;
+
+/// What a decoder answered to a list of bits.
+#[derive(Drop)]
+struct Heard {
+    /// The reports as one text, a comma and a space between each two.
+    reports: String,
+    /// The places of the bits at whose push they came, likewise.
+    places: String,
+    /// The most octets that stood in the buffer after a bit.
+    most: usize,
+    spent: Spent,
+}
+
+/// Where `passes`, no bit is pushed that `pass` takes.
+fn hear<C: Check>(
+    alloc: Global,
+    bits: &[bool],
+    longest: usize,
+    origin: u64,
+    passes: bool,
+) -> Result<Heard, Fail> {
+    let mut decoder = LineDecoder::<C>::new(longest, origin)?;
+    let mut reports = String::new(alloc);
+    let mut places = String::new(alloc);
+    let mut most = 0;
+    for bit in bits {
+        let place = decoder.place();
+        if !(passes && decoder.pass(*bit)) {
+            if let Some(piece) = decoder.push(*bit)? {
+                if !reports.is_empty() {
+                    reports.push_str(", ")?;
+                    places.push_str(", ")?;
+                }
+                reports.push_str(&text_of(alloc, &piece)?)?;
+                write!(places, "{place}")?;
+            }
+        }
+        most = most.max(decoder.buffered());
+    }
+    let spent = decoder.spent();
+    Ok(Heard {
+        reports,
+        places,
+        most,
+        spent,
+    })
+}
+
+/// The reports of a list, as both checks give them, with and without `pass`.
+fn heard_alike(
+    rt: &impl Abort,
+    alloc: Global,
+    bits: &[bool],
+    longest: usize,
+    origin: u64,
+) -> Result<Heard, Fail> {
+    let by_bits = hear::<BitCheck>(alloc, bits, longest, origin, false)?;
+    let by_octets = hear::<OctetCheck>(alloc, bits, longest, origin, false)?;
+    let passing = hear::<OctetCheck>(alloc, bits, longest, origin, true)?;
+    assert_eq!(rt; by_bits.reports.as_str(), by_octets.reports.as_str());
+    assert_eq!(rt; by_bits.places.as_str(), by_octets.places.as_str());
+    assert_eq!(rt; by_octets.reports.as_str(), passing.reports.as_str());
+    assert_eq!(rt; by_octets.places.as_str(), passing.places.as_str());
+    assert_eq!(rt; by_octets.spent, passing.spent);
+    let room = longest.saturating_add(2);
+    assert!(rt; by_bits.most <= room && by_octets.most <= room && passing.most <= room);
+    Ok(by_bits)
+}
+
+/// The reports of the whole lists, each at the bit that decides it.
+#[test]
+fn worked_lists_bit_by_bit(rt: HostRuntime) -> Result<(), Fail> {
+    for (case, bits, reports, places) in WORKED {
+        let bits = bits_of(rt.alloc(), bits)?;
+        let heard = heard_alike(&rt, rt.alloc(), &bits, 3, 0)?;
+        assert_eq!(rt; heard.reports.as_str(), reports, "{case}");
+        assert_eq!(rt; heard.places.as_str(), places, "{case}");
+    }
+    Ok(())
+}
+
+/// Each case with its origin, the bits between two flags, and the report.
+const FRAMES: [(&str, u64, &str, &str); 7] = [
+    (
+        "a frame from the place 100 on",
+        100,
+        "00001000 11000001 00000000 101111101 10100111",
+        "108 149 frame 108300fde5",
+    ),
+    (
+        "to all stations, two inserted 0s",
+        0,
+        "111110111 110000001 10010000 01011010 11011100",
+        "8 50 frame ff83095a3b",
+    ),
+    (
+        "to all stations, a command",
+        0,
+        "111110111 110000001 00000000 11011001 01100101",
+        "8 50 frame ff83009ba6",
+    ),
+    (
+        "an address and a control octet alone",
+        0,
+        "00001000 11000001 10100010 00110100",
+        "8 40 frame 1083452c",
+    ),
+    (
+        "another control octet",
+        0,
+        "00001000 11001000 00110011 00011101",
+        "8 40 frame 1013ccb8",
+    ),
+    (
+        "three octets and their check",
+        0,
+        "00001000 11000001 10000000 00101110 00101111",
+        "8 48 frame 10830174f4",
+    ),
+    (
+        "five 1 bits before the closing flag",
+        0,
+        "00011111",
+        "8 16 damaged unstuffed",
+    ),
+];
+
+/// Frames of both addresses, of two octets and more, where the longest has five; and the places
+/// count from the origin.
+#[test]
+fn worked_frames(rt: HostRuntime) -> Result<(), Fail> {
+    for (case, origin, bits, want) in FRAMES {
+        let text = format!(in rt.alloc(); "01111110 {bits} 01111110")?;
+        let bits = bits_of(rt.alloc(), &text)?;
+        let heard = heard_alike(&rt, rt.alloc(), &bits, 5, origin)?;
+        assert_eq!(rt; heard.reports.as_str(), want, "{case}");
+    }
+    Ok(())
+}
+
+/// The octets of a frame stand in the decoder once its flag has closed it.
+#[test]
+fn octets_of_a_frame(rt: HostRuntime) -> Result<(), Fail> {
+    let text = "01111110 00001000 11000001 00000000 101111101 10100111 01111110";
+    let bits = bits_of(rt.alloc(), text)?;
+    let mut decoder = LineDecoder::<OctetCheck>::new(3, 0)?;
+    for bit in &bits {
+        decoder.push(*bit)?;
+    }
+    assert_eq!(rt; decoder.octets(), [0x10, 0x83, 0x00, 0xfd, 0xe5].as_slice());
+    Ok(())
+}
+
+/// Each case with its bits: how many are taken, how many are data, the work of the check by bits and
+/// by octets, and the octets that are stored.
+const STEPS: [(&str, &str, [u64; 5]); 6] = [
+    ("an empty list", "", [0, 0, 0, 0, 0]),
+    ("a flag", "01111110", [8, 0, 0, 0, 0]),
+    (
+        "two flags that share a 0",
+        "011111101111110",
+        [15, 0, 0, 0, 0],
+    ),
+    (
+        "two frames, each with an inserted 0, and one flag between them",
+        "01111110 00001000 11000001 00000000 101111101 10100111 01111110
+            00001000 11000001 00000001 10101111 100000110 01111110",
+        [106, 80, 80, 10, 10],
+    ),
+    (
+        "an octet and an abort",
+        "01111110 00001000 1111111",
+        [23, 7, 0, 0, 0],
+    ),
+    (
+        "an octet, an abort and an idle line",
+        "01111110 00001000 1111111 11111111",
+        [31, 7, 0, 0, 0],
+    ),
+];
+
+/// The steps of each kind, and none of copying or handling.
+#[test]
+fn steps(rt: HostRuntime) -> Result<(), Fail> {
+    for (case, bits, [shifted, assembled, by_bits, by_octets, stored]) in STEPS {
+        let bits = bits_of(rt.alloc(), bits)?;
+        let slow = hear::<BitCheck>(rt.alloc(), &bits, 3, 0, false)?;
+        let fast = hear::<OctetCheck>(rt.alloc(), &bits, 3, 0, true)?;
+        for (spent, folded) in [(slow.spent, by_bits), (fast.spent, by_octets)] {
+            let want = Spent {
+                shifted,
+                assembled,
+                folded,
+                stored,
+                copied: 0,
+                handled: 0,
+            };
+            assert_eq!(rt; spent, want, "{case}");
+        }
+    }
+    Ok(())
+}
+
+/// Heard only from a later bit on, inside the first flag or the first frame, the line gives the
+/// frames from the next flag on, at the places that they have in the whole.
+#[test]
+fn heard_from_later_on(rt: HostRuntime) -> Result<(), Fail> {
+    let text = "01111110 00001000 11000001 00000000 101111101 10100111
+        01111110 00001000 11000001 00000001 10101111 100000110
+        01111110 111110111 110000001 10010000 01011010 11011100 01111110";
+    let bits = bits_of(rt.alloc(), text)?;
+    for missing in 1..=49usize {
+        let heard_bits = bits.get(missing..).unwrap_or_default();
+        let heard = heard_alike(&rt, rt.alloc(), heard_bits, 3, missing as u64)?;
+        let want = "57 98 frame 108380f561, 106 148 frame ff83095a3b";
+        assert_eq!(rt; heard.reports.as_str(), want, "without {missing} bits");
+    }
+    Ok(())
+}

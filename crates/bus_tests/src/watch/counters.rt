@@ -1,0 +1,174 @@
+//! The counted steps of worked lists.
+
+use super::{CALL, CALLS, FLAG, REPLY, bits_of};
+use bus_bits::Spent;
+use bus_dictionary::Dictionary;
+use bus_fcs::{BitCheck, Check, OctetCheck};
+use bus_line::Span;
+use bus_watch::{Analyser, Counts};
+use std::alloc::Global;
+use std::process::Abort;
+use std::test::Fail;
+
+/// No steps.
+pub(super) const NONE: Spent = Spent {
+    shifted: 0,
+    assembled: 0,
+    folded: 0,
+    stored: 0,
+    copied: 0,
+    handled: 0,
+};
+
+/// A worked list and its steps with either check.
+#[derive(Drop)]
+struct Row {
+    bits: &'static [&'static str],
+    by_bits: Spent,
+    by_octets: Spent,
+}
+
+/// The steps of a call and its reply, but those of the check.
+const OF_CALL_AND_REPLY: Spent = Spent {
+    shifted: 106,
+    assembled: 80,
+    stored: 10,
+    copied: 10,
+    handled: 12,
+    ..NONE
+};
+
+const OF_ABORT: Spent = Spent {
+    shifted: 23,
+    assembled: 7,
+    handled: 3,
+    ..NONE
+};
+
+const OF_ABORT_AND_IDLE: Spent = Spent {
+    shifted: 31,
+    assembled: 7,
+    handled: 6,
+    ..NONE
+};
+
+const ROWS: [Row; 5] = [
+    Row {
+        bits: &[],
+        by_bits: NONE,
+        by_octets: NONE,
+    },
+    Row {
+        bits: &[FLAG],
+        by_bits: Spent { shifted: 8, ..NONE },
+        by_octets: Spent { shifted: 8, ..NONE },
+    },
+    Row {
+        bits: &[FLAG, CALL, FLAG, REPLY, FLAG],
+        by_bits: Spent {
+            folded: 80,
+            ..OF_CALL_AND_REPLY
+        },
+        by_octets: Spent {
+            folded: 10,
+            ..OF_CALL_AND_REPLY
+        },
+    },
+    Row {
+        bits: &[FLAG, "00001000 1111111"],
+        by_bits: OF_ABORT,
+        by_octets: OF_ABORT,
+    },
+    Row {
+        bits: &[FLAG, "00001000 1111111", "11111111"],
+        by_bits: OF_ABORT_AND_IDLE,
+        by_octets: OF_ABORT_AND_IDLE,
+    },
+];
+
+fn counted<C: Check>(alloc: Global, texts: &[&str]) -> Result<Spent, Fail> {
+    let dictionary = Dictionary::read(alloc, CALLS)?;
+    let mut analyser = Analyser::<C>::new(alloc, dictionary, 2, 0)?;
+    for bit in bits_of(alloc, texts)? {
+        let _ = analyser.push(bit)?;
+    }
+    Ok(analyser.spent())
+}
+
+/// The counters of worked lists, by both checks, and the sums of a call and its reply.
+#[test]
+fn steps(rt: HostRuntime) -> Result<(), Fail> {
+    for row in &ROWS {
+        assert_eq!(rt; counted::<BitCheck>(rt.alloc(), row.bits)?, row.by_bits);
+        assert_eq!(rt; counted::<OctetCheck>(rt.alloc(), row.bits)?, row.by_octets);
+    }
+    let totals: [(&[&str], u128, u128); 3] = [
+        (&[FLAG, CALL, FLAG, REPLY, FLAG], 298, 228),
+        (&[FLAG, "00001000 1111111"], 33, 33),
+        (&[FLAG, "00001000 1111111", "11111111"], 44, 44),
+    ];
+    for (texts, by_bits, by_octets) in totals {
+        assert_eq!(rt; counted::<BitCheck>(rt.alloc(), texts)?.total(), by_bits);
+        assert_eq!(rt;
+            counted::<OctetCheck>(rt.alloc(), texts)?.total(),
+            by_octets
+        );
+    }
+    Ok(())
+}
+
+/// The steps of a command 1025 times.
+const OF_MANY_CALLS: Spent = Spent {
+    shifted: 50233,
+    assembled: 41000,
+    folded: 5125,
+    stored: 5125,
+    copied: 5125,
+    handled: 6150,
+};
+
+/// The last of these commands.
+const LAST_CALL: Span = Span {
+    first: 50184,
+    past: 50225,
+};
+
+/// A command 1025 times, each but the last missed by its answer: the deepest history, which has 1024
+/// frames, drops the first.
+#[test]
+fn long_run(rt: HostRuntime) -> Result<(), Fail> {
+    let alloc = rt.alloc();
+    let dictionary = Dictionary::read(alloc, CALLS)?;
+    let mut analyser = Analyser::<OctetCheck>::new(alloc, dictionary, 1024, 0)?;
+    for bit in &bits_of(alloc, &[FLAG])? {
+        let _ = analyser.push(*bit)?;
+    }
+    let again = bits_of(alloc, &[CALL, FLAG])?;
+    for _ in 0..1025u64 {
+        for bit in &again {
+            let _ = analyser.push(*bit)?;
+        }
+    }
+    assert_eq!(rt; analyser.history_len(), 1024);
+    let oldest = analyser.history(0).map(|kept| kept.span);
+    assert_eq!(rt;
+        oldest,
+        Some(Span {
+            first: 57,
+            past: 98
+        })
+    );
+    let newest = analyser.history(1023).map(|kept| kept.span);
+    assert_eq!(rt; newest, Some(LAST_CALL));
+    let counts = Counts {
+        answered: 0,
+        missing: 1024,
+        spoilt: 0,
+    };
+    assert_eq!(rt; analyser.tally(16), counts);
+    let pending = analyser.ending().pending.map(|pending| pending.span);
+    assert_eq!(rt; pending, Some(LAST_CALL));
+    assert_eq!(rt; analyser.spent(), OF_MANY_CALLS);
+    assert_eq!(rt; analyser.spent().total(), 112758);
+    Ok(())
+}

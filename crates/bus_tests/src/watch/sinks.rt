@@ -1,0 +1,207 @@
+//! Sinks that collect what they take, and refuse where a test wants it.
+
+use super::text::push_seen;
+use super::{CALL, CALLS, FLAG, NOTICE, REPLY, bits_of};
+use bus_dictionary::Dictionary;
+use bus_fcs::{BitCheck, Check, OctetCheck};
+use bus_watch::{
+    Analyser, Counts, FeedFault, ReportSink, Run, RunFault, Seen, SinkRefused, run_all,
+};
+use std::alloc::Global;
+use std::process::Abort;
+use std::test::Fail;
+
+/// Collects the texts of what it takes, and refuses report number `refuses`, counted from 1.
+#[derive(Drop)]
+pub(super) struct Collector {
+    pub(super) text: String,
+    pub(super) refuses: u64,
+    count: u64,
+    refusals: u64,
+    /// Memory was refused for a text.
+    lacks: bool,
+}
+
+impl Collector {
+    pub(super) fn new(alloc: Global, refuses: u64) -> Self {
+        Collector {
+            text: String::new(alloc),
+            refuses,
+            count: 0,
+            refusals: 0,
+            lacks: false,
+        }
+    }
+}
+
+impl ReportSink for Collector {
+    ghost use Rattle.std.specs.Prelude.{None};
+
+    ghost taken = { λ s. None };
+
+    ghost refusals = { λ s. s.refusals };
+
+    fn refused(&self) -> u64 {
+        self.refusals
+    }
+
+    fn take(&mut self, seen: &Seen<'_>) -> Result<(), SinkRefused> {
+        self.count = self.count.saturating_add(1);
+        if self.count == self.refuses {
+            self.refusals += 1;
+            return Err(SinkRefused);
+        }
+        if push_seen(&mut self.text, seen).is_err() {
+            self.lacks = true;
+        }
+        Ok(())
+    }
+}
+
+/// Feeds bits to a sink whose count of refusals has room for one more.
+pub(super) fn feed<C: Check>(
+    analyser: &mut Analyser<C>,
+    bits: &[bool],
+    sink: &mut Collector,
+) -> Result<Result<(), FeedFault>, Fail> {
+    if sink.refused() == u64::MAX {
+        return Err(Fail::from("no room"));
+    }
+    Ok(analyser.feed(bits, sink))
+}
+
+/// A whole run from place 0 with such a sink, and a history of sixteen frames.
+pub(super) fn run<C: Check>(
+    alloc: Global,
+    dictionary: Dictionary,
+    pieces: &[&[bool]],
+    sink: &mut Collector,
+) -> Result<Result<Run<C>, RunFault>, Fail> {
+    if sink.refused() == u64::MAX {
+        return Err(Fail::from("no room"));
+    }
+    Ok(run_all(alloc, dictionary, 16, 0, pieces, sink))
+}
+
+const TOLD_CALL: &str = "8 49 frame 108300fde5 station 16 type 0";
+
+const TOLD_REPLY: &str =
+    "57 98 frame 108380f561 station 16 type 128, answered 8 49 station 16 type 0";
+
+const TOLD_NOTICE: &str = "106 148 frame ff83095a3b station 255 type 9";
+
+/// A sink that refuses one of three reports.
+#[derive(Drop)]
+struct Refusal {
+    /// The report that it refuses, counted from 1.
+    refuses: u64,
+    /// How many bits are consumed then.
+    consumed: usize,
+    /// What the sink has then.
+    told: &'static [&'static str],
+    /// How often station 16 answered by then.
+    answered: u64,
+    /// What the sink has after the rest of the bits.
+    all: &'static [&'static str],
+}
+
+const REFUSALS: [Refusal; 3] = [
+    Refusal {
+        refuses: 1,
+        consumed: 57,
+        told: &[],
+        answered: 0,
+        all: &[TOLD_REPLY, TOLD_NOTICE],
+    },
+    Refusal {
+        refuses: 2,
+        consumed: 106,
+        told: &[TOLD_CALL],
+        answered: 1,
+        all: &[TOLD_CALL, TOLD_NOTICE],
+    },
+    Refusal {
+        refuses: 3,
+        consumed: 156,
+        told: &[TOLD_CALL, TOLD_REPLY],
+        answered: 1,
+        all: &[TOLD_CALL, TOLD_REPLY],
+    },
+];
+
+fn joined(alloc: Global, texts: &[&str]) -> Result<String, Fail> {
+    let mut all = String::new(alloc);
+    for text in texts {
+        if !all.is_empty() {
+            all.push_str("; ")?;
+        }
+        all.push_str(text)?;
+    }
+    Ok(all)
+}
+
+fn check_refusal<C: Check>(
+    rt: &impl Abort,
+    alloc: Global,
+    bits: &[bool],
+    row: &Refusal,
+) -> Result<(), Fail> {
+    let (refuses, consumed) = (row.refuses, row.consumed);
+    let dictionary = Dictionary::read(alloc, CALLS)?;
+    let mut analyser = Analyser::<C>::new(alloc, dictionary, 2, 0)?;
+    let mut sink = Collector::new(alloc, refuses);
+    let fault = feed(&mut analyser, bits, &mut sink)?.err();
+    assert_eq!(rt; fault, Some(FeedFault::Sink { consumed }), "{refuses}");
+    assert_eq!(rt; sink.refused(), 1, "{refuses}");
+    let told = joined(alloc, row.told)?;
+    assert_eq!(rt; sink.text.as_str(), told.as_str(), "{refuses}");
+    let counts = Counts {
+        answered: row.answered,
+        missing: 0,
+        spoilt: 0,
+    };
+    assert_eq!(rt; analyser.tally(16), counts, "{refuses}");
+    for bit in bits.iter().skip(consumed) {
+        feed(&mut analyser, &[*bit], &mut sink)??;
+    }
+    let all = joined(alloc, row.all)?;
+    assert_eq!(rt; sink.text.as_str(), all.as_str(), "{refuses}");
+    assert!(rt; !sink.lacks);
+    Ok(())
+}
+
+/// The same list as a run of two pieces: the bits that are consumed count from the first piece on.
+fn check_run<C: Check>(
+    rt: &impl Abort,
+    alloc: Global,
+    bits: &[bool],
+    row: &Refusal,
+) -> Result<(), Fail> {
+    let (refuses, consumed) = (row.refuses, row.consumed);
+    let Some((front, rest)) = bits.split_at_checked(70) else {
+        return Err(Fail::from("too few bits"));
+    };
+    let dictionary = Dictionary::read(alloc, CALLS)?;
+    let mut sink = Collector::new(alloc, refuses);
+    let fault = run::<C>(alloc, dictionary, &[front, rest], &mut sink)?.err();
+    let want = RunFault::Feed(FeedFault::Sink { consumed });
+    assert_eq!(rt; fault, Some(want), "{refuses}");
+    let told = joined(alloc, row.told)?;
+    assert_eq!(rt; sink.text.as_str(), told.as_str(), "{refuses}");
+    Ok(())
+}
+
+/// Sinks that refuse one report of three frames, with both checks.
+#[test]
+fn refusing_sinks(rt: HostRuntime) -> Result<(), Fail> {
+    let alloc = rt.alloc();
+    let bits = bits_of(alloc, &[FLAG, CALL, FLAG, REPLY, FLAG, NOTICE, FLAG])?;
+    assert_eq!(rt; bits.len(), 156);
+    for row in &REFUSALS {
+        check_refusal::<BitCheck>(&rt, alloc, &bits, row)?;
+        check_refusal::<OctetCheck>(&rt, alloc, &bits, row)?;
+        check_run::<BitCheck>(&rt, alloc, &bits, row)?;
+        check_run::<OctetCheck>(&rt, alloc, &bits, row)?;
+    }
+    Ok(())
+}

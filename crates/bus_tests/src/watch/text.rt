@@ -1,0 +1,84 @@
+//! What is seen, as a line of text.
+
+use bus_dictionary::Standing;
+use bus_line::{Cause, Piece, Span};
+use bus_watch::{Outcome, Seen, Verdict};
+use std::alloc::{AllocError, Global};
+
+fn outcome_word(outcome: Outcome) -> &'static str {
+    match outcome {
+        Outcome::Answered => "answered",
+        Outcome::Missing => "missing",
+        Outcome::Spoilt => "spoilt",
+    }
+}
+
+fn piece_word(piece: &Piece) -> (Span, &'static str) {
+    match piece {
+        Piece::Frame { span, .. } => (*span, "frame"),
+        Piece::Damaged { span, cause } => (
+            *span,
+            match cause {
+                Cause::Unstuffed => "unstuffed",
+                Cause::Short => "short",
+                Cause::Unaligned => "unaligned",
+                Cause::Fcs => "fcs",
+            },
+        ),
+        Piece::Overlong { span } => (*span, "overlong"),
+        Piece::Abort { span } => (*span, "abort"),
+        Piece::Idle { span } => (*span, "idle"),
+    }
+}
+
+fn push_standing(text: &mut String, standing: Standing) -> Result<(), AllocError> {
+    match standing {
+        Standing::OtherControl { station, control } => {
+            write!(text, " station {station} control {control}")
+        }
+        Standing::Untyped { station } => write!(text, " station {station} untyped"),
+        Standing::Unknown { station, ftype } => {
+            write!(text, " station {station} type {ftype} unknown")
+        }
+        Standing::WrongLength { station, ftype } => {
+            write!(text, " station {station} type {ftype} length")
+        }
+        Standing::Known { station, ftype } => write!(text, " station {station} type {ftype}"),
+    }
+}
+
+fn push_verdict(text: &mut String, verdict: Verdict) -> Result<(), AllocError> {
+    let outcome = outcome_word(verdict.outcome);
+    let (first, past) = (verdict.span.first, verdict.span.past);
+    let (station, ftype) = (verdict.station, verdict.ftype);
+    write!(
+        text,
+        ", {outcome} {first} {past} station {station} type {ftype}"
+    )
+}
+
+/// What is seen, behind what the text has.
+pub(super) fn push_seen(text: &mut String, seen: &Seen) -> Result<(), AllocError> {
+    let (span, word) = piece_word(&seen.piece);
+    let (first, past) = (span.first, span.past);
+    if !text.is_empty() {
+        text.push_str("; ")?;
+    }
+    write!(text, "{first} {past} {word}")?;
+    if let Piece::Frame { octets, .. } = seen.piece {
+        text.push(' ')?;
+        for octet in octets {
+            write!(text, "{octet:02x}")?;
+        }
+    }
+    if let Some(standing) = seen.standing {
+        push_standing(text, standing)?;
+    }
+    if let Some(verdict) = seen.verdict {
+        push_verdict(text, verdict)?;
+    }
+    if seen.stray {
+        text.push_str(", stray")?;
+    }
+    Ok(())
+}

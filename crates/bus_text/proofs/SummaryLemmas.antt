@@ -1,0 +1,34 @@
+-- How often each thing is seen, with one report more.
+use Rattle.std.proofs.Common.{◌≡◌, ◌+◌, Bool, true, false, List, [], ◌∷◌, ◌++◌, refl, ◌∙◌, arith}
+use Rattle.std.specs.List.{count_by}
+use Rattle.std.specs.Prelude.{cond}
+use Rattle.std.proofs.lemmas.List.Sums.{sum_by-append}
+use Rattle.bus_watch.specs.Seen.{SeenReport}
+use Rattle.bus_watch.specs.declared.outcome.Outcome.TheVariants.{Answered, Missing, Spoilt}
+use Rattle.bus_watch.specs.Talk.{is_idle}
+use Rattle.bus_text.specs.Summary.{is_frame, is_damaged, is_overlong, is_abort, has_outcome, summary_of}
+use Rattle.bus_text.specs.Internal.Counting.{counted, with_seen}
+
+count-last : {X : Type 0} (p : X → Bool) (xs : List X) (x : X) → count_by p (xs ++ x ∷ []) ≡ counted (p x) (count_by p xs)
+count-last p xs x =
+    let n = count_by p xs in
+    sum_by-append (λ x. cond (p x) 1 0) xs (x ∷ [])
+    ∙ (elim (p x) as (λ b. n + (0 + cond b 1 0) ≡ counted b n) [
+      | true ↦ omega arith
+      | false ↦ omega arith
+    ])
+
+-- a summary of one report more
+pub summary-more : (before : List SeenReport) (s : SeenReport) → summary_of (before ++ s ∷ []) ≡ with_seen s (summary_of before)
+summary-more before s =
+    rw (
+      count-last (λ (s : SeenReport). is_frame s.report.kind) before s,
+      count-last (λ (s : SeenReport). is_damaged s.report.kind) before s,
+      count-last (λ (s : SeenReport). is_overlong s.report.kind) before s,
+      count-last (λ (s : SeenReport). is_abort s.report.kind) before s,
+      count-last (λ (s : SeenReport). is_idle s.report.kind) before s,
+      count-last (λ (s : SeenReport). s.stray) before s,
+      count-last (λ (s : SeenReport). has_outcome Answered s.verdict) before s,
+      count-last (λ (s : SeenReport). has_outcome Missing s.verdict) before s,
+      count-last (λ (s : SeenReport). has_outcome Spoilt s.verdict) before s,
+    ) refl

@@ -1,0 +1,9 @@
+use Rattle.std.proofs.Common.{ap, option_map}
+use Rattle.std.specs.Option.{option_to_list}
+use Rattle.bus_text.specs.Listing.{verdict_line}
+use Rattle.bus_text.proofs.ListingLemmas.{put-none}
+use Rattle.bus_text.proofs.printer.Printer.put_verdict.Goals as goal
+
+pub returns-in_default-clause-bytes : goal.returns-in_default-clause-bytes
+returns-in_default-clause-bytes c =
+    put-none c.args.self.now.filter _ c.args.page.now.text.bytes (ap (λ v. option_to_list (option_map verdict_line v)) c.in_default.is)

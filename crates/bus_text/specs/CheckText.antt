@@ -1,0 +1,45 @@
+-- The report of a check.
+use Rattle.std.specs.Prelude.{ℕ, ◌==◌, ◌&&◌, Bool, List, [], ◌++◌, codes, decimal, if◌then◌else◌}
+use Rattle.std.specs.List.{flat_map}
+use Rattle.bus_line.specs.Due.{places}
+use Rattle.bus_watch.specs.History.{KeptFrame}
+use Rattle.bus_watch.specs.declared.counts.Counts.{Counts}
+use Rattle.bus_text.specs.Listing.{hex_of, span_text}
+use Rattle.bus_text.specs.declared.summary.Summary.{Summary}
+
+abbrev pub count_text : List ℕ → ℕ → List ℕ
+count_text word n = word ++ codes " " ++ decimal n ++ codes "\n"
+
+-- nine counts, a line for each
+abbrev pub summary_text : Summary → List ℕ
+summary_text s =
+    count_text (codes "frames") s.frames ++ count_text (codes "damaged") s.damaged ++ count_text (codes "overlong") s.overlong
+    ++ count_text (codes "aborts") s.aborts ++ count_text (codes "idles") s.idles ++ count_text (codes "strays") s.strays
+    ++ count_text (codes "answered") s.answered ++ count_text (codes "missing") s.missing ++ count_text (codes "spoilt") s.spoilt
+
+abbrev pub tally_line : ℕ → Counts → List ℕ
+tally_line station c =
+    codes "station " ++ decimal station ++ codes " answered " ++ decimal c.answered ++ codes " missing " ++ decimal c.missing
+    ++ codes " spoilt " ++ decimal c.spoilt ++ codes "\n"
+
+abbrev pub has_none : Counts → Bool
+has_none c = (c.answered == 0 && c.missing == 0) && c.spoilt == 0
+
+-- a line for a station with a verdict
+abbrev pub tally_text : ℕ → Counts → List ℕ
+tally_text station c = if has_none c then [] else tally_line station c
+
+-- for each of the first `n` stations
+unfoldable pub tallies_text : (ℕ → Counts) → ℕ → List ℕ
+tallies_text tally n = flat_map (λ station. tally_text station (tally station)) (places n)
+
+-- the line of a frame that is kept
+abbrev pub kept_text : KeptFrame → List ℕ
+kept_text k = codes "last " ++ span_text k.span ++ hex_of k.octets ++ codes "\n"
+
+abbrev pub history_text : List KeptFrame → List ℕ
+history_text history = flat_map kept_text history
+
+-- the counts, the verdicts of each station by rising number, and the history, the oldest first
+abbrev pub check_text : Summary → (ℕ → Counts) → List KeptFrame → List ℕ
+check_text summary tally history = summary_text summary ++ tallies_text tally 256 ++ history_text history

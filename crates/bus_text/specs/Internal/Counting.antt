@@ -1,0 +1,71 @@
+-- A summary with one report more.
+use Rattle.std.specs.Prelude.{ℕ, ◌+◌, ◌≤◌, Bool, Option, if◌then◌else◌}
+use Rattle.bus_line.specs.Report.{Kind}
+use Rattle.bus_watch.specs.Talk.{is_idle}
+use Rattle.bus_watch.specs.Seen.{SeenReport}
+use Rattle.bus_watch.specs.declared.outcome.Outcome.TheVariants.{Answered, Missing, Spoilt}
+use Rattle.bus_watch.specs.declared.verdict.Verdict.{Verdict}
+use Rattle.bus_text.specs.declared.summary.Summary.{Summary}
+use Rattle.bus_text.specs.Summary.{has_outcome, is_abort, is_damaged, is_frame, is_overlong}
+
+-- one more, if it is so
+abbrev pub counted : Bool → ℕ → ℕ
+counted b n = if b then n + 1 else n
+
+-- a piece of this kind is counted
+abbrev pub with_kind : Kind → Summary → Summary
+with_kind k s = record {
+  frames = counted (is_frame k) s.frames;
+  damaged = counted (is_damaged k) s.damaged;
+  overlong = counted (is_overlong k) s.overlong;
+  aborts = counted (is_abort k) s.aborts;
+  idles = counted (is_idle k) s.idles;
+  strays = s.strays;
+  answered = s.answered;
+  missing = s.missing;
+  spoilt = s.spoilt;
+}
+
+-- a verdict is counted
+abbrev pub with_verdict : Option Verdict → Summary → Summary
+with_verdict v s = record {
+  frames = s.frames;
+  damaged = s.damaged;
+  overlong = s.overlong;
+  aborts = s.aborts;
+  idles = s.idles;
+  strays = s.strays;
+  answered = counted (has_outcome Answered v) s.answered;
+  missing = counted (has_outcome Missing v) s.missing;
+  spoilt = counted (has_outcome Spoilt v) s.spoilt;
+}
+
+-- a stray is counted
+abbrev pub with_stray : Bool → Summary → Summary
+with_stray stray s = record {
+  frames = s.frames;
+  damaged = s.damaged;
+  overlong = s.overlong;
+  aborts = s.aborts;
+  idles = s.idles;
+  strays = counted stray s.strays;
+  answered = s.answered;
+  missing = s.missing;
+  spoilt = s.spoilt;
+}
+
+-- one report more is counted
+abbrev pub with_seen : SeenReport → Summary → Summary
+with_seen r s = with_stray r.stray (with_verdict r.verdict (with_kind r.report.kind s))
+
+-- no count is above this number
+pub record IsFew (most : ℕ) (s : Summary) : Type 0 where
+  pub frames : s.frames ≤ most
+  pub damaged : s.damaged ≤ most
+  pub overlong : s.overlong ≤ most
+  pub aborts : s.aborts ≤ most
+  pub idles : s.idles ≤ most
+  pub strays : s.strays ≤ most
+  pub answered : s.answered ≤ most
+  pub missing : s.missing ≤ most
+  pub spoilt : s.spoilt ≤ most

@@ -1,0 +1,9 @@
+pub mod Kinds
+pub mod HeadText
+pub mod Listing
+pub mod Summary
+pub mod CheckText
+pub mod Given
+pub mod Put
+pub mod Show
+pub mod Internal

@@ -1,0 +1,45 @@
+-- How often each thing is seen.
+use Rattle.std.specs.Prelude.{Bool, true, false, List, count_by, Option, Some, None}
+use Rattle.bus_line.specs.Report.{Kind, Frame, Damaged, Overlong, Abort}
+use Rattle.bus_watch.specs.Talk.{is_idle}
+use Rattle.bus_watch.specs.Seen.{SeenReport}
+use Rattle.bus_watch.specs.History.{is_outcome}
+use Rattle.bus_watch.specs.declared.outcome.Outcome.{Outcome}
+use Rattle.bus_watch.specs.declared.outcome.Outcome.TheVariants.{Answered, Missing, Spoilt}
+use Rattle.bus_watch.specs.declared.verdict.Verdict.{Verdict}
+use Rattle.bus_text.specs.declared.summary.Summary.{Summary}
+
+abbrev pub is_frame : Kind → Bool
+is_frame (Frame octets) = true
+is_frame kind = false
+
+abbrev pub is_damaged : Kind → Bool
+is_damaged (Damaged cause) = true
+is_damaged kind = false
+
+abbrev pub is_overlong : Kind → Bool
+is_overlong Overlong = true
+is_overlong kind = false
+
+abbrev pub is_abort : Kind → Bool
+is_abort Abort = true
+is_abort kind = false
+
+-- a verdict with this outcome
+abbrev pub has_outcome : Outcome → Option Verdict → Bool
+has_outcome outcome None = false
+has_outcome outcome (Some v) = is_outcome outcome v.outcome
+
+-- how many of what is seen are of each kind, are strays, and decide each verdict
+abbrev pub summary_of : List SeenReport → Summary
+summary_of seen = record {
+  frames = count_by (λ s. is_frame s.report.kind) seen;
+  damaged = count_by (λ s. is_damaged s.report.kind) seen;
+  overlong = count_by (λ s. is_overlong s.report.kind) seen;
+  aborts = count_by (λ s. is_abort s.report.kind) seen;
+  idles = count_by (λ s. is_idle s.report.kind) seen;
+  strays = count_by (λ s. s.stray) seen;
+  answered = count_by (λ s. has_outcome Answered s.verdict) seen;
+  missing = count_by (λ s. has_outcome Missing s.verdict) seen;
+  spoilt = count_by (λ s. has_outcome Spoilt s.verdict) seen;
+}

@@ -1,0 +1,69 @@
+//! The kinds of lines.
+
+ghost use Rattle.std.specs.Prelude.{◌≡◌, ◌≢◌, ◌≤◌, length, IfSome, None};
+ghost use Rattle.bus_text.specs.Kinds.{kind_word, kind_named};
+
+/// The kinds of lines of a listing.
+#[derive(Clone, Copy, Debug, PartialEq, Eq)]
+pub enum Kind {
+    Frame,
+    Damaged,
+    Overlong,
+    Abort,
+    Idle,
+    /// A frame of a type of 128 or more that answers no command.
+    Stray,
+    Answered,
+    Missing,
+    Spoilt,
+    /// A piece that no flag or abort has ended.
+    Begun,
+    /// A command without a verdict.
+    Pending,
+}
+
+/// All of them.
+const KINDS: [Kind; 11] = [
+    Kind::Frame,
+    Kind::Damaged,
+    Kind::Overlong,
+    Kind::Abort,
+    Kind::Idle,
+    Kind::Stray,
+    Kind::Answered,
+    Kind::Missing,
+    Kind::Spoilt,
+    Kind::Begun,
+    Kind::Pending,
+];
+
+impl Kind {
+    /// The kind that a word of a line names.
+    pub fn read(word: &str) -> Option<Kind>
+        ensures named { result ≡ kind_named word.now }
+        ensures names { IfSome result (λ kind. word.now ≡ kind_word kind) }
+        ensures none { result ≡ None → (kind : Kind) → word.now ≢ kind_word kind }
+    {
+        KINDS.iter().find(|kind| kind.word() == word).copied()
+    }
+
+    /// How lines of this kind name it.
+    pub(crate) fn word(self) -> &'static str
+        ensures word { result.now ≡ kind_word self }
+        ensures len { length result.now ≤ 8 }
+    {
+        match self {
+            Kind::Frame => "frame",
+            Kind::Damaged => "damaged",
+            Kind::Overlong => "overlong",
+            Kind::Abort => "abort",
+            Kind::Idle => "idle",
+            Kind::Stray => "stray",
+            Kind::Answered => "answered",
+            Kind::Missing => "missing",
+            Kind::Spoilt => "spoilt",
+            Kind::Begun => "open",
+            Kind::Pending => "pending",
+        }
+    }
+}

@@ -1,0 +1,28 @@
+//! The texts of the tool: the lines of a listing, the report of a check and the text of one frame,
+//! and the pages on which they are written.
+#![tactic(auto)]
+
+mod digits;
+mod fault;
+mod filter;
+mod head;
+mod kind;
+mod line;
+mod options;
+mod page;
+mod printer;
+mod put;
+mod report;
+mod show;
+mod summary;
+
+pub use digits::{is_hex, octets_of};
+pub use fault::ToolFault;
+pub use kind::Kind;
+pub use options::Options;
+pub use page::Page;
+pub use printer::Printer;
+pub use put::{ShortWrite, put_text};
+pub use report::put_report;
+pub use show::{read_dictionary, show_frame};
+pub use summary::Summary;

@@ -1,0 +1,152 @@
+//! Parts of lines, in strings of fixed room.
+
+ghost use Rattle.std.specs.Prelude.{◌≡◌, ◌+◌, ◌*◌, ◌++◌, ◌<◌, ◌≤◌, ◌^◌, length, decimal, codes};
+ghost use Rattle.arrayvec.specs.ArrayString.{array_string_len};
+ghost use Rattle.bus_line.specs.Shown.{report_of};
+ghost use Rattle.bus_line.specs.Ledger.{octet_count};
+ghost use Rattle.bus_text.specs.Listing.{hex_digit, hex_octet, hex_of, cause_word, span_text, span_of, report_word};
+ghost use Rattle.bus_text.specs.HeadText.{station_text};
+
+use arrayvec::ArrayString;
+use bus_line::{Cause, Piece, Span};
+use itoa::Buffer;
+
+/// A line of a frame that is shown; the longest is shorter.
+pub type Line = ArrayString<640>;
+
+/// The digit as a lower-case hexadecimal character.
+fn hex_char(digit: u8) -> char
+    requires { digit < 16 }
+    ensures { result ≡ hex_digit digit }
+{
+    if digit < 10 {
+        (b'0' + digit) as char
+    } else {
+        (b'a' + (digit - 10)) as char
+    }
+}
+
+/// Appends two hexadecimal digits.
+fn push_octet<const N: usize>(line: &mut ArrayString<N>, octet: u8)
+    requires { array_string_len line.old + 2 ≤ N }
+    ensures bytes { line.new.bytes ≡ line.old.bytes ++ hex_octet octet }
+    ensures len { array_string_len line.new ≡ array_string_len line.old + 2 }
+{
+    line.push(hex_char(octet / 16));
+    line.push(hex_char(octet % 16));
+}
+
+/// Appends two hexadecimal digits for each octet.
+pub fn push_hex<const N: usize>(line: &mut ArrayString<N>, octets: &[u8])
+    requires { array_string_len line.old + 2 * length octets.now ≤ N }
+    ensures bytes { line.new.bytes ≡ line.old.bytes ++ hex_of octets.now }
+    ensures len { array_string_len line.new ≡ array_string_len line.old + 2 * length octets.now }
+{
+    for octet in octets {
+        push_octet(line, *octet);
+    }
+}
+
+/// Appends a number in decimal.
+pub fn push_number<const N: usize>(line: &mut ArrayString<N>, n: u64)
+    requires { array_string_len line.old + 20 ≤ N }
+    ensures bytes { line.new.bytes ≡ line.old.bytes ++ decimal n }
+    ensures len { array_string_len line.new ≤ array_string_len line.old + 20 }
+{
+    let mut buffer = Buffer::new();
+    line.push_str(buffer.format(n));
+}
+
+/// Appends the number that an octet is, in decimal.
+pub fn push_octet_number<const N: usize>(line: &mut ArrayString<N>, octet: u8)
+    requires { array_string_len line.old + 3 ≤ N }
+    ensures bytes { line.new.bytes ≡ line.old.bytes ++ decimal octet }
+    ensures len { array_string_len line.new ≤ array_string_len line.old + 3 }
+{
+    let mut buffer = Buffer::new();
+    line.push_str(buffer.format(octet));
+}
+
+/// Appends a station and a type.
+pub fn push_station<const N: usize>(line: &mut ArrayString<N>, station: u8, ftype: u8)
+    requires { array_string_len line.old + 20 ≤ N }
+    ensures bytes { line.new.bytes ≡ line.old.bytes ++ station_text station ftype }
+    ensures len { array_string_len line.new ≤ array_string_len line.old + 20 }
+{
+    line.push_str("station ");
+    push_octet_number(line, station);
+    line.push_str(" type ");
+    push_octet_number(line, ftype);
+}
+
+/// Appends two places, each followed by a space.
+pub fn push_span<const N: usize>(line: &mut ArrayString<N>, span: Span)
+    requires { array_string_len line.old + 42 ≤ N }
+    ensures bytes { line.new.bytes ≡ line.old.bytes ++ span_text span }
+    ensures len { array_string_len line.new ≤ array_string_len line.old + 42 }
+{
+    push_number(line, span.first);
+    line.push(' ');
+    push_number(line, span.past);
+    line.push(' ');
+}
+
+/// Why a piece is damaged, in one word.
+fn cause_word(cause: Cause) -> &'static str
+    ensures word { result.now ≡ cause_word cause }
+    ensures len { length result.now ≤ 9 }
+{
+    match cause {
+        Cause::Unstuffed => "unstuffed",
+        Cause::Short => "short",
+        Cause::Unaligned => "unaligned",
+        Cause::Fcs => "fcs",
+    }
+}
+
+/// Appends what a report is.
+fn push_word<const N: usize>(line: &mut ArrayString<N>, piece: Piece<'_>)
+    requires room { array_string_len line.old + 522 ≤ N }
+    requires held { octet_count (report_of piece) ≤ 258 }
+    ensures bytes { line.new.bytes ≡ line.old.bytes ++ report_word (report_of piece.entry).kind }
+    ensures len { array_string_len line.new ≤ array_string_len line.old + 522 }
+{
+    match piece {
+        Piece::Frame { octets, .. } => {
+            line.push_str("frame ");
+            push_hex(line, octets);
+        }
+        Piece::Damaged { cause, .. } => {
+            line.push_str("damaged ");
+            line.push_str(cause_word(cause));
+        }
+        Piece::Overlong { .. } => line.push_str("overlong"),
+        Piece::Abort { .. } => line.push_str("abort"),
+        Piece::Idle { .. } => line.push_str("idle"),
+    }
+}
+
+/// The span of a report.
+pub fn span_of(piece: Piece<'_>) -> Span
+    ensures { result ≡ span_of (report_of piece.entry) }
+{
+    match piece {
+        Piece::Frame { span, .. } => span,
+        Piece::Damaged { span, .. } => span,
+        Piece::Overlong { span } => span,
+        Piece::Abort { span } => span,
+        Piece::Idle { span } => span,
+    }
+}
+
+/// Appends the places of a report and what it is, without the end of its line.
+pub fn push_front<const N: usize>(line: &mut ArrayString<N>, piece: Piece<'_>)
+    requires room { array_string_len line.old + 564 ≤ N }
+    requires held { octet_count (report_of piece) ≤ 258 }
+    ensures bytes { line.new.bytes
+        ≡ line.old.bytes ++ (span_text (span_of (report_of piece.entry)) ++ report_word (report_of piece.entry).kind) }
+    ensures len { array_string_len line.new ≤ array_string_len line.old + 564 }
+{
+    push_span(line, span_of(piece));
+    push_word(line, piece);
+}

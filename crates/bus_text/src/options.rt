@@ -1,0 +1,24 @@
+//! The input format and the output filters.
+
+use crate::kind::Kind;
+
+/// The input format, the analyser's limits and the output filters.
+#[derive(Clone, Copy, Debug)]
+pub struct Options<'a> {
+    /// The text of the dictionary, as TOML.
+    pub dictionary: Option<&'a str>,
+    /// The capture is text, and else it is packed.
+    pub text: bool,
+    /// The place of the first bit, at most 2^60.
+    pub origin: u64,
+    /// How many frames the history keeps, 1 to 1024.
+    pub depth: usize,
+    /// Lines of this station alone.
+    pub station: Option<u8>,
+    /// Lines of this frame type alone.
+    pub ftype: Option<u8>,
+    /// Lines of this kind alone.
+    pub kind: Option<Kind>,
+    /// How often the reader is called at most.
+    pub reads: u64,
+}

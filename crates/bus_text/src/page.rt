@@ -1,0 +1,98 @@
+//! Lines that are written at once.
+
+ghost use Rattle.std.specs.Prelude.{◌≡◌, ◌+◌, ◌<◌, ◌≤◌, ◌^◌, ℕ, List, [], Option, MatchResult, OnOk, OnErr, IfErr, length};
+ghost use Rattle.std.specs.Io.KnownBytes.{Appends};
+ghost use Rattle.arrayvec.specs.ArrayString.{array_string_len};
+ghost use Rattle.bus_text.specs.Put.{Cuts};
+ghost use Rattle.bus_text.specs.Internal.Pages.{Pages};
+
+use crate::put::{ShortWrite, put_text};
+use arrayvec::ArrayString;
+use std::io::Write;
+
+/// The room of a page, in octets.
+const ROOM: usize = 16384;
+
+/// The most octets that one report adds.
+const MOST: usize = 1024;
+
+/// Lines that are not written yet, and how many octets were written before them.
+#[derive(Drop)]
+pub struct Page {
+    pub text: ArrayString<ROOM>,
+    pub written: u128,
+}
+
+impl Page {
+    /// An empty page, before which nothing was written.
+    pub fn new() -> Self
+        ensures blank { (start : Option (List ℕ)) → Pages start start result.text.bytes result.written [] }
+        ensures none { (result.written ≡ 0) × (array_string_len result.text ≡ 0) }
+    {
+        Page {
+            text: ArrayString::new(),
+            written: 0,
+        }
+    }
+
+    /// Writes the page, and empties it.
+    pub fn write_out<W: Write>(&mut self, w: &mut W) -> Result<(), ShortWrite>
+        requires { self.old.written < 2 ^ 100 }
+        ensures turned { (start : Option (List ℕ)) (text : List ℕ) →
+            Pages start (W.contents w.old) self.old.text.bytes self.old.written text → MatchResult result
+            (λ _. Pages start (W.contents w.new) self.new.text.bytes self.new.written text)
+            (λ cut. Cuts start (W.contents w.new) text cut.sent) }
+        ensures kept { OnErr result (self.new ≡ self.old) }
+        ensures short { IfErr result (λ cut. cut.sent < self.old.written + array_string_len self.old.text) }
+        ensures empty { OnOk result (array_string_len self.new.text ≡ 0) }
+        ensures sum { OnOk result (self.new.written ≡ self.old.written + array_string_len self.old.text) }
+    {
+        if let Err(cut) = put_text(w, self.text.as_str().as_bytes()) {
+            return Err(ShortWrite {
+                sent: self.written + cut.sent,
+            });
+        }
+        self.written += self.text.len() as u128;
+        self.text.clear();
+        Ok(())
+    }
+
+    /// Makes room for what one report adds.
+    pub fn make_room<W: Write>(&mut self, w: &mut W) -> Result<(), ShortWrite>
+        requires { self.old.written < 2 ^ 100 }
+        ensures turned { (start : Option (List ℕ)) (text : List ℕ) →
+            Pages start (W.contents w.old) self.old.text.bytes self.old.written text → MatchResult result
+            (λ _. Pages start (W.contents w.new) self.new.text.bytes self.new.written text)
+            (λ cut. Cuts start (W.contents w.new) text cut.sent) }
+        ensures kept { OnErr result (self.new ≡ self.old) }
+        ensures short { IfErr result (λ cut. cut.sent < self.old.written + array_string_len self.old.text) }
+        ensures room { OnOk result (array_string_len self.new.text + 1024 ≤ 16384) }
+        ensures sum { OnOk result
+            (self.new.written + array_string_len self.new.text ≡ self.old.written + array_string_len self.old.text) }
+    {
+        if self.text.remaining_capacity() >= MOST {
+            return Ok(());
+        }
+        self.write_out(w)
+    }
+
+    /// Writes the page and, if anything was written at all, flushes.
+    pub fn close<W: Write>(&mut self, w: &mut W) -> Result<(), ShortWrite>
+        requires { self.old.written < 2 ^ 100 }
+        ensures closed { (start : Option (List ℕ)) (text : List ℕ) →
+            Pages start (W.contents w.old) self.old.text.bytes self.old.written text → MatchResult result
+            (λ _. Appends start (W.contents w.new) text)
+            (λ cut. Cuts start (W.contents w.new) text cut.sent) }
+        ensures empty { OnOk result (array_string_len self.new.text ≡ 0) }
+        ensures sum { OnOk result (self.new.written ≡ self.old.written + array_string_len self.old.text) }
+    {
+        self.write_out(w)?;
+        if self.written == 0 {
+            return Ok(());
+        }
+        match w.flush() {
+            Ok(()) => Ok(()),
+            Err(_) => Err(ShortWrite { sent: self.written }),
+        }
+    }
+}

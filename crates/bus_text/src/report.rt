@@ -1,0 +1,197 @@
+//! The report of a check.
+
+ghost use Rattle.std.specs.Prelude.{◌≡◌, ◌+◌, ◌*◌, ◌++◌, ◌<◌, ◌≤◌, ◌^◌, ℕ, Bool, List, Option, MatchResult, OnOk, length};
+ghost use Rattle.arrayvec.specs.ArrayString.{array_string_len};
+ghost use Rattle.bus_watch.specs.History.{kept_frame, history, tally};
+ghost use Rattle.bus_watch.specs.After.{IsAfter, line};
+ghost use Rattle.bus_text.specs.CheckText.{count_text, summary_text, tally_line, has_none, tally_text, kept_text, tallies_text, history_text, check_text};
+ghost use Rattle.bus_text.specs.Put.{Cuts};
+ghost use Rattle.bus_text.specs.Internal.Pages.{Pages};
+
+use crate::line::{push_hex, push_number, push_octet_number, push_span};
+use crate::page::Page;
+use crate::put::ShortWrite;
+use crate::summary::Summary;
+use arrayvec::ArrayString;
+use bus_fcs::Check;
+use bus_watch::{Analyser, Counts, Kept};
+use std::io::Write;
+
+/// Appends a word, a number and the end of the line.
+fn push_count<const N: usize>(line: &mut ArrayString<N>, word: &str, count: u64)
+    requires room { array_string_len line.old + 30 ≤ N }
+    requires short { length word.now ≤ 8 }
+    ensures bytes { line.new.bytes ≡ line.old.bytes ++ count_text word.now count }
+    ensures len { array_string_len line.new ≤ array_string_len line.old + 30 }
+{
+    line.push_str(word);
+    line.push(' ');
+    push_number(line, count);
+    line.push('\n');
+}
+
+/// Appends the nine counts, a line for each.
+fn push_summary<const N: usize>(line: &mut ArrayString<N>, summary: &Summary)
+    requires { array_string_len line.old + 270 ≤ N }
+    ensures bytes { line.new.bytes ≡ line.old.bytes ++ summary_text summary.now }
+    ensures len { array_string_len line.new ≤ array_string_len line.old + 270 }
+{
+    push_count(line, "frames", summary.frames);
+    push_count(line, "damaged", summary.damaged);
+    push_count(line, "overlong", summary.overlong);
+    push_count(line, "aborts", summary.aborts);
+    push_count(line, "idles", summary.idles);
+    push_count(line, "strays", summary.strays);
+    push_count(line, "answered", summary.answered);
+    push_count(line, "missing", summary.missing);
+    push_count(line, "spoilt", summary.spoilt);
+}
+
+/// Appends the line of a station's verdicts.
+fn push_tally<const N: usize>(line: &mut ArrayString<N>, station: u8, counts: Counts)
+    requires { array_string_len line.old + 110 ≤ N }
+    ensures bytes { line.new.bytes ≡ line.old.bytes ++ tally_line station counts }
+    ensures len { array_string_len line.new ≤ array_string_len line.old + 110 }
+{
+    line.push_str("station ");
+    push_octet_number(line, station);
+    line.push_str(" answered ");
+    push_number(line, counts.answered);
+    line.push_str(" missing ");
+    push_number(line, counts.missing);
+    line.push_str(" spoilt ");
+    push_number(line, counts.spoilt);
+    line.push('\n');
+}
+
+/// Appends the line of a frame of the history.
+fn push_kept<const N: usize>(line: &mut ArrayString<N>, kept: &Kept)
+    requires { array_string_len line.old + 570 ≤ N }
+    ensures bytes { line.new.bytes ≡ line.old.bytes ++ kept_text (kept_frame kept.now) }
+    ensures len { array_string_len line.new ≤ array_string_len line.old + 570 }
+{
+    line.push_str("last ");
+    push_span(line, kept.span);
+    push_hex(line, kept.octets.as_slice());
+    line.push('\n');
+}
+
+/// Whether no verdict is counted.
+fn has_none(counts: Counts) -> bool
+    ensures { result ≡ has_none counts }
+{
+    counts.answered == 0 && counts.missing == 0 && counts.spoilt == 0
+}
+
+/// Puts the line of a station on the page, if it has a verdict.
+fn put_tally<W: Write>(
+    station: u8,
+    counts: Counts,
+    page: &mut Page,
+    w: &mut W,
+) -> Result<(), ShortWrite>
+    requires { page.old.written < 2 ^ 100 }
+    ensures put { (start : Option (List ℕ)) (text : List ℕ) →
+        Pages start (W.contents w.old) page.old.text.bytes page.old.written text → MatchResult result
+        (λ _. Pages start (W.contents w.new) page.new.text.bytes page.new.written (text ++ tally_text station counts))
+        (λ cut. Cuts start (W.contents w.new) (text ++ tally_text station counts) cut.sent) }
+    ensures few { OnOk result
+        (page.new.written + array_string_len page.new.text ≤ page.old.written + array_string_len page.old.text + 110) }
+{
+    if has_none(counts) {
+        return Ok(());
+    }
+    page.make_room(w)?;
+    push_tally(&mut page.text, station, counts);
+    Ok(())
+}
+
+/// Puts a line for each station with a verdict on the page, by rising number.
+fn put_tallies<C: Check, W: Write>(
+    analyser: &Analyser<C>,
+    page: &mut Page,
+    w: &mut W,
+) -> Result<(), ShortWrite>
+    requires { page.old.written + array_string_len page.old.text < 2 ^ 90 }
+    ensures put { (start : Option (List ℕ)) (text : List ℕ) (b : List Bool) →
+        IsAfter C.folded C.COST analyser.now b →
+        Pages start (W.contents w.old) page.old.text.bytes page.old.written text → MatchResult result
+        (λ _. Pages start (W.contents w.new) page.new.text.bytes page.new.written
+        (text ++ tallies_text (tally analyser.now.journal.dictionary (line analyser.now b)) 256))
+        (λ cut. Cuts start (W.contents w.new)
+        (text ++ tallies_text (tally analyser.now.journal.dictionary (line analyser.now b)) 256) cut.sent) }
+    ensures few { OnOk result
+        (page.new.written + array_string_len page.new.text ≤ page.old.written + array_string_len page.old.text
+        + 110 * 256) }
+{
+    for station in 0..=255u8 {
+        put_tally(station, analyser.tally(station), page, w)?;
+    }
+    Ok(())
+}
+
+/// Puts a frame of the history on the page.
+fn put_kept<W: Write>(kept: &Kept, page: &mut Page, w: &mut W) -> Result<(), ShortWrite>
+    requires { page.old.written < 2 ^ 100 }
+    ensures put { (start : Option (List ℕ)) (text : List ℕ) →
+        Pages start (W.contents w.old) page.old.text.bytes page.old.written text → MatchResult result
+        (λ _. Pages start (W.contents w.new) page.new.text.bytes page.new.written
+        (text ++ kept_text (kept_frame kept.now)))
+        (λ cut. Cuts start (W.contents w.new) (text ++ kept_text (kept_frame kept.now)) cut.sent) }
+    ensures few { OnOk result
+        (page.new.written + array_string_len page.new.text ≤ page.old.written + array_string_len page.old.text + 570) }
+{
+    page.make_room(w)?;
+    push_kept(&mut page.text, kept);
+    Ok(())
+}
+
+/// Puts the frames of the history on the page, the oldest first.
+fn put_history<C: Check, W: Write>(
+    analyser: &Analyser<C>,
+    page: &mut Page,
+    w: &mut W,
+) -> Result<(), ShortWrite>
+    requires { page.old.written + array_string_len page.old.text < 2 ^ 95 }
+    ensures put { (start : Option (List ℕ)) (text : List ℕ) (b : List Bool) →
+        IsAfter C.folded C.COST analyser.now b →
+        Pages start (W.contents w.old) page.old.text.bytes page.old.written text → MatchResult result
+        (λ _. Pages start (W.contents w.new) page.new.text.bytes page.new.written
+        (text ++ history_text (history analyser.now.journal.depth (line analyser.now b))))
+        (λ cut. Cuts start (W.contents w.new)
+        (text ++ history_text (history analyser.now.journal.depth (line analyser.now b))) cut.sent) }
+    ensures few { OnOk result (page.new.written < 2 ^ 96) }
+{
+    for i in 0..analyser.history_len() {
+        let Some(kept) = analyser.history(i) else {
+            return Ok(());
+        };
+        put_kept(kept, page, w)?;
+    }
+    Ok(())
+}
+
+/// Puts the whole report on the page.
+pub fn put_report<C: Check, W: Write>(
+    summary: &Summary,
+    analyser: &Analyser<C>,
+    page: &mut Page,
+    w: &mut W,
+) -> Result<(), ShortWrite>
+    requires { page.old.written + array_string_len page.old.text < 2 ^ 80 }
+    ensures put { (start : Option (List ℕ)) (text : List ℕ) (b : List Bool) →
+        IsAfter C.folded C.COST analyser.now b →
+        Pages start (W.contents w.old) page.old.text.bytes page.old.written text → MatchResult result
+        (λ _. Pages start (W.contents w.new) page.new.text.bytes page.new.written
+        (text ++ check_text summary.now (tally analyser.now.journal.dictionary (line analyser.now b))
+        (history analyser.now.journal.depth (line analyser.now b))))
+        (λ cut. Cuts start (W.contents w.new)
+        (text ++ check_text summary.now (tally analyser.now.journal.dictionary (line analyser.now b))
+        (history analyser.now.journal.depth (line analyser.now b))) cut.sent) }
+    ensures few { OnOk result (page.new.written < 2 ^ 96) }
+{
+    page.make_room(w)?;
+    push_summary(&mut page.text, summary);
+    put_tallies(analyser, page, w)?;
+    put_history(analyser, page, w)
+}

@@ -1,0 +1,54 @@
+//! Shows one frame that is typed in hexadecimal.
+
+ghost use Rattle.std.specs.Prelude.{option_map};
+ghost use Rattle.bus_text.specs.Show.{Reads, Shows};
+
+mod names;
+mod put;
+mod typed;
+
+use crate::fault::ToolFault;
+use bus_dictionary::{DictFault, Dictionary};
+use put::put_frame;
+use std::alloc::Global;
+use std::io::Write;
+use typed::typed_frame;
+
+/// The dictionary of a text. Without a text it is empty, and takes no memory.
+pub fn read_dictionary(alloc: Global, text: Option<&str>) -> Result<Dictionary, ToolFault>
+    ensures { Reads (option_map (λ s. s.now) text.entry) result }
+{
+    let Some(text) = text else {
+        return Ok(Dictionary::empty(alloc));
+    };
+    match Dictionary::read(alloc, text) {
+        Ok(dictionary) => Ok(dictionary),
+        Err(DictFault::Memory) => Err(ToolFault::Memory),
+        Err(fault) => Err(ToolFault::Dictionary(fault)),
+    }
+}
+
+/// Writes what one frame is that `hex` has in hexadecimal digits of either case, its check among
+/// its octets: the octets and whether the check is good, what the head says by the dictionary, and
+/// the names of the bits that are 1. The writer is flushed once.
+///
+/// # Errors
+///
+/// - `Hex`: the digits are none, odd in number, or not all digits.
+/// - `FrameSize`: they are not 4 to 258 octets.
+/// - `Dictionary`: the text is no dictionary. `Memory`: memory was refused for it. Up to here
+///   nothing was written.
+/// - `Write`: a write or the flush failed, or a write took nothing.
+pub fn show_frame<W: Write>(
+    alloc: Global,
+    dictionary: Option<&str>,
+    hex: &str,
+    w: &mut W,
+) -> Result<(), ToolFault>
+    ensures { Shows (option_map (λ s. s.now) dictionary.entry) hex.now (W.contents w.old) (W.contents w.new) result }
+{
+    let octets = typed_frame(hex)?;
+    let dictionary = read_dictionary(alloc, dictionary)?;
+    put_frame(&octets, &dictionary, w)?;
+    Ok(())
+}

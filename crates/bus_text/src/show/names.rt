@@ -1,0 +1,40 @@
+//! The lines of the bits that are 1.
+
+ghost use Rattle.std.specs.Prelude.{◌≡◌, ◌+◌, ◌*◌, ◌<◌, ◌≤◌, ◌^◌, List, ℕ, Option, ◌++◌, IfOk, length, codes};
+ghost use Rattle.std.specs.List.{flat_map};
+ghost use Rattle.std.specs.Io.KnownBytes.{Appends};
+ghost use Rattle.bus_dictionary.specs.BitName.{named_bit, is_name};
+ghost use Rattle.bus_text.specs.Show.{name_text};
+ghost use Rattle.bus_text.specs.Internal.Pages.{Puts};
+
+use crate::line::{Line, push_number};
+use crate::put::{ShortWrite, put_line};
+use bus_dictionary::{BitName, NameWalk};
+use std::io::Write;
+
+/// The line of a named bit.
+fn name_line(bit: &BitName) -> Line
+    ensures { result.bytes ≡ name_text (named_bit bit.now) }
+{
+    let mut line = Line::new();
+    push_number(&mut line, u64::from(bit.at));
+    line.push(' ');
+    line.push_str(bit.name.as_str());
+    line.push('\n');
+    line
+}
+
+/// Writes a line for each name, after `sent` octets. Returns how many octets went out in all.
+pub fn put_names<W: Write>(names: NameWalk<'_>, sent: u128, w: &mut W) -> Result<u128, ShortWrite>
+    requires sent { sent ≤ 2000 }
+    requires few { length names ≤ 2024 }
+    ensures put { (start : Option (List ℕ)) (before : List ℕ) → Appends start (W.contents w.old) before →
+        sent ≡ length before
+        → Puts start (W.contents w.new) (before ++ flat_map name_text names.entry) result }
+{
+    let mut written = sent;
+    for name in names {
+        written = put_line(&name_line(&name), written, w)?;
+    }
+    Ok(written)
+}

@@ -1,0 +1,98 @@
+//! How often each thing was seen.
+
+ghost use Rattle.std.specs.Prelude.{◌≡◌, ◌↔◌, ◌<◌, ◌^◌, ◌+◌, List, [], ◌∷◌, ◌++◌, ℕ, IsTrue};
+ghost use Rattle.bus_line.specs.Shown.{report_of};
+ghost use Rattle.bus_watch.specs.Seen.{SeenReport};
+ghost use Rattle.bus_watch.specs.Shown.{shown};
+ghost use Rattle.bus_text.specs.Summary.{summary_of};
+ghost use Rattle.bus_text.specs.Internal.Counting.{with_kind, with_verdict, IsFew};
+
+use bus_line::Piece;
+use bus_watch::{Outcome, Seen, Verdict};
+
+/// How often each thing was seen on a line.
+#[derive(Clone, Copy, Debug, PartialEq, Eq)]
+pub struct Summary {
+    pub frames: u64,
+    pub damaged: u64,
+    pub overlong: u64,
+    pub aborts: u64,
+    pub idles: u64,
+    /// Frames of a type of 128 or more that answer no command.
+    pub strays: u64,
+    /// Commands that were answered, by their verdicts.
+    pub answered: u64,
+    pub missing: u64,
+    pub spoilt: u64,
+}
+
+impl Summary {
+    /// Whether no piece was damaged or overlong, and no verdict missing or spoilt.
+    pub fn is_clean(&self) -> bool
+        ensures { IsTrue result ↔
+            ((self.now.damaged ≡ 0) × (self.now.overlong ≡ 0) × (self.now.missing ≡ 0) × (self.now.spoilt ≡ 0)) }
+    {
+        self.damaged == 0 && self.overlong == 0 && self.missing == 0 && self.spoilt == 0
+    }
+
+    /// Nothing was seen.
+    pub fn none() -> Self
+        ensures none { result ≡ summary_of [] }
+        ensures few { IsFew 0 result }
+    {
+        Summary {
+            frames: 0,
+            damaged: 0,
+            overlong: 0,
+            aborts: 0,
+            idles: 0,
+            strays: 0,
+            answered: 0,
+            missing: 0,
+            spoilt: 0,
+        }
+    }
+
+    /// Counts a report, and what follows from it.
+    pub fn count(&mut self, seen: &Seen<'_>)
+        requires { (most : ℕ) × IsFew most self.old × (most < 2 ^ 60) }
+        ensures counted { (before : List SeenReport) → self.old ≡ summary_of before →
+            self.new ≡ summary_of (before ++ shown seen.now ∷ []) }
+        ensures few { (most : ℕ) → IsFew most self.old → IsFew (most + 1) self.new }
+    {
+        self.count_piece(seen.piece);
+        self.count_verdict(seen.verdict);
+        if seen.stray {
+            self.strays += 1;
+        }
+    }
+
+    /// Counts a piece by what it is.
+    fn count_piece(&mut self, piece: Piece<'_>)
+        requires { IsFew (2 ^ 61) self.old }
+        ensures { self.new ≡ with_kind (report_of piece.entry).kind self.old }
+    {
+        match piece {
+            Piece::Frame { .. } => self.frames += 1,
+            Piece::Damaged { .. } => self.damaged += 1,
+            Piece::Overlong { .. } => self.overlong += 1,
+            Piece::Abort { .. } => self.aborts += 1,
+            Piece::Idle { .. } => self.idles += 1,
+        }
+    }
+
+    /// Counts a verdict, if there is one.
+    fn count_verdict(&mut self, verdict: Option<Verdict>)
+        requires { IsFew (2 ^ 61) self.old }
+        ensures { self.new ≡ with_verdict verdict self.old }
+    {
+        let Some(verdict) = verdict else {
+            return;
+        };
+        match verdict.outcome {
+            Outcome::Answered => self.answered += 1,
+            Outcome::Missing => self.missing += 1,
+            Outcome::Spoilt => self.spoilt += 1,
+        }
+    }
+}

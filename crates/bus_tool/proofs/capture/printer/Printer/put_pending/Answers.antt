@@ -1,9 +1,0 @@
-use Rattle.std.proofs.Common.{ap, option_map}
-use Rattle.std.specs.Option.{option_to_list}
-use Rattle.bus_tool.specs.Listing.{pending_line}
-use Rattle.bus_tool.proofs.ListingLemmas.{put-none}
-use Rattle.bus_tool.proofs.capture.printer.Printer.put_pending.Goals as goal
-
-pub returns-in_default-clause-bytes : goal.returns-in_default-clause-bytes
-returns-in_default-clause-bytes c =
-    put-none c.args.self.now.filter _ c.args.page.now.text.bytes (ap (λ v. option_to_list (option_map pending_line v)) c.in_default.is)

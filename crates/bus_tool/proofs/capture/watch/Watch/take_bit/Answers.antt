@@ -1,5 +1,0 @@
-use Rattle.std.proofs.Common.{refl}
-use Rattle.bus_tool.proofs.capture.watch.Watch.take_bit.Goals as goal
-
-pub returns-then-pass-clause-taken : goal.returns-then-pass-clause-taken
-returns-then-pass-clause-taken g c = λ start b h. c.if-pass.ensures.passed refl start (g.W.Write.contents c.args.w.now) b h

@@ -1,7 +1,0 @@
-use Rattle.bus_tool.proofs.OrderLemmas.{some_calls}
-use Rattle.bus_tool.proofs.encode.bits.call_text.Goals as goal
-
-pub returns-clause-going : goal.returns-clause-going
-returns-clause-going c =
-    let s = some_calls c.args.encoder.now c.requires.going in
-    (c.bits_of-bits.ensures.after s.0 s.1).going

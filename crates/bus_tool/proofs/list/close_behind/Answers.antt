@@ -1,8 +1,0 @@
-use Rattle.std.proofs.Common.{refl, inr}
-use Rattle.bus_tool.proofs.list.close_behind.Goals as goal
-
-pub returns-in-Err : goal.returns-in-Err
-returns-in-Err g c = record {
-  cut = λ sent is. absurd (c.in_default.not-Write sent is);
-  closed = λ no start text page. inr (c.in-Err.field-0.sent, refl, c.in-Err.ensures.closed start text page);
-}

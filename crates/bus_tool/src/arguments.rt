@@ -1,0 +1,222 @@
+//! The command line.
+
+mod help;
+
+use bus_text::{Kind, Options};
+use clap::{Arg, ArgAction, ArgMatches, Command, Error, value_parser};
+use std::alloc::Global;
+
+/// How often a reader is called at most.
+pub const READS: u64 = 1 << 40;
+
+/// How many frames the history keeps where only lines are wanted.
+const LISTED_DEPTH: usize = 1;
+
+/// How many frames a check tells at its end, unless it is said.
+const CHECKED_DEPTH: usize = 16;
+
+/// What the program is to do.
+#[derive(Clone, Copy, Debug)]
+pub enum Request<'a> {
+    /// List the capture that is read.
+    List(Options<'a>),
+    /// Check the capture that is read.
+    Check(Options<'a>),
+    /// Show the frame that `hex` has, by the dictionary of a text.
+    Show {
+        dictionary: Option<&'a str>,
+        hex: &'a str,
+    },
+    /// Encode the lines that are read.
+    Encode,
+}
+
+/// Why the words ask for nothing that can be done.
+#[derive(Debug, Drop)]
+pub enum Refusal {
+    /// The words are no command line, or ask for a help text.
+    Arguments(Error),
+    /// They are one, and the word after `--kind` names no kind of line.
+    Kind,
+}
+
+fn dictionary_arg<'a>(alloc: Global) -> Arg<'a> {
+    Arg::new(alloc, "dict")
+        .long("dict")
+        .value_name("TEXT")
+        .action(ArgAction::Set)
+        .help("The text of a dictionary, as TOML, and not the path of a file")
+}
+
+fn origin_arg<'a>(alloc: Global) -> Arg<'a> {
+    Arg::new(alloc, "origin")
+        .long("origin")
+        .value_name("N")
+        .action(ArgAction::Set)
+        .value_parser(value_parser!(u64).range(0..=1 << 60))
+        .default_value("0")
+        .help("The place of the first bit, 0 to 2^60; each place that is written counts from it")
+}
+
+fn bits_arg<'a>(alloc: Global) -> Arg<'a> {
+    Arg::new(alloc, "bits")
+        .long("bits")
+        .action(ArgAction::SetTrue)
+        .help("The capture is text; without this it is packed")
+}
+
+fn depth_arg<'a>(alloc: Global) -> Arg<'a> {
+    Arg::new(alloc, "depth")
+        .long("depth")
+        .value_name("N")
+        .action(ArgAction::Set)
+        .value_parser(value_parser!(usize).range(1..=1024))
+        .default_value("16")
+        .help("How many of the last frames are told, 1 to 1024")
+}
+
+/// An argument that is an octet, as a number.
+fn octet_arg<'a>(alloc: Global, name: &'a str, help: &'a str) -> Arg<'a> {
+    Arg::new(alloc, name)
+        .long(name)
+        .value_name("N")
+        .action(ArgAction::Set)
+        .value_parser(value_parser!(u8))
+        .help(help)
+}
+
+fn kind_arg<'a>(alloc: Global) -> Arg<'a> {
+    Arg::new(alloc, "kind")
+        .long("kind")
+        .value_name("K")
+        .action(ArgAction::Set)
+        .help(help::KIND)
+}
+
+fn list_command<'a>(alloc: Global) -> Result<Command<'a>, Error> {
+    Ok(
+        Command::new(alloc, "list")
+            .about("Lists what stands on the line, from a capture on standard input")
+            .arg(dictionary_arg(alloc))?
+            .arg(origin_arg(alloc))?
+            .arg(bits_arg(alloc))?
+            .arg(octet_arg(alloc, "station", "Only lines of this station, 0 to 255"))?
+            .arg(octet_arg(alloc, "type", "Only lines of this frame type, 0 to 255"))?
+            .arg(kind_arg(alloc))?
+            .after_help(help::LIST),
+    )
+}
+
+fn check_command<'a>(alloc: Global) -> Result<Command<'a>, Error> {
+    Ok(
+        Command::new(alloc, "check")
+            .about("Counts what stands on the line, and says by its status whether all was well")
+            .arg(dictionary_arg(alloc))?
+            .arg(origin_arg(alloc))?
+            .arg(bits_arg(alloc))?
+            .arg(depth_arg(alloc))?
+            .after_help(help::CHECK),
+    )
+}
+
+fn show_command<'a>(alloc: Global) -> Result<Command<'a>, Error> {
+    let hex = Arg::new(alloc, "hex")
+        .value_name("HEX")
+        .required(true)
+        .action(ArgAction::Set)
+        .help("The octets of the frame, its check among them, two digits each");
+    Ok(
+        Command::new(alloc, "show")
+            .about("Shows what one frame is")
+            .arg(dictionary_arg(alloc))?
+            .arg(hex)?
+            .after_help(help::SHOW),
+    )
+}
+
+fn encode_command<'a>(alloc: Global) -> Command<'a> {
+    Command::new(alloc, "encode")
+        .about("Encodes flags, idle lines and frames on standard input as the bits that are sent")
+        .after_help(help::ENCODE)
+}
+
+fn whole_command<'a>(alloc: Global) -> Result<Command<'a>, Error> {
+    Ok(
+        Command::new(alloc, "port1")
+            .bin_name("port1")?
+            .version("1.0.0")
+            .about("Analyses the Port 1 bus of a traffic-signal cabinet, from the bits on it")
+            .after_help(help::WHOLE)
+            .no_binary_name(true)
+            .subcommand(list_command(alloc)?)?
+            .subcommand(check_command(alloc)?)?
+            .subcommand(show_command(alloc)?)?
+            .subcommand(encode_command(alloc))?,
+    )
+}
+
+/// A listing of a text capture, of each line, without a dictionary.
+fn plain_listing<'a>() -> Options<'a> {
+    Options {
+        dictionary: None,
+        text: true,
+        origin: 0,
+        depth: LISTED_DEPTH,
+        station: None,
+        ftype: None,
+        kind: None,
+        reads: READS,
+    }
+}
+
+fn list_options<'a>(found: &ArgMatches<'a>) -> Result<Options<'a>, Refusal> {
+    let kind = match found.get_str("kind") {
+        None => None,
+        Some(word) => Some(Kind::read(word).ok_or(Refusal::Kind)?),
+    };
+    Ok(Options {
+        dictionary: found.get_str("dict"),
+        text: found.get_flag("bits"),
+        origin: found.get_one("origin").unwrap_or(0),
+        station: found.get_one("station"),
+        ftype: found.get_one("type"),
+        kind,
+        ..plain_listing()
+    })
+}
+
+fn check_options<'a>(found: &ArgMatches<'a>) -> Options<'a> {
+    Options {
+        dictionary: found.get_str("dict"),
+        text: found.get_flag("bits"),
+        origin: found.get_one("origin").unwrap_or(0),
+        depth: found.get_one("depth").unwrap_or(CHECKED_DEPTH),
+        ..plain_listing()
+    }
+}
+
+fn parse<'a>(alloc: Global, words: &'a [&'a str]) -> Result<ArgMatches<'a>, Error> {
+    whole_command(alloc)?.try_get_matches_from(words)
+}
+
+/// Reads the words, the arguments of the program without its name. No words at all ask for what
+/// `list --bits` does.
+///
+/// # Errors
+///
+/// - `Arguments`: what the words have wrong, or a help text, as `clap` tells them.
+/// - `Kind`: no kind of line is named so. The rest of the words was judged before.
+pub fn read_arguments<'a>(alloc: Global, words: &'a [&'a str]) -> Result<Request<'a>, Refusal> {
+    let found = parse(alloc, words).map_err(Refusal::Arguments)?;
+    match found.subcommand() {
+        Some(("list", listed)) => Ok(Request::List(list_options(listed)?)),
+        Some(("check", checked)) => Ok(Request::Check(check_options(checked))),
+        Some(("show", shown)) => Ok(Request::Show {
+            dictionary: shown.get_str("dict"),
+            // It is there: it is required.
+            hex: shown.get_str("hex").unwrap_or(""),
+        }),
+        Some(("encode", _)) => Ok(Request::Encode),
+        _ => Ok(Request::List(plain_listing())),
+    }
+}

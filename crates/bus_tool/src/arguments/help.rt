@@ -1,0 +1,79 @@
+//! The ends of the help texts.
+
+/// How lines are chosen by their kind.
+pub const KIND: &str = "\
+Only lines of this kind: frame, damaged, overlong, abort, idle, stray, answered, missing, spoilt, \
+open or pending";
+
+/// Of the program.
+pub const WHOLE: &str = "\
+Without words it does what `list --bits` does. It opens no file: a capture, or lines to
+encode, are read from standard input, and a dictionary is given as text.
+
+A text capture has the octets 0 and 1 for the bits, in the order received; spaces, tabs and
+line ends are skipped. A packed capture begins with the eight octets TS2BITS1 and the number
+of its bits as eight octets, the lowest first; then come the bits, eight in each octet, the
+first of them lowest, and the bits of the last octet that are not used are 0.
+
+Output goes to standard output, faults to standard error. The status is 0, or 1 where `check`
+found a damaged or overlong piece or a command that was missed or spoilt, or 2 for any fault.
+
+Example:
+  port1 list --bits < capture.bits";
+
+/// Of `list`.
+pub const LIST: &str = "\
+Reads a capture from standard input and writes a line as soon as it is decided: the first
+place, the place past the last bit, and what stands there. Places count bits.
+  frame HEX                 a frame with a good check, its octets and check; with a dictionary
+                            also what its head says: `station A type T NAME`, `unknown` or
+                            `length` in place of the name, `control C`, or `untyped`
+  damaged CAUSE             a piece that is no frame: unstuffed, short, unaligned or fcs
+  overlong, abort, idle     a piece that is too long, one cut off by ones, a silent line
+  answered, missing, spoilt station A type T
+                            what became of a command that waits for an answer
+  stray station A type T    a frame of type 128 or more that answers no command
+  open, pending             at the end: a piece not yet closed, a command still waiting
+A line without a station or type is left out where --station or --type asks for one. Without
+a dictionary no type is known: no command waits, and strays have no line.
+
+The status is 0, or 2 for any fault, told on standard error behind the lines before it.
+
+Example:
+  port1 list --bits --dict \"$(cat cabinet.toml)\" --station 16 < capture.bits";
+
+/// Of `check`.
+pub const CHECK: &str = "\
+Reads a capture from standard input to its end. Then it writes how many frames, damaged and
+overlong pieces, aborts, idle lines and strays there were, how many commands were answered,
+missing and spoilt, these three again for each station that has any, and the last frames with
+their places, the oldest first. Where the capture has a fault, nothing is written.
+
+The status is 0; 1 where anything was damaged, overlong, missing or spoilt; 2 for any fault,
+told on standard error.
+
+Example:
+  port1 check --dict \"$(cat cabinet.toml)\" < capture.ts2 && echo all is well";
+
+/// Of `show`.
+pub const SHOW: &str = "\
+Reads no input. It writes the octets and whether their check is good, then what the head says
+by the dictionary, and, for a frame that the dictionary has, the place and name of each named
+bit that is 1. A frame has 4 to 258 octets; digits are of either case.
+
+The status is 0, also where the check is bad, or 2 for any fault, told on standard error.
+
+Example:
+  port1 show --dict \"$(cat cabinet.toml)\" 108300fde5";
+
+/// Of `encode`.
+pub const ENCODE: &str = "\
+Reads lines from standard input: `flag`, `idle`, or `frame` and the octets from the address
+through the information, in hexadecimal. For each it writes a line of the bits 0 and 1 that
+stand on the line: a flag, fifteen ones, or the frame with its check and its inserted 0s
+between flags, of which the first is left out behind a flag or a frame. Empty lines are skipped.
+
+The status is 0, or 2 for any fault, told on standard error behind the lines before it.
+
+Example:
+  printf 'frame 108300\\nidle\\n' | port1 encode";

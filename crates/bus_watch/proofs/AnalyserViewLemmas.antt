@@ -1,0 +1,116 @@
+-- The counters have room, and frames are whole.
+use Rattle.std.proofs.Common.{◌≡◌, ℕ, zero, suc, ◌+◌, ◌*◌, ◌<◌, ◌≤◌, ◌^◌, Bool, List, [], ◌∷◌, length, Option, Some, None, refl, sym, ap, ◌∙◌, arith, get_or, map, not}
+use Rattle.std.specs.List.{filter_map, cons_option, sum_by}
+use Rattle.std.specs.Option.{option_map}
+use Rattle.std.proofs.lemmas.List.{length-map, length-append}
+use Rattle.std.proofs.lemmas.List.Sums.{count_by-le-length, length-filter, sum_by-le, sum_by-append}
+use Rattle.bus_line.specs.Report.{Report, Kind, Frame, IsReport, moved}
+use Rattle.bus_line.specs.Due.{places, reports, placed, due_at}
+use Rattle.bus_line.specs.Ledger.{octet_count}
+use Rattle.bus_line.specs.Laws.{FramesStored, StoredPaid, AssembledWithin, DueIsIt, FrameIsSpelled}
+use Rattle.bus_line.specs.After.{FitsFrame}
+use Rattle.bus_line.specs.Shown.{report_of}
+use Rattle.bus_line.specs.declared.piece.Piece.{Piece}
+use Rattle.bus_line.specs.declared.piece.Piece.TheVariants as piece
+use Rattle.bus_dictionary.specs.Entry.{FrameType}
+use Rattle.bus_dictionary.specs.Dictionary.{longest_of}
+use Rattle.bus_watch.specs.Talk.{is_idle, talk, neighbours, verdict_on, verdicts}
+use Rattle.bus_watch.specs.History.{tally, verdicts_of}
+use Rattle.bus_watch.specs.Ledger.{kind_steps, steps}
+use Rattle.bus_watch.specs.Internal.JournalState.{HasRoom}
+use Rattle.bus_watch.specs.Internal.Noted.{IsWhole}
+use Rattle.bus_watch.specs.After.{AnalyserState, IsAfter, line}
+use Rattle.bus_watch.specs.declared.outcome.Outcome.{Outcome}
+use Rattle.bus_watch.specs.declared.outcome.Outcome.TheVariants.{Answered, Missing, Spoilt}
+use Rattle.bus_watch.specs.declared.counts.Counts.{Counts}
+
+length-places : (n : ℕ) → length (places n) ≡ n
+length-places zero = refl
+length-places (suc n) = omega (arith, length-append (places n) (n ∷ []), length-places n)
+
+cons_option-length : {Y : Type 0} (o : Option Y) (ys : List Y) → length (cons_option o ys) ≤ suc (length ys)
+cons_option-length None ys = omega arith
+cons_option-length (Some y) ys = omega arith
+
+filter_map-length : {X Y : Type 0} (f : X → Option Y) (xs : List X) → length (filter_map f xs) ≤ length xs
+filter_map-length f [] = omega arith
+filter_map-length f (x ∷ xs) = omega (arith, cons_option-length (f x) (filter_map f xs), filter_map-length f xs)
+
+neighbours-length : {A : Type 0} (xs : List A) → length (neighbours xs) ≤ length xs
+neighbours-length [] = omega arith
+neighbours-length (x ∷ []) = omega arith
+neighbours-length (x ∷ y ∷ xs) = omega (arith, neighbours-length (y ∷ xs))
+
+pub line-length : (origin longest : ℕ) (b : List Bool) → length (placed origin longest b) ≤ length b
+line-length origin longest b = omega (arith, length-map (reports longest b) (moved origin), filter_map-length (due_at longest b) (places (length b)), length-places (length b))
+
+verdicts-length : (d : List FrameType) (rs : List Report) → length (verdicts d rs) ≤ length rs
+verdicts-length d rs = omega (arith, filter_map-length (λ pair. verdict_on d pair.0 pair.1) (neighbours (talk rs)), neighbours-length (talk rs), length-filter (λ r. not (is_idle r.kind)) rs, count_by-le-length (λ r. not (is_idle r.kind)) rs)
+
+steps-six : (kind : Kind) → kind_steps kind ≤ 6
+steps-six (Frame octets) = omega arith
+steps-six (Kind.Damaged cause) = omega arith
+steps-six Kind.Overlong = omega arith
+steps-six Kind.Abort = omega arith
+steps-six Kind.Idle = omega arith
+
+steps-within : (rs : List Report) → sum_by steps rs ≤ 6 * length rs
+steps-within rs = omega (arith, sum_by-le steps 6 rs (λ i d l. steps-six (get_or rs i d).kind))
+
+pub octets-moved : (origin : ℕ) (rs : List Report) → sum_by octet_count (map (moved origin) rs) ≡ sum_by octet_count rs
+octets-moved origin [] = refl
+octets-moved origin (r ∷ rs) =
+    sum_by-append octet_count (moved origin r ∷ []) (map (moved origin) rs)
+    ∙ (ap (λ n. sum_by octet_count (r ∷ []) + n) (octets-moved origin rs) ∙ sym (sum_by-append octet_count (r ∷ []) rs))
+
+pub steps-moved : (origin : ℕ) (rs : List Report) → sum_by steps (map (moved origin) rs) ≡ sum_by steps rs
+steps-moved origin [] = refl
+steps-moved origin (r ∷ rs) =
+    sum_by-append steps (moved origin r ∷ []) (map (moved origin) rs)
+    ∙ (ap (λ n. sum_by steps (r ∷ []) + n) (steps-moved origin rs) ∙ sym (sum_by-append steps (r ∷ []) rs))
+
+-- no station has more verdicts than there are reports
+tally-within : (d : List FrameType) (rs : List Report) (station n : ℕ) (c : Counts) → c ≡ tally d rs station → length rs ≤ n → n ≤ 2 ^ 60
+    → (c.answered + 1 < 2 ^ 64) × (c.missing + 1 < 2 ^ 64) × (c.spoilt + 1 < 2 ^ 64)
+tally-within d rs station n c e l u =
+    let v = verdicts-length d rs in
+    let most : (o : Outcome) → verdicts_of o station (verdicts d rs) ≤ length (verdicts d rs) = λ o. count_by-le-length _ (verdicts d rs) in
+    rw e (omega (arith, v, most Answered, l, u), omega (arith, v, most Missing, l, u), omega (arith, v, most Spoilt, l, u))
+
+same-Some : {X : Type 0} (x y : X) → Some x ≡ Some y → x ≡ y
+same-Some x y e = cc
+
+-- after less than 2^60 bits all counters have room
+pub room : {C : Type 0} (folded : C → List ℕ → Type 0) (cost : ℕ) (a : AnalyserState C) (b : List Bool) → FramesStored → StoredPaid → AssembledWithin
+    → IsAfter folded cost a b → length b ≤ 2 ^ 60 → HasRoom a.journal
+room folded cost a b frames paid within s l =
+    let longest = longest_of a.journal.dictionary in
+    let rs = line a b in
+    let n = line-length a.decoder.origin longest b in
+    record {
+      copied = omega (arith, s.journal.copied, octets-moved a.decoder.origin (reports longest b), frames longest b, paid longest b, within b, l);
+      handled = omega (arith, s.journal.handled, steps-within rs, n, l);
+      tally = λ k c u e. tally-within a.journal.dictionary rs k (length b) c (same-Some c _ (sym e ∙ s.journal.tally k u)) n l;
+    }
+
+-- a frame that is due has its head and its check
+map-Some : {X Y : Type 0} (f : X → Y) (o : Option X) (y : Y) → Some y ≡ option_map f o → (x : X) × (o ≡ Some x) × (f x ≡ y)
+map-Some f None y e = absurd (cc)
+map-Some f (Some x) y e = (x, refl, cc)
+
+whole-frame : (longest origin : ℕ) (b : List Bool) (i : ℕ) (p : Piece) → DueIsIt → FrameIsSpelled → FitsFrame longest (Some p)
+    → (r : Report) → due_at longest b i ≡ Some r → moved origin r ≡ report_of p → IsWhole p
+whole-frame longest origin b i (piece.Frame span os) due spelled fits r e m =
+    let k : r.kind ≡ Frame os.now = ap (λ (x : Report). x.kind) m in
+    let is : IsReport longest b r = ((due longest b i r).1 e).0 in
+    ((spelled longest b r os.now is k).2, omega (arith, fits.0, fits.1))
+whole-frame longest origin b i (piece.Damaged span cause) due spelled fits r e m = tt
+whole-frame longest origin b i (piece.Overlong span) due spelled fits r e m = tt
+whole-frame longest origin b i (piece.Abort span) due spelled fits r e m = tt
+whole-frame longest origin b i (piece.Idle span) due spelled fits r e m = tt
+
+pub whole : (longest origin : ℕ) (b : List Bool) (i : ℕ) (p : Piece) → DueIsIt → FrameIsSpelled → FitsFrame longest (Some p)
+    → Some (report_of p) ≡ option_map (moved origin) (due_at longest b i) → IsWhole p
+whole longest origin b i p due spelled fits e =
+    let s = map-Some (moved origin) (due_at longest b i) (report_of p) e in
+    whole-frame longest origin b i p due spelled fits s.0 s.1 s.2

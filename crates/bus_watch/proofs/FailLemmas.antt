@@ -1,0 +1,70 @@
+-- When a run fails.
+use Rattle.std.proofs.Common.{◌≡◌, ℕ, ◌+◌, ◌-◌, ◌≤◌, ◌<◌, ◌^◌, ◌↔◌, ◌⊎◌, Bool, List, [], ◌∷◌, ◌++◌, length, take, drop, Result, Ok, Err, Some, Option, refl, sym, ap, ◌∙◌, inl, inr, arith, length-append}
+use Rattle.std.proofs.lemmas.Bool.{cases_lt}
+use Rattle.std.proofs.lemmas.List.{length-map, take-append-drop}
+use Rattle.bus_line.specs.Report.{Report, moved}
+use Rattle.bus_line.specs.Due.{reports, placed}
+use Rattle.bus_line.specs.Laws.{ReportsGrow}
+use Rattle.bus_dictionary.specs.Entry.{FrameType}
+use Rattle.bus_dictionary.specs.Dictionary.{longest_of}
+use Rattle.bus_watch.specs.Seen.{SeenReport, seen}
+use Rattle.bus_watch.specs.Laws.{SeenAreReports}
+use Rattle.bus_watch.specs.Fed.{ForSink}
+use Rattle.bus_watch.specs.Headline.{Fails, StoppedAt, CanBeMade, all_seen}
+use Rattle.bus_watch.specs.declared.new_fault.NewFault.{NewFault}
+use Rattle.bus_watch.specs.declared.new_fault.NewFault.TheVariants.{DepthRange, Origin}
+use Rattle.bus_watch.specs.declared.feed_fault.FeedFault.{FeedFault}
+use Rattle.bus_watch.specs.declared.feed_fault.FeedFault.TheVariants.{PlaceLimit, Sink}
+use Rattle.bus_watch.specs.declared.run_fault.RunFault.TheVariants.{Feed}
+
+-- what was made could be made
+pub made : {A : Type 0} (r : Result A NewFault) (a : A) (depth origin : ℕ) → r ≡ Ok a
+    → (r ≡ Err DepthRange) ↔ ((depth < 1) ⊎ (1024 < depth)) → (r ≡ Err Origin) ↔ ((1 ≤ depth) × (depth ≤ 1024) × (2 ^ 60 < origin)) → CanBeMade depth origin
+made r a depth origin is d o =
+    elim (cases_lt depth 1) [
+      | inl l ↦ absurd (let e = d.1 (inl l) in cc)
+      | inr some ↦ elim (cases_lt 1024 depth) [
+        | inl l ↦ absurd (let e = d.1 (inr l) in cc)
+        | inr most ↦ elim (cases_lt (2 ^ 60) origin) [
+          | inl l ↦ absurd (let e = o.1 (some, most, l) in cc)
+          | inr near ↦ (some, most, near)
+        ]
+      ]
+    ]
+
+-- a fault of `feed`
+pub feed-fails : {A : Type 0} (r : Result A FeedFault) (fault : FeedFault) (depth origin count : ℕ) (Stopped : ℕ → Type 0) → r ≡ Err fault
+    → CanBeMade depth origin → (r ≡ Err PlaceLimit) ↔ (2 ^ 60 < origin + count) → ForSink fault Stopped → Fails depth origin count Stopped (Feed fault)
+feed-fails r PlaceLimit depth origin count Stopped is can limit stopped = (can, limit.0 is)
+feed-fails r (Sink consumed) depth origin count Stopped is can limit stopped =
+    elim (cases_lt (2 ^ 60) (origin + count)) [
+      | inl l ↦ absurd (let e = limit.1 l in cc)
+      | inr near ↦ (can, near, stopped)
+    ]
+
+-- as many are seen as there are reports
+seen-length : SeenAreReports → (d : List FrameType) (rs : List Report) → length (seen d rs) ≡ length rs
+seen-length are d rs = sym (length-map (seen d rs) (λ (s : SeenReport). s.report)) ∙ ap length (are d rs)
+
+all_seen-length : SeenAreReports → (d : List FrameType) (origin : ℕ) (b : List Bool) → length (all_seen d origin b) ≡ length (reports (longest_of d) b)
+all_seen-length are d origin b = seen-length are d (placed origin (longest_of d) b) ∙ length-map (reports (longest_of d) b) (moved origin)
+
+-- at the first bits no more is seen than at all
+pub seen-within : SeenAreReports → ReportsGrow → (d : List FrameType) (origin n : ℕ) (b : List Bool) → length (all_seen d origin (take n b)) ≤ length (all_seen d origin b)
+seen-within are grow d origin n b =
+    let g = grow (longest_of d) (take n b) (drop n b) in
+    let e : reports (longest_of d) b ≡ reports (longest_of d) (take n b) ++ g.0 = ap (reports (longest_of d)) (sym (take-append-drop n b)) ∙ g.1 in
+    omega (arith, all_seen-length are d origin b, all_seen-length are d origin (take n b), ap length e, length-append (reports (longest_of d) (take n b)) g.0)
+
+-- a full log lacks one report at least
+pub log-lacks : {S : Type 0} (taken : S → Option (List SeenReport)) → SeenAreReports → ReportsGrow → (d : List FrameType) (origin room : ℕ) (b : List Bool) (s t : S) (consumed : ℕ) (rs : List SeenReport)
+    → taken s ≡ Some [] → taken t ≡ Some rs → length rs ≡ room → StoppedAt taken d origin b s t consumed → room < length (all_seen d origin b)
+log-lacks taken are grow d origin room b s t consumed rs start end full h =
+    let took : Some rs ≡ Some (all_seen d origin (take (consumed - 1) b)) = sym end ∙ (h.took ∙ rw start refl) in
+    let same : rs ≡ all_seen d origin (take (consumed - 1) b) = cc in
+    omega (arith, full, ap length same, ap length h.refused, length-append (all_seen d origin (take (consumed - 1) b)) (h.lost ∷ []), seen-within are grow d origin consumed b)
+
+-- what follows from two facts of a sink's fault
+pub for-sink : (fault : FeedFault) {P Q R : ℕ → Type 0} → ((n : ℕ) → P n → Q n → R n) → ForSink fault P → ForSink fault Q → ForSink fault R
+for-sink PlaceLimit f p q = tt
+for-sink (Sink consumed) f p q = f consumed p q

@@ -1,0 +1,119 @@
+-- What a whole run comes to.
+use Rattle.std.proofs.Common.{◌≡◌, ℕ, ◌+◌, ◌-◌, ◌*◌, ◌≤◌, ◌<◌, Bool, List, [], ◌∷◌, ◌++◌, length, take, drop, get_or, Bor, Option, Some, refl, sym, ap, ◌∙◌, subst, append-nil, arith, length-append, length-take}
+use Rattle.std.proofs.lemmas.List.{take_more, flat_map_more, take-take, take-append-le, take_all, take-append-drop}
+use Rattle.std.proofs.lemmas.Grind.{flat_map-append}
+use Rattle.bus_line.specs.Due.{begun}
+use Rattle.bus_line.specs.Ledger.{stored_from}
+use Rattle.bus_dictionary.specs.Dictionary.{longest_of}
+use Rattle.bus_watch.specs.Seen.{SeenReport}
+use Rattle.bus_watch.specs.History.{history}
+use Rattle.bus_watch.specs.Ledger.{IsLedger, total}
+use Rattle.bus_watch.specs.After.{AnalyserState, IsAfter, line, seen_after}
+use Rattle.bus_watch.specs.Laws.{AnyCut, Runs, ended, called}
+use Rattle.bus_watch.specs.Fed.{Fed, RefusedAt}
+use Rattle.bus_watch.specs.Headline.{Headline, WholeRun, StoppedAt, all_seen, bits_in}
+use Rattle.bus_watch.specs.declared.usage.Usage.{Usage}
+
+-- what no call changes
+record IsAlike {C : Type 0} (a e : AnalyserState C) : Type 0 where
+  pub dictionary : e.journal.dictionary ≡ a.journal.dictionary
+  pub depth : e.journal.depth ≡ a.journal.depth
+  pub origin : e.decoder.origin ≡ a.decoder.origin
+
+runs-alike : {C : Type 0} (folded : C → List ℕ → Type 0) (cost : ℕ) (start end : AnalyserState C) (pieces : List (List Bool)) (tolds : List (List SeenReport))
+    → Runs folded cost start pieces tolds end → IsAlike start end
+runs-alike folded cost start _ _ _ (ended a) = record { dictionary = refl; depth = refl; origin = refl }
+runs-alike folded cost start end _ _ (called a c e bits told pieces tolds h r) =
+    let rest = runs-alike folded cost c e pieces tolds r in
+    record { dictionary = rest.dictionary ∙ h.dictionary; depth = rest.depth ∙ h.depth; origin = rest.origin ∙ h.origin }
+
+-- what the getters answer that a usage is made of
+pub record Answers {C : Type 0} (folded : C → List ℕ → Type 0) (cost : ℕ) (e : AnalyserState C) (u : Usage) : Type 0 where
+  pub room : u.buffered ≤ longest_of e.journal.dictionary + 2
+  pub buffered : (b : List Bool) (first : ℕ) → IsAfter folded cost e b → begun b ≡ Some first → u.buffered ≡ stored_from (longest_of e.journal.dictionary) b first
+  pub kept : (b : List Bool) → IsAfter folded cost e b → u.history_len ≡ length (history e.journal.depth (line e b))
+  pub deep : u.history_len ≤ e.journal.depth
+  pub ledger : (b : List Bool) → IsAfter folded cost e b → IsLedger cost (longest_of e.journal.dictionary) b u.spent
+  pub seventeen : (b : List Bool) → IsAfter folded cost e b → total u.spent ≤ 17 * length b
+  pub four : (b : List Bool) → IsAfter folded cost e b → total u.spent ≤ 4 * length b
+  pub three : cost ≡ 1 → (b : List Bool) → IsAfter folded cost e b → total u.spent ≤ 3 * length b
+
+pub whole-run : {C : Type 0} (folded : C → List ℕ → Type 0) (cost : ℕ) (e : AnalyserState C) (u : Usage) → AnyCut folded cost → Answers folded cost e u → WholeRun folded cost e u
+whole-run folded cost e u cut h = λ start pieces tolds s r.
+    let alike = runs-alike folded cost start e pieces tolds r in
+    let both = cut start e pieces tolds s r in
+    let is_after = both.0 in
+    rw (← alike.dictionary, ← alike.depth, ← alike.origin)
+    (record {
+      told = both.1 ∙ rw (alike.dictionary, alike.origin) refl;
+      buffer_bound = h.room;
+      buffered = λ first f. h.buffered _ first is_after f;
+      history = is_after.journal.history;
+      history_len = h.kept _ is_after ∙ ap length (sym is_after.journal.history);
+      history_bound = h.deep;
+      ledger = h.ledger _ is_after;
+      seventeen = h.seventeen _ is_after;
+      four = h.four _ is_after;
+      three = λ one. h.three one _ is_after;
+    })
+
+-- one piece more
+pub pieces-more : (ps : List (Bor (List Bool))) (i : ℕ) (d : Bor (List Bool)) → i < length ps → bits_in (take (i + 1) ps) ≡ bits_in (take i ps) ++ (get_or ps i d).now
+pieces-more ps i d l = ap bits_in (take_more ps i d l) ∙ sym (flat_map_more (λ (p : Bor (List Bool)). p.now) [] (take i ps) (get_or ps i d))
+
+-- the first pieces and the others
+pub pieces-split : (ps : List (Bor (List Bool))) (i : ℕ) → length (bits_in ps) ≡ length (bits_in (take i ps)) + length (bits_in (drop i ps))
+pieces-split ps i =
+    ap (λ (qs : List (Bor (List Bool))). length (bits_in qs)) (sym (take-append-drop i ps))
+    ∙ (ap length (flat_map-append (λ (p : Bor (List Bool)). p.now) (take i ps) (drop i ps)) ∙ length-append (bits_in (take i ps)) (bits_in (drop i ps)))
+
+-- and one of them
+pub pieces-one : (ps : List (Bor (List Bool))) (i : ℕ) (d : Bor (List Bool)) → i < length ps → length (bits_in (take i ps)) + length (get_or ps i d).now ≤ length (bits_in ps)
+pieces-one ps i d l = omega (arith, pieces-split ps (i + 1), ap length (pieces-more ps i d l), length-append (bits_in (take i ps)) (get_or ps i d).now)
+
+-- all bits, at one piece
+pub pieces-at : (ps : List (Bor (List Bool))) (i : ℕ) (d : Bor (List Bool)) → i < length ps → bits_in ps ≡ (bits_in (take i ps) ++ (get_or ps i d).now) ++ bits_in (drop (i + 1) ps)
+pieces-at ps i d l =
+    ap bits_in (sym (take-append-drop (i + 1) ps))
+    ∙ (flat_map-append (λ (p : Bor (List Bool)). p.now) (take (i + 1) ps) (drop (i + 1) ps) ∙ ap (λ bs. bs ++ bits_in (drop (i + 1) ps)) (pieces-more ps i d l))
+
+-- what was fed to a new analyser is a whole run
+pub fed-headline : {C S : Type 0} (folded : C → List ℕ → Type 0) (cost : ℕ) (taken : S → Option (List SeenReport)) (a e : AnalyserState C) (b : List Bool) (s t : S) (u : Usage)
+    → IsAfter folded cost a [] → (f : Fed folded cost taken a b e s t) → WholeRun folded cost e u → Headline cost a.journal.dictionary a.journal.depth a.decoder.origin b f.seen e.journal.history u
+fed-headline folded cost taken a e b s t u new f whole =
+    let d = a.journal.dictionary in
+    let depth = a.journal.depth in
+    let origin = a.decoder.origin in
+    let h = whole a (b ∷ []) (f.seen ∷ []) new (called a e e b f.seen [] [] f.sees (ended e)) in
+    subst (λ x. Headline cost d depth origin x f.seen e.journal.history u) (append-nil b)
+    (subst (λ y. Headline cost d depth origin (b ++ []) y e.journal.history u) (append-nil f.seen) h)
+
+-- what a new analyser saw of all it was fed
+pub fed-seen : {C S : Type 0} (folded : C → List ℕ → Type 0) (cost : ℕ) (taken : S → Option (List SeenReport)) (a e : AnalyserState C) (b : List Bool) (s t : S)
+    → IsAfter folded cost a [] → (f : Fed folded cost taken a b e s t) → f.seen ≡ all_seen a.journal.dictionary a.decoder.origin b
+fed-seen folded cost taken a e b s t new f = sym (f.sees.seen [] new)
+
+-- where a sink refused a report of what a new analyser was fed
+pub stopped : {C S : Type 0} (folded : C → List ℕ → Type 0) (cost : ℕ) (taken : S → Option (List SeenReport)) (a e : AnalyserState C) (b : List Bool) (s t : S) (consumed : ℕ)
+    → IsAfter folded cost a [] → RefusedAt folded cost taken a b consumed e s t → StoppedAt taken a.journal.dictionary a.decoder.origin b s t consumed
+stopped folded cost taken a e b s t consumed new at =
+    let r = at.refused in
+    let d = a.journal.dictionary in
+    let origin = a.decoder.origin in
+    let count : length r.front + 1 ≡ consumed = omega (arith, at.within, length-take consumed b, ap length r.all, length-append r.front (r.last ∷ [])) in
+    let front : take (consumed - 1) b ≡ r.front =
+    sym (take-take (consumed - 1) consumed b (omega arith))
+    ∙ (ap (take (consumed - 1)) r.all
+    ∙ (take-append-le (consumed - 1) r.front (r.last ∷ []) (omega (arith, count))
+    ∙ take_all (consumed - 1) r.front (omega (arith, count)))) in
+    let before : all_seen d origin r.front ≡ r.seen = r.sees.seen [] new in
+    let same : (bs : List Bool) → seen_after r.before_last bs ≡ seen_after a bs = λ bs. rw (r.sees.dictionary, r.sees.origin) refl in
+    let grown : all_seen d origin (r.front ++ r.last ∷ []) ≡ all_seen d origin r.front ++ r.lost ∷ [] =
+    sym (same (r.front ++ r.last ∷ [])) ∙ (r.sees_last.seen r.front (r.sees.is_after [] new) ∙ ap (λ xs. xs ++ r.lost ∷ []) (same r.front)) in
+    record {
+      some = at.some;
+      within = at.within;
+      took = rw (front, before) r.took;
+      lost = r.lost;
+      refused = rw (front, r.all) grown;
+    }

@@ -1,0 +1,89 @@
+-- The headline: what a whole run comes to, from a new analyser on.
+use Rattle.std.specs.Prelude.{◌≡◌, ℕ, ◌+◌, ◌-◌, ◌*◌, ◌≤◌, ◌<◌, ◌^◌, ◌⊎◌, Bool, List, [], ◌∷◌, ◌++◌, length, take, Option, Some}
+use Rattle.std.specs.Borrow.{Bor}
+use Rattle.std.specs.List.{flat_map}
+use Rattle.bus_line.specs.Due.{placed, begun}
+use Rattle.bus_line.specs.Ledger.{stored_from}
+use Rattle.bus_dictionary.specs.Entry.{FrameType}
+use Rattle.bus_dictionary.specs.Dictionary.{longest_of}
+use Rattle.bus_watch.specs.Seen.{SeenReport, seen}
+use Rattle.bus_watch.specs.History.{KeptFrame, history}
+use Rattle.bus_watch.specs.Ledger.{IsLedger, total}
+use Rattle.bus_watch.specs.Sink.{told}
+use Rattle.bus_watch.specs.After.{AnalyserState, IsAfter}
+use Rattle.bus_watch.specs.Laws.{joined, Runs}
+use Rattle.bus_watch.specs.declared.usage.Usage.{Usage}
+use Rattle.bus_watch.specs.declared.new_fault.NewFault.TheVariants.{DepthRange, Origin, Memory}
+use Rattle.bus_watch.specs.declared.feed_fault.FeedFault.TheVariants.{PlaceLimit, Sink}
+use Rattle.bus_watch.specs.declared.run_fault.RunFault.{RunFault}
+use Rattle.bus_watch.specs.declared.run_fault.RunFault.TheVariants.{New, Feed}
+
+-- what is seen of the bits b, the first of which has the place `origin`, by the dictionary d
+abbrev pub all_seen : List FrameType → ℕ → List Bool → List SeenReport
+all_seen d origin b = seen d (placed origin (longest_of d) b)
+
+-- what an analyser comes to that took the bits b: the reports that it told, the frames of its history, and its usage
+pub record Headline
+    (cost : ℕ) (d : List FrameType) (depth origin : ℕ) (b : List Bool)
+    (reports : List SeenReport) (frames : List KeptFrame) (usage : Usage) : Type 0 where
+  -- it told exactly what is seen of all the bits: each report, with its places and with what follows from it, in order
+  pub told : reports ≡ all_seen d origin b
+  -- the frame buffer never has more octets than the longest frame and two; of the open piece it has those so far
+  pub buffer_bound : usage.buffered ≤ longest_of d + 2
+  pub buffered : (first : ℕ) → begun b ≡ Some first → usage.buffered ≡ stored_from (longest_of d) b first
+  -- the history is the last frames, never more than its depth
+  pub history : frames ≡ history depth (placed origin (longest_of d) b)
+  pub history_len : usage.history_len ≡ length frames
+  pub history_bound : usage.history_len ≤ depth
+  -- the steps are those of the ledger: at most seventeen for each bit, even at most four, and at most three where the
+  -- check costs one an octet
+  pub ledger : IsLedger cost (longest_of d) b usage.spent
+  pub seventeen : total usage.spent ≤ 17 * length b
+  pub four : total usage.spent ≤ 4 * length b
+  pub three : cost ≡ 1 → total usage.spent ≤ 3 * length b
+
+-- the frames of an analyser's history, as `history` lends them
+abbrev pub kept_frames : {C : Type 0} → AnalyserState C → List KeptFrame
+kept_frames a = a.journal.history
+
+-- the headline of any run of calls that leads from an analyser that took no bit to this one
+abbrev pub WholeRun : {C : Type 0} → (C → List ℕ → Type 0) → ℕ → AnalyserState C → Usage → Type 0
+WholeRun {C} folded cost end usage =
+    (start : AnalyserState C) (pieces : List (List Bool)) (tolds : List (List SeenReport))
+    → IsAfter folded cost start [] → Runs folded cost start pieces tolds end
+    → Headline cost start.journal.dictionary start.journal.depth start.decoder.origin
+    (joined pieces) (joined tolds) (kept_frames end) usage
+
+-- the bits of pieces that are lent, one behind the other
+abbrev pub bits_in : List (Bor (List Bool)) → List Bool
+bits_in pieces = flat_map (λ p. p.now) pieces
+
+-- a sink refused the report that the last of the first `consumed` bits decides, and took all those before
+pub record StoppedAt
+    {S : Type 0} (taken : S → Option (List SeenReport)) (d : List FrameType) (origin : ℕ) (b : List Bool)
+    (before after : S) (consumed : ℕ) : Type 0 where
+  pub some : 0 < consumed
+  pub within : consumed ≤ length b
+  pub took : taken after ≡ told (taken before) (all_seen d origin (take (consumed - 1) b))
+  pub lost : SeenReport
+  pub refused : all_seen d origin (take consumed b) ≡ all_seen d origin (take (consumed - 1) b) ++ lost ∷ []
+
+-- an analyser can be made with this depth and this origin
+abbrev pub CanBeMade : ℕ → ℕ → Type 0
+CanBeMade depth origin = (1 ≤ depth) × (depth ≤ 1024) × (origin ≤ 2 ^ 60)
+
+-- when a run over `count` bits fails. No two cases hold at once, but that want of memory may come in place of a fault
+-- of `Feed`; and a run that is Ok is in none of them but that one
+abbrev pub Fails : ℕ → ℕ → ℕ → (ℕ → Type 0) → RunFault → Type 0
+Fails depth origin count Stopped (New DepthRange) = (depth < 1) ⊎ (1024 < depth)
+Fails depth origin count Stopped (New Origin) = (1 ≤ depth) × (depth ≤ 1024) × (2 ^ 60 < origin)
+Fails depth origin count Stopped (New Memory) = CanBeMade depth origin
+Fails depth origin count Stopped (Feed PlaceLimit) = CanBeMade depth origin × (2 ^ 60 < origin + count)
+Fails depth origin count Stopped (Feed (Sink consumed)) =
+    CanBeMade depth origin × (origin + count ≤ 2 ^ 60) × Stopped consumed
+
+-- a fact of each fault but that of a sink
+abbrev pub UnlessStopped : Type 0 → RunFault → Type 0
+UnlessStopped P (New fault) = P
+UnlessStopped P (Feed PlaceLimit) = P
+UnlessStopped P (Feed (Sink consumed)) = Unit {0}

@@ -1,0 +1,49 @@
+-- What contracts see of a journal, and the lists of reports after which it may stand.
+use Rattle.std.specs.Prelude.{◌≡◌, ℕ, ◌+◌, ◌<◌, ◌^◌, List, map, sum_by, Option, Some, slice_get}
+use Rattle.bus_line.specs.Report.{Report}
+use Rattle.bus_line.specs.Ledger.{octet_count}
+use Rattle.bus_dictionary.specs.Entry.{FrameType}
+use Rattle.bus_watch.specs.Talk.{pending}
+use Rattle.bus_watch.specs.History.{KeptFrame, history, tally, kept_frame}
+use Rattle.bus_watch.specs.Ledger.{handled}
+use Rattle.bus_watch.specs.declared.counts.Counts.{Counts}
+use Rattle.bus_watch.specs.declared.journal.Journal.{Journal}
+use Rattle.bus_watch.specs.declared.pending.Pending.{Pending}
+
+pub record JournalState : Type 0 where
+  pub dictionary : List FrameType
+  pub depth : ℕ
+  pub history : List KeptFrame
+  pub waiting : Option Pending
+  pub tally : List Counts
+  pub copied : ℕ
+  pub handled : ℕ
+
+abbrev pub journal_state : Journal → JournalState
+journal_state j = record {
+  dictionary = j.dictionary;
+  depth = j.history.capacity;
+  history = map kept_frame j.history.items;
+  waiting = j.waiting;
+  tally = j.tally;
+  copied = j.spent.copied;
+  handled = j.spent.handled;
+}
+
+-- the journal may stand after these reports
+pub record Keeps (j : JournalState) (rs : List Report) : Type 0 where
+  pub history : j.history ≡ history j.depth rs
+  pub waiting : j.waiting ≡ pending j.dictionary rs
+  pub tally : (station : ℕ) → station < 256 → slice_get j.tally station ≡ Some (tally j.dictionary rs station)
+  pub copied : j.copied ≡ sum_by octet_count rs
+  pub handled : j.handled ≡ handled rs
+
+-- a verdict more can be counted
+abbrev pub CanCount : List Counts → Type 0
+CanCount tally = (station : ℕ) (c : Counts) → station < 256 → slice_get tally station ≡ Some c → (c.answered + 1 < 2 ^ 64) × (c.missing + 1 < 2 ^ 64) × (c.spoilt + 1 < 2 ^ 64)
+
+-- a report more can be counted
+pub record HasRoom (j : JournalState) : Type 0 where
+  pub copied : j.copied + 258 < 2 ^ 64
+  pub handled : j.handled + 6 < 2 ^ 64
+  pub tally : CanCount j.tally

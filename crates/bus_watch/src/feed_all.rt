@@ -1,0 +1,71 @@
+//! Many pieces at once.
+
+ghost use Rattle.std.specs.Prelude.{◌≡◌, ◌+◌, ◌-◌, ◌≤◌, ◌<◌, ◌^◌, ◌↔◌, List, Bool, IsErrOf, IsTrue, IfErr, OnOk, length};
+ghost use Rattle.bus_watch.specs.Fed.{Fed, RefusedAt, ForSink};
+ghost use Rattle.bus_watch.specs.Sink.{IsFull, IsWithinRoom};
+ghost use Rattle.bus_watch.specs.Headline.{bits_in};
+
+use crate::analyser::Analyser;
+use crate::feed::PLACES;
+use crate::feed_fault::FeedFault;
+use crate::report_sink::ReportSink;
+use bus_fcs::Check;
+
+/// Whether the bits of all pieces are at most `places`.
+fn fits(pieces: &[&[bool]], places: u64) -> bool
+    ensures { IsTrue result ↔ (length (bits_in pieces.now) ≤ places) }
+{
+    let mut left = places;
+    for piece in pieces {
+        let count = piece.len() as u64;
+        if count > left {
+            return false;
+        }
+        left -= count;
+    }
+    true
+}
+
+impl<C: Check> Analyser<C> {
+    /// Takes the bits of some pieces, one piece behind the other, as [`Analyser::feed`] takes those of
+    /// one: the places of all bits are looked at first, and `consumed` counts from the first piece on.
+    pub fn feed_all<S: ReportSink>(
+        &mut self,
+        pieces: &[&[bool]],
+        sink: &mut S,
+    ) -> Result<(), FeedFault>
+        requires { S.refusals sink.old < 2 ^ 64 - 1 }
+        ensures limit { IsErrOf result FeedFault.PlaceLimit ↔
+            (2 ^ 60 < self.old.decoder.place + length (bits_in pieces.now)) }
+        ensures unchanged { IsErrOf result FeedFault.PlaceLimit → (self.new ≡ self.old) × (sink.new ≡ sink.old) }
+        ensures fed { OnOk result (
+            Fed C.folded C.COST S.taken self.old (bits_in pieces.now) self.new sink.old sink.new) }
+        ensures none_refused { OnOk result (S.refusals sink.new ≡ S.refusals sink.old) }
+        ensures refused { IfErr result (λ fault. ForSink fault (λ consumed.
+            RefusedAt C.folded C.COST S.taken self.old (bits_in pieces.now) consumed self.new sink.old sink.new)) }
+        ensures one_refused { IfErr result (λ fault. ForSink fault (λ consumed.
+            S.refusals sink.new ≡ S.refusals sink.old + 1)) }
+        ensures room { S.room sink.new ≡ S.room sink.old }
+        ensures full { IfErr result (λ fault. ForSink fault (λ consumed.
+            IsFull (S.room sink.new) (S.taken sink.new))) }
+        ensures within { OnOk result (IsWithinRoom (S.room sink.old) (S.taken sink.old) →
+            IsWithinRoom (S.room sink.new) (S.taken sink.new)) }
+    {
+        if !fits(pieces, PLACES - self.place()) {
+            return Err(FeedFault::PlaceLimit);
+        }
+        let mut before: usize = 0;
+        for piece in pieces {
+            match self.feed(piece, sink) {
+                Ok(()) => before += piece.len(),
+                Err(FeedFault::Sink { consumed }) => {
+                    return Err(FeedFault::Sink {
+                        consumed: before + consumed,
+                    });
+                }
+                Err(FeedFault::PlaceLimit) => unreachable!(),
+            }
+        }
+        Ok(())
+    }
+}

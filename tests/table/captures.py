@@ -1,0 +1,106 @@
+"""Captures and dictionaries that several rows take.
+
+The frames and their bits are worked examples of the format; their names and types are made up.
+"""
+
+import re
+
+FLAG = "01111110"
+
+# Between two flags, in the order sent: a group for each octet, and one of nine has an inserted 0.
+# 10 83 00 fd e5: to station 16, of type 0.
+CALL = "00001000 11000001 00000000 101111101 10100111"
+# 10 83 80 f5 61: from station 16, of type 128.
+REPLY = "00001000 11000001 00000001 10101111 100000110"
+# ff 83 09 5a 3b: to all stations, of type 9.
+NOTICE = "111110111 110000001 10010000 01011010 11011100"
+# ff 83 00 9b a6: to all stations, of type 0.
+CALL_TO_ALL = "111110111 110000001 00000000 11011001 01100101"
+# 10 83 fe 0c fb: of type 254; the second inserted 0 is the last bit.
+TYPE_254 = "00001000 11000001 011111011 00110000 110111110"
+# 10 13 cc b8: another control octet.
+CONTROL_19 = "00001000 11001000 00110011 00011101"
+# 10 83 45 2c: no information.
+UNTYPED = "00001000 11000001 10100010 00110100"
+# 10 83 01 74 f4: of type 1, with nothing behind the type.
+TYPE_1 = "00001000 11000001 10000000 00101110 00101111"
+
+IDLE = "1" * 15
+
+# Twenty-four bits, too few for a frame.
+SHORT = "0" * 24
+
+# Eight bits more than a frame of three octets and its check.
+LONG = "0" * 48
+
+# The longest frame has three octets.
+CALLS = """version = 1
+[[frame]]
+type = 0
+name = "call"
+length = 0
+answered = true
+[[frame]]
+type = 128
+name = "reply"
+length = 0
+[[frame]]
+type = 9
+name = "notice"
+length = 0
+"""
+
+# The longest frame has five octets.
+STATES = """version = 1
+[[frame]]
+type = 1
+name = "poll"
+length = 1
+answered = true
+[[frame]]
+type = 129
+name = "state"
+length = 2
+bits = [ { at = 9, name = "flash" }, { at = 0, name = "call1" }, { at = 7, name = "ped" } ]
+"""
+
+# A flag, the call and a flag, 57 bits.
+PACKED = bytes.fromhex("5453324249545331 3900000000000000 7e1083007dcbfd00")
+
+# The greatest origin, 2^60.
+LAST_ORIGIN = 1152921504606846976
+
+
+def text(*parts: str) -> bytes:
+    """A text capture."""
+    return "".join(parts).encode()
+
+
+def fcs(octets: bytes) -> bytes:
+    """The check of a frame, in the order sent."""
+    register = 0xFFFF
+    for octet in octets:
+        register ^= octet
+        for _ in range(8):
+            register = register >> 1 ^ (0x8408 if register & 1 else 0)
+    return (register ^ 0xFFFF).to_bytes(2, "little")
+
+
+def sent(octets: bytes) -> str:
+    """The bits of a frame between its flags: its octets and their check, with inserted 0s."""
+    data = "".join(f"{octet:08b}"[::-1] for octet in octets + fcs(octets))
+    return re.sub("11111", "111110", data)
+
+
+def packed(bits: str) -> bytes:
+    """A packed capture of the bits `0` and `1`."""
+    octets = [bits[at : at + 8][::-1] for at in range(0, len(bits), 8)]
+    body = bytes(int(octet, 2) for octet in octets)
+    return b"TS2BITS1" + len(bits).to_bytes(8, "little") + body
+
+
+assert fcs(b"123456789") == bytes.fromhex("6e90")
+assert sent(bytes.fromhex("108300")) == CALL.replace(" ", "")
+assert sent(bytes.fromhex("ff8309")) == NOTICE.replace(" ", "")
+assert sent(bytes.fromhex("1083fe")) == TYPE_254.replace(" ", "")
+assert packed((FLAG + CALL + FLAG).replace(" ", "")) == PACKED

@@ -1,0 +1,71 @@
+"""What a row of the table says."""
+
+from dataclasses import dataclass
+from enum import Enum
+from typing import Optional, Sequence, Union
+
+
+class Source(Enum):
+    """A standard input that cannot be read."""
+
+    DIRECTORY = "a directory"
+    CLOSED = "closed"
+
+
+class Sink(Enum):
+    """Where standard output goes."""
+
+    COLLECTED = "all of it is taken"
+    CLOSED = "closed"
+    FULL = "a device that is full"
+    BROKEN_PIPE = "a pipe that nobody reads"
+
+
+@dataclass(frozen=True)
+class Case:
+    """One run of the program: its words, what it is given, and all that it is to write."""
+
+    name: str
+    words: Sequence[Union[str, bytes]] = ()
+    stdin: Union[bytes, Source] = b""
+    stdout: str = ""
+    stderr: str = ""
+    status: int = 0
+    # Where it is, nothing of standard input may be read.
+    leaves_input: bool = False
+    sink: Sink = Sink.COLLECTED
+
+
+@dataclass(frozen=True)
+class Refusals:
+    """A run to be repeated with each of its requests for memory refused in turn.
+
+    Each of these is to say `no memory` and do nothing else, but for the request with the number
+    `needless`, counted from 1, without which the answer is the same.
+    """
+
+    case: Case
+    needless: Optional[int] = None
+
+
+@dataclass(frozen=True)
+class Turn:
+    """What is sent down a pipe, and what then comes, while the pipe stays open."""
+
+    sends: bytes
+    gets: str
+
+
+@dataclass(frozen=True)
+class Exchange:
+    """A run over a pipe: turn by turn, and what comes behind the end of input."""
+
+    name: str
+    words: Sequence[str]
+    turns: Sequence[Turn]
+    ends: str
+
+
+def fault(text: str) -> str:
+    """What standard error has of a fault of the program."""
+    return f"port1: {text}\n"

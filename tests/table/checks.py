@@ -1,0 +1,347 @@
+"""Rows of `check`."""
+
+from typing import List
+
+from .captures import (
+    CALL,
+    CALLS,
+    FLAG,
+    IDLE,
+    LAST_ORIGIN,
+    LONG,
+    NOTICE,
+    PACKED,
+    REPLY,
+    SHORT,
+    sent,
+    text,
+)
+from .case import Case, fault
+from .lists import ALL_KINDS, MISSING_AND_SPOILT
+
+BITS = ["check", "--bits"]
+
+BY_CALLS = ["check", "--bits", "--dict", CALLS]
+
+
+def report(
+    *lines: str,
+    frames: int = 0,
+    damaged: int = 0,
+    overlong: int = 0,
+    aborts: int = 0,
+    idles: int = 0,
+    strays: int = 0,
+    answered: int = 0,
+    missing: int = 0,
+    spoilt: int = 0,
+) -> str:
+    """The counts, and the lines of stations and of the last frames behind them."""
+    counts = f"""\
+frames {frames}
+damaged {damaged}
+overlong {overlong}
+aborts {aborts}
+idles {idles}
+strays {strays}
+answered {answered}
+missing {missing}
+spoilt {spoilt}
+"""
+    return counts + "".join(f"{line}\n" for line in lines)
+
+
+MISSING_AND_SPOILT_REPORT = """\
+frames 2
+damaged 1
+overlong 0
+aborts 0
+idles 0
+strays 0
+answered 0
+missing 1
+spoilt 1
+station 16 answered 0 missing 1 spoilt 1
+last 8 49 108300fde5
+last 57 98 108300fde5
+"""
+
+ONE_CALL_REPORT = report("last 8 49 108300fde5", frames=1)
+
+THREE_FRAMES = text(FLAG, CALL, FLAG, REPLY, FLAG, NOTICE, FLAG)
+
+STATION_16_ANSWERED = "station 16 answered 1 missing 0 spoilt 0"
+
+
+def notices(count: int) -> bytes:
+    """A capture of so many notices: number `i`, counted from 0, has 42 bits from 8 + 50 * i on."""
+    return text(FLAG, *[NOTICE + FLAG] * count)
+
+
+def last_notices(first: int, past: int) -> List[str]:
+    """The lines of those from `first` up to `past`."""
+    places = [8 + 50 * number for number in range(first, past)]
+    return [f"last {place} {place + 42} ff83095a3b" for place in places]
+
+
+# A call to each of two stations, the greater one first, and what answers the second.
+TWO_STATIONS = text(
+    *[FLAG, sent(b"\xc8\x83\x00"), FLAG, sent(b"\x03\x83\x00")],
+    *[FLAG, sent(b"\x03\x83\x80"), FLAG],
+)
+
+REPORTS = [
+    Case(name="of nothing", words=BY_CALLS, stdout=report()),
+    Case(
+        name="of missing and spoilt",
+        words=BY_CALLS,
+        stdin=MISSING_AND_SPOILT,
+        stdout=MISSING_AND_SPOILT_REPORT,
+        status=1,
+    ),
+    Case(
+        name="of all kinds",
+        words=BY_CALLS,
+        stdin=ALL_KINDS,
+        stdout=report(
+            "station 16 answered 1 missing 1 spoilt 1",
+            "last 8 49 108300fde5",
+            "last 57 98 108380f561",
+            "last 106 147 108300fde5",
+            "last 155 196 108300fde5",
+            "last 323 364 108380f561",
+            "last 372 413 108300fde5",
+            frames=6,
+            damaged=1,
+            overlong=1,
+            aborts=1,
+            idles=1,
+            strays=1,
+            answered=1,
+            missing=1,
+            spoilt=1,
+        ),
+        status=1,
+    ),
+    Case(
+        name="of two stations, by rising number",
+        words=[*BY_CALLS, "--depth", "1"],
+        stdin=TWO_STATIONS,
+        stdout=report(
+            "station 3 answered 1 missing 0 spoilt 0",
+            "station 200 answered 0 missing 1 spoilt 0",
+            "last 104 144 038380040b",
+            frames=3,
+            answered=1,
+            missing=1,
+        ),
+        status=1,
+    ),
+    Case(
+        name="without a dictionary",
+        words=BITS,
+        stdin=MISSING_AND_SPOILT,
+        stdout=report(
+            "last 8 49 108300fde5",
+            "last 57 98 108300fde5",
+            frames=2,
+            damaged=1,
+        ),
+        status=1,
+    ),
+    Case(
+        name="of strays without a dictionary",
+        words=BITS,
+        stdin=text(FLAG, REPLY, FLAG),
+        stdout=report("last 8 49 108380f561", frames=1, strays=1),
+    ),
+    Case(
+        name="of a packed capture",
+        words=["check", "--dict", CALLS],
+        stdin=PACKED,
+        stdout=ONE_CALL_REPORT,
+    ),
+    Case(
+        name="of a packed capture without a dictionary",
+        words=["check"],
+        stdin=PACKED,
+        stdout=ONE_CALL_REPORT,
+    ),
+    Case(
+        name="from place 1000",
+        words=["check", "--origin", "1000"],
+        stdin=PACKED,
+        stdout=report("last 1008 1049 108300fde5", frames=1),
+    ),
+]
+
+STATUSES = [
+    Case(
+        name="damage alone is amiss",
+        words=BY_CALLS,
+        stdin=text(FLAG, SHORT, FLAG),
+        stdout=report(damaged=1),
+        status=1,
+    ),
+    Case(
+        name="an overlong piece alone is amiss",
+        words=BY_CALLS,
+        stdin=text(FLAG, LONG, FLAG),
+        stdout=report(overlong=1),
+        status=1,
+    ),
+    Case(
+        name="a missing answer alone is amiss",
+        words=[*BY_CALLS, "--depth=1"],
+        stdin=text(FLAG, CALL, FLAG, NOTICE, FLAG),
+        stdout=report(
+            "station 16 answered 0 missing 1 spoilt 0",
+            "last 57 99 ff83095a3b",
+            frames=2,
+            missing=1,
+        ),
+        status=1,
+    ),
+    Case(
+        name="a call that an abort spoils is amiss",
+        words=BY_CALLS,
+        stdin=text(FLAG, CALL, FLAG, "00001000", "1111111"),
+        stdout=report(
+            "station 16 answered 0 missing 0 spoilt 1",
+            "last 8 49 108300fde5",
+            frames=1,
+            aborts=1,
+            spoilt=1,
+        ),
+        status=1,
+    ),
+    Case(
+        name="an abort and an idle line alone are not",
+        words=BY_CALLS,
+        stdin=text(FLAG, "00001000", IDLE),
+        stdout=report(aborts=1, idles=1),
+    ),
+    Case(
+        name="a stray alone is not",
+        words=BY_CALLS,
+        stdin=text(FLAG, REPLY, FLAG),
+        stdout=report("last 8 49 108380f561", frames=1, strays=1),
+    ),
+    Case(
+        name="a call that waits and a piece that is open are not",
+        words=BY_CALLS,
+        stdin=text(FLAG, CALL, FLAG, "0"),
+        stdout=ONE_CALL_REPORT,
+    ),
+]
+
+DEPTHS = [
+    Case(
+        name="the last two frames",
+        words=[*BY_CALLS, "--depth", "2"],
+        stdin=THREE_FRAMES,
+        stdout=report(
+            STATION_16_ANSWERED,
+            "last 57 98 108380f561",
+            "last 106 148 ff83095a3b",
+            frames=3,
+            answered=1,
+        ),
+    ),
+    Case(
+        name="the last frame",
+        words=[*BY_CALLS, "--depth=1"],
+        stdin=THREE_FRAMES,
+        stdout=report(
+            STATION_16_ANSWERED,
+            "last 106 148 ff83095a3b",
+            frames=3,
+            answered=1,
+        ),
+    ),
+    Case(
+        name="sixteen of sixteen frames",
+        words=BITS,
+        stdin=notices(16),
+        stdout=report(*last_notices(0, 16), frames=16),
+    ),
+    Case(
+        name="sixteen of seventeen frames",
+        words=BITS,
+        stdin=notices(17),
+        stdout=report(*last_notices(1, 17), frames=17),
+    ),
+    Case(
+        name="seventeen of eighteen frames",
+        words=[*BITS, "--depth", "17"],
+        stdin=notices(18),
+        stdout=report(*last_notices(1, 18), frames=18),
+    ),
+    Case(
+        name="1024 of 1025 frames",
+        words=[*BITS, "--depth", "1024"],
+        stdin=notices(1025),
+        stdout=report(*last_notices(1, 1025), frames=1025),
+    ),
+]
+
+# A fault leaves nothing of the report.
+FAULTS = [
+    Case(
+        name="an octet that is no bit behind a frame",
+        words=BY_CALLS,
+        stdin=text(FLAG, CALL.replace(" ", ""), FLAG, "x"),
+        stderr=fault("capture: octet 57 is no bit"),
+        status=2,
+    ),
+    Case(
+        name="one bit past the last place",
+        words=[*BITS, f"--origin={LAST_ORIGIN - 57}"],
+        stdin=text(FLAG, CALL, FLAG, "0"),
+        stderr=fault("capture: place limit"),
+        status=2,
+    ),
+    Case(
+        name="a packed capture of nothing",
+        words=["check"],
+        stderr=fault("capture: short head"),
+        status=2,
+    ),
+    Case(
+        name="a packed capture without its last octet",
+        words=["check"],
+        stdin=PACKED[:-1],
+        stderr=fault("capture: short body"),
+        status=2,
+    ),
+    Case(
+        name="a packed capture with an octet behind its end",
+        words=["check"],
+        stdin=PACKED + b"\0",
+        stderr=fault("capture: octets after the end"),
+        status=2,
+    ),
+    Case(
+        name="a packed capture with a spare bit that is 1",
+        words=["check"],
+        stdin=PACKED[:-1] + b"\x80",
+        stderr=fault("capture: spare bits are not 0"),
+        status=2,
+    ),
+    Case(
+        name="text taken for a packed capture",
+        words=["check"],
+        stdin=MISSING_AND_SPOILT,
+        stderr=fault("capture: wrong magic"),
+        status=2,
+    ),
+    Case(
+        name="a packed capture with too great a count",
+        words=["check"],
+        stdin=PACKED[:8] + b"\xff" * 8,
+        stderr=fault("capture: too many bits"),
+        status=2,
+    ),
+]
+
+CHECKS = [*REPORTS, *STATUSES, *DEPTHS, *FAULTS]

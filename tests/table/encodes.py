@@ -1,0 +1,134 @@
+"""Rows of `encode`."""
+
+from .captures import CALL, FLAG, IDLE, TYPE_254, sent
+from .case import Case, fault
+
+ENCODE = ["encode"]
+
+
+def line(*parts: str) -> str:
+    """A line of the bits `0` and `1`."""
+    return "".join(parts).replace(" ", "") + "\n"
+
+
+LONGEST = b"\xff" * 256
+
+ENCODES = [
+    Case(name="no lines", words=ENCODE),
+    Case(name="empty lines", words=ENCODE, stdin=b"\n\r\n\n\r"),
+    Case(
+        name="two frames and an idle line",
+        words=ENCODE,
+        stdin=b"frame 108300\nidle\nframe 1083fe\n",
+        stdout=line(FLAG, CALL, FLAG) + line(IDLE) + line(FLAG, TYPE_254, FLAG),
+    ),
+    # Where a flag or a frame stands before it, its closing flag opens the next.
+    Case(
+        name="a frame behind a flag",
+        words=ENCODE,
+        stdin=b"flag\nframe 108300",
+        stdout=line(FLAG) + line(CALL, FLAG),
+    ),
+    Case(
+        name="a frame behind a frame",
+        words=ENCODE,
+        stdin=b"frame 108300\n\nframe 1083FE\n",
+        stdout=line(FLAG, CALL, FLAG) + line(TYPE_254, FLAG),
+    ),
+    Case(
+        name="two flags",
+        words=ENCODE,
+        stdin=b"flag\nflag\n",
+        stdout=line(FLAG) + line(FLAG),
+    ),
+    Case(
+        name="ends of lines",
+        words=ENCODE,
+        stdin=b"\r\nflag\r\n\nidle\r",
+        stdout=line(FLAG) + line(IDLE),
+    ),
+    Case(
+        name="the shortest frame",
+        words=ENCODE,
+        stdin=b"frame 1083\n",
+        stdout=line(FLAG, sent(b"\x10\x83"), FLAG),
+    ),
+    Case(
+        name="the longest frame",
+        words=ENCODE,
+        stdin=f"frame {LONGEST.hex()}\n".encode(),
+        stdout=line(FLAG, sent(LONGEST), FLAG),
+    ),
+    Case(
+        name="a frame of one octet",
+        words=ENCODE,
+        stdin=b"frame 10",
+        stderr=fault("line 1: frame is not 2 to 256 octets"),
+        status=2,
+    ),
+    Case(
+        name="a frame of 257 octets",
+        words=ENCODE,
+        stdin=b"idle\n\nframe " + b"00" * 257,
+        stdout=line(IDLE),
+        stderr=fault("line 3: frame is not 2 to 256 octets"),
+        status=2,
+    ),
+    Case(
+        name="a word that is none",
+        words=ENCODE,
+        stdin=b"flag\nframes 1083\nidle\n",
+        stdout=line(FLAG),
+        stderr=fault("line 2: bad line"),
+        status=2,
+    ),
+    Case(
+        name="a word of upper case",
+        words=ENCODE,
+        stdin=b"FLAG\n",
+        stderr=fault("line 1: bad line"),
+        status=2,
+    ),
+    Case(
+        name="a space behind a word",
+        words=ENCODE,
+        stdin=b"flag \n",
+        stderr=fault("line 1: bad line"),
+        status=2,
+    ),
+    Case(
+        name="a frame of no digits",
+        words=ENCODE,
+        stdin=b"\nframe \n",
+        stderr=fault("line 2: bad line"),
+        status=2,
+    ),
+    Case(
+        name="a frame of an odd number of digits",
+        words=ENCODE,
+        stdin=b"frame 10830",
+        stderr=fault("line 1: bad line"),
+        status=2,
+    ),
+    Case(
+        name="two spaces before the digits",
+        words=ENCODE,
+        stdin=b"frame  1083",
+        stderr=fault("line 1: bad line"),
+        status=2,
+    ),
+    Case(
+        name="a line of 600 octets",
+        words=ENCODE,
+        stdin=b"frame " + b"00" * 297 + b"\n",
+        stderr=fault("line 1: frame is not 2 to 256 octets"),
+        status=2,
+    ),
+    Case(
+        name="a line of 602 octets",
+        words=ENCODE,
+        stdin=b"frame " + b"00" * 298 + b"\n",
+        stderr=fault("line 1: bad line"),
+        status=2,
+    ),
+]
