@@ -226,6 +226,7 @@ few-more n s h = record {
   answered = let x = h.answered in omega arith;
   missing = let x = h.missing in omega arith;
   spoilt = let x = h.spoilt in omega arith;
+  late = let x = h.late in omega arith;
 }
 
 -- the answer of a push that was taken

@@ -4,7 +4,7 @@ use Rattle.std.specs.List.{count_by}
 use Rattle.std.specs.Prelude.{cond}
 use Rattle.std.proofs.lemmas.List.Sums.{sum_by-append}
 use Rattle.bus_watch.specs.Seen.{SeenReport}
-use Rattle.bus_watch.specs.declared.outcome.Outcome.TheVariants.{Answered, Missing, Spoilt}
+use Rattle.bus_watch.specs.declared.outcome.Outcome.TheVariants.{Answered, Late, Missing, Spoilt}
 use Rattle.bus_watch.specs.Talk.{is_idle}
 use Rattle.bus_text.specs.Summary.{is_frame, is_damaged, is_overlong, is_abort, has_outcome, summary_of}
 use Rattle.bus_text.specs.Internal.Counting.{counted, with_seen}
@@ -31,4 +31,5 @@ summary-more before s =
       count-last (λ (s : SeenReport). has_outcome Answered s.verdict) before s,
       count-last (λ (s : SeenReport). has_outcome Missing s.verdict) before s,
       count-last (λ (s : SeenReport). has_outcome Spoilt s.verdict) before s,
+      count-last (λ (s : SeenReport). has_outcome Late s.verdict) before s,
     ) refl

@@ -10,20 +10,21 @@ use Rattle.bus_text.specs.declared.summary.Summary.{Summary}
 abbrev pub count_text : List ℕ → ℕ → List ℕ
 count_text word n = word ++ codes " " ++ decimal n ++ codes "\n"
 
--- nine counts, a line for each
+-- ten counts, a line for each
 abbrev pub summary_text : Summary → List ℕ
 summary_text s =
     count_text (codes "frames") s.frames ++ count_text (codes "damaged") s.damaged ++ count_text (codes "overlong") s.overlong
     ++ count_text (codes "aborts") s.aborts ++ count_text (codes "idles") s.idles ++ count_text (codes "strays") s.strays
     ++ count_text (codes "answered") s.answered ++ count_text (codes "missing") s.missing ++ count_text (codes "spoilt") s.spoilt
+    ++ count_text (codes "late") s.late
 
 abbrev pub tally_line : ℕ → Counts → List ℕ
 tally_line station c =
     codes "station " ++ decimal station ++ codes " answered " ++ decimal c.answered ++ codes " missing " ++ decimal c.missing
-    ++ codes " spoilt " ++ decimal c.spoilt ++ codes "\n"
+    ++ codes " spoilt " ++ decimal c.spoilt ++ codes " late " ++ decimal c.late ++ codes "\n"
 
 abbrev pub has_none : Counts → Bool
-has_none c = (c.answered == 0 && c.missing == 0) && c.spoilt == 0
+has_none c = ((c.answered == 0 && c.missing == 0) && c.spoilt == 0) && c.late == 0
 
 -- a line for a station with a verdict
 abbrev pub tally_text : ℕ → Counts → List ℕ

@@ -2,7 +2,7 @@
 use Rattle.std.specs.Prelude.{Bool, true, false, List, [], ◌∷◌, ℕ, ◌==◌, codes, find, Option}
 use Rattle.std.specs.Cmp.Lexicographic.{pointwise}
 use Rattle.bus_text.specs.declared.kind.Kind.{Kind}
-use Rattle.bus_text.specs.declared.kind.Kind.TheVariants.{Frame, Damaged, Overlong, Abort, Idle, Stray, Answered, Missing, Spoilt, Begun, Pending}
+use Rattle.bus_text.specs.declared.kind.Kind.TheVariants.{Frame, Damaged, Overlong, Abort, Idle, Stray, Answered, Missing, Spoilt, Late, Begun, Pending}
 
 abbrev pub kind_word : Kind → List ℕ
 kind_word Frame = codes "frame"
@@ -14,12 +14,13 @@ kind_word Stray = codes "stray"
 kind_word Answered = codes "answered"
 kind_word Missing = codes "missing"
 kind_word Spoilt = codes "spoilt"
+kind_word Late = codes "late"
 kind_word Begun = codes "open"
 kind_word Pending = codes "pending"
 
 -- each kind
 abbrev pub all_kinds : List Kind
-all_kinds = Frame ∷ Damaged ∷ Overlong ∷ Abort ∷ Idle ∷ Stray ∷ Answered ∷ Missing ∷ Spoilt ∷ Begun ∷ Pending ∷ []
+all_kinds = Frame ∷ Damaged ∷ Overlong ∷ Abort ∷ Idle ∷ Stray ∷ Answered ∷ Missing ∷ Spoilt ∷ Late ∷ Begun ∷ Pending ∷ []
 
 -- the kind that a word names, if it names one
 abbrev pub kind_named : List ℕ → Option Kind
@@ -36,6 +37,7 @@ is_kind Stray Stray = true
 is_kind Answered Answered = true
 is_kind Missing Missing = true
 is_kind Spoilt Spoilt = true
+is_kind Late Late = true
 is_kind Begun Begun = true
 is_kind Pending Pending = true
 is_kind k l = false

@@ -12,7 +12,7 @@ use Rattle.bus_dictionary.specs.declared.standing.Standing.{Standing}
 use Rattle.bus_dictionary.specs.declared.standing.Standing.TheVariants.{OtherControl, Untyped, Unknown, WrongLength, Known}
 use Rattle.bus_watch.specs.Seen.{SeenReport, type_in, type_of}
 use Rattle.bus_watch.specs.declared.outcome.Outcome.{Outcome}
-use Rattle.bus_watch.specs.declared.outcome.Outcome.TheVariants.{Answered, Missing, Spoilt}
+use Rattle.bus_watch.specs.declared.outcome.Outcome.TheVariants.{Answered, Late, Missing, Spoilt}
 use Rattle.bus_watch.specs.declared.verdict.Verdict.{Verdict}
 use Rattle.bus_watch.specs.declared.pending.Pending.{Pending}
 use Rattle.bus_text.specs.HeadText.{station_text, head_text}
@@ -108,6 +108,7 @@ abbrev pub outcome_kind : Outcome → Kind
 outcome_kind Answered = kind.Answered
 outcome_kind Missing = kind.Missing
 outcome_kind Spoilt = kind.Spoilt
+outcome_kind Late = kind.Late
 
 -- the line of a verdict: with the places of its command
 abbrev pub verdict_line : Verdict → Line

@@ -5,7 +5,7 @@ use Rattle.bus_watch.specs.Talk.{is_idle}
 use Rattle.bus_watch.specs.Seen.{SeenReport}
 use Rattle.bus_watch.specs.History.{is_outcome}
 use Rattle.bus_watch.specs.declared.outcome.Outcome.{Outcome}
-use Rattle.bus_watch.specs.declared.outcome.Outcome.TheVariants.{Answered, Missing, Spoilt}
+use Rattle.bus_watch.specs.declared.outcome.Outcome.TheVariants.{Answered, Late, Missing, Spoilt}
 use Rattle.bus_watch.specs.declared.verdict.Verdict.{Verdict}
 use Rattle.bus_text.specs.declared.summary.Summary.{Summary}
 
@@ -42,4 +42,5 @@ summary_of seen = record {
   answered = count_by (λ s. has_outcome Answered s.verdict) seen;
   missing = count_by (λ s. has_outcome Missing s.verdict) seen;
   spoilt = count_by (λ s. has_outcome Spoilt s.verdict) seen;
+  late = count_by (λ s. has_outcome Late s.verdict) seen;
 }

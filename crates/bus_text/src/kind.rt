@@ -16,6 +16,7 @@ pub enum Kind {
     Answered,
     Missing,
     Spoilt,
+    Late,
     /// A piece that no flag or abort has ended.
     Begun,
     /// A command without a verdict.
@@ -23,7 +24,7 @@ pub enum Kind {
 }
 
 /// All of them.
-const KINDS: [Kind; 11] = [
+const KINDS: [Kind; 12] = [
     Kind::Frame,
     Kind::Damaged,
     Kind::Overlong,
@@ -33,6 +34,7 @@ const KINDS: [Kind; 11] = [
     Kind::Answered,
     Kind::Missing,
     Kind::Spoilt,
+    Kind::Late,
     Kind::Begun,
     Kind::Pending,
 ];
@@ -62,6 +64,7 @@ impl Kind {
             Kind::Answered => "answered",
             Kind::Missing => "missing",
             Kind::Spoilt => "spoilt",
+            Kind::Late => "late",
             Kind::Begun => "open",
             Kind::Pending => "pending",
         }

@@ -62,6 +62,7 @@ fn outcome_kind(outcome: Outcome) -> Kind
         Outcome::Answered => Kind::Answered,
         Outcome::Missing => Kind::Missing,
         Outcome::Spoilt => Kind::Spoilt,
+        Outcome::Late => Kind::Late,
     }
 }
 

@@ -30,11 +30,11 @@ fn push_count<const N: usize>(line: &mut ArrayString<N>, word: &str, count: u64)
     line.push('\n');
 }
 
-/// Appends the nine counts, a line for each.
+/// Appends the ten counts, a line for each.
 fn push_summary<const N: usize>(line: &mut ArrayString<N>, summary: &Summary)
-    requires { array_string_len line.old + 270 ≤ N }
+    requires { array_string_len line.old + 300 ≤ N }
     ensures bytes { line.new.bytes ≡ line.old.bytes ++ summary_text summary.now }
-    ensures len { array_string_len line.new ≤ array_string_len line.old + 270 }
+    ensures len { array_string_len line.new ≤ array_string_len line.old + 300 }
 {
     push_count(line, "frames", summary.frames);
     push_count(line, "damaged", summary.damaged);
@@ -45,13 +45,14 @@ fn push_summary<const N: usize>(line: &mut ArrayString<N>, summary: &Summary)
     push_count(line, "answered", summary.answered);
     push_count(line, "missing", summary.missing);
     push_count(line, "spoilt", summary.spoilt);
+    push_count(line, "late", summary.late);
 }
 
 /// Appends the line of a station's verdicts.
 fn push_tally<const N: usize>(line: &mut ArrayString<N>, station: u8, counts: Counts)
-    requires { array_string_len line.old + 110 ≤ N }
+    requires { array_string_len line.old + 140 ≤ N }
     ensures bytes { line.new.bytes ≡ line.old.bytes ++ tally_line station counts }
-    ensures len { array_string_len line.new ≤ array_string_len line.old + 110 }
+    ensures len { array_string_len line.new ≤ array_string_len line.old + 140 }
 {
     line.push_str("station ");
     push_octet_number(line, station);
@@ -61,6 +62,8 @@ fn push_tally<const N: usize>(line: &mut ArrayString<N>, station: u8, counts: Co
     push_number(line, counts.missing);
     line.push_str(" spoilt ");
     push_number(line, counts.spoilt);
+    line.push_str(" late ");
+    push_number(line, counts.late);
     line.push('\n');
 }
 
@@ -80,7 +83,7 @@ fn push_kept<const N: usize>(line: &mut ArrayString<N>, kept: &Kept)
 fn has_none(counts: Counts) -> bool
     ensures { result ≡ has_none counts }
 {
-    counts.answered == 0 && counts.missing == 0 && counts.spoilt == 0
+    counts.answered == 0 && counts.missing == 0 && counts.spoilt == 0 && counts.late == 0
 }
 
 /// Puts the line of a station on the page, if it has a verdict.
@@ -96,7 +99,7 @@ fn put_tally<W: Write>(
         (λ _. Pages start (W.contents w.new) page.new.text.bytes page.new.written (text ++ tally_text station counts))
         (λ cut. Cuts start (W.contents w.new) (text ++ tally_text station counts) cut.sent) }
     ensures few { OnOk result
-        (page.new.written + array_string_len page.new.text ≤ page.old.written + array_string_len page.old.text + 110) }
+        (page.new.written + array_string_len page.new.text ≤ page.old.written + array_string_len page.old.text + 140) }
 {
     if has_none(counts) {
         return Ok(());
@@ -122,7 +125,7 @@ fn put_tallies<C: Check, W: Write>(
         (text ++ tallies_text (tally analyser.now.journal.dictionary (line analyser.now b)) 256) cut.sent) }
     ensures few { OnOk result
         (page.new.written + array_string_len page.new.text ≤ page.old.written + array_string_len page.old.text
-        + 110 * 256) }
+        + 140 * 256) }
 {
     for station in 0..=255u8 {
         put_tally(station, analyser.tally(station), page, w)?;

@@ -24,15 +24,17 @@ pub struct Summary {
     pub answered: u64,
     pub missing: u64,
     pub spoilt: u64,
+    pub late: u64,
 }
 
 impl Summary {
-    /// Whether no piece was damaged or overlong, and no verdict missing or spoilt.
+    /// Whether no piece was damaged or overlong, and no verdict missing, spoilt or late.
     pub fn is_clean(&self) -> bool
         ensures { IsTrue result ↔
-            ((self.now.damaged ≡ 0) × (self.now.overlong ≡ 0) × (self.now.missing ≡ 0) × (self.now.spoilt ≡ 0)) }
+            ((self.now.damaged ≡ 0) × (self.now.overlong ≡ 0) × (self.now.missing ≡ 0) × (self.now.spoilt ≡ 0)
+            × (self.now.late ≡ 0)) }
     {
-        self.damaged == 0 && self.overlong == 0 && self.missing == 0 && self.spoilt == 0
+        self.damaged == 0 && self.overlong == 0 && self.missing == 0 && self.spoilt == 0 && self.late == 0
     }
 
     /// Nothing was seen.
@@ -50,6 +52,7 @@ impl Summary {
             answered: 0,
             missing: 0,
             spoilt: 0,
+            late: 0,
         }
     }
 
@@ -93,6 +96,7 @@ impl Summary {
             Outcome::Answered => self.answered += 1,
             Outcome::Missing => self.missing += 1,
             Outcome::Spoilt => self.spoilt += 1,
+            Outcome::Late => self.late += 1,
         }
     }
 }

@@ -21,7 +21,7 @@ use Rattle.bus_watch.specs.Internal.JournalState.{HasRoom}
 use Rattle.bus_watch.specs.Internal.Noted.{IsWhole}
 use Rattle.bus_watch.specs.After.{AnalyserState, IsAfter, line}
 use Rattle.bus_watch.specs.declared.outcome.Outcome.{Outcome}
-use Rattle.bus_watch.specs.declared.outcome.Outcome.TheVariants.{Answered, Missing, Spoilt}
+use Rattle.bus_watch.specs.declared.outcome.Outcome.TheVariants.{Answered, Late, Missing, Spoilt}
 use Rattle.bus_watch.specs.declared.counts.Counts.{Counts}
 
 length-places : (n : ℕ) → length (places n) ≡ n
@@ -71,11 +71,11 @@ steps-moved origin (r ∷ rs) =
 
 -- no station has more verdicts than there are reports
 tally-within : (d : List FrameType) (rs : List Report) (station n : ℕ) (c : Counts) → c ≡ tally d rs station → length rs ≤ n → n ≤ 2 ^ 60
-    → (c.answered + 1 < 2 ^ 64) × (c.missing + 1 < 2 ^ 64) × (c.spoilt + 1 < 2 ^ 64)
+    → (c.answered + 1 < 2 ^ 64) × (c.missing + 1 < 2 ^ 64) × (c.spoilt + 1 < 2 ^ 64) × (c.late + 1 < 2 ^ 64)
 tally-within d rs station n c e l u =
     let v = verdicts-length d rs in
     let most : (o : Outcome) → verdicts_of o station (verdicts d rs) ≤ length (verdicts d rs) = λ o. count_by-le-length _ (verdicts d rs) in
-    rw e (omega (arith, v, most Answered, l, u), omega (arith, v, most Missing, l, u), omega (arith, v, most Spoilt, l, u))
+    rw e (omega (arith, v, most Answered, l, u), omega (arith, v, most Missing, l, u), omega (arith, v, most Spoilt, l, u), omega (arith, v, most Late, l, u))
 
 same-Some : {X : Type 0} (x y : X) → Some x ≡ Some y → x ≡ y
 same-Some x y e = cc

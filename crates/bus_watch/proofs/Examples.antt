@@ -15,15 +15,18 @@ use Rattle.bus_watch.specs.Seen.{SeenReport, seen}
 use Rattle.bus_watch.specs.History.{tally, history}
 use Rattle.bus_watch.specs.Ledger.{handled}
 use Rattle.bus_watch.specs.declared.outcome.Outcome.{Outcome}
-use Rattle.bus_watch.specs.declared.outcome.Outcome.TheVariants.{Answered, Missing, Spoilt}
+use Rattle.bus_watch.specs.declared.outcome.Outcome.TheVariants.{Answered, Late, Missing, Spoilt}
 use Rattle.bus_watch.specs.declared.verdict.Verdict.{Verdict}
 
-abbrev frame_type : ℕ → List ℕ → Bool → FrameType
-frame_type ftype name answered = record { ftype = ftype; name = name; size = 0; answered = answered; bits = [] }
+abbrev frame_type : ℕ → List ℕ → Bool → Option ℕ → FrameType
+frame_type ftype name answered window = record { ftype = ftype; name = name; size = 0; answered = answered; window = window; bits = [] }
 
--- a call that is answered by a reply, and a notice
+-- a call that is answered by a reply, within this many bits or whenever it comes, and a notice
+abbrev calls_within : Option ℕ → List FrameType
+calls_within window = frame_type 0 (codes "call") true window ∷ frame_type 128 (codes "reply") false None ∷ frame_type 9 (codes "notice") false None ∷ []
+
 abbrev calls : List FrameType
-calls = frame_type 0 (codes "call") true ∷ frame_type 128 (codes "reply") false ∷ frame_type 9 (codes "notice") false ∷ []
+calls = calls_within None
 
 abbrev call_at : ℕ → ℕ → Report
 call_at first past = record { kind = Frame (16 ∷ 131 ∷ 0 ∷ 253 ∷ 229 ∷ []); first = first; past = past }
@@ -42,6 +45,24 @@ call_and_reply : seen calls (placed 0 3 (text_bits (codes "01111110 00001000 110
     ≡ told (call_at 8 49) (Some (Known 16 0)) None false ∷ told (reply_at 57 98) (Some (Known 16 128)) (verdict_on_call Answered 8 49) false ∷ []
 unfolding is_good remainder divided step add ends_inverted octets number
 call_and_reply = refl
+
+-- a reply that begins as many bits behind the call as its window has
+reply_in_time : seen (calls_within (Some 16)) (placed 0 3 (text_bits (codes "01111110 00001000 11000001 00000000 101111101 10100111 01111110 01111110 00001000 11000001 00000001 10101111 100000110 01111110")))
+    ≡ told (call_at 8 49) (Some (Known 16 0)) None false ∷ told (reply_at 65 106) (Some (Known 16 128)) (verdict_on_call Answered 8 49) false ∷ []
+unfolding is_good remainder divided step add ends_inverted octets number
+reply_in_time = refl
+
+-- and eight bits more: it is late, and no stray
+late_reply : seen (calls_within (Some 16)) (placed 0 3 (text_bits (codes "01111110 00001000 11000001 00000000 101111101 10100111 01111110 01111110 01111110 00001000 11000001 00000001 10101111 100000110 01111110")))
+    ≡ told (call_at 8 49) (Some (Known 16 0)) None false ∷ told (reply_at 73 114) (Some (Known 16 128)) (verdict_on_call Late 8 49) false ∷ []
+unfolding is_good remainder divided step add ends_inverted octets number
+late_reply = refl
+
+-- the same without a window
+whenever_it_comes : seen calls (placed 0 3 (text_bits (codes "01111110 00001000 11000001 00000000 101111101 10100111 01111110 01111110 01111110 00001000 11000001 00000001 10101111 100000110 01111110")))
+    ≡ told (call_at 8 49) (Some (Known 16 0)) None false ∷ told (reply_at 73 114) (Some (Known 16 128)) (verdict_on_call Answered 8 49) false ∷ []
+unfolding is_good remainder divided step add ends_inverted octets number
+whenever_it_comes = refl
 
 -- the same from place 100 on
 moved_on : seen calls (placed 100 3 (text_bits (codes "01111110 00001000 11000001 00000000 101111101 10100111 01111110")))
@@ -86,7 +107,7 @@ still_pending = refl
 three_reports : List Report
 three_reports = call_at 8 49 ∷ call_at 57 98 ∷ record { kind = Damaged Short; first = 106; past = 130 } ∷ []
 
-tallied : tally calls three_reports 16 ≡ record { answered = 0; missing = 1; spoilt = 1 }
+tallied : tally calls three_reports 16 ≡ record { answered = 0; missing = 1; spoilt = 1; late = 0 }
 unfolding three_reports
 tallied = refl
 

@@ -22,7 +22,7 @@ use Rattle.bus_watch.specs.Internal.Noted.{is_damage}
 use Rattle.bus_watch.specs.declared.kept.Kept.{Kept}
 use Rattle.bus_watch.specs.declared.counts.Counts.{Counts}
 use Rattle.bus_watch.specs.declared.outcome.Outcome.{Outcome}
-use Rattle.bus_watch.specs.declared.outcome.Outcome.TheVariants.{Answered, Missing, Spoilt}
+use Rattle.bus_watch.specs.declared.outcome.Outcome.TheVariants.{Answered, Late, Missing, Spoilt}
 use Rattle.bus_watch.specs.declared.verdict.Verdict.{Verdict}
 use Rattle.bus_watch.proofs.TalkLemmas.{decided-idle, decided-talk, verdicts-more, pending-idle, pending-talk}
 
@@ -32,29 +32,32 @@ tally-of vs station = record {
   answered = verdicts_of Answered station vs;
   missing = verdicts_of Missing station vs;
   spoilt = verdicts_of Spoilt station vs;
+  late = verdicts_of Late station vs;
 }
 
-same-counts : (a b : Counts) → a.answered ≡ b.answered → a.missing ≡ b.missing → a.spoilt ≡ b.spoilt → a ≡ b
-same-counts a b e f g = one b.answered b.missing b.spoilt e f g
+same-counts : (a b : Counts) → a.answered ≡ b.answered → a.missing ≡ b.missing → a.spoilt ≡ b.spoilt → a.late ≡ b.late → a ≡ b
+same-counts a b e f g h = one b.answered b.missing b.spoilt b.late e f g h
   where
-    one : (x y z : ℕ) → a.answered ≡ x → a.missing ≡ y → a.spoilt ≡ z → a ≡ record { answered = x; missing = y; spoilt = z }
-    one x y z e f g = rw (← e, ← f, ← g) refl
+    one : (x y z w : ℕ) → a.answered ≡ x → a.missing ≡ y → a.spoilt ≡ z → a.late ≡ w → a ≡ record { answered = x; missing = y; spoilt = z; late = w }
+    one x y z w e f g h = rw (← e, ← f, ← g, ← h) refl
 
 abbrev added : Outcome → Bool → Counts → Counts
-added o b c = record { answered = c.answered + (if is_outcome Answered o && b then 1 else 0); missing = c.missing + (if is_outcome Missing o && b then 1 else 0); spoilt = c.spoilt + (if is_outcome Spoilt o && b then 1 else 0) }
+added o b c = record { answered = c.answered + (if is_outcome Answered o && b then 1 else 0); missing = c.missing + (if is_outcome Missing o && b then 1 else 0); spoilt = c.spoilt + (if is_outcome Spoilt o && b then 1 else 0); late = c.late + (if is_outcome Late o && b then 1 else 0) }
 
 count-one : (vs : List Verdict) (v : Verdict) (station : ℕ) → tally-of (vs ++ v ∷ []) station ≡ counted station (Some v) (tally-of vs station)
 count-one vs v station =
-    same-counts _ _ (sum_by_push _ vs v) (sum_by_push _ vs v) (sum_by_push _ vs v) ∙ one v.outcome (v.station == station) (tally-of vs station)
+    same-counts _ _ (sum_by_push _ vs v) (sum_by_push _ vs v) (sum_by_push _ vs v) (sum_by_push _ vs v) ∙ one v.outcome (v.station == station) (tally-of vs station)
   where
     one : (o : Outcome) (b : Bool) (c : Counts)
         → added o b c ≡ (if b then one_more o c else c)
-    one Answered true c = same-counts _ _ refl (omega arith) (omega arith)
-    one Missing true c = same-counts _ _ (omega arith) refl (omega arith)
-    one Spoilt true c = same-counts _ _ (omega arith) (omega arith) refl
-    one Answered false c = same-counts _ _ (omega arith) (omega arith) (omega arith)
-    one Missing false c = same-counts _ _ (omega arith) (omega arith) (omega arith)
-    one Spoilt false c = same-counts _ _ (omega arith) (omega arith) (omega arith)
+    one Answered true c = same-counts _ _ refl (omega arith) (omega arith) (omega arith)
+    one Missing true c = same-counts _ _ (omega arith) refl (omega arith) (omega arith)
+    one Spoilt true c = same-counts _ _ (omega arith) (omega arith) refl (omega arith)
+    one Late true c = same-counts _ _ (omega arith) (omega arith) (omega arith) refl
+    one Answered false c = same-counts _ _ (omega arith) (omega arith) (omega arith) (omega arith)
+    one Missing false c = same-counts _ _ (omega arith) (omega arith) (omega arith) (omega arith)
+    one Spoilt false c = same-counts _ _ (omega arith) (omega arith) (omega arith) (omega arith)
+    one Late false c = same-counts _ _ (omega arith) (omega arith) (omega arith) (omega arith)
 
 tally-option : (vs : List Verdict) (o : Option Verdict) (station : ℕ) → tally-of (vs ++ option_to_list o) station ≡ counted station o (tally-of vs station)
 tally-option vs None station = ap (λ xs. tally-of xs station) (append-nil vs)
@@ -144,11 +147,11 @@ idle-quiet d Abort h = absurd (cc)
 
 -- what a piece that is no frame changes
 pub keeps-damage : (old new : JournalState) (rs : List Report) (r : Report) → Keeps old rs → is_damage r.kind ≡ true
-    → new ≡ record old { waiting = None; tally = new.tally; handled = new.handled } → new.handled ≡ old.handled + 3 → Counted (option_map (verdict None) old.waiting) old.tally new.tally → Keeps new (rs ++ r ∷ [])
+    → new ≡ record old { waiting = None; tally = new.tally; handled = new.handled } → new.handled ≡ old.handled + 3 → Counted (option_map (verdict old.dictionary None) old.waiting) old.tally new.tally → Keeps new (rs ++ r ∷ [])
 keeps-damage old new rs r k h e n t =
     let q = damage-quiet old.dictionary r.kind h in
     let j : JournalState = record old { waiting = None; tally = new.tally; handled = new.handled } in
-    let judged : option_map (verdict None) old.waiting ≡ decided old.dictionary rs r = rw (decided-talk old.dictionary rs r q.0, q.1.no_standing, k.waiting) refl in
+    let judged : option_map (verdict old.dictionary None) old.waiting ≡ decided old.dictionary rs r = rw (decided-talk old.dictionary rs r q.0, q.1.no_standing, k.waiting) refl in
     subst (λ j. Keeps j (rs ++ r ∷ [])) (sym e) (keeps-more old j rs r k (record {
       dictionary = refl;
       depth = refl;
@@ -179,11 +182,11 @@ keeps-idle old new rs r k h e n =
 pub keeps-frame : (old new : JournalState) (rs : List Report) (span : Span) (octets : List ℕ) → Keeps old rs
     → new ≡ record old { history = keep_last old.depth (old.history ++ record { span = span; octets = octets } ∷ []); waiting = command old.dictionary span (standing octets old.dictionary); tally = new.tally; copied = new.copied; handled = new.handled }
     → new.copied ≡ old.copied + length octets → new.handled ≡ old.handled + 6
-    → Counted (option_map (verdict (Some (standing octets old.dictionary))) old.waiting) old.tally new.tally
+    → Counted (option_map (verdict old.dictionary (Some (span.first, standing octets old.dictionary))) old.waiting) old.tally new.tally
     → Keeps new (rs ++ record { kind = Frame octets; first = span.first; past = span.past } ∷ [])
 keeps-frame old new rs span octets k e n m t =
     let r : Report = record { kind = Frame octets; first = span.first; past = span.past } in
-    let judged : option_map (verdict (Some (standing octets old.dictionary))) old.waiting ≡ decided old.dictionary rs r = rw (decided-talk old.dictionary rs r refl, k.waiting) refl in
+    let judged : option_map (verdict old.dictionary (Some (span.first, standing octets old.dictionary))) old.waiting ≡ decided old.dictionary rs r = rw (decided-talk old.dictionary rs r refl, k.waiting) refl in
     let j : JournalState = record old { history = keep_last old.depth (old.history ++ record { span = span; octets = octets } ∷ []); waiting = command old.dictionary span (standing octets old.dictionary); tally = new.tally; copied = new.copied; handled = new.handled } in
     subst (λ j. Keeps j (rs ++ r ∷ [])) (sym e) (keeps-more old j rs r k (record {
       dictionary = refl;

@@ -6,7 +6,7 @@ use Rattle.std.proofs.lemmas.List.{append-nil}
 use Rattle.std.proofs.lemmas.List.Elements.{filter-append, filter_map-append}
 use Rattle.bus_line.specs.Report.{Report}
 use Rattle.bus_dictionary.specs.Entry.{FrameType}
-use Rattle.bus_watch.specs.Talk.{is_idle, talk, neighbours, standing_of, waits, verdict, verdict_on, verdicts, pending}
+use Rattle.bus_watch.specs.Talk.{is_idle, talk, neighbours, begins, waits, verdict, verdict_on, verdicts, pending}
 use Rattle.bus_watch.specs.Seen.{decided}
 use Rattle.bus_watch.specs.declared.pending.Pending.{Pending}
 use Rattle.bus_watch.specs.declared.verdict.Verdict.{Verdict}
@@ -57,11 +57,11 @@ pub decided-idle : (d : List FrameType) (rs : List Report) (r : Report) → is_i
 decided-idle d rs r e = rw e refl
 
 -- the verdict on the left neighbour is that on the command that waits
-judged : (d : List FrameType) (r : Report) (o : Option Report) → option_and_then (λ left. verdict_on d left r) o ≡ option_map (verdict (standing_of d r.kind)) (option_and_then (waits d) o)
+judged : (d : List FrameType) (r : Report) (o : Option Report) → option_and_then (λ left. verdict_on d left r) o ≡ option_map (verdict d (begins d r)) (option_and_then (waits d) o)
 judged d r None = refl
 judged d r (Some left) = refl
 
-pub decided-talk : (d : List FrameType) (rs : List Report) (r : Report) → is_idle r.kind ≡ false → decided d rs r ≡ option_map (verdict (standing_of d r.kind)) (pending d rs)
+pub decided-talk : (d : List FrameType) (rs : List Report) (r : Report) → is_idle r.kind ≡ false → decided d rs r ≡ option_map (verdict d (begins d r)) (pending d rs)
 decided-talk d rs r e = rw e (judged d r (last_or None (talk rs)))
 
 abbrev verdicts-of : (d : List FrameType) (ps : List (Report × Report)) → List Verdict

@@ -6,7 +6,7 @@ use Rattle.bus_line.specs.Report.{Kind, Frame, Report}
 use Rattle.bus_dictionary.specs.Entry.{FrameType}
 use Rattle.bus_watch.specs.Talk.{verdicts}
 use Rattle.bus_watch.specs.declared.outcome.Outcome.{Outcome}
-use Rattle.bus_watch.specs.declared.outcome.Outcome.TheVariants.{Answered, Missing, Spoilt}
+use Rattle.bus_watch.specs.declared.outcome.Outcome.TheVariants.{Answered, Late, Missing, Spoilt}
 use Rattle.bus_watch.specs.declared.counts.Counts.{Counts}
 use Rattle.bus_watch.specs.declared.verdict.Verdict.{Verdict}
 use Rattle.bus_watch.specs.declared.kept.Kept.{Kept}
@@ -35,6 +35,7 @@ abbrev pub is_outcome : Outcome → Outcome → Bool
 is_outcome Answered Answered = true
 is_outcome Missing Missing = true
 is_outcome Spoilt Spoilt = true
+is_outcome Late Late = true
 is_outcome o p = false
 
 -- how many verdicts with this outcome name the station
@@ -47,6 +48,7 @@ tally d rs station = record {
   answered = verdicts_of Answered station (verdicts d rs);
   missing = verdicts_of Missing station (verdicts d rs);
   spoilt = verdicts_of Spoilt station (verdicts d rs);
+  late = verdicts_of Late station (verdicts d rs);
 }
 
 abbrev pub kept_frame : Kept → KeptFrame

@@ -8,7 +8,7 @@ use Rattle.bus_dictionary.specs.declared.standing.Standing.{Standing}
 use Rattle.bus_dictionary.specs.declared.standing.Standing.TheVariants.{OtherControl, Untyped, Unknown, WrongLength, Known}
 use Rattle.bus_watch.specs.Talk.{talk, is_idle, standing_of, verdict_on}
 use Rattle.bus_watch.specs.declared.outcome.Outcome.{Outcome}
-use Rattle.bus_watch.specs.declared.outcome.Outcome.TheVariants.{Answered}
+use Rattle.bus_watch.specs.declared.outcome.Outcome.TheVariants.{Answered, Late}
 use Rattle.bus_watch.specs.declared.verdict.Verdict.{Verdict}
 
 pub record SeenReport : Type 0 where
@@ -38,13 +38,14 @@ is_answer_type (Some t) = nat_le 128 t
 
 abbrev pub is_answered : Outcome → Bool
 is_answered Answered = true
+is_answered Late = true
 is_answered outcome = false
 
 abbrev pub answers : Option Verdict → Bool
 answers None = false
 answers (Some v) = is_answered v.outcome
 
--- of a type of 128 or more, and no answer
+-- of a type of 128 or more, and no answer, in time or late
 abbrev pub is_stray : Option Standing → Option Verdict → Bool
 is_stray standing verdict = is_answer_type (type_of standing) && not (answers verdict)
 

@@ -1,5 +1,5 @@
 -- The talk on a line: its commands that wait for an answer, and the verdicts on them.
-use Rattle.std.specs.Prelude.{◌+◌, ◌==◌, ◌&&◌, not, nat_lt, Bool, true, false, List, [], ◌∷◌, filter, filter_map, Option, Some, None, option_map, option_and_then, if◌then◌else◌}
+use Rattle.std.specs.Prelude.{ℕ, ◌+◌, ◌==◌, ◌&&◌, not, nat_lt, Bool, true, false, List, [], ◌∷◌, filter, filter_map, Option, Some, None, option_map, option_and_then, if◌then◌else◌}
 use Rattle.std.specs.List.{last_or}
 use Rattle.bus_bits.specs.declared.span.Span.{Span}
 use Rattle.bus_line.specs.Report.{Kind, Frame, Idle, Report}
@@ -9,7 +9,7 @@ use Rattle.bus_dictionary.specs.Standing.{standing}
 use Rattle.bus_dictionary.specs.declared.standing.Standing.{Standing}
 use Rattle.bus_dictionary.specs.declared.standing.Standing.TheVariants.{Known}
 use Rattle.bus_watch.specs.declared.outcome.Outcome.{Outcome}
-use Rattle.bus_watch.specs.declared.outcome.Outcome.TheVariants.{Answered, Missing, Spoilt}
+use Rattle.bus_watch.specs.declared.outcome.Outcome.TheVariants.{Answered, Late, Missing, Spoilt}
 use Rattle.bus_watch.specs.declared.pending.Pending.{Pending}
 use Rattle.bus_watch.specs.declared.verdict.Verdict.{Verdict}
 
@@ -47,18 +47,33 @@ command d span standing = None
 abbrev pub waits : List FrameType → Report → Option Pending
 waits d r = option_and_then (command d (record { first = r.first; past = r.past })) (standing_of d r.kind)
 
--- what becomes of a command, by the standing of what is right of it: answered by a known frame of the same station whose type is 128 more
-abbrev pub outcome : Pending → Option Standing → Outcome
-outcome p None = Spoilt
-outcome p (Some (Known station ftype)) = if station == p.station && ftype == p.ftype + 128 then Answered else Missing
-outcome p (Some standing) = Missing
+-- how many bits behind a command its answer may begin, if its entry says so
+abbrev pub window_of : Option FrameType → Option ℕ
+window_of None = None
+window_of (Some e) = e.window
 
-abbrev pub verdict : Option Standing → Pending → Verdict
-verdict right p = record { outcome = outcome p right; span = p.span; station = p.station; ftype = p.ftype }
+-- more bits than the window lie between a command's last and an answer's first; without a window never
+abbrev pub is_late : Option ℕ → Span → ℕ → Bool
+is_late None command first = false
+is_late (Some window) command first = nat_lt (command.past + window) first
+
+-- a frame's first bit, and how it stands to the dictionary; nothing else has either
+abbrev pub begins : List FrameType → Report → Option (ℕ × Standing)
+begins d r = option_map (λ s. (r.first, s)) (standing_of d r.kind)
+
+-- what becomes of a command, by what is right of it: a known frame of the same station whose type is 128 more is its answer, in time or late
+abbrev pub outcome : List FrameType → Pending → Option (ℕ × Standing) → Outcome
+outcome d p None = Spoilt
+outcome d p (Some (first, Known station ftype)) =
+    if station == p.station && ftype == p.ftype + 128 then (if is_late (window_of (entry_at p.ftype d)) p.span first then Late else Answered) else Missing
+outcome d p (Some (first, standing)) = Missing
+
+abbrev pub verdict : List FrameType → Option (ℕ × Standing) → Pending → Verdict
+verdict d right p = record { outcome = outcome d p right; span = p.span; station = p.station; ftype = p.ftype }
 
 -- the verdict on a report, where it waits, by its right neighbour
 abbrev pub verdict_on : List FrameType → Report → Report → Option Verdict
-verdict_on d left right = option_map (verdict (standing_of d right.kind)) (waits d left)
+verdict_on d left right = option_map (verdict d (begins d right)) (waits d left)
 
 -- the verdicts on all commands that have a right neighbour in the talk
 abbrev pub verdicts : List FrameType → List Report → List Verdict

@@ -31,12 +31,13 @@ pub(crate) struct Journal {
 
 /// No verdict for any station.
 fn no_counts() -> [Counts; 256]
-    ensures { result ≡ replicate 256 (record { answered = 0; missing = 0; spoilt = 0 }) }
+    ensures { result ≡ replicate 256 (record { answered = 0; missing = 0; spoilt = 0; late = 0 }) }
 {
     [Counts {
         answered: 0,
         missing: 0,
         spoilt: 0,
+        late: 0,
     }; 256]
 }
 
@@ -101,7 +102,7 @@ impl Journal {
     {
         self.spent.tick_handled();
         let standing = self.standing(octets);
-        let verdict = self.decide(Some(standing));
+        let verdict = self.decide(Some((span.first, standing)));
         self.waiting = self.command(span, standing);
         self.keep(span, octets);
         Noted::of_frame(standing, verdict)

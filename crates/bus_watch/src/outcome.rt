@@ -3,10 +3,13 @@
 /// What became of a command that waited for its answer.
 #[derive(Clone, Copy, Debug, PartialEq, Eq)]
 pub enum Outcome {
-    /// The next thing on the line was its answer.
+    /// The next thing on the line was its answer, in time.
     Answered,
     /// The next thing on the line was another frame.
     Missing,
     /// The next thing on the line was no frame: a damaged or overlong piece, or an abort.
     Spoilt,
+    /// The next thing on the line was its answer, and more bits lay between the two than the
+    /// command's window allows.
+    Late,
 }

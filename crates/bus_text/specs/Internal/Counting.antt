@@ -3,7 +3,7 @@ use Rattle.std.specs.Prelude.{ℕ, ◌+◌, ◌≤◌, Bool, Option, if◌then�
 use Rattle.bus_line.specs.Report.{Kind}
 use Rattle.bus_watch.specs.Talk.{is_idle}
 use Rattle.bus_watch.specs.Seen.{SeenReport}
-use Rattle.bus_watch.specs.declared.outcome.Outcome.TheVariants.{Answered, Missing, Spoilt}
+use Rattle.bus_watch.specs.declared.outcome.Outcome.TheVariants.{Answered, Late, Missing, Spoilt}
 use Rattle.bus_watch.specs.declared.verdict.Verdict.{Verdict}
 use Rattle.bus_text.specs.declared.summary.Summary.{Summary}
 use Rattle.bus_text.specs.Summary.{has_outcome, is_abort, is_damaged, is_frame, is_overlong}
@@ -24,6 +24,7 @@ with_kind k s = record {
   answered = s.answered;
   missing = s.missing;
   spoilt = s.spoilt;
+  late = s.late;
 }
 
 -- a verdict is counted
@@ -38,6 +39,7 @@ with_verdict v s = record {
   answered = counted (has_outcome Answered v) s.answered;
   missing = counted (has_outcome Missing v) s.missing;
   spoilt = counted (has_outcome Spoilt v) s.spoilt;
+  late = counted (has_outcome Late v) s.late;
 }
 
 -- a stray is counted
@@ -52,6 +54,7 @@ with_stray stray s = record {
   answered = s.answered;
   missing = s.missing;
   spoilt = s.spoilt;
+  late = s.late;
 }
 
 -- one report more is counted
@@ -69,3 +72,4 @@ pub record IsFew (most : ℕ) (s : Summary) : Type 0 where
   pub answered : s.answered ≤ most
   pub missing : s.missing ≤ most
   pub spoilt : s.spoilt ≤ most
+  pub late : s.late ≤ most

@@ -1,7 +1,7 @@
 -- One verdict more in a tally.
 use Rattle.std.specs.Prelude.{◌≡◌, ℕ, ◌+◌, ◌==◌, List, Option, Some, None, slice_get, if◌then◌else◌}
 use Rattle.bus_watch.specs.declared.outcome.Outcome.{Outcome}
-use Rattle.bus_watch.specs.declared.outcome.Outcome.TheVariants.{Answered, Missing, Spoilt}
+use Rattle.bus_watch.specs.declared.outcome.Outcome.TheVariants.{Answered, Late, Missing, Spoilt}
 use Rattle.bus_watch.specs.declared.counts.Counts.{Counts}
 use Rattle.bus_watch.specs.declared.verdict.Verdict.{Verdict}
 
@@ -9,6 +9,7 @@ abbrev pub one_more : Outcome → Counts → Counts
 one_more Answered c = record c { answered = c.answered + 1 }
 one_more Missing c = record c { missing = c.missing + 1 }
 one_more Spoilt c = record c { spoilt = c.spoilt + 1 }
+one_more Late c = record c { late = c.late + 1 }
 
 -- the counts of a station after a verdict, or none
 abbrev pub counted : ℕ → Option Verdict → Counts → Counts

@@ -27,14 +27,14 @@ fn type_in(standing: Standing) -> Option<u8>
     }
 }
 
-/// Whether a verdict says that the command was answered.
+/// Whether a verdict says that the command was answered, in time or late.
 fn answers(verdict: Option<Verdict>) -> bool
     ensures { result ≡ answers verdict }
 {
     matches!(
         verdict,
         Some(Verdict {
-            outcome: Outcome::Answered,
+            outcome: Outcome::Answered | Outcome::Late,
             ..
         })
     )

@@ -1,6 +1,6 @@
 //! Commands and their verdicts.
 
-ghost use Rattle.std.specs.Prelude.{◌≡◌, ◌+◌, ◌<◌, ◌^◌, Some, None, option_map};
+ghost use Rattle.std.specs.Prelude.{◌≡◌, ◌+◌, ◌<◌, ◌^◌, Some, None, option_map, if◌then◌else◌};
 
 use crate::counts::Counts;
 use crate::journal::Journal;
@@ -13,28 +13,11 @@ use bus_dictionary::Standing;
 /// The address of all stations (ISO/IEC 13239, all-station address).
 const ALL_STATIONS: u8 = 255;
 
-impl Pending {
-    ghost use Rattle.bus_watch.specs.Talk.{outcome};
-
-    /// What becomes of the command, by the standing of what came next: `None` for a piece that is no
-    /// frame.
-    fn outcome(&self, right: Option<Standing>) -> Outcome
-        ensures { result ≡ outcome self.now right }
-    {
-        match right {
-            None => Outcome::Spoilt,
-            Some(Standing::Known { station, ftype })
-                if station == self.station && u16::from(ftype) == u16::from(self.ftype) + 128 => {
-                Outcome::Answered
-            }
-            Some(_) => Outcome::Missing,
-        }
-    }
-}
-
 impl Journal {
     ghost use Rattle.bus_watch.specs.Internal.JournalState.{CanCount};
-    ghost use Rattle.bus_watch.specs.Talk.{command, verdict};
+    ghost use Rattle.bus_dictionary.specs.Dictionary.{entry_at};
+    ghost use Rattle.bus_watch.specs.Talk.{command, is_late, outcome, verdict, window_of};
+    ghost use Rattle.bus_watch.specs.declared.outcome.Outcome.TheVariants.{Answered, Late};
     ghost use Rattle.bus_watch.specs.Internal.Counted.{Counted};
 
     /// The command that a frame is, if it waits for an answer: known, of a type below 128 that is to
@@ -58,12 +41,45 @@ impl Journal {
         }
     }
 
-    /// Decides the command that waits, if there is one, by the standing of what came next: `None` for
-    /// a piece that is no frame.
-    pub(crate) fn decide(&mut self, right: Option<Standing>) -> Option<Verdict>
+    /// An answer whose first bit has this place: in time, or late by the window of the command's entry.
+    fn answer(&self, pending: Pending, first: u64) -> Outcome
+        ensures { result
+            ≡ (if is_late (window_of (entry_at pending.ftype self.now.dictionary)) pending.span first then Late else Answered) }
+    {
+        let window = match self.dictionary.entry(pending.ftype) {
+            Some(entry) => entry.window(),
+            None => None,
+        };
+        match window {
+            Some(window) if first.saturating_sub(pending.span.past) > u64::from(window) => {
+                Outcome::Late
+            }
+            _ => Outcome::Answered,
+        }
+    }
+
+    /// What becomes of a command, by the place of the first bit and the standing of the frame that
+    /// came next: `None` for a piece that is no frame.
+    fn outcome(&self, pending: Pending, right: Option<(u64, Standing)>) -> Outcome
+        ensures { result ≡ outcome self.now.dictionary pending right }
+    {
+        match right {
+            None => Outcome::Spoilt,
+            Some((first, Standing::Known { station, ftype }))
+                if station == pending.station
+                    && u16::from(ftype) == u16::from(pending.ftype) + 128 => {
+                self.answer(pending, first)
+            }
+            Some(_) => Outcome::Missing,
+        }
+    }
+
+    /// Decides the command that waits, if there is one, by the place of the first bit and the standing
+    /// of the frame that came next: `None` for a piece that is no frame.
+    pub(crate) fn decide(&mut self, right: Option<(u64, Standing)>) -> Option<Verdict>
         requires counts { CanCount self.old.tally }
         requires handled { self.old.spent.handled + 2 < 2 ^ 64 }
-        ensures value { result ≡ option_map (verdict right) self.old.waiting }
+        ensures value { result ≡ option_map (verdict self.old.dictionary right) self.old.waiting }
         ensures tally { Counted result self.old.tally self.new.tally }
         ensures kept { self.new
             ≡ record self.old {
@@ -76,7 +92,7 @@ impl Journal {
         self.spent.tick_handled();
         let pending = self.waiting.take()?;
         let verdict = Verdict {
-            outcome: pending.outcome(right),
+            outcome: self.outcome(pending, right),
             span: pending.span,
             station: pending.station,
             ftype: pending.ftype,
@@ -104,6 +120,7 @@ impl Counts {
         requires answered { self.answered + 1 < 2 ^ 64 }
         requires missing { self.missing + 1 < 2 ^ 64 }
         requires spoilt { self.spoilt + 1 < 2 ^ 64 }
+        requires late { self.late + 1 < 2 ^ 64 }
         ensures { result ≡ one_more outcome self }
     {
         match outcome {
@@ -117,6 +134,10 @@ impl Counts {
             },
             Outcome::Spoilt => Counts {
                 spoilt: self.spoilt + 1,
+                ..self
+            },
+            Outcome::Late => Counts {
+                late: self.late + 1,
                 ..self
             },
         }

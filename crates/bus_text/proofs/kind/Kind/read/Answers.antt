@@ -4,7 +4,7 @@ use Rattle.std.proofs.lemmas.Iterator.Search.{find_from_yields_List}
 use Rattle.std.specs.Cmp.Lexicographic.{pointwise}
 use Rattle.bus_text.specs.Kinds.{kind_word, all_kinds, kind_named}
 use Rattle.bus_text.specs.declared.kind.Kind.{Kind}
-use Rattle.bus_text.specs.declared.kind.Kind.TheVariants.{Frame, Damaged, Overlong, Abort, Idle, Stray, Answered, Missing, Spoilt, Begun, Pending}
+use Rattle.bus_text.specs.declared.kind.Kind.TheVariants.{Frame, Damaged, Overlong, Abort, Idle, Stray, Answered, Missing, Spoilt, Late, Begun, Pending}
 use Rattle.bus_text.proofs.kind.Kind.read.Goals as goal
 
 -- the word of a kind names it
@@ -18,6 +18,7 @@ named-word Stray = refl
 named-word Answered = refl
 named-word Missing = refl
 named-word Spoilt = refl
+named-word Late = refl
 named-word Begun = refl
 named-word Pending = refl
 
