@@ -50,6 +50,23 @@ name = "notice"
 length = 0
 """
 
+# The call and its reply, which is to begin within sixteen bits.
+WITHIN = """version = 2
+[[frame]]
+type = 0
+name = "call"
+length = 0
+answered = true
+window = 16
+[[frame]]
+type = 128
+name = "reply"
+length = 0
+"""
+
+# The same in version 1, which has no windows.
+WITHIN_1 = WITHIN.replace("version = 2", "version = 1")
+
 # The longest frame has five octets.
 STATES = """version = 1
 [[frame]]

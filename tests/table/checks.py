@@ -13,11 +13,13 @@ from .captures import (
     PACKED,
     REPLY,
     SHORT,
+    WITHIN,
+    WITHIN_1,
     sent,
     text,
 )
 from .case import Case, fault
-from .lists import ALL_KINDS, MISSING_AND_SPOILT
+from .lists import ALL_KINDS, IN_TIME, LATE, MISSING_AND_SPOILT
 
 BITS = ["check", "--bits"]
 
@@ -35,6 +37,7 @@ def report(
     answered: int = 0,
     missing: int = 0,
     spoilt: int = 0,
+    late: int = 0,
 ) -> str:
     """The counts, and the lines of stations and of the last frames behind them."""
     counts = f"""\
@@ -47,6 +50,7 @@ strays {strays}
 answered {answered}
 missing {missing}
 spoilt {spoilt}
+late {late}
 """
     return counts + "".join(f"{line}\n" for line in lines)
 
@@ -61,7 +65,8 @@ strays 0
 answered 0
 missing 1
 spoilt 1
-station 16 answered 0 missing 1 spoilt 1
+late 0
+station 16 answered 0 missing 1 spoilt 1 late 0
 last 8 49 108300fde5
 last 57 98 108300fde5
 """
@@ -70,7 +75,7 @@ ONE_CALL_REPORT = report("last 8 49 108300fde5", frames=1)
 
 THREE_FRAMES = text(FLAG, CALL, FLAG, REPLY, FLAG, NOTICE, FLAG)
 
-STATION_16_ANSWERED = "station 16 answered 1 missing 0 spoilt 0"
+STATION_16_ANSWERED = "station 16 answered 1 missing 0 spoilt 0 late 0"
 
 
 def notices(count: int) -> bytes:
@@ -104,7 +109,7 @@ REPORTS = [
         words=BY_CALLS,
         stdin=ALL_KINDS,
         stdout=report(
-            "station 16 answered 1 missing 1 spoilt 1",
+            "station 16 answered 1 missing 1 spoilt 1 late 0",
             "last 8 49 108300fde5",
             "last 57 98 108380f561",
             "last 106 147 108300fde5",
@@ -128,8 +133,8 @@ REPORTS = [
         words=[*BY_CALLS, "--depth", "1"],
         stdin=TWO_STATIONS,
         stdout=report(
-            "station 3 answered 1 missing 0 spoilt 0",
-            "station 200 answered 0 missing 1 spoilt 0",
+            "station 3 answered 1 missing 0 spoilt 0 late 0",
+            "station 200 answered 0 missing 1 spoilt 0 late 0",
             "last 104 144 038380040b",
             frames=3,
             answered=1,
@@ -191,11 +196,48 @@ STATUSES = [
         status=1,
     ),
     Case(
+        name="a late answer alone is amiss",
+        words=["check", "--bits", "--dict", WITHIN],
+        stdin=LATE,
+        stdout=report(
+            "station 16 answered 0 missing 0 spoilt 0 late 1",
+            "last 8 49 108300fde5",
+            "last 73 114 108380f561",
+            frames=2,
+            late=1,
+        ),
+        status=1,
+    ),
+    Case(
+        name="an answer at the end of its window is in time",
+        words=["check", "--bits", "--dict", WITHIN],
+        stdin=IN_TIME,
+        stdout=report(
+            "station 16 answered 1 missing 0 spoilt 0 late 0",
+            "last 8 49 108300fde5",
+            "last 65 106 108380f561",
+            frames=2,
+            answered=1,
+        ),
+    ),
+    Case(
+        name="an answer that only version 2 calls late",
+        words=["check", "--bits", "--dict", WITHIN_1],
+        stdin=LATE,
+        stdout=report(
+            "station 16 answered 1 missing 0 spoilt 0 late 0",
+            "last 8 49 108300fde5",
+            "last 73 114 108380f561",
+            frames=2,
+            answered=1,
+        ),
+    ),
+    Case(
         name="a missing answer alone is amiss",
         words=[*BY_CALLS, "--depth=1"],
         stdin=text(FLAG, CALL, FLAG, NOTICE, FLAG),
         stdout=report(
-            "station 16 answered 0 missing 1 spoilt 0",
+            "station 16 answered 0 missing 1 spoilt 0 late 0",
             "last 57 99 ff83095a3b",
             frames=2,
             missing=1,
@@ -207,7 +249,7 @@ STATUSES = [
         words=BY_CALLS,
         stdin=text(FLAG, CALL, FLAG, "00001000", "1111111"),
         stdout=report(
-            "station 16 answered 0 missing 0 spoilt 1",
+            "station 16 answered 0 missing 0 spoilt 1 late 0",
             "last 8 49 108300fde5",
             frames=1,
             aborts=1,

@@ -17,6 +17,8 @@ from .captures import (
     TYPE_1,
     TYPE_254,
     UNTYPED,
+    WITHIN,
+    WITHIN_1,
     fcs,
     packed,
     sent,
@@ -52,7 +54,26 @@ MISSING_AND_SPOILT_LINES = """\
 57 98 spoilt station 16 type 0
 """
 
-# A capture with lines of all kinds.
+# A call and a reply that begins eight, sixteen and twenty-four bits behind it.
+AT_ONCE = text(FLAG, CALL, FLAG, REPLY, FLAG)
+
+IN_TIME = text(FLAG, CALL, FLAG, FLAG, REPLY, FLAG)
+
+LATE = text(FLAG, CALL, FLAG, FLAG, FLAG, REPLY, FLAG)
+
+IN_TIME_LINES = """\
+8 49 frame 108300fde5 station 16 type 0 call
+65 106 frame 108380f561 station 16 type 128 reply
+8 49 answered station 16 type 0
+"""
+
+LATE_LINES = """\
+8 49 frame 108300fde5 station 16 type 0 call
+73 114 frame 108380f561 station 16 type 128 reply
+8 49 late station 16 type 0
+"""
+
+# A capture with lines of all kinds but `late`.
 ALL_KINDS = text(
     *[FLAG, CALL, FLAG, REPLY, FLAG],
     *[CALL, FLAG, CALL, FLAG, SHORT, FLAG],
@@ -81,7 +102,7 @@ ALL_KINDS_LINES = """\
 
 KINDS = [
     *["frame", "damaged", "overlong", "abort", "idle", "stray"],
-    *["answered", "missing", "spoilt", "open", "pending"],
+    *["answered", "missing", "spoilt", "late", "open", "pending"],
 ]
 
 # Frames to two stations, of several types, without a type, and with another control octet.
@@ -291,6 +312,43 @@ PIECES = [
 80 122 stray station 16 type 254
 """,
     ),
+    *[
+        Case(
+            name=f"an answer {distance} bits behind its command, with a window of sixteen in {version}",
+            words=["list", "--bits", "--dict", dictionary],
+            stdin=capture,
+            stdout=stdout,
+        )
+        for distance, version, dictionary, capture, stdout in [
+            (8, "version 2", WITHIN, AT_ONCE, ANSWERED_CALL_LINES),
+            (16, "version 2", WITHIN, IN_TIME, IN_TIME_LINES),
+            (24, "version 2", WITHIN, LATE, LATE_LINES),
+            (24, "version 1", WITHIN_1, LATE, LATE_LINES.replace("late", "answered")),
+        ]
+    ],
+    Case(
+        name="a window of twenty-four bits, and an answer behind so many",
+        words=["list", "--bits", "--dict", WITHIN.replace("16", "24")],
+        stdin=LATE,
+        stdout=LATE_LINES.replace("late", "answered"),
+    ),
+    Case(
+        name="a window of twenty-three bits, and an answer one bit later",
+        words=["list", "--bits", "--dict", WITHIN.replace("16", "23")],
+        stdin=LATE,
+        stdout=LATE_LINES,
+    ),
+    Case(
+        name="an idle line within a window",
+        words=["list", "--bits", "--dict", WITHIN.replace("16", "31")],
+        stdin=text(FLAG, CALL, FLAG, IDLE, FLAG, REPLY, FLAG),
+        stdout="""\
+8 49 frame 108300fde5 station 16 type 0 call
+57 72 idle
+80 121 frame 108380f561 station 16 type 128 reply
+8 49 answered station 16 type 0
+""",
+    ),
     Case(name="all kinds", words=BY_CALLS, stdin=ALL_KINDS, stdout=ALL_KINDS_LINES),
     Case(name="all heads", words=BY_CALLS, stdin=ALL_HEADS, stdout=ALL_HEADS_LINES),
 ]
@@ -465,6 +523,17 @@ FILTERS = [
         words=[*BY_CALLS, "--station", "16", "--kind", "frame"],
         stdin=MISSING_AND_SPOILT,
         stdout=chosen(MISSING_AND_SPOILT_LINES, 1, 2),
+    ),
+    Case(
+        name="of kind late",
+        words=["list", "--bits", "--dict", WITHIN, "--kind", "late"],
+        stdin=LATE,
+        stdout="8 49 late station 16 type 0\n",
+    ),
+    Case(
+        name="of kind stray, where an answer is late",
+        words=["list", "--bits", "--dict", WITHIN, "--kind", "stray"],
+        stdin=LATE,
     ),
     Case(
         name="of kind missing",

@@ -116,18 +116,18 @@ SHOWS = [
         "hex before size and dictionary",
         "10835",
         "bad hex",
-        dictionary="version = 2",
+        dictionary="version = 3",
     ),
     refused(
         "size before dictionary",
         "108345",
         "frame is not 4 to 258 octets",
-        dictionary="version = 2",
+        dictionary="version = 3",
     ),
     refused(
         "a dictionary of another version",
         STATE,
-        "dictionary: version is not 1",
-        dictionary="version = 2",
+        "dictionary: version is not 1 or 2",
+        dictionary="version = 3",
     ),
 ]

@@ -19,7 +19,7 @@ const AMISS: u8 = 1;
 const FAULT: u8 = 2;
 
 /// Runs the program `port1`, and returns its status: 0, or 1 for a check that found something
-/// damaged, overlong, missing or spoilt, or 2 for any fault.
+/// damaged, overlong, missing, spoilt or late, or 2 for any fault.
 ///
 /// `words` are its arguments without its name. A capture, or lines to encode, are read from `r`.
 /// Output and help go to `w`, and faults to `e`; that `e` fails is ignored.

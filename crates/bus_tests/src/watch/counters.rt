@@ -1,6 +1,6 @@
 //! The counted steps of worked lists.
 
-use super::{CALL, CALLS, FLAG, REPLY, bits_of};
+use super::{CALLS, bits_of};
 use bus_bits::Spent;
 use bus_dictionary::Dictionary;
 use bus_fcs::{BitCheck, Check, OctetCheck};
@@ -23,7 +23,7 @@ pub(super) const NONE: Spent = Spent {
 /// A worked list and its steps with either check.
 #[derive(Drop)]
 struct Row {
-    bits: &'static [&'static str],
+    bits: &'static str,
     by_bits: Spent,
     by_octets: Spent,
 }
@@ -54,17 +54,17 @@ const OF_ABORT_AND_IDLE: Spent = Spent {
 
 const ROWS: [Row; 5] = [
     Row {
-        bits: &[],
+        bits: "",
         by_bits: NONE,
         by_octets: NONE,
     },
     Row {
-        bits: &[FLAG],
+        bits: "flag",
         by_bits: Spent { shifted: 8, ..NONE },
         by_octets: Spent { shifted: 8, ..NONE },
     },
     Row {
-        bits: &[FLAG, CALL, FLAG, REPLY, FLAG],
+        bits: "flag call flag reply flag",
         by_bits: Spent {
             folded: 80,
             ..OF_CALL_AND_REPLY
@@ -75,21 +75,21 @@ const ROWS: [Row; 5] = [
         },
     },
     Row {
-        bits: &[FLAG, "00001000 1111111"],
+        bits: "flag 00001000 1111111",
         by_bits: OF_ABORT,
         by_octets: OF_ABORT,
     },
     Row {
-        bits: &[FLAG, "00001000 1111111", "11111111"],
+        bits: "flag 00001000 1111111 11111111",
         by_bits: OF_ABORT_AND_IDLE,
         by_octets: OF_ABORT_AND_IDLE,
     },
 ];
 
-fn counted<C: Check>(alloc: Global, texts: &[&str]) -> Result<Spent, Fail> {
+fn counted<C: Check>(alloc: Global, words: &str) -> Result<Spent, Fail> {
     let dictionary = Dictionary::read(alloc, CALLS)?;
     let mut analyser = Analyser::<C>::new(alloc, dictionary, 2, 0)?;
-    for bit in bits_of(alloc, texts)? {
+    for bit in bits_of(alloc, words)? {
         let _ = analyser.push(bit)?;
     }
     Ok(analyser.spent())
@@ -102,15 +102,15 @@ fn steps(rt: HostRuntime) -> Result<(), Fail> {
         assert_eq!(rt; counted::<BitCheck>(rt.alloc(), row.bits)?, row.by_bits);
         assert_eq!(rt; counted::<OctetCheck>(rt.alloc(), row.bits)?, row.by_octets);
     }
-    let totals: [(&[&str], u128, u128); 3] = [
-        (&[FLAG, CALL, FLAG, REPLY, FLAG], 298, 228),
-        (&[FLAG, "00001000 1111111"], 33, 33),
-        (&[FLAG, "00001000 1111111", "11111111"], 44, 44),
+    let totals: [(&str, u128, u128); 3] = [
+        ("flag call flag reply flag", 298, 228),
+        ("flag 00001000 1111111", 33, 33),
+        ("flag 00001000 1111111 11111111", 44, 44),
     ];
-    for (texts, by_bits, by_octets) in totals {
-        assert_eq!(rt; counted::<BitCheck>(rt.alloc(), texts)?.total(), by_bits);
+    for (words, by_bits, by_octets) in totals {
+        assert_eq!(rt; counted::<BitCheck>(rt.alloc(), words)?.total(), by_bits);
         assert_eq!(rt;
-            counted::<OctetCheck>(rt.alloc(), texts)?.total(),
+            counted::<OctetCheck>(rt.alloc(), words)?.total(),
             by_octets
         );
     }
@@ -140,10 +140,10 @@ fn long_run(rt: HostRuntime) -> Result<(), Fail> {
     let alloc = rt.alloc();
     let dictionary = Dictionary::read(alloc, CALLS)?;
     let mut analyser = Analyser::<OctetCheck>::new(alloc, dictionary, 1024, 0)?;
-    for bit in &bits_of(alloc, &[FLAG])? {
+    for bit in &bits_of(alloc, "flag")? {
         let _ = analyser.push(*bit)?;
     }
-    let again = bits_of(alloc, &[CALL, FLAG])?;
+    let again = bits_of(alloc, "call flag")?;
     for _ in 0..1025u64 {
         for bit in &again {
             let _ = analyser.push(*bit)?;
@@ -164,6 +164,7 @@ fn long_run(rt: HostRuntime) -> Result<(), Fail> {
         answered: 0,
         missing: 1024,
         spoilt: 0,
+        late: 0,
     };
     assert_eq!(rt; analyser.tally(16), counts);
     let pending = analyser.ending().pending.map(|pending| pending.span);

@@ -1,7 +1,7 @@
 //! Sinks that collect what they take, and refuse where a test wants it.
 
 use super::text::push_seen;
-use super::{CALL, CALLS, FLAG, NOTICE, REPLY, bits_of};
+use super::{CALLS, bits_of};
 use bus_dictionary::Dictionary;
 use bus_fcs::{BitCheck, Check, OctetCheck};
 use bus_watch::{
@@ -159,6 +159,7 @@ fn check_refusal<C: Check>(
         answered: row.answered,
         missing: 0,
         spoilt: 0,
+        late: 0,
     };
     assert_eq!(rt; analyser.tally(16), counts, "{refuses}");
     for bit in bits.iter().skip(consumed) {
@@ -195,7 +196,7 @@ fn check_run<C: Check>(
 #[test]
 fn refusing_sinks(rt: HostRuntime) -> Result<(), Fail> {
     let alloc = rt.alloc();
-    let bits = bits_of(alloc, &[FLAG, CALL, FLAG, REPLY, FLAG, NOTICE, FLAG])?;
+    let bits = bits_of(alloc, "flag call flag reply flag notice flag")?;
     assert_eq!(rt; bits.len(), 156);
     for row in &REFUSALS {
         check_refusal::<BitCheck>(&rt, alloc, &bits, row)?;

@@ -2,7 +2,7 @@
 
 use bus_dictionary::Standing;
 use bus_line::{Cause, Piece, Span};
-use bus_watch::{Outcome, Seen, Verdict};
+use bus_watch::{Ending, Outcome, Seen, Verdict};
 use std::alloc::{AllocError, Global};
 
 fn outcome_word(outcome: Outcome) -> &'static str {
@@ -10,6 +10,7 @@ fn outcome_word(outcome: Outcome) -> &'static str {
         Outcome::Answered => "answered",
         Outcome::Missing => "missing",
         Outcome::Spoilt => "spoilt",
+        Outcome::Late => "late",
     }
 }
 
@@ -57,13 +58,37 @@ fn push_verdict(text: &mut String, verdict: Verdict) -> Result<(), AllocError> {
     )
 }
 
+/// A `; ` behind what the text has.
+fn push_break(text: &mut String) -> Result<(), AllocError> {
+    if text.is_empty() {
+        return Ok(());
+    }
+    text.push_str("; ")
+}
+
+/// What is open and what is pending at the end, behind what the text has.
+pub(super) fn push_ending(text: &mut String, ending: Ending) -> Result<(), AllocError> {
+    if let Some(Span { first, past }) = ending.begun {
+        push_break(text)?;
+        write!(text, "begun {first} {past}")?;
+    }
+    if let Some(pending) = ending.pending {
+        push_break(text)?;
+        let (first, past) = (pending.span.first, pending.span.past);
+        let (station, ftype) = (pending.station, pending.ftype);
+        write!(
+            text,
+            "pending {first} {past} station {station} type {ftype}"
+        )?;
+    }
+    Ok(())
+}
+
 /// What is seen, behind what the text has.
 pub(super) fn push_seen(text: &mut String, seen: &Seen) -> Result<(), AllocError> {
     let (span, word) = piece_word(&seen.piece);
     let (first, past) = (span.first, span.past);
-    if !text.is_empty() {
-        text.push_str("; ")?;
-    }
+    push_break(text)?;
     write!(text, "{first} {past} {word}")?;
     if let Piece::Frame { octets, .. } = seen.piece {
         text.push(' ')?;

@@ -3,7 +3,7 @@
 /// How lines are chosen by their kind.
 pub const KIND: &str = "\
 Only lines of this kind: frame, damaged, overlong, abort, idle, stray, answered, missing, spoilt, \
-open or pending";
+late, open or pending";
 
 /// Of the program.
 pub const WHOLE: &str = "\
@@ -16,7 +16,8 @@ of its bits as eight octets, the lowest first; then come the bits, eight in each
 first of them lowest, and the bits of the last octet that are not used are 0.
 
 Output goes to standard output, faults to standard error. The status is 0, or 1 where `check`
-found a damaged or overlong piece or a command that was missed or spoilt, or 2 for any fault.
+found a damaged or overlong piece or a command that was missed, spoilt or answered late, or 2
+for any fault.
 
 Example:
   port1 list --bits < capture.bits";
@@ -30,7 +31,7 @@ place, the place past the last bit, and what stands there. Places count bits.
                             `length` in place of the name, `control C`, or `untyped`
   damaged CAUSE             a piece that is no frame: unstuffed, short, unaligned or fcs
   overlong, abort, idle     a piece that is too long, one cut off by ones, a silent line
-  answered, missing, spoilt station A type T
+  answered, missing, spoilt, late station A type T
                             what became of a command that waits for an answer
   stray station A type T    a frame of type 128 or more that answers no command
   open, pending             at the end: a piece not yet closed, a command still waiting
@@ -46,11 +47,11 @@ Example:
 pub const CHECK: &str = "\
 Reads a capture from standard input to its end. Then it writes how many frames, damaged and
 overlong pieces, aborts, idle lines and strays there were, how many commands were answered,
-missing and spoilt, these three again for each station that has any, and the last frames with
-their places, the oldest first. Where the capture has a fault, nothing is written.
+missing, spoilt and answered late, these four again for each station that has any, and the last
+frames with their places, the oldest first. Where the capture has a fault, nothing is written.
 
-The status is 0; 1 where anything was damaged, overlong, missing or spoilt; 2 for any fault,
-told on standard error.
+The status is 0; 1 where anything was damaged, overlong, missing, spoilt or late; 2 for any
+fault, told on standard error.
 
 Example:
   port1 check --dict \"$(cat cabinet.toml)\" < capture.ts2 && echo all is well";

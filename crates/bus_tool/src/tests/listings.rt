@@ -335,7 +335,7 @@ fn long_report(rt: HostRuntime) -> Result<(), Fail> {
     let capture = calls(rt.alloc(), 1100)?;
     let mut text = String::from_str(
         rt.alloc(),
-        "frames 1100\ndamaged 0\noverlong 0\naborts 0\nidles 0\nstrays 0\nanswered 0\nmissing 1099\nspoilt 0\nstation 16 answered 0 missing 1099 spoilt 0\n",
+        "frames 1100\ndamaged 0\noverlong 0\naborts 0\nidles 0\nstrays 0\nanswered 0\nmissing 1099\nspoilt 0\nlate 0\nstation 16 answered 0 missing 1099 spoilt 0 late 0\n",
     )?;
     for i in 76..1100u64 {
         let first = 8 + 49 * i;

@@ -13,24 +13,6 @@ pub const CALL: &str = "00001000 11000001 00000000 101111101 10100111";
 /// `10 83 80 f5 61`: from station 16, of type 128.
 pub const REPLY: &str = "00001000 11000001 00000001 10101111 100000110";
 
-/// `ff 83 09 5a 3b`: to all stations, of type 9.
-pub const NOTICE: &str = "111110111 110000001 10010000 01011010 11011100";
-
-/// `ff 83 00 9b a6`: to all stations, of type 0.
-pub const CALL_TO_ALL: &str = "111110111 110000001 00000000 11011001 01100101";
-
-/// `10 83 fe 0c fb`: of type 254; the second inserted 0 is its last bit.
-pub const TYPE_254: &str = "00001000 11000001 011111011 00110000 110111110";
-
-/// `10 13 cc b8`: with another control octet.
-pub const CONTROL_19: &str = "00001000 11001000 00110011 00011101";
-
-/// `10 83 45 2c`: without information.
-pub const UNTYPED: &str = "00001000 11000001 10100010 00110100";
-
-/// `10 83 01 74 f4`: of type 1, with nothing behind it.
-pub const TYPE_1: &str = "00001000 11000001 10000000 00101110 00101111";
-
 /// Twenty-four bits that are too few for a frame.
 pub const SHORT: &str = "00000000 00000000 00000000";
 
@@ -76,7 +58,8 @@ strays 0
 answered 1
 missing 0
 spoilt 0
-station 16 answered 1 missing 0 spoilt 0
+late 0
+station 16 answered 1 missing 0 spoilt 0 late 0
 last 8 49 108300fde5
 last 57 98 108380f561
 ";
@@ -91,7 +74,8 @@ strays 0
 answered 0
 missing 1
 spoilt 1
-station 16 answered 0 missing 1 spoilt 1
+late 0
+station 16 answered 0 missing 1 spoilt 1 late 0
 last 8 49 108300fde5
 last 57 98 108300fde5
 ";
@@ -110,6 +94,20 @@ length = 0
 [[frame]]
 type = 9
 name = "notice"
+length = 0
+"#;
+
+/// The call and its reply, which is to begin within sixteen bits.
+pub const WITHIN: &str = r#"version = 2
+[[frame]]
+type = 0
+name = "call"
+length = 0
+answered = true
+window = 16
+[[frame]]
+type = 128
+name = "reply"
 length = 0
 "#;
 
@@ -179,6 +177,7 @@ pub const NONE: Summary = Summary {
     answered: 0,
     missing: 0,
     spoilt: 0,
+    late: 0,
 };
 
 /// What is counted in a call and its reply.

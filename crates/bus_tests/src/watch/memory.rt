@@ -1,0 +1,92 @@
+//! An analyser asks for memory once, for its history.
+
+use bus_dictionary::Dictionary;
+use bus_fcs::{BitCheck, Check, OctetCheck};
+use bus_line::Span;
+use bus_watch::{Analyser, NewFault, ReportSink, Seen, SinkRefused};
+use std::alloc::Global;
+use std::process::Abort;
+use std::test::Fail;
+
+/// A flag, eight zeros and a flag: a damaged piece.
+const DAMAGED: [bool; 24] = [
+    false, true, true, true, true, true, true, false, false, false, false, false, false, false,
+    false, false, false, true, true, true, true, true, true, false,
+];
+
+/// A sink that counts what it takes, in no memory.
+#[derive(Drop)]
+struct Counter {
+    count: u64,
+    refusals: u64,
+}
+
+impl ReportSink for Counter {
+    ghost use Rattle.std.specs.Prelude.{None};
+
+    ghost taken = { λ s. None };
+
+    ghost refusals = { λ s. s.refusals };
+
+    fn refused(&self) -> u64 {
+        self.refusals
+    }
+
+    fn take(&mut self, _seen: &Seen<'_>) -> Result<(), SinkRefused> {
+        self.count = self.count.saturating_add(1);
+        Ok(())
+    }
+}
+
+/// Each call that takes bits.
+fn take_bits<C: Check>(rt: &impl Abort, analyser: &mut Analyser<C>) -> Result<(), Fail> {
+    let mut sink = Counter {
+        count: 0,
+        refusals: 0,
+    };
+    for bit in DAMAGED {
+        let _ = analyser.push(bit)?;
+    }
+    analyser.feed(&DAMAGED, &mut sink)?;
+    if sink.refused() == 0 {
+        analyser.feed_all(&[&DAMAGED, &[], &DAMAGED], &mut sink)?;
+    }
+    assert_eq!(rt; sink.count, 3);
+    assert!(rt; analyser.pass(false));
+    assert!(rt; analyser.pass_octet(0));
+    Ok(())
+}
+
+/// Each call that asks what stands after them.
+fn ask<C: Check>(rt: &impl Abort, analyser: &Analyser<C>) -> Result<(), Fail> {
+    assert_eq!(rt; analyser.history_len(), 0);
+    assert!(rt; analyser.history(0).is_none());
+    assert_eq!(rt; analyser.tally(16).spoilt, 0);
+    let begun = Span {
+        first: 96,
+        past: 105,
+    };
+    assert_eq!(rt; analyser.ending().begun, Some(begun));
+    assert_eq!(rt; analyser.dictionary().longest(), 256);
+    assert_eq!(rt; analyser.usage().spent, analyser.spent());
+    assert_eq!(rt; analyser.usage().buffered, analyser.buffered());
+    Ok(())
+}
+
+fn check_memory<C: Check>(rt: &impl Abort, alloc: Global) -> Result<(), Fail> {
+    match Analyser::<C>::new(alloc, Dictionary::empty(alloc), 1024, 0) {
+        Ok(mut analyser) => {
+            take_bits(rt, &mut analyser)?;
+            ask(rt, &analyser)
+        }
+        Err(NewFault::Memory) => Ok(()),
+        Err(_) => Err(Fail::from("refused")),
+    }
+}
+
+/// An empty dictionary takes no memory, and no call after `new` asks for any.
+#[test]
+fn one_request(rt: HostRuntime) -> Result<(), Fail> {
+    check_memory::<BitCheck>(&rt, rt.alloc())?;
+    check_memory::<OctetCheck>(&rt, rt.alloc())
+}
