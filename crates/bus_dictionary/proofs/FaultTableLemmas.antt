@@ -4,12 +4,12 @@ use Rattle.toml.specs.Data.{Data, boolean, array, Items, item, Members, table, g
 use Rattle.toml.specs.Parse.{parse_document}
 use Rattle.bus_dictionary.specs.declared.fault.DictFault.{DictFault}
 use Rattle.bus_dictionary.specs.declared.fault.DictFault.TheVariants.{Version, NoFrames, BadType, BadName, BadLength, BadAnswered, BadWindow, BadBit, TwiceType, NoAnswerEntry}
-use Rattle.bus_dictionary.specs.DictFault.{need}
+use Rattle.bus_dictionary.specs.DictFault.{Gives, need}
 use Rattle.bus_dictionary.specs.Entry.{FrameType, type_at, has_type, entry_of}
 use Rattle.bus_dictionary.specs.Dictionary.{version_at, frames_at, entries_of, lacks_answer, refuse_lacking, if_answered, dictionary_of, document_of, dictionary_of_text}
 use Rattle.bus_dictionary.specs.Says.{IsItem, HasVersion, HasNumber, IsValue}
 use Rattle.bus_dictionary.specs.FaultTable.{IsEntryRow, bad_type, bad_name, bad_length, bad_answered, answered_answer, bad_window, window_of_none, bad_bits, bad_bit, twice_type, Rank, rank, IsBefore, by_part, by_entry, by_column, IsRow, no_version, no_frames, in_entry, no_answer, IsFirstFault}
-use Rattle.bus_dictionary.specs.DictionaryLaws.{IsText, no_toml, faulty, sound}
+use Rattle.bus_dictionary.specs.DictionaryLaws.{IsRead, IsText, no_toml, faulty, sound}
 use Rattle.bus_dictionary.proofs.BitNameLemmas.{then_ok, need_ok}
 use Rattle.bus_dictionary.proofs.FaultTableBitLemmas.{then_err, need_err}
 use Rattle.bus_dictionary.proofs.SaysLemmas.{both, says_number, version_says, version_not, frames_say, say_frames, no_frames_at, answered_says}
@@ -342,3 +342,7 @@ is_text text _ (sound ms es is value lacks) = ap document_of is ∙ (dictionary_
 
 pub text_iff : (text : List ℕ) (r : Result (List FrameType) DictFault) → (dictionary_of_text text ≡ r) ↔ IsText text r
 text_iff text r = (λ is. text_is text (parse_document text) r refl is, λ said. is_text text r said)
+
+pub is_read : (text : List ℕ) (r : Result (List FrameType) DictFault) → Gives (λ d. d) r (dictionary_of_text text) → IsRead text r
+is_read text (Ok es) given = (text_iff text (Ok es)).0 given
+is_read text (Err f) given = λ other. (text_iff text (Err f)).0 (given other)

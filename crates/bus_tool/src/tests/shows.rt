@@ -4,6 +4,8 @@ use crate::fakes::{Fixed, Narrow};
 use crate::tests::worked::{CALLS, STATES};
 use crate::{ToolFault, show_frame};
 use bus_dictionary::DictFault;
+use std::alloc::Global;
+use std::process::Abort;
 use std::test::Fail;
 
 /// One frame of the second.
@@ -17,22 +19,23 @@ station 16 type 129 state
 ";
 
 fn check_shown(
-    rt: &HostRuntime,
+    rt: &impl Abort,
+    alloc: Global,
     dictionary: Option<&str>,
     hex: &str,
     text: &str,
 ) -> Result<(), Fail> {
-    let mut out = Vec::new(rt.alloc());
-    assert_eq!(rt; show_frame(rt.alloc(), dictionary, hex, &mut out), Ok(()));
+    let mut out = Vec::new(alloc);
+    assert_eq!(rt; show_frame(alloc, dictionary, hex, &mut out), Ok(()));
     assert_eq!(rt; out.as_slice(), text.as_bytes());
     Ok(())
 }
 
 #[test]
 fn shows(rt: HostRuntime) -> Result<(), Fail> {
-    check_shown(&rt, Some(STATES), STATE, STATE_TEXT)?;
+    check_shown(&rt, rt.alloc(), Some(STATES), STATE, STATE_TEXT)?;
     let text = "frame 10838101026e1f good\nstation 16 type 129 unknown\n";
-    check_shown(&rt, None, STATE, text)
+    check_shown(&rt, rt.alloc(), None, STATE, text)
 }
 
 /// The digits of as many octets, each of them 0x10.
