@@ -8,7 +8,6 @@ use bus_fcs::{BitCheck, Check, OctetCheck};
 use bus_line::LineDecoder;
 use std::alloc::Global;
 use std::process::Abort;
-use std::test::Fail;
 
 /// What a decoder answered to a list of bits.
 #[derive(Drop)]
@@ -24,37 +23,40 @@ struct Heard {
 
 /// Where `passes`, no bit is pushed that `pass` takes.
 fn hear<C: Check>(
+    rt: &impl Abort,
     alloc: Global,
     bits: &[bool],
     longest: usize,
     origin: u64,
     passes: bool,
-) -> Result<Heard, Fail> {
-    let mut decoder = LineDecoder::<C>::new(longest, origin)?;
+) -> Heard {
+    let mut decoder = LineDecoder::<C>::new(longest, origin).expect(rt, "a decoder");
     let mut reports = String::new(alloc);
     let mut places = String::new(alloc);
     let mut most = 0;
     for bit in bits {
         let place = decoder.place();
         if !(passes && decoder.pass(*bit)) {
-            if let Some(piece) = decoder.push(*bit)? {
+            if let Some(piece) = decoder.push(*bit).expect(rt, "a place") {
                 if !reports.is_empty() {
-                    reports.push_str(", ")?;
-                    places.push_str(", ")?;
+                    reports.push_str(", ").expect(rt, "memory");
+                    places.push_str(", ").expect(rt, "memory");
                 }
-                reports.push_str(&text_of(alloc, &piece)?)?;
-                write!(places, "{place}")?;
+                reports
+                    .push_str(&text_of(alloc, &piece).expect(rt, "memory"))
+                    .expect(rt, "memory");
+                write!(places, "{place}").expect(rt, "memory");
             }
         }
         most = most.max(decoder.buffered());
     }
     let spent = decoder.spent();
-    Ok(Heard {
+    Heard {
         reports,
         places,
         most,
         spent,
-    })
+    }
 }
 
 /// The reports of a list, as both checks give them, with and without `pass`.
@@ -64,10 +66,10 @@ fn heard_alike(
     bits: &[bool],
     longest: usize,
     origin: u64,
-) -> Result<Heard, Fail> {
-    let by_bits = hear::<BitCheck>(alloc, bits, longest, origin, false)?;
-    let by_octets = hear::<OctetCheck>(alloc, bits, longest, origin, false)?;
-    let passing = hear::<OctetCheck>(alloc, bits, longest, origin, true)?;
+) -> Heard {
+    let by_bits = hear::<BitCheck>(rt, alloc, bits, longest, origin, false);
+    let by_octets = hear::<OctetCheck>(rt, alloc, bits, longest, origin, false);
+    let passing = hear::<OctetCheck>(rt, alloc, bits, longest, origin, true);
     assert_eq!(rt; by_bits.reports.as_str(), by_octets.reports.as_str());
     assert_eq!(rt; by_bits.places.as_str(), by_octets.places.as_str());
     assert_eq!(rt; by_octets.reports.as_str(), passing.reports.as_str());
@@ -75,19 +77,18 @@ fn heard_alike(
     assert_eq!(rt; by_octets.spent, passing.spent);
     let room = longest.saturating_add(2);
     assert!(rt; by_bits.most <= room && by_octets.most <= room && passing.most <= room);
-    Ok(by_bits)
+    by_bits
 }
 
 /// The reports of the whole lists, each at the bit that decides it.
 #[test]
-fn worked_lists_bit_by_bit(rt: HostRuntime) -> Result<(), Fail> {
+fn worked_lists_bit_by_bit(rt: HostRuntime) {
     for (case, bits, reports, places) in WORKED {
-        let bits = bits_of(rt.alloc(), bits)?;
-        let heard = heard_alike(&rt, rt.alloc(), &bits, 3, 0)?;
+        let bits = bits_of(rt.alloc(), bits).expect(&rt, "memory");
+        let heard = heard_alike(&rt, rt.alloc(), &bits, 3, 0);
         assert_eq!(rt; heard.reports.as_str(), reports, "{case}");
         assert_eq!(rt; heard.places.as_str(), places, "{case}");
     }
-    Ok(())
 }
 
 /// Each case with its origin, the bits between two flags, and the report.
@@ -139,27 +140,25 @@ const FRAMES: [(&str, u64, &str, &str); 7] = [
 /// Frames of both addresses, of two octets and more, where the longest has five; and the places
 /// count from the origin.
 #[test]
-fn worked_frames(rt: HostRuntime) -> Result<(), Fail> {
+fn worked_frames(rt: HostRuntime) {
     for (case, origin, bits, want) in FRAMES {
-        let text = format!(in rt.alloc(); "01111110 {bits} 01111110")?;
-        let bits = bits_of(rt.alloc(), &text)?;
-        let heard = heard_alike(&rt, rt.alloc(), &bits, 5, origin)?;
+        let text = format!(in rt.alloc(); "01111110 {bits} 01111110").expect(&rt, "memory");
+        let bits = bits_of(rt.alloc(), &text).expect(&rt, "memory");
+        let heard = heard_alike(&rt, rt.alloc(), &bits, 5, origin);
         assert_eq!(rt; heard.reports.as_str(), want, "{case}");
     }
-    Ok(())
 }
 
 /// The octets of a frame stand in the decoder once its flag has closed it.
 #[test]
-fn octets_of_a_frame(rt: HostRuntime) -> Result<(), Fail> {
+fn octets_of_a_frame(rt: HostRuntime) {
     let text = "01111110 00001000 11000001 00000000 101111101 10100111 01111110";
-    let bits = bits_of(rt.alloc(), text)?;
-    let mut decoder = LineDecoder::<OctetCheck>::new(3, 0)?;
+    let bits = bits_of(rt.alloc(), text).expect(&rt, "memory");
+    let mut decoder = LineDecoder::<OctetCheck>::new(3, 0).expect(&rt, "a decoder");
     for bit in &bits {
-        decoder.push(*bit)?;
+        decoder.push(*bit).expect(&rt, "a place");
     }
     assert_eq!(rt; decoder.octets(), [0x10, 0x83, 0x00, 0xfd, 0xe5].as_slice());
-    Ok(())
 }
 
 /// Each case with its bits: how many are taken, how many are data, the work of the check by bits and
@@ -192,11 +191,11 @@ const STEPS: [(&str, &str, [u64; 5]); 6] = [
 
 /// The steps of each kind, and none of copying or handling.
 #[test]
-fn steps(rt: HostRuntime) -> Result<(), Fail> {
+fn steps(rt: HostRuntime) {
     for (case, bits, [shifted, assembled, by_bits, by_octets, stored]) in STEPS {
-        let bits = bits_of(rt.alloc(), bits)?;
-        let slow = hear::<BitCheck>(rt.alloc(), &bits, 3, 0, false)?;
-        let fast = hear::<OctetCheck>(rt.alloc(), &bits, 3, 0, true)?;
+        let bits = bits_of(rt.alloc(), bits).expect(&rt, "memory");
+        let slow = hear::<BitCheck>(&rt, rt.alloc(), &bits, 3, 0, false);
+        let fast = hear::<OctetCheck>(&rt, rt.alloc(), &bits, 3, 0, true);
         for (spent, folded) in [(slow.spent, by_bits), (fast.spent, by_octets)] {
             let want = Spent {
                 shifted,
@@ -209,22 +208,20 @@ fn steps(rt: HostRuntime) -> Result<(), Fail> {
             assert_eq!(rt; spent, want, "{case}");
         }
     }
-    Ok(())
 }
 
 /// Heard only from a later bit on, inside the first flag or the first frame, the line gives the
 /// frames from the next flag on, at the places that they have in the whole.
 #[test]
-fn heard_from_later_on(rt: HostRuntime) -> Result<(), Fail> {
+fn heard_from_later_on(rt: HostRuntime) {
     let text = "01111110 00001000 11000001 00000000 101111101 10100111
         01111110 00001000 11000001 00000001 10101111 100000110
         01111110 111110111 110000001 10010000 01011010 11011100 01111110";
-    let bits = bits_of(rt.alloc(), text)?;
+    let bits = bits_of(rt.alloc(), text).expect(&rt, "memory");
     for missing in 1..=49usize {
         let heard_bits = bits.get(missing..).unwrap_or_default();
-        let heard = heard_alike(&rt, rt.alloc(), heard_bits, 3, missing as u64)?;
+        let heard = heard_alike(&rt, rt.alloc(), heard_bits, 3, missing as u64);
         let want = "57 98 frame 108380f561, 106 148 frame ff83095a3b";
         assert_eq!(rt; heard.reports.as_str(), want, "without {missing} bits");
     }
-    Ok(())
 }

@@ -5,7 +5,6 @@ use bus_fcs::{BitCheck, Check, OctetCheck};
 use bus_line::LineDecoder;
 use std::alloc::Global;
 use std::process::Abort;
-use std::test::Fail;
 
 /// Each list of bits, and whether the bit behind it is passed.
 const BEHIND: [(&str, bool); 16] = [
@@ -44,12 +43,12 @@ const OCTETS: [(&str, u8, bool); 13] = [
     ("01111110 00001000 011111 0", 0xbe, true),
 ];
 
-fn passes_behind<C: Check>(rt: &impl Abort, alloc: Global) -> Result<(), Fail> {
+fn passes_behind<C: Check>(rt: &impl Abort, alloc: Global) {
     for (text, want) in BEHIND {
         for bit in [false, true] {
-            let mut decoder = LineDecoder::<C>::new(3, 0)?;
-            for before in &bits_of(alloc, text)? {
-                decoder.push(*before)?;
+            let mut decoder = LineDecoder::<C>::new(3, 0).expect(rt, "a decoder");
+            for before in &bits_of(alloc, text).expect(rt, "memory") {
+                decoder.push(*before).expect(rt, "a place");
             }
             let count = decoder.place();
             let steps = decoder.spent();
@@ -64,22 +63,21 @@ fn passes_behind<C: Check>(rt: &impl Abort, alloc: Global) -> Result<(), Fail> {
             }
         }
     }
-    Ok(())
 }
 
 /// Behind six ones and behind fourteen nothing is passed, and behind any other list either bit is.
 #[test]
-fn behind_six_or_fourteen_ones(rt: HostRuntime) -> Result<(), Fail> {
-    passes_behind::<BitCheck>(&rt, rt.alloc())?;
-    passes_behind::<OctetCheck>(&rt, rt.alloc())
+fn behind_six_or_fourteen_ones(rt: HostRuntime) {
+    passes_behind::<BitCheck>(&rt, rt.alloc());
+    passes_behind::<OctetCheck>(&rt, rt.alloc());
 }
 
 /// No bit is passed at the place 2^60.
 #[test]
-fn at_the_place_limit(rt: HostRuntime) -> Result<(), Fail> {
+fn at_the_place_limit(rt: HostRuntime) {
     let far = 1 << 60;
     for room in 0..4u64 {
-        let mut decoder = LineDecoder::<OctetCheck>::new(3, far - room)?;
+        let mut decoder = LineDecoder::<OctetCheck>::new(3, far - room).expect(&rt, "a decoder");
         for _ in 0..room {
             assert!(&rt; decoder.pass(true), "room {room}");
         }
@@ -88,20 +86,22 @@ fn at_the_place_limit(rt: HostRuntime) -> Result<(), Fail> {
             assert_eq!(&rt; decoder.place(), far, "room {room}");
         }
     }
-    Ok(())
 }
 
 /// An octet is passed exactly where none of its bits stands behind six ones or more, and all have a
 /// place.
 #[test]
-fn octets_at_once(rt: HostRuntime) -> Result<(), Fail> {
+fn octets_at_once(rt: HostRuntime) {
     for (text, octet, want) in OCTETS {
-        let bits = bits_of(rt.alloc(), text)?;
+        let bits = bits_of(rt.alloc(), text).expect(&rt, "memory");
         for room in [7, 8] {
             let end = bits.len() as u64 + room;
-            let mut decoder = LineDecoder::<OctetCheck>::new(3, (1u64 << 60).saturating_sub(end))?;
+            let mut decoder = LineDecoder::<OctetCheck>::new(
+                3,
+                (1u64 << 60).saturating_sub(end),
+            ).expect(&rt, "a decoder");
             for before in &bits {
-                decoder.push(*before)?;
+                decoder.push(*before).expect(&rt, "a place");
             }
             let count = decoder.place();
             let want = want && room == 8;
@@ -113,5 +113,4 @@ fn octets_at_once(rt: HostRuntime) -> Result<(), Fail> {
             );
         }
     }
-    Ok(())
 }

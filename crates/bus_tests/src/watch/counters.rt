@@ -8,7 +8,6 @@ use bus_line::Span;
 use bus_watch::{Analyser, Counts};
 use std::alloc::Global;
 use std::process::Abort;
-use std::test::Fail;
 
 /// No steps.
 pub(super) const NONE: Spent = Spent {
@@ -86,21 +85,24 @@ const ROWS: [Row; 5] = [
     },
 ];
 
-fn counted<C: Check>(alloc: Global, words: &str) -> Result<Spent, Fail> {
-    let dictionary = Dictionary::read(alloc, CALLS)?;
-    let mut analyser = Analyser::<C>::new(alloc, dictionary, 2, 0)?;
-    for bit in bits_of(alloc, words)? {
-        let _ = analyser.push(bit)?;
+fn counted<C: Check>(rt: &impl Abort, alloc: Global, words: &str) -> Spent {
+    let dictionary = Dictionary::read(alloc, CALLS).expect(rt, "a dictionary");
+    let mut analyser = Analyser::<C>::new(alloc, dictionary, 2, 0).expect(rt, "an analyser");
+    for bit in bits_of(alloc, words).expect(rt, "memory") {
+        let _ = analyser.push(bit).expect(rt, "a place");
     }
-    Ok(analyser.spent())
+    analyser.spent()
 }
 
 /// The counters of worked lists, by both checks, and the sums of a call and its reply.
 #[test]
-fn steps(rt: HostRuntime) -> Result<(), Fail> {
+fn steps(rt: HostRuntime) {
     for row in &ROWS {
-        assert_eq!(rt; counted::<BitCheck>(rt.alloc(), row.bits)?, row.by_bits);
-        assert_eq!(rt; counted::<OctetCheck>(rt.alloc(), row.bits)?, row.by_octets);
+        assert_eq!(rt; counted::<BitCheck>(&rt, rt.alloc(), row.bits), row.by_bits);
+        assert_eq!(rt;
+            counted::<OctetCheck>(&rt, rt.alloc(), row.bits),
+            row.by_octets
+        );
     }
     let totals: [(&str, u128, u128); 3] = [
         ("flag call flag reply flag", 298, 228),
@@ -108,13 +110,15 @@ fn steps(rt: HostRuntime) -> Result<(), Fail> {
         ("flag 00001000 1111111 11111111", 44, 44),
     ];
     for (words, by_bits, by_octets) in totals {
-        assert_eq!(rt; counted::<BitCheck>(rt.alloc(), words)?.total(), by_bits);
         assert_eq!(rt;
-            counted::<OctetCheck>(rt.alloc(), words)?.total(),
+            counted::<BitCheck>(&rt, rt.alloc(), words).total(),
+            by_bits
+        );
+        assert_eq!(rt;
+            counted::<OctetCheck>(&rt, rt.alloc(), words).total(),
             by_octets
         );
     }
-    Ok(())
 }
 
 /// The steps of a command 1025 times.
@@ -136,17 +140,20 @@ const LAST_CALL: Span = Span {
 /// A command 1025 times, each but the last missed by its answer: the deepest history, which has 1024
 /// frames, drops the first.
 #[test]
-fn long_run(rt: HostRuntime) -> Result<(), Fail> {
+fn long_run(rt: HostRuntime) {
     let alloc = rt.alloc();
-    let dictionary = Dictionary::read(alloc, CALLS)?;
-    let mut analyser = Analyser::<OctetCheck>::new(alloc, dictionary, 1024, 0)?;
-    for bit in &bits_of(alloc, "flag")? {
-        let _ = analyser.push(*bit)?;
+    let dictionary = Dictionary::read(alloc, CALLS).expect(&rt, "a dictionary");
+    let mut analyser = Analyser::<OctetCheck>::new(alloc, dictionary, 1024, 0).expect(
+        &rt,
+        "an analyser",
+    );
+    for bit in &bits_of(alloc, "flag").expect(&rt, "memory") {
+        let _ = analyser.push(*bit).expect(&rt, "a place");
     }
-    let again = bits_of(alloc, "call flag")?;
+    let again = bits_of(alloc, "call flag").expect(&rt, "memory");
     for _ in 0..1025u64 {
         for bit in &again {
-            let _ = analyser.push(*bit)?;
+            let _ = analyser.push(*bit).expect(&rt, "a place");
         }
     }
     assert_eq!(rt; analyser.history_len(), 1024);
@@ -171,5 +178,4 @@ fn long_run(rt: HostRuntime) -> Result<(), Fail> {
     assert_eq!(rt; pending, Some(LAST_CALL));
     assert_eq!(rt; analyser.spent(), OF_MANY_CALLS);
     assert_eq!(rt; analyser.spent().total(), 112758);
-    Ok(())
 }

@@ -6,7 +6,6 @@ use bus_line::Span;
 use bus_watch::{Analyser, NewFault, ReportSink, Seen, SinkRefused};
 use std::alloc::Global;
 use std::process::Abort;
-use std::test::Fail;
 
 /// A flag, eight zeros and a flag: a damaged piece.
 const DAMAGED: [bool; 24] = [
@@ -39,26 +38,27 @@ impl ReportSink for Counter {
 }
 
 /// Each call that takes bits.
-fn take_bits<C: Check>(rt: &impl Abort, analyser: &mut Analyser<C>) -> Result<(), Fail> {
+fn take_bits<C: Check>(rt: &impl Abort, analyser: &mut Analyser<C>) {
     let mut sink = Counter {
         count: 0,
         refusals: 0,
     };
     for bit in DAMAGED {
-        let _ = analyser.push(bit)?;
+        let _ = analyser.push(bit).expect(rt, "a place");
     }
-    analyser.feed(&DAMAGED, &mut sink)?;
+    analyser.feed(&DAMAGED, &mut sink).expect(rt, "room");
     if sink.refused() == 0 {
-        analyser.feed_all(&[&DAMAGED, &[], &DAMAGED], &mut sink)?;
+        analyser
+            .feed_all(&[&DAMAGED, &[], &DAMAGED], &mut sink)
+            .expect(rt, "memory");
     }
     assert_eq!(rt; sink.count, 3);
     assert!(rt; analyser.pass(false));
     assert!(rt; analyser.pass_octet(0));
-    Ok(())
 }
 
 /// Each call that asks what stands after them.
-fn ask<C: Check>(rt: &impl Abort, analyser: &Analyser<C>) -> Result<(), Fail> {
+fn ask<C: Check>(rt: &impl Abort, analyser: &Analyser<C>) {
     assert_eq!(rt; analyser.history_len(), 0);
     assert!(rt; analyser.history(0).is_none());
     assert_eq!(rt; analyser.tally(16).spoilt, 0);
@@ -70,23 +70,22 @@ fn ask<C: Check>(rt: &impl Abort, analyser: &Analyser<C>) -> Result<(), Fail> {
     assert_eq!(rt; analyser.dictionary().longest(), 256);
     assert_eq!(rt; analyser.usage().spent, analyser.spent());
     assert_eq!(rt; analyser.usage().buffered, analyser.buffered());
-    Ok(())
 }
 
-fn check_memory<C: Check>(rt: &impl Abort, alloc: Global) -> Result<(), Fail> {
+fn check_memory<C: Check>(rt: &impl Abort, alloc: Global) {
     match Analyser::<C>::new(alloc, Dictionary::empty(alloc), 1024, 0) {
         Ok(mut analyser) => {
-            take_bits(rt, &mut analyser)?;
-            ask(rt, &analyser)
+            take_bits(rt, &mut analyser);
+            ask(rt, &analyser);
         }
-        Err(NewFault::Memory) => Ok(()),
-        Err(_) => Err(Fail::from("refused")),
+        Err(NewFault::Memory) => {}
+        Err(_) => panic!(rt; "no analyser"),
     }
 }
 
 /// An empty dictionary takes no memory, and no call after `new` asks for any.
 #[test]
-fn one_request(rt: HostRuntime) -> Result<(), Fail> {
-    check_memory::<BitCheck>(&rt, rt.alloc())?;
-    check_memory::<OctetCheck>(&rt, rt.alloc())
+fn one_request(rt: HostRuntime) {
+    check_memory::<BitCheck>(&rt, rt.alloc());
+    check_memory::<OctetCheck>(&rt, rt.alloc());
 }

@@ -1,6 +1,6 @@
 //! Worked lists: what is seen, the end and the tally, however the bits are cut.
 
-use super::sinks::{Collector, feed};
+use super::sinks::{Collector, run};
 use super::table::{Row, passed, pushed, row_of};
 use super::text::push_ending;
 use super::{CALLS, bits_of};
@@ -10,7 +10,6 @@ use bus_line::Span;
 use bus_watch::{Analyser, Counts};
 use std::alloc::Global;
 use std::process::Abort;
-use std::test::Fail;
 
 /// Frames, and how they stand to the dictionary.
 const FRAMES: &str = "\
@@ -73,84 +72,62 @@ const DAMAGE: &str = "\
     calls: flag 00001 => begun 8 13";
 
 /// The bits pushed one by one, and those that `pass` takes not pushed: both count the same steps.
-fn check_bits<C: Check>(rt: &impl Abort, alloc: Global, row: &Row) -> Result<(), Fail> {
-    let mut analyser = row.analyser::<C>(alloc)?;
-    let text = pushed(&mut analyser, alloc, &row.bits)?;
+fn check_bits<C: Check>(rt: &impl Abort, alloc: Global, row: &Row) {
+    let mut analyser = row.analyser::<C>(rt, alloc);
+    let text = pushed(rt, alloc, &mut analyser, &row.bits);
     assert_eq!(rt; text.as_str(), row.want);
-    let mut passing = row.analyser::<C>(alloc)?;
-    let text = passed(&mut passing, alloc, &row.bits)?;
+    let mut passing = row.analyser::<C>(rt, alloc);
+    let text = passed(rt, alloc, &mut passing, &row.bits);
     assert_eq!(rt; text.as_str(), row.want);
     assert_eq!(rt; passing.usage(), analyser.usage());
-    Ok(())
 }
 
-fn check_bits_of_each(rt: &impl Abort, alloc: Global, table: &str) -> Result<(), Fail> {
+fn check_bits_of_each(rt: &impl Abort, alloc: Global, table: &str) {
     for line in table.lines() {
-        let row = row_of(alloc, line)?;
-        check_bits::<BitCheck>(rt, alloc, &row)?;
-        check_bits::<OctetCheck>(rt, alloc, &row)?;
+        let row = row_of(rt, alloc, line);
+        check_bits::<BitCheck>(rt, alloc, &row);
+        check_bits::<OctetCheck>(rt, alloc, &row);
     }
-    Ok(())
 }
 
 #[test]
-fn frames(rt: HostRuntime) -> Result<(), Fail> {
-    check_bits_of_each(&rt, rt.alloc(), FRAMES)
+fn frames(rt: HostRuntime) {
+    check_bits_of_each(&rt, rt.alloc(), FRAMES);
 }
 
 #[test]
-fn damage(rt: HostRuntime) -> Result<(), Fail> {
-    check_bits_of_each(&rt, rt.alloc(), DAMAGE)
+fn damage(rt: HostRuntime) {
+    check_bits_of_each(&rt, rt.alloc(), DAMAGE);
 }
 
-/// The bits fed in two pieces.
-fn check_cut<C: Check>(rt: &impl Abort, alloc: Global, row: &Row, cut: usize) -> Result<(), Fail> {
-    let Some((front, rest)) = row.bits.split_at_checked(cut) else {
-        return Err(Fail::from("no such cut"));
-    };
-    let mut analyser = row.analyser::<C>(alloc)?;
+/// The bits as a run of two pieces.
+fn check_cut<C: Check>(rt: &impl Abort, alloc: Global, row: &Row, cut: usize) {
+    let (front, rest) = row.bits.split_at_checked(cut).expect(rt, "a cut");
+    let dictionary = row.dictionary(rt, alloc);
     let mut sink = Collector::new(alloc, 0);
-    feed(&mut analyser, front, &mut sink)??;
-    feed(&mut analyser, rest, &mut sink)??;
-    push_ending(&mut sink.text, analyser.ending())?;
+    let run = run::<C>(rt, alloc, dictionary, &[front, rest], &mut sink).expect(rt, "a run");
+    push_ending(&mut sink.text, run.analyser.ending()).expect(rt, "text");
     assert_eq!(rt; sink.text.as_str(), row.want, "{cut}");
-    Ok(())
 }
 
-/// The bits fed one by one, with empty pieces between.
-fn check_singly<C: Check>(rt: &impl Abort, alloc: Global, row: &Row) -> Result<(), Fail> {
-    let mut analyser = row.analyser::<C>(alloc)?;
-    let mut sink = Collector::new(alloc, 0);
-    for bit in &row.bits {
-        feed(&mut analyser, &[], &mut sink)??;
-        feed(&mut analyser, &[*bit], &mut sink)??;
-    }
-    push_ending(&mut sink.text, analyser.ending())?;
-    assert_eq!(rt; sink.text.as_str(), row.want);
-    Ok(())
-}
-
-fn check_cuts(rt: &impl Abort, alloc: Global, line: &str) -> Result<(), Fail> {
-    let row = row_of(alloc, line)?;
+fn check_cuts(rt: &impl Abort, alloc: Global, line: &str) {
+    let row = row_of(rt, alloc, line);
     for cut in 0..=row.bits.len() {
-        check_cut::<BitCheck>(rt, alloc, &row, cut)?;
-        check_cut::<OctetCheck>(rt, alloc, &row, cut)?;
+        check_cut::<BitCheck>(rt, alloc, &row, cut);
+        check_cut::<OctetCheck>(rt, alloc, &row, cut);
     }
-    check_singly::<BitCheck>(rt, alloc, &row)?;
-    check_singly::<OctetCheck>(rt, alloc, &row)
 }
 
 /// Every list, cut at every place.
 #[test]
-fn any_cut(rt: HostRuntime) -> Result<(), Fail> {
+fn any_cut(rt: HostRuntime) {
     let alloc = rt.alloc();
     for line in FRAMES.lines() {
-        check_cuts(&rt, alloc, line)?;
+        check_cuts(&rt, alloc, line);
     }
     for line in DAMAGE.lines() {
-        check_cuts(&rt, alloc, line)?;
+        check_cuts(&rt, alloc, line);
     }
-    Ok(())
 }
 
 const NONE: Counts = Counts {
@@ -160,42 +137,37 @@ const NONE: Counts = Counts {
     late: 0,
 };
 
-fn check_tally<C: Check>(
-    rt: &impl Abort,
-    alloc: Global,
-    words: &str,
-    want: Counts,
-) -> Result<(), Fail> {
-    let dictionary = Dictionary::read(alloc, CALLS)?;
-    let mut analyser = Analyser::<C>::new(alloc, dictionary, 2, 0)?;
-    pushed(&mut analyser, alloc, &bits_of(alloc, words)?)?;
+fn check_tally<C: Check>(rt: &impl Abort, alloc: Global, words: &str, want: Counts) {
+    let dictionary = Dictionary::read(alloc, CALLS).expect(rt, "a dictionary");
+    let mut analyser = Analyser::<C>::new(alloc, dictionary, 2, 0).expect(rt, "an analyser");
+    let bits = bits_of(alloc, words).expect(rt, "bits");
+    pushed(rt, alloc, &mut analyser, &bits);
     assert_eq!(rt; analyser.tally(16), want, "{words}");
     assert_eq!(rt; analyser.tally(17), NONE, "{words}");
-    Ok(())
 }
 
-fn check_tallies<C: Check>(rt: &impl Abort, alloc: Global) -> Result<(), Fail> {
+fn check_tallies<C: Check>(rt: &impl Abort, alloc: Global) {
     let answered = Counts {
         answered: 1,
         ..NONE
     };
-    check_tally::<C>(rt, alloc, "flag call flag idle flag reply flag", answered)?;
+    check_tally::<C>(rt, alloc, "flag call flag idle flag reply flag", answered);
     let spoilt = Counts { spoilt: 1, ..NONE };
-    check_tally::<C>(rt, alloc, "flag call flag short flag reply flag", spoilt)?;
+    check_tally::<C>(rt, alloc, "flag call flag short flag reply flag", spoilt);
     let missing = Counts { missing: 1, ..NONE };
     check_tally::<C>(
         rt,
         alloc,
         "flag call flag control-19 flag reply flag",
         missing,
-    )
+    );
 }
 
 /// An answer after an idle, after damage, and after another frame: only an idle may stand between.
 #[test]
-fn tallies(rt: HostRuntime) -> Result<(), Fail> {
-    check_tallies::<BitCheck>(&rt, rt.alloc())?;
-    check_tallies::<OctetCheck>(&rt, rt.alloc())
+fn tallies(rt: HostRuntime) {
+    check_tallies::<BitCheck>(&rt, rt.alloc());
+    check_tallies::<OctetCheck>(&rt, rt.alloc());
 }
 
 fn check_kept<C: Check>(
@@ -204,13 +176,10 @@ fn check_kept<C: Check>(
     index: usize,
     span: Span,
     octets: &[u8],
-) -> Result<(), Fail> {
-    let Some(kept) = analyser.history(index) else {
-        return Err(Fail::from("no frame"));
-    };
+) {
+    let kept = analyser.history(index).expect(rt, "a frame");
     assert_eq!(rt; kept.span, span);
     assert_eq!(rt; kept.octets.as_slice(), octets);
-    Ok(())
 }
 
 const REPLY_SPAN: Span = Span {
@@ -223,11 +192,11 @@ const NOTICE_SPAN: Span = Span {
     past: 248,
 };
 
-fn check_history<C: Check>(rt: &impl Abort, alloc: Global) -> Result<(), Fail> {
-    let dictionary = Dictionary::read(alloc, CALLS)?;
-    let mut analyser = Analyser::<C>::new(alloc, dictionary, 2, 100)?;
-    let bits = bits_of(alloc, "flag call flag reply flag notice flag")?;
-    pushed(&mut analyser, alloc, &bits)?;
+fn check_history<C: Check>(rt: &impl Abort, alloc: Global) {
+    let dictionary = Dictionary::read(alloc, CALLS).expect(rt, "a dictionary");
+    let mut analyser = Analyser::<C>::new(alloc, dictionary, 2, 100).expect(rt, "an analyser");
+    let bits = bits_of(alloc, "flag call flag reply flag notice flag").expect(rt, "bits");
+    pushed(rt, alloc, &mut analyser, &bits);
     assert_eq!(rt; analyser.history_len(), 2);
     check_kept(
         rt,
@@ -235,22 +204,21 @@ fn check_history<C: Check>(rt: &impl Abort, alloc: Global) -> Result<(), Fail> {
         0,
         REPLY_SPAN,
         &[0x10, 0x83, 0x80, 0xf5, 0x61],
-    )?;
+    );
     check_kept(
         rt,
         &analyser,
         1,
         NOTICE_SPAN,
         &[0xff, 0x83, 0x09, 0x5a, 0x3b],
-    )?;
+    );
     assert!(rt; analyser.history(2).is_none());
     assert_eq!(rt; analyser.dictionary().longest(), 3);
-    Ok(())
 }
 
 /// The last two of three frames, from place 100 on.
 #[test]
-fn history(rt: HostRuntime) -> Result<(), Fail> {
-    check_history::<BitCheck>(&rt, rt.alloc())?;
-    check_history::<OctetCheck>(&rt, rt.alloc())
+fn history(rt: HostRuntime) {
+    check_history::<BitCheck>(&rt, rt.alloc());
+    check_history::<OctetCheck>(&rt, rt.alloc());
 }

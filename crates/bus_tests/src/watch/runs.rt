@@ -11,29 +11,19 @@ use bus_watch::{
 };
 use std::alloc::Global;
 use std::process::Abort;
-use std::test::Fail;
 
 /// Three frames, each between flags: 156 bits.
 const THREE: &str = "flag call flag reply flag notice flag";
 
-fn check_frame(
-    rt: &impl Abort,
-    log: &ReportLog,
-    index: usize,
-    span: Span,
-    octets: &[u8],
-) -> Result<(), Fail> {
-    let Some(report) = log.reports().get(index) else {
-        return Err(Fail::from("no report"));
-    };
+fn check_frame(rt: &impl Abort, log: &ReportLog, index: usize, span: Span, octets: &[u8]) {
+    let report = log.reports().get(index).expect(rt, "no report");
     let LoggedPiece::Frame(frame) = &report.piece else {
-        return Err(Fail::from("no frame"));
+        panic!(rt; "no frame");
     };
     assert_eq!(rt; frame.span, span);
     assert_eq!(rt; frame.octets.as_slice(), octets);
     assert!(rt; !report.stray);
     assert_eq!(rt; report.verdict.is_some(), index == 1);
-    Ok(())
 }
 
 /// The place `bits` behind `origin`.
@@ -45,58 +35,57 @@ fn behind(origin: u64, first: u64, past: u64) -> Span {
 }
 
 /// The three frames of a log, the first bit of whose list has the place `origin`.
-fn check_log(rt: &impl Abort, log: &ReportLog, origin: u64) -> Result<(), Fail> {
+fn check_log(rt: &impl Abort, log: &ReportLog, origin: u64) {
     assert_eq!(rt; log.reports().len(), 3);
     let call = behind(origin, 8, 49);
-    check_frame(rt, log, 0, call, &[0x10, 0x83, 0x00, 0xfd, 0xe5])?;
+    check_frame(rt, log, 0, call, &[0x10, 0x83, 0x00, 0xfd, 0xe5]);
     let reply = behind(origin, 57, 98);
-    check_frame(rt, log, 1, reply, &[0x10, 0x83, 0x80, 0xf5, 0x61])?;
+    check_frame(rt, log, 1, reply, &[0x10, 0x83, 0x80, 0xf5, 0x61]);
     let notice = behind(origin, 106, 148);
-    check_frame(rt, log, 2, notice, &[0xff, 0x83, 0x09, 0x5a, 0x3b])
+    check_frame(rt, log, 2, notice, &[0xff, 0x83, 0x09, 0x5a, 0x3b]);
 }
 
-fn check_listed(rt: &impl Abort, alloc: Global, origin: u64, room: usize) -> Result<(), Fail> {
-    let bits = bits_of(alloc, THREE)?;
-    let log = reports_of(alloc, Dictionary::read(alloc, CALLS)?, origin, &bits, room)?;
-    check_log(rt, &log, origin)?;
+fn check_listed(rt: &impl Abort, alloc: Global, origin: u64, room: usize) {
+    let bits = bits_of(alloc, THREE).expect(rt, "memory");
+    let log = reports_of(
+        alloc,
+        Dictionary::read(alloc, CALLS).expect(rt, "a dictionary"),
+        origin,
+        &bits,
+        room,
+    )
+    .expect(rt, "reports");
+    check_log(rt, &log, origin);
     assert_eq!(rt; log.room(), room);
     assert_eq!(rt; log.refused(), 0);
-    Ok(())
 }
 
 /// All reports of a list, in a log with just the room for them, with more, and at the last place.
 #[test]
-fn listed(rt: HostRuntime) -> Result<(), Fail> {
-    check_listed(&rt, rt.alloc(), 0, 3)?;
-    check_listed(&rt, rt.alloc(), 0, 4)?;
-    check_listed(&rt, rt.alloc(), FAR - 156, 3)
+fn listed(rt: HostRuntime) {
+    check_listed(&rt, rt.alloc(), 0, 3);
+    check_listed(&rt, rt.alloc(), 0, 4);
+    check_listed(&rt, rt.alloc(), FAR - 156, 3);
 }
 
-fn check_unlisted(
-    rt: &impl Abort,
-    alloc: Global,
-    origin: u64,
-    room: usize,
-    want: RunFault,
-) -> Result<(), Fail> {
-    let bits = bits_of(alloc, THREE)?;
-    let dictionary = Dictionary::read(alloc, CALLS)?;
+fn check_unlisted(rt: &impl Abort, alloc: Global, origin: u64, room: usize, want: RunFault) {
+    let bits = bits_of(alloc, THREE).expect(rt, "memory");
+    let dictionary = Dictionary::read(alloc, CALLS).expect(rt, "a dictionary");
     let fault = reports_of(alloc, dictionary, origin, &bits, room).err();
     assert_eq!(rt; fault, Some(want), "{room} from {origin}");
-    Ok(())
 }
 
 /// Each reason why the reports of a list are not given.
 #[test]
-fn unlisted(rt: HostRuntime) -> Result<(), Fail> {
+fn unlisted(rt: HostRuntime) {
     let alloc = rt.alloc();
     let full = RunFault::Feed(FeedFault::Sink { consumed: 156 });
-    check_unlisted(&rt, alloc, 0, 2, full)?;
+    check_unlisted(&rt, alloc, 0, 2, full);
     let none = RunFault::Feed(FeedFault::Sink { consumed: 57 });
-    check_unlisted(&rt, alloc, 0, 0, none)?;
+    check_unlisted(&rt, alloc, 0, 0, none);
     let far = RunFault::Feed(FeedFault::PlaceLimit);
-    check_unlisted(&rt, alloc, FAR - 155, 0, far)?;
-    check_unlisted(&rt, alloc, FAR + 1, 0, RunFault::New(NewFault::Origin))
+    check_unlisted(&rt, alloc, FAR - 155, 0, far);
+    check_unlisted(&rt, alloc, FAR + 1, 0, RunFault::New(NewFault::Origin));
 }
 
 /// The usage after the three frames, with a history of two.
@@ -115,38 +104,36 @@ fn usage_of(folded: u64) -> Usage {
     }
 }
 
-fn check_run<C: Check>(rt: &impl Abort, alloc: Global, folded: u64) -> Result<(), Fail> {
-    let bits = bits_of(alloc, THREE)?;
-    let Some((front, rest)) = bits.split_at_checked(68) else {
-        return Err(Fail::from("too few bits"));
-    };
-    let mut log = ReportLog::new(alloc, 3)?;
-    let dictionary = Dictionary::read(alloc, CALLS)?;
-    let run = run_all::<C, ReportLog>(alloc, dictionary, 2, 0, &[front, &[], rest], &mut log)?;
-    check_log(rt, &log, 0)?;
+fn check_run<C: Check>(rt: &impl Abort, alloc: Global, folded: u64) {
+    let bits = bits_of(alloc, THREE).expect(rt, "memory");
+    let (front, rest) = bits.split_at_checked(68).expect(rt, "too few bits");
+    let mut log = ReportLog::new(alloc, 3).expect(rt, "an analyser");
+    let dictionary = Dictionary::read(alloc, CALLS).expect(rt, "a dictionary");
+    let run = run_all::<C, ReportLog>(
+        alloc,
+        dictionary,
+        2,
+        0,
+        &[front, &[], rest],
+        &mut log,
+    ).expect(rt, "a run");
+    check_log(rt, &log, 0);
     assert_eq!(rt; run.usage, usage_of(folded));
     assert_eq!(rt; run.analyser.usage(), run.usage);
-    Ok(())
 }
 
 /// The same bits in three pieces, one of them empty.
 #[test]
-fn whole_runs(rt: HostRuntime) -> Result<(), Fail> {
-    check_run::<BitCheck>(&rt, rt.alloc(), 120)?;
-    check_run::<OctetCheck>(&rt, rt.alloc(), 15)
+fn whole_runs(rt: HostRuntime) {
+    check_run::<BitCheck>(&rt, rt.alloc(), 120);
+    check_run::<OctetCheck>(&rt, rt.alloc(), 15);
 }
 
 /// A run into a log with room for one report.
-fn check_fault(
-    rt: &impl Abort,
-    alloc: Global,
-    depth: usize,
-    origin: u64,
-    want: RunFault,
-) -> Result<(), Fail> {
-    let bits = bits_of(alloc, THREE)?;
-    let mut log = ReportLog::new(alloc, 1)?;
-    let dictionary = Dictionary::read(alloc, CALLS)?;
+fn check_fault(rt: &impl Abort, alloc: Global, depth: usize, origin: u64, want: RunFault) {
+    let bits = bits_of(alloc, THREE).expect(rt, "memory");
+    let mut log = ReportLog::new(alloc, 1).expect(rt, "an analyser");
+    let dictionary = Dictionary::read(alloc, CALLS).expect(rt, "a dictionary");
     let run = run_all::<OctetCheck, ReportLog>(
         alloc,
         dictionary,
@@ -156,19 +143,18 @@ fn check_fault(
         &mut log,
     );
     assert_eq!(rt; run.err(), Some(want), "{depth} from {origin}");
-    Ok(())
 }
 
 /// Each reason why a run ends early.
 #[test]
-fn run_faults(rt: HostRuntime) -> Result<(), Fail> {
+fn run_faults(rt: HostRuntime) {
     let alloc = rt.alloc();
     let depth = RunFault::New(NewFault::DepthRange);
-    check_fault(&rt, alloc, 0, 0, depth)?;
-    check_fault(&rt, alloc, 1025, FAR + 1, depth)?;
-    check_fault(&rt, alloc, 1, FAR + 1, RunFault::New(NewFault::Origin))?;
+    check_fault(&rt, alloc, 0, 0, depth);
+    check_fault(&rt, alloc, 1025, FAR + 1, depth);
+    check_fault(&rt, alloc, 1, FAR + 1, RunFault::New(NewFault::Origin));
     let far = RunFault::Feed(FeedFault::PlaceLimit);
-    check_fault(&rt, alloc, 1, FAR - 155, far)?;
+    check_fault(&rt, alloc, 1, FAR - 155, far);
     let full = RunFault::Feed(FeedFault::Sink { consumed: 106 });
-    check_fault(&rt, alloc, 1024, 0, full)
+    check_fault(&rt, alloc, 1024, 0, full);
 }

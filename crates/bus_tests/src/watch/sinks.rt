@@ -9,7 +9,6 @@ use bus_watch::{
 };
 use std::alloc::Global;
 use std::process::Abort;
-use std::test::Fail;
 
 /// Collects the texts of what it takes, and refuses report number `refuses`, counted from 1.
 #[derive(Drop)]
@@ -60,27 +59,25 @@ impl ReportSink for Collector {
 
 /// Feeds bits to a sink whose count of refusals has room for one more.
 pub(super) fn feed<C: Check>(
+    rt: &impl Abort,
     analyser: &mut Analyser<C>,
     bits: &[bool],
     sink: &mut Collector,
-) -> Result<Result<(), FeedFault>, Fail> {
-    if sink.refused() == u64::MAX {
-        return Err(Fail::from("no room"));
-    }
-    Ok(analyser.feed(bits, sink))
+) -> Result<(), FeedFault> {
+    assert!(rt; sink.refused() < u64::MAX);
+    analyser.feed(bits, sink)
 }
 
 /// A whole run from place 0 with such a sink, and a history of sixteen frames.
 pub(super) fn run<C: Check>(
+    rt: &impl Abort,
     alloc: Global,
     dictionary: Dictionary,
     pieces: &[&[bool]],
     sink: &mut Collector,
-) -> Result<Result<Run<C>, RunFault>, Fail> {
-    if sink.refused() == u64::MAX {
-        return Err(Fail::from("no room"));
-    }
-    Ok(run_all(alloc, dictionary, 16, 0, pieces, sink))
+) -> Result<Run<C>, RunFault> {
+    assert!(rt; sink.refused() < u64::MAX);
+    run_all(alloc, dictionary, 16, 0, pieces, sink)
 }
 
 const TOLD_CALL: &str = "8 49 frame 108300fde5 station 16 type 0";
@@ -129,31 +126,26 @@ const REFUSALS: [Refusal; 3] = [
     },
 ];
 
-fn joined(alloc: Global, texts: &[&str]) -> Result<String, Fail> {
+fn joined(rt: &impl Abort, alloc: Global, texts: &[&str]) -> String {
     let mut all = String::new(alloc);
     for text in texts {
         if !all.is_empty() {
-            all.push_str("; ")?;
+            all.push_str("; ").expect(rt, "memory");
         }
-        all.push_str(text)?;
+        all.push_str(text).expect(rt, "memory");
     }
-    Ok(all)
+    all
 }
 
-fn check_refusal<C: Check>(
-    rt: &impl Abort,
-    alloc: Global,
-    bits: &[bool],
-    row: &Refusal,
-) -> Result<(), Fail> {
+fn check_refusal<C: Check>(rt: &impl Abort, alloc: Global, bits: &[bool], row: &Refusal) {
     let (refuses, consumed) = (row.refuses, row.consumed);
-    let dictionary = Dictionary::read(alloc, CALLS)?;
-    let mut analyser = Analyser::<C>::new(alloc, dictionary, 2, 0)?;
+    let dictionary = Dictionary::read(alloc, CALLS).expect(rt, "a dictionary");
+    let mut analyser = Analyser::<C>::new(alloc, dictionary, 2, 0).expect(rt, "an analyser");
     let mut sink = Collector::new(alloc, refuses);
-    let fault = feed(&mut analyser, bits, &mut sink)?.err();
+    let fault = feed(rt, &mut analyser, bits, &mut sink).err();
     assert_eq!(rt; fault, Some(FeedFault::Sink { consumed }), "{refuses}");
     assert_eq!(rt; sink.refused(), 1, "{refuses}");
-    let told = joined(alloc, row.told)?;
+    let told = joined(rt, alloc, row.told);
     assert_eq!(rt; sink.text.as_str(), told.as_str(), "{refuses}");
     let counts = Counts {
         answered: row.answered,
@@ -163,46 +155,36 @@ fn check_refusal<C: Check>(
     };
     assert_eq!(rt; analyser.tally(16), counts, "{refuses}");
     for bit in bits.iter().skip(consumed) {
-        feed(&mut analyser, &[*bit], &mut sink)??;
+        feed(rt, &mut analyser, &[*bit], &mut sink).expect(rt, "room");
     }
-    let all = joined(alloc, row.all)?;
+    let all = joined(rt, alloc, row.all);
     assert_eq!(rt; sink.text.as_str(), all.as_str(), "{refuses}");
     assert!(rt; !sink.lacks);
-    Ok(())
 }
 
 /// The same list as a run of two pieces: the bits that are consumed count from the first piece on.
-fn check_run<C: Check>(
-    rt: &impl Abort,
-    alloc: Global,
-    bits: &[bool],
-    row: &Refusal,
-) -> Result<(), Fail> {
+fn check_run<C: Check>(rt: &impl Abort, alloc: Global, bits: &[bool], row: &Refusal) {
     let (refuses, consumed) = (row.refuses, row.consumed);
-    let Some((front, rest)) = bits.split_at_checked(70) else {
-        return Err(Fail::from("too few bits"));
-    };
-    let dictionary = Dictionary::read(alloc, CALLS)?;
+    let (front, rest) = bits.split_at_checked(70).expect(rt, "too few bits");
+    let dictionary = Dictionary::read(alloc, CALLS).expect(rt, "a dictionary");
     let mut sink = Collector::new(alloc, refuses);
-    let fault = run::<C>(alloc, dictionary, &[front, rest], &mut sink)?.err();
+    let fault = run::<C>(rt, alloc, dictionary, &[front, rest], &mut sink).err();
     let want = RunFault::Feed(FeedFault::Sink { consumed });
     assert_eq!(rt; fault, Some(want), "{refuses}");
-    let told = joined(alloc, row.told)?;
+    let told = joined(rt, alloc, row.told);
     assert_eq!(rt; sink.text.as_str(), told.as_str(), "{refuses}");
-    Ok(())
 }
 
 /// Sinks that refuse one report of three frames, with both checks.
 #[test]
-fn refusing_sinks(rt: HostRuntime) -> Result<(), Fail> {
+fn refusing_sinks(rt: HostRuntime) {
     let alloc = rt.alloc();
-    let bits = bits_of(alloc, "flag call flag reply flag notice flag")?;
+    let bits = bits_of(alloc, "flag call flag reply flag notice flag").expect(&rt, "memory");
     assert_eq!(rt; bits.len(), 156);
     for row in &REFUSALS {
-        check_refusal::<BitCheck>(&rt, alloc, &bits, row)?;
-        check_refusal::<OctetCheck>(&rt, alloc, &bits, row)?;
-        check_run::<BitCheck>(&rt, alloc, &bits, row)?;
-        check_run::<OctetCheck>(&rt, alloc, &bits, row)?;
+        check_refusal::<BitCheck>(&rt, alloc, &bits, row);
+        check_refusal::<OctetCheck>(&rt, alloc, &bits, row);
+        check_run::<BitCheck>(&rt, alloc, &bits, row);
+        check_run::<OctetCheck>(&rt, alloc, &bits, row);
     }
-    Ok(())
 }

@@ -6,7 +6,7 @@ use bus_dictionary::Dictionary;
 use bus_fcs::Check;
 use bus_watch::Analyser;
 use std::alloc::Global;
-use std::test::Fail;
+use std::process::Abort;
 
 /// What a line of a table says.
 #[derive(Drop)]
@@ -18,10 +18,14 @@ pub(super) struct Row<'a> {
 }
 
 impl Row<'_> {
+    /// The dictionary of the row.
+    pub(super) fn dictionary(&self, rt: &impl Abort, alloc: Global) -> Dictionary {
+        Dictionary::read(alloc, self.dictionary).expect(rt, "a dictionary")
+    }
+
     /// A new analyser for the row, with a history of sixteen frames.
-    pub(super) fn analyser<C: Check>(&self, alloc: Global) -> Result<Analyser<C>, Fail> {
-        let dictionary = Dictionary::read(alloc, self.dictionary)?;
-        Ok(Analyser::new(alloc, dictionary, 16, 0)?)
+    pub(super) fn analyser<C: Check>(&self, rt: &impl Abort, alloc: Global) -> Analyser<C> {
+        Analyser::new(alloc, self.dictionary(rt, alloc), 16, 0).expect(rt, "an analyser")
     }
 }
 
@@ -35,51 +39,49 @@ fn dictionary_named(name: &str) -> &'static str {
 }
 
 /// Reads a line such as `calls: flag call flag => 8 49 frame ..`.
-pub(super) fn row_of(alloc: Global, line: &str) -> Result<Row<'_>, Fail> {
-    let Some((list, want)) = line.split_once("=>") else {
-        return Err(Fail::from("nothing to see"));
-    };
-    let Some((name, words)) = list.split_once(':') else {
-        return Err(Fail::from("no dictionary"));
-    };
-    Ok(Row {
+pub(super) fn row_of<'a>(rt: &impl Abort, alloc: Global, line: &'a str) -> Row<'a> {
+    let (list, want) = line.split_once("=>").expect(rt, "what is seen");
+    let (name, words) = list.split_once(':').expect(rt, "a dictionary");
+    Row {
         dictionary: dictionary_named(name),
-        bits: bits_of(alloc, words)?,
+        bits: bits_of(alloc, words).expect(rt, "bits"),
         want: want.trim(),
-    })
+    }
 }
 
 /// What is seen of bits that are pushed one by one, and the ending.
 pub(super) fn pushed<C: Check>(
-    analyser: &mut Analyser<C>,
+    rt: &impl Abort,
     alloc: Global,
+    analyser: &mut Analyser<C>,
     bits: &[bool],
-) -> Result<String, Fail> {
+) -> String {
     let mut text = String::new(alloc);
     for bit in bits {
-        if let Some(seen) = analyser.push(*bit)? {
-            push_seen(&mut text, &seen)?;
+        if let Some(seen) = analyser.push(*bit).expect(rt, "a place") {
+            push_seen(&mut text, &seen).expect(rt, "text");
         }
     }
-    push_ending(&mut text, analyser.ending())?;
-    Ok(text)
+    push_ending(&mut text, analyser.ending()).expect(rt, "text");
+    text
 }
 
 /// The same where only the bits are pushed that `pass` does not take.
 pub(super) fn passed<C: Check>(
-    analyser: &mut Analyser<C>,
+    rt: &impl Abort,
     alloc: Global,
+    analyser: &mut Analyser<C>,
     bits: &[bool],
-) -> Result<String, Fail> {
+) -> String {
     let mut text = String::new(alloc);
     for bit in bits {
         if analyser.pass(*bit) {
             continue;
         }
-        if let Some(seen) = analyser.push(*bit)? {
-            push_seen(&mut text, &seen)?;
+        if let Some(seen) = analyser.push(*bit).expect(rt, "a place") {
+            push_seen(&mut text, &seen).expect(rt, "text");
         }
     }
-    push_ending(&mut text, analyser.ending())?;
-    Ok(text)
+    push_ending(&mut text, analyser.ending()).expect(rt, "text");
+    text
 }

@@ -3,7 +3,6 @@
 use crate::fakes::{Fixed, Narrow, Pieces, Repeated};
 use crate::{ToolFault, encode_frames};
 use std::alloc::{AllocError, Global};
-use std::test::Fail;
 
 /// Three calls: two frames, and an idle between them.
 const THREE: &[u8] = b"frame 108300\nidle\nframe 1083fe\n";
@@ -17,7 +16,7 @@ const THREE_TEXT: &str =
     "011111100000100011000001000000001011111011010011101111110\n111111111111111\n0111111000001000110000010111110110011000011011111001111110\n";
 
 #[test]
-fn encodes(rt: HostRuntime) -> Result<(), Fail> {
+fn encodes(rt: HostRuntime) {
     let cases: [(&[u8], Result<(), ToolFault>, &str); 17] = [
         (b"", Ok(()), ""),
         (b"\n\r\n\n\r", Ok(()), ""),
@@ -43,11 +42,10 @@ fn encodes(rt: HostRuntime) -> Result<(), Fail> {
         assert_eq!(rt; encode_frames(100, &mut reader, &mut out), want);
         assert_eq!(rt; out.as_slice(), text.as_bytes());
     }
-    Ok(())
 }
 
 #[test]
-fn digits_of_either_case(rt: HostRuntime) -> Result<(), Fail> {
+fn digits_of_either_case(rt: HostRuntime) {
     let mut lower = Vec::new(rt.alloc());
     let mut upper = Vec::new(rt.alloc());
     let mut reader: &[u8] = b"frame 10abcdef";
@@ -56,7 +54,6 @@ fn digits_of_either_case(rt: HostRuntime) -> Result<(), Fail> {
     assert_eq!(rt; encode_frames(100, &mut reader, &mut upper), Ok(()));
     assert_eq!(rt; lower.as_slice(), upper.as_slice());
     assert!(rt; !lower.is_empty());
-    Ok(())
 }
 
 /// A text with `count` times this octet in its middle.
@@ -77,7 +74,7 @@ fn filled(
 }
 
 #[test]
-fn long_frames(rt: HostRuntime) -> Result<(), Fail> {
+fn long_frames(rt: HostRuntime) {
     // Two digits for each octet; 297 octets give a line of 600.
     for (octets, want) in [
         (2, Ok(())),
@@ -87,7 +84,7 @@ fn long_frames(rt: HostRuntime) -> Result<(), Fail> {
         (298, Err(ToolFault::BadLine(1))),
     ] {
         for end in [b"".as_slice(), b"\n".as_slice(), b"\r\n".as_slice()] {
-            let text = filled(rt.alloc(), b"frame ", b'f', 2 * octets, end)?;
+            let text = filled(rt.alloc(), b"frame ", b'f', 2 * octets, end).expect(&rt, "memory");
             let mut reader = text.as_slice();
             let mut out = Vec::new(rt.alloc());
             let got = encode_frames(100, &mut reader, &mut out);
@@ -95,29 +92,27 @@ fn long_frames(rt: HostRuntime) -> Result<(), Fail> {
             assert_eq!(rt; got, want);
         }
     }
-    Ok(())
 }
 
 #[test]
-fn most_bits(rt: HostRuntime) -> Result<(), Fail> {
+fn most_bits(rt: HostRuntime) {
     // Behind five ones in a row a 0 is inserted: of 2048 data bits of ones these are 409, and the
     // text has them, the check, two flags and LF.
-    let text = filled(rt.alloc(), b"frame ", b'f', 512, b"")?;
+    let text = filled(rt.alloc(), b"frame ", b'f', 512, b"").expect(&rt, "memory");
     let mut reader = text.as_slice();
     let mut out = Vec::new(rt.alloc());
     assert_eq!(rt; encode_frames(100, &mut reader, &mut out), Ok(()));
     assert!(rt; out.len() >= 2048 + 409 + 16 + 16 + 1);
     assert!(rt; out.len() <= 2493);
-    Ok(())
 }
 
 #[test]
-fn long_lines(rt: HostRuntime) -> Result<(), Fail> {
+fn long_lines(rt: HostRuntime) {
     // A line of this many octets, of no good form, behind a good one.
     let ends: [&[u8]; 4] = [b"", b"\n", b"\r", b"\r\n"];
     for count in [600, 601, 602] {
         for end in ends {
-            let text = filled(rt.alloc(), b"flag\n", b'x', count, end)?;
+            let text = filled(rt.alloc(), b"flag\n", b'x', count, end).expect(&rt, "memory");
             for piece in [1, 4096] {
                 let mut reader = Pieces {
                     rest: text.as_slice(),
@@ -134,11 +129,10 @@ fn long_lines(rt: HostRuntime) -> Result<(), Fail> {
             }
         }
     }
-    Ok(())
 }
 
 #[test]
-fn judged_early(rt: HostRuntime) -> Result<(), Fail> {
+fn judged_early(rt: HostRuntime) {
     // One octet a call, and then an error of the reader: with 600 octets, or with a CR behind them,
     // an end may still come; with 601 others, or an octet behind the CR, none can.
     let cases: [(usize, &[u8], Result<(), ToolFault>); 6] = [
@@ -150,7 +144,7 @@ fn judged_early(rt: HostRuntime) -> Result<(), Fail> {
         (601, b"\r", Err(ToolFault::BadLine(1))),
     ];
     for (count, end, want) in cases {
-        let text = filled(rt.alloc(), b"", b'x', count, end)?;
+        let text = filled(rt.alloc(), b"", b'x', count, end).expect(&rt, "memory");
         let mut reader = Pieces {
             rest: text.as_slice(),
             piece: 1,
@@ -161,11 +155,10 @@ fn judged_early(rt: HostRuntime) -> Result<(), Fail> {
         assert_eq!(rt; encode_frames(1000, &mut reader, &mut out), want);
         assert!(rt; out.is_empty());
     }
-    Ok(())
 }
 
 #[test]
-fn any_cut(rt: HostRuntime) -> Result<(), Fail> {
+fn any_cut(rt: HostRuntime) {
     for piece in [1, 2, 5, 13, 4096] {
         let mut reader = Pieces {
             rest: THREE,
@@ -177,11 +170,10 @@ fn any_cut(rt: HostRuntime) -> Result<(), Fail> {
         assert_eq!(rt; encode_frames(100, &mut reader, &mut out), Ok(()));
         assert_eq!(rt; out.as_slice(), THREE_TEXT.as_bytes());
     }
-    Ok(())
 }
 
 #[test]
-fn endless_reader(rt: HostRuntime) -> Result<(), Fail> {
+fn endless_reader(rt: HostRuntime) {
     let mut reader = Repeated {
         octets: b"\n",
         left: u64::MAX,
@@ -194,7 +186,6 @@ fn endless_reader(rt: HostRuntime) -> Result<(), Fail> {
     );
     assert!(rt; out.is_empty());
     assert_eq!(rt; reader.calls, 20);
-    Ok(())
 }
 
 /// How many octets of the text stand there once so many octets of the three lines were read.
@@ -211,7 +202,7 @@ fn given(octets: u64) -> usize {
 }
 
 #[test]
-fn failing_reader(rt: HostRuntime) -> Result<(), Fail> {
+fn failing_reader(rt: HostRuntime) {
     for fails_at in 1..=32 {
         let mut reader = Pieces {
             rest: THREE,
@@ -227,11 +218,10 @@ fn failing_reader(rt: HostRuntime) -> Result<(), Fail> {
         let text = THREE_TEXT
             .as_bytes()
             .get(..given(fails_at - 1))
-            .ok_or("cut")?;
+            .expect(&rt, "cut");
         assert_eq!(rt; out.as_slice(), text);
         assert_eq!(rt; reader.calls, fails_at);
     }
-    Ok(())
 }
 
 /// A writer with this room, and whether it takes nothing then in place of failing.
@@ -246,7 +236,7 @@ fn narrow(rt: &HostRuntime, room: usize, takes_none: bool, fails_flush: bool) ->
 }
 
 #[test]
-fn failing_writer(rt: HostRuntime) -> Result<(), Fail> {
+fn failing_writer(rt: HostRuntime) {
     let whole = THREE_TEXT.len();
     for room in 0..=whole {
         for takes_none in [false, true] {
@@ -258,16 +248,15 @@ fn failing_writer(rt: HostRuntime) -> Result<(), Fail> {
                     written: room as u128
                 })
             );
-            let text = THREE_TEXT.as_bytes().get(..room).ok_or("cut")?;
+            let text = THREE_TEXT.as_bytes().get(..room).expect(&rt, "cut");
             assert_eq!(rt; writer.out.as_slice(), text);
             assert_eq!(rt; writer.flushes, u64::from(room == whole));
         }
     }
-    Ok(())
 }
 
 #[test]
-fn flushes(rt: HostRuntime) -> Result<(), Fail> {
+fn flushes(rt: HostRuntime) {
     // Once behind the text, also before a fault of a line, whose place a failing flush takes.
     let cases: [(&[u8], bool, Result<(), ToolFault>, u64); 6] = [
         (b"", true, Ok(()), 0),
@@ -283,7 +272,6 @@ fn flushes(rt: HostRuntime) -> Result<(), Fail> {
         assert_eq!(rt; encode_frames(100, &mut reader, &mut writer), want);
         assert_eq!(rt; writer.flushes, flushes);
     }
-    Ok(())
 }
 
 /// To be run with each request for memory refused in turn: there is none.

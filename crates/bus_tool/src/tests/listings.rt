@@ -8,7 +8,7 @@ use crate::tests::worked::{
 use crate::{Options, Summary, ToolFault, check_capture, list_capture};
 use bus_dictionary::DictFault;
 use std::alloc::{AllocError, Global};
-use std::test::Fail;
+use std::process::Abort;
 
 /// A reader of so many octets a call, which fails at one of them if that is not 0.
 fn pieces(rest: &[u8], piece: usize, fails_at: u64) -> Pieces<'_> {
@@ -32,23 +32,22 @@ fn narrow(rt: &HostRuntime, room: usize, takes_none: bool, fails_flush: bool) ->
 }
 
 #[test]
-fn any_cut(rt: HostRuntime) -> Result<(), Fail> {
-    let capture = joined(rt.alloc(), &CALL_AND_REPLY)?;
+fn any_cut(rt: HostRuntime) {
+    let capture = joined(rt.alloc(), &CALL_AND_REPLY).expect(&rt, "memory");
     assert_eq!(rt; capture.len(), 106);
     for at in 0..=capture.len() {
-        let (first, second) = capture.as_slice().split_at_checked(at).ok_or("cut")?;
+        let (first, second) = capture.as_slice().split_at_checked(at).expect(&rt, "cut");
         let mut reader = Halves { first, second };
         let mut out = Vec::new(rt.alloc());
         let ending = list_capture(rt.alloc(), &of_text(Some(CALLS)), &mut reader, &mut out);
         assert_eq!(rt; ending, Ok(ANSWERED), "{at}");
         assert_eq!(rt; out.as_slice(), CALL_AND_REPLY_TEXT.as_bytes());
     }
-    Ok(())
 }
 
 /// A place counts the octets of all reads.
 #[test]
-fn bad_mark_of_any_read(rt: HostRuntime) -> Result<(), Fail> {
+fn bad_mark_of_any_read(rt: HostRuntime) {
     for piece in [1, 4, 9, 10] {
         for checks in [false, true] {
             let mut reader = pieces(b"01111110 2", piece, 0);
@@ -58,7 +57,6 @@ fn bad_mark_of_any_read(rt: HostRuntime) -> Result<(), Fail> {
             assert!(rt; out.is_empty());
         }
     }
-    Ok(())
 }
 
 /// A text capture with so many spaces behind each bit.
@@ -74,9 +72,9 @@ pub fn spaced(alloc: Global, capture: &[u8], spaces: usize) -> Result<Vec<u8>, A
 }
 
 #[test]
-fn many_spaces(rt: HostRuntime) -> Result<(), Fail> {
-    let capture = joined(rt.alloc(), &CALL_AND_REPLY)?;
-    let wide = spaced(rt.alloc(), capture.as_slice(), 5000)?;
+fn many_spaces(rt: HostRuntime) {
+    let capture = joined(rt.alloc(), &CALL_AND_REPLY).expect(&rt, "memory");
+    let wide = spaced(rt.alloc(), capture.as_slice(), 5000).expect(&rt, "memory");
     for piece in [4097, 1000000] {
         let mut reader = pieces(wide.as_slice(), piece, 0);
         let mut out = Vec::new(rt.alloc());
@@ -84,11 +82,10 @@ fn many_spaces(rt: HostRuntime) -> Result<(), Fail> {
         assert_eq!(rt; ending, Ok(ANSWERED));
         assert_eq!(rt; out.as_slice(), CALL_AND_REPLY_TEXT.as_bytes());
     }
-    Ok(())
 }
 
 #[test]
-fn endless_reader(rt: HostRuntime) -> Result<(), Fail> {
+fn endless_reader(rt: HostRuntime) {
     let options = Options {
         reads: 20,
         ..of_text(None)
@@ -105,12 +102,11 @@ fn endless_reader(rt: HostRuntime) -> Result<(), Fail> {
         assert_eq!(rt; out.as_slice(), text.as_bytes());
         assert_eq!(rt; reader.calls, 20);
     }
-    Ok(())
 }
 
 #[test]
-fn failing_reader(rt: HostRuntime) -> Result<(), Fail> {
-    let capture = joined(rt.alloc(), &CALL_AND_REPLY)?;
+fn failing_reader(rt: HostRuntime) {
+    let capture = joined(rt.alloc(), &CALL_AND_REPLY).expect(&rt, "memory");
     // The first line is decided by octet 57, the others by octet 106.
     for fails_at in 1..=107 {
         let text = match fails_at {
@@ -133,14 +129,13 @@ fn failing_reader(rt: HostRuntime) -> Result<(), Fail> {
             assert_eq!(rt; reader.calls, fails_at);
         }
     }
-    Ok(())
 }
 
 /// A write fails behind each octet of the listing. The reader was called last for what decided the
 /// line that failed: no line waits for a further read.
 #[test]
-fn failing_writer(rt: HostRuntime) -> Result<(), Fail> {
-    let capture = joined(rt.alloc(), &CALL_AND_REPLY)?;
+fn failing_writer(rt: HostRuntime) {
+    let capture = joined(rt.alloc(), &CALL_AND_REPLY).expect(&rt, "memory");
     let whole = CALL_AND_REPLY_TEXT.len();
     assert_eq!(rt; whole, 126);
     for room in 0..whole {
@@ -156,7 +151,10 @@ fn failing_writer(rt: HostRuntime) -> Result<(), Fail> {
                 );
                 let written = room as u128;
                 assert_eq!(rt; ending, Err(ToolFault::Write { written }));
-                let text = CALL_AND_REPLY_TEXT.as_bytes().get(..room).ok_or("cut")?;
+                let text = CALL_AND_REPLY_TEXT
+                    .as_bytes()
+                    .get(..room)
+                    .expect(&rt, "cut");
                 assert_eq!(rt; writer.out.as_slice(), text);
                 assert_eq!(rt; writer.flushes, 0);
                 let calls = if room < CALL_TEXT.len() { first } else { last };
@@ -164,12 +162,11 @@ fn failing_writer(rt: HostRuntime) -> Result<(), Fail> {
             }
         }
     }
-    Ok(())
 }
 
 #[test]
-fn failing_writer_of_a_check(rt: HostRuntime) -> Result<(), Fail> {
-    let capture = joined(rt.alloc(), &MISSING_AND_SPOILT)?;
+fn failing_writer_of_a_check(rt: HostRuntime) {
+    let capture = joined(rt.alloc(), &MISSING_AND_SPOILT).expect(&rt, "memory");
     let whole = MISSING_AND_SPOILT_REPORT.len();
     for room in 0..=whole {
         let mut writer = narrow(&rt, room, room % 2 == 0, true);
@@ -181,12 +178,11 @@ fn failing_writer_of_a_check(rt: HostRuntime) -> Result<(), Fail> {
         assert_eq!(rt; Some(writer.out.as_slice()), text);
         assert_eq!(rt; writer.flushes, u64::from(room == whole));
     }
-    Ok(())
 }
 
 /// Once behind a text that is not empty, also before a fault, whose place a failing flush takes.
 #[test]
-fn flushes(rt: HostRuntime) -> Result<(), Fail> {
+fn flushes(rt: HostRuntime) {
     let cases: [(&[&str], bool, Option<ToolFault>, u64); 8] = [
         (&[], true, None, 0),
         (&["2"], true, Some(ToolFault::BadMark { at: 0 }), 0),
@@ -209,7 +205,7 @@ fn flushes(rt: HostRuntime) -> Result<(), Fail> {
         (&[FLAG, "0"], true, Some(ToolFault::Write { written: 9 }), 1),
     ];
     for (parts, fails, want, flushes) in cases {
-        let capture = joined(rt.alloc(), parts)?;
+        let capture = joined(rt.alloc(), parts).expect(&rt, "memory");
         let mut writer = narrow(&rt, 1000, false, fails);
         let mut reader = capture.as_slice();
         let ending = list_capture(rt.alloc(), &of_text(Some(CALLS)), &mut reader, &mut writer);
@@ -217,18 +213,17 @@ fn flushes(rt: HostRuntime) -> Result<(), Fail> {
         assert_eq!(rt; writer.flushes, flushes, "{parts:?}");
     }
     // The error of a reader behind a line gives way to that of the flush, too.
-    let capture = joined(rt.alloc(), &CALL_AND_REPLY)?;
+    let capture = joined(rt.alloc(), &CALL_AND_REPLY).expect(&rt, "memory");
     let mut writer = narrow(&rt, 1000, false, true);
     let mut reader = pieces(capture.as_slice(), 1, 107);
     let ending = list_capture(rt.alloc(), &of_text(Some(CALLS)), &mut reader, &mut writer);
     assert_eq!(rt; ending, Err(ToolFault::Write { written: 126 }));
-    Ok(())
 }
 
 /// The dictionary is judged first, then the depth, then the origin, each before reader and writer
 /// are called.
 #[test]
-fn judged_before(rt: HostRuntime) -> Result<(), Fail> {
+fn judged_before(rt: HostRuntime) {
     let past = (1 << 60) + 1;
     let cases = [
         (
@@ -264,7 +259,6 @@ fn judged_before(rt: HostRuntime) -> Result<(), Fail> {
             assert_eq!(rt; writer.flushes, 0);
         }
     }
-    Ok(())
 }
 
 /// So many calls, each without an answer but perhaps the last.
@@ -278,39 +272,40 @@ pub fn calls(alloc: Global, count: usize) -> Result<Vec<u8>, AllocError> {
 }
 
 /// Their listing: frame number `i` begins at place `8 + 49 * i` and has 41 bits.
-pub fn calls_text(alloc: Global, count: u16) -> Result<String, Fail> {
+pub fn calls_text(rt: &impl Abort, alloc: Global, count: u16) -> String {
     let mut text = String::new(alloc);
     let mut waits = None;
     for i in 0..count {
         let first = 8 + 49 * u32::from(i);
         let past = first + 41;
-        let line = format!(in alloc; "{first} {past} frame 108300fde5 station 16 type 0 call\n")?;
-        text.push_str(line.as_str())?;
+        writeln!(
+            text,
+            "{first} {past} frame 108300fde5 station 16 type 0 call"
+        )
+        .expect(rt, "memory");
         if let Some((first, past)) = waits {
-            let line = format!(in alloc; "{first} {past} missing station 16 type 0\n")?;
-            text.push_str(line.as_str())?;
+            writeln!(text, "{first} {past} missing station 16 type 0").expect(rt, "memory");
         }
         waits = Some((first, past));
     }
     if let Some((first, past)) = waits {
-        let line = format!(in alloc; "{first} {past} pending station 16 type 0\n")?;
-        text.push_str(line.as_str())?;
+        writeln!(text, "{first} {past} pending station 16 type 0").expect(rt, "memory");
     }
-    Ok(text)
+    text
 }
 
 /// A listing of some eighty thousand octets, by readers of few octets and of many.
 #[test]
-fn long_listing(rt: HostRuntime) -> Result<(), Fail> {
-    let capture = calls(rt.alloc(), 1000)?;
-    let text = calls_text(rt.alloc(), 1000)?;
+fn long_listing(rt: HostRuntime) {
+    let capture = calls(rt.alloc(), 1000).expect(&rt, "memory");
+    let text = calls_text(&rt, rt.alloc(), 1000);
     let whole = text.len();
     for piece in [100, 1000000] {
         for room in [0, 15000, 16383, 16384, 16385, 20000, 50000, whole, 1000000] {
             let mut reader = pieces(capture.as_slice(), piece, 0);
             let mut writer = narrow(&rt, room, false, false);
             let ending = list_capture(rt.alloc(), &of_text(Some(CALLS)), &mut reader, &mut writer);
-            let out = text.as_bytes().get(..room.min(whole)).ok_or("cut")?;
+            let out = text.as_bytes().get(..room.min(whole)).expect(&rt, "cut");
             assert_eq!(rt; writer.out.len(), out.len(), "{room}");
             assert!(rt; writer.out.as_slice() == out, "{room}");
             if room < whole {
@@ -326,22 +321,22 @@ fn long_listing(rt: HostRuntime) -> Result<(), Fail> {
             }
         }
     }
-    Ok(())
 }
 
 /// A report of some thirty thousand octets: the last 1024 of 1100 frames.
 #[test]
-fn long_report(rt: HostRuntime) -> Result<(), Fail> {
-    let capture = calls(rt.alloc(), 1100)?;
+fn long_report(rt: HostRuntime) {
+    let capture = calls(rt.alloc(), 1100).expect(&rt, "memory");
     let mut text = String::from_str(
         rt.alloc(),
         "frames 1100\ndamaged 0\noverlong 0\naborts 0\nidles 0\nstrays 0\nanswered 0\nmissing 1099\nspoilt 0\nlate 0\nstation 16 answered 0 missing 1099 spoilt 0 late 0\n",
-    )?;
+    )
+    .expect(&rt, "memory");
     for i in 76..1100u64 {
         let first = 8 + 49 * i;
         let past = first + 41;
-        let line = format!(in rt.alloc(); "last {first} {past} 108300fde5\n")?;
-        text.push_str(line.as_str())?;
+        let line = format!(in rt.alloc(); "last {first} {past} 108300fde5\n").expect(&rt, "memory");
+        text.push_str(line.as_str()).expect(&rt, "memory");
     }
     let whole = text.len();
     let options = Options {
@@ -352,7 +347,7 @@ fn long_report(rt: HostRuntime) -> Result<(), Fail> {
         let mut reader = capture.as_slice();
         let mut writer = narrow(&rt, room, false, false);
         let ending = check_capture(rt.alloc(), &options, &mut reader, &mut writer);
-        let out = text.as_bytes().get(..room).ok_or("cut")?;
+        let out = text.as_bytes().get(..room).expect(&rt, "cut");
         assert!(rt; writer.out.as_slice() == out, "{room}");
         if room < whole {
             let written = room as u128;
@@ -366,7 +361,6 @@ fn long_report(rt: HostRuntime) -> Result<(), Fail> {
             assert_eq!(rt; ending, Ok(want));
         }
     }
-    Ok(())
 }
 
 /// A call, and the flag behind it.

@@ -3,13 +3,12 @@
 use crate::fakes::{Halves, Pieces};
 use crate::tests::worked::{CALL_TEXT, NONE, ONE_CALL_TEXT, PACKED, of_packed, run_over};
 use crate::{Summary, ToolFault, list_capture};
-use std::test::Fail;
 
 /// One frame was seen.
 const FRAME: Summary = Summary { frames: 1, ..NONE };
 
 #[test]
-fn faults(rt: HostRuntime) -> Result<(), Fail> {
+fn faults(rt: HostRuntime) {
     let cases: [(&[u8], Result<Summary, ToolFault>, &str); 13] = [
         (&PACKED, Ok(FRAME), ONE_CALL_TEXT),
         (b"", Err(ToolFault::ShortHead), ""),
@@ -52,13 +51,12 @@ fn faults(rt: HostRuntime) -> Result<(), Fail> {
             }
         }
     }
-    Ok(())
 }
 
 #[test]
-fn any_cut(rt: HostRuntime) -> Result<(), Fail> {
+fn any_cut(rt: HostRuntime) {
     for at in 0..=PACKED.len() {
-        let (first, second) = PACKED.split_at_checked(at).ok_or("cut")?;
+        let (first, second) = PACKED.split_at_checked(at).expect(&rt, "cut");
         let mut reader = Halves { first, second };
         let mut out = Vec::new(rt.alloc());
         let ending = list_capture(rt.alloc(), &of_packed(), &mut reader, &mut out);
@@ -77,14 +75,13 @@ fn any_cut(rt: HostRuntime) -> Result<(), Fail> {
     assert_eq!(rt; out.as_slice(), ONE_CALL_TEXT.as_bytes());
     // Each octet by a call of its own, and one call for the end.
     assert_eq!(rt; reader.calls, 25);
-    Ok(())
 }
 
 #[test]
-fn cut_short(rt: HostRuntime) -> Result<(), Fail> {
+fn cut_short(rt: HostRuntime) {
     for count in 0..PACKED.len() {
         for checks in [false, true] {
-            let mut reader = PACKED.get(..count).ok_or("cut")?;
+            let mut reader = PACKED.get(..count).expect(&rt, "cut");
             let mut out = Vec::new(rt.alloc());
             let want = if count < 16 {
                 ToolFault::ShortHead
@@ -99,7 +96,6 @@ fn cut_short(rt: HostRuntime) -> Result<(), Fail> {
             assert!(rt; out.is_empty());
         }
     }
-    Ok(())
 }
 
 /// The fault of the capture with one bit flipped, if it has one. The flips of the count give, from
@@ -119,7 +115,7 @@ fn flipped_fault(octet: usize, bit: u32) -> Option<ToolFault> {
 }
 
 #[test]
-fn flipped_bits(rt: HostRuntime) -> Result<(), Fail> {
+fn flipped_bits(rt: HostRuntime) {
     for octet in 0..PACKED.len() {
         for bit in 0..8 {
             let mut capture = PACKED;
@@ -134,5 +130,4 @@ fn flipped_bits(rt: HostRuntime) -> Result<(), Fail> {
             }
         }
     }
-    Ok(())
 }

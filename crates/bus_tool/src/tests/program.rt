@@ -5,7 +5,6 @@ use crate::run;
 use crate::tests::worked::{CALL_TEXT, CALLS, ONE_CALL_TEXT, PACKED};
 use std::alloc::Global;
 use std::process::Abort;
-use std::test::Fail;
 
 const IDLE: &[u8] = b"11111111 1111111\n";
 
@@ -13,13 +12,7 @@ const IDLE: &[u8] = b"11111111 1111111\n";
 const SHOWN_CALL: &str = "frame 108300fde5 good\nstation 16 type 0 call\n";
 
 /// Runs the program over an input: its status, what it writes, and what it tells.
-fn see(
-    rt: &impl Abort,
-    alloc: Global,
-    words: &[&str],
-    input: &[u8],
-    want: (u8, &str, &str),
-) -> Result<(), Fail> {
+fn see(rt: &impl Abort, alloc: Global, words: &[&str], input: &[u8], want: (u8, &str, &str)) {
     let (status, text, told) = want;
     let mut reader = input;
     let mut out = Vec::new(alloc);
@@ -36,20 +29,25 @@ fn see(
         "{words:?}"
     );
     assert_eq!(rt; got, status, "{words:?}");
-    Ok(())
 }
 
 /// A capture by no words at all, and what is encoded and listed again.
 #[test]
-fn stored_runs(rt: HostRuntime) -> Result<(), Fail> {
-    see(&rt, rt.alloc(), &[], IDLE, (0, "0 15 idle\n", ""))?;
-    see(&rt, rt.alloc(), &["encode"], b"idle\n", (0, "111111111111111\n", ""))?;
+fn stored_runs(rt: HostRuntime) {
+    see(&rt, rt.alloc(), &[], IDLE, (0, "0 15 idle\n", ""));
+    see(
+        &rt,
+        rt.alloc(),
+        &["encode"],
+        b"idle\n",
+        (0, "111111111111111\n", ""),
+    );
     let told = "port1: capture: octet 2 is no bit\n";
-    see(&rt, rt.alloc(), &["check", "--bits"], b"1 2", (2, "", told))
+    see(&rt, rt.alloc(), &["check", "--bits"], b"1 2", (2, "", told));
 }
 
 #[test]
-fn writers_fail(rt: HostRuntime) -> Result<(), Fail> {
+fn writers_fail(rt: HostRuntime) {
     let cases: [(&[&str], &[u8]); 6] = [
         (&["--help"], IDLE),
         (&["--version"], IDLE),
@@ -74,12 +72,11 @@ fn writers_fail(rt: HostRuntime) -> Result<(), Fail> {
             assert_eq!(rt; err.as_slice(), "port1: write failed\n".as_bytes());
         }
     }
-    Ok(())
 }
 
 /// That faults can't be told changes neither the status nor the lines before them.
 #[test]
-fn deaf_faults(rt: HostRuntime) -> Result<(), Fail> {
+fn deaf_faults(rt: HostRuntime) {
     let cases: [(&[&str], &str); 3] = [
         (&["list", "--bits", "--dict", CALLS], CALL_TEXT),
         (&["nonsense"], ""),
@@ -99,7 +96,6 @@ fn deaf_faults(rt: HostRuntime) -> Result<(), Fail> {
         assert_eq!(rt; got, 2, "{words:?}");
         assert_eq!(rt; out.as_slice(), text.as_bytes());
     }
-    Ok(())
 }
 
 /// To be run with each request for memory refused in turn. Nothing is read or written then, and the

@@ -8,7 +8,6 @@ use crate::tests::worked::{
 use crate::{Kind, Options, Summary, ToolFault, check_capture, list_capture};
 use std::alloc::Global;
 use std::process::Abort;
-use std::test::Fail;
 
 /// Two calls, one missing and one spoilt, and the damage that spoilt it.
 const AMISS: Summary = Summary {
@@ -27,8 +26,8 @@ fn see(
     parts: &[&str],
     want: Result<Summary, ToolFault>,
     text: &str,
-) -> Result<(), Fail> {
-    let capture = joined(alloc, parts)?;
+) {
+    let capture = joined(alloc, parts).expect(rt, "memory");
     let mut reader = capture.as_slice();
     let mut out = Vec::new(alloc);
     let listed = list_capture(alloc, options, &mut reader, &mut out);
@@ -43,14 +42,20 @@ fn see(
     let checked = check_capture(alloc, options, &mut reader, &mut report);
     assert_eq!(rt; checked, want, "{parts:?}");
     assert_eq!(rt; report.is_empty(), want.is_err(), "{parts:?}");
-    Ok(())
 }
 
 #[test]
-fn one_call(rt: HostRuntime) -> Result<(), Fail> {
+fn one_call(rt: HostRuntime) {
     let frame = Summary { frames: 1, ..NONE };
     let parts = [FLAG, CALL, FLAG];
-    see(&rt, rt.alloc(), &of_text(Some(CALLS)), &parts, Ok(frame), ONE_CALL_TEXT)?;
+    see(
+        &rt,
+        rt.alloc(),
+        &of_text(Some(CALLS)),
+        &parts,
+        Ok(frame),
+        ONE_CALL_TEXT,
+    );
     see(
         &rt,
         rt.alloc(),
@@ -58,14 +63,28 @@ fn one_call(rt: HostRuntime) -> Result<(), Fail> {
         &parts,
         Ok(frame),
         "8 49 frame 108300fde5\n",
-    )
+    );
 }
 
 #[test]
-fn verdicts(rt: HostRuntime) -> Result<(), Fail> {
+fn verdicts(rt: HostRuntime) {
     let options = of_text(Some(CALLS));
-    see(&rt, rt.alloc(), &options, &CALL_AND_REPLY, Ok(ANSWERED), CALL_AND_REPLY_TEXT)?;
-    see(&rt, rt.alloc(), &options, &MISSING_AND_SPOILT, Ok(AMISS), MISSING_AND_SPOILT_TEXT)
+    see(
+        &rt,
+        rt.alloc(),
+        &options,
+        &CALL_AND_REPLY,
+        Ok(ANSWERED),
+        CALL_AND_REPLY_TEXT,
+    );
+    see(
+        &rt,
+        rt.alloc(),
+        &options,
+        &MISSING_AND_SPOILT,
+        Ok(AMISS),
+        MISSING_AND_SPOILT_TEXT,
+    );
 }
 
 const LATE_TEXT: &str = "\
@@ -75,19 +94,26 @@ const LATE_TEXT: &str = "\
 ";
 
 #[test]
-fn late(rt: HostRuntime) -> Result<(), Fail> {
+fn late(rt: HostRuntime) {
     let want = Summary {
         frames: 2,
         late: 1,
         ..NONE
     };
     let parts = [FLAG, CALL, FLAG, FLAG, FLAG, REPLY, FLAG];
-    see(&rt, rt.alloc(), &of_text(Some(WITHIN)), &parts, Ok(want), LATE_TEXT)
+    see(
+        &rt,
+        rt.alloc(),
+        &of_text(Some(WITHIN)),
+        &parts,
+        Ok(want),
+        LATE_TEXT,
+    );
 }
 
 /// An overlong piece, an abort and an idle line.
 #[test]
-fn pieces(rt: HostRuntime) -> Result<(), Fail> {
+fn pieces(rt: HostRuntime) {
     let want = Summary {
         overlong: 1,
         aborts: 1,
@@ -96,24 +122,38 @@ fn pieces(rt: HostRuntime) -> Result<(), Fail> {
     };
     let parts = [FLAG, SHORT, SHORT, FLAG, "00001000", IDLE];
     let text = "8 56 overlong\n64 72 abort\n72 87 idle\n";
-    see(&rt, rt.alloc(), &of_text(Some(CALLS)), &parts, Ok(want), text)
+    see(
+        &rt,
+        rt.alloc(),
+        &of_text(Some(CALLS)),
+        &parts,
+        Ok(want),
+        text,
+    );
 }
 
 /// Strays are counted also where there is no line for them.
 #[test]
-fn strays(rt: HostRuntime) -> Result<(), Fail> {
+fn strays(rt: HostRuntime) {
     let want = Summary {
         frames: 1,
         strays: 1,
         ..NONE
     };
     let text = "8 49 frame 108380f561\n";
-    see(&rt, rt.alloc(), &of_text(None), &[FLAG, REPLY, FLAG], Ok(want), text)
+    see(
+        &rt,
+        rt.alloc(),
+        &of_text(None),
+        &[FLAG, REPLY, FLAG],
+        Ok(want),
+        text,
+    );
 }
 
 /// What is counted does not depend on the filter.
 #[test]
-fn filters(rt: HostRuntime) -> Result<(), Fail> {
+fn filters(rt: HostRuntime) {
     let options = Options {
         station: Some(16),
         ftype: Some(0),
@@ -121,31 +161,59 @@ fn filters(rt: HostRuntime) -> Result<(), Fail> {
         ..of_text(Some(CALLS))
     };
     let text = "8 49 missing station 16 type 0\n";
-    see(&rt, rt.alloc(), &options, &MISSING_AND_SPOILT, Ok(AMISS), text)
+    see(
+        &rt,
+        rt.alloc(),
+        &options,
+        &MISSING_AND_SPOILT,
+        Ok(AMISS),
+        text,
+    );
 }
 
 /// The last place is taken, and the bit behind it refused behind the lines before it.
 #[test]
-fn last_places(rt: HostRuntime) -> Result<(), Fail> {
+fn last_places(rt: HostRuntime) {
     let options = Options {
         origin: (1 << 60) - 57,
         ..of_text(None)
     };
     let text = "1152921504606846927 1152921504606846968 frame 108300fde5\n";
     let frame = Summary { frames: 1, ..NONE };
-    see(&rt, rt.alloc(), &options, &[FLAG, CALL, FLAG], Ok(frame), text)?;
+    see(
+        &rt,
+        rt.alloc(),
+        &options,
+        &[FLAG, CALL, FLAG],
+        Ok(frame),
+        text,
+    );
     let past = Err(ToolFault::PlaceLimit);
-    see(&rt, rt.alloc(), &options, &[FLAG, CALL, FLAG, "0"], past, text)
+    see(
+        &rt,
+        rt.alloc(),
+        &options,
+        &[FLAG, CALL, FLAG, "0"],
+        past,
+        text,
+    );
 }
 
 /// An octet that is no bit, by its place among all octets.
 #[test]
-fn bad_marks(rt: HostRuntime) -> Result<(), Fail> {
+fn bad_marks(rt: HostRuntime) {
     let options = of_text(Some(CALLS));
     let first = Err(ToolFault::BadMark { at: 0 });
-    see(&rt, rt.alloc(), &options, &["2"], first, "")?;
+    see(&rt, rt.alloc(), &options, &["2"], first, "");
     let later = Err(ToolFault::BadMark { at: 57 });
-    see(&rt, rt.alloc(), &options, &[FLAG, CALL, FLAG, "x", FLAG], later, CALL_TEXT)
+    see(
+        &rt,
+        rt.alloc(),
+        &options,
+        &[FLAG, CALL, FLAG, "x", FLAG],
+        later,
+        CALL_TEXT,
+    );
 }
 
 /// Only these five make a line unclean.

@@ -6,7 +6,6 @@ use crate::{ToolFault, show_frame};
 use bus_dictionary::DictFault;
 use std::alloc::Global;
 use std::process::Abort;
-use std::test::Fail;
 
 /// One frame of the second.
 pub const STATE: &str = "10838101026e1f";
@@ -18,37 +17,30 @@ station 16 type 129 state
 9 flash
 ";
 
-fn check_shown(
-    rt: &impl Abort,
-    alloc: Global,
-    dictionary: Option<&str>,
-    hex: &str,
-    text: &str,
-) -> Result<(), Fail> {
+fn check_shown(rt: &impl Abort, alloc: Global, dictionary: Option<&str>, hex: &str, text: &str) {
     let mut out = Vec::new(alloc);
     assert_eq!(rt; show_frame(alloc, dictionary, hex, &mut out), Ok(()));
     assert_eq!(rt; out.as_slice(), text.as_bytes());
-    Ok(())
 }
 
 #[test]
-fn shows(rt: HostRuntime) -> Result<(), Fail> {
-    check_shown(&rt, rt.alloc(), Some(STATES), STATE, STATE_TEXT)?;
+fn shows(rt: HostRuntime) {
+    check_shown(&rt, rt.alloc(), Some(STATES), STATE, STATE_TEXT);
     let text = "frame 10838101026e1f good\nstation 16 type 129 unknown\n";
-    check_shown(&rt, rt.alloc(), None, STATE, text)
+    check_shown(&rt, rt.alloc(), None, STATE, text);
 }
 
 /// The digits of as many octets, each of them 0x10.
-fn digits(rt: &HostRuntime, octets: usize) -> Result<String, Fail> {
-    let mut text = String::new(rt.alloc());
+fn digits(rt: &impl Abort, alloc: Global, octets: usize) -> String {
+    let mut text = String::new(alloc);
     for _octet in 0..octets {
-        text.push_str("10")?;
+        text.push_str("10").expect(rt, "memory");
     }
-    Ok(text)
+    text
 }
 
 #[test]
-fn sizes(rt: HostRuntime) -> Result<(), Fail> {
+fn sizes(rt: HostRuntime) {
     for (octets, want) in [
         (1, Err(ToolFault::FrameSize)),
         (3, Err(ToolFault::FrameSize)),
@@ -57,22 +49,21 @@ fn sizes(rt: HostRuntime) -> Result<(), Fail> {
         (259, Err(ToolFault::FrameSize)),
         (1000, Err(ToolFault::FrameSize)),
     ] {
-        let mut hex = digits(&rt, octets)?;
+        let mut hex = digits(&rt, rt.alloc(), octets);
         let mut out = Vec::new(rt.alloc());
         assert_eq!(rt; show_frame(rt.alloc(), None, hex.as_str(), &mut out), want);
         assert_eq!(rt; out.is_empty(), want.is_err());
-        hex.push_str("1G")?;
+        hex.push_str("1G").expect(&rt, "memory");
         assert_eq!(rt;
             show_frame(rt.alloc(), None, hex.as_str(), &mut out),
             Err(ToolFault::Hex)
         );
     }
-    Ok(())
 }
 
 /// The digits are judged before their number, and both before the dictionary.
 #[test]
-fn refuses(rt: HostRuntime) -> Result<(), Fail> {
+fn refuses(rt: HostRuntime) {
     let version = ToolFault::Dictionary(DictFault::Version);
     for (hex, fault) in [
         ("10835", ToolFault::Hex),
@@ -84,11 +75,10 @@ fn refuses(rt: HostRuntime) -> Result<(), Fail> {
         assert_eq!(rt; shown, Err(fault));
         assert!(rt; out.is_empty());
     }
-    Ok(())
 }
 
 #[test]
-fn failing_writers(rt: HostRuntime) -> Result<(), Fail> {
+fn failing_writers(rt: HostRuntime) {
     let whole = STATE_TEXT.len();
     for (room, takes_none, fails_flush) in [
         (0, true, false),
@@ -112,11 +102,10 @@ fn failing_writers(rt: HostRuntime) -> Result<(), Fail> {
         );
         assert_eq!(rt;
             writer.out.as_slice(),
-            STATE_TEXT.as_bytes().get(..room).ok_or("cut")?
+            STATE_TEXT.as_bytes().get(..room).expect(&rt, "cut")
         );
         assert_eq!(rt; writer.flushes, u64::from(room == whole));
     }
-    Ok(())
 }
 
 /// To be run with each request for memory refused in turn: without a dictionary there is none.

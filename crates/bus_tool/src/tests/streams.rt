@@ -13,7 +13,6 @@ use crate::{Options, ToolFault, encode_frames, run, show_frame};
 use arrayvec::ArrayVec;
 use std::cell::RefCell;
 use std::process::Abort;
-use std::test::Fail;
 
 /// What each read gives, whether a fault comes, and the calls that are to be seen. A line is out
 /// before the next read, and the flush comes once and last, where anything was written.
@@ -30,10 +29,9 @@ fn no_events() -> Log {
 }
 
 /// The calls were these.
-fn saw(rt: &impl Abort, log: &Log, row: &Row) -> Result<(), Fail> {
-    let events = log.try_borrow()?;
+fn saw(rt: &impl Abort, log: &Log, row: &Row) {
+    let events = log.try_borrow().expect(rt, "memory");
     assert_eq!(rt; events.as_slice(), row.events, "{:?}", row.parts);
-    Ok(())
 }
 
 const LISTED: [Row; 9] = [
@@ -142,7 +140,7 @@ const CHECKED: [Row; 4] = [
 ];
 
 #[test]
-fn captures_in_order(rt: HostRuntime) -> Result<(), Fail> {
+fn captures_in_order(rt: HostRuntime) {
     for (checks, rows) in [(false, LISTED.as_slice()), (true, CHECKED.as_slice())] {
         for row in rows {
             let log = no_events();
@@ -154,10 +152,9 @@ fn captures_in_order(rt: HostRuntime) -> Result<(), Fail> {
             let options = of_text(Some(CALLS));
             let ending = run_over(checks, rt.alloc(), &options, &mut reader, &mut writer);
             assert_eq!(rt; ending.is_err(), row.fails, "{:?}", row.parts);
-            saw(&rt, &log, row)?;
+            saw(&rt, &log, row);
         }
     }
-    Ok(())
 }
 
 const ENCODED: [Row; 7] = [
@@ -200,7 +197,7 @@ const ENCODED: [Row; 7] = [
 ];
 
 #[test]
-fn lines_in_order(rt: HostRuntime) -> Result<(), Fail> {
+fn lines_in_order(rt: HostRuntime) {
     for row in ENCODED.as_slice() {
         let log = no_events();
         let mut reader = NotedParts {
@@ -210,9 +207,8 @@ fn lines_in_order(rt: HostRuntime) -> Result<(), Fail> {
         let mut writer = Noted { log: &log };
         let ending = encode_frames(100, &mut reader, &mut writer);
         assert_eq!(rt; ending.is_err(), row.fails, "{:?}", row.parts);
-        saw(&rt, &log, row)?;
+        saw(&rt, &log, row);
     }
-    Ok(())
 }
 
 /// A page has 16384 octets and is written before fewer than 1024 of them are free.
@@ -220,9 +216,9 @@ const FULL_PAGE: u64 = 16384 - 1024;
 
 /// Each write of a long listing has a full page, or what one read decided.
 #[test]
-fn few_writes_of_a_listing(rt: HostRuntime) -> Result<(), Fail> {
-    let capture = calls(rt.alloc(), 1000)?;
-    let octets = calls_text(rt.alloc(), 1000)?.len() as u64;
+fn few_writes_of_a_listing(rt: HostRuntime) {
+    let capture = calls(rt.alloc(), 1000).expect(&rt, "memory");
+    let octets = calls_text(&rt, rt.alloc(), 1000).len() as u64;
     for piece in [100, 4096, 16384, 1000000] {
         let mut reader = Pieces {
             rest: capture.as_slice(),
@@ -239,13 +235,12 @@ fn few_writes_of_a_listing(rt: HostRuntime) -> Result<(), Fail> {
         assert_eq!(rt; writer.octets, octets);
         assert_eq!(rt; (writer.empty_writes, writer.flushes), (0, 1));
     }
-    Ok(())
 }
 
 /// Each write of a long report but the last has a full page.
 #[test]
-fn few_writes_of_a_report(rt: HostRuntime) -> Result<(), Fail> {
-    let capture = calls(rt.alloc(), 1100)?;
+fn few_writes_of_a_report(rt: HostRuntime) {
+    let capture = calls(rt.alloc(), 1100).expect(&rt, "memory");
     let options = Options {
         depth: 1024,
         ..of_text(Some(CALLS))
@@ -258,7 +253,6 @@ fn few_writes_of_a_report(rt: HostRuntime) -> Result<(), Fail> {
     let most = (writer.octets / FULL_PAGE).saturating_add(1);
     assert!(rt; writer.writes <= most, "{} of {most}", writer.writes);
     assert_eq!(rt; (writer.empty_writes, writer.flushes), (0, 1));
-    Ok(())
 }
 
 /// One write for each line that is encoded, and one flush for all; one flush for a frame that is
@@ -348,9 +342,9 @@ fn singly(rest: &[u8]) -> Pieces<'_> {
 }
 
 #[test]
-fn reads_of_captures(rt: HostRuntime) -> Result<(), Fail> {
-    let capture = joined(rt.alloc(), &CALL_AND_REPLY)?;
-    let wide = spaced(rt.alloc(), capture.as_slice(), 50)?;
+fn reads_of_captures(rt: HostRuntime) {
+    let capture = joined(rt.alloc(), &CALL_AND_REPLY).expect(&rt, "memory");
+    let wide = spaced(rt.alloc(), capture.as_slice(), 50).expect(&rt, "memory");
     assert_eq!(rt; wide.len(), 5406);
     for row in GRANTED {
         for (checks, text) in [(false, CALL_AND_REPLY_TEXT), (true, CALL_AND_REPLY_REPORT)] {
@@ -373,14 +367,13 @@ fn reads_of_captures(rt: HostRuntime) -> Result<(), Fail> {
             }
         }
     }
-    Ok(())
 }
 
 #[test]
-fn reads_of_lines(rt: HostRuntime) -> Result<(), Fail> {
+fn reads_of_lines(rt: HostRuntime) {
     let mut lines = Vec::new(rt.alloc());
     for _line in 0..901 {
-        lines.extend_from_slice(b"flag\n\n")?;
+        lines.extend_from_slice(b"flag\n\n").expect(&rt, "memory");
     }
     assert_eq!(rt; lines.len(), 5406);
     for row in GRANTED {
@@ -401,7 +394,6 @@ fn reads_of_lines(rt: HostRuntime) -> Result<(), Fail> {
             (0, u64::from(row.calls > 4))
         );
     }
-    Ok(())
 }
 
 /// How many reads are granted, by a command that reads a capture.
@@ -415,14 +407,13 @@ fn reads_of(request: &Request<'_>) -> u64 {
 
 /// The program grants 2^40 reads.
 #[test]
-fn reads_of_the_program(rt: HostRuntime) -> Result<(), Fail> {
+fn reads_of_the_program(rt: HostRuntime) {
     assert_eq!(rt; READS, 1099511627776);
-    let none = read_arguments(rt.alloc(), &[])?;
-    let list = read_arguments(rt.alloc(), &["list"])?;
-    let check = read_arguments(rt.alloc(), &["check"])?;
+    let none = read_arguments(rt.alloc(), &[]).expect(&rt, "memory");
+    let list = read_arguments(rt.alloc(), &["list"]).expect(&rt, "memory");
+    let check = read_arguments(rt.alloc(), &["check"]).expect(&rt, "memory");
     let reads = [reads_of(&none), reads_of(&list), reads_of(&check)];
     assert_eq!(rt; reads, [1099511627776; 3]);
-    Ok(())
 }
 
 /// More reads than other bounds would let pass.

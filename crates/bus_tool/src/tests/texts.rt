@@ -2,17 +2,15 @@
 //! is called as often as a program can count.
 
 use crate::ToolFault;
-use std::test::Fail;
 
 #[test]
-fn faults(rt: HostRuntime) -> Result<(), Fail> {
+fn faults(rt: HostRuntime) {
     for (fault, text) in [
         (ToolFault::Depth, "depth is not 1 to 1024"),
         (ToolFault::Origin, "origin is above 1152921504606846976"),
         (ToolFault::ReadsLimit, "too many reads"),
     ] {
-        let shown = format!(in rt.alloc(); "{fault}")?;
+        let shown = format!(in rt.alloc(); "{fault}").expect(&rt, "memory");
         assert_eq!(rt; shown.as_str(), text);
     }
-    Ok(())
 }
