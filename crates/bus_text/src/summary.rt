@@ -34,7 +34,11 @@ impl Summary {
             ((self.now.damaged ≡ 0) × (self.now.overlong ≡ 0) × (self.now.missing ≡ 0) × (self.now.spoilt ≡ 0)
             × (self.now.late ≡ 0)) }
     {
-        self.damaged == 0 && self.overlong == 0 && self.missing == 0 && self.spoilt == 0 && self.late == 0
+        self.damaged == 0
+            && self.overlong == 0
+            && self.missing == 0
+            && self.spoilt == 0
+            && self.late == 0
     }
 
     /// Nothing was seen.

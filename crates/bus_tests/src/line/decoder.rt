@@ -1,7 +1,7 @@
 //! The decoder, fed bit by bit, with both frame checks.
 
 use super::bits_of;
-use super::rows::WORKED;
+use super::rows::{WORKED, row_of};
 use super::told::text_of;
 use bus_bits::Spent;
 use bus_fcs::{BitCheck, Check, OctetCheck};
@@ -83,11 +83,12 @@ fn heard_alike(
 /// The reports of the whole lists, each at the bit that decides it.
 #[test]
 fn worked_lists_bit_by_bit(rt: HostRuntime) {
-    for (case, bits, reports, places) in WORKED {
-        let bits = bits_of(rt.alloc(), bits).expect(&rt, "memory");
+    for line in WORKED.lines() {
+        let row = row_of(&rt, line);
+        let bits = bits_of(rt.alloc(), row.bits).expect(&rt, "memory");
         let heard = heard_alike(&rt, rt.alloc(), &bits, 3, 0);
-        assert_eq!(rt; heard.reports.as_str(), reports, "{case}");
-        assert_eq!(rt; heard.places.as_str(), places, "{case}");
+        assert_eq!(rt; heard.reports.as_str(), row.reports, "{}", row.case);
+        assert_eq!(rt; heard.places.as_str(), row.places, "{}", row.case);
     }
 }
 
@@ -190,23 +191,33 @@ const STEPS: [(&str, &str, [u64; 5]); 6] = [
 ];
 
 /// The steps of each kind, and none of copying or handling.
+fn steps_of([shifted, assembled, folded, stored]: [u64; 4]) -> Spent {
+    Spent {
+        shifted,
+        assembled,
+        folded,
+        stored,
+        copied: 0,
+        handled: 0,
+    }
+}
+
 #[test]
 fn steps(rt: HostRuntime) {
     for (case, bits, [shifted, assembled, by_bits, by_octets, stored]) in STEPS {
         let bits = bits_of(rt.alloc(), bits).expect(&rt, "memory");
         let slow = hear::<BitCheck>(&rt, rt.alloc(), &bits, 3, 0, false);
+        assert_eq!(rt;
+            slow.spent,
+            steps_of([shifted, assembled, by_bits, stored]),
+            "{case}"
+        );
         let fast = hear::<OctetCheck>(&rt, rt.alloc(), &bits, 3, 0, true);
-        for (spent, folded) in [(slow.spent, by_bits), (fast.spent, by_octets)] {
-            let want = Spent {
-                shifted,
-                assembled,
-                folded,
-                stored,
-                copied: 0,
-                handled: 0,
-            };
-            assert_eq!(rt; spent, want, "{case}");
-        }
+        assert_eq!(rt;
+            fast.spent,
+            steps_of([shifted, assembled, by_octets, stored]),
+            "{case}"
+        );
     }
 }
 

@@ -88,29 +88,27 @@ fn at_the_place_limit(rt: HostRuntime) {
     }
 }
 
+/// An octet behind these bits, from which on this many places are left.
+fn check_octet(rt: &impl Abort, bits: &[bool], octet: u8, room: u64, want: bool) {
+    let left = (1u64 << 60).saturating_sub(room);
+    let origin = left.saturating_sub(bits.len() as u64);
+    let mut decoder = LineDecoder::<OctetCheck>::new(3, origin).expect(rt, "a decoder");
+    for before in bits {
+        decoder.push(*before).expect(rt, "a place");
+    }
+    let count = decoder.place();
+    assert_eq!(rt; decoder.pass_octet(octet), want, "{octet} behind {bits:?}");
+    let past = if want { count + 8 } else { count };
+    assert_eq!(rt; decoder.place(), past, "{octet} behind {bits:?}");
+}
+
 /// An octet is passed exactly where none of its bits stands behind six ones or more, and all have a
 /// place.
 #[test]
 fn octets_at_once(rt: HostRuntime) {
     for (text, octet, want) in OCTETS {
         let bits = bits_of(rt.alloc(), text).expect(&rt, "memory");
-        for room in [7, 8] {
-            let end = bits.len() as u64 + room;
-            let mut decoder = LineDecoder::<OctetCheck>::new(
-                3,
-                (1u64 << 60).saturating_sub(end),
-            ).expect(&rt, "a decoder");
-            for before in &bits {
-                decoder.push(*before).expect(&rt, "a place");
-            }
-            let count = decoder.place();
-            let want = want && room == 8;
-            assert_eq!(&rt; decoder.pass_octet(octet), want, "{octet} behind {text}");
-            assert_eq!(&rt;
-                decoder.place(),
-                if want { count + 8 } else { count },
-                "{octet} behind {text}"
-            );
-        }
+        check_octet(&rt, &bits, octet, 7, false);
+        check_octet(&rt, &bits, octet, 8, want);
     }
 }

@@ -85,12 +85,17 @@ const ROWS: [Row; 5] = [
     },
 ];
 
+/// Pushes the bits of words.
+fn push_words<C: Check>(rt: &impl Abort, alloc: Global, analyser: &mut Analyser<C>, words: &str) {
+    for bit in &bits_of(alloc, words).expect(rt, "memory") {
+        let _ = analyser.push(*bit).expect(rt, "a place");
+    }
+}
+
 fn counted<C: Check>(rt: &impl Abort, alloc: Global, words: &str) -> Spent {
     let dictionary = Dictionary::read(alloc, CALLS).expect(rt, "a dictionary");
     let mut analyser = Analyser::<C>::new(alloc, dictionary, 2, 0).expect(rt, "an analyser");
-    for bit in bits_of(alloc, words).expect(rt, "memory") {
-        let _ = analyser.push(bit).expect(rt, "a place");
-    }
+    push_words(rt, alloc, &mut analyser, words);
     analyser.spent()
 }
 
@@ -137,45 +142,45 @@ const LAST_CALL: Span = Span {
     past: 50225,
 };
 
+fn check_kept(rt: &impl Abort, analyser: &Analyser<OctetCheck>, index: usize, want: Span) {
+    let kept = analyser.history(index).expect(rt, "a frame");
+    assert_eq!(rt; kept.span, want);
+}
+
+/// The first command that is kept.
+const SECOND_CALL: Span = Span {
+    first: 57,
+    past: 98,
+};
+
+const MISSED: Counts = Counts {
+    answered: 0,
+    missing: 1024,
+    spoilt: 0,
+    late: 0,
+};
+
+fn check_long_run(rt: &impl Abort, analyser: &Analyser<OctetCheck>) {
+    assert_eq!(rt; analyser.history_len(), 1024);
+    check_kept(rt, analyser, 0, SECOND_CALL);
+    check_kept(rt, analyser, 1023, LAST_CALL);
+    assert_eq!(rt; analyser.tally(16), MISSED);
+    let pending = analyser.ending().pending.expect(rt, "a command");
+    assert_eq!(rt; pending.span, LAST_CALL);
+    assert_eq!(rt; analyser.spent(), OF_MANY_CALLS);
+    assert_eq!(rt; analyser.spent().total(), 112758);
+}
+
 /// A command 1025 times, each but the last missed by its answer: the deepest history, which has 1024
 /// frames, drops the first.
 #[test]
 fn long_run(rt: HostRuntime) {
     let alloc = rt.alloc();
     let dictionary = Dictionary::read(alloc, CALLS).expect(&rt, "a dictionary");
-    let mut analyser = Analyser::<OctetCheck>::new(alloc, dictionary, 1024, 0).expect(
-        &rt,
-        "an analyser",
-    );
-    for bit in &bits_of(alloc, "flag").expect(&rt, "memory") {
-        let _ = analyser.push(*bit).expect(&rt, "a place");
-    }
-    let again = bits_of(alloc, "call flag").expect(&rt, "memory");
+    let mut analyser = Analyser::new(alloc, dictionary, 1024, 0).expect(&rt, "an analyser");
+    push_words(&rt, alloc, &mut analyser, "flag");
     for _ in 0..1025u64 {
-        for bit in &again {
-            let _ = analyser.push(*bit).expect(&rt, "a place");
-        }
+        push_words(&rt, alloc, &mut analyser, "call flag");
     }
-    assert_eq!(rt; analyser.history_len(), 1024);
-    let oldest = analyser.history(0).map(|kept| kept.span);
-    assert_eq!(rt;
-        oldest,
-        Some(Span {
-            first: 57,
-            past: 98
-        })
-    );
-    let newest = analyser.history(1023).map(|kept| kept.span);
-    assert_eq!(rt; newest, Some(LAST_CALL));
-    let counts = Counts {
-        answered: 0,
-        missing: 1024,
-        spoilt: 0,
-        late: 0,
-    };
-    assert_eq!(rt; analyser.tally(16), counts);
-    let pending = analyser.ending().pending.map(|pending| pending.span);
-    assert_eq!(rt; pending, Some(LAST_CALL));
-    assert_eq!(rt; analyser.spent(), OF_MANY_CALLS);
-    assert_eq!(rt; analyser.spent().total(), 112758);
+    check_long_run(&rt, &analyser);
 }
