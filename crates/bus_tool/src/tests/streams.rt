@@ -111,7 +111,7 @@ const CHECKED: [Row; 4] = [
     Row {
         parts: &[],
         fails: false,
-        events: &[Gave(0), Took(86), Flushed],
+        events: &[Gave(0), Took(93), Flushed],
     },
     Row {
         parts: &[FLAG, CALL, FLAG, REPLY, FLAG],
@@ -123,7 +123,7 @@ const CHECKED: [Row; 4] = [
             Gave(45),
             Gave(8),
             Gave(0),
-            Took(170),
+            Took(184),
             Flushed,
         ],
     },
