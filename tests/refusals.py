@@ -1,22 +1,11 @@
 """Runs the program with each of its requests for memory refused in turn."""
 
-import subprocess
 from dataclasses import replace
 from pathlib import Path
 from typing import List, Tuple
 
 from runs import Ending, differences, run
 from table.case import Case, Refusals, fault
-
-SOURCE = Path(__file__).resolve().parent / "refuse.c"
-
-
-def build_refuser(folder: Path) -> Path:
-    """Compiles what refuses requests for memory; an OSError where there is no `cc`."""
-    library = folder / "refuse.so"
-    words = ["cc", "-O2", "-Wall", "-Werror", "-shared", "-fPIC", "-o", library, SOURCE]
-    subprocess.run(words, check=True)
-    return library
 
 
 def run_refused(program: Path, case: Case, library: Path, number: int) -> Tuple[Ending, int]:

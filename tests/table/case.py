@@ -49,6 +49,25 @@ class Refusals:
 
 
 @dataclass(frozen=True)
+class Counted:
+    """A run whose reads of standard input and writes to standard output are counted.
+
+    Each bound may be left out: the most octets of a read, the read that fails, counted from 1, and the
+    octets that standard output takes before writes fail.
+    """
+
+    case: Case
+    piece: Optional[int] = None
+    failing_read: Optional[int] = None
+    room: Optional[int] = None
+    # How many reads there are to be, the last of which finds the end.
+    reads: Optional[int] = None
+    most_writes: Optional[int] = None
+    # All calls in their order, `read N` and `write N`.
+    calls: Optional[Sequence[str]] = None
+
+
+@dataclass(frozen=True)
 class Turn:
     """What is sent down a pipe, and what then comes, while the pipe stays open."""
 
