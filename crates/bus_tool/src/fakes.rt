@@ -28,22 +28,6 @@ impl Read for Pieces<'_> {
     }
 }
 
-/// Gives two pieces, each as far as it is asked for. An empty one is passed over.
-#[derive(Drop)]
-pub struct Halves<'a> {
-    pub first: &'a [u8],
-    pub second: &'a [u8],
-}
-
-impl Read for Halves<'_> {
-    fn read(&mut self, buf: &mut [u8]) -> io::Result<usize> {
-        if self.first.is_empty() {
-            return self.second.read(buf);
-        }
-        self.first.read(buf)
-    }
-}
-
 /// Gives the same octets `left` times, once each call, and then the end.
 #[derive(Drop)]
 pub struct Repeated<'a> {

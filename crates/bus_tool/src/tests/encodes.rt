@@ -44,18 +44,6 @@ fn encodes(rt: HostRuntime) {
     }
 }
 
-#[test]
-fn digits_of_either_case(rt: HostRuntime) {
-    let mut lower = Vec::new(rt.alloc());
-    let mut upper = Vec::new(rt.alloc());
-    let mut reader: &[u8] = b"frame 10abcdef";
-    assert_eq!(rt; encode_frames(100, &mut reader, &mut lower), Ok(()));
-    let mut reader: &[u8] = b"frame 10aBCdEF";
-    assert_eq!(rt; encode_frames(100, &mut reader, &mut upper), Ok(()));
-    assert_eq!(rt; lower.as_slice(), upper.as_slice());
-    assert!(rt; !lower.is_empty());
-}
-
 /// A text with `count` times this octet in its middle.
 fn filled(
     alloc: Global,
@@ -158,21 +146,6 @@ fn judged_early(rt: HostRuntime) {
 }
 
 #[test]
-fn any_cut(rt: HostRuntime) {
-    for piece in [1, 2, 5, 13, 4096] {
-        let mut reader = Pieces {
-            rest: THREE,
-            piece,
-            calls: 0,
-            fails_at: 0,
-        };
-        let mut out = Vec::new(rt.alloc());
-        assert_eq!(rt; encode_frames(100, &mut reader, &mut out), Ok(()));
-        assert_eq!(rt; out.as_slice(), THREE_TEXT.as_bytes());
-    }
-}
-
-#[test]
 fn endless_reader(rt: HostRuntime) {
     let mut reader = Repeated {
         octets: b"\n",
@@ -198,29 +171,6 @@ fn given(octets: u64) -> usize {
         74
     } else {
         THREE_TEXT.len()
-    }
-}
-
-#[test]
-fn failing_reader(rt: HostRuntime) {
-    for fails_at in 1..=32 {
-        let mut reader = Pieces {
-            rest: THREE,
-            piece: 1,
-            calls: 0,
-            fails_at,
-        };
-        let mut out = Vec::new(rt.alloc());
-        assert_eq!(rt;
-            encode_frames(100, &mut reader, &mut out),
-            Err(ToolFault::Read)
-        );
-        let text = THREE_TEXT
-            .as_bytes()
-            .get(..given(fails_at - 1))
-            .expect(&rt, "cut");
-        assert_eq!(rt; out.as_slice(), text);
-        assert_eq!(rt; reader.calls, fails_at);
     }
 }
 

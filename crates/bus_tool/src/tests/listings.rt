@@ -1,9 +1,9 @@
 //! Captures by honest and by failing readers and writers.
 
-use crate::fakes::{Counted, Halves, Narrow, Pieces, Repeated};
+use crate::fakes::{Counted, Narrow, Pieces, Repeated};
 use crate::tests::worked::{
-    ANSWERED, CALL, CALL_AND_REPLY, CALL_AND_REPLY_TEXT, CALL_TEXT, CALLS, FLAG, IDLE,
-    MISSING_AND_SPOILT, MISSING_AND_SPOILT_REPORT, NONE, joined, of_text, run_over,
+    CALL, CALL_AND_REPLY, CALL_AND_REPLY_TEXT, CALL_TEXT, CALLS, FLAG, IDLE, MISSING_AND_SPOILT,
+    MISSING_AND_SPOILT_REPORT, NONE, joined, of_text, run_over,
 };
 use crate::{Options, Summary, ToolFault, check_capture, list_capture};
 use bus_dictionary::DictFault;
@@ -28,20 +28,6 @@ fn narrow(rt: &HostRuntime, room: usize, takes_none: bool, fails_flush: bool) ->
         takes_none,
         fails_flush,
         flushes: 0,
-    }
-}
-
-#[test]
-fn any_cut(rt: HostRuntime) {
-    let capture = joined(rt.alloc(), &CALL_AND_REPLY).expect(&rt, "memory");
-    assert_eq!(rt; capture.len(), 106);
-    for at in 0..=capture.len() {
-        let (first, second) = capture.as_slice().split_at_checked(at).expect(&rt, "cut");
-        let mut reader = Halves { first, second };
-        let mut out = Vec::new(rt.alloc());
-        let ending = list_capture(rt.alloc(), &of_text(Some(CALLS)), &mut reader, &mut out);
-        assert_eq!(rt; ending, Ok(ANSWERED), "{at}");
-        assert_eq!(rt; out.as_slice(), CALL_AND_REPLY_TEXT.as_bytes());
     }
 }
 
@@ -72,19 +58,6 @@ pub fn spaced(alloc: Global, capture: &[u8], spaces: usize) -> Result<Vec<u8>, A
 }
 
 #[test]
-fn many_spaces(rt: HostRuntime) {
-    let capture = joined(rt.alloc(), &CALL_AND_REPLY).expect(&rt, "memory");
-    let wide = spaced(rt.alloc(), capture.as_slice(), 5000).expect(&rt, "memory");
-    for piece in [4097, 1000000] {
-        let mut reader = pieces(wide.as_slice(), piece, 0);
-        let mut out = Vec::new(rt.alloc());
-        let ending = list_capture(rt.alloc(), &of_text(Some(CALLS)), &mut reader, &mut out);
-        assert_eq!(rt; ending, Ok(ANSWERED));
-        assert_eq!(rt; out.as_slice(), CALL_AND_REPLY_TEXT.as_bytes());
-    }
-}
-
-#[test]
 fn endless_reader(rt: HostRuntime) {
     let options = Options {
         reads: 20,
@@ -101,33 +74,6 @@ fn endless_reader(rt: HostRuntime) {
         assert_eq!(rt; ending, Err(ToolFault::ReadsLimit));
         assert_eq!(rt; out.as_slice(), text.as_bytes());
         assert_eq!(rt; reader.calls, 20);
-    }
-}
-
-#[test]
-fn failing_reader(rt: HostRuntime) {
-    let capture = joined(rt.alloc(), &CALL_AND_REPLY).expect(&rt, "memory");
-    // The first line is decided by octet 57, the others by octet 106.
-    for fails_at in 1..=107 {
-        let text = match fails_at {
-            ..=57 => "",
-            ..=106 => CALL_TEXT,
-            _ => CALL_AND_REPLY_TEXT,
-        };
-        for (checks, text) in [(false, text), (true, "")] {
-            let mut reader = pieces(capture.as_slice(), 1, fails_at);
-            let mut out = Vec::new(rt.alloc());
-            let ending = run_over(
-                checks,
-                rt.alloc(),
-                &of_text(Some(CALLS)),
-                &mut reader,
-                &mut out,
-            );
-            assert_eq!(rt; ending, Err(ToolFault::Read));
-            assert_eq!(rt; out.as_slice(), text.as_bytes(), "{fails_at}");
-            assert_eq!(rt; reader.calls, fails_at);
-        }
     }
 }
 

@@ -1,8 +1,7 @@
 //! Packed captures.
 
-use crate::fakes::{Halves, Pieces};
 use crate::tests::worked::{CALL_TEXT, NONE, ONE_CALL_TEXT, PACKED, of_packed, run_over};
-use crate::{Summary, ToolFault, list_capture};
+use crate::{Summary, ToolFault};
 
 /// One frame was seen.
 const FRAME: Summary = Summary { frames: 1, ..NONE };
@@ -49,51 +48,6 @@ fn faults(rt: HostRuntime) {
             } else if want.is_err() {
                 assert!(rt; out.is_empty());
             }
-        }
-    }
-}
-
-#[test]
-fn any_cut(rt: HostRuntime) {
-    for at in 0..=PACKED.len() {
-        let (first, second) = PACKED.split_at_checked(at).expect(&rt, "cut");
-        let mut reader = Halves { first, second };
-        let mut out = Vec::new(rt.alloc());
-        let ending = list_capture(rt.alloc(), &of_packed(), &mut reader, &mut out);
-        assert_eq!(rt; ending, Ok(FRAME), "{at}");
-        assert_eq!(rt; out.as_slice(), ONE_CALL_TEXT.as_bytes());
-    }
-    let mut reader = Pieces {
-        rest: &PACKED,
-        piece: 1,
-        calls: 0,
-        fails_at: 0,
-    };
-    let mut out = Vec::new(rt.alloc());
-    let ending = list_capture(rt.alloc(), &of_packed(), &mut reader, &mut out);
-    assert_eq!(rt; ending, Ok(FRAME));
-    assert_eq!(rt; out.as_slice(), ONE_CALL_TEXT.as_bytes());
-    // Each octet by a call of its own, and one call for the end.
-    assert_eq!(rt; reader.calls, 25);
-}
-
-#[test]
-fn cut_short(rt: HostRuntime) {
-    for count in 0..PACKED.len() {
-        for checks in [false, true] {
-            let mut reader = PACKED.get(..count).expect(&rt, "cut");
-            let mut out = Vec::new(rt.alloc());
-            let want = if count < 16 {
-                ToolFault::ShortHead
-            } else {
-                ToolFault::ShortBody
-            };
-            assert_eq!(rt;
-                run_over(checks, rt.alloc(), &of_packed(), &mut reader, &mut out),
-                Err(want),
-                "{count}"
-            );
-            assert!(rt; out.is_empty());
         }
     }
 }
