@@ -1,12 +1,13 @@
 """Rows of reads and writes: cut in any way, counted, and failing in turn."""
 
 from dataclasses import replace
-from typing import Iterator
+from typing import Iterator, List, Optional, Tuple
 
-from .captures import CALL, CALLS, FLAG, IDLE, PACKED, REPLY, text
+from .captures import CALL, CALLS, FLAG, IDLE, PACKED, REPLY, STATES, text
 from .case import Case, Counted, fault
-from .checks import MISSING_AND_SPOILT_REPORT
+from .checks import MISSING_AND_SPOILT_REPORT, report
 from .lists import MISSING_AND_SPOILT, MISSING_AND_SPOILT_LINES, ONE_CALL_LINES
+from .shows import STATE, STATE_TEXT
 
 BY_CALLS = ["list", "--bits", "--dict", CALLS]
 
@@ -45,6 +46,11 @@ ENCODE = Case(
 
 WHOLE = [LIST, LIST_PACKED, CHECK, ENCODE]
 
+SHOW = Case("a frame that is shown", ["show", "--dict", STATES, STATE], stdout=STATE_TEXT)
+
+# A page of output has 16384 octets, and is written before fewer than 1024 of them are free.
+FULL_PAGE = 16384 - 1024
+
 
 def named(case: Case, name: str) -> Case:
     return replace(case, name=f"{case.name}, {name}")
@@ -82,14 +88,18 @@ def failing_reads() -> Iterator[Counted]:
             yield Counted(case, piece=1, failing_read=number, reads=number)
 
 
+def with_room(whole: Case, room: int, piece: Optional[int] = None) -> Counted:
+    """A run whose output has room for so many octets, and fewer than it wants."""
+    case = named(whole, f"with room for {room} octets")
+    case = replace(case, stdout=whole.stdout[:room], stderr=fault("write failed"), status=2)
+    return Counted(case, piece=piece, room=room)
+
+
 def failing_writes() -> Iterator[Counted]:
     """Standard output takes fewer octets than there are: what fits went out."""
-    for whole in WHOLE:
+    for whole in [*WHOLE, SHOW]:
         for room in range(len(whole.stdout)):
-            case = named(whole, f"with room for {room} octets")
-            stdout = whole.stdout[:room]
-            case = replace(case, stdout=stdout, stderr=fault("write failed"), status=2)
-            yield Counted(case, room=room)
+            yield with_room(whole, room)
 
 
 def lines_in_time() -> Iterator[Counted]:
@@ -137,21 +147,85 @@ IN_ORDER = [
 ]
 
 
-def many_calls() -> Counted:
-    """A thousand calls, each missed by the next, in few writes."""
-    count = 1000
+def call_places(count: int) -> List[Tuple[int, int]]:
+    """Where so many calls begin and end, one behind the other: each has 41 bits, and a flag eight."""
+    return [(8 + 49 * number, 8 + 49 * number + 41) for number in range(count)]
+
+
+def capture_of_calls(count: int) -> bytes:
+    return text(FLAG, *[CALL + FLAG] * count).replace(b" ", b"")
+
+
+def listing_of_calls(count: int) -> str:
+    """Each call is missed by the next, and the last waits for its answer."""
     lines = []
-    for number in range(count):
-        first = 8 + 49 * number
-        lines.append(f"{first} {first + 41} frame 108300fde5 station 16 type 0 call\n")
-        if number > 0:
-            lines.append(f"{first - 49} {first - 8} missing station 16 type 0\n")
-    last = 8 + 49 * (count - 1)
-    lines.append(f"{last} {last + 41} pending station 16 type 0\n")
-    stdin = text(FLAG, *[CALL + FLAG] * count).replace(b" ", b"")
-    stdout = "".join(lines)
-    case = Case("a thousand calls", BY_CALLS, stdin, stdout)
-    return Counted(case, most_writes=len(stdout) // 4096)
+    waiting = ""
+    for first, past in call_places(count):
+        lines.append(f"{first} {past} frame 108300fde5 station 16 type 0 call\n{waiting}")
+        waiting = f"{first} {past} missing station 16 type 0\n"
+    return "".join(lines) + waiting.replace("missing", "pending")
+
+
+LONG_LISTING = Case("a thousand calls", BY_CALLS, capture_of_calls(1000), listing_of_calls(1000))
+
+LONG_REPORT = Case(
+    "a check of 1100 calls",
+    ["check", "--bits", "--dict", CALLS, "--depth", "1024"],
+    capture_of_calls(1100),
+    report(
+        "station 16 answered 0 missing 1099 spoilt 0 late 0",
+        *[f"last {first} {past} 108300fde5" for first, past in call_places(1100)[-1024:]],
+        frames=1100,
+        missing=1099,
+    ),
+    status=1,
+)
+
+
+def few_writes() -> Iterator[Counted]:
+    """Each write of a listing has a full page or what one read decided, and that of a report but the
+    last has a full page."""
+    pages = len(LONG_LISTING.stdout) // FULL_PAGE
+    for piece in [100, 4096, 16384]:
+        reads = -(-len(LONG_LISTING.stdin) // piece) + 1
+        case = named(LONG_LISTING, f"by reads of {piece}")
+        yield Counted(case, piece=piece, reads=reads, most_writes=reads + pages)
+    yield Counted(LONG_REPORT, most_writes=len(LONG_REPORT.stdout) // FULL_PAGE + 1)
+
+
+def failing_pages() -> Iterator[Counted]:
+    """Writes fail round the end of a page."""
+    edges = [FULL_PAGE, 16384, 2 * FULL_PAGE]
+    rooms = [0, 15000, 20000, *[edge + more for edge in edges for more in (-1, 0, 1)]]
+    for whole in [LONG_LISTING, LONG_REPORT]:
+        most = len(whole.stdout) - 1
+        for room in [*[room for room in rooms if room < most], most]:
+            for piece in [100, None]:
+                yield with_room(whole, room, piece)
+
+
+def cut_short() -> Iterator[Counted]:
+    """Each shorter front of a packed capture: its head has 16 octets, and its last octet ends the flag
+    without which no line is decided."""
+    for words in [["list", "--dict", CALLS], ["check", "--dict", CALLS]]:
+        for count in range(len(PACKED)):
+            why = "short head" if count < 16 else "short body"
+            case = Case(
+                f"{words[0]} of {count} octets of a packed capture",
+                words,
+                stdin=PACKED[:count],
+                stderr=fault(f"capture: {why}"),
+                status=2,
+            )
+            yield Counted(case)
+
+
+def many_spaces() -> Iterator[Counted]:
+    """Behind each bit stand 5000 spaces, which change no place."""
+    wide = b"".join(bytes([bit]) + b" " * 5000 for bit in ANSWERED)
+    for piece in [4097, None]:
+        case = replace(LIST, name=f"many spaces, by reads of {piece or 'any size'}", stdin=wide)
+        yield Counted(case, piece=piece)
 
 
 COUNTED = [
@@ -160,7 +234,10 @@ COUNTED = [
     *failing_writes(),
     *lines_in_time(),
     *IN_ORDER,
-    many_calls(),
+    *few_writes(),
+    *failing_pages(),
+    *cut_short(),
+    *many_spaces(),
     Counted(
         Case("missing and spoilt", BY_CALLS, MISSING_AND_SPOILT, MISSING_AND_SPOILT_LINES),
         piece=7,

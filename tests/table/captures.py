@@ -33,8 +33,8 @@ SHORT = "0" * 24
 # Eight bits more than a frame of three octets and its check.
 LONG = "0" * 48
 
-# The longest frame has three octets.
-CALLS = """version = 1
+# A call and its reply.
+CALL_AND_REPLY = """version = 1
 [[frame]]
 type = 0
 name = "call"
@@ -44,25 +44,19 @@ answered = true
 type = 128
 name = "reply"
 length = 0
-[[frame]]
+"""
+
+# The longest frame has three octets.
+CALLS = f"""{CALL_AND_REPLY}[[frame]]
 type = 9
 name = "notice"
 length = 0
 """
 
 # The call and its reply, which is to begin within sixteen bits.
-WITHIN = """version = 2
-[[frame]]
-type = 0
-name = "call"
-length = 0
-answered = true
-window = 16
-[[frame]]
-type = 128
-name = "reply"
-length = 0
-"""
+WITHIN = CALL_AND_REPLY.replace("version = 1", "version = 2").replace(
+    "answered = true\n", "answered = true\nwindow = 16\n"
+)
 
 # The same in version 1, which has no windows.
 WITHIN_1 = WITHIN.replace("version = 2", "version = 1")

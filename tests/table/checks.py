@@ -180,6 +180,29 @@ REPORTS = [
     ),
 ]
 
+
+def answer_in_window(
+    name: str, dictionary: str, capture: bytes, first: int, is_late: bool = False
+) -> Case:
+    """A check of a call and its reply, which begins at `first`: late alone is amiss."""
+    late = int(is_late)
+    answered = 1 - late
+    return Case(
+        name=name,
+        words=["check", "--bits", "--dict", dictionary],
+        stdin=capture,
+        stdout=report(
+            f"station 16 answered {answered} missing 0 spoilt 0 late {late}",
+            "last 8 49 108300fde5",
+            f"last {first} {first + 41} 108380f561",
+            frames=2,
+            answered=answered,
+            late=late,
+        ),
+        status=late,
+    )
+
+
 STATUSES = [
     Case(
         name="damage alone is amiss",
@@ -195,43 +218,9 @@ STATUSES = [
         stdout=report(overlong=1),
         status=1,
     ),
-    Case(
-        name="a late answer alone is amiss",
-        words=["check", "--bits", "--dict", WITHIN],
-        stdin=LATE,
-        stdout=report(
-            "station 16 answered 0 missing 0 spoilt 0 late 1",
-            "last 8 49 108300fde5",
-            "last 73 114 108380f561",
-            frames=2,
-            late=1,
-        ),
-        status=1,
-    ),
-    Case(
-        name="an answer at the end of its window is in time",
-        words=["check", "--bits", "--dict", WITHIN],
-        stdin=IN_TIME,
-        stdout=report(
-            "station 16 answered 1 missing 0 spoilt 0 late 0",
-            "last 8 49 108300fde5",
-            "last 65 106 108380f561",
-            frames=2,
-            answered=1,
-        ),
-    ),
-    Case(
-        name="an answer that only version 2 calls late",
-        words=["check", "--bits", "--dict", WITHIN_1],
-        stdin=LATE,
-        stdout=report(
-            "station 16 answered 1 missing 0 spoilt 0 late 0",
-            "last 8 49 108300fde5",
-            "last 73 114 108380f561",
-            frames=2,
-            answered=1,
-        ),
-    ),
+    answer_in_window("a late answer alone is amiss", WITHIN, LATE, first=73, is_late=True),
+    answer_in_window("an answer at the end of its window is in time", WITHIN, IN_TIME, first=65),
+    answer_in_window("an answer that only version 2 calls late", WITHIN_1, LATE, first=73),
     Case(
         name="a missing answer alone is amiss",
         words=[*BY_CALLS, "--depth=1"],

@@ -22,6 +22,15 @@ ENCODES = [
         stdin=b"frame 108300\nidle\nframe 1083fe\n",
         stdout=line(FLAG, CALL, FLAG) + line(IDLE) + line(FLAG, TYPE_254, FLAG),
     ),
+    *[
+        Case(
+            name=f"digits of either case: {digits}",
+            words=ENCODE,
+            stdin=f"frame {digits}".encode(),
+            stdout=line(FLAG, sent(bytes.fromhex("10abcdef")), FLAG),
+        )
+        for digits in ["10abcdef", "10aBCdEF", "10ABCDEF"]
+    ],
     # Where a flag or a frame stands before it, its closing flag opens the next.
     Case(
         name="a frame behind a flag",

@@ -143,6 +143,16 @@ def chosen(lines: str, *numbers: int) -> str:
     return "".join(every[number - 1] for number in numbers)
 
 
+def idle_behind_call(name: str, dictionary: str, frame: str, lines: str) -> Case:
+    """A call, an idle line and a frame, which gives these lines behind those of the others."""
+    return Case(
+        name=name,
+        words=["list", "--bits", "--dict", dictionary],
+        stdin=text(FLAG, CALL, FLAG, IDLE, FLAG, frame, FLAG),
+        stdout=f"{CALL_LINE}57 72 idle\n{lines}",
+    )
+
+
 def of_kind(lines: str, kind: str) -> str:
     """The lines of a kind, whose word stands third."""
     every = lines.splitlines(keepends=True)
@@ -300,13 +310,11 @@ PIECES = [
         stdin=text(FLAG, "00001"),
         stdout="8 13 open\n",
     ),
-    Case(
-        name="what is encoded",
-        words=BY_CALLS,
-        stdin=text(FLAG, CALL, FLAG, IDLE, FLAG, TYPE_254, FLAG),
-        stdout="""\
-8 49 frame 108300fde5 station 16 type 0 call
-57 72 idle
+    idle_behind_call(
+        "what is encoded",
+        CALLS,
+        TYPE_254,
+        """\
 80 122 frame 1083fe0cfb station 16 type 254 unknown
 8 49 missing station 16 type 0
 80 122 stray station 16 type 254
@@ -338,13 +346,11 @@ PIECES = [
         stdin=LATE,
         stdout=LATE_LINES,
     ),
-    Case(
-        name="an idle line within a window",
-        words=["list", "--bits", "--dict", WITHIN.replace("16", "31")],
-        stdin=text(FLAG, CALL, FLAG, IDLE, FLAG, REPLY, FLAG),
-        stdout="""\
-8 49 frame 108300fde5 station 16 type 0 call
-57 72 idle
+    idle_behind_call(
+        "an idle line within a window",
+        WITHIN.replace("16", "31"),
+        REPLY,
+        """\
 80 121 frame 108380f561 station 16 type 128 reply
 8 49 answered station 16 type 0
 """,

@@ -2,9 +2,10 @@
 use Rattle.std.proofs.Common.{◌≡◌, ℕ, ◌+◌, ◌-◌, ◌*◌, ◌/◌, ◌<◌, ◌≤◌, ◌^◌, Bool, true, false, nat_lt, if◌then◌else◌, List, [], ◌∷◌, ◌++◌, length, take, drop, get_or, Option, Some, None, Result, Ok, Err, MatchResult, refl, sym, ap, ◌∙◌, subst, arith, append_assoc, append-nil}
 use Rattle.std.specs.Int.{next_multiple_of}
 use Rattle.std.specs.List.{list_any}
+use Rattle.std.proofs.lemmas.List.{take-append-drop}
 use Rattle.std.specs.Result.{IsErrAnd}
 use Rattle.std.proofs.lemmas.Grind.{common_steps}
-use Rattle.bus_bits.specs.Octet.{bits_of_octets}
+use Rattle.bus_bits.specs.Octet.{bits_of, bits_of_octets}
 use Rattle.bus_bits.specs.Capture.{Capture, CaptureFault, pad_bits, trailing, GrowsTo, CappedGrows, capped}
 use Rattle.bus_bits.specs.Packed.{PackedIsHeaded, PackedGrows, PackedAfter, packed_capture, packed_body, wanted, unused, headed, head_bits, head_fault}
 use Rattle.bus_capture.specs.Internal.Watching.{Watches, Halts}
@@ -55,6 +56,29 @@ pub octet-taken : {C : Type 0} (folded : C → List ℕ → Type 0) (cost : ℕ)
 octet-taken folded cost start now w xs left b (Ok u) low read is h = record { read = read; bits = subst (Watches folded cost start now w) (sym is) h }
 octet-taken folded cost start now w xs left b (Err f) low read is h =
     halts-stops folded cost start now w (packed_capture xs) f low (subst (λ (x : List Bool). Halts folded cost start now w x f) (sym is) h)
+
+-- the first octet
+pub first-octet : (xs os : List ℕ) → 0 < length os → xs ++ get_or os 0 0 ∷ [] ≡ xs ++ take 1 os
+first-octet xs [] h = absurd (omega (arith, h))
+first-octet xs (o ∷ os) h = refl
+
+-- no octets give no bits
+pub none-joined : (xs os : List ℕ) (left n x : ℕ) → n ≡ 0 → IsHeaded left xs
+    → IsHeaded left (xs ++ take 0 os) × ((packed_capture (xs ++ take 0 os)).bits ≡ (packed_capture xs).bits ++ bits_of n x)
+unfolding bits_of
+none-joined xs os left n x e h = (
+  subst (IsHeaded left) (sym (append-nil xs)) h,
+  ap (λ (ys : List ℕ). (packed_capture ys).bits) (append-nil xs)
+      ∙ sym (ap (λ (k : ℕ). (packed_capture xs).bits ++ bits_of k x) e ∙ append-nil (packed_capture xs).bits),
+)
+
+-- all octets give more than some of their first
+pub packed-front : PackedGrows → CappedGrows → (origin : ℕ) (xs os : List ℕ) (k : ℕ)
+    → GrowsTo (capped origin (packed_capture (xs ++ take k os))) (capped origin (packed_capture (xs ++ os)))
+packed-front law places origin xs os k =
+    places origin (packed_capture (xs ++ take k os)) (packed_capture (xs ++ os))
+    (subst (λ (ys : List ℕ). GrowsTo (packed_capture (xs ++ take k os)) (packed_capture ys))
+    (append_assoc xs (take k os) (drop k os) ∙ ap (λ (ys : List ℕ). xs ++ ys) (take-append-drop k os)) (law (xs ++ take k os) (drop k os)))
 
 -- all octets give more than those up to one of them
 pub packed-grown : PackedGrows → CappedGrows → (origin : ℕ) (xs os : List ℕ) (i x : ℕ) → i < length os → x ≡ get_or os i 0
@@ -123,12 +147,6 @@ head-filled items xs os h n e k short enough is =
 -- a slice to the end
 pub slice-rest : (k : ℕ) (os : List ℕ) → take (length os - k) (drop k os) ≡ drop k os
 slice-rest k os = grind (arith, common_steps)
-
--- what is kept was followed as before
-pub kept-both : {C : Type 0} (folded : C → List ℕ → Type 0) (cost : ℕ) (start now : Option (List ℕ)) (old new : ℕ) (w v : CaptureRun C) (xs : List ℕ)
-    → (new ≡ old) × (v ≡ w) → FollowsBody folded cost start now old w xs → FollowsBody folded cost start now new v xs
-kept-both folded cost start now old new w v xs k f =
-    subst (λ n. FollowsBody folded cost start now n v xs) (sym k.0) (subst (λ u. FollowsBody folded cost start now old u xs) (sym k.1) f)
 
 -- what was refused, where `map_err` answered an error
 pub err-mapped : {T E D : Type 0} (P : T → Type 0) (Q : E → Type 0) (Gives : E → D → Type 0) (r : Result T E) (m : Result T D) (d : D)
