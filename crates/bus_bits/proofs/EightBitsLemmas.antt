@@ -1,6 +1,6 @@
 -- Eight octets `0` and `1` in one number, and the octet with their bits.
-use Rattle.std.proofs.Common.{◌≡◌, ℕ, zero, suc, ◌+◌, ◌*◌, ◌/◌, ◌%◌, ◌^◌, ◌<◌, ◌==◌, ◌||◌, ◌⊎◌, inl, inr, Bool, true, cond, nat_lt, List, [], ◌∷◌, ◌++◌, length, map, None, bit_and, refl, sym, ap, ◌∙◌, arith, append_assoc}
-use Rattle.std.proofs.lemmas.Bool.{and_parts, and_from, eqb-true}
+use Rattle.std.proofs.Common.{◌≡◌, ℕ, zero, suc, ◌+◌, ◌*◌, ◌/◌, ◌%◌, ◌^◌, ◌<◌, ◌==◌, ◌||◌, ◌⊎◌, inl, inr, Bool, true, ◌&&◌, cond, nat_lt, List, [], ◌∷◌, ◌++◌, length, map, None, bit_and, refl, sym, ap, ◌∙◌, subst, arith, append_assoc}
+use Rattle.std.proofs.lemmas.Bool.{cases_order, and_parts, and_from, eqb-true}
 use Rattle.std.proofs.lemmas.Bool.Decides.{nat_tests}
 use Rattle.std.proofs.lemmas.List.{append-nil, length-map}
 use Rattle.std.proofs.lemmas.List.Elements.{All-head, All-tail, All-cons}
@@ -13,7 +13,24 @@ use Rattle.bus_bits.specs.Octet.{bits_of, number}
 use Rattle.bus_bits.specs.Capture.{is_bit, text_bits, text_fault}
 use Rattle.bus_bits.proofs.OctetLemmas.{bits-number, number-lt}
 use Rattle.bus_bits.proofs.TextBitsLemmas.{text-more, mark_text}
-use Rattle.bus_bits.proofs.ReverseLemmas.{upto, upto-all}
+
+-- ---- tests of all numbers
+
+-- a test of each number below n
+unfoldable pub upto : (ℕ → Bool) → ℕ → Bool
+upto p zero = true
+upto p (suc n) = p n && upto p n
+
+pub upto-all : (p : ℕ → Bool) (n : ℕ) → upto p n ≡ true → (i : ℕ) → i < n → p i ≡ true
+unfolding upto
+upto-all p zero h i l = absurd (omega (arith, l))
+upto-all p (suc n) h i l =
+    let both = and_parts (p n) (upto p n) h in
+    elim (cases_order i n) [
+      | inl e ↦ subst (λ (x : ℕ). p x ≡ true) (sym e) both.0
+      | inr (inl k) ↦ upto-all p n both.1 i k
+      | inr (inr k) ↦ absurd (omega (arith, l, k))
+    ]
 
 -- ---- numbers of octets
 

@@ -2,7 +2,6 @@ pub mod CaptureLemmas
 pub mod EightBitsLemmas
 pub mod EightBitsOfNineLemmas
 pub mod OctetLemmas
-pub mod ReverseLemmas
 pub mod PackedLemmas
 pub mod TextBitsLemmas
 mod Examples

@@ -1,10 +1,13 @@
 -- Octets, their bits and numbers.
-use Rattle.std.proofs.Common.{◌≡◌, ℕ, zero, suc, ◌+◌, ◌*◌, ◌/◌, ◌%◌, ◌^◌, ◌<◌, ◌==◌, Bool, true, false, cond, List, [], ◌∷◌, ◌++◌, length, refl, sym, ap, ◌∙◌, arith, length-append}
+use Rattle.std.proofs.Common.{◌≡◌, ℕ, zero, suc, ◌+◌, ◌*◌, ◌/◌, ◌%◌, ◌^◌, ◌<◌, ◌≤◌, ◌==◌, Bool, true, false, cond, List, [], ◌∷◌, ◌++◌, length, refl, sym, ap, ◌∙◌, arith, length-append}
 use Rattle.std.proofs.lemmas.List.{append-nil, flat_map_more}
 use Rattle.std.proofs.lemmas.List.Elements.{All-head, All-tail}
 use Rattle.std.proofs.lemmas.Grind.{flat_map-append}
 use Rattle.std.proofs.Math.Nat.{pow-suc, mul_assoc}
 use Rattle.std.proofs.lemmas.Bool.Decides.{nat_tests}
+use Rattle.std.proofs.lemmas.Nat.{shr-shr, field_of}
+use Rattle.std.proofs.Math.Pow.{mod-mod-pow}
+use mir.Val.{bool_byte}
 use Rattle.std.specs.List.{flat_map, All}
 use Rattle.bus_bits.specs.Octet.{bits_of, bits_of_octets, number, octets}
 
@@ -54,6 +57,36 @@ pub length-bits : (k n : ℕ) → length (bits_of k n) ≡ k
 unfolding bits_of
 length-bits zero n = refl
 length-bits (suc k) n = ap suc (length-bits k (n / 2))
+
+-- the bits of a number, some and the others
+pub bits-split : (j k n : ℕ) → bits_of (j + k) n ≡ bits_of j n ++ bits_of k (n / 2 ^ j)
+unfolding bits_of
+bits-split zero k n =
+    let e : n ≡ n / 1 = omega arith in
+    let z : 0 + k ≡ k = omega arith in ap (λ (i : ℕ). bits_of i n) z ∙ ap (bits_of k) e
+bits-split (suc j) k n =
+    let c : suc j + k ≡ suc (j + k) = omega arith in
+    let f : 1 + j ≡ suc j = omega arith in
+    ap (λ (i : ℕ). bits_of i n) c ∙ ap (λ (z : List Bool). (n % 2 == 1) ∷ z) (bits-split j k (n / 2) ∙ ap (λ (x : ℕ). bits_of j (n / 2) ++ bits_of k x) (shr-shr n 1 j ∙ ap (λ (i : ℕ). n / 2 ^ i) f))
+
+-- a bit alone
+pub one_bit : (x n : ℕ) (bit : Bool) → x ≡ bool_byte bit → 1 ≤ n → n ≤ 1 → bits_of n x ≡ bit ∷ []
+unfolding bits_of
+one_bit x n bit e l h = let k : n ≡ 1 = omega (arith, l, h) in ap (λ (i : ℕ). bits_of i x) k ∙ (ap (bits_of 1) e ∙ each bit)
+  where
+    each : (bit : Bool) → bits_of 1 (bool_byte bit) ≡ bit ∷ []
+    each true = refl
+    each false = refl
+
+-- higher bits do not count
+pub bits-low : (k n : ℕ) → bits_of k (n % 2 ^ k) ≡ bits_of k n
+unfolding bits_of
+bits-low zero n = refl
+bits-low (suc k) n =
+    let s : suc k ≡ k + 1 = omega arith in
+    let h : n % 2 ^ suc k / 2 ≡ n / 2 % 2 ^ k = ap (λ (j : ℕ). n % 2 ^ j / 2) s ∙ field_of n k 1 in
+    let l : n % 2 ^ suc k % 2 ≡ n % 2 = ap (λ (j : ℕ). n % 2 ^ j % 2) s ∙ mod-mod-pow n k 1 in
+    ap (λ (x : ℕ). (x == 1) ∷ bits_of k (n % 2 ^ suc k / 2)) l ∙ ap (λ (z : List Bool). (n % 2 == 1) ∷ z) (ap (bits_of k) h ∙ bits-low k (n / 2))
 
 pub bit_is : (n : ℕ) → cond (n % 2 == 1) 1 0 ≡ n % 2
 bit_is n = grind (arith, nat_tests)

@@ -1,6 +1,6 @@
 -- Packed captures, one octet more and any cut.
-use Rattle.std.proofs.Common.{◌≡◌, ℕ, zero, suc, ◌+◌, ◌-◌, ◌*◌, ◌/◌, ◌%◌, ◌^◌, ◌<◌, ◌≤◌, ◌==◌, inl, inr, Bool, true, false, nat_lt, if◌then◌else◌, List, [], ◌∷◌, ◌++◌, length, take, drop, codes, slice_range, Option, Some, None, refl, sym, ap, ◌∙◌, arith, length-append}
-use Rattle.std.proofs.lemmas.List.{append-nil, length-take, take_all, drop_all, take_at, take-append-le, drop-append-le, length-drop, drop_at}
+use Rattle.std.proofs.Common.{◌≡◌, ℕ, zero, suc, ◌+◌, ◌-◌, ◌*◌, ◌/◌, ◌%◌, ◌^◌, ◌<◌, ◌≤◌, ◌==◌, inl, inr, Bool, true, false, nat_lt, if◌then◌else◌, List, [], ◌∷◌, ◌++◌, length, take, drop, codes, slice_range, Option, Some, None, All, refl, sym, ap, ◌∙◌, subst, arith, length-append, append_assoc}
+use Rattle.std.proofs.lemmas.List.{append-nil, length-take, take_all, drop_all, take_at, take-append-le, drop-append-le, length-drop, drop_at, take-append-drop}
 use Rattle.std.proofs.Math.Seq.{take-append-add, drop-append-add}
 use Rattle.std.specs.Int.{w64, from_le_bytes, next_multiple_of}
 use Rattle.std.specs.List.{list_any, starts_with}
@@ -9,7 +9,8 @@ use Rattle.bus_bits.specs.Octet.{bits_of, bits_of_octets}
 use Rattle.bus_bits.specs.Capture.{Capture, CaptureFault, magic, too_many, pad_bits, trailing, short_head, short_body, GrowsTo}
 use Rattle.bus_bits.specs.Packed.{head_bits, head_fault, unused, wanted, packed_body, headed, packed_capture, or_fault, filled, packed_whole, PackedAfter}
 use Rattle.bus_bits.proofs.CaptureLemmas.{lt_true, le_false, same, le_or_lt, take_past, same_grows, clean_grows, grows_along}
-use Rattle.bus_bits.proofs.OctetLemmas.{length-bits, length-bits_of_octets, bits_of_octets-push, bits_of_octets-append}
+use Rattle.bus_bits.proofs.OctetLemmas.{length-bits, length-bits_of_octets, bits_of_octets-push, bits_of_octets-append, bits-split, bits-low}
+use Rattle.bus_bits.proofs.EightBitsLemmas.{word, word-eight}
 
 -- an unused bit is 1
 abbrev pub pads : ℕ → List Bool → Bool
@@ -224,6 +225,70 @@ packed-more n xs o left h p y =
         left_over = omega (arith, l, h.left_over, length-take left (bits_of 8 o), length-bits 8 o);
       },
       b,
+    )
+
+-- an octet all of whose bits are wanted
+pub whole-taken : (n : ℕ) (xs : List ℕ) (o left : ℕ) → PackedAfter n xs left → 8 ≤ left
+    → PackedAfter n (xs ++ o ∷ []) (left - 8) × ((packed_body n (xs ++ o ∷ [])).bits ≡ (packed_body n xs).bits ++ bits_of 8 o)
+whole-taken n xs o left h l =
+    let y : list_any (λ b. b) (drop left (bits_of 8 o)) ≡ false = ap (list_any (λ b. b)) (drop_all left (bits_of 8 o) (omega (arith, length-bits 8 o, l))) in
+    let r = packed-more n xs o left h (omega (arith, l)) y in (
+      r.0,
+      r.1 ∙ ap (λ (x : List Bool). (packed_body n xs).bits ++ x) (take_all left (bits_of 8 o) (omega (arith, length-bits 8 o, l))),
+    )
+
+-- several of them
+wholes-taken : (n : ℕ) (xs os : List ℕ) (left : ℕ) → PackedAfter n xs left → 8 * length os ≤ left
+    → PackedAfter n (xs ++ os) (left - 8 * length os) × ((packed_body n (xs ++ os)).bits ≡ (packed_body n xs).bits ++ bits_of_octets os)
+unfolding bits_of_octets
+wholes-taken n xs [] left h l =
+    let e : left ≡ left - 8 * 0 = omega arith in (
+      subst (λ (ys : List ℕ). PackedAfter n ys (left - 8 * 0)) (sym (append-nil xs)) (subst (PackedAfter n xs) e h),
+      ap (λ (ys : List ℕ). (packed_body n ys).bits) (append-nil xs) ∙ sym (append-nil (packed_body n xs).bits),
+    )
+wholes-taken n xs (o ∷ os) left h l =
+    let one = whole-taken n xs o left h (omega (arith, l)) in
+    let more = wholes-taken n (xs ++ o ∷ []) os (left - 8) one.0 (omega (arith, l)) in
+    let a = append_assoc xs (o ∷ []) os in
+    let e : left - 8 - 8 * length os ≡ left - 8 * length (o ∷ os) = omega arith in (
+      subst (λ (ys : List ℕ). PackedAfter n ys (left - 8 * length (o ∷ os))) a (subst (PackedAfter n ((xs ++ o ∷ []) ++ os)) e more.0),
+      ap (λ (ys : List ℕ). (packed_body n ys).bits) (sym a) ∙ more.1 ∙ ap (λ (b : List Bool). b ++ bits_of_octets os) one.1
+          ∙ append_assoc (packed_body n xs).bits (bits_of 8 o) (bits_of_octets os),
+    )
+
+-- the lowest bits of octets in one number are those of the first of them
+word-front : (os rest : List ℕ) → All (λ o. o < 256) os → bits_of (8 * length os) (word (os ++ rest)) ≡ bits_of_octets os
+unfolding word bits_of_octets bits_of
+word-front [] rest h = refl
+word-front (o ∷ os) rest h =
+    let n = word (os ++ rest) in
+    let e : 8 * length (o ∷ os) ≡ 8 + 8 * length os = omega arith in
+    let one : o < 256 = h 0 0 (omega arith) in
+    let low : (n * 256 + o) % 2 ^ 8 ≡ o = omega (arith, one) in
+    let high : (n * 256 + o) / 2 ^ 8 ≡ n = omega (arith, one) in
+    ap (λ (k : ℕ). bits_of k (n * 256 + o)) e ∙ bits-split 8 (8 * length os) (n * 256 + o)
+    ∙ ap (λ (b : List Bool). b ++ bits_of (8 * length os) ((n * 256 + o) / 2 ^ 8)) (sym (bits-low 8 (n * 256 + o)) ∙ ap (bits_of 8) low)
+    ∙ ap (λ (k : ℕ). bits_of 8 o ++ bits_of (8 * length os) k) high ∙ ap (λ (b : List Bool). bits_of 8 o ++ b) (word-front os rest (λ i d l. h (suc i) d (omega (arith, l))))
+
+all-first : (k : ℕ) (os : List ℕ) → All (λ o. o < 256) os → All (λ o. o < 256) (take k os)
+all-first zero os h i d l = absurd (omega (arith, l))
+all-first (suc k) [] h i d l = absurd (omega (arith, l))
+all-first (suc k) (o ∷ os) h zero d l = h 0 d (omega arith)
+all-first (suc k) (o ∷ os) h (suc i) d l = all-first k os (λ j e m. h (suc j) e (omega (arith, m))) i d (omega (arith, l))
+
+-- the first six of eight octets, joined
+pub six-taken : (n : ℕ) (xs os : List ℕ) (left w : ℕ) → PackedAfter n xs left → 48 ≤ left → length os ≡ 8 → All (λ o. o < 256) os → w ≡ from_le_bytes w64 os % 2 ^ 48
+    → PackedAfter n (xs ++ take 6 os) (left - 48) × ((packed_body n (xs ++ take 6 os)).bits ≡ (packed_body n xs).bits ++ bits_of 48 w)
+six-taken n xs os left w h l eight below is =
+    let six : length (take 6 os) ≡ 6 = length-take 6 os ∙ omega (arith, eight) in
+    let all = wholes-taken n xs (take 6 os) left h (omega (arith, six, l)) in
+    let e : left - 8 * length (take 6 os) ≡ left - 48 = omega (arith, six) in
+    let k : 8 * length (take 6 os) ≡ 48 = omega (arith, six) in
+    let bits : bits_of_octets (take 6 os) ≡ bits_of 48 w =
+    sym (word-front (take 6 os) (drop 6 os) (all-first 6 os below)) ∙ ap (λ (j : ℕ). bits_of j (word (take 6 os ++ drop 6 os))) k
+    ∙ ap (λ (ys : List ℕ). bits_of 48 (word ys)) (take-append-drop 6 os) ∙ ap (bits_of 48) (sym (word-eight os eight)) ∙ sym (bits-low 48 (from_le_bytes w64 os)) ∙ ap (bits_of 48) (sym is) in (
+      subst (PackedAfter n (xs ++ take 6 os)) e all.0,
+      all.1 ∙ ap (λ (b : List Bool). (packed_body n xs).bits ++ b) bits,
     )
 
 pub packed-full : (n : ℕ) (xs : List ℕ) → PackedAfter n xs 0 → (filled n (packed_body n xs)).fault ≡ None

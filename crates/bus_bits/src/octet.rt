@@ -1,12 +1,8 @@
 //! Octets as bits, the least significant first, as ISO/IEC 13239 sends them (order of bit
 //! transmission).
 
-mod reverse;
-
 ghost use Rattle.std.specs.Prelude.{◌≡◌};
 ghost use Rattle.bus_bits.specs.Octet.{bits_of, number};
-
-pub use reverse::reversed;
 
 /// The bits of an octet, the least significant first.
 pub fn octet_bits(o: u8) -> [bool; 8]

@@ -1,7 +1,6 @@
 -- The bits of a capture that have a place, and how the following of them stops.
-use Rattle.std.proofs.Common.{◌≡◌, ℕ, ◌+◌, ◌-◌, ◌<◌, ◌≤◌, ◌^◌, Bool, true, false, nat_lt, if◌then◌else◌, List, ◌++◌, length, take, Option, Some, refl, sym, ap, ◌∙◌, subst, arith, inl, inr, append_assoc}
+use Rattle.std.proofs.Common.{◌≡◌, ℕ, ◌+◌, ◌-◌, ◌<◌, ◌≤◌, ◌^◌, Bool, if◌then◌else◌, List, ◌++◌, length, take, Option, Some, refl, sym, ap, ◌∙◌, subst, arith, inl, inr, append_assoc}
 use Rattle.std.proofs.lemmas.Bool.{cases_lt}
-use Rattle.std.proofs.lemmas.Bool.Decides.{nat_tests}
 use Rattle.bus_bits.specs.Capture.{Capture, CaptureFault, place_limit, capped, GrowsTo}
 use Rattle.bus_capture.specs.Internal.Watching.{IsSound, Watches, Halts, within}
 use Rattle.bus_capture.specs.Internal.Sessions.{Faulty, StopsAt}
@@ -10,7 +9,7 @@ use Rattle.bus_capture.specs.declared.run.CaptureRun.{CaptureRun}
 use Rattle.bus_text.specs.declared.fault.ToolFault.{ToolFault}
 use Rattle.bus_text.specs.declared.fault.ToolFault.TheVariants as fault
 use Rattle.bus_capture.proofs.WatchingLemmas.{within-all, halts-more}
-use Rattle.bus_bits.proofs.CaptureLemmas.{capped_all, lt_true, le_false}
+use Rattle.bus_bits.proofs.CaptureLemmas.{capped_all, lt_true}
 
 -- of more bits than there are places
 pub placed-over : (origin : ℕ) (c : Capture) → 2 ^ 60 - origin < length c.bits → capped origin c ≡ record { bits = within origin c.bits; fault = Some place_limit }

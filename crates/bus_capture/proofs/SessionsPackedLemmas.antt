@@ -1,7 +1,9 @@
 -- Packed captures, one octet more at a time.
 use Rattle.std.proofs.Common.{◌≡◌, ℕ, ◌+◌, ◌-◌, ◌*◌, ◌/◌, ◌<◌, ◌≤◌, ◌^◌, Bool, true, false, nat_lt, if◌then◌else◌, List, [], ◌∷◌, ◌++◌, length, take, drop, get_or, Option, Some, None, Result, Ok, Err, MatchResult, refl, sym, ap, ◌∙◌, subst, arith, append_assoc, append-nil}
 use Rattle.std.specs.Int.{next_multiple_of}
+use Rattle.std.specs.Array.{IsFirstChunk}
 use Rattle.std.specs.List.{list_any}
+use Rattle.std.proofs.lemmas.List.{take-append-drop}
 use Rattle.std.specs.Result.{IsErrAnd}
 use Rattle.std.proofs.lemmas.Grind.{common_steps}
 use Rattle.bus_bits.specs.Octet.{bits_of_octets}
@@ -26,22 +28,22 @@ faulty-stops folded cost start now w c f h = h
 pub headed-is : PackedIsHeaded → (head body : List ℕ) → length head ≡ 16 → head_fault head ≡ None → packed_capture (head ++ body) ≡ packed_body (head_bits head) body
 headed-is law head body long good = (law head body long).0 ∙ ap (λ f. headed f (packed_body (head_bits head) body)) good
 
--- with one octet more
-pub headed-more : PackedIsHeaded → (left x : ℕ) (xs : List ℕ) (h : IsHeaded left xs) → packed_capture (xs ++ x ∷ []) ≡ packed_body (head_bits h.head) (h.body ++ x ∷ [])
-headed-more law left x xs h =
-    ap (λ (ys : List ℕ). packed_capture (ys ++ x ∷ [])) h.all
-    ∙ ap packed_capture (append_assoc h.head h.body (x ∷ []))
-    ∙ headed-is law h.head (h.body ++ x ∷ []) h.long h.good
+-- with some octets more
+pub headed-more : PackedIsHeaded → (left : ℕ) (xs ys : List ℕ) (h : IsHeaded left xs) → packed_capture (xs ++ ys) ≡ packed_body (head_bits h.head) (h.body ++ ys)
+headed-more law left xs ys h =
+    ap (λ (zs : List ℕ). packed_capture (zs ++ ys)) h.all
+    ∙ ap packed_capture (append_assoc h.head h.body ys)
+    ∙ headed-is law h.head (h.body ++ ys) h.long h.good
 
 pub headed-here : PackedIsHeaded → (left : ℕ) (xs : List ℕ) (h : IsHeaded left xs) → packed_capture xs ≡ packed_body (head_bits h.head) h.body
 headed-here law left xs h = ap packed_capture h.all ∙ headed-is law h.head h.body h.long h.good
 
 -- it is read on
-pub read-on : (left later x : ℕ) (xs : List ℕ) (h : IsHeaded left xs) → PackedAfter (head_bits h.head) (h.body ++ x ∷ []) later → IsHeaded later (xs ++ x ∷ [])
-read-on left later x xs h after = record {
+pub read-on : (left later : ℕ) (xs ys : List ℕ) (h : IsHeaded left xs) → PackedAfter (head_bits h.head) (h.body ++ ys) later → IsHeaded later (xs ++ ys)
+read-on left later xs ys h after = record {
   head = h.head;
-  body = h.body ++ x ∷ [];
-  all = ap (λ (ys : List ℕ). ys ++ x ∷ []) h.all ∙ append_assoc h.head h.body (x ∷ []);
+  body = h.body ++ ys;
+  all = ap (λ (zs : List ℕ). zs ++ ys) h.all ∙ append_assoc h.head h.body ys;
   long = h.long;
   good = h.good;
   after = after;
@@ -55,6 +57,23 @@ pub octet-taken : {C : Type 0} (folded : C → List ℕ → Type 0) (cost : ℕ)
 octet-taken folded cost start now w xs left b (Ok u) low read is h = record { read = read; bits = subst (Watches folded cost start now w) (sym is) h }
 octet-taken folded cost start now w xs left b (Err f) low read is h =
     halts-stops folded cost start now w (packed_capture xs) f low (subst (λ (x : List Bool). Halts folded cost start now w x f) (sym is) h)
+
+-- the first octet
+pub first-octet : (xs os : List ℕ) → 0 < length os → xs ++ get_or os 0 0 ∷ [] ≡ xs ++ take 1 os
+first-octet xs [] h = absurd (omega (arith, h))
+first-octet xs (o ∷ os) h = refl
+
+-- the first six of the first eight
+pub first-six : (os eight : List ℕ) → IsFirstChunk os eight 8 → take 6 eight ≡ take 6 os
+first-six os eight h = ap (take 6) h.same ∙ grind (arith, common_steps)
+
+-- all octets give more than some of their first
+pub packed-front : PackedGrows → CappedGrows → (origin : ℕ) (xs os : List ℕ) (k : ℕ)
+    → GrowsTo (capped origin (packed_capture (xs ++ take k os))) (capped origin (packed_capture (xs ++ os)))
+packed-front law places origin xs os k =
+    places origin (packed_capture (xs ++ take k os)) (packed_capture (xs ++ os))
+    (subst (λ (ys : List ℕ). GrowsTo (packed_capture (xs ++ take k os)) (packed_capture ys))
+    (append_assoc xs (take k os) (drop k os) ∙ ap (λ (ys : List ℕ). xs ++ ys) (take-append-drop k os)) (law (xs ++ take k os) (drop k os)))
 
 -- all octets give more than those up to one of them
 pub packed-grown : PackedGrows → CappedGrows → (origin : ℕ) (xs os : List ℕ) (i x : ℕ) → i < length os → x ≡ get_or os i 0
@@ -123,12 +142,6 @@ head-filled items xs os h n e k short enough is =
 -- a slice to the end
 pub slice-rest : (k : ℕ) (os : List ℕ) → take (length os - k) (drop k os) ≡ drop k os
 slice-rest k os = grind (arith, common_steps)
-
--- what is kept was followed as before
-pub kept-both : {C : Type 0} (folded : C → List ℕ → Type 0) (cost : ℕ) (start now : Option (List ℕ)) (old new : ℕ) (w v : CaptureRun C) (xs : List ℕ)
-    → (new ≡ old) × (v ≡ w) → FollowsBody folded cost start now old w xs → FollowsBody folded cost start now new v xs
-kept-both folded cost start now old new w v xs k f =
-    subst (λ n. FollowsBody folded cost start now n v xs) (sym k.0) (subst (λ u. FollowsBody folded cost start now old u xs) (sym k.1) f)
 
 -- what was refused, where `map_err` answered an error
 pub err-mapped : {T E D : Type 0} (P : T → Type 0) (Q : E → Type 0) (Gives : E → D → Type 0) (r : Result T E) (m : Result T D) (d : D)

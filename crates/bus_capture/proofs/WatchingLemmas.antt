@@ -1,5 +1,5 @@
 -- What is known of the bits that are followed, one more at a time.
-use Rattle.std.proofs.Common.{◌≡◌, ℕ, zero, suc, ◌+◌, ◌-◌, ◌<◌, ◌≤◌, ◌^◌, Bool, List, [], ◌∷◌, ◌++◌, length, take, drop, get_or, Option, Some, None, refl, sym, ap, ◌∙◌, subst, arith, append_assoc, append-nil, length-append, Result, Ok, IfOk, true, false, inl, inr}
+use Rattle.std.proofs.Common.{◌≡◌, ℕ, zero, suc, ◌+◌, ◌-◌, ◌/◌, ◌%◌, ◌==◌, ◌<◌, ◌≤◌, ◌^◌, Bool, List, [], ◌∷◌, ◌++◌, length, take, drop, get_or, Option, Some, None, refl, sym, ap, ◌∙◌, subst, arith, append_assoc, append-nil, length-append, Result, Ok, IfOk, true, false, inl, inr}
 use Rattle.std.proofs.lemmas.Bool.{cases_lt}
 use Rattle.std.proofs.lemmas.Grind.{common_steps}
 use Rattle.arrayvec.specs.ArrayString.{array_string_len}
@@ -14,6 +14,9 @@ use Rattle.bus_watch.specs.Talk.{pending}
 use Rattle.bus_watch.specs.declared.pending.Pending.{Pending}
 use Rattle.bus_bits.specs.declared.span.Span.{Span}
 use Rattle.bus_watch.specs.declared.seen.Seen.{Seen}
+use Rattle.bus_watch.specs.declared.taken.Taken.{Taken}
+use Rattle.bus_bits.specs.Octet.{bits_of}
+use Rattle.bus_bits.proofs.OctetLemmas.{bits-split}
 use Rattle.bus_line.specs.declared.place_limit.PlaceLimit.{PlaceLimit}
 use Rattle.std.specs.Option.{option_to_list}
 use Rattle.bus_watch.specs.After.{AnalyserState, IsAfter, Sees, line, seen_after}
@@ -104,36 +107,36 @@ pub within-front : (origin : ℕ) (b more : List Bool) → origin + length b ≡
 within-front origin b more h =
     take-append-le (2 ^ 60 - origin) b more (omega (arith, h)) ∙ take_all (2 ^ 60 - origin) b (omega (arith, h))
 
--- what a push answered
-pub sees-at : {C : Type 0} (folded : C → List ℕ → Type 0) (cost : ℕ) (a c : AnalyserState C) (bit : Bool) (r : Result (Option Seen) PlaceLimit) (o s : Option Seen)
-    → r ≡ Ok o → o ≡ s → IfOk r (λ x. Sees folded cost a (bit ∷ []) (option_to_list (shown_option x)) c) → Sees folded cost a (bit ∷ []) (option_to_list (shown_option s)) c
-sees-at folded cost a c bit r o s e f h =
-    subst (λ x. Sees folded cost a (bit ∷ []) (option_to_list (shown_option x)) c) f
-    (subst (λ y. IfOk y (λ x. Sees folded cost a (bit ∷ []) (option_to_list (shown_option x)) c)) e h)
+-- what a call answered
+pub sees-at : {C : Type 0} (folded : C → List ℕ → Type 0) (cost : ℕ) (a c : AnalyserState C) (bits : ℕ) (r : Result Taken PlaceLimit) (t : Taken) (s : Option Seen)
+    → r ≡ Ok t → t.seen ≡ s → IfOk r (λ x. Sees folded cost a (bits_of x.count bits) (option_to_list (shown_option x.seen)) c) → Sees folded cost a (bits_of t.count bits) (option_to_list (shown_option s)) c
+sees-at folded cost a c bits r t s e f h =
+    subst (λ x. Sees folded cost a (bits_of t.count bits) (option_to_list (shown_option x)) c) f
+    (subst (λ y. IfOk y (λ x. Sees folded cost a (bits_of x.count bits) (option_to_list (shown_option x.seen)) c)) e h)
 
--- a bit that has no place stops the following
-pub halted : {C : Type 0} (folded : C → List ℕ → Type 0) (cost : ℕ) (start now : Option (List ℕ)) (w v : CaptureRun C) (b : List Bool) (bit : Bool)
-    → v ≡ w → 2 ^ 60 ≤ w.analyser.decoder.place → IsSound w → Watches folded cost start now w b → Halts folded cost start now v (b ++ bit ∷ []) fault.PlaceLimit
-halted {C} folded cost start now w v b bit e limit sound h =
+-- bits that have no place stop the following
+pub halted : {C : Type 0} (folded : C → List ℕ → Type 0) (cost : ℕ) (start now : Option (List ℕ)) (w v : CaptureRun C) (b bits : List Bool)
+    → v ≡ w → 0 < length bits → 2 ^ 60 ≤ w.analyser.decoder.place → IsSound w → Watches folded cost start now w b → Halts folded cost start now v (b ++ bits) fault.PlaceLimit
+halted {C} folded cost start now w v b bits e some limit sound h =
     let origin = w.analyser.decoder.origin in
     let place : w.analyser.decoder.place ≡ origin + length b = h.is_after.decoder.has_taken.place in
     let most : w.analyser.decoder.place ≤ 2 ^ 60 = sound.places in
     let end : origin + length b ≡ 2 ^ 60 = omega (arith, place, most, limit) in
-    let over : 2 ^ 60 - origin < length (b ++ bit ∷ []) = omega (arith, end, length-append b (bit ∷ [])) in
-    subst (λ (x : CaptureRun C). Halts folded cost start now x (b ++ bit ∷ []) fault.PlaceLimit) (sym e)
-    (over, subst (Watches folded cost start now w) (sym (within-front origin b (bit ∷ []) end)) h)
+    let over : 2 ^ 60 - origin < length (b ++ bits) = omega (arith, end, some, length-append b bits) in
+    subst (λ (x : CaptureRun C). Halts folded cost start now x (b ++ bits) fault.PlaceLimit) (sym e)
+    (over, subst (Watches folded cost start now w) (sym (within-front origin b bits end)) h)
 
--- a writer was cut off before the lines of a bit
-pub cut-off : {C : Type 0} (folded : C → List ℕ → Type 0) (cost : ℕ) (start now : Option (List ℕ)) (w v : CaptureRun C) (b : List Bool) (bit : Bool) (told : List SeenReport) (sent : ℕ)
-    → v.printer ≡ w.printer → w.analyser.decoder.place < 2 ^ 60 → IsAfter folded cost w.analyser b → Sees folded cost w.analyser (bit ∷ []) told v.analyser
-    → Cuts start now (lines w b) sent → sent < length (lines w b) → Halts folded cost start now v (b ++ bit ∷ []) (fault.Write sent)
-cut-off folded cost start now w v b bit told sent p place s e cut short =
+-- a writer was cut off before the lines of some bits
+pub cut-off : {C : Type 0} (folded : C → List ℕ → Type 0) (cost : ℕ) (start now : Option (List ℕ)) (w v : CaptureRun C) (b : List Bool) (bits : List Bool) (told : List SeenReport) (sent : ℕ)
+    → v.printer ≡ w.printer → w.analyser.decoder.place + length bits ≤ 2 ^ 60 → IsAfter folded cost w.analyser b → Sees folded cost w.analyser bits told v.analyser
+    → Cuts start now (lines w b) sent → sent < length (lines w b) → Halts folded cost start now v (b ++ bits) (fault.Write sent)
+cut-off folded cost start now w v b bits told sent p place s e cut short =
     let is_after : w.analyser.decoder.place ≡ w.analyser.decoder.origin + length b = s.decoder.has_taken.place in
-    let fits : v.analyser.decoder.origin + length (b ++ bit ∷ []) ≤ 2 ^ 60 = omega (arith, e.origin, is_after, place, length-append b (bit ∷ [])) in
+    let fits : v.analyser.decoder.origin + length (b ++ bits) ≤ 2 ^ 60 = omega (arith, e.origin, is_after, place, length-append b bits) in
     record {
       front = b;
-      more = bit ∷ [];
-      all = within-all v.analyser.decoder.origin (b ++ bit ∷ []) fits;
+      more = bits;
+      all = within-all v.analyser.decoder.origin (b ++ bits) fits;
       cut = subst (λ (t : List ℕ). Cuts start now t sent) (sym (lines-same w v b p e.dictionary e.origin)) cut;
       short = subst (λ (t : List ℕ). sent < length t) (sym (lines-same w v b p e.dictionary e.origin)) short;
     }
@@ -165,6 +168,32 @@ halts-more folded cost start now w b more (fault.Write sent) h =
       short = h.short;
     }
 halts-more folded cost start now w b more _ h = absurd h
+
+-- the first bits of a word, and the others
+pub word-parts : (b : List Bool) (n count word : ℕ) → n ≤ count → b ++ bits_of count word ≡ (b ++ bits_of n word) ++ bits_of (count - n) (word / 2 ^ n)
+word-parts b n count word le =
+    let e : count ≡ n + (count - n) = omega (arith, le) in
+    ap (λ (z : List Bool). b ++ z) (ap (λ (i : ℕ). bits_of i word) e ∙ bits-split n (count - n) word) ∙ sym (append_assoc b (bits_of n word) (bits_of (count - n) (word / 2 ^ n)))
+
+-- none of its bits
+pub word-begins : (b : List Bool) (word : ℕ) → b ++ bits_of 0 word ≡ b
+unfolding bits_of
+word-begins b word = append-nil b
+
+-- more bits of a word behind its first ones
+pub word-next : (b : List Bool) (i n word : ℕ) → (b ++ bits_of i word) ++ bits_of n (word / 2 ^ i) ≡ b ++ bits_of (i + n) word
+word-next b i n word = append_assoc b (bits_of i word) (bits_of n (word / 2 ^ i)) ∙ ap (λ (z : List Bool). b ++ z) (sym (bits-split i n word))
+
+pub first-bit : (word : ℕ) → bits_of 1 word ≡ (word % 2 == 1) ∷ []
+unfolding bits_of
+first-bit word = refl
+
+-- what stopped in the first bits of a word, stops in all of them
+pub halts-word : {C : Type 0} (folded : C → List ℕ → Type 0) (cost : ℕ) (start now : Option (List ℕ)) (w : CaptureRun C) (b : List Bool) (n count word : ℕ) (f : ToolFault)
+    → n ≤ count → Halts folded cost start now w (b ++ bits_of n word) f → Halts folded cost start now w (b ++ bits_of count word) f
+halts-word folded cost start now w b n count word f le h =
+    subst (λ (z : List Bool). Halts folded cost start now w z f) (sym (word-parts b n count word le))
+    (halts-more folded cost start now w (b ++ bits_of n word) (bits_of (count - n) (word / 2 ^ n)) f h)
 
 -- what stays the same twice, stays the same
 pub same-both : {C : Type 0} (u v w : CaptureRun C) → IsSame u v → IsSame v w → IsSame u w
@@ -203,35 +232,35 @@ pages-told start now p q d s page front all written later text e f g l h =
     subst (λ (n : ℕ). Pages start now all n (text ++ printed p d (s ∷ []))) (sym l)
     (subst (λ x. Pages start now all written (text ++ printed x d (s ∷ []))) (sym e) put)
 
--- one bit more is sound where it adds one to each count at most, and 1024 octets
-pub sound-next : {C : Type 0} (w v : CaptureRun C) → v.analyser.decoder.place ≡ w.analyser.decoder.place + 1 → w.analyser.decoder.place < 2 ^ 60
+-- fewer are few
+pub few-within : (n m : ℕ) (s : Summary) → n ≤ m → IsFew n s → IsFew m s
+few-within n m s le h = record {
+  frames = let x = h.frames in omega (arith, le);
+  damaged = let x = h.damaged in omega (arith, le);
+  overlong = let x = h.overlong in omega (arith, le);
+  aborts = let x = h.aborts in omega (arith, le);
+  idles = let x = h.idles in omega (arith, le);
+  strays = let x = h.strays in omega (arith, le);
+  answered = let x = h.answered in omega (arith, le);
+  missing = let x = h.missing in omega (arith, le);
+  spoilt = let x = h.spoilt in omega (arith, le);
+  late = let x = h.late in omega (arith, le);
+}
+
+-- some bits more are sound where they add one to each count at most, and 1024 octets
+pub sound-next : {C : Type 0} (w v : CaptureRun C) (n : ℕ) → 1 ≤ n → v.analyser.decoder.place ≡ w.analyser.decoder.place + n → w.analyser.decoder.place + n ≤ 2 ^ 60
     → IsFew (w.analyser.decoder.place + 1) v.summary
     → v.page.written + array_string_len v.page.text ≤ w.page.written + array_string_len w.page.text + 1024
     → IsSound w → IsSound v
-sound-next w v e lt few octets h = record {
-  places = omega (arith, e, lt);
-  counts = subst (λ (n : ℕ). IsFew n v.summary) (sym e) few;
-  octets = let o = h.octets in omega (arith, e, octets, o);
+sound-next w v n some e le few octets h = record {
+  places = omega (arith, e, le);
+  counts = few-within (w.analyser.decoder.place + 1) v.analyser.decoder.place v.summary (omega (arith, e, some)) few;
+  octets = let o = h.octets in omega (arith, e, octets, o, some);
 }
 
--- fewer are few
-pub few-more : (n : ℕ) (s : Summary) → IsFew n s → IsFew (n + 1) s
-few-more n s h = record {
-  frames = let x = h.frames in omega arith;
-  damaged = let x = h.damaged in omega arith;
-  overlong = let x = h.overlong in omega arith;
-  aborts = let x = h.aborts in omega arith;
-  idles = let x = h.idles in omega arith;
-  strays = let x = h.strays in omega arith;
-  answered = let x = h.answered in omega arith;
-  missing = let x = h.missing in omega arith;
-  spoilt = let x = h.spoilt in omega arith;
-  late = let x = h.late in omega arith;
-}
-
--- the answer of a push that was taken
-pub below : (place : ℕ) → (2 ^ 60 ≤ place → false ≡ true) → place < 2 ^ 60
-below place h = elim (cases_lt place (2 ^ 60)) [ inl u ↦ u | inr u ↦ absurd (let e = h u in cc) ]
+-- the places of bits that were taken
+pub below : (place : ℕ) → (2 ^ 60 < place → false ≡ true) → place ≤ 2 ^ 60
+below place h = elim (cases_lt (2 ^ 60) place) [ inl u ↦ absurd (let e = h u in cc) | inr u ↦ u ]
 
 -- the lines of the end were put on the page
 pub pages-ended : {C : Type 0} (start now : Option (List ℕ)) (w : CaptureRun C) (b : List Bool) (page all : List ℕ) (written later : ℕ) (begun : Option Span) (waits : Option Pending)

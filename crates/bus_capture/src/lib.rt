@@ -7,6 +7,7 @@ mod packed;
 mod reader;
 mod run;
 mod text;
+mod word;
 
 pub use check::check_capture;
 pub use list::list_capture;

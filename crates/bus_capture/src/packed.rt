@@ -1,10 +1,10 @@
 //! Takes the octets of a packed capture.
 
-ghost use Rattle.std.specs.Prelude.{◌≡◌, ◌+◌, ◌≤◌, ◌<◌, ◌^◌, ℕ, List, [], ◌∷◌, ◌++◌, Option, MatchResult, Some, None, IsTrue, length, true, false};
+ghost use Rattle.std.specs.Prelude.{◌≡◌, ◌+◌, ◌*◌, ◌≤◌, ◌<◌, ◌^◌, ℕ, List, [], ◌∷◌, ◌++◌, Option, MatchResult, Some, None, IfOk, length, take, false};
 ghost use Rattle.bus_bits.specs.Capture.{CaptureFault};
 ghost use Rattle.bus_bits.specs.Packed.{PackedAfter, packed_capture, packed_whole, head_bits, head_fault, head_fault_of, packed_fault_of};
 ghost use Rattle.bus_capture.specs.Internal.Watching.{IsSound, IsSame};
-ghost use Rattle.bus_capture.specs.Internal.Sessions.{FollowsPacked, FollowsBody, IsRead, Stops};
+ghost use Rattle.bus_capture.specs.Internal.Sessions.{FollowsPacked, FollowsBody, IsHeaded, IsRead, Stops};
 ghost use Rattle.bus_capture.specs.Captures.{IsSameFault};
 
 use crate::run::CaptureRun;
@@ -48,26 +48,6 @@ fn body_fault(fault: PackedFault) -> ToolFault
     }
 }
 
-/// Takes one octet after the head if its eight bits are wanted and decide nothing, and returns whether
-/// it did; otherwise nothing changes.
-#[inline(always)]
-fn pass_octet<C: Check>(body: &mut PackedBits, octet: u8, run: &mut CaptureRun<C>) -> bool
-    requires { IsSound run.old }
-    ensures passed { IsTrue result → (start now : Option (List ℕ)) (xs : List ℕ) →
-        FollowsBody C.folded C.COST start now body.old run.old xs →
-        FollowsBody C.folded C.COST start now body.new run.new (xs ++ octet ∷ []) }
-    ensures kept { result ≡ false → (body.new ≡ body.old) × (run.new ≡ run.old) }
-    ensures same { IsSame run.old run.new }
-    ensures sound { IsSound run.new }
-{
-    packed_is_head_and_body();
-    if body.left() < 8 || !run.pass_octet(octet) {
-        return false;
-    }
-    body.take_whole();
-    true
-}
-
 /// Takes one octet after the head.
 #[inline(always)]
 fn take_octet<C: Check, W: Write>(
@@ -91,6 +71,59 @@ fn take_octet<C: Check, W: Write>(
     }
 }
 
+/// Takes the next octets after the head, six or one, and returns how many these were.
+#[inline(always)]
+fn take_some<C: Check, W: Write>(
+    body: &mut PackedBits,
+    octets: &[u8],
+    run: &mut CaptureRun<C>,
+    w: &mut W,
+) -> Result<usize, ToolFault>
+    requires sound { IsSound run.old }
+    requires some { 0 < length octets.now }
+    ensures within { IfOk result (λ n. (1 ≤ n) × (n ≤ length octets.now)) }
+    ensures taken { (start : Option (List ℕ)) (xs : List ℕ) →
+        FollowsBody C.folded C.COST start (W.contents w.old) body.old run.old xs → MatchResult result
+        (λ n. FollowsBody C.folded C.COST start (W.contents w.new) body.new run.new (xs ++ take n octets.now))
+        (λ fault. (n : ℕ)
+        × Stops C.folded C.COST false start (W.contents w.new) run.new (xs ++ take n octets.now) fault) }
+    ensures same { IsSame run.old run.new }
+    ensures sound { IsSound run.new }
+{
+    match octets.first_chunk() {
+        Some(eight) if body.left() >= 48 => {
+            take_six(body, eight, run, w)?;
+            Ok(6)
+        }
+        _ => {
+            take_octet(body, octets[0], run, w)?;
+            Ok(1)
+        }
+    }
+}
+
+/// Takes the first six of eight octets after the head, of which all bits are wanted.
+#[inline(always)]
+fn take_six<C: Check, W: Write>(
+    body: &mut PackedBits,
+    octets: &[u8; 8],
+    run: &mut CaptureRun<C>,
+    w: &mut W,
+) -> Result<(), ToolFault>
+    requires sound { IsSound run.old }
+    requires wanted { 48 ≤ body.old }
+    ensures taken { (start : Option (List ℕ)) (xs : List ℕ) →
+        FollowsBody C.folded C.COST start (W.contents w.old) body.old run.old xs → MatchResult result
+        (λ _. FollowsBody C.folded C.COST start (W.contents w.new) body.new run.new (xs ++ take 6 octets.now))
+        (λ fault. Stops C.folded C.COST false start (W.contents w.new) run.new (xs ++ take 6 octets.now) fault) }
+    ensures same { IsSame run.old run.new }
+    ensures sound { IsSound run.new }
+{
+    packed_is_head_and_body();
+    let word = body.take_six(octets);
+    run.take_word(word, 48, w)
+}
+
 /// Takes octets after the head, up to the first fault.
 #[inline(never)]
 fn take_body<C: Check, W: Write>(
@@ -108,11 +141,9 @@ fn take_body<C: Check, W: Write>(
     ensures sound { IsSound run.new }
 {
     captures_grow();
-    for octet in octets {
-        if pass_octet(body, *octet, run) {
-            continue;
-        }
-        take_octet(body, *octet, run, w)?;
+    let mut taken = 0;
+    while taken < octets.len() {
+        taken += take_some(body, &octets[taken..], run, w)?;
     }
     Ok(())
 }

@@ -4,7 +4,7 @@ ghost use Rattle.std.specs.Io.KnownBytes.{Appends};
 ghost use Rattle.arrayvec.specs.ArrayString.{array_string_len};
 ghost use Rattle.bus_bits.specs.Octet.{bits_of};
 ghost use Rattle.bus_capture.specs.Internal.Watching.{ended};
-ghost use Rattle.std.specs.Prelude.{◌≡◌, ◌+◌, ◌≤◌, ℕ, List, Bool, [], ◌∷◌, ◌++◌, Option, MatchResult, IsTrue, false};
+ghost use Rattle.std.specs.Prelude.{◌≡◌, ◌+◌, ◌≤◌, ◌<◌, ◌^◌, ◌⊎◌, ℕ, List, Bool, [], ◌∷◌, ◌++◌, Option, MatchResult, IfOk};
 
 use bus_fcs::Check;
 use bus_line::PlaceLimit;
@@ -37,36 +37,42 @@ fn put_last(printer: Option<Printer>, ending: &Ending, page: &mut Page)
 impl<C: Check> CaptureRun<C> {
     ghost use Rattle.bus_capture.specs.Internal.Watching.{IsSound, Watches, IsSame, Halts, IsCutIn, lines, last_lines, reported};
 
-    /// Takes the next bit if it can decide nothing, and returns whether it did; otherwise nothing changes.
+    /// Takes bits, the first lowest, up to the first that may decide a report, and puts the line of
+    /// that on the page. Returns how many it took.
     #[inline(always)]
-    pub fn pass(&mut self, bit: bool) -> bool
-        requires { IsSound self.old }
-        ensures passed { IsTrue result → (start now : Option (List ℕ)) (b : List Bool) →
-            Watches C.folded C.COST start now self.old b → Watches C.folded C.COST start now self.new (b ++ bit ∷ []) }
-        ensures kept { result ≡ false → self.new ≡ self.old }
+    fn take_some<W: Write>(&mut self, bits: u64, count: u32, w: &mut W) -> Result<u32, ToolFault>
+        requires sound { IsSound self.old }
+        requires some { 1 ≤ count }
+        requires few { count ≤ 48 }
+        requires small { bits < 2 ^ count }
+        requires room { (count ≡ 1) ⊎ (self.old.analyser.decoder.place + count ≤ 2 ^ 60) }
+        ensures within { IfOk result (λ n. (1 ≤ n) × (n ≤ count)) }
+        ensures taken { (start : Option (List ℕ)) (b : List Bool) →
+            Watches C.folded C.COST start (W.contents w.old) self.old b → MatchResult result
+            (λ n. Watches C.folded C.COST start (W.contents w.new) self.new (b ++ bits_of n bits))
+            (λ fault. Halts C.folded C.COST start (W.contents w.new) self.new (b ++ bits_of count bits) fault) }
         ensures same { IsSame self.old self.new }
         ensures sound { IsSound self.new }
     {
-        self.analyser.pass(bit)
-    }
-
-    /// Takes the eight bits of an octet at once, the lowest first, if they can decide nothing, and
-    /// returns whether it did; otherwise nothing changes.
-    #[inline(always)]
-    pub fn pass_octet(&mut self, octet: u8) -> bool
-        requires { IsSound self.old }
-        ensures passed { IsTrue result → (start now : Option (List ℕ)) (b : List Bool) →
-            Watches C.folded C.COST start now self.old b →
-            Watches C.folded C.COST start now self.new (b ++ bits_of 8 octet) }
-        ensures kept { result ≡ false → self.new ≡ self.old }
-        ensures same { IsSame self.old self.new }
-        ensures sound { IsSound self.new }
-    {
-        self.analyser.pass_octet(octet)
+        let taken = match self.analyser.take(bits, count) {
+            Ok(taken) => taken,
+            Err(PlaceLimit) => return Err(ToolFault::PlaceLimit),
+        };
+        let count = taken.count;
+        let Some(seen) = taken.seen else {
+            return Ok(count);
+        };
+        self.summary.count(&seen);
+        let Some(printer) = self.printer else {
+            return Ok(count);
+        };
+        self.page.make_room(w)?;
+        let back = printer.put_front(&seen, &mut self.page);
+        printer.put_back(back, self.analyser.dictionary(), &mut self.page);
+        Ok(count)
     }
 
     /// Takes the next bit.
-    #[inline(always)]
     pub fn take_bit<W: Write>(&mut self, bit: bool, w: &mut W) -> Result<(), ToolFault>
         requires { IsSound self.old }
         ensures taken { (start : Option (List ℕ)) (b : List Bool) →
@@ -76,37 +82,53 @@ impl<C: Check> CaptureRun<C> {
         ensures same { IsSame self.old self.new }
         ensures sound { IsSound self.new }
     {
-        if self.pass(bit) {
-            return Ok(());
-        }
-        self.decide(bit, w)
+        self.take_some(u64::from(bit), 1, w)?;
+        Ok(())
     }
 
-    /// Takes a bit that may decide a report.
-    #[inline(never)]
-    fn decide<W: Write>(&mut self, bit: bool, w: &mut W) -> Result<(), ToolFault>
-        requires { IsSound self.old }
+    /// Takes up to 48 bits, the first lowest, up to the first that can't be taken.
+    #[inline(always)]
+    pub fn take_word<W: Write>(&mut self, bits: u64, count: u32, w: &mut W) -> Result<(), ToolFault>
+        requires sound { IsSound self.old }
+        requires few { count ≤ 48 }
+        requires small { bits < 2 ^ count }
         ensures taken { (start : Option (List ℕ)) (b : List Bool) →
             Watches C.folded C.COST start (W.contents w.old) self.old b → MatchResult result
-            (λ _. Watches C.folded C.COST start (W.contents w.new) self.new (b ++ bit ∷ []))
-            (λ fault. Halts C.folded C.COST start (W.contents w.new) self.new (b ++ bit ∷ []) fault) }
+            (λ _. Watches C.folded C.COST start (W.contents w.new) self.new (b ++ bits_of count bits))
+            (λ fault. Halts C.folded C.COST start (W.contents w.new) self.new (b ++ bits_of count bits) fault) }
         ensures same { IsSame self.old self.new }
         ensures sound { IsSound self.new }
     {
-        match self.analyser.push(bit) {
-            Err(PlaceLimit) => Err(ToolFault::PlaceLimit),
-            Ok(None) => Ok(()),
-            Ok(Some(seen)) => {
-                self.summary.count(&seen);
-                let Some(printer) = self.printer else {
-                    return Ok(());
-                };
-                self.page.make_room(w)?;
-                let back = printer.put_front(&seen, &mut self.page);
-                printer.put_back(back, self.analyser.dictionary(), &mut self.page);
-                Ok(())
-            }
+        let mut left = count;
+        let mut rest = bits;
+        while left > 0 {
+            let taken = self.take_front(rest, left, w)?;
+            left -= taken;
+            rest >>= taken;
         }
+        Ok(())
+    }
+
+    /// Takes bits as `take_some` does; where not all have a place, the first alone.
+    #[inline(always)]
+    fn take_front<W: Write>(&mut self, bits: u64, count: u32, w: &mut W) -> Result<u32, ToolFault>
+        requires sound { IsSound self.old }
+        requires some { 1 ≤ count }
+        requires few { count ≤ 48 }
+        requires small { bits < 2 ^ count }
+        ensures within { IfOk result (λ n. (1 ≤ n) × (n ≤ count)) }
+        ensures taken { (start : Option (List ℕ)) (b : List Bool) →
+            Watches C.folded C.COST start (W.contents w.old) self.old b → MatchResult result
+            (λ n. Watches C.folded C.COST start (W.contents w.new) self.new (b ++ bits_of n bits))
+            (λ fault. Halts C.folded C.COST start (W.contents w.new) self.new (b ++ bits_of count bits) fault) }
+        ensures same { IsSame self.old self.new }
+        ensures sound { IsSound self.new }
+    {
+        if self.analyser.has_room(count) {
+            return self.take_some(bits, count, w);
+        }
+        self.take_bit(bits % 2 == 1, w)?;
+        Ok(1)
     }
 
     /// Takes some bits, up to the first that can't be taken.
@@ -121,10 +143,7 @@ impl<C: Check> CaptureRun<C> {
         ensures sound { IsSound self.new }
     {
         for bit in bits {
-            if self.pass(*bit) {
-                continue;
-            }
-            self.decide(*bit, w)?;
+            self.take_bit(*bit, w)?;
         }
         Ok(())
     }

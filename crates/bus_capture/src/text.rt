@@ -1,11 +1,13 @@
 //! Takes the octets of a text capture.
 
-ghost use Rattle.std.specs.Prelude.{◌≡◌, ◌+◌, ◌≤◌, ◌<◌, ◌^◌, ℕ, List, [], ◌∷◌, ◌++◌, Option, MatchResult, OnOk, IsTrue, length, take, true, false, None};
-ghost use Rattle.std.specs.Option.{ForSome};
+ghost use Rattle.std.specs.Prelude.{◌≡◌, ◌+◌, ◌≤◌, ◌<◌, ◌^◌, ℕ, List, [], ◌∷◌, ◌++◌, Option, MatchResult, OnOk, IfOk, None, length, take, true};
+ghost use Rattle.bus_bits.specs.Octet.{bits_of};
+ghost use Rattle.bus_bits.specs.Capture.{text_bits, text_fault};
 ghost use Rattle.bus_capture.specs.Internal.Watching.{IsSound, IsSame};
 ghost use Rattle.bus_capture.specs.Internal.Sessions.{FollowsOctets, FollowsText, Stops};
 
 use crate::run::CaptureRun;
+use crate::word::Word;
 use bus_bits::laws::captures_grow;
 use bus_bits::{BadMark, TextBits};
 use bus_fcs::Check;
@@ -19,39 +21,58 @@ pub struct TextCapture {
     pub at: u128,
 }
 
-/// Takes the next eight bits at once if the next octets give them and they decide nothing, and
-/// returns how many octets these were; otherwise nothing changes.
-#[inline(always)]
-fn pass_eight<C: Check>(octets: &[u8], run: &mut CaptureRun<C>) -> Option<usize>
-    requires { IsSound run.old }
-    ensures enough { ForSome result (λ n. (0 < n) × (n ≤ length octets.now)) }
-    ensures passed { ForSome result
-        (λ n. (start now : Option (List ℕ)) (xs : List ℕ) → FollowsOctets C.folded C.COST start now run.old xs →
-        FollowsOctets C.folded C.COST start now run.new (xs ++ take n octets.now)) }
-    ensures kept { result ≡ None → run.new ≡ run.old }
-    ensures same { IsSame run.old run.new }
-    ensures sound { IsSound run.new }
-{
-    let bits = TextBits::eight(octets)?;
-    run.pass_octet(bits.octet).then_some(bits.taken)
+/// Bits that octets of a text give, and how many octets these are.
+#[derive(Clone, Copy)]
+struct Gathered {
+    word: Word,
+    taken: usize,
 }
 
-/// Takes one octet if it decides nothing, and returns whether it did; otherwise nothing changes.
+/// The bits of the next octets, 48 of them or as many eights as come before the first octet that is
+/// no bit and no line end.
 #[inline(always)]
-fn pass_one<C: Check>(octet: u8, run: &mut CaptureRun<C>) -> bool
+fn gather(octets: &[u8]) -> Gathered
+    ensures few { result.word.count ≤ 48 }
+    ensures small { result.word.bits < 2 ^ result.word.count }
+    ensures enough { result.taken ≤ length octets.now }
+    ensures given { (xs : List ℕ) → text_fault xs ≡ None →
+        (text_fault (xs ++ take result.taken octets.now) ≡ None)
+        × (text_bits (xs ++ take result.taken octets.now)
+        ≡ text_bits xs ++ bits_of result.word.count result.word.bits) }
+{
+    let mut word = Word::new();
+    let mut taken = 0;
+    while word.count <= 40 {
+        let Some(eight) = TextBits::eight(&octets[taken..]) else {
+            return Gathered { word, taken };
+        };
+        word.put(eight.octet);
+        taken += eight.taken;
+    }
+    Gathered { word, taken }
+}
+
+/// Takes the next bits, up to 48, where the next octets give eight or more, and returns how many
+/// octets these were: none, where they don't.
+#[inline(always)]
+fn take_many<C: Check, W: Write>(
+    octets: &[u8],
+    run: &mut CaptureRun<C>,
+    w: &mut W,
+) -> Result<usize, ToolFault>
     requires { IsSound run.old }
-    ensures passed { IsTrue result → (start now : Option (List ℕ)) (xs : List ℕ) →
-        FollowsOctets C.folded C.COST start now run.old xs →
-        FollowsOctets C.folded C.COST start now run.new (xs ++ octet ∷ []) }
-    ensures kept { result ≡ false → run.new ≡ run.old }
+    ensures enough { IfOk result (λ n. n ≤ length octets.now) }
+    ensures taken { (start : Option (List ℕ)) (xs : List ℕ) →
+        FollowsOctets C.folded C.COST start (W.contents w.old) run.old xs → MatchResult result
+        (λ n. FollowsOctets C.folded C.COST start (W.contents w.new) run.new (xs ++ take n octets.now))
+        (λ fault. (n : ℕ) × (n ≤ length octets.now)
+        × Stops C.folded C.COST true start (W.contents w.new) run.new (xs ++ take n octets.now) fault) }
     ensures same { IsSame run.old run.new }
     ensures sound { IsSound run.new }
 {
-    match TextBits::new().step(octet) {
-        Ok(Some(bit)) => run.pass(bit),
-        Ok(None) => true,
-        Err(BadMark) => false,
-    }
+    let next = gather(octets);
+    run.take_word(next.word.bits, next.word.count, w)?;
+    Ok(next.taken)
 }
 
 /// Takes one octet, before which there were `at` others.
@@ -99,16 +120,12 @@ impl TextCapture {
         captures_grow();
         let mut taken = 0;
         while taken < octets.len() {
-            if let Some(passed) = pass_eight(&octets[taken..], run) {
-                taken += passed;
+            let many = take_many(&octets[taken..], run, w)?;
+            if many > 0 {
+                taken += many;
                 continue;
             }
-            let octet = octets[taken];
-            if pass_one(octet, run) {
-                taken += 1;
-                continue;
-            }
-            take_one(octet, self.at + taken as u128, run, w)?;
+            take_one(octets[taken], self.at + taken as u128, run, w)?;
             taken += 1;
         }
         self.at += octets.len() as u128;

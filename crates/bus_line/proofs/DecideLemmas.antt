@@ -1,7 +1,7 @@
 -- What the bit after six ones or fourteen decides.
-use Rattle.std.proofs.Common.{◌≡◌, ◌≢◌, ℕ, suc, ◌+◌, ◌-◌, ◌%◌, ◌≤◌, Bool, true, false, List, [], ◌∷◌, ◌++◌, length, Option, Some, None, refl, sym, ap, ◌∙◌, subst, arith, inl, inr}
+use Rattle.std.proofs.Common.{◌≡◌, ◌≢◌, ℕ, suc, ◌+◌, ◌-◌, ◌≤◌, Bool, true, false, List, [], ◌∷◌, ◌++◌, length, Option, Some, None, refl, sym, ap, ◌∙◌, subst, arith}
 use Rattle.std.specs.List.{slice_range}
-use Rattle.std.specs.Prelude.{reverse, ◌^◌, ◌↔◌, ◌⊎◌, IsTrue}
+use Rattle.std.specs.Prelude.{drop}
 use Rattle.std.proofs.lemmas.List.{length_push}
 use Rattle.bus_bits.specs.Octet.{number}
 use Rattle.bus_line.specs.Internal.Run.{ones_after, ones_at_end}
@@ -11,7 +11,7 @@ use Rattle.bus_line.specs.Internal.Look.{IsFound}
 use Rattle.bus_line.specs.declared.decoder.look.Found.{Found}
 use Rattle.bus_line.specs.declared.decoder.look.Found.TheVariants.{Closing, Seven, Fifteen, Other}
 use Rattle.bus_line.specs.Internal.LineState.{LineState}
-use Rattle.bus_line.specs.Internal.Tracks.{settled_data, HasTaken, Tracks, event_shown}
+use Rattle.bus_line.specs.Internal.Tracks.{settled_data, padded, HasTaken, Tracks, event_shown}
 use Rattle.bus_line.specs.declared.decoder.event.Event.{Event}
 use Rattle.bus_line.specs.declared.decoder.event.Event.TheVariants as event
 use Rattle.bus_line.proofs.StepStreamLemmas.{Decides}
@@ -20,11 +20,6 @@ use Rattle.bus_line.proofs.StepLemmas.{data-start}
 
 decides-nothing : (longest : ℕ) (b : List Bool) (bit : Bool) → ones_at_end b ≢ 6 → ones_at_end b ≢ 14 → Decides longest b bit None (current b)
 decides-nothing longest b bit six fourteen = at-other longest b bit (λ e k l. six k) (λ e. (six, fourteen))
-
--- where the test says no
-pub not_behind : (t : Bool) (b : List Bool) → t ≡ false → (IsTrue t ↔ ((ones_at_end b ≡ 6) ⊎ (ones_at_end b ≡ 14))) → (ones_at_end b ≢ 6) × (ones_at_end b ≢ 14)
-not_behind true b h i = absurd (cc)
-not_behind false b h i = (λ e. absurd (let t = i.1 (inl e) in cc), λ e. absurd (let t = i.1 (inr e) in cc))
 
 -- a bit after another run decides nothing, and leaves the last mark
 pub nothing-due : (longest : ℕ) (b : List Bool) (bit : Bool) → ones_at_end b ≢ 6 → ones_at_end b ≢ 14 → due_at longest (b ++ bit ∷ []) (length b) ≡ None
@@ -52,15 +47,19 @@ fifteen longest b true f = at-idle longest b f.1
 pub other : (longest : ℕ) (b : List Bool) (bit : Bool) → IsFound bit (ones_at_end b) (length b) Other → Decides longest b bit None (current b)
 other longest b bit f = at-other longest b bit f.0 f.1
 
+none_number : number [] ≡ 0
+unfolding number
+none_number = refl
+
 -- a flag has come: nothing of its piece is there yet
 pub tracks-flag : {C : Type 0} (folded : C → List ℕ → Type 0) (cost : ℕ) (d : LineState C) (c : List Bool) (mark : Mark) (p : ℕ) → Tracks folded cost d c mark → p + 8 ≡ length c
-    → Tracks folded cost (record d { first = Some d.place; gathered = 0; octet = 0 }) c (FlagAt p)
+    → Tracks folded cost (record d { first = Some d.place; gathered = 0; rest = 0 }) c (FlagAt p)
 tracks-flag folded cost d c mark p h e =
     let none : settled_data c p ≡ [] = data-start c p (omega (arith, e)) in
     record {
-      has_taken = record { place = h.has_taken.place; window = h.has_taken.window };
+      has_taken = record { place = h.has_taken.place; history = h.has_taken.history };
       first = ap Some (h.has_taken.place ∙ ap (λ n. d.origin + n) (sym e));
-      piece = rw none (record { count = refl; last = refl; held = λ m. absurd (omega (arith, m)); checked = λ m. absurd (omega (arith, m)) });
+      piece = rw none (record { count = refl; rest = sym none_number; held = λ m. absurd (omega (arith, m)); checked = λ m. absurd (omega (arith, m)) });
       counts = record { settled = h.counts.settled; filled = h.counts.filled; paid = h.counts.paid; copied = h.counts.copied; handled = h.counts.handled };
     }
 
@@ -68,20 +67,20 @@ tracks-flag folded cost d c mark p h e =
 pub tracks-abort : {C : Type 0} (folded : C → List ℕ → Type 0) (cost : ℕ) (d : LineState C) (c : List Bool) (mark : Mark) (a : ℕ) → Tracks folded cost d c mark
     → Tracks folded cost (record d { first = None }) c (AbortAt a)
 tracks-abort folded cost d c mark a h = record {
-  has_taken = record { place = h.has_taken.place; window = h.has_taken.window };
+  has_taken = record { place = h.has_taken.place; history = h.has_taken.history };
   first = refl;
   piece = tt;
   counts = record { settled = h.counts.settled; filled = h.counts.filled; paid = h.counts.paid; copied = h.counts.copied; handled = h.counts.handled };
 }
 
 -- an event reads the octets alone
-pub event-flag : {C : Type 0} (d : LineState C) (first : Option ℕ) (gathered octet : ℕ) (e : Event) → event_shown (record d { first = first; gathered = gathered; octet = octet }) e ≡ event_shown d e
-event-flag d first gathered octet event.Nothing = refl
-event-flag d first gathered octet (event.Frame span) = refl
-event-flag d first gathered octet (event.Damaged span cause) = refl
-event-flag d first gathered octet (event.Overlong span) = refl
-event-flag d first gathered octet (event.Abort span) = refl
-event-flag d first gathered octet (event.Idle span) = refl
+pub event-flag : {C : Type 0} (d : LineState C) (first : Option ℕ) (gathered rest : ℕ) (e : Event) → event_shown (record d { first = first; gathered = gathered; rest = rest }) e ≡ event_shown d e
+event-flag d first gathered rest event.Nothing = refl
+event-flag d first gathered rest (event.Frame span) = refl
+event-flag d first gathered rest (event.Damaged span cause) = refl
+event-flag d first gathered rest (event.Overlong span) = refl
+event-flag d first gathered rest (event.Abort span) = refl
+event-flag d first gathered rest (event.Idle span) = refl
 
 pub event-abort : {C : Type 0} (d : LineState C) (first : Option ℕ) (e : Event) → event_shown (record d { first = first }) e ≡ event_shown d e
 event-abort d first event.Nothing = refl
@@ -100,11 +99,11 @@ run-within k (false ∷ b) = omega (arith, run-within 0 b)
 pub ones_within : (b : List Bool) → ones_at_end b ≤ length b
 ones_within b = omega (arith, run-within 0 b)
 
--- what was found in the window, by the bits
+-- what was found in the history, by the bits
 pub found-here : {C : Type 0} (e d : LineState C) → e ≡ d → (b : List Bool) (bit : Bool) → HasTaken d (b ++ bit ∷ []) → (f : Found)
-    → ((b : List Bool) (bit : Bool) → e.window ≡ number (reverse (b ++ bit ∷ [])) % 2 ^ 32 → e.place - 1 - e.origin ≡ length b → IsFound bit (ones_at_end b) (e.place - 1 - e.origin) f)
+    → ((b : List Bool) (bit : Bool) → e.history ≡ number (drop (length (b ++ bit ∷ [])) (padded (b ++ bit ∷ []))) → e.place - 1 - e.origin ≡ length b → IsFound bit (ones_at_end b) (e.place - 1 - e.origin) f)
     → IsFound bit (ones_at_end b) (length b) f
 found-here e d same b bit s f found =
     let here : HasTaken e (b ++ bit ∷ []) = subst (λ x. HasTaken x (b ++ bit ∷ [])) (sym same) s in
     let n : e.place - 1 - e.origin ≡ length b = omega (arith, here.place, length_push b bit) in
-    subst (λ k. IsFound bit (ones_at_end b) k f) n (found b bit here.window n)
+    subst (λ k. IsFound bit (ones_at_end b) k f) n (found b bit here.history n)

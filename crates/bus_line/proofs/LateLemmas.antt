@@ -1,23 +1,16 @@
--- What the window shows of eight bits at once: runs of ones, and data.
-use Rattle.std.proofs.Common.{◌≡◌, ◌≢◌, ℕ, zero, suc, ◌+◌, ◌-◌, ◌*◌, ◌/◌, ◌%◌, ◌^◌, ◌<◌, ◌==◌, Bool, List, [], ◌∷◌, ◌++◌, length, take, drop, reverse, min, refl, sym, ap, ◌∙◌, subst, arith, bit_or, inl, inr}
+-- What masks show of a word: where bits stop, and which are inserted 0s.
+use Rattle.std.proofs.Common.{◌≡◌, ◌≢◌, ℕ, ◌+◌, ◌-◌, ◌*◌, ◌/◌, ◌%◌, ◌^◌, ◌≤◌, ◌<◌, min, max, refl, sym, ap, ◌∙◌, arith, bit_or, inl, inr}
 use Rattle.std.specs.Prelude.{bit_and, ◌↔◌}
-use Rattle.std.specs.Int.Bits.{and_step, or_shifted_r}
-use Rattle.std.proofs.lemmas.Nat.{mod-pow-add, field_of, shr_high, shl_whole, mul-add-lt, shr-shr, and_shr}
-use Rattle.std.proofs.lemmas.Nat.Bits.{and_high, bit_at_and, bit_at_not, bit_at_ones}
-use Rattle.std.specs.Int.{bit_at, w32}
-use Rattle.std.proofs.lemmas.List.{length_push, reverse-append, length-reverse, length-drop, take-append-drop, append_assoc}
-use Rattle.std.proofs.lemmas.Bool.{cases_lt, eq-eqb, ne_eqb}
-use Rattle.std.proofs.lemmas.Bool.Decides.{nat_tests}
-use Rattle.std.proofs.Math.Nat.{pow-suc}
-use Rattle.bus_bits.specs.Octet.{number, bits_of}
-use Rattle.bus_bits.proofs.OctetLemmas.{number-lt, number-append, number-bits, bits-number, length-bits}
-use Rattle.bus_line.specs.Internal.Run.{ones_at_end}
-use Rattle.bus_line.specs.Internal.Late.{IsCalm, late_data}
-use Rattle.bus_line.proofs.StepWindowLemmas.{lead-is, lead-least}
+use Rattle.std.specs.Int.Bits.{and_step}
+use Rattle.std.proofs.lemmas.Nat.{shr-shr, and_shr, one_shl, or_lt, and_le_r}
+use Rattle.std.proofs.lemmas.Nat.Bits.{bit_at_and, bit_at_or, bit_at_not, bit_at-pow_same, bit_at-pow_other, bit_at-trailing_zeros, bit_at-lt, bit_at-zero}
+use Rattle.std.specs.Int.{bit_at, w64, trailing_zeros}
+use Rattle.std.proofs.lemmas.Bool.{cases_lt}
+use Rattle.bus_line.specs.Internal.Late.{IsStop}
 
 -- ---- where ones stand together
 
--- two ones, four, six and five, by the lowest place of each run
+-- two ones, four, six, five and fourteen, by the lowest place of each run
 abbrev pub two : ℕ → ℕ
 two w = bit_and w (w / 2)
 
@@ -29,6 +22,9 @@ six w = bit_and (four w) (two w / 16)
 
 abbrev pub five : ℕ → ℕ
 five w = bit_and (four w) (w / 16)
+
+abbrev pub fourteen : ℕ → ℕ
+fourteen w = bit_and (bit_and (six w) (four w / 64)) (four w / 1024)
 
 -- two shifts in either order
 shr-turn : (w j k : ℕ) → w / 2 ^ j / 2 ^ k ≡ w / 2 ^ k / 2 ^ j
@@ -66,15 +62,22 @@ four-low w = and-low (two w) (two w / 4) ∙ ap (λ (x : ℕ). min (two w % 2) (
 six-low : (w : ℕ) → six w % 2 ≡ min (four w % 2) (two (w / 16) % 2)
 six-low w = and-low (four w) (two w / 16) ∙ ap (λ (x : ℕ). min (four w % 2) (x % 2)) (two-shr w 4)
 
--- six ones, and five
-six-ones : (w : ℕ) → (six w % 2 ≡ 0 → w % 64 ≢ 63) × (w % 64 ≢ 63 → six w % 2 ≡ 0)
+-- four, six, five and fourteen ones
+four-ones : (w : ℕ) → (four w % 2 ≡ 1 → w % 16 ≡ 15) × (w % 16 ≡ 15 → four w % 2 ≡ 1)
+four-ones w =
+    let f = four-low w in
+    let a = two-low w in
+    let b = two-low (w / 4) in
+    ((λ e. omega (arith, f, a, b, e)), λ m. omega (arith, f, a, b, m))
+
+six-ones : (w : ℕ) → (six w % 2 ≡ 1 → w % 64 ≡ 63) × (w % 64 ≡ 63 → six w % 2 ≡ 1)
 six-ones w =
     let s = six-low w in
     let f = four-low w in
     let a = two-low w in
     let b = two-low (w / 4) in
     let c = two-low (w / 16) in
-    ((λ e m. omega (arith, s, f, a, b, c, e, m)), λ m. omega (arith, s, f, a, b, c, m))
+    ((λ e. omega (arith, s, f, a, b, c, e)), λ m. omega (arith, s, f, a, b, c, m))
 
 five-ones : (w : ℕ) → (five w % 2 ≡ 1 → w % 32 ≡ 31) × (w % 32 ≡ 31 → five w % 2 ≡ 1)
 five-ones w =
@@ -84,149 +87,140 @@ five-ones w =
     let b = two-low (w / 4) in
     ((λ e. omega (arith, s, f, a, b, e)), λ m. omega (arith, s, f, a, b, m))
 
--- ---- a mask of ones that stand together
+fourteen-low : (w : ℕ) → fourteen w % 2 ≡ min (min (six w % 2) (four (w / 64) % 2)) (four (w / 1024) % 2)
+fourteen-low w =
+    and-low (bit_and (six w) (four w / 64)) (four w / 1024)
+    ∙ (ap (λ (x : ℕ). min x (four w / 1024 % 2)) (and-low (six w) (four w / 64)) ∙ (ap (λ (x : ℕ). min (min (six w % 2) (x % 2)) (four w / 1024 % 2)) (four-shr w 6)
+    ∙ ap (λ (x : ℕ). min (min (six w % 2) (four (w / 64) % 2)) (x % 2)) (four-shr w 10)))
 
--- no bit below a place
-below-zero : (m n : ℕ) → n % 2 ^ m ≡ 0 → (k : ℕ) → k < m → n / 2 ^ k % 2 ≡ 0
-below-zero zero n h k l = absurd (omega (arith, l))
-below-zero (suc m) n h zero l = let e : suc m ≡ m + 1 = omega arith in let p = mod-pow-add n m 1 in omega (arith, h, ap (λ (j : ℕ). n % 2 ^ j) e, p)
-below-zero (suc m) n h (suc k) l =
-    let e : suc m ≡ m + 1 = omega arith in
-    let f : suc k ≡ 1 + k = omega arith in
-    let p = mod-pow-add n m 1 in
-    let z : n / 2 % 2 ^ m ≡ 0 = omega (arith, h, ap (λ (j : ℕ). n % 2 ^ j) e, p) in
-    ap (λ (j : ℕ). n / 2 ^ j % 2) f ∙ (ap (λ (x : ℕ). x % 2) (sym (shr-shr n 1 k)) ∙ below-zero m (n / 2) z k (omega (arith, l)))
+split-ones : (w : ℕ) → (w % 64 ≡ 63 → w / 64 % 16 ≡ 15 → w / 1024 % 16 ≡ 15 → w % 16384 ≡ 16383) × (w % 16384 ≡ 16383 → (w % 64 ≡ 63) × (w / 64 % 16 ≡ 15) × (w / 1024 % 16 ≡ 15))
+split-ones w = ((λ a b c. omega (arith, a, b, c)), λ e. (omega (arith, e), omega (arith, e), omega (arith, e)))
 
-zero-below : (m n : ℕ) → ((k : ℕ) → k < m → n / 2 ^ k % 2 ≡ 0) → n % 2 ^ m ≡ 0
-zero-below zero n h = omega arith
-zero-below (suc m) n h =
-    let e : suc m ≡ m + 1 = omega arith in
-    let p = mod-pow-add n m 1 in
-    let low : n % 2 ≡ 0 = omega (arith, h 0 (omega arith)) in
-    let high : n / 2 % 2 ^ m ≡ 0 = zero-below m (n / 2) (λ k l. let f : 1 + k ≡ suc k = omega arith in ap (λ (x : ℕ). x % 2) (shr-shr n 1 k ∙ ap (λ (j : ℕ). n / 2 ^ j) f) ∙ h (suc k) (omega (arith, l))) in
-    ap (λ (j : ℕ). n % 2 ^ j) e ∙ omega (arith, p, low, high)
+fourteen-ones : (w : ℕ) → (fourteen w % 2 ≡ 1 → w % 16384 ≡ 16383) × (w % 16384 ≡ 16383 → fourteen w % 2 ≡ 1)
+fourteen-ones w =
+    let f = fourteen-low w in
+    let a = six-ones w in
+    let b = four-ones (w / 64) in
+    let c = four-ones (w / 1024) in
+    let s = split-ones w in (
+      (λ e. s.0 (a.0 (omega (arith, f, e))) (b.0 (omega (arith, f, e))) (c.0 (omega (arith, f, e)))),
+      λ m. let t = s.1 m in let x = a.1 t.0 in let y = b.1 t.1 in let z = c.1 t.2 in omega (arith, f, x, y, z),
+    )
 
--- whether six ones stand at one of eight places
-no-six : (w : ℕ) → bit_and (six w) 510 ≡ 0 → (k : ℕ) → k < 8 → w / 2 ^ (1 + k) % 64 ≢ 63
-no-six w h k l =
-    let m = and_high (six w) 8 1 in
-    let z : six w / 2 % 256 ≡ 0 = omega (arith, m, h) in
-    (six-ones (w / 2 ^ (1 + k))).0 (ap (λ (x : ℕ). x % 2) (sym (six-shr w (1 + k)) ∙ sym (shr-shr (six w) 1 k)) ∙ below-zero 8 (six w / 2) z k l)
+fourteen-shr : (w k : ℕ) → fourteen w / 2 ^ k ≡ fourteen (w / 2 ^ k)
+fourteen-shr w k =
+    let s = six-shr w k in
+    let a = shr-turn (four w) 6 k ∙ ap (λ (x : ℕ). x / 64) (four-shr w k) in
+    let b = shr-turn (four w) 10 k ∙ ap (λ (x : ℕ). x / 1024) (four-shr w k) in
+    and_shr (bit_and (six w) (four w / 64)) (four w / 1024) k
+    ∙ (ap (λ (x : ℕ). bit_and x (four w / 1024 / 2 ^ k)) (and_shr (six w) (four w / 64) k ∙ (ap (λ (x : ℕ). bit_and x (four w / 64 / 2 ^ k)) s ∙ ap (λ (x : ℕ). bit_and (six (w / 2 ^ k)) x) a))
+    ∙ ap (λ (x : ℕ). bit_and (bit_and (six (w / 2 ^ k)) (four (w / 2 ^ k) / 64)) x) b)
 
-none-six : (w : ℕ) → ((k : ℕ) → k < 8 → w / 2 ^ (1 + k) % 64 ≢ 63) → bit_and (six w) 510 ≡ 0
-none-six w h =
-    let z : six w / 2 % 256 ≡ 0 = zero-below 8 (six w / 2) (λ k l. ap (λ (x : ℕ). x % 2) (shr-shr (six w) 1 k ∙ six-shr w (1 + k)) ∙ (six-ones (w / 2 ^ (1 + k))).1 (h k l)) in
-    let m = and_high (six w) 8 1 in
-    omega (arith, m, z)
+-- ---- where taking bits stops
+
+abbrev MAX : ℕ
+MAX = 18446744073709551615
+
+-- just six ones, or fourteen, before each new bit, and a 1 behind the new bits
+abbrev pub stops : ℕ → ℕ → ℕ
+stops w count = bit_or (bit_or (bit_and (six w / 1024) (MAX - w / 512)) (bit_and (fourteen w / 4) (MAX - w / 2))) (1 * 2 ^ count % 18446744073709551616)
+
+six-at : (w i : ℕ) → w < 2 ^ 64 → i < 64 → (bit_at (bit_and (six w / 1024) (MAX - w / 512)) i ≡ 1 → w / 2 ^ (9 + i) % 128 ≡ 126) × (w / 2 ^ (9 + i) % 128 ≡ 126 → bit_at (bit_and (six w / 1024) (MAX - w / 512)) i ≡ 1)
+six-at w i h l =
+    let v : ℕ = w / 2 ^ (9 + i) in
+    let s : six w / 1024 / 2 ^ i ≡ six (v / 2) =
+    let a : 10 + i ≡ (9 + i) + 1 = omega arith in
+    shr-shr (six w) 10 i ∙ (six-shr w (10 + i) ∙ ap six (ap (λ (j : ℕ). w / 2 ^ j) a ∙ sym (shr-shr w (9 + i) 1))) in
+    let n : bit_at (w / 512) i ≡ v % 2 = ap (λ (x : ℕ). x % 2) (shr-shr w 9 i) in
+    let m = bit_at_not w64 (w / 512) i (omega (arith, h)) l in
+    let e : bit_at (bit_and (six w / 1024) (MAX - w / 512)) i ≡ min (six (v / 2) % 2) (1 - v % 2) =
+    bit_at_and (six w / 1024) (MAX - w / 512) i ∙ (ap (λ (x : ℕ). min (x % 2) (bit_at (MAX - w / 512) i)) s ∙ ap (min (six (v / 2) % 2)) (m ∙ ap (λ (x : ℕ). 1 - x) n)) in
+    let o = six-ones (v / 2) in
+    ((λ x. let y = o.0 (omega (arith, e, x)) in omega (arith, e, x, y)), λ x. let y = o.1 (omega (arith, x)) in omega (arith, e, x, y))
+
+fourteen-at : (w i : ℕ) → w < 2 ^ 64 → i < 64 → (bit_at (bit_and (fourteen w / 4) (MAX - w / 2)) i ≡ 1 → w / 2 ^ (1 + i) % 32768 ≡ 32766) × (w / 2 ^ (1 + i) % 32768 ≡ 32766 → bit_at (bit_and (fourteen w / 4) (MAX - w / 2)) i ≡ 1)
+fourteen-at w i h l =
+    let v : ℕ = w / 2 ^ (1 + i) in
+    let s : fourteen w / 4 / 2 ^ i ≡ fourteen (v / 2) =
+    let a : 2 + i ≡ (1 + i) + 1 = omega arith in
+    shr-shr (fourteen w) 2 i ∙ (fourteen-shr w (2 + i) ∙ ap fourteen (ap (λ (j : ℕ). w / 2 ^ j) a ∙ sym (shr-shr w (1 + i) 1))) in
+    let n : bit_at (w / 2) i ≡ v % 2 = ap (λ (x : ℕ). x % 2) (shr-shr w 1 i) in
+    let m = bit_at_not w64 (w / 2) i (omega (arith, h)) l in
+    let e : bit_at (bit_and (fourteen w / 4) (MAX - w / 2)) i ≡ min (fourteen (v / 2) % 2) (1 - v % 2) =
+    bit_at_and (fourteen w / 4) (MAX - w / 2) i ∙ (ap (λ (x : ℕ). min (x % 2) (bit_at (MAX - w / 2) i)) s ∙ ap (min (fourteen (v / 2) % 2)) (m ∙ ap (λ (x : ℕ). 1 - x) n)) in
+    let o = fourteen-ones (v / 2) in
+    ((λ x. let y = o.0 (omega (arith, e, x)) in omega (arith, e, x, y)), λ x. let y = o.1 (omega (arith, x)) in omega (arith, e, x, y))
+
+one-at : (count i : ℕ) → count < 64 → (i ≢ count → bit_at (1 * 2 ^ count % 18446744073709551616) i ≡ 0) × (i ≡ count → bit_at (1 * 2 ^ count % 18446744073709551616) i ≡ 1)
+one-at count i h =
+    let e = one_shl count 64 h in
+    ((λ n. ap (λ (x : ℕ). bit_at x i) e ∙ bit_at-pow_other count i n), λ q. ap (λ (x : ℕ). bit_at x i) e ∙ (ap (bit_at (2 ^ count)) q ∙ bit_at-pow_same count))
+
+stops-at : (w count i : ℕ) → bit_at (stops w count) i ≡ max (max (bit_at (bit_and (six w / 1024) (MAX - w / 512)) i) (bit_at (bit_and (fourteen w / 4) (MAX - w / 2)) i)) (bit_at (1 * 2 ^ count % 18446744073709551616) i)
+stops-at w count i =
+    bit_at_or (bit_or (bit_and (six w / 1024) (MAX - w / 512)) (bit_and (fourteen w / 4) (MAX - w / 2))) (1 * 2 ^ count % 18446744073709551616) i
+    ∙ ap (λ (x : ℕ). max x (bit_at (1 * 2 ^ count % 18446744073709551616) i)) (bit_at_or (bit_and (six w / 1024) (MAX - w / 512)) (bit_and (fourteen w / 4) (MAX - w / 2)) i)
+
+-- no stop, no bit, and the other way
+stop-zero : (w count i : ℕ) → w < 2 ^ 64 → i < 64 → count < 64 → bit_at (stops w count) i ≡ 0 → IsStop w i → ⊥
+stop-zero w count i h l k z s =
+    let e = stops-at w count i in
+    elim s [
+      | inl x ↦ let y = (six-at w i h l).1 x in omega (arith, e, z, y)
+      | inr x ↦ let y = (fourteen-at w i h l).1 x in omega (arith, e, z, y)
+    ]
+
+stop-one : (w count i : ℕ) → w < 2 ^ 64 → i < 64 → count < 64 → i < count → bit_at (stops w count) i ≡ 1 → IsStop w i
+stop-one w count i h l k m o =
+    let e = stops-at w count i in
+    let z = (one-at count i k).0 (λ q. omega (arith, q, m)) in
+    let a : ℕ = bit_at (bit_and (six w / 1024) (MAX - w / 512)) i in
+    elim (cases_lt a 1) [
+      | inl x ↦ inr ((fourteen-at w i h l).0 (let y = bit_at-lt (bit_and (fourteen w / 4) (MAX - w / 2)) i in omega (arith, e, z, o, x, y)))
+      | inr x ↦ inl ((six-at w i h l).0 (let y = bit_at-lt (bit_and (six w / 1024) (MAX - w / 512)) i in omega (arith, x, y)))
+    ]
+
+-- the lowest 1 is the first stop, or `count`
+pub record IsFirstStop (w count n : ℕ) : Type 0 where
+  pub calm : (i : ℕ) → i < n → IsStop w i → ⊥
+  pub stop : n < count → IsStop w n
+  pub within : n ≤ count
+
+stops-lt : (w count : ℕ) → stops w count < 2 ^ 64
+stops-lt w count =
+    let a = and_le_r (six w / 1024) (MAX - w / 512) in
+    let c = and_le_r (fourteen w / 4) (MAX - w / 2) in
+    or_lt 64 (bit_or (bit_and (six w / 1024) (MAX - w / 512)) (bit_and (fourteen w / 4) (MAX - w / 2))) (1 * 2 ^ count % 18446744073709551616)
+    (or_lt 64 (bit_and (six w / 1024) (MAX - w / 512)) (bit_and (fourteen w / 4) (MAX - w / 2)) (omega (arith, a)) (omega (arith, c))) (omega arith)
+
+pub first-stop : (w count : ℕ) → w < 2 ^ 64 → count ≤ 48 → IsFirstStop w count (trailing_zeros w64 (stops w count))
+first-stop w count h k =
+    let b = stops-lt w count in
+    let s : ℕ = stops w count in
+    let c : bit_at (stops w count) count ≡ 1 = let o = (one-at count count (omega arith)).1 refl in let e = stops-at w count count in
+    let x = bit_at-lt (stops w count) count in omega (arith, e, o, x) in
+    let p : 0 < stops w count = elim (cases_lt 0 s) [ inl q ↦ q | inr q ↦ absurd (let z : stops w count ≡ 0 = omega (arith, q) in let y = bit_at-zero count in omega (arith, c, y, ap (λ (x : ℕ). bit_at x count) z)) ] in
+    let t = bit_at-trailing_zeros w64 s p b in
+    let n : ℕ = trailing_zeros w64 s in record {
+      calm = λ i l. stop-zero w count i h (omega (arith, t.0, l)) (omega arith) (t.2 i l);
+      stop = λ l. stop-one w count n h t.0 (omega arith) l t.1;
+      within = elim (cases_lt count n) [ inl l ↦ absurd (omega (arith, c, t.2 count l)) | inr l ↦ l ];
+    }
 
 -- ---- the places of inserted 0s
 
--- a 0 with five ones behind it
-abbrev pub zeros : ℕ → ℕ
-zeros w = bit_and (five w / 2) (4294967295 - w)
+abbrev pub inserted : ℕ → ℕ
+inserted w = bit_and (five w / 8) (MAX - w / 256)
 
-zero-at : (w i : ℕ) → w < 2 ^ 32 → i < 32 → bit_at (zeros w) i ≡ min (five (w / 2 ^ i / 2) % 2) (1 - w / 2 ^ i % 2)
-zero-at w i h l =
-    let f : five w / 2 / 2 ^ i ≡ five (w / 2 ^ i / 2) = shr-turn (five w) 1 i ∙ (ap (λ (x : ℕ). x / 2) (five-shr w i) ∙ five-shr (w / 2 ^ i) 1) in
-    bit_at_and (five w / 2) (4294967295 - w) i ∙ (ap (λ (x : ℕ). min (x % 2) (bit_at (4294967295 - w) i)) f ∙ ap (min (five (w / 2 ^ i / 2) % 2)) (bit_at_not w32 w i h l))
-
-zero-among : (w k : ℕ) → w < 2 ^ 32 → k < 8 → bit_at (bit_and (zeros w / 256) 255) k ≡ min (five (w / 2 ^ (8 + k) / 2) % 2) (1 - w / 2 ^ (8 + k) % 2)
-zero-among w k h l =
-    let a = bit_at_and (zeros w / 256) 255 k in
-    let o = bit_at_ones 8 k l in
-    let s : bit_at (zeros w / 256) k ≡ bit_at (zeros w) (8 + k) = ap (λ (x : ℕ). x % 2) (shr-shr (zeros w) 8 k) in
-    omega (arith, a, o, s, zero-at w (8 + k) h (omega (arith, l)))
-
-pub inserted-at : (w k : ℕ) → w < 2 ^ 32 → k < 8 → bit_at (bit_and (zeros w / 256) 255) k ≡ 1 ↔ w / 2 ^ (8 + k) % 64 ≡ 62
+pub inserted-at : (w k : ℕ) → w < 2 ^ 64 → k < 48 → bit_at (inserted w) k ≡ 1 ↔ w / 2 ^ (3 + k) % 64 ≡ 31
 inserted-at w k h l =
-    let v : ℕ = w / 2 ^ (8 + k) in
-    let z = zero-among w k h l in
-    let f = five-ones (v / 2) in
-    ((λ e. let g : five (v / 2) % 2 ≡ 1 = omega (arith, z, e) in omega (arith, z, e, f.0 g)), λ e. omega (arith, z, e, f.1 (omega (arith, e))))
-
--- ---- what the last eight bits are behind
-
--- the number of a list and of its last bits
-number-front : (u v : List Bool) → number (reverse (u ++ v)) / 2 ^ length v ≡ number (reverse u)
-number-front u v =
-    let k = length-reverse v in
-    let e : number (reverse (u ++ v)) ≡ number (reverse u) * 2 ^ length v + number (reverse v) =
-    ap number (reverse-append u v) ∙ (number-append (reverse v) (reverse u) ∙ (ap (λ (n : ℕ). number (reverse v) + number (reverse u) * 2 ^ n) k ∙ omega arith)) in
-    ap (λ (n : ℕ). n / 2 ^ length v) e ∙ shr_high (number (reverse u)) (length v) (number (reverse v)) (subst (λ (n : ℕ). number (reverse v) < 2 ^ n) k (number-lt (reverse v)))
-
--- what the window shows behind some of its bits
-window-front : (w k i : ℕ) (b bits : List Bool) → i + k ≡ 8 → length bits ≡ 8 → w ≡ number (reverse (b ++ bits)) % 2 ^ 32 → w / 2 ^ k % 64 ≡ number (reverse (b ++ take i bits)) % 64
-window-front w k i b bits s l e =
-    let n = number (reverse (b ++ bits)) in
-    let u = b ++ take i bits in
-    let d : length (drop i bits) ≡ k = omega (arith, length-drop i bits) in
-    let c : b ++ bits ≡ u ++ drop i bits = ap (λ (z : List Bool). b ++ z) (sym (take-append-drop i bits)) ∙ sym (append_assoc b (take i bits) (drop i bits)) in
-    let f : n / 2 ^ k ≡ number (reverse u) = ap (λ (z : List Bool). number (reverse z) / 2 ^ k) c ∙ (ap (λ (j : ℕ). number (reverse (u ++ drop i bits)) / 2 ^ j) (sym d) ∙ number-front u (drop i bits)) in
-    let p : 32 ≡ (32 - k) + k = omega arith in
-    let q : 32 - k ≡ (26 - k) + 6 = omega arith in
-    let g : w / 2 ^ k ≡ number (reverse u) % 2 ^ (26 - k + 6) =
-    ap (λ (x : ℕ). x / 2 ^ k) e ∙ (ap (λ (j : ℕ). n % 2 ^ j / 2 ^ k) p ∙ (field_of n (32 - k) k ∙ (ap (λ (x : ℕ). x % 2 ^ (32 - k)) f ∙ ap (λ (j : ℕ). number (reverse u) % 2 ^ j) q))) in
-    omega (arith, g, mod-pow-add (number (reverse u)) (26 - k) 6)
-
--- six ones there show
-front-six : (w k i : ℕ) (b bits : List Bool) → i + k ≡ 8 → length bits ≡ 8 → w ≡ number (reverse (b ++ bits)) % 2 ^ 32
-    → (w / 2 ^ k % 64 ≢ 63 → ones_at_end (b ++ take i bits) < 6) × (ones_at_end (b ++ take i bits) < 6 → w / 2 ^ k % 64 ≢ 63)
-front-six w k i b bits s l e =
-    let u = b ++ take i bits in
-    let f = window-front w k i b bits s l e in
-    let p = lead-least 6 (reverse u) in
-    let q = lead-is u in
-    ((λ m. elim (cases_lt (ones_at_end u) 6) [ inl t ↦ t | inr t ↦ absurd (m (omega (arith, f, p.1 (omega (arith, q, t))))) ]), λ t m. omega (arith, q, t, p.0 (omega (arith, f, m))))
-
--- the test for six ones says whether one of the bits is behind as many
-pub is_calm : (w : ℕ) (b bits : List Bool) → length bits ≡ 8 → w ≡ number (reverse (b ++ bits)) % 2 ^ 32 → bit_and (six w) 510 ≡ 0 → IsCalm b bits
-is_calm w b bits l e h i t =
-    let k = 7 - i in
-    (front-six w (1 + k) i b bits (omega (arith, l, t)) l e).0 (no-six w h k (omega arith))
-
-pub calm-none : (w : ℕ) (b bits : List Bool) → length bits ≡ 8 → w ≡ number (reverse (b ++ bits)) % 2 ^ 32 → IsCalm b bits → bit_and (six w) 510 ≡ 0
-calm-none w b bits l e h = none-six w (λ k t. (front-six w (1 + k) (7 - k) b bits (omega (arith, t)) l e).1 (h (7 - k) (omega (arith, l))))
-
--- ---- the data that the window shows
-
--- an inserted 0 is no data
-pub late-inserted : (w k : ℕ) → w / 2 ^ (8 + k) % 64 ≡ 62 → late_data w (suc k) ≡ late_data w k
-late-inserted w k h = let t = eq-eqb _ _ h in rw t refl
-
--- any other bit is
-pub late-bit : (w k : ℕ) → w / 2 ^ (8 + k) % 64 ≢ 62 → late_data w (suc k) ≡ (w / 2 ^ (8 + k) % 2 == 1) ∷ late_data w k
-late-bit w k h = let f = ne_eqb _ _ h in rw f refl
-
--- a bit at the first free place
-pub bit-placed : (k n x : ℕ) → k < 8 → n < 2 ^ k → x < 2 → bit_or n (x * 2 ^ k % 256) ≡ x * 2 ^ k + n
-bit-placed k n x l h b = ap (bit_or n) (shl_whole x 1 k 8 b (omega arith)) ∙ or_shifted_r x k n h
-
-pub placed-lt : (k n x : ℕ) → n < 2 ^ k → x < 2 → x * 2 ^ k + n < 2 ^ (k + 1)
-placed-lt k n x h b = let e : k + 1 ≡ suc k = omega arith in omega (arith, mul-add-lt x (2 ^ k) n 2 b h, pow-suc 2 k, ap (λ (j : ℕ). 2 ^ j) e)
-
-bit-value : (x : ℕ) → x < 2 → number ((x == 1) ∷ []) ≡ x
-unfolding number
-bit-value x b = grind (arith, nat_tests)
-
-pub bits-placed : (k n x : ℕ) → n < 2 ^ k → x < 2 → bits_of (k + 1) (x * 2 ^ k + n) ≡ bits_of k n ++ (x == 1) ∷ []
-bits-placed k n x h b =
-    let d = bits_of k n ++ (x == 1) ∷ [] in
-    let l = length-bits k n in
-    let v : number d ≡ n + x * 2 ^ k =
-    number-append (bits_of k n) ((x == 1) ∷ []) ∙ (ap (λ (m : ℕ). m + number ((x == 1) ∷ []) * 2 ^ length (bits_of k n)) (number-bits k n h)
-    ∙ (ap (λ (m : ℕ). n + m * 2 ^ length (bits_of k n)) (bit-value x b) ∙ ap (λ (j : ℕ). n + x * 2 ^ j) l)) in
-    let s : x * 2 ^ k + n ≡ number d = omega (arith, v) in
-    ap (bits_of (k + 1)) s ∙ bits-number d (k + 1) (length_push (bits_of k n) (x == 1) ∙ ap (λ (m : ℕ). m + 1) l)
-
--- the bit is picked
-pub picked-more : (w k count bits n : ℕ) → n < 8 → bits < 2 ^ n → w / 2 ^ (8 + k) % 64 ≢ 62 → bits_of n bits ++ late_data w (suc k) ≡ late_data w count
-    → (r : ℕ) → r ≡ bit_or bits (w / 2 ^ (8 + k) % 2 * 2 ^ n % 256) → (r < 2 ^ (n + 1)) × (bits_of (n + 1) r ++ late_data w k ≡ late_data w count)
-picked-more w k count bits n l h m e r o =
-    let x = w / 2 ^ (8 + k) % 2 in
-    let v : r ≡ x * 2 ^ n + bits = o ∙ bit-placed n bits x l h (omega arith) in
-    let p = placed-lt n bits x h (omega arith) in
-    let s = bits-placed n bits x h (omega arith) in (
-      omega (arith, v, p),
-      ap (λ (q : ℕ). bits_of (n + 1) q ++ late_data w k) v ∙ (ap (λ (z : List Bool). z ++ late_data w k) s ∙ (append_assoc (bits_of n bits) ((x == 1) ∷ []) (late_data w k)
-          ∙ (ap (λ (z : List Bool). bits_of n bits ++ z) (sym (late-bit w k m)) ∙ e))),
-    )
+    let v : ℕ = w / 2 ^ (3 + k) in
+    let s : five w / 8 / 2 ^ k ≡ five v = shr-shr (five w) 3 k ∙ five-shr w (3 + k) in
+    let n : bit_at (w / 256) k ≡ v / 32 % 2 =
+    let a : 8 + k ≡ (3 + k) + 5 = omega arith in
+    ap (λ (x : ℕ). x % 2) (shr-shr w 8 k ∙ (ap (λ (j : ℕ). w / 2 ^ j) a ∙ sym (shr-shr w (3 + k) 5))) in
+    let m = bit_at_not w64 (w / 256) k (omega (arith, h)) (omega arith) in
+    let e : bit_at (inserted w) k ≡ min (five v % 2) (1 - v / 32 % 2) =
+    bit_at_and (five w / 8) (MAX - w / 256) k ∙ (ap (λ (x : ℕ). min (x % 2) (bit_at (MAX - w / 256) k)) s ∙ ap (min (five v % 2)) (m ∙ ap (λ (x : ℕ). 1 - x) n)) in
+    let f = five-ones v in
+    ((λ x. let y = f.0 (omega (arith, e, x)) in omega (arith, e, x, y)), λ x. let y = f.1 (omega (arith, x)) in omega (arith, e, x, y))

@@ -11,7 +11,7 @@ pub mod DueStreamLemmas
 pub mod LedgerSettledLemmas
 pub mod SpellingRawLemmas
 pub mod LedgerRankLemmas
-pub mod StepWindowLemmas
+pub mod WordLemmas
 pub mod LateLemmas
 pub mod LateKeptLemmas
 pub mod TracksHoldLemmas
@@ -19,7 +19,7 @@ pub mod StepLemmas
 pub mod TracksAppendLemmas
 pub mod DecideLemmas
 pub mod SettleLemmas
-pub mod LatePassLemmas
+pub mod AdvanceLemmas
 pub mod ClassLemmas
 pub mod LedgerStoredLemmas
 pub mod ReportFrameLemmas

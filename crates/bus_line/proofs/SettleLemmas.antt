@@ -1,49 +1,27 @@
--- Eight bits more of what a decoder tracks.
-use Rattle.std.proofs.Common.{◌≡◌, ℕ, zero, suc, ◌+◌, ◌-◌, ◌*◌, ◌/◌, ◌%◌, ◌^◌, ◌≤◌, ◌<◌, ◌==◌, Bool, true, false, ◌&&◌, cond, List, [], ◌∷◌, ◌++◌, length, take, reverse, get_or, Option, Some, None, refl, sym, ap, ◌∙◌, subst, arith, if◌then◌else◌, inl, inr, length-append, min}
+-- What bits taken at once settle.
+use Rattle.std.proofs.Common.{◌≡◌, ℕ, zero, suc, ◌+◌, ◌-◌, ◌*◌, ◌/◌, ◌%◌, ◌^◌, ◌≤◌, ◌<◌, ◌==◌, Bool, true, false, ◌&&◌, cond, List, [], ◌∷◌, ◌++◌, length, take, get_or, Option, Some, None, refl, sym, ap, ◌∙◌, subst, arith, if◌then◌else◌, inl, inr, length-append, min}
 use Rattle.std.specs.Prelude.{nat_le}
 use Rattle.std.proofs.Math.Nat.{mul-add, mul-zero}
-use Rattle.std.proofs.lemmas.List.{length_push, append_assoc, append-nil, reverse-append, length-reverse}
+use Rattle.std.proofs.lemmas.Nat.{shr-shr}
+use Rattle.std.proofs.lemmas.List.{length_push, append_assoc, append-nil, length-take}
 use Rattle.std.proofs.lemmas.Bool.{cases_Bool, cases_lt, false_from_ne_true, eqb-true}
 use Rattle.std.proofs.lemmas.Bool.Decides.{nat_tests}
-use Rattle.bus_bits.specs.Octet.{bits_of, number}
-use Rattle.bus_bits.proofs.OctetLemmas.{number-append, number-lt, length-bits}
+use Rattle.bus_bits.specs.Octet.{bits_of}
+use Rattle.bus_bits.proofs.OctetLemmas.{length-bits}
 use Rattle.bus_bits.specs.declared.spent.Spent.{Spent}
-use Rattle.bus_line.specs.Internal.Run.{ones_at_end}
 use Rattle.bus_line.specs.Due.{FlagAt, current}
 use Rattle.bus_line.specs.Ledger.{is_settled, is_inserted, assembled, stored}
 use Rattle.bus_line.specs.Internal.LineState.{LineState}
 use Rattle.bus_line.specs.Internal.LineView.{settles_from}
 use Rattle.bus_line.specs.Internal.Tracks.{first_of, settled_data, Holds, Counts, Tracks}
-use Rattle.bus_line.specs.Internal.Late.{IsCalm, LagsBy, late_data, octets_more}
+use Rattle.bus_line.specs.After.{After}
+use Rattle.bus_line.specs.Internal.Late.{IsCalm, IsWord, LagsBy, late_data, octets_more}
 use Rattle.bus_line.proofs.LedgerSettledLemmas.{assembled-more, stored-more}
 use Rattle.bus_line.proofs.LedgerRankLemmas.{stores-now}
-use Rattle.bus_line.proofs.StepWindowLemmas.{window-inserted, window-not_inserted, window-bit}
-use Rattle.bus_line.proofs.StepLemmas.{first-Some, none-holds, none-settled, early-settled, inserted-settled, data-settled, stored-false, data-early, data-inserted, data-more, counts-kept, holds-of, holds-for, stands-same}
+use Rattle.bus_line.proofs.WordLemmas.{word-inserted, word-bit, word-next}
+use Rattle.bus_line.proofs.WholeLemmas.{take_next}
+use Rattle.bus_line.proofs.StepLemmas.{first-Some, none-holds, none-settled, early-settled, inserted-settled, data-settled, stored-false, data-early, data-inserted, data-more, counts-kept, holds-of, holds-for, stands-same, moved-holds}
 use Rattle.bus_line.proofs.DecideLemmas.{mark-kept}
-
--- ---- the window
-
--- what stands above so many low bits of a number shows in its window
-above : (k w n m r : ℕ) → k < 8 → n ≡ r + m * 2 ^ k → r < 2 ^ k → w ≡ n % 2 ^ 32 → w / 2 ^ (8 + k) % 64 ≡ m % 2 ^ 32 / 256 % 64
-above zero w n m r h e l s = omega (arith, e, l, s)
-above (suc zero) w n m r h e l s = omega (arith, e, l, s)
-above (suc (suc zero)) w n m r h e l s = omega (arith, e, l, s)
-above (suc (suc (suc zero))) w n m r h e l s = omega (arith, e, l, s)
-above (suc (suc (suc (suc zero)))) w n m r h e l s = omega (arith, e, l, s)
-above (suc (suc (suc (suc (suc zero))))) w n m r h e l s = omega (arith, e, l, s)
-above (suc (suc (suc (suc (suc (suc zero)))))) w n m r h e l s = omega (arith, e, l, s)
-above (suc (suc (suc (suc (suc (suc (suc zero))))))) w n m r h e l s = omega (arith, e, l, s)
-above (suc (suc (suc (suc (suc (suc (suc (suc k)))))))) w n m r h e l s = absurd (omega arith)
-
--- the window before its last bits
-window-before : (w : ℕ) (u v : List Bool) → length v < 8 → w ≡ number (reverse (u ++ v)) % 2 ^ 32
-    → w / 2 ^ (8 + length v) % 64 ≡ number (reverse u) % 2 ^ 32 / 256 % 64
-window-before w u v h e =
-    let k : length (reverse v) ≡ length v = length-reverse v in
-    let n : number (reverse (u ++ v)) ≡ number (reverse v) + number (reverse u) * 2 ^ length v =
-    ap number (reverse-append u v) ∙ (number-append (reverse v) (reverse u) ∙ ap (λ (j : ℕ). number (reverse v) + number (reverse u) * 2 ^ j) k) in
-    let l : number (reverse v) < 2 ^ length v = rw k at (number-lt (reverse v)) in
-    above (length v) w (number (reverse (u ++ v))) (number (reverse u)) (number (reverse v)) h n l e
 
 -- ---- what bits settle
 
@@ -96,93 +74,105 @@ settles-data longest p b bit h l f =
       filled = omega (arith, s, o, n);
     }
 
--- what a window shows of the bit that eight later ones have followed
-abbrev late_bit : ℕ → List Bool
-late_bit w = if w % 64 == 62 then [] else (w % 2 == 1) ∷ []
+-- what a word shows of the bit that eight later ones have followed
+abbrev late_at : ℕ → ℕ → List Bool
+late_at w i = if w / 2 ^ (3 + i) % 64 == 31 then [] else (w / 2 ^ (8 + i) % 2 == 1) ∷ []
 
 -- a test of a bit is that bit
 bit-is : (n : ℕ) (y : Bool) → n ≡ cond y 1 0 → (n == 1) ≡ y
 bit-is n true h = rw h refl
 bit-is n false h = rw h refl
 
--- six bits show it
-late-same : (v w : ℕ) → v % 64 ≡ w % 64 → late_bit v ≡ late_bit w
-late-same v w h =
-    let e : v % 2 ≡ w % 2 = omega (arith, h) in
-    rw (h, e) refl
+-- one bit more of the new ones
+pub next-bit : (i : ℕ) (b bits : List Bool) → i < length bits → b ++ take (suc i) bits ≡ (b ++ take i bits) ++ get_or bits i false ∷ []
+next-bit i b bits l =
+    let s : suc i ≡ i + 1 = omega arith in
+    ap (λ (j : ℕ). b ++ take j bits) s ∙ (ap (λ (z : List Bool). b ++ z) (take_next bits i false l) ∙ sym (append_assoc b (take i bits) (get_or bits i false ∷ [])))
+
+pub length-front : (i : ℕ) (b bits : List Bool) → i ≤ length bits → length (b ++ take i bits) ≡ length b + i
+length-front i b bits l = length-append b (take i bits) ∙ omega (arith, length-take i bits, l)
 
 -- a bit that comes late enough
-settles-late : (longest p w : ℕ) (b : List Bool) (bit : Bool) → current b ≡ FlagAt p → p + 16 ≤ length b → w ≡ number (reverse (b ++ bit ∷ [])) % 2 ^ 32 → Settles longest p b (b ++ bit ∷ []) (late_bit (w / 256))
-settles-late longest p w b bit h l e = elim (cases_Bool (w / 256 % 64 == 62)) [
-  | inl t ↦
-      let i : is_inserted b (length b - 8) ≡ true = window-inserted w b bit (omega arith) e (eqb-true (w / 256 % 64) 62 t) in
-      rw t (settles-nothing longest p b bit (inserted-settled b bit i) (data-inserted b bit p h l i))
-  | inr t ↦
-      let i : is_inserted b (length b - 8) ≡ false = false_from_ne_true _ (λ u. absurd (let z = window-not_inserted w b bit (omega arith) e u in grind (arith, nat_tests))) in
-      rw (t, bit-is (w / 256 % 2) (get_or b (length b - 8) false) (window-bit w b bit (omega arith) e)) (settles-data longest p b bit h l i)
-]
+settles-late : (longest p w i : ℕ) (b bits : List Bool) (bit : Bool) → IsWord w b bits → i < length bits → current (b ++ take i bits) ≡ FlagAt p → p + 16 ≤ length b + i
+    → Settles longest p (b ++ take i bits) ((b ++ take i bits) ++ bit ∷ []) (late_at w i)
+settles-late longest p w i b bits bit h l f far =
+    let u = b ++ take i bits in
+    let n : length (b ++ take i bits) ≡ length b + i = length-front i b bits (omega (arith, l)) in
+    let here : is_inserted (b ++ take i bits) (length (b ++ take i bits) - 8) ≡ is_inserted (b ++ take i bits) (length b + i - 8) = ap (λ (j : ℕ). is_inserted u (j - 8)) n in
+    let s = word-inserted w i b bits h l (omega (arith, far)) in
+    let late : p + 16 ≤ length (b ++ take i bits) = omega (arith, n, far) in
+    elim (cases_Bool (w / 2 ^ (3 + i) % 64 == 31)) [
+      | inl t ↦
+          let y : is_inserted u (length u - 8) ≡ true = here ∙ s.0 (eqb-true (w / 2 ^ (3 + i) % 64) 31 t) in
+          rw t (settles-nothing longest p u bit (inserted-settled u bit y) (data-inserted u bit p f late y))
+      | inr t ↦
+          let y : is_inserted u (length u - 8) ≡ false = false_from_ne_true _ (λ q. absurd (let z = s.1 (sym here ∙ q) in grind (arith, nat_tests))) in
+          let v : w / 2 ^ (8 + i) % 2 ≡ cond (get_or u (length u - 8) false) 1 0 = word-bit w i b bits h l (omega (arith, far)) ∙ ap (λ (j : ℕ). cond (get_or u (j - 8) false) 1 0) (sym n) in
+          rw (t, bit-is (w / 2 ^ (8 + i) % 2) (get_or u (length u - 8) false) v) (settles-data longest p u bit f late y)
+    ]
 
 -- ---- calm bits
 
--- a calm bit leaves the last mark, and calm bits behind it
-calm-head : (b : List Bool) (x : Bool) (bits : List Bool) → IsCalm b (x ∷ bits) → current (b ++ x ∷ []) ≡ current b
-calm-head b x bits h =
-    let l : ones_at_end b < 6 = rw append-nil at (h 0 (omega arith)) in
-    mark-kept b x (omega arith) (omega arith)
+pub calm-less : (b bits : List Bool) (n m : ℕ) → m ≤ n → IsCalm b bits n → IsCalm b bits m
+calm-less b bits n m l h = λ i k. h i (omega (arith, l, k))
 
-pub calm-tail : (b : List Bool) (x : Bool) (bits : List Bool) → IsCalm b (x ∷ bits) → IsCalm (b ++ x ∷ []) bits
-calm-tail b x bits h = λ i l. rw (append_assoc b (x ∷ []) (take i bits)) (h (suc i) (omega arith))
+-- they leave the last mark
+pub mark-calm : (b bits : List Bool) (n i : ℕ) → IsCalm b bits n → i ≤ n → i ≤ length bits → current (b ++ take i bits) ≡ current b
+mark-calm b bits n zero h l k = ap current (append-nil b)
+mark-calm b bits n (suc i) h l k =
+    let c = h i (omega (arith, l)) in
+    ap current (next-bit i b bits (omega (arith, k))) ∙ (mark-kept (b ++ take i bits) (get_or bits i false) c.0 c.1 ∙ mark-calm b bits n i h (omega (arith, l)) (omega (arith, k)))
 
--- so all of them leave the last mark
-pub mark-calm : (b bits : List Bool) → IsCalm b bits → current (b ++ bits) ≡ current b
-mark-calm b [] h = ap current (append-nil b)
-mark-calm b (x ∷ bits) h = ap current (sym (append_assoc b (x ∷ []) bits)) ∙ (mark-calm (b ++ x ∷ []) bits (calm-tail b x bits h) ∙ calm-head b x bits h)
+-- where no flag was last they settle nothing, nor does the bit behind them
+counts-none : {C : Type 0} (cost origin n : ℕ) (d : LineState C) (b bits : List Bool) → IsCalm b bits n → first_of origin (current b) ≡ None → Counts cost d b → (i : ℕ) → i ≤ n + 1 → i ≤ length bits → Counts cost d (b ++ take i bits)
+counts-none cost origin n d b bits h e k zero l m = subst (Counts cost d) (sym (append-nil b)) k
+counts-none cost origin n d b bits h e k (suc i) l m =
+    subst (Counts cost d) (sym (next-bit i b bits (omega (arith, m)))) (counts-kept cost d (b ++ take i bits) (get_or bits i false)
+    (none-settled (b ++ take i bits) (get_or bits i false) origin (ap (first_of origin) (mark-calm b bits n i h (omega (arith, l)) (omega (arith, m))) ∙ e))
+    (counts-none cost origin n d b bits h e k i (omega (arith, l)) (omega (arith, m))))
 
--- where no flag was last they settle nothing
-counts-none : {C : Type 0} (cost origin : ℕ) (d : LineState C) (b bits : List Bool) → IsCalm b bits → first_of origin (current b) ≡ None → Counts cost d b → Counts cost d (b ++ bits)
-counts-none cost origin d b [] h e k = subst (Counts cost d) (sym (append-nil b)) k
-counts-none cost origin d b (x ∷ bits) h e k =
-    subst (Counts cost d) (append_assoc b (x ∷ []) bits) (counts-none cost origin d (b ++ x ∷ []) bits (calm-tail b x bits h) (ap (first_of origin) (calm-head b x bits h) ∙ e)
-    (counts-kept cost d b x (none-settled b x origin e) k))
+late-shifted : (w skip i : ℕ) → skip ≤ i → late_at (w / 2 ^ skip) (i - skip) ≡ late_at w i
+late-shifted w skip i l =
+    let a : skip + (3 + (i - skip)) ≡ 3 + i = omega (arith, l) in
+    let c : skip + (8 + (i - skip)) ≡ 8 + i = omega (arith, l) in
+    ap (λ (x : ℕ). if x % 64 == 31 then [] else (w / 2 ^ skip / 2 ^ (8 + (i - skip)) % 2 == 1) ∷ []) (shr-shr w skip (3 + (i - skip)) ∙ ap (λ (j : ℕ). w / 2 ^ j) a)
+    ∙ ap (λ (x : ℕ). if w / 2 ^ (3 + i) % 64 == 31 then [] else (x % 2 == 1) ∷ []) (shr-shr w skip (8 + (i - skip)) ∙ ap (λ (j : ℕ). w / 2 ^ j) c)
 
--- and else those that come late enough are settled as the window shows
-settles-calm : (longest p w m : ℕ) (b bits : List Bool) → current b ≡ FlagAt p → IsCalm b bits → length bits ≤ 8 → w ≡ number (reverse (b ++ bits)) % 2 ^ 32
-    → m ≡ min (length b + length bits - (p + 16)) (length bits) → Settles longest p b (b ++ bits) (late_data w m)
-settles-calm longest p w m b [] h k l e s =
-    let z : m ≡ 0 = omega (arith, s) in
+-- and else those that come late enough settle what the word shows
+settles-calm : (longest p w n skip : ℕ) (b bits : List Bool) → current b ≡ FlagAt p → IsCalm b bits n → IsWord w b bits → skip ≡ p + 16 - length b → (i : ℕ) → i ≤ n + 1 → i ≤ length bits
+    → Settles longest p b (b ++ take i bits) (late_data (w / 2 ^ skip) (i - skip))
+settles-calm longest p w n skip b bits f c h s zero l m =
+    let z : 0 - skip ≡ 0 = omega arith in
     rw z (settles-none longest p b (b ++ []) (append-nil b))
-settles-calm longest p w m b (x ∷ bits) h k l e s =
-    let c = b ++ x ∷ [] in
-    let n : length (b ++ x ∷ []) ≡ length b + 1 = length_push b x in
-    let assoc : (b ++ x ∷ []) ++ bits ≡ b ++ x ∷ bits = append_assoc b (x ∷ []) bits in
-    let v : w ≡ number (reverse ((b ++ x ∷ []) ++ bits)) % 2 ^ 32 = e ∙ ap (λ (z : List Bool). number (reverse z) % 2 ^ 32) (sym assoc) in
-    let flag : current (b ++ x ∷ []) ≡ FlagAt p = calm-head b x bits k ∙ h in
-    elim (cases_lt (length b) (p + 16)) [
-      | inl u ↦
-          let one = settles-nothing longest p b x (early-settled b x p h u) (data-early b x p u) in
-          let rest = settles-calm longest p w m c bits flag (calm-tail b x bits k) (omega arith) v (omega (arith, s, n, u)) in
-          subst (λ (z : List Bool). Settles longest p b z (late_data w m)) assoc (settles-both longest p b c (c ++ bits) [] (late_data w m) one rest)
-      | inr u ↦
-          let y = number (reverse c) % 2 ^ 32 in
-          let z : m ≡ suc (length bits) = omega (arith, s, u) in
-          let one : Settles longest p b (b ++ x ∷ []) (late_bit (y / 256)) = settles-late longest p y b x h u refl in
-          let rest = settles-calm longest p w (length bits) c bits flag (calm-tail b x bits k) (omega arith) v (omega (arith, n, u)) in
-          let shows : late_bit (y / 256) ≡ late_bit (w / 2 ^ (8 + length bits)) = late-same (y / 256) (w / 2 ^ (8 + length bits)) (sym (window-before w c bits (omega arith) v)) in
-          rw z (subst (λ (d : List Bool). Settles longest p b d (late_bit (w / 2 ^ (8 + length bits)) ++ late_data w (length bits))) assoc
-          (settles-both longest p b c (c ++ bits) (late_bit (w / 2 ^ (8 + length bits))) (late_data w (length bits)) (subst (Settles longest p b c) shows one) rest))
+settles-calm longest p w n skip b bits f c h s (suc i) l m =
+    let u = b ++ take i bits in
+    let x = get_or bits i false in
+    let k : length (b ++ take i bits) ≡ length b + i = length-front i b bits (omega (arith, m)) in
+    let flag : current (b ++ take i bits) ≡ FlagAt p = mark-calm b bits n i c (omega (arith, l)) (omega (arith, m)) ∙ f in
+    let before = settles-calm longest p w n skip b bits f c h s i (omega (arith, l)) (omega (arith, m)) in
+    let e = next-bit i b bits (omega (arith, m)) in
+    elim (cases_lt i skip) [
+      | inl y ↦
+          let early : length (b ++ take i bits) < p + 16 = omega (arith, k, s, y) in
+          let one = settles-nothing longest p u x (early-settled u x p flag early) (data-early u x p early) in
+          let a : i - skip ≡ suc i - skip = omega (arith, y) in
+          let g : late_data (w / 2 ^ skip) (i - skip) ++ [] ≡ late_data (w / 2 ^ skip) (suc i - skip) = append-nil (late_data (w / 2 ^ skip) (i - skip)) ∙ ap (late_data (w / 2 ^ skip)) a in
+          subst (Settles longest p b (b ++ take (suc i) bits)) g (subst (λ (z : List Bool). Settles longest p b z (late_data (w / 2 ^ skip) (i - skip) ++ [])) (sym e)
+          (settles-both longest p b u (u ++ x ∷ []) (late_data (w / 2 ^ skip) (i - skip)) [] before one))
+      | inr y ↦
+          let one = settles-late longest p w i b bits x h (omega (arith, m)) flag (omega (arith, s, y)) in
+          let a : suc (i - skip) ≡ suc i - skip = omega (arith, y) in
+          let g : late_data (w / 2 ^ skip) (i - skip) ++ late_at w i ≡ late_data (w / 2 ^ skip) (suc i - skip) =
+          ap (λ (z : List Bool). late_data (w / 2 ^ skip) (i - skip) ++ z) (sym (late-shifted w skip i y)) ∙ ap (late_data (w / 2 ^ skip)) a in
+          subst (Settles longest p b (b ++ take (suc i) bits)) g (subst (λ (z : List Bool). Settles longest p b z (late_data (w / 2 ^ skip) (i - skip) ++ late_at w i)) (sym e)
+          (settles-both longest p b u (u ++ x ∷ []) (late_data (w / 2 ^ skip) (i - skip)) (late_at w i) before one))
     ]
 
--- ---- what the decoder tracks behind eight bits
-
--- no flag was last
-tracks-none : {C : Type 0} (folded : C → List ℕ → Type 0) (cost : ℕ) (d : LineState C) (b bits : List Bool) → IsCalm b bits → LagsBy folded cost d b bits → d.first ≡ None → Tracks folded cost d (b ++ bits) (current b)
-tracks-none folded cost d b bits k h e =
-    let none : first_of d.origin (current b) ≡ None = sym h.first ∙ e in
-    record { has_taken = h.has_taken; first = h.first; piece = none-holds folded d (b ++ bits) d.origin (current b) none; counts = counts-none cost d.origin d b bits k none h.counts }
+-- ---- what the decoder tracks behind them
 
 -- data are appended, or none
 tracks-settled : {C : Type 0} (folded : C → List ℕ → Type 0) (cost p : ℕ) (d e : LineState C) (b bits gained : List Bool) → LagsBy folded cost d b bits → current b ≡ FlagAt p → Settles d.longest p b (b ++ bits) gained
-    → e.longest ≡ d.longest → e.origin ≡ d.origin → e.place ≡ d.place → e.window ≡ d.window → e.first ≡ d.first
+    → e.longest ≡ d.longest → e.origin ≡ d.origin → e.place ≡ d.place → e.history ≡ d.history → e.first ≡ d.first
     → Holds folded e (settled_data b p ++ gained)
     → e.spent ≡ record d.spent { assembled = d.spent.assembled + length gained; stored = d.spent.stored + octets_more d.longest (length (settled_data b p)) (length gained); folded = d.spent.folded + cost * octets_more d.longest (length (settled_data b p)) (length gained) }
     → Tracks folded cost e (b ++ bits) (current b)
@@ -213,35 +203,59 @@ spent-none s cost longest n =
     let f : s.folded + cost * 0 ≡ s.folded = omega (arith, y) in
     rw (z, a, b, f) refl
 
--- a piece is open, but the bits come too early behind its flag
-tracks-early : {C : Type 0} (folded : C → List ℕ → Type 0) (cost first : ℕ) (d : LineState C) (b bits : List Bool) → length bits ≡ 8 → IsCalm b bits → LagsBy folded cost d b bits → d.first ≡ Some first → d.place < first + 9
-    → Tracks folded cost d (b ++ bits) (current b)
-tracks-early folded cost first d b bits n k h e l =
-    let s = first-Some d.origin first (current b) (sym h.first ∙ e) in
-    let z = settles-calm d.longest s.0 d.window 0 b bits s.1 k (omega arith) h.has_taken.window (omega (arith, h.has_taken.place, length-append b bits, s.2)) in
-    let none : settled_data b s.0 ++ [] ≡ settled_data b s.0 = append-nil (settled_data b s.0) in
-    tracks-settled folded cost s.0 d d b bits [] h s.1 z refl refl refl refl refl
-    (subst (Holds folded d) (sym none) (holds-of folded d b s.0 (current b) s.1 h.piece)) (spent-none d.spent cost d.longest (length (settled_data b s.0)))
+-- the bits are in the history, and not yet settled
+pub lags-word : {C : Type 0} (folded : C → List ℕ → Type 0) (cost : ℕ) (d : LineState C) (b bits : List Bool) (w t place history shifted : ℕ) → After folded cost d b → IsWord w b bits → t ≤ length bits
+    → place ≡ d.place + t → history ≡ w / 2 ^ t % 65536
+    → LagsBy folded cost (record d { place = place; history = history; spent = record d.spent { shifted = shifted } }) b (take t bits)
+lags-word folded cost d b bits w t place history shifted h word l p e = record {
+  has_taken = record {
+    place = p ∙ omega (arith, h.has_taken.place, length-front t b bits l);
+    history = e ∙ word-next w t b bits word l;
+  };
+  first = h.first;
+  piece = moved-holds folded d b place history (record d.spent { shifted = shifted }) (current b) h.piece;
+  counts = record {
+    settled = h.counts.settled;
+    filled = h.counts.filled;
+    paid = h.counts.paid;
+    copied = h.counts.copied;
+    handled = h.counts.handled;
+  };
+}
 
--- so it is up to the place at which the open piece settles
-pub octet-unsettled : {C : Type 0} (folded : C → List ℕ → Type 0) (cost at : ℕ) (first : Option ℕ) (d : LineState C) (b bits : List Bool) → length bits ≡ 8 → IsCalm b bits → LagsBy folded cost d b bits → d.first ≡ first → at ≡ settles_from first → d.place < at
-    → Tracks folded cost d (b ++ bits) (current b)
-octet-unsettled folded cost at None d b bits n k h e s l = tracks-none folded cost d b bits k h e
-octet-unsettled folded cost at (Some first) d b bits n k h e s l = tracks-early folded cost first d b bits n k h e (omega (arith, s, l))
+-- no flag was last, or all bits come too early behind it
+pub word-unsettled : {C : Type 0} (folded : C → List ℕ → Type 0) (cost at w t : ℕ) (first : Option ℕ) (d : LineState C) (b bits : List Bool) → IsWord w b bits → t ≤ length bits → IsCalm b bits (t - 1) → LagsBy folded cost d b (take t bits)
+    → d.first ≡ first → at ≡ settles_from first → d.place ≤ at → Tracks folded cost d (b ++ take t bits) (current b)
+word-unsettled folded cost at w t None d b bits h l c lags f s p =
+    let none : first_of d.origin (current b) ≡ None = sym lags.first ∙ f in
+    record { has_taken = lags.has_taken; first = lags.first; piece = none-holds folded d (b ++ take t bits) d.origin (current b) none; counts = counts-none cost d.origin (t - 1) d b bits c none lags.counts t (omega arith) l }
+word-unsettled folded cost at w t (Some first) d b bits h l c lags f s p =
+    let q = first-Some d.origin first (current b) (sym lags.first ∙ f) in
+    let skip = q.0 + 16 - length b in
+    let z = settles-calm d.longest q.0 w (t - 1) skip b bits q.1 c h refl t (omega arith) l in
+    let e : t - skip ≡ 0 = omega (arith, lags.has_taken.place, length-front t b bits l, q.2, s, p) in
+    let none : settled_data b q.0 ++ [] ≡ settled_data b q.0 = append-nil (settled_data b q.0) in
+    tracks-settled folded cost q.0 d d b (take t bits) [] lags q.1 (subst (Settles d.longest q.0 b (b ++ take t bits)) (ap (late_data (w / 2 ^ skip)) e) z) refl refl refl refl refl
+    (subst (Holds folded d) (sym none) (holds-of folded d b q.0 (current b) q.1 lags.piece)) (spent-none d.spent cost d.longest (length (settled_data b q.0)))
 
 -- from there on data are appended
-pub octet-settled : {C : Type 0} (folded : C → List ℕ → Type 0) (cost first octet n : ℕ) (d e : LineState C) (b bits : List Bool) → length bits ≡ 8 → IsCalm b bits → LagsBy folded cost d b bits → d.first ≡ Some first → first + 9 ≤ d.place
-    → bits_of n octet ≡ late_data d.window (min (d.place - (first + 9) + 1) 8)
-    → ((bits : List Bool) → Holds folded d bits → Holds folded e (bits ++ bits_of n octet))
-    → ((bits : List Bool) → Holds folded d bits → e.spent ≡ record d.spent { assembled = d.spent.assembled + n; stored = d.spent.stored + octets_more d.longest (length bits) n; folded = d.spent.folded + cost * octets_more d.longest (length bits) n })
-    → e ≡ record d { gathered = e.gathered; octet = e.octet; octets = e.octets; check = e.check; spent = e.spent }
-    → Tracks folded cost e (b ++ bits) (current b)
-octet-settled folded cost first octet n d e b bits m k h f l value holds spent kept =
-    let s = first-Some d.origin first (current b) (sym h.first ∙ f) in
-    let held = holds-of folded d b s.0 (current b) s.1 h.piece in
-    let shows : min (d.place - (first + 9) + 1) 8 ≡ min (length b + length bits - (s.0 + 16)) (length bits) = omega (arith, h.has_taken.place, length-append b bits, s.2) in
-    let z = settles-calm d.longest s.0 d.window (min (d.place - (first + 9) + 1) 8) b bits s.1 k (omega arith) h.has_taken.window shows in
-    let size : length (bits_of n octet) ≡ n = length-bits n octet in
-    tracks-settled folded cost s.0 d e b bits (bits_of n octet) h s.1 (subst (Settles d.longest s.0 b (b ++ bits)) (sym value) z)
-    (ap (λ (x : LineState _). x.longest) kept) (ap (λ (x : LineState _). x.origin) kept) (ap (λ (x : LineState _). x.place) kept) (ap (λ (x : LineState _). x.window) kept) (ap (λ (x : LineState _). x.first) kept)
+pub word-settled : {C : Type 0} (folded : C → List ℕ → Type 0) (cost first w t late count data_bits : ℕ) (d e : LineState C) (b bits : List Bool) → IsWord w b bits → t ≤ length bits → IsCalm b bits (t - 1) → LagsBy folded cost d b (take t bits)
+    → d.first ≡ Some first → first + 8 < d.place → late ≡ min (d.place - (first + 8)) t
+    → bits_of count data_bits ≡ late_data (w / 2 ^ (t - late)) late
+    → ((bits : List Bool) → Holds folded d bits → Holds folded e (bits ++ bits_of count data_bits))
+    → ((bits : List Bool) → Holds folded d bits → e.spent ≡ record d.spent { assembled = d.spent.assembled + count; stored = d.spent.stored + octets_more d.longest (length bits) count; folded = d.spent.folded + cost * octets_more d.longest (length bits) count })
+    → e ≡ record d { gathered = e.gathered; rest = e.rest; octets = e.octets; check = e.check; spent = e.spent }
+    → Tracks folded cost e (b ++ take t bits) (current b)
+word-settled folded cost first w t late count data_bits d e b bits h l c lags f far m value holds spent kept =
+    let s = first-Some d.origin first (current b) (sym lags.first ∙ f) in
+    let skip = s.0 + 16 - length b in
+    let held = holds-of folded d b s.0 (current b) s.1 lags.piece in
+    let n = length-front t b bits l in
+    let a : t - late ≡ s.0 + 16 - length b = omega (arith, lags.has_taken.place, n, s.2, far, m) in
+    let k : late ≡ t - (s.0 + 16 - length b) = omega (arith, lags.has_taken.place, n, s.2, far, m) in
+    let v : bits_of count data_bits ≡ late_data (w / 2 ^ skip) (t - skip) = value ∙ (ap (λ (j : ℕ). late_data (w / 2 ^ j) late) a ∙ ap (late_data (w / 2 ^ skip)) k) in
+    let z = settles-calm d.longest s.0 w (t - 1) skip b bits s.1 c h refl t (omega arith) l in
+    let size : length (bits_of count data_bits) ≡ count = length-bits count data_bits in
+    tracks-settled folded cost s.0 d e b (take t bits) (bits_of count data_bits) lags s.1 (subst (Settles d.longest s.0 b (b ++ take t bits)) (sym v) z)
+    (ap (λ (x : LineState _). x.longest) kept) (ap (λ (x : LineState _). x.origin) kept) (ap (λ (x : LineState _). x.place) kept) (ap (λ (x : LineState _). x.history) kept) (ap (λ (x : LineState _). x.first) kept)
     (holds (settled_data b s.0) held) (rw size (spent (settled_data b s.0) held))

@@ -1,196 +1,223 @@
 -- Several data bits more at once.
-use Rattle.std.proofs.Common.{◌≡◌, ℕ, suc, ◌+◌, ◌-◌, ◌*◌, ◌/◌, ◌%◌, ◌^◌, ◌≤◌, ◌<◌, Bool, true, false, List, [], ◌∷◌, ◌++◌, length, take, drop, get_or, refl, sym, ap, ◌∙◌, subst, arith, length-append, if◌then◌else◌, inl, inr}
-use Rattle.std.specs.Prelude.{bit_and, bit_or, nat_le}
+use Rattle.std.proofs.Common.{◌≡◌, ℕ, zero, suc, ◌+◌, ◌-◌, ◌*◌, ◌/◌, ◌%◌, ◌^◌, ◌≤◌, ◌<◌, Bool, List, [], ◌∷◌, ◌++◌, length, take, drop, min, refl, sym, ap, ◌∙◌, subst, arith, length-append, inl, inr}
+use Rattle.std.specs.Prelude.{bit_or}
+use Rattle.std.specs.Int.{w64, to_le_bytes}
 use Rattle.std.specs.Int.Bits.{or_shifted_r}
-use Rattle.std.proofs.Math.Nat.{mul_assoc, mul_comm, add-mul-div_right, div-div-eq-div-mul, pow-suc, pow-le-pow_right}
-use Rattle.std.proofs.Math.Seq.{take-suc}
-use Rattle.std.proofs.lemmas.Nat.{and_mask, pow_pos}
-use Rattle.std.proofs.lemmas.List.{append_assoc, length_push, length-take, length-drop, take-append-drop, take_all}
-use Rattle.std.proofs.lemmas.Bool.{cases_lt, leb-true, le-leb, false_from_ne_true}
-use Rattle.bus_bits.specs.Octet.{number, bits_of}
-use Rattle.bus_bits.proofs.OctetLemmas.{number-append, number-cons, number-bits, length-bits}
+use Rattle.std.proofs.Math.Seq.{take-add, drop-append-add}
+use Rattle.std.proofs.lemmas.Bool.{cases_lt}
+use Rattle.std.proofs.lemmas.Nat.{shl_whole}
+use Rattle.std.proofs.lemmas.List.{append_assoc, length-take, length-drop, take_all, take-append-le}
+use Rattle.bus_bits.specs.Octet.{number, bits_of, octets}
+use Rattle.bus_bits.specs.declared.spent.Spent.{Spent}
+use Rattle.bus_bits.proofs.OctetLemmas.{number-append, number-bits, number-lt, length-bits, octets-push, octets-append}
 use Rattle.bus_line.specs.Internal.LineState.{LineState}
-use Rattle.bus_line.specs.Internal.Tracks.{shifted_in, Holds, Fills}
-use Rattle.bus_line.specs.Internal.Late.{octets_more}
-use Rattle.bus_line.proofs.TracksHoldLemmas.{octets-kept, shifted_in-append, shifted_in-lt}
-use Rattle.bus_line.proofs.StepLemmas.{one_more}
+use Rattle.bus_line.specs.Internal.Tracks.{Holds}
+use Rattle.bus_line.specs.Internal.Late.{octets_more, octets_of, gain, Keeps}
+use Rattle.bus_line.proofs.WholeLemmas.{octets-short}
+use Rattle.bus_line.proofs.WordLemmas.{number-drop, number-take}
+use Rattle.bus_line.proofs.TracksHoldLemmas.{whole, part, whole-is, part-is, whole-part, length-whole, length-part, octets-here, length-octets}
 
--- ---- the shift register
+-- ---- octets of a number
 
-none_number : number [] ≡ 0
-unfolding number
-none_number = refl
+none_octets : octets [] ≡ []
+unfolding octets
+none_octets = refl
 
--- bits shifted in are the higher ones of a number, and what was there the lower ones
-shifted-number : (o : ℕ) (x : List Bool) → shifted_in o x ≡ (o + number x * 256) / 2 ^ length x
-shifted-number o [] = omega (arith, none_number)
-shifted-number o (b ∷ d) =
-    let w = if b then 128 else 0 in
-    let h : (o + number (b ∷ d) * 256) / 2 ≡ o / 2 + w + number d * 256 = half b in
-    let e : (o + number (b ∷ d) * 256) / 2 ^ suc (length d) ≡ (o / 2 + w + number d * 256) / 2 ^ length d =
-    ap (λ n. (o + number (b ∷ d) * 256) / n) (pow-suc 2 (length d) ∙ mul_comm (2 ^ length d) 2)
-    ∙ (sym (div-div-eq-div-mul (o + number (b ∷ d) * 256) 2 (2 ^ length d)) ∙ ap (λ n. n / 2 ^ length d) h) in
-    shifted-number (o / 2 + w) d ∙ sym e
+-- the first octets of bits are those of their number
+octets-first : (k : ℕ) (d : List Bool) → 8 * k ≤ length d → octets (take (8 * k) d) ≡ octets_of k (number d)
+octets-first zero d h = none_octets
+octets-first (suc k) d h =
+    let a = take (8 * k) d in
+    let b = take 8 (drop (8 * k) d) in
+    let e : 8 * suc k ≡ 8 * k + 8 = omega arith in
+    let la : length (take (8 * k) d) ≡ 8 * k = length-take (8 * k) d ∙ omega (arith, h) in
+    let lb : length (take 8 (drop (8 * k) d)) ≡ 8 = length-take 8 (drop (8 * k) d) ∙ omega (arith, length-drop (8 * k) d, h) in
+    let n : number (take 8 (drop (8 * k) d)) ≡ number d / 2 ^ (8 * k) % 256 = sym (number-take 8 (drop (8 * k) d)) ∙ ap (λ (x : ℕ). x % 256) (sym (number-drop (8 * k) d)) in
+    ap (λ (j : ℕ). octets (take j d)) e ∙ (ap octets (take-add (8 * k) 8 d) ∙ (octets-push a b (omega (arith, la)) lb
+    ∙ (ap (λ (os : List ℕ). os ++ number b ∷ []) (octets-first k d (omega (arith, h))) ∙ ap (λ (x : ℕ). octets_of k (number d) ++ x ∷ []) n)))
+
+octets-all : (k : ℕ) (d : List Bool) → length d / 8 ≡ k → octets d ≡ octets_of k (number d)
+octets-all k d e =
+    octets-here d ∙ (ap octets (whole-is d) ∙ (ap (λ (j : ℕ). octets (take (8 * j) d)) e ∙ octets-first k d (omega (arith, e))))
+
+-- the octets of bits and of further ones
+octets-both : (d e : List Bool) → octets (d ++ e) ≡ octets d ++ octets_of (length (part d ++ e) / 8) (number (part d ++ e))
+octets-both d e =
+    ap octets (ap (λ (z : List Bool). z ++ e) (sym (whole-part d)) ∙ append_assoc (whole d) (part d) e)
+    ∙ (octets-append (whole d) (part d ++ e) (omega (arith, length-whole d))
+    ∙ (ap (λ (os : List ℕ). os ++ octets (part d ++ e)) (sym (octets-here d)) ∙ ap (λ (os : List ℕ). octets d ++ os) (octets-all (length (part d ++ e) / 8) (part d ++ e) refl)))
+
+-- the bits that fill no octet
+part-both : (d e : List Bool) → number (part (d ++ e)) ≡ number (part d ++ e) / 2 ^ (8 * (length (part d ++ e) / 8))
+part-both d e = ap number (rest d e) ∙ sym (number-drop (8 * (length (part d ++ e) / 8)) (part d ++ e))
   where
-    half : (b : Bool) → (o + number (b ∷ d) * 256) / 2 ≡ o / 2 + (if b then 128 else 0) + number d * 256
-    half true = omega (arith, number-cons true d)
-    half false = omega (arith, number-cons false d)
-
--- the bits behind the first `k` change nothing there
-shifted-first : (o k : ℕ) (x : List Bool) → o < 256 → k ≤ length x → (o + number x * 256) / 2 ^ k % 256 ≡ shifted_in o (take k x)
-shifted-first o k x l h =
-    let a = take k x in
-    let r = number (drop k x) in
-    let n : length a ≡ k = length-take k x ∙ omega arith in
-    let split : number x ≡ number a + r * 2 ^ k = ap number (sym (take-append-drop k x)) ∙ (number-append a (drop k x) ∙ ap (λ i. number a + r * 2 ^ i) n) in
-    let p : r * 2 ^ k * 256 ≡ r * 256 * 2 ^ k = mul_assoc r (2 ^ k) 256 ∙ (ap (λ i. r * i) (mul_comm (2 ^ k) 256) ∙ sym (mul_assoc r 256 (2 ^ k))) in
-    let s : o + number x * 256 ≡ (o + number a * 256) + r * 256 * 2 ^ k = omega (arith, split, p) in
-    let f : shifted_in o a ≡ (o + number a * 256) / 2 ^ k = shifted-number o a ∙ ap (λ i. (o + number a * 256) / 2 ^ i) n in
-    let q : (o + number x * 256) / 2 ^ k ≡ shifted_in o a + r * 256 =
-    ap (λ i. i / 2 ^ k) s ∙ (add-mul-div_right (o + number a * 256) (r * 256) (pow_pos k) ∙ ap (λ i. i + r * 256) (sym f)) in
-    omega (arith, q, shifted_in-lt o a l)
-
--- data bits, at most eight, that are to be shifted in behind an octet
-pub record Joins (o n bits : ℕ) : Type 0 where
-  pub low : o < 256
-  pub few : n ≤ 8
-  pub small : bits < 2 ^ n
-
--- the octet and the data bits in one number, and the eight bits of it from the `k`th on
-abbrev pub shifted_by : ℕ → ℕ → ℕ → ℕ
-shifted_by o bits k = bit_and (bit_or o (bits * 256 % 65536) / 2 ^ k) 255
-
--- these are the shift register after the first `k` data bits
-shifted-some : (o n bits k : ℕ) → Joins o n bits → k ≤ n → shifted_by o bits k ≡ shifted_in o (take k (bits_of n bits))
-shifted-some o n bits k j h =
-    let m : 2 ^ n ≤ 2 ^ 8 = pow-le-pow_right (omega arith) j.few in
-    let b : bits < 256 = omega (arith, j.small) in
-    let x = bits_of n bits in
-    let f : bits * 256 % 65536 ≡ bits * 2 ^ 8 = omega arith in
-    let e : bit_or o (bits * 256 % 65536) ≡ o + number x * 256 =
-    ap (bit_or o) f ∙ (or_shifted_r bits 8 o j.low ∙ omega (arith, number-bits n bits j.small)) in
-    and_mask (bit_or o (bits * 256 % 65536) / 2 ^ k) 8
-    ∙ (ap (λ i. i / 2 ^ k % 256) e ∙ shifted-first o k x j.low (omega (arith, length-bits n bits)))
-
-shifted-all : (o n bits : ℕ) → Joins o n bits → shifted_by o bits n ≡ shifted_in o (bits_of n bits)
-shifted-all o n bits j = shifted-some o n bits n j (omega arith) ∙ ap (shifted_in o) (take_all n (bits_of n bits) (omega (arith, length-bits n bits)))
-
--- the machine joins copies of both
-pub same-shift : (o bits p b k : ℕ) → p ≡ o → b ≡ bits → shifted_by p b k ≡ shifted_by o bits k
-same-shift o bits p b k e f = rw (e, f) refl
-
--- behind the bits so far
-shifted-behind : (o : ℕ) (got x : List Bool) → o ≡ shifted_in 0 got → shifted_in o x ≡ shifted_in 0 (got ++ x)
-shifted-behind o got x h = ap (λ i. shifted_in i x) h ∙ sym (shifted_in-append 0 got x)
+    rest : (d e : List Bool) → part (d ++ e) ≡ drop (8 * (length (part d ++ e) / 8)) (part d ++ e)
+    rest d e =
+        let w = length-whole d in
+        let p = length-part d in
+        let n = length-append d e in
+        let m = length-append (part d) e in
+        let k : 8 * (length (d ++ e) / 8) ≡ length (whole d) + 8 * (length (part d ++ e) / 8) = omega (arith, n, m, w, p) in
+        let s : d ++ e ≡ whole d ++ (part d ++ e) = ap (λ (z : List Bool). z ++ e) (sym (whole-part d)) ∙ append_assoc (whole d) (part d) e in
+        part-is (d ++ e) ∙ (ap (λ (j : ℕ). drop j (d ++ e)) k ∙ (ap (drop (length (whole d) + 8 * (length (part d ++ e) / 8))) s ∙ drop-append-add (whole d) (part d ++ e) (8 * (length (part d ++ e) / 8))))
 
 -- ---- what the decoder holds
 
--- behind bits that fill no octet
-holds-more : {C : Type 0} (folded : C → List ℕ → Type 0) (d e : LineState C) (got x : List Bool) → Holds folded d got → length got % 8 + length x < 8
-    → e.gathered ≡ d.gathered + length x → e.octet ≡ shifted_in 0 (got ++ x) → e.longest ≡ d.longest → e.octets ≡ d.octets → e.check ≡ d.check → Holds folded e (got ++ x)
-holds-more folded d e got x h f g o l s c =
-    let same = octets-kept got x f in
-    let n = length-append got x in
+-- the data bits so far that fill no octet, and new ones behind them, in one number
+abbrev pub joined : ℕ → ℕ → ℕ → ℕ
+joined rest held bits = bit_or rest (bits * 2 ^ held % 18446744073709551616)
+
+joined-is : (rest held n bits : ℕ) (got : List Bool) → rest ≡ number (part got) → held ≡ length got % 8 → n ≤ 48 → bits < 2 ^ n → joined rest held bits ≡ number (part got ++ bits_of n bits)
+joined-is rest held n bits got r h f b =
+    let l = length-part got in
+    let x : held ≡ length (part got) = h ∙ sym l in
+    let low : rest < 2 ^ held = subst (λ (j : ℕ). rest < 2 ^ j) (sym x) (subst (λ (m : ℕ). m < 2 ^ length (part got)) (sym r) (number-lt (part got))) in
+    let s : bits * 2 ^ held % 18446744073709551616 ≡ bits * 2 ^ held = shl_whole bits n held 64 b (omega (arith, h, f)) in
+    ap (bit_or rest) s ∙ (or_shifted_r bits held rest low ∙ (swap (bits * 2 ^ held) rest (number (part got)) (number (bits_of n bits) * 2 ^ length (part got)) r
+    (ap (λ (m : ℕ). m * 2 ^ held) (sym (number-bits n bits b)) ∙ ap (λ (j : ℕ). number (bits_of n bits) * 2 ^ j) x)
+    ∙ sym (number-append (part got) (bits_of n bits))))
+  where
+    swap : (a r p q : ℕ) → r ≡ p → a ≡ q → a + r ≡ p + q
+    swap a r p q e f = omega (arith, e, f)
+
+-- what is held behind so many data bits more
+pub holds-joined : {C : Type 0} (folded : C → List ℕ → Type 0) (d e : LineState C) (n bits : ℕ) (got : List Bool) → Holds folded d got → n ≤ 48 → bits < 2 ^ n
+    → e.gathered ≡ d.gathered + n → e.rest ≡ joined d.rest (d.gathered % 8) bits / 2 ^ (8 * ((d.gathered % 8 + n) / 8)) → e.longest ≡ d.longest
+    → Keeps folded e (octets got ++ octets_of ((d.gathered % 8 + n) / 8) (joined d.rest (d.gathered % 8) bits))
+    → Holds folded e (got ++ bits_of n bits)
+holds-joined folded d e n bits got h f b g r l k =
+    let x = bits_of n bits in
+    let j : joined d.rest (d.gathered % 8) bits ≡ number (part got ++ bits_of n bits) = joined-is d.rest (d.gathered % 8) n bits got (h.rest ∙ ap number (sym (part-is got))) (ap (λ (m : ℕ). m % 8) h.count) f b in
+    let c : (d.gathered % 8 + n) / 8 ≡ length (part got ++ bits_of n bits) / 8 = omega (arith, h.count, length-part got, length-append (part got) (bits_of n bits), length-bits n bits) in
+    let o : octets got ++ octets_of ((d.gathered % 8 + n) / 8) (joined d.rest (d.gathered % 8) bits) ≡ octets (got ++ bits_of n bits) =
+    ap (λ (i : ℕ). octets got ++ octets_of i (joined d.rest (d.gathered % 8) bits)) c ∙ (ap (λ (i : ℕ). octets got ++ octets_of (length (part got ++ x) / 8) i) j ∙ sym (octets-both got x)) in
+    let q = subst (Keeps folded e) o k in
     record {
-      count = g ∙ omega (arith, h.count, n);
-      last = o;
-      held = λ m. rw (l, same) (s ∙ h.held (omega (arith, m, n)));
-      checked = λ m. rw (c, l, same) (h.checked (omega (arith, m, n)));
+      count = g ∙ omega (arith, h.count, length-append got (bits_of n bits), length-bits n bits);
+      rest = r ∙ (ap (λ (i : ℕ). joined d.rest (d.gathered % 8) bits / 2 ^ (8 * i)) c ∙ (ap (λ (i : ℕ). i / 2 ^ (8 * (length (part got ++ x) / 8))) j ∙ (sym (part-both got x) ∙ ap number (part-is (got ++ x)))));
+      held = λ m. q.held;
+      checked = λ m. q.checked;
     }
 
--- behind bits of which the last fills one
-fills-more : {C : Type 0} (folded : C → List ℕ → Type 0) (d e : LineState C) (got x : List Bool) (y : Bool) → Holds folded d got → length got % 8 + length x ≡ 7
-    → e.gathered ≡ d.gathered + (length x + 1) → e.octet ≡ shifted_in 0 ((got ++ x) ++ y ∷ []) → e.longest ≡ d.longest → e.octets ≡ d.octets → e.check ≡ d.check → Fills folded e (got ++ x) y
-fills-more folded d e got x y h f g o l s c =
-    let same = octets-kept got x (omega arith) in
-    let n = length-append got x in
-    let m = length_push (got ++ x) y in
-    record {
-      count = g ∙ omega (arith, h.count, n, m);
-      full = omega (arith, n, m);
-      last = o;
-      held = λ m. rw (l, same) (s ∙ h.held (omega (arith, m, n)));
-      checked = λ m. rw (c, l, same) (h.checked (omega (arith, m, n)));
-    }
+-- before the first octet none is there
+pub none-yet : {C : Type 0} (folded : C → List ℕ → Type 0) (d : LineState C) (got : List Bool) → Holds folded d got → d.gathered < 8 → octets got ≡ []
+none-yet folded d got h l = octets-short got (omega (arith, h.count, l))
 
--- the data bits up to the one that fills an octet, that bit, and those behind it
-pub first_bits : ℕ → ℕ → ℕ → List Bool
-first_bits gathered n bits = take (7 - gathered % 8) (bits_of n bits)
+-- and behind it some
+pub keeps-held : {C : Type 0} (folded : C → List ℕ → Type 0) (d e : LineState C) (got : List Bool) → Holds folded d got → 8 ≤ d.gathered → e.longest ≡ d.longest → e.octets ≡ d.octets → e.check ≡ d.check → Keeps folded e (octets got)
+keeps-held folded d e got h l n o c =
+    let m : 8 ≤ length got = omega (arith, h.count, l) in
+    record { held = rw n (o ∙ h.held m); checked = rw (c, n) (h.checked m) }
 
-pub filling_bit : ℕ → ℕ → ℕ → Bool
-filling_bit gathered n bits = get_or (bits_of n bits) (7 - gathered % 8) false
+-- as many octets more as the ledger counts
+pub gain-more : {C : Type 0} (folded : C → List ℕ → Type 0) (d : LineState C) (n : ℕ) (got : List Bool) → Holds folded d got → gain (d.longest + 2) (length (octets got)) ((d.gathered % 8 + n) / 8) ≡ octets_more d.longest (length got) n
+gain-more folded d n got h =
+    let k : length (octets got) ≡ length got / 8 = length-octets (length got / 8) got refl in
+    let c : length (octets got) + (d.gathered % 8 + n) / 8 ≡ (length got + n) / 8 = omega (arith, k, h.count) in
+    ap (λ (i : ℕ). min i (d.longest + 2) - min (length (octets got)) (d.longest + 2)) c ∙ ap (λ (i : ℕ). min ((length got + n) / 8) (d.longest + 2) - min i (d.longest + 2)) k
 
-further_bits : ℕ → ℕ → ℕ → List Bool
-further_bits gathered n bits = drop (8 - gathered % 8) (bits_of n bits)
+-- ---- octets more, as many as there is room for
 
-length-first : (gathered n bits : ℕ) → 8 - gathered % 8 ≤ n → length (first_bits gathered n bits) ≡ 7 - gathered % 8
-unfolding first_bits
-length-first gathered n bits h = length-take (7 - gathered % 8) (bits_of n bits) ∙ omega (arith, length-bits n bits)
+-- the first of two lists
+take-none : {X : Type 0} (k j : ℕ) (ys : List X) → k ≤ j → take (k - j) ys ≡ []
+take-none k j ys h =
+    let e : k - j ≡ 0 = omega (arith, h) in
+    rw e refl
 
-length-further : (gathered n bits : ℕ) → length (further_bits gathered n bits) ≡ n - (8 - gathered % 8)
-unfolding further_bits
-length-further gathered n bits = length-drop (8 - gathered % 8) (bits_of n bits) ∙ omega (arith, length-bits n bits)
+take-over : {X : Type 0} (k : ℕ) (xs ys : List X) → take k (xs ++ ys) ≡ take k xs ++ take (k - length xs) ys
+take-over zero [] ys = refl
+take-over (suc k) [] ys =
+    let e : suc k ≡ suc k - 0 = omega arith in
+    ap (λ (j : ℕ). take j ys) e
+take-over zero (x ∷ xs) ys = sym (take-none 0 (suc (length xs)) ys (omega arith))
+take-over (suc k) (x ∷ xs) ys =
+    let e : k - length xs ≡ suc k - suc (length xs) = omega arith in
+    ap (λ (z : List _). x ∷ z) (take-over k xs ys) ∙ ap (λ (j : ℕ). x ∷ take k xs ++ take j ys) e
 
-up_to_filling : (gathered n bits : ℕ) → 8 - gathered % 8 ≤ n → take (8 - gathered % 8) (bits_of n bits) ≡ first_bits gathered n bits ++ filling_bit gathered n bits ∷ []
-unfolding first_bits filling_bit
-up_to_filling gathered n bits h =
-    let e : 8 - gathered % 8 ≡ suc (7 - gathered % 8) = omega arith in
-    ap (λ i. take i (bits_of n bits)) e ∙ take-suc (bits_of n bits) (7 - gathered % 8) false (omega (arith, length-bits n bits))
+length-octets_of : (k n : ℕ) → length (octets_of k n) ≡ k
+length-octets_of zero n = refl
+length-octets_of (suc k) n = length-append (octets_of k n) (n / 2 ^ (8 * k) % 256 ∷ []) ∙ omega (arith, length-octets_of k n)
 
-whole_bits : (gathered n bits : ℕ) (got : List Bool) → 8 - gathered % 8 ≤ n
-    → ((got ++ first_bits gathered n bits) ++ filling_bit gathered n bits ∷ []) ++ further_bits gathered n bits ≡ got ++ bits_of n bits
-unfolding further_bits
-whole_bits gathered n bits got h =
-    let a = first_bits gathered n bits in
-    let y : List Bool = filling_bit gathered n bits ∷ [] in
-    ap (λ (z : List Bool). z ++ drop (8 - gathered % 8) (bits_of n bits)) (append_assoc got a y ∙ ap (λ (z : List Bool). got ++ z) (sym (up_to_filling gathered n bits h)))
-    ∙ (append_assoc got (take (8 - gathered % 8) (bits_of n bits)) (drop (8 - gathered % 8) (bits_of n bits))
-    ∙ ap (λ (z : List Bool). got ++ z) (take-append-drop (8 - gathered % 8) (bits_of n bits)))
+-- fewer of the lowest octets
+octets-fewer : (k m n : ℕ) → k ≤ m → take k (octets_of m n) ≡ octets_of k n
+octets-fewer k zero n h =
+    let z : k ≡ 0 = omega (arith, h) in
+    rw z refl
+octets-fewer k (suc m) n h = elim (cases_lt m k) [
+  | inl l ↦
+      let e : k ≡ suc m = omega (arith, l, h) in
+      rw e (take_all (suc m) (octets_of (suc m) n) (omega (arith, length-octets_of (suc m) n)))
+  | inr l ↦
+      take-append-le k (octets_of m n) (n / 2 ^ (8 * m) % 256 ∷ []) (omega (arith, length-octets_of m n, l)) ∙ octets-fewer k m n (omega (arith, l))
+]
 
--- too few bits to fill an octet
-pub holds-few : {C : Type 0} (folded : C → List ℕ → Type 0) (d e : LineState C) (n bits : ℕ) (got : List Bool) → Joins d.octet n bits → Holds folded d got → n < 8 - d.gathered % 8
-    → e.gathered ≡ d.gathered + n → e.octet ≡ shifted_by d.octet bits n → e.longest ≡ d.longest → e.octets ≡ d.octets → e.check ≡ d.check → Holds folded e (got ++ bits_of n bits)
-holds-few folded d e n bits got j h f g o l s c =
-    let k = length-bits n bits in
-    holds-more folded d e got (bits_of n bits) h (omega (arith, h.count, f, k)) (omega (arith, g, k))
-    (o ∙ (shifted-all d.octet n bits j ∙ shifted-behind d.octet got (bits_of n bits) h.last)) l s c
+-- the octets that the machine makes of a number
+le-octets : (n : ℕ) → to_le_bytes w64 n ≡ octets_of 8 n
+le-octets n =
+    let first : n % 256 ≡ n / 2 ^ (8 * 0) % 256 = omega arith in
+    ap (λ (x : ℕ). x ∷ n / 256 % 256 ∷ n / 65536 % 256 ∷ n / 16777216 % 256 ∷ n / 4294967296 % 256 ∷ n / 1099511627776 % 256 ∷ n / 281474976710656 % 256 ∷ n / 72057594037927936 % 256 ∷ []) first
 
--- before a full octet is stored
-pub fills-first_bits : {C : Type 0} (folded : C → List ℕ → Type 0) (d e : LineState C) (n bits : ℕ) (got : List Bool) → Joins d.octet n bits → Holds folded d got → 8 - d.gathered % 8 ≤ n
-    → e.gathered ≡ d.gathered + (8 - d.gathered % 8) → e.octet ≡ shifted_by d.octet bits (8 - d.gathered % 8) → e.longest ≡ d.longest → e.octets ≡ d.octets → e.check ≡ d.check
-    → Fills folded e (got ++ first_bits d.gathered n bits) (filling_bit d.gathered n bits)
-fills-first_bits folded d e n bits got j h f g o l s c =
-    let a = first_bits d.gathered n bits in
-    let y = filling_bit d.gathered n bits in
-    let k = length-first d.gathered n bits f in
-    fills-more folded d e got a y h (omega (arith, h.count, k)) (omega (arith, g, k))
-    (o ∙ (shifted-some d.octet n bits (8 - d.gathered % 8) j f ∙ (ap (shifted_in d.octet) (up_to_filling d.gathered n bits f)
-    ∙ (shifted-behind d.octet got (a ++ y ∷ []) h.last ∙ ap (shifted_in 0) (sym (append_assoc got a (y ∷ []))))))) l s c
-
--- and after it, behind the further bits
-pub holds-further : {C : Type 0} (folded : C → List ℕ → Type 0) (d m e : LineState C) (n bits : ℕ) (got : List Bool) → Joins d.octet n bits → Holds folded d got → 8 - d.gathered % 8 ≤ n
-    → Holds folded m ((got ++ first_bits d.gathered n bits) ++ filling_bit d.gathered n bits ∷ [])
-    → e.gathered ≡ m.gathered + (n - (8 - d.gathered % 8)) → e.octet ≡ shifted_by d.octet bits n → e.longest ≡ m.longest → e.octets ≡ m.octets → e.check ≡ m.check → Holds folded e (got ++ bits_of n bits)
-holds-further folded d m e n bits got j h f full g o l s c =
-    let a = first_bits d.gathered n bits in
-    let y = filling_bit d.gathered n bits in
-    let z = further_bits d.gathered n bits in
-    let i = length-first d.gathered n bits f in
-    let k = length-further d.gathered n bits in
-    let t = length_push (got ++ a) y in
-    let u = length-append got a in
-    let w = whole_bits d.gathered n bits got f in
-    subst (Holds folded e) w (holds-more folded m e ((got ++ a) ++ y ∷ []) z full (omega (arith, h.count, j.few, i, k, t, u)) (omega (arith, g, k))
-    (o ∙ (shifted-all d.octet n bits j ∙ (shifted-behind d.octet got (bits_of n bits) h.last ∙ ap (shifted_in 0) (sym w)))) l s c)
-
--- ---- the ledger
-
--- of eight bits or fewer one may fill an octet, which is stored where there is room
-pub octets_more-first : (longest n gathered k : ℕ) → gathered ≡ n → k ≤ 8 → 8 - gathered % 8 ≤ k → octets_more longest n k ≡ one_more (nat_le (gathered + (8 - gathered % 8)) (8 * (longest + 2)))
-octets_more-first longest n gathered k e few full =
-    let past = gathered + (8 - gathered % 8) in
-    let limit = 8 * (longest + 2) in
-    elim (cases_lt (n / 8) (longest + 2)) [
-      | inl u ↦ omega arith ∙ sym (ap one_more (le-leb past limit (omega arith)))
-      | inr u ↦ omega arith ∙ sym (ap one_more (false_from_ne_true (nat_le past limit) (λ t. absurd (omega (arith, leb-true past limit t)))))
+-- as many of them as there is room for
+octets-room : (k room m n : ℕ) → m ≡ min k room → k ≤ 8 → take m (to_le_bytes w64 n) ≡ take room (octets_of k n)
+octets-room k room m n e f =
+    let front : take m (to_le_bytes w64 n) ≡ octets_of m n = ap (take m) (le-octets n) ∙ octets-fewer m 8 n (omega (arith, e, f)) in
+    elim (cases_lt room k) [
+      | inl l ↦
+          let i : m ≡ room = omega (arith, e, l) in
+          front ∙ (ap (λ (j : ℕ). octets_of j n) i ∙ sym (octets-fewer room k n (omega (arith, l))))
+      | inr l ↦
+          let i : m ≡ k = omega (arith, e, l) in
+          front ∙ (ap (λ (j : ℕ). octets_of j n) i ∙ sym (take_all room (octets_of k n) (omega (arith, length-octets_of k n, l))))
     ]
+
+-- the buffer and its check have as many octets more as there is room for
+pub keeps-more : {C : Type 0} (folded : C → List ℕ → Type 0) (d e : LineState C) (k m n : ℕ) (more os : List ℕ) → Keeps folded d os → m ≡ min k (d.longest + 2 - length d.octets) → k ≤ 8
+    → more ≡ take m (to_le_bytes w64 n) → e.longest ≡ d.longest → e.octets ≡ d.octets ++ more → ((xs : List ℕ) → folded d.check xs → folded e.check (xs ++ more))
+    → Keeps folded e (os ++ octets_of k n)
+keeps-more folded d e k m n more os h i f g l o c =
+    let limit = d.longest + 2 in
+    let held : length d.octets ≡ min limit (length os) = ap length h.held ∙ length-take limit os in
+    let room : m ≡ min k (limit - length os) = omega (arith, i, held) in
+    let all : take limit (os ++ octets_of k n) ≡ take limit os ++ more = take-over limit os (octets_of k n) ∙ ap (λ (z : List ℕ). take limit os ++ z) (sym (g ∙ octets-room k (limit - length os) m n room f)) in
+    record {
+      held = rw l (o ∙ (ap (λ (z : List ℕ). z ++ more) h.held ∙ sym all));
+      checked = rw l (subst (folded e.check) (sym all) (c (take limit os) h.checked));
+    }
+
+-- ---- all together
+
+keeps-set : {C : Type 0} (folded : C → List ℕ → Type 0) (a : LineState C) (gathered rest : ℕ) (spent : Spent) (os : List ℕ) → Keeps folded a os → Keeps folded (record a { gathered = gathered; rest = rest; spent = spent }) os
+keeps-set folded a gathered rest spent os h = record { held = h.held; checked = h.checked }
+
+pub append-holds : {C : Type 0} (folded : C → List ℕ → Type 0) (d a e : LineState C) (n bits j k : ℕ) (t : Spent) (got : List Bool) → Holds folded d got → n ≤ 48 → bits < 2 ^ n
+    → j ≡ joined d.rest (d.gathered % 8) bits → k ≡ (d.gathered % 8 + n) / 8 → a.gathered ≡ d.gathered → a.longest ≡ d.longest → Keeps folded a (octets got)
+    → ((os : List ℕ) → Keeps folded (record a { gathered = a.gathered + n; rest = j / 2 ^ (8 * k); spent = t }) os → Keeps folded e (os ++ octets_of k j))
+    → e ≡ record a { gathered = a.gathered + n; rest = j / 2 ^ (8 * k); octets = e.octets; check = e.check; spent = e.spent }
+    → Holds folded e (got ++ bits_of n bits)
+append-holds folded d a e n bits j k t got h f b x y g l q keeps kept =
+    holds-joined folded d e n bits got h f b
+    (ap (λ (s : LineState _). s.gathered) kept ∙ ap (λ (i : ℕ). i + n) g)
+    (ap (λ (s : LineState _). s.rest) kept ∙ (ap (λ (i : ℕ). i / 2 ^ (8 * k)) x ∙ ap (λ (i : ℕ). joined d.rest (d.gathered % 8) bits / 2 ^ (8 * i)) y))
+    (ap (λ (s : LineState _). s.longest) kept ∙ l)
+    (subst (Keeps folded e) (ap (λ (i : ℕ). octets got ++ octets_of i j) y ∙ ap (λ (i : ℕ). octets got ++ octets_of ((d.gathered % 8 + n) / 8) i) x) (keeps (octets got) (keeps-set folded a (a.gathered + n) (j / 2 ^ (8 * k)) t (octets got) q)))
+
+pub append-spent : {C : Type 0} (folded : C → List ℕ → Type 0) (cost : ℕ) (d a e : LineState C) (n j k : ℕ) (t : Spent) (got : List Bool) → Holds folded d got
+    → k ≡ (d.gathered % 8 + n) / 8 → a.longest ≡ d.longest → Keeps folded a (octets got)
+    → ((os : List ℕ) → Keeps folded (record a { gathered = a.gathered + n; rest = j / 2 ^ (8 * k); spent = t }) os → e.spent ≡ record t { stored = t.stored + gain (a.longest + 2) (length os) k; folded = t.folded + cost * gain (a.longest + 2) (length os) k })
+    → t ≡ record d.spent { assembled = d.spent.assembled + n }
+    → e.spent ≡ record d.spent { assembled = d.spent.assembled + n; stored = d.spent.stored + octets_more d.longest (length got) n; folded = d.spent.folded + cost * octets_more d.longest (length got) n }
+append-spent folded cost d a e n j k t got h y l q spent u =
+    let z : gain (a.longest + 2) (length (octets got)) k ≡ octets_more d.longest (length got) n =
+    ap (λ (i : ℕ). gain (i + 2) (length (octets got)) k) l ∙ (ap (gain (d.longest + 2) (length (octets got))) y ∙ gain-more folded d n got h) in
+    spent (octets got) (keeps-set folded a (a.gathered + n) (j / 2 ^ (8 * k)) t (octets got) q)
+    ∙ (ap (λ (i : ℕ). record t { stored = t.stored + i; folded = t.folded + cost * i }) z
+    ∙ ap (λ (s : Spent). record s { stored = s.stored + octets_more d.longest (length got) n; folded = s.folded + cost * octets_more d.longest (length got) n }) u)
+
+pub keeps-none : {C : Type 0} (folded : C → List ℕ → Type 0) (e : LineState C) → e.octets ≡ [] → folded e.check [] → Keeps folded e []
+keeps-none folded e o c =
+    let z : take {A = ℕ} (e.longest + 2) [] ≡ [] = nothing (e.longest + 2) in
+    record { held = o ∙ sym z; checked = subst (folded e.check) (sym z) c }
+  where
+    nothing : (k : ℕ) → take {A = ℕ} k [] ≡ []
+    nothing zero = refl
+    nothing (suc k) = refl

@@ -1,12 +1,13 @@
-//! The decoder: one bit at a time, in fixed memory.
+//! The decoder: up to 48 bits at a time, in fixed memory.
 
+mod append;
 mod decide;
 mod event;
 mod late;
 mod look;
 mod marked;
-mod octet;
 mod step;
+mod stop;
 
 ghost use Rattle.std.specs.Prelude.{◌≡◌, ◌≢◌, ◌+◌, ◌*◌, ◌-◌, ◌%◌, ◌/◌, ◌≤◌, ◌<◌, ◌^◌, ◌↔◌, ◌⊎◌, List, Bool, [], ◌∷◌, ◌++◌, IsErr, IfOk, OnOk, OnErr, IsErrOf, IsTrue, false, length, ℕ, cond, Some, None, IsSome};
 ghost use Rattle.std.specs.Option.{option_map, option_to_list};
@@ -14,17 +15,16 @@ ghost use Rattle.std.specs.Borrow.{sem};
 ghost use Rattle.std.specs.Io.BufRead.{Rests};
 ghost use Rattle.bus_line.specs.Due.{due_at, begun, placed};
 ghost use Rattle.bus_line.specs.Ledger.{stored_from, IsLedger};
-ghost use Rattle.bus_line.specs.Internal.Run.{ones_at_end};
 ghost use Rattle.bus_bits.specs.Octet.{bits_of};
 
 use crate::line_fault::LineFault;
 use crate::piece::Piece;
 use crate::place_limit::PlaceLimit;
+use crate::taken::Taken;
 use arrayvec::ArrayVec;
-use bus_bits::{Spent, reversed};
+use bus_bits::Spent;
 use bus_fcs::Check;
 use event::Event;
-use late::has_six;
 use std::marker::Model;
 
 /// The first place that no bit can have.
@@ -34,7 +34,7 @@ const PLACES: u64 = 1 << 60;
 const NEVER: u64 = 1 << 62;
 
 /// Finds the frames, damaged pieces, overlong pieces, aborts and idles of a line (ISO/IEC 13239)
-/// from its bits, one at a time.
+/// from its bits, up to 48 at a time.
 ///
 /// It keeps a few words and the octets of one piece, at most the longest frame and two octets, and
 /// takes no memory.
@@ -45,17 +45,17 @@ pub struct LineDecoder<C: Check> {
     origin: u64,
     /// The place of the next bit.
     place: u64,
-    /// The last bits, the newest lowest.
-    window: u32,
+    /// The last sixteen bits, the oldest lowest, with 0s before the first.
+    history: u64,
     /// The first place of the open piece, where the last mark is a flag.
     first: Option<u64>,
-    /// The first place from which a bit of the open piece is settled: nine past its beginning, and
+    /// The place behind which each bit settles one of the open piece: eight past its beginning, and
     /// where no piece is open a place that is never reached.
     settles_at: u64,
     /// How many data bits of the piece from there are settled.
     gathered: u64,
-    /// The last eight of them, the newest highest.
-    octet: u8,
+    /// Those of them that fill no octet yet, the first lowest.
+    rest: u64,
     /// The octets of the piece, or of the frame before it until the first octet is full.
     buffer: ArrayVec<u8, 258>,
     /// The check of these octets.
@@ -79,11 +79,10 @@ impl<C: Check> Model for LineDecoder<C> {
 impl<C: Check> LineDecoder<C> {
     ghost use Rattle.bus_line.specs.contracts.decoder.LineDecoder.{the_row};
     ghost use Rattle.bus_line.specs.Internal.LineState.{LineState};
-    ghost use Rattle.bus_line.specs.After.{After, Pushed, Passed, FitsFrame};
-    ghost use Rattle.bus_line.specs.Internal.Tracks.{Tracks, Lags, event_shown};
+    ghost use Rattle.bus_line.specs.Internal.Tracks.{event_shown};
+    ghost use Rattle.bus_line.specs.After.{After, Pushed, Led, ShowsHeld, FitsFrame};
     ghost use Rattle.bus_line.specs.Shown.{shown};
     ghost use Rattle.bus_line.specs.Report.{moved};
-    ghost use Rattle.bus_line.specs.Internal.Late.{IsCalm};
 
     /// A decoder that took no bit, whose first bit has the place `origin`.
     ///
@@ -105,14 +104,49 @@ impl<C: Check> LineDecoder<C> {
             longest,
             origin,
             place: origin,
-            window: 0,
+            history: 0,
             first: None,
             settles_at: NEVER,
             gathered: 0,
-            octet: 0,
+            rest: 0,
             buffer: ArrayVec::new(),
             check: C::fresh(),
             spent: Spent::zero(),
+        })
+    }
+
+    /// Takes up to `count` bits, the first lowest: all of them, or those up to the first that may decide
+    /// a report. Returns how many it took, and the report that the last of these decides, if there is
+    /// one. A frame's octets are borrowed from the decoder.
+    ///
+    /// Refuses as [`PlaceLimit`], with nothing changed, where one of the `count` bits would have the
+    /// place 2^60 or a later one.
+    #[inline(always)]
+    pub fn take(&mut self, bits: u64, count: u32) -> Result<Taken<'_>, PlaceLimit>
+        requires some { 1 ≤ count }
+        requires few { count ≤ 48 }
+        requires small { bits < 2 ^ count }
+        ensures limit { IsErr result ↔ (2 ^ 60 < self.old.place + count) }
+        ensures within { IfOk result (λ t. (1 ≤ t.count) × (t.count ≤ count)) }
+        ensures answer { IfOk result (λ t. (b : List Bool) → After C.folded C.COST self.old b →
+            shown t.piece
+            ≡ option_map (moved self.old.origin)
+            (due_at self.old.longest (b ++ bits_of t.count bits) (length b + t.count - 1))) }
+        ensures more { IfOk result (λ t. (b : List Bool) → After C.folded C.COST self.old b →
+            placed self.old.origin self.old.longest (b ++ bits_of t.count bits)
+            ≡ placed self.old.origin self.old.longest b ++ option_to_list (shown t.piece)) }
+        ensures fits { IfOk result (λ t. FitsFrame self.old.longest t.piece) }
+        ensures* rests { sem 𝓛 (Rests (the_row C.row C.Check) self.entry (λ new.
+            IfOk result (λ t. Led C.folded C.COST self.old (bits_of t.count bits) t.piece new)
+            × OnErr result (new ≡ self.old))) }
+    {
+        if self.place > PLACES - u64::from(count) {
+            return Err(PlaceLimit);
+        }
+        let advance = self.advance(bits, count);
+        Ok(Taken {
+            count: advance.count,
+            piece: self.lent(advance.event),
         })
     }
 
@@ -134,63 +168,28 @@ impl<C: Check> LineDecoder<C> {
         if self.place >= PLACES {
             return Err(PlaceLimit);
         }
-        let event = self.step(bit);
+        let advance = self.advance(u64::from(bit), 1);
+        Ok(self.lent(advance.event))
+    }
+
+    /// The piece of an event. A frame's octets are borrowed from the buffer.
+    #[inline(always)]
+    fn lent(&self, event: Event) -> Option<Piece<'_>>
+        ensures shows { shown result ≡ event_shown self.now event }
+        ensures held { ShowsHeld self.now result }
+        ensures fits { FitsFrame self.now.longest result }
+    {
         match event {
-            Event::Nothing => Ok(None),
-            Event::Frame(span) => Ok(Some(Piece::Frame {
+            Event::Nothing => None,
+            Event::Frame(span) => Some(Piece::Frame {
                 span,
                 octets: self.buffer.as_slice(),
-            })),
-            Event::Damaged(span, cause) => Ok(Some(Piece::Damaged { span, cause })),
-            Event::Overlong(span) => Ok(Some(Piece::Overlong { span })),
-            Event::Abort(span) => Ok(Some(Piece::Abort { span })),
-            Event::Idle(span) => Ok(Some(Piece::Idle { span })),
+            }),
+            Event::Damaged(span, cause) => Some(Piece::Damaged { span, cause }),
+            Event::Overlong(span) => Some(Piece::Overlong { span }),
+            Event::Abort(span) => Some(Piece::Abort { span }),
+            Event::Idle(span) => Some(Piece::Idle { span }),
         }
-    }
-
-    /// Takes a bit at once, if no value of it can decide a report. Behind six 1 bits or fourteen, and
-    /// no more, and where the bit's place would be 2^60, it returns false and changes nothing: `push`
-    /// takes that bit.
-    #[inline(always)]
-    pub fn pass(&mut self, bit: bool) -> bool
-        ensures passes { (b : List Bool) → After C.folded C.COST self.old b →
-            (IsTrue result ↔ ((self.old.place < 2 ^ 60) × (ones_at_end b ≢ 6) × (ones_at_end b ≢ 14))) }
-        ensures limit { IsTrue result → self.old.place < 2 ^ 60 }
-        ensures passed { IsTrue result → Pushed C.folded C.COST self.old bit None self.new }
-        ensures nothing { IsTrue result → (b : List Bool) → After C.folded C.COST self.old b →
-            due_at self.old.longest (b ++ bit ∷ []) (length b) ≡ None }
-        ensures more { IsTrue result → (b : List Bool) → After C.folded C.COST self.old b →
-            placed self.old.origin self.old.longest (b ++ bit ∷ []) ≡ placed self.old.origin self.old.longest b }
-        ensures kept { result ≡ false → self.new ≡ self.old }
-    {
-        if self.can_decide() || self.place >= PLACES {
-            return false;
-        }
-        self.shift(bit);
-        self.settle();
-        true
-    }
-
-    /// Takes the eight bits of an octet at once, the lowest first, if none of them follows six
-    /// 1 bits or more and so none can decide a report. Else, and where a bit's place would be 2^60, it
-    /// returns false and changes nothing: `pass` and `push` take these bits.
-    #[inline(always)]
-    pub fn pass_octet(&mut self, octet: u8) -> bool
-        ensures passes { (b : List Bool) → After C.folded C.COST self.old b →
-            (IsTrue result ↔ ((self.old.place + 8 ≤ 2 ^ 60) × IsCalm b (bits_of 8 octet))) }
-        ensures limit { IsTrue result → self.old.place + 8 ≤ 2 ^ 60 }
-        ensures place { IsTrue result → self.new.place ≡ self.old.place + 8 }
-        ensures passed { IsTrue result → Passed C.folded C.COST self.old (bits_of 8 octet) self.new }
-        ensures kept { result ≡ false → self.new ≡ self.old }
-    {
-        let window = self.window << 8 | u32::from(reversed(octet));
-        if has_six(window) || self.place > PLACES - 8 {
-            return false;
-        }
-        self.place += 8;
-        self.window = window;
-        self.settle_octet();
-        true
     }
 
     /// The octets of the frame that the last bit closed.

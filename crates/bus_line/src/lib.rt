@@ -13,6 +13,7 @@ mod owned_piece;
 mod piece;
 mod place_limit;
 mod sink_refused;
+mod taken;
 mod whole;
 
 pub use bit_sink::BitSink;
@@ -26,4 +27,5 @@ pub use owned_piece::OwnedPiece;
 pub use piece::Piece;
 pub use place_limit::PlaceLimit;
 pub use sink_refused::SinkRefused;
+pub use taken::Taken;
 pub use whole::reports_whole;

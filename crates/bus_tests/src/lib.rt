@@ -11,3 +11,5 @@ mod fcs;
 mod line;
 #[cfg(test)]
 mod watch;
+#[cfg(test)]
+mod word;

@@ -5,11 +5,12 @@ mod decoder;
 mod encoder;
 mod every_list;
 mod limits;
-mod pass;
 mod plain_reading;
 mod rows;
+mod take;
 mod told;
 
+use crate::word::word_of;
 use std::alloc::{AllocError, Global};
 
 /// The bits of a text of `0` and `1`. All else in it is a space between them.

@@ -1,4 +1,4 @@
--- One bit more leads an analyser on.
+-- More bits lead an analyser on.
 use Rattle.std.proofs.Common.{◌≡◌, ℕ, Bool, List, [], ◌∷◌, ◌++◌, Option, Some, None, refl, sym, ap, ◌∙◌, subst, append-nil}
 use Rattle.std.specs.Option.{option_to_list}
 use Rattle.bus_line.specs.Report.{Report}
@@ -6,7 +6,7 @@ use Rattle.bus_bits.specs.declared.spent.Spent.{Spent}
 use Rattle.bus_line.specs.Due.{reports, placed}
 use Rattle.bus_line.specs.Ledger.{IsLedger as IsLineLedger}
 use Rattle.bus_line.specs.Internal.LineState.{LineState}
-use Rattle.bus_line.specs.After.{After, Pushed, Passed, ShowsHeld}
+use Rattle.bus_line.specs.After.{After, Led, ShowsHeld}
 use Rattle.bus_line.specs.Shown.{report_of, shown}
 use Rattle.bus_line.specs.declared.piece.Piece.{Piece}
 use Rattle.bus_line.specs.declared.piece.Piece.TheVariants as piece
@@ -21,13 +21,13 @@ use Rattle.bus_watch.specs.Ledger.{IsLedger}
 use Rattle.bus_watch.proofs.SeenLemmas.{seen-more}
 use Rattle.bus_watch.proofs.AnalyserViewLemmas.{octets-moved, steps-moved}
 
--- what the decoder's contract says of a bit
-abbrev pub GrowsBy : {C : Type 0} → (C → List ℕ → Type 0) → ℕ → LineState C → Bool → Option Piece → Type 0
-GrowsBy folded cost d bit o = (b : List Bool) → After folded cost d b → placed d.origin d.longest (b ++ bit ∷ []) ≡ placed d.origin d.longest b ++ option_to_list (shown o)
+-- what the decoder's contract says of bits
+abbrev pub GrowsBy : {C : Type 0} → (C → List ℕ → Type 0) → ℕ → LineState C → List Bool → Option Piece → Type 0
+GrowsBy folded cost d bits o = (b : List Bool) → After folded cost d b → placed d.origin d.longest (b ++ bits) ≡ placed d.origin d.longest b ++ option_to_list (shown o)
 
-line-more : {C : Type 0} (folded : C → List ℕ → Type 0) (cost : ℕ) (a : AnalyserState C) (b : List Bool) (bit : Bool) (o : Option Piece)
-    → IsAfter folded cost a b → GrowsBy folded cost a.decoder bit o → line a (b ++ bit ∷ []) ≡ line a b ++ option_to_list (shown o)
-line-more folded cost a b bit o s grows = rw (← s.longest) (grows b s.decoder)
+line-more : {C : Type 0} (folded : C → List ℕ → Type 0) (cost : ℕ) (a : AnalyserState C) (b : List Bool) (bits : List Bool) (o : Option Piece)
+    → IsAfter folded cost a b → GrowsBy folded cost a.decoder bits o → line a (b ++ bits) ≡ line a b ++ option_to_list (shown o)
+line-more folded cost a b bits o s grows = rw (← s.longest) (grows b s.decoder)
 
 -- a frame that is answered is in the buffer
 pub held-octets : {C : Type 0} (d : LineState C) (p : Piece) → ShowsHeld d (Some p) → HasOctets d.octets p
@@ -40,71 +40,44 @@ held-octets d (piece.Idle span) h = h
 pub told-is : (octets : List ℕ) (t : Told) (s : SeenReport) → held_report octets t.held ≡ s.report → Says t.noted s → told_report octets t ≡ s
 told-is octets t s e says = rw (e, says.standing, says.verdict, says.stray) refl
 
--- a bit that decides nothing
-pub sees-none : {C : Type 0} (folded : C → List ℕ → Type 0) (cost : ℕ) (old new : AnalyserState C) (bit : Bool)
-    → Pushed folded cost old.decoder bit None new.decoder → GrowsBy folded cost old.decoder bit None → new.journal ≡ old.journal
-    → Sees folded cost old (bit ∷ []) [] new
-sees-none folded cost old new bit p grows same = record {
+-- bits that decide nothing
+pub sees-none : {C : Type 0} (folded : C → List ℕ → Type 0) (cost : ℕ) (old new : AnalyserState C) (bits : List Bool)
+    → Led folded cost old.decoder bits None new.decoder → GrowsBy folded cost old.decoder bits None → new.journal ≡ old.journal
+    → Sees folded cost old bits [] new
+sees-none folded cost old new bits p grows same = record {
   is_after = λ b s.
-      let grown : line old (b ++ bit ∷ []) ≡ line old b = line-more folded cost old b bit None s grows ∙ append-nil (line old b) in
+      let grown : line old (b ++ bits) ≡ line old b = line-more folded cost old b bits None s grows ∙ append-nil (line old b) in
       record {
         decoder = p.after b s.decoder;
         longest = p.longest ∙ s.longest ∙ ap (λ (j : JournalState). longest_of j.dictionary) (sym same);
         journal = rw (same, p.origin, grown) s.journal;
       };
-  seen = λ b s. ap (seen old.journal.dictionary) (line-more folded cost old b bit None s grows ∙ append-nil (line old b)) ∙ sym (append-nil (seen_after old b));
+  seen = λ b s. ap (seen old.journal.dictionary) (line-more folded cost old b bits None s grows ∙ append-nil (line old b)) ∙ sym (append-nil (seen_after old b));
   dictionary = ap (λ (j : JournalState). j.dictionary) same;
   depth = ap (λ (j : JournalState). j.depth) same;
   origin = p.origin;
   place = p.place;
 }
 
--- a bit that was passed
-pub sees-passed : {C : Type 0} (folded : C → List ℕ → Type 0) (cost : ℕ) (old new : AnalyserState C) (bit : Bool)
-    → Pushed folded cost old.decoder bit None new.decoder
-    → ((b : List Bool) → After folded cost old.decoder b → placed old.decoder.origin old.decoder.longest (b ++ bit ∷ []) ≡ placed old.decoder.origin old.decoder.longest b)
-    → new.journal ≡ old.journal → Sees folded cost old (bit ∷ []) [] new
-sees-passed folded cost old new bit p more same = sees-none folded cost old new bit p (λ b h. more b h ∙ sym (append-nil (placed old.decoder.origin old.decoder.longest b))) same
-
--- bits that were passed
-pub sees-passed_on : {C : Type 0} (folded : C → List ℕ → Type 0) (cost : ℕ) (old new : AnalyserState C) (bits : List Bool)
-    → Passed folded cost old.decoder bits new.decoder → new.journal ≡ old.journal → Sees folded cost old bits [] new
-sees-passed_on folded cost old new bits p same = record {
-  is_after = λ b s.
-      let grown : line old (b ++ bits) ≡ line old b = rw (← s.longest) (p.more b s.decoder) in
-      record {
-        decoder = p.after b s.decoder;
-        longest = p.longest ∙ s.longest ∙ ap (λ (j : JournalState). longest_of j.dictionary) (sym same);
-        journal = rw (same, p.origin, grown) s.journal;
-      };
-  seen = λ b s.
-      let grown : line old (b ++ bits) ≡ line old b = rw (← s.longest) (p.more b s.decoder) in
-      ap (seen old.journal.dictionary) grown ∙ sym (append-nil (seen_after old b));
-  dictionary = ap (λ (j : JournalState). j.dictionary) same;
-  depth = ap (λ (j : JournalState). j.depth) same;
-  origin = p.origin;
-  place = p.place;
-}
-
--- a bit that decides a report
-pub sees-some : {C : Type 0} (folded : C → List ℕ → Type 0) (cost : ℕ) (old new : AnalyserState C) (bit : Bool) (piece : Piece) (told : SeenReport)
-    → Pushed folded cost old.decoder bit (Some piece) new.decoder → GrowsBy folded cost old.decoder bit (Some piece)
+-- bits the last of which decides a report
+pub sees-some : {C : Type 0} (folded : C → List ℕ → Type 0) (cost : ℕ) (old new : AnalyserState C) (bits : List Bool) (piece : Piece) (told : SeenReport)
+    → Led folded cost old.decoder bits (Some piece) new.decoder → GrowsBy folded cost old.decoder bits (Some piece)
     → ((rs : List Report) → Keeps old.journal rs → Keeps new.journal (rs ++ report_of piece ∷ []))
     → ((rs : List Report) → Keeps old.journal rs → told ≡ seen_of old.journal.dictionary rs (report_of piece))
     → new.journal.dictionary ≡ old.journal.dictionary → new.journal.depth ≡ old.journal.depth
-    → Sees folded cost old (bit ∷ []) (told ∷ []) new
-sees-some folded cost old new bit piece told p grows keeps says dictionary depth = record {
+    → Sees folded cost old bits (told ∷ []) new
+sees-some folded cost old new bits piece told p grows keeps says dictionary depth = record {
   is_after = λ b s.
-      let all : List Bool = b ++ bit ∷ [] in
+      let all : List Bool = b ++ bits in
       let grown : line new all ≡ line old b ++ report_of piece ∷ [] =
-      ap (λ o. placed o (longest_of new.journal.dictionary) all) p.origin ∙ ap (λ d. placed old.decoder.origin (longest_of d) all) dictionary ∙ line-more folded cost old b bit (Some piece) s grows in
+      ap (λ o. placed o (longest_of new.journal.dictionary) all) p.origin ∙ ap (λ d. placed old.decoder.origin (longest_of d) all) dictionary ∙ line-more folded cost old b bits (Some piece) s grows in
       record {
         decoder = p.after b s.decoder;
         longest = p.longest ∙ s.longest ∙ ap longest_of (sym dictionary);
         journal = subst (Keeps new.journal) (sym grown) (keeps (line old b) s.journal);
       };
   seen = λ b s.
-      ap (seen old.journal.dictionary) (line-more folded cost old b bit (Some piece) s grows)
+      ap (seen old.journal.dictionary) (line-more folded cost old b bits (Some piece) s grows)
       ∙ (seen-more old.journal.dictionary (line old b) (report_of piece) ∙ ap (λ t. seen_after old b ++ t ∷ []) (sym (says (line old b) s.journal)));
   dictionary = dictionary;
   depth = depth;

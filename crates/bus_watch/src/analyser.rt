@@ -1,25 +1,25 @@
-//! The analyser: what is seen on a line, one bit at a time, in fixed memory.
+//! The analyser: what is seen on a line, up to 48 bits at a time, in fixed memory.
 
 mod held;
 
-ghost use Rattle.std.specs.Prelude.{◌≡◌, ◌≢◌, ◌+◌, ◌*◌, ◌≤◌, ◌<◌, ◌^◌, ◌↔◌, ◌⊎◌, List, Bool, [], ◌∷◌, ◌++◌, IsErr, IfOk, OnOk, OnErr, IsTrue, false, length, ℕ, Some, Err, slice_get};
+ghost use Rattle.std.specs.Prelude.{◌≡◌, ◌+◌, ◌*◌, ◌≤◌, ◌<◌, ◌^◌, ◌↔◌, ◌⊎◌, List, Bool, [], ◌∷◌, ◌++◌, IsErr, IfOk, OnOk, OnErr, IsTrue, false, length, ℕ, Some, Err, slice_get};
 ghost use Rattle.std.specs.Option.{option_map, option_to_list};
 ghost use Rattle.std.specs.Borrow.{sem};
 ghost use Rattle.std.specs.Io.BufRead.{Rests};
 ghost use Rattle.bus_line.specs.Due.{begun};
 ghost use Rattle.bus_line.specs.Ledger.{stored_from};
-ghost use Rattle.bus_line.specs.Internal.Run.{ones_at_end};
-ghost use Rattle.bus_line.specs.Internal.Late.{IsCalm};
 ghost use Rattle.bus_bits.specs.Octet.{bits_of};
 ghost use Rattle.bus_dictionary.specs.Dictionary.{longest_of};
 
 use crate::counts::Counts;
 use crate::ending::Ending;
+use crate::feed::PLACES;
 use crate::journal::{Journal, Noted};
 use crate::kept::Kept;
 use crate::laws::{seen_grows, steps_are_bounded};
 use crate::new_fault::NewFault;
 use crate::seen::Seen;
+use crate::taken::Taken;
 use bus_bits::{Span, Spent};
 use bus_dictionary::Dictionary;
 use bus_fcs::Check;
@@ -44,6 +44,13 @@ pub struct Analyser<C: Check> {
 struct Told {
     held: Held,
     noted: Noted,
+}
+
+/// How many bits were taken, and what the last of them decided.
+#[derive(Clone, Copy)]
+struct Advance {
+    count: u32,
+    told: Option<Told>,
 }
 
 impl<C: Check> Model for Analyser<C> {
@@ -100,30 +107,48 @@ impl<C: Check> Analyser<C> {
         }
     }
 
-    /// Takes a bit, and keeps what it decides.
-    fn note(&mut self, bit: bool) -> Result<Option<Told>, PlaceLimit>
-        ensures limit { IsErr result ↔ (2 ^ 60 ≤ self.old.decoder.place) }
-        ensures answer { IfOk result (λ told. (b : List Bool) → IsAfter C.folded C.COST self.old b →
-            told_option self.new.decoder.octets told
-            ≡ seen_at self.old.journal.dictionary (line self.old (b ++ bit ∷ [])) self.old.decoder.place) }
+    /// Takes bits, the first lowest, up to the first that may decide a report, and keeps what it
+    /// decides.
+    #[inline(always)]
+    fn note(&mut self, bits: u64, count: u32) -> Result<Advance, PlaceLimit>
+        requires some { 1 ≤ count }
+        requires few { count ≤ 48 }
+        requires small { bits < 2 ^ count }
+        ensures limit { IsErr result ↔ (2 ^ 60 < self.old.decoder.place + count) }
+        ensures within { IfOk result (λ advance. (1 ≤ advance.count) × (advance.count ≤ count)) }
         ensures sees { IfOk result
-            (λ told. Sees C.folded C.COST self.old (bit ∷ [])
-            (option_to_list (told_option self.new.decoder.octets told)) self.new) }
+            (λ advance. Sees C.folded C.COST self.old (bits_of advance.count bits)
+            (option_to_list (told_option self.new.decoder.octets advance.told)) self.new) }
         ensures err { OnErr result (self.new ≡ self.old) }
     {
-        seen_grows();
-        match self.decoder.push(bit) {
-            Err(PlaceLimit) => Err(PlaceLimit),
-            Ok(None) => Ok(None),
-            Ok(Some(piece)) => {
-                reports_are();
-                frame_is_spelled();
-                settled_places();
-                Ok(Some(Told {
-                    held: Held::of(piece),
-                    noted: self.journal.take(piece),
-                }))
-            }
+        let taken = self.decoder.take(bits, count)?;
+        let Some(piece) = taken.piece else {
+            return Ok(Advance {
+                count: taken.count,
+                told: None,
+            });
+        };
+        reports_are();
+        frame_is_spelled();
+        settled_places();
+        Ok(Advance {
+            count: taken.count,
+            told: Some(Told {
+                held: Held::of(piece),
+                noted: self.journal.take(piece),
+            }),
+        })
+    }
+
+    /// What was decided, if anything, as it is handed out.
+    #[inline(always)]
+    fn told(&self, told: Option<Told>) -> Option<Seen<'_>>
+        ensures shown { shown_option result ≡ told_option self.now.decoder.octets told }
+        ensures fits { IsKeepable result }
+    {
+        match told {
+            Some(told) => Some(self.seen(told)),
+            None => None,
         }
     }
 
@@ -140,6 +165,32 @@ impl<C: Check> Analyser<C> {
         }
     }
 
+    /// Takes up to `count` bits, the first lowest: all of them, or those up to the first that may decide
+    /// a report. Returns how many it took, and what is seen at the last of these, if it decides a
+    /// report. A frame's octets are borrowed from the analyser.
+    ///
+    /// Refuses as [`PlaceLimit`], with nothing changed, where one of the `count` bits would have the
+    /// place 2^60 or a later one.
+    #[inline(always)]
+    pub fn take(&mut self, bits: u64, count: u32) -> Result<Taken<'_>, PlaceLimit>
+        requires some { 1 ≤ count }
+        requires few { count ≤ 48 }
+        requires small { bits < 2 ^ count }
+        ensures limit { IsErr result ↔ (2 ^ 60 < self.old.decoder.place + count) }
+        ensures within { IfOk result (λ t. (1 ≤ t.count) × (t.count ≤ count)) }
+        ensures fits { IfOk result (λ t. IsKeepable t.seen) }
+        ensures* rests { sem 𝓛 (Rests (the_row C.row C.Check) self.entry (λ new.
+            IfOk result (λ t. Sees C.folded C.COST self.old (bits_of t.count bits)
+            (option_to_list (shown_option t.seen)) new)
+            × OnErr result (new ≡ self.old))) }
+    {
+        let advance = self.note(bits, count)?;
+        Ok(Taken {
+            count: advance.count,
+            seen: self.told(advance.told),
+        })
+    }
+
     /// Takes a bit, and returns what is seen at it, if it decides a report. A frame's octets are
     /// borrowed from the analyser.
     ///
@@ -154,40 +205,9 @@ impl<C: Check> Analyser<C> {
             IfOk result (λ o. Sees C.folded C.COST self.old (bit ∷ []) (option_to_list (shown_option o)) new)
             × OnErr result (new ≡ self.old))) }
     {
-        match self.note(bit) {
-            Ok(Some(told)) => Ok(Some(self.seen(told))),
-            Ok(None) => Ok(None),
-            Err(PlaceLimit) => Err(PlaceLimit),
-        }
-    }
-
-    /// Takes a bit at once, if no value of it can decide a report. Behind six 1 bits or fourteen, and
-    /// no more, and where the bit's place would be 2^60, it returns false and changes nothing: `push`
-    /// takes that bit.
-    #[inline(always)]
-    pub fn pass(&mut self, bit: bool) -> bool
-        ensures passes { (b : List Bool) → IsAfter C.folded C.COST self.old b →
-            (IsTrue result ↔ ((self.old.decoder.place < 2 ^ 60) × (ones_at_end b ≢ 6) × (ones_at_end b ≢ 14))) }
-        ensures limit { IsTrue result → self.old.decoder.place < 2 ^ 60 }
-        ensures passed { IsTrue result → Sees C.folded C.COST self.old (bit ∷ []) [] self.new }
-        ensures kept { result ≡ false → self.new ≡ self.old }
-    {
-        self.decoder.pass(bit)
-    }
-
-    /// Takes the eight bits of an octet at once, the lowest first, if none of them follows six
-    /// 1 bits or more and so none can decide a report. Else, and where a bit's place would be 2^60, it
-    /// returns false and changes nothing: `pass` and `push` take these bits.
-    #[inline(always)]
-    pub fn pass_octet(&mut self, octet: u8) -> bool
-        ensures passes { (b : List Bool) → IsAfter C.folded C.COST self.old b →
-            (IsTrue result ↔ ((self.old.decoder.place + 8 ≤ 2 ^ 60) × IsCalm b (bits_of 8 octet))) }
-        ensures limit { IsTrue result → self.old.decoder.place + 8 ≤ 2 ^ 60 }
-        ensures place { IsTrue result → self.new.decoder.place ≡ self.old.decoder.place + 8 }
-        ensures passed { IsTrue result → Sees C.folded C.COST self.old (bits_of 8 octet) [] self.new }
-        ensures kept { result ≡ false → self.new ≡ self.old }
-    {
-        self.decoder.pass_octet(octet)
+        seen_grows();
+        let advance = self.note(u64::from(bit), 1)?;
+        Ok(self.told(advance.told))
     }
 
     /// A frame of the history, of which the oldest has the number 0.
@@ -269,6 +289,14 @@ impl<C: Check> Analyser<C> {
             handled: journal.handled,
             ..self.decoder.spent()
         }
+    }
+
+    /// Whether `count` bits more have places below 2^60.
+    #[inline(always)]
+    pub fn has_room(&self, count: u32) -> bool
+        ensures { IsTrue result ↔ (self.now.decoder.place + count ≤ 2 ^ 60) }
+    {
+        self.place() + u64::from(count) <= PLACES
     }
 
     /// The place of the next bit: the origin and the bits so far.

@@ -19,6 +19,7 @@ mod report_sink;
 mod run;
 mod run_fault;
 mod seen;
+mod taken;
 mod usage;
 mod verdict;
 
@@ -38,5 +39,6 @@ pub use report_sink::ReportSink;
 pub use run::{Run, reports_of, run_all};
 pub use run_fault::RunFault;
 pub use seen::Seen;
+pub use taken::Taken;
 pub use usage::Usage;
 pub use verdict::Verdict;

@@ -1,6 +1,6 @@
 //! The bits of a packed capture, after its head.
 
-ghost use Rattle.std.specs.Prelude.{◌≡◌, ℕ, List, [], ◌∷◌, ◌++◌, length, Some, None, MatchResult, OnErr, ◌≤◌, ◌-◌};
+ghost use Rattle.std.specs.Prelude.{◌≡◌, ℕ, List, [], ◌∷◌, ◌++◌, length, Some, None, MatchResult, OnErr, ◌≤◌, ◌<◌, ◌^◌, take};
 ghost use Rattle.std.specs.List.{list_any};
 ghost use Rattle.bus_bits.specs.Octet.{bits_of};
 ghost use Rattle.bus_bits.specs.Packed.{PackedAfter, packed_body, packed_fault_of, filled};
@@ -9,6 +9,9 @@ use crate::capture::packed_head::PackedHead;
 use crate::octet::octet_bits;
 use arrayvec::ArrayVec;
 use std::marker::Model;
+
+/// The 48 bits of six octets.
+const SIX: u64 = (1 << 48) - 1;
 
 /// Why the octets after a head are not its bits.
 #[derive(Clone, Copy, Debug, PartialEq, Eq)]
@@ -79,14 +82,26 @@ impl PackedBits {
         Ok(gathered(&bits[..used]))
     }
 
-    /// Takes an octet of which all eight bits are wanted, without giving them.
+    /// Takes the first six of eight octets, of which all bits are wanted, and gives these 48, the
+    /// first lowest.
     #[inline(always)]
-    pub fn take_whole(&mut self)
+    pub fn take_six(&mut self, octets: &[u8; 8]) -> u64
+        requires { 48 ≤ self.old }
+        ensures given { (n : ℕ) (xs : List ℕ) → PackedAfter n xs self.old →
+            PackedAfter n (xs ++ take 6 octets.now) self.new
+            × ((packed_body n (xs ++ take 6 octets.now)).bits ≡ (packed_body n xs).bits ++ bits_of 48 result) }
+        ensures small { result < 2 ^ 48 }
+    {
+        self.left -= 48;
+        u64::from_le_bytes(*octets) & SIX
+    }
+
+    /// Takes an octet of which all eight bits are wanted, without giving them.
+    fn take_whole(&mut self)
         requires { 8 ≤ self.old }
         ensures given { (n : ℕ) (xs : List ℕ) (octet : ℕ) → PackedAfter n xs self.old →
             PackedAfter n (xs ++ octet ∷ []) self.new
             × ((packed_body n (xs ++ octet ∷ [])).bits ≡ (packed_body n xs).bits ++ bits_of 8 octet) }
-        ensures left { self.new ≡ self.old - 8 }
     {
         self.left -= 8;
     }

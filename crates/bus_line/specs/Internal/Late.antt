@@ -1,23 +1,32 @@
--- Eight bits at once: what they settle.
-use Rattle.std.specs.Prelude.{◌≡◌, ℕ, zero, suc, ◌+◌, ◌-◌, ◌/◌, ◌%◌, ◌^◌, ◌<◌, ◌==◌, Bool, List, [], ◌∷◌, ◌++◌, length, take, min, if◌then◌else◌}
+-- Many bits at once: where they stop, and what they settle.
+use Rattle.std.specs.Prelude.{◌≡◌, ◌≢◌, ℕ, zero, suc, ◌+◌, ◌-◌, ◌*◌, ◌/◌, ◌%◌, ◌^◌, ◌<◌, ◌==◌, ◌⊎◌, Bool, List, [], ◌∷◌, ◌++◌, length, take, drop, min, if◌then◌else◌}
+use Rattle.bus_bits.specs.Octet.{number}
 use Rattle.bus_line.specs.Internal.Run.{ones_at_end}
 use Rattle.bus_line.specs.Due.{current}
 use Rattle.bus_line.specs.Internal.LineState.{LineState}
-use Rattle.bus_line.specs.Internal.Tracks.{HasTaken, HoldsFor, Counts, first_of}
+use Rattle.bus_line.specs.Internal.Tracks.{HasTaken, HoldsFor, Counts, first_of, padded}
 
--- none of these bits stands behind six ones or more
-abbrev pub IsCalm : List Bool → List Bool → Type 0
-IsCalm b bits = (i : ℕ) → i < length bits → ones_at_end (b ++ take i bits) < 6
+-- none of the first `n` bits stands behind just six ones or just fourteen
+abbrev pub IsCalm : List Bool → List Bool → ℕ → Type 0
+IsCalm b bits n = (i : ℕ) → i < n → (ones_at_end (b ++ take i bits) ≢ 6) × (ones_at_end (b ++ take i bits) ≢ 14)
 
--- of the last `k` bits that eight later ones have followed, those that are no inserted 0; the window shows them, the newest lowest
+-- sixteen bits before the new ones, and these, the oldest lowest
+abbrev pub IsWord : ℕ → List Bool → List Bool → Type 0
+IsWord w b bits = w ≡ number (drop (length b) (padded (b ++ bits)))
+
+-- the word shows just six ones, or fourteen, before the new bit `i`
+abbrev pub IsStop : ℕ → ℕ → Type 0
+IsStop w i = (w / 2 ^ (9 + i) % 128 ≡ 126) ⊎ (w / 2 ^ (1 + i) % 32768 ≡ 32766)
+
+-- of the first `k` bits behind the eight lowest those that are no 0 after five ones, the oldest first
 abbrev pub late_data : ℕ → ℕ → List Bool
-late_data window zero = []
-late_data window (suc k) = (if window / 2 ^ (8 + k) % 64 == 62 then [] else (window / 2 ^ (8 + k) % 2 == 1) ∷ []) ++ late_data window k
+late_data word zero = []
+late_data word (suc k) = late_data word k ++ (if word / 2 ^ (3 + k) % 64 == 31 then [] else (word / 2 ^ (8 + k) % 2 == 1) ∷ [])
 
--- of the lowest `k` bits of `octet` those that `inserted` does not mark, the highest first
+-- of the lowest `k` bits those that `marks` does not mark, the lowest first
 abbrev pub kept : ℕ → ℕ → ℕ → List Bool
-kept octet inserted zero = []
-kept octet inserted (suc k) = (if inserted / 2 ^ k % 2 == 1 then [] else (octet / 2 ^ k % 2 == 1) ∷ []) ++ kept octet inserted k
+kept bits marks zero = []
+kept bits marks (suc k) = kept bits marks k ++ (if marks / 2 ^ k % 2 == 1 then [] else (bits / 2 ^ k % 2 == 1) ∷ [])
 
 -- more bits were taken, and not yet settled
 pub record LagsBy {C : Type 0} (folded : C → List ℕ → Type 0) (cost : ℕ) (d : LineState C) (b bits : List Bool) : Type 0 where
@@ -26,6 +35,20 @@ pub record LagsBy {C : Type 0} (folded : C → List ℕ → Type 0) (cost : ℕ)
   pub piece : HoldsFor folded d b (current b)
   pub counts : Counts cost d b
 
+-- how many more of the first `limit` there are where `k` come behind `n`
+abbrev pub gain : ℕ → ℕ → ℕ → ℕ
+gain limit n k = min (n + k) limit - min n limit
+
 -- how many octets more of a piece of `n` data bits are stored, where `k` come behind them
 abbrev pub octets_more : ℕ → ℕ → ℕ → ℕ
 octets_more longest n k = min ((n + k) / 8) (longest + 2) - min (n / 8) (longest + 2)
+
+-- the lowest `k` octets of a number, the lowest first
+abbrev pub octets_of : ℕ → ℕ → List ℕ
+octets_of zero n = []
+octets_of (suc k) n = octets_of k n ++ (n / 2 ^ (8 * k) % 256) ∷ []
+
+-- the buffer has the first of these octets, and their check
+pub record Keeps {C : Type 0} (folded : C → List ℕ → Type 0) (d : LineState C) (os : List ℕ) : Type 0 where
+  pub held : d.octets ≡ take (d.longest + 2) os
+  pub checked : folded d.check (take (d.longest + 2) os)

@@ -10,19 +10,19 @@ line_state d = record {
   longest = d.longest;
   origin = d.origin;
   place = d.place;
-  window = d.window;
+  history = d.history;
   first = d.first;
   gathered = d.gathered;
-  octet = d.octet;
+  rest = d.rest;
   octets = d.buffer.items;
   check = d.check;
   spent = record d.spent { shifted = d.place - d.origin };
 }
 
--- the first place behind which a bit of the piece is settled that begins there; with no piece open, no bit's place comes so far
+-- the place behind which each bit settles one of the piece that begins there; with no piece open, no bit's place comes so far
 abbrev pub settles_from : Option ℕ → ℕ
 settles_from None = 2 ^ 62
-settles_from (Some first) = first + 9
+settles_from (Some first) = first + 8
 
 pub record IsWithin {C : Type 0} (d : Inside C) : Type 0 where
   pub longest_fits : d.longest ≤ 256

@@ -1,9 +1,9 @@
 -- What a decoder holds of the bits that it took.
-use Rattle.std.specs.Prelude.{◌≡◌, ℕ, ◌+◌, ◌-◌, ◌*◌, ◌/◌, ◌%◌, ◌≤◌, ◌^◌, Bool, List, [], ◌∷◌, ◌++◌, length, take, reverse, slice_range, Option, Some, None, if◌then◌else◌}
+use Rattle.std.specs.Prelude.{◌≡◌, ℕ, ◌+◌, ◌-◌, ◌*◌, ◌/◌, ◌≤◌, Bool, false, List, ◌++◌, length, take, drop, replicate, slice_range, Option, Some, None}
 use Rattle.bus_bits.specs.Octet.{number, octets}
 use Rattle.bus_line.specs.Internal.Run.{data_so_far}
 use Rattle.bus_line.specs.Report.{Report, Kind}
-use Rattle.bus_line.specs.Due.{Mark, NoMark, FlagAt, AbortAt, current}
+use Rattle.bus_line.specs.Due.{Mark, NoMark, FlagAt, AbortAt}
 use Rattle.bus_line.specs.Ledger.{assembled, stored}
 use Rattle.bus_line.specs.Internal.LineState.{LineState}
 use Rattle.bus_line.specs.declared.decoder.event.Event.{Event}
@@ -19,15 +19,10 @@ first_of origin (AbortAt a) = None
 abbrev pub settled_data : List Bool → ℕ → List Bool
 settled_data b p = data_so_far (slice_range b (p + 8) (length b - 8))
 
--- an octet that bits are shifted into, each highest
-abbrev pub shifted_in : ℕ → List Bool → ℕ
-shifted_in o [] = o
-shifted_in o (x ∷ d) = shifted_in (o / 2 + (if x then 128 else 0)) d
-
 -- the decoder holds the first octets of this data, and their check
 pub record Holds {C : Type 0} (folded : C → List ℕ → Type 0) (d : LineState C) (bits : List Bool) : Type 0 where
   pub count : d.gathered ≡ length bits
-  pub last : d.octet ≡ shifted_in 0 bits
+  pub rest : d.rest ≡ number (drop (8 * (length bits / 8)) bits)
   pub held : 8 ≤ length bits → d.octets ≡ take (d.longest + 2) (octets bits)
   pub checked : 8 ≤ length bits → folded d.check (take (d.longest + 2) (octets bits))
 
@@ -44,10 +39,14 @@ pub record Counts {C : Type 0} (cost : ℕ) (d : LineState C) (b : List Bool) : 
   pub copied : d.spent.copied ≡ 0
   pub handled : d.spent.handled ≡ 0
 
--- the bits b were taken
+-- sixteen 0s, and these bits
+abbrev pub padded : List Bool → List Bool
+padded b = replicate 16 false ++ b
+
+-- the bits b were taken; their last sixteen are the history, the oldest lowest
 pub record HasTaken {C : Type 0} (d : LineState C) (b : List Bool) : Type 0 where
   pub place : d.place ≡ d.origin + length b
-  pub window : d.window ≡ number (reverse b) % 2 ^ 32
+  pub history : d.history ≡ number (drop (length b) (padded b))
 
 -- the bits b were taken and settled, and this mark was the last
 pub record Tracks {C : Type 0} (folded : C → List ℕ → Type 0) (cost : ℕ) (d : LineState C) (b : List Bool) (mark : Mark) : Type 0 where
@@ -55,21 +54,6 @@ pub record Tracks {C : Type 0} (folded : C → List ℕ → Type 0) (cost : ℕ)
   pub first : d.first ≡ first_of d.origin mark
   pub piece : HoldsFor folded d b mark
   pub counts : Counts cost d b
-
--- a bit more was taken, and not yet settled
-pub record Lags {C : Type 0} (folded : C → List ℕ → Type 0) (cost : ℕ) (d : LineState C) (b : List Bool) (bit : Bool) : Type 0 where
-  pub has_taken : HasTaken d (b ++ bit ∷ [])
-  pub first : d.first ≡ first_of d.origin (current b)
-  pub piece : HoldsFor folded d b (current b)
-  pub counts : Counts cost d b
-
--- the bit x filled an octet, which is not yet stored
-pub record Fills {C : Type 0} (folded : C → List ℕ → Type 0) (d : LineState C) (bits : List Bool) (x : Bool) : Type 0 where
-  pub count : d.gathered ≡ length (bits ++ x ∷ [])
-  pub full : length (bits ++ x ∷ []) % 8 ≡ 0
-  pub last : d.octet ≡ shifted_in 0 (bits ++ x ∷ [])
-  pub held : 8 ≤ length bits → d.octets ≡ take (d.longest + 2) (octets bits)
-  pub checked : 8 ≤ length bits → folded d.check (take (d.longest + 2) (octets bits))
 
 -- what an event reports, where the buffer is still as it was
 abbrev pub event_shown : {C : Type 0} → LineState C → Event → Option Report

@@ -33,13 +33,13 @@ impl<C: Check> LineDecoder<C> {
     {
         // The bits of a mark were all taken, so no place before it is cut off at 0.
         let place = self.place;
-        match look(self.window, place - 1 - self.origin) {
+        match look(self.history, place - 1 - self.origin) {
             Found::Closing => {
                 let event = self.closed(place.saturating_sub(8));
                 self.first = Some(place);
-                self.settles_at = place + 9;
+                self.settles_at = place + 8;
                 self.gathered = 0;
-                self.octet = 0;
+                self.rest = 0;
                 event
             }
             Found::Seven => {
@@ -96,7 +96,7 @@ impl<C: Check> LineDecoder<C> {
               past = span.past;
             }) }
     {
-        if (self.window >> 8) & 0x1f == 0x1f {
+        if (self.history >> 3) & 0x1f == 0x1f {
             return Event::Damaged(span, Cause::Unstuffed);
         }
         if self.gathered > 8 * (self.longest as u64 + 2) {

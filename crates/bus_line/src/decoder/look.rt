@@ -1,14 +1,15 @@
 //! What the newest bit ends, by the last bits.
 
-ghost use Rattle.std.specs.Prelude.{◌≡◌, ◌%◌, ◌^◌, List, Bool, [], ◌∷◌, ◌++◌, length, reverse};
+ghost use Rattle.std.specs.Prelude.{◌≡◌, List, Bool, [], ◌∷◌, ◌++◌, length, drop};
 ghost use Rattle.bus_bits.specs.Octet.{number};
 ghost use Rattle.bus_line.specs.Internal.Look.{IsFound};
 ghost use Rattle.bus_line.specs.Internal.Run.{ones_at_end};
+ghost use Rattle.bus_line.specs.Internal.Tracks.{padded};
 
 /// What the newest bit ends.
 #[derive(Clone, Copy)]
 pub(crate) enum Found {
-    /// A flag: a 0, six ones and a 0.
+    /// A flag: a 0 after six ones, behind a 0.
     Closing,
     /// The seventh one of a run: an abort mark.
     Seven,
@@ -17,18 +18,17 @@ pub(crate) enum Found {
     Other,
 }
 
-/// What the newest bit ends, by the last bits, the newest lowest. `count` bits came before it.
-pub(crate) fn look(window: u32, count: u64) -> Found
-    ensures { (b : List Bool) (bit : Bool) → window ≡ number (reverse (b ++ bit ∷ [])) % 2 ^ 32 → count ≡ length b →
-        IsFound bit (ones_at_end b) count result }
+/// What the newest bit ends, by the last sixteen bits, the oldest lowest. `count` bits came before it.
+pub(crate) fn look(history: u64, count: u64) -> Found
+    ensures { (b : List Bool) (bit : Bool) → history ≡ number (drop (length (b ++ bit ∷ [])) (padded (b ++ bit ∷ []))) → count ≡ length b → IsFound bit (ones_at_end b) count result }
 {
-    if window & 0xff == 0x7f {
+    if history >> 8 == 0xfe {
         return Found::Seven;
     }
-    if window & 0xffff == 0x7fff {
+    if history == 0xfffe {
         return Found::Fifteen;
     }
-    if window & 0xff == 0x7e && count > 6 {
+    if history >> 8 == 0x7e && count > 6 {
         return Found::Closing;
     }
     Found::Other

@@ -1,148 +1,100 @@
-//! One bit more.
+//! Several bits more.
 
-ghost use Rattle.std.specs.Prelude.{◌≡◌, ◌+◌, ◌*◌, ◌-◌, ◌%◌, ◌/◌, ◌≤◌, ◌<◌, ◌^◌, ◌↔◌, ◌⊎◌, IsTrue, List, Bool, [], ◌∷◌, ◌++◌, length, ℕ, take, Some, None, nat_le, nat_lt, if◌then◌else◌};
-ghost use Rattle.std.specs.Option.{option_map};
-ghost use Rattle.bus_line.specs.Due.{current, due_at};
-ghost use Rattle.bus_line.specs.Internal.Run.{ones_at_end};
+ghost use Rattle.std.specs.Prelude.{◌≡◌, ◌+◌, ◌-◌, ◌≤◌, ◌<◌, ◌^◌, List, Bool, ◌++◌, length, ℕ, take};
+ghost use Rattle.std.specs.Option.{option_map, option_to_list};
+ghost use Rattle.bus_bits.specs.Octet.{bits_of};
+ghost use Rattle.bus_line.specs.Due.{current, due_at, placed};
 
 use crate::decoder::LineDecoder;
 use crate::decoder::event::Event;
+use crate::decoder::late::late_data;
+use crate::decoder::stop::calm_bits;
 use bus_fcs::Check;
+use std::cmp::min;
+
+/// How many bits were taken, and what the last of them decided.
+#[derive(Clone, Copy)]
+pub(crate) struct Advance {
+    pub(crate) count: u32,
+    pub(crate) event: Event,
+}
 
 impl<C: Check> LineDecoder<C> {
+    ghost use Rattle.bus_line.specs.Internal.Tracks.{Tracks, event_shown};
     ghost use Rattle.bus_line.specs.After.{After};
-    ghost use Rattle.bus_line.specs.Internal.Tracks.{Tracks, Lags, Fills, Holds, event_shown};
+    ghost use Rattle.bus_line.specs.Internal.Late.{IsWord, IsCalm, LagsBy};
     ghost use Rattle.bus_line.specs.Report.{moved};
 
-    /// Takes a bit, and returns what it decides.
+    /// Takes the bits up to the first that may decide a report, or all of them, and answers what the
+    /// last of them decides.
     #[inline(always)]
-    pub(crate) fn step(&mut self, bit: bool) -> Event
-        requires { self.old.place < 2 ^ 60 }
+    pub(crate) fn advance(&mut self, bits: u64, count: u32) -> Advance
+        requires some { 1 ≤ count }
+        requires few { count ≤ 48 }
+        requires small { bits < 2 ^ count }
+        requires room { self.old.place + count ≤ 2 ^ 60 }
+        ensures some { 1 ≤ result.count }
+        ensures within { result.count ≤ count }
         ensures answer { (b : List Bool) → After C.folded C.COST self.old b →
-            event_shown self.new result
-            ≡ option_map (moved self.old.origin) (due_at self.old.longest (b ++ bit ∷ []) (length b)) }
-        ensures after { (b : List Bool) → After C.folded C.COST self.old b →
-            After C.folded C.COST self.new (b ++ bit ∷ []) }
+            event_shown self.new result.event ≡ option_map (moved self.old.origin) (due_at self.old.longest (b ++ bits_of result.count bits) (length b + result.count - 1)) }
+        ensures more { (b : List Bool) → After C.folded C.COST self.old b →
+            placed self.old.origin self.old.longest (b ++ bits_of result.count bits) ≡ placed self.old.origin self.old.longest b ++ option_to_list (event_shown self.new result.event) }
+        ensures after { (b : List Bool) → After C.folded C.COST self.old b → After C.folded C.COST self.new (b ++ bits_of result.count bits) }
         ensures longest { self.new.longest ≡ self.old.longest }
         ensures origin { self.new.origin ≡ self.old.origin }
-        ensures place { self.new.place ≡ self.old.place + 1 }
+        ensures place { self.new.place ≡ self.old.place + result.count }
     {
-        let decides = self.can_decide();
-        self.shift(bit);
-        self.settle();
-        if !decides {
-            return Event::Nothing;
+        let word = self.history | bits << 16;
+        let calm = calm_bits(word, count);
+        if calm == count {
+            self.shift(word, u64::from(count));
+            self.settle(word, u64::from(count));
+            return Advance {
+                count,
+                event: Event::Nothing,
+            };
         }
-        self.decide()
+        let taken = calm + 1;
+        self.shift(word, u64::from(taken));
+        self.settle(word, u64::from(taken));
+        Advance {
+            count: taken,
+            event: self.decide(),
+        }
     }
 
-    /// Says whether the next bit may decide a report: whether six 1 bits or fourteen, and no more,
-    /// are at the end.
+    /// Puts so many bits of the word behind the history.
     #[inline(always)]
-    pub(crate) fn can_decide(&self) -> bool
-        ensures { (b : List Bool) → After C.folded C.COST self.now b →
-            (IsTrue result ↔ ((ones_at_end b ≡ 6) ⊎ (ones_at_end b ≡ 14))) }
-    {
-        self.window & 0x3f == 0x3f && (self.window & 0x7f == 0x3f || self.window & 0x7fff == 0x3fff)
-    }
-
-    /// Puts a bit into the window.
-    #[inline(always)]
-    pub(crate) fn shift(&mut self, bit: bool)
-        requires { self.old.place < 2 ^ 60 }
-        ensures lags { (b : List Bool) → After C.folded C.COST self.old b → Lags C.folded C.COST self.new b bit }
+    fn shift(&mut self, word: u64, count: u64)
+        requires few { count ≤ 48 }
+        requires room { self.old.place + count ≤ 2 ^ 60 }
+        ensures lags { (b bits : List Bool) → IsWord word b bits → count ≤ length bits → After C.folded C.COST self.old b → LagsBy C.folded C.COST self.new b (take count bits) }
         ensures longest { self.new.longest ≡ self.old.longest }
         ensures origin { self.new.origin ≡ self.old.origin }
-        ensures place { self.new.place ≡ self.old.place + 1 }
-        ensures begun { self.new.origin < self.new.place }
-        ensures room { self.new.spent.assembled < self.new.spent.shifted }
+        ensures place { self.new.place ≡ self.old.place + count }
+        ensures begun { self.new.origin + count ≤ self.new.place }
+        ensures room { self.new.spent.assembled + count ≤ self.new.spent.shifted }
     {
-        self.place += 1;
-        self.window = self.window << 1 | u32::from(bit);
+        self.place += count;
+        self.history = word >> count & 0xffff;
     }
 
-    /// Settles the bit that eight later ones have followed: where a piece has begun and the bit is
-    /// no inserted 0 (ISO/IEC 13239, transparency), it is data.
+    /// Settles the bits that eight later ones have followed: where a piece has begun, those that are
+    /// no inserted 0 (ISO/IEC 13239, transparency) are data.
     #[inline(always)]
-    pub(crate) fn settle(&mut self)
-        requires room { self.old.spent.assembled < self.old.spent.shifted }
-        ensures tracks { (b : List Bool) (bit : Bool) → Lags C.folded C.COST self.old b bit →
-            Tracks C.folded C.COST self.new (b ++ bit ∷ []) (current b) }
+    fn settle(&mut self, word: u64, count: u64)
+        requires few { count ≤ 48 }
+        requires room { self.old.spent.assembled + count ≤ self.old.spent.shifted }
+        ensures tracks { (b bits : List Bool) → IsWord word b bits → count ≤ length bits → IsCalm b bits (count - 1) → LagsBy C.folded C.COST self.old b (take count bits) →
+            Tracks C.folded C.COST self.new (b ++ take count bits) (current b) }
         ensures longest { self.new.longest ≡ self.old.longest }
         ensures origin { self.new.origin ≡ self.old.origin }
         ensures place { self.new.place ≡ self.old.place }
     {
-        if self.place < self.settles_at {
+        if self.place <= self.settles_at {
             return;
         }
-        let late = self.window >> 8;
-        if late & 0x3f == 0x3e {
-            return;
-        }
-        self.spent.tick_assembled();
-        self.octet = self.octet / 2 + (late % 2) as u8 * 128;
-        self.gathered += 1;
-        if self.gathered % 8 != 0 {
-            return;
-        }
-        self.store();
-    }
-
-    /// Stores a full octet, as long as the frame buffer has room. The first octet of a piece
-    /// empties the buffer.
-    pub(crate) fn store(&mut self)
-        requires { self.old.spent.stored < self.old.spent.assembled }
-        ensures holds { (bits : List Bool) (x : Bool) → Fills C.folded self.old bits x →
-            Holds C.folded self.new (bits ++ x ∷ []) }
-        ensures spent { (bits : List Bool) (x : Bool) → Fills C.folded self.old bits x →
-            self.new.spent ≡ (if nat_le self.old.gathered (8 * (self.old.longest + 2))
-            then record self.old.spent {
-              stored = self.old.spent.stored + 1;
-              folded = self.old.spent.folded + C.COST;
-            } else self.old.spent) }
-        ensures assembled { self.new.spent.assembled ≡ self.old.spent.assembled }
-        ensures kept { self.new
-            ≡ record self.old { octets = self.new.octets; check = self.new.check; spent = self.new.spent } }
-    {
-        if self.gathered == 8 {
-            self.empty();
-            self.put();
-            return;
-        }
-        self.put();
-    }
-
-    /// Empties the frame buffer, and begins its check.
-    fn empty(&mut self)
-        ensures check { C.folded self.new.check [] }
-        ensures kept { self.new ≡ record self.old { octets = []; check = self.new.check } }
-    {
-        self.buffer.clear();
-        self.check = C::fresh();
-    }
-
-    /// Puts the last octet into the frame buffer and its check, as long as there is room.
-    fn put(&mut self)
-        requires { self.old.spent.stored < self.old.spent.assembled }
-        ensures octets { (os : List ℕ) → self.old.octets ≡ take (self.old.longest + 2) os →
-            self.new.octets ≡ take (self.old.longest + 2) (os ++ self.old.octet ∷ []) }
-        ensures check { (os : List ℕ) → self.old.octets ≡ take (self.old.longest + 2) os →
-            C.folded self.old.check (take (self.old.longest + 2) os) →
-            C.folded self.new.check (take (self.old.longest + 2) (os ++ self.old.octet ∷ [])) }
-        ensures spent { self.new.spent
-            ≡ (if nat_lt (length self.old.octets) (self.old.longest + 2)
-            then record self.old.spent {
-              stored = self.old.spent.stored + 1;
-              folded = self.old.spent.folded + C.COST;
-            } else self.old.spent) }
-        ensures kept { self.new
-            ≡ record self.old { octets = self.new.octets; check = self.new.check; spent = self.new.spent } }
-    {
-        if self.buffer.len() >= self.longest + 2 {
-            return;
-        }
-        self.buffer.push(self.octet);
-        self.check.fold(self.octet, &mut self.spent);
-        self.spent.tick_stored();
+        let late = min(self.place - self.settles_at, count);
+        self.append(late_data(word >> (count - late), late));
     }
 }

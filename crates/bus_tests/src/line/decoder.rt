@@ -1,11 +1,11 @@
-//! The decoder, fed bit by bit, with both frame checks.
+//! The decoder, by calls of several sizes, with both frame checks.
 
-use super::bits_of;
 use super::rows::{WORKED, row_of};
 use super::told::text_of;
+use super::{bits_of, word_of};
 use bus_bits::Spent;
 use bus_fcs::{BitCheck, Check, OctetCheck};
-use bus_line::LineDecoder;
+use bus_line::{LineDecoder, Piece};
 use std::alloc::Global;
 use std::process::Abort;
 
@@ -14,52 +14,62 @@ use std::process::Abort;
 struct Heard {
     /// The reports as one text, a comma and a space between each two.
     reports: String,
-    /// The places of the bits at whose push they came, likewise.
+    /// The places of the bits that decided them, likewise.
     places: String,
     /// The most octets that stood in the buffer after a bit.
     most: usize,
     spent: Spent,
 }
 
-/// Where `passes`, no bit is pushed that `pass` takes.
+impl Heard {
+    /// A report at the bit of this place.
+    fn add(&mut self, rt: &impl Abort, alloc: Global, place: u64, piece: &Piece) {
+        if !self.reports.is_empty() {
+            self.reports.push_str(", ").expect(rt, "memory");
+            self.places.push_str(", ").expect(rt, "memory");
+        }
+        let text = text_of(alloc, piece).expect(rt, "memory");
+        self.reports.push_str(&text).expect(rt, "memory");
+        write!(self.places, "{place}").expect(rt, "memory");
+    }
+}
+
+/// Takes the bits, up to `size` of them with each call.
 fn hear<C: Check>(
     rt: &impl Abort,
     alloc: Global,
     bits: &[bool],
     longest: usize,
     origin: u64,
-    passes: bool,
+    size: u32,
 ) -> Heard {
     let mut decoder = LineDecoder::<C>::new(longest, origin).expect(rt, "a decoder");
-    let mut reports = String::new(alloc);
-    let mut places = String::new(alloc);
-    let mut most = 0;
-    for bit in bits {
-        let place = decoder.place();
-        if !(passes && decoder.pass(*bit)) {
-            if let Some(piece) = decoder.push(*bit).expect(rt, "a place") {
-                if !reports.is_empty() {
-                    reports.push_str(", ").expect(rt, "memory");
-                    places.push_str(", ").expect(rt, "memory");
-                }
-                reports
-                    .push_str(&text_of(alloc, &piece).expect(rt, "memory"))
-                    .expect(rt, "memory");
-                write!(places, "{place}").expect(rt, "memory");
-            }
+    let mut heard = Heard {
+        reports: String::new(alloc),
+        places: String::new(alloc),
+        most: 0,
+        spent: decoder.spent(),
+    };
+    let mut rest = bits;
+    for _ in bits {
+        if rest.is_empty() {
+            break;
         }
-        most = most.max(decoder.buffered());
+        let place = decoder.place();
+        let (word, count) = word_of(rt, rest, size);
+        let taken = decoder.take(word, count).expect(rt, "a place");
+        let last = place.wrapping_add(u64::from(taken.count)).wrapping_sub(1);
+        rest = &rest[rest.len().min(taken.count as usize)..];
+        if let Some(piece) = taken.piece {
+            heard.add(rt, alloc, last, &piece);
+        }
+        heard.most = heard.most.max(decoder.buffered());
     }
-    let spent = decoder.spent();
-    Heard {
-        reports,
-        places,
-        most,
-        spent,
-    }
+    heard.spent = decoder.spent();
+    heard
 }
 
-/// The reports of a list, as both checks give them, with and without `pass`.
+/// The reports of a list, as both checks give them, by calls of several sizes.
 fn heard_alike(
     rt: &impl Abort,
     alloc: Global,
@@ -67,16 +77,21 @@ fn heard_alike(
     longest: usize,
     origin: u64,
 ) -> Heard {
-    let by_bits = hear::<BitCheck>(rt, alloc, bits, longest, origin, false);
-    let by_octets = hear::<OctetCheck>(rt, alloc, bits, longest, origin, false);
-    let passing = hear::<OctetCheck>(rt, alloc, bits, longest, origin, true);
-    assert_eq!(rt; by_bits.reports.as_str(), by_octets.reports.as_str());
-    assert_eq!(rt; by_bits.places.as_str(), by_octets.places.as_str());
-    assert_eq!(rt; by_octets.reports.as_str(), passing.reports.as_str());
-    assert_eq!(rt; by_octets.places.as_str(), passing.places.as_str());
-    assert_eq!(rt; by_octets.spent, passing.spent);
+    let by_bits = hear::<BitCheck>(rt, alloc, bits, longest, origin, 1);
+    let single = hear::<OctetCheck>(rt, alloc, bits, longest, origin, 1);
     let room = longest.saturating_add(2);
-    assert!(rt; by_bits.most <= room && by_octets.most <= room && passing.most <= room);
+    for size in [1, 7, 8, 48] {
+        let by_words = hear::<OctetCheck>(rt, alloc, bits, longest, origin, size);
+        assert_eq!(rt;
+            by_bits.reports.as_str(),
+            by_words.reports.as_str(),
+            "{size}"
+        );
+        assert_eq!(rt; by_bits.places.as_str(), by_words.places.as_str(), "{size}");
+        assert_eq!(rt; single.spent, by_words.spent, "{size}");
+        assert!(rt; by_words.most <= room, "{size}");
+    }
+    assert!(rt; by_bits.most <= room);
     by_bits
 }
 
@@ -206,13 +221,13 @@ fn steps_of([shifted, assembled, folded, stored]: [u64; 4]) -> Spent {
 fn steps(rt: HostRuntime) {
     for (case, bits, [shifted, assembled, by_bits, by_octets, stored]) in STEPS {
         let bits = bits_of(rt.alloc(), bits).expect(&rt, "memory");
-        let slow = hear::<BitCheck>(&rt, rt.alloc(), &bits, 3, 0, false);
+        let slow = hear::<BitCheck>(&rt, rt.alloc(), &bits, 3, 0, 1);
         assert_eq!(rt;
             slow.spent,
             steps_of([shifted, assembled, by_bits, stored]),
             "{case}"
         );
-        let fast = hear::<OctetCheck>(&rt, rt.alloc(), &bits, 3, 0, true);
+        let fast = hear::<OctetCheck>(&rt, rt.alloc(), &bits, 3, 0, 48);
         assert_eq!(rt;
             fast.spent,
             steps_of([shifted, assembled, by_octets, stored]),

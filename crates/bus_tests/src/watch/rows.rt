@@ -1,7 +1,7 @@
 //! Worked lists: what is seen, the end and the tally, however the bits are cut.
 
 use super::sinks::{Collector, run};
-use super::table::{Row, passed, pushed, row_of};
+use super::table::{Row, pushed, row_of, taken};
 use super::text::push_ending;
 use super::{CALLS, bits_of};
 use bus_dictionary::Dictionary;
@@ -71,15 +71,17 @@ const DAMAGE: &str = "\
     calls: flag 00001000 11000001 00000000 10100111 101111101 flag => 8 49 fcs\n\
     calls: flag 00001 => begun 8 13";
 
-/// The bits pushed one by one, and those that `pass` takes not pushed: both count the same steps.
+/// The bits pushed one by one, and taken by words: both count the same steps.
 fn check_bits<C: Check>(rt: &impl Abort, alloc: Global, row: &Row) {
     let mut analyser = row.analyser::<C>(rt, alloc);
     let text = pushed(rt, alloc, &mut analyser, &row.bits);
     assert_eq!(rt; text.as_str(), row.want);
-    let mut passing = row.analyser::<C>(rt, alloc);
-    let text = passed(rt, alloc, &mut passing, &row.bits);
-    assert_eq!(rt; text.as_str(), row.want);
-    assert_eq!(rt; passing.usage(), analyser.usage());
+    for size in [1, 5, 8, 48] {
+        let mut by_words = row.analyser::<C>(rt, alloc);
+        let text = taken(rt, alloc, &mut by_words, &row.bits, size);
+        assert_eq!(rt; text.as_str(), row.want, "{size}");
+        assert_eq!(rt; by_words.usage(), analyser.usage(), "{size}");
+    }
 }
 
 fn check_bits_of_each(rt: &impl Abort, alloc: Global, table: &str) {

@@ -2,6 +2,7 @@
 
 use super::text::{push_ending, push_seen};
 use super::{CALLS, STATES, WITHIN, bits_of};
+use crate::word::word_of;
 use bus_dictionary::Dictionary;
 use bus_fcs::Check;
 use bus_watch::Analyser;
@@ -66,19 +67,24 @@ pub(super) fn pushed<C: Check>(
     text
 }
 
-/// The same where only the bits are pushed that `pass` does not take.
-pub(super) fn passed<C: Check>(
+/// The same where up to `size` bits are taken with each call.
+pub(super) fn taken<C: Check>(
     rt: &impl Abort,
     alloc: Global,
     analyser: &mut Analyser<C>,
     bits: &[bool],
+    size: u32,
 ) -> String {
     let mut text = String::new(alloc);
-    for bit in bits {
-        if analyser.pass(*bit) {
-            continue;
+    let mut rest = bits;
+    for _ in bits {
+        if rest.is_empty() {
+            break;
         }
-        if let Some(seen) = analyser.push(*bit).expect(rt, "a place") {
+        let (word, count) = word_of(rt, rest, size);
+        let taken = analyser.take(word, count).expect(rt, "a place");
+        rest = &rest[rest.len().min(taken.count as usize)..];
+        if let Some(seen) = taken.seen {
             push_seen(&mut text, &seen).expect(rt, "text");
         }
     }

@@ -12,50 +12,38 @@ loop-bit-init g c = record {
   followed = λ start b h. subst (Watches g.C.Check.folded g.C.Check.COST start (g.W.Write.contents c.args.w.now) c.args.self.now) (sym (append-nil b)) h;
 }
 
-pub decide-requires : goal.decide-requires
-decide-requires g c = c.pass.ensures.sound
+pub take_bit-requires : goal.take_bit-requires
+take_bit-requires g c = c.loop-bit.invariant.sound
 
-pub returns-in_err-decide-clause-taken : goal.returns-in_err-decide-clause-taken
-returns-in_err-decide-clause-taken g c =
+pub returns-in_err-take_bit-clause-taken : goal.returns-in_err-take_bit-clause-taken
+returns-in_err-take_bit-clause-taken g c =
     let p = err_from_is_err_and c.from_residual.result c.from_residual.ensures.1 in
     rw (p.1, p.2) (λ start b h.
     let bits = c.args.bits.now in
     let i = c.loop-bit.bit-index in
     let front = b ++ take i bits in
-    let here = subst (λ x. Watches g.C.Check.folded g.C.Check.COST start (g.W.Write.contents c.loop-bit.w) x front) (sym (c.if-pass.ensures.kept refl)) (c.loop-bit.invariant.followed start b h) in
-    let halts = c.in_err-decide.ensures.taken start front here in
-    let more = halts-more g.C.Check.folded g.C.Check.COST start _ c.decide.new.self (front ++ get_or bits i false ∷ []) (drop (i + 1) bits) c.in_err-decide.field-0.0 halts in
-    subst (λ (x : List Bool). Halts g.C.Check.folded g.C.Check.COST start (g.W.Write.contents c.decide.new.w) c.decide.new.self x c.in_err-decide.field-0.0)
+    let here = c.loop-bit.invariant.followed start b h in
+    let halts = c.in_err-take_bit.ensures.taken start front here in
+    let more = halts-more g.C.Check.folded g.C.Check.COST start _ c.take_bit.new.self (front ++ get_or bits i false ∷ []) (drop (i + 1) bits) c.in_err-take_bit.field-0.0 halts in
+    subst (λ (x : List Bool). Halts g.C.Check.folded g.C.Check.COST start (g.W.Write.contents c.take_bit.new.w) c.take_bit.new.self x c.in_err-take_bit.field-0.0)
     (bit-middle b bits i (get_or bits i false) c.loop-bit-test.true refl) more)
 
-pub returns-in_err-decide-clause-same : goal.returns-in_err-decide-clause-same
-returns-in_err-decide-clause-same g c =
-    same-both c.args.self.now c.pass.new.self c.decide.new.self (same-both c.args.self.now c.loop-bit.self c.pass.new.self c.loop-bit.invariant.same c.pass.ensures.same) c.decide.ensures.same
-
-pub loop-bit-preserved-then-pass : goal.loop-bit-preserved-then-pass
-loop-bit-preserved-then-pass g c = record {
-  sound = c.pass.ensures.sound;
-  same = same-both c.args.self.now c.loop-bit.self c.pass.new.self c.loop-bit.invariant.same c.pass.ensures.same;
-  followed = λ start b h.
-      let bits = c.args.bits.now in
-      let i = c.loop-bit.bit-index in
-      subst (Watches g.C.Check.folded g.C.Check.COST start (g.W.Write.contents c.loop-bit.w) c.pass.new.self)
-      (bit-next b bits i (get_or bits i false) c.loop-bit-test.true refl)
-      (c.if-pass.ensures.passed refl start (g.W.Write.contents c.loop-bit.w) (b ++ take i bits) (c.loop-bit.invariant.followed start b h));
-}
+pub returns-in_err-take_bit-clause-same : goal.returns-in_err-take_bit-clause-same
+returns-in_err-take_bit-clause-same g c =
+    same-both c.args.self.now c.loop-bit.self c.take_bit.new.self c.loop-bit.invariant.same c.take_bit.ensures.same
 
 pub loop-bit-preserved : goal.loop-bit-preserved
 loop-bit-preserved g c = record {
-  sound = c.decide.ensures.sound;
-  same = same-both c.args.self.now c.pass.new.self c.decide.new.self (same-both c.args.self.now c.loop-bit.self c.pass.new.self c.loop-bit.invariant.same c.pass.ensures.same) c.decide.ensures.same;
+  sound = c.take_bit.ensures.sound;
+  same = same-both c.args.self.now c.loop-bit.self c.take_bit.new.self c.loop-bit.invariant.same c.take_bit.ensures.same;
   followed = λ start b h.
       let bits = c.args.bits.now in
       let i = c.loop-bit.bit-index in
       let front = b ++ take i bits in
-      let here = subst (λ x. Watches g.C.Check.folded g.C.Check.COST start (g.W.Write.contents c.loop-bit.w) x front) (sym (c.if-pass.ensures.kept refl)) (c.loop-bit.invariant.followed start b h) in
-      subst (Watches g.C.Check.folded g.C.Check.COST start (g.W.Write.contents c.decide.new.w) c.decide.new.self)
+      let here = c.loop-bit.invariant.followed start b h in
+      subst (Watches g.C.Check.folded g.C.Check.COST start (g.W.Write.contents c.take_bit.new.w) c.take_bit.new.self)
       (bit-next b bits i (get_or bits i false) c.loop-bit-test.true refl)
-      (c.in_ok-decide.ensures.taken start front here);
+      (c.in_ok-take_bit.ensures.taken start front here);
 }
 
 pub returns-clause-taken : goal.returns-clause-taken

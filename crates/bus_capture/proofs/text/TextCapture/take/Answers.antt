@@ -1,11 +1,11 @@
-use Rattle.std.proofs.Common.{◌+◌, ◌≡◌, ℕ, List, [], ◌∷◌, ◌++◌, length, take, get_or, refl, sym, ◌∙◌, subst, arith, append-nil, length-append}
+use Rattle.std.proofs.Common.{◌+◌, ◌≡◌, ℕ, List, [], ◌∷◌, ◌++◌, length, take, get_or, refl, sym, ◌∙◌, true, subst, arith, append-nil, length-append}
 use Rattle.std.proofs.lemmas.Result.{err_from_is_err_and}
 use Rattle.std.proofs.lemmas.List.{take_all}
 use Rattle.bus_bits.specs.Capture.{text_capture, capped}
-use Rattle.bus_capture.specs.Internal.Sessions.{FollowsOctets}
+use Rattle.bus_capture.specs.Internal.Sessions.{FollowsOctets, Stops}
 use Rattle.bus_capture.proofs.WatchingLemmas.{same-self, same-both}
 use Rattle.bus_capture.proofs.CapturesLemmas.{stops-more}
-use Rattle.bus_capture.proofs.SessionsTextLemmas.{octets-before, octet-next, octets-next, placed-grown, kept-marks}
+use Rattle.bus_capture.proofs.SessionsTextLemmas.{octets-before, octet-next, octets-next, placed-grown, front-grown, none-taken}
 use Rattle.bus_capture.proofs.text.TextCapture.take.Goals as goal
 
 pub loop-taken-init : goal.loop-taken-init
@@ -15,48 +15,50 @@ loop-taken-init g c = record {
   front = λ start xs t. subst (FollowsOctets g.C.Check.folded g.C.Check.COST start (g.W.Write.contents c.args.w.now) c.args.run.now) (sym (append-nil xs)) (record { clean = t.clean; bits = t.bits });
 }
 
-pub pass_eight-requires : goal.pass_eight-requires
-pass_eight-requires g c = c.loop-taken.invariant.sound
+pub take_many-requires : goal.take_many-requires
+take_many-requires g c = c.loop-taken.invariant.sound
 
-pub loop-taken-preserved-in-Some : goal.loop-taken-preserved-in-Some
-loop-taken-preserved-in-Some g c = record {
-  sound = c.pass_eight.ensures.sound;
-  same = same-both c.args.run.now c.loop-taken.run c.pass_eight.new.run c.loop-taken.invariant.same c.pass_eight.ensures.same;
+pub returns-in_err-many-clause-taken : goal.returns-in_err-many-clause-taken
+returns-in_err-many-clause-taken g c =
+    let p = err_from_is_err_and c.from_residual.result c.from_residual.ensures.1 in
+    rw (p.1, p.2) (λ start xs t.
+    let os = c.args.octets.now in
+    let i = c.loop-taken.taken in
+    let stops = c.in_err-many.ensures.taken start (xs ++ take i os) (c.loop-taken.invariant.front start xs t) in
+    let n = stops.0 in
+    let origin = c.take_many.new.run.analyser.decoder.origin in
+    stops-more g.C.Check.folded g.C.Check.COST start _ c.take_many.new.run (capped origin (text_capture (xs ++ take (i + n) os))) (capped origin (text_capture (xs ++ os))) c.in_err-many.field-0.0
+    (front-grown c.captures_grow.ensures.text c.captures_grow.ensures.capped origin xs os (i + n))
+    (subst (λ (ys : List ℕ). Stops g.C.Check.folded g.C.Check.COST true start (g.W.Write.contents c.take_many.new.w) c.take_many.new.run ys c.in_err-many.field-0.0) (octets-next xs os i n) stops.2))
+
+pub returns-in_err-many-clause-same : goal.returns-in_err-many-clause-same
+returns-in_err-many-clause-same g c = same-both c.args.run.now c.loop-taken.run c.take_many.new.run c.loop-taken.invariant.same c.take_many.ensures.same
+
+pub loop-taken-preserved-then-many-gt0 : goal.loop-taken-preserved-then-many-gt0
+loop-taken-preserved-then-many-gt0 g c = record {
+  sound = c.take_many.ensures.sound;
+  same = same-both c.args.run.now c.loop-taken.run c.take_many.new.run c.loop-taken.invariant.same c.take_many.ensures.same;
   front = λ start xs t.
       let os = c.args.octets.now in
       let i = c.loop-taken.taken in
-      subst (FollowsOctets g.C.Check.folded g.C.Check.COST start (g.W.Write.contents c.loop-taken.w) c.pass_eight.new.run)
-      (octets-next xs os i c.in-Some.passed)
-      (c.in-Some.ensures.passed c.in-Some.passed refl start (g.W.Write.contents c.loop-taken.w) (xs ++ take i os) (c.loop-taken.invariant.front start xs t));
+      subst (FollowsOctets g.C.Check.folded g.C.Check.COST start (g.W.Write.contents c.take_many.new.w) c.take_many.new.run)
+      (octets-next xs os i c.in_ok-many.many)
+      (c.in_ok-many.ensures.taken start (xs ++ take i os) (c.loop-taken.invariant.front start xs t));
 }
 
-pub pass_one-requires : goal.pass_one-requires
-pass_one-requires g c = c.pass_eight.ensures.sound
-
-pub loop-taken-preserved-then-pass_one : goal.loop-taken-preserved-then-pass_one
-loop-taken-preserved-then-pass_one g c = record {
-  sound = c.pass_one.ensures.sound;
-  same = same-both c.args.run.now c.pass_eight.new.run c.pass_one.new.run
-      (same-both c.args.run.now c.loop-taken.run c.pass_eight.new.run c.loop-taken.invariant.same c.pass_eight.ensures.same) c.pass_one.ensures.same;
-  front = λ start xs t.
-      let os = c.args.octets.now in
-      let i = c.loop-taken.taken in
-      subst (FollowsOctets g.C.Check.folded g.C.Check.COST start (g.W.Write.contents c.loop-taken.w) c.pass_one.new.run)
-      (octet-next xs os i (get_or os i 0) c.loop-taken-test.true refl)
-      (c.if-pass_one.ensures.passed refl start (g.W.Write.contents c.loop-taken.w) (xs ++ take i os)
-      (kept-marks g.C.Check.folded g.C.Check.COST start _ _ _ (xs ++ take i os) (c.in_default.ensures.kept refl) (c.loop-taken.invariant.front start xs t)));
-}
+pub take_one-requires : goal.take_one-requires
+take_one-requires g c = c.take_many.ensures.sound
 
 pub returns-in_err-take_one-clause-taken : goal.returns-in_err-take_one-clause-taken
 returns-in_err-take_one-clause-taken g c =
-    let p = err_from_is_err_and c.from_residual.result c.from_residual.ensures.1 in
+    let p = err_from_is_err_and c.from_residual-in_err-take_one.result c.from_residual-in_err-take_one.ensures.1 in
     rw (p.1, p.2) (λ start xs t.
     let os = c.args.octets.now in
     let i = c.loop-taken.taken in
     let x = get_or os i 0 in
     let front = xs ++ take i os in
     let at : c.args.self.now.at + i ≡ length front = omega (arith, t.at, octets-before xs os i c.loop-taken-test.true) in
-    let here = kept-marks g.C.Check.folded g.C.Check.COST start _ _ _ front (c.if-pass_one.ensures.kept refl ∙ c.in_default.ensures.kept refl) (c.loop-taken.invariant.front start xs t) in
+    let here = none-taken g.C.Check.folded g.C.Check.COST start _ _ front _ c.in_ok-many.many (omega (arith, c.if-many-gt0.false)) (c.in_ok-many.ensures.taken start front (c.loop-taken.invariant.front start xs t)) in
     let stops = c.in_err-take_one.ensures.taken start front at here in
     let origin = c.take_one.new.run.analyser.decoder.origin in
     stops-more g.C.Check.folded g.C.Check.COST start _ c.take_one.new.run (capped origin (text_capture (front ++ x ∷ []))) (capped origin (text_capture (xs ++ os))) c.in_err-take_one.field-0.0
@@ -64,27 +66,23 @@ returns-in_err-take_one-clause-taken g c =
 
 pub returns-in_err-take_one-clause-same : goal.returns-in_err-take_one-clause-same
 returns-in_err-take_one-clause-same g c =
-    same-both c.args.run.now c.pass_one.new.run c.take_one.new.run
-    (same-both c.args.run.now c.pass_eight.new.run c.pass_one.new.run
-    (same-both c.args.run.now c.loop-taken.run c.pass_eight.new.run c.loop-taken.invariant.same c.pass_eight.ensures.same) c.pass_one.ensures.same)
-    c.take_one.ensures.same
+    same-both c.args.run.now c.take_many.new.run c.take_one.new.run
+    (same-both c.args.run.now c.loop-taken.run c.take_many.new.run c.loop-taken.invariant.same c.take_many.ensures.same) c.take_one.ensures.same
 
 pub loop-taken-preserved : goal.loop-taken-preserved
 loop-taken-preserved g c = record {
   sound = c.take_one.ensures.sound;
-  same = same-both c.args.run.now c.pass_one.new.run c.take_one.new.run
-      (same-both c.args.run.now c.pass_eight.new.run c.pass_one.new.run
-      (same-both c.args.run.now c.loop-taken.run c.pass_eight.new.run c.loop-taken.invariant.same c.pass_eight.ensures.same) c.pass_one.ensures.same)
-      c.take_one.ensures.same;
+  same = same-both c.args.run.now c.take_many.new.run c.take_one.new.run
+      (same-both c.args.run.now c.loop-taken.run c.take_many.new.run c.loop-taken.invariant.same c.take_many.ensures.same) c.take_one.ensures.same;
   front = λ start xs t.
       let os = c.args.octets.now in
       let i = c.loop-taken.taken in
       let front = xs ++ take i os in
       let at : c.args.self.now.at + i ≡ length front = omega (arith, t.at, octets-before xs os i c.loop-taken-test.true) in
+      let here = none-taken g.C.Check.folded g.C.Check.COST start _ _ front _ c.in_ok-many.many (omega (arith, c.if-many-gt0.false)) (c.in_ok-many.ensures.taken start front (c.loop-taken.invariant.front start xs t)) in
       subst (FollowsOctets g.C.Check.folded g.C.Check.COST start (g.W.Write.contents c.take_one.new.w) c.take_one.new.run)
       (octet-next xs os i (get_or os i 0) c.loop-taken-test.true refl)
-      (c.in_ok-take_one.ensures.taken start front at
-      (kept-marks g.C.Check.folded g.C.Check.COST start _ _ _ front (c.if-pass_one.ensures.kept refl ∙ c.in_default.ensures.kept refl) (c.loop-taken.invariant.front start xs t)));
+      (c.in_ok-take_one.ensures.taken start front at here);
 }
 
 pub returns-clause-taken : goal.returns-clause-taken

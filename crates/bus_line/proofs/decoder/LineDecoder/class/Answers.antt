@@ -12,14 +12,14 @@ returns-then-self-eq31 g c = rw (← c.self.view_is) (λ b bit p h last some.
     let d : LineState g.row.C.Denot = line_state c.self.inside in
     let closed = is_closed _ _ d b bit p h last some in
     ap (λ (k : Kind). Some (record { kind = k; first = c.args.span.first; past = c.args.span.past }))
-    (sym (class-five _ d.longest _ _ closed (sym (and_mask (d.window / 256) 5) ∙ c.if-self-eq31.true))))
+    (sym (class-five _ d.longest _ _ closed (sym (and_mask (d.history / 8) 5) ∙ c.if-self-eq31.true))))
 
 pub returns-then-self : goal.returns-then-self
 returns-then-self g c = rw (← c.self.view_is) (λ b bit p h last some.
     let d : LineState g.row.C.Denot = line_state c.self.inside in
     let closed = is_closed _ _ d b bit p h last some in
     ap (λ (k : Kind). Some (record { kind = k; first = c.args.span.first; past = c.args.span.past }))
-    (sym (class-read _ d.longest _ _ closed (λ e. c.if-self-eq31.false (and_mask (d.window / 256) 5 ∙ e))
+    (sym (class-read _ d.longest _ _ closed (λ e. c.if-self-eq31.false (and_mask (d.history / 8) 5 ∙ e))
     ∙ data-over d.longest _ (omega (arith, closed.holds.count, c.if-self.true)))))
 
 pub returns-then-self-lt32 : goal.returns-then-self-lt32
@@ -27,7 +27,7 @@ returns-then-self-lt32 g c = rw (← c.self.view_is) (λ b bit p h last some.
     let d : LineState g.row.C.Denot = line_state c.self.inside in
     let closed = is_closed _ _ d b bit p h last some in
     ap (λ (k : Kind). Some (record { kind = k; first = c.args.span.first; past = c.args.span.past }))
-    (sym (class-read _ d.longest _ _ closed (λ e. c.if-self-eq31.false (and_mask (d.window / 256) 5 ∙ e))
+    (sym (class-read _ d.longest _ _ closed (λ e. c.if-self-eq31.false (and_mask (d.history / 8) 5 ∙ e))
     ∙ data-short d.longest _ (omega (arith, closed.holds.count, c.if-self.false)) (omega (arith, closed.holds.count, c.if-self-lt32.true)))))
 
 pub returns-then-self-ne0 : goal.returns-then-self-ne0
@@ -35,7 +35,7 @@ returns-then-self-ne0 g c = rw (← c.self.view_is) (λ b bit p h last some.
     let d : LineState g.row.C.Denot = line_state c.self.inside in
     let closed = is_closed _ _ d b bit p h last some in
     ap (λ (k : Kind). Some (record { kind = k; first = c.args.span.first; past = c.args.span.past }))
-    (sym (class-read _ d.longest _ _ closed (λ e. c.if-self-eq31.false (and_mask (d.window / 256) 5 ∙ e))
+    (sym (class-read _ d.longest _ _ closed (λ e. c.if-self-eq31.false (and_mask (d.history / 8) 5 ∙ e))
     ∙ data-unaligned d.longest _ (omega (arith, closed.holds.count, c.if-self.false)) (omega (arith, closed.holds.count, c.if-self-lt32.false))
     (λ e. c.if-self-ne0.true (omega (arith, closed.holds.count, e))))))
 
@@ -44,7 +44,7 @@ returns-then-not-is_good g c = rw (← c.self.view_is) (λ b bit p h last some.
     let d : LineState g.row.C.Denot = line_state c.self.inside in
     let closed = is_closed _ _ d b bit p h last some in
     ap (λ (k : Kind). Some (record { kind = k; first = c.args.span.first; past = c.args.span.past }))
-    (sym (class-read _ d.longest _ _ closed (λ e. c.if-self-eq31.false (and_mask (d.window / 256) 5 ∙ e))
+    (sym (class-read _ d.longest _ _ closed (λ e. c.if-self-eq31.false (and_mask (d.history / 8) 5 ∙ e))
     ∙ (class-checked _ d _ c.is_good.result closed.holds (omega (arith, closed.holds.count, c.if-self-lt32.false)) (omega (arith, closed.holds.count, c.if-self.false)) (omega (arith, closed.holds.count, c.if-self-ne0.false)) c.is_good.ensures
     ∙ ap (λ (t : Bool). if t then Frame d.octets else Damaged Fcs) c.if-not-is_good.true))))
 
@@ -53,6 +53,6 @@ returns g c = rw (← c.self.view_is) (λ b bit p h last some.
     let d : LineState g.row.C.Denot = line_state c.self.inside in
     let closed = is_closed _ _ d b bit p h last some in
     ap (λ (k : Kind). Some (record { kind = k; first = c.args.span.first; past = c.args.span.past }))
-    (sym (class-read _ d.longest _ _ closed (λ e. c.if-self-eq31.false (and_mask (d.window / 256) 5 ∙ e))
+    (sym (class-read _ d.longest _ _ closed (λ e. c.if-self-eq31.false (and_mask (d.history / 8) 5 ∙ e))
     ∙ (class-checked _ d _ c.is_good.result closed.holds (omega (arith, closed.holds.count, c.if-self-lt32.false)) (omega (arith, closed.holds.count, c.if-self.false)) (omega (arith, closed.holds.count, c.if-self-ne0.false)) c.is_good.ensures
     ∙ ap (λ (t : Bool). if t then Frame d.octets else Damaged Fcs) c.if-not-is_good.false))))

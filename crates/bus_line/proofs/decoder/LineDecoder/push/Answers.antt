@@ -1,58 +1,43 @@
-use Rattle.std.proofs.Common.{◌≡◌, ℕ, ◌<◌, ◌^◌, List, Some, None, length, refl, sym, ap, ◌∙◌, subst, arith}
-use Rattle.bus_line.specs.Report.{Frame}
+use Rattle.std.proofs.Common.{◌≡◌, ◌<◌, ◌+◌, ◌-◌, ◌^◌, ◌++◌, List, Bool, ℕ, length, [], ◌∷◌, refl, sym, ap, ◌∙◌, subst, arith}
+use Rattle.std.specs.Option.{option_map, option_to_list}
+use Rattle.bus_bits.specs.Octet.{bits_of}
+use Rattle.bus_line.specs.Due.{due_at, placed}
+use Rattle.bus_line.specs.Report.{moved}
 use Rattle.bus_line.specs.Internal.LineState.{LineState}
-use Rattle.bus_line.specs.After.{Pushed}
-use Rattle.bus_line.specs.declared.piece.Piece.TheVariants as piece
-use Rattle.bus_line.proofs.DueMoreLemmas.{placed-more}
+use Rattle.bus_line.specs.After.{After, FitsFrame}
+use Rattle.bus_bits.proofs.OctetLemmas.{one_bit}
 use Rattle.bus_line.proofs.decoder.LineDecoder.push.Goals as goal
 
-pub returns-in-Nothing : goal.returns-in-Nothing
-returns-in-Nothing g c =
-    let below : c.args.self.now.place < 2 ^ 60 = omega (arith, ap (λ (s : LineState g.row.C.Denot). s.place) c.self.view_is, c.if-self-ge-PLACES.false) in
-    let pushed : Pushed g.C.Check.folded g.C.Check.COST c.args.self.now c.args.bit (None) c.step-event.new.self =
-    record { after = c.step-event.ensures.after; longest = c.step-event.ensures.longest; origin = c.step-event.ensures.origin; place = c.step-event.ensures.place; held = tt } in
-    let back = subst (Pushed g.C.Check.folded g.C.Check.COST c.args.self.now c.args.bit (None)) (sym c.self-2.view_is) pushed in
-    ((refl, (λ d. tt), (back, tt)), record { limit = ((λ e. absurd (cc)), (λ h. absurd (omega (arith, below, h)))); answer = c.in-Nothing.ensures.answer; more = λ b h. placed-more _ _ b _ _ (c.in-Nothing.ensures.answer b h); fits = tt; rests = tt })
-
-pub returns-in-Frame : goal.returns-in-Frame
-returns-in-Frame g c =
-    let below : c.args.self.now.place < 2 ^ 60 = omega (arith, ap (λ (s : LineState g.row.C.Denot). s.place) c.self.view_is, c.if-self-ge-PLACES.false) in
-    let octets : c.as_slice.result.now ≡ c.step-event.new.self.octets = c.as_slice.ensures.value ∙ ap (λ (s : LineState g.row.C.Denot). s.octets) c.self-2.view_is in
-    let shows = ap (λ (os : List ℕ). Some (record { kind = Frame os; first = c.in-Frame.span.first; past = c.in-Frame.span.past })) octets in
-    let longest : c.self-2.inside.longest ≡ c.args.self.now.longest = ap (λ (s : LineState g.row.C.Denot). s.longest) c.self-2.view_is ∙ c.step-event.ensures.longest in
-    let pushed : Pushed g.C.Check.folded g.C.Check.COST c.args.self.now c.args.bit (Some (piece.Frame c.in-Frame.span c.as_slice.result)) c.step-event.new.self =
-    record { after = c.step-event.ensures.after; longest = c.step-event.ensures.longest; origin = c.step-event.ensures.origin; place = c.step-event.ensures.place; held = octets } in
-    let back = subst (Pushed g.C.Check.folded g.C.Check.COST c.args.self.now c.args.bit (Some (piece.Frame c.in-Frame.span c.as_slice.result))) (sym c.self-2.view_is) pushed in
-    ((refl, (λ d. tt), (back, tt)), record { limit = ((λ e. absurd (cc)), (λ h. absurd (omega (arith, below, h)))); answer = λ b h. shows ∙ c.in-Frame.ensures.answer b h; more = λ b h. placed-more _ _ b _ _ (shows ∙ c.in-Frame.ensures.answer b h); fits = (omega (arith, longest, c.self-2.invariant.room, ap length c.as_slice.ensures.value), omega (arith, longest, c.self-2.invariant.longest_fits)); rests = tt })
-
-pub returns-in-Damaged : goal.returns-in-Damaged
-returns-in-Damaged g c =
-    let below : c.args.self.now.place < 2 ^ 60 = omega (arith, ap (λ (s : LineState g.row.C.Denot). s.place) c.self.view_is, c.if-self-ge-PLACES.false) in
-    let pushed : Pushed g.C.Check.folded g.C.Check.COST c.args.self.now c.args.bit (Some (piece.Damaged c.in-Damaged.span c.in-Damaged.cause)) c.step-event.new.self =
-    record { after = c.step-event.ensures.after; longest = c.step-event.ensures.longest; origin = c.step-event.ensures.origin; place = c.step-event.ensures.place; held = tt } in
-    let back = subst (Pushed g.C.Check.folded g.C.Check.COST c.args.self.now c.args.bit (Some (piece.Damaged c.in-Damaged.span c.in-Damaged.cause))) (sym c.self-2.view_is) pushed in
-    ((refl, (λ d. tt), (back, tt)), record { limit = ((λ e. absurd (cc)), (λ h. absurd (omega (arith, below, h)))); answer = c.in-Damaged.ensures.answer; more = λ b h. placed-more _ _ b _ _ (c.in-Damaged.ensures.answer b h); fits = tt; rests = tt })
-
-pub returns-in-Overlong : goal.returns-in-Overlong
-returns-in-Overlong g c =
-    let below : c.args.self.now.place < 2 ^ 60 = omega (arith, ap (λ (s : LineState g.row.C.Denot). s.place) c.self.view_is, c.if-self-ge-PLACES.false) in
-    let pushed : Pushed g.C.Check.folded g.C.Check.COST c.args.self.now c.args.bit (Some (piece.Overlong c.in-Overlong.span)) c.step-event.new.self =
-    record { after = c.step-event.ensures.after; longest = c.step-event.ensures.longest; origin = c.step-event.ensures.origin; place = c.step-event.ensures.place; held = tt } in
-    let back = subst (Pushed g.C.Check.folded g.C.Check.COST c.args.self.now c.args.bit (Some (piece.Overlong c.in-Overlong.span))) (sym c.self-2.view_is) pushed in
-    ((refl, (λ d. tt), (back, tt)), record { limit = ((λ e. absurd (cc)), (λ h. absurd (omega (arith, below, h)))); answer = c.in-Overlong.ensures.answer; more = λ b h. placed-more _ _ b _ _ (c.in-Overlong.ensures.answer b h); fits = tt; rests = tt })
-
-pub returns-in-Abort : goal.returns-in-Abort
-returns-in-Abort g c =
-    let below : c.args.self.now.place < 2 ^ 60 = omega (arith, ap (λ (s : LineState g.row.C.Denot). s.place) c.self.view_is, c.if-self-ge-PLACES.false) in
-    let pushed : Pushed g.C.Check.folded g.C.Check.COST c.args.self.now c.args.bit (Some (piece.Abort c.in-Abort.span)) c.step-event.new.self =
-    record { after = c.step-event.ensures.after; longest = c.step-event.ensures.longest; origin = c.step-event.ensures.origin; place = c.step-event.ensures.place; held = tt } in
-    let back = subst (Pushed g.C.Check.folded g.C.Check.COST c.args.self.now c.args.bit (Some (piece.Abort c.in-Abort.span))) (sym c.self-2.view_is) pushed in
-    ((refl, (λ d. tt), (back, tt)), record { limit = ((λ e. absurd (cc)), (λ h. absurd (omega (arith, below, h)))); answer = c.in-Abort.ensures.answer; more = λ b h. placed-more _ _ b _ _ (c.in-Abort.ensures.answer b h); fits = tt; rests = tt })
-
-pub returns-in-Idle : goal.returns-in-Idle
-returns-in-Idle g c =
-    let below : c.args.self.now.place < 2 ^ 60 = omega (arith, ap (λ (s : LineState g.row.C.Denot). s.place) c.self.view_is, c.if-self-ge-PLACES.false) in
-    let pushed : Pushed g.C.Check.folded g.C.Check.COST c.args.self.now c.args.bit (Some (piece.Idle c.in-Idle.span)) c.step-event.new.self =
-    record { after = c.step-event.ensures.after; longest = c.step-event.ensures.longest; origin = c.step-event.ensures.origin; place = c.step-event.ensures.place; held = tt } in
-    let back = subst (Pushed g.C.Check.folded g.C.Check.COST c.args.self.now c.args.bit (Some (piece.Idle c.in-Idle.span))) (sym c.self-2.view_is) pushed in
-    ((refl, (λ d. tt), (back, tt)), record { limit = ((λ e. absurd (cc)), (λ h. absurd (omega (arith, below, h)))); answer = c.in-Idle.ensures.answer; more = λ b h. placed-more _ _ b _ _ (c.in-Idle.ensures.answer b h); fits = tt; rests = tt })
+pub returns : goal.returns
+returns g c =
+    let d = c.args.self.now in
+    let a = c.advance-advance in
+    let n = a.result.count in
+    let one : bits_of n c.from.result ≡ c.args.bit ∷ [] = one_bit c.from.result n c.args.bit c.from.ensures a.ensures.some a.ensures.within in
+    let single : n ≡ 1 = omega (arith, a.ensures.some, a.ensures.within) in
+    let below : d.place < 2 ^ 60 = omega (arith, ap (λ (s : LineState g.row.C.Denot). s.place) c.self.view_is, c.if-self-ge-PLACES.false) in (
+      (
+        refl,
+        (λ e. tt),
+        (
+          record {
+            after = λ b h. subst (λ (z : List Bool). After g.C.Check.folded g.C.Check.COST a.new.self (b ++ z)) one (a.ensures.after b h);
+            longest = a.ensures.longest;
+            origin = a.ensures.origin;
+            place = omega (arith, a.ensures.place, single);
+            held = c.lent.ensures.held;
+          },
+          tt,
+        ),
+      ),
+      record {
+        limit = ((λ e. absurd (cc)), (λ h. absurd (omega (arith, below, h))));
+        answer = λ b h.
+            let last : length b + n - 1 ≡ length b = omega (arith, single) in
+            c.lent.ensures.shows ∙ (a.ensures.answer b h ∙ ap (option_map (moved d.origin)) (ap (λ (z : List Bool). due_at d.longest (b ++ z) (length b + n - 1)) one ∙ ap (λ (j : ℕ). due_at d.longest (b ++ c.args.bit ∷ []) j) last));
+        more = λ b h.
+            ap (λ (z : List Bool). placed d.origin d.longest (b ++ z)) (sym one) ∙ (a.ensures.more b h ∙ ap (λ o. placed d.origin d.longest b ++ option_to_list o) (sym c.lent.ensures.shows));
+        fits = subst (λ k. FitsFrame k c.lent.result) a.ensures.longest c.lent.ensures.fits;
+        rests = tt;
+      },
+    )

@@ -1,33 +1,21 @@
-use Rattle.std.proofs.Common.{◌+◌, ◌-◌, ◌*◌, ◌/◌, ◌%◌, [], ◌∷◌, ◌++◌, refl, sym, ap, ◌∙◌}
-use Rattle.std.proofs.lemmas.Nat.{and_mask}
-use Rattle.bus_bits.specs.declared.spent.Spent.{Spent}
+use Rattle.std.proofs.Common.{◌≡◌, ℕ, ◌+◌, ◌-◌, Some, min, ◌∙◌, sym, ap, refl, arith}
 use Rattle.bus_line.specs.Internal.LineState.{LineState}
-use Rattle.bus_line.specs.Internal.LineView.{line_state}
-use Rattle.bus_line.proofs.StepLemmas.{tracks-unsettled, settles-open, tracks-inserted, is_data, tracks-unfilled, fills-data, tracks-filled, stands-same}
+use Rattle.bus_line.specs.Internal.LineView.{settles_from}
+use Rattle.bus_line.proofs.WordLemmas.{least}
+use Rattle.bus_line.proofs.StepLemmas.{settles-open}
+use Rattle.bus_line.proofs.SettleLemmas.{word-unsettled, word-settled}
 use Rattle.bus_line.proofs.decoder.LineDecoder.settle.Goals as goal
 
 pub returns-then-self-clause-tracks : goal.returns-then-self-clause-tracks
-returns-then-self-clause-tracks g c = rw (← c.self.view_is) (λ b bit h. tracks-unsettled _ _ _ c.self.inside.first _ b bit h refl c.self.invariant.settles c.if-self.true)
-
-pub returns-then-late-eq62-clause-tracks : goal.returns-then-late-eq62-clause-tracks
-returns-then-late-eq62-clause-tracks g c = rw (← c.self.view_is) (λ b bit h.
-    let o = settles-open _ _ c.self.inside.first c.self.invariant.settles c.self.invariant.place_fits c.if-self.false in
-    tracks-inserted _ _ o.0 _ b bit h o.1 o.2 (sym (and_mask (c.self.inside.window / 256) 6) ∙ c.if-late-eq62.true))
-
-pub returns-then-self-ne0-clause-tracks : goal.returns-then-self-ne0-clause-tracks
-returns-then-self-ne0-clause-tracks g c = rw (← c.self.view_is) (λ b bit h.
-    let o = settles-open _ _ c.self.inside.first c.self.invariant.settles c.self.invariant.place_fits c.if-self.false in
-    let i = is_data _ _ o.0 _ b bit h o.1 o.2 (λ e. c.if-late-eq62.false (and_mask (c.self.inside.window / 256) 6 ∙ e)) in
-    tracks-unfilled _ _ _ b bit _ _ h i refl (ap (λ (t : Spent). record t { shifted = c.self.inside.place - c.self.inside.origin }) c.tick_assembled.ensures) c.if-self-ne0.true)
+returns-then-self-clause-tracks g c = rw (← c.self.view_is) (λ b bits w l k h. word-unsettled _ _ _ c.args.word c.args.count c.self.inside.first _ b bits w l k h refl c.self.invariant.settles c.if-self.true)
 
 pub returns-clause-tracks : goal.returns-clause-tracks
-returns-clause-tracks g c = rw (← c.self.view_is) (λ b bit h.
+returns-clause-tracks g c = λ b bits w l k h.
+    let d = c.args.self.now in
     let o = settles-open _ _ c.self.inside.first c.self.invariant.settles c.self.invariant.place_fits c.if-self.false in
-    let i = is_data _ _ o.0 _ b bit h o.1 o.2 (λ e. c.if-late-eq62.false (and_mask (c.self.inside.window / 256) 6 ∙ e)) in
-    let d : LineState g.row.C.Denot = line_state c.self.inside in
-    let spent : Spent = record c.tick_assembled.new.self { shifted = d.place - d.origin } in
-    let m : LineState g.row.C.Denot = record d { gathered = d.gathered + 1; octet = d.octet / 2 + d.window / 256 % 2 * 128; spent = spent } in
-    let fills = fills-data _ _ d b bit _ spent h i refl c.if-self-ne0.false in
-    tracks-filled _ _ d m c.store.new.self b bit h i (ap (λ (t : Spent). record t { shifted = d.place - d.origin }) c.tick_assembled.ensures) refl refl c.if-self-ne0.false
-    (stands-same d m (b ++ bit ∷ []) refl refl refl h.has_taken) refl refl
-    c.store.ensures.kept (c.store.ensures.holds _ _ fills) (c.store.ensures.spent _ _ fills))
+    let first : c.args.self.now.first ≡ Some o.0 = ap (λ (s : LineState g.row.C.Denot). s.first) (sym c.self.view_is) ∙ o.1 in
+    let place : c.args.self.now.place ≡ c.self.inside.place = ap (λ (s : LineState g.row.C.Denot). s.place) (sym c.self.view_is) in
+    let at : c.self.inside.settles_at ≡ o.0 + 8 = c.self.invariant.settles ∙ ap settles_from o.1 in
+    let late : c.min-late.result ≡ min (d.place - (o.0 + 8)) c.args.count = c.min-late.ensures ∙ (least (c.self.inside.place - c.self.inside.settles_at) c.args.count ∙ omega (arith, place, at)) in
+    word-settled _ _ o.0 c.args.word c.args.count c.min-late.result c.late_data.result.count c.late_data.result.bits d c.append.new.self b bits w l k h first (omega (arith, place, o.2)) late
+    c.late_data.ensures.value c.append.ensures.holds c.append.ensures.spent c.append.ensures.kept

@@ -4,9 +4,9 @@ use Rattle.bus_line.proofs.decoder.late.squeezed.Given as goal
 
 abbrev pub invariant-loop-left : goal.invariant-loop-left
 invariant-loop-left l = record {
-  few : l.left.count ≤ 8;
+  few : l.left.count ≤ l.count;
   marked : l.left.marks < 2 ^ l.left.count;
-  done : kept l.left.bits l.left.marks l.left.count ≡ kept l.octet l.inserted 8;
+  done : kept l.left.bits l.left.marks l.left.count ≡ kept l.bits l.inserted l.count;
 }
 
 abbrev pub decreases-loop-left : goal.decreases-loop-left

@@ -1,0 +1,106 @@
+//! How many bits a decoder takes with one call.
+
+use super::bits_of;
+use bus_fcs::OctetCheck;
+use bus_line::LineDecoder;
+use std::alloc::Global;
+use std::process::Abort;
+
+/// 48 bits behind a list, and how many of them one call takes.
+#[derive(Drop)]
+struct Behind {
+    before: &'static str,
+    bits: u64,
+    taken: u32,
+}
+
+const BEHIND: [Behind; 8] = [
+    Behind {
+        before: "",
+        bits: 0x00,
+        taken: 48,
+    },
+    Behind {
+        before: "",
+        bits: 0x3f,
+        taken: 7,
+    },
+    Behind {
+        before: "",
+        bits: 0x7e,
+        taken: 8,
+    },
+    Behind {
+        before: "11111",
+        bits: 0x01,
+        taken: 2,
+    },
+    Behind {
+        before: "111111",
+        bits: 0x01,
+        taken: 1,
+    },
+    Behind {
+        before: "1111111",
+        bits: 0x00,
+        taken: 48,
+    },
+    Behind {
+        before: "1111111",
+        bits: 0x7f,
+        taken: 8,
+    },
+    Behind {
+        before: "01111110",
+        bits: 0x10,
+        taken: 48,
+    },
+];
+
+/// How many of these 48 bits a decoder takes with one call behind a list.
+fn taken_behind(rt: &impl Abort, alloc: Global, row: &Behind) -> u32 {
+    let mut decoder = LineDecoder::<OctetCheck>::new(3, 0).expect(rt, "a decoder");
+    for before in &bits_of(alloc, row.before).expect(rt, "memory") {
+        decoder.push(*before).expect(rt, "a place");
+    }
+    let place = decoder.place();
+    let taken = decoder.take(row.bits % (1 << 48), 48).expect(rt, "a place");
+    let count = taken.count;
+    assert_eq!(rt; decoder.place(), place.wrapping_add(u64::from(count)));
+    count
+}
+
+/// It stops behind the first bit before which just six ones are, or just fourteen.
+#[test]
+fn bits_at_once(rt: HostRuntime) {
+    for row in BEHIND {
+        let count = taken_behind(&rt, rt.alloc(), &row);
+        assert_eq!(rt; count, row.taken, "{} behind {}", row.bits, row.before);
+    }
+}
+
+/// No bit is taken where the last would have the place 2^60, and up to there any are.
+#[test]
+fn at_the_place_limit(rt: HostRuntime) {
+    let far = 1 << 60;
+    for count in 1..=48u32 {
+        for room in [0, 1, 7, 47, 48] {
+            let mut decoder = LineDecoder::<OctetCheck>::new(3, far - room).expect(
+                &rt,
+                "a decoder",
+            );
+            let refused = decoder.take(0, count).is_err();
+            assert_eq!(&rt;
+                refused,
+                u64::from(count) > room,
+                "{count} bits, {room} places"
+            );
+            let taken = if refused { 0 } else { u64::from(count) };
+            assert_eq!(&rt;
+                decoder.place(),
+                far - room + taken,
+                "{count} bits, {room} places"
+            );
+        }
+    }
+}
