@@ -1,9 +1,17 @@
-/* Writes a capture of polling traffic: commands to stations, answers, idle lines, and damage.
+/* Writes a capture of one kind of traffic.
  *
- *     generate BITS SEED DAMAGE text|packed
+ *     generate BITS SEED KIND text|packed [LINE]
  *
- * BITS is the number of bits, DAMAGE how many frames in 10000 have one bit flipped. The same words
- * give the same capture. */
+ * BITS is the number of bits, LINE how many a line of text has, 80 unless given. The kinds:
+ *
+ *     polling    commands to stations, answers, idle lines; one frame in twenty has one bit flipped
+ *     random     random bits
+ *     ones       a line that is idle all the time
+ *     flags      flags, one behind the other
+ *     long       frames of 250 to 256 octets
+ *     stuffed    frames of 255s, which have the most inserted 0s
+ *
+ * The same words give the same capture. */
 #include <stdint.h>
 #include <stdio.h>
 #include <stdlib.h>
@@ -11,7 +19,7 @@
 
 static uint64_t state, left;
 static int packed, fill, held;
-static unsigned line;
+static unsigned marks, line = 80;
 
 static uint32_t draw(uint32_t below) {
     state ^= state << 13;
@@ -26,7 +34,7 @@ static void put_bit(int bit) {
     left--;
     if (!packed) {
         putchar('0' + bit);
-        if (++line % 80 == 0)
+        if (++marks % line == 0)
             putchar('\n');
         return;
     }
@@ -71,40 +79,85 @@ static void put_frame(uint8_t *octets, size_t count, int flipped) {
     put_flag();
 }
 
+static void put_random(void) {
+    uint32_t bits = draw(1 << 16);
+    for (int i = 0; i < 16; i++)
+        put_bit(bits >> i & 1);
+}
+
+static void put_ones(uint32_t count) {
+    while (count-- > 0)
+        put_bit(1);
+}
+
+/* A frame of so many octets, each 255 but where `most` says otherwise, and its flag. */
+static void put_long(size_t count, uint32_t most) {
+    uint8_t octets[258];
+    for (size_t i = 0; i < count; i++)
+        octets[i] = most ? (uint8_t)draw(most) : 0xff;
+    put_frame(octets, count, -1);
+}
+
+/* A command and its answer, and at times an idle line. */
+static void put_poll(void) {
+    uint8_t octets[64];
+    uint8_t station = (uint8_t)(16 + draw(16));
+    uint8_t type = (uint8_t)draw(8);
+    for (int answer = 0; answer < 2; answer++) {
+        size_t count = 3 + draw(answer ? 30 : 10);
+        octets[0] = station;
+        octets[1] = 0x83;
+        octets[2] = (uint8_t)(type + 128 * answer);
+        for (size_t i = 3; i < count; i++)
+            octets[i] = draw(4) ? (uint8_t)draw(256) : 0xff;
+        put_frame(octets, count, draw(10000) < 500 ? (int)draw((uint32_t)count * 8) : -1);
+    }
+    if (draw(64) == 0) {
+        put_ones(15 + draw(40));
+        put_flag();
+    }
+}
+
+/* Some traffic of a kind; 0 where there is no such kind. */
+static int put_some(const char *kind) {
+    if (strcmp(kind, "polling") == 0)
+        put_poll();
+    else if (strcmp(kind, "random") == 0)
+        put_random();
+    else if (strcmp(kind, "ones") == 0)
+        put_ones(64);
+    else if (strcmp(kind, "flags") == 0)
+        put_flag();
+    else if (strcmp(kind, "long") == 0)
+        put_long(248 + draw(7), 256);
+    else if (strcmp(kind, "stuffed") == 0)
+        put_long(64, 0);
+    else
+        return 0;
+    return 1;
+}
+
 int main(int argc, char **argv) {
-    if (argc != 5) {
-        fputs("generate BITS SEED DAMAGE text|packed\n", stderr);
+    if (argc != 5 && argc != 6) {
+        fputs("generate BITS SEED KIND text|packed [LINE]\n", stderr);
         return 2;
     }
     left = strtoull(argv[1], NULL, 10);
     state = strtoull(argv[2], NULL, 10) * 2654435761u + 88172645463325252u;
-    uint32_t damage = (uint32_t)strtoul(argv[3], NULL, 10);
     packed = strcmp(argv[4], "packed") == 0;
+    if (argc == 6)
+        line = (unsigned)strtoul(argv[5], NULL, 10);
     if (packed) {
         fputs("TS2BITS1", stdout);
         for (int i = 0; i < 8; i++)
             putchar((int)(left >> 8 * i & 0xff));
     }
     put_flag();
-    while (left > 0) {
-        uint8_t octets[64];
-        uint8_t station = (uint8_t)(16 + draw(16));
-        uint8_t type = (uint8_t)draw(8);
-        for (int answer = 0; answer < 2; answer++) {
-            size_t count = 3 + draw(answer ? 30 : 10);
-            octets[0] = station;
-            octets[1] = 0x83;
-            octets[2] = (uint8_t)(type + 128 * answer);
-            for (size_t i = 3; i < count; i++)
-                octets[i] = draw(4) ? (uint8_t)draw(256) : 0xff;
-            put_frame(octets, count, draw(10000) < damage ? (int)draw((uint32_t)count * 8) : -1);
+    while (left > 0)
+        if (!put_some(argv[3])) {
+            fputs("generate: no such kind\n", stderr);
+            return 2;
         }
-        if (draw(64) == 0) {
-            for (uint32_t i = 15 + draw(40); i > 0; i--)
-                put_bit(1);
-            put_flag();
-        }
-    }
     if (packed && fill > 0)
         putchar(held);
     return 0;
