@@ -8,6 +8,7 @@ from .case import Case, Counted, fault
 from .checks import MISSING_AND_SPOILT_REPORT, report
 from .lists import MISSING_AND_SPOILT, MISSING_AND_SPOILT_LINES, ONE_CALL_LINES
 from .shows import STATE, STATE_TEXT
+from .words import HELP
 
 BY_CALLS = ["list", "--bits", "--dict", CALLS]
 
@@ -96,18 +97,26 @@ def with_room(whole: Case, room: int, piece: Optional[int] = None) -> Counted:
 
 
 def failing_writes() -> Iterator[Counted]:
-    """Standard output takes fewer octets than there are: what fits went out."""
+    """Standard output takes fewer octets than there are: what fits went out. It makes no difference
+    whether the next write fails or takes nothing."""
     for whole in [*WHOLE, SHOW]:
         for room in range(len(whole.stdout)):
-            yield with_room(whole, room)
+            for takes_none in [False, True]:
+                yield replace(with_room(whole, room), takes_none=takes_none)
 
 
 def lines_in_time() -> Iterator[Counted]:
-    """A line goes out before the next read: where it can't, no further read comes."""
-    for room in range(len(CALL_LINE)):
-        case = named(LIST, f"bit by bit, with room for {room} octets")
-        case = replace(case, stdout=CALL_LINE[:room], stderr=fault("write failed"), status=2)
-        yield Counted(case, piece=1, room=room, reads=57)
+    """A line goes out before the next read: where it can't, no further read comes. The call is decided
+    by the 57th octet, and its reply by the 106th."""
+    for piece in [1, 60]:
+        for room in range(len(ANSWERED_LINES)):
+            decided = 57 if room < len(CALL_LINE) else 106
+            row = with_room(LIST, room, piece)
+            yield replace(
+                row,
+                case=named(row.case, f"by reads of {piece}"),
+                reads=-(-decided // piece),
+            )
 
 
 # All calls of some runs.
@@ -117,7 +126,35 @@ IN_ORDER = [
         Case("a line and its end", ["list", "--bits"], text(IDLE), "0 15 idle\n"),
         calls=["read 15", "write 10", "read 0"],
     ),
+    Counted(
+        Case("a flag to list", BY_CALLS, text(FLAG)),
+        calls=["read 8", "read 0"],
+    ),
+    Counted(
+        Case("an open piece", BY_CALLS, text(FLAG) + b"0", "8 9 open\n"),
+        calls=["read 9", "read 0", "write 9"],
+    ),
+    Counted(
+        Case(
+            "two lines of the end",
+            BY_CALLS,
+            ANSWERED[:57] + b"0",
+            f"{CALL_LINE}57 58 open\n8 49 pending station 16 type 0\n",
+        ),
+        calls=["read 58", f"write {len(CALL_LINE)}", "read 0", "write 42"],
+    ),
     Counted(LIST, calls=["read 106", f"write {len(ANSWERED_LINES)}", "read 0"]),
+    Counted(
+        named(LIST, "by two reads"),
+        piece=57,
+        calls=[
+            "read 57",
+            f"write {len(CALL_LINE)}",
+            "read 49",
+            f"write {len(ANSWERED_LINES) - len(CALL_LINE)}",
+            "read 0",
+        ],
+    ),
     Counted(
         Case(
             "a fault behind a line",
@@ -131,6 +168,28 @@ IN_ORDER = [
     ),
     Counted(
         Case(
+            "a fault behind a line, by the next read",
+            ["list", "--bits"],
+            stdin=text(IDLE, "2"),
+            stdout="0 15 idle\n",
+            stderr=fault("capture: octet 15 is no bit"),
+            status=2,
+        ),
+        piece=15,
+        calls=["read 15", "write 10", "read 1"],
+    ),
+    Counted(
+        Case(
+            "a fault alone to list",
+            ["list", "--bits"],
+            stdin=b"2",
+            stderr=fault("capture: octet 0 is no bit"),
+            status=2,
+        ),
+        calls=["read 1"],
+    ),
+    Counted(
+        Case(
             "a fault alone",
             ["check", "--bits"],
             stdin=b"2",
@@ -139,10 +198,62 @@ IN_ORDER = [
         ),
         calls=["read 1"],
     ),
+    Counted(
+        Case(
+            "a check that ends by a fault",
+            ["check", "--bits"],
+            stdin=text(IDLE, "2"),
+            stderr=fault("capture: octet 15 is no bit"),
+            status=2,
+        ),
+        piece=15,
+        calls=["read 15", "read 1"],
+    ),
+    Counted(
+        Case("nothing to check", ["check", "--bits"], stdout=report()),
+        calls=["read 0", f"write {len(report())}"],
+    ),
     Counted(CHECK, calls=["read 138", "read 0", f"write {len(MISSING_AND_SPOILT_REPORT)}"]),
+    Counted(
+        named(CHECK, "by two reads"),
+        piece=100,
+        calls=["read 100", "read 38", "read 0", f"write {len(MISSING_AND_SPOILT_REPORT)}"],
+    ),
+    Counted(Case("nothing to encode", ["encode"]), calls=["read 0"]),
+    Counted(Case("an empty line to encode", ["encode"], b"\n"), calls=["read 1", "read 0"]),
+    Counted(
+        Case("a bad line", ["encode"], b"x\n", stderr=fault("line 1: bad line"), status=2),
+        calls=["read 2"],
+    ),
     Counted(
         Case("two lines to encode", ["encode"], b"flag\nidle\n", "01111110\n111111111111111\n"),
         calls=["read 10", "write 9", "write 16", "read 0"],
+    ),
+    Counted(
+        Case(
+            "two lines to encode, by two reads",
+            ["encode"],
+            b"flag\nidle\n",
+            "01111110\n111111111111111\n",
+        ),
+        piece=7,
+        calls=["read 7", "write 9", "read 3", "write 16", "read 0"],
+    ),
+    Counted(
+        Case("a line that the end of input ends", ["encode"], b"flag", "01111110\n"),
+        calls=["read 4", "read 0", "write 9"],
+    ),
+    Counted(
+        Case(
+            "a bad line behind a good one",
+            ["encode"],
+            b"flag\nx\n",
+            "01111110\n",
+            stderr=fault("line 2: bad line"),
+            status=2,
+        ),
+        piece=5,
+        calls=["read 5", "write 9", "read 2"],
     ),
 ]
 
@@ -191,6 +302,11 @@ def few_writes() -> Iterator[Counted]:
         case = named(LONG_LISTING, f"by reads of {piece}")
         yield Counted(case, piece=piece, reads=reads, most_writes=reads + pages)
     yield Counted(LONG_REPORT, most_writes=len(LONG_REPORT.stdout) // FULL_PAGE + 1)
+    thousand = Case("a thousand flags", ["encode"], b"flag\n\n" * 1000, "01111110\n" * 1000)
+    yield Counted(thousand, piece=6, reads=1001, most_writes=1000)
+    yield Counted(SHOW, reads=0, most_writes=STATE_TEXT.count("\n"))
+    help_text = (HELP / "port1.txt").read_text(encoding="ascii")
+    yield Counted(Case("help", ["--help"], stdout=help_text), calls=[f"write {len(help_text)}"])
 
 
 def failing_pages() -> Iterator[Counted]:

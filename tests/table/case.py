@@ -53,13 +53,14 @@ class Counted:
     """A run whose reads of standard input and writes to standard output are counted.
 
     Each bound may be left out: the most octets of a read, the read that fails, counted from 1, and the
-    octets that standard output takes before writes fail.
+    octets that standard output takes before writes fail, or take nothing.
     """
 
     case: Case
     piece: Optional[int] = None
     failing_read: Optional[int] = None
     room: Optional[int] = None
+    takes_none: bool = False
     # How many reads there are to be, the last of which finds the end.
     reads: Optional[int] = None
     most_writes: Optional[int] = None

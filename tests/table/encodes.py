@@ -56,6 +56,33 @@ ENCODES = [
         stdin=b"\r\nflag\r\n\nidle\r",
         stdout=line(FLAG) + line(IDLE),
     ),
+    *[
+        Case(
+            name=f"a flag, its line written {octets!r}",
+            words=ENCODE,
+            stdin=octets,
+            stdout=line(FLAG),
+        )
+        for octets in [b"flag", b"flag\r", b"flag\r\n", b"\n\nflag\n\n"]
+    ],
+    *[
+        Case(
+            name=f"a bad line: {octets!r}",
+            words=ENCODE,
+            stdin=octets,
+            stdout=before,
+            stderr=fault(f"line {number}: bad line"),
+            status=2,
+        )
+        for octets, before, number in [
+            (b"flag\r\r\n", "", 1),
+            (b"flag\n\nFLAG\n", line(FLAG), 3),
+            (b"flag\nframe\nidle", line(FLAG), 2),
+            (b"idle\nframe ", line(IDLE), 2),
+            (b"frame 108\n", "", 1),
+            (b"frame 1g\n", "", 1),
+        ]
+    ],
     Case(
         name="the shortest frame",
         words=ENCODE,
