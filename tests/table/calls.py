@@ -344,6 +344,58 @@ def many_spaces() -> Iterator[Counted]:
         yield Counted(case, piece=piece)
 
 
+def bad_marks() -> Iterator[Counted]:
+    """The place of a bad octet counts the octets of all reads."""
+    for command in ["list", "check"]:
+        case = Case(
+            f"a bad octet to {command}",
+            [command, "--bits"],
+            stdin=b"01111110 2",
+            stderr=fault("capture: octet 9 is no bit"),
+            status=2,
+        )
+        for piece in [1, 4, 9, 10]:
+            yield Counted(named(case, f"by reads of {piece}"), piece=piece)
+
+
+def long_lines() -> Iterator[Counted]:
+    """Lines of no good form behind a good one: such a line is refused at the latest by its end."""
+    for count in [600, 601, 602]:
+        for end in [b"", b"\n", b"\r", b"\r\n"]:
+            case = Case(
+                f"a line of {count} octets that is none, ended by {end!r}",
+                ["encode"],
+                stdin=b"flag\n" + b"x" * count + end,
+                stdout="01111110\n",
+                stderr=fault("line 2: bad line"),
+                status=2,
+            )
+            for piece in [1, None]:
+                yield Counted(case, piece=piece)
+
+
+def judged_early() -> Iterator[Counted]:
+    """With 600 octets, or a CR behind them, a good end may still come; with one octet more, or with one
+    behind that CR, none can, and no further read comes."""
+    for count, end, is_judged in [
+        (600, b"", False),
+        (600, b"\r", False),
+        (601, b"", True),
+        (600, b"\r\r", True),
+        (600, b"\rx", True),
+        (601, b"\r", True),
+    ]:
+        stdin = b"x" * count + end
+        case = Case(
+            f"a line of {count} octets and {end!r}, and a read that fails",
+            ["encode"],
+            stdin=stdin,
+            stderr=fault("line 1: bad line" if is_judged else "read failed"),
+            status=2,
+        )
+        yield Counted(case, piece=1, failing_read=len(stdin) + 1)
+
+
 COUNTED = [
     *any_cut(),
     *failing_reads(),
@@ -354,6 +406,9 @@ COUNTED = [
     *failing_pages(),
     *cut_short(),
     *many_spaces(),
+    *bad_marks(),
+    *long_lines(),
+    *judged_early(),
     Counted(
         Case("missing and spoilt", BY_CALLS, MISSING_AND_SPOILT, MISSING_AND_SPOILT_LINES),
         piece=7,

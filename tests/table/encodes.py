@@ -153,6 +153,25 @@ ENCODES = [
         stderr=fault("line 1: bad line"),
         status=2,
     ),
+    # Two digits for each octet: 297 octets give a line of 600, which any line may have.
+    *[
+        Case(
+            name=f"a frame of {octets} octets, its line ended by {end!r}",
+            words=ENCODE,
+            stdin=b"frame " + b"ff" * octets + end,
+            stdout="" if why else line(FLAG, sent(b"\xff" * octets), FLAG),
+            stderr=fault(f"line 1: {why}") if why else "",
+            status=2 if why else 0,
+        )
+        for octets, why in [
+            (2, ""),
+            (256, ""),
+            (257, "frame is not 2 to 256 octets"),
+            (297, "frame is not 2 to 256 octets"),
+            (298, "bad line"),
+        ]
+        for end in [b"", b"\n", b"\r\n"]
+    ],
     Case(
         name="a line of 600 octets",
         words=ENCODE,

@@ -110,6 +110,9 @@ SHOWS = [
     refused("no digits", "", "bad hex"),
     refused("a letter that is no digit", "108300fdeg", "bad hex"),
     refused("spaces between digits", "10 83 00 fd e5", "bad hex"),
+    refused("a letter behind many digits", "10" * 1000 + "1G", "bad hex"),
+    refused("one octet", "10", "frame is not 4 to 258 octets"),
+    refused("a thousand octets", "10" * 1000, "frame is not 4 to 258 octets"),
     refused("three octets", "108345", "frame is not 4 to 258 octets"),
     refused("259 octets", TOO_LONG.hex(), "frame is not 4 to 258 octets"),
     refused(
