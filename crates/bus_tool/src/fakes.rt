@@ -1,7 +1,7 @@
 //! Readers and writers that fail where a test wants it.
 
 use arrayvec::ArrayVec;
-use std::cell::RefCell;
+use std::alloc::Global;
 use std::io;
 use std::io::{ErrorKind, Read, Write};
 
@@ -48,25 +48,32 @@ impl Read for Repeated<'_> {
     }
 }
 
-/// Takes `room` octets in all, and then fails, or takes none.
+/// Takes `room` octets in all, and then fails.
 #[derive(Drop)]
 pub struct Narrow {
     pub out: Vec<u8>,
     pub room: usize,
-    pub takes_none: bool,
     pub fails_flush: bool,
     pub flushes: u64,
+}
+
+impl Narrow {
+    /// Took nothing yet.
+    pub fn new(alloc: Global, room: usize, fails_flush: bool) -> Self {
+        Narrow {
+            out: Vec::new(alloc),
+            room,
+            fails_flush,
+            flushes: 0,
+        }
+    }
 }
 
 impl Write for Narrow {
     fn write(&mut self, buf: &[u8]) -> io::Result<usize> {
         let most = self.room.min(buf.len());
         if most == 0 {
-            return if self.takes_none {
-                Ok(0)
-            } else {
-                Err(io::Error::from(ErrorKind::Other))
-            };
+            return Err(io::Error::from(ErrorKind::Other));
         }
         self.out.extend_from_slice(&buf[..most])?;
         self.room -= most;
@@ -148,68 +155,5 @@ impl Write for Counted {
     fn flush(&mut self) -> io::Result<()> {
         self.flushes = self.flushes.saturating_add(1);
         Ok(())
-    }
-}
-
-/// A call of a reader or of a writer.
-#[derive(Clone, Copy, Debug, Default, PartialEq, Eq)]
-pub enum Event {
-    /// The reader gave so many octets.
-    Gave(usize),
-    /// The writer took so many octets.
-    Took(usize),
-    /// The writer was flushed.
-    #[default]
-    Flushed,
-}
-
-/// The calls of a reader and of a writer, in order.
-pub type Log = RefCell<ArrayVec<Event, 32>>;
-
-/// Notes a call, and fails where there is no room.
-fn note(log: &Log, event: Event) -> io::Result<()> {
-    let Ok(mut events) = log.try_borrow_mut() else {
-        return Err(io::Error::from(ErrorKind::Other));
-    };
-    match events.try_push(event) {
-        Ok(()) => Ok(()),
-        Err(_) => Err(io::Error::from(ErrorKind::Other)),
-    }
-}
-
-/// Gives one part each call, as far as it is asked for, and notes it.
-#[derive(Drop)]
-pub struct NotedParts<'a> {
-    pub parts: &'a [&'a str],
-    pub log: &'a Log,
-}
-
-impl Read for NotedParts<'_> {
-    fn read(&mut self, buf: &mut [u8]) -> io::Result<usize> {
-        let mut count = 0;
-        if !self.parts.is_empty() {
-            let mut part = self.parts[0].as_bytes();
-            count = part.read(buf)?;
-            self.parts = &self.parts[1..];
-        }
-        note(self.log, Event::Gave(count))?;
-        Ok(count)
-    }
-}
-
-/// Takes everything, and notes it.
-#[derive(Drop)]
-pub struct Noted<'a> {
-    pub log: &'a Log,
-}
-
-impl Write for Noted<'_> {
-    fn write(&mut self, buf: &[u8]) -> io::Result<usize> {
-        note(self.log, Event::Took(buf.len()))?;
-        Ok(buf.len())
-    }
-
-    fn flush(&mut self) -> io::Result<()> {
-        note(self.log, Event::Flushed)
     }
 }

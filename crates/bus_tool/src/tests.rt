@@ -2,7 +2,6 @@
 
 mod encodes;
 mod listings;
-mod packed;
 mod program;
 mod rows;
 mod shows;

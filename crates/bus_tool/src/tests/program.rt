@@ -46,6 +46,7 @@ fn stored_runs(rt: HostRuntime) {
     see(&rt, rt.alloc(), &["check", "--bits"], b"1 2", (2, "", told));
 }
 
+/// A write that fails is not followed by a flush, and a text that was written by just one.
 #[test]
 fn writers_fail(rt: HostRuntime) {
     let cases: [(&[&str], &[u8]); 6] = [
@@ -58,18 +59,13 @@ fn writers_fail(rt: HostRuntime) {
     ];
     for (words, input) in cases {
         for (room, fails_flush) in [(5, false), (10000, true)] {
-            let mut writer = Narrow {
-                out: Vec::new(rt.alloc()),
-                room,
-                takes_none: false,
-                fails_flush,
-                flushes: 0,
-            };
+            let mut writer = Narrow::new(rt.alloc(), room, fails_flush);
             let mut reader = input;
             let mut err = Vec::new(rt.alloc());
             let got = run(rt.alloc(), words, &mut reader, &mut writer, &mut err);
             assert_eq!(rt; got, 2, "{words:?}");
             assert_eq!(rt; err.as_slice(), "port1: write failed\n".as_bytes());
+            assert_eq!(rt; writer.flushes, u64::from(fails_flush), "{words:?}");
         }
     }
 }
@@ -83,13 +79,7 @@ fn deaf_faults(rt: HostRuntime) {
         (&["list", "--kind", "nonsense"], ""),
     ];
     for (words, text) in cases {
-        let mut deaf = Narrow {
-            out: Vec::new(rt.alloc()),
-            room: 0,
-            takes_none: false,
-            fails_flush: true,
-            flushes: 0,
-        };
+        let mut deaf = Narrow::new(rt.alloc(), 0, true);
         let mut reader: &[u8] = b"01111110 00001000110000010000000010111110110100111 01111110 x";
         let mut out = Vec::new(rt.alloc());
         let got = run(rt.alloc(), words, &mut reader, &mut out, &mut deaf);

@@ -64,22 +64,6 @@ last 8 49 108300fde5
 last 57 98 108380f561
 ";
 
-pub const MISSING_AND_SPOILT_REPORT: &str = "\
-frames 2
-damaged 1
-overlong 0
-aborts 0
-idles 0
-strays 0
-answered 0
-missing 1
-spoilt 1
-late 0
-station 16 answered 0 missing 1 spoilt 1 late 0
-last 8 49 108300fde5
-last 57 98 108300fde5
-";
-
 /// A dictionary whose longest frame has three octets.
 pub const CALLS: &str = r#"version = 1
 [[frame]]
@@ -155,14 +139,6 @@ pub fn of_text(dictionary: Option<&str>) -> Options<'_> {
         ftype: None,
         kind: None,
         reads: 1000000,
-    }
-}
-
-/// The same of a packed capture, by the first dictionary.
-pub fn of_packed() -> Options<'static> {
-    Options {
-        text: false,
-        ..of_text(Some(CALLS))
     }
 }
 
