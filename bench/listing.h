@@ -97,3 +97,27 @@ static void take(int bit) {
         ones = 0;
     }
 }
+
+/* The bit of an octet of a text, if it has one; 0 where it is neither a bit nor a space. */
+static int take_mark(uint8_t mark) {
+    if (mark == '0' || mark == '1')
+        take(mark == '1');
+    else if (mark != ' ' && mark != '\t' && mark != '\r' && mark != '\n')
+        return 0;
+    return 1;
+}
+
+/* Reads the head of a packed capture, and how many bits it counts; 0 where it is no good head. */
+static int read_head(uint64_t *left) {
+    uint8_t head[16];
+    if (fread(head, 1, 16, stdin) != 16 || memcmp(head, "TS2BITS1", 8) != 0)
+        return 0;
+    for (int i = 7; i >= 0; i--)
+        *left = *left << 8 | head[8 + i];
+    return 1;
+}
+
+static void say_open(void) {
+    if (open && place > first)
+        say(place, "open");
+}

@@ -77,10 +77,7 @@ static int take_text(const uint8_t *marks, size_t got) {
             i += 8;
             continue;
         }
-        uint8_t mark = marks[i++];
-        if (mark == '0' || mark == '1')
-            take(mark == '1');
-        else if (mark != ' ' && mark != '\t' && mark != '\r' && mark != '\n')
+        if (!take_mark(marks[i++]))
             return 2;
     }
     return 0;
@@ -93,13 +90,8 @@ int main(int argc, char **argv) {
     size_t got;
     make_table();
     make_steps();
-    if (packed) {
-        uint8_t head[16];
-        if (fread(head, 1, 16, stdin) != 16 || memcmp(head, "TS2BITS1", 8) != 0)
-            return 2;
-        for (int i = 7; i >= 0; i--)
-            left = left << 8 | head[8 + i];
-    }
+    if (packed && !read_head(&left))
+        return 2;
     while ((got = fread(buffer, 1, sizeof buffer, stdin)) > 0) {
         if (!packed && take_text(buffer, got) != 0)
             return 2;
@@ -113,7 +105,6 @@ int main(int argc, char **argv) {
                 take(buffer[i] >> j & 1);
         }
     }
-    if (open && place > first)
-        printf("%llu %llu open\n", (unsigned long long)first, (unsigned long long)place);
+    say_open();
     return 0;
 }

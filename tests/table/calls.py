@@ -119,6 +119,20 @@ def lines_in_time() -> Iterator[Counted]:
             )
 
 
+def bad_octet(name: str, command: str, place: int, stdout: str = "") -> Case:
+    """As many ones as `place` says, and an octet that is no bit."""
+    return Case(
+        name,
+        [command, "--bits"],
+        stdin=b"1" * place + b"2",
+        stdout=stdout,
+        stderr=fault(f"capture: octet {place} is no bit"),
+        status=2,
+    )
+
+
+IDLE_LINE = "0 15 idle\n"
+
 # All calls of some runs.
 IN_ORDER = [
     Counted(Case("nothing to list", BY_CALLS), calls=["read 0"]),
@@ -156,56 +170,24 @@ IN_ORDER = [
         ],
     ),
     Counted(
-        Case(
-            "a fault behind a line",
-            ["list", "--bits"],
-            stdin=text(IDLE, "2"),
-            stdout="0 15 idle\n",
-            stderr=fault("capture: octet 15 is no bit"),
-            status=2,
-        ),
+        bad_octet("a fault behind a line", "list", 15, IDLE_LINE),
         calls=["read 16", "write 10"],
     ),
     Counted(
-        Case(
-            "a fault behind a line, by the next read",
-            ["list", "--bits"],
-            stdin=text(IDLE, "2"),
-            stdout="0 15 idle\n",
-            stderr=fault("capture: octet 15 is no bit"),
-            status=2,
-        ),
+        bad_octet("a fault behind a line, by the next read", "list", 15, IDLE_LINE),
         piece=15,
         calls=["read 15", "write 10", "read 1"],
     ),
     Counted(
-        Case(
-            "a fault alone to list",
-            ["list", "--bits"],
-            stdin=b"2",
-            stderr=fault("capture: octet 0 is no bit"),
-            status=2,
-        ),
+        bad_octet("a fault alone to list", "list", 0),
         calls=["read 1"],
     ),
     Counted(
-        Case(
-            "a fault alone",
-            ["check", "--bits"],
-            stdin=b"2",
-            stderr=fault("capture: octet 0 is no bit"),
-            status=2,
-        ),
+        bad_octet("a fault alone", "check", 0),
         calls=["read 1"],
     ),
     Counted(
-        Case(
-            "a check that ends by a fault",
-            ["check", "--bits"],
-            stdin=text(IDLE, "2"),
-            stderr=fault("capture: octet 15 is no bit"),
-            status=2,
-        ),
+        bad_octet("a check that ends by a fault", "check", 15),
         piece=15,
         calls=["read 15", "read 1"],
     ),
