@@ -11,9 +11,7 @@ use Rattle.bus_line.specs.Internal.Look.{IsFound}
 use Rattle.bus_line.specs.declared.decoder.look.Found.{Found}
 use Rattle.bus_line.specs.declared.decoder.look.Found.TheVariants.{Closing, Seven, Fifteen, Other}
 use Rattle.bus_line.specs.Internal.LineState.{LineState}
-use Rattle.bus_line.specs.Internal.Tracks.{settled_data, padded, HasTaken, Tracks, event_shown}
-use Rattle.bus_line.specs.declared.decoder.event.Event.{Event}
-use Rattle.bus_line.specs.declared.decoder.event.Event.TheVariants as event
+use Rattle.bus_line.specs.Internal.Tracks.{settled_data, padded, HasTaken, Tracks}
 use Rattle.bus_line.proofs.StepStreamLemmas.{Decides}
 use Rattle.bus_line.proofs.DueStreamLemmas.{at-flag, at-abort, at-idle, at-other}
 use Rattle.bus_line.proofs.StepLemmas.{data-start}
@@ -72,23 +70,6 @@ tracks-abort folded cost d c mark a h = record {
   piece = tt;
   counts = record { settled = h.counts.settled; filled = h.counts.filled; paid = h.counts.paid; copied = h.counts.copied; handled = h.counts.handled };
 }
-
--- an event reads the octets alone
-pub event-flag : {C : Type 0} (d : LineState C) (first : Option ℕ) (gathered rest : ℕ) (e : Event) → event_shown (record d { first = first; gathered = gathered; rest = rest }) e ≡ event_shown d e
-event-flag d first gathered rest event.Nothing = refl
-event-flag d first gathered rest (event.Frame span) = refl
-event-flag d first gathered rest (event.Damaged span cause) = refl
-event-flag d first gathered rest (event.Overlong span) = refl
-event-flag d first gathered rest (event.Abort span) = refl
-event-flag d first gathered rest (event.Idle span) = refl
-
-pub event-abort : {C : Type 0} (d : LineState C) (first : Option ℕ) (e : Event) → event_shown (record d { first = first }) e ≡ event_shown d e
-event-abort d first event.Nothing = refl
-event-abort d first (event.Frame span) = refl
-event-abort d first (event.Damaged span cause) = refl
-event-abort d first (event.Overlong span) = refl
-event-abort d first (event.Abort span) = refl
-event-abort d first (event.Idle span) = refl
 
 -- no run is longer than the list
 run-within : (k : ℕ) (b : List Bool) → ones_after k b ≤ k + length b

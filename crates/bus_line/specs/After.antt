@@ -28,14 +28,13 @@ pub record Pushed {C : Type 0} (folded : C → List ℕ → Type 0) (cost : ℕ)
   pub place : new.place ≡ old.place + 1
   pub held : ShowsHeld new answer
 
--- these bits lead from old to new, with this answer at the last of them
+-- these bits lead from old to new
 pub record Led {C : Type 0} (folded : C → List ℕ → Type 0) (cost : ℕ) (old : LineState C) (bits : List Bool)
-    (answer : Option Piece) (new : LineState C) : Type 0 where
+    (new : LineState C) : Type 0 where
   pub after : (b : List Bool) → After folded cost old b → After folded cost new (b ++ bits)
   pub longest : new.longest ≡ old.longest
   pub origin : new.origin ≡ old.origin
   pub place : new.place ≡ old.place + length bits
-  pub held : ShowsHeld new answer
 
 -- a frame has no more octets than the longest and its check
 abbrev pub FitsFrame : ℕ → Option Piece → Type 0

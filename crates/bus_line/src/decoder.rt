@@ -2,7 +2,6 @@
 
 mod append;
 mod decide;
-mod event;
 mod late;
 mod look;
 mod marked;
@@ -17,6 +16,7 @@ ghost use Rattle.bus_line.specs.Due.{due_at, begun, placed};
 ghost use Rattle.bus_line.specs.Ledger.{stored_from, IsLedger};
 ghost use Rattle.bus_bits.specs.Octet.{bits_of};
 
+use crate::event::Event;
 use crate::line_fault::LineFault;
 use crate::piece::Piece;
 use crate::place_limit::PlaceLimit;
@@ -24,7 +24,6 @@ use crate::taken::Taken;
 use arrayvec::ArrayVec;
 use bus_bits::Spent;
 use bus_fcs::Check;
-use event::Event;
 use std::marker::Model;
 
 /// The first place that no bit can have.
@@ -79,9 +78,8 @@ impl<C: Check> Model for LineDecoder<C> {
 impl<C: Check> LineDecoder<C> {
     ghost use Rattle.bus_line.specs.contracts.decoder.LineDecoder.{the_row};
     ghost use Rattle.bus_line.specs.Internal.LineState.{LineState};
-    ghost use Rattle.bus_line.specs.Internal.Tracks.{event_shown};
     ghost use Rattle.bus_line.specs.After.{After, Pushed, Led, ShowsHeld, FitsFrame};
-    ghost use Rattle.bus_line.specs.Shown.{shown};
+    ghost use Rattle.bus_line.specs.Shown.{shown, reported};
     ghost use Rattle.bus_line.specs.Report.{moved};
 
     /// A decoder that took no bit, whose first bit has the place `origin`.
@@ -117,37 +115,32 @@ impl<C: Check> LineDecoder<C> {
 
     /// Takes up to `count` bits, the first lowest: all of them, or those up to the first that may decide
     /// a report. Returns how many it took, and the report that the last of these decides, if there is
-    /// one. A frame's octets are borrowed from the decoder.
+    /// one. The octets of a frame are then those of [`LineDecoder::octets`].
     ///
     /// Refuses as [`PlaceLimit`], with nothing changed, where one of the `count` bits would have the
     /// place 2^60 or a later one.
     #[inline(always)]
-    pub fn take(&mut self, bits: u64, count: u32) -> Result<Taken<'_>, PlaceLimit>
+    pub fn take(&mut self, bits: u64, count: u32) -> Result<Taken, PlaceLimit>
         requires some { 1 ≤ count }
         requires few { count ≤ 48 }
         requires small { bits < 2 ^ count }
         ensures limit { IsErr result ↔ (2 ^ 60 < self.old.place + count) }
         ensures within { IfOk result (λ t. (1 ≤ t.count) × (t.count ≤ count)) }
         ensures answer { IfOk result (λ t. (b : List Bool) → After C.folded C.COST self.old b →
-            shown t.piece
+            option_map (reported self.new.octets) t.event
             ≡ option_map (moved self.old.origin)
             (due_at self.old.longest (b ++ bits_of t.count bits) (length b + t.count - 1))) }
         ensures more { IfOk result (λ t. (b : List Bool) → After C.folded C.COST self.old b →
             placed self.old.origin self.old.longest (b ++ bits_of t.count bits)
-            ≡ placed self.old.origin self.old.longest b ++ option_to_list (shown t.piece)) }
-        ensures fits { IfOk result (λ t. FitsFrame self.old.longest t.piece) }
-        ensures* rests { sem 𝓛 (Rests (the_row C.row C.Check) self.entry (λ new.
-            IfOk result (λ t. Led C.folded C.COST self.old (bits_of t.count bits) t.piece new)
-            × OnErr result (new ≡ self.old))) }
+            ≡ placed self.old.origin self.old.longest b
+            ++ option_to_list (option_map (reported self.new.octets) t.event)) }
+        ensures leads { IfOk result (λ t. Led C.folded C.COST self.old (bits_of t.count bits) self.new) }
+        ensures unchanged { OnErr result (self.new ≡ self.old) }
     {
         if self.place > PLACES - u64::from(count) {
             return Err(PlaceLimit);
         }
-        let advance = self.advance(bits, count);
-        Ok(Taken {
-            count: advance.count,
-            piece: self.lent(advance.event),
-        })
+        Ok(self.advance(bits, count))
     }
 
     /// Takes a bit, and returns the report that it decides, if there is one. A frame's octets are
@@ -168,27 +161,20 @@ impl<C: Check> LineDecoder<C> {
         if self.place >= PLACES {
             return Err(PlaceLimit);
         }
-        let advance = self.advance(u64::from(bit), 1);
-        Ok(self.lent(advance.event))
+        let taken = self.advance(u64::from(bit), 1);
+        Ok(self.lent(taken.event))
     }
 
-    /// The piece of an event. A frame's octets are borrowed from the buffer.
+    /// The report of an event, if there is one. A frame's octets are borrowed from the buffer.
     #[inline(always)]
-    fn lent(&self, event: Event) -> Option<Piece<'_>>
-        ensures shows { shown result ≡ event_shown self.now event }
+    fn lent(&self, event: Option<Event>) -> Option<Piece<'_>>
+        ensures shows { shown result ≡ option_map (reported self.now.octets) event }
         ensures held { ShowsHeld self.now result }
         ensures fits { FitsFrame self.now.longest result }
     {
         match event {
-            Event::Nothing => None,
-            Event::Frame(span) => Some(Piece::Frame {
-                span,
-                octets: self.buffer.as_slice(),
-            }),
-            Event::Damaged(span, cause) => Some(Piece::Damaged { span, cause }),
-            Event::Overlong(span) => Some(Piece::Overlong { span }),
-            Event::Abort(span) => Some(Piece::Abort { span }),
-            Event::Idle(span) => Some(Piece::Idle { span }),
+            Some(event) => Some(event.with_octets(self.buffer.as_slice())),
+            None => None,
         }
     }
 

@@ -2,12 +2,9 @@
 use Rattle.std.specs.Prelude.{◌≡◌, ℕ, ◌+◌, ◌-◌, ◌*◌, ◌/◌, ◌≤◌, Bool, false, List, ◌++◌, length, take, drop, replicate, slice_range, Option, Some, None}
 use Rattle.bus_bits.specs.Octet.{number, octets}
 use Rattle.bus_line.specs.Internal.Run.{data_so_far}
-use Rattle.bus_line.specs.Report.{Report, Kind}
 use Rattle.bus_line.specs.Due.{Mark, NoMark, FlagAt, AbortAt}
 use Rattle.bus_line.specs.Ledger.{assembled, stored}
 use Rattle.bus_line.specs.Internal.LineState.{LineState}
-use Rattle.bus_line.specs.declared.decoder.event.Event.{Event}
-use Rattle.bus_line.specs.declared.decoder.event.Event.TheVariants as event
 
 -- where the piece of the last mark begins, if that is a flag
 abbrev pub first_of : ℕ → Mark → Option ℕ
@@ -54,12 +51,3 @@ pub record Tracks {C : Type 0} (folded : C → List ℕ → Type 0) (cost : ℕ)
   pub first : d.first ≡ first_of d.origin mark
   pub piece : HoldsFor folded d b mark
   pub counts : Counts cost d b
-
--- what an event reports, where the buffer is still as it was
-abbrev pub event_shown : {C : Type 0} → LineState C → Event → Option Report
-event_shown d event.Nothing = None
-event_shown d (event.Frame span) = Some (record { kind = Kind.Frame d.octets; first = span.first; past = span.past })
-event_shown d (event.Damaged span cause) = Some (record { kind = Kind.Damaged cause; first = span.first; past = span.past })
-event_shown d (event.Overlong span) = Some (record { kind = Kind.Overlong; first = span.first; past = span.past })
-event_shown d (event.Abort span) = Some (record { kind = Kind.Abort; first = span.first; past = span.past })
-event_shown d (event.Idle span) = Some (record { kind = Kind.Idle; first = span.first; past = span.past })

@@ -6,24 +6,25 @@ ghost use Rattle.bus_line.specs.Due.{Mark, FlagAt, current, due_at, class_of, pi
 ghost use Rattle.bus_line.specs.Report.{Abort};
 
 use crate::cause::Cause;
-use crate::decoder::event::Event;
 use crate::decoder::look::{Found, look};
 use crate::decoder::{LineDecoder, NEVER};
+use crate::event::{Event, EventKind};
 use bus_bits::Span;
 use bus_fcs::Check;
 
 impl<C: Check> LineDecoder<C> {
     ghost use Rattle.bus_line.specs.After.{After};
-    ghost use Rattle.bus_line.specs.Internal.Tracks.{Tracks, event_shown};
+    ghost use Rattle.bus_line.specs.Internal.Tracks.{Tracks};
+    ghost use Rattle.bus_line.specs.Shown.{kind_with, reported};
     ghost use Rattle.bus_line.specs.Report.{moved};
 
     /// Finds whether the newest bit ends a flag, or is the seventh or the fifteenth one of a run, and
     /// returns what that decides.
     #[inline(never)]
-    pub(crate) fn decide(&mut self) -> Event
+    pub(crate) fn decide(&mut self) -> Option<Event>
         requires { self.old.origin < self.old.place }
         ensures answer { (b : List Bool) (bit : Bool) → Tracks C.folded C.COST self.old (b ++ bit ∷ []) (current b) →
-            event_shown self.new result
+            option_map (reported self.new.octets) result
             ≡ option_map (moved self.old.origin) (due_at self.old.longest (b ++ bit ∷ []) (length b)) }
         ensures after { (b : List Bool) (bit : Bool) → Tracks C.folded C.COST self.old (b ++ bit ∷ []) (current b) →
             After C.folded C.COST self.new (b ++ bit ∷ []) }
@@ -48,69 +49,73 @@ impl<C: Check> LineDecoder<C> {
                 self.settles_at = NEVER;
                 event
             }
-            Found::Fifteen => Event::Idle(Span {
-                first: place.saturating_sub(15),
-                past: place,
+            Found::Fifteen => Some(Event {
+                kind: EventKind::Idle,
+                span: Span {
+                    first: place.saturating_sub(15),
+                    past: place,
+                },
             }),
-            Found::Other => Event::Nothing,
+            Found::Other => None,
         }
     }
 
     /// The piece that a flag at `past` closes, if it is not empty.
-    fn closed(&self, past: u64) -> Event
+    fn closed(&self, past: u64) -> Option<Event>
         ensures { (b : List Bool) (bit : Bool) → Tracks C.folded C.COST self.now (b ++ bit ∷ []) (current b) →
             7 ≤ length b → past ≡ self.now.origin + (length b - 7) →
-            event_shown self.now result
+            option_map (reported self.now.octets) result
             ≡ option_map (moved self.now.origin)
             (piece_report (λ p. class_of self.now.longest (slice_range (b ++ bit ∷ []) (p + 8) (length b - 7)))
             (current b) (length b - 7)) }
     {
         match self.first {
-            Some(first) if first < past => self.class(Span { first, past }),
-            _ => Event::Nothing,
+            Some(first) if first < past => Some(Event {
+                kind: self.class(),
+                span: Span { first, past },
+            }),
+            _ => None,
         }
     }
 
     /// The piece that an abort mark at `past` ends, if it is not empty.
-    fn aborted(&self, past: u64) -> Event
+    fn aborted(&self, past: u64) -> Option<Event>
         ensures { (b : List Bool) (bit : Bool) → Tracks C.folded C.COST self.now (b ++ bit ∷ []) (current b) →
             past ≡ self.now.origin + (length b - 6) →
-            event_shown self.now result
+            option_map (reported self.now.octets) result
             ≡ option_map (moved self.now.origin) (piece_report (λ p. Abort) (current b) (length b - 6)) }
     {
         match self.first {
-            Some(first) if first < past => Event::Abort(Span { first, past }),
-            _ => Event::Nothing,
+            Some(first) if first < past => Some(Event {
+                kind: EventKind::Abort,
+                span: Span { first, past },
+            }),
+            _ => None,
         }
     }
 
-    /// What a piece between two flags is, the first that fits.
-    fn class(&self, span: Span) -> Event
+    /// What the piece between the last flag and the one that the newest bit ends is, the first that fits.
+    fn class(&self) -> EventKind
         ensures { (b : List Bool) (bit : Bool) (p : ℕ) →
             Tracks C.folded C.COST self.now (b ++ bit ∷ []) (current b) → current b ≡ FlagAt p → p + 15 < length b →
-            event_shown self.now result
-            ≡ Some (record {
-              kind = class_of self.now.longest
-                  (slice_range (b ++ bit ∷ []) (p + 8) (length b - 7));
-              first = span.first;
-              past = span.past;
-            }) }
+            kind_with self.now.octets result
+            ≡ class_of self.now.longest (slice_range (b ++ bit ∷ []) (p + 8) (length b - 7)) }
     {
         if (self.history >> 3) & 0x1f == 0x1f {
-            return Event::Damaged(span, Cause::Unstuffed);
+            return EventKind::Damaged(Cause::Unstuffed);
         }
         if self.gathered > 8 * (self.longest as u64 + 2) {
-            return Event::Overlong(span);
+            return EventKind::Overlong;
         }
         if self.gathered < 32 {
-            return Event::Damaged(span, Cause::Short);
+            return EventKind::Damaged(Cause::Short);
         }
         if self.gathered % 8 != 0 {
-            return Event::Damaged(span, Cause::Unaligned);
+            return EventKind::Damaged(Cause::Unaligned);
         }
         if !self.check.is_good() {
-            return Event::Damaged(span, Cause::Fcs);
+            return EventKind::Damaged(Cause::Fcs);
         }
-        Event::Frame(span)
+        EventKind::Frame
     }
 }

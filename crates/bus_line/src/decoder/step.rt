@@ -6,21 +6,15 @@ ghost use Rattle.bus_bits.specs.Octet.{bits_of};
 ghost use Rattle.bus_line.specs.Due.{current, due_at, placed};
 
 use crate::decoder::LineDecoder;
-use crate::decoder::event::Event;
 use crate::decoder::late::late_data;
 use crate::decoder::stop::calm_bits;
+use crate::taken::Taken;
 use bus_fcs::Check;
 use std::cmp::min;
 
-/// How many bits were taken, and what the last of them decided.
-#[derive(Clone, Copy)]
-pub(crate) struct Advance {
-    pub(crate) count: u32,
-    pub(crate) event: Event,
-}
-
 impl<C: Check> LineDecoder<C> {
-    ghost use Rattle.bus_line.specs.Internal.Tracks.{Tracks, event_shown};
+    ghost use Rattle.bus_line.specs.Internal.Tracks.{Tracks};
+    ghost use Rattle.bus_line.specs.Shown.{reported};
     ghost use Rattle.bus_line.specs.After.{After};
     ghost use Rattle.bus_line.specs.Internal.Late.{IsWord, IsCalm, LagsBy};
     ghost use Rattle.bus_line.specs.Report.{moved};
@@ -28,7 +22,7 @@ impl<C: Check> LineDecoder<C> {
     /// Takes the bits up to the first that may decide a report, or all of them, and answers what the
     /// last of them decides.
     #[inline(always)]
-    pub(crate) fn advance(&mut self, bits: u64, count: u32) -> Advance
+    pub(crate) fn advance(&mut self, bits: u64, count: u32) -> Taken
         requires some { 1 ≤ count }
         requires few { count ≤ 48 }
         requires small { bits < 2 ^ count }
@@ -36,9 +30,9 @@ impl<C: Check> LineDecoder<C> {
         ensures some { 1 ≤ result.count }
         ensures within { result.count ≤ count }
         ensures answer { (b : List Bool) → After C.folded C.COST self.old b →
-            event_shown self.new result.event ≡ option_map (moved self.old.origin) (due_at self.old.longest (b ++ bits_of result.count bits) (length b + result.count - 1)) }
+            option_map (reported self.new.octets) result.event ≡ option_map (moved self.old.origin) (due_at self.old.longest (b ++ bits_of result.count bits) (length b + result.count - 1)) }
         ensures more { (b : List Bool) → After C.folded C.COST self.old b →
-            placed self.old.origin self.old.longest (b ++ bits_of result.count bits) ≡ placed self.old.origin self.old.longest b ++ option_to_list (event_shown self.new result.event) }
+            placed self.old.origin self.old.longest (b ++ bits_of result.count bits) ≡ placed self.old.origin self.old.longest b ++ option_to_list (option_map (reported self.new.octets) result.event) }
         ensures after { (b : List Bool) → After C.folded C.COST self.old b → After C.folded C.COST self.new (b ++ bits_of result.count bits) }
         ensures longest { self.new.longest ≡ self.old.longest }
         ensures origin { self.new.origin ≡ self.old.origin }
@@ -49,15 +43,12 @@ impl<C: Check> LineDecoder<C> {
         if calm == count {
             self.shift(word, u64::from(count));
             self.settle(word, u64::from(count));
-            return Advance {
-                count,
-                event: Event::Nothing,
-            };
+            return Taken { count, event: None };
         }
         let taken = calm + 1;
         self.shift(word, u64::from(taken));
         self.settle(word, u64::from(taken));
-        Advance {
+        Taken {
             count: taken,
             event: self.decide(),
         }

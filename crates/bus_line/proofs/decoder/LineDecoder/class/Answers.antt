@@ -11,48 +11,42 @@ pub returns-then-self-eq31 : goal.returns-then-self-eq31
 returns-then-self-eq31 g c = rw (← c.self.view_is) (λ b bit p h last some.
     let d : LineState g.row.C.Denot = line_state c.self.inside in
     let closed = is_closed _ _ d b bit p h last some in
-    ap (λ (k : Kind). Some (record { kind = k; first = c.args.span.first; past = c.args.span.past }))
-    (sym (class-five _ d.longest _ _ closed (sym (and_mask (d.history / 8) 5) ∙ c.if-self-eq31.true))))
+    sym (class-five _ d.longest _ _ closed (sym (and_mask (d.history / 8) 5) ∙ c.if-self-eq31.true)))
 
 pub returns-then-self : goal.returns-then-self
 returns-then-self g c = rw (← c.self.view_is) (λ b bit p h last some.
     let d : LineState g.row.C.Denot = line_state c.self.inside in
     let closed = is_closed _ _ d b bit p h last some in
-    ap (λ (k : Kind). Some (record { kind = k; first = c.args.span.first; past = c.args.span.past }))
-    (sym (class-read _ d.longest _ _ closed (λ e. c.if-self-eq31.false (and_mask (d.history / 8) 5 ∙ e))
-    ∙ data-over d.longest _ (omega (arith, closed.holds.count, c.if-self.true)))))
+    sym (class-read _ d.longest _ _ closed (λ e. c.if-self-eq31.false (and_mask (d.history / 8) 5 ∙ e))
+    ∙ data-over d.longest _ (omega (arith, closed.holds.count, c.if-self.true))))
 
 pub returns-then-self-lt32 : goal.returns-then-self-lt32
 returns-then-self-lt32 g c = rw (← c.self.view_is) (λ b bit p h last some.
     let d : LineState g.row.C.Denot = line_state c.self.inside in
     let closed = is_closed _ _ d b bit p h last some in
-    ap (λ (k : Kind). Some (record { kind = k; first = c.args.span.first; past = c.args.span.past }))
-    (sym (class-read _ d.longest _ _ closed (λ e. c.if-self-eq31.false (and_mask (d.history / 8) 5 ∙ e))
-    ∙ data-short d.longest _ (omega (arith, closed.holds.count, c.if-self.false)) (omega (arith, closed.holds.count, c.if-self-lt32.true)))))
+    sym (class-read _ d.longest _ _ closed (λ e. c.if-self-eq31.false (and_mask (d.history / 8) 5 ∙ e))
+    ∙ data-short d.longest _ (omega (arith, closed.holds.count, c.if-self.false)) (omega (arith, closed.holds.count, c.if-self-lt32.true))))
 
 pub returns-then-self-ne0 : goal.returns-then-self-ne0
 returns-then-self-ne0 g c = rw (← c.self.view_is) (λ b bit p h last some.
     let d : LineState g.row.C.Denot = line_state c.self.inside in
     let closed = is_closed _ _ d b bit p h last some in
-    ap (λ (k : Kind). Some (record { kind = k; first = c.args.span.first; past = c.args.span.past }))
-    (sym (class-read _ d.longest _ _ closed (λ e. c.if-self-eq31.false (and_mask (d.history / 8) 5 ∙ e))
+    sym (class-read _ d.longest _ _ closed (λ e. c.if-self-eq31.false (and_mask (d.history / 8) 5 ∙ e))
     ∙ data-unaligned d.longest _ (omega (arith, closed.holds.count, c.if-self.false)) (omega (arith, closed.holds.count, c.if-self-lt32.false))
-    (λ e. c.if-self-ne0.true (omega (arith, closed.holds.count, e))))))
+    (λ e. c.if-self-ne0.true (omega (arith, closed.holds.count, e)))))
 
 pub returns-then-not-is_good : goal.returns-then-not-is_good
 returns-then-not-is_good g c = rw (← c.self.view_is) (λ b bit p h last some.
     let d : LineState g.row.C.Denot = line_state c.self.inside in
     let closed = is_closed _ _ d b bit p h last some in
-    ap (λ (k : Kind). Some (record { kind = k; first = c.args.span.first; past = c.args.span.past }))
-    (sym (class-read _ d.longest _ _ closed (λ e. c.if-self-eq31.false (and_mask (d.history / 8) 5 ∙ e))
+    sym (class-read _ d.longest _ _ closed (λ e. c.if-self-eq31.false (and_mask (d.history / 8) 5 ∙ e))
     ∙ (class-checked _ d _ c.is_good.result closed.holds (omega (arith, closed.holds.count, c.if-self-lt32.false)) (omega (arith, closed.holds.count, c.if-self.false)) (omega (arith, closed.holds.count, c.if-self-ne0.false)) c.is_good.ensures
-    ∙ ap (λ (t : Bool). if t then Frame d.octets else Damaged Fcs) c.if-not-is_good.true))))
+    ∙ ap (λ (t : Bool). if t then Frame d.octets else Damaged Fcs) c.if-not-is_good.true)))
 
 pub returns : goal.returns
 returns g c = rw (← c.self.view_is) (λ b bit p h last some.
     let d : LineState g.row.C.Denot = line_state c.self.inside in
     let closed = is_closed _ _ d b bit p h last some in
-    ap (λ (k : Kind). Some (record { kind = k; first = c.args.span.first; past = c.args.span.past }))
-    (sym (class-read _ d.longest _ _ closed (λ e. c.if-self-eq31.false (and_mask (d.history / 8) 5 ∙ e))
+    sym (class-read _ d.longest _ _ closed (λ e. c.if-self-eq31.false (and_mask (d.history / 8) 5 ∙ e))
     ∙ (class-checked _ d _ c.is_good.result closed.holds (omega (arith, closed.holds.count, c.if-self-lt32.false)) (omega (arith, closed.holds.count, c.if-self.false)) (omega (arith, closed.holds.count, c.if-self-ne0.false)) c.is_good.ensures
-    ∙ ap (λ (t : Bool). if t then Frame d.octets else Damaged Fcs) c.if-not-is_good.false))))
+    ∙ ap (λ (t : Bool). if t then Frame d.octets else Damaged Fcs) c.if-not-is_good.false)))

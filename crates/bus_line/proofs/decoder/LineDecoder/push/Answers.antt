@@ -11,7 +11,7 @@ use Rattle.bus_line.proofs.decoder.LineDecoder.push.Goals as goal
 pub returns : goal.returns
 returns g c =
     let d = c.args.self.now in
-    let a = c.advance-advance in
+    let a = c.advance-taken in
     let n = a.result.count in
     let one : bits_of n c.from.result ≡ c.args.bit ∷ [] = one_bit c.from.result n c.args.bit c.from.ensures a.ensures.some a.ensures.within in
     let single : n ≡ 1 = omega (arith, a.ensures.some, a.ensures.within) in
