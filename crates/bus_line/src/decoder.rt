@@ -173,7 +173,7 @@ impl<C: Check> LineDecoder<C> {
         ensures fits { FitsFrame self.now.longest result }
     {
         match event {
-            Some(event) => Some(event.with_octets(self.buffer.as_slice())),
+            Some(event) => Some(event.with_octets(self.octets())),
             None => None,
         }
     }

@@ -7,10 +7,11 @@ use Rattle.bus_line.specs.declared.cause.Cause.{Cause}
 use Rattle.bus_line.specs.declared.cause.Cause.TheVariants.{Unstuffed, Short, Unaligned, Fcs}
 use Rattle.bus_line.specs.Report as report
 use Rattle.bus_line.specs.Report.{Report}
+use Rattle.bus_line.specs.Shown.{span_of}
 use Rattle.bus_dictionary.specs.Entry.{FrameType}
 use Rattle.bus_dictionary.specs.declared.standing.Standing.{Standing}
-use Rattle.bus_dictionary.specs.declared.standing.Standing.TheVariants.{OtherControl, Untyped, Unknown, WrongLength, Known}
-use Rattle.bus_watch.specs.Seen.{SeenReport, type_in, type_of}
+use Rattle.bus_dictionary.specs.Standing.{station_in, type_in}
+use Rattle.bus_watch.specs.Seen.{SeenReport, type_of}
 use Rattle.bus_watch.specs.declared.outcome.Outcome.{Outcome}
 use Rattle.bus_watch.specs.declared.outcome.Outcome.TheVariants.{Answered, Late, Missing, Spoilt}
 use Rattle.bus_watch.specs.declared.verdict.Verdict.{Verdict}
@@ -60,9 +61,6 @@ report_kind report.Idle = kind.Idle
 abbrev pub span_text : Span → List ℕ
 span_text span = decimal span.first ++ codes " " ++ decimal span.past ++ codes " "
 
-abbrev pub span_of : Report → Span
-span_of r = record { first = r.first; past = r.past }
-
 -- a line: its text, and what a filter asks of it
 pub record Line : Type 0 where
   pub kind : Kind
@@ -70,14 +68,7 @@ pub record Line : Type 0 where
   pub ftype : Option ℕ
   pub text : List ℕ
 
--- the station of a frame, by its standing
-abbrev pub station_in : Standing → ℕ
-station_in (OtherControl station control) = station
-station_in (Untyped station) = station
-station_in (Unknown station ftype) = station
-station_in (WrongLength station ftype) = station
-station_in (Known station ftype) = station
-
+-- the station that a frame names, if it has a standing
 abbrev pub station_of : Option Standing → Option ℕ
 station_of s = option_map station_in s
 

@@ -6,43 +6,26 @@ use Rattle.bus_bits.specs.declared.spent.Spent.{Spent}
 use Rattle.bus_line.specs.Due.{reports, placed}
 use Rattle.bus_line.specs.Ledger.{IsLedger as IsLineLedger}
 use Rattle.bus_line.specs.Internal.LineState.{LineState}
-use Rattle.bus_line.specs.After.{After, Led, ShowsHeld}
-use Rattle.bus_line.specs.Shown.{report_of, shown}
-use Rattle.bus_line.specs.declared.piece.Piece.{Piece}
-use Rattle.bus_line.specs.declared.piece.Piece.TheVariants as piece
+use Rattle.bus_line.specs.After.{After, Led}
 use Rattle.bus_dictionary.specs.Dictionary.{longest_of}
 use Rattle.bus_watch.specs.Seen.{SeenReport, seen_of, seen}
 use Rattle.bus_watch.specs.Internal.JournalState.{JournalState, Keeps}
-use Rattle.bus_watch.specs.Internal.Noted.{Says}
-use Rattle.bus_watch.specs.Internal.Told.{HasOctets, held_report, told_report}
-use Rattle.bus_watch.specs.declared.analyser.Told.{Told}
 use Rattle.bus_watch.specs.After.{AnalyserState, IsAfter, Sees, line, seen_after}
 use Rattle.bus_watch.specs.Ledger.{IsLedger}
 use Rattle.bus_watch.proofs.SeenLemmas.{seen-more}
 use Rattle.bus_watch.proofs.AnalyserViewLemmas.{octets-moved, steps-moved}
 
 -- what the decoder's contract says of bits
-abbrev pub GrowsBy : {C : Type 0} → (C → List ℕ → Type 0) → ℕ → LineState C → List Bool → Option Piece → Type 0
-GrowsBy folded cost d bits o = (b : List Bool) → After folded cost d b → placed d.origin d.longest (b ++ bits) ≡ placed d.origin d.longest b ++ option_to_list (shown o)
+abbrev pub GrowsBy : {C : Type 0} → (C → List ℕ → Type 0) → ℕ → LineState C → List Bool → Option Report → Type 0
+GrowsBy folded cost d bits o = (b : List Bool) → After folded cost d b → placed d.origin d.longest (b ++ bits) ≡ placed d.origin d.longest b ++ option_to_list o
 
-line-more : {C : Type 0} (folded : C → List ℕ → Type 0) (cost : ℕ) (a : AnalyserState C) (b : List Bool) (bits : List Bool) (o : Option Piece)
-    → IsAfter folded cost a b → GrowsBy folded cost a.decoder bits o → line a (b ++ bits) ≡ line a b ++ option_to_list (shown o)
+line-more : {C : Type 0} (folded : C → List ℕ → Type 0) (cost : ℕ) (a : AnalyserState C) (b : List Bool) (bits : List Bool) (o : Option Report)
+    → IsAfter folded cost a b → GrowsBy folded cost a.decoder bits o → line a (b ++ bits) ≡ line a b ++ option_to_list o
 line-more folded cost a b bits o s grows = rw (← s.longest) (grows b s.decoder)
-
--- a frame that is answered is in the buffer
-pub held-octets : {C : Type 0} (d : LineState C) (p : Piece) → ShowsHeld d (Some p) → HasOctets d.octets p
-held-octets d (piece.Frame span octets) h = h
-held-octets d (piece.Damaged span cause) h = h
-held-octets d (piece.Overlong span) h = h
-held-octets d (piece.Abort span) h = h
-held-octets d (piece.Idle span) h = h
-
-pub told-is : (octets : List ℕ) (t : Told) (s : SeenReport) → held_report octets t.held ≡ s.report → Says t.noted s → told_report octets t ≡ s
-told-is octets t s e says = rw (e, says.standing, says.verdict, says.stray) refl
 
 -- bits that decide nothing
 pub sees-none : {C : Type 0} (folded : C → List ℕ → Type 0) (cost : ℕ) (old new : AnalyserState C) (bits : List Bool)
-    → Led folded cost old.decoder bits None new.decoder → GrowsBy folded cost old.decoder bits None → new.journal ≡ old.journal
+    → Led folded cost old.decoder bits new.decoder → GrowsBy folded cost old.decoder bits None → new.journal ≡ old.journal
     → Sees folded cost old bits [] new
 sees-none folded cost old new bits p grows same = record {
   is_after = λ b s.
@@ -60,25 +43,25 @@ sees-none folded cost old new bits p grows same = record {
 }
 
 -- bits the last of which decides a report
-pub sees-some : {C : Type 0} (folded : C → List ℕ → Type 0) (cost : ℕ) (old new : AnalyserState C) (bits : List Bool) (piece : Piece) (told : SeenReport)
-    → Led folded cost old.decoder bits (Some piece) new.decoder → GrowsBy folded cost old.decoder bits (Some piece)
-    → ((rs : List Report) → Keeps old.journal rs → Keeps new.journal (rs ++ report_of piece ∷ []))
-    → ((rs : List Report) → Keeps old.journal rs → told ≡ seen_of old.journal.dictionary rs (report_of piece))
+pub sees-some : {C : Type 0} (folded : C → List ℕ → Type 0) (cost : ℕ) (old new : AnalyserState C) (bits : List Bool) (report : Report) (told : SeenReport)
+    → Led folded cost old.decoder bits new.decoder → GrowsBy folded cost old.decoder bits (Some report)
+    → ((rs : List Report) → Keeps old.journal rs → Keeps new.journal (rs ++ report ∷ []))
+    → ((rs : List Report) → Keeps old.journal rs → told ≡ seen_of old.journal.dictionary rs (report))
     → new.journal.dictionary ≡ old.journal.dictionary → new.journal.depth ≡ old.journal.depth
     → Sees folded cost old bits (told ∷ []) new
-sees-some folded cost old new bits piece told p grows keeps says dictionary depth = record {
+sees-some folded cost old new bits report told p grows keeps says dictionary depth = record {
   is_after = λ b s.
       let all : List Bool = b ++ bits in
-      let grown : line new all ≡ line old b ++ report_of piece ∷ [] =
-      ap (λ o. placed o (longest_of new.journal.dictionary) all) p.origin ∙ ap (λ d. placed old.decoder.origin (longest_of d) all) dictionary ∙ line-more folded cost old b bits (Some piece) s grows in
+      let grown : line new all ≡ line old b ++ report ∷ [] =
+      ap (λ o. placed o (longest_of new.journal.dictionary) all) p.origin ∙ ap (λ d. placed old.decoder.origin (longest_of d) all) dictionary ∙ line-more folded cost old b bits (Some report) s grows in
       record {
         decoder = p.after b s.decoder;
         longest = p.longest ∙ s.longest ∙ ap longest_of (sym dictionary);
         journal = subst (Keeps new.journal) (sym grown) (keeps (line old b) s.journal);
       };
   seen = λ b s.
-      ap (seen old.journal.dictionary) (line-more folded cost old b bits (Some piece) s grows)
-      ∙ (seen-more old.journal.dictionary (line old b) (report_of piece) ∙ ap (λ t. seen_after old b ++ t ∷ []) (sym (says (line old b) s.journal)));
+      ap (seen old.journal.dictionary) (line-more folded cost old b bits (Some report) s grows)
+      ∙ (seen-more old.journal.dictionary (line old b) report ∙ ap (λ t. seen_after old b ++ t ∷ []) (sym (says (line old b) s.journal)));
   dictionary = dictionary;
   depth = depth;
   origin = p.origin;

@@ -8,17 +8,16 @@ use Rattle.bus_line.specs.Report.{Report, Kind, Frame, IsReport, moved}
 use Rattle.bus_line.specs.Due.{places, reports, placed, due_at}
 use Rattle.bus_line.specs.Ledger.{octet_count}
 use Rattle.bus_line.specs.Laws.{FramesStored, StoredPaid, AssembledWithin, DueIsIt, FrameIsSpelled}
-use Rattle.bus_line.specs.After.{FitsFrame}
-use Rattle.bus_line.specs.Shown.{report_of}
-use Rattle.bus_line.specs.declared.piece.Piece.{Piece}
-use Rattle.bus_line.specs.declared.piece.Piece.TheVariants as piece
+use Rattle.bus_line.specs.Shown.{kind_with, reported}
+use Rattle.bus_line.specs.declared.event.Event.{Event}
+use Rattle.bus_line.specs.declared.event.EventKind.{EventKind}
+use Rattle.bus_line.specs.declared.event.EventKind.TheVariants as event
 use Rattle.bus_dictionary.specs.Entry.{FrameType}
 use Rattle.bus_dictionary.specs.Dictionary.{longest_of}
 use Rattle.bus_watch.specs.Talk.{is_idle, talk, neighbours, verdict_on, verdicts}
 use Rattle.bus_watch.specs.History.{tally, verdicts_of}
 use Rattle.bus_watch.specs.Ledger.{kind_steps, steps}
-use Rattle.bus_watch.specs.Internal.JournalState.{HasRoom}
-use Rattle.bus_watch.specs.Internal.Noted.{IsWhole}
+use Rattle.bus_watch.specs.Internal.JournalState.{HasRoom, IsWhole}
 use Rattle.bus_watch.specs.After.{AnalyserState, IsAfter, line}
 use Rattle.bus_watch.specs.declared.outcome.Outcome.{Outcome}
 use Rattle.bus_watch.specs.declared.outcome.Outcome.TheVariants.{Answered, Late, Missing, Spoilt}
@@ -98,19 +97,16 @@ map-Some : {X Y : Type 0} (f : X → Y) (o : Option X) (y : Y) → Some y ≡ op
 map-Some f None y e = absurd (cc)
 map-Some f (Some x) y e = (x, refl, cc)
 
-whole-frame : (longest origin : ℕ) (b : List Bool) (i : ℕ) (p : Piece) → DueIsIt → FrameIsSpelled → FitsFrame longest (Some p)
-    → (r : Report) → due_at longest b i ≡ Some r → moved origin r ≡ report_of p → IsWhole p
-whole-frame longest origin b i (piece.Frame span os) due spelled fits r e m =
-    let k : r.kind ≡ Frame os.now = ap (λ (x : Report). x.kind) m in
-    let is : IsReport longest b r = ((due longest b i r).1 e).0 in
-    ((spelled longest b r os.now is k).2, omega (arith, fits.0, fits.1))
-whole-frame longest origin b i (piece.Damaged span cause) due spelled fits r e m = tt
-whole-frame longest origin b i (piece.Overlong span) due spelled fits r e m = tt
-whole-frame longest origin b i (piece.Abort span) due spelled fits r e m = tt
-whole-frame longest origin b i (piece.Idle span) due spelled fits r e m = tt
+whole-kind : (longest : ℕ) (b : List Bool) (i : ℕ) (octets : List ℕ) (kind : EventKind) → DueIsIt → FrameIsSpelled
+    → (r : Report) → due_at longest b i ≡ Some r → r.kind ≡ kind_with octets kind → IsWhole kind octets
+whole-kind longest b i octets event.Frame due spelled r e k = (spelled longest b r octets ((due longest b i r).1 e).0 k).2
+whole-kind longest b i octets (event.Damaged cause) due spelled r e k = tt
+whole-kind longest b i octets event.Overlong due spelled r e k = tt
+whole-kind longest b i octets event.Abort due spelled r e k = tt
+whole-kind longest b i octets event.Idle due spelled r e k = tt
 
-pub whole : (longest origin : ℕ) (b : List Bool) (i : ℕ) (p : Piece) → DueIsIt → FrameIsSpelled → FitsFrame longest (Some p)
-    → Some (report_of p) ≡ option_map (moved origin) (due_at longest b i) → IsWhole p
-whole longest origin b i p due spelled fits e =
-    let s = map-Some (moved origin) (due_at longest b i) (report_of p) e in
-    whole-frame longest origin b i p due spelled fits s.0 s.1 s.2
+pub whole : (longest origin : ℕ) (b : List Bool) (i : ℕ) (octets : List ℕ) (e : Event) → DueIsIt → FrameIsSpelled
+    → Some (reported octets e) ≡ option_map (moved origin) (due_at longest b i) → IsWhole e.kind octets
+whole longest origin b i octets e due spelled is =
+    let s = map-Some (moved origin) (due_at longest b i) (reported octets e) is in
+    whole-kind longest b i octets e.kind due spelled s.0 s.1 (ap (λ (x : Report). x.kind) s.2)

@@ -17,8 +17,7 @@ use Rattle.bus_watch.specs.Seen.{decided}
 use Rattle.bus_watch.specs.History.{KeptFrame, frame_at, frame_of, frames, history, tally, verdicts_of, is_outcome, kept_frame}
 use Rattle.bus_watch.specs.Ledger.{kind_steps, steps}
 use Rattle.bus_watch.specs.Internal.Counted.{one_more, counted, Counted}
-use Rattle.bus_watch.specs.Internal.JournalState.{JournalState, Keeps}
-use Rattle.bus_watch.specs.Internal.Noted.{is_damage}
+use Rattle.bus_watch.specs.Internal.JournalState.{JournalState, Keeps, is_damage}
 use Rattle.bus_watch.specs.declared.kept.Kept.{Kept}
 use Rattle.bus_watch.specs.declared.counts.Counts.{Counts}
 use Rattle.bus_watch.specs.declared.outcome.Outcome.{Outcome}

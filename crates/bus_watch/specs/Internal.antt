@@ -1,7 +1,5 @@
 -- What proofs and private functions speak of: the state behind a contract, and what holds of it between two steps.
 pub mod Counted
 pub mod JournalState
-pub mod Noted
 pub mod AnalyserView
 pub mod LogView
-pub mod Told

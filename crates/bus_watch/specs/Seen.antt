@@ -5,7 +5,7 @@ use Rattle.bus_line.specs.Report.{Report, due}
 use Rattle.bus_line.specs.Due.{places}
 use Rattle.bus_dictionary.specs.Entry.{FrameType}
 use Rattle.bus_dictionary.specs.declared.standing.Standing.{Standing}
-use Rattle.bus_dictionary.specs.declared.standing.Standing.TheVariants.{OtherControl, Untyped, Unknown, WrongLength, Known}
+use Rattle.bus_dictionary.specs.Standing.{type_in}
 use Rattle.bus_watch.specs.Talk.{talk, is_idle, standing_of, verdict_on}
 use Rattle.bus_watch.specs.declared.outcome.Outcome.{Outcome}
 use Rattle.bus_watch.specs.declared.outcome.Outcome.TheVariants.{Answered, Late}
@@ -21,14 +21,7 @@ pub record SeenReport : Type 0 where
 abbrev pub decided : List FrameType → List Report → Report → Option Verdict
 decided d before r = if is_idle r.kind then None else option_and_then (λ left. verdict_on d left r) (last_or None (talk before))
 
--- the frame type, where control octet and information give one
-abbrev pub type_in : Standing → Option ℕ
-type_in (OtherControl station control) = None
-type_in (Untyped station) = None
-type_in (Unknown station ftype) = Some ftype
-type_in (WrongLength station ftype) = Some ftype
-type_in (Known station ftype) = Some ftype
-
+-- the frame type, if it has a standing that gives one
 abbrev pub type_of : Option Standing → Option ℕ
 type_of s = option_and_then type_in s
 

@@ -2,12 +2,13 @@
 use Rattle.std.specs.Prelude.{ℕ, ◌+◌, ◌≤◌, Bool, List, length, Option, Some, None, option_map}
 use Rattle.std.specs.Borrow.{Bor}
 use Rattle.bus_bits.specs.declared.span.Span.{Span}
-use Rattle.bus_line.specs.Shown.{report_of}
+use Rattle.bus_line.specs.Shown.{report_of, reported}
 use Rattle.bus_line.specs.Due.{begun}
 use Rattle.bus_line.specs.Ledger.{octet_count}
 use Rattle.bus_watch.specs.History.{KeptFrame, kept_frame}
 use Rattle.bus_watch.specs.Seen.{SeenReport}
 use Rattle.bus_watch.specs.declared.seen.Seen.{Seen}
+use Rattle.bus_watch.specs.declared.finding.Finding.{Finding}
 use Rattle.bus_watch.specs.declared.kept.Kept.{Kept}
 
 -- a report and what follows from it
@@ -17,6 +18,10 @@ shown s = record { report = report_of s.piece; standing = s.standing; verdict = 
 abbrev pub shown_option : Option Seen → Option SeenReport
 shown_option None = None
 shown_option (Some s) = Some (shown s)
+
+-- a finding, a frame's octets being these
+abbrev pub found : List ℕ → Finding → SeenReport
+found octets f = record { report = reported octets f.event; standing = f.standing; verdict = f.verdict; stray = f.stray }
 
 -- a frame has no more octets than are kept of one
 abbrev pub IsKeepable : Option Seen → Type 0

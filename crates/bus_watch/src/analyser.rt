@@ -1,7 +1,5 @@
 //! The analyser: what is seen on a line, up to 48 bits at a time, in fixed memory.
 
-mod held;
-
 ghost use Rattle.std.specs.Prelude.{◌≡◌, ◌+◌, ◌*◌, ◌≤◌, ◌<◌, ◌^◌, ◌↔◌, ◌⊎◌, List, Bool, [], ◌∷◌, ◌++◌, IsErr, IfOk, OnOk, OnErr, IsTrue, false, length, ℕ, Some, Err, slice_get};
 ghost use Rattle.std.specs.Option.{option_map, option_to_list};
 ghost use Rattle.std.specs.Borrow.{sem};
@@ -14,7 +12,8 @@ ghost use Rattle.bus_dictionary.specs.Dictionary.{longest_of};
 use crate::counts::Counts;
 use crate::ending::Ending;
 use crate::feed::PLACES;
-use crate::journal::{Journal, Noted};
+use crate::finding::Finding;
+use crate::journal::Journal;
 use crate::kept::Kept;
 use crate::laws::{seen_grows, steps_are_bounded};
 use crate::new_fault::NewFault;
@@ -25,7 +24,6 @@ use bus_dictionary::Dictionary;
 use bus_fcs::Check;
 use bus_line::laws::{frame_is_spelled, reports_are, settled_places};
 use bus_line::{LineDecoder, LineFault, PlaceLimit};
-use held::Held;
 use std::alloc::Global;
 use std::marker::Model;
 
@@ -37,20 +35,6 @@ use std::marker::Model;
 pub struct Analyser<C: Check> {
     decoder: LineDecoder<C>,
     journal: Journal,
-}
-
-/// What a bit decided, and what follows from it.
-#[derive(Clone, Copy)]
-struct Told {
-    held: Held,
-    noted: Noted,
-}
-
-/// How many bits were taken, and what the last of them decided.
-#[derive(Clone, Copy)]
-struct Advance {
-    count: u32,
-    told: Option<Told>,
 }
 
 impl<C: Check> Model for Analyser<C> {
@@ -69,9 +53,7 @@ impl<C: Check> Analyser<C> {
     ghost use Rattle.bus_watch.specs.contracts.analyser.Analyser.{the_row};
     ghost use Rattle.bus_watch.specs.After.{IsAfter, Sees, line};
     ghost use Rattle.bus_watch.specs.Seen.{seen_at};
-    ghost use Rattle.bus_watch.specs.Shown.{shown, shown_option, kept_option, begun_span, IsKeepable};
-    ghost use Rattle.bus_watch.specs.Internal.Told.{told_report, told_option};
-    ghost use Rattle.bus_line.specs.Ledger.{octet_count};
+    ghost use Rattle.bus_watch.specs.Shown.{shown_option, found, kept_option, begun_span, IsKeepable};
     ghost use Rattle.bus_watch.specs.History.{history, tally};
     ghost use Rattle.bus_watch.specs.Talk.{pending};
     ghost use Rattle.bus_watch.specs.Ledger.{IsLedger, total};
@@ -107,88 +89,57 @@ impl<C: Check> Analyser<C> {
         }
     }
 
-    /// Takes bits, the first lowest, up to the first that may decide a report, and keeps what it
-    /// decides.
-    #[inline(always)]
-    fn note(&mut self, bits: u64, count: u32) -> Result<Advance, PlaceLimit>
-        requires some { 1 ≤ count }
-        requires few { count ≤ 48 }
-        requires small { bits < 2 ^ count }
-        ensures limit { IsErr result ↔ (2 ^ 60 < self.old.decoder.place + count) }
-        ensures within { IfOk result (λ advance. (1 ≤ advance.count) × (advance.count ≤ count)) }
-        ensures sees { IfOk result
-            (λ advance. Sees C.folded C.COST self.old (bits_of advance.count bits)
-            (option_to_list (told_option self.new.decoder.octets advance.told)) self.new) }
-        ensures err { OnErr result (self.new ≡ self.old) }
-    {
-        let taken = self.decoder.take(bits, count)?;
-        let Some(piece) = taken.piece else {
-            return Ok(Advance {
-                count: taken.count,
-                told: None,
-            });
-        };
-        reports_are();
-        frame_is_spelled();
-        settled_places();
-        Ok(Advance {
-            count: taken.count,
-            told: Some(Told {
-                held: Held::of(piece),
-                noted: self.journal.take(piece),
-            }),
-        })
-    }
-
-    /// What was decided, if anything, as it is handed out.
-    #[inline(always)]
-    fn told(&self, told: Option<Told>) -> Option<Seen<'_>>
-        ensures shown { shown_option result ≡ told_option self.now.decoder.octets told }
-        ensures fits { IsKeepable result }
-    {
-        match told {
-            Some(told) => Some(self.seen(told)),
-            None => None,
-        }
-    }
-
-    /// What was decided, as it is handed out.
-    fn seen(&self, told: Told) -> Seen<'_>
-        ensures shown { shown result ≡ told_report self.now.decoder.octets told }
-        ensures fits { octet_count (shown result).report ≤ 258 }
-    {
-        Seen {
-            piece: told.held.lend(self.decoder.octets()),
-            standing: told.noted.standing,
-            verdict: told.noted.verdict,
-            stray: told.noted.stray,
-        }
-    }
-
     /// Takes up to `count` bits, the first lowest: all of them, or those up to the first that may decide
     /// a report. Returns how many it took, and what is seen at the last of these, if it decides a
-    /// report. A frame's octets are borrowed from the analyser.
+    /// report. The octets of a frame are then those of [`Analyser::octets`].
     ///
     /// Refuses as [`PlaceLimit`], with nothing changed, where one of the `count` bits would have the
     /// place 2^60 or a later one.
     #[inline(always)]
-    pub fn take(&mut self, bits: u64, count: u32) -> Result<Taken<'_>, PlaceLimit>
+    pub fn take(&mut self, bits: u64, count: u32) -> Result<Taken, PlaceLimit>
         requires some { 1 ≤ count }
         requires few { count ≤ 48 }
         requires small { bits < 2 ^ count }
         ensures limit { IsErr result ↔ (2 ^ 60 < self.old.decoder.place + count) }
         ensures within { IfOk result (λ t. (1 ≤ t.count) × (t.count ≤ count)) }
-        ensures fits { IfOk result (λ t. IsKeepable t.seen) }
-        ensures* rests { sem 𝓛 (Rests (the_row C.row C.Check) self.entry (λ new.
-            IfOk result (λ t. Sees C.folded C.COST self.old (bits_of t.count bits)
-            (option_to_list (shown_option t.seen)) new)
-            × OnErr result (new ≡ self.old))) }
+        ensures sees { IfOk result (λ t. Sees C.folded C.COST self.old (bits_of t.count bits)
+            (option_to_list (option_map (found self.new.decoder.octets) t.finding)) self.new) }
+        ensures unchanged { OnErr result (self.new ≡ self.old) }
     {
-        let advance = self.note(bits, count)?;
+        let taken = self.decoder.take(bits, count)?;
+        let Some(event) = taken.event else {
+            return Ok(Taken {
+                count: taken.count,
+                finding: None,
+            });
+        };
+        reports_are();
+        frame_is_spelled();
+        settled_places();
         Ok(Taken {
-            count: advance.count,
-            seen: self.told(advance.told),
+            count: taken.count,
+            finding: Some(self.journal.take(event, self.decoder.octets())),
         })
+    }
+
+    /// The octets of the frame that the last bit closed.
+    pub fn octets(&self) -> &[u8]
+        ensures value { result.now ≡ self.now.decoder.octets }
+        ensures bound { length result.now ≤ longest_of self.now.journal.dictionary + 2 }
+        ensures room { length result.now ≤ 258 }
+    {
+        self.decoder.octets()
+    }
+
+    /// What was found, if anything, as it is handed out.
+    fn lent(&self, finding: Option<Finding>) -> Option<Seen<'_>>
+        ensures shown { shown_option result ≡ option_map (found self.now.decoder.octets) finding }
+        ensures fits { IsKeepable result }
+    {
+        match finding {
+            Some(finding) => Some(finding.with_octets(self.octets())),
+            None => None,
+        }
     }
 
     /// Takes a bit, and returns what is seen at it, if it decides a report. A frame's octets are
@@ -206,8 +157,8 @@ impl<C: Check> Analyser<C> {
             × OnErr result (new ≡ self.old))) }
     {
         seen_grows();
-        let advance = self.note(u64::from(bit), 1)?;
-        Ok(self.told(advance.told))
+        let taken = self.take(u64::from(bit), 1)?;
+        Ok(self.lent(taken.finding))
     }
 
     /// A frame of the history, of which the oldest has the number 0.

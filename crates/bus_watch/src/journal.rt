@@ -1,19 +1,21 @@
 //! What is kept of the reports so far.
 
-ghost use Rattle.std.specs.Prelude.{◌≡◌, ◌+◌, ◌≤◌, ◌<◌, ◌^◌, List, [], ◌∷◌, ◌++◌, IfOk, length, replicate, true, Some, slice_get, option_copied};
+ghost use Rattle.std.specs.Prelude.{◌≡◌, ◌+◌, ◌≤◌, ◌<◌, ◌^◌, List, ℕ, [], ◌∷◌, ◌++◌, IfOk, length, replicate, true, Some, slice_get, option_copied};
+ghost use Rattle.bus_watch.specs.Seen.{is_stray, answers};
 
 mod keep;
-mod noted;
 mod pair;
 
 use crate::counts::Counts;
+use crate::finding::Finding;
 use crate::kept::Kept;
+use crate::outcome::Outcome;
 use crate::pending::Pending;
+use crate::verdict::Verdict;
 use bus_bits::{Span, Spent};
 use bus_dictionary::{Dictionary, Standing};
-use bus_line::Piece;
+use bus_line::{Event, EventKind};
 use circular_buffer::HeapCircularBuffer;
-pub(crate) use noted::Noted;
 use std::alloc::{AllocError, Global};
 
 /// What is kept of the reports so far: the command that waits, the verdicts for each station, and
@@ -41,11 +43,35 @@ fn no_counts() -> [Counts; 256]
     }; 256]
 }
 
+/// Whether a frame of this standing, which decides this verdict, has an answer's type and answers
+/// nothing.
+fn is_stray(standing: Standing, verdict: Option<Verdict>) -> bool
+    ensures { result ≡ is_stray (Some standing) verdict }
+{
+    match standing.frame_type() {
+        Some(ftype) if ftype >= 128 => !answers(verdict),
+        _ => false,
+    }
+}
+
+/// Whether a verdict says that the command was answered, in time or late.
+fn answers(verdict: Option<Verdict>) -> bool
+    ensures { result ≡ answers verdict }
+{
+    matches!(
+        verdict,
+        Some(Verdict {
+            outcome: Outcome::Answered | Outcome::Late,
+            ..
+        })
+    )
+}
+
 impl Journal {
-    ghost use Rattle.bus_line.specs.Shown.{report_of};
+    ghost use Rattle.bus_line.specs.Shown.{kind_with, reported};
     ghost use Rattle.bus_line.specs.Report.{Report, Frame};
-    ghost use Rattle.bus_watch.specs.Internal.JournalState.{journal_state, Keeps, HasRoom};
-    ghost use Rattle.bus_watch.specs.Internal.Noted.{Says, is_damage, IsWhole};
+    ghost use Rattle.bus_watch.specs.Internal.JournalState.{journal_state, Keeps, HasRoom, is_damage, IsWhole};
+    ghost use Rattle.bus_watch.specs.Shown.{found};
     ghost use Rattle.bus_watch.specs.Seen.{seen_of};
     ghost use Rattle.bus_watch.specs.Talk.{is_idle};
     ghost use Rattle.bus_dictionary.specs.Standing.{standing};
@@ -69,34 +95,35 @@ impl Journal {
         })
     }
 
-    /// Takes a report, and says what follows from it.
+    /// Takes a report, a frame with these octets, and says what follows from it.
     #[inline(never)]
-    pub(crate) fn take(&mut self, piece: Piece<'_>) -> Noted
-        requires whole { IsWhole piece }
+    pub(crate) fn take(&mut self, event: Event, octets: &[u8]) -> Finding
+        requires whole { IsWhole event.kind octets.now }
+        requires fits { length octets.now ≤ 258 }
         requires room { HasRoom (journal_state self.old) }
         ensures keeps { (rs : List Report) → Keeps (journal_state self.old) rs →
-            Keeps (journal_state self.new) (rs ++ report_of piece.entry ∷ []) }
+            Keeps (journal_state self.new) (rs ++ reported octets.now event ∷ []) }
         ensures says { (rs : List Report) → Keeps (journal_state self.old) rs →
-            Says result (seen_of self.old.dictionary rs (report_of piece.entry)) }
+            found octets.now result ≡ seen_of self.old.dictionary rs (reported octets.now event) }
         ensures given { (self.new.dictionary ≡ self.old.dictionary)
             × (self.new.history.capacity ≡ self.old.history.capacity) }
     {
-        match piece {
-            Piece::Frame { span, octets } => self.frame(span, octets),
-            Piece::Idle { .. } => self.idle(),
-            Piece::Damaged { .. } | Piece::Overlong { .. } | Piece::Abort { .. } => self.damage(),
+        match event.kind {
+            EventKind::Frame => self.frame(event.span, octets),
+            EventKind::Idle => self.idle(event),
+            EventKind::Damaged(_) | EventKind::Overlong | EventKind::Abort => self.damage(event),
         }
     }
 
     /// Takes a frame.
-    fn frame(&mut self, span: Span, octets: &[u8]) -> Noted
+    fn frame(&mut self, span: Span, octets: &[u8]) -> Finding
         requires at_least { 4 ≤ length octets.now }
         requires at_most { length octets.now ≤ 258 }
         requires room { HasRoom (journal_state self.old) }
         ensures keeps { (rs : List Report) → Keeps (journal_state self.old) rs →
             Keeps (journal_state self.new) (rs ++ record { kind = Frame octets.now; first = span.first; past = span.past } ∷ []) }
         ensures says { (rs : List Report) → Keeps (journal_state self.old) rs →
-            Says result (seen_of self.old.dictionary rs (record { kind = Frame octets.now; first = span.first; past = span.past })) }
+            found octets.now result ≡ seen_of self.old.dictionary rs (record { kind = Frame octets.now; first = span.first; past = span.past }) }
         ensures given { (self.new.dictionary ≡ self.old.dictionary)
             × (self.new.history.capacity ≡ self.old.history.capacity) }
     {
@@ -105,21 +132,31 @@ impl Journal {
         let verdict = self.decide(Some((span.first, standing)));
         self.waiting = self.command(span, standing);
         self.keep(span, octets);
-        Noted::of_frame(standing, verdict)
+        Finding {
+            event: Event {
+                kind: EventKind::Frame,
+                span,
+            },
+            standing: Some(standing),
+            verdict,
+            stray: is_stray(standing, verdict),
+        }
     }
 
     /// Takes a piece that is no frame.
-    fn damage(&mut self) -> Noted
+    fn damage(&mut self, event: Event) -> Finding
+        requires damage { (octets : List ℕ) → is_damage (kind_with octets event.kind) ≡ true }
         requires room { HasRoom (journal_state self.old) }
-        ensures keeps { (rs : List Report) (r : Report) → Keeps (journal_state self.old) rs →
-            is_damage r.kind ≡ true → Keeps (journal_state self.new) (rs ++ r ∷ []) }
-        ensures says { (rs : List Report) (r : Report) → Keeps (journal_state self.old) rs →
-            is_damage r.kind ≡ true → Says result (seen_of self.old.dictionary rs r) }
+        ensures keeps { (octets : List ℕ) (rs : List Report) → Keeps (journal_state self.old) rs →
+            Keeps (journal_state self.new) (rs ++ reported octets event ∷ []) }
+        ensures says { (octets : List ℕ) (rs : List Report) → Keeps (journal_state self.old) rs →
+            found octets result ≡ seen_of self.old.dictionary rs (reported octets event) }
         ensures given { (self.new.dictionary ≡ self.old.dictionary)
             × (self.new.history.capacity ≡ self.old.history.capacity) }
     {
         self.spent.tick_handled();
-        Noted {
+        Finding {
+            event,
             standing: None,
             verdict: self.decide(None),
             stray: false,
@@ -127,19 +164,21 @@ impl Journal {
     }
 
     /// Takes an idle: neither pairing nor tally changes.
-    fn idle(&mut self) -> Noted
+    fn idle(&mut self, event: Event) -> Finding
+        requires idle { (octets : List ℕ) → is_idle (kind_with octets event.kind) ≡ true }
         requires room { HasRoom (journal_state self.old) }
-        ensures keeps { (rs : List Report) (r : Report) → Keeps (journal_state self.old) rs → is_idle r.kind ≡ true →
-            Keeps (journal_state self.new) (rs ++ r ∷ []) }
-        ensures says { (rs : List Report) (r : Report) → Keeps (journal_state self.old) rs → is_idle r.kind ≡ true →
-            Says result (seen_of self.old.dictionary rs r) }
+        ensures keeps { (octets : List ℕ) (rs : List Report) → Keeps (journal_state self.old) rs →
+            Keeps (journal_state self.new) (rs ++ reported octets event ∷ []) }
+        ensures says { (octets : List ℕ) (rs : List Report) → Keeps (journal_state self.old) rs →
+            found octets result ≡ seen_of self.old.dictionary rs (reported octets event) }
         ensures given { (self.new.dictionary ≡ self.old.dictionary)
             × (self.new.history.capacity ≡ self.old.history.capacity) }
     {
         self.spent.tick_handled();
         self.spent.tick_handled();
         self.spent.tick_handled();
-        Noted {
+        Finding {
+            event,
             standing: None,
             verdict: None,
             stray: false,

@@ -1,10 +1,10 @@
 //! What an analyser took at once.
 
-use crate::seen::Seen;
+use crate::finding::Finding;
 
 /// How many bits were taken, and what is seen at the last of them.
-#[derive(Clone, Copy)]
-pub struct Taken<'a> {
+#[derive(Clone, Copy, Debug, PartialEq, Eq)]
+pub struct Taken {
     pub count: u32,
-    pub seen: Option<Seen<'a>>,
+    pub finding: Option<Finding>,
 }

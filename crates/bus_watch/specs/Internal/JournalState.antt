@@ -1,6 +1,8 @@
 -- What contracts see of a journal, and the lists of reports after which it may stand.
-use Rattle.std.specs.Prelude.{◌≡◌, ℕ, ◌+◌, ◌<◌, ◌^◌, List, map, sum_by, Option, Some, slice_get}
-use Rattle.bus_line.specs.Report.{Report}
+use Rattle.std.specs.Prelude.{◌≡◌, ℕ, ◌+◌, ◌<◌, ◌≤◌, ◌^◌, Bool, true, false, List, length, map, sum_by, Option, Some, slice_get}
+use Rattle.bus_line.specs.Report.{Report, Kind, Frame, Idle}
+use Rattle.bus_line.specs.declared.event.EventKind.{EventKind}
+use Rattle.bus_line.specs.declared.event.EventKind.TheVariants as event
 use Rattle.bus_line.specs.Ledger.{octet_count}
 use Rattle.bus_dictionary.specs.Entry.{FrameType}
 use Rattle.bus_watch.specs.Talk.{pending}
@@ -47,3 +49,14 @@ pub record HasRoom (j : JournalState) : Type 0 where
   pub copied : j.copied + 258 < 2 ^ 64
   pub handled : j.handled + 6 < 2 ^ 64
   pub tally : CanCount j.tally
+
+-- neither a frame nor an idle
+abbrev pub is_damage : Kind → Bool
+is_damage (Frame octets) = false
+is_damage Idle = false
+is_damage kind = true
+
+-- a frame has station, control and check
+abbrev pub IsWhole : EventKind → List ℕ → Type 0
+IsWhole event.Frame octets = 4 ≤ length octets
+IsWhole kind octets = Unit {0}

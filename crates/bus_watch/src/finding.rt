@@ -1,0 +1,36 @@
+//! A report without a frame's octets, and what follows from it.
+
+ghost use Rattle.std.specs.Prelude.{◌≡◌};
+ghost use Rattle.bus_watch.specs.Shown.{shown, found};
+
+use crate::seen::Seen;
+use crate::verdict::Verdict;
+use bus_dictionary::Standing;
+use bus_line::Event;
+
+/// A report, and what it says about the talk on the line, as small as it can be: a frame's octets are
+/// left in the analyser ([`Analyser::octets`](crate::Analyser::octets)).
+#[derive(Clone, Copy, Debug, PartialEq, Eq)]
+pub struct Finding {
+    pub event: Event,
+    /// How a frame's head matches the dictionary; nothing else has a standing.
+    pub standing: Option<Standing>,
+    /// The verdict on the command before, which this report decides.
+    pub verdict: Option<Verdict>,
+    /// A frame of a type of 128 or more that answers no command.
+    pub stray: bool,
+}
+
+impl Finding {
+    /// It as it is handed out, a frame with these octets.
+    pub fn with_octets<'a>(self, octets: &'a [u8]) -> Seen<'a>
+        ensures { shown result ≡ found octets.now self }
+    {
+        Seen {
+            piece: self.event.with_octets(octets),
+            standing: self.standing,
+            verdict: self.verdict,
+            stray: self.stray,
+        }
+    }
+}
