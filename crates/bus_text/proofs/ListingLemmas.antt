@@ -6,8 +6,7 @@ use Rattle.std.proofs.lemmas.Grind.{flat_map-append}
 use Rattle.std.proofs.lemmas.List.Elements.{filter-append}
 use Rattle.bus_dictionary.specs.Entry.{FrameType}
 use Rattle.bus_watch.specs.Seen.{SeenReport}
-use Rattle.bus_text.specs.Listing.{Line, is_left, text_of, report_line, report_word, span_text, span_of, head_part, verdict_line, stray_lines, seen_lines, lines_of, listing}
-use Rattle.bus_text.specs.Internal.Printing.{is_fronted, front_text, back_text, behind_text}
+use Rattle.bus_text.specs.Listing.{Line, is_left, text_of, report_line, verdict_line, stray_lines, seen_lines, lines_of, listing}
 use Rattle.bus_text.specs.declared.filter.Filter.{Filter}
 use Rattle.bus_text.specs.declared.printer.Printer.{Printer}
 
@@ -45,19 +44,9 @@ put-both f xs ys page mid new first second = second ∙ ap (λ t. t ++ text_of f
 pub listing-append : (p : Printer) (d : List FrameType) (xs ys : List SeenReport) → listing p d (xs ++ ys) ≡ listing p d xs ++ listing p d ys
 listing-append p d xs ys = ap (text_of p.filter) (flat_map-append (seen_lines p.heads d) xs ys) ∙ text-append p.filter (lines_of p.heads d xs) (lines_of p.heads d ys)
 
--- the text of a report's own line is its front and its back
-pub own_line : (p : Printer) (d : List FrameType) (s : SeenReport) → text_of p.filter (report_line p.heads d s ∷ []) ≡ front_text p s ++ back_text p d s
-own_line p d s =
-    let front = span_text (span_of s.report) ++ report_word s.report.kind in
-    let head = head_part p.heads d s.standing in
-    text-one p.filter (report_line p.heads d s)
-    ∙ (elim (is_fronted p s) as (λ b. (if b then (front ++ head) ++ codes "\n" else []) ≡ (if b then front else []) ++ (if b then head ++ codes "\n" else [])) [
-      | true ↦ append_assoc front head (codes "\n")
-      | false ↦ refl
-    ])
-
--- the listing of one report is its front, its back, and the lines behind it
-pub listing-one : (p : Printer) (d : List FrameType) (s : SeenReport) → listing p d (s ∷ []) ≡ front_text p s ++ (back_text p d s ++ behind_text p s)
+-- the listing of one report is its own line, and the lines behind it
+pub listing-one : (p : Printer) (d : List FrameType) (s : SeenReport)
+    → listing p d (s ∷ []) ≡ text_of p.filter (report_line p.heads d s ∷ []) ++ (text_of p.filter (option_to_list (option_map verdict_line s.verdict)) ++ text_of p.filter (stray_lines p.heads s))
 listing-one p d s =
     let own = report_line p.heads d s in
     let verdict = option_to_list (option_map verdict_line s.verdict) in
@@ -65,13 +54,13 @@ listing-one p d s =
     ap (text_of p.filter) (append-nil (seen_lines p.heads d s))
     ∙ text-append p.filter (own ∷ []) (verdict ++ stray)
     ∙ ap (λ t. text_of p.filter (own ∷ []) ++ t) (text-append p.filter verdict stray)
-    ∙ ap (λ t. t ++ behind_text p s) (own_line p d s)
-    ∙ append_assoc (front_text p s) (back_text p d s) (behind_text p s)
 
--- one report more: its front, and then the rest of its text
-pub listing-more : (p : Printer) (d : List FrameType) (before : List SeenReport) (s : SeenReport)
-    → listing p d (before ++ s ∷ []) ≡ (listing p d before ++ front_text p s) ++ (back_text p d s ++ behind_text p s)
-listing-more p d before s =
-    listing-append p d before (s ∷ [])
-    ∙ ap (λ t. listing p d before ++ t) (listing-one p d s)
-    ∙ sym (append_assoc (listing p d before) (front_text p s) (back_text p d s ++ behind_text p s))
+-- they were put, one behind the other
+pub put-one : (p : Printer) (d : List FrameType) (s : SeenReport) (page own verdict all : List ℕ)
+    → own ≡ page ++ text_of p.filter (report_line p.heads d s ∷ []) → verdict ≡ own ++ text_of p.filter (option_to_list (option_map verdict_line s.verdict))
+    → all ≡ verdict ++ text_of p.filter (stray_lines p.heads s) → all ≡ page ++ listing p d (s ∷ [])
+put-one p d s page own verdict all e f g =
+    let x = text_of p.filter (report_line p.heads d s ∷ []) in
+    let y = text_of p.filter (option_to_list (option_map verdict_line s.verdict)) in
+    let z = text_of p.filter (stray_lines p.heads s) in
+    g ∙ ap (λ t. t ++ z) (f ∙ ap (λ t. t ++ y) e) ∙ append_assoc (page ++ x) y z ∙ append_assoc page x (y ++ z) ∙ sym (ap (λ t. page ++ t) (listing-one p d s))

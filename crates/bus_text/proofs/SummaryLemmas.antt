@@ -1,5 +1,5 @@
 -- How often each thing is seen, with one report more.
-use Rattle.std.proofs.Common.{◌≡◌, ◌+◌, Bool, true, false, List, [], ◌∷◌, ◌++◌, refl, ◌∙◌, arith}
+use Rattle.std.proofs.Common.{◌≡◌, ◌+◌, ℕ, Bool, true, false, List, [], ◌∷◌, ◌++◌, refl, ◌∙◌, arith}
 use Rattle.std.specs.List.{count_by}
 use Rattle.std.specs.Prelude.{cond}
 use Rattle.std.proofs.lemmas.List.Sums.{sum_by-append}
@@ -7,7 +7,11 @@ use Rattle.bus_watch.specs.Seen.{SeenReport}
 use Rattle.bus_watch.specs.declared.outcome.Outcome.TheVariants.{Answered, Late, Missing, Spoilt}
 use Rattle.bus_watch.specs.Talk.{is_idle}
 use Rattle.bus_text.specs.Summary.{is_frame, is_damaged, is_overlong, is_abort, has_outcome, summary_of}
-use Rattle.bus_text.specs.Internal.Counting.{counted, with_seen}
+use Rattle.bus_text.specs.Internal.Counting.{counted, with_kind, with_seen}
+use Rattle.bus_text.specs.declared.summary.Summary.{Summary}
+use Rattle.bus_line.specs.Shown.{kind_with}
+use Rattle.bus_line.specs.declared.event.EventKind.{EventKind}
+use Rattle.bus_line.specs.declared.event.EventKind.TheVariants as event
 
 count-last : {X : Type 0} (p : X → Bool) (xs : List X) (x : X) → count_by p (xs ++ x ∷ []) ≡ counted (p x) (count_by p xs)
 count-last p xs x =
@@ -33,3 +37,11 @@ summary-more before s =
       count-last (λ (s : SeenReport). has_outcome Spoilt s.verdict) before s,
       count-last (λ (s : SeenReport). has_outcome Late s.verdict) before s,
     ) refl
+
+-- what is counted of a frame doesn't depend on its octets
+pub kind-alone : (octets : List ℕ) (kind : EventKind) (s : Summary) → with_kind (kind_with [] kind) s ≡ with_kind (kind_with octets kind) s
+kind-alone octets event.Frame s = refl
+kind-alone octets (event.Damaged cause) s = refl
+kind-alone octets event.Overlong s = refl
+kind-alone octets event.Abort s = refl
+kind-alone octets event.Idle s = refl

@@ -2,13 +2,12 @@
 
 ghost use Rattle.std.specs.Prelude.{◌≡◌, ◌+◌, ◌*◌, ◌++◌, ◌<◌, ◌≤◌, ◌^◌, length, decimal, codes};
 ghost use Rattle.arrayvec.specs.ArrayString.{array_string_len};
-ghost use Rattle.bus_line.specs.Shown.{report_of};
-ghost use Rattle.bus_line.specs.Ledger.{octet_count};
-ghost use Rattle.bus_text.specs.Listing.{hex_digit, hex_octet, hex_of, cause_word, span_text, span_of, report_word};
+ghost use Rattle.bus_line.specs.Shown.{kind_with, reported, span_of};
+ghost use Rattle.bus_text.specs.Listing.{hex_digit, hex_octet, hex_of, cause_word, span_text, report_word};
 ghost use Rattle.bus_text.specs.HeadText.{station_text};
 
 use arrayvec::ArrayString;
-use bus_line::{Cause, Piece, Span};
+use bus_line::{Cause, Event, EventKind, Span};
 use itoa::Buffer;
 
 /// A line of a frame that is shown; the longest is shorter.
@@ -104,49 +103,38 @@ fn cause_word(cause: Cause) -> &'static str
     }
 }
 
-/// Appends what a report is.
-fn push_word<const N: usize>(line: &mut ArrayString<N>, piece: Piece<'_>)
+/// Appends what a report is, a frame with these octets.
+fn push_word<const N: usize>(line: &mut ArrayString<N>, kind: EventKind, octets: &[u8])
     requires room { array_string_len line.old + 522 ≤ N }
-    requires held { octet_count (report_of piece) ≤ 258 }
-    ensures bytes { line.new.bytes ≡ line.old.bytes ++ report_word (report_of piece.entry).kind }
+    requires held { length octets.now ≤ 258 }
+    ensures bytes { line.new.bytes ≡ line.old.bytes ++ report_word (kind_with octets.now kind) }
     ensures len { array_string_len line.new ≤ array_string_len line.old + 522 }
 {
-    match piece {
-        Piece::Frame { octets, .. } => {
+    match kind {
+        EventKind::Frame => {
             line.push_str("frame ");
             push_hex(line, octets);
         }
-        Piece::Damaged { cause, .. } => {
+        EventKind::Damaged(cause) => {
             line.push_str("damaged ");
             line.push_str(cause_word(cause));
         }
-        Piece::Overlong { .. } => line.push_str("overlong"),
-        Piece::Abort { .. } => line.push_str("abort"),
-        Piece::Idle { .. } => line.push_str("idle"),
+        EventKind::Overlong => line.push_str("overlong"),
+        EventKind::Abort => line.push_str("abort"),
+        EventKind::Idle => line.push_str("idle"),
     }
 }
 
-/// The span of a report.
-pub fn span_of(piece: Piece<'_>) -> Span
-    ensures { result ≡ span_of (report_of piece.entry) }
-{
-    match piece {
-        Piece::Frame { span, .. } => span,
-        Piece::Damaged { span, .. } => span,
-        Piece::Overlong { span } => span,
-        Piece::Abort { span } => span,
-        Piece::Idle { span } => span,
-    }
-}
-
-/// Appends the places of a report and what it is, without the end of its line.
-pub fn push_front<const N: usize>(line: &mut ArrayString<N>, piece: Piece<'_>)
+/// Appends the places of a report and what it is, a frame with these octets, without the end of its
+/// line.
+pub fn push_front<const N: usize>(line: &mut ArrayString<N>, event: Event, octets: &[u8])
     requires room { array_string_len line.old + 564 ≤ N }
-    requires held { octet_count (report_of piece) ≤ 258 }
+    requires held { length octets.now ≤ 258 }
     ensures bytes { line.new.bytes
-        ≡ line.old.bytes ++ (span_text (span_of (report_of piece.entry)) ++ report_word (report_of piece.entry).kind) }
+        ≡ line.old.bytes
+        ++ (span_text (span_of (reported octets.now event)) ++ report_word (reported octets.now event).kind) }
     ensures len { array_string_len line.new ≤ array_string_len line.old + 564 }
 {
-    push_span(line, span_of(piece));
-    push_word(line, piece);
+    push_span(line, event.span);
+    push_word(line, event.kind, octets);
 }

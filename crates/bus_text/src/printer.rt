@@ -1,26 +1,24 @@
 //! Puts the lines of what is seen on a page.
 
-ghost use Rattle.std.specs.Prelude.{◌≡◌, ◌+◌, [], ◌∷◌, ◌++◌, ◌≤◌, length, codes, option_map, if◌then◌else◌};
+ghost use Rattle.std.specs.Prelude.{◌≡◌, ◌+◌, ℕ, List, [], ◌∷◌, ◌++◌, ◌≤◌, length, codes, option_map};
 ghost use Rattle.std.specs.Option.{option_to_list};
 ghost use Rattle.arrayvec.specs.ArrayString.{array_string_len};
-ghost use Rattle.bus_line.specs.Shown.{report_of};
-ghost use Rattle.bus_line.specs.Ledger.{octet_count};
-ghost use Rattle.bus_watch.specs.Seen.{SeenReport, type_in};
-ghost use Rattle.bus_watch.specs.Shown.{shown};
+ghost use Rattle.bus_line.specs.Shown.{kind_with};
+ghost use Rattle.bus_watch.specs.Shown.{found};
+ghost use Rattle.bus_watch.specs.Seen.{type_of};
 ghost use Rattle.bus_text.specs.Given.{printer_of};
-ghost use Rattle.bus_text.specs.Listing.{span_of, report_kind, outcome_kind, station_in, frame_line, verdict_line, begun_line, pending_line, strays_at, head_part, text_of, ending_text};
-ghost use Rattle.bus_text.specs.Internal.Printing.{back_of, front_text, back_text, behind_text};
+ghost use Rattle.bus_text.specs.Listing.{report_kind, report_line, outcome_kind, frame_line, verdict_line, begun_line, pending_line, strays_at, head_part, text_of, listing, passes, station_of, ending_text};
 
 use crate::filter::Filter;
 use crate::head::push_head;
 use crate::kind::Kind;
-use crate::line::{push_front, push_span, push_station, span_of};
+use crate::line::{push_front, push_span, push_station};
 use crate::options::Options;
 use crate::page::Page;
 use arrayvec::ArrayString;
 use bus_dictionary::{Dictionary, Standing};
-use bus_line::{Piece, Span};
-use bus_watch::{Ending, Outcome, Pending, Seen, Verdict};
+use bus_line::{EventKind, Span};
+use bus_watch::{Ending, Finding, Outcome, Pending, Verdict};
 
 /// Puts the lines of what is seen on a page.
 #[derive(Clone, Copy)]
@@ -30,27 +28,16 @@ pub struct Printer {
     filter: Filter,
 }
 
-/// What follows the front of a report's line.
-#[derive(Clone, Copy)]
-pub struct Back {
-    /// The line is left by the filter.
-    fronted: bool,
-    span: Span,
-    standing: Option<Standing>,
-    verdict: Option<Verdict>,
-    stray: bool,
-}
-
 /// The kind of a report's line.
-fn kind_of(piece: Piece<'_>) -> Kind
-    ensures { result ≡ report_kind (report_of piece.entry).kind }
+fn kind_of(kind: EventKind) -> Kind
+    ensures { (octets : List ℕ) → result ≡ report_kind (kind_with octets kind) }
 {
-    match piece {
-        Piece::Frame { .. } => Kind::Frame,
-        Piece::Damaged { .. } => Kind::Damaged,
-        Piece::Overlong { .. } => Kind::Overlong,
-        Piece::Abort { .. } => Kind::Abort,
-        Piece::Idle { .. } => Kind::Idle,
+    match kind {
+        EventKind::Frame => Kind::Frame,
+        EventKind::Damaged(_) => Kind::Damaged,
+        EventKind::Overlong => Kind::Overlong,
+        EventKind::Abort => Kind::Abort,
+        EventKind::Idle => Kind::Idle,
     }
 }
 
@@ -63,32 +50,6 @@ fn outcome_kind(outcome: Outcome) -> Kind
         Outcome::Missing => Kind::Missing,
         Outcome::Spoilt => Kind::Spoilt,
         Outcome::Late => Kind::Late,
-    }
-}
-
-/// The station of a frame.
-fn station_in(standing: Standing) -> u8
-    ensures { result ≡ station_in standing }
-{
-    match standing {
-        Standing::OtherControl { station, .. } => station,
-        Standing::Untyped { station } => station,
-        Standing::Unknown { station, .. } => station,
-        Standing::WrongLength { station, .. } => station,
-        Standing::Known { station, .. } => station,
-    }
-}
-
-/// The type of a frame, if it has one.
-fn type_in(standing: Standing) -> Option<u8>
-    ensures { result ≡ type_in standing }
-{
-    match standing {
-        Standing::OtherControl { .. } => None,
-        Standing::Untyped { .. } => None,
-        Standing::Unknown { ftype, .. } => Some(ftype),
-        Standing::WrongLength { ftype, .. } => Some(ftype),
-        Standing::Known { ftype, .. } => Some(ftype),
     }
 }
 
@@ -133,62 +94,55 @@ impl Printer {
         }
     }
 
-    /// Puts the front of a report's line on the page, and tells what follows it.
+    /// Puts the lines of a report on the page, a frame with these octets: its own, that of the verdict,
+    /// and that of the stray.
     #[inline(never)]
-    pub fn put_front(&self, seen: &Seen<'_>, page: &mut Page) -> Back
-        requires room { array_string_len page.old.text + 564 ≤ 16384 }
-        requires held { octet_count (shown seen.now).report ≤ 258 }
-        ensures bytes { page.new.text.bytes ≡ page.old.text.bytes ++ front_text self.now (shown seen.now) }
-        ensures len { array_string_len page.new.text ≤ array_string_len page.old.text + 564 }
-        ensures written { page.new.written ≡ page.old.written }
-        ensures back { result ≡ back_of self.now (shown seen.now) }
-    {
-        let fronted = self.filter.passes(
-            kind_of(seen.piece),
-            seen.standing.map(station_in),
-            seen.standing.and_then(type_in),
-        );
-        if fronted {
-            push_front(&mut page.text, seen.piece);
-        }
-        Back {
-            fronted,
-            span: span_of(seen.piece),
-            standing: seen.standing,
-            verdict: seen.verdict,
-            stray: seen.stray,
-        }
-    }
-
-    /// Puts on the page what follows the front of a report's line: the rest of it, and the lines of
-    /// the verdict and of the stray.
-    #[inline(never)]
-    pub fn put_back(&self, back: Back, dictionary: &Dictionary, page: &mut Page)
-        requires room { array_string_len page.old.text + 400 ≤ 16384 }
-        ensures bytes { (s : SeenReport) → back ≡ back_of self.now s →
-            page.new.text.bytes ≡ page.old.text.bytes
-            ++ (back_text self.now dictionary.now s ++ behind_text self.now s) }
-        ensures len { array_string_len page.new.text ≤ array_string_len page.old.text + 400 }
+    pub fn put(&self, finding: Finding, octets: &[u8], dictionary: &Dictionary, page: &mut Page)
+        requires room { array_string_len page.old.text + 964 ≤ 16384 }
+        requires held { length octets.now ≤ 258 }
+        ensures bytes { page.new.text.bytes
+            ≡ page.old.text.bytes ++ listing self.now dictionary.now (found octets.now finding ∷ []) }
+        ensures len { array_string_len page.new.text ≤ array_string_len page.old.text + 964 }
         ensures written { page.new.written ≡ page.old.written }
     {
-        self.put_end(back, dictionary, page);
-        self.put_verdict(back.verdict, page);
-        self.put_stray(back, page);
+        self.put_report(finding, octets, dictionary, page);
+        self.put_verdict(finding.verdict, page);
+        self.put_stray(finding, page);
     }
 
-    /// Puts the end of a report's line on the page, if the line is left by the filter.
-    fn put_end(&self, back: Back, dictionary: &Dictionary, page: &mut Page)
-        requires room { array_string_len page.old.text + 63 ≤ 16384 }
+    /// Whether the filter leaves a report's own line.
+    fn leaves(&self, finding: Finding) -> bool
+        ensures { (octets : List ℕ) → result ≡ passes self.now.filter
+            (report_kind (kind_with octets finding.event.kind)) (station_of finding.standing) (type_of finding.standing) }
+    {
+        self.filter.passes(
+            kind_of(finding.event.kind),
+            finding.standing.map(Standing::station),
+            finding.standing.and_then(Standing::frame_type),
+        )
+    }
+
+    /// Puts a report's own line on the page.
+    fn put_report(
+        &self,
+        finding: Finding,
+        octets: &[u8],
+        dictionary: &Dictionary,
+        page: &mut Page,
+    )
+        requires room { array_string_len page.old.text + 627 ≤ 16384 }
+        requires held { length octets.now ≤ 258 }
         ensures bytes { page.new.text.bytes
             ≡ page.old.text.bytes
-            ++ (if back.fronted then head_part self.now.heads dictionary.now back.standing ++ codes "\n" else []) }
-        ensures len { array_string_len page.new.text ≤ array_string_len page.old.text + 63 }
+            ++ text_of self.now.filter (report_line self.now.heads dictionary.now (found octets.now finding) ∷ []) }
+        ensures len { array_string_len page.new.text ≤ array_string_len page.old.text + 627 }
         ensures written { page.new.written ≡ page.old.written }
     {
-        if !back.fronted {
+        if !self.leaves(finding) {
             return;
         }
-        self.put_head(back.standing, dictionary, page);
+        push_front(&mut page.text, finding.event, octets);
+        self.put_head(finding.standing, dictionary, page);
         page.text.push('\n');
     }
 
@@ -225,27 +179,29 @@ impl Printer {
     }
 
     /// Puts the line of a stray on the page, if there is a dictionary and its type is known.
-    fn put_stray(&self, back: Back, page: &mut Page)
+    fn put_stray(&self, finding: Finding, page: &mut Page)
         requires room { array_string_len page.old.text + 100 ≤ 16384 }
         ensures bytes { page.new.text.bytes
             ≡ page.old.text.bytes
-            ++ text_of self.now.filter (strays_at self.now.heads back.stray back.span back.standing) }
+            ++ text_of self.now.filter
+            (strays_at self.now.heads finding.stray finding.event.span finding.standing) }
         ensures len { array_string_len page.new.text ≤ array_string_len page.old.text + 100 }
         ensures written { page.new.written ≡ page.old.written }
     {
         if !self.heads {
             return;
         }
-        if !back.stray {
+        if !finding.stray {
             return;
         }
-        let Some(standing) = back.standing else {
+        let Some(standing) = finding.standing else {
             return;
         };
-        let Some(ftype) = type_in(standing) else {
+        let Some(ftype) = standing.frame_type() else {
             return;
         };
-        self.put_frame(Kind::Stray, back.span, station_in(standing), ftype, page);
+        let span = finding.event.span;
+        self.put_frame(Kind::Stray, span, standing.station(), ftype, page);
     }
 
     /// Puts a line about a frame on the page.

@@ -1,14 +1,14 @@
 //! How often each thing was seen.
 
 ghost use Rattle.std.specs.Prelude.{◌≡◌, ◌↔◌, ◌<◌, ◌^◌, ◌+◌, List, [], ◌∷◌, ◌++◌, ℕ, IsTrue};
-ghost use Rattle.bus_line.specs.Shown.{report_of};
+ghost use Rattle.bus_line.specs.Shown.{kind_with};
 ghost use Rattle.bus_watch.specs.Seen.{SeenReport};
-ghost use Rattle.bus_watch.specs.Shown.{shown};
+ghost use Rattle.bus_watch.specs.Shown.{found};
 ghost use Rattle.bus_text.specs.Summary.{summary_of};
 ghost use Rattle.bus_text.specs.Internal.Counting.{with_kind, with_verdict, IsFew};
 
-use bus_line::Piece;
-use bus_watch::{Outcome, Seen, Verdict};
+use bus_line::EventKind;
+use bus_watch::{Finding, Outcome, Verdict};
 
 /// How often each thing was seen on a line.
 #[derive(Clone, Copy, Debug, PartialEq, Eq)]
@@ -61,30 +61,30 @@ impl Summary {
     }
 
     /// Counts a report, and what follows from it.
-    pub fn count(&mut self, seen: &Seen<'_>)
+    pub fn count(&mut self, finding: Finding)
         requires { (most : ℕ) × IsFew most self.old × (most < 2 ^ 60) }
-        ensures counted { (before : List SeenReport) → self.old ≡ summary_of before →
-            self.new ≡ summary_of (before ++ shown seen.now ∷ []) }
+        ensures counted { (before : List SeenReport) (octets : List ℕ) → self.old ≡ summary_of before →
+            self.new ≡ summary_of (before ++ found octets finding ∷ []) }
         ensures few { (most : ℕ) → IsFew most self.old → IsFew (most + 1) self.new }
     {
-        self.count_piece(seen.piece);
-        self.count_verdict(seen.verdict);
-        if seen.stray {
+        self.count_kind(finding.event.kind);
+        self.count_verdict(finding.verdict);
+        if finding.stray {
             self.strays += 1;
         }
     }
 
-    /// Counts a piece by what it is.
-    fn count_piece(&mut self, piece: Piece<'_>)
+    /// Counts a report by what it is of.
+    fn count_kind(&mut self, kind: EventKind)
         requires { IsFew (2 ^ 61) self.old }
-        ensures { self.new ≡ with_kind (report_of piece.entry).kind self.old }
+        ensures { self.new ≡ with_kind (kind_with [] kind) self.old }
     {
-        match piece {
-            Piece::Frame { .. } => self.frames += 1,
-            Piece::Damaged { .. } => self.damaged += 1,
-            Piece::Overlong { .. } => self.overlong += 1,
-            Piece::Abort { .. } => self.aborts += 1,
-            Piece::Idle { .. } => self.idles += 1,
+        match kind {
+            EventKind::Frame => self.frames += 1,
+            EventKind::Damaged(_) => self.damaged += 1,
+            EventKind::Overlong => self.overlong += 1,
+            EventKind::Abort => self.aborts += 1,
+            EventKind::Idle => self.idles += 1,
         }
     }
 

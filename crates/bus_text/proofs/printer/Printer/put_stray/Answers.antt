@@ -2,7 +2,8 @@ use Rattle.std.proofs.Common.{rules, tests, ◌≡◌, ◌∙◌, true, false, s
 use Rattle.std.specs.Option.{option_to_list}
 use Rattle.bus_bits.specs.declared.span.Span.{Span}
 use Rattle.bus_dictionary.specs.declared.standing.Standing.{Standing}
-use Rattle.bus_text.specs.Listing.{strays_at, station_in, frame_line}
+use Rattle.bus_text.specs.Listing.{strays_at, frame_line}
+use Rattle.bus_dictionary.specs.Standing.{station_in}
 use Rattle.bus_text.specs.declared.kind.Kind.TheVariants as kind
 use Rattle.bus_text.proofs.ListingLemmas.{put-none}
 use Rattle.bus_text.proofs.printer.Printer.put_stray.Goals as goal
@@ -16,28 +17,28 @@ is_told heads stray span standing h s = ap (λ (b : Bool). strays_at b stray spa
 
 pub returns-then-not-self-clause-bytes : goal.returns-then-not-self-clause-bytes
 returns-then-not-self-clause-bytes c =
-    let b = c.args.back in
-    put-none c.args.self.now.filter (strays_at c.args.self.now.heads b.stray b.span b.standing) c.args.page.now.text.bytes (no_heads c.args.self.now.heads b.stray b.span b.standing (search (rules, tests)))
+    let b = c.args.finding in
+    put-none c.args.self.now.filter (strays_at c.args.self.now.heads b.stray b.event.span b.standing) c.args.page.now.text.bytes (no_heads c.args.self.now.heads b.stray b.event.span b.standing (search (rules, tests)))
 
-pub returns-then-not-back-clause-bytes : goal.returns-then-not-back-clause-bytes
-returns-then-not-back-clause-bytes c =
-    let b = c.args.back in
+pub returns-then-not-finding-clause-bytes : goal.returns-then-not-finding-clause-bytes
+returns-then-not-finding-clause-bytes c =
+    let b = c.args.finding in
     let heads : c.args.self.now.heads ≡ true = search (rules, tests) in
     let stray : b.stray ≡ false = search (rules, tests) in
-    put-none c.args.self.now.filter (strays_at c.args.self.now.heads b.stray b.span b.standing) c.args.page.now.text.bytes
-    (ap (λ (h : Bool). strays_at h b.stray b.span b.standing) heads ∙ ap (λ (s : Bool). strays_at true s b.span b.standing) stray)
+    put-none c.args.self.now.filter (strays_at c.args.self.now.heads b.stray b.event.span b.standing) c.args.page.now.text.bytes
+    (ap (λ (h : Bool). strays_at h b.stray b.event.span b.standing) heads ∙ ap (λ (s : Bool). strays_at true s b.event.span b.standing) stray)
 
 pub returns-in_default-clause-bytes : goal.returns-in_default-clause-bytes
 returns-in_default-clause-bytes c =
-    let b = c.args.back in
-    put-none c.args.self.now.filter (strays_at c.args.self.now.heads b.stray b.span b.standing) c.args.page.now.text.bytes
-    (is_told c.args.self.now.heads b.stray b.span b.standing (search (rules, tests)) (search (rules, tests))
-    ∙ ap (λ (s : Option Standing). strays_at true true b.span s) c.in_default.is)
+    let b = c.args.finding in
+    put-none c.args.self.now.filter (strays_at c.args.self.now.heads b.stray b.event.span b.standing) c.args.page.now.text.bytes
+    (is_told c.args.self.now.heads b.stray b.event.span b.standing (search (rules, tests)) (search (rules, tests))
+    ∙ ap (λ (s : Option Standing). strays_at true true b.event.span s) c.in_default.is)
 
-pub returns-in_default-type_in-clause-bytes : goal.returns-in_default-type_in-clause-bytes
-returns-in_default-type_in-clause-bytes c =
-    let b = c.args.back in
-    put-none c.args.self.now.filter (strays_at c.args.self.now.heads b.stray b.span b.standing) c.args.page.now.text.bytes
-    (is_told c.args.self.now.heads b.stray b.span b.standing (search (rules, tests)) (search (rules, tests))
-    ∙ ap (λ (s : Option Standing). strays_at true true b.span s) c.in-Some.is
-    ∙ ap (λ (t : Option ℕ). option_to_list (option_map (frame_line kind.Stray b.span (station_in c.in-Some.standing)) t) ++ []) (sym c.type_in.ensures ∙ c.in_default-type_in.is))
+pub returns-in_default-frame_type-clause-bytes : goal.returns-in_default-frame_type-clause-bytes
+returns-in_default-frame_type-clause-bytes c =
+    let b = c.args.finding in
+    put-none c.args.self.now.filter (strays_at c.args.self.now.heads b.stray b.event.span b.standing) c.args.page.now.text.bytes
+    (is_told c.args.self.now.heads b.stray b.event.span b.standing (search (rules, tests)) (search (rules, tests))
+    ∙ ap (λ (s : Option Standing). strays_at true true b.event.span s) c.in-Some.is
+    ∙ ap (λ (t : Option ℕ). option_to_list (option_map (frame_line kind.Stray b.event.span (station_in c.in-Some.standing)) t) ++ []) (sym c.frame_type.ensures ∙ c.in_default-frame_type.is))
