@@ -9,12 +9,10 @@ use Rattle.bus_dictionary.specs.Entry.{FrameType}
 use Rattle.bus_dictionary.specs.Dictionary.{longest_of}
 use Rattle.bus_line.specs.Due.{placed}
 use Rattle.bus_watch.specs.Seen.{SeenReport, seen}
-use Rattle.bus_watch.specs.Shown.{shown_option, begun_span}
+use Rattle.bus_watch.specs.Shown.{begun_span}
 use Rattle.bus_watch.specs.Talk.{pending}
 use Rattle.bus_watch.specs.declared.pending.Pending.{Pending}
 use Rattle.bus_bits.specs.declared.span.Span.{Span}
-use Rattle.bus_watch.specs.declared.seen.Seen.{Seen}
-use Rattle.bus_watch.specs.declared.taken.Taken.{Taken}
 use Rattle.bus_bits.specs.Octet.{bits_of}
 use Rattle.bus_bits.proofs.OctetLemmas.{bits-split}
 use Rattle.bus_line.specs.declared.place_limit.PlaceLimit.{PlaceLimit}
@@ -32,8 +30,7 @@ use Rattle.bus_text.specs.declared.summary.Summary.{Summary}
 use Rattle.bus_text.specs.declared.fault.ToolFault.{ToolFault}
 use Rattle.bus_text.specs.declared.fault.ToolFault.TheVariants as fault
 use Rattle.bus_text.specs.declared.page.Page.{Page}
-use Rattle.bus_text.specs.Internal.Printing.{front_text, back_text, behind_text}
-use Rattle.bus_text.proofs.ListingLemmas.{listing-append, listing-one}
+use Rattle.bus_text.proofs.ListingLemmas.{listing-append}
 use Rattle.bus_text.proofs.PagesLemmas.{pages-more}
 
 -- the lines of more are the lines, and more
@@ -106,13 +103,6 @@ within-all origin b h = take_all (2 ^ 60 - origin) b (omega (arith, h))
 pub within-front : (origin : ℕ) (b more : List Bool) → origin + length b ≡ 2 ^ 60 → within origin (b ++ more) ≡ b
 within-front origin b more h =
     take-append-le (2 ^ 60 - origin) b more (omega (arith, h)) ∙ take_all (2 ^ 60 - origin) b (omega (arith, h))
-
--- what a call answered
-pub sees-at : {C : Type 0} (folded : C → List ℕ → Type 0) (cost : ℕ) (a c : AnalyserState C) (bits : ℕ) (r : Result Taken PlaceLimit) (t : Taken) (s : Option Seen)
-    → r ≡ Ok t → t.seen ≡ s → IfOk r (λ x. Sees folded cost a (bits_of x.count bits) (option_to_list (shown_option x.seen)) c) → Sees folded cost a (bits_of t.count bits) (option_to_list (shown_option s)) c
-sees-at folded cost a c bits r t s e f h =
-    subst (λ x. Sees folded cost a (bits_of t.count bits) (option_to_list (shown_option x)) c) f
-    (subst (λ y. IfOk y (λ x. Sees folded cost a (bits_of x.count bits) (option_to_list (shown_option x.seen)) c)) e h)
 
 -- bits that have no place stop the following
 pub halted : {C : Type 0} (folded : C → List ℕ → Type 0) (cost : ℕ) (start now : Option (List ℕ)) (w v : CaptureRun C) (b bits : List Bool)
@@ -221,14 +211,11 @@ pages-none start now p d told page written text e h =
     subst (λ (t : List ℕ). Pages start now page written t) (sym (ap (λ x. text ++ printed x d told) e ∙ append-nil text)) h
 
 -- the lines of one report were put on the page
-pub pages-told : (start now : Option (List ℕ)) (p : Option Printer) (q : Printer) (d : List FrameType) (s : SeenReport) (page front all : List ℕ) (written later : ℕ) (text : List ℕ)
-    → p ≡ Some q → front ≡ page ++ front_text q s → all ≡ front ++ (back_text q d s ++ behind_text q s) → later ≡ written
+pub pages-told : (start now : Option (List ℕ)) (p : Option Printer) (q : Printer) (d : List FrameType) (s : SeenReport) (page all : List ℕ) (written later : ℕ) (text : List ℕ)
+    → p ≡ Some q → all ≡ page ++ listing q d (s ∷ []) → later ≡ written
     → Pages start now page written text → Pages start now all later (text ++ printed p d (s ∷ []))
-pages-told start now p q d s page front all written later text e f g l h =
-    let own : all ≡ page ++ listing q d (s ∷ []) =
-    g ∙ ap (λ (t : List ℕ). t ++ (back_text q d s ++ behind_text q s)) f ∙ append_assoc page (front_text q s) (back_text q d s ++ behind_text q s)
-    ∙ ap (λ (t : List ℕ). page ++ t) (sym (listing-one q d s)) in
-    let put : Pages start now all written (text ++ listing q d (s ∷ [])) = pages-more start now page all written text (listing q d (s ∷ [])) own h in
+pages-told start now p q d s page all written later text e f l h =
+    let put : Pages start now all written (text ++ listing q d (s ∷ [])) = pages-more start now page all written text (listing q d (s ∷ [])) f h in
     subst (λ (n : ℕ). Pages start now all n (text ++ printed p d (s ∷ []))) (sym l)
     (subst (λ x. Pages start now all written (text ++ printed x d (s ∷ []))) (sym e) put)
 

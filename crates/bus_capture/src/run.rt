@@ -4,12 +4,18 @@ ghost use Rattle.std.specs.Io.KnownBytes.{Appends};
 ghost use Rattle.arrayvec.specs.ArrayString.{array_string_len};
 ghost use Rattle.bus_bits.specs.Octet.{bits_of};
 ghost use Rattle.bus_capture.specs.Internal.Watching.{ended};
-ghost use Rattle.std.specs.Prelude.{◌≡◌, ◌+◌, ◌≤◌, ◌<◌, ◌^◌, ◌⊎◌, ℕ, List, Bool, [], ◌∷◌, ◌++◌, Option, MatchResult, IfOk};
+ghost use Rattle.std.specs.Prelude.{◌≡◌, ◌+◌, ◌≤◌, ◌<◌, ◌^◌, ◌⊎◌, ℕ, List, Bool, [], ◌∷◌, ◌++◌, Option, MatchResult, IfOk, length};
+ghost use Rattle.bus_watch.specs.Seen.{SeenReport};
+ghost use Rattle.bus_watch.specs.Shown.{found};
+ghost use Rattle.bus_text.specs.Summary.{summary_of};
+ghost use Rattle.bus_text.specs.Put.{Cuts};
+ghost use Rattle.bus_text.specs.Internal.Pages.{Pages};
+ghost use Rattle.bus_text.specs.Internal.Counting.{IsFew};
 
 use bus_fcs::Check;
 use bus_line::PlaceLimit;
-use bus_text::{Page, Printer, Summary, ToolFault, put_report};
-use bus_watch::{Analyser, Ending};
+use bus_text::{Page, Printer, ShortWrite, Summary, ToolFault, put_report};
+use bus_watch::{Analyser, Ending, Finding};
 use std::io::Write;
 
 /// Follows the bits of one capture: counts what is seen, and writes its lines.
@@ -35,7 +41,7 @@ fn put_last(printer: Option<Printer>, ending: &Ending, page: &mut Page)
 }
 
 impl<C: Check> CaptureRun<C> {
-    ghost use Rattle.bus_capture.specs.Internal.Watching.{IsSound, Watches, IsSame, Halts, IsCutIn, lines, last_lines, reported};
+    ghost use Rattle.bus_capture.specs.Internal.Watching.{IsSound, Watches, IsSame, Halts, IsCutIn, lines, last_lines, printed, reported};
 
     /// Takes bits, the first lowest, up to the first that may decide a report, and puts the line of
     /// that on the page. Returns how many it took.
@@ -58,18 +64,39 @@ impl<C: Check> CaptureRun<C> {
             Ok(taken) => taken,
             Err(PlaceLimit) => return Err(ToolFault::PlaceLimit),
         };
-        let count = taken.count;
-        let Some(seen) = taken.seen else {
-            return Ok(count);
-        };
-        self.summary.count(&seen);
+        if let Some(finding) = taken.finding {
+            self.tell(finding, w)?;
+        }
+        Ok(taken.count)
+    }
+
+    /// Counts what was found at the last bit, and puts its lines on the page.
+    #[inline(never)]
+    fn tell<W: Write>(&mut self, finding: Finding, w: &mut W) -> Result<(), ShortWrite>
+        requires few { (most : ℕ) × IsFew most self.old.summary × (most < 2 ^ 60) }
+        requires sent { self.old.page.written < 2 ^ 100 }
+        ensures analyser { self.new.analyser ≡ self.old.analyser }
+        ensures printer { self.new.printer ≡ self.old.printer }
+        ensures counted { (before : List SeenReport) → self.old.summary ≡ summary_of before →
+            self.new.summary ≡ summary_of (before ++ found self.old.analyser.decoder.octets finding ∷ []) }
+        ensures few { (most : ℕ) → IsFew most self.old.summary → IsFew (most + 1) self.new.summary }
+        ensures told { (start : Option (List ℕ)) (text : List ℕ) →
+            Pages start (W.contents w.old) self.old.page.text.bytes self.old.page.written text → MatchResult result
+            (λ _. Pages start (W.contents w.new) self.new.page.text.bytes self.new.page.written
+            (text ++ printed self.old.printer self.old.analyser.journal.dictionary
+            (found self.old.analyser.decoder.octets finding ∷ [])))
+            (λ cut. Cuts start (W.contents w.new) text cut.sent × (cut.sent < length text)) }
+        ensures octets { self.new.page.written + array_string_len self.new.page.text
+            ≤ self.old.page.written + array_string_len self.old.page.text + 1024 }
+    {
+        self.summary.count(finding);
         let Some(printer) = self.printer else {
-            return Ok(count);
+            return Ok(());
         };
         self.page.make_room(w)?;
-        let back = printer.put_front(&seen, &mut self.page);
-        printer.put_back(back, self.analyser.dictionary(), &mut self.page);
-        Ok(count)
+        let octets = self.analyser.octets();
+        printer.put(finding, octets, self.analyser.dictionary(), &mut self.page);
+        Ok(())
     }
 
     /// Takes the next bit.
