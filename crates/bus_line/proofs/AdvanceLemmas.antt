@@ -14,7 +14,9 @@ use Rattle.bus_line.specs.Report.{Report, moved}
 use Rattle.bus_line.specs.Due.{current, due_at, placed}
 use Rattle.bus_line.specs.Internal.LineState.{LineState}
 use Rattle.bus_line.specs.Internal.Tracks.{padded, HasTaken, Tracks}
-use Rattle.bus_line.specs.After.{After}
+use Rattle.bus_line.specs.Mark.{MayDecide}
+use Rattle.bus_line.specs.After.{After, TakesTo}
+use Rattle.bus_line.proofs.RunEndLemmas.{ones-are}
 use Rattle.bus_line.specs.Internal.Late.{IsCalm, IsWord, IsStop}
 use Rattle.bus_line.proofs.DueMoreLemmas.{placed-more}
 use Rattle.bus_line.proofs.DecideLemmas.{nothing-due}
@@ -180,3 +182,28 @@ last-more longest origin w n m x b r h e =
 
 pub last-after : {C : Type 0} (folded : C → List ℕ → Type 0) (cost w n m x : ℕ) (e : LineState C) (b : List Bool) → Last w n m x b → After folded cost e (but_last b n m x ++ last_of n m x ∷ []) → After folded cost e (b ++ bits_of (m + 1) x)
 last-after folded cost w n m x e b h k = subst (λ (z : List Bool). After folded cost e (b ++ z)) h.front (after-last folded cost m e b (bits_of n x) h.within k)
+
+-- ---- how many are taken
+
+calm-not : (n : ℕ) (b bits : List Bool) → IsCalm b bits n → (i : ℕ) → i < n → MayDecide (b ++ take i bits) → ⊥
+calm-not n b bits h i l (inl six) = (h i l).0 ((ones-are (b ++ take i bits) 6).1 six)
+calm-not n b bits h i l (inr more) = (h i l).1 ((ones-are (b ++ take i bits) 14).1 more)
+
+pub takes-all : (w n x : ℕ) (b : List Bool) → Calm w n x b → TakesTo b (bits_of n x) n
+takes-all w n x b h = record {
+  before = λ i l. calm-not n b (bits_of n x) h.calm i (omega (arith, l));
+  stop = λ l. absurd (omega (arith, l, length-bits n x));
+}
+
+pub takes-to : (w n m x : ℕ) (b : List Bool) → Last w n m x b → IsStop w m → TakesTo b (bits_of n x) (m + 1)
+takes-to w n m x b h s = record {
+  before = λ i l. calm-not m b (bits_of n x) h.calm i (omega (arith, l));
+  stop = λ l.
+      let e : m ≡ m + 1 - 1 = omega arith in
+      let six = word-just 6 9 w m b (bits_of n x) refl h.word (omega (arith, h.within)) in
+      let more = word-just 14 1 w m b (bits_of n x) refl h.word (omega (arith, h.within)) in
+      subst (λ (j : ℕ). MayDecide (b ++ take j (bits_of n x))) e (elim s [
+        | inl just ↦ inl ((ones-are (b ++ take m (bits_of n x)) 6).0 (six.0 (omega (arith, just))))
+        | inr just ↦ inr ((ones-are (b ++ take m (bits_of n x)) 14).0 (more.0 (omega (arith, just))))
+      ]);
+}

@@ -1,6 +1,7 @@
 -- The lists of bits after which a decoder may stand.
-use Rattle.std.specs.Prelude.{◌≡◌, ℕ, ◌+◌, ◌-◌, ◌≤◌, Bool, List, [], ◌∷◌, ◌++◌, length, Option, Some, None}
+use Rattle.std.specs.Prelude.{◌≡◌, ℕ, ◌+◌, ◌-◌, ◌<◌, ◌≤◌, Bool, List, [], ◌∷◌, ◌++◌, length, take, Option, Some, None}
 use Rattle.bus_bits.specs.Octet.{octets}
+use Rattle.bus_line.specs.Mark.{MayDecide}
 use Rattle.bus_line.specs.Due.{current, placed}
 use Rattle.bus_line.specs.Internal.LineState.{LineState}
 use Rattle.bus_line.specs.declared.piece.Piece.{Piece}
@@ -44,3 +45,8 @@ FitsFrame longest (Some (piece.Damaged span cause)) = Unit {0}
 FitsFrame longest (Some (piece.Overlong span)) = Unit {0}
 FitsFrame longest (Some (piece.Abort span)) = Unit {0}
 FitsFrame longest (Some (piece.Idle span)) = Unit {0}
+
+-- of these bits, behind those of b, so many are taken: all, or those up to the first that may decide a report
+pub record TakesTo (b bits : List Bool) (count : ℕ) : Type 0 where
+  pub before : (i : ℕ) → i + 1 < count → MayDecide (b ++ take i bits) → ⊥
+  pub stop : count < length bits → MayDecide (b ++ take (count - 1) bits)

@@ -78,7 +78,7 @@ impl<C: Check> Model for LineDecoder<C> {
 impl<C: Check> LineDecoder<C> {
     ghost use Rattle.bus_line.specs.contracts.decoder.LineDecoder.{the_row};
     ghost use Rattle.bus_line.specs.Internal.LineState.{LineState};
-    ghost use Rattle.bus_line.specs.After.{After, Pushed, Led, ShowsHeld, FitsFrame};
+    ghost use Rattle.bus_line.specs.After.{After, Pushed, Led, TakesTo, ShowsHeld, FitsFrame};
     ghost use Rattle.bus_line.specs.Shown.{shown, reported};
     ghost use Rattle.bus_line.specs.Report.{moved};
 
@@ -126,6 +126,8 @@ impl<C: Check> LineDecoder<C> {
         requires small { bits < 2 ^ count }
         ensures limit { IsErr result ↔ (2 ^ 60 < self.old.place + count) }
         ensures within { IfOk result (λ t. (1 ≤ t.count) × (t.count ≤ count)) }
+        ensures stops { IfOk result (λ t. (b : List Bool) → After C.folded C.COST self.old b →
+            TakesTo b (bits_of count bits) t.count) }
         ensures answer { IfOk result (λ t. (b : List Bool) → After C.folded C.COST self.old b →
             option_map (reported self.new.octets) t.event
             ≡ option_map (moved self.old.origin)

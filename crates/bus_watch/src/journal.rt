@@ -1,22 +1,21 @@
 //! What is kept of the reports so far.
 
 ghost use Rattle.std.specs.Prelude.{◌≡◌, ◌+◌, ◌≤◌, ◌<◌, ◌^◌, List, ℕ, [], ◌∷◌, ◌++◌, IfOk, length, replicate, true, Some, slice_get, option_copied};
-ghost use Rattle.bus_watch.specs.Seen.{is_stray, answers};
 
 mod keep;
 mod pair;
+mod stray;
 
 use crate::counts::Counts;
 use crate::finding::Finding;
 use crate::kept::Kept;
-use crate::outcome::Outcome;
 use crate::pending::Pending;
-use crate::verdict::Verdict;
 use bus_bits::{Span, Spent};
 use bus_dictionary::{Dictionary, Standing};
 use bus_line::{Event, EventKind};
 use circular_buffer::HeapCircularBuffer;
 use std::alloc::{AllocError, Global};
+use stray::is_stray;
 
 /// What is kept of the reports so far: the command that waits, the verdicts for each station, and
 /// the last frames.
@@ -41,30 +40,6 @@ fn no_counts() -> [Counts; 256]
         spoilt: 0,
         late: 0,
     }; 256]
-}
-
-/// Whether a frame of this standing, which decides this verdict, has an answer's type and answers
-/// nothing.
-fn is_stray(standing: Standing, verdict: Option<Verdict>) -> bool
-    ensures { result ≡ is_stray (Some standing) verdict }
-{
-    match standing.frame_type() {
-        Some(ftype) if ftype >= 128 => !answers(verdict),
-        _ => false,
-    }
-}
-
-/// Whether a verdict says that the command was answered, in time or late.
-fn answers(verdict: Option<Verdict>) -> bool
-    ensures { result ≡ answers verdict }
-{
-    matches!(
-        verdict,
-        Some(Verdict {
-            outcome: Outcome::Answered | Outcome::Late,
-            ..
-        })
-    )
 }
 
 impl Journal {

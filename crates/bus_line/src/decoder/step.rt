@@ -15,7 +15,7 @@ use std::cmp::min;
 impl<C: Check> LineDecoder<C> {
     ghost use Rattle.bus_line.specs.Internal.Tracks.{Tracks};
     ghost use Rattle.bus_line.specs.Shown.{reported};
-    ghost use Rattle.bus_line.specs.After.{After};
+    ghost use Rattle.bus_line.specs.After.{After, TakesTo};
     ghost use Rattle.bus_line.specs.Internal.Late.{IsWord, IsCalm, LagsBy};
     ghost use Rattle.bus_line.specs.Report.{moved};
 
@@ -29,6 +29,7 @@ impl<C: Check> LineDecoder<C> {
         requires room { self.old.place + count ≤ 2 ^ 60 }
         ensures some { 1 ≤ result.count }
         ensures within { result.count ≤ count }
+        ensures stops { (b : List Bool) → After C.folded C.COST self.old b → TakesTo b (bits_of count bits) result.count }
         ensures answer { (b : List Bool) → After C.folded C.COST self.old b →
             option_map (reported self.new.octets) result.event ≡ option_map (moved self.old.origin) (due_at self.old.longest (b ++ bits_of result.count bits) (length b + result.count - 1)) }
         ensures more { (b : List Bool) → After C.folded C.COST self.old b →

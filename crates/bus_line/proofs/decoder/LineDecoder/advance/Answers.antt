@@ -5,7 +5,7 @@ use Rattle.bus_line.specs.Internal.LineState.{LineState}
 use Rattle.bus_line.specs.Internal.LineView.{line_state}
 use Rattle.bus_line.specs.Internal.Tracks.{HasTaken}
 use Rattle.bus_line.specs.Internal.Late.{LagsBy}
-use Rattle.bus_line.proofs.AdvanceLemmas.{word-joined, is_calm, all-due, all-placed, all-after, is_last, last-tracks, last-answer, last-more, last-after, but_last, last_of}
+use Rattle.bus_line.proofs.AdvanceLemmas.{takes-all, takes-to, word-joined, is_calm, all-due, all-placed, all-after, is_last, last-tracks, last-answer, last-more, last-after, but_last, last_of}
 use Rattle.bus_line.proofs.decoder.LineDecoder.advance.Goals as goal
 
 pub returns-then-calm-count-clause-answer : goal.returns-then-calm-count-clause-answer
@@ -91,3 +91,22 @@ returns-clause-after g c = λ b h.
     let lags = subst (λ (j : ℕ). LagsBy g.C.Check.folded g.C.Check.COST c.shift-2.new.self b (take j (bits_of n x))) (c.from-2.ensures ∙ sym c.from-3.ensures) (c.shift-2.ensures.lags b (bits_of n x) word y h) in
     let tracks = last-tracks _ _ _ n m x t c.settle-2.new.self b last c.from-3.ensures (λ q. c.settle-2.ensures.tracks b (bits_of n x) word k q lags) in
     last-after _ _ _ n m x c.decide.new.self b last (c.decide.ensures.after (but_last b n m x) (last_of n m x) tracks)
+
+pub returns-then-calm-count-clause-stops : goal.returns-then-calm-count-clause-stops
+returns-then-calm-count-clause-stops g c = λ b h.
+    let n = c.args.count in
+    let x = c.args.bits in
+    let here : HasTaken (line_state c.self.inside) b = subst (λ (s : LineState g.row.C.Denot). HasTaken s b) (sym c.self.view_is) h.has_taken in
+    let word = word-joined (line_state c.self.inside) n x b here c.requires.few c.requires.small in
+    takes-all _ n x b (is_calm _ n c.calm_bits-calm.result x b word c.if-calm-count.true c.calm_bits-calm.ensures.calm)
+
+pub returns-clause-stops : goal.returns-clause-stops
+returns-clause-stops g c = λ b h.
+    let n = c.args.count in
+    let x = c.args.bits in
+    let here : HasTaken (line_state c.self.inside) b = subst (λ (s : LineState g.row.C.Denot). HasTaken s b) (sym c.self.view_is) h.has_taken in
+    let word = word-joined (line_state c.self.inside) n x b here c.requires.few c.requires.small in
+    let m = c.calm_bits-calm.result in
+    let last = is_last _ n m x b word c.calm_bits-calm.ensures.within c.if-calm-count.false c.calm_bits-calm.ensures.calm in
+    let k = length-bits n x in
+    takes-to _ n m x b last (c.calm_bits-calm.ensures.stop (omega (arith, last.within, k)))
