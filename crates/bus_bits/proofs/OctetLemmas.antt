@@ -1,5 +1,5 @@
 -- Octets, their bits and numbers.
-use Rattle.std.proofs.Common.{◌≡◌, ℕ, zero, suc, ◌+◌, ◌*◌, ◌/◌, ◌%◌, ◌^◌, ◌<◌, ◌≤◌, ◌==◌, Bool, true, false, cond, List, [], ◌∷◌, ◌++◌, length, refl, sym, ap, ◌∙◌, arith, length-append}
+use Rattle.std.proofs.Common.{◌≡◌, ℕ, zero, suc, ◌+◌, ◌-◌, ◌*◌, ◌/◌, ◌%◌, ◌^◌, ◌<◌, ◌≤◌, ◌==◌, Bool, true, false, cond, List, [], ◌∷◌, ◌++◌, length, take, min, nat_cmp, refl, sym, ap, ◌∙◌, arith, length-append}
 use Rattle.std.proofs.lemmas.List.{append-nil, flat_map_more}
 use Rattle.std.proofs.lemmas.List.Elements.{All-head, All-tail}
 use Rattle.std.proofs.lemmas.Grind.{flat_map-append}
@@ -7,9 +7,16 @@ use Rattle.std.proofs.Math.Nat.{pow-suc, mul_assoc}
 use Rattle.std.proofs.lemmas.Bool.Decides.{nat_tests}
 use Rattle.std.proofs.lemmas.Nat.{shr-shr, field_of}
 use Rattle.std.proofs.Math.Pow.{mod-mod-pow}
+use Rattle.std.proofs.Math.Seq.{take-append_seam}
 use mir.Val.{bool_byte}
 use Rattle.std.specs.List.{flat_map, All}
+use Rattle.std.specs.Ordering.{ord_min}
+
 use Rattle.bus_bits.specs.Octet.{bits_of, bits_of_octets, number, octets}
+
+-- the machine's least of two
+pub least : (a b : ℕ) → ord_min nat_cmp a b ≡ min a b
+least a b = grind (arith, nat_tests)
 
 -- ---- numbers
 
@@ -68,6 +75,14 @@ bits-split (suc j) k n =
     let c : suc j + k ≡ suc (j + k) = omega arith in
     let f : 1 + j ≡ suc j = omega arith in
     ap (λ (i : ℕ). bits_of i n) c ∙ ap (λ (z : List Bool). (n % 2 == 1) ∷ z) (bits-split j k (n / 2) ∙ ap (λ (x : ℕ). bits_of j (n / 2) ++ bits_of k x) (shr-shr n 1 j ∙ ap (λ (i : ℕ). n / 2 ^ i) f))
+
+-- the first bits of a number
+pub bits-front : (t n x : ℕ) → t ≤ n → take t (bits_of n x) ≡ bits_of t x
+bits-front t n x l =
+    let e : n ≡ t + (n - t) = omega (arith, l) in
+    let k = length-bits t x in
+    ap (λ (i : ℕ). take t (bits_of i x)) e ∙ (ap (take t) (bits-split t (n - t) x)
+    ∙ (ap (λ (i : ℕ). take i (bits_of t x ++ bits_of (n - t) (x / 2 ^ t))) (sym k) ∙ take-append_seam (bits_of t x) (bits_of (n - t) (x / 2 ^ t))))
 
 -- a bit alone
 pub one_bit : (x n : ℕ) (bit : Bool) → x ≡ bool_byte bit → 1 ≤ n → n ≤ 1 → bits_of n x ≡ bit ∷ []

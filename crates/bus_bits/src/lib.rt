@@ -8,6 +8,6 @@ mod span;
 mod spent;
 
 pub use capture::{BadMark, EightBits, HeadFault, PackedBits, PackedFault, PackedHead, TextBits};
-pub use octet::{bits_octet, octet_bits};
+pub use octet::{bits_number, bits_octet, octet_bits};
 pub use span::Span;
 pub use spent::Spent;

@@ -1,7 +1,7 @@
 //! Octets as bits, the least significant first, as ISO/IEC 13239 sends them (order of bit
 //! transmission).
 
-ghost use Rattle.std.specs.Prelude.{◌≡◌};
+ghost use Rattle.std.specs.Prelude.{◌≡◌, ◌≤◌, ◌<◌, ◌^◌, length};
 ghost use Rattle.bus_bits.specs.Octet.{bits_of, number};
 
 /// The bits of an octet, the least significant first.
@@ -32,4 +32,19 @@ pub fn bits_octet(b: &[bool; 8]) -> u8
         + 32 * u8::from(b[5])
         + 64 * u8::from(b[6])
         + 128 * u8::from(b[7])
+}
+
+/// The number with these bits, at most 64, the least significant first.
+pub fn bits_number(bits: &[bool]) -> u64
+    requires { length bits.now ≤ 64 }
+    ensures value { result ≡ number bits.now }
+    ensures small { result < 2 ^ length bits.now }
+{
+    let mut number: u64 = 0;
+    let mut place: u32 = 0;
+    for bit in bits {
+        number |= u64::from(*bit) << place;
+        place += 1;
+    }
+    number
 }

@@ -9,7 +9,7 @@ use Rattle.std.proofs.lemmas.Nat.{shl_whole}
 use Rattle.std.proofs.lemmas.List.{length-drop, append-nil}
 use Rattle.std.proofs.lemmas.Bool.{cases_lt}
 use Rattle.bus_bits.specs.Octet.{number, bits_of}
-use Rattle.bus_bits.proofs.OctetLemmas.{number-lt, number-bits, length-bits}
+use Rattle.bus_bits.proofs.OctetLemmas.{number-lt, number-bits, length-bits, bits-front}
 use Rattle.bus_line.specs.Report.{Report, moved}
 use Rattle.bus_line.specs.Due.{current, due_at, placed}
 use Rattle.bus_line.specs.Internal.LineState.{LineState}
@@ -25,14 +25,6 @@ use Rattle.bus_line.proofs.WordLemmas.{word-made, word-just, padded-length}
 use Rattle.bus_line.proofs.SettleLemmas.{next-bit, length-front, mark-calm, calm-less}
 
 -- ---- the word
-
--- the first bits of a number
-pub bits-front : (t n x : ℕ) → t ≤ n → take t (bits_of n x) ≡ bits_of t x
-bits-front t n x l =
-    let e : n ≡ t + (n - t) = omega (arith, l) in
-    let k = length-bits t x in
-    ap (λ (i : ℕ). take t (bits_of i x)) e ∙ (ap (take t) (bits-split t (n - t) x)
-    ∙ (ap (λ (i : ℕ). take i (bits_of t x ++ bits_of (n - t) (x / 2 ^ t))) (sym k) ∙ take-append_seam (bits_of t x) (bits_of (n - t) (x / 2 ^ t))))
 
 -- what the machine joins is the word
 pub word-joined : {C : Type 0} (d : LineState C) (n x : ℕ) (b : List Bool) → HasTaken d b → n ≤ 48 → x < 2 ^ n → IsWord (bit_or d.history (x * 65536 % 18446744073709551616)) b (bits_of n x)
@@ -182,6 +174,19 @@ last-more longest origin w n m x b r h e =
 
 pub last-after : {C : Type 0} (folded : C → List ℕ → Type 0) (cost w n m x : ℕ) (e : LineState C) (b : List Bool) → Last w n m x b → After folded cost e (but_last b n m x ++ last_of n m x ∷ []) → After folded cost e (b ++ bits_of (m + 1) x)
 last-after folded cost w n m x e b h k = subst (λ (z : List Bool). After folded cost e (b ++ z)) h.front (after-last folded cost m e b (bits_of n x) h.within k)
+
+-- nothing is due at calm bits
+pub calm-before-last : (longest origin w n i x : ℕ) (b : List Bool) → Calm w n x b → i ≤ n → placed origin longest (b ++ bits_of i x) ≡ placed origin longest b
+calm-before-last longest origin w n i x b h l =
+    let k = length-bits n x in
+    ap (λ (z : List Bool). placed origin longest (b ++ z)) (sym (bits-front i n x l)) ∙ calm-placed origin longest n b (bits_of n x) h.calm i l (omega (arith, l, k))
+
+pub last-before : (longest origin w n m x : ℕ) (b : List Bool) → Last w n m x b → placed origin longest (b ++ bits_of (m + 1 - 1) x) ≡ placed origin longest b
+last-before longest origin w n m x b h =
+    let k = length-bits n x in
+    let e : m + 1 - 1 ≡ m = omega arith in
+    ap (λ (j : ℕ). placed origin longest (b ++ bits_of j x)) e
+    ∙ (ap (λ (z : List Bool). placed origin longest (b ++ z)) (sym (bits-front m n x (omega (arith, h.within, k)))) ∙ calm-placed origin longest m b (bits_of n x) h.calm m (omega arith) (omega (arith, h.within)))
 
 -- ---- how many are taken
 

@@ -7,7 +7,7 @@ use Rattle.std.proofs.Math.Nat.{mod-one, zero-mod, zero-div, pow-suc}
 use Rattle.std.proofs.lemmas.Nat.{mod-pow-add, shr-shr, pow_pos}
 use Rattle.std.proofs.lemmas.List.{length-take, length-drop, take-append-drop, take-append-le, drop-append-le, drop-drop, get_or-drop, append_assoc, append-nil}
 use Rattle.bus_bits.specs.Octet.{number}
-use Rattle.bus_bits.proofs.OctetLemmas.{number-cons, number-lt, number-append, same_number}
+use Rattle.bus_bits.proofs.OctetLemmas.{least, number-cons, number-lt, number-append, same_number}
 use Rattle.bus_line.specs.Spelling.{ones}
 use Rattle.bus_line.specs.Mark.{StandsAt}
 use Rattle.bus_line.specs.Internal.Run.{ones_at_end}
@@ -20,10 +20,6 @@ use Rattle.bus_line.proofs.LedgerSettledLemmas.{inserted-true, inserted-is}
 use Rattle.bus_line.proofs.WholeLemmas.{take_next}
 
 -- ---- numbers
-
--- the machine's least of two
-pub least : (a b : ℕ) → ord_min nat_cmp a b ≡ min a b
-least a b = grind (arith, nat_tests)
 
 bit-below : (x : Bool) → cond x 1 0 < 2
 bit-below true = omega arith

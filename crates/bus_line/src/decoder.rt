@@ -136,6 +136,9 @@ impl<C: Check> LineDecoder<C> {
             placed self.old.origin self.old.longest (b ++ bits_of t.count bits)
             ≡ placed self.old.origin self.old.longest b
             ++ option_to_list (option_map (reported self.new.octets) t.event)) }
+        ensures before { IfOk result (λ t. (b : List Bool) → After C.folded C.COST self.old b →
+            placed self.old.origin self.old.longest (b ++ bits_of (t.count - 1) bits)
+            ≡ placed self.old.origin self.old.longest b) }
         ensures leads { IfOk result (λ t. Led C.folded C.COST self.old (bits_of t.count bits) self.new) }
         ensures unchanged { OnErr result (self.new ≡ self.old) }
     {

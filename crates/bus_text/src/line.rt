@@ -13,16 +13,16 @@ use itoa::Buffer;
 /// A line of a frame that is shown; the longest is shorter.
 pub type Line = ArrayString<640>;
 
-/// The digit as a lower-case hexadecimal character.
+/// The lower-case hexadecimal digits.
+const DIGITS: [u8; 16] = *b"0123456789abcdef";
+
+/// The digit as a lower-case hexadecimal character, found without a branch.
 fn hex_char(digit: u8) -> char
     requires { digit < 16 }
     ensures { result ≡ hex_digit digit }
 {
-    if digit < 10 {
-        (b'0' + digit) as char
-    } else {
-        (b'a' + (digit - 10)) as char
-    }
+    // so that it is plain that the character is one octet in UTF-8
+    (DIGITS[usize::from(digit)] & 0x7f) as char
 }
 
 /// Appends two hexadecimal digits.

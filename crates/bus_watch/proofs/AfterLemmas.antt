@@ -80,3 +80,11 @@ ledger-is folded cost a b d j s l copied handled = record {
   kept = copied ∙ s.journal.copied ∙ octets-moved a.decoder.origin (reports (longest_of a.journal.dictionary) b);
   reported = handled ∙ s.journal.handled ∙ steps-moved a.decoder.origin (reports (longest_of a.journal.dictionary) b);
 }
+
+-- where nothing is reported, nothing is seen
+pub seen-before : {C : Type 0} (folded : C → List ℕ → Type 0) (cost : ℕ) (a : AnalyserState C) (bits : List Bool)
+    → ((b : List Bool) → After folded cost a.decoder b → placed a.decoder.origin a.decoder.longest (b ++ bits) ≡ placed a.decoder.origin a.decoder.longest b)
+    → (b : List Bool) → IsAfter folded cost a b → seen_after a (b ++ bits) ≡ seen_after a b
+seen-before folded cost a bits calm b s =
+    let same : line a (b ++ bits) ≡ line a b = rw (← s.longest) (calm b s.decoder) in
+    ap (seen a.journal.dictionary) same

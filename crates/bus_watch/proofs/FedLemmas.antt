@@ -1,7 +1,10 @@
 -- Feeding some bits, and then more.
-use Rattle.std.proofs.Common.{◌≡◌, ℕ, ◌+◌, ◌≤◌, Bool, List, [], ◌∷◌, ◌++◌, length, take, Option, Some, None, refl, sym, ap, ◌∙◌, append_assoc, append-nil, arith, length-append, subst}
-use Rattle.std.proofs.lemmas.List.{take-append-le}
+use Rattle.std.proofs.Common.{◌≡◌, ℕ, ◌+◌, ◌-◌, ◌<◌, ◌≤◌, Bool, List, [], ◌∷◌, ◌++◌, length, take, Option, Some, None, refl, sym, ap, ◌∙◌, append_assoc, append-nil, arith, length-append, subst}
+use Rattle.std.specs.Option.{option_to_list}
+use Rattle.std.proofs.lemmas.List.{take-append-le, take-take, length-take}
 use Rattle.std.proofs.Math.Seq.{take-append-add}
+use Rattle.bus_bits.specs.Octet.{number, bits_of}
+use Rattle.bus_bits.proofs.OctetLemmas.{bits-number, bits-front}
 use Rattle.bus_watch.specs.Seen.{SeenReport}
 use Rattle.bus_watch.specs.Sink.{told}
 use Rattle.bus_watch.specs.After.{AnalyserState, IsAfter, Sees, seen_after}
@@ -14,6 +17,13 @@ told-nil (Some xs) = ap Some (sym (append-nil xs))
 pub told-more : (t : Option (List SeenReport)) (xs ys : List SeenReport) → told (told t xs) ys ≡ told t (xs ++ ys)
 told-more None xs ys = refl
 told-more (Some zs) xs ys = ap Some (append_assoc zs xs ys)
+
+-- the first bits of a word are those of the list that it was made of
+pub word-front : (bits : List Bool) (w most n : ℕ) → w ≡ number (take most bits) → most ≤ length bits → n ≤ most → bits_of n w ≡ take n bits
+word-front bits w most n e l m =
+    let k : length (take most bits) ≡ most = omega (arith, length-take most bits, l) in
+    let all : bits_of most w ≡ take most bits = ap (bits_of most) e ∙ bits-number (take most bits) most k in
+    sym (bits-front n most w m) ∙ (ap (take n) all ∙ take-take n most bits m)
 
 module _ {C : Type 0} (folded : C → List ℕ → Type 0) (cost : ℕ) where
   pub sees-nil : (a : AnalyserState C) → Sees folded cost a [] [] a
@@ -50,29 +60,53 @@ module _ {C : Type 0} (folded : C → List ℕ → Type 0) (cost : ℕ) where
       took = q.took ∙ (ap (λ z. told z q.seen) p.took ∙ told-more (taken s) p.seen q.seen);
     }
 
-    pub refused-one : (a c : AnalyserState C) (bit : Bool) (t u : S) (lost : SeenReport) → Sees folded cost a (bit ∷ []) (lost ∷ []) c → taken u ≡ taken t → Refused folded cost taken a (bit ∷ []) c t u
-    refused-one a c bit t u lost h e = record {
+    -- bits at the last of which the first report is seen
+    pub refused-first : (a c : AnalyserState C) (xs : List Bool) (t u : S) (lost : SeenReport) → 0 < length xs → Sees folded cost a xs (lost ∷ []) c
+        → ((b : List Bool) → IsAfter folded cost a b → seen_after a (b ++ take (length xs - 1) xs) ≡ seen_after a b) → taken u ≡ taken t
+        → Refused folded cost taken a xs c t u
+    refused-first a c xs t u lost some h calm e = record {
       seen = [];
       lost = lost;
-      before_last = a;
-      last = bit;
-      front = [];
-      all = refl;
-      sees = sees-nil a;
-      sees_last = h;
+      some = some;
+      sees = h;
+      front = λ b s. calm b s ∙ sym (append-nil (seen_after a b));
       took = e ∙ told-nil (taken t);
     }
+
+    -- the first bits of a list, in a word, and what was handed over
+    pub fed-word : (a c : AnalyserState C) (bits : List Bool) (w most n : ℕ) (o : Option SeenReport) (s t : S) → w ≡ number (take most bits) → most ≤ length bits → n ≤ most
+        → Sees folded cost a (bits_of n w) (option_to_list o) c → taken t ≡ told (taken s) (option_to_list o) → Fed folded cost taken a (take n bits) c s t
+    fed-word a c bits w most n o s t e l m h took = record {
+      seen = option_to_list o;
+      sees = subst (λ (x : List Bool). Sees folded cost a x (option_to_list o) c) (word-front bits w most n e l m) h;
+      took = took;
+    }
+
+    -- or was not
+    pub refused-word : (a c : AnalyserState C) (bits : List Bool) (w most n : ℕ) (o : Option SeenReport) (s t : S) → w ≡ number (take most bits) → most ≤ length bits → 1 ≤ n → n ≤ most
+        → Sees folded cost a (bits_of n w) (option_to_list o) c → ((b : List Bool) → IsAfter folded cost a b → seen_after a (b ++ bits_of (n - 1) w) ≡ seen_after a b)
+        → (lost : SeenReport) × (o ≡ Some lost) × (taken t ≡ taken s) → Refused folded cost taken a (take n bits) c s t
+    refused-word a c bits w most n o s t e l some m h calm lost =
+        let k : length (take n bits) ≡ n = omega (arith, length-take n bits, l, m) in
+        let front : take (length (take n bits) - 1) (take n bits) ≡ bits_of (n - 1) w =
+        ap (λ i. take (i - 1) (take n bits)) k ∙ (take-take (n - 1) n bits (omega arith) ∙ sym (word-front bits w most (n - 1) e l (omega (arith, m)))) in
+        refused-first a c (take n bits) s t lost.0 (omega (arith, k, some))
+        (subst (λ (x : List Bool). Sees folded cost a x (lost.0 ∷ []) c) (word-front bits w most n e l m) (subst (λ x. Sees folded cost a (bits_of n w) (option_to_list x) c) lost.1 h))
+        (λ b i. ap (λ z. seen_after a (b ++ z)) front ∙ calm b i) lost.2
 
     pub refused-after : (a b c : AnalyserState C) (xs ys : List Bool) (s t u : S) → Fed folded cost taken a xs b s t → Refused folded cost taken b ys c t u → Refused folded cost taken a (xs ++ ys) c s u
     refused-after a b c xs ys s t u p q = record {
       seen = p.seen ++ q.seen;
       lost = q.lost;
-      before_last = q.before_last;
-      last = q.last;
-      front = xs ++ q.front;
-      all = ap (λ zs. xs ++ zs) q.all ∙ sym (append_assoc xs q.front (q.last ∷ []));
-      sees = sees-more a b q.before_last xs q.front p.seen q.seen p.sees q.sees;
-      sees_last = q.sees_last;
+      some = omega (arith, length-append xs ys, q.some);
+      sees = subst (λ l. Sees folded cost a (xs ++ ys) l c) (sym (append_assoc p.seen q.seen (q.lost ∷ []))) (sees-more a b c xs ys p.seen (q.seen ++ q.lost ∷ []) p.sees q.sees);
+      front = λ bits h.
+          let n = length ys - 1 in
+          let m : length (xs ++ ys) - 1 ≡ length xs + n = omega (arith, length-append xs ys, q.some) in
+          let e : take (length (xs ++ ys) - 1) (xs ++ ys) ≡ xs ++ take n ys = ap (λ k. take k (xs ++ ys)) m ∙ take-append-add xs ys n in
+          let same : (bs : List Bool) → seen_after b bs ≡ seen_after a bs = λ bs. rw (p.sees.dictionary, p.sees.origin) refl in
+          ap (λ z. seen_after a (bits ++ z)) e ∙ ap (seen_after a) (sym (append_assoc bits xs (take n ys))) ∙ sym (same ((bits ++ xs) ++ take n ys))
+          ∙ (q.front (bits ++ xs) (p.sees.is_after bits h) ∙ (ap (λ l. l ++ q.seen) (same (bits ++ xs) ∙ p.sees.seen bits h) ∙ append_assoc (seen_after a bits) p.seen q.seen));
       took = q.took ∙ (ap (λ z. told z q.seen) p.took ∙ told-more (taken s) p.seen q.seen);
     }
 

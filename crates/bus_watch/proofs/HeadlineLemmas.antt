@@ -5,6 +5,7 @@ use Rattle.std.proofs.lemmas.Grind.{flat_map-append}
 use Rattle.bus_line.specs.Due.{begun}
 use Rattle.bus_line.specs.Ledger.{stored_from}
 use Rattle.bus_dictionary.specs.Dictionary.{longest_of}
+use Rattle.bus_watch.specs.Sink.{told}
 use Rattle.bus_watch.specs.Seen.{SeenReport}
 use Rattle.bus_watch.specs.History.{history}
 use Rattle.bus_watch.specs.Ledger.{IsLedger, total}
@@ -100,20 +101,14 @@ stopped folded cost taken a e b s t consumed new at =
     let r = at.refused in
     let d = a.journal.dictionary in
     let origin = a.decoder.origin in
-    let count : length r.front + 1 ≡ consumed = omega (arith, at.within, length-take consumed b, ap length r.all, length-append r.front (r.last ∷ [])) in
-    let front : take (consumed - 1) b ≡ r.front =
-    sym (take-take (consumed - 1) consumed b (omega arith))
-    ∙ (ap (take (consumed - 1)) r.all
-    ∙ (take-append-le (consumed - 1) r.front (r.last ∷ []) (omega (arith, count))
-    ∙ take_all (consumed - 1) r.front (omega (arith, count)))) in
-    let before : all_seen d origin r.front ≡ r.seen = r.sees.seen [] new in
-    let same : (bs : List Bool) → seen_after r.before_last bs ≡ seen_after a bs = λ bs. rw (r.sees.dictionary, r.sees.origin) refl in
-    let grown : all_seen d origin (r.front ++ r.last ∷ []) ≡ all_seen d origin r.front ++ r.lost ∷ [] =
-    sym (same (r.front ++ r.last ∷ [])) ∙ (r.sees_last.seen r.front (r.sees.is_after [] new) ∙ ap (λ xs. xs ++ r.lost ∷ []) (same r.front)) in
+    let n : length (take consumed b) - 1 ≡ consumed - 1 = omega (arith, at.within, length-take consumed b) in
+    let front : take (length (take consumed b) - 1) (take consumed b) ≡ take (consumed - 1) b =
+    ap (λ k. take k (take consumed b)) n ∙ take-take (consumed - 1) consumed b (omega arith) in
+    let before : all_seen d origin (take (consumed - 1) b) ≡ r.seen = ap (all_seen d origin) (sym front) ∙ r.front [] new in
     record {
       some = at.some;
       within = at.within;
-      took = rw (front, before) r.took;
+      took = r.took ∙ ap (told (taken s)) (sym before);
       lost = r.lost;
-      refused = rw (front, r.all) grown;
+      refused = r.sees.seen [] new ∙ ap (λ xs. xs ++ r.lost ∷ []) (sym before);
     }

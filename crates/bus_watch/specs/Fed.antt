@@ -1,8 +1,8 @@
 -- What feeding bits does to an analyser and a sink.
-use Rattle.std.specs.Prelude.{◌≡◌, ℕ, ◌<◌, ◌≤◌, Bool, List, [], ◌∷◌, ◌++◌, length, take, Option}
+use Rattle.std.specs.Prelude.{◌≡◌, ℕ, ◌-◌, ◌<◌, ◌≤◌, Bool, List, [], ◌∷◌, ◌++◌, length, take, Option}
 use Rattle.bus_watch.specs.Seen.{SeenReport}
 use Rattle.bus_watch.specs.Sink.{told}
-use Rattle.bus_watch.specs.After.{AnalyserState, Sees}
+use Rattle.bus_watch.specs.After.{AnalyserState, IsAfter, Sees, seen_after}
 use Rattle.bus_watch.specs.declared.feed_fault.FeedFault.{FeedFault}
 use Rattle.bus_watch.specs.declared.feed_fault.FeedFault.TheVariants.{PlaceLimit, Sink}
 
@@ -13,16 +13,13 @@ module _ {C S : Type 0} (folded : C → List ℕ → Type 0) (cost : ℕ) (taken
     pub sees : Sees folded cost old bits seen new
     pub took : taken after ≡ told (taken before) seen
 
-  -- these bits led from old to new, and the sink took what is seen at them but the last, which is seen at the last bit
+  -- these bits led from old to new, and the sink took what is seen at them but the last of it, which the last bit decides
   pub record Refused (old : AnalyserState C) (bits : List Bool) (new : AnalyserState C) (before after : S) : Type 0 where
     pub seen : List SeenReport
     pub lost : SeenReport
-    pub before_last : AnalyserState C
-    pub last : Bool
-    pub front : List Bool
-    pub all : bits ≡ front ++ last ∷ []
-    pub sees : Sees folded cost old front seen before_last
-    pub sees_last : Sees folded cost before_last (last ∷ []) (lost ∷ []) new
+    pub some : 0 < length bits
+    pub sees : Sees folded cost old bits (seen ++ lost ∷ []) new
+    pub front : (b : List Bool) → IsAfter folded cost old b → seen_after old (b ++ take (length bits - 1) bits) ≡ seen_after old b ++ seen
     pub took : taken after ≡ told (taken before) seen
 
   -- of the first bits of a list

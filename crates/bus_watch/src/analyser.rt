@@ -1,6 +1,6 @@
 //! The analyser: what is seen on a line, up to 48 bits at a time, in fixed memory.
 
-ghost use Rattle.std.specs.Prelude.{◌≡◌, ◌+◌, ◌*◌, ◌≤◌, ◌<◌, ◌^◌, ◌↔◌, ◌⊎◌, List, Bool, [], ◌∷◌, ◌++◌, IsErr, IfOk, OnOk, OnErr, IsTrue, false, length, ℕ, Some, Err, slice_get};
+ghost use Rattle.std.specs.Prelude.{◌≡◌, ◌+◌, ◌-◌, ◌*◌, ◌≤◌, ◌<◌, ◌^◌, ◌↔◌, ◌⊎◌, List, Bool, [], ◌∷◌, ◌++◌, IsErr, IfOk, OnOk, OnErr, IsTrue, false, length, ℕ, Some, Err, slice_get};
 ghost use Rattle.std.specs.Option.{option_map, option_to_list};
 ghost use Rattle.std.specs.Borrow.{sem};
 ghost use Rattle.std.specs.Io.BufRead.{Rests};
@@ -51,7 +51,7 @@ impl<C: Check> Model for Analyser<C> {
 
 impl<C: Check> Analyser<C> {
     ghost use Rattle.bus_watch.specs.contracts.analyser.Analyser.{the_row};
-    ghost use Rattle.bus_watch.specs.After.{IsAfter, Sees, line};
+    ghost use Rattle.bus_watch.specs.After.{IsAfter, Sees, line, seen_after};
     ghost use Rattle.bus_watch.specs.Seen.{seen_at};
     ghost use Rattle.bus_watch.specs.Shown.{shown_option, found, kept_option, begun_span, IsKeepable};
     ghost use Rattle.bus_watch.specs.History.{history, tally};
@@ -104,9 +104,14 @@ impl<C: Check> Analyser<C> {
         ensures within { IfOk result (λ t. (1 ≤ t.count) × (t.count ≤ count)) }
         ensures sees { IfOk result (λ t. Sees C.folded C.COST self.old (bits_of t.count bits)
             (option_to_list (option_map (found self.new.decoder.octets) t.finding)) self.new) }
+        ensures before { IfOk result (λ t. (b : List Bool) → IsAfter C.folded C.COST self.old b →
+            seen_after self.old (b ++ bits_of (t.count - 1) bits) ≡ seen_after self.old b) }
         ensures unchanged { OnErr result (self.new ≡ self.old) }
     {
-        let taken = self.decoder.take(bits, count)?;
+        let taken = match self.decoder.take(bits, count) {
+            Ok(taken) => taken,
+            Err(PlaceLimit) => return Err(PlaceLimit),
+        };
         let Some(event) = taken.event else {
             return Ok(Taken {
                 count: taken.count,
@@ -116,9 +121,10 @@ impl<C: Check> Analyser<C> {
         reports_are();
         frame_is_spelled();
         settled_places();
+        let finding = self.journal.take(event, self.decoder.octets());
         Ok(Taken {
             count: taken.count,
-            finding: Some(self.journal.take(event, self.decoder.octets())),
+            finding: Some(finding),
         })
     }
 

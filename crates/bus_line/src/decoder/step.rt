@@ -34,6 +34,8 @@ impl<C: Check> LineDecoder<C> {
             option_map (reported self.new.octets) result.event ≡ option_map (moved self.old.origin) (due_at self.old.longest (b ++ bits_of result.count bits) (length b + result.count - 1)) }
         ensures more { (b : List Bool) → After C.folded C.COST self.old b →
             placed self.old.origin self.old.longest (b ++ bits_of result.count bits) ≡ placed self.old.origin self.old.longest b ++ option_to_list (option_map (reported self.new.octets) result.event) }
+        ensures before { (b : List Bool) → After C.folded C.COST self.old b →
+            placed self.old.origin self.old.longest (b ++ bits_of (result.count - 1) bits) ≡ placed self.old.origin self.old.longest b }
         ensures after { (b : List Bool) → After C.folded C.COST self.old b → After C.folded C.COST self.new (b ++ bits_of result.count bits) }
         ensures longest { self.new.longest ≡ self.old.longest }
         ensures origin { self.new.origin ≡ self.old.origin }

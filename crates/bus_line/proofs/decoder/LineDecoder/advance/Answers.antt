@@ -1,11 +1,11 @@
-use Rattle.std.proofs.Common.{◌≤◌, ℕ, length, take, sym, ◌∙◌, subst, arith}
+use Rattle.std.proofs.Common.{◌≤◌, ◌-◌, ℕ, length, take, sym, ◌∙◌, subst, arith}
 use Rattle.bus_bits.specs.Octet.{bits_of}
 use Rattle.bus_bits.proofs.OctetLemmas.{length-bits}
 use Rattle.bus_line.specs.Internal.LineState.{LineState}
 use Rattle.bus_line.specs.Internal.LineView.{line_state}
 use Rattle.bus_line.specs.Internal.Tracks.{HasTaken}
 use Rattle.bus_line.specs.Internal.Late.{LagsBy}
-use Rattle.bus_line.proofs.AdvanceLemmas.{takes-all, takes-to, word-joined, is_calm, all-due, all-placed, all-after, is_last, last-tracks, last-answer, last-more, last-after, but_last, last_of}
+use Rattle.bus_line.proofs.AdvanceLemmas.{calm-before-last, last-before, takes-all, takes-to, word-joined, is_calm, all-due, all-placed, all-after, is_last, last-tracks, last-answer, last-more, last-after, but_last, last_of}
 use Rattle.bus_line.proofs.decoder.LineDecoder.advance.Goals as goal
 
 pub returns-then-calm-count-clause-answer : goal.returns-then-calm-count-clause-answer
@@ -110,3 +110,22 @@ returns-clause-stops g c = λ b h.
     let last = is_last _ n m x b word c.calm_bits-calm.ensures.within c.if-calm-count.false c.calm_bits-calm.ensures.calm in
     let k = length-bits n x in
     takes-to _ n m x b last (c.calm_bits-calm.ensures.stop (omega (arith, last.within, k)))
+
+pub returns-then-calm-count-clause-before : goal.returns-then-calm-count-clause-before
+returns-then-calm-count-clause-before g c = λ b h.
+    let d = c.args.self.now in
+    let n = c.args.count in
+    let x = c.args.bits in
+    let here : HasTaken (line_state c.self.inside) b = subst (λ (s : LineState g.row.C.Denot). HasTaken s b) (sym c.self.view_is) h.has_taken in
+    let word = word-joined (line_state c.self.inside) n x b here c.requires.few c.requires.small in
+    calm-before-last d.longest d.origin _ n (n - 1) x b (is_calm _ n c.calm_bits-calm.result x b word c.if-calm-count.true c.calm_bits-calm.ensures.calm) (omega arith)
+
+pub returns-clause-before : goal.returns-clause-before
+returns-clause-before g c = λ b h.
+    let d = c.args.self.now in
+    let n = c.args.count in
+    let x = c.args.bits in
+    let here : HasTaken (line_state c.self.inside) b = subst (λ (s : LineState g.row.C.Denot). HasTaken s b) (sym c.self.view_is) h.has_taken in
+    let word = word-joined (line_state c.self.inside) n x b here c.requires.few c.requires.small in
+    let m = c.calm_bits-calm.result in
+    last-before d.longest d.origin _ n m x b (is_last _ n m x b word c.calm_bits-calm.ensures.within c.if-calm-count.false c.calm_bits-calm.ensures.calm)

@@ -1,6 +1,6 @@
 use Rattle.std.proofs.Common.{◌≡◌, ◌+◌, ◌-◌, ℕ, List, length, take, min, ap, ◌∙◌, arith}
 use Rattle.bus_line.specs.Internal.LineState.{LineState}
-use Rattle.bus_line.proofs.WordLemmas.{least}
+use Rattle.bus_bits.proofs.OctetLemmas.{least}
 use Rattle.bus_line.proofs.TracksAppendLemmas.{keeps-more}
 use Rattle.bus_line.proofs.decoder.LineDecoder.put_all.Goals as goal
 

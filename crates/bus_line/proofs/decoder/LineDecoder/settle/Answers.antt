@@ -1,7 +1,7 @@
 use Rattle.std.proofs.Common.{◌≡◌, ℕ, ◌+◌, ◌-◌, Some, min, ◌∙◌, sym, ap, refl, arith}
 use Rattle.bus_line.specs.Internal.LineState.{LineState}
 use Rattle.bus_line.specs.Internal.LineView.{settles_from}
-use Rattle.bus_line.proofs.WordLemmas.{least}
+use Rattle.bus_bits.proofs.OctetLemmas.{least}
 use Rattle.bus_line.proofs.StepLemmas.{settles-open}
 use Rattle.bus_line.proofs.SettleLemmas.{word-unsettled, word-settled}
 use Rattle.bus_line.proofs.decoder.LineDecoder.settle.Goals as goal
