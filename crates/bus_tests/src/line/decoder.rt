@@ -60,8 +60,8 @@ fn hear<C: Check>(
         let taken = decoder.take(word, count).expect(rt, "a place");
         let last = place.wrapping_add(u64::from(taken.count)).wrapping_sub(1);
         rest = &rest[rest.len().min(taken.count as usize)..];
-        if let Some(piece) = taken.piece {
-            heard.add(rt, alloc, last, &piece);
+        if let Some(event) = taken.event {
+            heard.add(rt, alloc, last, &event.with_octets(decoder.octets()));
         }
         heard.most = heard.most.max(decoder.buffered());
     }

@@ -84,8 +84,8 @@ pub(super) fn taken<C: Check>(
         let (word, count) = word_of(rt, rest, size);
         let taken = analyser.take(word, count).expect(rt, "a place");
         rest = &rest[rest.len().min(taken.count as usize)..];
-        if let Some(seen) = taken.seen {
-            push_seen(&mut text, &seen).expect(rt, "text");
+        if let Some(finding) = taken.finding {
+            push_seen(&mut text, &finding.with_octets(analyser.octets())).expect(rt, "text");
         }
     }
     push_ending(&mut text, analyser.ending()).expect(rt, "text");
