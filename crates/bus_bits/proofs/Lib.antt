@@ -3,5 +3,6 @@ pub mod EightBitsLemmas
 pub mod EightBitsOfNineLemmas
 pub mod OctetLemmas
 pub mod PackedLemmas
+pub mod PairsLemmas
 pub mod TextBitsLemmas
 mod Examples

@@ -18,7 +18,7 @@ pads n d = list_any (λ b. b) (unused n d)
 
 -- ---- the three cases of wanted bits
 
-wanted-pads : (n : ℕ) (d : List Bool) → pads n d ≡ true → wanted n d ≡ record { bits = take (n / 8 * 8) d; fault = Some pad_bits }
+pub wanted-pads : (n : ℕ) (d : List Bool) → pads n d ≡ true → wanted n d ≡ record { bits = take (n / 8 * 8) d; fault = Some pad_bits }
 unfolding wanted
 wanted-pads n d h =
     ap (λ (t : Bool). if t then record { bits = take (n / 8 * 8) d; fault = Some pad_bits } else record { bits = take n d; fault = if nat_lt (next_multiple_of n 8) (length d) then Some trailing else None }) h
@@ -35,7 +35,7 @@ wanted-clean n d h l =
     ap (λ (t : Bool). if t then record { bits = take (n / 8 * 8) d; fault = Some pad_bits } else record { bits = take n d; fault = if nat_lt (next_multiple_of n 8) (length d) then Some trailing else None }) h
     ∙ ap (λ (t : Bool). record { bits = take n d; fault = if t then Some trailing else None }) (le_false (next_multiple_of n 8) (length d) l)
 
-wanted-bits : (n : ℕ) (d : List Bool) → pads n d ≡ false → (wanted n d).bits ≡ take n d
+pub wanted-bits : (n : ℕ) (d : List Bool) → pads n d ≡ false → (wanted n d).bits ≡ take n d
 wanted-bits n d h = elim (le_or_lt (length d) (next_multiple_of n 8)) [
   | inl l ↦ ap (λ (c : Capture). c.bits) (wanted-clean n d h l)
   | inr l ↦ ap (λ (c : Capture). c.bits) (wanted-long n d h l)
@@ -291,16 +291,24 @@ six-taken n xs os left w h l eight below is =
       all.1 ∙ ap (λ (b : List Bool). (packed_body n xs).bits ++ b) bits,
     )
 
+-- ---- the end of the input
+
+pub filled-all : {A : Type 0} (n : ℕ) (c : CaptureOf A) → c.fault ≡ None → n ≤ length c.bits → (filled n c).fault ≡ None
+filled-all n c h l =
+    ap (λ (g : Option CaptureFault). or_fault g (if nat_lt (length c.bits) n then Some short_body else None)) h
+    ∙ ap (λ (b : Bool). if b then Some short_body else None) (le_false (length c.bits) n l)
+
+pub filled-few : {A : Type 0} (n : ℕ) (c : CaptureOf A) → c.fault ≡ None → length c.bits < n → (filled n c).fault ≡ Some short_body
+filled-few n c h l =
+    ap (λ (g : Option CaptureFault). or_fault g (if nat_lt (length c.bits) n then Some short_body else None)) h
+    ∙ ap (λ (b : Bool). if b then Some short_body else None) (lt_true (length c.bits) n l)
+
 pub packed-full : (n : ℕ) (xs : List ℕ) → PackedAfter n xs 0 → (filled n (packed_body n xs)).fault ≡ None
-packed-full n xs h =
-    ap (λ (g : Option CaptureFault). or_fault g (if nat_lt (length (packed_body n xs).bits) n then Some short_body else None)) h.clean
-    ∙ ap (λ (b : Bool). if b then Some short_body else None) (le_false (length (packed_body n xs).bits) n (omega (arith, h.left_over)))
+packed-full n xs h = filled-all n (packed_body n xs) h.clean (omega (arith, h.left_over))
 
 pub packed-short : (n : ℕ) (xs : List ℕ) (left : ℕ) → PackedAfter n xs left → 0 < left
     → (filled n (packed_body n xs)).fault ≡ Some short_body
-packed-short n xs left h p =
-    ap (λ (g : Option CaptureFault). or_fault g (if nat_lt (length (packed_body n xs).bits) n then Some short_body else None)) h.clean
-    ∙ ap (λ (b : Bool). if b then Some short_body else None) (lt_true (length (packed_body n xs).bits) n (omega (arith, h.left_over)))
+packed-short n xs left h p = filled-few n (packed_body n xs) h.clean (omega (arith, h.left_over, p))
 
 -- ---- any cut of what stands behind a head
 

@@ -1,5 +1,5 @@
 -- Text captures, one octet more and any cut.
-use Rattle.std.proofs.Common.{◌≡◌, ℕ, ◌/◌, ◌<◌, ◌==◌, ◌||◌, ◌⊎◌, inl, inr, Bool, true, false, cond, nat_lt, if◌then◌else◌, ◌≢◌, length-append, List, [], ◌∷◌, ◌++◌, length, map, filter, take_while, Some, None, refl, sym, ap, ◌∙◌, arith}
+use Rattle.std.proofs.Common.{◌≡◌, ℕ, ◌-◌, ◌/◌, ◌%◌, ◌<◌, ◌==◌, ◌||◌, ◌⊎◌, inl, inr, Bool, true, false, cond, nat_lt, if◌then◌else◌, ◌≢◌, length-append, List, [], ◌∷◌, ◌++◌, length, map, filter, take_while, Some, None, refl, sym, ap, ◌∙◌, arith}
 use Rattle.std.proofs.lemmas.List.{append-nil, map-append}
 use Rattle.std.proofs.lemmas.List.Elements.{filter-append}
 use Rattle.std.proofs.lemmas.List.Sums.{take_while-cons}
@@ -163,3 +163,18 @@ pairs-stop = values-stop is_pair mark_pair
 
 pub text-pairs-grow : (xs ys : List ℕ) → GrowsTo (text_pair_capture xs) (text_pair_capture (xs ++ ys))
 text-pairs-grow = values-grow is_pair mark_pair
+
+pub mark_is_pair : (x : ℕ) → x / 4 ≡ 12 → (is_pair x ≡ true) × (is_pair_text x ≡ true)
+mark_is_pair x h = (grind (arith, nat_tests), grind (arith, nat_tests))
+
+pub mark_by_quarter : (x : ℕ) → x / 4 ≢ 12 → is_pair x ≡ false
+mark_by_quarter x h = grind (arith, nat_tests)
+
+both_ones : (i j k l : ℕ) → i ≡ j → k ≡ l → ◌≡◌ {A = Bool × Bool} (i == 1, k == 1) (j == 1, l == 1)
+both_ones i j k l e f = ap {B = Bool × Bool} (λ (n : ℕ). (n == 1, k == 1)) e ∙ ap {B = Bool × Bool} (λ (n : ℕ). (j == 1, n == 1)) f
+
+pub mark_pair_is : (x : ℕ) → x / 4 ≡ 12 → mark_pair x ≡ (x % 2 == 1, x / 2 % 2 == 1)
+mark_pair_is x h = both_ones ((x - 48) % 2) (x % 2) ((x - 48) / 2) (x / 2 % 2) (omega (arith, h)) (omega (arith, h))
+
+pub pair_space : (x : ℕ) → is_space x ≡ true → is_pair_text x ≡ true
+pair_space x h = ap (λ b. is_pair x || b) h ∙ or-true (is_pair x)

@@ -1,7 +1,7 @@
 //! Laws over the definitions.
 
-ghost use Rattle.bus_bits.specs.Capture.{TextGrows, CappedGrows};
-ghost use Rattle.bus_bits.specs.Packed.{PackedIsHeaded, PackedIsShort, PackedGrows, PackedEnds};
+ghost use Rattle.bus_bits.specs.Capture.{TextGrows, TextPairsGrow, CappedGrows, CappedPairsGrow};
+ghost use Rattle.bus_bits.specs.Packed.{PackedIsHeaded, PackedIsShort, PackedGrows, PackedEnds, PairsAreHeaded, PairsAreShort, PackedPairsGrow, PackedPairsEnd};
 ghost use Rattle.bus_bits.specs.Octet.{NumberOfBits, BitsOfNumber, BitsOfOctets, OctetsOfBits};
 
 /// An octet and its eight bits determine each other.
@@ -30,4 +30,19 @@ pub fn captures_grow()
     ensures packed { PackedGrows }
     ensures ended { PackedEnds }
     ensures capped { CappedGrows }
+{}
+
+/// And a packed capture of two lines likewise is a head and what follows it.
+pub fn pairs_are_head_and_body()
+    ensures headed { PairsAreHeaded }
+    ensures short { PairsAreShort }
+{}
+
+/// However the octets of a capture of two lines are cut, their pairs are the same. The end of the
+/// input adds no pair.
+pub fn pair_captures_grow()
+    ensures text { TextPairsGrow }
+    ensures packed { PackedPairsGrow }
+    ensures ended { PackedPairsEnd }
+    ensures capped { CappedPairsGrow }
 {}

@@ -7,7 +7,10 @@ mod octet;
 mod span;
 mod spent;
 
-pub use capture::{BadMark, EightBits, HeadFault, PackedBits, PackedFault, PackedHead, TextBits};
+pub use capture::{
+    BadMark, EightBits, HeadFault, PackedBits, PackedFault, PackedHead, PackedPairs, PairHead,
+    TextBits, TextPairs,
+};
 pub use octet::{bits_octet, octet_bits};
 pub use span::Span;
 pub use spent::Spent;

@@ -9,7 +9,7 @@ use super::eight_bits::{EightBits, gathered, joined, other_bits};
 
 const ONE: u8 = b'1';
 
-/// The octet is no `0`, no `1` and no space.
+/// The octet is no mark, `0` or `1` of one line and `0` to `3` of two, and no space.
 #[derive(Clone, Copy, Debug, PartialEq, Eq)]
 pub struct BadMark;
 
@@ -79,7 +79,7 @@ impl TextBits {
 }
 
 /// Whether the octet is space, tab, CR or LF.
-fn is_skipped(octet: u8) -> bool
+pub(super) fn is_skipped(octet: u8) -> bool
     ensures { result ≡ is_space octet }
 {
     octet == b' ' || octet == b'\t' || octet == b'\r' || octet == b'\n'

@@ -1,0 +1,92 @@
+//! The pairs of a packed capture of two lines, after its head.
+
+ghost use Rattle.std.specs.Prelude.{◌≡◌, ℕ, List, [], ◌∷◌, ◌++◌, Some, None, MatchResult, OnErr};
+ghost use Rattle.bus_bits.specs.Octet.{bits_of};
+ghost use Rattle.bus_bits.specs.Packed.{PairsAfter, pair_body, packed_fault_of, filled, in_pairs};
+
+use super::packed_bits::{PackedFault, gathered, has_one};
+use super::packed_head::PairHead;
+use crate::octet::octet_bits;
+use arrayvec::ArrayVec;
+use std::marker::Model;
+
+/// Reads the octets after a head of two lines, each for four pairs: of each two bits, from the least
+/// significant on, the lower is the first line's, and the higher the second line's. The last octet
+/// gives the pairs that are left, and its other bits are 0. In contracts it is the number of pairs
+/// left.
+#[derive(Clone, Copy, Debug, PartialEq, Eq)]
+pub struct PackedPairs {
+    left: u64,
+}
+
+impl Model for PackedPairs {
+    ghost Value = { ℕ };
+
+    ghost view = { λ reader. reader.left };
+
+    ghost inverse = { λ left. record { left = left } };
+}
+
+impl PackedPairs {
+    /// A reader that has taken no octet.
+    pub fn new(head: PairHead) -> Self
+        ensures { PairsAfter head.pairs [] result }
+    {
+        PackedPairs { left: head.pairs }
+    }
+
+    /// How many pairs are not yet given.
+    pub fn left(&self) -> u64
+        ensures { result ≡ self.now }
+    {
+        self.left
+    }
+
+    /// The pairs of the next octet, four or as many as are left.
+    ///
+    /// Where none is left the octet is refused as [`PackedFault::Trailing`], and where a bit is 1
+    /// of which no pair is left as [`PackedFault::PadBits`]. A refusal changes nothing.
+    pub fn step(&mut self, octet: u8) -> Result<ArrayVec<(bool, bool), 4>, PackedFault>
+        ensures given { (n : ℕ) (xs : List ℕ) → PairsAfter n xs self.old → MatchResult result
+            (λ pairs. PairsAfter n (xs ++ octet ∷ []) self.new
+            × ((pair_body n (xs ++ octet ∷ [])).bits ≡ (pair_body n xs).bits ++ pairs.items))
+            (λ fault. pair_body n (xs ++ octet ∷ [])
+            ≡ record { bits = (pair_body n xs).bits; fault = Some (packed_fault_of fault) }) }
+        ensures kept { OnErr result (self.new ≡ self.old) }
+    {
+        if self.left == 0 {
+            return Err(PackedFault::Trailing);
+        }
+        let used = self.left.min(4);
+        if has_one(&octet_bits(octet)[2 * used as usize..]) {
+            return Err(PackedFault::PadBits);
+        }
+        self.left -= used;
+        Ok(gathered(&octet_pairs(octet)[..used as usize]))
+    }
+
+    /// Refuses the end of the input as [`PackedFault::ShortBody`] where pairs are left.
+    pub fn finish(&self) -> Result<(), PackedFault>
+        ensures { (n : ℕ) (xs : List ℕ) → PairsAfter n xs self.now → MatchResult result
+            (λ _. (filled n (pair_body n xs)).fault ≡ None)
+            (λ fault. (filled n (pair_body n xs)).fault ≡ Some (packed_fault_of fault)) }
+    {
+        if self.left > 0 {
+            Err(PackedFault::ShortBody)
+        } else {
+            Ok(())
+        }
+    }
+}
+
+/// The bits of an octet two by two, from the least significant on.
+fn octet_pairs(o: u8) -> [(bool, bool); 4]
+    ensures { result ≡ in_pairs (bits_of 8 o) }
+{
+    [
+        (o % 2 == 1, o / 2 % 2 == 1),
+        (o / 4 % 2 == 1, o / 8 % 2 == 1),
+        (o / 16 % 2 == 1, o / 32 % 2 == 1),
+        (o / 64 % 2 == 1, o / 128 % 2 == 1),
+    ]
+}
