@@ -28,7 +28,7 @@ word-lt (b ∷ bs) h =
 times-three : (a b c : ℕ) → a * (b * c) ≡ a * b * c
 times-three a b c = grind arith
 
-word-append : (xs ys : List ℕ) → word (xs ++ ys) ≡ word ys * 2 ^ (8 * length xs) + word xs
+pub word-append : (xs ys : List ℕ) → word (xs ++ ys) ≡ word ys * 2 ^ (8 * length xs) + word xs
 unfolding word
 word-append [] ys = omega arith
 word-append (x ∷ xs) ys =

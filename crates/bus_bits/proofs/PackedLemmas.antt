@@ -238,7 +238,7 @@ whole-taken n xs o left h l =
     )
 
 -- several of them
-wholes-taken : (n : ℕ) (xs os : List ℕ) (left : ℕ) → PackedAfter n xs left → 8 * length os ≤ left
+pub wholes-taken : (n : ℕ) (xs os : List ℕ) (left : ℕ) → PackedAfter n xs left → 8 * length os ≤ left
     → PackedAfter n (xs ++ os) (left - 8 * length os) × ((packed_body n (xs ++ os)).bits ≡ (packed_body n xs).bits ++ bits_of_octets os)
 unfolding bits_of_octets
 wholes-taken n xs [] left h l =
@@ -257,7 +257,7 @@ wholes-taken n xs (o ∷ os) left h l =
     )
 
 -- the lowest bits of octets in one number are those of the first of them
-word-front : (os rest : List ℕ) → All (λ o. o < 256) os → bits_of (8 * length os) (word (os ++ rest)) ≡ bits_of_octets os
+pub word-front : (os rest : List ℕ) → All (λ o. o < 256) os → bits_of (8 * length os) (word (os ++ rest)) ≡ bits_of_octets os
 unfolding word bits_of_octets bits_of
 word-front [] rest h = refl
 word-front (o ∷ os) rest h =
@@ -270,7 +270,7 @@ word-front (o ∷ os) rest h =
     ∙ ap (λ (b : List Bool). b ++ bits_of (8 * length os) ((n * 256 + o) / 2 ^ 8)) (sym (bits-low 8 (n * 256 + o)) ∙ ap (bits_of 8) low)
     ∙ ap (λ (k : ℕ). bits_of 8 o ++ bits_of (8 * length os) k) high ∙ ap (λ (b : List Bool). bits_of 8 o ++ b) (word-front os rest (λ i d l. h (suc i) d (omega (arith, l))))
 
-all-first : (k : ℕ) (os : List ℕ) → All (λ o. o < 256) os → All (λ o. o < 256) (take k os)
+pub all-first : (k : ℕ) (os : List ℕ) → All (λ o. o < 256) os → All (λ o. o < 256) (take k os)
 all-first zero os h i d l = absurd (omega (arith, l))
 all-first (suc k) [] h i d l = absurd (omega (arith, l))
 all-first (suc k) (o ∷ os) h zero d l = h 0 d (omega arith)

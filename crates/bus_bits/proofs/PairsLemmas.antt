@@ -7,7 +7,7 @@ use Rattle.bus_bits.specs.Capture.{Capture, PairCapture, pad_bits, trailing, sho
 use Rattle.bus_bits.specs.Packed.{head_bits, pair_head_fault, wanted, packed_body, in_pairs, pair_body, headed, packed_pair_capture, filled, packed_pair_whole, PackedAfter, PairsAfter}
 use Rattle.bus_bits.proofs.CaptureLemmas.{le_or_lt, same}
 use Rattle.bus_bits.proofs.OctetLemmas.{length-bits, bits_of_eight}
-use Rattle.bus_bits.proofs.PackedLemmas.{pads, wanted-pads, wanted-bits, by_eights, packed-new, packed-trailing, packed-pad, packed-more, filled-all, filled-few, body-grows, behind-short, behind-headed, behind-grows, behind-ends}
+use Rattle.bus_bits.proofs.PackedLemmas.{pads, wanted-pads, wanted-bits, by_eights, packed-new, packed-trailing, packed-pad, packed-more, wholes-taken, filled-all, filled-few, body-grows, behind-short, behind-headed, behind-grows, behind-ends}
 
 -- ---- bits two by two
 
@@ -131,6 +131,16 @@ pairs-more n xs o left h p y =
     let r = packed-more (2 * n) xs o (2 * left) (to-bits n xs left h) (omega (arith, p)) y in (
       from-bits n (xs ++ o ∷ []) (left - 4) (2 * left - 8) r.0 (omega arith),
       ap in_pairs r.1 ∙ pairs-append (packed_body (2 * n) xs).bits (take (2 * left) (bits_of 8 o)) (even-body n xs),
+    )
+
+-- octets all of whose pairs are wanted
+pub pairs-taken : (n : ℕ) (xs os : List ℕ) (left : ℕ) → PairsAfter n xs left → 4 * length os ≤ left
+    → PairsAfter n (xs ++ os) (left - 4 * length os)
+    × ((pair_body n (xs ++ os)).bits ≡ (pair_body n xs).bits ++ in_pairs (bits_of_octets os))
+pairs-taken n xs os left h l =
+    let r = wholes-taken (2 * n) xs os (2 * left) (to-bits n xs left h) (omega (arith, l)) in (
+      from-bits n (xs ++ os) (left - 4 * length os) (2 * left - 8 * length os) r.0 (omega (arith, l)),
+      ap in_pairs r.1 ∙ pairs-append (packed_body (2 * n) xs).bits (bits_of_octets os) (even-body n xs),
     )
 
 pub pairs-full : (n : ℕ) (xs : List ℕ) → PairsAfter n xs 0 → (filled n (pair_body n xs)).fault ≡ None

@@ -9,7 +9,7 @@ mod spent;
 
 pub use capture::{
     BadMark, EightBits, HeadFault, PackedBits, PackedFault, PackedHead, PackedPairs, PairHead,
-    TextBits, TextPairs,
+    PairWords, TextBits, TextPairs,
 };
 pub use octet::{bits_octet, octet_bits};
 pub use span::Span;

@@ -1,11 +1,12 @@
 //! The pairs of a packed capture of two lines, after its head.
 
-ghost use Rattle.std.specs.Prelude.{◌≡◌, ℕ, List, [], ◌∷◌, ◌++◌, Some, None, MatchResult, OnErr};
+ghost use Rattle.std.specs.Prelude.{◌≡◌, ℕ, List, [], ◌∷◌, ◌++◌, Some, None, MatchResult, OnErr, ◌≤◌, ◌<◌, ◌^◌, zip};
 ghost use Rattle.bus_bits.specs.Octet.{bits_of};
 ghost use Rattle.bus_bits.specs.Packed.{PairsAfter, pair_body, packed_fault_of, filled, in_pairs};
 
 use super::packed_bits::{PackedFault, gathered, has_one};
 use super::packed_head::PairHead;
+use super::pair_words::{PairWords, parted};
 use crate::octet::octet_bits;
 use arrayvec::ArrayVec;
 use std::marker::Model;
@@ -63,6 +64,26 @@ impl PackedPairs {
         }
         self.left -= used;
         Ok(gathered(&octet_pairs(octet)[..used as usize]))
+    }
+
+    /// Takes twelve octets, of which all pairs are wanted, and gives these 48 pairs.
+    #[inline(always)]
+    pub fn take_twelve(&mut self, octets: &[u8; 12]) -> PairWords
+        requires { 48 ≤ self.old }
+        ensures given { (n : ℕ) (xs : List ℕ) → PairsAfter n xs self.old →
+            PairsAfter n (xs ++ octets.now) self.new
+            × ((pair_body n (xs ++ octets.now)).bits
+            ≡ (pair_body n xs).bits ++ zip (bits_of 48 result.first) (bits_of 48 result.second)) }
+        ensures small { (result.first < 2 ^ 48) × (result.second < 2 ^ 48) }
+    {
+        self.left -= 48;
+        let [a, b, c, d, e, f, g, h, i, j, k, l] = *octets;
+        let front = parted(u64::from_le_bytes([a, b, c, d, e, f, g, h]));
+        let back = parted(u64::from_le_bytes([i, j, k, l, 0, 0, 0, 0]));
+        PairWords {
+            first: front.first | back.first << 32,
+            second: front.second | back.second << 32,
+        }
     }
 
     /// Refuses the end of the input as [`PackedFault::ShortBody`] where pairs are left.
