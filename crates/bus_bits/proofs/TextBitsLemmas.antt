@@ -142,7 +142,7 @@ mark_is_text x h = (grind (arith, nat_tests), grind (arith, nat_tests))
 pub mark_by_half : (x : ℕ) → x / 2 ≢ 24 → is_bit x ≡ false
 mark_by_half x h = grind (arith, nat_tests)
 
-pub mark_text : (x : ℕ) → is_bit x ≡ true → is_text x ≡ true
+mark_text : (x : ℕ) → is_bit x ≡ true → is_text x ≡ true
 mark_text x h = ap (λ b. b || is_space x) h
 
 pub text_space : (x : ℕ) → is_space x ≡ true → is_text x ≡ true

@@ -1,5 +1,5 @@
 -- The bits of a capture: those before the first fault, and the fault.
-use Rattle.std.specs.Prelude.{◌≡◌, ◌≤◌, ℕ, ◌-◌, ◌/◌, ◌%◌, ◌^◌, ◌==◌, ◌||◌, Bool, List, ◌++◌, length, map, filter, take, take_while, nat_lt, if◌then◌else◌, Option, Some, None}
+use Rattle.std.specs.Prelude.{◌≡◌, ◌≤◌, ◌<◌, ◌↔◌, bit_and, bit_xor, true, ℕ, ◌-◌, ◌/◌, ◌%◌, ◌^◌, ◌==◌, ◌||◌, Bool, List, ◌++◌, length, map, filter, take, take_while, nat_lt, if◌then◌else◌, Option, Some, None}
 
 -- why a capture can't be read on
 pub data CaptureFault : Type 0 where
@@ -73,9 +73,21 @@ text_pairs xs = map mark_pair (marks_by is_pair xs)
 abbrev pub text_pairs_fault : List ℕ → Option CaptureFault
 text_pairs_fault xs = fault_by is_pair xs
 
--- the first `n` octets have no fault and give eight bits
+-- the first `n` octets have no fault, and eight marks
+abbrev pub EightBy : (ℕ → Bool) → ℕ → List ℕ → Type 0
+EightBy is_mark n xs = (n ≤ length xs) × (fault_by is_mark (take n xs) ≡ None) × (length (marks_by is_mark (take n xs)) ≡ 8)
+
+-- they give eight bits
 abbrev pub EightIn : ℕ → List ℕ → Type 0
-EightIn n xs = (n ≤ length xs) × (text_fault (take n xs) ≡ None) × (length (text_bits (take n xs)) ≡ 8)
+EightIn n xs = EightBy is_bit n xs
+
+-- or eight pairs
+abbrev pub EightPairsIn : ℕ → List ℕ → Type 0
+EightPairsIn n xs = EightBy is_pair n xs
+
+-- the marks are the octets that have the bits of `0` wherever `high` has a 1
+abbrev pub HasMarks : ℕ → (ℕ → Bool) → Type 0
+HasMarks high is_mark = (x : ℕ) → x < 256 → (is_mark x ≡ true) ↔ (bit_and (bit_xor x 48) high ≡ 0)
 
 -- text: a `0` or `1` is a bit
 abbrev pub text_capture : List ℕ → Capture

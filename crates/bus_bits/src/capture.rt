@@ -8,7 +8,7 @@ mod pair_words;
 mod text_bits;
 mod text_pairs;
 
-pub use eight_bits::EightBits;
+pub use eight_bits::{EightBits, EightPairs};
 pub use packed_bits::{PackedBits, PackedFault};
 pub use packed_head::{HeadFault, PackedHead, PairHead};
 pub use packed_pairs::PackedPairs;

@@ -8,8 +8,8 @@ mod span;
 mod spent;
 
 pub use capture::{
-    BadMark, EightBits, HeadFault, PackedBits, PackedFault, PackedHead, PackedPairs, PairHead,
-    PairWords, TextBits, TextPairs,
+    BadMark, EightBits, EightPairs, HeadFault, PackedBits, PackedFault, PackedHead, PackedPairs,
+    PairHead, PairWords, TextBits, TextPairs,
 };
 pub use octet::{bits_octet, octet_bits};
 pub use span::Span;

@@ -1,9 +1,11 @@
 //! The pairs of a text capture of two lines.
 
-ghost use Rattle.std.specs.Prelude.{◌≡◌, ℕ, List, [], ◌∷◌, ◌++◌, length, MatchResult, Some, None};
-ghost use Rattle.std.specs.Option.{option_to_list};
-ghost use Rattle.bus_bits.specs.Capture.{text_pairs, text_pairs_fault, bad_mark};
+ghost use Rattle.std.specs.Prelude.{◌≡◌, ℕ, List, [], ◌∷◌, ◌++◌, ◌≤◌, ◌⊎◌, ◌↔◌, length, take, zip, MatchResult, Some, None, IsSome};
+ghost use Rattle.std.specs.Option.{ForSome, option_to_list};
+ghost use Rattle.bus_bits.specs.Octet.{bits_of};
+ghost use Rattle.bus_bits.specs.Capture.{EightPairsIn, text_pairs, text_pairs_fault, bad_mark};
 
+use super::eight_bits::{EightPairs, PAIR_HIGH, eight_marks, gathered_pairs};
 use super::text_bits::{BadMark, is_skipped};
 
 const ZERO: u8 = b'0';
@@ -39,5 +41,27 @@ impl TextPairs {
         } else {
             Err(BadMark)
         }
+    }
+
+    /// The next eight pairs, and how many octets they take: eight, or nine where one of these is
+    /// skipped. None where the next nine octets do not begin so.
+    #[inline(always)]
+    pub fn eight(octets: &[u8]) -> Option<EightPairs>
+        ensures given { ForSome result (λ e. (xs : List ℕ) → text_pairs_fault xs ≡ None →
+            (text_pairs_fault (xs ++ take e.taken octets.now) ≡ None)
+            × (text_pairs (xs ++ take e.taken octets.now)
+            ≡ text_pairs xs ++ zip (bits_of 8 e.first) (bits_of 8 e.second))) }
+        ensures fewest { ForSome result
+            (λ e. EightPairsIn e.taken octets.now × ((n : ℕ) → EightPairsIn n octets.now → e.taken ≤ n)) }
+        ensures few { ForSome result (λ e. (8 ≤ e.taken) × (e.taken ≤ 9)) }
+        ensures some { IsSome result ↔ (EightPairsIn 8 octets.now ⊎ EightPairsIn 9 octets.now) }
+    {
+        let eight = eight_marks(octets, PAIR_HIGH)?;
+        let (first, second) = gathered_pairs(&eight.marks);
+        Some(EightPairs {
+            first,
+            second,
+            taken: eight.taken,
+        })
     }
 }
