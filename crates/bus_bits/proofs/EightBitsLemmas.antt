@@ -10,7 +10,8 @@ use Rattle.std.specs.Int.{w64, from_le_bytes}
 use Rattle.std.specs.Int.RustNames.{bit_xor}
 use Rattle.std.specs.List.{All, list_all}
 use Rattle.bus_bits.specs.Octet.{bits_of, number}
-use Rattle.bus_bits.specs.Capture.{HasMarks, is_bit, is_pair, mark_pair}
+use Rattle.bus_bits.specs.Internal.Marks.{HasMarks}
+use Rattle.bus_bits.specs.Capture.{is_bit, is_pair, mark_pair}
 use Rattle.std.specs.Prelude.{zip}
 use Rattle.bus_bits.proofs.CaptureLemmas.{same}
 use Rattle.bus_bits.proofs.OctetLemmas.{bits-number, number-lt}

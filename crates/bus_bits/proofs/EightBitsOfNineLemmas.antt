@@ -10,7 +10,8 @@ use Rattle.std.proofs.lemmas.Nat.{and_le_r, and_mask, or_comm, pow-add, pow_pos,
 use Rattle.std.proofs.lemmas.Nat.Bits.{bit_at-zero, bit_at_cat_low, bit_at_cat_high, bit_at-trailing_zeros, and_high_mask, same_from_bits_below}
 use Rattle.std.specs.Int.{w64, from_le_bytes, bit_at, trailing_zeros}
 use Rattle.std.specs.List.{All, list_all}
-use Rattle.bus_bits.specs.Capture.{HasMarks, EightBy, is_space, marks_by, fault_by}
+use Rattle.bus_bits.specs.Internal.Marks.{HasMarks}
+use Rattle.bus_bits.specs.Capture.{EightBy, is_space, marks_by, fault_by}
 use Rattle.bus_bits.proofs.CaptureLemmas.{same}
 use Rattle.bus_bits.proofs.EightBitsLemmas.{word, word-eight, other, all_marks, marks_all}
 use Rattle.bus_bits.proofs.TextBitsLemmas.{is_read, values-more, marks-whole}

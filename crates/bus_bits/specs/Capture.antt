@@ -1,11 +1,11 @@
 -- The bits of a capture: those before the first fault, and the fault.
-use Rattle.std.specs.Prelude.{◌≡◌, ◌≤◌, ◌<◌, ◌↔◌, bit_and, bit_xor, true, ℕ, ◌-◌, ◌/◌, ◌%◌, ◌^◌, ◌==◌, ◌||◌, Bool, List, ◌++◌, length, map, filter, take, take_while, nat_lt, if◌then◌else◌, Option, Some, None}
+use Rattle.std.specs.Prelude.{◌≡◌, ◌≤◌, ℕ, ◌-◌, ◌/◌, ◌%◌, ◌^◌, ◌==◌, ◌||◌, Bool, List, ◌++◌, length, map, filter, take, take_while, nat_lt, if◌then◌else◌, Option, Some, None}
 
 -- why a capture can't be read on
 pub data CaptureFault : Type 0 where
-  bad_mark : ℕ → CaptureFault  -- the octet at this place is no bit and no space
+  bad_mark : ℕ → CaptureFault  -- the octet at this place is no mark and no space
   magic : CaptureFault  -- the head begins with other octets
-  too_many : CaptureFault  -- the head counts more than 2^60 bits
+  too_many : CaptureFault  -- the head counts more than 2^60 bits or pairs
   pad_bits : CaptureFault  -- an unused bit of the last octet is 1
   trailing : CaptureFault  -- an octet follows the last
   place_limit : CaptureFault  -- the next bit's place would be 2^60
@@ -84,10 +84,6 @@ EightIn n xs = EightBy is_bit n xs
 -- or eight pairs
 abbrev pub EightPairsIn : ℕ → List ℕ → Type 0
 EightPairsIn n xs = EightBy is_pair n xs
-
--- the marks are the octets that have the bits of `0` wherever `high` has a 1
-abbrev pub HasMarks : ℕ → (ℕ → Bool) → Type 0
-HasMarks high is_mark = (x : ℕ) → x < 256 → (is_mark x ≡ true) ↔ (bit_and (bit_xor x 48) high ≡ 0)
 
 -- text: a `0` or `1` is a bit
 abbrev pub text_capture : List ℕ → Capture

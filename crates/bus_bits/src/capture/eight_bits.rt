@@ -5,7 +5,8 @@ ghost use Rattle.std.specs.Int.{w64, from_le_bytes};
 ghost use Rattle.std.specs.List.{list_all};
 ghost use Rattle.std.specs.Option.{ForSome};
 ghost use Rattle.bus_bits.specs.Octet.{bits_of};
-ghost use Rattle.bus_bits.specs.Capture.{HasMarks, EightBy, is_bit, is_pair, is_space, mark_pair};
+ghost use Rattle.bus_bits.specs.Internal.Marks.{HasMarks};
+ghost use Rattle.bus_bits.specs.Capture.{EightBy, is_bit, is_pair, is_space, mark_pair};
 
 use super::text_bits::is_skipped;
 
@@ -48,6 +49,7 @@ pub struct EightPairs {
 /// Eight marks of a text capture.
 #[derive(Clone, Copy)]
 pub(super) struct EightMarks {
+    /// The marks, without what is skipped.
     pub(super) marks: [u8; 8],
     /// How many octets of the text they took.
     pub(super) taken: usize,

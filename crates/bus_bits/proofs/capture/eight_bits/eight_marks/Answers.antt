@@ -5,7 +5,8 @@ use Rattle.std.proofs.lemmas.List.Elements.{All-take, All-from_get_or}
 use Rattle.std.specs.Array.{IsFirstChunk}
 use Rattle.std.specs.Int.{w64, from_le_bytes, trailing_zeros}
 use Rattle.std.specs.List.{All, list_all}
-use Rattle.bus_bits.specs.Capture.{HasMarks, EightBy, is_space}
+use Rattle.bus_bits.specs.Internal.Marks.{HasMarks}
+use Rattle.bus_bits.specs.Capture.{EightBy, is_space}
 use Rattle.bus_bits.specs.declared.capture.eight_bits.EightMarks.{EightMarks}
 use Rattle.bus_bits.proofs.TextBitsLemmas.{is_read}
 use Rattle.bus_bits.proofs.EightBitsLemmas.{other}
