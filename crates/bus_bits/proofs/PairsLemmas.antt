@@ -1,12 +1,13 @@
 -- Packed captures of pairs, one octet more and any cut.
-use Rattle.std.proofs.Common.{◌≡◌, ℕ, zero, suc, ◌-◌, ◌*◌, ◌/◌, ◌%◌, ◌<◌, ◌≤◌, ◌==◌, min, inl, inr, Bool, true, false, List, [], ◌∷◌, ◌++◌, length, take, drop, codes, Some, None, refl, sym, ap, ◌∙◌, arith}
+use Rattle.std.proofs.Common.{◌≡◌, ℕ, zero, suc, ◌+◌, ◌-◌, ◌*◌, ◌/◌, ◌%◌, ◌<◌, ◌≤◌, ◌==◌, min, inl, inr, Bool, true, false, List, [], ◌∷◌, ◌++◌, length, map, take, drop, codes, Some, None, refl, sym, ap, ◌∙◌, arith}
 use Rattle.std.proofs.lemmas.List.{length-take, length-drop, take_all, drop_all}
 use Rattle.std.specs.List.{list_any}
 use Rattle.bus_bits.specs.Octet.{bits_of, bits_of_octets}
-use Rattle.bus_bits.specs.Capture.{Capture, PairCapture, pad_bits, trailing, short_head, short_body, GrowsTo}
+use Rattle.bus_bits.specs.Capture.{mark_pair, Capture, PairCapture, pad_bits, trailing, short_head, short_body, GrowsTo}
 use Rattle.bus_bits.specs.Packed.{head_bits, pair_head_fault, wanted, packed_body, in_pairs, pair_body, headed, packed_pair_capture, filled, packed_pair_whole, PackedAfter, PairsAfter}
 use Rattle.bus_bits.proofs.CaptureLemmas.{le_or_lt, same}
 use Rattle.bus_bits.proofs.OctetLemmas.{length-bits, bits_of_eight}
+use Rattle.bus_bits.proofs.TextBitsLemmas.{both_ones}
 use Rattle.bus_bits.proofs.PackedLemmas.{pads, wanted-pads, wanted-bits, by_eights, packed-new, packed-trailing, packed-pad, packed-more, wholes-taken, filled-all, filled-few, body-grows, behind-short, behind-headed, behind-grows, behind-ends}
 
 -- ---- bits two by two
@@ -30,6 +31,22 @@ pub pairs_of_octet : (o : ℕ)
     ≡ in_pairs (bits_of 8 o)
 unfolding in_pairs
 pairs_of_octet o = ap in_pairs (bits_of_eight o)
+
+-- the mark of a digit has the lowest bit of a number, and the next
+digit_pair : (a b : ℕ) → b ≡ a / 2 → mark_pair (48 + a % 4) ≡ (a % 2 == 1, b % 2 == 1)
+digit_pair a b h =
+    both_ones ((48 + a % 4 - 48) % 2) (a % 2) ((48 + a % 4 - 48) / 2) (b % 2) (omega arith) (omega (arith, h))
+
+pub four-marks : (o : ℕ) → in_pairs (bits_of 8 o) ≡ map (λ d. mark_pair (48 + d)) (o % 4 ∷ o / 4 % 4 ∷ o / 16 % 4 ∷ o / 64 % 4 ∷ [])
+four-marks o =
+    let a = digit_pair o (o / 2) refl in
+    let b = digit_pair (o / 4) (o / 8) (omega arith) in
+    let c = digit_pair (o / 16) (o / 32) (omega arith) in
+    let d = digit_pair (o / 64) (o / 128) (omega arith) in
+    sym (pairs_of_octet o) ∙ sym (four _ _ _ _ _ _ _ _ a b c d)
+  where
+    four : (p q r s t u v w : Bool × Bool) → p ≡ t → q ≡ u → r ≡ v → s ≡ w → p ∷ q ∷ r ∷ s ∷ [] ≡ t ∷ u ∷ v ∷ w ∷ []
+    four p q r s t u v w e f g h = cc
 
 pub pairs-take : (k : ℕ) (d : List Bool) → take k (in_pairs d) ≡ in_pairs (take (2 * k) d)
 unfolding in_pairs

@@ -170,7 +170,7 @@ mark_is_pair x h = (grind (arith, nat_tests), grind (arith, nat_tests))
 pub mark_by_quarter : (x : ℕ) → x / 4 ≢ 12 → is_pair x ≡ false
 mark_by_quarter x h = grind (arith, nat_tests)
 
-both_ones : (i j k l : ℕ) → i ≡ j → k ≡ l → ◌≡◌ {A = Bool × Bool} (i == 1, k == 1) (j == 1, l == 1)
+pub both_ones : (i j k l : ℕ) → i ≡ j → k ≡ l → ◌≡◌ {A = Bool × Bool} (i == 1, k == 1) (j == 1, l == 1)
 both_ones i j k l e f = ap {B = Bool × Bool} (λ (n : ℕ). (n == 1, k == 1)) e ∙ ap {B = Bool × Bool} (λ (n : ℕ). (j == 1, n == 1)) f
 
 pub mark_pair_is : (x : ℕ) → x / 4 ≡ 12 → mark_pair x ≡ (x % 2 == 1, x / 2 % 2 == 1)

@@ -1,9 +1,9 @@
 -- Packed captures: a head of sixteen octets, and the bits by eights, the least significant of an octet first, or pairs by fours.
-use Rattle.std.specs.Prelude.{◌≡◌, ℕ, ◌+◌, ◌-◌, ◌*◌, ◌/◌, ◌^◌, ◌<◌, ◌==◌, Bool, List, [], ◌∷◌, ◌++◌, length, take, drop, codes, slice_range, nat_lt, if◌then◌else◌, Option, Some, None}
+use Rattle.std.specs.Prelude.{◌≡◌, ℕ, ◌+◌, ◌-◌, ◌*◌, ◌/◌, ◌%◌, ◌^◌, ◌<◌, ◌==◌, Bool, List, [], ◌∷◌, ◌++◌, length, map, take, drop, codes, slice_range, nat_lt, if◌then◌else◌, Option, Some, None}
 use Rattle.std.specs.Int.{w64, from_le_bytes, next_multiple_of}
 use Rattle.std.specs.List.{list_any, starts_with}
-use Rattle.bus_bits.specs.Octet.{bits_of_octets}
-use Rattle.bus_bits.specs.Capture.{CaptureOf, Capture, PairCapture, CaptureFault, magic, too_many, pad_bits, trailing, short_head, short_body, GrowsTo}
+use Rattle.bus_bits.specs.Octet.{bits_of, bits_of_octets}
+use Rattle.bus_bits.specs.Capture.{CaptureOf, Capture, PairCapture, CaptureFault, magic, too_many, pad_bits, trailing, short_head, short_body, GrowsTo, mark_pair}
 use Rattle.bus_bits.specs.declared.capture.packed_head.HeadFault.{HeadFault}
 use Rattle.bus_bits.specs.declared.capture.packed_head.HeadFault.TheVariants.{Magic, TooMany}
 use Rattle.bus_bits.specs.declared.capture.packed_bits.PackedFault.{PackedFault}
@@ -105,6 +105,11 @@ pub record PackedAfter (n : ℕ) (xs : List ℕ) (left : ℕ) : Type 0 where
 pub record PairsAfter (n : ℕ) (xs : List ℕ) (left : ℕ) : Type 0 where
   pub clean : (pair_body n xs).fault ≡ None
   pub left_over : length (pair_body n xs).bits + left ≡ n
+
+-- the pairs of an octet are those of four marks, its digits to the base 4, the lowest first
+abbrev pub OctetIsFourMarks : Type 0
+OctetIsFourMarks =
+    (o : ℕ) → in_pairs (bits_of 8 o) ≡ map (λ d. mark_pair (48 + d)) (o % 4 ∷ o / 4 % 4 ∷ o / 16 % 4 ∷ o / 64 % 4 ∷ [])
 
 -- sixteen octets are the head of all octets that begin with them
 abbrev pub PackedIsHeaded : Type 0
