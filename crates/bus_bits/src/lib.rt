@@ -1,4 +1,4 @@
-//! Octets and bits, spans of places, counted steps, and the bits of a capture.
+//! Octets and bits, spans of places, counted steps, and the bits of a capture of one line or two.
 #![tactic(auto)]
 
 mod capture;

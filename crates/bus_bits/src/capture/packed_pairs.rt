@@ -11,10 +11,10 @@ use crate::octet::octet_bits;
 use arrayvec::ArrayVec;
 use std::marker::Model;
 
-/// Reads the octets after a head of two lines, each for four pairs: of each two bits, from the least
-/// significant on, the lower is the first line's, and the higher the second line's. The last octet
-/// gives the pairs that are left, and its other bits are 0. In contracts it is the number of pairs
-/// left.
+/// Reads the octets after a head of two lines, each for four pairs, from the least significant bits
+/// on: of the two bits of a pair the lower is the first line's, and the higher the second line's. The
+/// last octet gives the pairs that are left, and its other bits are 0. In contracts it is the number
+/// of pairs left.
 #[derive(Clone, Copy, Debug, PartialEq, Eq)]
 pub struct PackedPairs {
     left: u64,
@@ -45,8 +45,8 @@ impl PackedPairs {
 
     /// The pairs of the next octet, four or as many as are left.
     ///
-    /// Where none is left the octet is refused as [`PackedFault::Trailing`], and where a bit is 1
-    /// of which no pair is left as [`PackedFault::PadBits`]. A refusal changes nothing.
+    /// Where none is left the octet is refused as [`PackedFault::Trailing`], and where an unused
+    /// bit is 1 as [`PackedFault::PadBits`]. A refusal changes nothing.
     pub fn step(&mut self, octet: u8) -> Result<ArrayVec<(bool, bool), 4>, PackedFault>
         ensures given { (n : ℕ) (xs : List ℕ) → PairsAfter n xs self.old → MatchResult result
             (λ pairs. PairsAfter n (xs ++ octet ∷ []) self.new
@@ -66,7 +66,7 @@ impl PackedPairs {
         Ok(gathered(&octet_pairs(octet)[..used as usize]))
     }
 
-    /// Takes twelve octets, of which all pairs are wanted, and gives these 48 pairs.
+    /// Takes twelve octets, of which all pairs are wanted, and gives these 48, the first lowest.
     #[inline(always)]
     pub fn take_twelve(&mut self, octets: &[u8; 12]) -> PairWords
         requires { 48 ≤ self.old }

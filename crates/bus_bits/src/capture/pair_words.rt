@@ -5,7 +5,7 @@ ghost use Rattle.std.specs.Int.{bit_at};
 ghost use Rattle.bus_bits.specs.Octet.{bits_of};
 ghost use Rattle.bus_bits.specs.Packed.{in_pairs};
 
-/// Bits of both lines from the same places, the first of them lowest.
+/// Bits of both lines at the same places, the first lowest.
 #[derive(Clone, Copy, Debug, PartialEq, Eq)]
 pub struct PairWords {
     /// The first line's.
@@ -14,7 +14,7 @@ pub struct PairWords {
     pub second: u64,
 }
 
-/// The 32 pairs of a number.
+/// The 32 pairs of a number, from the least significant bits on.
 #[inline(always)]
 pub(super) fn parted(word: u64) -> PairWords
     ensures pairs { (k : ℕ) → k ≤ 32 → in_pairs (bits_of (2 * k) word) ≡ zip (bits_of k result.first) (bits_of k result.second) }
