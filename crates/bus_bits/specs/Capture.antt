@@ -12,7 +12,7 @@ pub data CaptureFault : Type 0 where
   short_head : CaptureFault  -- the input ended in the head
   short_body : CaptureFault  -- the input ended before the last bit
 
--- what some octets give, at each place a bit, or a pair of bits where two lines were recorded, and the first fault in them
+-- what some octets give, at each place a bit or, of two lines, a pair of bits, and the first fault in them
 pub record CaptureOf (A : Type 0) : Type 0 where
   pub bits : List A
   pub fault : Option CaptureFault
@@ -75,7 +75,8 @@ text_pairs_fault xs = fault_by is_pair xs
 
 -- the first `n` octets have no fault, and eight marks
 abbrev pub EightBy : (ℕ → Bool) → ℕ → List ℕ → Type 0
-EightBy is_mark n xs = (n ≤ length xs) × (fault_by is_mark (take n xs) ≡ None) × (length (marks_by is_mark (take n xs)) ≡ 8)
+EightBy is_mark n xs =
+    (n ≤ length xs) × (fault_by is_mark (take n xs) ≡ None) × (length (marks_by is_mark (take n xs)) ≡ 8)
 
 -- they give eight bits
 abbrev pub EightIn : ℕ → List ℕ → Type 0

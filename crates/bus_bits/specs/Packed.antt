@@ -1,4 +1,4 @@
--- Packed captures: a head of sixteen octets, and the bits by eights, the least significant of an octet first, or pairs by fours.
+-- Packed captures: a head of sixteen octets, and the bits by eights, the least significant of an octet first.
 use Rattle.std.specs.Prelude.{◌≡◌, ℕ, ◌+◌, ◌-◌, ◌*◌, ◌/◌, ◌%◌, ◌^◌, ◌<◌, ◌==◌, Bool, List, [], ◌∷◌, ◌++◌, length, map, take, drop, codes, slice_range, nat_lt, if◌then◌else◌, Option, Some, None}
 use Rattle.std.specs.Int.{w64, from_le_bytes, next_multiple_of}
 use Rattle.std.specs.List.{list_any, starts_with}
@@ -69,7 +69,8 @@ headed (Some f) c = record { bits = []; fault = Some f }
 -- what octets give, while more may come, whose head has this fault, by what those after it give
 abbrev pub capture_by : {A : Type 0} → Option CaptureFault → (ℕ → List ℕ → CaptureOf A) → List ℕ → CaptureOf A
 capture_by fault body xs =
-    if nat_lt (length xs) 16 then record { bits = []; fault = None } else headed fault (body (head_bits xs) (drop 16 xs))
+    if nat_lt (length xs) 16 then record { bits = []; fault = None }
+    else headed fault (body (head_bits xs) (drop 16 xs))
 
 unfoldable pub packed_capture : List ℕ → Capture
 packed_capture xs = capture_by (head_fault xs) packed_body xs
@@ -122,7 +123,8 @@ abbrev pub PairsAreHeaded : Type 0
 PairsAreHeaded =
     (head xs : List ℕ) → length head ≡ 16
     → (packed_pair_capture (head ++ xs) ≡ headed (pair_head_fault head) (pair_body (head_bits head) xs))
-    × (packed_pair_whole (head ++ xs) ≡ filled (head_bits head) (headed (pair_head_fault head) (pair_body (head_bits head) xs)))
+    × (packed_pair_whole (head ++ xs)
+    ≡ filled (head_bits head) (headed (pair_head_fault head) (pair_body (head_bits head) xs)))
 
 -- and fewer are none
 abbrev pub PackedIsShort : Type 0

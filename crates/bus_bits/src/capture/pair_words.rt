@@ -17,7 +17,8 @@ pub struct PairWords {
 /// The 32 pairs of a number, from the least significant bits on.
 #[inline(always)]
 pub(super) fn parted(word: u64) -> PairWords
-    ensures pairs { (k : ℕ) → k ≤ 32 → in_pairs (bits_of (2 * k) word) ≡ zip (bits_of k result.first) (bits_of k result.second) }
+    ensures pairs { (k : ℕ) → k ≤ 32 →
+        in_pairs (bits_of (2 * k) word) ≡ zip (bits_of k result.first) (bits_of k result.second) }
     ensures small { (k : ℕ) → k ≤ 32 → word < 2 ^ (2 * k) → (result.first < 2 ^ k) × (result.second < 2 ^ k) }
 {
     PairWords {
