@@ -1,8 +1,8 @@
--- Eight octets `0` and `1` in one number, and the octet with their bits.
-use Rattle.std.proofs.Common.{◌≡◌, ℕ, zero, suc, ◌+◌, ◌*◌, ◌/◌, ◌%◌, ◌^◌, ◌<◌, ◌==◌, ◌||◌, ◌⊎◌, inl, inr, Bool, true, ◌&&◌, cond, nat_lt, List, [], ◌∷◌, ◌++◌, length, map, None, bit_and, refl, sym, ap, ◌∙◌, subst, arith, append_assoc}
+-- Eight marks in one number, and the octets with their bits.
+use Rattle.std.proofs.Common.{◌≡◌, ℕ, zero, suc, ◌+◌, ◌-◌, ◌*◌, ◌/◌, ◌%◌, ◌^◌, ◌<◌, ◌==◌, ◌⊎◌, inl, inr, Bool, true, ◌&&◌, cond, nat_lt, List, [], ◌∷◌, length, map, bit_and, refl, sym, ap, ◌∙◌, subst, arith}
 use Rattle.std.proofs.lemmas.Bool.{cases_order, and_parts, and_from, eqb-true}
 use Rattle.std.proofs.lemmas.Bool.Decides.{nat_tests}
-use Rattle.std.proofs.lemmas.List.{append-nil, length-map}
+use Rattle.std.proofs.lemmas.List.{length-map}
 use Rattle.std.proofs.lemmas.List.Elements.{All-head, All-tail, All-cons}
 use Rattle.std.proofs.lemmas.Nat.{xor_of_8, and_block, xor_block}
 use Rattle.std.proofs.lemmas.Simd.{map-map}
@@ -10,9 +10,11 @@ use Rattle.std.specs.Int.{w64, from_le_bytes}
 use Rattle.std.specs.Int.RustNames.{bit_xor}
 use Rattle.std.specs.List.{All, list_all}
 use Rattle.bus_bits.specs.Octet.{bits_of, number}
-use Rattle.bus_bits.specs.Capture.{is_bit, text_bits, text_fault}
+use Rattle.bus_bits.specs.Internal.Marks.{HasMarks}
+use Rattle.bus_bits.specs.Capture.{is_bit, is_pair, mark_pair}
+use Rattle.std.specs.Prelude.{zip}
+use Rattle.bus_bits.proofs.CaptureLemmas.{same}
 use Rattle.bus_bits.proofs.OctetLemmas.{bits-number, number-lt}
-use Rattle.bus_bits.proofs.TextBitsLemmas.{text-more, mark_text}
 
 -- ---- tests of all numbers
 
@@ -76,31 +78,75 @@ word-and c (b ∷ bs) l h =
 
 -- ---- marks
 
--- the bits of an octet that are not those of `0` or `1`
-abbrev pub other : ℕ → ℕ
-other b = bit_and (bit_xor b 48) 254
+-- the bits of `high` in which an octet is not `0`
+abbrev pub other : ℕ → ℕ → ℕ
+other high b = bit_and (bit_xor b 48) high
 
-marked : ℕ → Bool
-marked b = nat_lt 0 (other b) || is_bit b
+-- whether a test tells the marks
+agrees : ℕ → (ℕ → Bool) → ℕ → Bool
+agrees high is_mark b = cond (is_mark b) (other high b == 0) (nat_lt 0 (other high b))
 
-all-marked : upto marked 256 ≡ true
-unfolding upto marked
-all-marked = refl
+agrees-marks : (high : ℕ) (is_mark : ℕ → Bool) → upto (agrees high is_mark) 256 ≡ true → HasMarks high is_mark
+unfolding agrees
+agrees-marks high is_mark h x l =
+    let e = upto-all (agrees high is_mark) 256 h x l in
+    elim (same (is_mark x)) [
+      | inl t ↦ (λ m. eqb-true (other high x) 0 (sym (ap (λ b. cond b (other high x == 0) (nat_lt 0 (other high x))) t) ∙ e), λ z. t)
+      | inr f ↦ let n : nat_lt 0 (other high x) ≡ true = sym (ap (λ b. cond b (other high x == 0) (nat_lt 0 (other high x))) f) ∙ e in (
+        λ m. let z : ⊥ = cc in absurd z,
+        λ z. let y : ⊥ = cc in absurd y,
+      )
+    ]
 
-pub none_other : (b : ℕ) → b < 256 → other b ≡ 0 → is_bit b ≡ true
-unfolding marked
-none_other b h e = ap (λ n. nat_lt 0 n || is_bit b) (sym e) ∙ upto-all marked 256 all-marked b h
+all-bits : upto (agrees 254 is_bit) 256 ≡ true
+unfolding upto agrees
+all-bits = refl
+
+all-pairs : upto (agrees 252 is_pair) 256 ≡ true
+unfolding upto agrees
+all-pairs = refl
+
+-- `0` and `1` share all bits but the lowest
+pub bit-marks : HasMarks 254 is_bit
+bit-marks = agrees-marks 254 is_bit all-bits
+
+-- and `0` to `3` all but the two lowest
+pub pair-marks : HasMarks 252 is_pair
+pair-marks = agrees-marks 252 is_pair all-pairs
 
 mark_cases : (b : ℕ) → is_bit b ≡ true → (b ≡ 48) ⊎ (b ≡ 49)
 mark_cases b h = grind (arith, nat_tests)
 
-pub mark_other : (b : ℕ) → is_bit b ≡ true → other b ≡ 0
-mark_other b h = elim (mark_cases b h) [ inl e ↦ ap other e | inr e ↦ ap other e ]
+pair_cases : (b : ℕ) → is_pair b ≡ true → (b ≡ 48) ⊎ ((b ≡ 49) ⊎ ((b ≡ 50) ⊎ (b ≡ 51)))
+pair_cases b h = grind (arith, nat_tests)
 
 mark_bit : (b : ℕ) → is_bit b ≡ true → bit_xor b 48 ≡ cond (b == 49) 1 0
 mark_bit b h = elim (mark_cases b h) [
   | inl e ↦ ap (λ n. bit_xor n 48) e ∙ ap (λ n. cond (n == 49) 1 0) (sym e)
   | inr e ↦ ap (λ n. bit_xor n 48) e ∙ ap (λ n. cond (n == 49) 1 0) (sym e)
+]
+
+-- the bit of the first line, and that of the second
+abbrev pub first_bit : ℕ → Bool
+first_bit b = (b - 48) % 2 == 1
+
+abbrev pub second_bit : ℕ → Bool
+second_bit b = (b - 48) / 2 == 1
+
+mark_first : (b : ℕ) → is_pair b ≡ true → bit_and (bit_xor b 48) 1 ≡ cond (first_bit b) 1 0
+mark_first b h = elim (pair_cases b h) [
+  | inl e ↦ ap (λ n. bit_and (bit_xor n 48) 1) e ∙ ap (λ n. cond (first_bit n) 1 0) (sym e)
+  | inr (inl e) ↦ ap (λ n. bit_and (bit_xor n 48) 1) e ∙ ap (λ n. cond (first_bit n) 1 0) (sym e)
+  | inr (inr (inl e)) ↦ ap (λ n. bit_and (bit_xor n 48) 1) e ∙ ap (λ n. cond (first_bit n) 1 0) (sym e)
+  | inr (inr (inr e)) ↦ ap (λ n. bit_and (bit_xor n 48) 1) e ∙ ap (λ n. cond (first_bit n) 1 0) (sym e)
+]
+
+mark_second : (b : ℕ) → is_pair b ≡ true → bit_and (bit_xor b 48) 2 ≡ cond (second_bit b) 1 0 * 2
+mark_second b h = elim (pair_cases b h) [
+  | inl e ↦ ap (λ n. bit_and (bit_xor n 48) 2) e ∙ ap (λ n. cond (second_bit n) 1 0 * 2) (sym e)
+  | inr (inl e) ↦ ap (λ n. bit_and (bit_xor n 48) 2) e ∙ ap (λ n. cond (second_bit n) 1 0 * 2) (sym e)
+  | inr (inr (inl e)) ↦ ap (λ n. bit_and (bit_xor n 48) 2) e ∙ ap (λ n. cond (second_bit n) 1 0 * 2) (sym e)
+  | inr (inr (inr e)) ↦ ap (λ n. bit_and (bit_xor n 48) 2) e ∙ ap (λ n. cond (second_bit n) 1 0 * 2) (sym e)
 ]
 
 -- octets without the bits of `0`
@@ -115,19 +161,21 @@ marks-lt (b ∷ bs) h =
     (marks-lt bs (All-tail (λ n. n < 256) b bs h))
 
 -- a word of what is other in each octet is 0 exactly where all are marks
-pub all_marks : (bs : List ℕ) → All (λ b. b < 256) bs → word (map other bs) ≡ 0 → list_all is_bit bs ≡ true
+pub all_marks : (high : ℕ) (is_mark : ℕ → Bool) → HasMarks high is_mark → (bs : List ℕ) → All (λ b. b < 256) bs
+    → word (map (other high) bs) ≡ 0 → list_all is_mark bs ≡ true
 unfolding word
-all_marks [] h e = refl
-all_marks (b ∷ bs) h e =
-    and_from (is_bit b) (list_all is_bit bs) (none_other b (All-head (λ n. n < 256) b bs h) (omega arith))
-    (all_marks bs (All-tail (λ n. n < 256) b bs h) (omega arith))
+all_marks high is_mark m [] h e = refl
+all_marks high is_mark m (b ∷ bs) h e =
+    and_from (is_mark b) (list_all is_mark bs) ((m b (All-head (λ n. n < 256) b bs h)).1 (omega arith))
+    (all_marks high is_mark m bs (All-tail (λ n. n < 256) b bs h) (omega arith))
 
-pub marks_all : (bs : List ℕ) → list_all is_bit bs ≡ true → word (map other bs) ≡ 0
+pub marks_all : (high : ℕ) (is_mark : ℕ → Bool) → HasMarks high is_mark → (bs : List ℕ) → All (λ b. b < 256) bs
+    → list_all is_mark bs ≡ true → word (map (other high) bs) ≡ 0
 unfolding word
-marks_all [] h = refl
-marks_all (b ∷ bs) h =
-    let both = and_parts (is_bit b) (list_all is_bit bs) h in
-    omega (arith, marks_all bs both.1, mark_other b both.0)
+marks_all high is_mark m [] s h = refl
+marks_all high is_mark m (b ∷ bs) s h =
+    let both = and_parts (is_mark b) (list_all is_mark bs) h in
+    omega (arith, marks_all high is_mark m bs (All-tail (λ n. n < 256) b bs s) both.1, (m b (All-head (λ n. n < 256) b bs s)).0 both.0)
 
 marks_bits : (bs : List ℕ) → list_all is_bit bs ≡ true → marks bs ≡ map (λ b. cond b 1 0) (map (λ y. y == 49) bs)
 unfolding marks
@@ -135,6 +183,23 @@ marks_bits [] h = refl
 marks_bits (b ∷ bs) h =
     let both = and_parts (is_bit b) (list_all is_bit bs) h in
     ap (λ n. n ∷ map (λ b. bit_xor b 48) bs) (mark_bit b both.0) ∙ ap (λ (z : List ℕ). cond (b == 49) 1 0 ∷ z) (marks_bits bs both.1)
+
+-- the lowest bits of marks of two lines are the first line's
+first_bits : (bs : List ℕ) → list_all is_pair bs ≡ true → word (map (λ b. bit_and b 1) (marks bs)) ≡ word (map (λ b. cond b 1 0) (map first_bit bs))
+unfolding marks word
+first_bits [] h = refl
+first_bits (b ∷ bs) h =
+    let both = and_parts (is_pair b) (list_all is_pair bs) h in
+    omega (arith, mark_first b both.0, first_bits bs both.1)
+
+-- and the next the second line's
+second_bits : (bs : List ℕ) → list_all is_pair bs ≡ true
+    → word (map (λ b. bit_and b 2) (marks bs)) ≡ word (map (λ b. cond b 1 0) (map second_bit bs)) * 2
+unfolding marks word
+second_bits [] h = refl
+second_bits (b ∷ bs) h =
+    let both = and_parts (is_pair b) (list_all is_pair bs) h in
+    omega (arith, mark_second b both.0, second_bits bs both.1)
 
 -- ---- the product
 
@@ -170,14 +235,21 @@ xored bs n h =
     ap (λ m. bit_xor m 3472328296227680304) (h.value ∙ word-eight bs h.long)
     ∙ ap (λ k. bit_xor (word bs) (copies 48 k)) (sym h.long) ∙ word-xor 48 bs (omega arith) h.small
 
-pub others : (bs : List ℕ) (n : ℕ) → IsWord bs n
-    → bit_and (bit_xor n 3472328296227680304) 18374403900871474942 ≡ word (map other bs)
+-- an operation by the same octet eight times
+anded : (c : ℕ) (bs : List ℕ) (n : ℕ) → IsWord bs n → c < 256
+    → bit_and (bit_xor n 3472328296227680304) (72340172838076673 * c) ≡ word (map (λ b. bit_and b c) (marks bs))
 unfolding copies marks
-others bs n h =
-    ap (λ m. bit_and m 18374403900871474942) (xored bs n h)
-    ∙ ap (λ k. bit_and (word (marks bs)) (copies 254 k)) (sym (length-map bs (λ b. bit_xor b 48) ∙ h.long))
-    ∙ word-and 254 (marks bs) (omega arith) (marks-lt bs h.small)
-    ∙ ap word (map-map (λ b. bit_and b 254) (λ b. bit_xor b 48) bs)
+anded c bs n h l =
+    let e : 72340172838076673 * c ≡ copies c 8 = omega arith in
+    ap (λ m. bit_and m (72340172838076673 * c)) (xored bs n h)
+    ∙ ap (bit_and (word (marks bs))) e
+    ∙ ap (λ k. bit_and (word (marks bs)) (copies c k)) (sym (length-map bs (λ b. bit_xor b 48) ∙ h.long))
+    ∙ word-and c (marks bs) l (marks-lt bs h.small)
+
+pub others : (high : ℕ) (bs : List ℕ) (n : ℕ) → IsWord bs n → high < 256
+    → bit_and (bit_xor n 3472328296227680304) (72340172838076673 * high) ≡ word (map (other high) bs)
+unfolding marks
+others high bs n h l = anded high bs n h l ∙ ap word (map-map (λ b. bit_and b high) (λ b. bit_xor b 48) bs)
 
 -- the product has the bits of marks
 pub gathered-bits : (bs : List ℕ) (n : ℕ) → IsWord bs n → list_all is_bit bs ≡ true
@@ -189,22 +261,26 @@ gathered-bits bs n h m =
     ∙ ap (bits_of 8) (gathered-is (map (λ y. y == 49) bs) k)
     ∙ bits-number (map (λ y. y == 49) bs) 8 k
 
--- ---- text
+gathered-line : (bit : ℕ → Bool) (bs : List ℕ) (n : ℕ) → length bs ≡ 8 → n ≡ word (map (λ b. cond b 1 0) (map bit bs))
+    → bits_of 8 (gathered n) ≡ map bit bs
+gathered-line bit bs n l e =
+    let k : length (map bit bs) ≡ 8 = length-map bs bit ∙ l in
+    ap (λ k. bits_of 8 (gathered k)) e ∙ ap (bits_of 8) (gathered-is (map bit bs) k) ∙ bits-number (map bit bs) 8 k
 
--- marks are text, and a bit each
-pub text-marks : (xs ys : List ℕ) → text_fault xs ≡ None → list_all is_bit ys ≡ true
-    → (text_fault (xs ++ ys) ≡ None) × (text_bits (xs ++ ys) ≡ text_bits xs ++ map (λ y. y == 49) ys)
-text-marks xs [] f h =
-    let e : xs ++ [] ≡ xs = append-nil xs in
-    (ap text_fault e ∙ f, ap text_bits e ∙ sym (append-nil (text_bits xs)))
-text-marks xs (y ∷ ys) f h =
-    let both = and_parts (is_bit y) (list_all is_bit ys) h in
-    let one = text-more xs y f (mark_text y both.0) in
-    let more = text-marks (xs ++ y ∷ []) ys one.0 both.1 in
-    let e : xs ++ y ∷ ys ≡ (xs ++ y ∷ []) ++ ys = sym (append_assoc xs (y ∷ []) ys) in
-    let b : text_bits (xs ++ y ∷ []) ≡ text_bits xs ++ (y == 49) ∷ [] =
-    one.1 ∙ ap (λ b. text_bits xs ++ cond b ((y == 49) ∷ []) []) both.0 in (
-      ap text_fault e ∙ more.0,
-      ap text_bits e ∙ more.1 ∙ ap (λ (z : List Bool). z ++ map (λ y. y == 49) ys) b
-          ∙ append_assoc (text_bits xs) ((y == 49) ∷ []) (map (λ y. y == 49) ys),
-    )
+zip-map : (bs : List ℕ) → zip (map first_bit bs) (map second_bit bs) ≡ map mark_pair bs
+zip-map [] = refl
+zip-map (b ∷ bs) = ap (λ (z : List (Bool × Bool)). mark_pair b ∷ z) (zip-map bs)
+
+-- and two products those of marks of two lines
+pub gathered-pairs : (bs : List ℕ) (n : ℕ) → IsWord bs n → list_all is_pair bs ≡ true
+    → zip (bits_of 8 (gathered (bit_and (bit_xor n 3472328296227680304) 72340172838076673)))
+    (bits_of 8 (gathered (bit_and (bit_xor n 3472328296227680304) 144680345676153346 / 2)))
+    ≡ map mark_pair bs
+gathered-pairs bs n h m =
+    let x = bit_xor n 3472328296227680304 in
+    let f : bit_and x 72340172838076673 ≡ word (map (λ b. cond b 1 0) (map first_bit bs)) = anded 1 bs n h (omega arith) ∙ first_bits bs m in
+    let s : bit_and x 144680345676153346 ≡ word (map (λ b. cond b 1 0) (map second_bit bs)) * 2 = anded 2 bs n h (omega arith) ∙ second_bits bs m in
+    let t : bit_and x 144680345676153346 / 2 ≡ word (map (λ b. cond b 1 0) (map second_bit bs)) = omega (arith, s) in
+    ap (λ (z : List Bool). zip z (bits_of 8 (gathered (bit_and x 144680345676153346 / 2)))) (gathered-line first_bit bs (bit_and x 72340172838076673) h.long f)
+    ∙ ap (zip (map first_bit bs)) (gathered-line second_bit bs (bit_and x 144680345676153346 / 2) h.long t)
+    ∙ zip-map bs

@@ -1,6 +1,7 @@
--- Eight bits in nine text octets, of which one is skipped.
-use Rattle.std.proofs.Common.{◌≡◌, ◌≢◌, ◌↔◌, ℕ, zero, suc, ◌+◌, ◌-◌, ◌*◌, ◌/◌, ◌%◌, ◌^◌, ◌<◌, ◌≤◌, ◌==◌, ◌||◌, inl, inr, Bool, true, false, cond, List, [], ◌∷◌, ◌++◌, length, map, filter, take, drop, get_or, take_while, None, bit_and, bit_or, bit_xor, refl, sym, ap, ◌∙◌, subst, arith, append_assoc, length-append}
+-- Eight marks in nine text octets, of which one is skipped.
+use Rattle.std.proofs.Common.{◌≡◌, ◌≢◌, ◌↔◌, ℕ, zero, suc, ◌+◌, ◌-◌, ◌*◌, ◌/◌, ◌%◌, ◌^◌, ◌<◌, ◌≤◌, ◌||◌, inl, inr, Bool, true, false, cond, List, [], ◌∷◌, ◌++◌, length, map, filter, take, drop, get_or, take_while, None, bit_and, bit_or, bit_xor, refl, sym, ap, ◌∙◌, subst, arith, append_assoc, length-append}
 use Rattle.std.proofs.Math.Seq.{take-add}
+use Rattle.std.proofs.Math.Bool.{or-true}
 use Rattle.std.proofs.lemmas.Bool.{and_parts, and_from, cases_lt}
 use Rattle.std.proofs.lemmas.List.{append-nil, length-map, length-take, length-drop, take-append-drop, drop_more, drop-drop, take-take, get_or_past, drop-take}
 use Rattle.std.proofs.lemmas.List.Elements.{All-head, All-tail, All-take, All-drop, All-append, All-get_or}
@@ -9,10 +10,11 @@ use Rattle.std.proofs.lemmas.Nat.{and_le_r, and_mask, or_comm, pow-add, pow_pos,
 use Rattle.std.proofs.lemmas.Nat.Bits.{bit_at-zero, bit_at_cat_low, bit_at_cat_high, bit_at-trailing_zeros, and_high_mask, same_from_bits_below}
 use Rattle.std.specs.Int.{w64, from_le_bytes, bit_at, trailing_zeros}
 use Rattle.std.specs.List.{All, list_all}
-use Rattle.bus_bits.specs.Capture.{EightIn, is_bit, is_space, text_bits, text_fault, text_front}
+use Rattle.bus_bits.specs.Internal.Marks.{HasMarks}
+use Rattle.bus_bits.specs.Capture.{EightBy, is_space, marks_by, fault_by}
 use Rattle.bus_bits.proofs.CaptureLemmas.{same}
-use Rattle.bus_bits.proofs.EightBitsLemmas.{word, word-eight, other, mark_other, none_other, all_marks, marks_all}
-use Rattle.bus_bits.proofs.TextBitsLemmas.{is_text, text-more, text-whole, mark_text, text_space}
+use Rattle.bus_bits.proofs.EightBitsLemmas.{word, word-eight, other, all_marks, marks_all}
+use Rattle.bus_bits.proofs.TextBitsLemmas.{is_read, values-more, marks-whole}
 
 -- ---- octets of two words
 
@@ -28,7 +30,7 @@ word-lt (b ∷ bs) h =
 times-three : (a b c : ℕ) → a * (b * c) ≡ a * b * c
 times-three a b c = grind arith
 
-word-append : (xs ys : List ℕ) → word (xs ++ ys) ≡ word ys * 2 ^ (8 * length xs) + word xs
+pub word-append : (xs ys : List ℕ) → word (xs ++ ys) ≡ word ys * 2 ^ (8 * length xs) + word xs
 unfolding word
 word-append [] ys = omega arith
 word-append (x ∷ xs) ys =
@@ -104,59 +106,58 @@ masks-join k n m xs ys l long-x long-y s t is-x is-y =
 
 -- ---- the first octet that is no mark
 
--- it stands where the lowest bit is that no mark has
-pub first-other : (bs : List ℕ) (k t : ℕ) → 8 * k ≤ t → t < 8 * k + 8 → All (λ b. b < 256) bs
-    → bit_at (word (map other bs)) t ≡ 1 → ((i : ℕ) → i < t → bit_at (word (map other bs)) i ≡ 0)
-    → (list_all is_bit (take k bs) ≡ true) × (is_bit (get_or bs k 0) ≡ false)
-unfolding word
-first-other [] k t l h s one none = absurd (omega (arith, one, bit_at-zero t))
-first-other (b ∷ bs) zero t l h s one none = (
-  refl,
-  (elim (same (is_bit b)) [
-    | inl m ↦ absurd (let e = bit_at_cat_low (word (map other bs)) 8 (other b) t h in
-        let z = ap (λ (n : ℕ). bit_at n t) (mark_other b m) in omega (arith, one, e, z, bit_at-zero t))
-    | inr f ↦ f
-  ]),
-)
-first-other (b ∷ bs) (suc k) t l h s one none =
-    let small = All-head (λ n. n < 256) b bs s in
-    let out : other b < 256 = omega (arith, and_le_r (bit_xor b 48) 254) in
-    let up : (i : ℕ) → bit_at (word (map other (b ∷ bs))) (i + 8) ≡ bit_at (word (map other bs)) i =
-    λ i. bit_at_cat_high (word (map other bs)) 8 (other b) (i + 8) out (omega arith) ∙ ap (bit_at (word (map other bs))) (omega arith) in
-    let e : t ≡ (t - 8) + 8 = omega (arith, l) in
-    let zero-here : other b ≡ 0 =
-    same_from_bits_below 8 (other b) 0 out (omega arith)
-    (λ i j. sym (bit_at_cat_low (word (map other bs)) 8 (other b) i j) ∙ none i (omega (arith, j, l)) ∙ sym (bit_at-zero i)) in
-    let mark = none_other b small zero-here in
-    let rest = first-other bs k (t - 8) (omega (arith, l)) (omega (arith, h)) (All-tail (λ n. n < 256) b bs s)
-    (sym (up (t - 8)) ∙ sym (ap (bit_at (word (map other (b ∷ bs)))) e) ∙ one)
-    (λ i j. sym (up i) ∙ none (i + 8) (omega (arith, j, l))) in
-    (and_from (is_bit b) (list_all is_bit (take k bs)) mark rest.0, rest.1)
+module _ (high : ℕ) (is_mark : ℕ → Bool) (marks : HasMarks high is_mark) (few : high < 256) where
+  -- it stands where the lowest bit is that no mark has
+  first-other : (bs : List ℕ) (k t : ℕ) → 8 * k ≤ t → t < 8 * k + 8 → All (λ b. b < 256) bs
+      → bit_at (word (map (other high) bs)) t ≡ 1 → ((i : ℕ) → i < t → bit_at (word (map (other high) bs)) i ≡ 0)
+      → (list_all is_mark (take k bs) ≡ true) × (is_mark (get_or bs k 0) ≡ false)
+  unfolding word
+  first-other [] k t l h s one none = absurd (omega (arith, one, bit_at-zero t))
+  first-other (b ∷ bs) zero t l h s one none = (
+    refl,
+    (elim (same (is_mark b)) [
+      | inl m ↦ absurd (let e = bit_at_cat_low (word (map (other high) bs)) 8 (other high b) t h in
+          let z = ap (λ (n : ℕ). bit_at n t) ((marks b (All-head (λ n. n < 256) b bs s)).0 m) in omega (arith, one, e, z, bit_at-zero t))
+      | inr f ↦ f
+    ]),
+  )
+  first-other (b ∷ bs) (suc k) t l h s one none =
+      let small = All-head (λ n. n < 256) b bs s in
+      let out : other high b < 256 = omega (arith, and_le_r (bit_xor b 48) high, few) in
+      let up : (i : ℕ) → bit_at (word (map (other high) (b ∷ bs))) (i + 8) ≡ bit_at (word (map (other high) bs)) i =
+      λ i. bit_at_cat_high (word (map (other high) bs)) 8 (other high b) (i + 8) out (omega arith) ∙ ap (bit_at (word (map (other high) bs))) (omega arith) in
+      let e : t ≡ (t - 8) + 8 = omega (arith, l) in
+      let zero-here : other high b ≡ 0 =
+      same_from_bits_below 8 (other high b) 0 out (omega arith)
+      (λ i j. sym (bit_at_cat_low (word (map (other high) bs)) 8 (other high b) i j) ∙ none i (omega (arith, j, l)) ∙ sym (bit_at-zero i)) in
+      let mark = (marks b small).1 zero-here in
+      let rest = first-other bs k (t - 8) (omega (arith, l)) (omega (arith, h)) (All-tail (λ n. n < 256) b bs s)
+      (sym (up (t - 8)) ∙ sym (ap (bit_at (word (map (other high) (b ∷ bs)))) e) ∙ one)
+      (λ i j. sym (up i) ∙ none (i + 8) (omega (arith, j, l))) in
+      (and_from (is_mark b) (list_all is_mark (take k bs)) mark rest.0, rest.1)
+
+  -- nothing is other in eight octets exactly where all are marks
+  pub others-none : (bs : List ℕ) (n : ℕ) → length bs ≡ 8 → All (λ b. b < 256) bs → n ≡ from_le_bytes w64 (map (other high) bs)
+      → (n ≡ 0) ↔ (list_all is_mark bs ≡ true)
+  others-none bs n l s is =
+      let e : n ≡ word (map (other high) bs) = is ∙ word-eight (map (other high) bs) (length-map bs (other high) ∙ l) in
+      (λ z. all_marks high is_mark marks bs s (sym e ∙ z), λ m. e ∙ marks_all high is_mark marks bs s m)
+
+  -- and where not, its lowest bit tells the place of the first that is no mark
+  pub others-place : (bs : List ℕ) (n : ℕ) → length bs ≡ 8 → All (λ b. b < 256) bs → n ≡ from_le_bytes w64 (map (other high) bs)
+      → n ≢ 0 → n < 2 ^ 64
+      → (trailing_zeros w64 n / 8 < 8) × (is_mark (get_or bs (trailing_zeros w64 n / 8) 0) ≡ false)
+  others-place bs n l s is some low =
+      let e : n ≡ word (map (other high) bs) = is ∙ word-eight (map (other high) bs) (length-map bs (other high) ∙ l) in
+      let z = bit_at-trailing_zeros w64 n (omega (arith, some)) low in
+      let t = trailing_zeros w64 n in (
+        omega (arith, z.0),
+        (first-other bs (t / 8) t (omega arith) (omega arith) s (sym (ap (λ i. bit_at i t) e) ∙ z.1)
+            (λ i j. sym (ap (λ m. bit_at m i) e) ∙ z.2 i j)).1,
+      )
 
 -- ---- what a text of nine octets gives
 
-first_mark : (b : Bool) (y : ℕ) (ys : List ℕ) → cond b ((y == 49) ∷ []) [] ++ map (λ y. y == 49) ys ≡ map (λ y. y == 49) (cond b (y ∷ ys) ys)
-first_mark true y ys = refl
-first_mark false y ys = refl
-
--- text gives its marks
-pub text-all : (xs ys : List ℕ) → text_fault xs ≡ None → list_all is_text ys ≡ true
-    → (text_fault (xs ++ ys) ≡ None) × (text_bits (xs ++ ys) ≡ text_bits xs ++ map (λ y. y == 49) (filter is_bit ys))
-text-all xs [] f h =
-    let e : xs ++ [] ≡ xs = append-nil xs in
-    (ap text_fault e ∙ f, ap text_bits e ∙ sym (append-nil (text_bits xs)))
-text-all xs (y ∷ ys) f h =
-    let both = and_parts (is_text y) (list_all is_text ys) h in
-    let one = text-more xs y f both.0 in
-    let more = text-all (xs ++ y ∷ []) ys one.0 both.1 in
-    let e : xs ++ y ∷ ys ≡ (xs ++ y ∷ []) ++ ys = sym (append_assoc xs (y ∷ []) ys) in (
-      ap text_fault e ∙ more.0,
-      ap text_bits e ∙ more.1 ∙ ap (λ (z : List Bool). z ++ map (λ y. y == 49) (filter is_bit ys)) one.1
-          ∙ append_assoc (text_bits xs) (cond (is_bit y) ((y == 49) ∷ []) []) (map (λ y. y == 49) (filter is_bit ys))
-          ∙ ap (λ (z : List Bool). text_bits xs ++ z) (first_mark (is_bit y) y (filter is_bit ys)),
-    )
-
--- and octets with no fault are text
 front_all : (p : ℕ → Bool) (xs : List ℕ) → take_while p xs ≡ xs → list_all p xs ≡ true
 front_all p [] h = refl
 front_all p (x ∷ xs) h = elim (same (p x)) [
@@ -179,7 +180,7 @@ all_kept p (x ∷ xs) h =
     let both = and_parts (p x) (list_all p xs) h in
     ap (λ b. cond b (x ∷ filter p xs) (filter p xs)) both.0 ∙ ap (λ (z : List ℕ). x ∷ z) (all_kept p xs both.1)
 
-pub kept_all : (p : ℕ → Bool) (xs : List ℕ) → length (filter p xs) ≡ length xs → list_all p xs ≡ true
+kept_all : (p : ℕ → Bool) (xs : List ℕ) → length (filter p xs) ≡ length xs → list_all p xs ≡ true
 kept_all p [] h = refl
 kept_all p (x ∷ xs) h = elim (same (p x)) [
   | inl t ↦ and_from (p x) (list_all p xs) t
@@ -187,41 +188,77 @@ kept_all p (x ∷ xs) h = elim (same (p x)) [
   | inr f ↦ absurd (let e = ap (λ b. length (cond b (x ∷ filter p xs) (filter p xs))) f in omega (arith, e, h, filter_le p xs))
 ]
 
--- the first octets that give eight bits are text, with eight marks
-pub eight-text : (n : ℕ) (xs : List ℕ) → EightIn n xs → (list_all is_text (take n xs) ≡ true) × (length (filter is_bit (take n xs)) ≡ 8)
-eight-text n xs h =
-    let w = (text-whole (take n xs) h.1).0 in (
-      front_all is_text (take n xs) w,
-      ap (λ (z : List ℕ). length (filter is_bit z)) (sym w)
-          ∙ sym (length-map (filter is_bit (text_front (take n xs))) (λ y. y == 49)) ∙ h.2,
-    )
+first_mark : {A : Type 0} (value : ℕ → A) (b : Bool) (y : ℕ) (ys : List ℕ) → cond b (value y ∷ []) [] ++ map value ys ≡ map value (cond b (y ∷ ys) ys)
+first_mark value true y ys = refl
+first_mark value false y ys = refl
 
--- and text with eight marks gives eight bits
-pub text-eight : (n : ℕ) (xs : List ℕ) → n ≤ length xs → list_all is_text (take n xs) ≡ true → length (filter is_bit (take n xs)) ≡ 8 → EightIn n xs
-text-eight n xs l t k =
-    let r = text-all [] (take n xs) refl t in
-    (l, r.0, ap length r.1 ∙ length-map (filter is_bit (take n xs)) (λ y. y == 49) ∙ k)
+module _ (is_mark : ℕ → Bool) where
+  -- text gives its marks
+  pub text-all : {A : Type 0} (value : ℕ → A) (xs ys : List ℕ) → fault_by is_mark xs ≡ None → list_all (is_read is_mark) ys ≡ true
+      → (fault_by is_mark (xs ++ ys) ≡ None)
+      × (map value (marks_by is_mark (xs ++ ys)) ≡ map value (marks_by is_mark xs) ++ map value (filter is_mark ys))
+  text-all value xs [] f h =
+      let e : xs ++ [] ≡ xs = append-nil xs in
+      (ap (fault_by is_mark) e ∙ f, ap (λ (z : List ℕ). map value (marks_by is_mark z)) e ∙ sym (append-nil (map value (marks_by is_mark xs))))
+  text-all {A} value xs (y ∷ ys) f h =
+      let both = and_parts (is_read is_mark y) (list_all (is_read is_mark) ys) h in
+      let one = values-more is_mark value xs y f both.0 in
+      let more = text-all value (xs ++ y ∷ []) ys one.0 both.1 in
+      let e : xs ++ y ∷ ys ≡ (xs ++ y ∷ []) ++ ys = sym (append_assoc xs (y ∷ []) ys) in (
+        ap (fault_by is_mark) e ∙ more.0,
+        ap (λ (z : List ℕ). map value (marks_by is_mark z)) e ∙ more.1 ∙ ap (λ (z : List A). z ++ map value (filter is_mark ys)) one.1
+            ∙ append_assoc (map value (marks_by is_mark xs)) (cond (is_mark y) (value y ∷ []) []) (map value (filter is_mark ys))
+            ∙ ap (λ (z : List A). map value (marks_by is_mark xs) ++ z) (first_mark value (is_mark y) y (filter is_mark ys)),
+      )
 
--- fewer than eight octets do not
-pub eight-least : (n : ℕ) (xs : List ℕ) → EightIn n xs → 8 ≤ n
-eight-least n xs h = omega (arith, (eight-text n xs h).1, filter_le is_bit (take n xs), length-take n xs)
+  -- so octets of which these are the marks give what these give
+  pub text-given : {A : Type 0} (value : ℕ → A) (xs marks : List ℕ) (n : ℕ) (given : List A) → list_all (is_read is_mark) (take n xs) ≡ true
+      → filter is_mark (take n xs) ≡ marks → given ≡ map value marks → (before : List ℕ) → fault_by is_mark before ≡ None
+      → (fault_by is_mark (before ++ take n xs) ≡ None)
+      × (map value (marks_by is_mark (before ++ take n xs)) ≡ map value (marks_by is_mark before) ++ given)
+  text-given {A} value xs marks n given t m g before f =
+      let r = text-all value before (take n xs) f t in
+      (r.0, r.1 ∙ ap (λ (z : List A). map value (marks_by is_mark before) ++ z) (ap (map value) m ∙ sym g))
 
--- eight octets give eight bits exactly where all are marks
-pub eight-marks : (xs : List ℕ) → EightIn 8 xs → list_all is_bit (take 8 xs) ≡ true
-eight-marks xs h = kept_all is_bit (take 8 xs) (omega (arith, (eight-text 8 xs h).1, length-take 8 xs, h.0))
+  -- the first octets with eight marks are text
+  pub eight-text : (n : ℕ) (xs : List ℕ) → EightBy is_mark n xs
+      → (list_all (is_read is_mark) (take n xs) ≡ true) × (length (filter is_mark (take n xs)) ≡ 8)
+  eight-text n xs h =
+      let w = (marks-whole is_mark (take n xs) h.1).0 in (
+        front_all (is_read is_mark) (take n xs) w,
+        ap (λ (z : List ℕ). length (filter is_mark z)) (sym w) ∙ h.2,
+      )
 
-pub marks_text : (ys : List ℕ) → list_all is_bit ys ≡ true → list_all is_text ys ≡ true
-marks_text [] h = refl
-marks_text (y ∷ ys) h =
-    let both = and_parts (is_bit y) (list_all is_bit ys) h in
-    and_from (is_text y) (list_all is_text ys) (mark_text y both.0) (marks_text ys both.1)
+  -- and text has its marks
+  pub text-eight : (n : ℕ) (xs : List ℕ) → n ≤ length xs → list_all (is_read is_mark) (take n xs) ≡ true
+      → length (filter is_mark (take n xs)) ≡ 8 → EightBy is_mark n xs
+  text-eight n xs l t k =
+      let r = text-all (λ x. x) [] (take n xs) refl t in (
+        l,
+        r.0,
+        sym (length-map (marks_by is_mark (take n xs)) (λ x. x)) ∙ ap length r.1 ∙ length-map (filter is_mark (take n xs)) (λ x. x) ∙ k,
+      )
 
-pub marks-eight : (xs : List ℕ) → 8 ≤ length xs → list_all is_bit (take 8 xs) ≡ true → EightIn 8 xs
-marks-eight xs l m =
-    text-eight 8 xs l (marks_text (take 8 xs) m) (ap length (all_kept is_bit (take 8 xs) m) ∙ omega (arith, length-take 8 xs, l))
+  -- fewer than eight octets have not so many
+  pub eight-least : (n : ℕ) (xs : List ℕ) → EightBy is_mark n xs → 8 ≤ n
+  eight-least n xs h = omega (arith, (eight-text n xs h).1, filter_le is_mark (take n xs), length-take n xs)
+
+  -- eight octets have eight exactly where all are marks
+  pub eight-marks : (xs : List ℕ) → EightBy is_mark 8 xs → list_all is_mark (take 8 xs) ≡ true
+  eight-marks xs h = kept_all is_mark (take 8 xs) (omega (arith, (eight-text 8 xs h).1, length-take 8 xs, h.0))
+
+  pub marks_text : (ys : List ℕ) → list_all is_mark ys ≡ true → list_all (is_read is_mark) ys ≡ true
+  marks_text [] h = refl
+  marks_text (y ∷ ys) h =
+      let both = and_parts (is_mark y) (list_all is_mark ys) h in
+      and_from (is_read is_mark y) (list_all (is_read is_mark) ys) (ap (λ b. b || is_space y) both.0) (marks_text ys both.1)
+
+  pub marks-eight : (xs : List ℕ) → 8 ≤ length xs → list_all is_mark (take 8 xs) ≡ true → EightBy is_mark 8 xs
+  marks-eight xs l m =
+      text-eight 8 xs l (marks_text (take 8 xs) m) (ap length (all_kept is_mark (take 8 xs) m) ∙ omega (arith, length-take 8 xs, l))
 
 -- nine octets are eight and one of them
-pub nine-split : (k : ℕ) (xs : List ℕ) → k < 8 → 9 ≤ length xs
+nine-split : (k : ℕ) (xs : List ℕ) → k < 8 → 9 ≤ length xs
     → take 9 xs ≡ take k (take 8 xs) ++ get_or xs k 0 ∷ drop k (take 8 (drop 1 xs))
 nine-split k xs l h =
     let e : k + (9 - k) ≡ 9 = omega (arith, l) in
@@ -237,81 +274,65 @@ nine-split k xs l h =
     ∙ ap (λ (z : List ℕ). z ++ take (9 - k) (drop k xs)) (sym (take-take k 8 xs (omega (arith, l))))
     ∙ ap (λ (z : List ℕ). take k (take 8 xs) ++ z) (rest ∙ ap (λ (z : List ℕ). get_or xs k 0 ∷ z) (sym back))
 
--- what is skipped gives no bit
-skipped_between : (xs ys : List ℕ) (x : ℕ) → is_bit x ≡ false → filter is_bit (xs ++ x ∷ ys) ≡ filter is_bit (xs ++ ys)
-skipped_between [] ys x f = ap (λ b. cond b (x ∷ filter is_bit ys) (filter is_bit ys)) f
-skipped_between (y ∷ xs) ys x f = ap (λ (z : List ℕ). cond (is_bit y) (y ∷ z) z) (skipped_between xs ys x f)
-
-text_between : (xs ys : List ℕ) (x : ℕ) → list_all is_text (xs ++ x ∷ ys) ≡ true → is_text x ≡ true
-text_between [] ys x h = (and_parts (is_text x) (list_all is_text ys) h).0
-text_between (y ∷ xs) ys x h = text_between xs ys x (and_parts (is_text y) (list_all is_text (xs ++ x ∷ ys)) h).1
-
-between_text : (xs ys : List ℕ) (x : ℕ) → is_text x ≡ true → list_all is_text (xs ++ ys) ≡ true → list_all is_text (xs ++ x ∷ ys) ≡ true
-between_text [] ys x t h = and_from (is_text x) (list_all is_text ys) t h
-between_text (y ∷ xs) ys x t h =
-    let both = and_parts (is_text y) (list_all is_text (xs ++ ys)) h in
-    and_from (is_text y) (list_all is_text (xs ++ x ∷ ys)) both.0 (between_text xs ys x t both.1)
-
--- nine octets, of which one is no mark, give eight bits exactly where it is skipped and the others are marks
-pub record IsNine (xs marks : List ℕ) (k : ℕ) : Type 0 where
+-- nine octets, of which one is no mark, have eight marks exactly where it is skipped and the others are marks
+pub record IsNine (is_mark : ℕ → Bool) (xs marks : List ℕ) (k : ℕ) : Type 0 where
   pub place : k < 8
   pub long : 9 ≤ length xs
-  pub other : is_bit (get_or xs k 0) ≡ false
+  pub other : is_mark (get_or xs k 0) ≡ false
   pub joined : marks ≡ take k (take 8 xs) ++ drop k (take 8 (drop 1 xs))
 
-pub nine-marks : (xs marks : List ℕ) (k : ℕ) → IsNine xs marks k → filter is_bit (take 9 xs) ≡ filter is_bit marks
-nine-marks xs marks k h =
-    ap (filter is_bit) (nine-split k xs h.place h.long)
-    ∙ skipped_between (take k (take 8 xs)) (drop k (take 8 (drop 1 xs))) (get_or xs k 0) h.other
-    ∙ ap (filter is_bit) (sym h.joined)
+module _ (is_mark : ℕ → Bool) where
+  -- what is skipped is no mark
+  skipped_between : (xs ys : List ℕ) (x : ℕ) → is_mark x ≡ false → filter is_mark (xs ++ x ∷ ys) ≡ filter is_mark (xs ++ ys)
+  skipped_between [] ys x f = ap (λ b. cond b (x ∷ filter is_mark ys) (filter is_mark ys)) f
+  skipped_between (y ∷ xs) ys x f = ap (λ (z : List ℕ). cond (is_mark y) (y ∷ z) z) (skipped_between xs ys x f)
 
-pub nine-long : (xs marks : List ℕ) (k : ℕ) → IsNine xs marks k → length marks ≡ 8
-nine-long xs marks k h =
-    ap length h.joined
-    ∙ omega (arith, length-append (take k (take 8 xs)) (drop k (take 8 (drop 1 xs))), length-take k (take 8 xs), length-take 8 xs, length-drop k (take 8 (drop 1 xs)), length-take 8 (drop 1 xs), length-drop 1 xs, h.place, h.long)
+  text_between : (xs ys : List ℕ) (x : ℕ) → list_all (is_read is_mark) (xs ++ x ∷ ys) ≡ true → is_read is_mark x ≡ true
+  text_between [] ys x h = (and_parts (is_read is_mark x) (list_all (is_read is_mark) ys) h).0
+  text_between (y ∷ xs) ys x h = text_between xs ys x (and_parts (is_read is_mark y) (list_all (is_read is_mark) (xs ++ x ∷ ys)) h).1
 
-pub nine-small : (xs marks : List ℕ) (k : ℕ) → IsNine xs marks k → All (λ b. b < 256) xs → All (λ b. b < 256) marks
-nine-small xs marks k h s =
-    let small : ℕ → Type 0 = λ b. b < 256 in
-    subst (All small) (sym h.joined)
-    (All-append small (take k (take 8 xs)) (drop k (take 8 (drop 1 xs)))
-    (All-take small k (take 8 xs) (All-take small 8 xs s))
-    (All-drop small k (take 8 (drop 1 xs)) (All-take small 8 (drop 1 xs) (All-drop small 1 xs s))))
+  between_text : (xs ys : List ℕ) (x : ℕ) → is_read is_mark x ≡ true → list_all (is_read is_mark) (xs ++ ys) ≡ true
+      → list_all (is_read is_mark) (xs ++ x ∷ ys) ≡ true
+  between_text [] ys x t h = and_from (is_read is_mark x) (list_all (is_read is_mark) ys) t h
+  between_text (y ∷ xs) ys x t h =
+      let both = and_parts (is_read is_mark y) (list_all (is_read is_mark) (xs ++ ys)) h in
+      and_from (is_read is_mark y) (list_all (is_read is_mark) (xs ++ x ∷ ys)) both.0 (between_text xs ys x t both.1)
 
-pub nine-given : (xs marks : List ℕ) (k : ℕ) → IsNine xs marks k → EightIn 9 xs → (list_all is_bit marks ≡ true) × (is_space (get_or xs k 0) ≡ true)
-nine-given xs marks k h e =
-    let text = eight-text 9 xs e in
-    let skipped = text_between (take k (take 8 xs)) (drop k (take 8 (drop 1 xs))) (get_or xs k 0)
-    (ap (list_all is_text) (sym (nine-split k xs h.place h.long)) ∙ text.0) in (
-      kept_all is_bit marks (ap length (sym (nine-marks xs marks k h)) ∙ text.1 ∙ sym (nine-long xs marks k h)),
-      ap (λ b. b || is_space (get_or xs k 0)) (sym h.other) ∙ skipped,
-    )
+  nine-marks : (xs marks : List ℕ) (k : ℕ) → IsNine is_mark xs marks k → filter is_mark (take 9 xs) ≡ filter is_mark marks
+  nine-marks xs marks k h =
+      ap (filter is_mark) (nine-split k xs h.place h.long)
+      ∙ skipped_between (take k (take 8 xs)) (drop k (take 8 (drop 1 xs))) (get_or xs k 0) h.other
+      ∙ ap (filter is_mark) (sym h.joined)
 
-pub nine-text : (xs marks : List ℕ) (k : ℕ) → IsNine xs marks k → list_all is_bit marks ≡ true → is_space (get_or xs k 0) ≡ true
-    → (list_all is_text (take 9 xs) ≡ true) × (filter is_bit (take 9 xs) ≡ marks)
-nine-text xs marks k h m s = (
-  ap (list_all is_text) (nine-split k xs h.place h.long)
-      ∙ between_text (take k (take 8 xs)) (drop k (take 8 (drop 1 xs))) (get_or xs k 0) (text_space (get_or xs k 0) s)
-      (ap (list_all is_text) (sym h.joined) ∙ marks_text marks m),
-  nine-marks xs marks k h ∙ all_kept is_bit marks m,
-)
+  pub nine-long : (xs marks : List ℕ) (k : ℕ) → IsNine is_mark xs marks k → length marks ≡ 8
+  nine-long xs marks k h =
+      ap length h.joined
+      ∙ omega (arith, length-append (take k (take 8 xs)) (drop k (take 8 (drop 1 xs))), length-take k (take 8 xs), length-take 8 xs, length-drop k (take 8 (drop 1 xs)), length-take 8 (drop 1 xs), length-drop 1 xs, h.place, h.long)
 
--- ---- what is other in eight octets
+  pub nine-small : (xs marks : List ℕ) (k : ℕ) → IsNine is_mark xs marks k → All (λ b. b < 256) xs → All (λ b. b < 256) marks
+  nine-small xs marks k h s =
+      let small : ℕ → Type 0 = λ b. b < 256 in
+      subst (All small) (sym h.joined)
+      (All-append small (take k (take 8 xs)) (drop k (take 8 (drop 1 xs)))
+      (All-take small k (take 8 xs) (All-take small 8 xs s))
+      (All-drop small k (take 8 (drop 1 xs)) (All-take small 8 (drop 1 xs) (All-drop small 1 xs s))))
 
--- nothing exactly where all are marks
-pub others-none : (bs : List ℕ) (n : ℕ) → length bs ≡ 8 → All (λ b. b < 256) bs → n ≡ from_le_bytes w64 (map other bs) → (n ≡ 0) ↔ (list_all is_bit bs ≡ true)
-others-none bs n l s is =
-    let e : n ≡ word (map other bs) = is ∙ word-eight (map other bs) (length-map bs other ∙ l) in
-    (λ z. all_marks bs s (sym e ∙ z), λ m. e ∙ marks_all bs m)
+  pub nine-given : (xs marks : List ℕ) (k : ℕ) → IsNine is_mark xs marks k → EightBy is_mark 9 xs
+      → (list_all is_mark marks ≡ true) × (is_space (get_or xs k 0) ≡ true)
+  nine-given xs marks k h e =
+      let text = eight-text is_mark 9 xs e in
+      let skipped = text_between (take k (take 8 xs)) (drop k (take 8 (drop 1 xs))) (get_or xs k 0)
+      (ap (list_all (is_read is_mark)) (sym (nine-split k xs h.place h.long)) ∙ text.0) in (
+        kept_all is_mark marks (ap length (sym (nine-marks xs marks k h)) ∙ text.1 ∙ sym (nine-long xs marks k h)),
+        ap (λ b. b || is_space (get_or xs k 0)) (sym h.other) ∙ skipped,
+      )
 
--- and where not, its lowest bit tells the place of the first that is no mark
-pub others-place : (bs : List ℕ) (n : ℕ) → length bs ≡ 8 → All (λ b. b < 256) bs → n ≡ from_le_bytes w64 (map other bs) → n ≢ 0 → n < 2 ^ 64
-    → (trailing_zeros w64 n / 8 < 8) × (is_bit (get_or bs (trailing_zeros w64 n / 8) 0) ≡ false)
-others-place bs n l s is some low =
-    let e : n ≡ word (map other bs) = is ∙ word-eight (map other bs) (length-map bs other ∙ l) in
-    let z = bit_at-trailing_zeros w64 n (omega (arith, some)) low in
-    let t = trailing_zeros w64 n in (
-      omega (arith, z.0),
-      (first-other bs (t / 8) t (omega arith) (omega arith) s (sym (ap (λ i. bit_at i t) e) ∙ z.1)
-          (λ i j. sym (ap (λ m. bit_at m i) e) ∙ z.2 i j)).1,
-    )
+  pub nine-text : (xs marks : List ℕ) (k : ℕ) → IsNine is_mark xs marks k → list_all is_mark marks ≡ true → is_space (get_or xs k 0) ≡ true
+      → (list_all (is_read is_mark) (take 9 xs) ≡ true) × (filter is_mark (take 9 xs) ≡ marks)
+  nine-text xs marks k h m s = (
+    ap (list_all (is_read is_mark)) (nine-split k xs h.place h.long)
+        ∙ between_text (take k (take 8 xs)) (drop k (take 8 (drop 1 xs))) (get_or xs k 0)
+        (ap (λ b. is_mark (get_or xs k 0) || b) s ∙ or-true (is_mark (get_or xs k 0)))
+        (ap (list_all (is_read is_mark)) (sym h.joined) ∙ marks_text is_mark marks m),
+    nine-marks xs marks k h ∙ all_kept is_mark marks m,
+  )

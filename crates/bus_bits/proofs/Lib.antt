@@ -3,5 +3,7 @@ pub mod EightBitsLemmas
 pub mod EightBitsOfNineLemmas
 pub mod OctetLemmas
 pub mod PackedLemmas
+pub mod PairWordsLemmas
+pub mod PairsLemmas
 pub mod TextBitsLemmas
 mod Examples

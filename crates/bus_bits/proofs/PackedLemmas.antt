@@ -6,8 +6,8 @@ use Rattle.std.specs.Int.{w64, from_le_bytes, next_multiple_of}
 use Rattle.std.specs.List.{list_any, starts_with}
 use Rattle.std.specs.Cmp.Lexicographic.{pointwise}
 use Rattle.bus_bits.specs.Octet.{bits_of, bits_of_octets}
-use Rattle.bus_bits.specs.Capture.{Capture, CaptureFault, magic, too_many, pad_bits, trailing, short_head, short_body, GrowsTo}
-use Rattle.bus_bits.specs.Packed.{head_bits, head_fault, unused, wanted, packed_body, headed, packed_capture, or_fault, filled, packed_whole, PackedAfter}
+use Rattle.bus_bits.specs.Capture.{CaptureOf, Capture, CaptureFault, magic, too_many, pad_bits, trailing, short_head, short_body, GrowsTo}
+use Rattle.bus_bits.specs.Packed.{head_bits, head_fault_by, head_fault, unused, wanted, packed_body, headed, capture_by, packed_capture, or_fault, filled, whole_by, packed_whole, PackedAfter}
 use Rattle.bus_bits.proofs.CaptureLemmas.{lt_true, le_false, same, le_or_lt, take_past, same_grows, clean_grows, grows_along}
 use Rattle.bus_bits.proofs.OctetLemmas.{length-bits, length-bits_of_octets, bits_of_octets-push, bits_of_octets-append, bits-split, bits-low}
 use Rattle.bus_bits.proofs.EightBitsLemmas.{word, word-eight}
@@ -18,7 +18,7 @@ pads n d = list_any (λ b. b) (unused n d)
 
 -- ---- the three cases of wanted bits
 
-wanted-pads : (n : ℕ) (d : List Bool) → pads n d ≡ true → wanted n d ≡ record { bits = take (n / 8 * 8) d; fault = Some pad_bits }
+pub wanted-pads : (n : ℕ) (d : List Bool) → pads n d ≡ true → wanted n d ≡ record { bits = take (n / 8 * 8) d; fault = Some pad_bits }
 unfolding wanted
 wanted-pads n d h =
     ap (λ (t : Bool). if t then record { bits = take (n / 8 * 8) d; fault = Some pad_bits } else record { bits = take n d; fault = if nat_lt (next_multiple_of n 8) (length d) then Some trailing else None }) h
@@ -35,7 +35,7 @@ wanted-clean n d h l =
     ap (λ (t : Bool). if t then record { bits = take (n / 8 * 8) d; fault = Some pad_bits } else record { bits = take n d; fault = if nat_lt (next_multiple_of n 8) (length d) then Some trailing else None }) h
     ∙ ap (λ (t : Bool). record { bits = take n d; fault = if t then Some trailing else None }) (le_false (next_multiple_of n 8) (length d) l)
 
-wanted-bits : (n : ℕ) (d : List Bool) → pads n d ≡ false → (wanted n d).bits ≡ take n d
+pub wanted-bits : (n : ℕ) (d : List Bool) → pads n d ≡ false → (wanted n d).bits ≡ take n d
 wanted-bits n d h = elim (le_or_lt (length d) (next_multiple_of n 8)) [
   | inl l ↦ ap (λ (c : Capture). c.bits) (wanted-clean n d h l)
   | inr l ↦ ap (λ (c : Capture). c.bits) (wanted-long n d h l)
@@ -183,7 +183,7 @@ wanted_more n left d e h k c l p y =
 
 -- ---- a reader of the body
 
-by_eights : (xs : List ℕ) → length (bits_of_octets xs) % 8 ≡ 0
+pub by_eights : (xs : List ℕ) → length (bits_of_octets xs) % 8 ≡ 0
 by_eights xs = let e = length-bits_of_octets xs in omega arith
 
 pub packed-new : (n : ℕ) → PackedAfter n [] n
@@ -238,7 +238,7 @@ whole-taken n xs o left h l =
     )
 
 -- several of them
-wholes-taken : (n : ℕ) (xs os : List ℕ) (left : ℕ) → PackedAfter n xs left → 8 * length os ≤ left
+pub wholes-taken : (n : ℕ) (xs os : List ℕ) (left : ℕ) → PackedAfter n xs left → 8 * length os ≤ left
     → PackedAfter n (xs ++ os) (left - 8 * length os) × ((packed_body n (xs ++ os)).bits ≡ (packed_body n xs).bits ++ bits_of_octets os)
 unfolding bits_of_octets
 wholes-taken n xs [] left h l =
@@ -257,7 +257,7 @@ wholes-taken n xs (o ∷ os) left h l =
     )
 
 -- the lowest bits of octets in one number are those of the first of them
-word-front : (os rest : List ℕ) → All (λ o. o < 256) os → bits_of (8 * length os) (word (os ++ rest)) ≡ bits_of_octets os
+pub word-front : (os rest : List ℕ) → All (λ o. o < 256) os → bits_of (8 * length os) (word (os ++ rest)) ≡ bits_of_octets os
 unfolding word bits_of_octets bits_of
 word-front [] rest h = refl
 word-front (o ∷ os) rest h =
@@ -270,7 +270,7 @@ word-front (o ∷ os) rest h =
     ∙ ap (λ (b : List Bool). b ++ bits_of (8 * length os) ((n * 256 + o) / 2 ^ 8)) (sym (bits-low 8 (n * 256 + o)) ∙ ap (bits_of 8) low)
     ∙ ap (λ (k : ℕ). bits_of 8 o ++ bits_of (8 * length os) k) high ∙ ap (λ (b : List Bool). bits_of 8 o ++ b) (word-front os rest (λ i d l. h (suc i) d (omega (arith, l))))
 
-all-first : (k : ℕ) (os : List ℕ) → All (λ o. o < 256) os → All (λ o. o < 256) (take k os)
+pub all-first : (k : ℕ) (os : List ℕ) → All (λ o. o < 256) os → All (λ o. o < 256) (take k os)
 all-first zero os h i d l = absurd (omega (arith, l))
 all-first (suc k) [] h i d l = absurd (omega (arith, l))
 all-first (suc k) (o ∷ os) h zero d l = h 0 d (omega arith)
@@ -291,43 +291,26 @@ six-taken n xs os left w h l eight below is =
       all.1 ∙ ap (λ (b : List Bool). (packed_body n xs).bits ++ b) bits,
     )
 
+-- ---- the end of the input
+
+pub filled-all : {A : Type 0} (n : ℕ) (c : CaptureOf A) → c.fault ≡ None → n ≤ length c.bits → (filled n c).fault ≡ None
+filled-all n c h l =
+    ap (λ (g : Option CaptureFault). or_fault g (if nat_lt (length c.bits) n then Some short_body else None)) h
+    ∙ ap (λ (b : Bool). if b then Some short_body else None) (le_false (length c.bits) n l)
+
+pub filled-few : {A : Type 0} (n : ℕ) (c : CaptureOf A) → c.fault ≡ None → length c.bits < n → (filled n c).fault ≡ Some short_body
+filled-few n c h l =
+    ap (λ (g : Option CaptureFault). or_fault g (if nat_lt (length c.bits) n then Some short_body else None)) h
+    ∙ ap (λ (b : Bool). if b then Some short_body else None) (lt_true (length c.bits) n l)
+
 pub packed-full : (n : ℕ) (xs : List ℕ) → PackedAfter n xs 0 → (filled n (packed_body n xs)).fault ≡ None
-packed-full n xs h =
-    ap (λ (g : Option CaptureFault). or_fault g (if nat_lt (length (packed_body n xs).bits) n then Some short_body else None)) h.clean
-    ∙ ap (λ (b : Bool). if b then Some short_body else None) (le_false (length (packed_body n xs).bits) n (omega (arith, h.left_over)))
+packed-full n xs h = filled-all n (packed_body n xs) h.clean (omega (arith, h.left_over))
 
 pub packed-short : (n : ℕ) (xs : List ℕ) (left : ℕ) → PackedAfter n xs left → 0 < left
     → (filled n (packed_body n xs)).fault ≡ Some short_body
-packed-short n xs left h p =
-    ap (λ (g : Option CaptureFault). or_fault g (if nat_lt (length (packed_body n xs).bits) n then Some short_body else None)) h.clean
-    ∙ ap (λ (b : Bool). if b then Some short_body else None) (lt_true (length (packed_body n xs).bits) n (omega (arith, h.left_over)))
+packed-short n xs left h p = filled-few n (packed_body n xs) h.clean (omega (arith, h.left_over, p))
 
--- ---- any cut of a capture
-
-capture_short : (xs : List ℕ) → length xs < 16 → packed_capture xs ≡ record { bits = []; fault = None }
-unfolding packed_capture
-capture_short xs h =
-    ap (λ (t : Bool). if t then record { bits = []; fault = None } else headed (head_fault xs) (packed_body (head_bits xs) (drop 16 xs)))
-    (lt_true (length xs) 16 h)
-
-capture_long : (xs : List ℕ) → 16 ≤ length xs
-    → packed_capture xs ≡ headed (head_fault xs) (packed_body (head_bits xs) (drop 16 xs))
-unfolding packed_capture
-capture_long xs h =
-    ap (λ (t : Bool). if t then record { bits = []; fault = None } else headed (head_fault xs) (packed_body (head_bits xs) (drop 16 xs)))
-    (le_false (length xs) 16 h)
-
-whole_short : (xs : List ℕ) → length xs < 16 → packed_whole xs ≡ record { bits = []; fault = Some short_head }
-unfolding packed_whole
-whole_short xs h =
-    ap (λ (t : Bool). if t then record { bits = []; fault = Some short_head } else filled (head_bits xs) (packed_capture xs))
-    (lt_true (length xs) 16 h)
-
-whole_long : (xs : List ℕ) → 16 ≤ length xs → packed_whole xs ≡ filled (head_bits xs) (packed_capture xs)
-unfolding packed_whole
-whole_long xs h =
-    ap (λ (t : Bool). if t then record { bits = []; fault = Some short_head } else filled (head_bits xs) (packed_capture xs))
-    (le_false (length xs) 16 h)
+-- ---- any cut of what stands behind a head
 
 slice_kept : (a b : ℕ) (xs ys : List ℕ) → a ≤ b → b ≤ length xs → slice_range (xs ++ ys) a b ≡ slice_range xs a b
 slice_kept a b xs ys h k =
@@ -338,62 +321,21 @@ starts_kept : (n : List ℕ) (xs ys : List ℕ) → length n ≤ length xs
     → starts_with (λ x y. x == y) (xs ++ ys) n ≡ starts_with (λ x y. x == y) xs n
 starts_kept n xs ys h = ap (pointwise (λ x y. x == y) n) (take-append-le (length n) xs ys h)
 
-head_kept : (xs ys : List ℕ) → 16 ≤ length xs → (head_bits (xs ++ ys) ≡ head_bits xs) × (head_fault (xs ++ ys) ≡ head_fault xs)
-head_kept xs ys h =
-    let b : head_bits (xs ++ ys) ≡ head_bits xs = ap (from_le_bytes w64) (slice_kept 8 16 xs ys (omega arith) h) in
-    let s : starts_with (λ x y. x == y) (xs ++ ys) (codes "TS2BITS1") ≡ starts_with (λ x y. x == y) xs (codes "TS2BITS1") =
-    starts_kept (codes "TS2BITS1") xs ys (let e : length (codes "TS2BITS1") ≡ 8 = refl in omega arith) in (
-      b,
-      ap (λ (t : Bool). if t then (if nat_lt (2 ^ 60) (head_bits (xs ++ ys)) then Some too_many else None) else Some magic) s
-          ∙ ap (λ (k : ℕ). if starts_with (λ x y. x == y) xs (codes "TS2BITS1") then (if nat_lt (2 ^ 60) k then Some too_many else None) else Some magic) b,
-    )
+bits_kept : (xs ys : List ℕ) → 16 ≤ length xs → head_bits (xs ++ ys) ≡ head_bits xs
+bits_kept xs ys h = ap (from_le_bytes w64) (slice_kept 8 16 xs ys (omega arith) h)
 
-headed_grows : (f : Option CaptureFault) (c d : Capture) → GrowsTo c d → GrowsTo (headed f c) (headed f d)
+fault_kept : (letters xs ys : List ℕ) → length letters ≤ 16 → 16 ≤ length xs → head_fault_by letters (xs ++ ys) ≡ head_fault_by letters xs
+fault_kept letters xs ys l h =
+    ap (λ (t : Bool). if t then (if nat_lt (2 ^ 60) (head_bits (xs ++ ys)) then Some too_many else None) else Some magic)
+    (starts_kept letters xs ys (omega (arith, l, h)))
+    ∙ ap (λ (k : ℕ). if starts_with (λ x y. x == y) xs letters then (if nat_lt (2 ^ 60) k then Some too_many else None) else Some magic)
+    (bits_kept xs ys h)
+
+headed_grows : {A : Type 0} (f : Option CaptureFault) (c d : CaptureOf A) → GrowsTo c d → GrowsTo (headed f c) (headed f d)
 headed_grows None c d g = g
 headed_grows (Some f) c d g = same_grows (headed (Some f) c) (headed (Some f) d) refl
 
-pub packed-grows : (xs ys : List ℕ) → GrowsTo (packed_capture xs) (packed_capture (xs ++ ys))
-packed-grows xs ys = elim (le_or_lt 16 (length xs)) [
-  | inr short ↦ let e = capture_short xs short in
-      let b : (packed_capture xs).bits ≡ [] = ap (λ (c : Capture). c.bits) e in
-      clean_grows (packed_capture xs) (packed_capture (xs ++ ys)) (packed_capture (xs ++ ys)).bits (ap (λ (c : Capture). c.fault) e)
-      (ap (λ (x : List Bool). x ++ (packed_capture (xs ++ ys)).bits) (sym b))
-  | inl long ↦ let k = head_kept xs ys long in
-      let n = head_bits xs in
-      let body : packed_body (head_bits (xs ++ ys)) (drop 16 (xs ++ ys)) ≡ wanted n (bits_of_octets (drop 16 xs) ++ bits_of_octets ys) =
-      ap (λ (m : ℕ). packed_body m (drop 16 (xs ++ ys))) k.0
-      ∙ ap (λ (z : List ℕ). packed_body n z) (drop-append-le 16 xs ys long)
-      ∙ ap (wanted n) (bits_of_octets-append (drop 16 xs) ys) in
-      let e : packed_capture (xs ++ ys) ≡ headed (head_fault xs) (wanted n (bits_of_octets (drop 16 xs) ++ bits_of_octets ys)) =
-      capture_long (xs ++ ys) (omega (arith, length-append xs ys))
-      ∙ ap (λ (f : Option CaptureFault). headed f (packed_body (head_bits (xs ++ ys)) (drop 16 (xs ++ ys)))) k.1
-      ∙ ap (headed (head_fault xs)) body in
-      grows_along (packed_capture xs) (headed (head_fault xs) (packed_body n (drop 16 xs))) (packed_capture (xs ++ ys))
-      (headed (head_fault xs) (wanted n (bits_of_octets (drop 16 xs) ++ bits_of_octets ys))) (capture_long xs long) e (
-      headed_grows (head_fault xs) (packed_body n (drop 16 xs)) (wanted n (bits_of_octets (drop 16 xs) ++ bits_of_octets ys))
-      (wanted-grows n (bits_of_octets (drop 16 xs)) (bits_of_octets ys) (by_eights (drop 16 xs)) (by_eights ys)))
-]
-
-pub packed-short_head : (xs : List ℕ) → length xs < 16
-    → (packed_capture xs ≡ record { bits = []; fault = None }) × (packed_whole xs ≡ record { bits = []; fault = Some short_head })
-packed-short_head xs h = (capture_short xs h, whole_short xs h)
-
-pub packed-headed : (head xs : List ℕ) → length head ≡ 16
-    → (packed_capture (head ++ xs) ≡ headed (head_fault head) (packed_body (head_bits head) xs))
-    × (packed_whole (head ++ xs) ≡ filled (head_bits head) (headed (head_fault head) (packed_body (head_bits head) xs)))
-packed-headed head xs h =
-    let l : 16 ≤ length (head ++ xs) = omega (arith, length-append head xs) in
-    let k = head_kept head xs (omega arith) in
-    let c : packed_capture (head ++ xs) ≡ headed (head_fault head) (packed_body (head_bits head) xs) =
-    capture_long (head ++ xs) l
-    ∙ ap (λ (f : Option CaptureFault). headed f (packed_body (head_bits (head ++ xs)) (drop 16 (head ++ xs)))) k.1
-    ∙ ap (λ (m : ℕ). headed (head_fault head) (packed_body m (drop 16 (head ++ xs)))) k.0
-    ∙ ap (λ (z : List ℕ). headed (head_fault head) (packed_body (head_bits head) z)) (drop_at head xs 16 h) in (
-      c,
-      whole_long (head ++ xs) l ∙ ap (λ (m : ℕ). filled m (packed_capture (head ++ xs))) k.0 ∙ ap (filled (head_bits head)) c,
-    )
-
-filled_grows : (n : ℕ) (c : Capture) → GrowsTo c (filled n c)
+filled_grows : {A : Type 0} (n : ℕ) (c : CaptureOf A) → GrowsTo c (filled n c)
 filled_grows n c = (
   [],
   sym (append-nil c.bits),
@@ -402,12 +344,97 @@ filled_grows n c = (
       ∙ ap (λ (g : Option CaptureFault). record { bits = c.bits; fault = g }) (sym h),
 )
 
+-- a head that begins with these letters, and the body behind it
+module _ {A : Type 0} (letters : List ℕ) (body : ℕ → List ℕ → CaptureOf A) where
+  abbrev pub behind : List ℕ → CaptureOf A
+  behind xs = capture_by (head_fault_by letters xs) body xs
+
+  pub behind-short : (xs : List ℕ) → length xs < 16
+      → (behind xs ≡ record { bits = []; fault = None }) × (whole_by (behind xs) xs ≡ record { bits = []; fault = Some short_head })
+  behind-short xs h = (
+    ap (λ (t : Bool). if t then record { bits = []; fault = None } else headed (head_fault_by letters xs) (body (head_bits xs) (drop 16 xs)))
+        (lt_true (length xs) 16 h),
+    ap (λ (t : Bool). if t then record { bits = []; fault = Some short_head } else filled (head_bits xs) (behind xs))
+        (lt_true (length xs) 16 h),
+  )
+
+  behind_long : (xs : List ℕ) → 16 ≤ length xs → behind xs ≡ headed (head_fault_by letters xs) (body (head_bits xs) (drop 16 xs))
+  behind_long xs h =
+      ap (λ (t : Bool). if t then record { bits = []; fault = None } else headed (head_fault_by letters xs) (body (head_bits xs) (drop 16 xs)))
+      (le_false (length xs) 16 h)
+
+  whole_long : (xs : List ℕ) → 16 ≤ length xs → whole_by (behind xs) xs ≡ filled (head_bits xs) (behind xs)
+  whole_long xs h =
+      ap (λ (t : Bool). if t then record { bits = []; fault = Some short_head } else filled (head_bits xs) (behind xs))
+      (le_false (length xs) 16 h)
+
+  pub behind-headed : length letters ≤ 16 → (head xs : List ℕ) → length head ≡ 16
+      → (behind (head ++ xs) ≡ headed (head_fault_by letters head) (body (head_bits head) xs))
+      × (whole_by (behind (head ++ xs)) (head ++ xs) ≡ filled (head_bits head) (headed (head_fault_by letters head) (body (head_bits head) xs)))
+  behind-headed few head xs h =
+      let l : 16 ≤ length (head ++ xs) = omega (arith, length-append head xs) in
+      let c : behind (head ++ xs) ≡ headed (head_fault_by letters head) (body (head_bits head) xs) =
+      behind_long (head ++ xs) l
+      ∙ ap (λ (f : Option CaptureFault). headed f (body (head_bits (head ++ xs)) (drop 16 (head ++ xs)))) (fault_kept letters head xs few (omega arith))
+      ∙ ap (λ (m : ℕ). headed (head_fault_by letters head) (body m (drop 16 (head ++ xs)))) (bits_kept head xs (omega arith))
+      ∙ ap (λ (z : List ℕ). headed (head_fault_by letters head) (body (head_bits head) z)) (drop_at head xs 16 h) in (
+        c,
+        whole_long (head ++ xs) l ∙ ap (λ (m : ℕ). filled m (behind (head ++ xs))) (bits_kept head xs (omega arith)) ∙ ap (filled (head_bits head)) c,
+      )
+
+  pub behind-grows : length letters ≤ 16 → ((n : ℕ) (xs ys : List ℕ) → GrowsTo (body n xs) (body n (xs ++ ys)))
+      → (xs ys : List ℕ) → GrowsTo (behind xs) (behind (xs ++ ys))
+  behind-grows few grows xs ys = elim (le_or_lt 16 (length xs)) [
+    | inr short ↦ let e = (behind-short xs short).0 in
+        let b : (behind xs).bits ≡ [] = ap (λ (c : CaptureOf A). c.bits) e in
+        clean_grows (behind xs) (behind (xs ++ ys)) (behind (xs ++ ys)).bits (ap (λ (c : CaptureOf A). c.fault) e)
+        (ap (λ (x : List A). x ++ (behind (xs ++ ys)).bits) (sym b))
+    | inl long ↦ let n = head_bits xs in
+        let f = head_fault_by letters xs in
+        let e : behind (xs ++ ys) ≡ headed f (body n (drop 16 xs ++ ys)) =
+        behind_long (xs ++ ys) (omega (arith, length-append xs ys))
+        ∙ ap (λ (g : Option CaptureFault). headed g (body (head_bits (xs ++ ys)) (drop 16 (xs ++ ys)))) (fault_kept letters xs ys few long)
+        ∙ ap (λ (m : ℕ). headed f (body m (drop 16 (xs ++ ys)))) (bits_kept xs ys long)
+        ∙ ap (λ (z : List ℕ). headed f (body n z)) (drop-append-le 16 xs ys long) in
+        grows_along (behind xs) (headed f (body n (drop 16 xs))) (behind (xs ++ ys)) (headed f (body n (drop 16 xs ++ ys))) (behind_long xs long) e
+        (headed_grows f (body n (drop 16 xs)) (body n (drop 16 xs ++ ys)) (grows n (drop 16 xs) ys))
+  ]
+
+  pub behind-ends : (xs : List ℕ) → GrowsTo (behind xs) (whole_by (behind xs) xs)
+  behind-ends xs = elim (le_or_lt 16 (length xs)) [
+    | inr short ↦ let e = behind-short xs short in
+        clean_grows (behind xs) (whole_by (behind xs) xs) [] (ap (λ (c : CaptureOf A). c.fault) e.0) (
+        ap (λ (c : CaptureOf A). c.bits) e.1 ∙ ap (λ (c : CaptureOf A). c.bits) (sym e.0) ∙ sym (append-nil (behind xs).bits))
+    | inl long ↦ grows_along (behind xs) (behind xs) (whole_by (behind xs) xs) (filled (head_bits xs) (behind xs))
+        refl (whole_long xs long) (filled_grows (head_bits xs) (behind xs))
+  ]
+
+-- ---- any cut of a capture of one line
+
+pub body-grows : (n : ℕ) (xs ys : List ℕ) → GrowsTo (packed_body n xs) (packed_body n (xs ++ ys))
+body-grows n xs ys =
+    grows_along (packed_body n xs) (packed_body n xs) (packed_body n (xs ++ ys)) (wanted n (bits_of_octets xs ++ bits_of_octets ys)) refl
+    (ap (wanted n) (bits_of_octets-append xs ys))
+    (wanted-grows n (bits_of_octets xs) (bits_of_octets ys) (by_eights xs) (by_eights ys))
+
+pub letters-few : length (codes "TS2BITS1") ≤ 16
+letters-few = let e : length (codes "TS2BITS1") ≡ 8 = refl in omega arith
+
+pub packed-grows : (xs ys : List ℕ) → GrowsTo (packed_capture xs) (packed_capture (xs ++ ys))
+unfolding packed_capture
+packed-grows = behind-grows (codes "TS2BITS1") packed_body letters-few body-grows
+
+pub packed-short_head : (xs : List ℕ) → length xs < 16
+    → (packed_capture xs ≡ record { bits = []; fault = None }) × (packed_whole xs ≡ record { bits = []; fault = Some short_head })
+unfolding packed_capture packed_whole
+packed-short_head = behind-short (codes "TS2BITS1") packed_body
+
+pub packed-headed : (head xs : List ℕ) → length head ≡ 16
+    → (packed_capture (head ++ xs) ≡ headed (head_fault head) (packed_body (head_bits head) xs))
+    × (packed_whole (head ++ xs) ≡ filled (head_bits head) (headed (head_fault head) (packed_body (head_bits head) xs)))
+unfolding packed_capture packed_whole
+packed-headed = behind-headed (codes "TS2BITS1") packed_body letters-few
+
 pub packed-ends : (xs : List ℕ) → GrowsTo (packed_capture xs) (packed_whole xs)
-packed-ends xs = elim (le_or_lt 16 (length xs)) [
-  | inr short ↦ let e = capture_short xs short in
-      let w = whole_short xs short in
-      clean_grows (packed_capture xs) (packed_whole xs) [] (ap (λ (c : Capture). c.fault) e) (
-      ap (λ (c : Capture). c.bits) w ∙ ap (λ (c : Capture). c.bits) (sym e) ∙ sym (append-nil (packed_capture xs).bits))
-  | inl long ↦ grows_along (packed_capture xs) (packed_capture xs) (packed_whole xs) (filled (head_bits xs) (packed_capture xs))
-      refl (whole_long xs long) (filled_grows (head_bits xs) (packed_capture xs))
-]
+unfolding packed_capture packed_whole
+packed-ends = behind-ends (codes "TS2BITS1") packed_body

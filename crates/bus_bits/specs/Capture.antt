@@ -1,60 +1,113 @@
 -- The bits of a capture: those before the first fault, and the fault.
-use Rattle.std.specs.Prelude.{◌≡◌, ◌≤◌, ℕ, ◌-◌, ◌^◌, ◌==◌, ◌||◌, Bool, List, ◌++◌, length, map, filter, take, take_while, nat_lt, if◌then◌else◌, Option, Some, None}
+use Rattle.std.specs.Prelude.{◌≡◌, ◌≤◌, ℕ, ◌-◌, ◌/◌, ◌%◌, ◌^◌, ◌==◌, ◌||◌, Bool, List, ◌++◌, length, map, filter, take, take_while, nat_lt, if◌then◌else◌, Option, Some, None}
 
 -- why a capture can't be read on
 pub data CaptureFault : Type 0 where
-  bad_mark : ℕ → CaptureFault  -- the octet at this place is no bit and no space
+  bad_mark : ℕ → CaptureFault  -- the octet at this place is no mark and no space
   magic : CaptureFault  -- the head begins with other octets
-  too_many : CaptureFault  -- the head counts more than 2^60 bits
+  too_many : CaptureFault  -- the head counts more than 2^60 bits or pairs
   pad_bits : CaptureFault  -- an unused bit of the last octet is 1
   trailing : CaptureFault  -- an octet follows the last
   place_limit : CaptureFault  -- the next bit's place would be 2^60
   short_head : CaptureFault  -- the input ended in the head
   short_body : CaptureFault  -- the input ended before the last bit
 
--- the bits of some octets, and the first fault in them
-pub record Capture : Type 0 where
-  pub bits : List Bool
+-- what some octets give, at each place a bit or, of two lines, a pair of bits, and the first fault in them
+pub record CaptureOf (A : Type 0) : Type 0 where
+  pub bits : List A
   pub fault : Option CaptureFault
 
--- octets that gave `c` may give `d` with more octets after them: more bits at the end, and nothing new after a fault
-abbrev pub GrowsTo : Capture → Capture → Type 0
-GrowsTo c d = (rest : List Bool) × (d.bits ≡ c.bits ++ rest) × ((f : CaptureFault) → c.fault ≡ Some f → d ≡ c)
+-- the bits of one line
+abbrev pub Capture : Type 0
+Capture = CaptureOf Bool
 
--- `0` or `1`
-abbrev pub is_bit : ℕ → Bool
-is_bit x = (x == 48) || (x == 49)
+-- the pairs of two lines: at each place the bit of the first line, and that of the second
+abbrev pub PairCapture : Type 0
+PairCapture = CaptureOf (Bool × Bool)
+
+-- octets that gave `c` may give `d` with more octets after them: more bits at the end, and nothing new after a fault
+abbrev pub GrowsTo : {A : Type 0} → CaptureOf A → CaptureOf A → Type 0
+GrowsTo {A} c d = (rest : List A) × (d.bits ≡ c.bits ++ rest) × ((f : CaptureFault) → c.fault ≡ Some f → d ≡ c)
 
 -- space, tab, CR or LF
 abbrev pub is_space : ℕ → Bool
 is_space x = (x == 32) || ((x == 9) || ((x == 13) || (x == 10)))
 
--- the octets before the first that is no bit and no space
+-- the octets before the first that is no mark and no space
+abbrev pub front_by : (ℕ → Bool) → List ℕ → List ℕ
+front_by is_mark xs = take_while (λ x. is_mark x || is_space x) xs
+
+-- the marks among them
+abbrev pub marks_by : (ℕ → Bool) → List ℕ → List ℕ
+marks_by is_mark xs = filter is_mark (front_by is_mark xs)
+
+-- and the fault of the octet that is neither
+abbrev pub fault_by : (ℕ → Bool) → List ℕ → Option CaptureFault
+fault_by is_mark xs =
+    if nat_lt (length (front_by is_mark xs)) (length xs) then Some (bad_mark (length (front_by is_mark xs))) else None
+
+-- one line: `0` or `1`
+abbrev pub is_bit : ℕ → Bool
+is_bit x = (x == 48) || (x == 49)
+
 abbrev pub text_front : List ℕ → List ℕ
-text_front xs = take_while (λ x. is_bit x || is_space x) xs
+text_front xs = front_by is_bit xs
 
 abbrev pub text_bits : List ℕ → List Bool
-text_bits xs = map (λ x. x == 49) (filter is_bit (text_front xs))
+text_bits xs = map (λ x. x == 49) (marks_by is_bit xs)
 
 abbrev pub text_fault : List ℕ → Option CaptureFault
-text_fault xs = if nat_lt (length (text_front xs)) (length xs) then Some (bad_mark (length (text_front xs))) else None
+text_fault xs = fault_by is_bit xs
 
--- the first `n` octets have no fault and give eight bits
+-- two lines: `0` to `3`
+abbrev pub is_pair : ℕ → Bool
+is_pair x = (x == 48) || ((x == 49) || ((x == 50) || (x == 51)))
+
+-- of a mark `v` the bits `v mod 2` and `v / 2`
+abbrev pub mark_pair : ℕ → Bool × Bool
+mark_pair x = ((x - 48) % 2 == 1, (x - 48) / 2 == 1)
+
+abbrev pub text_pairs : List ℕ → List (Bool × Bool)
+text_pairs xs = map mark_pair (marks_by is_pair xs)
+
+abbrev pub text_pairs_fault : List ℕ → Option CaptureFault
+text_pairs_fault xs = fault_by is_pair xs
+
+-- the first `n` octets have no fault, and eight marks
+abbrev pub EightBy : (ℕ → Bool) → ℕ → List ℕ → Type 0
+EightBy is_mark n xs =
+    (n ≤ length xs) × (fault_by is_mark (take n xs) ≡ None) × (length (marks_by is_mark (take n xs)) ≡ 8)
+
+-- they give eight bits
 abbrev pub EightIn : ℕ → List ℕ → Type 0
-EightIn n xs = (n ≤ length xs) × (text_fault (take n xs) ≡ None) × (length (text_bits (take n xs)) ≡ 8)
+EightIn n xs = EightBy is_bit n xs
+
+-- or eight pairs
+abbrev pub EightPairsIn : ℕ → List ℕ → Type 0
+EightPairsIn n xs = EightBy is_pair n xs
 
 -- text: a `0` or `1` is a bit
 abbrev pub text_capture : List ℕ → Capture
 text_capture xs = record { bits = text_bits xs; fault = text_fault xs }
 
+-- text of two lines: a `0` to `3` is a pair
+abbrev pub text_pair_capture : List ℕ → PairCapture
+text_pair_capture xs = record { bits = text_pairs xs; fault = text_pairs_fault xs }
+
 -- no bit has the place 2^60, where the first has the place of the origin
-abbrev pub capped : ℕ → Capture → Capture
+abbrev pub capped : {A : Type 0} → ℕ → CaptureOf A → CaptureOf A
 capped origin c = if nat_lt (2 ^ 60 - origin) (length c.bits) then record { bits = take (2 ^ 60 - origin) c.bits; fault = Some place_limit } else c
 
 -- however a text is cut, its bits are the same
 abbrev pub TextGrows : Type 0
 TextGrows = (xs ys : List ℕ) → GrowsTo (text_capture xs) (text_capture (xs ++ ys))
 
+abbrev pub TextPairsGrow : Type 0
+TextPairsGrow = (xs ys : List ℕ) → GrowsTo (text_pair_capture xs) (text_pair_capture (xs ++ ys))
+
 -- and so with places
 abbrev pub CappedGrows : Type 0
 CappedGrows = (origin : ℕ) (c d : Capture) → GrowsTo c d → GrowsTo (capped origin c) (capped origin d)
+
+abbrev pub CappedPairsGrow : Type 0
+CappedPairsGrow = (origin : ℕ) (c d : PairCapture) → GrowsTo c d → GrowsTo (capped origin c) (capped origin d)

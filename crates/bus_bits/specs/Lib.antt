@@ -1,3 +1,4 @@
 pub mod Octet
 pub mod Capture
 pub mod Packed
+pub mod Internal

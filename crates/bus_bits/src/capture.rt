@@ -3,9 +3,15 @@
 mod eight_bits;
 mod packed_bits;
 mod packed_head;
+mod packed_pairs;
+mod pair_words;
 mod text_bits;
+mod text_pairs;
 
-pub use eight_bits::EightBits;
+pub use eight_bits::{EightBits, EightPairs};
 pub use packed_bits::{PackedBits, PackedFault};
-pub use packed_head::{HeadFault, PackedHead};
+pub use packed_head::{HeadFault, PackedHead, PairHead};
+pub use packed_pairs::PackedPairs;
+pub use pair_words::PairWords;
 pub use text_bits::{BadMark, TextBits};
+pub use text_pairs::TextPairs;

@@ -1,7 +1,7 @@
 //! Laws over the definitions.
 
-ghost use Rattle.bus_bits.specs.Capture.{TextGrows, CappedGrows};
-ghost use Rattle.bus_bits.specs.Packed.{PackedIsHeaded, PackedIsShort, PackedGrows, PackedEnds};
+ghost use Rattle.bus_bits.specs.Capture.{TextGrows, TextPairsGrow, CappedGrows, CappedPairsGrow};
+ghost use Rattle.bus_bits.specs.Packed.{PackedIsHeaded, PackedIsShort, PackedGrows, PackedEnds, PairsAreHeaded, PairsAreShort, OctetIsFourMarks, PackedPairsGrow, PackedPairsEnd};
 ghost use Rattle.bus_bits.specs.Octet.{NumberOfBits, BitsOfNumber, BitsOfOctets, OctetsOfBits};
 
 /// An octet and its eight bits determine each other.
@@ -30,4 +30,26 @@ pub fn captures_grow()
     ensures packed { PackedGrows }
     ensures ended { PackedEnds }
     ensures capped { CappedGrows }
+{}
+
+/// A packed capture of two lines of sixteen octets or more is a head and what follows it, and one of
+/// fewer gives no pair.
+pub fn pairs_are_head_and_body()
+    ensures headed { PairsAreHeaded }
+    ensures short { PairsAreShort }
+{}
+
+/// An octet of a packed capture of two lines gives what four marks of a text of two lines give: its
+/// digits to the base 4, the lowest first.
+pub fn octet_is_four_marks()
+    ensures { OctetIsFourMarks }
+{}
+
+/// However the octets of a capture of two lines are cut, their pairs are the same. The end of the
+/// input adds no pair.
+pub fn pair_captures_grow()
+    ensures text { TextPairsGrow }
+    ensures packed { PackedPairsGrow }
+    ensures ended { PackedPairsEnd }
+    ensures capped { CappedPairsGrow }
 {}

@@ -1,4 +1,4 @@
-//! Octets and bits, spans of places, counted steps, and the bits of a capture.
+//! Octets and bits, spans of places, counted steps, and the bits of a capture of one line or two.
 #![tactic(auto)]
 
 mod capture;
@@ -7,7 +7,10 @@ mod octet;
 mod span;
 mod spent;
 
-pub use capture::{BadMark, EightBits, HeadFault, PackedBits, PackedFault, PackedHead, TextBits};
+pub use capture::{
+    BadMark, EightBits, EightPairs, HeadFault, PackedBits, PackedFault, PackedHead, PackedPairs,
+    PairHead, PairWords, TextBits, TextPairs,
+};
 pub use octet::{bits_number, bits_octet, octet_bits};
 pub use span::Span;
 pub use spent::Spent;

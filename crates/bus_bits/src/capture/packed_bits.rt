@@ -121,20 +121,20 @@ impl PackedBits {
 }
 
 /// Whether one of these bits is 1.
-fn has_one(bits: &[bool]) -> bool
+pub(super) fn has_one(bits: &[bool]) -> bool
     ensures { result ≡ list_any (λ bit. bit) bits.now }
 {
     bits.iter().any(|bit| *bit)
 }
 
-/// A vector of these bits, at most eight.
-fn gathered(bits: &[bool]) -> ArrayVec<bool, 8>
-    requires { length bits.now ≤ 8 }
-    ensures { result.items ≡ bits.now }
+/// A vector of these items, as many as it has room for at most.
+pub(super) fn gathered<T: Copy + Default, const N: usize>(items: &[T]) -> ArrayVec<T, N>
+    requires { length items.now ≤ N }
+    ensures { result.items ≡ items.now }
 {
     let mut gathered = ArrayVec::new();
-    for bit in bits {
-        gathered.push(*bit);
+    for item in items {
+        gathered.push(*item);
     }
     gathered
 }

@@ -5,11 +5,11 @@ ghost use Rattle.std.specs.Option.{ForSome, option_to_list};
 ghost use Rattle.bus_bits.specs.Octet.{bits_of};
 ghost use Rattle.bus_bits.specs.Capture.{EightIn, text_bits, text_fault, bad_mark, is_space};
 
-use super::eight_bits::{EightBits, gathered, joined, other_bits};
+use super::eight_bits::{BIT_HIGH, EightBits, eight_marks, gathered};
 
 const ONE: u8 = b'1';
 
-/// The octet is no `0`, no `1` and no space.
+/// The octet is no mark, `0` or `1` of one line and `0` to `3` of two, and no space.
 #[derive(Clone, Copy, Debug, PartialEq, Eq)]
 pub struct BadMark;
 
@@ -57,29 +57,16 @@ impl TextBits {
         ensures few { ForSome result (λ e. (8 ≤ e.taken) × (e.taken ≤ 9)) }
         ensures some { IsSome result ↔ (EightIn 8 octets.now ⊎ EightIn 9 octets.now) }
     {
-        let front: &[u8; 8] = octets.first_chunk()?;
-        let others = other_bits(front);
-        if others == 0 {
-            return Some(EightBits {
-                octet: gathered(front),
-                taken: 8,
-            });
-        }
-        let back: &[u8; 8] = octets[1..].first_chunk()?;
-        let place = others.trailing_zeros() / 8;
-        let marks = joined(front, back, place);
-        if other_bits(&marks) != 0 || !is_skipped(front[place as usize]) {
-            return None;
-        }
+        let eight = eight_marks(octets, BIT_HIGH)?;
         Some(EightBits {
-            octet: gathered(&marks),
-            taken: 9,
+            octet: gathered(&eight.marks),
+            taken: eight.taken,
         })
     }
 }
 
 /// Whether the octet is space, tab, CR or LF.
-fn is_skipped(octet: u8) -> bool
+pub(super) fn is_skipped(octet: u8) -> bool
     ensures { result ≡ is_space octet }
 {
     octet == b' ' || octet == b'\t' || octet == b'\r' || octet == b'\n'

@@ -1,12 +1,14 @@
-use Rattle.std.proofs.Common.{◌<◌}
+use Rattle.std.proofs.Common.{◌<◌, ap, ◌∙◌}
 use Rattle.std.proofs.lemmas.List.Elements.{All-from_get_or}
+use Rattle.bus_bits.specs.Octet.{bits_of}
 use Rattle.bus_bits.proofs.EightBitsLemmas.{gathered-bits}
 use Rattle.bus_bits.proofs.capture.eight_bits.gathered.Goals as goal
 
 pub returns : goal.returns
 returns c =
     let bs = c.args.octets.now in
-    gathered-bits bs c.from_le_bytes.result (record {
+    ap (bits_of 8) c.packed.ensures
+    ∙ gathered-bits bs c.from_le_bytes.result (record {
       long = c.told-octets;
       small = All-from_get_or (λ b. b < 256) bs 0 (λ i l. c.fits-octets i);
       value = c.from_le_bytes.ensures;

@@ -1,7 +1,5 @@
-use Rattle.std.proofs.Common.{◌≡◌, ℕ, ◌<◌, ◌-◌, ◌∷◌, [], ◌++◌, List, Bool, true, false, take, drop, arith, sym, ap, ◌∙◌, subst, length, min, nat_cmp}
-use Rattle.std.proofs.lemmas.List.{length-drop, take_all, take_min, drop_min}
-use Rattle.std.proofs.lemmas.Bool.Decides.{nat_tests}
-use Rattle.std.specs.Ordering.{ord_min}
+use Rattle.std.proofs.Common.{◌≡◌, ℕ, ◌<◌, ◌-◌, ◌∷◌, [], ◌++◌, List, Bool, true, false, take, drop, arith, sym, ap, ◌∙◌, subst}
+use Rattle.std.proofs.lemmas.List.{length-drop, take_all}
 use Rattle.std.specs.List.{list_any}
 use Rattle.bus_bits.specs.Octet.{bits_of}
 use Rattle.bus_bits.specs.Packed.{PackedAfter, packed_body}

@@ -1,0 +1,16 @@
+use Rattle.bus_bits.proofs.CaptureLemmas.{capped-grows}
+use Rattle.bus_bits.proofs.PairsLemmas.{packed-pairs-grow, packed-pairs-end}
+use Rattle.bus_bits.proofs.TextBitsLemmas.{text-pairs-grow}
+use Rattle.bus_bits.proofs.laws.pair_captures_grow.Goals as goal
+
+pub returns-clause-text : goal.returns-clause-text
+returns-clause-text c = text-pairs-grow
+
+pub returns-clause-packed : goal.returns-clause-packed
+returns-clause-packed c = packed-pairs-grow
+
+pub returns-clause-ended : goal.returns-clause-ended
+returns-clause-ended c = packed-pairs-end
+
+pub returns-clause-capped : goal.returns-clause-capped
+returns-clause-capped c = capped-grows

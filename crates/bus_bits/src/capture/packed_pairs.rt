@@ -1,0 +1,113 @@
+//! The pairs of a packed capture of two lines, after its head.
+
+ghost use Rattle.std.specs.Prelude.{◌≡◌, ℕ, List, [], ◌∷◌, ◌++◌, Some, None, MatchResult, OnErr, ◌≤◌, ◌<◌, ◌^◌, zip};
+ghost use Rattle.bus_bits.specs.Octet.{bits_of};
+ghost use Rattle.bus_bits.specs.Packed.{PairsAfter, pair_body, packed_fault_of, filled, in_pairs};
+
+use super::packed_bits::{PackedFault, gathered, has_one};
+use super::packed_head::PairHead;
+use super::pair_words::{PairWords, parted};
+use crate::octet::octet_bits;
+use arrayvec::ArrayVec;
+use std::marker::Model;
+
+/// Reads the octets after a head of two lines, each for four pairs, from the least significant bits
+/// on: of the two bits of a pair the lower is the first line's, and the higher the second line's. The
+/// last octet gives the pairs that are left, and its other bits are 0. In contracts it is the number
+/// of pairs left.
+#[derive(Clone, Copy, Debug, PartialEq, Eq)]
+pub struct PackedPairs {
+    left: u64,
+}
+
+impl Model for PackedPairs {
+    ghost Value = { ℕ };
+
+    ghost view = { λ reader. reader.left };
+
+    ghost inverse = { λ left. record { left = left } };
+}
+
+impl PackedPairs {
+    /// A reader that has taken no octet.
+    pub fn new(head: PairHead) -> Self
+        ensures { PairsAfter head.pairs [] result }
+    {
+        PackedPairs { left: head.pairs }
+    }
+
+    /// How many pairs are not yet given.
+    pub fn left(&self) -> u64
+        ensures { result ≡ self.now }
+    {
+        self.left
+    }
+
+    /// The pairs of the next octet, four or as many as are left.
+    ///
+    /// Where none is left the octet is refused as [`PackedFault::Trailing`], and where an unused
+    /// bit is 1 as [`PackedFault::PadBits`]. A refusal changes nothing.
+    pub fn step(&mut self, octet: u8) -> Result<ArrayVec<(bool, bool), 4>, PackedFault>
+        ensures given { (n : ℕ) (xs : List ℕ) → PairsAfter n xs self.old → MatchResult result
+            (λ pairs. PairsAfter n (xs ++ octet ∷ []) self.new
+            × ((pair_body n (xs ++ octet ∷ [])).bits ≡ (pair_body n xs).bits ++ pairs.items))
+            (λ fault. pair_body n (xs ++ octet ∷ [])
+            ≡ record { bits = (pair_body n xs).bits; fault = Some (packed_fault_of fault) }) }
+        ensures kept { OnErr result (self.new ≡ self.old) }
+    {
+        if self.left == 0 {
+            return Err(PackedFault::Trailing);
+        }
+        let used = self.left.min(4);
+        if has_one(&octet_bits(octet)[2 * used as usize..]) {
+            return Err(PackedFault::PadBits);
+        }
+        self.left -= used;
+        Ok(gathered(&octet_pairs(octet)[..used as usize]))
+    }
+
+    /// Takes twelve octets, of which all pairs are wanted, and gives these 48, the first lowest.
+    #[inline(always)]
+    pub fn take_twelve(&mut self, octets: &[u8; 12]) -> PairWords
+        requires { 48 ≤ self.old }
+        ensures given { (n : ℕ) (xs : List ℕ) → PairsAfter n xs self.old →
+            PairsAfter n (xs ++ octets.now) self.new
+            × ((pair_body n (xs ++ octets.now)).bits
+            ≡ (pair_body n xs).bits ++ zip (bits_of 48 result.first) (bits_of 48 result.second)) }
+        ensures small { (result.first < 2 ^ 48) × (result.second < 2 ^ 48) }
+    {
+        self.left -= 48;
+        let [a, b, c, d, e, f, g, h, i, j, k, l] = *octets;
+        let front = parted(u64::from_le_bytes([a, b, c, d, e, f, g, h]));
+        let back = parted(u64::from_le_bytes([i, j, k, l, 0, 0, 0, 0]));
+        PairWords {
+            first: front.first | back.first << 32,
+            second: front.second | back.second << 32,
+        }
+    }
+
+    /// Refuses the end of the input as [`PackedFault::ShortBody`] where pairs are left.
+    pub fn finish(&self) -> Result<(), PackedFault>
+        ensures { (n : ℕ) (xs : List ℕ) → PairsAfter n xs self.now → MatchResult result
+            (λ _. (filled n (pair_body n xs)).fault ≡ None)
+            (λ fault. (filled n (pair_body n xs)).fault ≡ Some (packed_fault_of fault)) }
+    {
+        if self.left > 0 {
+            Err(PackedFault::ShortBody)
+        } else {
+            Ok(())
+        }
+    }
+}
+
+/// The bits of an octet two by two, from the least significant on.
+fn octet_pairs(o: u8) -> [(bool, bool); 4]
+    ensures { result ≡ in_pairs (bits_of 8 o) }
+{
+    [
+        (o % 2 == 1, o / 2 % 2 == 1),
+        (o / 4 % 2 == 1, o / 8 % 2 == 1),
+        (o / 16 % 2 == 1, o / 32 % 2 == 1),
+        (o / 64 % 2 == 1, o / 128 % 2 == 1),
+    ]
+}
