@@ -14,7 +14,7 @@ from typing import Iterator, List
 TOP = Path(__file__).resolve().parent.parent
 
 # The documents with examples.
-DOCUMENTS = ["README.md", "docs/DICTIONARY.md"]
+DOCUMENTS = ["README.md", "docs/DICTIONARY.md", "docs/TROUBLESHOOTING.md"]
 
 INDENT = "    "
 
