@@ -5,7 +5,6 @@ The examples of one document run one behind the other in a folder of their own, 
 """
 
 import os
-import shutil
 import subprocess
 from dataclasses import dataclass
 from pathlib import Path
@@ -14,14 +13,11 @@ from typing import Iterator, List
 TOP = Path(__file__).resolve().parent.parent
 
 # The documents with examples.
-DOCUMENTS = ["README.md", "docs/DICTIONARY.md", "docs/TROUBLESHOOTING.md"]
+DOCUMENTS = ["README.md", "docs/DICTIONARY.md", "docs/TROUBLESHOOTING.md", "docs/COOKBOOK.md"]
 
 INDENT = "    "
 
 PROMPT = f"{INDENT}$ "
-
-# The programs of other projects, without which an example is not run.
-FOREIGN = ["sigrok-cli", "text2pcap", "tshark", "list-to-pcap"]
 
 SECONDS = 20
 
@@ -50,12 +46,6 @@ def examples(text: str) -> Iterator[Example]:
 
 def examples_of(document: str) -> List[Example]:
     return list(examples((TOP / document).read_text(encoding="utf-8")))
-
-
-def missing_tool(example: Example) -> str:
-    """The program of another project that the example needs and this machine lacks, or nothing."""
-    words = example.command.replace("contrib/list-to-pcap", "text2pcap").split()
-    return next((tool for tool in FOREIGN if tool in words and shutil.which(tool) is None), "")
 
 
 def furnish(folder: Path) -> None:
