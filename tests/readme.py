@@ -5,6 +5,7 @@ The examples of one document run one behind the other in a folder of their own, 
 """
 
 import os
+import shutil
 import subprocess
 from dataclasses import dataclass
 from pathlib import Path
@@ -18,6 +19,9 @@ DOCUMENTS = ["README.md", "docs/DICTIONARY.md", "docs/TROUBLESHOOTING.md", "docs
 INDENT = "    "
 
 PROMPT = f"{INDENT}$ "
+
+# The programs of other projects that examples may need.
+FOREIGN = {"sigrok-cli", "text2pcap", "tshark"}
 
 SECONDS = 20
 
@@ -46,6 +50,11 @@ def examples(text: str) -> Iterator[Example]:
 
 def examples_of(document: str) -> List[Example]:
     return list(examples((TOP / document).read_text(encoding="utf-8")))
+
+
+def missing_tool(example: Example) -> str:
+    """The program of another project that the example needs and this machine lacks, or nothing."""
+    return next((tool for tool in FOREIGN & set(example.command.split()) if shutil.which(tool) is None), "")
 
 
 def furnish(folder: Path) -> None:
