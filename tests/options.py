@@ -47,10 +47,11 @@ def options_of_page() -> Options:
     text = (TOP / "docs" / "port1.1").read_text(encoding="ascii").split("\n.Sh CAPTURES\n")[0]
     sections = re.split(r"^\.Ss (\w+)\n", text, flags=re.MULTILINE)
     found = {"port1": sections[0], **dict(zip(sections[1::2], sections[2::2]))}
-    return {
-        name: {word for short, long in PAGE_OPTION.findall(text) for word in (short and f"-{short}", f"--{long}") if word}
-        for name, text in found.items()
-    }
+    options: Options = {}
+    for name, text in found.items():
+        pairs = PAGE_OPTION.findall(text)
+        options[name] = {f"-{short}" for short, _ in pairs if short} | {f"--{long}" for _, long in pairs}
+    return options
 
 
 def options_of_synopsis() -> Options:
@@ -154,4 +155,5 @@ def results_of_options() -> Iterator[Tuple[str, List[str]]]:
     }
     for place, words in kinds.items():
         yield f"kinds in {place}", differences(kinds_of_help(), words)
-    yield "commands in bash", differences({*COMMANDS, "help"}, {word for word in words_of_bash("port1 ") if word[0] != "-"})
+    commands = {word for word in words_of_bash("port1 ") if word[0] != "-"}
+    yield "commands in bash", differences({*COMMANDS, "help"}, commands)
