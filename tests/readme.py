@@ -1,6 +1,11 @@
-"""Runs the examples of README.md: what stands behind a `$ port1` line is all that it writes."""
+"""Runs the examples of the documents: what stands behind a `$` line is all that it writes.
+
+The examples of one document run one behind the other in a folder of their own, which has the folders
+`examples` and `contrib`; so one example may read what another wrote.
+"""
 
 import os
+import shutil
 import subprocess
 from dataclasses import dataclass
 from pathlib import Path
@@ -8,16 +13,22 @@ from typing import Iterator, List
 
 TOP = Path(__file__).resolve().parent.parent
 
+# The documents with examples.
+DOCUMENTS = ["README.md", "docs/DICTIONARY.md", "docs/TROUBLESHOOTING.md", "docs/COOKBOOK.md"]
+
 INDENT = "    "
 
 PROMPT = f"{INDENT}$ "
+
+# The programs of other projects that examples may need.
+FOREIGN = {"sigrok-cli", "text2pcap", "tshark"}
 
 SECONDS = 20
 
 
 @dataclass(frozen=True)
 class Example:
-    """A line of the shell, run at the top of the repository, and what it writes."""
+    """A line of the shell, and what it writes."""
 
     command: str
     stdout: str
@@ -37,23 +48,35 @@ def examples(text: str) -> Iterator[Example]:
         yield Example(line[len(PROMPT) :], "".join(written))
 
 
-def readme_examples() -> List[Example]:
-    return list(examples((TOP / "README.md").read_text(encoding="utf-8")))
+def examples_of(document: str) -> List[Example]:
+    return list(examples((TOP / document).read_text(encoding="utf-8")))
 
 
-def problems_of_example(program: Path, example: Example) -> List[str]:
-    """What is wrong with a run of it, where `port1` is the program."""
+def missing_tool(example: Example) -> str:
+    """The program of another project that the example needs and this machine lacks, or nothing."""
+    return next((tool for tool in FOREIGN & set(example.command.split()) if shutil.which(tool) is None), "")
+
+
+def furnish(folder: Path) -> None:
+    """Gives a folder what the examples read."""
+    for name in ["examples", "contrib"]:
+        (folder / name).symlink_to(TOP / name)
+
+
+def problems_of_example(program: Path, example: Example, folder: Path) -> List[str]:
+    """What is wrong with a run of it in the folder, where `port1` is the program."""
     path = f"{program.parent}:{os.environ.get('PATH', os.defpath)}"
     ran = subprocess.run(
         example.command,
         shell=True,
-        cwd=TOP,
-        env={"PATH": path},
+        cwd=folder,
+        env={"PATH": path, "LC_ALL": "C"},
         stdin=subprocess.DEVNULL,
-        capture_output=True,
+        stdout=subprocess.PIPE,
+        stderr=subprocess.STDOUT,
         timeout=SECONDS,
     )
-    wrote = (ran.stdout + ran.stderr).decode(errors="replace")
+    wrote = ran.stdout.decode(errors="replace")
     if wrote == example.stdout:
         return []
-    return [f"it wrote {wrote!r}", f"the README has {example.stdout!r}"]
+    return [f"it wrote {wrote!r}", f"the document has {example.stdout!r}"]

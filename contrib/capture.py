@@ -1,0 +1,38 @@
+"""Packed captures, for the scripts beside this file: the format of `port1 --help`."""
+
+MAGIC = b"TS2BITS1"
+
+HEAD = len(MAGIC) + 8
+
+MOST_BITS = 2**60
+
+
+class Fault(Exception):
+    """Why a script stops: what it says on standard error."""
+
+
+def head(bits: int) -> bytes:
+    """The head of a packed capture of so many bits."""
+    return MAGIC + bits.to_bytes(8, "little")
+
+
+def bits_of_head(octets: bytes) -> int:
+    """How many bits the head of a packed capture counts."""
+    if len(octets) < HEAD:
+        raise Fault("short head")
+    if octets[: len(MAGIC)] != MAGIC:
+        raise Fault("wrong magic")
+    bits = int.from_bytes(octets[len(MAGIC) : HEAD], "little")
+    if bits > MOST_BITS:
+        raise Fault("too many bits")
+    return bits
+
+
+def packed(bits: str) -> bytes:
+    """The octets of a text of 0s and 1s, eight bits in each octet, the first of them lowest."""
+    return int(bits[::-1] or "0", 2).to_bytes((len(bits) + 7) // 8, "little")
+
+
+def unpacked(octets: bytes) -> str:
+    """The text of the bits of these octets."""
+    return f"{int.from_bytes(octets, 'little'):0{8 * len(octets)}b}"[::-1] if octets else ""
