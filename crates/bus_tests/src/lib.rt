@@ -10,6 +10,8 @@ mod fcs;
 #[cfg(test)]
 mod line;
 #[cfg(test)]
+mod pairs;
+#[cfg(test)]
 mod watch;
 #[cfg(test)]
 mod word;

@@ -6,6 +6,7 @@ mod encoder;
 mod every_list;
 mod limits;
 mod plain_reading;
+mod random_lists;
 mod rows;
 mod take;
 mod told;

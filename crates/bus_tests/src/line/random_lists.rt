@@ -1,0 +1,123 @@
+//! Long lists of random traffic by calls of every size.
+
+use super::told::{Told, owned_told, told_by};
+use super::{bits_of, word_of};
+use bus_bits::Spent;
+use bus_fcs::OctetCheck;
+use bus_line::{LineDecoder, reports_whole};
+use std::alloc::Global;
+use std::process::Abort;
+
+/// How many bits a list has at least.
+const BITS: usize = 5000;
+
+/// The longest frame in octets.
+const LONGEST: usize = 5;
+
+/// What traffic is made of, and how many bits of it at most are taken.
+const PARTS: [&str; 8] = [
+    "01111110",
+    "01111110 00001000 11000001 00000000 101111101 10100111 01111110",
+    "01111110 00001000 11000001 00000001 101111101 10100111 01111110",
+    "111111111111111111111",
+    "111110111110111110",
+    "0110100101110100110010110",
+    "000000000000000000000000000000000000000000000000000000000000000000",
+    "0111110110",
+];
+
+/// What a decoder says of itself.
+#[derive(Clone, Copy, PartialEq, Eq)]
+struct State {
+    spent: Spent,
+    buffered: usize,
+    begun: Option<u64>,
+}
+
+fn state_of(decoder: &LineDecoder<OctetCheck>) -> State {
+    State {
+        spent: decoder.spent(),
+        buffered: decoder.buffered(),
+        begun: decoder.begun(),
+    }
+}
+
+/// Parts and beginnings of parts, one behind the other; the same seed gives the same list.
+fn traffic(rt: &impl Abort, alloc: Global, seed: u64) -> Vec<bool> {
+    let mut bits = Vec::new(alloc);
+    let mut state = seed;
+    for _ in 0..BITS {
+        if bits.len() >= BITS {
+            break;
+        }
+        state = state.wrapping_mul(6364136223846793005).wrapping_add(1442695040888963407);
+        let part = PARTS[(state >> 61) as usize % PARTS.len()];
+        let most = (state >> 40) as usize % 80;
+        for bit in bits_of(alloc, part).expect(rt, "memory").iter().take(most) {
+            bits.push(*bit).expect(rt, "memory");
+        }
+    }
+    bits
+}
+
+/// What the decoder says of itself after each bit, by calls of one bit.
+fn states_of(rt: &impl Abort, alloc: Global, bits: &[bool]) -> Vec<State> {
+    let mut decoder = LineDecoder::<OctetCheck>::new(LONGEST, 0).expect(rt, "a decoder");
+    let mut states = Vec::new(alloc);
+    for bit in bits {
+        decoder.push(*bit).expect(rt, "a place");
+        states.push(state_of(&decoder)).expect(rt, "memory");
+    }
+    states
+}
+
+/// Whether calls of up to `size` bits answer these reports in order and no others, and the decoder
+/// then says the same of itself as after as many calls of one bit.
+fn agrees(
+    rt: &impl Abort,
+    bits: &[bool],
+    reports: &[Told],
+    states: &[State],
+    size: u32,
+) -> bool {
+    let mut decoder = LineDecoder::<OctetCheck>::new(LONGEST, 0).expect(rt, "a decoder");
+    let mut wanted = reports.iter();
+    let mut rest = bits;
+    for _ in bits {
+        if rest.is_empty() {
+            break;
+        }
+        let (word, count) = word_of(rt, rest, size);
+        let taken = decoder.take(word, count).expect(rt, "a place");
+        rest = &rest[rest.len().min(taken.count as usize)..];
+        if let Some(event) = taken.event {
+            if wanted.next() != Some(&told_by(&event.with_octets(decoder.octets()))) {
+                return false;
+            }
+        }
+        let at = bits.len().wrapping_sub(rest.len()).wrapping_sub(1);
+        if states.get(at) != Some(&state_of(&decoder)) {
+            return false;
+        }
+    }
+    wanted.next().is_none()
+}
+
+/// The reports of the whole list, and the same ledger, buffer and open piece after every call of
+/// any size.
+#[test]
+fn random_lists(rt: HostRuntime) {
+    let alloc = rt.alloc();
+    for seed in 1..=4u64 {
+        let bits = traffic(&rt, alloc, seed);
+        let mut reports = Vec::new(alloc);
+        for piece in &reports_whole(alloc, &bits, LONGEST).expect(&rt, "memory") {
+            reports.push(owned_told(piece)).expect(&rt, "memory");
+        }
+        assert!(&rt; reports.len() > 50, "reports");
+        let states = states_of(&rt, alloc, &bits);
+        for size in 1..=48 {
+            assert!(&rt; agrees(&rt, &bits, &reports, &states, size), "seed {seed}, {size} bits");
+        }
+    }
+}

@@ -1,0 +1,174 @@
+//! Captures of two lines, octet by octet.
+
+use bus_bits::{
+    BadMark, EightPairs, HeadFault, PackedFault, PackedHead, PackedPairs, PairHead, PairWords,
+    TextPairs,
+};
+use std::process::Abort;
+
+/// What an octet of a text of two lines gives.
+struct MarkRow {
+    octet: u8,
+    want: Result<Option<(bool, bool)>, BadMark>,
+}
+
+const MARKS: [MarkRow; 11] = [
+    MarkRow {
+        octet: b'0',
+        want: Ok(Some((false, false))),
+    },
+    MarkRow {
+        octet: b'1',
+        want: Ok(Some((true, false))),
+    },
+    MarkRow {
+        octet: b'2',
+        want: Ok(Some((false, true))),
+    },
+    MarkRow {
+        octet: b'3',
+        want: Ok(Some((true, true))),
+    },
+    MarkRow {
+        octet: b' ',
+        want: Ok(None),
+    },
+    MarkRow {
+        octet: b'\t',
+        want: Ok(None),
+    },
+    MarkRow {
+        octet: b'\r',
+        want: Ok(None),
+    },
+    MarkRow {
+        octet: b'\n',
+        want: Ok(None),
+    },
+    MarkRow {
+        octet: b'4',
+        want: Err(BadMark),
+    },
+    MarkRow {
+        octet: b'/',
+        want: Err(BadMark),
+    },
+    MarkRow {
+        octet: 0x0b,
+        want: Err(BadMark),
+    },
+];
+
+#[test]
+fn marks_are_pairs(rt: HostRuntime) {
+    let mut text = TextPairs::new();
+    for row in &MARKS {
+        assert_eq!(rt; text.step(row.octet), row.want);
+    }
+}
+
+fn check_eight(rt: &impl Abort, octets: &[u8], want: Option<EightPairs>) {
+    assert_eq!(rt; TextPairs::eight(octets), want);
+}
+
+#[test]
+fn eight_pairs_are_two_octets(rt: HostRuntime) {
+    // The marks 0 1 2 3 3 0 0 1: the first line 0 1 0 1 1 0 0 1, the second 0 0 1 1 1 0 0 0.
+    let (first, second) = (0x9a, 0x1c);
+    let at_once = Some(EightPairs {
+        first,
+        second,
+        taken: 8,
+    });
+    check_eight(&rt, b"0123300112", at_once);
+    check_eight(&rt, b"01233001\n", at_once);
+    let around_one = Some(EightPairs {
+        first,
+        second,
+        taken: 9,
+    });
+    check_eight(&rt, b"\n01233001", around_one);
+    check_eight(&rt, b"0123 3001", around_one);
+    check_eight(&rt, b"0123300\r1", around_one);
+    check_eight(&rt, b"0123 300 1", None);
+    check_eight(&rt, b"0123 300", None);
+    check_eight(&rt, b"0123 3004", None);
+    check_eight(&rt, b"012343001", None);
+    check_eight(&rt, b"0123300", None);
+}
+
+/// What sixteen octets are as the head of two lines.
+struct HeadRow {
+    head: &'static [u8; 16],
+    want: Result<u64, HeadFault>,
+}
+
+const HEADS: [HeadRow; 4] = [
+    HeadRow {
+        head: b"TS2BITS2\x0f\0\0\0\0\0\0\0",
+        want: Ok(15),
+    },
+    HeadRow {
+        head: b"TS2BITS2\0\0\0\0\0\0\0\x10",
+        want: Ok(1152921504606846976),
+    },
+    HeadRow {
+        head: b"TS2BITS2\x01\0\0\0\0\0\0\x10",
+        want: Err(HeadFault::TooMany),
+    },
+    HeadRow {
+        head: b"TS2BITS1\x01\0\0\0\0\0\0\x10",
+        want: Err(HeadFault::Magic),
+    },
+];
+
+#[test]
+fn heads_of_pairs_are_read(rt: HostRuntime) {
+    for row in &HEADS {
+        assert_eq!(rt; PairHead::read(row.head).map(|head| head.pairs), row.want);
+    }
+    let other = PackedHead::read(b"TS2BITS2\x0f\0\0\0\0\0\0\0");
+    assert_eq!(rt; other.err(), Some(HeadFault::Magic));
+}
+
+#[test]
+fn packed_pairs_are_given(rt: HostRuntime) {
+    // The octet e4 has 0, 1, 2 and 3 in its two bits each, from the lowest on.
+    let each = [(false, false), (true, false), (false, true), (true, true)];
+    let mut packed = PackedPairs::new(PairHead { pairs: 15 });
+    for _ in 0..3 {
+        assert_eq!(rt;
+            packed.step(0xe4).expect(&rt, "four pairs").as_slice(),
+            &each[..]
+        );
+    }
+    assert_eq!(rt; packed.left(), 3);
+    assert_eq!(rt; packed.finish(), Err(PackedFault::ShortBody));
+    assert_eq!(rt; packed.step(0xbf).err(), Some(PackedFault::PadBits));
+    assert_eq!(rt; packed.step(0x7f).err(), Some(PackedFault::PadBits));
+    assert_eq!(rt; packed.left(), 3);
+    assert_eq!(rt;
+        packed.step(0x24).expect(&rt, "three pairs").as_slice(),
+        &each[..3]
+    );
+    assert_eq!(rt; packed.finish(), Ok(()));
+    assert_eq!(rt; packed.step(0).err(), Some(PackedFault::Trailing));
+}
+
+#[test]
+fn twelve_octets_are_parted(rt: HostRuntime) {
+    // Bits 0 1 0 1 of the first line in each e4, and 0 0 1 1 of the second. In 55 the first line
+    // alone has four ones, in aa the second alone.
+    let octets = [
+        0xe4, 0x55, 0xaa, 0, 0xe4, 0, 0, 0x55, 0x01, 0x02, 0x40, 0x80,
+    ];
+    let mut packed = PackedPairs::new(PairHead { pairs: 49 });
+    assert!(rt; packed.left() >= 48);
+    let words = packed.take_twelve(&octets);
+    let want = PairWords {
+        first: 0x0801_f00a_00fa,
+        second: 0x8010_000c_0f0c,
+    };
+    assert_eq!(rt; words, want);
+    assert_eq!(rt; packed.left(), 1);
+}
