@@ -11,7 +11,6 @@ use Rattle.std.proofs.Math.Seq.{take-append_seam}
 use mir.Val.{bool_byte}
 use Rattle.std.specs.List.{flat_map, All}
 use Rattle.std.specs.Ordering.{ord_min}
-
 use Rattle.bus_bits.specs.Octet.{bits_of, bits_of_octets, number, octets}
 
 -- the machine's least of two

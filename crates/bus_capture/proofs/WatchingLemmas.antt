@@ -1,5 +1,5 @@
 -- What is known of the bits that are followed, one more at a time.
-use Rattle.std.proofs.Common.{◌≡◌, ℕ, zero, suc, ◌+◌, ◌-◌, ◌/◌, ◌%◌, ◌==◌, ◌<◌, ◌≤◌, ◌^◌, Bool, List, [], ◌∷◌, ◌++◌, length, take, drop, get_or, Option, Some, None, refl, sym, ap, ◌∙◌, subst, arith, append_assoc, append-nil, length-append, Result, Ok, IfOk, true, false, inl, inr}
+use Rattle.std.proofs.Common.{◌≡◌, ℕ, zero, suc, ◌+◌, ◌-◌, ◌/◌, ◌%◌, ◌==◌, ◌<◌, ◌≤◌, ◌^◌, Bool, List, [], ◌∷◌, ◌++◌, length, take, drop, get_or, Option, Some, None, refl, sym, ap, ◌∙◌, subst, arith, append_assoc, append-nil, length-append, true, false, inl, inr}
 use Rattle.std.proofs.lemmas.Bool.{cases_lt}
 use Rattle.std.proofs.lemmas.Grind.{common_steps}
 use Rattle.arrayvec.specs.ArrayString.{array_string_len}
@@ -15,8 +15,6 @@ use Rattle.bus_watch.specs.declared.pending.Pending.{Pending}
 use Rattle.bus_bits.specs.declared.span.Span.{Span}
 use Rattle.bus_bits.specs.Octet.{bits_of}
 use Rattle.bus_bits.proofs.OctetLemmas.{bits-split}
-use Rattle.bus_line.specs.declared.place_limit.PlaceLimit.{PlaceLimit}
-use Rattle.std.specs.Option.{option_to_list}
 use Rattle.bus_watch.specs.After.{AnalyserState, IsAfter, Sees, line, seen_after}
 use Rattle.bus_text.specs.Listing.{listing}
 use Rattle.bus_text.specs.Summary.{summary_of}

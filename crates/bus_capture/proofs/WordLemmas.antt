@@ -1,8 +1,8 @@
 -- Octets joined to one number.
-use Rattle.std.proofs.Common.{◌≡◌, ℕ, ◌+◌, ◌*◌, ◌/◌, ◌%◌, ◌^◌, ◌<◌, ◌≤◌, List, Bool, ◌++◌, refl, sym, ap, ◌∙◌, subst, arith}
+use Rattle.std.proofs.Common.{◌≡◌, ℕ, ◌+◌, ◌*◌, ◌%◌, ◌^◌, ◌<◌, ◌≤◌, List, Bool, ◌++◌, sym, ap, ◌∙◌, arith}
 use Rattle.std.specs.Prelude.{bit_or}
 use Rattle.std.specs.Int.Bits.{or_shifted_r}
-use Rattle.std.proofs.lemmas.Nat.{shl_whole, shl_below, pow_below, shr_high, mod_low}
+use Rattle.std.proofs.lemmas.Nat.{shl_whole, shr_high, mod_low}
 use Rattle.bus_bits.specs.Octet.{bits_of}
 use Rattle.bus_bits.proofs.OctetLemmas.{bits-split, bits-low}
 

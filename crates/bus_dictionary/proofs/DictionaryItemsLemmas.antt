@@ -1,5 +1,5 @@
 -- The items as they are read, one behind another.
-use Rattle.std.proofs.Common.{◌≡◌, ℕ, ◌+◌, ◌<◌, ◌≤◌, ◌==◌, List, [], ◌∷◌, ◌++◌, suc, ◌⊎◌, inl, inr, codes, find, append_assoc, append-nil, refl, sym, ◌∙◌, ap, subst, arith, Ok, Err, Option, Some, None, Bool, true, false, cond, Contains}
+use Rattle.std.proofs.Common.{◌≡◌, ℕ, ◌+◌, ◌<◌, ◌==◌, List, [], ◌∷◌, ◌++◌, ◌⊎◌, inl, inr, codes, find, append_assoc, append-nil, refl, sym, ◌∙◌, ap, subst, arith, Ok, Err, Some, None, Bool, true, false, cond, Contains}
 use Rattle.std.proofs.lemmas.Bool.Decides.{nat_tests}
 use Rattle.std.proofs.lemmas.List.Elements.{Contains-append_left, Contains-push, Contains-push_cases}
 use Rattle.std.proofs.lemmas.List.Folds.{Any-from_list_any, list_any_at}
@@ -12,7 +12,7 @@ use Rattle.bus_dictionary.specs.FaultTable.{IsEntryRow}
 use Rattle.bus_dictionary.proofs.BitNameLemmas.{then_ok}
 use Rattle.bus_dictionary.proofs.FaultTableBitLemmas.{then_err, after, none_here, behind}
 use Rattle.bus_dictionary.proofs.SaysLemmas.{number_says, says_number}
-use Rattle.bus_dictionary.proofs.FaultTableEntryLemmas.{IsRead, entry_read, read_says, Column, row_not, read_columns, IsRefused, entry_refused}
+use Rattle.bus_dictionary.proofs.FaultTableEntryLemmas.{entry_read, read_says, row_not, read_columns, IsRefused, entry_refused}
 use Rattle.bus_dictionary.proofs.SaysUniqueLemmas.{front_or}
 
 -- item n is d, and the items before it are read, with those before them, as `old`

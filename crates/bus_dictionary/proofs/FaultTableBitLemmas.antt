@@ -9,7 +9,7 @@ use Rattle.bus_dictionary.specs.BitName.{NamedBit, number_at, name_at, has_place
 use Rattle.bus_dictionary.specs.Says.{IsItem, here, later, HasNumber, HasName, HasBit, bit}
 use Rattle.bus_dictionary.specs.FaultTable.{IsBitRow, bad_place, bad_bit_name, same_place}
 use Rattle.bus_dictionary.proofs.BitNameLemmas.{then_ok, need_ok, unless_ok}
-use Rattle.bus_dictionary.proofs.SaysLemmas.{number_says, says_number, no_number, number_not, name_says, says_name, no_name, name_not}
+use Rattle.bus_dictionary.proofs.SaysLemmas.{number_says, says_number, no_number, number_not, name_says, no_name, name_not}
 use Rattle.bus_dictionary.proofs.SaysUniqueLemmas.{front_or, in_front, in_back, none_in, same_number, same_name}
 
 -- the place of a bit, where it is there and within the octets after the type, which are `size`

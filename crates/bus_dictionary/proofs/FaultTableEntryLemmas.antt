@@ -1,16 +1,16 @@
 -- What an item that is read says, and the first column that refuses one that is not.
-use Rattle.std.proofs.Common.{◌≡◌, ◌≢◌, ℕ, ◌+◌, ◌<◌, ◌≤◌, List, zero, suc, ◌⊎◌, inl, inr, codes, refl, sym, ◌∙◌, ap, subst, arith, Ok, Err, Option, Some, None, Bool, true, false}
+use Rattle.std.proofs.Common.{◌≡◌, ◌≢◌, ℕ, ◌<◌, List, zero, suc, inl, inr, codes, refl, sym, ◌∙◌, ap, subst, arith, Ok, Err, Option, Some, None, Bool, true, false}
 use borrow.Author.Count.{below_none, below_more}
 use Rattle.toml.specs.Data.{Data, boolean, Items, get}
 use Rattle.bus_dictionary.specs.declared.fault.DictFault.{DictFault}
-use Rattle.bus_dictionary.specs.declared.fault.DictFault.TheVariants.{BadType, BadName, BadLength, BadAnswered, BadWindow, BadBit, TwiceType}
+use Rattle.bus_dictionary.specs.declared.fault.DictFault.TheVariants.{BadType, BadName, BadLength, BadAnswered, BadWindow, TwiceType}
 use Rattle.bus_dictionary.specs.DictFault.{need}
 use Rattle.bus_dictionary.specs.BitName.{NamedBit, name_at, bits_in}
 use Rattle.bus_dictionary.specs.Entry.{FrameType, type_at, size_at, answered_in, window_in, has_type, entry_of}
-use Rattle.bus_dictionary.specs.Says.{IsItem, HasNumber, HasName, Says}
+use Rattle.bus_dictionary.specs.Says.{IsItem, HasNumber, Says}
 use Rattle.bus_dictionary.specs.FaultTable.{IsEntryRow, bad_type, bad_name, bad_length, bad_answered, answered_answer, bad_window, window_of_none, bad_bits, bad_bit, twice_type}
 use Rattle.bus_dictionary.proofs.BitNameLemmas.{then_ok, need_ok, unless_ok, bits_in_ok}
-use Rattle.bus_dictionary.proofs.SaysLemmas.{number_says, says_number, number_not, name_says, says_name, name_not, answered_says, no_truth, high_truth, answered_not, window_says, window_not, bad_window_in, lone_window_in}
+use Rattle.bus_dictionary.proofs.SaysLemmas.{number_says, says_number, number_not, name_says, name_not, answered_says, no_truth, high_truth, answered_not, window_says, window_not, bad_window_in, lone_window_in}
 use Rattle.bus_dictionary.proofs.FaultTableBitLemmas.{then_err, need_err, unless_err, bits_in_err, bits_in_array, bits_in_good, bits_said}
 
 -- the steps of an item that is read

@@ -1,5 +1,5 @@
 -- The fault of a document is its first row, and a dictionary's document has none.
-use Rattle.std.proofs.Common.{◌≡◌, ◌≢◌, ℕ, ◌+◌, ◌<◌, ◌≤◌, ◌&&◌, not, List, [], zero, suc, ◌⊎◌, inl, inr, codes, find, refl, sym, ◌∙◌, ap, subst, arith, Result, Ok, Err, Option, Some, None, Bool, true, false, IsOk, ◌↔◌, Contains}
+use Rattle.std.proofs.Common.{◌≡◌, ◌≢◌, ℕ, ◌+◌, ◌<◌, ◌&&◌, not, List, [], zero, suc, ◌⊎◌, inl, inr, codes, find, refl, sym, ◌∙◌, ap, subst, arith, Result, Ok, Err, Option, Some, None, Bool, true, false, IsOk, ◌↔◌}
 use Rattle.toml.specs.Data.{Data, boolean, array, Items, item, Members, table, get}
 use Rattle.toml.specs.Parse.{parse_document}
 use Rattle.bus_dictionary.specs.declared.fault.DictFault.{DictFault}
@@ -12,7 +12,7 @@ use Rattle.bus_dictionary.specs.FaultTable.{IsEntryRow, bad_type, bad_name, bad_
 use Rattle.bus_dictionary.specs.DictionaryLaws.{IsRead, IsText, no_toml, faulty, sound}
 use Rattle.bus_dictionary.proofs.BitNameLemmas.{then_ok, need_ok}
 use Rattle.bus_dictionary.proofs.FaultTableBitLemmas.{then_err, need_err}
-use Rattle.bus_dictionary.proofs.SaysLemmas.{both, says_number, version_says, version_not, frames_say, say_frames, no_frames_at, answered_says}
+use Rattle.bus_dictionary.proofs.SaysLemmas.{says_number, version_says, version_not, frames_say, say_frames, no_frames_at, answered_says}
 use Rattle.bus_dictionary.proofs.SaysUniqueLemmas.{same_version, same_number, value_is_one}
 use Rattle.bus_dictionary.proofs.FaultTableEntryLemmas.{entry_read, Column, row_not}
 use Rattle.bus_dictionary.proofs.DictionaryItemsLemmas.{At, at_item, item_same, walk_err, walk_ok, walk_said, walk_find, earlier, origin_all, has_one, has_this, typed_as, type_said, item_good, item_refused, find_none}

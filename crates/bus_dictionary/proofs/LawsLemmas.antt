@@ -4,7 +4,7 @@ use Rattle.std.specs.List.{All, AllPairs}
 use Rattle.std.proofs.lemmas.List.Elements.{All-cons}
 use Rattle.std.proofs.lemmas.List.Quantifiers.{all_pairs_push}
 use Rattle.std.proofs.lemmas.Bool.Decides.{nat_tests}
-use Rattle.toml.specs.Data.{Data, Items, item, no_items, get, as_bool, as_array, as_integer}
+use Rattle.toml.specs.Data.{Data, Items, item, no_items, get, as_bool}
 use Rattle.bus_dictionary.specs.declared.fault.DictFault.TheVariants.{Version, NoFrames, BadType, BadName, BadLength, BadAnswered, BadWindow, TwiceType}
 use Rattle.bus_dictionary.specs.DictFault.{need}
 use Rattle.bus_dictionary.specs.BitName.{name_at, bits_in}

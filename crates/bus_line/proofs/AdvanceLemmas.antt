@@ -1,10 +1,8 @@
 -- Bits taken at once: what they decide.
-use Rattle.std.proofs.Common.{◌≡◌, ◌≢◌, ℕ, zero, suc, ◌+◌, ◌-◌, ◌*◌, ◌/◌, ◌%◌, ◌^◌, ◌≤◌, ◌<◌, Bool, true, false, List, [], ◌∷◌, ◌++◌, length, take, drop, get_or, Option, None, refl, sym, ap, ◌∙◌, subst, arith, inl, inr}
+use Rattle.std.proofs.Common.{◌≡◌, ◌≢◌, ℕ, zero, suc, ◌+◌, ◌-◌, ◌*◌, ◌%◌, ◌^◌, ◌≤◌, ◌<◌, Bool, false, List, [], ◌∷◌, ◌++◌, length, take, drop, get_or, Option, None, refl, sym, ap, ◌∙◌, subst, arith, inl, inr}
 use Rattle.std.specs.Prelude.{bit_or}
-use mir.Val.{bool_byte}
 use Rattle.std.specs.Option.{option_map, option_to_list}
 use Rattle.std.specs.Int.Bits.{or_shifted_r}
-use Rattle.std.proofs.Math.Seq.{take-append_seam}
 use Rattle.std.proofs.lemmas.Nat.{shl_whole}
 use Rattle.std.proofs.lemmas.List.{length-drop, append-nil}
 use Rattle.std.proofs.lemmas.Bool.{cases_lt}
@@ -20,7 +18,6 @@ use Rattle.bus_line.proofs.RunEndLemmas.{ones-are}
 use Rattle.bus_line.specs.Internal.Late.{IsCalm, IsWord, IsStop}
 use Rattle.bus_line.proofs.DueMoreLemmas.{placed-more}
 use Rattle.bus_line.proofs.DecideLemmas.{nothing-due}
-use Rattle.bus_bits.proofs.OctetLemmas.{bits-split}
 use Rattle.bus_line.proofs.WordLemmas.{word-made, word-just, padded-length}
 use Rattle.bus_line.proofs.SettleLemmas.{next-bit, length-front, mark-calm, calm-less}
 

@@ -4,12 +4,11 @@ use Rattle.std.specs.Prelude.{bit_and, bit_xor, false, ◌↔◌}
 use mir.Val.{bool_byte}
 use Rattle.std.specs.Int.Bits.{xor_step, xor_self}
 use Rattle.std.specs.Int.{bit_at, w64, trailing_zeros}
-use Rattle.std.proofs.lemmas.Nat.{shr-shr, and_le_l, and_mask, pow_below, pow_pos, one_shl, field_of}
+use Rattle.std.proofs.lemmas.Nat.{shr-shr, and_le_l, and_mask, pow_below, pow_pos, one_shl}
 use Rattle.std.proofs.lemmas.Nat.Bits.{bit_at-suc, bit_at-zero, bit_at_and, bit_at_or, bit_at_not, bit_at_ones, bit_at_ones_above, bit_at_above, bit_at-lt, bit_at-trailing_zeros}
 use Rattle.std.proofs.lemmas.List.{append-nil}
 use Rattle.std.proofs.lemmas.Bool.{cases_lt, eq-eqb, ne_eqb}
 use Rattle.std.proofs.Math.Nat.{pow-suc}
-use Rattle.std.proofs.Math.Pow.{mod-mod-pow}
 use Rattle.bus_bits.specs.Octet.{bits_of}
 use Rattle.bus_bits.proofs.OctetLemmas.{bits-low}
 use Rattle.bus_line.specs.Internal.Late.{kept, late_data}

@@ -1,5 +1,4 @@
 -- Where the ones at the end of a list stand.
-use Rattle.std.proofs.Common.{ℕ, List}
 use Rattle.bus_line.specs.Laws.{OnesAtEndAre}
 use Rattle.bus_line.proofs.DueStreamLemmas.{run-end, run-stands}
 

@@ -1,13 +1,11 @@
 -- Numbers of bits, the oldest lowest, and what they show.
-use Rattle.std.proofs.Common.{◌≡◌, ℕ, zero, suc, ◌+◌, ◌-◌, ◌*◌, ◌/◌, ◌%◌, ◌^◌, ◌≤◌, ◌<◌, Bool, true, false, cond, List, [], ◌∷◌, ◌++◌, length, take, drop, get_or, replicate, min, nat_cmp, refl, sym, ap, ◌∙◌, subst, arith, length-append, if◌then◌else◌}
-use Rattle.std.specs.Ordering.{ord_min}
-use Rattle.std.proofs.lemmas.Bool.Decides.{nat_tests}
+use Rattle.std.proofs.Common.{◌≡◌, ℕ, zero, suc, ◌+◌, ◌-◌, ◌*◌, ◌/◌, ◌%◌, ◌^◌, ◌≤◌, ◌<◌, Bool, true, false, cond, List, [], ◌∷◌, ◌++◌, length, take, drop, get_or, replicate, refl, sym, ap, ◌∙◌, subst, arith, length-append, if◌then◌else◌}
 use Rattle.std.proofs.Math.Seq.{take-append-add, drop-append-add}
 use Rattle.std.proofs.Math.Nat.{mod-one, zero-mod, zero-div, pow-suc}
 use Rattle.std.proofs.lemmas.Nat.{mod-pow-add, shr-shr, pow_pos}
 use Rattle.std.proofs.lemmas.List.{length-take, length-drop, take-append-drop, take-append-le, drop-append-le, drop-drop, get_or-drop, append_assoc, append-nil}
 use Rattle.bus_bits.specs.Octet.{number}
-use Rattle.bus_bits.proofs.OctetLemmas.{least, number-cons, number-lt, number-append, same_number}
+use Rattle.bus_bits.proofs.OctetLemmas.{number-cons, number-lt, number-append, same_number}
 use Rattle.bus_line.specs.Spelling.{ones}
 use Rattle.bus_line.specs.Mark.{StandsAt}
 use Rattle.bus_line.specs.Internal.Run.{ones_at_end}

@@ -2,7 +2,7 @@
 use Rattle.std.specs.Prelude.{◌≡◌, ℕ, ◌+◌, ◌-◌, ◌<◌, ◌≤◌, Bool, List, [], ◌∷◌, ◌++◌, length, take, Option, Some, None}
 use Rattle.bus_bits.specs.Octet.{octets}
 use Rattle.bus_line.specs.Mark.{MayDecide}
-use Rattle.bus_line.specs.Due.{current, placed}
+use Rattle.bus_line.specs.Due.{current}
 use Rattle.bus_line.specs.Internal.LineState.{LineState}
 use Rattle.bus_line.specs.declared.piece.Piece.{Piece}
 use Rattle.bus_line.specs.declared.piece.Piece.TheVariants as piece

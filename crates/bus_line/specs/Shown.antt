@@ -1,5 +1,5 @@
 -- A piece and an event as they are handed out, and the report that each is.
-use Rattle.std.specs.Prelude.{◌-◌, ℕ, List, Option, Some, None}
+use Rattle.std.specs.Prelude.{ℕ, List, Option, Some, None}
 use Rattle.bus_bits.specs.Octet.{octets}
 use Rattle.bus_bits.specs.declared.span.Span.{Span}
 use Rattle.bus_line.specs.Report.{Report, Kind}

@@ -123,13 +123,7 @@ impl Printer {
     }
 
     /// Puts a report's own line on the page.
-    fn put_report(
-        &self,
-        finding: Finding,
-        octets: &[u8],
-        dictionary: &Dictionary,
-        page: &mut Page,
-    )
+    fn put_report(&self, finding: Finding, octets: &[u8], dictionary: &Dictionary, page: &mut Page)
         requires room { array_string_len page.old.text + 627 ≤ 16384 }
         requires held { length octets.now ≤ 258 }
         ensures bytes { page.new.text.bytes

@@ -110,6 +110,7 @@ fn random_lists(rt: HostRuntime) {
     let alloc = rt.alloc();
     for seed in 1..=4u64 {
         let bits = traffic(&rt, alloc, seed);
+        assert!(&rt; bits.len() >= BITS && bits.len() <= 6000, "a list");
         let mut reports = Vec::new(alloc);
         for piece in &reports_whole(alloc, &bits, LONGEST).expect(&rt, "memory") {
             reports.push(owned_told(piece)).expect(&rt, "memory");

@@ -1,4 +1,4 @@
-use Rattle.std.proofs.Common.{◌≡◌, ◌≤◌, ◌^◌, ℕ, List, Bool, ◌++◌, Err, Ok, length, take, subst, arith}
+use Rattle.std.proofs.Common.{◌≤◌, ◌^◌, ◌++◌, Err, Ok, take, arith}
 use Rattle.std.proofs.lemmas.Result.{err_from_is_err_and}
 use Rattle.bus_bits.specs.Octet.{bits_of}
 use Rattle.bus_bits.specs.Capture.{text_bits}

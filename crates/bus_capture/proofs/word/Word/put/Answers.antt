@@ -1,5 +1,4 @@
-use Rattle.std.proofs.Common.{◌≡◌, ◌+◌, ◌*◌, ◌%◌, ◌^◌, ◌<◌, ℕ, ◌++◌, ap, ◌∙◌, subst, sym, arith}
-use Rattle.std.specs.Prelude.{bit_or}
+use Rattle.std.proofs.Common.{◌≡◌, ◌+◌, ◌*◌, ◌%◌, ◌^◌, ◌<◌, ℕ, ◌++◌, ap, ◌∙◌, subst, arith}
 use Rattle.std.proofs.lemmas.Nat.{shl_whole, shl_below, pow_below, or_lt}
 use Rattle.bus_bits.specs.Octet.{bits_of}
 use Rattle.bus_capture.proofs.WordLemmas.{joined, joined-bits}

@@ -1,6 +1,6 @@
-use Rattle.std.proofs.Common.{◌/◌, Bool, Some, sym, ap, ◌∙◌, arith, if◌then◌else◌}
+use Rattle.std.proofs.Common.{◌/◌, Bool, sym, ap, ◌∙◌, arith, if◌then◌else◌}
 use Rattle.std.proofs.lemmas.Nat.{and_mask}
-use Rattle.bus_line.specs.Report.{Kind, Frame, Damaged}
+use Rattle.bus_line.specs.Report.{Frame, Damaged}
 use Rattle.bus_line.specs.declared.cause.Cause.TheVariants.{Fcs}
 use Rattle.bus_line.specs.Internal.LineState.{LineState}
 use Rattle.bus_line.specs.Internal.LineView.{line_state}
