@@ -26,6 +26,7 @@ pub mod ReportFrameLemmas
 pub mod LedgerBufferLemmas
 pub mod LedgerPaidLemmas
 pub mod SuffixLemmas
+pub mod CutLemmas
 pub mod OwnedBitsLemmas
 pub mod InsertingLemmas
 pub mod EncoderLemmas

@@ -15,7 +15,7 @@ use Rattle.bus_line.proofs.SpellingRawLemmas.{range-length}
 use Rattle.bus_line.proofs.DueStreamLemmas.{flag-not_abort, stands-part}
 
 -- bits
-ones-bit : (b : List Bool) (a n j : ℕ) → StandsAt b a (ones n) → length (ones n) ≡ n → a ≤ j → j < a + n → get_or b j false ≡ true
+pub ones-bit : (b : List Bool) (a n j : ℕ) → StandsAt b a (ones n) → length (ones n) ≡ n → a ≤ j → j < a + n → get_or b j false ≡ true
 ones-bit b a n j h e l u =
     let k = j - a in
     let x : a + (j - a) ≡ j = omega arith in
@@ -27,10 +27,10 @@ fresh-zero b a j h e = let z : j + 0 ≡ j = omega arith in subst (λ i. get_or 
 flag-last : (b : List Bool) (p j : ℕ) → IsFlag b p → p + 7 ≡ j → get_or b j false ≡ false
 flag-last b p j h e = subst (λ i. get_or b i false ≡ false) e (stands-bit b p flag 7 h (omega arith))
 
-flag-first : (b : List Bool) (p j : ℕ) → IsFlag b p → p ≡ j → get_or b j false ≡ false
+pub flag-first : (b : List Bool) (p j : ℕ) → IsFlag b p → p ≡ j → get_or b j false ≡ false
 flag-first b p j h e = let z : p + 0 ≡ j = omega (arith, e) in subst (λ i. get_or b i false ≡ false) z (stands-bit b p flag 0 h (omega arith))
 
-clash : (b : List Bool) (j : ℕ) → get_or b j false ≡ false → get_or b j false ≡ true → ⊥
+pub clash : (b : List Bool) (j : ℕ) → get_or b j false ≡ false → get_or b j false ≡ true → ⊥
 clash b j f t = both_ways (get_or b j false) f t
 
 idle-abort : (b : List Bool) (a : ℕ) → IsIdle b a → IsAbort b a
@@ -129,3 +129,7 @@ own-apart longest b r _ i (closed p m kind h f c) l =
     omega (arith, x, class-owned longest _ kind (p + 8) c)
 own-apart longest b r _ i (aborted p m h f) l = piece-apart b p m (due r) (m + 6) h (inr (f, refl)) (due-ends longest b r i) l
 own-apart longest b r _ i (idle a f) l = idle-apart b a (due r) f (due-ends longest b r i) l
+
+-- due places are apart by the bits that the later report has to itself
+pub due-apart : (longest : ℕ) (b : List Bool) (r s : Report) → IsReport longest b r → IsReport longest b s → due r < due s → due r + 8 ≤ due s
+due-apart longest b r s p q l = omega (arith, own-apart longest b r s p q l, owns-eight longest b s q)

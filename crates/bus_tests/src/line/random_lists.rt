@@ -50,7 +50,9 @@ fn traffic(rt: &impl Abort, alloc: Global, seed: u64) -> Vec<bool> {
         if bits.len() >= BITS {
             break;
         }
-        state = state.wrapping_mul(6364136223846793005).wrapping_add(1442695040888963407);
+        state = state
+            .wrapping_mul(6364136223846793005)
+            .wrapping_add(1442695040888963407);
         let part = PARTS[(state >> 61) as usize % PARTS.len()];
         let most = (state >> 40) as usize % 80;
         for bit in bits_of(alloc, part).expect(rt, "memory").iter().take(most) {
@@ -73,13 +75,7 @@ fn states_of(rt: &impl Abort, alloc: Global, bits: &[bool]) -> Vec<State> {
 
 /// Whether calls of up to `size` bits answer these reports in order and no others, and the decoder
 /// then says the same of itself as after as many calls of one bit.
-fn agrees(
-    rt: &impl Abort,
-    bits: &[bool],
-    reports: &[Told],
-    states: &[State],
-    size: u32,
-) -> bool {
+fn agrees(rt: &impl Abort, bits: &[bool], reports: &[Told], states: &[State], size: u32) -> bool {
     let mut decoder = LineDecoder::<OctetCheck>::new(LONGEST, 0).expect(rt, "a decoder");
     let mut wanted = reports.iter();
     let mut rest = bits;
@@ -118,7 +114,10 @@ fn random_lists(rt: HostRuntime) {
         assert!(&rt; reports.len() > 50, "reports");
         let states = states_of(&rt, alloc, &bits);
         for size in 1..=48 {
-            assert!(&rt; agrees(&rt, &bits, &reports, &states, size), "seed {seed}, {size} bits");
+            assert!(&rt;
+                agrees(&rt, &bits, &reports, &states, size),
+                "seed {seed}, {size} bits"
+            );
         }
     }
 }
