@@ -17,7 +17,7 @@ FISHDIR = $(DATADIR)/fish/vendor_completions.d
 EXAMPLEDIR = $(DATADIR)/doc/port1/examples
 
 PROGRAM = crates/port1/out/port1
-EXAMPLES = $(wildcard examples/*)
+EXAMPLES = $(filter-out examples/c,$(wildcard examples/*))
 
 all: $(PROGRAM)
 

@@ -38,7 +38,7 @@ def options_of_help() -> Options:
 
 
 def kinds_of_help() -> Set[str]:
-    kinds = re.search(r"Only lines of this kind: (.*)", help_text("list")).group(1)
+    kinds = help_text("list").split("Only lines of this kind:")[1].split("\n  -")[0]
     return set(re.findall(r"\w+", kinds)) - {"or"}
 
 

@@ -205,8 +205,8 @@ UNKNOWN_KINDS = [
 
 # The words of a process need not be text.
 NO_TEXT = [
-    refusal([b"list", b"--bits", b"--kind", b"\xff"], fault("invalid data")),
-    refusal([b"\xc3\x28"], fault("invalid data")),
+    refusal([b"list", b"--bits", b"--kind", b"\xff"], fault("an argument is not UTF-8")),
+    refusal([b"\xc3\x28"], fault("an argument is not UTF-8")),
 ]
 
 WORDS = [*HELPS, *COMMANDS, *UNKNOWN_WORDS, *VALUES, *UNKNOWN_KINDS, *NO_TEXT]

@@ -42,6 +42,7 @@ fn put_last(printer: Option<Printer>, ending: &Ending, page: &mut Page)
 
 impl<C: Check> CaptureRun<C> {
     ghost use Rattle.bus_capture.specs.Internal.Watching.{IsSound, Watches, IsSame, Halts, IsCutIn, lines, last_lines, printed, reported};
+    ghost use Rattle.bus_watch.specs.After.{heard};
 
     /// Takes bits, the first lowest, up to the first that may decide a report, and puts the line of
     /// that on the page. Returns how many it took.
@@ -64,15 +65,39 @@ impl<C: Check> CaptureRun<C> {
             Ok(taken) => taken,
             Err(PlaceLimit) => return Err(ToolFault::PlaceLimit),
         };
-        if let Some(finding) = taken.finding {
-            self.tell(finding, w)?;
+        if self.analyser.finding().is_some() {
+            self.tell(w)?;
         }
-        Ok(taken.count)
+        Ok(taken)
+    }
+
+    /// Counts what is seen at the last bit, if anything, and puts its lines on the page.
+    #[inline(never)]
+    fn tell<W: Write>(&mut self, w: &mut W) -> Result<(), ShortWrite>
+        requires few { (most : ℕ) × IsFew most self.old.summary × (most < 2 ^ 60) }
+        requires sent { self.old.page.written < 2 ^ 100 }
+        ensures analyser { self.new.analyser ≡ self.old.analyser }
+        ensures printer { self.new.printer ≡ self.old.printer }
+        ensures counted { (before : List SeenReport) → self.old.summary ≡ summary_of before →
+            self.new.summary ≡ summary_of (before ++ heard self.old.analyser) }
+        ensures few { (most : ℕ) → IsFew most self.old.summary → IsFew (most + 1) self.new.summary }
+        ensures told { (start : Option (List ℕ)) (text : List ℕ) →
+            Pages start (W.contents w.old) self.old.page.text.bytes self.old.page.written text → MatchResult result
+            (λ _. Pages start (W.contents w.new) self.new.page.text.bytes self.new.page.written
+            (text ++ printed self.old.printer self.old.analyser.journal.dictionary (heard self.old.analyser)))
+            (λ cut. Cuts start (W.contents w.new) text cut.sent × (cut.sent < length text)) }
+        ensures octets { self.new.page.written + array_string_len self.new.page.text
+            ≤ self.old.page.written + array_string_len self.old.page.text + 1024 }
+    {
+        let Some(finding) = self.analyser.finding() else {
+            return Ok(());
+        };
+        let finding = *finding;
+        self.put(finding, w)
     }
 
     /// Counts what was found at the last bit, and puts its lines on the page.
-    #[inline(never)]
-    fn tell<W: Write>(&mut self, finding: Finding, w: &mut W) -> Result<(), ShortWrite>
+    fn put<W: Write>(&mut self, finding: Finding, w: &mut W) -> Result<(), ShortWrite>
         requires few { (most : ℕ) × IsFew most self.old.summary × (most < 2 ^ 60) }
         requires sent { self.old.page.written < 2 ^ 100 }
         ensures analyser { self.new.analyser ≡ self.old.analyser }

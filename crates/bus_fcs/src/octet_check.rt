@@ -13,6 +13,22 @@ pub struct OctetCheck {
     state: u16,
 }
 
+impl OctetCheck {
+    /// The register behind the octets so far.
+    pub fn register(&self) -> u16
+        ensures { result ≡ self.now.state }
+    {
+        self.state
+    }
+
+    /// The check whose register is this.
+    pub fn with_register(register: u16) -> Self
+        ensures { result ≡ record { state = register } }
+    {
+        OctetCheck { state: register }
+    }
+}
+
 impl Check for OctetCheck {
     ghost use Rattle.std.proofs.Common.{rules};
 

@@ -40,7 +40,7 @@ pub record Led {C : Type 0} (folded : C → List ℕ → Type 0) (cost : ℕ) (o
 -- a frame has no more octets than the longest and its check
 abbrev pub FitsFrame : ℕ → Option Piece → Type 0
 FitsFrame longest None = Unit {0}
-FitsFrame longest (Some (piece.Frame span octets)) = (length octets.now ≤ longest + 2) × (length octets.now ≤ 258)
+FitsFrame longest (Some (piece.Frame span octets)) = (length octets.now ≤ longest + 2) × (longest ≤ 256)
 FitsFrame longest (Some (piece.Damaged span cause)) = Unit {0}
 FitsFrame longest (Some (piece.Overlong span)) = Unit {0}
 FitsFrame longest (Some (piece.Abort span)) = Unit {0}

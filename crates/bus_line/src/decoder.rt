@@ -2,9 +2,11 @@
 
 mod append;
 mod decide;
+mod frame_buffer;
 mod late;
 mod look;
 mod marked;
+mod parts;
 mod step;
 mod stop;
 
@@ -16,12 +18,12 @@ ghost use Rattle.bus_line.specs.Due.{due_at, begun, placed};
 ghost use Rattle.bus_line.specs.Ledger.{stored_from, IsLedger};
 ghost use Rattle.bus_bits.specs.Octet.{bits_of};
 
+use crate::decoder::frame_buffer::FrameBuffer;
 use crate::event::Event;
 use crate::line_fault::LineFault;
 use crate::piece::Piece;
 use crate::place_limit::PlaceLimit;
 use crate::taken::Taken;
-use arrayvec::ArrayVec;
 use bus_bits::Spent;
 use bus_fcs::Check;
 use std::marker::Model;
@@ -56,7 +58,7 @@ pub struct LineDecoder<C: Check> {
     /// Those of them that fill no octet yet, the first lowest.
     rest: u64,
     /// The octets of the piece, or of the frame before it until the first octet is full.
-    buffer: ArrayVec<u8, 258>,
+    buffer: FrameBuffer,
     /// The check of these octets.
     check: C,
     /// The steps so far without the bits taken, which are the places since the origin.
@@ -107,7 +109,7 @@ impl<C: Check> LineDecoder<C> {
             settles_at: NEVER,
             gathered: 0,
             rest: 0,
-            buffer: ArrayVec::new(),
+            buffer: FrameBuffer::new(),
             check: C::fresh(),
             spent: Spent::zero(),
         })
@@ -115,7 +117,7 @@ impl<C: Check> LineDecoder<C> {
 
     /// Takes up to `count` bits, the first lowest: all of them, or those up to the first that may decide
     /// a report. Returns how many it took, and the report that the last of these decides, if there is
-    /// one. The octets of a frame are then those of [`LineDecoder::octets`].
+    /// one. If that is a frame, [`LineDecoder::octets`] lends its octets.
     ///
     /// Refuses as [`PlaceLimit`], with nothing changed, where one of the `count` bits would have the
     /// place 2^60 or a later one.
@@ -183,13 +185,14 @@ impl<C: Check> LineDecoder<C> {
         }
     }
 
-    /// The octets of the frame that the last bit closed.
+    /// The octets of the frame that the last bit closed: address, control, information and the two
+    /// octets of the frame check. After any other bit they are not those of a frame.
     pub fn octets(&self) -> &[u8]
         ensures value { result.now ≡ self.now.octets }
         ensures bound { length result.now ≤ self.now.longest + 2 }
-        ensures room { length result.now ≤ 258 }
+        ensures longest { self.now.longest ≤ 256 }
     {
-        self.buffer.as_slice()
+        self.buffer.octets()
     }
 
     /// How many octets of the piece that has begun are in the frame buffer: at most the longest

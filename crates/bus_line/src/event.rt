@@ -7,7 +7,7 @@ use crate::cause::Cause;
 use crate::piece::Piece;
 use bus_bits::Span;
 
-/// What a report is of.
+/// The kind of a report.
 #[derive(Clone, Copy, Debug, PartialEq, Eq)]
 pub enum EventKind {
     /// A good frame.
@@ -22,17 +22,17 @@ pub enum EventKind {
     Idle,
 }
 
-/// One report, as small as it can be: a frame's octets are left in the decoder
-/// ([`LineDecoder::octets`](crate::LineDecoder::octets)).
+/// One report without the octets of a frame, which
+/// [`LineDecoder::octets`](crate::LineDecoder::octets) lends. Spans count bits.
 #[derive(Clone, Copy, Debug, PartialEq, Eq)]
 pub struct Event {
-    pub kind: EventKind,
     /// The places of its bits.
     pub span: Span,
+    pub kind: EventKind,
 }
 
 impl Event {
-    /// The report, a frame with these octets.
+    /// The same report; if it is a frame, with these octets.
     pub fn with_octets<'a>(self, octets: &'a [u8]) -> Piece<'a>
         ensures { report_of result ≡ reported octets.now self }
     {

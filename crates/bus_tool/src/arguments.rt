@@ -45,7 +45,7 @@ fn dictionary_arg<'a>(alloc: Global) -> Arg<'a> {
         .long("dict")
         .value_name("TEXT")
         .action(ArgAction::Set)
-        .help("The text of a dictionary, as TOML, and not the path of a file")
+        .help("The text of a dictionary, not the path of its file: write \"$(cat FILE)\"")
 }
 
 fn origin_arg<'a>(alloc: Global) -> Arg<'a> {
@@ -55,7 +55,7 @@ fn origin_arg<'a>(alloc: Global) -> Arg<'a> {
         .action(ArgAction::Set)
         .value_parser(value_parser!(u64).range(0..=1 << 60))
         .default_value("0")
-        .help("The place of the first bit, 0 to 2^60; each place that is written counts from it")
+        .help("The place of the first bit, 0 to 2^60; places count from it")
 }
 
 fn bits_arg<'a>(alloc: Global) -> Arg<'a> {

@@ -1,5 +1,7 @@
 //! The program.
 
+ghost use Rattle.std.specs.Prelude.{◌≡◌, ◌≤◌, ◌↔◌, OnOk, OnErr};
+
 use crate::arguments::{READS, Refusal, Request, read_arguments};
 use bus_capture::{check_capture, list_capture};
 use bus_encode::encode_frames;
@@ -29,7 +31,9 @@ pub fn run<R: Read, W: Write, E: Write>(
     r: &mut R,
     w: &mut W,
     e: &mut E,
-) -> u8 {
+) -> u8
+    ensures status { result ≤ 2 }
+{
     match read_arguments(alloc, words) {
         Ok(request) => serve(alloc, &request, r, w, e),
         Err(Refusal::Arguments(error)) => refuse(alloc, &error, w, e),
@@ -44,7 +48,9 @@ fn serve<R: Read, W: Write, E: Write>(
     r: &mut R,
     w: &mut W,
     e: &mut E,
-) -> u8 {
+) -> u8
+    ensures status { result ≤ 2 }
+{
     match request {
         Request::List(options) => match list_capture(alloc, options, r, w) {
             Ok(_) => FINE,
@@ -60,18 +66,28 @@ fn serve<R: Read, W: Write, E: Write>(
 }
 
 /// The status of a check that reached the end.
-fn verdict(summary: &Summary) -> u8 {
+fn verdict(summary: &Summary) -> u8
+    ensures clean { (result ≡ 0) ↔
+        ((summary.now.damaged ≡ 0) × (summary.now.overlong ≡ 0) × (summary.now.missing ≡ 0)
+        × (summary.now.spoilt ≡ 0) × (summary.now.late ≡ 0)) }
+    ensures most { result ≤ 1 }
+{
     if summary.is_clean() { FINE } else { AMISS }
 }
 
 /// Reports a fault, and returns its status.
-fn fail<E: Write>(fault: &ToolFault, e: &mut E) -> u8 {
+fn fail<E: Write>(fault: &ToolFault, e: &mut E) -> u8
+    ensures status { result ≡ 2 }
+{
     let _ = writeln!(e, "port1: {fault}");
     FAULT
 }
 
 /// The status of a call, whose fault is told.
-fn status<E: Write>(ending: Result<(), ToolFault>, e: &mut E) -> u8 {
+fn status<E: Write>(ending: Result<(), ToolFault>, e: &mut E) -> u8
+    ensures fine { OnOk ending (result ≡ 0) }
+    ensures fault { OnErr ending (result ≡ 2) }
+{
     match ending {
         Ok(()) => FINE,
         Err(fault) => fail(&fault, e),
@@ -79,7 +95,9 @@ fn status<E: Write>(ending: Result<(), ToolFault>, e: &mut E) -> u8 {
 }
 
 /// Tells what the words have wrong, or the help that they ask for.
-fn refuse<W: Write, E: Write>(alloc: Global, error: &Error, w: &mut W, e: &mut E) -> u8 {
+fn refuse<W: Write, E: Write>(alloc: Global, error: &Error, w: &mut W, e: &mut E) -> u8
+    ensures status { result ≤ 2 }
+{
     if error.kind() == ErrorKind::OutOfMemory {
         return fail(&ToolFault::Memory, e);
     }

@@ -1,6 +1,6 @@
 -- More bits lead an analyser on.
 use Rattle.std.proofs.Common.{◌≡◌, ℕ, Bool, List, [], ◌∷◌, ◌++◌, Option, Some, None, refl, sym, ap, ◌∙◌, subst, append-nil}
-use Rattle.std.specs.Option.{option_to_list}
+use Rattle.std.specs.Option.{option_map, option_to_list}
 use Rattle.bus_line.specs.Report.{Report}
 use Rattle.bus_bits.specs.declared.spent.Spent.{Spent}
 use Rattle.bus_line.specs.Due.{reports, placed}
@@ -9,6 +9,8 @@ use Rattle.bus_line.specs.Internal.LineState.{LineState}
 use Rattle.bus_line.specs.After.{After, Led}
 use Rattle.bus_dictionary.specs.Dictionary.{longest_of}
 use Rattle.bus_watch.specs.Seen.{SeenReport, seen_of, seen}
+use Rattle.bus_watch.specs.Shown.{found}
+use Rattle.bus_watch.specs.declared.finding.Finding.{Finding}
 use Rattle.bus_watch.specs.Internal.JournalState.{JournalState, Keeps}
 use Rattle.bus_watch.specs.After.{AnalyserState, IsAfter, Sees, line, seen_after}
 use Rattle.bus_watch.specs.Ledger.{IsLedger}
@@ -67,6 +69,17 @@ sees-some folded cost old new bits report told p grows keeps says dictionary dep
   origin = p.origin;
   place = p.place;
 }
+
+-- the same, where what is seen of the report was kept
+pub sees-kept : {C : Type 0} (folded : C → List ℕ → Type 0) (cost : ℕ) (old new : AnalyserState C) (bits b : List Bool) (report : Report) (octets : List ℕ) (last : Option Finding)
+    → Led folded cost old.decoder bits new.decoder → GrowsBy folded cost old.decoder bits (Some report)
+    → ((rs : List Report) → Keeps old.journal rs → Keeps new.journal (rs ++ report ∷ []))
+    → ((rs : List Report) → Keeps old.journal rs → option_map (found octets) last ≡ Some (seen_of old.journal.dictionary rs report))
+    → new.journal.dictionary ≡ old.journal.dictionary → new.journal.depth ≡ old.journal.depth → IsAfter folded cost old b
+    → Sees folded cost old bits (option_to_list (option_map (found octets) last)) new
+sees-kept folded cost old new bits b report octets (Some f) p grows keeps says dictionary depth s =
+    sees-some folded cost old new bits report (found octets f) p grows keeps (λ rs k. let e = says rs k in cc) dictionary depth
+sees-kept folded cost old new bits b report octets None p grows keeps says dictionary depth s = absurd (let e = says (line old b) s.journal in cc)
 
 -- the steps of the decoder, and those of the journal
 pub ledger-is : {C : Type 0} (folded : C → List ℕ → Type 0) (cost : ℕ) (a : AnalyserState C) (b : List Bool) (d j : Spent) → IsAfter folded cost a b

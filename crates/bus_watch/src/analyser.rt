@@ -1,9 +1,10 @@
 //! The analyser: what is seen on a line, up to 48 bits at a time, in fixed memory.
 
-ghost use Rattle.std.specs.Prelude.{◌≡◌, ◌+◌, ◌-◌, ◌*◌, ◌≤◌, ◌<◌, ◌^◌, ◌↔◌, ◌⊎◌, List, Bool, [], ◌∷◌, ◌++◌, IsErr, IfOk, OnOk, OnErr, IsTrue, false, length, ℕ, Some, Err, slice_get};
+ghost use Rattle.std.specs.Prelude.{◌≡◌, ◌+◌, ◌-◌, ◌*◌, ◌≤◌, ◌<◌, ◌^◌, ◌↔◌, ◌⊎◌, List, Bool, [], ◌∷◌, ◌++◌, IsErr, IfOk, OnOk, OnErr, IsTrue, false, length, ℕ, Some, Err, slice_get, option_copied, None};
 ghost use Rattle.std.specs.Option.{option_map, option_to_list};
 ghost use Rattle.std.specs.Borrow.{sem};
 ghost use Rattle.std.specs.Io.BufRead.{Rests};
+ghost use Rattle.bus_line.specs.After.{TakesTo};
 ghost use Rattle.bus_line.specs.Due.{begun};
 ghost use Rattle.bus_line.specs.Ledger.{stored_from};
 ghost use Rattle.bus_bits.specs.Octet.{bits_of};
@@ -18,7 +19,6 @@ use crate::kept::Kept;
 use crate::laws::{seen_grows, steps_are_bounded};
 use crate::new_fault::NewFault;
 use crate::seen::Seen;
-use crate::taken::Taken;
 use bus_bits::{Span, Spent};
 use bus_dictionary::Dictionary;
 use bus_fcs::Check;
@@ -35,6 +35,8 @@ use std::marker::Model;
 pub struct Analyser<C: Check> {
     decoder: LineDecoder<C>,
     journal: Journal,
+    /// Whether the last bit taken decided a report, which is then the last of the journal.
+    is_decided: bool,
 }
 
 impl<C: Check> Model for Analyser<C> {
@@ -51,7 +53,7 @@ impl<C: Check> Model for Analyser<C> {
 
 impl<C: Check> Analyser<C> {
     ghost use Rattle.bus_watch.specs.contracts.analyser.Analyser.{the_row};
-    ghost use Rattle.bus_watch.specs.After.{IsAfter, Sees, line, seen_after};
+    ghost use Rattle.bus_watch.specs.After.{IsAfter, Sees, heard, line, seen_after};
     ghost use Rattle.bus_watch.specs.Seen.{seen_at};
     ghost use Rattle.bus_watch.specs.Shown.{shown_option, found, kept_option, begun_span, IsKeepable};
     ghost use Rattle.bus_watch.specs.History.{history, tally};
@@ -74,6 +76,7 @@ impl<C: Check> Analyser<C> {
         ensures given { IfOk result
             (λ a. (a.journal.dictionary ≡ dictionary) × (a.journal.depth ≡ depth) × (a.decoder.origin ≡ origin)
             × (a.decoder.place ≡ origin)) }
+        ensures none { IfOk result (λ a. a.finding ≡ None) }
     {
         if depth < 1 || depth > 1024 {
             return Err(NewFault::DepthRange);
@@ -84,65 +87,78 @@ impl<C: Check> Analyser<C> {
             Err(LineFault::LongestRange) => unreachable!(),
         };
         match Journal::new(alloc, dictionary, depth) {
-            Ok(journal) => Ok(Analyser { decoder, journal }),
+            Ok(journal) => Ok(Analyser {
+                decoder,
+                journal,
+                is_decided: false,
+            }),
             Err(_) => Err(NewFault::Memory),
         }
     }
 
     /// Takes up to `count` bits, the first lowest: all of them, or those up to the first that may decide
-    /// a report. Returns how many it took, and what is seen at the last of these, if it decides a
-    /// report. The octets of a frame are then those of [`Analyser::octets`].
+    /// a report. Returns how many it took. What is seen at the last of these, if it decides a report, is
+    /// then answered by [`Analyser::finding`], and [`Analyser::octets`] lends the octets of a frame.
     ///
     /// Refuses as [`PlaceLimit`], with nothing changed, where one of the `count` bits would have the
     /// place 2^60 or a later one.
     #[inline(always)]
-    pub fn take(&mut self, bits: u64, count: u32) -> Result<Taken, PlaceLimit>
+    pub fn take(&mut self, bits: u64, count: u32) -> Result<u32, PlaceLimit>
         requires some { 1 ≤ count }
         requires few { count ≤ 48 }
         requires small { bits < 2 ^ count }
         ensures limit { IsErr result ↔ (2 ^ 60 < self.old.decoder.place + count) }
-        ensures within { IfOk result (λ t. (1 ≤ t.count) × (t.count ≤ count)) }
-        ensures sees { IfOk result (λ t. Sees C.folded C.COST self.old (bits_of t.count bits)
-            (option_to_list (option_map (found self.new.decoder.octets) t.finding)) self.new) }
-        ensures before { IfOk result (λ t. (b : List Bool) → IsAfter C.folded C.COST self.old b →
-            seen_after self.old (b ++ bits_of (t.count - 1) bits) ≡ seen_after self.old b) }
+        ensures within { IfOk result (λ n. (1 ≤ n) × (n ≤ count)) }
+        ensures stops { IfOk result (λ n. (b : List Bool) → IsAfter C.folded C.COST self.old b →
+            TakesTo b (bits_of count bits) n) }
+        ensures sees { IfOk result (λ n. Sees C.folded C.COST self.old (bits_of n bits)
+            (heard self.new) self.new) }
+        ensures before { IfOk result (λ n. (b : List Bool) → IsAfter C.folded C.COST self.old b →
+            seen_after self.old (b ++ bits_of (n - 1) bits) ≡ seen_after self.old b) }
         ensures unchanged { OnErr result (self.new ≡ self.old) }
     {
-        let taken = match self.decoder.take(bits, count) {
-            Ok(taken) => taken,
-            Err(PlaceLimit) => return Err(PlaceLimit),
-        };
+        let taken = self.decoder.take(bits, count)?;
         let Some(event) = taken.event else {
-            return Ok(Taken {
-                count: taken.count,
-                finding: None,
-            });
+            self.is_decided = false;
+            return Ok(taken.count);
         };
         reports_are();
         frame_is_spelled();
         settled_places();
-        let finding = self.journal.take(event, self.decoder.octets());
-        Ok(Taken {
-            count: taken.count,
-            finding: Some(finding),
-        })
+        self.journal.take(event, self.decoder.octets());
+        self.is_decided = true;
+        Ok(taken.count)
     }
 
-    /// The octets of the frame that the last bit closed.
+    /// What is seen at the last bit that [`Analyser::take`] took, if it decides a report.
+    /// [`Analyser::octets`] lends the octets of a frame.
+    #[inline(always)]
+    pub fn finding(&self) -> Option<&Finding>
+        ensures { option_copied result ≡ self.now.finding }
+    {
+        if self.is_decided {
+            self.journal.last()
+        } else {
+            None
+        }
+    }
+
+    /// The octets of the frame that the last bit closed: address, control, information and the two
+    /// octets of the frame check. After any other bit they are not those of a frame.
     pub fn octets(&self) -> &[u8]
         ensures value { result.now ≡ self.now.decoder.octets }
         ensures bound { length result.now ≤ longest_of self.now.journal.dictionary + 2 }
-        ensures room { length result.now ≤ 258 }
+        ensures longest { longest_of self.now.journal.dictionary ≤ 256 }
     {
         self.decoder.octets()
     }
 
-    /// What was found, if anything, as it is handed out.
-    fn lent(&self, finding: Option<Finding>) -> Option<Seen<'_>>
-        ensures shown { shown_option result ≡ option_map (found self.now.decoder.octets) finding }
+    /// What is seen at the last bit, if anything, as it is handed out.
+    fn lent(&self) -> Option<Seen<'_>>
+        ensures shown { shown_option result ≡ option_map (found self.now.decoder.octets) self.now.finding }
         ensures fits { IsKeepable result }
     {
-        match finding {
+        match self.finding() {
             Some(finding) => Some(finding.with_octets(self.octets())),
             None => None,
         }
@@ -163,8 +179,8 @@ impl<C: Check> Analyser<C> {
             × OnErr result (new ≡ self.old))) }
     {
         seen_grows();
-        let taken = self.take(u64::from(bit), 1)?;
-        Ok(self.lent(taken.finding))
+        self.take(u64::from(bit), 1)?;
+        Ok(self.lent())
     }
 
     /// A frame of the history, of which the oldest has the number 0.

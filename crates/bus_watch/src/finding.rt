@@ -1,4 +1,4 @@
-//! A report without a frame's octets, and what follows from it.
+//! A report without the octets of a frame, and what follows from it.
 
 ghost use Rattle.std.specs.Prelude.{◌≡◌};
 ghost use Rattle.bus_watch.specs.Shown.{shown, found};
@@ -8,8 +8,8 @@ use crate::verdict::Verdict;
 use bus_dictionary::Standing;
 use bus_line::Event;
 
-/// A report, and what it says about the talk on the line, as small as it can be: a frame's octets are
-/// left in the analyser ([`Analyser::octets`](crate::Analyser::octets)).
+/// One report, and what follows from it for the talk on the line, without the octets of a frame, which
+/// [`Analyser::octets`](crate::Analyser::octets) lends.
 #[derive(Clone, Copy, Debug, PartialEq, Eq)]
 pub struct Finding {
     pub event: Event,
@@ -22,7 +22,7 @@ pub struct Finding {
 }
 
 impl Finding {
-    /// It as it is handed out, a frame with these octets.
+    /// The same; if it is a frame, with these octets.
     pub fn with_octets<'a>(self, octets: &'a [u8]) -> Seen<'a>
         ensures { shown result ≡ found octets.now self }
     {

@@ -1,6 +1,6 @@
 //! What is kept of the reports so far.
 
-ghost use Rattle.std.specs.Prelude.{◌≡◌, ◌+◌, ◌≤◌, ◌<◌, ◌^◌, List, ℕ, [], ◌∷◌, ◌++◌, IfOk, length, replicate, true, Some, slice_get, option_copied};
+ghost use Rattle.std.specs.Prelude.{◌≡◌, ◌+◌, ◌≤◌, ◌<◌, ◌^◌, List, ℕ, [], ◌∷◌, ◌++◌, IfOk, length, replicate, true, Some, slice_get, option_copied, option_map};
 
 mod keep;
 mod pair;
@@ -26,6 +26,8 @@ pub(crate) struct Journal {
     /// By station.
     tally: [Counts; 256],
     history: HeapCircularBuffer<Kept>,
+    /// What the last report was found to be, and `None` before the first.
+    last: Option<Finding>,
     /// The steps `copied` and `handled`; the others are counted elsewhere.
     spent: Spent,
 }
@@ -66,28 +68,39 @@ impl Journal {
             waiting: None,
             tally: no_counts(),
             history,
+            last: None,
             spent: Spent::zero(),
         })
     }
 
-    /// Takes a report, a frame with these octets, and says what follows from it.
+    /// Takes a report, a frame with these octets, and keeps what follows from it as the last.
     #[inline(never)]
-    pub(crate) fn take(&mut self, event: Event, octets: &[u8]) -> Finding
+    pub(crate) fn take(&mut self, event: Event, octets: &[u8])
         requires whole { IsWhole event.kind octets.now }
         requires fits { length octets.now ≤ 258 }
         requires room { HasRoom (journal_state self.old) }
         ensures keeps { (rs : List Report) → Keeps (journal_state self.old) rs →
             Keeps (journal_state self.new) (rs ++ reported octets.now event ∷ []) }
         ensures says { (rs : List Report) → Keeps (journal_state self.old) rs →
-            found octets.now result ≡ seen_of self.old.dictionary rs (reported octets.now event) }
+            option_map (found octets.now) self.new.last
+            ≡ Some (seen_of self.old.dictionary rs (reported octets.now event)) }
         ensures given { (self.new.dictionary ≡ self.old.dictionary)
             × (self.new.history.capacity ≡ self.old.history.capacity) }
     {
-        match event.kind {
+        let finding = match event.kind {
             EventKind::Frame => self.frame(event.span, octets),
             EventKind::Idle => self.idle(event),
             EventKind::Damaged(_) | EventKind::Overlong | EventKind::Abort => self.damage(event),
-        }
+        };
+        self.last = Some(finding);
+    }
+
+    /// What the last report was found to be, if there was one.
+    #[inline(always)]
+    pub(crate) fn last(&self) -> Option<&Finding>
+        ensures { option_copied result ≡ self.now.last }
+    {
+        self.last.as_ref()
     }
 
     /// Takes a frame.

@@ -20,7 +20,6 @@ mod report_sink;
 mod run;
 mod run_fault;
 mod seen;
-mod taken;
 mod usage;
 mod verdict;
 
@@ -41,6 +40,5 @@ pub use report_sink::ReportSink;
 pub use run::{Run, reports_of, run_all};
 pub use run_fault::RunFault;
 pub use seen::Seen;
-pub use taken::Taken;
 pub use usage::Usage;
 pub use verdict::Verdict;

@@ -1,8 +1,11 @@
 //! The program `port1`: analyses captures of the Port 1 bus from standard input.
 #![tactic(auto)]
 
+mod prompt;
+
 use bus_tool::{ToolFault, run};
-use std::io::{ErrorKind, Write};
+use prompt::Prompting;
+use std::io::{ErrorKind, IsTerminal, Write};
 use std::process::ExitCode;
 use std::{env, io};
 
@@ -18,10 +21,11 @@ fn main(rt: HostRuntime) -> ExitCode {
 
 /// Tells why the program did not start; that this fails is ignored.
 fn tell(rt: &HostRuntime, error: &io::Error) {
-    let _ = if error.kind() == ErrorKind::OutOfMemory {
-        writeln!(rt.stderr(), "port1: {}", ToolFault::Memory)
-    } else {
-        writeln!(rt.stderr(), "port1: {error}")
+    let _ = match error.kind() {
+        ErrorKind::OutOfMemory => writeln!(rt.stderr(), "port1: {}", ToolFault::Memory),
+        // Only `env::args` tells this, of a word that is no text.
+        ErrorKind::InvalidData => writeln!(rt.stderr(), "port1: an argument is not UTF-8"),
+        _ => writeln!(rt.stderr(), "port1: {error}"),
     };
 }
 
@@ -33,7 +37,11 @@ fn start(rt: &HostRuntime) -> io::Result<u8> {
     for word in owned.iter().skip(1) {
         words.push(word.as_str())?;
     }
-    let mut input = rt.reader();
+    let mut input = Prompting {
+        reader: rt.reader(),
+        faults: rt.stderr(),
+        is_due: rt.stdin().is_terminal(),
+    };
     let mut output = io::writer(rt);
     let mut faults = rt.stderr();
     let status = run(

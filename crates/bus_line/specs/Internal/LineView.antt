@@ -1,7 +1,6 @@
 -- A decoder's fields, as they are seen, and their bounds. The bits taken are not counted apart: they are as many as the places behind the origin.
-use Rattle.std.specs.Prelude.{◌≡◌, ℕ, ◌+◌, ◌-◌, ◌*◌, ◌≤◌, ◌^◌, Option, Some, None}
+use Rattle.std.specs.Prelude.{◌≡◌, ℕ, ◌+◌, ◌-◌, ◌*◌, ◌≤◌, ◌^◌, length, Option, Some, None}
 use Rattle.std.specs.Option.{ForSome}
-use Rattle.arrayvec.specs.ArrayVec.{array_vec_len}
 use Rattle.bus_line.specs.Internal.LineState.{LineState}
 use Rattle.bus_line.specs.declared.decoder.LineDecoder.TheInside.{Inside}
 
@@ -14,7 +13,7 @@ line_state d = record {
   first = d.first;
   gathered = d.gathered;
   rest = d.rest;
-  octets = d.buffer.items;
+  octets = d.buffer;
   check = d.check;
   spent = record d.spent { shifted = d.place - d.origin };
 }
@@ -26,7 +25,7 @@ settles_from (Some first) = first + 8
 
 pub record IsWithin {C : Type 0} (d : Inside C) : Type 0 where
   pub longest_fits : d.longest ≤ 256
-  pub room : array_vec_len d.buffer ≤ d.longest + 2
+  pub room : length d.buffer ≤ d.longest + 2
   pub place_fits : d.place ≤ 2 ^ 60
   pub begins : d.origin ≤ d.place
   pub first_fits : ForSome d.first (λ first. first ≤ d.place)

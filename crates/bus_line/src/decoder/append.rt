@@ -1,6 +1,6 @@
 //! Data bits more of a piece.
 
-ghost use Rattle.std.specs.Prelude.{◌≡◌, ◌+◌, ◌-◌, ◌*◌, ◌/◌, ◌≤◌, ◌<◌, ◌^◌, List, Bool, [], ◌∷◌, ◌++◌, length, ℕ};
+ghost use Rattle.std.specs.Prelude.{◌≡◌, ◌+◌, ◌-◌, ◌*◌, ◌/◌, ◌≤◌, ◌<◌, ◌^◌, List, Bool, [], ◌∷◌, ◌++◌, length, ℕ, take};
 ghost use Rattle.bus_bits.specs.Octet.{bits_of, octets};
 
 use crate::decoder::LineDecoder;
@@ -58,28 +58,27 @@ impl<C: Check> LineDecoder<C> {
         ensures kept { self.new ≡ record self.old { octets = self.new.octets; check = self.new.check; spent = self.new.spent } }
     {
         let room = self.longest + 2 - self.buffer.len();
-        let octets = joined.to_le_bytes();
-        self.put(&octets[..min(count as usize, room)]);
+        self.put(&joined.to_le_bytes(), min(count as usize, room));
     }
 
-    /// Puts octets into the frame buffer, which has room for them, and into its check.
+    /// Puts the first `count` of eight octets into the frame buffer, which has room for them, and into
+    /// its check.
     #[inline(always)]
-    fn put(&mut self, octets: &[u8])
-        requires room { length self.old.octets + length octets.now ≤ self.old.longest + 2 }
-        requires counted { self.old.spent.stored + length octets.now ≤ self.old.spent.assembled }
-        ensures octets { self.new.octets ≡ self.old.octets ++ octets.now }
-        ensures folded { (os : List ℕ) → C.folded self.old.check os → C.folded self.new.check (os ++ octets.now) }
+    fn put(&mut self, octets: &[u8; 8], count: usize)
+        requires few { count ≤ 8 }
+        requires room { length self.old.octets + count ≤ self.old.longest + 2 }
+        requires counted { self.old.spent.stored + count ≤ self.old.spent.assembled }
+        ensures octets { self.new.octets ≡ self.old.octets ++ take count octets.now }
+        ensures folded { (os : List ℕ) → C.folded self.old.check os → C.folded self.new.check (os ++ take count octets.now) }
         ensures spent { self.new.spent
             ≡ record self.old.spent {
-              stored = self.old.spent.stored + length octets.now;
-              folded = self.old.spent.folded + C.COST * length octets.now;
+              stored = self.old.spent.stored + count;
+              folded = self.old.spent.folded + C.COST * count;
             } }
         ensures kept { self.new ≡ record self.old { octets = self.new.octets; check = self.new.check; spent = self.new.spent } }
     {
-        if self.buffer.try_extend_from_slice(octets).is_err() {
-            unreachable!();
-        }
-        fold_octets(&mut self.check, octets, &mut self.spent);
-        self.spent.stored += octets.len() as u64;
+        self.buffer.append(octets, count);
+        fold_octets(&mut self.check, &octets[..count], &mut self.spent);
+        self.spent.stored += count as u64;
     }
 }

@@ -14,7 +14,7 @@ const BITS: usize = 5000;
 /// The longest frame in octets.
 const LONGEST: usize = 5;
 
-/// What traffic is made of, and how many bits of it at most are taken.
+/// What traffic is made of: a flag, a good frame and one with a wrong octet, runs of 1s and of 0s, noise.
 const PARTS: [&str; 8] = [
     "01111110",
     "01111110 00001000 11000001 00000000 101111101 10100111 01111110",

@@ -53,7 +53,7 @@ fn take_bits<C: Check>(rt: &impl Abort, analyser: &mut Analyser<C>) {
             .expect(rt, "memory");
     }
     assert_eq!(rt; sink.count, 3);
-    assert_eq!(rt; analyser.take(0, 9).expect(rt, "a place").count, 9);
+    assert_eq!(rt; analyser.take(0, 9).expect(rt, "a place"), 9);
 }
 
 /// Each call that asks what stands after them.

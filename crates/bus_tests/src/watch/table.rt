@@ -83,8 +83,8 @@ pub(super) fn taken<C: Check>(
         }
         let (word, count) = word_of(rt, rest, size);
         let taken = analyser.take(word, count).expect(rt, "a place");
-        rest = &rest[rest.len().min(taken.count as usize)..];
-        if let Some(finding) = taken.finding {
+        rest = &rest[rest.len().min(taken as usize)..];
+        if let Some(finding) = analyser.finding() {
             push_seen(&mut text, &finding.with_octets(analyser.octets())).expect(rt, "text");
         }
     }

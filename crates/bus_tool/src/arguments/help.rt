@@ -2,8 +2,8 @@
 
 /// How lines are chosen by their kind.
 pub const KIND: &str = "\
-Only lines of this kind: frame, damaged, overlong, abort, idle, stray, answered, missing, spoilt, \
-late, open or pending";
+Only lines of this kind: frame, damaged, overlong, abort, idle, stray,
+answered, missing, spoilt, late, open or pending";
 
 /// Of the program.
 pub const WHOLE: &str = "\
@@ -20,7 +20,9 @@ found a damaged or overlong piece or a command that was missed, spoilt or answer
 for any fault.
 
 Example:
-  port1 list --bits < capture.bits";
+  port1 list --bits < capture.bits
+
+See also: port1(1)";
 
 /// Of `list`.
 pub const LIST: &str = "\
@@ -40,8 +42,16 @@ a dictionary no type is known: no command waits, and strays have no line.
 
 The status is 0, or 2 for any fault, told on standard error behind the lines before it.
 
+Likely causes of faults:
+  capture: wrong magic        the capture is text: add --bits
+  capture: octet 0 is no bit  the capture is packed: leave out --bits
+  dictionary: not TOML        a path in place of the text: write --dict \"$(cat FILE)\"
+  write failed                the reader of the pipe has gone, as `head` does
+
 Example:
-  port1 list --bits --dict \"$(cat cabinet.toml)\" --station 16 < capture.bits";
+  port1 list --bits --dict \"$(cat cabinet.toml)\" --station 16 < capture.bits
+
+See also: port1(1)";
 
 /// Of `check`.
 pub const CHECK: &str = "\
@@ -51,10 +61,20 @@ missing, spoilt and answered late, these four again for each station that has an
 frames with their places, the oldest first. Where the capture has a fault, nothing is written.
 
 The status is 0; 1 where anything was damaged, overlong, missing, spoilt or late; 2 for any
-fault, told on standard error.
+fault, told on standard error. It is 0 with aborts, idle lines and strays, with a piece that is
+open or a command that waits at the end, and for an empty capture: look at the counts, and at
+what `list --kind open` and `list --kind pending` write.
+
+Likely causes of faults:
+  capture: wrong magic        the capture is text: add --bits
+  capture: octet 0 is no bit  the capture is packed: leave out --bits
+  dictionary: not TOML        a path in place of the text: write --dict \"$(cat FILE)\"
+  write failed                the reader of the pipe has gone, as `head` does
 
 Example:
-  port1 check --dict \"$(cat cabinet.toml)\" < capture.ts2 && echo all is well";
+  port1 check --dict \"$(cat cabinet.toml)\" < capture.ts2 && echo all is well
+
+See also: port1(1)";
 
 /// Of `show`.
 pub const SHOW: &str = "\
@@ -65,7 +85,9 @@ bit that is 1. A frame has 4 to 258 octets; digits are of either case.
 The status is 0, also where the check is bad, or 2 for any fault, told on standard error.
 
 Example:
-  port1 show --dict \"$(cat cabinet.toml)\" 108300fde5";
+  port1 show --dict \"$(cat cabinet.toml)\" 108300fde5
+
+See also: port1(1)";
 
 /// Of `encode`.
 pub const ENCODE: &str = "\
@@ -77,4 +99,6 @@ between flags, of which the first is left out behind a flag or a frame. Empty li
 The status is 0, or 2 for any fault, told on standard error behind the lines before it.
 
 Example:
-  printf 'frame 108300\\nidle\\n' | port1 encode";
+  printf 'frame 108300\\nidle\\n' | port1 encode
+
+See also: port1(1)";

@@ -1,9 +1,10 @@
-use Rattle.std.proofs.Common.{List, [], ◌∷◌, ◌++◌, ◌+◌, ◌≤◌, ◌<◌, ◌^◌, refl, sym, ap, ◌∙◌, subst, arith, inl, inr}
-use Rattle.std.specs.Option.{option_map, option_to_list}
+use Rattle.std.proofs.Common.{◌≡◌, Option, Some, None, Bor, false, List, ◌++◌, ◌+◌, ◌≤◌, ◌<◌, ◌^◌, refl, sym, ap, ◌∙◌, subst, arith, inl, inr}
+use Rattle.std.specs.Option.{option_map, option_to_list, option_copied}
+use Rattle.std.specs.Prelude.{is_some}
 use Rattle.std.proofs.lemmas.Result.{err_from_is_err_and}
 use Rattle.bus_bits.specs.Octet.{bits_of}
 use Rattle.bus_bits.proofs.OctetLemmas.{length-bits}
-use Rattle.bus_watch.specs.After.{AnalyserState, Sees, seen_after}
+use Rattle.bus_watch.specs.After.{AnalyserState, Sees, heard, seen_after}
 use Rattle.bus_watch.specs.Shown.{found}
 use Rattle.bus_text.specs.Internal.Pages.{Pages}
 use Rattle.bus_text.specs.declared.fault.ToolFault.TheVariants as fault
@@ -11,6 +12,11 @@ use Rattle.bus_dictionary.specs.Entry.{FrameType}
 use Rattle.bus_capture.specs.Internal.Watching.{lines, printed}
 use Rattle.bus_capture.proofs.WatchingLemmas.{watched, watched-nothing, halted, halts-word, cut-off, sound-next, few-within, below}
 use Rattle.bus_capture.proofs.run.CaptureRun.take_some.Goals as goal
+
+-- nothing stands where nothing is lent
+nothing : {T : Type 0} (lent : Option (Bor T)) (o : Option T) → option_copied lent ≡ o → is_some lent ≡ false → o ≡ None
+nothing None o e f = sym e
+nothing (Some x) o e f = absurd (cc)
 
 pub returns-in-Err-clause-taken : goal.returns-in-Err-clause-taken
 returns-in-Err-clause-taken g c =
@@ -21,16 +27,17 @@ returns-in-Err-clause-taken g c =
     (ap (λ (a : AnalyserState g.row.C.Denot). record c.args.self.now { analyser = a }) c.in-Err.ensures.unchanged)
     (omega (arith, c.requires.some, length-bits c.args.count c.args.bits)) end c.requires.sound h
 
-pub returns-in_default-clause-taken : goal.returns-in_default-clause-taken
-returns-in_default-clause-taken g c =
+pub returns-else-is_some-clause-taken : goal.returns-else-is_some-clause-taken
+returns-else-is_some-clause-taken g c =
     λ start b h.
-    let x = bits_of c.in-Ok.taken.count c.args.bits in
-    let sees = subst (λ o. Sees g.C.Check.folded g.C.Check.COST c.args.self.now.analyser x (option_to_list (option_map (found c.take.new.self.decoder.octets) o)) c.take.new.self) c.in_default.is c.in-Ok.ensures.sees in
+    let x = bits_of c.in-Ok.taken c.args.bits in
+    let none : c.take.new.self.finding ≡ None = nothing c.finding.result c.take.new.self.finding c.finding.ensures (sym c.is_some.ensures ∙ c.if-is_some.false) in
+    let sees = subst (λ o. Sees g.C.Check.folded g.C.Check.COST c.args.self.now.analyser x (option_to_list (option_map (found c.take.new.self.decoder.octets) o)) c.take.new.self) none c.in-Ok.ensures.sees in
     watched-nothing g.C.Check.folded g.C.Check.COST start _ c.args.self.now _ b x refl refl refl sees h
 
-pub returns-in_default-clause-sound : goal.returns-in_default-clause-sound
-returns-in_default-clause-sound g c =
-    let n = c.in-Ok.taken.count in
+pub returns-else-is_some-clause-sound : goal.returns-else-is_some-clause-sound
+returns-else-is_some-clause-sound g c =
+    let n = c.in-Ok.taken in
     let within = c.in-Ok.ensures.within in
     let most = below (c.args.self.now.analyser.decoder.place + c.args.count) c.in-Ok.ensures.limit.1 in
     let next = c.in-Ok.ensures.sees.place ∙ ap (λ k. c.args.self.now.analyser.decoder.place + k) (length-bits n c.args.bits) in
@@ -40,12 +47,10 @@ pub returns-in_err-tell-clause-taken : goal.returns-in_err-tell-clause-taken
 returns-in_err-tell-clause-taken g c =
     let p = err_from_is_err_and c.from_residual.result c.from_residual.ensures.1 in
     rw (p.1, p.2) (λ start b h.
-    let n = c.in-Ok.taken.count in
+    let n = c.in-Ok.taken in
     let x = bits_of n c.args.bits in
-    let told = found c.take.new.self.decoder.octets c.in-Some.finding ∷ [] in
-    let same = c.in_err-tell.ensures.analyser in
-    let sees = subst (λ (a : AnalyserState g.row.C.Denot). Sees g.C.Check.folded g.C.Check.COST c.args.self.now.analyser x told a) (sym same)
-    (subst (λ o. Sees g.C.Check.folded g.C.Check.COST c.args.self.now.analyser x (option_to_list (option_map (found c.take.new.self.decoder.octets) o)) c.take.new.self) c.in-Some.is c.in-Ok.ensures.sees) in
+    let told = heard c.take.new.self in
+    let sees = subst (λ (a : AnalyserState g.row.C.Denot). Sees g.C.Check.folded g.C.Check.COST c.args.self.now.analyser x told a) (sym c.in_err-tell.ensures.analyser) c.in-Ok.ensures.sees in
     let within = c.in-Ok.ensures.within in
     let most = below (c.args.self.now.analyser.decoder.place + c.args.count) c.in-Ok.ensures.limit.1 in
     let cut = c.in_err-tell.ensures.told start (lines c.args.self.now b) h.page in
@@ -55,7 +60,7 @@ returns-in_err-tell-clause-taken g c =
 
 pub returns-in_err-tell-clause-sound : goal.returns-in_err-tell-clause-sound
 returns-in_err-tell-clause-sound g c =
-    let n = c.in-Ok.taken.count in
+    let n = c.in-Ok.taken in
     let within = c.in-Ok.ensures.within in
     let most = below (c.args.self.now.analyser.decoder.place + c.args.count) c.in-Ok.ensures.limit.1 in
     let next = ap (λ (a : AnalyserState g.row.C.Denot). a.decoder.place) c.in_err-tell.ensures.analyser ∙ c.in-Ok.ensures.sees.place ∙ ap (λ k. c.args.self.now.analyser.decoder.place + k) (length-bits n c.args.bits) in
@@ -64,9 +69,9 @@ returns-in_err-tell-clause-sound g c =
 pub returns-in_ok-tell-clause-taken : goal.returns-in_ok-tell-clause-taken
 returns-in_ok-tell-clause-taken g c =
     λ start b h.
-    let x = bits_of c.in-Ok.taken.count c.args.bits in
-    let told = found c.take.new.self.decoder.octets c.in-Some.finding ∷ [] in
-    let here = subst (λ o. Sees g.C.Check.folded g.C.Check.COST c.args.self.now.analyser x (option_to_list (option_map (found c.take.new.self.decoder.octets) o)) c.take.new.self) c.in-Some.is c.in-Ok.ensures.sees in
+    let x = bits_of c.in-Ok.taken c.args.bits in
+    let told = heard c.take.new.self in
+    let here = c.in-Ok.ensures.sees in
     let sees = subst (λ (a : AnalyserState g.row.C.Denot). Sees g.C.Check.folded g.C.Check.COST c.args.self.now.analyser x told a) (sym c.in_ok-tell.ensures.analyser) here in
     let page = c.in_ok-tell.ensures.told start (lines c.args.self.now b) h.page in
     watched g.C.Check.folded g.C.Check.COST start _ _ c.args.self.now c.tell.new.self b x told c.in_ok-tell.ensures.printer h sees
@@ -75,7 +80,7 @@ returns-in_ok-tell-clause-taken g c =
 
 pub returns-in_ok-tell-clause-sound : goal.returns-in_ok-tell-clause-sound
 returns-in_ok-tell-clause-sound g c =
-    let n = c.in-Ok.taken.count in
+    let n = c.in-Ok.taken in
     let within = c.in-Ok.ensures.within in
     let most = below (c.args.self.now.analyser.decoder.place + c.args.count) c.in-Ok.ensures.limit.1 in
     let next = ap (λ (a : AnalyserState g.row.C.Denot). a.decoder.place) c.in_ok-tell.ensures.analyser ∙ c.in-Ok.ensures.sees.place ∙ ap (λ k. c.args.self.now.analyser.decoder.place + k) (length-bits n c.args.bits) in

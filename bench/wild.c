@@ -1,0 +1,80 @@
+/* Calls the C library on 10^6 lines with any content, each object ending at a page that must not be touched;
+ * sees that a refusal changes nothing and that `at` stays within what was asked for, and counts the answers.
+ *
+ *     wild [COUNT] */
+#define _GNU_SOURCE
+#include "port1.h"
+#include <stdio.h>
+#include <stdlib.h>
+#include <string.h>
+#include <sys/mman.h>
+
+#define PAGE 4096
+#define OCTETS 40
+
+static uint64_t state = 88172645463325252u;
+
+static uint64_t draw(void) {
+    state ^= state << 13;
+    state ^= state >> 7;
+    state ^= state << 17;
+    return state;
+}
+
+/* So many octets at the end of a page, with pages that must not be touched before and behind it. */
+static void *at_end(size_t size) {
+    char *pages = mmap(NULL, 3 * PAGE, PROT_NONE, MAP_PRIVATE | MAP_ANONYMOUS, -1, 0);
+    if (pages == MAP_FAILED || mprotect(pages + PAGE, PAGE, PROT_READ | PROT_WRITE) != 0)
+        exit(2);
+    return pages + 2 * PAGE - size;
+}
+
+/* Any content; three times in four its numbers are near those of a decoder. */
+static void fill(struct port1_line *line) {
+    for (size_t k = 0; k < sizeof *line; k++)
+        ((uint8_t *)line)[k] = (uint8_t)draw();
+    if (draw() % 4 == 0)
+        return;
+    line->longest = draw() % 300;
+    line->count = (uint16_t)(draw() % 262);
+    line->place = ((uint64_t)1 << 60) - draw() % 400;
+    line->origin = draw() % 3 ? 0 : line->place - draw() % 99;
+    line->assembled = draw() % 5000;
+    line->gathered = draw() % 5000;
+    line->stored = draw() % 5000;
+    line->folded = draw() % 40000;
+    line->first = line->place - draw() % 300;
+    line->has_first = draw() % 2;
+}
+
+int main(int argc, char **argv) {
+    long count = argc > 1 ? atol(argv[1]) : 1000000;
+    struct port1_line *line = at_end(sizeof *line), before;
+    struct port1_report *report = at_end(sizeof *report), told;
+    size_t *at = at_end(sizeof *at);
+    uint8_t *octets = at_end(OCTETS), *has_begun = at_end(1);
+    uint64_t *first = at_end(sizeof *first);
+    unsigned long answers[5] = {0};
+    memset(report, 0, sizeof *report);
+    for (long i = 0; i < count; i++) {
+        fill(line);
+        for (int k = 0; k < OCTETS; k++)
+            octets[k] = (uint8_t)(draw() % 3 ? draw() : draw() % 2 ? 0xff : 0x7e);
+        size_t end = draw() % 4 ? 8 * OCTETS : draw() % 340, begin = draw() % 330;
+        *at = begin;
+        before = *line;
+        told = *report;
+        uint32_t status = port1_line_feed(line, octets, OCTETS, at, end, report);
+        answers[status]++;
+        int is_refused = status == PORT1_BAD_STATE || status == PORT1_BAD_ARGUMENT;
+        if (is_refused && (memcmp(line, &before, sizeof before) || memcmp(report, &told, sizeof told) || *at != begin))
+            return 3;
+        if (!is_refused && (*at < begin || *at > end || line->longest != before.longest || line->origin != before.origin))
+            return 4;
+        port1_line_push(line, (uint8_t)draw(), report);
+        port1_line_open(line, has_begun, first);
+    }
+    printf("taken %lu, at the last place %lu, refused for the state %lu, for an argument %lu\n", answers[PORT1_OK],
+           answers[PORT1_PLACE_LIMIT], answers[PORT1_BAD_STATE], answers[PORT1_BAD_ARGUMENT]);
+    return 0;
+}

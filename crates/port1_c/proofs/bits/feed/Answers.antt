@@ -1,0 +1,29 @@
+use Rattle.std.proofs.Common.{◌≡◌, ◌+◌, ◌∙◌, refl, sym, subst, arith}
+use Rattle.bus_fcs.specs.declared.octet_check.OctetCheck.{OctetCheck}
+use Rattle.bus_line.specs.Internal.LineState.{LineState}
+use Rattle.port1_c.specs.Line.{bits_from, Tells}
+use Rattle.port1_c.proofs.TellLemmas.{silent, tell-alike, tell-more, tell-none}
+use Rattle.port1_c.proofs.bits.feed.Goals as goal
+
+pub loop-count-init : goal.loop-count-init
+loop-count-init c = record { within = omega (arith, c.requires.some); rests = tell-none c.args.octets.now c.args.at c.args.decoder.now }
+
+pub returns-then-told-ne0-clause-tells : goal.returns-then-told-ne0-clause-tells
+returns-then-told-ne0-clause-tells c =
+    tell-more c.args.octets.now c.args.at c.loop-count.count c.in-Ok.told.count c.args.decoder.now c.loop-count.decoder c.step.new.decoder c.in-Ok.told.report c.loop-count.invariant.rests c.in-Ok.ensures.tells
+
+pub loop-count-preserved : goal.loop-count-preserved
+loop-count-preserved c = record {
+  within = omega (arith, c.in-Ok.ensures.count.1);
+  rests = tell-alike c.args.decoder.now c.step.new.decoder (bits_from c.args.octets.now c.args.at (c.loop-count.count + c.in-Ok.told.count)) c.in-Ok.told.report silent (omega (arith, c.if-told-ne0.false)) refl
+      (tell-more c.args.octets.now c.args.at c.loop-count.count c.in-Ok.told.count c.args.decoder.now c.loop-count.decoder c.step.new.decoder c.in-Ok.told.report c.loop-count.invariant.rests c.in-Ok.ensures.tells);
+}
+
+same : (c : goal.After-none) → c.loop-count.decoder ≡ c.loop-count-test.decoder
+same c = elim c.loop-count-test.branch [ goal.else-loop-count-test w ↦ sym w.decoder-is | goal.then-loop-count-test+in-Err w ↦ sym (w.decoder-is ∙ w.in-Err.ensures.kept) ]
+
+pub returns-clause-tells : goal.returns-clause-tells
+returns-clause-tells c =
+    let bits = bits_from c.args.octets.now c.args.at c.loop-count.count in
+    tell-alike c.args.decoder.now c.loop-count-test.decoder bits silent c.none.result refl c.none.ensures
+    (subst (λ (s : LineState OctetCheck). Tells c.args.decoder.now bits silent s) (same c) c.loop-count.invariant.rests)

@@ -1,0 +1,99 @@
+-- What a C caller's memory says of a decoder and of a report.
+use Rattle.std.specs.Option.{option_to_list}
+use Rattle.std.specs.Prelude.{◌≡◌, ◌++◌, ◌==◌, not, ℕ, zero, suc, ◌+◌, ◌/◌, ◌%◌, ◌^◌, Bool, List, [], ◌∷◌, length, take, slice_index, Option, Some, None, if◌then◌else◌}
+use Rattle.bus_fcs.specs.declared.octet_check.OctetCheck.{OctetCheck}
+use Rattle.bus_fcs.specs.Internal.Register.{IsStateAfter}
+use Rattle.bus_line.specs.Internal.LineState.{LineState}
+use Rattle.bus_line.specs.After as line
+use Rattle.bus_line.specs.Due.{placed}
+use Rattle.bus_line.specs.Parts.{DoFit, state_of}
+use Rattle.bus_line.specs.declared.line_parts.LineParts.{LineParts}
+use Rattle.bus_line.specs.Report.{Report, Kind}
+use Rattle.bus_line.specs.declared.cause.Cause.{Cause}
+use Rattle.bus_line.specs.declared.cause.Cause.TheVariants as cause
+use Rattle.port1_c.specs.declared.line.Port1Line.{Port1Line}
+use Rattle.port1_c.specs.declared.report.Port1Report.{Port1Report}
+
+abbrev pub first_in : ℕ → ℕ → Option ℕ
+first_in has first = if has == 0 then None else Some first
+
+-- the parts of a decoder that the memory holds
+abbrev pub parts : Port1Line → LineParts OctetCheck
+parts l = record {
+  longest = l.longest;
+  origin = l.origin;
+  place = l.place;
+  history = l.history;
+  first = first_in l.has_first l.first;
+  gathered = l.gathered;
+  rest = l.rest;
+  cells = l.octets;
+  len = l.count;
+  check = record { state = l.check };
+  spent = record { shifted = 0; assembled = l.assembled; folded = l.folded; stored = l.stored; copied = 0; handled = 0 };
+}
+
+-- the memory holds a decoder
+abbrev pub Sound : Port1Line → Type 0
+Sound l = DoFit (parts l)
+
+-- the decoder that the memory holds
+abbrev pub held : Port1Line → LineState OctetCheck
+held l = state_of (parts l)
+
+-- a decoder may stand after the bits b
+abbrev pub After : LineState OctetCheck → List Bool → Type 0
+After d b = line.After (λ (c : OctetCheck) (os : List ℕ). IsStateAfter c.state os) 1 d b
+
+-- and so the memory
+abbrev pub Stands : Port1Line → List Bool → Type 0
+Stands l b = After (held l) b
+
+-- the octets of the frame that was just told
+abbrev pub frame : Port1Line → List ℕ
+frame l = take l.count l.octets
+
+-- the reports of the bits b
+abbrev pub reports_of : Port1Line → List Bool → List Report
+reports_of l b = placed l.origin l.longest b
+
+-- a number that stands for a bit
+abbrev pub bit_of : ℕ → Bool
+bit_of n = not (n == 0)
+
+abbrev pub cause_in : ℕ → Cause
+cause_in n = if n == 1 then cause.Unstuffed else (if n == 2 then cause.Short else (if n == 3 then cause.Unaligned else cause.Fcs))
+
+abbrev pub kind_in : ℕ → ℕ → List ℕ → Kind
+kind_in kind cause octets =
+    if kind == 1 then Kind.Frame octets else
+    (if kind == 2 then Kind.Damaged (cause_in cause) else
+    (if kind == 3 then Kind.Overlong else
+    (if kind == 4 then Kind.Abort else Kind.Idle)))
+
+-- the report that the memory tells, if it tells one; a frame's octets are these
+abbrev pub told : Port1Report → List ℕ → Option Report
+told r octets = if r.kind == 0 then None else Some (record { kind = kind_in r.kind r.cause octets; first = r.first; past = r.past })
+
+-- bit i of octets, the lowest of each first
+abbrev pub bit_at : List ℕ → ℕ → Bool
+bit_at octets i = (slice_index octets (i / 8) / 2 ^ (i % 8)) % 2 == 1
+
+-- these many bits of octets, from bit i on
+unfoldable pub bits_from : List ℕ → ℕ → ℕ → List Bool
+bits_from octets i zero = []
+bits_from octets i (suc n) = bit_at octets i ∷ bits_from octets (i + 1) n
+
+-- the longest frame and the place of the first bit stay, and so many bits were taken
+pub record Goes (old : Port1Line) (count : ℕ) (new : Port1Line) : Type 0 where
+  pub longest : new.longest ≡ old.longest
+  pub origin : new.origin ≡ old.origin
+  pub place : new.place ≡ old.place + count
+
+-- these bits lead from old to new, and decide just this report, if it is one
+pub record Tells (old : LineState OctetCheck) (bits : List Bool) (r : Port1Report) (new : LineState OctetCheck) : Type 0 where
+  pub after : (b : List Bool) → After old b → After new (b ++ bits)
+  pub says : (b : List Bool) → After old b → placed old.origin old.longest (b ++ bits) ≡ placed old.origin old.longest b ++ option_to_list (told r new.octets)
+  pub longest : new.longest ≡ old.longest
+  pub origin : new.origin ≡ old.origin
+  pub place : new.place ≡ old.place + length bits

@@ -1,0 +1,141 @@
+//! What C calls.
+
+ghost use Rattle.std.specs.Prelude.{◌≡◌, ◌≢◌, ◌+◌, ◌-◌, ◌*◌, ◌≤◌, ◌<◌, ◌^◌, ◌↔◌, ◌⊎◌, List, Bool, ◌∷◌, ◌++◌, [], ℕ, length};
+ghost use Rattle.std.specs.Option.{option_map, option_to_list};
+ghost use Rattle.bus_line.specs.Due.{begun};
+ghost use Rattle.port1_c.specs.Line.{Sound, Stands, bit_of, bits_from, first_in, frame, Goes, reports_of, told};
+
+use crate::bits;
+use crate::line::Port1Line;
+use crate::report::Port1Report;
+use bus_fcs::OctetCheck;
+use bus_line::{LineDecoder, LineFault, PlaceLimit};
+
+/// The call did what it says.
+const DONE: u32 = 0;
+
+/// The longest frame is not 3 to 256 octets.
+const LONGEST: u32 = 1;
+
+/// A place would be out of range.
+const PLACE: u32 = 2;
+
+/// The memory holds no decoder.
+const STATE: u32 = 3;
+
+/// An argument is out of range.
+const ARGUMENT: u32 = 4;
+
+/// Makes a decoder in the caller's memory, whatever stands there.
+#[unsafe(no_mangle)]
+pub extern "C" fn port1_line_init(line: &mut Port1Line, longest: u64, origin: u64) -> u32
+    ensures longest { (result ≡ 1) ↔ ((longest < 3) ⊎ (256 < longest)) }
+    ensures origin { (result ≡ 2) ↔ ((3 ≤ longest) × (longest ≤ 256) × (2 ^ 60 < origin)) }
+    ensures status { result ≤ 2 }
+    ensures sound { result ≡ 0 → Sound line.new }
+    ensures stands { result ≡ 0 → Stands line.new [] }
+    ensures given { result ≡ 0 → (line.new.longest ≡ longest) × (line.new.origin ≡ origin) × (line.new.place ≡ origin) }
+    ensures kept { result ≢ 0 → line.new ≡ line.old }
+{
+    match LineDecoder::<OctetCheck>::new(longest as usize, origin) {
+        Ok(decoder) => {
+            line.store(decoder);
+            DONE
+        }
+        Err(LineFault::LongestRange) => LONGEST,
+        Err(LineFault::Origin) => PLACE,
+    }
+}
+
+/// Takes a bit: 0, or any other number for a 1.
+#[unsafe(no_mangle)]
+pub extern "C" fn port1_line_push(line: &mut Port1Line, bit: u8, report: &mut Port1Report) -> u32
+    ensures status { (result ≡ 0) ⊎ (result ≡ 2) ⊎ (result ≡ 3) }
+    ensures limit { Sound line.old → (result ≡ 2 ↔ 2 ^ 60 ≤ line.old.place) }
+    ensures state { Sound line.old → result ≢ 3 }
+    ensures refused { result ≢ 3 → Sound line.old }
+    ensures kept { result ≢ 0 → (line.new ≡ line.old) × (report.new ≡ report.old) }
+    ensures sound { result ≡ 0 → Sound line.new }
+    ensures goes { result ≡ 0 → Goes line.old 1 line.new }
+    ensures stands { result ≡ 0 → (b : List Bool) → Stands line.old b → Stands line.new (b ++ bit_of bit ∷ []) }
+    ensures told { result ≡ 0 → (b : List Bool) → Stands line.old b →
+        reports_of line.new (b ++ bit_of bit ∷ []) ≡ reports_of line.old b ++ option_to_list (told report.new (frame line.new)) }
+{
+    let mut decoder = match line.load() {
+        Some(decoder) => decoder,
+        None => return STATE,
+    };
+    match bits::push(&mut decoder, bit != 0) {
+        Ok(told) => {
+            line.store(decoder);
+            *report = told;
+            DONE
+        }
+        Err(PlaceLimit) => PLACE,
+    }
+}
+
+/// Takes bits of octets, the lowest of each first, from bit `at` on, up to the first that decides a
+/// report. `at` is then the next bit to take.
+#[unsafe(no_mangle)]
+pub extern "C" fn port1_line_feed(
+    line: &mut Port1Line,
+    octets: &[u8],
+    at: &mut usize,
+    end: usize,
+    report: &mut Port1Report,
+) -> u32
+    ensures argument { (result ≡ 4) ↔ ((8 * length octets.now < end) ⊎ (end < at.old)) }
+    ensures status { (result ≡ 0) ⊎ (result ≡ 2) ⊎ (result ≡ 3) ⊎ (result ≡ 4) }
+    ensures state { Sound line.old → result ≢ 3 }
+    ensures refused { result < 3 → Sound line.old }
+    ensures kept { 3 ≤ result → (line.new ≡ line.old) × (at.new ≡ at.old) × (report.new ≡ report.old) }
+    ensures sound { result < 3 → Sound line.new }
+    ensures goes { result < 3 → Goes line.old (at.new - at.old) line.new }
+    ensures bound { result < 3 → (at.old ≤ at.new) × (at.new ≤ end) }
+    ensures all { result ≡ 0 → report.new.kind ≡ 0 → at.new ≡ end }
+    ensures limit { result ≡ 2 → (report.new.kind ≡ 0) × (at.new < end) × (line.new.place ≡ 2 ^ 60) }
+    ensures stands { result < 3 → (b : List Bool) → Stands line.old b → Stands line.new (b ++ bits_from octets.now at.old (at.new - at.old)) }
+    ensures told { result < 3 → (b : List Bool) → Stands line.old b →
+        reports_of line.new (b ++ bits_from octets.now at.old (at.new - at.old)) ≡ reports_of line.old b ++ option_to_list (told report.new (frame line.new)) }
+{
+    if end / 8 > octets.len() || (end / 8 == octets.len() && end % 8 != 0) || *at > end {
+        return ARGUMENT;
+    }
+    let mut decoder = match line.load() {
+        Some(decoder) => decoder,
+        None => return STATE,
+    };
+    let told = bits::feed(&mut decoder, octets, *at, end);
+    line.store(decoder);
+    *at += told.count;
+    *report = told.report;
+    if told.report.kind == 0 && *at < end {
+        return PLACE;
+    }
+    DONE
+}
+
+/// Says whether a piece has begun that no flag and no abort has ended yet, and where: `has_begun` is then 1,
+/// and else 0.
+#[unsafe(no_mangle)]
+pub extern "C" fn port1_line_open(line: &Port1Line, has_begun: &mut u8, first: &mut u64) -> u32
+    ensures status { (result ≡ 0) ⊎ (result ≡ 3) }
+    ensures state { Sound line.now → result ≢ 3 }
+    ensures refused { result ≢ 3 → Sound line.now }
+    ensures kept { result ≢ 0 → (has_begun.new ≡ has_begun.old) × (first.new ≡ first.old) }
+    ensures begun { result ≡ 0 → (b : List Bool) → Stands line.now b → first_in has_begun.new first.new ≡ option_map (λ first. line.now.origin + first) (begun b) }
+{
+    let decoder = match line.load() {
+        Some(decoder) => decoder,
+        None => return STATE,
+    };
+    match decoder.begun() {
+        Some(place) => {
+            *has_begun = 1;
+            *first = place;
+        }
+        None => *has_begun = 0,
+    }
+    DONE
+}

@@ -1,0 +1,126 @@
+/* port1.h: the frames of a synchronous HDLC line (ISO/IEC 13239, 16-bit frame check) from its bits, in
+ * memory of the caller's. Link libport1_c.a. C99 or later, C++11 or later.
+ *
+ * What is proved, for every content of the memory that a call is given:
+ *   - a call is safe and ends;
+ *   - after port1_line_init answered PORT1_OK, and as long as only these calls write the line, the reports
+ *     are those of the definition (crates/bus_line/specs/Report.antt) for the bits taken so far: all of
+ *     them, in order, each once, told by the call that takes the bit that decides it, however the bits are
+ *     cut into calls;
+ *   - longest and origin stay as they were given;
+ *   - where a call refuses, with PORT1_BAD_STATE or PORT1_BAD_ARGUMENT, nothing has changed.
+ *
+ * A line that was damaged or never made is refused as PORT1_BAD_STATE where its numbers cannot be those
+ * of a decoder. Else it is read as some decoder, and reports what that one would: a call on it is safe and
+ * ends all the same, but its reports mean nothing.
+ *
+ * The library has no data of its own, asks for no memory and calls nothing but memcpy and memset.
+ *
+ * What is not proved:
+ *   - this header. It is written by hand; the asserts at its end hold the layout to the library's;
+ *   - the C compiler's side of a call, and any target but those that the library was built and proved for.
+ *
+ * The duties of the caller, which no call can check: a pointer is not null, is aligned for its type, and
+ * points to as many objects as are said; what a call writes overlaps nothing else that it is given; all of
+ * a line was written once, with any values; one call at a time on one line. */
+#ifndef PORT1_H
+#define PORT1_H
+
+#include <stddef.h>
+#include <stdint.h>
+
+#ifdef __cplusplus
+extern "C" {
+#endif
+
+/* What a call answers. */
+enum {
+    PORT1_OK = 0,
+    PORT1_BAD_LENGTH = 1,  /* the longest frame is not of 3 to 256 octets */
+    PORT1_PLACE_LIMIT = 2, /* a bit's place would be 2^60 or later, or an origin is past 2^60 */
+    PORT1_BAD_STATE = 3,   /* the memory holds no decoder */
+    PORT1_BAD_ARGUMENT = 4 /* the bits asked for are not in the octets */
+};
+
+/* The kind of a report. */
+enum {
+    PORT1_NONE = 0,     /* no report */
+    PORT1_FRAME = 1,    /* a good frame */
+    PORT1_DAMAGED = 2,  /* a piece between two flags that is no frame */
+    PORT1_OVERLONG = 3, /* a piece with more data than the longest frame and its check */
+    PORT1_ABORT = 4,    /* a piece that seven 1 bits ended */
+    PORT1_IDLE = 5      /* the first fifteen 1 bits of an idle line */
+};
+
+/* The cause of PORT1_DAMAGED. */
+enum {
+    PORT1_UNSTUFFED = 1, /* five 1 bits right before the closing flag, where a sender inserts a 0 */
+    PORT1_SHORT = 2,     /* under 32 data bits: address, control octet and check do not fit */
+    PORT1_UNALIGNED = 3, /* the data are not whole octets */
+    PORT1_FCS = 4        /* the frame check fails */
+};
+
+/* A decoder: 360 octets, wherever you like. It holds no pointer, so it may be copied and moved.
+ * Read longest, origin, place, count and octets; leave the rest alone, and write nothing. */
+struct port1_line {
+    uint64_t longest; /* the longest frame in octets, address through information */
+    uint64_t origin;  /* the place of the first bit */
+    uint64_t place;   /* the place of the next bit */
+    uint64_t first, gathered, assembled, folded, stored, history, rest;
+    uint32_t has_first;
+    uint16_t count;      /* of the octets that follow */
+    uint16_t check;
+    uint8_t octets[266]; /* after PORT1_FRAME the first `count`: address, control, information and the two
+                          * of the frame check, until the next call that takes bits */
+};
+
+/* A report. Its places count bits from the origin of the line. */
+struct port1_report {
+    uint32_t kind;  /* PORT1_NONE to PORT1_IDLE */
+    uint32_t cause; /* of PORT1_DAMAGED, and else 0 */
+    uint64_t first; /* the place of the first bit */
+    uint64_t past;  /* the place behind the last bit */
+};
+
+/* Makes a decoder that took no bit, whatever the memory holds.
+ * longest: the longest frame in octets, address through information, 3 to 256, else PORT1_BAD_LENGTH.
+ * origin: the place of the first bit, at most 2^60, else PORT1_PLACE_LIMIT.
+ * Where it does not answer PORT1_OK, nothing has changed. */
+uint32_t port1_line_init(struct port1_line *line, uint64_t longest, uint64_t origin);
+
+/* Takes bits `*at` to `end` - 1 of the octets, the lowest bit of each octet first, up to the first that
+ * decides a report. `*at` is then the next bit to take, and `*report` what the last bit decided.
+ *
+ * PORT1_OK: with PORT1_NONE in the report all bits were taken, and `*at` is `end`; else call again.
+ * PORT1_PLACE_LIMIT: the bits before place 2^60 were taken, and decided nothing.
+ * PORT1_BAD_ARGUMENT: just where `*at` > `end` or `end` > 8 * `count`. Nothing has changed.
+ * PORT1_BAD_STATE: the memory holds no decoder. Nothing has changed. */
+uint32_t port1_line_feed(struct port1_line *line, const uint8_t *octets, size_t count, size_t *at, size_t end,
+                         struct port1_report *report);
+
+/* Takes one bit: 0, or any other number for a 1. `*report` is what it decided.
+ * PORT1_PLACE_LIMIT: its place would be 2^60. PORT1_BAD_STATE: the memory holds no decoder.
+ * Where it does not answer PORT1_OK, nothing has changed. */
+uint32_t port1_line_push(struct port1_line *line, uint8_t bit, struct port1_report *report);
+
+/* Says whether a piece has begun that nothing has ended yet: `*has_begun` is then 1 and `*first` the place of
+ * its first bit; else `*has_begun` is 0 and `*first` as it was.
+ * PORT1_BAD_STATE: the memory holds no decoder. Nothing has changed. */
+uint32_t port1_line_open(const struct port1_line *line, uint8_t *has_begun, uint64_t *first);
+
+/* The layout that the library was compiled with: an array of a negative size is an error in C99 and C++. */
+#define PORT1_ASSERT(name, holds) typedef char port1_assert_##name[(holds) ? 1 : -1]
+PORT1_ASSERT(size_of_line, sizeof(struct port1_line) == 360);
+PORT1_ASSERT(size_of_report, sizeof(struct port1_report) == 24);
+PORT1_ASSERT(size_of_size, sizeof(size_t) == 8);
+PORT1_ASSERT(place, offsetof(struct port1_line, place) == 16);
+PORT1_ASSERT(has_first, offsetof(struct port1_line, has_first) == 80);
+PORT1_ASSERT(count, offsetof(struct port1_line, count) == 84);
+PORT1_ASSERT(octets, offsetof(struct port1_line, octets) == 88);
+PORT1_ASSERT(report_first, offsetof(struct port1_report, first) == 8);
+#undef PORT1_ASSERT
+
+#ifdef __cplusplus
+}
+#endif
+#endif
