@@ -1,9 +1,14 @@
 //! Frames alone: a decoder over a buffer of bits.
 
-ghost use Rattle.std.specs.Prelude.{◌≤◌, length, IfOk};
+ghost use Rattle.std.specs.Prelude.{◌≡◌, ℕ, List, IfOk};
+ghost use Rattle.std.specs.Option.{option_map, option_to_list};
+ghost use Rattle.bus_line.specs.Due.{placed};
+ghost use Rattle.bus_line.specs.Shown.{reported};
+ghost use Rattle.bus_examples.specs.Frames.{frame_count};
+ghost use Rattle.bus_examples.specs.declared.frames.CountFault.TheVariants.{New, Places};
 
 use bus_fcs::Check;
-use bus_line::{LineDecoder, LineFault, Piece, PlaceLimit};
+use bus_line::{Event, EventKind, LineDecoder, LineFault, PlaceLimit};
 
 /// Why the frames of a buffer were not counted.
 #[derive(Clone, Copy, Debug, PartialEq, Eq)]
@@ -14,21 +19,50 @@ pub enum CountFault {
     Places(PlaceLimit),
 }
 
-/// How many frames with a good check these bits have, none longer than 256 octets and the check.
-pub fn count_frames<C: Check>(bits: &[bool]) -> Result<usize, CountFault>
-    ensures few { IfOk result (λ count. count ≤ length bits.now) }
+impl From<LineFault> for CountFault {
+    ghost from_gives = { λ fault given. given ≡ New fault };
+
+    fn from(fault: LineFault) -> Self {
+        CountFault::New(fault)
+    }
+}
+
+impl From<PlaceLimit> for CountFault {
+    ghost from_gives = { λ fault given. given ≡ Places fault };
+
+    fn from(fault: PlaceLimit) -> Self {
+        CountFault::Places(fault)
+    }
+}
+
+/// One for a frame, and none for anything else or for no report.
+fn frames_in(event: Option<Event>) -> usize
+    ensures { (octets : List ℕ) → result ≡ frame_count (option_to_list (option_map (reported octets) event)) }
 {
-    let mut decoder = match LineDecoder::<C>::new(256, 0) {
-        Ok(decoder) => decoder,
-        Err(fault) => return Err(CountFault::New(fault)),
-    };
+    match event {
+        Some(
+            Event {
+                kind: EventKind::Frame,
+                ..
+            },
+        ) => 1,
+        _ => 0,
+    }
+}
+
+/// How many frames with a good check these bits have, none longer than 256 octets and the check.
+///
+/// # Errors
+///
+/// `Places`: there are more than 2^60 bits.
+pub fn count_frames<C: Check>(bits: &[bool]) -> Result<usize, CountFault>
+    ensures { IfOk result (λ count. count ≡ frame_count (placed 0 256 bits.now)) }
+{
+    let mut decoder = LineDecoder::<C>::new(256, 0)?;
     let mut count: usize = 0;
     for bit in bits {
-        match decoder.push(*bit) {
-            Ok(Some(Piece::Frame { .. })) => count += 1,
-            Ok(_) => {}
-            Err(fault) => return Err(CountFault::Places(fault)),
-        }
+        let taken = decoder.take(u64::from(*bit), 1)?;
+        count += frames_in(taken.event);
     }
     Ok(count)
 }
