@@ -3,9 +3,11 @@
 #![tactic(auto)]
 
 mod frames;
+mod live;
 mod sending;
 mod watching;
 
-pub use frames::count_frames;
+pub use frames::{CountFault, count_frames};
+pub use live::{closes_frame_of, unanswered};
 pub use sending::{FrameBits, frame_bits};
 pub use watching::{WatchFault, watch};

@@ -1,0 +1,63 @@
+//! Bit by bit, as an interrupt or a loop hands them in.
+
+ghost use Rattle.std.specs.Prelude.{◌≡◌, Bool, List, [], ◌∷◌, ◌++◌, IfOk, length, option_and_then};
+ghost use Rattle.bus_line.specs.After.{After};
+ghost use Rattle.bus_line.specs.Due.{due_at};
+ghost use Rattle.bus_line.specs.Shown.{shown};
+ghost use Rattle.bus_watch.specs.After.{IsAfter, line};
+ghost use Rattle.bus_watch.specs.Seen.{seen_at};
+ghost use Rattle.bus_examples.specs.Live.{closes_for, unanswered_in};
+
+use bus_fcs::Check;
+use bus_line::{LineDecoder, Piece, PlaceLimit};
+use bus_watch::{Analyser, Outcome, Verdict};
+
+/// Whether this is a good frame of a station, which its first octet names.
+fn is_frame_of(piece: Option<Piece<'_>>, station: u8) -> bool
+    ensures { result ≡ closes_for station (shown piece.entry) }
+{
+    match piece {
+        Some(Piece::Frame { octets, .. }) => match octets {
+            [first, ..] => *first == station,
+            [] => false,
+        },
+        _ => false,
+    }
+}
+
+/// Takes a bit, and tells whether it closes a good frame of a station.
+pub fn closes_frame_of<C: Check>(
+    decoder: &mut LineDecoder<C>,
+    station: u8,
+    bit: bool,
+) -> Result<bool, PlaceLimit>
+    ensures { IfOk result (λ closes. (b : List Bool) → After C.folded C.COST decoder.old b →
+        closes ≡ closes_for station (due_at decoder.old.longest (b ++ bit ∷ []) (length b))) }
+{
+    Ok(is_frame_of(decoder.push(bit)?, station))
+}
+
+/// The station of a command that is shown to have no answer in time.
+fn station_without_answer(verdict: Option<Verdict>) -> Option<u8>
+    ensures { result ≡ unanswered_in verdict }
+{
+    match verdict {
+        Some(verdict) if verdict.outcome != Outcome::Answered => Some(verdict.station),
+        _ => None,
+    }
+}
+
+/// Takes a bit, and returns the station whose command it shows to have no answer in time, if it does.
+pub fn unanswered<C: Check>(
+    analyser: &mut Analyser<C>,
+    bit: bool,
+) -> Result<Option<u8>, PlaceLimit>
+    ensures { IfOk result (λ station. (b : List Bool) → IsAfter C.folded C.COST analyser.old b →
+        station ≡ option_and_then (λ s. unanswered_in s.verdict) (seen_at analyser.old.journal.dictionary
+        (line analyser.old (b ++ bit ∷ [])) analyser.old.decoder.place)) }
+{
+    let Some(seen) = analyser.push(bit)? else {
+        return Ok(None);
+    };
+    Ok(station_without_answer(seen.verdict))
+}
