@@ -4,10 +4,12 @@
 
 mod frames;
 mod live;
+mod reading;
 mod sending;
 mod watching;
 
 pub use frames::{CountFault, count_frames};
 pub use live::{closes_frame_of, unanswered};
+pub use reading::asks_for_answer;
 pub use sending::{FrameBits, frame_bits};
 pub use watching::{WatchFault, watch};

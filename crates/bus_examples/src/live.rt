@@ -48,10 +48,7 @@ fn station_without_answer(verdict: Option<Verdict>) -> Option<u8>
 }
 
 /// Takes a bit, and returns the station whose command it shows to have no answer in time, if it does.
-pub fn unanswered<C: Check>(
-    analyser: &mut Analyser<C>,
-    bit: bool,
-) -> Result<Option<u8>, PlaceLimit>
+pub fn unanswered<C: Check>(analyser: &mut Analyser<C>, bit: bool) -> Result<Option<u8>, PlaceLimit>
     ensures { IfOk result (λ station. (b : List Bool) → IsAfter C.folded C.COST analyser.old b →
         station ≡ option_and_then (λ s. unanswered_in s.verdict) (seen_at analyser.old.journal.dictionary
         (line analyser.old (b ++ bit ∷ [])) analyser.old.decoder.place)) }

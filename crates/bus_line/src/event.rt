@@ -7,26 +7,27 @@ use crate::cause::Cause;
 use crate::piece::Piece;
 use bus_bits::Span;
 
-/// The kind of a report.
+/// What a report is (ISO/IEC 13239, frame structure).
 #[derive(Clone, Copy, Debug, PartialEq, Eq)]
 pub enum EventKind {
-    /// A good frame.
+    /// A frame with a good check.
     Frame,
-    /// A piece between two flags that is no frame.
+    /// A piece between two flags that is no frame, and why (invalid frame).
     Damaged(Cause),
-    /// A piece with more data than the longest frame and its check.
+    /// A piece between two flags with more data than the longest frame and its check.
     Overlong,
-    /// A piece that seven 1 bits ended.
+    /// A piece that seven 1 bits in a row ended before a flag did (frame abortion).
     Abort,
-    /// The first fifteen 1 bits of an idle line.
+    /// Fifteen 1 bits in a row: the line is idle. It is reported once, however long that lasts.
     Idle,
 }
 
 /// One report without the octets of a frame, which
-/// [`LineDecoder::octets`](crate::LineDecoder::octets) lends. Spans count bits.
+/// [`LineDecoder::octets`](crate::LineDecoder::octets) lends.
 #[derive(Clone, Copy, Debug, PartialEq, Eq)]
 pub struct Event {
-    /// The places of its bits.
+    /// The places of its bits, without the flags or the abort that bound a piece; of an idle line those
+    /// of the fifteen.
     pub span: Span,
     pub kind: EventKind,
 }

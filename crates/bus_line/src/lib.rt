@@ -1,5 +1,29 @@
 //! Framing of a synchronous HDLC line (ISO/IEC 13239): flags, frames, damaged pieces, aborts
 //! and idles, each with its bit places.
+//!
+//! A decoder takes bits one by one, or up to 48 in a word. This counts the good frames in a slice of
+//! bits:
+//!
+//! ```rust
+//! let mut decoder = LineDecoder::<C>::new(256, 0)?;
+//! let mut count: usize = 0;
+//! for bit in bits {
+//!     let taken = decoder.take(u64::from(*bit), 1)?;
+//!     count += frames_in(taken.event);
+//! }
+//! Ok(count)
+//! ```
+//!
+//! Here `256` is the longest frame in octets, address through information, and `0` the place of the
+//! first bit. An encoder is the way back:
+//!
+//! ```rust
+//! let mut encoder = LineEncoder::new();
+//! encoder.frame(octets, &mut sink)?;
+//! Ok(sink)
+//! ```
+//!
+//! The crate `bus_examples` has both whole.
 #![tactic(auto)]
 
 mod bit_sink;

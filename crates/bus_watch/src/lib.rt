@@ -1,4 +1,16 @@
 //! Watches a line: which frames passed, which were damaged, and which station failed to answer.
+//!
+//! An analyser takes bits one by one, or many at once. This takes one, and returns the station whose
+//! command it shows to have no answer in time:
+//!
+//! ```rust
+//! let Some(seen) = analyser.push(bit)? else {
+//!     return Ok(None);
+//! };
+//! Ok(station_without_answer(seen.verdict))
+//! ```
+//!
+//! The crate `bus_examples` has this whole, and how to make an analyser and list what it sees.
 #![tactic(auto)]
 
 mod analyser;

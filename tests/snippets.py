@@ -1,0 +1,52 @@
+"""Sees that the code in documents is that of the crate of examples, which is proved.
+
+A document shows code between a line of three backquotes with `rust` and one without. Each paragraph of it
+has to stand in a source of the crate, line by line, but for indentation and the contracts.
+"""
+
+import re
+from pathlib import Path
+from typing import Iterator, List, Tuple
+
+TOP = Path(__file__).resolve().parent.parent
+
+SOURCES = TOP / "crates" / "bus_examples" / "src"
+
+DOCUMENTS = [
+    "README.md",
+    "crates/bus_line/src/lib.rt",
+    "crates/bus_watch/src/lib.rt",
+    "crates/bus_dictionary/src/lib.rt",
+]
+
+FENCED = re.compile(r"^```rust\n(.*?)^```$", re.MULTILINE | re.DOTALL)
+
+# The clauses between the head of a function and its body.
+CONTRACT = re.compile(r"\n +(?:requires|ensures)\b.*?\n\{$", re.MULTILINE | re.DOTALL)
+
+
+def bare(text: str) -> str:
+    """The lines without indentation."""
+    return "\n".join(line.strip() for line in text.strip().splitlines())
+
+
+def without_contracts(source: str) -> str:
+    return CONTRACT.sub(" {", source)
+
+
+def paragraphs_of(document: str) -> List[str]:
+    """The paragraphs of the code in a document, which may stand in the comment at the head of a crate."""
+    text = re.sub(r"^//! ?", "", (TOP / document).read_text(encoding="utf-8"), flags=re.MULTILINE)
+    return [part for code in FENCED.findall(text) for part in code.split("\n\n")]
+
+
+def results_of_snippets() -> Iterator[Tuple[str, List[str]]]:
+    """For each paragraph of code in a document, whether an example has it."""
+    sources = [bare(without_contracts(path.read_text(encoding="utf-8"))) for path in sorted(SOURCES.glob("*.rt"))]
+    for document in DOCUMENTS:
+        paragraphs = paragraphs_of(document)
+        yield f"{document} shows code", [] if paragraphs else ["it shows none"]
+        for paragraph in paragraphs:
+            has_it = any(bare(paragraph) in source for source in sources)
+            name = f"{document}: {paragraph.splitlines()[0]}"
+            yield name, [] if has_it else [f"no example has this code:\n{paragraph}"]
