@@ -1,7 +1,9 @@
+pub mod Heard
 pub mod Talk
 pub mod Seen
 pub mod History
 pub mod Ledger
+pub mod Watch
 pub mod After
 pub mod Shown
 pub mod Sink

@@ -3,6 +3,7 @@ use Rattle.std.specs.Result.{is_err}
 use Rattle.std.proofs.lemmas.List.{take-append-drop, take-take, length-take}
 use Rattle.std.proofs.Math.Seq.{take-append-add}
 use Rattle.bus_watch.specs.Fed.{Fed, Refused}
+use Rattle.bus_watch.specs.After.{one_line}
 use Rattle.bus_watch.proofs.FedLemmas.{fed-nil, fed-more, refused-after}
 use Rattle.bus_watch.proofs.analyser.Analyser.feed.Goals as goal
 
@@ -25,7 +26,7 @@ at-err (Ok x) e p = absurd (cc)
 at-err (Err y) e p = p
 
 pub loop-consumed-init : goal.loop-consumed-init
-loop-consumed-init g c = record { within = omega arith; fed = fed-nil g.C.Check.folded g.C.Check.COST g.S.ReportSink.taken c.args.self.now c.args.sink.now; refusals = refl; room = refl; kept = λ w. w }
+loop-consumed-init g c = record { within = omega arith; fed = fed-nil (one_line g.C.Check.folded g.C.Check.COST) g.S.ReportSink.taken c.args.self.now c.args.sink.now; refusals = refl; room = refl; kept = λ w. w }
 
 pub returns-then-is_err-clause-refused : goal.returns-then-is_err-clause-refused
 returns-then-is_err-clause-refused g c =
@@ -47,7 +48,7 @@ loop-consumed-preserved g c =
     record {
       within = omega (arith, f.ensures.within.1, c.loop-consumed.invariant.within, length-take (length c.args.bits.now - c.loop-consumed.consumed) (drop c.loop-consumed.consumed c.args.bits.now));
       fed = subst (λ x. Fed g.C.Check.folded g.C.Check.COST g.S.ReportSink.taken c.args.self.now x f.new.self c.args.sink.now f.new.sink) (sym all)
-          (fed-more g.C.Check.folded g.C.Check.COST g.S.ReportSink.taken _ _ _ _ _ _ _ _ c.loop-consumed.invariant.fed fed);
+          (fed-more (one_line g.C.Check.folded g.C.Check.COST) g.S.ReportSink.taken _ _ _ _ _ _ _ _ c.loop-consumed.invariant.fed fed);
       refusals = at-ok f.result.told c.if-is_err.ensures.value f.ensures.none_refused ∙ c.loop-consumed.invariant.refusals;
       room = f.ensures.room ∙ c.loop-consumed.invariant.room;
       kept = λ w. at-ok f.result.told c.if-is_err.ensures.value f.ensures.kept (c.loop-consumed.invariant.kept w);
