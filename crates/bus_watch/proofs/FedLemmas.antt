@@ -1,7 +1,8 @@
 -- Feeding some bits, and then more.
-use Rattle.std.proofs.Common.{◌≡◌, ℕ, ◌+◌, ◌-◌, ◌<◌, ◌≤◌, Bool, List, [], ◌∷◌, ◌++◌, length, take, Option, Some, None, refl, sym, ap, ◌∙◌, append_assoc, append-nil, arith, length-append, subst}
+use Rattle.std.proofs.Common.{◌≡◌, ℕ, ◌+◌, ◌-◌, ◌<◌, ◌≤◌, Bool, List, [], ◌∷◌, ◌++◌, length, take, drop, Option, Some, None, Result, Ok, Err, OnOk, OnErr, true, false, refl, sym, ap, ◌∙◌, append_assoc, append-nil, arith, length-append, subst}
 use Rattle.std.specs.Option.{option_to_list}
-use Rattle.std.proofs.lemmas.List.{take-append-le, take-take, length-take}
+use Rattle.std.specs.Result.{is_err}
+use Rattle.std.proofs.lemmas.List.{take-append-le, take-append-drop, take-take, length-take}
 use Rattle.std.proofs.Math.Seq.{take-append-add}
 use Rattle.bus_bits.specs.Octet.{number, bits_of}
 use Rattle.bus_bits.proofs.OctetLemmas.{bits-number, bits-front}
@@ -27,6 +28,24 @@ word-front bits w most n e l m =
     let k : length (take most bits) ≡ most = omega (arith, length-take most bits, l) in
     let all : bits_of most w ≡ take most bits = ap (bits_of most) e ∙ bits-number (take most bits) most k in
     sym (bits-front n most w m) ∙ (ap (take n) all ∙ take-take n most bits m)
+
+-- the first items of a list, and the next ones
+pub next : {X : Type 0} (xs : List X) (i n : ℕ) → i ≤ length xs → n ≤ length (take (length xs - i) (drop i xs)) → take (i + n) xs ≡ take i xs ++ take n (take (length xs - i) (drop i xs))
+next xs i n l h =
+    let rest = drop i xs in
+    let k : length (take i xs) ≡ i = omega (arith, length-take i xs, l) in
+    let m : n ≤ length xs - i = omega (arith, h, length-take (length xs - i) rest) in
+    ap (take (i + n)) (sym (take-append-drop i xs)) ∙ ap (λ j. take (j + n) (take i xs ++ rest)) (sym k) ∙ take-append-add (take i xs) rest n
+    ∙ ap (λ z. take i xs ++ z) (sym (take-take n (length xs - i) rest m))
+
+-- a fact of an answer that is no error, and of one that is
+pub at-ok : {T E : Type 0} {P : Type 0} (r : Result T E) → false ≡ is_err r → OnOk r P → P
+at-ok (Ok x) e p = p
+at-ok (Err y) e p = absurd (cc)
+
+pub at-err : {T E : Type 0} {P : Type 0} (r : Result T E) → true ≡ is_err r → OnErr r P → P
+at-err (Ok x) e p = absurd (cc)
+at-err (Err y) e p = p
 
 module _ {A X : Type 0} (w : Watch A X) where
   pub same-seen : (a c : A) (xs : List X) → w.dictionary c ≡ w.dictionary a → w.origin c ≡ w.origin a → seen_by w c xs ≡ seen_by w a xs

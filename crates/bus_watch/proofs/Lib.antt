@@ -9,4 +9,9 @@ pub mod FedLemmas
 pub mod HeadlineLemmas
 pub mod FailLemmas
 pub mod LawsBitLemmas
+pub mod MergedLemmas
+pub mod PairLemmas
+pub mod OrderLemmas
+pub mod PairFedLemmas
+pub mod PairHeadlineLemmas
 mod Examples

@@ -3,4 +3,5 @@ pub mod Counted
 pub mod JournalState
 pub mod Hears
 pub mod AnalyserView
+pub mod PairView
 pub mod LogView

@@ -1,23 +1,45 @@
 -- Laws over the definitions.
-use Rattle.std.specs.Prelude.{◌≡◌, ℕ, ◌+◌, ◌-◌, ◌*◌, ◌≤◌, Bool, List, [], ◌∷◌, ◌++◌, map, filter_map, length, sum_by, Some}
+use Rattle.std.specs.Prelude.{◌≡◌, ℕ, ◌+◌, ◌-◌, ◌*◌, ◌≤◌, ◌<◌, ◌⊎◌, All, AllPairs, Bool, List, [], ◌∷◌, ◌++◌, map, filter_map, length, sum_by, Some}
 use Rattle.std.specs.List.{flat_map}
 use Rattle.std.specs.Option.{option_to_list}
 use Rattle.bus_bits.specs.declared.spent.Spent.{Spent}
-use Rattle.bus_line.specs.Report.{Report, Frame}
+use Rattle.bus_line.specs.Report.{Report, Frame, due}
 use Rattle.bus_line.specs.Due.{placed, due_at}
 use Rattle.bus_line.specs.Ledger.{octet_count}
 use Rattle.bus_dictionary.specs.Entry.{FrameType}
 use Rattle.bus_watch.specs.Talk.{verdicts}
-use Rattle.bus_watch.specs.Heard.{Heard, of_line}
-use Rattle.bus_watch.specs.Seen.{SeenReport, heard_in, seen, seen_at}
+use Rattle.bus_watch.specs.Heard.{Heard, of_line, firsts, seconds, merged, of_side}
+use Rattle.bus_watch.specs.Seen.{SeenReport, heard_in, seen, seen_at, all_seen_at}
 use Rattle.bus_watch.specs.Ledger.{IsLedger, total}
 use Rattle.bus_watch.specs.Watch.{Watch, Leads, seen_by}
 use Rattle.bus_watch.specs.After.{one_line}
+use Rattle.bus_watch.specs.Pairs.{two_lines}
+use Rattle.bus_watch.specs.declared.line.Line.TheVariants.{First, Second}
 
 -- one bit more adds what is seen at it, if it decides a report
 abbrev pub SeenGrows : Type 0
 SeenGrows = (d : List FrameType) (longest origin : ℕ) (b : List Bool) (bit : Bool) →
     seen d (of_line (placed origin longest (b ++ bit ∷ []))) ≡ seen d (of_line (placed origin longest b)) ++ option_to_list (seen_at d (of_line (placed origin longest (b ++ bit ∷ []))) (origin + length b))
+
+-- one pair of bits more adds what is seen at it: at most what the first line decides and then what the second does
+abbrev pub PairsGrow : Type 0
+PairsGrow = (d : List FrameType) (longest origin : ℕ) (ps : List (Bool × Bool)) (p : Bool × Bool) →
+    seen d (merged origin longest (ps ++ p ∷ [])) ≡ seen d (merged origin longest ps) ++ all_seen_at d (merged origin longest (ps ++ p ∷ [])) (origin + length ps)
+
+-- of two reports the one that is due first comes first, and where both are due at one place, that of the first line
+abbrev pub ComesBefore : Heard → Heard → Type 0
+ComesBefore h k = (due h.report < due k.report) ⊎ ((due h.report ≡ due k.report) × (h.line ≡ Some First) × (k.line ≡ Some Second))
+
+-- these are the reports of two lines and no others, in this order
+pub record IsMerged (rs ss : List Report) (hs : List Heard) : Type 0 where
+  pub first : of_side First hs ≡ rs
+  pub second : of_side Second hs ≡ ss
+  pub no_other : All (λ (h : Heard). (h.line ≡ Some First) ⊎ (h.line ≡ Some Second)) hs
+  pub rising : AllPairs ComesBefore hs
+
+-- as the merged reports are
+abbrev pub MergedIsMerged : Type 0
+MergedIsMerged = (longest origin : ℕ) (ps : List (Bool × Bool)) → IsMerged (placed origin longest (firsts ps)) (placed origin longest (seconds ps)) (merged origin longest ps)
 
 -- what is seen is the reports, and what follows from each
 abbrev pub SeenAreReports : Type 0
@@ -54,6 +76,10 @@ IsAnyCut {A} {X} w = (start end : A) (pieces : List (List X)) (tolds : List (Lis
 -- of one line
 abbrev pub AnyCut : {C : Type 0} → (C → List ℕ → Type 0) → ℕ → Type 0
 AnyCut folded cost = IsAnyCut (one_line folded cost)
+
+-- of two
+abbrev pub AnyCutOfPairs : {C : Type 0} → (C → List ℕ → Type 0) → ℕ → Type 0
+AnyCutOfPairs folded cost = IsAnyCut (two_lines folded cost)
 
 -- the frame octets of what one bit more closes: those of the frame whose closing flag it ends, and none else
 abbrev pub closed_octets : ℕ → List Bool → Bool → ℕ

@@ -6,10 +6,13 @@ pub mod Ledger
 pub mod Watch
 pub mod After
 pub mod Shown
+pub mod Pairs
+pub mod PairShown
 pub mod Sink
 pub mod Fed
 pub mod Laws
 pub mod Headline
+pub mod PairHeadline
 pub mod LoggedReport
 pub mod LogState
 pub mod Internal

@@ -1,6 +1,6 @@
 //! Laws over the definitions.
 
-ghost use Rattle.bus_watch.specs.Laws.{SeenGrows, SeenAreReports, SeenDecides, StepsWithinFour, StepsWithinThree, BitCosts, ClosedPaid, AnyCut};
+ghost use Rattle.bus_watch.specs.Laws.{SeenGrows, SeenAreReports, SeenDecides, StepsWithinFour, StepsWithinThree, BitCosts, ClosedPaid, AnyCut, AnyCutOfPairs, PairsGrow, MergedIsMerged};
 
 use bus_fcs::Check;
 use bus_line::laws::{
@@ -13,6 +13,16 @@ pub fn seen_grows()
     ensures grows { SeenGrows }
     ensures reports { SeenAreReports }
     ensures decides { SeenDecides }
+{
+    reports_are();
+    reports_grow();
+}
+
+/// What is heard of two lines is the reports of each by itself and no others, by due place, the first
+/// line's first where both have one: one pair of bits more adds what is seen at it.
+pub fn pairs_grow()
+    ensures grows { PairsGrow }
+    ensures merged { MergedIsMerged }
 {
     reports_are();
     reports_grow();
@@ -44,4 +54,9 @@ pub fn one_bit_is_bounded()
 /// is seen of the whole list, in order.
 pub fn any_cut<C: Check>()
     ensures { AnyCut C.folded C.COST }
+{}
+
+/// The same for every list of pairs of bits.
+pub fn any_cut_of_pairs<C: Check>()
+    ensures { AnyCutOfPairs C.folded C.COST }
 {}
