@@ -1,6 +1,7 @@
 pub mod TalkLemmas
 pub mod JournalStateLemmas
 pub mod SeenLemmas
+pub mod CutLemmas
 pub mod AnalyserViewLemmas
 pub mod AfterLemmas
 pub mod LedgerLemmas

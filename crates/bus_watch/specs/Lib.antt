@@ -1,6 +1,7 @@
 pub mod Heard
 pub mod Talk
 pub mod Seen
+pub mod Cut
 pub mod History
 pub mod Ledger
 pub mod Watch

@@ -1,10 +1,11 @@
 //! Laws over the definitions.
 
+ghost use Rattle.bus_watch.specs.Cut.{CutLosesNothing, CutLosesVerdict, FlagLosesNothing};
 ghost use Rattle.bus_watch.specs.Laws.{SeenGrows, SeenAreReports, SeenDecides, StepsWithinFour, StepsWithinThree, BitCosts, ClosedPaid, AnyCut, AnyCutOfPairs, PairsGrow, MergedIsMerged};
 
 use bus_fcs::Check;
 use bus_line::laws::{
-    frame_is_spelled, reports_are, reports_grow, reports_own_bits, settled_places,
+    cut_at_flag, frame_is_spelled, reports_are, reports_grow, reports_own_bits, settled_places,
 };
 
 /// What is seen of a list of bits is its reports, each with what follows from it: one bit more adds
@@ -26,6 +27,17 @@ pub fn pairs_grow()
 {
     reports_are();
     reports_grow();
+}
+
+/// Where a list is cut in two and each part is watched by itself, what is seen is the same, but where a
+/// command waits at the cut: then its verdict is lost, and with it whether its answer is a stray. So a
+/// capture may be cut at any flag up to which no command waits.
+pub fn cut_loses_a_verdict()
+    ensures nothing { CutLosesNothing }
+    ensures verdict { CutLosesVerdict }
+    ensures flag { FlagLosesNothing }
+{
+    cut_at_flag();
 }
 
 /// The counted steps are at most four for each bit, and three where the check costs one an octet.
