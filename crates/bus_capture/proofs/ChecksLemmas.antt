@@ -6,6 +6,7 @@ use Rattle.bus_bits.specs.Capture.{Capture}
 use Rattle.bus_line.specs.Due.{placed}
 use Rattle.bus_dictionary.specs.Entry.{FrameType}
 use Rattle.bus_dictionary.specs.Dictionary.{longest_of}
+use Rattle.bus_watch.specs.Heard.{of_line}
 use Rattle.bus_watch.specs.History.{history, tally}
 use Rattle.bus_watch.specs.After.{line, seen_after}
 use Rattle.bus_capture.specs.Captures.{capture, whole_capture, seen_in, HasFault}
@@ -44,9 +45,9 @@ no-lines w b e = ap (λ p. printed p w.analyser.journal.dictionary (seen_after w
 report-is : {C : Type 0} (o : Options) (d : List FrameType) (w : CaptureRun C) (b : List Bool) → IsChecked o d w → w.summary ≡ summary_of (seen_in o.origin d b) → reported w b ≡ report_of o d b
 report-is o d w b h counts =
     ap (λ (s : Summary). check_text s (tally w.analyser.journal.dictionary (line w.analyser b)) (history w.analyser.journal.depth (line w.analyser b))) counts
-    ∙ ap (λ (n : ℕ). check_text (summary_of (seen_in o.origin d b)) (tally w.analyser.journal.dictionary (placed n (longest_of w.analyser.journal.dictionary) b)) (history w.analyser.journal.depth (placed n (longest_of w.analyser.journal.dictionary) b))) h.origin
-    ∙ ap (λ (x : List FrameType). check_text (summary_of (seen_in o.origin d b)) (tally x (placed o.origin (longest_of x) b)) (history w.analyser.journal.depth (placed o.origin (longest_of x) b))) h.dictionary
-    ∙ ap (λ (n : ℕ). check_text (summary_of (seen_in o.origin d b)) (tally d (placed o.origin (longest_of d) b)) (history n (placed o.origin (longest_of d) b))) h.depth
+    ∙ ap (λ (n : ℕ). check_text (summary_of (seen_in o.origin d b)) (tally w.analyser.journal.dictionary (of_line (placed n (longest_of w.analyser.journal.dictionary) b))) (history w.analyser.journal.depth (of_line (placed n (longest_of w.analyser.journal.dictionary) b)))) h.origin
+    ∙ ap (λ (x : List FrameType). check_text (summary_of (seen_in o.origin d b)) (tally x (of_line (placed o.origin (longest_of x) b))) (history w.analyser.journal.depth (of_line (placed o.origin (longest_of x) b)))) h.dictionary
+    ∙ ap (λ (n : ℕ). check_text (summary_of (seen_in o.origin d b)) (tally d (of_line (placed o.origin (longest_of d) b))) (history n (of_line (placed o.origin (longest_of d) b)))) h.depth
 
 -- the options can't be met
 pub checks-nothing : (o : Options) (after start now : Option (List ℕ)) (f : ToolFault) → Refuses o f → Appends start now [] → Checks o after start now [] (Err f)

@@ -6,6 +6,7 @@ use Rattle.bus_bits.specs.Capture.{Capture}
 use Rattle.bus_line.specs.Due.{placed}
 use Rattle.bus_dictionary.specs.Entry.{FrameType}
 use Rattle.bus_dictionary.specs.Dictionary.{longest_of}
+use Rattle.bus_watch.specs.Heard.{of_line}
 use Rattle.bus_watch.specs.Seen.{SeenReport, seen, seen_at}
 use Rattle.bus_watch.specs.Shown.{begun_span}
 use Rattle.bus_watch.specs.Talk.{pending}
@@ -34,20 +35,20 @@ use Rattle.bus_text.proofs.PagesLemmas.{cuts-more}
 -- what is seen of more bits goes on
 pub record SeenOn (d : List FrameType) (longest origin : ℕ) (b more : List Bool) : Type 0 where
   pub rest : List SeenReport
-  pub is : seen d (placed origin longest (b ++ more)) ≡ seen d (placed origin longest b) ++ rest
+  pub is : seen d (of_line (placed origin longest (b ++ more))) ≡ seen d (of_line (placed origin longest b)) ++ rest
 
 pub seen-on : SeenGrows → (d : List FrameType) (longest origin : ℕ) (b more : List Bool) → SeenOn d longest origin b more
 seen-on law d longest origin b [] = record {
   rest = [];
-  is = ap (λ (x : List Bool). seen d (placed origin longest x)) (append-nil b) ∙ sym (append-nil (seen d (placed origin longest b)));
+  is = ap (λ (x : List Bool). seen d (of_line (placed origin longest x))) (append-nil b) ∙ sym (append-nil (seen d (of_line (placed origin longest b))));
 }
 seen-on law d longest origin b (bit ∷ more) =
-    let one = option_to_list (seen_at d (placed origin longest (b ++ bit ∷ [])) (origin + length b)) in
+    let one = option_to_list (seen_at d (of_line (placed origin longest (b ++ bit ∷ []))) (origin + length b)) in
     let then = seen-on law d longest origin (b ++ bit ∷ []) more in
     record {
       rest = one ++ then.rest;
-      is = ap (λ (x : List Bool). seen d (placed origin longest x)) (sym (append_assoc b (bit ∷ []) more)) ∙ then.is
-          ∙ ap (λ (x : List SeenReport). x ++ then.rest) (law d longest origin b bit) ∙ append_assoc (seen d (placed origin longest b)) one then.rest;
+      is = ap (λ (x : List Bool). seen d (of_line (placed origin longest x))) (sym (append_assoc b (bit ∷ []) more)) ∙ then.is
+          ∙ ap (λ (x : List SeenReport). x ++ then.rest) (law d longest origin b bit) ∙ append_assoc (seen d (of_line (placed origin longest b))) one then.rest;
     }
 
 -- a cut in the lines of a front is one in the lines of all
@@ -80,8 +81,8 @@ lines-are o d w b h =
 pub last-are : {C : Type 0} (o : Options) (d : List FrameType) (w : CaptureRun C) (b : List Bool) → IsListed o d w → last_lines w b ≡ ending_of o d b
 last-are o d w b h =
     ap (λ p. ended p (begun_span w.analyser.decoder.origin b) (pending w.analyser.journal.dictionary (line w.analyser b))) h.printer
-    ∙ ap (λ (n : ℕ). ending_text (printer_of o) (begun_span n b) (pending w.analyser.journal.dictionary (placed n (longest_of w.analyser.journal.dictionary) b))) h.origin
-    ∙ ap (λ (x : List FrameType). ending_text (printer_of o) (begun_span o.origin b) (pending x (placed o.origin (longest_of x) b))) h.dictionary
+    ∙ ap (λ (n : ℕ). ending_text (printer_of o) (begun_span n b) (pending w.analyser.journal.dictionary (of_line (placed n (longest_of w.analyser.journal.dictionary) b)))) h.origin
+    ∙ ap (λ (x : List FrameType). ending_text (printer_of o) (begun_span o.origin b) (pending x (of_line (placed o.origin (longest_of x) b)))) h.dictionary
 
 pub counts-are : {C : Type 0} (o : Options) (d : List FrameType) (w : CaptureRun C) (b : List Bool) → w.analyser.journal.dictionary ≡ d → w.analyser.decoder.origin ≡ o.origin → w.summary ≡ summary_of (seen_after w.analyser b) → w.summary ≡ summary_of (seen_in o.origin d b)
 counts-are o d w b e f h = h ∙ ap summary_of (seen-is o d w.analyser.journal.dictionary w.analyser.decoder.origin b e f)

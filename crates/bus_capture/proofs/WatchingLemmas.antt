@@ -8,6 +8,7 @@ use Rattle.std.proofs.lemmas.List.{take_all, take-append-le}
 use Rattle.bus_dictionary.specs.Entry.{FrameType}
 use Rattle.bus_dictionary.specs.Dictionary.{longest_of}
 use Rattle.bus_line.specs.Due.{placed}
+use Rattle.bus_watch.specs.Heard.{of_line}
 use Rattle.bus_watch.specs.Seen.{SeenReport, seen}
 use Rattle.bus_watch.specs.Shown.{begun_span}
 use Rattle.bus_watch.specs.Talk.{pending}
@@ -46,8 +47,8 @@ printed-nothing (Some p) d = cancel (listing-append p d [] [])
 -- what is seen depends on dictionary and origin alone
 pub seen-same : {C : Type 0} (a c : AnalyserState C) (b : List Bool) → c.journal.dictionary ≡ a.journal.dictionary → c.decoder.origin ≡ a.decoder.origin → seen_after c b ≡ seen_after a b
 seen-same a c b d o =
-    ap (λ (x : List FrameType). seen x (placed c.decoder.origin (longest_of x) b)) d
-    ∙ ap (λ (n : ℕ). seen a.journal.dictionary (placed n (longest_of a.journal.dictionary) b)) o
+    ap (λ (x : List FrameType). seen x (of_line (placed c.decoder.origin (longest_of x) b))) d
+    ∙ ap (λ (n : ℕ). seen a.journal.dictionary (of_line (placed n (longest_of a.journal.dictionary) b))) o
 
 -- and so with the lines
 pub lines-same : {C : Type 0} (w v : CaptureRun C) (b : List Bool) → v.printer ≡ w.printer → v.analyser.journal.dictionary ≡ w.analyser.journal.dictionary → v.analyser.decoder.origin ≡ w.analyser.decoder.origin → lines v b ≡ lines w b

@@ -5,6 +5,7 @@ use Rattle.bus_bits.specs.Packed.{packed_capture, packed_whole}
 use Rattle.bus_dictionary.specs.Entry.{FrameType}
 use Rattle.bus_dictionary.specs.Dictionary.{longest_of}
 use Rattle.bus_line.specs.Due as line
+use Rattle.bus_watch.specs.Heard.{of_line}
 use Rattle.bus_watch.specs.Seen.{SeenReport, seen}
 use Rattle.bus_text.specs.declared.fault.ToolFault.{ToolFault}
 use Rattle.bus_text.specs.declared.fault.ToolFault.TheVariants.{BadMark, Magic, TooMany, PadBits, Trailing, PlaceLimit, ShortHead, ShortBody}
@@ -27,7 +28,7 @@ whole_capture text origin xs = capped origin (unplaced_whole text xs)
 
 -- what is seen at bits, by a dictionary, whose longest frame bounds the frames
 abbrev pub seen_in : ℕ → List FrameType → List Bool → List SeenReport
-seen_in origin d b = seen d (line.placed origin (longest_of d) b)
+seen_in origin d b = seen d (of_line (line.placed origin (longest_of d) b))
 
 -- the fault of a capture, as it is answered
 abbrev pub IsSameFault : ToolFault → CaptureFault → Type 0

@@ -5,6 +5,7 @@ use Rattle.bus_bits.specs.Capture.{CaptureFault}
 use Rattle.bus_line.specs.Due as line
 use Rattle.bus_dictionary.specs.Entry.{FrameType}
 use Rattle.bus_dictionary.specs.Dictionary.{longest_of}
+use Rattle.bus_watch.specs.Heard.{of_line}
 use Rattle.bus_watch.specs.History.{history, tally}
 use Rattle.bus_capture.specs.Captures.{seen_in, IsSameFault, HasFault}
 use Rattle.bus_text.specs.CheckText.{check_text}
@@ -20,7 +21,7 @@ use Rattle.bus_text.specs.declared.fault.ToolFault.TheVariants.{Dictionary, Dept
 -- the report of bits: how often each thing is seen, the verdicts of each station, and the last frames
 abbrev pub report_of : Options → List FrameType → List Bool → List ℕ
 report_of o d b =
-    check_text (summary_of (seen_in o.origin d b)) (tally d (line.placed o.origin (longest_of d) b)) (history o.depth (line.placed o.origin (longest_of d) b))
+    check_text (summary_of (seen_in o.origin d b)) (tally d (of_line (line.placed o.origin (longest_of d) b))) (history o.depth (of_line (line.placed o.origin (longest_of d) b)))
 
 -- these octets are the whole input and have no fault
 pub record IsAll (o : Options) (after : Option (List ℕ)) (xs : List ℕ) : Type 0 where

@@ -5,6 +5,7 @@ use Rattle.bus_bits.specs.Capture.{Capture, CaptureFault}
 use Rattle.bus_line.specs.Due as line
 use Rattle.bus_dictionary.specs.Entry.{FrameType}
 use Rattle.bus_dictionary.specs.Dictionary.{longest_of}
+use Rattle.bus_watch.specs.Heard.{of_line}
 use Rattle.bus_watch.specs.Shown.{begun_span}
 use Rattle.bus_watch.specs.Talk.{pending}
 use Rattle.bus_capture.specs.Captures.{capture, whole_capture, seen_in, IsSameFault, HasFault}
@@ -31,7 +32,7 @@ listing_of o d b = listing (printer_of o) d (seen_in o.origin d b)
 
 -- the lines of the end: a piece that has begun, and a command that waits
 abbrev pub ending_of : Options → List FrameType → List Bool → List ℕ
-ending_of o d b = ending_text (printer_of o) (begun_span o.origin b) (pending d (line.placed o.origin (longest_of d) b))
+ending_of o d b = ending_text (printer_of o) (begun_span o.origin b) (pending d (of_line (line.placed o.origin (longest_of d) b)))
 
 abbrev pub whole_listing : Options → List FrameType → List Bool → List ℕ
 whole_listing o d b = listing_of o d b ++ ending_of o d b

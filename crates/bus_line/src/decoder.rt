@@ -19,6 +19,7 @@ ghost use Rattle.bus_line.specs.Ledger.{stored_from, IsLedger};
 ghost use Rattle.bus_bits.specs.Octet.{bits_of};
 
 use crate::decoder::frame_buffer::FrameBuffer;
+use crate::decoder::stop::calm_bits;
 use crate::event::Event;
 use crate::line_fault::LineFault;
 use crate::piece::Piece;
@@ -148,6 +149,20 @@ impl<C: Check> LineDecoder<C> {
             return Err(PlaceLimit);
         }
         Ok(self.advance(bits, count))
+    }
+
+    /// How many of these bits [`LineDecoder::take`] would take: `count`, or those up to the first that
+    /// may decide a report. Nothing changes.
+    #[inline(always)]
+    pub fn would_take(&self, bits: u64, count: u32) -> u32
+        requires some { 1 ≤ count }
+        requires few { count ≤ 48 }
+        requires small { bits < 2 ^ count }
+        ensures within { (1 ≤ result) × (result ≤ count) }
+        ensures stops { (b : List Bool) → After C.folded C.COST self.now b → TakesTo b (bits_of count bits) result }
+    {
+        let calm = calm_bits(self.history | bits << 16, count);
+        if calm == count { count } else { calm + 1 }
     }
 
     /// Takes a bit, and returns the report that it decides, if there is one. A frame's octets are

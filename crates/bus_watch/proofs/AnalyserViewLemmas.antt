@@ -4,7 +4,7 @@ use Rattle.std.specs.List.{filter_map, cons_option, sum_by}
 use Rattle.std.specs.Option.{option_map}
 use Rattle.std.proofs.lemmas.List.{length-map, length-append}
 use Rattle.std.proofs.lemmas.List.Sums.{count_by-le-length, length-filter, sum_by-le, sum_by-append}
-use Rattle.bus_line.specs.Report.{Report, Kind, Frame, IsReport, moved}
+use Rattle.bus_line.specs.Report.{Report, Kind, Frame, moved}
 use Rattle.bus_line.specs.Due.{places, reports, placed, due_at}
 use Rattle.bus_line.specs.Ledger.{octet_count}
 use Rattle.bus_line.specs.Laws.{FramesStored, StoredPaid, AssembledWithin, DueIsIt, FrameIsSpelled}
@@ -16,8 +16,10 @@ use Rattle.bus_dictionary.specs.Entry.{FrameType}
 use Rattle.bus_dictionary.specs.Dictionary.{longest_of}
 use Rattle.bus_watch.specs.Talk.{is_idle, talk, neighbours, verdict_on, verdicts}
 use Rattle.bus_watch.specs.History.{tally, verdicts_of}
-use Rattle.bus_watch.specs.Ledger.{kind_steps, steps}
-use Rattle.bus_watch.specs.Internal.JournalState.{HasRoom, IsWhole}
+use Rattle.bus_watch.specs.Heard.{Heard, heard_on}
+use Rattle.bus_watch.specs.declared.line.Line.{Line}
+use Rattle.bus_watch.specs.Ledger.{kind_steps, steps, handled, handled_of, copied_of}
+use Rattle.bus_watch.specs.Internal.JournalState.{JournalState, Keeps, HasRoom, IsWhole}
 use Rattle.bus_watch.specs.After.{AnalyserState, IsAfter, line}
 use Rattle.bus_watch.specs.declared.outcome.Outcome.{Outcome}
 use Rattle.bus_watch.specs.declared.outcome.Outcome.TheVariants.{Answered, Late, Missing, Spoilt}
@@ -43,8 +45,8 @@ neighbours-length (x ∷ y ∷ xs) = omega (arith, neighbours-length (y ∷ xs))
 pub line-length : (origin longest : ℕ) (b : List Bool) → length (placed origin longest b) ≤ length b
 line-length origin longest b = omega (arith, length-map (reports longest b) (moved origin), filter_map-length (due_at longest b) (places (length b)), length-places (length b))
 
-verdicts-length : (d : List FrameType) (rs : List Report) → length (verdicts d rs) ≤ length rs
-verdicts-length d rs = omega (arith, filter_map-length (λ pair. verdict_on d pair.0 pair.1) (neighbours (talk rs)), neighbours-length (talk rs), length-filter (λ r. not (is_idle r.kind)) rs, count_by-le-length (λ r. not (is_idle r.kind)) rs)
+verdicts-length : (d : List FrameType) (rs : List Heard) → length (verdicts d rs) ≤ length rs
+verdicts-length d rs = omega (arith, filter_map-length (λ pair. verdict_on d pair.0 pair.1) (neighbours (talk rs)), neighbours-length (talk rs), length-filter (λ (h : Heard). not (is_idle h.report.kind)) rs, count_by-le-length (λ (h : Heard). not (is_idle h.report.kind)) rs)
 
 steps-six : (kind : Kind) → kind_steps kind ≤ 6
 steps-six (Frame octets) = omega arith
@@ -53,8 +55,8 @@ steps-six Kind.Overlong = omega arith
 steps-six Kind.Abort = omega arith
 steps-six Kind.Idle = omega arith
 
-steps-within : (rs : List Report) → sum_by steps rs ≤ 6 * length rs
-steps-within rs = omega (arith, sum_by-le steps 6 rs (λ i d l. steps-six (get_or rs i d).kind))
+steps-within : (hs : List Heard) → handled_of hs ≤ 6 * length hs
+steps-within hs = omega (arith, sum_by-le (λ (h : Heard). steps h.report) 6 hs (λ i d l. steps-six (get_or hs i d).report.kind))
 
 pub octets-moved : (origin : ℕ) (rs : List Report) → sum_by octet_count (map (moved origin) rs) ≡ sum_by octet_count rs
 octets-moved origin [] = refl
@@ -69,28 +71,46 @@ steps-moved origin (r ∷ rs) =
     ∙ (ap (λ n. sum_by steps (r ∷ []) + n) (steps-moved origin rs) ∙ sym (sum_by-append steps (r ∷ []) rs))
 
 -- no station has more verdicts than there are reports
-tally-within : (d : List FrameType) (rs : List Report) (station n : ℕ) (c : Counts) → c ≡ tally d rs station → length rs ≤ n → n ≤ 2 ^ 60
+tally-within : (d : List FrameType) (hs : List Heard) (station : ℕ) (c : Counts) → c ≡ tally d hs station → length hs ≤ 2 ^ 61 + 1
     → (c.answered + 1 < 2 ^ 64) × (c.missing + 1 < 2 ^ 64) × (c.spoilt + 1 < 2 ^ 64) × (c.late + 1 < 2 ^ 64)
-tally-within d rs station n c e l u =
-    let v = verdicts-length d rs in
-    let most : (o : Outcome) → verdicts_of o station (verdicts d rs) ≤ length (verdicts d rs) = λ o. count_by-le-length _ (verdicts d rs) in
-    rw e (omega (arith, v, most Answered, l, u), omega (arith, v, most Missing, l, u), omega (arith, v, most Spoilt, l, u), omega (arith, v, most Late, l, u))
+tally-within d hs station c e l =
+    let v = verdicts-length d hs in
+    let most : (o : Outcome) → verdicts_of o station (verdicts d hs) ≤ length (verdicts d hs) = λ o. count_by-le-length _ (verdicts d hs) in
+    rw e (omega (arith, v, most Answered, l), omega (arith, v, most Missing, l), omega (arith, v, most Spoilt, l), omega (arith, v, most Late, l))
 
 same-Some : {X : Type 0} (x y : X) → Some x ≡ Some y → x ≡ y
 same-Some x y e = cc
 
--- after less than 2^60 bits all counters have room
+-- after no more reports than two lines have, all counters have room for one more
+pub room-of : (j : JournalState) (hs : List Heard) → Keeps j hs → copied_of hs ≤ 2 ^ 62 → length hs ≤ 2 ^ 61 + 1 → HasRoom j
+room-of j hs k octets l = record {
+  copied = omega (arith, k.copied, octets);
+  handled = omega (arith, k.handled, steps-within hs, l);
+  tally = λ s c u e. tally-within j.dictionary hs s c (same-Some c _ (sym e ∙ k.tally s u)) l;
+}
+
+-- the reports of a line add up as they do without it
+pub heard-octets : (on : Option Line) (rs : List Report) → copied_of (map (heard_on on) rs) ≡ sum_by octet_count rs
+heard-octets on [] = refl
+heard-octets on (r ∷ rs) =
+    sum_by-append (λ (h : Heard). octet_count h.report) (heard_on on r ∷ []) (map (heard_on on) rs)
+    ∙ (ap (λ n. sum_by octet_count (r ∷ []) + n) (heard-octets on rs) ∙ sym (sum_by-append octet_count (r ∷ []) rs))
+
+pub heard-steps : (on : Option Line) (rs : List Report) → handled_of (map (heard_on on) rs) ≡ handled rs
+heard-steps on [] = refl
+heard-steps on (r ∷ rs) =
+    sum_by-append (λ (h : Heard). steps h.report) (heard_on on r ∷ []) (map (heard_on on) rs)
+    ∙ (ap (λ n. handled (r ∷ []) + n) (heard-steps on rs) ∙ sym (sum_by-append steps (r ∷ []) rs))
+
+-- after at most 2^60 bits all counters have room
 pub room : {C : Type 0} (folded : C → List ℕ → Type 0) (cost : ℕ) (a : AnalyserState C) (b : List Bool) → FramesStored → StoredPaid → AssembledWithin
     → IsAfter folded cost a b → length b ≤ 2 ^ 60 → HasRoom a.journal
 room folded cost a b frames paid within s l =
     let longest = longest_of a.journal.dictionary in
-    let rs = line a b in
-    let n = line-length a.decoder.origin longest b in
-    record {
-      copied = omega (arith, s.journal.copied, octets-moved a.decoder.origin (reports longest b), frames longest b, paid longest b, within b, l);
-      handled = omega (arith, s.journal.handled, steps-within rs, n, l);
-      tally = λ k c u e. tally-within a.journal.dictionary rs k (length b) c (same-Some c _ (sym e ∙ s.journal.tally k u)) n l;
-    }
+    let rs = placed a.decoder.origin longest b in
+    room-of a.journal (line a b) s.journal
+    (omega (arith, heard-octets None rs, octets-moved a.decoder.origin (reports longest b), frames longest b, paid longest b, within b, l))
+    (omega (arith, length-map rs (heard_on None), line-length a.decoder.origin longest b, l))
 
 -- a frame that is due has its head and its check
 map-Some : {X Y : Type 0} (f : X → Y) (o : Option X) (y : Y) → Some y ≡ option_map f o → (x : X) × (o ≡ Some x) × (f x ≡ y)

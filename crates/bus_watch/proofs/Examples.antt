@@ -10,6 +10,8 @@ use Rattle.bus_line.specs.Due.{placed}
 use Rattle.bus_dictionary.specs.Entry.{FrameType}
 use Rattle.bus_dictionary.specs.declared.standing.Standing.{Standing}
 use Rattle.bus_dictionary.specs.declared.standing.Standing.TheVariants.{Unknown, Known}
+use Rattle.bus_watch.specs.Heard.{of_line}
+use Rattle.bus_watch.specs.declared.line.Line.TheVariants.{First}
 use Rattle.bus_watch.specs.Talk.{pending}
 use Rattle.bus_watch.specs.Seen.{SeenReport, seen}
 use Rattle.bus_watch.specs.History.{tally, history}
@@ -35,43 +37,43 @@ abbrev reply_at : ℕ → ℕ → Report
 reply_at first past = record { kind = Frame (16 ∷ 131 ∷ 128 ∷ 245 ∷ 97 ∷ []); first = first; past = past }
 
 abbrev told : Report → Option Standing → Option Verdict → Bool → SeenReport
-told r standing verdict stray = record { report = r; standing = standing; verdict = verdict; stray = stray }
+told r standing verdict stray = record { line = None; report = r; standing = standing; verdict = verdict; stray = stray }
 
 abbrev verdict_on_call : Outcome → ℕ → ℕ → Option Verdict
 verdict_on_call outcome first past = Some (record { outcome = outcome; span = record { first = first; past = past }; station = 16; ftype = 0 })
 
 -- a call and its reply
-call_and_reply : seen calls (placed 0 3 (text_bits (codes "01111110 00001000 11000001 00000000 101111101 10100111 01111110 00001000 11000001 00000001 10101111 100000110 01111110")))
+call_and_reply : seen calls (of_line (placed 0 3 (text_bits (codes "01111110 00001000 11000001 00000000 101111101 10100111 01111110 00001000 11000001 00000001 10101111 100000110 01111110"))))
     ≡ told (call_at 8 49) (Some (Known 16 0)) None false ∷ told (reply_at 57 98) (Some (Known 16 128)) (verdict_on_call Answered 8 49) false ∷ []
 unfolding is_good remainder divided step add ends_inverted octets number
 call_and_reply = refl
 
 -- a reply that begins as many bits behind the call as its window has
-reply_in_time : seen (calls_within (Some 16)) (placed 0 3 (text_bits (codes "01111110 00001000 11000001 00000000 101111101 10100111 01111110 01111110 00001000 11000001 00000001 10101111 100000110 01111110")))
+reply_in_time : seen (calls_within (Some 16)) (of_line (placed 0 3 (text_bits (codes "01111110 00001000 11000001 00000000 101111101 10100111 01111110 01111110 00001000 11000001 00000001 10101111 100000110 01111110"))))
     ≡ told (call_at 8 49) (Some (Known 16 0)) None false ∷ told (reply_at 65 106) (Some (Known 16 128)) (verdict_on_call Answered 8 49) false ∷ []
 unfolding is_good remainder divided step add ends_inverted octets number
 reply_in_time = refl
 
 -- and eight bits more: it is late, and no stray
-late_reply : seen (calls_within (Some 16)) (placed 0 3 (text_bits (codes "01111110 00001000 11000001 00000000 101111101 10100111 01111110 01111110 01111110 00001000 11000001 00000001 10101111 100000110 01111110")))
+late_reply : seen (calls_within (Some 16)) (of_line (placed 0 3 (text_bits (codes "01111110 00001000 11000001 00000000 101111101 10100111 01111110 01111110 01111110 00001000 11000001 00000001 10101111 100000110 01111110"))))
     ≡ told (call_at 8 49) (Some (Known 16 0)) None false ∷ told (reply_at 73 114) (Some (Known 16 128)) (verdict_on_call Late 8 49) false ∷ []
 unfolding is_good remainder divided step add ends_inverted octets number
 late_reply = refl
 
 -- the same without a window
-whenever_it_comes : seen calls (placed 0 3 (text_bits (codes "01111110 00001000 11000001 00000000 101111101 10100111 01111110 01111110 01111110 00001000 11000001 00000001 10101111 100000110 01111110")))
+whenever_it_comes : seen calls (of_line (placed 0 3 (text_bits (codes "01111110 00001000 11000001 00000000 101111101 10100111 01111110 01111110 01111110 00001000 11000001 00000001 10101111 100000110 01111110"))))
     ≡ told (call_at 8 49) (Some (Known 16 0)) None false ∷ told (reply_at 73 114) (Some (Known 16 128)) (verdict_on_call Answered 8 49) false ∷ []
 unfolding is_good remainder divided step add ends_inverted octets number
 whenever_it_comes = refl
 
 -- the same from place 100 on
-moved_on : seen calls (placed 100 3 (text_bits (codes "01111110 00001000 11000001 00000000 101111101 10100111 01111110")))
+moved_on : seen calls (of_line (placed 100 3 (text_bits (codes "01111110 00001000 11000001 00000000 101111101 10100111 01111110"))))
     ≡ told (call_at 108 149) (Some (Known 16 0)) None false ∷ []
 unfolding is_good remainder divided step add ends_inverted octets number
 moved_on = refl
 
 -- a call in place of the reply, and then a damaged piece
-missing_and_spoilt : seen calls (placed 0 3 (text_bits (codes "01111110 00001000 11000001 00000000 101111101 10100111 01111110 00001000 11000001 00000000 101111101 10100111 01111110 000000000000000000000000 01111110")))
+missing_and_spoilt : seen calls (of_line (placed 0 3 (text_bits (codes "01111110 00001000 11000001 00000000 101111101 10100111 01111110 00001000 11000001 00000000 101111101 10100111 01111110 000000000000000000000000 01111110"))))
     ≡ told (call_at 8 49) (Some (Known 16 0)) None false
     ∷ told (call_at 57 98) (Some (Known 16 0)) (verdict_on_call Missing 8 49) false
     ∷ told (record { kind = Damaged Short; first = 106; past = 130 }) None (verdict_on_call Spoilt 57 98) false ∷ []
@@ -79,13 +81,13 @@ unfolding is_good remainder divided step add ends_inverted octets number
 missing_and_spoilt = refl
 
 -- a reply that nobody asked for
-stray_reply : seen calls (placed 0 3 (text_bits (codes "01111110 00001000 11000001 00000001 10101111 100000110 01111110")))
+stray_reply : seen calls (of_line (placed 0 3 (text_bits (codes "01111110 00001000 11000001 00000001 10101111 100000110 01111110"))))
     ≡ told (reply_at 8 49) (Some (Known 16 128)) None true ∷ []
 unfolding is_good remainder divided step add ends_inverted octets number
 stray_reply = refl
 
 -- an idle decides nothing; a frame of a type that the dictionary lacks is no reply
-idle_and_unknown : seen calls (placed 0 3 (text_bits (codes "01111110 00001000 11000001 00000000 101111101 10100111 01111110 111111111111111 01111110 00001000 11000001 011111011 00110000 110111110 01111110")))
+idle_and_unknown : seen calls (of_line (placed 0 3 (text_bits (codes "01111110 00001000 11000001 00000000 101111101 10100111 01111110 111111111111111 01111110 00001000 11000001 011111011 00110000 110111110 01111110"))))
     ≡ told (call_at 8 49) (Some (Known 16 0)) None false
     ∷ told (record { kind = Idle; first = 57; past = 72 }) None None false
     ∷ told (record { kind = Frame (16 ∷ 131 ∷ 254 ∷ 12 ∷ 251 ∷ []); first = 80; past = 122 }) (Some (Unknown 16 254)) (verdict_on_call Missing 8 49) true ∷ []
@@ -93,12 +95,12 @@ unfolding is_good remainder divided step add ends_inverted octets number
 idle_and_unknown = refl
 
 -- a call to all stations waits for nothing
-to_all_stations : pending calls (placed 0 3 (text_bits (codes "01111110 111110111 110000001 00000000 11011001 01100101 01111110"))) ≡ None
+to_all_stations : pending calls (of_line (placed 0 3 (text_bits (codes "01111110 111110111 110000001 00000000 11011001 01100101 01111110")))) ≡ None
 unfolding is_good remainder divided step add ends_inverted octets number
 to_all_stations = refl
 
 -- a call that nothing follows but an idle is pending
-still_pending : pending calls (placed 0 3 (text_bits (codes "01111110 00001000 11000001 00000000 101111101 10100111 01111110 111111111111111")))
+still_pending : pending calls (of_line (placed 0 3 (text_bits (codes "01111110 00001000 11000001 00000000 101111101 10100111 01111110 111111111111111"))))
     ≡ Some (record { span = record { first = 8; past = 49 }; station = 16; ftype = 0 })
 unfolding is_good remainder divided step add ends_inverted octets number
 still_pending = refl
@@ -107,11 +109,11 @@ still_pending = refl
 three_reports : List Report
 three_reports = call_at 8 49 ∷ call_at 57 98 ∷ record { kind = Damaged Short; first = 106; past = 130 } ∷ []
 
-tallied : tally calls three_reports 16 ≡ record { answered = 0; missing = 1; spoilt = 1; late = 0 }
+tallied : tally calls (of_line three_reports) 16 ≡ record { answered = 0; missing = 1; spoilt = 1; late = 0 }
 unfolding three_reports
 tallied = refl
 
-last_of_two : history 1 three_reports ≡ record { span = record { first = 57; past = 98 }; octets = 16 ∷ 131 ∷ 0 ∷ 253 ∷ 229 ∷ [] } ∷ []
+last_of_two : history 1 (of_line three_reports) ≡ record { line = First; span = record { first = 57; past = 98 }; octets = 16 ∷ 131 ∷ 0 ∷ 253 ∷ 229 ∷ [] } ∷ []
 unfolding three_reports
 last_of_two = refl
 

@@ -1,13 +1,14 @@
 -- When a run fails.
-use Rattle.std.proofs.Common.{◌≡◌, ℕ, ◌+◌, ◌-◌, ◌≤◌, ◌<◌, ◌^◌, ◌↔◌, ◌⊎◌, Bool, List, [], ◌∷◌, ◌++◌, length, take, drop, Result, Ok, Err, Some, Option, refl, sym, ap, ◌∙◌, inl, inr, arith, length-append}
+use Rattle.std.proofs.Common.{◌≡◌, ℕ, ◌+◌, ◌-◌, ◌≤◌, ◌<◌, ◌^◌, ◌↔◌, ◌⊎◌, Bool, List, [], ◌∷◌, ◌++◌, length, take, drop, Result, Ok, Err, Some, None, Option, refl, sym, ap, ◌∙◌, inl, inr, arith, length-append}
 use Rattle.std.proofs.lemmas.Bool.{cases_lt}
 use Rattle.std.proofs.lemmas.List.{length-map, take-append-drop}
-use Rattle.bus_line.specs.Report.{Report, moved}
+use Rattle.bus_line.specs.Report.{moved}
 use Rattle.bus_line.specs.Due.{reports, placed}
 use Rattle.bus_line.specs.Laws.{ReportsGrow}
 use Rattle.bus_dictionary.specs.Entry.{FrameType}
 use Rattle.bus_dictionary.specs.Dictionary.{longest_of}
-use Rattle.bus_watch.specs.Seen.{SeenReport, seen}
+use Rattle.bus_watch.specs.Heard.{Heard, heard_on, of_line}
+use Rattle.bus_watch.specs.Seen.{SeenReport, heard_in, seen}
 use Rattle.bus_watch.specs.Laws.{SeenAreReports}
 use Rattle.bus_watch.specs.Fed.{ForSink}
 use Rattle.bus_watch.specs.Headline.{Fails, StoppedAt, CanBeMade, all_seen}
@@ -43,11 +44,12 @@ feed-fails r (Sink consumed) depth origin count Stopped is can limit stopped =
     ]
 
 -- as many are seen as there are reports
-seen-length : SeenAreReports → (d : List FrameType) (rs : List Report) → length (seen d rs) ≡ length rs
-seen-length are d rs = sym (length-map (seen d rs) (λ (s : SeenReport). s.report)) ∙ ap length (are d rs)
+seen-length : SeenAreReports → (d : List FrameType) (hs : List Heard) → length (seen d hs) ≡ length hs
+seen-length are d hs = sym (length-map (seen d hs) heard_in) ∙ ap length (are d hs)
 
 all_seen-length : SeenAreReports → (d : List FrameType) (origin : ℕ) (b : List Bool) → length (all_seen d origin b) ≡ length (reports (longest_of d) b)
-all_seen-length are d origin b = seen-length are d (placed origin (longest_of d) b) ∙ length-map (reports (longest_of d) b) (moved origin)
+all_seen-length are d origin b =
+    seen-length are d (of_line (placed origin (longest_of d) b)) ∙ length-map (placed origin (longest_of d) b) (heard_on None) ∙ length-map (reports (longest_of d) b) (moved origin)
 
 -- at the first bits no more is seen than at all
 pub seen-within : SeenAreReports → ReportsGrow → (d : List FrameType) (origin n : ℕ) (b : List Bool) → length (all_seen d origin (take n b)) ≤ length (all_seen d origin b)

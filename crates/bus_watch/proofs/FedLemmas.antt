@@ -1,14 +1,18 @@
 -- Feeding some bits, and then more.
-use Rattle.std.proofs.Common.{◌≡◌, ℕ, ◌+◌, ◌-◌, ◌<◌, ◌≤◌, Bool, List, [], ◌∷◌, ◌++◌, length, take, Option, Some, None, refl, sym, ap, ◌∙◌, append_assoc, append-nil, arith, length-append, subst}
+use Rattle.std.proofs.Common.{◌≡◌, ℕ, ◌+◌, ◌-◌, ◌<◌, ◌≤◌, Bool, List, [], ◌∷◌, ◌++◌, length, take, drop, Option, Some, None, Result, Ok, Err, OnOk, OnErr, true, false, refl, sym, ap, ◌∙◌, append_assoc, append-nil, arith, length-append, subst}
 use Rattle.std.specs.Option.{option_to_list}
-use Rattle.std.proofs.lemmas.List.{take-append-le, take-take, length-take}
+use Rattle.std.specs.Result.{is_err}
+use Rattle.std.proofs.lemmas.List.{take-append-le, take-append-drop, take-take, length-take}
 use Rattle.std.proofs.Math.Seq.{take-append-add}
 use Rattle.bus_bits.specs.Octet.{number, bits_of}
 use Rattle.bus_bits.proofs.OctetLemmas.{bits-number, bits-front}
-use Rattle.bus_watch.specs.Seen.{SeenReport}
+use Rattle.bus_watch.specs.Seen.{SeenReport, seen}
 use Rattle.bus_watch.specs.Sink.{told}
-use Rattle.bus_watch.specs.After.{AnalyserState, IsAfter, Sees, seen_after}
-use Rattle.bus_watch.specs.Fed.{Fed, Refused, RefusedAt}
+use Rattle.bus_dictionary.specs.Dictionary.{longest_of}
+use Rattle.bus_watch.specs.Watch.{Watch, Leads, seen_by}
+use Rattle.bus_watch.specs.After.{AnalyserState, IsAfter, Sees, seen_after, one_line}
+use Rattle.bus_watch.specs.Laws.{joined, Runs, ended, called}
+use Rattle.bus_watch.specs.Fed.{FedBy, Fed, Refused, RefusedAt}
 
 pub told-nil : (t : Option (List SeenReport)) → t ≡ told t []
 told-nil None = refl
@@ -25,41 +29,77 @@ word-front bits w most n e l m =
     let all : bits_of most w ≡ take most bits = ap (bits_of most) e ∙ bits-number (take most bits) most k in
     sym (bits-front n most w m) ∙ (ap (take n) all ∙ take-take n most bits m)
 
-module _ {C : Type 0} (folded : C → List ℕ → Type 0) (cost : ℕ) where
-  pub sees-nil : (a : AnalyserState C) → Sees folded cost a [] [] a
-  sees-nil a = record {
-    is_after = λ b s. subst (IsAfter folded cost a) (sym (append-nil b)) s;
-    seen = λ b s. ap (seen_after a) (append-nil b) ∙ sym (append-nil (seen_after a b));
+-- the first items of a list, and the next ones
+pub next : {X : Type 0} (xs : List X) (i n : ℕ) → i ≤ length xs → n ≤ length (take (length xs - i) (drop i xs)) → take (i + n) xs ≡ take i xs ++ take n (take (length xs - i) (drop i xs))
+next xs i n l h =
+    let rest = drop i xs in
+    let k : length (take i xs) ≡ i = omega (arith, length-take i xs, l) in
+    let m : n ≤ length xs - i = omega (arith, h, length-take (length xs - i) rest) in
+    ap (take (i + n)) (sym (take-append-drop i xs)) ∙ ap (λ j. take (j + n) (take i xs ++ rest)) (sym k) ∙ take-append-add (take i xs) rest n
+    ∙ ap (λ z. take i xs ++ z) (sym (take-take n (length xs - i) rest m))
+
+-- a fact of an answer that is no error, and of one that is
+pub at-ok : {T E : Type 0} {P : Type 0} (r : Result T E) → false ≡ is_err r → OnOk r P → P
+at-ok (Ok x) e p = p
+at-ok (Err y) e p = absurd (cc)
+
+pub at-err : {T E : Type 0} {P : Type 0} (r : Result T E) → true ≡ is_err r → OnErr r P → P
+at-err (Ok x) e p = absurd (cc)
+at-err (Err y) e p = p
+
+module _ {A X : Type 0} (w : Watch A X) where
+  pub same-seen : (a c : A) (xs : List X) → w.dictionary c ≡ w.dictionary a → w.origin c ≡ w.origin a → seen_by w c xs ≡ seen_by w a xs
+  same-seen a c xs d o = ap (λ e. seen e (w.hears (w.origin c) (longest_of e) xs)) d ∙ ap (λ k. seen (w.dictionary a) (w.hears k (longest_of (w.dictionary a)) xs)) o
+
+  pub leads-nil : (a : A) → Leads w a [] [] a
+  leads-nil a = record {
+    is_after = λ b s. subst (w.is_after a) (sym (append-nil b)) s;
+    seen = λ b s. ap (seen_by w a) (append-nil b) ∙ sym (append-nil (seen_by w a b));
     dictionary = refl;
     depth = refl;
     origin = refl;
     place = omega arith;
   }
 
-  pub sees-more : (a b c : AnalyserState C) (xs ys : List Bool) (ss ts : List SeenReport) → Sees folded cost a xs ss b → Sees folded cost b ys ts c → Sees folded cost a (xs ++ ys) (ss ++ ts) c
-  sees-more a b c xs ys ss ts p q = record {
-    is_after = λ bits s. subst (IsAfter folded cost c) (append_assoc bits xs ys) (q.is_after (bits ++ xs) (p.is_after bits s));
+  pub leads-more : (a b c : A) (xs ys : List X) (ss ts : List SeenReport) → Leads w a xs ss b → Leads w b ys ts c → Leads w a (xs ++ ys) (ss ++ ts) c
+  leads-more a b c xs ys ss ts p q = record {
+    is_after = λ bits s. subst (w.is_after c) (append_assoc bits xs ys) (q.is_after (bits ++ xs) (p.is_after bits s));
     seen = λ bits s.
-        let same : (bs : List Bool) → seen_after b bs ≡ seen_after a bs = λ bs. rw (p.dictionary, p.origin) refl in
-        ap (seen_after a) (sym (append_assoc bits xs ys)) ∙ sym (same ((bits ++ xs) ++ ys))
-        ∙ (q.seen (bits ++ xs) (p.is_after bits s) ∙ (ap (λ l. l ++ ts) (same (bits ++ xs) ∙ p.seen bits s) ∙ append_assoc (seen_after a bits) ss ts));
+        ap (seen_by w a) (sym (append_assoc bits xs ys)) ∙ sym (same-seen a b ((bits ++ xs) ++ ys) p.dictionary p.origin)
+        ∙ (q.seen (bits ++ xs) (p.is_after bits s) ∙ (ap (λ l. l ++ ts) (same-seen a b (bits ++ xs) p.dictionary p.origin ∙ p.seen bits s) ∙ append_assoc (seen_by w a bits) ss ts));
     dictionary = q.dictionary ∙ p.dictionary;
     depth = q.depth ∙ p.depth;
     origin = q.origin ∙ p.origin;
     place = omega (arith, length-append xs ys, p.place, q.place);
   }
 
-  module _ {S : Type 0} (taken : S → Option (List SeenReport)) where
-    pub fed-nil : (a : AnalyserState C) (s : S) → Fed folded cost taken a [] a s s
-    fed-nil a s = record { seen = []; sees = sees-nil a; took = told-nil (taken s) }
+  -- calls after some
+  pub runs-from : (start end : A) (pieces : List (List X)) (tolds : List (List SeenReport)) (b : List X)
+      → w.is_after start b → Runs w start pieces tolds end
+      → w.is_after end (b ++ joined pieces) × (seen_by w start (b ++ joined pieces) ≡ seen_by w start b ++ joined tolds)
+  runs-from start _ _ _ b s (ended a) = (subst (w.is_after a) (sym (append-nil b)) s, ap (seen_by w a) (append-nil b) ∙ sym (append-nil (seen_by w a b)))
+  runs-from start end _ _ b s (called a c e xs told pieces tolds h r) =
+      let rest = runs-from c e pieces tolds (b ++ xs) (h.is_after b s) r in
+      let all : b ++ (xs ++ joined pieces) ≡ (b ++ xs) ++ joined pieces = sym (append_assoc b xs (joined pieces)) in
+      let same : (bs : List X) → seen_by w c bs ≡ seen_by w a bs = λ bs. same-seen a c bs h.dictionary h.origin in (
+        subst (w.is_after e) (sym all) rest.0,
+        ap (seen_by w a) all ∙ (sym (same ((b ++ xs) ++ joined pieces)) ∙ (rest.1 ∙ (ap (λ ss. ss ++ joined tolds) (same (b ++ xs) ∙ h.seen b s) ∙ append_assoc (seen_by w a b) told (joined tolds)))),
+      )
 
-    pub fed-more : (a b c : AnalyserState C) (xs ys : List Bool) (s t u : S) → Fed folded cost taken a xs b s t → Fed folded cost taken b ys c t u → Fed folded cost taken a (xs ++ ys) c s u
+  module _ {S : Type 0} (taken : S → Option (List SeenReport)) where
+    pub fed-nil : (a : A) (s : S) → FedBy w taken a [] a s s
+    fed-nil a s = record { seen = []; sees = leads-nil a; took = told-nil (taken s) }
+
+    pub fed-more : (a b c : A) (xs ys : List X) (s t u : S) → FedBy w taken a xs b s t → FedBy w taken b ys c t u → FedBy w taken a (xs ++ ys) c s u
     fed-more a b c xs ys s t u p q = record {
       seen = p.seen ++ q.seen;
-      sees = sees-more a b c xs ys p.seen q.seen p.sees q.sees;
+      sees = leads-more a b c xs ys p.seen q.seen p.sees q.sees;
       took = q.took ∙ (ap (λ z. told z q.seen) p.took ∙ told-more (taken s) p.seen q.seen);
     }
 
+-- of one line
+module _ {C : Type 0} (folded : C → List ℕ → Type 0) (cost : ℕ) where
+  module _ {S : Type 0} (taken : S → Option (List SeenReport)) where
     -- bits at the last of which the first report is seen
     pub refused-first : (a c : AnalyserState C) (xs : List Bool) (t u : S) (lost : SeenReport) → 0 < length xs → Sees folded cost a xs (lost ∷ []) c
         → ((b : List Bool) → IsAfter folded cost a b → seen_after a (b ++ take (length xs - 1) xs) ≡ seen_after a b) → taken u ≡ taken t
@@ -99,12 +139,12 @@ module _ {C : Type 0} (folded : C → List ℕ → Type 0) (cost : ℕ) where
       seen = p.seen ++ q.seen;
       lost = q.lost;
       some = omega (arith, length-append xs ys, q.some);
-      sees = subst (λ l. Sees folded cost a (xs ++ ys) l c) (sym (append_assoc p.seen q.seen (q.lost ∷ []))) (sees-more a b c xs ys p.seen (q.seen ++ q.lost ∷ []) p.sees q.sees);
+      sees = subst (λ l. Sees folded cost a (xs ++ ys) l c) (sym (append_assoc p.seen q.seen (q.lost ∷ []))) (leads-more (one_line folded cost) a b c xs ys p.seen (q.seen ++ q.lost ∷ []) p.sees q.sees);
       front = λ bits h.
           let n = length ys - 1 in
           let m : length (xs ++ ys) - 1 ≡ length xs + n = omega (arith, length-append xs ys, q.some) in
           let e : take (length (xs ++ ys) - 1) (xs ++ ys) ≡ xs ++ take n ys = ap (λ k. take k (xs ++ ys)) m ∙ take-append-add xs ys n in
-          let same : (bs : List Bool) → seen_after b bs ≡ seen_after a bs = λ bs. rw (p.sees.dictionary, p.sees.origin) refl in
+          let same : (bs : List Bool) → seen_after b bs ≡ seen_after a bs = λ bs. same-seen (one_line folded cost) a b bs p.sees.dictionary p.sees.origin in
           ap (λ z. seen_after a (bits ++ z)) e ∙ ap (seen_after a) (sym (append_assoc bits xs (take n ys))) ∙ sym (same ((bits ++ xs) ++ take n ys))
           ∙ (q.front (bits ++ xs) (p.sees.is_after bits h) ∙ (ap (λ l. l ++ q.seen) (same (bits ++ xs) ∙ p.sees.seen bits h) ∙ append_assoc (seen_after a bits) p.seen q.seen));
       took = q.took ∙ (ap (λ z. told z q.seen) p.took ∙ told-more (taken s) p.seen q.seen);

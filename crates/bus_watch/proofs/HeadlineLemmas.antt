@@ -1,6 +1,6 @@
 -- What a whole run comes to.
 use Rattle.std.proofs.Common.{◌≡◌, ℕ, ◌+◌, ◌-◌, ◌*◌, ◌≤◌, ◌<◌, Bool, List, [], ◌∷◌, ◌++◌, length, take, drop, get_or, Bor, Option, Some, refl, sym, ap, ◌∙◌, subst, append-nil, arith, length-append, length-take}
-use Rattle.std.proofs.lemmas.List.{take_more, flat_map_more, take-take, take-append-le, take_all, take-append-drop}
+use Rattle.std.proofs.lemmas.List.{take_more, flat_map_more, take-take, take-append-drop}
 use Rattle.std.proofs.lemmas.Grind.{flat_map-append}
 use Rattle.bus_line.specs.Due.{begun}
 use Rattle.bus_line.specs.Ledger.{stored_from}
@@ -9,23 +9,24 @@ use Rattle.bus_watch.specs.Sink.{told}
 use Rattle.bus_watch.specs.Seen.{SeenReport}
 use Rattle.bus_watch.specs.History.{history}
 use Rattle.bus_watch.specs.Ledger.{IsLedger, total}
-use Rattle.bus_watch.specs.After.{AnalyserState, IsAfter, line, seen_after}
-use Rattle.bus_watch.specs.Laws.{AnyCut, Runs, ended, called}
+use Rattle.bus_watch.specs.Watch.{Watch}
+use Rattle.bus_watch.specs.After.{AnalyserState, IsAfter, line, one_line}
+use Rattle.bus_watch.specs.Laws.{AnyCut, Runs, ended, called, joined}
+use Rattle.bus_watch.proofs.FedLemmas.{same-seen}
 use Rattle.bus_watch.specs.Fed.{Fed, RefusedAt}
 use Rattle.bus_watch.specs.Headline.{Headline, WholeRun, StoppedAt, all_seen, bits_in}
 use Rattle.bus_watch.specs.declared.usage.Usage.{Usage}
 
 -- what no call changes
-record IsAlike {C : Type 0} (a e : AnalyserState C) : Type 0 where
-  pub dictionary : e.journal.dictionary ≡ a.journal.dictionary
-  pub depth : e.journal.depth ≡ a.journal.depth
-  pub origin : e.decoder.origin ≡ a.decoder.origin
+pub record IsAlike {A X : Type 0} (w : Watch A X) (a e : A) : Type 0 where
+  pub dictionary : w.dictionary e ≡ w.dictionary a
+  pub depth : w.depth e ≡ w.depth a
+  pub origin : w.origin e ≡ w.origin a
 
-runs-alike : {C : Type 0} (folded : C → List ℕ → Type 0) (cost : ℕ) (start end : AnalyserState C) (pieces : List (List Bool)) (tolds : List (List SeenReport))
-    → Runs folded cost start pieces tolds end → IsAlike start end
-runs-alike folded cost start _ _ _ (ended a) = record { dictionary = refl; depth = refl; origin = refl }
-runs-alike folded cost start end _ _ (called a c e bits told pieces tolds h r) =
-    let rest = runs-alike folded cost c e pieces tolds r in
+pub runs-alike : {A X : Type 0} (w : Watch A X) (start end : A) (pieces : List (List X)) (tolds : List (List SeenReport)) → Runs w start pieces tolds end → IsAlike w start end
+runs-alike w start _ _ _ (ended a) = record { dictionary = refl; depth = refl; origin = refl }
+runs-alike w start end _ _ (called a c e xs told pieces tolds h r) =
+    let rest = runs-alike w c e pieces tolds r in
     record { dictionary = rest.dictionary ∙ h.dictionary; depth = rest.depth ∙ h.depth; origin = rest.origin ∙ h.origin }
 
 -- what the getters answer that a usage is made of
@@ -41,12 +42,12 @@ pub record Answers {C : Type 0} (folded : C → List ℕ → Type 0) (cost : ℕ
 
 pub whole-run : {C : Type 0} (folded : C → List ℕ → Type 0) (cost : ℕ) (e : AnalyserState C) (u : Usage) → AnyCut folded cost → Answers folded cost e u → WholeRun folded cost e u
 whole-run folded cost e u cut h = λ start pieces tolds s r.
-    let alike = runs-alike folded cost start e pieces tolds r in
+    let alike = runs-alike (one_line folded cost) start e pieces tolds r in
     let both = cut start e pieces tolds s r in
     let is_after = both.0 in
     rw (← alike.dictionary, ← alike.depth, ← alike.origin)
     (record {
-      told = both.1 ∙ rw (alike.dictionary, alike.origin) refl;
+      told = both.1 ∙ sym (same-seen (one_line folded cost) start e (joined pieces) alike.dictionary alike.origin);
       buffer_bound = h.room;
       buffered = λ first f. h.buffered _ first is_after f;
       history = is_after.journal.history;

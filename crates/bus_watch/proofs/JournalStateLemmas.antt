@@ -1,24 +1,28 @@
 -- One report more: the tally, the history and the steps of a journal.
-use Rattle.std.proofs.Common.{◌≡◌, ℕ, ◌+◌, ◌<◌, ◌-◌, ◌==◌, ◌&&◌, Bool, true, false, if◌then◌else◌, List, [], ◌∷◌, ◌++◌, length, drop, Option, Some, None, refl, sym, ap, ◌∙◌, arith, subst, slice_get, map, replicate}
-use Rattle.std.specs.List.{cons_option}
+use Rattle.std.proofs.Common.{◌≡◌, ℕ, ◌+◌, ◌<◌, ◌-◌, ◌==◌, ◌&&◌, Bool, true, false, if◌then◌else◌, List, [], ◌∷◌, ◌++◌, length, drop, Option, Some, None, inl, inr, refl, sym, ap, ◌∙◌, arith, subst, slice_get, map, replicate}
+use Rattle.std.specs.List.{cons_option, All}
 use Rattle.std.specs.Option.{option_map, option_to_list}
 use Rattle.std.proofs.lemmas.List.{length-append, length-drop, drop-append-le, drop-drop, drop-map, map-append, length-map, append-nil, length-replicate, get_or-replicate}
-use Rattle.std.proofs.lemmas.Option.{slice_get-get_or}
-use Rattle.std.proofs.lemmas.List.Elements.{filter_map-append}
+use Rattle.std.proofs.lemmas.Option.{slice_get-get_or, slice_get-map, slice_get_cases}
+use Rattle.std.proofs.lemmas.List.Elements.{filter_map-append, All-nil, All-cons, All-drop}
 use Rattle.std.proofs.lemmas.List.Sums.{sum_by_push}
 use Rattle.circular_buffer.specs.Buffer.{keep_last}
 use Rattle.bus_bits.specs.declared.span.Span.{Span}
 use Rattle.bus_line.specs.Report.{Report, Kind, Frame, Damaged, Overlong, Abort, Idle}
+use Rattle.bus_line.specs.Shown.{span_of}
+use Rattle.bus_watch.specs.Heard.{Heard, heard_on, of_line}
+use Rattle.bus_watch.specs.declared.line.Line.{Line}
+use Rattle.bus_watch.specs.declared.line.Line.TheVariants.{First}
 use Rattle.bus_line.specs.Ledger.{octet_count, kind_octets}
 use Rattle.bus_dictionary.specs.Entry.{FrameType}
 use Rattle.bus_dictionary.specs.Standing.{standing}
-use Rattle.bus_watch.specs.Talk.{is_idle, standing_of, command, waits, verdict, verdicts, pending}
+use Rattle.bus_watch.specs.Talk.{is_idle, standing_of, command_on, waits, verdict, verdicts, pending}
 use Rattle.bus_watch.specs.Seen.{decided}
-use Rattle.bus_watch.specs.History.{KeptFrame, frame_at, frame_of, frames, history, tally, verdicts_of, is_outcome, kept_frame}
+use Rattle.bus_watch.specs.History.{KeptFrame, kept_frame, line_of, frame_at, frame_of, frames, history, tally, verdicts_of, is_outcome, kept_pair}
 use Rattle.bus_watch.specs.Ledger.{kind_steps, steps}
 use Rattle.bus_watch.specs.Internal.Counted.{one_more, counted, Counted}
 use Rattle.bus_watch.specs.Internal.JournalState.{JournalState, Keeps, is_damage}
-use Rattle.bus_watch.specs.declared.kept.Kept.{Kept}
+use Rattle.bus_watch.specs.declared.pair_kept.PairKept.{PairKept}
 use Rattle.bus_watch.specs.declared.counts.Counts.{Counts}
 use Rattle.bus_watch.specs.declared.outcome.Outcome.{Outcome}
 use Rattle.bus_watch.specs.declared.outcome.Outcome.TheVariants.{Answered, Late, Missing, Spoilt}
@@ -62,7 +66,7 @@ tally-option : (vs : List Verdict) (o : Option Verdict) (station : ℕ) → tall
 tally-option vs None station = ap (λ xs. tally-of xs station) (append-nil vs)
 tally-option vs (Some v) station = count-one vs v station
 
-pub tally-more : (d : List FrameType) (rs : List Report) (r : Report) (station : ℕ) → tally d (rs ++ r ∷ []) station ≡ counted station (decided d rs r) (tally d rs station)
+pub tally-more : (d : List FrameType) (rs : List Heard) (r : Heard) (station : ℕ) → tally d (rs ++ r ∷ []) station ≡ counted station (decided d rs r) (tally d rs station)
 tally-more d rs r station = ap (λ vs. tally-of vs station) (verdicts-more d rs r) ∙ tally-option (verdicts d rs) (decided d rs r) station
 
 -- to keep the last of what was kept, and one more, is to keep the last of all
@@ -76,13 +80,13 @@ keep_last-more {X} n xs x =
 pub keep_last-map : {X Y : Type 0} (f : X → Y) (n : ℕ) (xs : List X) → map f (keep_last n xs) ≡ keep_last n (map f xs)
 keep_last-map f n xs = sym (drop-map f (length xs - n) xs) ∙ ap (λ k. drop (k - n) (map f xs)) (sym (length-map xs f))
 
-pub keep-frame : (n : ℕ) (ks : List Kept) (k : Kept) (f : KeptFrame) → kept_frame k ≡ f → map kept_frame (keep_last n (ks ++ k ∷ [])) ≡ keep_last n (map kept_frame ks ++ f ∷ [])
-keep-frame n ks k f e = keep_last-map kept_frame n (ks ++ k ∷ []) ∙ ap (keep_last n) (map-append kept_frame ks (k ∷ []) ∙ ap (λ g. map kept_frame ks ++ g ∷ []) e)
+pub keep-frame : (n : ℕ) (ks : List PairKept) (k : PairKept) (f : KeptFrame) → kept_pair k ≡ f → map kept_pair (keep_last n (ks ++ k ∷ [])) ≡ keep_last n (map kept_pair ks ++ f ∷ [])
+keep-frame n ks k f e = keep_last-map kept_pair n (ks ++ k ∷ []) ∙ ap (keep_last n) (map-append kept_pair ks (k ∷ []) ∙ ap (λ g. map kept_pair ks ++ g ∷ []) e)
 
 pub slice_get-replicate : {X : Type 0} (n : ℕ) (x : X) (i : ℕ) → i < n → slice_get (replicate n x) i ≡ Some x
 slice_get-replicate n x i l = slice_get-get_or (replicate n x) i x (omega (arith, length-replicate n x)) ∙ ap Some (get_or-replicate n i x x l)
 
-frames-more : (rs : List Report) (r : Report) → frames (rs ++ r ∷ []) ≡ frames rs ++ cons_option (frame_of r) []
+frames-more : (rs : List Heard) (r : Heard) → frames (rs ++ r ∷ []) ≡ frames rs ++ cons_option (frame_of r) []
 frames-more rs r = filter_map-append frame_of rs (r ∷ [])
 
 -- what was kept, and one frame more where it is one
@@ -90,65 +94,65 @@ abbrev keeping : ℕ → List KeptFrame → Option KeptFrame → List KeptFrame
 keeping depth kept None = kept
 keeping depth kept (Some f) = keep_last depth (kept ++ f ∷ [])
 
-history-more : (depth : ℕ) (rs : List Report) (r : Report) → history depth (rs ++ r ∷ []) ≡ keeping depth (history depth rs) (frame_of r)
+history-more : (depth : ℕ) (rs : List Heard) (r : Heard) → history depth (rs ++ r ∷ []) ≡ keeping depth (history depth rs) (frame_of r)
 history-more depth rs r = ap (keep_last depth) (frames-more rs r) ∙ one (frame_of r)
   where
     one : (o : Option KeptFrame) → keep_last depth (frames rs ++ cons_option o []) ≡ keeping depth (history depth rs) o
     one None = ap (keep_last depth) (append-nil (frames rs))
     one (Some f) = sym (keep_last-more depth (frames rs) f)
 
-pending-more : (d : List FrameType) (rs : List Report) (r : Report) → (if is_idle r.kind then pending d rs else waits d r) ≡ pending d (rs ++ r ∷ [])
-pending-more d rs r = step (is_idle r.kind) refl
+pending-more : (d : List FrameType) (rs : List Heard) (r : Heard) → (if is_idle r.report.kind then pending d rs else waits d r) ≡ pending d (rs ++ r ∷ [])
+pending-more d rs r = step (is_idle r.report.kind) refl
   where
-    step : (b : Bool) → is_idle r.kind ≡ b → (if is_idle r.kind then pending d rs else waits d r) ≡ pending d (rs ++ r ∷ [])
+    step : (b : Bool) → is_idle r.report.kind ≡ b → (if is_idle r.report.kind then pending d rs else waits d r) ≡ pending d (rs ++ r ∷ [])
     step true e = rw e (sym (pending-idle d rs r e))
     step false e = rw e (sym (pending-talk d rs r e))
 
 -- what a report changes in a journal
-pub record Takes (old new : JournalState) (r : Report) (verdict : Option Verdict) : Type 0 where
+pub record Takes (old new : JournalState) (r : Heard) (verdict : Option Verdict) : Type 0 where
   pub dictionary : new.dictionary ≡ old.dictionary
   pub depth : new.depth ≡ old.depth
   pub history : new.history ≡ keeping old.depth old.history (frame_of r)
-  pub waiting : new.waiting ≡ (if is_idle r.kind then old.waiting else waits old.dictionary r)
+  pub waiting : new.waiting ≡ (if is_idle r.report.kind then old.waiting else waits old.dictionary r)
   pub tally : Counted verdict old.tally new.tally
-  pub copied : new.copied ≡ old.copied + octet_count r
-  pub handled : new.handled ≡ old.handled + steps r
+  pub copied : new.copied ≡ old.copied + octet_count r.report
+  pub handled : new.handled ≡ old.handled + steps r.report
 
-pub keeps-more : (old new : JournalState) (rs : List Report) (r : Report) → Keeps old rs → Takes old new r (decided old.dictionary rs r) → Keeps new (rs ++ r ∷ [])
+pub keeps-more : (old new : JournalState) (rs : List Heard) (r : Heard) → Keeps old rs → Takes old new r (decided old.dictionary rs r) → Keeps new (rs ++ r ∷ [])
 keeps-more old new rs r k t = record {
   history = t.history ∙ ap (λ h. keeping old.depth h (frame_of r)) k.history ∙ sym (history-more old.depth rs r) ∙ ap (λ n. history n (rs ++ r ∷ [])) (sym t.depth);
-  waiting = t.waiting ∙ ap (λ w. if is_idle r.kind then w else waits old.dictionary r) k.waiting ∙ pending-more old.dictionary rs r ∙ ap (λ d. pending d (rs ++ r ∷ [])) (sym t.dictionary);
+  waiting = t.waiting ∙ ap (λ w. if is_idle r.report.kind then w else waits old.dictionary r) k.waiting ∙ pending-more old.dictionary rs r ∙ ap (λ d. pending d (rs ++ r ∷ [])) (sym t.dictionary);
   tally = λ station l. t.tally station _ (k.tally station l) ∙ ap Some (sym (tally-more old.dictionary rs r station) ∙ ap (λ d. tally d (rs ++ r ∷ []) station) (sym t.dictionary));
-  copied = t.copied ∙ (ap (λ n. n + octet_count r) k.copied ∙ sym (sum_by_push octet_count rs r));
-  handled = t.handled ∙ (ap (λ n. n + steps r) k.handled ∙ sym (sum_by_push steps rs r));
+  copied = t.copied ∙ (ap (λ n. n + octet_count r.report) k.copied ∙ sym (sum_by_push (λ (h : Heard). octet_count h.report) rs r));
+  handled = t.handled ∙ (ap (λ n. n + steps r.report) k.handled ∙ sym (sum_by_push (λ (h : Heard). steps h.report) rs r));
 }
 
 -- neither the history nor the command that waits hears of this kind
 pub record IsQuiet (d : List FrameType) (kind : Kind) : Type 0 where
-  pub no_frame : (span : Span) → frame_at span kind ≡ None
+  pub no_frame : (line : Line) (span : Span) → frame_at line span kind ≡ None
   pub no_standing : standing_of d kind ≡ None
   pub no_octets : kind_octets kind ≡ 0
   pub three : kind_steps kind ≡ 3
 
 pub damage-quiet : (d : List FrameType) (kind : Kind) → is_damage kind ≡ true → (is_idle kind ≡ false) × IsQuiet d kind
 damage-quiet d (Frame octets) h = absurd (cc)
-damage-quiet d (Damaged cause) h = (refl, record { no_frame = λ span. refl; no_standing = refl; no_octets = refl; three = refl })
-damage-quiet d Overlong h = (refl, record { no_frame = λ span. refl; no_standing = refl; no_octets = refl; three = refl })
-damage-quiet d Abort h = (refl, record { no_frame = λ span. refl; no_standing = refl; no_octets = refl; three = refl })
+damage-quiet d (Damaged cause) h = (refl, record { no_frame = λ line span. refl; no_standing = refl; no_octets = refl; three = refl })
+damage-quiet d Overlong h = (refl, record { no_frame = λ line span. refl; no_standing = refl; no_octets = refl; three = refl })
+damage-quiet d Abort h = (refl, record { no_frame = λ line span. refl; no_standing = refl; no_octets = refl; three = refl })
 damage-quiet d Idle h = absurd (cc)
 
 pub idle-quiet : (d : List FrameType) (kind : Kind) → is_idle kind ≡ true → IsQuiet d kind
-idle-quiet d Idle h = record { no_frame = λ span. refl; no_standing = refl; no_octets = refl; three = refl }
+idle-quiet d Idle h = record { no_frame = λ line span. refl; no_standing = refl; no_octets = refl; three = refl }
 idle-quiet d (Frame octets) h = absurd (cc)
 idle-quiet d (Damaged cause) h = absurd (cc)
 idle-quiet d Overlong h = absurd (cc)
 idle-quiet d Abort h = absurd (cc)
 
 -- what a piece that is no frame changes
-pub keeps-damage : (old new : JournalState) (rs : List Report) (r : Report) → Keeps old rs → is_damage r.kind ≡ true
+pub keeps-damage : (old new : JournalState) (rs : List Heard) (r : Heard) → Keeps old rs → is_damage r.report.kind ≡ true
     → new ≡ record old { waiting = None; tally = new.tally; handled = new.handled } → new.handled ≡ old.handled + 3 → Counted (option_map (verdict old.dictionary None) old.waiting) old.tally new.tally → Keeps new (rs ++ r ∷ [])
 keeps-damage old new rs r k h e n t =
-    let q = damage-quiet old.dictionary r.kind h in
+    let q = damage-quiet old.dictionary r.report.kind h in
     let j : JournalState = record old { waiting = None; tally = new.tally; handled = new.handled } in
     let judged : option_map (verdict old.dictionary None) old.waiting ≡ decided old.dictionary rs r = rw (decided-talk old.dictionary rs r q.0, q.1.no_standing, k.waiting) refl in
     subst (λ j. Keeps j (rs ++ r ∷ [])) (sym e) (keeps-more old j rs r k (record {
@@ -162,10 +166,10 @@ keeps-damage old new rs r k h e n t =
     }))
 
 -- and what an idle changes
-pub keeps-idle : (old new : JournalState) (rs : List Report) (r : Report) → Keeps old rs → is_idle r.kind ≡ true
+pub keeps-idle : (old new : JournalState) (rs : List Heard) (r : Heard) → Keeps old rs → is_idle r.report.kind ≡ true
     → new ≡ record old { handled = new.handled } → new.handled ≡ old.handled + 3 → Keeps new (rs ++ r ∷ [])
 keeps-idle old new rs r k h e n =
-    let q = idle-quiet old.dictionary r.kind h in
+    let q = idle-quiet old.dictionary r.report.kind h in
     let j : JournalState = record old { handled = new.handled } in
     subst (λ j. Keeps j (rs ++ r ∷ [])) (sym e) (keeps-more old j rs r k (record {
       dictionary = refl;
@@ -178,15 +182,15 @@ keeps-idle old new rs r k h e n =
     }))
 
 -- what a frame changes
-pub keeps-frame : (old new : JournalState) (rs : List Report) (span : Span) (octets : List ℕ) → Keeps old rs
-    → new ≡ record old { history = keep_last old.depth (old.history ++ record { span = span; octets = octets } ∷ []); waiting = command old.dictionary span (standing octets old.dictionary); tally = new.tally; copied = new.copied; handled = new.handled }
+pub keeps-frame : (old new : JournalState) (rs : List Heard) (line : Option Line) (span : Span) (octets : List ℕ) → Keeps old rs
+    → new ≡ record old { history = keep_last old.depth (old.history ++ record { line = line_of line; span = span; octets = octets } ∷ []); waiting = command_on line old.dictionary span (standing octets old.dictionary); tally = new.tally; copied = new.copied; handled = new.handled }
     → new.copied ≡ old.copied + length octets → new.handled ≡ old.handled + 6
-    → Counted (option_map (verdict old.dictionary (Some (span.first, standing octets old.dictionary))) old.waiting) old.tally new.tally
-    → Keeps new (rs ++ record { kind = Frame octets; first = span.first; past = span.past } ∷ [])
-keeps-frame old new rs span octets k e n m t =
-    let r : Report = record { kind = Frame octets; first = span.first; past = span.past } in
-    let judged : option_map (verdict old.dictionary (Some (span.first, standing octets old.dictionary))) old.waiting ≡ decided old.dictionary rs r = rw (decided-talk old.dictionary rs r refl, k.waiting) refl in
-    let j : JournalState = record old { history = keep_last old.depth (old.history ++ record { span = span; octets = octets } ∷ []); waiting = command old.dictionary span (standing octets old.dictionary); tally = new.tally; copied = new.copied; handled = new.handled } in
+    → Counted (option_map (verdict old.dictionary (Some (line, span.first, standing octets old.dictionary))) old.waiting) old.tally new.tally
+    → Keeps new (rs ++ heard_on line (record { kind = Frame octets; first = span.first; past = span.past }) ∷ [])
+keeps-frame old new rs line span octets k e n m t =
+    let r : Heard = heard_on line (record { kind = Frame octets; first = span.first; past = span.past }) in
+    let judged : option_map (verdict old.dictionary (Some (line, span.first, standing octets old.dictionary))) old.waiting ≡ decided old.dictionary rs r = rw (decided-talk old.dictionary rs r refl, k.waiting) refl in
+    let j : JournalState = record old { history = keep_last old.depth (old.history ++ record { line = line_of line; span = span; octets = octets } ∷ []); waiting = command_on line old.dictionary span (standing octets old.dictionary); tally = new.tally; copied = new.copied; handled = new.handled } in
     subst (λ j. Keeps j (rs ++ r ∷ [])) (sym e) (keeps-more old j rs r k (record {
       dictionary = refl;
       depth = refl;
@@ -196,3 +200,39 @@ keeps-frame old new rs span octets k e n m t =
       copied = n;
       handled = m;
     }))
+
+-- frames of the only line count as the first's
+abbrev IsFirst : KeptFrame → Type 0
+IsFirst f = f.line ≡ First
+
+one-first : (span : Span) (fs : List KeptFrame) → All IsFirst fs → (k : Kind) → All IsFirst (cons_option (frame_at First span k) fs)
+one-first span fs h (Frame octets) = All-cons IsFirst (record { line = First; span = span; octets = octets }) fs refl h
+one-first span fs h (Damaged cause) = h
+one-first span fs h Overlong = h
+one-first span fs h Abort = h
+one-first span fs h Idle = h
+
+frames-first : (rs : List Report) → All IsFirst (frames (of_line rs))
+frames-first [] = All-nil IsFirst
+frames-first (r ∷ rs) = one-first (span_of r) (frames (of_line rs)) (frames-first rs) r.kind
+
+same-item : {X : Type 0} (x y : X) → Some x ≡ Some y → x ≡ y
+same-item x y e = cc
+
+all-at : {X : Type 0} (P : X → Type 0) (xs : List X) (i : ℕ) (x : X) → All P xs → slice_get xs i ≡ Some x → P x
+all-at P xs i x h e = elim ((slice_get_cases xs i).1) [
+  | inl a ↦ subst P (a.3 ∙ same-item a.0 x (sym a.2 ∙ e)) (h i a.0 a.1)
+  | inr b ↦ absurd (let n = b.1 in cc)
+]
+
+-- what is kept of the only line
+pub history-at : (items : List PairKept) (depth : ℕ) (rs : List Report) (i : ℕ) (k : PairKept) → map kept_pair items ≡ history depth (of_line rs) → slice_get items i ≡ Some k
+    → Some (kept_frame k.kept) ≡ slice_get (map kept_pair items) i
+history-at items depth rs i k e g =
+    let at : slice_get (map kept_pair items) i ≡ Some (kept_pair k) = slice_get-map kept_pair items i ∙ ap (option_map kept_pair) g in
+    let here : slice_get (history depth (of_line rs)) i ≡ Some (kept_pair k) = ap (λ (l : List KeptFrame). slice_get l i) (sym e) ∙ at in
+    let first : k.line ≡ First = all-at IsFirst (history depth (of_line rs)) i (kept_pair k) (All-drop IsFirst (length (frames (of_line rs)) - depth) (frames (of_line rs)) (frames-first rs)) here in
+    sym (at ∙ ap (λ (l : Line). Some (kept_pair (record { line = l; kept = k.kept }))) first)
+
+pub history-none : (items : List PairKept) (i : ℕ) → slice_get items i ≡ None → None ≡ slice_get (map kept_pair items) i
+history-none items i g = sym (slice_get-map kept_pair items i ∙ ap (option_map kept_pair) g)

@@ -12,9 +12,10 @@ use Rattle.bus_line.specs.Due.{placed, reports, due_at}
 use Rattle.bus_dictionary.specs.Entry.{FrameType}
 use Rattle.bus_dictionary.specs.Dictionary.{longest_of}
 use Rattle.bus_watch.specs.Talk.{verdicts}
-use Rattle.bus_watch.specs.Seen.{SeenReport, decided, seen_of, seen, seen_at}
+use Rattle.bus_watch.specs.Heard.{Heard, heard_on, of_line}
+use Rattle.bus_watch.specs.Seen.{SeenReport, heard_in, decided, seen_of, seen, seen_at}
 use Rattle.bus_watch.specs.After.{AnalyserState, IsAfter, line, seen_after}
-use Rattle.bus_watch.specs.Laws.{SeenGrows, joined, Runs, ended, called}
+use Rattle.bus_watch.specs.Laws.{SeenGrows}
 use Rattle.bus_watch.proofs.TalkLemmas.{verdicts-more}
 use Rattle.bus_watch.specs.declared.verdict.Verdict.{Verdict}
 use Rattle.bus_watch.proofs.LedgerLemmas.{DueBelow}
@@ -22,24 +23,24 @@ use Rattle.bus_watch.proofs.SeenLemmas.{seen-more}
 use Rattle.bus_line.proofs.DueMoreLemmas.{map-option}
 
 -- what holds of no reports, and stays with one more, holds of all
-from-front : (P : List Report → Type 0) → ((rs : List Report) (r : Report) → P rs → P (rs ++ r ∷ [])) → (before after : List Report) → P before → P (before ++ after)
+from-front : (P : List Heard → Type 0) → ((rs : List Heard) (r : Heard) → P rs → P (rs ++ r ∷ [])) → (before after : List Heard) → P before → P (before ++ after)
 from-front P step before [] h = subst P (sym (append-nil before)) h
 from-front P step before (r ∷ after) h = subst P (append_assoc before (r ∷ []) after) (from-front P step (before ++ r ∷ []) after (step before r h))
 
-one-by-one : (P : List Report → Type 0) → P [] → ((rs : List Report) (r : Report) → P rs → P (rs ++ r ∷ [])) → (rs : List Report) → P rs
+pub one-by-one : (P : List Heard → Type 0) → P [] → ((rs : List Heard) (r : Heard) → P rs → P (rs ++ r ∷ [])) → (rs : List Heard) → P rs
 one-by-one P none step rs = from-front P step [] rs none
 
-pub seen-reports : (d : List FrameType) (rs : List Report) → map (λ (s : SeenReport). s.report) (seen d rs) ≡ rs
+pub seen-reports : (d : List FrameType) (rs : List Heard) → map heard_in (seen d rs) ≡ rs
 seen-reports d rs =
-    one-by-one (λ rs. map (λ (s : SeenReport). s.report) (seen d rs) ≡ rs) refl
-    (λ rs r h. ap (map (λ (s : SeenReport). s.report)) (seen-more d rs r) ∙ (map-append (λ (s : SeenReport). s.report) (seen d rs) (seen_of d rs r ∷ []) ∙ ap (λ xs. xs ++ r ∷ []) h))
+    one-by-one (λ rs. map heard_in (seen d rs) ≡ rs) refl
+    (λ rs r h. ap (map heard_in) (seen-more d rs r) ∙ (map-append heard_in (seen d rs) (seen_of d rs r ∷ []) ∙ ap (λ xs. xs ++ r ∷ []) h))
     rs
 
 verdict-option : (o : Option Verdict) → cons_option o [] ≡ option_to_list o
 verdict-option None = refl
 verdict-option (Some v) = refl
 
-pub seen-decides : (d : List FrameType) (rs : List Report) → filter_map (λ (s : SeenReport). s.verdict) (seen d rs) ≡ verdicts d rs
+pub seen-decides : (d : List FrameType) (rs : List Heard) → filter_map (λ (s : SeenReport). s.verdict) (seen d rs) ≡ verdicts d rs
 seen-decides d rs =
     one-by-one (λ rs. filter_map (λ (s : SeenReport). s.verdict) (seen d rs) ≡ verdicts d rs) refl
     (λ rs r h. ap (filter_map (λ (s : SeenReport). s.verdict)) (seen-more d rs r)
@@ -47,7 +48,7 @@ seen-decides d rs =
     ∙ (ap (λ vs. vs ++ cons_option (decided d rs r) []) h ∙ (ap (λ vs. verdicts d rs ++ vs) (verdict-option (decided d rs r)) ∙ sym (verdicts-more d rs r)))))
     rs
 
-due-moved : (origin : ℕ) (kind : Kind) (first past : ℕ) → due_by kind (origin + first) (origin + past) ≡ origin + due_by kind first past
+pub due-moved : (origin : ℕ) (kind : Kind) (first past : ℕ) → due_by kind (origin + first) (origin + past) ≡ origin + due_by kind first past
 due-moved origin (Frame octets) first past = omega arith
 due-moved origin (Damaged cause) first past = omega arith
 due-moved origin Overlong first past = omega arith
@@ -55,10 +56,10 @@ due-moved origin Abort first past = omega arith
 due-moved origin Idle first past = omega arith
 
 -- nothing is due where all reports are due before
-find-none : (place : ℕ) (ss : List SeenReport) → All (λ r. due r < place) (map (λ (s : SeenReport). s.report) ss) → find (λ (s : SeenReport). due s.report == place) ss ≡ None
+find-none : (place : ℕ) (ss : List SeenReport) → All (λ (h : Heard). due h.report < place) (map heard_in ss) → find (λ (s : SeenReport). due s.report == place) ss ≡ None
 find-none place [] h = refl
 find-none place (s ∷ ss) h =
-    let apart : (due s.report == place) ≡ false = ne_eqb (due s.report) place (λ e. omega (arith, e, h 0 s.report (omega arith))) in
+    let apart : (due s.report == place) ≡ false = ne_eqb (due s.report) place (λ e. omega (arith, e, h 0 (heard_in s) (omega arith))) in
     rw apart (find-none place ss (λ i d l. h (suc i) d (omega (arith, l))))
 
 line-due : (longest origin : ℕ) (b : List Bool) → DueBelow → All (λ r. due r < origin + length b) (placed origin longest b)
@@ -67,31 +68,35 @@ line-due longest origin b below =
     let r = get_or (reports longest b) i d in
     omega (arith, below longest b r (Contains-get_or (reports longest b) i d l), due-moved origin r.kind r.first r.past))
 
-at-none : (d : List FrameType) (rs : List Report) (place : ℕ) → All (λ r. due r < place) rs → seen_at d rs place ≡ None
-at-none d rs place h = find-none place (seen d rs) (subst (All (λ r. due r < place)) (sym (seen-reports d rs)) h)
+line-heard : (longest origin : ℕ) (b : List Bool) → DueBelow → All (λ (h : Heard). due h.report < origin + length b) (of_line (placed origin longest b))
+line-heard longest origin b below = All-map (λ (h : Heard). due h.report < origin + length b) (heard_on None) (placed origin longest b) (line-due longest origin b below)
 
-at-last : (d : List FrameType) (rs : List Report) (r : Report) (place : ℕ) → All (λ r. due r < place) rs → due r ≡ place → seen_at d (rs ++ r ∷ []) place ≡ Some (seen_of d rs r)
+at-none : (d : List FrameType) (rs : List Heard) (place : ℕ) → All (λ (h : Heard). due h.report < place) rs → seen_at d rs place ≡ None
+at-none d rs place h = find-none place (seen d rs) (subst (All (λ (h : Heard). due h.report < place)) (sym (seen-reports d rs)) h)
+
+at-last : (d : List FrameType) (rs : List Heard) (r : Heard) (place : ℕ) → All (λ (h : Heard). due h.report < place) rs → due r.report ≡ place → seen_at d (rs ++ r ∷ []) place ≡ Some (seen_of d rs r)
 at-last d rs r place h e =
     let p : SeenReport → Bool = λ s. due s.report == place in
-    let yes : (due r == place) ≡ true = eq-eqb (due r) place e in
+    let yes : (due r.report == place) ≡ true = eq-eqb (due r.report) place e in
     ap (find p) (seen-more d rs r) ∙ (find-append p (seen d rs) (seen_of d rs r ∷ []) ∙ (ap (λ o. option_or o (find p (seen_of d rs r ∷ []))) (at-none d rs place h) ∙ rw yes refl))
 
 grows-by : (d : List FrameType) (longest origin : ℕ) (b longer : List Bool) → DueIsIt → DueBelow → (o : Option Report) → due_at longest longer (length b) ≡ o
     → placed origin longest longer ≡ placed origin longest b ++ option_to_list (option_map (moved origin) o)
-    → seen d (placed origin longest longer) ≡ seen d (placed origin longest b) ++ option_to_list (seen_at d (placed origin longest longer) (origin + length b))
+    → seen d (of_line (placed origin longest longer)) ≡ seen d (of_line (placed origin longest b)) ++ option_to_list (seen_at d (of_line (placed origin longest longer)) (origin + length b))
 grows-by d longest origin b longer it below None e grown =
-    let rs = placed origin longest b in
-    let same : placed origin longest longer ≡ rs = grown ∙ append-nil rs in
-    rw (same, at-none d rs (origin + length b) (line-due longest origin b below)) (sym (append-nil (seen d rs)))
+    let hs = of_line (placed origin longest b) in
+    let same : of_line (placed origin longest longer) ≡ hs = ap of_line (grown ∙ append-nil (placed origin longest b)) in
+    rw (same, at-none d hs (origin + length b) (line-heard longest origin b below)) (sym (append-nil (seen d hs)))
 grows-by d longest origin b longer it below (Some r) e grown =
     let rs = placed origin longest b in
+    let h : Heard = heard_on None (moved origin r) in
     let is : due r ≡ length b = ((it longest longer (length b) r).1 e).1 in
     let at : due (moved origin r) ≡ origin + length b = due-moved origin r.kind r.first r.past ∙ ap (λ n. origin + n) is in
-    rw (grown, at-last d rs (moved origin r) (origin + length b) (line-due longest origin b below) at) (seen-more d rs (moved origin r))
+    let more : of_line (placed origin longest longer) ≡ of_line rs ++ h ∷ [] = ap of_line grown ∙ map-append (heard_on None) rs (moved origin r ∷ []) in
+    rw (more, at-last d (of_line rs) h (origin + length b) (line-heard longest origin b below) at) (seen-more d (of_line rs) h)
 
-pub seen-grows : OneMore → DueIsIt → DueBelow → (d : List FrameType) (longest origin : ℕ) (b : List Bool) (bit : Bool)
-    → seen d (placed origin longest (b ++ bit ∷ [])) ≡ seen d (placed origin longest b) ++ option_to_list (seen_at d (placed origin longest (b ++ bit ∷ [])) (origin + length b))
-seen-grows more it below d longest origin b bit =
+pub seen-grows : OneMore → DueIsIt → DueBelow → SeenGrows
+seen-grows more it below = λ d longest origin b bit.
     let o = due_at longest (b ++ bit ∷ []) (length b) in
     grows-by d longest origin b (b ++ bit ∷ []) it below o refl
     (ap (map (moved origin)) (more longest b bit) ∙ (map-append (moved origin) (reports longest b) (option_to_list o) ∙ ap (λ rs. placed origin longest b ++ rs) (map-option (moved origin) o)))
@@ -111,16 +116,3 @@ answer-is folded cost a b bit o grows s e =
     let at : o ≡ seen_at d rs (a.decoder.origin + length b) =
     same-told o (seen_at d rs (a.decoder.origin + length b)) (append_cancel_left (seen_after a b) _ _ (sym e ∙ grows d (longest_of d) a.decoder.origin b bit)) in
     at ∙ ap (seen_at d rs) (sym s.decoder.has_taken.place)
-
--- calls after some bits
-pub runs-from : {C : Type 0} (folded : C → List ℕ → Type 0) (cost : ℕ) (start end : AnalyserState C) (pieces : List (List Bool)) (tolds : List (List SeenReport)) (b : List Bool)
-    → IsAfter folded cost start b → Runs folded cost start pieces tolds end
-    → IsAfter folded cost end (b ++ joined pieces) × (seen_after start (b ++ joined pieces) ≡ seen_after start b ++ joined tolds)
-runs-from folded cost start _ _ _ b s (ended a) = (subst (IsAfter folded cost a) (sym (append-nil b)) s, ap (seen_after a) (append-nil b) ∙ sym (append-nil (seen_after a b)))
-runs-from folded cost start end _ _ b s (called a c e bits told pieces tolds h r) =
-    let rest = runs-from folded cost c e pieces tolds (b ++ bits) (h.is_after b s) r in
-    let all : b ++ (bits ++ joined pieces) ≡ (b ++ bits) ++ joined pieces = sym (append_assoc b bits (joined pieces)) in
-    let same : (bs : List Bool) → seen_after c bs ≡ seen_after a bs = λ bs. rw (h.dictionary, h.origin) refl in (
-      subst (IsAfter folded cost e) (sym all) rest.0,
-      ap (seen_after a) all ∙ (sym (same ((b ++ bits) ++ joined pieces)) ∙ (rest.1 ∙ (ap (λ ss. ss ++ joined tolds) (same (b ++ bits) ∙ h.seen b s) ∙ append_assoc (seen_after a b) told (joined tolds)))),
-    )

@@ -1,24 +1,24 @@
 -- One report more is seen.
-use Rattle.std.proofs.Common.{◌≡◌, ℕ, zero, suc, ◌<◌, List, [], ◌∷◌, ◌++◌, length, Option, Some, refl, ap, ◌∙◌, arith}
+use Rattle.std.proofs.Common.{◌≡◌, ℕ, suc, ◌<◌, List, [], ◌∷◌, ◌++◌, length, Some, refl, ap, ◌∙◌, arith}
 use Rattle.std.specs.List.{filter_map, cons_option}
 use Rattle.std.proofs.lemmas.List.{length_push, take-append-le}
 use Rattle.std.proofs.lemmas.List.Elements.{filter_map-append}
 use Rattle.std.proofs.Math.Seq.{take-append_seam}
 use Rattle.circular_buffer.proofs.Places.{slice_get-append_left, slice_get-append_right}
-use Rattle.bus_line.specs.Report.{Report}
+use Rattle.bus_watch.specs.Heard.{Heard}
 use Rattle.bus_line.specs.Due.{places}
 use Rattle.bus_dictionary.specs.Entry.{FrameType}
 use Rattle.bus_watch.specs.Seen.{seen_of, seen_number, seen}
 use Rattle.bus_line.proofs.DueMoreLemmas.{filter_map-places}
 
 -- the reports before keep their numbers
-before-same : (d : List FrameType) (rs : List Report) (r : Report) (i : ℕ) → i < length rs → seen_number d (rs ++ r ∷ []) i ≡ seen_number d rs i
+before-same : (d : List FrameType) (rs : List Heard) (r : Heard) (i : ℕ) → i < length rs → seen_number d (rs ++ r ∷ []) i ≡ seen_number d rs i
 before-same d rs r i l = rw (slice_get-append_left rs (r ∷ []) i l, take-append-le i rs (r ∷ []) (omega (arith, l))) refl
 
-new-number : (d : List FrameType) (rs : List Report) (r : Report) → seen_number d (rs ++ r ∷ []) (length rs) ≡ Some (seen_of d rs r)
+new-number : (d : List FrameType) (rs : List Heard) (r : Heard) → seen_number d (rs ++ r ∷ []) (length rs) ≡ Some (seen_of d rs r)
 new-number d rs r = rw (slice_get-append_right rs (r ∷ []) (length rs) 0 (omega arith), take-append_seam rs (r ∷ [])) refl
 
-pub seen-more : (d : List FrameType) (rs : List Report) (r : Report) → seen d (rs ++ r ∷ []) ≡ seen d rs ++ seen_of d rs r ∷ []
+pub seen-more : (d : List FrameType) (rs : List Heard) (r : Heard) → seen d (rs ++ r ∷ []) ≡ seen d rs ++ seen_of d rs r ∷ []
 seen-more d rs r =
     let f = seen_number d (rs ++ r ∷ []) in
     let l : length (rs ++ r ∷ []) ≡ suc (length rs) = omega (arith, length_push rs r) in

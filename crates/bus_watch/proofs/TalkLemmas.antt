@@ -4,7 +4,7 @@ use Rattle.std.specs.List.{filter_map, cons_option, last_or}
 use Rattle.std.specs.Option.{option_map, option_and_then, option_to_list}
 use Rattle.std.proofs.lemmas.List.{append-nil}
 use Rattle.std.proofs.lemmas.List.Elements.{filter-append, filter_map-append}
-use Rattle.bus_line.specs.Report.{Report}
+use Rattle.bus_watch.specs.Heard.{Heard}
 use Rattle.bus_dictionary.specs.Entry.{FrameType}
 use Rattle.bus_watch.specs.Talk.{is_idle, talk, neighbours, begins, waits, verdict, verdict_on, verdicts, pending}
 use Rattle.bus_watch.specs.Seen.{decided}
@@ -28,46 +28,46 @@ neighbours-push : {A : Type 0} (xs : List A) (x : A) → neighbours (xs ++ x ∷
 neighbours-push [] x = refl
 neighbours-push (y ∷ xs) x = neighbours-from y xs x
 
-talk-more : (rs : List Report) (r : Report) → talk (rs ++ r ∷ []) ≡ talk rs ++ (if is_idle r.kind then [] else r ∷ [])
-talk-more rs r = filter-append _ rs (r ∷ []) ∙ ap (λ xs. talk rs ++ xs) (one (is_idle r.kind))
+talk-more : (rs : List Heard) (r : Heard) → talk (rs ++ r ∷ []) ≡ talk rs ++ (if is_idle r.report.kind then [] else r ∷ [])
+talk-more rs r = filter-append _ rs (r ∷ []) ∙ ap (λ xs. talk rs ++ xs) (one (is_idle r.report.kind))
   where
     one : (b : Bool) → (if not b then r ∷ [] else []) ≡ (if b then [] else r ∷ [])
     one true = refl
     one false = refl
 
-talk-idle : (rs : List Report) (r : Report) → is_idle r.kind ≡ true → talk (rs ++ r ∷ []) ≡ talk rs
+talk-idle : (rs : List Heard) (r : Heard) → is_idle r.report.kind ≡ true → talk (rs ++ r ∷ []) ≡ talk rs
 talk-idle rs r e = talk-more rs r ∙ rw e (append-nil (talk rs))
 
-talk-one : (rs : List Report) (r : Report) → is_idle r.kind ≡ false → talk (rs ++ r ∷ []) ≡ talk rs ++ r ∷ []
+talk-one : (rs : List Heard) (r : Heard) → is_idle r.report.kind ≡ false → talk (rs ++ r ∷ []) ≡ talk rs ++ r ∷ []
 talk-one rs r e = talk-more rs r ∙ rw e refl
 
 -- of a talk
-abbrev pending-of : List FrameType → List Report → Option Pending
+abbrev pending-of : List FrameType → List Heard → Option Pending
 pending-of d xs = option_and_then (waits d) (last_or None xs)
 
-pub pending-idle : (d : List FrameType) (rs : List Report) (r : Report) → is_idle r.kind ≡ true → pending d (rs ++ r ∷ []) ≡ pending d rs
+pub pending-idle : (d : List FrameType) (rs : List Heard) (r : Heard) → is_idle r.report.kind ≡ true → pending d (rs ++ r ∷ []) ≡ pending d rs
 pending-idle d rs r e = ap (pending-of d) (talk-idle rs r e)
 
-pub pending-talk : (d : List FrameType) (rs : List Report) (r : Report) → is_idle r.kind ≡ false → pending d (rs ++ r ∷ []) ≡ waits d r
+pub pending-talk : (d : List FrameType) (rs : List Heard) (r : Heard) → is_idle r.report.kind ≡ false → pending d (rs ++ r ∷ []) ≡ waits d r
 pending-talk d rs r e =
     ap (pending-of d) (talk-one rs r e)
     ∙ ap (option_and_then (waits d)) (last_or-push None (talk rs) r)
 
-pub decided-idle : (d : List FrameType) (rs : List Report) (r : Report) → is_idle r.kind ≡ true → decided d rs r ≡ None
+pub decided-idle : (d : List FrameType) (rs : List Heard) (r : Heard) → is_idle r.report.kind ≡ true → decided d rs r ≡ None
 decided-idle d rs r e = rw e refl
 
 -- the verdict on the left neighbour is that on the command that waits
-judged : (d : List FrameType) (r : Report) (o : Option Report) → option_and_then (λ left. verdict_on d left r) o ≡ option_map (verdict d (begins d r)) (option_and_then (waits d) o)
+judged : (d : List FrameType) (r : Heard) (o : Option Heard) → option_and_then (λ left. verdict_on d left r) o ≡ option_map (verdict d (begins d r)) (option_and_then (waits d) o)
 judged d r None = refl
 judged d r (Some left) = refl
 
-pub decided-talk : (d : List FrameType) (rs : List Report) (r : Report) → is_idle r.kind ≡ false → decided d rs r ≡ option_map (verdict d (begins d r)) (pending d rs)
+pub decided-talk : (d : List FrameType) (rs : List Heard) (r : Heard) → is_idle r.report.kind ≡ false → decided d rs r ≡ option_map (verdict d (begins d r)) (pending d rs)
 decided-talk d rs r e = rw e (judged d r (last_or None (talk rs)))
 
-abbrev verdicts-of : (d : List FrameType) (ps : List (Report × Report)) → List Verdict
+abbrev verdicts-of : (d : List FrameType) (ps : List (Heard × Heard)) → List Verdict
 verdicts-of d ps = filter_map (λ pair. verdict_on d pair.0 pair.1) ps
 
-judged-pair : (d : List FrameType) (o : Option Report) (r : Report) → verdicts-of d (paired o r) ≡ option_to_list (option_and_then (λ left. verdict_on d left r) o)
+judged-pair : (d : List FrameType) (o : Option Heard) (r : Heard) → verdicts-of d (paired o r) ≡ option_to_list (option_and_then (λ left. verdict_on d left r) o)
 judged-pair d None r = refl
 judged-pair d (Some left) r = one (verdict_on d left r)
   where
@@ -75,10 +75,10 @@ judged-pair d (Some left) r = one (verdict_on d left r)
     one None = refl
     one (Some v) = refl
 
-pub verdicts-more : (d : List FrameType) (rs : List Report) (r : Report) → verdicts d (rs ++ r ∷ []) ≡ verdicts d rs ++ option_to_list (decided d rs r)
-verdicts-more d rs r = step (is_idle r.kind) refl
+pub verdicts-more : (d : List FrameType) (rs : List Heard) (r : Heard) → verdicts d (rs ++ r ∷ []) ≡ verdicts d rs ++ option_to_list (decided d rs r)
+verdicts-more d rs r = step (is_idle r.report.kind) refl
   where
-    step : (b : Bool) → is_idle r.kind ≡ b → verdicts d (rs ++ r ∷ []) ≡ verdicts d rs ++ option_to_list (decided d rs r)
+    step : (b : Bool) → is_idle r.report.kind ≡ b → verdicts d (rs ++ r ∷ []) ≡ verdicts d rs ++ option_to_list (decided d rs r)
     step true e =
         ap (λ xs. verdicts-of d (neighbours xs)) (talk-idle rs r e)
         ∙ rw (decided-idle d rs r e) (sym (append-nil (verdicts d rs)))

@@ -1,14 +1,15 @@
 -- The lists of bits after which an analyser may stand, and what more bits do.
-use Rattle.std.specs.Prelude.{◌≡◌, ℕ, ◌+◌, Bool, List, ◌++◌, length, Option}
+use Rattle.std.specs.Prelude.{◌≡◌, ℕ, Bool, List, Option}
 use Rattle.std.specs.Option.{option_map, option_to_list}
-use Rattle.bus_line.specs.Report.{Report}
 use Rattle.bus_line.specs.Due.{placed}
 use Rattle.bus_line.specs.Internal.LineState.{LineState}
 use Rattle.bus_line.specs.After.{After}
 use Rattle.bus_dictionary.specs.Dictionary.{longest_of}
 use Rattle.bus_watch.specs.declared.finding.Finding.{Finding}
+use Rattle.bus_watch.specs.Heard.{Heard, of_line}
 use Rattle.bus_watch.specs.Seen.{SeenReport, seen}
 use Rattle.bus_watch.specs.Shown.{found}
+use Rattle.bus_watch.specs.Watch.{Watch, Leads}
 use Rattle.bus_watch.specs.Internal.JournalState.{JournalState, Keeps}
 
 -- what contracts see of an analyser
@@ -18,8 +19,8 @@ pub record AnalyserState (C : Type 0) : Type 0 where
   pub finding : Option Finding
 
 -- the reports of the bits b of its line, by its dictionary's longest frame
-abbrev pub line : {C : Type 0} → AnalyserState C → List Bool → List Report
-line a b = placed a.decoder.origin (longest_of a.journal.dictionary) b
+abbrev pub line : {C : Type 0} → AnalyserState C → List Bool → List Heard
+line a b = of_line (placed a.decoder.origin (longest_of a.journal.dictionary) b)
 
 -- what is seen of them
 abbrev pub seen_after : {C : Type 0} → AnalyserState C → List Bool → List SeenReport
@@ -35,11 +36,17 @@ pub record IsAfter {C : Type 0} (folded : C → List ℕ → Type 0) (cost : ℕ
   pub longest : a.decoder.longest ≡ longest_of a.journal.dictionary
   pub journal : Keeps a.journal (line a b)
 
+-- one line
+abbrev pub one_line : {C : Type 0} → (C → List ℕ → Type 0) → ℕ → Watch (AnalyserState C) Bool
+one_line folded cost = record {
+  is_after = IsAfter folded cost;
+  dictionary = λ a. a.journal.dictionary;
+  depth = λ a. a.journal.depth;
+  origin = λ a. a.decoder.origin;
+  place = λ a. a.decoder.place;
+  hears = λ origin longest b. of_line (placed origin longest b);
+}
+
 -- these bits lead from old to new, and this is seen at them
-pub record Sees {C : Type 0} (folded : C → List ℕ → Type 0) (cost : ℕ) (old : AnalyserState C) (bits : List Bool) (told : List SeenReport) (new : AnalyserState C) : Type 0 where
-  pub is_after : (b : List Bool) → IsAfter folded cost old b → IsAfter folded cost new (b ++ bits)
-  pub seen : (b : List Bool) → IsAfter folded cost old b → seen_after old (b ++ bits) ≡ seen_after old b ++ told
-  pub dictionary : new.journal.dictionary ≡ old.journal.dictionary
-  pub depth : new.journal.depth ≡ old.journal.depth
-  pub origin : new.decoder.origin ≡ old.decoder.origin
-  pub place : new.decoder.place ≡ old.decoder.place + length bits
+abbrev pub Sees : {C : Type 0} → (C → List ℕ → Type 0) → ℕ → AnalyserState C → List Bool → List SeenReport → AnalyserState C → Type 0
+Sees folded cost old bits told new = Leads (one_line folded cost) old bits told new

@@ -6,11 +6,12 @@ use Rattle.bus_line.specs.Due.{placed, begun}
 use Rattle.bus_line.specs.Ledger.{stored_from}
 use Rattle.bus_dictionary.specs.Entry.{FrameType}
 use Rattle.bus_dictionary.specs.Dictionary.{longest_of}
+use Rattle.bus_watch.specs.Heard.{of_line}
 use Rattle.bus_watch.specs.Seen.{SeenReport, seen}
 use Rattle.bus_watch.specs.History.{KeptFrame, history}
 use Rattle.bus_watch.specs.Ledger.{IsLedger, total}
 use Rattle.bus_watch.specs.Sink.{told}
-use Rattle.bus_watch.specs.After.{AnalyserState, IsAfter}
+use Rattle.bus_watch.specs.After.{AnalyserState, IsAfter, one_line}
 use Rattle.bus_watch.specs.Laws.{joined, Runs}
 use Rattle.bus_watch.specs.declared.usage.Usage.{Usage}
 use Rattle.bus_watch.specs.declared.new_fault.NewFault.TheVariants.{DepthRange, Origin, Memory}
@@ -20,7 +21,7 @@ use Rattle.bus_watch.specs.declared.run_fault.RunFault.TheVariants.{New, Feed}
 
 -- what is seen of the bits b, the first of which has the place `origin`, by the dictionary d
 abbrev pub all_seen : List FrameType → ℕ → List Bool → List SeenReport
-all_seen d origin b = seen d (placed origin (longest_of d) b)
+all_seen d origin b = seen d (of_line (placed origin (longest_of d) b))
 
 -- what an analyser comes to that took the bits b: the reports that it told, the frames of its history, and its usage
 pub record Headline
@@ -32,7 +33,7 @@ pub record Headline
   pub buffer_bound : usage.buffered ≤ longest_of d + 2
   pub buffered : (first : ℕ) → begun b ≡ Some first → usage.buffered ≡ stored_from (longest_of d) b first
   -- the history is the last frames, never more than its depth
-  pub history : frames ≡ history depth (placed origin (longest_of d) b)
+  pub history : frames ≡ history depth (of_line (placed origin (longest_of d) b))
   pub history_len : usage.history_len ≡ length frames
   pub history_bound : usage.history_len ≤ depth
   -- the steps are those of the ledger: at most seventeen for each bit, even at most four, and at most three where the
@@ -50,7 +51,7 @@ kept_frames a = a.journal.history
 abbrev pub WholeRun : {C : Type 0} → (C → List ℕ → Type 0) → ℕ → AnalyserState C → Usage → Type 0
 WholeRun {C} folded cost end usage =
     (start : AnalyserState C) (pieces : List (List Bool)) (tolds : List (List SeenReport))
-    → IsAfter folded cost start [] → Runs folded cost start pieces tolds end
+    → IsAfter folded cost start [] → Runs (one_line folded cost) start pieces tolds end
     → Headline cost start.journal.dictionary start.journal.depth start.decoder.origin
     (joined pieces) (joined tolds) (kept_frames end) usage
 

@@ -2,34 +2,45 @@
 use Rattle.std.specs.Prelude.{ℕ, ◌==◌, ◌&&◌, Bool, true, false, List, count_by, filter_map, Option, Some, None}
 use Rattle.circular_buffer.specs.Buffer.{keep_last}
 use Rattle.bus_bits.specs.declared.span.Span.{Span}
-use Rattle.bus_line.specs.Report.{Kind, Frame, Report}
+use Rattle.bus_line.specs.Report.{Kind, Frame}
+use Rattle.bus_line.specs.Shown.{span_of}
 use Rattle.bus_dictionary.specs.Entry.{FrameType}
+use Rattle.bus_watch.specs.Heard.{Heard}
 use Rattle.bus_watch.specs.Talk.{verdicts}
+use Rattle.bus_watch.specs.declared.line.Line.{Line}
+use Rattle.bus_watch.specs.declared.line.Line.TheVariants.{First}
 use Rattle.bus_watch.specs.declared.outcome.Outcome.{Outcome}
 use Rattle.bus_watch.specs.declared.outcome.Outcome.TheVariants.{Answered, Late, Missing, Spoilt}
 use Rattle.bus_watch.specs.declared.counts.Counts.{Counts}
 use Rattle.bus_watch.specs.declared.verdict.Verdict.{Verdict}
 use Rattle.bus_watch.specs.declared.kept.Kept.{Kept}
+use Rattle.bus_watch.specs.declared.pair_kept.PairKept.{PairKept}
 
--- a frame: where it stands, and its octets
+-- a frame: its line, where it stands, and its octets
 pub record KeptFrame : Type 0 where
+  pub line : Line
   pub span : Span
   pub octets : List ℕ
 
-abbrev pub frame_at : Span → Kind → Option KeptFrame
-frame_at span (Frame octets) = Some (record { span = span; octets = octets })
-frame_at span kind = None
+-- the line of a frame; the only one counts as the first
+abbrev pub line_of : Option Line → Line
+line_of None = First
+line_of (Some line) = line
 
-abbrev pub frame_of : Report → Option KeptFrame
-frame_of r = frame_at (record { first = r.first; past = r.past }) r.kind
+abbrev pub frame_at : Line → Span → Kind → Option KeptFrame
+frame_at line span (Frame octets) = Some (record { line = line; span = span; octets = octets })
+frame_at line span kind = None
+
+abbrev pub frame_of : Heard → Option KeptFrame
+frame_of h = frame_at (line_of h.line) (span_of h.report) h.report.kind
 
 -- the frames among the reports
-abbrev pub frames : List Report → List KeptFrame
-frames rs = filter_map frame_of rs
+abbrev pub frames : List Heard → List KeptFrame
+frames hs = filter_map frame_of hs
 
 -- the last of them
-abbrev pub history : ℕ → List Report → List KeptFrame
-history depth rs = keep_last depth (frames rs)
+abbrev pub history : ℕ → List Heard → List KeptFrame
+history depth hs = keep_last depth (frames hs)
 
 abbrev pub is_outcome : Outcome → Outcome → Bool
 is_outcome Answered Answered = true
@@ -43,13 +54,22 @@ abbrev pub verdicts_of : Outcome → ℕ → List Verdict → ℕ
 verdicts_of o station vs = count_by (λ v. is_outcome o v.outcome && v.station == station) vs
 
 -- the verdicts that name a station
-abbrev pub tally : List FrameType → List Report → ℕ → Counts
-tally d rs station = record {
-  answered = verdicts_of Answered station (verdicts d rs);
-  missing = verdicts_of Missing station (verdicts d rs);
-  spoilt = verdicts_of Spoilt station (verdicts d rs);
-  late = verdicts_of Late station (verdicts d rs);
+abbrev pub tally : List FrameType → List Heard → ℕ → Counts
+tally d hs station = record {
+  answered = verdicts_of Answered station (verdicts d hs);
+  missing = verdicts_of Missing station (verdicts d hs);
+  spoilt = verdicts_of Spoilt station (verdicts d hs);
+  late = verdicts_of Late station (verdicts d hs);
 }
 
+-- a frame that is kept
+abbrev pub kept_on : Line → Kept → KeptFrame
+kept_on line k = record { line = line; span = k.span; octets = k.octets.items }
+
+-- of the only line
 abbrev pub kept_frame : Kept → KeptFrame
-kept_frame k = record { span = k.span; octets = k.octets.items }
+kept_frame k = kept_on First k
+
+-- of one of two
+abbrev pub kept_pair : PairKept → KeptFrame
+kept_pair k = kept_on k.line k.kept

@@ -1,29 +1,53 @@
 -- Laws over the definitions.
-use Rattle.std.specs.Prelude.{◌≡◌, ℕ, ◌+◌, ◌-◌, ◌*◌, ◌≤◌, Bool, List, [], ◌∷◌, ◌++◌, map, filter_map, length, sum_by, Some}
+use Rattle.std.specs.Prelude.{◌≡◌, ℕ, ◌+◌, ◌-◌, ◌*◌, ◌≤◌, ◌<◌, ◌⊎◌, All, AllPairs, Bool, List, [], ◌∷◌, ◌++◌, map, filter_map, length, sum_by, Some}
 use Rattle.std.specs.List.{flat_map}
 use Rattle.std.specs.Option.{option_to_list}
 use Rattle.bus_bits.specs.declared.spent.Spent.{Spent}
-use Rattle.bus_line.specs.Report.{Report, Frame}
+use Rattle.bus_line.specs.Report.{Report, Frame, due}
 use Rattle.bus_line.specs.Due.{placed, due_at}
 use Rattle.bus_line.specs.Ledger.{octet_count}
 use Rattle.bus_dictionary.specs.Entry.{FrameType}
 use Rattle.bus_watch.specs.Talk.{verdicts}
-use Rattle.bus_watch.specs.Seen.{SeenReport, seen, seen_at}
+use Rattle.bus_watch.specs.Heard.{Heard, of_line, firsts, seconds, merged, of_side}
+use Rattle.bus_watch.specs.Seen.{SeenReport, heard_in, seen, seen_at, all_seen_at}
 use Rattle.bus_watch.specs.Ledger.{IsLedger, total}
-use Rattle.bus_watch.specs.After.{AnalyserState, IsAfter, Sees, seen_after}
+use Rattle.bus_watch.specs.Watch.{Watch, Leads, seen_by}
+use Rattle.bus_watch.specs.After.{one_line}
+use Rattle.bus_watch.specs.Pairs.{two_lines}
+use Rattle.bus_watch.specs.declared.line.Line.TheVariants.{First, Second}
 
 -- one bit more adds what is seen at it, if it decides a report
 abbrev pub SeenGrows : Type 0
 SeenGrows = (d : List FrameType) (longest origin : ℕ) (b : List Bool) (bit : Bool) →
-    seen d (placed origin longest (b ++ bit ∷ [])) ≡ seen d (placed origin longest b) ++ option_to_list (seen_at d (placed origin longest (b ++ bit ∷ [])) (origin + length b))
+    seen d (of_line (placed origin longest (b ++ bit ∷ []))) ≡ seen d (of_line (placed origin longest b)) ++ option_to_list (seen_at d (of_line (placed origin longest (b ++ bit ∷ []))) (origin + length b))
+
+-- one pair of bits more adds what is seen at it: at most what the first line decides and then what the second does
+abbrev pub PairsGrow : Type 0
+PairsGrow = (d : List FrameType) (longest origin : ℕ) (ps : List (Bool × Bool)) (p : Bool × Bool) →
+    seen d (merged origin longest (ps ++ p ∷ [])) ≡ seen d (merged origin longest ps) ++ all_seen_at d (merged origin longest (ps ++ p ∷ [])) (origin + length ps)
+
+-- of two reports the one that is due first comes first, and where both are due at one place, that of the first line
+abbrev pub ComesBefore : Heard → Heard → Type 0
+ComesBefore h k = (due h.report < due k.report) ⊎ ((due h.report ≡ due k.report) × (h.line ≡ Some First) × (k.line ≡ Some Second))
+
+-- these are the reports of two lines and no others, in this order
+pub record IsMerged (rs ss : List Report) (hs : List Heard) : Type 0 where
+  pub first : of_side First hs ≡ rs
+  pub second : of_side Second hs ≡ ss
+  pub no_other : All (λ (h : Heard). (h.line ≡ Some First) ⊎ (h.line ≡ Some Second)) hs
+  pub rising : AllPairs ComesBefore hs
+
+-- as the merged reports are
+abbrev pub MergedIsMerged : Type 0
+MergedIsMerged = (longest origin : ℕ) (ps : List (Bool × Bool)) → IsMerged (placed origin longest (firsts ps)) (placed origin longest (seconds ps)) (merged origin longest ps)
 
 -- what is seen is the reports, and what follows from each
 abbrev pub SeenAreReports : Type 0
-SeenAreReports = (d : List FrameType) (rs : List Report) → map (λ (s : SeenReport). s.report) (seen d rs) ≡ rs
+SeenAreReports = (d : List FrameType) (hs : List Heard) → map heard_in (seen d hs) ≡ hs
 
 -- what is seen decides just the verdicts of the talk, in their order
 abbrev pub SeenDecides : Type 0
-SeenDecides = (d : List FrameType) (rs : List Report) → filter_map (λ (s : SeenReport). s.verdict) (seen d rs) ≡ verdicts d rs
+SeenDecides = (d : List FrameType) (hs : List Heard) → filter_map (λ (s : SeenReport). s.verdict) (seen d hs) ≡ verdicts d hs
 
 -- the steps of a check that costs 1 to 8 an octet are at most four a bit
 abbrev pub StepsWithinFour : Type 0
@@ -37,17 +61,25 @@ StepsWithinThree = (longest : ℕ) (b : List Bool) (spent : Spent) → IsLedger 
 abbrev pub joined : {X : Type 0} → List (List X) → List X
 joined xss = flat_map (λ xs. xs) xss
 
--- calls one behind the other: the bits that each took, and what it answered or told its sink
-pub data Runs {C : Type 0} (folded : C → List ℕ → Type 0) (cost : ℕ) : AnalyserState C → List (List Bool) → List (List SeenReport) → AnalyserState C → Type 0 where
-  ended : (a : AnalyserState C) → Runs folded cost a [] [] a
-  called : (a c e : AnalyserState C) (bits : List Bool) (told : List SeenReport) (pieces : List (List Bool)) (tolds : List (List SeenReport))
-      → Sees folded cost a bits told c → Runs folded cost c pieces tolds e → Runs folded cost a (bits ∷ pieces) (told ∷ tolds) e
+-- calls one behind the other: what each took, and what it answered or told its sink
+pub data Runs {A X : Type 0} (w : Watch A X) : A → List (List X) → List (List SeenReport) → A → Type 0 where
+  ended : (a : A) → Runs w a [] [] a
+  called : (a c e : A) (xs : List X) (told : List SeenReport) (pieces : List (List X)) (tolds : List (List SeenReport))
+      → Leads w a xs told c → Runs w c pieces tolds e → Runs w a (xs ∷ pieces) (told ∷ tolds) e
 
--- however a list of bits is cut into calls, what they tell, one behind the other, is what is seen of the whole list, and the analyser stands after it
+-- however a list is cut into calls, what they tell, one behind the other, is what is seen of the whole list, and the analyser stands after it
+abbrev pub IsAnyCut : {A X : Type 0} → Watch A X → Type 0
+IsAnyCut {A} {X} w = (start end : A) (pieces : List (List X)) (tolds : List (List SeenReport))
+    → w.is_after start [] → Runs w start pieces tolds end
+    → w.is_after end (joined pieces) × (joined tolds ≡ seen_by w start (joined pieces))
+
+-- of one line
 abbrev pub AnyCut : {C : Type 0} → (C → List ℕ → Type 0) → ℕ → Type 0
-AnyCut {C} folded cost = (start end : AnalyserState C) (pieces : List (List Bool)) (tolds : List (List SeenReport))
-    → IsAfter folded cost start [] → Runs folded cost start pieces tolds end
-    → IsAfter folded cost end (joined pieces) × (joined tolds ≡ seen_after start (joined pieces))
+AnyCut folded cost = IsAnyCut (one_line folded cost)
+
+-- of two
+abbrev pub AnyCutOfPairs : {C : Type 0} → (C → List ℕ → Type 0) → ℕ → Type 0
+AnyCutOfPairs folded cost = IsAnyCut (two_lines folded cost)
 
 -- the frame octets of what one bit more closes: those of the frame whose closing flag it ends, and none else
 abbrev pub closed_octets : ℕ → List Bool → Bool → ℕ

@@ -1,5 +1,5 @@
 -- A report of a log, as it was seen.
-use Rattle.std.specs.Prelude.{List, map}
+use Rattle.std.specs.Prelude.{List, map, None}
 use Rattle.bus_line.specs.Report.{Kind, Report}
 use Rattle.bus_watch.specs.Seen.{SeenReport}
 use Rattle.bus_watch.specs.declared.logged_report.LoggedPiece.{LoggedPiece}
@@ -14,7 +14,7 @@ logged_piece (Abort span) = record { kind = Kind.Abort; first = span.first; past
 logged_piece (Idle span) = record { kind = Kind.Idle; first = span.first; past = span.past }
 
 abbrev pub logged_report : LoggedReport → SeenReport
-logged_report r = record { report = logged_piece r.piece; standing = r.standing; verdict = r.verdict; stray = r.stray }
+logged_report r = record { line = None; report = logged_piece r.piece; standing = r.standing; verdict = r.verdict; stray = r.stray }
 
 -- all reports of a log
 abbrev pub logged_reports : List LoggedReport → List SeenReport

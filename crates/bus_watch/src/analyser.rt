@@ -14,6 +14,7 @@ use crate::counts::Counts;
 use crate::ending::Ending;
 use crate::feed::PLACES;
 use crate::finding::Finding;
+use crate::hear::hear;
 use crate::journal::Journal;
 use crate::kept::Kept;
 use crate::laws::{seen_grows, steps_are_bounded};
@@ -22,7 +23,7 @@ use crate::seen::Seen;
 use bus_bits::{Span, Spent};
 use bus_dictionary::Dictionary;
 use bus_fcs::Check;
-use bus_line::laws::{frame_is_spelled, reports_are, settled_places};
+use bus_line::laws::settled_places;
 use bus_line::{LineDecoder, LineFault, PlaceLimit};
 use std::alloc::Global;
 use std::marker::Model;
@@ -117,17 +118,10 @@ impl<C: Check> Analyser<C> {
             seen_after self.old (b ++ bits_of (n - 1) bits) ≡ seen_after self.old b) }
         ensures unchanged { OnErr result (self.new ≡ self.old) }
     {
-        let taken = self.decoder.take(bits, count)?;
-        let Some(event) = taken.event else {
-            self.is_decided = false;
-            return Ok(taken.count);
-        };
-        reports_are();
-        frame_is_spelled();
         settled_places();
-        self.journal.take(event, self.decoder.octets());
-        self.is_decided = true;
-        Ok(taken.count)
+        let heard = hear(&mut self.decoder, &mut self.journal, None, bits, count)?;
+        self.is_decided = heard.is_decided;
+        Ok(heard.count)
     }
 
     /// What is seen at the last bit that [`Analyser::take`] took, if it decides a report.
@@ -189,7 +183,10 @@ impl<C: Check> Analyser<C> {
         ensures value { (b : List Bool) → IsAfter C.folded C.COST self.now b →
             kept_option result ≡ slice_get (history self.now.journal.depth (line self.now b)) i }
     {
-        self.journal.kept(i)
+        match self.journal.kept(i) {
+            Some(kept) => Some(kept.frame()),
+            None => None,
+        }
     }
 
     /// How many frames the history has: at most its depth, which is at most 1024.

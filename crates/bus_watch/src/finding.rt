@@ -1,7 +1,8 @@
 //! A report without the octets of a frame, and what follows from it.
 
-ghost use Rattle.std.specs.Prelude.{◌≡◌};
-ghost use Rattle.bus_watch.specs.Shown.{shown, found};
+ghost use Rattle.std.specs.Prelude.{◌≡◌, Some};
+ghost use Rattle.bus_watch.specs.Shown.{shown, found, shown_on, found_on};
+ghost use Rattle.bus_watch.specs.declared.line.Line.{Line};
 
 use crate::seen::Seen;
 use crate::verdict::Verdict;
@@ -24,7 +25,8 @@ pub struct Finding {
 impl Finding {
     /// The same; if it is a frame, with these octets.
     pub fn with_octets<'a>(self, octets: &'a [u8]) -> Seen<'a>
-        ensures { shown result ≡ found octets.now self }
+        ensures only_line { shown result ≡ found octets.now self }
+        ensures either_line { (line : Line) → shown_on (Some line) result ≡ found_on (Some line) octets.now self }
     {
         Seen {
             piece: self.event.with_octets(octets),

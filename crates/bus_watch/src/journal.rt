@@ -1,6 +1,6 @@
 //! What is kept of the reports so far.
 
-ghost use Rattle.std.specs.Prelude.{◌≡◌, ◌+◌, ◌≤◌, ◌<◌, ◌^◌, List, ℕ, [], ◌∷◌, ◌++◌, IfOk, length, replicate, true, Some, slice_get, option_copied, option_map};
+ghost use Rattle.std.specs.Prelude.{◌≡◌, ◌+◌, ◌≤◌, ◌<◌, ◌^◌, List, ℕ, Option, [], ◌∷◌, ◌++◌, IfOk, length, replicate, true, Some, slice_get, option_copied, option_map};
 
 mod keep;
 mod pair;
@@ -8,7 +8,8 @@ mod stray;
 
 use crate::counts::Counts;
 use crate::finding::Finding;
-use crate::kept::Kept;
+use crate::line::Line;
+use crate::pair_kept::PairKept;
 use crate::pending::Pending;
 use bus_bits::{Span, Spent};
 use bus_dictionary::{Dictionary, Standing};
@@ -25,7 +26,7 @@ pub(crate) struct Journal {
     waiting: Option<Pending>,
     /// By station.
     tally: [Counts; 256],
-    history: HeapCircularBuffer<Kept>,
+    history: HeapCircularBuffer<PairKept>,
     /// What the last report was found to be, and `None` before the first.
     last: Option<Finding>,
     /// The steps `copied` and `handled`; the others are counted elsewhere.
@@ -46,9 +47,10 @@ fn no_counts() -> [Counts; 256]
 
 impl Journal {
     ghost use Rattle.bus_line.specs.Shown.{kind_with, reported};
-    ghost use Rattle.bus_line.specs.Report.{Report, Frame};
+    ghost use Rattle.bus_line.specs.Report.{Frame};
+    ghost use Rattle.bus_watch.specs.Heard.{Heard, heard_on};
     ghost use Rattle.bus_watch.specs.Internal.JournalState.{journal_state, Keeps, HasRoom, is_damage, IsWhole};
-    ghost use Rattle.bus_watch.specs.Shown.{found};
+    ghost use Rattle.bus_watch.specs.Shown.{found_on};
     ghost use Rattle.bus_watch.specs.Seen.{seen_of};
     ghost use Rattle.bus_watch.specs.Talk.{is_idle};
     ghost use Rattle.bus_dictionary.specs.Standing.{standing};
@@ -73,22 +75,22 @@ impl Journal {
         })
     }
 
-    /// Takes a report, a frame with these octets, and keeps what follows from it as the last.
+    /// Takes a report of a line, a frame with these octets, and keeps what follows from it as the last.
     #[inline(never)]
-    pub(crate) fn take(&mut self, event: Event, octets: &[u8])
+    pub(crate) fn take(&mut self, line: Option<Line>, event: Event, octets: &[u8])
         requires whole { IsWhole event.kind octets.now }
         requires fits { length octets.now ≤ 258 }
         requires room { HasRoom (journal_state self.old) }
-        ensures keeps { (rs : List Report) → Keeps (journal_state self.old) rs →
-            Keeps (journal_state self.new) (rs ++ reported octets.now event ∷ []) }
-        ensures says { (rs : List Report) → Keeps (journal_state self.old) rs →
-            option_map (found octets.now) self.new.last
-            ≡ Some (seen_of self.old.dictionary rs (reported octets.now event)) }
+        ensures keeps { (hs : List Heard) → Keeps (journal_state self.old) hs →
+            Keeps (journal_state self.new) (hs ++ heard_on line (reported octets.now event) ∷ []) }
+        ensures says { (hs : List Heard) → Keeps (journal_state self.old) hs →
+            option_map (found_on line octets.now) self.new.last
+            ≡ Some (seen_of self.old.dictionary hs (heard_on line (reported octets.now event))) }
         ensures given { (self.new.dictionary ≡ self.old.dictionary)
             × (self.new.history.capacity ≡ self.old.history.capacity) }
     {
         let finding = match event.kind {
-            EventKind::Frame => self.frame(event.span, octets),
+            EventKind::Frame => self.frame(line, event.span, octets),
             EventKind::Idle => self.idle(event),
             EventKind::Damaged(_) | EventKind::Overlong | EventKind::Abort => self.damage(event),
         };
@@ -103,23 +105,24 @@ impl Journal {
         self.last.as_ref()
     }
 
-    /// Takes a frame.
-    fn frame(&mut self, span: Span, octets: &[u8]) -> Finding
+    /// Takes a frame of a line.
+    fn frame(&mut self, line: Option<Line>, span: Span, octets: &[u8]) -> Finding
         requires at_least { 4 ≤ length octets.now }
         requires at_most { length octets.now ≤ 258 }
         requires room { HasRoom (journal_state self.old) }
-        ensures keeps { (rs : List Report) → Keeps (journal_state self.old) rs →
-            Keeps (journal_state self.new) (rs ++ record { kind = Frame octets.now; first = span.first; past = span.past } ∷ []) }
-        ensures says { (rs : List Report) → Keeps (journal_state self.old) rs →
-            found octets.now result ≡ seen_of self.old.dictionary rs (record { kind = Frame octets.now; first = span.first; past = span.past }) }
+        ensures keeps { (hs : List Heard) → Keeps (journal_state self.old) hs → Keeps (journal_state self.new)
+            (hs ++ heard_on line (record { kind = Frame octets.now; first = span.first; past = span.past }) ∷ []) }
+        ensures says { (hs : List Heard) → Keeps (journal_state self.old) hs →
+            found_on line octets.now result ≡ seen_of self.old.dictionary hs
+            (heard_on line (record { kind = Frame octets.now; first = span.first; past = span.past })) }
         ensures given { (self.new.dictionary ≡ self.old.dictionary)
             × (self.new.history.capacity ≡ self.old.history.capacity) }
     {
         self.spent.tick_handled();
         let standing = self.standing(octets);
-        let verdict = self.decide(Some((span.first, standing)));
-        self.waiting = self.command(span, standing);
-        self.keep(span, octets);
+        let verdict = self.decide(Some((line, span.first, standing)));
+        self.waiting = self.command(line, span, standing);
+        self.keep(line, span, octets);
         Finding {
             event: Event {
                 kind: EventKind::Frame,
@@ -135,10 +138,10 @@ impl Journal {
     fn damage(&mut self, event: Event) -> Finding
         requires damage { (octets : List ℕ) → is_damage (kind_with octets event.kind) ≡ true }
         requires room { HasRoom (journal_state self.old) }
-        ensures keeps { (octets : List ℕ) (rs : List Report) → Keeps (journal_state self.old) rs →
-            Keeps (journal_state self.new) (rs ++ reported octets event ∷ []) }
-        ensures says { (octets : List ℕ) (rs : List Report) → Keeps (journal_state self.old) rs →
-            found octets result ≡ seen_of self.old.dictionary rs (reported octets event) }
+        ensures keeps { (line : Option Line) (octets : List ℕ) (hs : List Heard) → Keeps (journal_state self.old) hs →
+            Keeps (journal_state self.new) (hs ++ heard_on line (reported octets event) ∷ []) }
+        ensures says { (line : Option Line) (octets : List ℕ) (hs : List Heard) → Keeps (journal_state self.old) hs →
+            found_on line octets result ≡ seen_of self.old.dictionary hs (heard_on line (reported octets event)) }
         ensures given { (self.new.dictionary ≡ self.old.dictionary)
             × (self.new.history.capacity ≡ self.old.history.capacity) }
     {
@@ -155,10 +158,10 @@ impl Journal {
     fn idle(&mut self, event: Event) -> Finding
         requires idle { (octets : List ℕ) → is_idle (kind_with octets event.kind) ≡ true }
         requires room { HasRoom (journal_state self.old) }
-        ensures keeps { (octets : List ℕ) (rs : List Report) → Keeps (journal_state self.old) rs →
-            Keeps (journal_state self.new) (rs ++ reported octets event ∷ []) }
-        ensures says { (octets : List ℕ) (rs : List Report) → Keeps (journal_state self.old) rs →
-            found octets result ≡ seen_of self.old.dictionary rs (reported octets event) }
+        ensures keeps { (line : Option Line) (octets : List ℕ) (hs : List Heard) → Keeps (journal_state self.old) hs →
+            Keeps (journal_state self.new) (hs ++ heard_on line (reported octets event) ∷ []) }
+        ensures says { (line : Option Line) (octets : List ℕ) (hs : List Heard) → Keeps (journal_state self.old) hs →
+            found_on line octets result ≡ seen_of self.old.dictionary hs (heard_on line (reported octets event)) }
         ensures given { (self.new.dictionary ≡ self.old.dictionary)
             × (self.new.history.capacity ≡ self.old.history.capacity) }
     {
@@ -187,7 +190,7 @@ impl Journal {
     }
 
     /// A frame of the history, of which the oldest has the number 0.
-    pub(crate) fn kept(&self, i: usize) -> Option<&Kept>
+    pub(crate) fn kept(&self, i: usize) -> Option<&PairKept>
         ensures { option_copied result ≡ slice_get self.now.history.items i }
     {
         self.history.get(i)

@@ -1,10 +1,11 @@
 //! Laws over the definitions.
 
-ghost use Rattle.bus_watch.specs.Laws.{SeenGrows, SeenAreReports, SeenDecides, StepsWithinFour, StepsWithinThree, BitCosts, ClosedPaid, AnyCut};
+ghost use Rattle.bus_watch.specs.Cut.{CutLosesNothing, CutLosesVerdict, FlagLosesNothing};
+ghost use Rattle.bus_watch.specs.Laws.{SeenGrows, SeenAreReports, SeenDecides, StepsWithinFour, StepsWithinThree, BitCosts, ClosedPaid, AnyCut, AnyCutOfPairs, PairsGrow, MergedIsMerged};
 
 use bus_fcs::Check;
 use bus_line::laws::{
-    frame_is_spelled, reports_are, reports_grow, reports_own_bits, settled_places,
+    cut_at_flag, frame_is_spelled, reports_are, reports_grow, reports_own_bits, settled_places,
 };
 
 /// What is seen of a list of bits is its reports, each with what follows from it: one bit more adds
@@ -16,6 +17,27 @@ pub fn seen_grows()
 {
     reports_are();
     reports_grow();
+}
+
+/// What is heard of two lines is the reports of each by itself and no others, by due place, the first
+/// line's first where both have one: one pair of bits more adds what is seen at it.
+pub fn pairs_grow()
+    ensures grows { PairsGrow }
+    ensures merged { MergedIsMerged }
+{
+    reports_are();
+    reports_grow();
+}
+
+/// Where a list is cut in two and each part is watched by itself, what is seen is the same, but where a
+/// command waits at the cut: then its verdict is lost, and with it whether its answer is a stray. So a
+/// capture may be cut at any flag up to which no command waits.
+pub fn cut_loses_a_verdict()
+    ensures nothing { CutLosesNothing }
+    ensures verdict { CutLosesVerdict }
+    ensures flag { FlagLosesNothing }
+{
+    cut_at_flag();
 }
 
 /// The counted steps are at most four for each bit, and three where the check costs one an octet.
@@ -44,4 +66,9 @@ pub fn one_bit_is_bounded()
 /// is seen of the whole list, in order.
 pub fn any_cut<C: Check>()
     ensures { AnyCut C.folded C.COST }
+{}
+
+/// The same for every list of pairs of bits.
+pub fn any_cut_of_pairs<C: Check>()
+    ensures { AnyCutOfPairs C.folded C.COST }
 {}

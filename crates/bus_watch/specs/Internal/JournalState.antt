@@ -1,13 +1,13 @@
 -- What contracts see of a journal, and the lists of reports after which it may stand.
-use Rattle.std.specs.Prelude.{◌≡◌, ℕ, ◌+◌, ◌<◌, ◌≤◌, ◌^◌, Bool, true, false, List, length, map, sum_by, Option, Some, slice_get}
-use Rattle.bus_line.specs.Report.{Report, Kind, Frame, Idle}
+use Rattle.std.specs.Prelude.{◌≡◌, ℕ, ◌+◌, ◌<◌, ◌≤◌, ◌^◌, Bool, true, false, List, length, map, Option, Some, slice_get}
+use Rattle.bus_line.specs.Report.{Kind, Frame, Idle}
+use Rattle.bus_watch.specs.Heard.{Heard}
 use Rattle.bus_line.specs.declared.event.EventKind.{EventKind}
 use Rattle.bus_line.specs.declared.event.EventKind.TheVariants as event
-use Rattle.bus_line.specs.Ledger.{octet_count}
 use Rattle.bus_dictionary.specs.Entry.{FrameType}
 use Rattle.bus_watch.specs.Talk.{pending}
-use Rattle.bus_watch.specs.History.{KeptFrame, history, tally, kept_frame}
-use Rattle.bus_watch.specs.Ledger.{handled}
+use Rattle.bus_watch.specs.History.{KeptFrame, history, tally, kept_pair}
+use Rattle.bus_watch.specs.Ledger.{handled_of, copied_of}
 use Rattle.bus_watch.specs.declared.counts.Counts.{Counts}
 use Rattle.bus_watch.specs.declared.journal.Journal.{Journal}
 use Rattle.bus_watch.specs.declared.pending.Pending.{Pending}
@@ -25,7 +25,7 @@ abbrev pub journal_state : Journal → JournalState
 journal_state j = record {
   dictionary = j.dictionary;
   depth = j.history.capacity;
-  history = map kept_frame j.history.items;
+  history = map kept_pair j.history.items;
   waiting = j.waiting;
   tally = j.tally;
   copied = j.spent.copied;
@@ -33,12 +33,12 @@ journal_state j = record {
 }
 
 -- the journal may stand after these reports
-pub record Keeps (j : JournalState) (rs : List Report) : Type 0 where
-  pub history : j.history ≡ history j.depth rs
-  pub waiting : j.waiting ≡ pending j.dictionary rs
-  pub tally : (station : ℕ) → station < 256 → slice_get j.tally station ≡ Some (tally j.dictionary rs station)
-  pub copied : j.copied ≡ sum_by octet_count rs
-  pub handled : j.handled ≡ handled rs
+pub record Keeps (j : JournalState) (hs : List Heard) : Type 0 where
+  pub history : j.history ≡ history j.depth hs
+  pub waiting : j.waiting ≡ pending j.dictionary hs
+  pub tally : (station : ℕ) → station < 256 → slice_get j.tally station ≡ Some (tally j.dictionary hs station)
+  pub copied : j.copied ≡ copied_of hs
+  pub handled : j.handled ≡ handled_of hs
 
 -- a verdict more can be counted
 abbrev pub CanCount : List Counts → Type 0

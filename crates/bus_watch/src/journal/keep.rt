@@ -5,19 +5,22 @@ ghost use Rattle.circular_buffer.specs.Buffer.{keep_last};
 
 use crate::journal::Journal;
 use crate::kept::Kept;
+use crate::line::{Line, kept_line};
+use crate::pair_kept::PairKept;
 use bus_bits::Span;
 
 impl Journal {
-    ghost use Rattle.bus_watch.specs.History.{kept_frame};
+    ghost use Rattle.bus_watch.specs.History.{kept_pair, line_of};
 
     /// Copies a frame into the history, in place of the oldest where that is full.
-    pub(crate) fn keep(&mut self, span: Span, octets: &[u8])
+    pub(crate) fn keep(&mut self, line: Option<Line>, span: Span, octets: &[u8])
         requires fits { length octets.now ≤ 258 }
         requires copied { self.old.spent.copied + length octets.now < 2 ^ 64 }
         requires handled { self.old.spent.handled + 1 < 2 ^ 64 }
-        ensures history { map kept_frame self.new.history.items
+        ensures history { map kept_pair self.new.history.items
             ≡ keep_last self.old.history.capacity
-            (map kept_frame self.old.history.items ++ record { span = span; octets = octets.now } ∷ []) }
+            (map kept_pair self.old.history.items
+            ++ record { line = line_of line; span = span; octets = octets.now } ∷ []) }
         ensures capacity { self.new.history.capacity ≡ self.old.history.capacity }
         ensures spent { self.new.spent
             ≡ record self.old.spent {
@@ -28,6 +31,10 @@ impl Journal {
     {
         self.spent.copied += octets.len() as u64;
         self.spent.tick_handled();
-        self.history.push_back(Kept::of(span, octets));
+        let kept = PairKept {
+            line: kept_line(line),
+            kept: Kept::of(span, octets),
+        };
+        self.history.push_back(kept);
     }
 }

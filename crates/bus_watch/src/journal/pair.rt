@@ -4,6 +4,7 @@ ghost use Rattle.std.specs.Prelude.{◌≡◌, ◌+◌, ◌<◌, ◌^◌, Some, 
 
 use crate::counts::Counts;
 use crate::journal::Journal;
+use crate::line::{Line, may_answer, may_wait};
 use crate::outcome::Outcome;
 use crate::pending::Pending;
 use crate::verdict::Verdict;
@@ -16,19 +17,24 @@ const ALL_STATIONS: u8 = 255;
 impl Journal {
     ghost use Rattle.bus_watch.specs.Internal.JournalState.{CanCount};
     ghost use Rattle.bus_dictionary.specs.Dictionary.{entry_at};
-    ghost use Rattle.bus_watch.specs.Talk.{command, is_late, outcome, verdict, window_of};
+    ghost use Rattle.bus_watch.specs.Talk.{command_on, is_late, outcome, verdict, window_of};
     ghost use Rattle.bus_watch.specs.declared.outcome.Outcome.TheVariants.{Answered, Late};
     ghost use Rattle.bus_watch.specs.Internal.Counted.{Counted};
 
     /// The command that a frame is, if it waits for an answer: known, of a type below 128 that is to
-    /// be answered, and to one station.
-    pub(crate) fn command(&self, span: Span, standing: Standing) -> Option<Pending>
-        ensures { result ≡ command self.now.dictionary span standing }
+    /// be answered, and to one station, on a line where commands wait.
+    pub(crate) fn command(
+        &self,
+        line: Option<Line>,
+        span: Span,
+        standing: Standing,
+    ) -> Option<Pending>
+        ensures { result ≡ command_on line self.now.dictionary span standing }
     {
         let Standing::Known { station, ftype } = standing else {
             return None;
         };
-        if ftype >= 128 || station == ALL_STATIONS {
+        if ftype >= 128 || station == ALL_STATIONS || !may_wait(line) {
             return None;
         }
         match self.dictionary.entry(ftype) {
@@ -58,15 +64,16 @@ impl Journal {
         }
     }
 
-    /// What becomes of a command, by the place of the first bit and the standing of the frame that
-    /// came next: `None` for a piece that is no frame.
-    fn outcome(&self, pending: Pending, right: Option<(u64, Standing)>) -> Outcome
+    /// What becomes of a command, by the line, the place of the first bit and the standing of the frame
+    /// that came next: `None` for a piece that is no frame.
+    fn outcome(&self, pending: Pending, right: Option<(Option<Line>, u64, Standing)>) -> Outcome
         ensures { result ≡ outcome self.now.dictionary pending right }
     {
         match right {
             None => Outcome::Spoilt,
-            Some((first, Standing::Known { station, ftype }))
-                if station == pending.station
+            Some((line, first, Standing::Known { station, ftype }))
+                if may_answer(line)
+                    && station == pending.station
                     && u16::from(ftype) == u16::from(pending.ftype) + 128 => {
                 self.answer(pending, first)
             }
@@ -74,9 +81,9 @@ impl Journal {
         }
     }
 
-    /// Decides the command that waits, if there is one, by the place of the first bit and the standing
-    /// of the frame that came next: `None` for a piece that is no frame.
-    pub(crate) fn decide(&mut self, right: Option<(u64, Standing)>) -> Option<Verdict>
+    /// Decides the command that waits, if there is one, by the line, the place of the first bit and the
+    /// standing of the frame that came next: `None` for a piece that is no frame.
+    pub(crate) fn decide(&mut self, right: Option<(Option<Line>, u64, Standing)>) -> Option<Verdict>
         requires counts { CanCount self.old.tally }
         requires handled { self.old.spent.handled + 2 < 2 ^ 64 }
         ensures value { result ≡ option_map (verdict self.old.dictionary right) self.old.waiting }

@@ -1,6 +1,7 @@
 use Rattle.std.proofs.Common.{◌≤◌, ◌^◌, ◌+◌, ◌-◌, Err, List, [], Bool, Bor, length, take, drop, get_or, refl, sym, ap, ◌∙◌, subst, arith, length-append}
 use Rattle.bus_watch.specs.Fed.{Fed, RefusedAt, ForSink}
 use Rattle.bus_watch.specs.Headline.{bits_in}
+use Rattle.bus_watch.specs.After.{one_line}
 use Rattle.bus_watch.proofs.FedLemmas.{fed-nil, fed-more, refused_at-after}
 use Rattle.bus_watch.proofs.HeadlineLemmas.{pieces-more, pieces-one, pieces-at}
 use Rattle.bus_watch.proofs.analyser.Analyser.feed_all.Goals as goal
@@ -11,7 +12,7 @@ none = record { ref_ptr = (0, 0); now = [] }
 
 pub loop-piece-init : goal.loop-piece-init
 loop-piece-init g c = record {
-  fed = fed-nil g.C.Check.folded g.C.Check.COST g.S.ReportSink.taken c.args.self.now c.args.sink.now;
+  fed = fed-nil (one_line g.C.Check.folded g.C.Check.COST) g.S.ReportSink.taken c.args.self.now c.args.sink.now;
   count = refl;
   refusals = refl;
   room = refl;
@@ -25,7 +26,7 @@ loop-piece-preserved g c =
       fed =
           subst (λ bits. Fed g.C.Check.folded g.C.Check.COST g.S.ReportSink.taken c.args.self.now bits c.feed.new.self c.args.sink.now c.feed.new.sink)
           (sym more)
-          (fed-more g.C.Check.folded g.C.Check.COST g.S.ReportSink.taken _ _ _ _ _ _ _ _ c.loop-piece.invariant.fed c.in-Ok.ensures.fed);
+          (fed-more (one_line g.C.Check.folded g.C.Check.COST) g.S.ReportSink.taken _ _ _ _ _ _ _ _ c.loop-piece.invariant.fed c.in-Ok.ensures.fed);
       count = omega (arith, c.loop-piece.invariant.count, ap length more, length-append (bits_in (take c.loop-piece.piece-index c.args.pieces.now)) (get_or c.args.pieces.now c.loop-piece.piece-index none).now);
       refusals = c.in-Ok.ensures.none_refused ∙ c.loop-piece.invariant.refusals;
       room = c.in-Ok.ensures.room ∙ c.loop-piece.invariant.room;

@@ -1,4 +1,4 @@
-use Rattle.std.proofs.Common.{◌≡◌, ◌<◌, ◌≤◌, ◌+◌, ◌^◌, ◌++◌, List, Bool, ℕ, length, [], ◌∷◌, refl, sym, ap, ◌∙◌, subst, arith}
+use Rattle.std.proofs.Common.{◌≡◌, List, Bool, [], ◌∷◌, refl, sym, subst, arith}
 use Rattle.std.specs.Option.{option_to_list}
 use Rattle.bus_bits.specs.Octet.{bits_of}
 use Rattle.bus_bits.proofs.OctetLemmas.{one_bit}

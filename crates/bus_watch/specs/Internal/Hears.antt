@@ -1,0 +1,42 @@
+-- Bits on one line, and what a journal makes of them.
+use Rattle.std.specs.Prelude.{◌≡◌, ℕ, ◌-◌, Bool, true, false, List, ◌++◌, length, take, map, Option, None, option_map}
+use Rattle.std.specs.Option.{option_to_list}
+use Rattle.bus_line.specs.Report.{Report}
+use Rattle.bus_line.specs.Due.{placed}
+use Rattle.bus_line.specs.Internal.LineState.{LineState}
+use Rattle.bus_line.specs.After.{After, Led}
+use Rattle.bus_watch.specs.Heard.{Heard, heard_on}
+use Rattle.bus_watch.specs.Seen.{SeenReport, seen}
+use Rattle.bus_watch.specs.Shown.{found_on}
+use Rattle.bus_watch.specs.Internal.JournalState.{JournalState, Keeps}
+use Rattle.bus_watch.specs.declared.finding.Finding.{Finding}
+use Rattle.bus_watch.specs.declared.line.Line.{Line}
+
+-- a decoder stands after some list of bits
+pub record Reached {C : Type 0} (folded : C → List ℕ → Type 0) (cost : ℕ) (d : LineState C) : Type 0 where
+  pub bits : List Bool
+  pub after : After folded cost d bits
+
+-- what the last report was found to be, if the last bits decided it
+abbrev pub fresh : Bool → Option Finding → Option Finding
+fresh true last = last
+fresh false last = None
+
+-- and as it is seen
+abbrev pub told_on : Option Line → List ℕ → Bool → Option Finding → Option SeenReport
+told_on line octets is_decided last = option_map (found_on line octets) (fresh is_decided last)
+
+-- a report of a line or none, as it is heard
+abbrev pub heard_option : Option Line → Option Report → List Heard
+heard_option line o = map (heard_on line) (option_to_list o)
+
+-- these bits on a line lead a decoder and a journal on; the last of them decides what is told, and no other decides a report
+pub record Hears {C : Type 0} (folded : C → List ℕ → Type 0) (cost : ℕ) (line : Option Line) (old : LineState C) (before : JournalState) (bits : List Bool) (told : Option SeenReport) (new : LineState C) (after : JournalState) : Type 0 where
+  pub report : Option Report
+  pub led : Led folded cost old bits new
+  pub calm : (b : List Bool) → After folded cost old b → placed old.origin old.longest (b ++ take (length bits - 1) bits) ≡ placed old.origin old.longest b
+  pub grows : (b : List Bool) → After folded cost old b → placed old.origin old.longest (b ++ bits) ≡ placed old.origin old.longest b ++ option_to_list report
+  pub keeps : (hs : List Heard) → Keeps before hs → Keeps after (hs ++ heard_option line report)
+  pub seen : (hs : List Heard) → Keeps before hs → seen before.dictionary (hs ++ heard_option line report) ≡ seen before.dictionary hs ++ option_to_list told
+  pub dictionary : after.dictionary ≡ before.dictionary
+  pub depth : after.depth ≡ before.depth

@@ -1,0 +1,20 @@
+-- The fields of an analyser of two lines, as they are seen, and what always holds of them.
+use Rattle.std.specs.Prelude.{ℕ, ◌≤◌, Bool, List}
+use Rattle.bus_watch.specs.Internal.JournalState.{journal_state}
+use Rattle.bus_watch.specs.Pairs.{PairState, IsAfterPairs}
+use Rattle.bus_watch.specs.declared.pair_analyser.PairAnalyser.TheInside.{Inside}
+
+abbrev pub pair_state : {C : Type 0} → Inside C → PairState C
+pair_state a = record {
+  first = a.first;
+  second = a.second;
+  journal = journal_state a.journal;
+  found_first = a.found_first;
+  found_second = a.found_second;
+}
+
+-- it stands after some list of pairs
+pub record IsWithin {C : Type 0} (folded : C → List ℕ → Type 0) (cost : ℕ) (a : Inside C) : Type 0 where
+  pub depth : a.journal.history.capacity ≤ 1024
+  pub pairs : List (Bool × Bool)
+  pub reached : IsAfterPairs folded cost (pair_state a) pairs

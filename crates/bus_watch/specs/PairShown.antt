@@ -1,0 +1,18 @@
+-- What an analyser of two lines hands out, as it is seen.
+use Rattle.std.specs.Prelude.{List, ◌++◌, Option, Some, None}
+use Rattle.std.specs.Option.{option_to_list}
+use Rattle.bus_watch.specs.Seen.{SeenReport}
+use Rattle.bus_watch.specs.Shown.{shown_on}
+use Rattle.bus_watch.specs.declared.seen.Seen.{Seen}
+use Rattle.bus_watch.specs.declared.pair_seen.PairSeen.{PairSeen}
+use Rattle.bus_watch.specs.declared.line.Line.{Line}
+use Rattle.bus_watch.specs.declared.line.Line.TheVariants.{First, Second}
+
+-- on a line
+abbrev pub shown_option_on : Line → Option Seen → Option SeenReport
+shown_option_on line None = None
+shown_option_on line (Some s) = Some (shown_on (Some line) s)
+
+-- on both, the first line's first
+abbrev pub shown_pair : PairSeen → List SeenReport
+shown_pair p = option_to_list (shown_option_on First p.first) ++ option_to_list (shown_option_on Second p.second)

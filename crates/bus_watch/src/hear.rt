@@ -1,0 +1,62 @@
+//! Bits on one line, and what follows from them.
+
+ghost use Rattle.std.specs.Prelude.{◌≡◌, ◌+◌, ◌-◌, ◌≤◌, ◌<◌, ◌^◌, ◌↔◌, List, Bool, IsErr, IfOk, OnErr};
+ghost use Rattle.bus_bits.specs.Octet.{bits_of};
+ghost use Rattle.bus_line.specs.After.{After, TakesTo};
+ghost use Rattle.bus_watch.specs.Internal.Hears.{Hears, Reached, told_on};
+ghost use Rattle.bus_watch.specs.Internal.JournalState.{journal_state, HasRoom};
+
+use crate::journal::Journal;
+use crate::line::Line;
+use bus_fcs::Check;
+use bus_line::laws::{frame_is_spelled, reports_are};
+use bus_line::{LineDecoder, PlaceLimit};
+
+/// How many bits a line took, and whether the last of them decided a report, which is then the last
+/// of the journal.
+#[derive(Clone, Copy)]
+pub(crate) struct HeardBits {
+    pub(crate) count: u32,
+    pub(crate) is_decided: bool,
+}
+
+/// A line takes up to `count` bits, the first lowest: all of them, or those up to the first that may
+/// decide a report; and the journal takes the report that the last of them decides. `line` is `None`
+/// where there is one line.
+#[inline(always)]
+pub(crate) fn hear<C: Check>(
+    decoder: &mut LineDecoder<C>,
+    journal: &mut Journal,
+    line: Option<Line>,
+    bits: u64,
+    count: u32,
+) -> Result<HeardBits, PlaceLimit>
+    requires some { 1 ≤ count }
+    requires few { count ≤ 48 }
+    requires small { bits < 2 ^ count }
+    requires reached { Reached C.folded C.COST decoder.old }
+    requires room { decoder.old.place + count ≤ 2 ^ 60 → HasRoom (journal_state journal.old) }
+    ensures limit { IsErr result ↔ (2 ^ 60 < decoder.old.place + count) }
+    ensures within { IfOk result (λ h. (1 ≤ h.count) × (h.count ≤ count)) }
+    ensures stops { IfOk result (λ h. (b : List Bool) → After C.folded C.COST decoder.old b →
+        TakesTo b (bits_of count bits) h.count) }
+    ensures hears { IfOk result (λ h. Hears C.folded C.COST line decoder.old (journal_state journal.old)
+        (bits_of h.count bits) (told_on line decoder.new.octets h.is_decided journal.new.last)
+        decoder.new (journal_state journal.new)) }
+    ensures unchanged { OnErr result ((decoder.new ≡ decoder.old) × (journal.new ≡ journal.old)) }
+{
+    let taken = decoder.take(bits, count)?;
+    let Some(event) = taken.event else {
+        return Ok(HeardBits {
+            count: taken.count,
+            is_decided: false,
+        });
+    };
+    reports_are();
+    frame_is_spelled();
+    journal.take(line, event, decoder.octets());
+    Ok(HeardBits {
+        count: taken.count,
+        is_decided: true,
+    })
+}
