@@ -7,7 +7,8 @@ use Rattle.bus_line.specs.Internal.LineState.{LineState}
 use Rattle.bus_line.specs.Report.{Report}
 use Rattle.bus_line.specs.Due.{placed}
 use Rattle.port1_c.specs.declared.report.Port1Report.{Port1Report}
-use Rattle.port1_c.specs.Line.{After, bits_from, told, Tells}
+use Rattle.port1_c.specs.Bits.{bits_from}
+use Rattle.port1_c.specs.Line.{After, told, Tells}
 use Rattle.port1_c.proofs.BitLemmas.{bits-more}
 
 abbrev pub State : Type 0

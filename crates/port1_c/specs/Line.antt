@@ -75,15 +75,6 @@ kind_in kind cause octets =
 abbrev pub told : Port1Report → List ℕ → Option Report
 told r octets = if r.kind == 0 then None else Some (record { kind = kind_in r.kind r.cause octets; first = r.first; past = r.past })
 
--- bit i of octets, the lowest of each first
-abbrev pub bit_at : List ℕ → ℕ → Bool
-bit_at octets i = (slice_index octets (i / 8) / 2 ^ (i % 8)) % 2 == 1
-
--- these many bits of octets, from bit i on
-unfoldable pub bits_from : List ℕ → ℕ → ℕ → List Bool
-bits_from octets i zero = []
-bits_from octets i (suc n) = bit_at octets i ∷ bits_from octets (i + 1) n
-
 -- the longest frame and the place of the first bit stay, and so many bits were taken
 pub record Goes (old : Port1Line) (count : ℕ) (new : Port1Line) : Type 0 where
   pub longest : new.longest ≡ old.longest

@@ -2,7 +2,7 @@
 
 ghost use Rattle.std.specs.Prelude.{◌≡◌, ◌+◌, ◌*◌, ◌≤◌, ◌<◌, ◌^◌, ℕ, length};
 ghost use Rattle.bus_bits.specs.Octet.{bits_of};
-ghost use Rattle.port1_c.specs.Line.{bits_from};
+ghost use Rattle.port1_c.specs.Bits.{bits_from};
 
 /// Some bits, the first lowest.
 #[derive(Clone, Copy)]
