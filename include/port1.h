@@ -75,7 +75,7 @@ struct port1_line {
     uint32_t has_first;
     uint16_t count;      /* of the octets that follow */
     uint16_t check;
-    uint8_t octets[266]; /* after PORT1_FRAME the first `count`: address, control, information and the two
+    uint8_t octets[272]; /* after PORT1_FRAME the first `count`: address, control, information and the two
                           * of the frame check, until the next call that takes bits */
 };
 
