@@ -1,12 +1,11 @@
 -- What a C caller's memory says of a decoder and of a report.
 use Rattle.std.specs.Option.{option_to_list}
-use Rattle.std.specs.Prelude.{◌≡◌, ◌++◌, ◌==◌, not, ℕ, zero, suc, ◌+◌, ◌/◌, ◌%◌, ◌^◌, Bool, List, [], ◌∷◌, length, take, slice_index, Option, Some, None, if◌then◌else◌}
+use Rattle.std.specs.Prelude.{◌≡◌, ◌++◌, ◌==◌, not, ℕ, ◌+◌, Bool, List, length, take, Option, Some, None, if◌then◌else◌}
 use Rattle.bus_fcs.specs.declared.octet_check.OctetCheck.{OctetCheck}
-use Rattle.bus_fcs.specs.Internal.Register.{IsStateAfter}
-use Rattle.bus_line.specs.Internal.LineState.{LineState}
+use Rattle.bus_fcs.specs.Folded.{HasFolded}
 use Rattle.bus_line.specs.After as line
 use Rattle.bus_line.specs.Due.{placed}
-use Rattle.bus_line.specs.Parts.{DoFit, state_of}
+use Rattle.bus_line.specs.Parts.{DoFit, LineState, state_of}
 use Rattle.bus_line.specs.declared.line_parts.LineParts.{LineParts}
 use Rattle.bus_line.specs.Report.{Report, Kind}
 use Rattle.bus_line.specs.declared.cause.Cause.{Cause}
@@ -43,7 +42,7 @@ held l = state_of (parts l)
 
 -- a decoder may stand after the bits b
 abbrev pub After : LineState OctetCheck → List Bool → Type 0
-After d b = line.After (λ (c : OctetCheck) (os : List ℕ). IsStateAfter c.state os) 1 d b
+After d b = line.After HasFolded 1 d b
 
 -- and so the memory
 abbrev pub Stands : Port1Line → List Bool → Type 0
