@@ -1,5 +1,6 @@
-/* Calls the C library on 10^6 lines with any content, each object ending at a page that must not be touched;
- * sees that a refusal changes nothing and that `at` stays within what was asked for, and counts the answers.
+/* Calls the C library on 10^6 lines and senders with any content, each object ending at a page that must not be
+ * touched; sees that a refusal changes nothing, that `at` stays within what was asked for, and that a sender
+ * touches the bits of its call alone; and counts the answers.
  *
  *     wild [COUNT] */
 #define _GNU_SOURCE
@@ -11,6 +12,8 @@
 
 #define PAGE 4096
 #define OCTETS 40
+#define FRAME 300
+#define SENT 100
 
 static uint64_t state = 88172645463325252u;
 
@@ -47,6 +50,43 @@ static void fill(struct port1_line *line) {
     line->has_first = draw() % 2;
 }
 
+static int bit(const uint8_t *octets, size_t i) { return octets[i / 8] >> i % 8 & 1; }
+
+/* One call of a sender with any content, by octets that end at a page's end. Answers its status, or 9 where it
+ * did what it must not. */
+static uint32_t send_once(struct port1_sender *sender, uint8_t *frame, uint8_t *end, size_t *at, size_t *bits) {
+    static uint8_t before[SENT];
+    size_t count = draw() % (SENT + 1), length = draw() % 4 ? 2 + draw() % 30 : draw() % FRAME;
+    uint8_t *octets = end - count;
+    for (size_t k = 0; k < count; k++)
+        before[k] = octets[k] = (uint8_t)draw();
+    for (size_t k = 0; k < FRAME; k++)
+        frame[k] = (uint8_t)(draw() % 2 ? 0xff : draw());
+    sender->behind_flag = (uint32_t)(draw() % 8 ? draw() % 2 : draw());
+    struct port1_sender was = *sender;
+    size_t begin = draw() % (8 * count + 9), told = draw();
+    *at = begin;
+    *bits = told;
+    uint64_t call = draw() % 3;
+    uint32_t status = call == 0   ? port1_send_flag(sender, octets, count, at, bits)
+                      : call == 1 ? port1_send_idle(sender, octets, count, at, bits)
+                                  : port1_send_frame(sender, frame + FRAME - length, length, octets, count, at,
+                                                     bits);
+    size_t first = begin, behind = status == PORT1_OK ? *at : begin;
+    if (status != PORT1_OK && (memcmp(sender, &was, sizeof was) || *at != begin))
+        return 9;
+    if (status != PORT1_OK && status != PORT1_NO_ROOM && *bits != told)
+        return 9;
+    if (status == PORT1_NO_ROOM && begin + *bits <= 8 * count)
+        return 9;
+    if (status == PORT1_OK && (*at != begin + *bits || *at > 8 * count))
+        return 9;
+    for (size_t i = 0; i < 8 * count; i++)
+        if ((i < first || i >= behind) && bit(octets, i) != bit(before, i))
+            return 9;
+    return status;
+}
+
 int main(int argc, char **argv) {
     long count = argc > 1 ? atol(argv[1]) : 1000000;
     struct port1_line *line = at_end(sizeof *line), before;
@@ -54,7 +94,10 @@ int main(int argc, char **argv) {
     size_t *at = at_end(sizeof *at);
     uint8_t *octets = at_end(OCTETS), *has_begun = at_end(1);
     uint64_t *first = at_end(sizeof *first);
-    unsigned long answers[5] = {0};
+    struct port1_sender *sender = at_end(sizeof *sender);
+    uint8_t *frame = at_end(FRAME), *sent = (uint8_t *)at_end(SENT) + SENT;
+    size_t *bits = at_end(sizeof *bits);
+    unsigned long answers[5] = {0}, sends[6] = {0};
     memset(report, 0, sizeof *report);
     for (long i = 0; i < count; i++) {
         fill(line);
@@ -73,8 +116,15 @@ int main(int argc, char **argv) {
             return 4;
         port1_line_push(line, (uint8_t)draw(), report);
         port1_line_open(line, has_begun, first);
+        status = send_once(sender, frame, sent, at, bits);
+        if (status > PORT1_NO_ROOM)
+            return 5;
+        sends[status]++;
     }
     printf("taken %lu, at the last place %lu, refused for the state %lu, for an argument %lu\n", answers[PORT1_OK],
            answers[PORT1_PLACE_LIMIT], answers[PORT1_BAD_STATE], answers[PORT1_BAD_ARGUMENT]);
+    printf("sent %lu, refused for the length %lu, for the state %lu, for an argument %lu, for room %lu\n",
+           sends[PORT1_OK], sends[PORT1_BAD_LENGTH], sends[PORT1_BAD_STATE], sends[PORT1_BAD_ARGUMENT],
+           sends[PORT1_NO_ROOM]);
     return 0;
 }

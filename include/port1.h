@@ -1,5 +1,5 @@
-/* port1.h: the frames of a synchronous HDLC line (ISO/IEC 13239, 16-bit frame check) from its bits, in
- * memory of the caller's. Link libport1_c.a. C99 or later, C++11 or later.
+/* port1.h: the frames of a synchronous HDLC line (ISO/IEC 13239, 16-bit frame check) from its bits, and
+ * bits from frames, in memory of the caller's. Link libport1_c.a. C99 or later, C++11 or later.
  *
  * What is proved, for every content of the memory that a call is given:
  *   - a call is safe and ends;
@@ -8,7 +8,11 @@
  *     them, in order, each once, told by the call that takes the bit that decides it, however the bits are
  *     cut into calls;
  *   - longest and origin stay as they were given;
- *   - where a call refuses, with PORT1_BAD_STATE or PORT1_BAD_ARGUMENT, nothing has changed.
+ *   - after port1_sender_init, and as long as only these calls write the sender, each call that answers
+ *     PORT1_OK puts the bits of the definition (crates/bus_line/specs/Line.antt) into the octets, from the
+ *     bit that it was told, and touches no other bit;
+ *   - where a call refuses, with PORT1_BAD_STATE, PORT1_BAD_ARGUMENT, PORT1_BAD_LENGTH or PORT1_NO_ROOM,
+ *     nothing has changed but what is said there.
  *
  * A line that was damaged or never made is refused as PORT1_BAD_STATE where its numbers cannot be those
  * of a decoder. Else it is read as some decoder, and reports what that one would: a call on it is safe and
@@ -36,10 +40,11 @@ extern "C" {
 /* What a call answers. */
 enum {
     PORT1_OK = 0,
-    PORT1_BAD_LENGTH = 1,  /* the longest frame is not of 3 to 256 octets */
-    PORT1_PLACE_LIMIT = 2, /* a bit's place would be 2^60 or later, or an origin is past 2^60 */
-    PORT1_BAD_STATE = 3,   /* the memory holds no decoder */
-    PORT1_BAD_ARGUMENT = 4 /* the bits asked for are not in the octets */
+    PORT1_BAD_LENGTH = 1,   /* the longest frame is not of 3 to 256 octets; a frame to send not of 2 to 256 */
+    PORT1_PLACE_LIMIT = 2,  /* a bit's place would be 2^60 or later, or an origin is past 2^60 */
+    PORT1_BAD_STATE = 3,    /* the memory holds no decoder or no sender */
+    PORT1_BAD_ARGUMENT = 4, /* the bits asked for are not in the octets */
+    PORT1_NO_ROOM = 5       /* the octets have no room for the bits */
 };
 
 /* The kind of a report. */
@@ -70,7 +75,7 @@ struct port1_line {
     uint32_t has_first;
     uint16_t count;      /* of the octets that follow */
     uint16_t check;
-    uint8_t octets[266]; /* after PORT1_FRAME the first `count`: address, control, information and the two
+    uint8_t octets[272]; /* after PORT1_FRAME the first `count`: address, control, information and the two
                           * of the frame check, until the next call that takes bits */
 };
 
@@ -108,10 +113,45 @@ uint32_t port1_line_push(struct port1_line *line, uint8_t bit, struct port1_repo
  * PORT1_BAD_STATE: the memory holds no decoder. Nothing has changed. */
 uint32_t port1_line_open(const struct port1_line *line, uint8_t *has_begun, uint64_t *first);
 
+/* A sender: 4 octets. 0 is one that sent nothing yet, so one of static storage needs no port1_sender_init.
+ * It holds no pointer, so it may be copied. Write nothing into it. */
+struct port1_sender {
+    uint32_t behind_flag; /* 1 where a flag was sent last, which may open a frame, and else 0 */
+};
+
+/* The most bits that port1_send_frame puts: 256 octets and two of the check, a 0 inserted behind each five
+ * ones, and two flags. */
+#define PORT1_FRAME_BITS 2492
+
+/* Makes a sender that sent nothing yet, whatever the memory holds. Answers PORT1_OK. */
+uint32_t port1_sender_init(struct port1_sender *sender);
+
+/* Each of these three puts the bits of one call into octets, the lowest bit of each octet first, from bit
+ * `*at` on. `*at` is then the bit behind them, and `*bits` how many they are. All other bits of the octets
+ * stay as they are. A buffer that has gone out is used again so: the octet of bit `*at` goes to the front,
+ * and `*at` becomes its rest by 8.
+ *
+ * port1_send_flag: a flag, 8 bits.
+ * port1_send_idle: fifteen ones, which abort a frame and make the line idle.
+ * port1_send_frame: a frame of `length` octets, address through information, 2 to 256; its check, the zeros
+ * that are inserted and its flags are added. The opening flag is left out where a flag was sent last: one
+ * flag closes a frame and opens the next.
+ *
+ * PORT1_BAD_ARGUMENT: just where `*at` > 8 * `count`. Nothing has changed.
+ * PORT1_BAD_STATE: the memory holds no sender. Nothing has changed.
+ * PORT1_BAD_LENGTH: `length` is not 2 to 256. Nothing has changed.
+ * PORT1_NO_ROOM: just where `*at` + `*bits` > 8 * `count`. Nothing has changed but `*bits`, which says how
+ * many they would be. */
+uint32_t port1_send_flag(struct port1_sender *sender, uint8_t *octets, size_t count, size_t *at, size_t *bits);
+uint32_t port1_send_idle(struct port1_sender *sender, uint8_t *octets, size_t count, size_t *at, size_t *bits);
+uint32_t port1_send_frame(struct port1_sender *sender, const uint8_t *frame, size_t length, uint8_t *octets,
+                          size_t count, size_t *at, size_t *bits);
+
 /* The layout that the library was compiled with: an array of a negative size is an error in C99 and C++. */
 #define PORT1_ASSERT(name, holds) typedef char port1_assert_##name[(holds) ? 1 : -1]
 PORT1_ASSERT(size_of_line, sizeof(struct port1_line) == 360);
 PORT1_ASSERT(size_of_report, sizeof(struct port1_report) == 24);
+PORT1_ASSERT(size_of_sender, sizeof(struct port1_sender) == 4);
 PORT1_ASSERT(size_of_size, sizeof(size_t) == 8);
 PORT1_ASSERT(place, offsetof(struct port1_line, place) == 16);
 PORT1_ASSERT(has_first, offsetof(struct port1_line, has_first) == 80);

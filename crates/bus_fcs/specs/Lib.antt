@@ -1,4 +1,5 @@
 pub mod Division
 pub mod FrameCheck
+pub mod Folded
 pub mod Laws
 pub mod Internal

@@ -1,7 +1,7 @@
 -- A decoder's parts as the decoder that they make.
 use Rattle.std.specs.Prelude.{◌+◌, ◌-◌, ◌*◌, ◌≤◌, ◌^◌, take}
 use Rattle.std.specs.Option.{ForSome}
-use Rattle.bus_line.specs.Internal.LineState.{LineState}
+pub use Rattle.bus_line.specs.Internal.LineState.{LineState}
 use Rattle.bus_line.specs.declared.line_parts.LineParts.{LineParts}
 
 -- the decoder that these parts make; how many bits it took is told by its places

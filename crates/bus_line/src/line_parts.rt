@@ -21,7 +21,7 @@ pub struct LineParts<C: Check> {
     /// Those of them that fill no octet yet, the first lowest.
     pub rest: u64,
     /// The first `len` are the octets of the piece, or of the frame before it until the first octet is full.
-    pub cells: [u8; 266],
+    pub cells: [u8; 272],
     /// How many octets there are.
     pub len: usize,
     /// The check of these octets.

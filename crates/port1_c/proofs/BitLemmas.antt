@@ -4,7 +4,7 @@ use Rattle.std.proofs.lemmas.Nat.{shr-shr}
 use Rattle.std.specs.Prelude.{slice_index}
 use Rattle.bus_bits.specs.Octet.{bits_of}
 use Rattle.bus_bits.proofs.OctetLemmas.{bits-low}
-use Rattle.port1_c.specs.Line.{bit_at, bits_from}
+use Rattle.port1_c.specs.Bits.{bit_at, bits_from}
 
 -- these, and those behind them
 pub bits-more : (os : List ℕ) (i m n : ℕ) → bits_from os i (m + n) ≡ bits_from os i m ++ bits_from os (i + m) n

@@ -2,10 +2,11 @@
 use Rattle.std.proofs.Common.{◌≡◌, ◌+◌, ◌-◌, ◌∙◌, ◌++◌, ℕ, List, Bool, ap, sym, subst, arith}
 use Rattle.std.specs.Option.{option_to_list}
 use Rattle.bus_fcs.specs.declared.octet_check.OctetCheck.{OctetCheck}
-use Rattle.bus_line.specs.Internal.LineState.{LineState}
+use Rattle.bus_line.specs.Parts.{LineState}
 use Rattle.bus_line.specs.Due.{placed}
 use Rattle.port1_c.specs.declared.report.Port1Report.{Port1Report}
-use Rattle.port1_c.specs.Line.{After, bits_from, Goes, held, Tells, told}
+use Rattle.port1_c.specs.Bits.{bits_from}
+use Rattle.port1_c.specs.Line.{After, Goes, held, Tells, told}
 use Rattle.port1_c.specs.declared.line.Port1Line.{Port1Line}
 use Rattle.port1_c.proofs.BitLemmas.{length-from}
 

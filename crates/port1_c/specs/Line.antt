@@ -1,12 +1,11 @@
 -- What a C caller's memory says of a decoder and of a report.
 use Rattle.std.specs.Option.{option_to_list}
-use Rattle.std.specs.Prelude.{◌≡◌, ◌++◌, ◌==◌, not, ℕ, zero, suc, ◌+◌, ◌/◌, ◌%◌, ◌^◌, Bool, List, [], ◌∷◌, length, take, slice_index, Option, Some, None, if◌then◌else◌}
+use Rattle.std.specs.Prelude.{◌≡◌, ◌++◌, ◌==◌, not, ℕ, ◌+◌, Bool, List, length, take, Option, Some, None, if◌then◌else◌}
 use Rattle.bus_fcs.specs.declared.octet_check.OctetCheck.{OctetCheck}
-use Rattle.bus_fcs.specs.Internal.Register.{IsStateAfter}
-use Rattle.bus_line.specs.Internal.LineState.{LineState}
+use Rattle.bus_fcs.specs.Folded.{HasFolded}
 use Rattle.bus_line.specs.After as line
 use Rattle.bus_line.specs.Due.{placed}
-use Rattle.bus_line.specs.Parts.{DoFit, state_of}
+use Rattle.bus_line.specs.Parts.{DoFit, LineState, state_of}
 use Rattle.bus_line.specs.declared.line_parts.LineParts.{LineParts}
 use Rattle.bus_line.specs.Report.{Report, Kind}
 use Rattle.bus_line.specs.declared.cause.Cause.{Cause}
@@ -43,7 +42,7 @@ held l = state_of (parts l)
 
 -- a decoder may stand after the bits b
 abbrev pub After : LineState OctetCheck → List Bool → Type 0
-After d b = line.After (λ (c : OctetCheck) (os : List ℕ). IsStateAfter c.state os) 1 d b
+After d b = line.After HasFolded 1 d b
 
 -- and so the memory
 abbrev pub Stands : Port1Line → List Bool → Type 0
@@ -74,15 +73,6 @@ kind_in kind cause octets =
 -- the report that the memory tells, if it tells one; a frame's octets are these
 abbrev pub told : Port1Report → List ℕ → Option Report
 told r octets = if r.kind == 0 then None else Some (record { kind = kind_in r.kind r.cause octets; first = r.first; past = r.past })
-
--- bit i of octets, the lowest of each first
-abbrev pub bit_at : List ℕ → ℕ → Bool
-bit_at octets i = (slice_index octets (i / 8) / 2 ^ (i % 8)) % 2 == 1
-
--- these many bits of octets, from bit i on
-unfoldable pub bits_from : List ℕ → ℕ → ℕ → List Bool
-bits_from octets i zero = []
-bits_from octets i (suc n) = bit_at octets i ∷ bits_from octets (i + 1) n
 
 -- the longest frame and the place of the first bit stay, and so many bits were taken
 pub record Goes (old : Port1Line) (count : ℕ) (new : Port1Line) : Type 0 where

@@ -2,7 +2,8 @@
 
 ghost use Rattle.std.specs.Prelude.{◌≡◌, ◌+◌, ◌*◌, ◌≤◌, ◌<◌, ◌^◌, ◌↔◌, IsErr, IfOk, OnErr, ◌∷◌, [], length};
 ghost use Rattle.bus_bits.specs.Octet.{bits_of};
-ghost use Rattle.port1_c.specs.Line.{bits_from, Tells};
+ghost use Rattle.port1_c.specs.Bits.{bits_from};
+ghost use Rattle.port1_c.specs.Line.{Tells};
 
 use crate::report::Port1Report;
 use crate::word::word_at;

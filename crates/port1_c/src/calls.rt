@@ -3,28 +3,15 @@
 ghost use Rattle.std.specs.Prelude.{◌≡◌, ◌≢◌, ◌+◌, ◌-◌, ◌*◌, ◌≤◌, ◌<◌, ◌^◌, ◌↔◌, ◌⊎◌, List, Bool, ◌∷◌, ◌++◌, [], ℕ, length};
 ghost use Rattle.std.specs.Option.{option_map, option_to_list};
 ghost use Rattle.bus_line.specs.Due.{begun};
-ghost use Rattle.port1_c.specs.Line.{Sound, Stands, bit_of, bits_from, first_in, frame, Goes, reports_of, told};
+ghost use Rattle.port1_c.specs.Bits.{bits_from};
+ghost use Rattle.port1_c.specs.Line.{Sound, Stands, bit_of, first_in, frame, Goes, reports_of, told};
 
 use crate::bits;
 use crate::line::Port1Line;
 use crate::report::Port1Report;
+use crate::status::{ARGUMENT, DONE, LENGTH, PLACE, STATE};
 use bus_fcs::OctetCheck;
 use bus_line::{LineDecoder, LineFault, PlaceLimit};
-
-/// The call did what it says.
-const DONE: u32 = 0;
-
-/// The longest frame is not 3 to 256 octets.
-const LONGEST: u32 = 1;
-
-/// A place would be out of range.
-const PLACE: u32 = 2;
-
-/// The memory holds no decoder.
-const STATE: u32 = 3;
-
-/// An argument is out of range.
-const ARGUMENT: u32 = 4;
 
 /// Makes a decoder in the caller's memory, whatever stands there.
 #[unsafe(no_mangle)]
@@ -42,7 +29,7 @@ pub extern "C" fn port1_line_init(line: &mut Port1Line, longest: u64, origin: u6
             line.store(decoder);
             DONE
         }
-        Err(LineFault::LongestRange) => LONGEST,
+        Err(LineFault::LongestRange) => LENGTH,
         Err(LineFault::Origin) => PLACE,
     }
 }

@@ -34,8 +34,8 @@ pub struct Port1Line {
     pub count: u16,
     /// The register of their check.
     pub check: u16,
-    /// The octets of a piece, and eight more that are stored with the last.
-    pub octets: [u8; 266],
+    /// The octets of a piece, at most 258, and those that are stored with the last.
+    pub octets: [u8; 272],
 }
 
 impl Port1Line {

@@ -6,10 +6,11 @@ use std::marker::Model;
 
 /// The octets of one piece, at most 258, in fixed memory.
 ///
-/// Eight are stored at a time, so there are eight cells more.
+/// Eight are stored at a time, so there are at least eight cells more; with six beyond these a buffer is moved in
+/// whole words.
 #[derive(Drop)]
 pub(crate) struct FrameBuffer {
-    cells: [u8; 266],
+    cells: [u8; 272],
     len: usize,
 }
 
@@ -30,14 +31,14 @@ impl FrameBuffer {
         ensures { result ≡ [] }
     {
         FrameBuffer {
-            cells: [0; 266],
+            cells: [0; 272],
             len: 0,
         }
     }
 
     /// A buffer of the first `len` of these cells.
     #[inline(always)]
-    pub(crate) fn of_cells(cells: [u8; 266], len: usize) -> Self
+    pub(crate) fn of_cells(cells: [u8; 272], len: usize) -> Self
         requires room { len ≤ 258 }
         ensures { result ≡ take len cells }
     {
@@ -46,7 +47,7 @@ impl FrameBuffer {
 
     /// The cells, and how many of them are octets of the buffer.
     #[inline(always)]
-    pub(crate) fn into_cells(self) -> ([u8; 266], usize)
+    pub(crate) fn into_cells(self) -> ([u8; 272], usize)
         ensures value { take result.1 result.0 ≡ self }
         ensures len { result.1 ≡ length self }
     {

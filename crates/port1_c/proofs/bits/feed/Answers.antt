@@ -1,7 +1,8 @@
 use Rattle.std.proofs.Common.{◌≡◌, ◌+◌, ◌∙◌, refl, sym, subst, arith}
 use Rattle.bus_fcs.specs.declared.octet_check.OctetCheck.{OctetCheck}
-use Rattle.bus_line.specs.Internal.LineState.{LineState}
-use Rattle.port1_c.specs.Line.{bits_from, Tells}
+use Rattle.bus_line.specs.Parts.{LineState}
+use Rattle.port1_c.specs.Bits.{bits_from}
+use Rattle.port1_c.specs.Line.{Tells}
 use Rattle.port1_c.proofs.TellLemmas.{silent, tell-alike, tell-more, tell-none}
 use Rattle.port1_c.proofs.bits.feed.Goals as goal
 

@@ -1,5 +1,6 @@
 use Rattle.std.proofs.Common.{◌+◌, ◌-◌, ◌≤◌}
-use Rattle.port1_c.specs.Line.{bits_from, Tells}
+use Rattle.port1_c.specs.Bits.{bits_from}
+use Rattle.port1_c.specs.Line.{Tells}
 use Rattle.port1_c.proofs.TellLemmas.{silent}
 use Rattle.port1_c.proofs.bits.feed.Given as goal
 

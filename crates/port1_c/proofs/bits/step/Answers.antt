@@ -1,8 +1,9 @@
 use Rattle.std.proofs.Common.{◌≡◌, ◌≤◌, ◌%◌, ◌∙◌, List, Bool, subst, arith}
 use Rattle.bus_fcs.specs.declared.octet_check.OctetCheck.{OctetCheck}
-use Rattle.bus_line.specs.Internal.LineState.{LineState}
+use Rattle.bus_line.specs.Parts.{LineState}
 use Rattle.bus_bits.specs.Octet.{bits_of}
-use Rattle.port1_c.specs.Line.{bits_from, Tells}
+use Rattle.port1_c.specs.Bits.{bits_from}
+use Rattle.port1_c.specs.Line.{Tells}
 use Rattle.port1_c.proofs.BitLemmas.{bits-single}
 use Rattle.port1_c.proofs.bits.step.Goals as goal
 

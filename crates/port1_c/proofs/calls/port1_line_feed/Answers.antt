@@ -1,6 +1,7 @@
 use Rattle.std.proofs.Common.{◌≡◌, ◌+◌, ◌-◌, ◌++◌, ℕ, subst, arith}
 use Rattle.std.specs.Option.{option_to_list}
-use Rattle.port1_c.specs.Line.{Stands, bits_from, frame, held, reports_of, told}
+use Rattle.port1_c.specs.Bits.{bits_from}
+use Rattle.port1_c.specs.Line.{Stands, frame, held, reports_of, told}
 use Rattle.port1_c.proofs.StoreLemmas.{goes-on, stands-on, told-on}
 use Rattle.port1_c.proofs.calls.port1_line_feed.Goals as goal
 

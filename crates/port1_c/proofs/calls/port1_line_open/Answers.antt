@@ -1,7 +1,7 @@
 use Rattle.std.proofs.Common.{◌≡◌, ◌+◌, ℕ, Some, sym, subst}
 use Rattle.std.specs.Option.{option_map}
 use Rattle.bus_fcs.specs.declared.octet_check.OctetCheck.{OctetCheck}
-use Rattle.bus_line.specs.Internal.LineState.{LineState}
+use Rattle.bus_line.specs.Parts.{LineState}
 use Rattle.bus_line.specs.Due.{begun}
 use Rattle.port1_c.specs.Line.{After}
 use Rattle.port1_c.proofs.calls.port1_line_open.Goals as goal

@@ -1,28 +1,19 @@
-use Rattle.std.proofs.Common.{◌≡◌, ◌+◌, ◌*◌, ◌≤◌, ◌/◌, ◌%◌, ◌^◌, ◌∙◌, ◌-◌, ◌<◌, ℕ, ap, subst, arith}
-use Rattle.std.specs.Prelude.{slice_index}
-use Rattle.std.proofs.lemmas.Nat.{shr_below}
+use Rattle.std.proofs.Common.{◌≡◌, ℕ, ◌-◌, ◌*◌, ◌/◌, ◌%◌, ◌^◌, length, min, ap, ◌∙◌, arith}
+use Rattle.std.specs.Prelude.{bit_and}
+use Rattle.std.proofs.lemmas.Nat.{and_mask, shl_whole}
 use Rattle.bus_bits.specs.Octet.{bits_of}
-use Rattle.port1_c.proofs.BitLemmas.{bits-in, bits-single}
+use Rattle.bus_bits.proofs.OctetLemmas.{least}
+use Rattle.port1_c.proofs.WordLemmas.{bits-shifted}
 use Rattle.port1_c.proofs.word.word_at.Goals as goal
-
-pub returns-then-end-at-clause-bits : goal.returns-then-end-at-clause-bits
-returns-then-end-at-clause-bits c m l =
-    let at : c.args.at ≡ 8 * (c.args.at / 8) + c.args.at % 8 = omega arith in
-    let k : c.args.at % 8 + m ≤ 8 = omega (arith, l) in
-    let o : c.from.result ≡ slice_index c.args.octets.now (c.args.at / 8) = c.from.ensures in
-    bits-single (c.from.result / 2 ^ (c.args.at % 8)) m l
-    ∙ (ap (λ (x : ℕ). bits_of m (x / 2 ^ (c.args.at % 8))) o ∙ bits-in c.args.octets.now (c.args.at / 8) (c.args.at % 8) c.args.at m at k)
-
-pub returns-clause-small : goal.returns-clause-small
-returns-clause-small c =
-    let e : 8 ≡ 8 - c.args.at % 8 + c.args.at % 8 = omega arith in
-    let o : c.from.result ≡ slice_index c.args.octets.now (c.args.at / 8) = c.from.ensures in
-    let below : c.from.result < 2 ^ 8 = omega (arith, o, c.type_inv.octets (c.args.at / 8)) in
-    shr_below c.from.result (8 - c.args.at % 8) (c.args.at % 8) (subst (λ (n : ℕ). c.from.result < 2 ^ n) e below)
 
 pub returns-clause-bits : goal.returns-clause-bits
 returns-clause-bits c m l =
-    let at : c.args.at ≡ 8 * (c.args.at / 8) + c.args.at % 8 = omega arith in
-    let k : c.args.at % 8 + m ≤ 8 = omega (arith, l) in
-    let o : c.from.result ≡ slice_index c.args.octets.now (c.args.at / 8) = c.from.ensures in
-    ap (λ (x : ℕ). bits_of m (x / 2 ^ (c.args.at % 8))) o ∙ bits-in c.args.octets.now (c.args.at / 8) (c.args.at % 8) c.args.at m at k
+    let from : c.min-from.result ≡ min (c.args.at / 8) (length c.args.octets.now - 8) = c.min-from.ensures ∙ least (c.args.at / 8) (length c.args.octets.now - 8) in
+    let count : c.min-count.result ≡ min (c.args.end - c.args.at) 48 = c.min-count.ensures ∙ least (c.args.end - c.args.at) 48 in
+    let n = c.eight_at.result / 2 ^ (c.args.at - 8 * c.min-from.result) in
+    let whole : 1 * 2 ^ c.min-count.result % 2 ^ 64 ≡ 1 * 2 ^ c.min-count.result = shl_whole 1 1 c.min-count.result 64 (omega arith) (omega (arith, count)) in
+    let mask : bit_and n (1 * 2 ^ c.min-count.result % 2 ^ 64 - 1) ≡ n % 2 ^ c.min-count.result =
+    ap (λ (k : ℕ). bit_and n (k - 1)) (whole ∙ omega arith) ∙ and_mask n c.min-count.result in
+    ap (bits_of m) mask
+    ∙ bits-shifted c.eight_at.result (8 * c.min-from.result) c.args.octets.now c.eight_at.ensures (c.args.at - 8 * c.min-from.result) c.args.at c.min-count.result m
+    (omega (arith, from)) (omega (arith, from, count, c.requires.some, c.requires.within, c.if-octets-lt8.false)) l

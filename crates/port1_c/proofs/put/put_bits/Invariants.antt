@@ -1,0 +1,5 @@
+use Rattle.port1_c.specs.Bits.{bits_from, Puts}
+use Rattle.port1_c.proofs.put.put_bits.Given as goal
+
+abbrev pub invariant-loop-i : goal.invariant-loop-i
+invariant-loop-i l = Puts l.fn.octets l.at (bits_from l.source l.first l.i) l.octets

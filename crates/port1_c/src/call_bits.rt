@@ -1,0 +1,67 @@
+//! The bits of one frame.
+
+ghost use Rattle.std.specs.Prelude.{◌≡◌, ◌+◌, ◌*◌, ◌≤◌, ◌<◌, ◌^◌, ◌++◌, Some, length};
+ghost use Rattle.bus_line.specs.Line.{raw_bits};
+ghost use Rattle.bus_line.specs.Mark.{flag};
+ghost use Rattle.port1_c.specs.Bits.{bits_from};
+
+use crate::put::set_bit;
+use bus_line::{BitSink, LineEncoder, SinkRefused};
+
+/// A frame of 256 octets has at most 2492 bits with its check, its flags and the inserted 0s.
+const OCTETS: usize = 312;
+
+/// Packed bits, the lowest of each octet first.
+#[derive(Drop)]
+pub(crate) struct CallBits {
+    pub(crate) octets: [u8; OCTETS],
+    pub(crate) count: usize,
+    refused: u64,
+    ghost within: { count ≤ 2496 },
+    ghost full: { 0 < refused → count ≡ 2496 },
+}
+
+impl CallBits {
+    fn new() -> Self
+        ensures { (result.count ≡ 0) × (result.refused ≡ 0) }
+    {
+        CallBits {
+            octets: [0; OCTETS],
+            count: 0,
+            refused: 0,
+        }
+    }
+}
+
+impl BitSink for CallBits {
+    ghost taken = { λ sink. Some (bits_from sink.octets 0 sink.count) };
+
+    ghost refusals = { λ sink. sink.refused };
+
+    fn refused(&self) -> u64 {
+        self.refused
+    }
+
+    fn put(&mut self, bit: bool) -> Result<(), SinkRefused> {
+        if self.count == 8 * OCTETS {
+            self.refused += 1;
+            return Err(SinkRefused);
+        }
+        set_bit(&mut self.octets, self.count, bit);
+        self.count += 1;
+        Ok(())
+    }
+}
+
+/// The bits of a frame of these octets, address through information, with both its flags.
+pub(crate) fn frame_bits(octets: &[u8]) -> CallBits
+    requires least { 2 ≤ length octets.now }
+    requires most { length octets.now ≤ 256 }
+    ensures { bits_from result.octets 0 result.count ≡ flag ++ (raw_bits octets.now ++ flag) }
+{
+    let mut bits = CallBits::new();
+    match LineEncoder::new().frame(octets, &mut bits) {
+        Ok(()) => bits,
+        Err(_) => unreachable!(),
+    }
+}

@@ -1,0 +1,172 @@
+//! What C calls to send.
+
+ghost use Rattle.std.specs.Prelude.{◌≡◌, ◌≢◌, ◌+◌, ◌-◌, ◌*◌, ◌≤◌, ◌<◌, ◌^◌, ◌↔◌, ◌⊎◌, List, [], ◌∷◌, ◌++◌, length};
+ghost use Rattle.bus_line.specs.Line.{Call, gain};
+ghost use Rattle.port1_c.specs.Bits.{bits_from, Puts};
+ghost use Rattle.port1_c.specs.Send.{Follows, Gains};
+
+use crate::call_bits::frame_bits;
+use crate::put::put_bits;
+use crate::sender::Port1Sender;
+use crate::status::{ARGUMENT, DONE, LENGTH, ROOM, STATE};
+
+/// Puts bits where there is room for them, and says how many they are.
+fn put(
+    source: &[u8],
+    first: usize,
+    end: usize,
+    octets: &mut [u8],
+    at: &mut usize,
+    bits: &mut usize,
+) -> u32
+    requires order { first ≤ end }
+    requires within { end ≤ 8 * length source.now }
+    requires begin { at.old ≤ 8 * length octets.old }
+    ensures status { (result ≡ 0) ⊎ (result ≡ 5) }
+    ensures told { bits.new ≡ end - first }
+    ensures room { result ≡ 5 ↔ ((8 * length octets.old < at.old + bits.new) ⊎ (2 ^ 64 ≤ at.old + bits.new)) }
+    ensures kept { result ≢ 0 → (octets.new ≡ octets.old) × (at.new ≡ at.old) }
+    ensures at { result ≡ 0 → at.new ≡ at.old + bits.new }
+    ensures puts { result ≡ 0 → Puts octets.old at.old (bits_from source.now first (end - first)) octets.new }
+{
+    *bits = end - first;
+    if octets.len().saturating_mul(8) - *at < *bits {
+        return ROOM;
+    }
+    put_bits(octets, *at, source, first, end);
+    *at += *bits;
+    DONE
+}
+
+/// The first of a frame's bits that goes out: behind a flag, which opens the frame, that behind the frame's own.
+fn first_bit(sender: &Port1Sender) -> usize
+    ensures few { result ≤ 8 }
+    ensures flag { sender.now.behind_flag ≡ 1 → result ≡ 8 }
+    ensures none { sender.now.behind_flag ≢ 1 → result ≡ 0 }
+{
+    if sender.behind_flag == 1 { 8 } else { 0 }
+}
+
+/// Makes a sender that sent nothing yet.
+#[unsafe(no_mangle)]
+pub extern "C" fn port1_sender_init(sender: &mut Port1Sender) -> u32
+    ensures status { result ≡ 0 }
+    ensures follows { Follows sender.new [] }
+{
+    sender.behind_flag = 0;
+    DONE
+}
+
+/// Sends a flag.
+#[unsafe(no_mangle)]
+pub extern "C" fn port1_send_flag(
+    sender: &mut Port1Sender,
+    octets: &mut [u8],
+    at: &mut usize,
+    bits: &mut usize,
+) -> u32
+    ensures status { (result ≡ 0) ⊎ (result ≡ 3) ⊎ (result ≡ 4) ⊎ (result ≡ 5) }
+    ensures argument { (result ≡ 4) ↔ (8 * length octets.old < at.old) }
+    ensures state { (result ≡ 3) ↔ ((at.old ≤ 8 * length octets.old) × (1 < sender.old.behind_flag)) }
+    ensures room { (result ≡ 0) ⊎ (result ≡ 5) → (result ≡ 5
+        ↔ ((8 * length octets.old < at.old + bits.new) ⊎ (2 ^ 64 ≤ at.old + bits.new))) }
+    ensures kept { result ≢ 0 → (sender.new ≡ sender.old) × (octets.new ≡ octets.old) × (at.new ≡ at.old) }
+    ensures untold { (result ≡ 3) ⊎ (result ≡ 4) → bits.new ≡ bits.old }
+    ensures told { (result ≡ 0) ⊎ (result ≡ 5) → (calls : List Call) → Follows sender.old calls →
+        bits.new ≡ length (gain calls Call.Flag) }
+    ensures at { result ≡ 0 → at.new ≡ at.old + bits.new }
+    ensures gains { result ≡ 0 → Gains sender.old octets.old at.old Call.Flag octets.new }
+    ensures follows { result ≡ 0 → (calls : List Call) → Follows sender.old calls →
+        Follows sender.new (calls ++ Call.Flag ∷ []) }
+{
+    if *at > octets.len().saturating_mul(8) {
+        return ARGUMENT;
+    }
+    if sender.behind_flag > 1 {
+        return STATE;
+    }
+    let status = put(&[0x7e], 0, 8, octets, at, bits);
+    if status == DONE {
+        sender.behind_flag = 1;
+    }
+    status
+}
+
+/// Sends fifteen 1 bits, which make the line idle.
+#[unsafe(no_mangle)]
+pub extern "C" fn port1_send_idle(
+    sender: &mut Port1Sender,
+    octets: &mut [u8],
+    at: &mut usize,
+    bits: &mut usize,
+) -> u32
+    ensures status { (result ≡ 0) ⊎ (result ≡ 3) ⊎ (result ≡ 4) ⊎ (result ≡ 5) }
+    ensures argument { (result ≡ 4) ↔ (8 * length octets.old < at.old) }
+    ensures state { (result ≡ 3) ↔ ((at.old ≤ 8 * length octets.old) × (1 < sender.old.behind_flag)) }
+    ensures room { (result ≡ 0) ⊎ (result ≡ 5) → (result ≡ 5
+        ↔ ((8 * length octets.old < at.old + bits.new) ⊎ (2 ^ 64 ≤ at.old + bits.new))) }
+    ensures kept { result ≢ 0 → (sender.new ≡ sender.old) × (octets.new ≡ octets.old) × (at.new ≡ at.old) }
+    ensures untold { (result ≡ 3) ⊎ (result ≡ 4) → bits.new ≡ bits.old }
+    ensures told { (result ≡ 0) ⊎ (result ≡ 5) → (calls : List Call) → Follows sender.old calls →
+        bits.new ≡ length (gain calls Call.Idle) }
+    ensures at { result ≡ 0 → at.new ≡ at.old + bits.new }
+    ensures gains { result ≡ 0 → Gains sender.old octets.old at.old Call.Idle octets.new }
+    ensures follows { result ≡ 0 → (calls : List Call) → Follows sender.old calls →
+        Follows sender.new (calls ++ Call.Idle ∷ []) }
+{
+    if *at > octets.len().saturating_mul(8) {
+        return ARGUMENT;
+    }
+    if sender.behind_flag > 1 {
+        return STATE;
+    }
+    let status = put(&[0xff, 0x7f], 0, 15, octets, at, bits);
+    if status == DONE {
+        sender.behind_flag = 0;
+    }
+    status
+}
+
+/// Sends a frame of these octets, address through information, with its check and its closing flag, and an
+/// opening flag unless a flag was sent last.
+#[unsafe(no_mangle)]
+pub extern "C" fn port1_send_frame(
+    sender: &mut Port1Sender,
+    frame: &[u8],
+    octets: &mut [u8],
+    at: &mut usize,
+    bits: &mut usize,
+) -> u32
+    ensures status { (result ≡ 0) ⊎ (result ≡ 1) ⊎ (result ≡ 3) ⊎ (result ≡ 4) ⊎ (result ≡ 5) }
+    ensures argument { (result ≡ 4) ↔ (8 * length octets.old < at.old) }
+    ensures state { (result ≡ 3) ↔ ((at.old ≤ 8 * length octets.old) × (1 < sender.old.behind_flag)) }
+    ensures range { (result ≡ 1) ↔ ((at.old ≤ 8 * length octets.old) × (sender.old.behind_flag ≤ 1)
+        × ((length frame.now < 2) ⊎ (256 < length frame.now))) }
+    ensures room { (result ≡ 0) ⊎ (result ≡ 5) → (result ≡ 5
+        ↔ ((8 * length octets.old < at.old + bits.new) ⊎ (2 ^ 64 ≤ at.old + bits.new))) }
+    ensures kept { result ≢ 0 → (sender.new ≡ sender.old) × (octets.new ≡ octets.old) × (at.new ≡ at.old) }
+    ensures untold { (result ≡ 1) ⊎ (result ≡ 3) ⊎ (result ≡ 4) → bits.new ≡ bits.old }
+    ensures told { (result ≡ 0) ⊎ (result ≡ 5) → (calls : List Call) → Follows sender.old calls →
+        bits.new ≡ length (gain calls (Call.Frame frame.now)) }
+    ensures at { result ≡ 0 → at.new ≡ at.old + bits.new }
+    ensures gains { result ≡ 0 → Gains sender.old octets.old at.old (Call.Frame frame.now) octets.new }
+    ensures follows { result ≡ 0 → (calls : List Call) → Follows sender.old calls →
+        Follows sender.new (calls ++ (Call.Frame frame.now) ∷ []) }
+{
+    if *at > octets.len().saturating_mul(8) {
+        return ARGUMENT;
+    }
+    if sender.behind_flag > 1 {
+        return STATE;
+    }
+    if frame.len() < 2 || frame.len() > 256 {
+        return LENGTH;
+    }
+    let framed = frame_bits(frame);
+    let first = first_bit(sender);
+    let status = put(&framed.octets, first, framed.count, octets, at, bits);
+    if status == DONE {
+        sender.behind_flag = 1;
+    }
+    status
+}
