@@ -46,7 +46,8 @@ pub extern "C" fn port1_line_push(line: &mut Port1Line, bit: u8, report: &mut Po
     ensures goes { result ≡ 0 → Goes line.old 1 line.new }
     ensures stands { result ≡ 0 → (b : List Bool) → Stands line.old b → Stands line.new (b ++ bit_of bit ∷ []) }
     ensures told { result ≡ 0 → (b : List Bool) → Stands line.old b →
-        reports_of line.new (b ++ bit_of bit ∷ []) ≡ reports_of line.old b ++ option_to_list (told report.new (frame line.new)) }
+        reports_of line.new (b ++ bit_of bit ∷ []) ≡ reports_of line.old b
+        ++ option_to_list (told report.new (frame line.new)) }
 {
     let mut decoder = match line.load() {
         Some(decoder) => decoder,
@@ -82,9 +83,11 @@ pub extern "C" fn port1_line_feed(
     ensures bound { result < 3 → (at.old ≤ at.new) × (at.new ≤ end) }
     ensures all { result ≡ 0 → report.new.kind ≡ 0 → at.new ≡ end }
     ensures limit { result ≡ 2 → (report.new.kind ≡ 0) × (at.new < end) × (line.new.place ≡ 2 ^ 60) }
-    ensures stands { result < 3 → (b : List Bool) → Stands line.old b → Stands line.new (b ++ bits_from octets.now at.old (at.new - at.old)) }
+    ensures stands { result < 3 → (b : List Bool) → Stands line.old b →
+        Stands line.new (b ++ bits_from octets.now at.old (at.new - at.old)) }
     ensures told { result < 3 → (b : List Bool) → Stands line.old b →
-        reports_of line.new (b ++ bits_from octets.now at.old (at.new - at.old)) ≡ reports_of line.old b ++ option_to_list (told report.new (frame line.new)) }
+        reports_of line.new (b ++ bits_from octets.now at.old (at.new - at.old)) ≡ reports_of line.old b
+        ++ option_to_list (told report.new (frame line.new)) }
 {
     if end / 8 > octets.len() || (end / 8 == octets.len() && end % 8 != 0) || *at > end {
         return ARGUMENT;
@@ -111,7 +114,8 @@ pub extern "C" fn port1_line_open(line: &Port1Line, has_begun: &mut u8, first: &
     ensures state { Sound line.now → result ≢ 3 }
     ensures refused { result ≢ 3 → Sound line.now }
     ensures kept { result ≢ 0 → (has_begun.new ≡ has_begun.old) × (first.new ≡ first.old) }
-    ensures begun { result ≡ 0 → (b : List Bool) → Stands line.now b → first_in has_begun.new first.new ≡ option_map (λ first. line.now.origin + first) (begun b) }
+    ensures begun { result ≡ 0 → (b : List Bool) → Stands line.now b →
+        first_in has_begun.new first.new ≡ option_map (λ first. line.now.origin + first) (begun b) }
 {
     let decoder = match line.load() {
         Some(decoder) => decoder,

@@ -18,10 +18,22 @@ impl<C: Check> LineDecoder<C> {
         requires few { more.count ≤ 48 }
         requires small { more.bits < 2 ^ more.count }
         requires room { self.old.spent.assembled + more.count ≤ self.old.spent.shifted }
-        ensures holds { (bits : List Bool) → Holds C.folded self.old bits → Holds C.folded self.new (bits ++ bits_of more.count more.bits) }
+        ensures holds { (bits : List Bool) → Holds C.folded self.old bits →
+            Holds C.folded self.new (bits ++ bits_of more.count more.bits) }
         ensures spent { (bits : List Bool) → Holds C.folded self.old bits →
-            self.new.spent ≡ record self.old.spent { assembled = self.old.spent.assembled + more.count; stored = self.old.spent.stored + octets_more self.old.longest (length bits) more.count; folded = self.old.spent.folded + C.COST * octets_more self.old.longest (length bits) more.count } }
-        ensures kept { self.new ≡ record self.old { gathered = self.new.gathered; rest = self.new.rest; octets = self.new.octets; check = self.new.check; spent = self.new.spent } }
+            self.new.spent ≡ record self.old.spent {
+              assembled = self.old.spent.assembled + more.count;
+              stored = self.old.spent.stored + octets_more self.old.longest (length bits) more.count;
+              folded = self.old.spent.folded + C.COST * octets_more self.old.longest (length bits) more.count;
+            } }
+        ensures kept { self.new
+            ≡ record self.old {
+              gathered = self.new.gathered;
+              rest = self.new.rest;
+              octets = self.new.octets;
+              check = self.new.check;
+              spent = self.new.spent;
+            } }
     {
         let held = self.gathered % 8;
         let whole = (held + more.count) / 8;
@@ -52,10 +64,12 @@ impl<C: Check> LineDecoder<C> {
     fn put_all(&mut self, joined: u64, count: u64)
         requires few { count ≤ 8 }
         requires room { self.old.spent.stored + count ≤ self.old.spent.assembled }
-        ensures keeps { (os : List ℕ) → Keeps C.folded self.old os → Keeps C.folded self.new (os ++ octets_of count joined) }
+        ensures keeps { (os : List ℕ) → Keeps C.folded self.old os →
+            Keeps C.folded self.new (os ++ octets_of count joined) }
         ensures spent { (os : List ℕ) → Keeps C.folded self.old os →
             self.new.spent ≡ record self.old.spent { stored = self.old.spent.stored + gain (self.old.longest + 2) (length os) count; folded = self.old.spent.folded + C.COST * gain (self.old.longest + 2) (length os) count } }
-        ensures kept { self.new ≡ record self.old { octets = self.new.octets; check = self.new.check; spent = self.new.spent } }
+        ensures kept { self.new
+            ≡ record self.old { octets = self.new.octets; check = self.new.check; spent = self.new.spent } }
     {
         let room = self.longest + 2 - self.buffer.len();
         self.put(&joined.to_le_bytes(), min(count as usize, room));
@@ -69,13 +83,15 @@ impl<C: Check> LineDecoder<C> {
         requires room { length self.old.octets + count ≤ self.old.longest + 2 }
         requires counted { self.old.spent.stored + count ≤ self.old.spent.assembled }
         ensures octets { self.new.octets ≡ self.old.octets ++ take count octets.now }
-        ensures folded { (os : List ℕ) → C.folded self.old.check os → C.folded self.new.check (os ++ take count octets.now) }
+        ensures folded { (os : List ℕ) → C.folded self.old.check os →
+            C.folded self.new.check (os ++ take count octets.now) }
         ensures spent { self.new.spent
             ≡ record self.old.spent {
               stored = self.old.spent.stored + count;
               folded = self.old.spent.folded + C.COST * count;
             } }
-        ensures kept { self.new ≡ record self.old { octets = self.new.octets; check = self.new.check; spent = self.new.spent } }
+        ensures kept { self.new
+            ≡ record self.old { octets = self.new.octets; check = self.new.check; spent = self.new.spent } }
     {
         self.buffer.append(octets, count);
         fold_octets(&mut self.check, &octets[..count], &mut self.spent);

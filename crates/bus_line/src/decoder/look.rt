@@ -20,7 +20,9 @@ pub(crate) enum Found {
 
 /// What the newest bit ends, by the last sixteen bits, the oldest lowest. `count` bits came before it.
 pub(crate) fn look(history: u64, count: u64) -> Found
-    ensures { (b : List Bool) (bit : Bool) → history ≡ number (drop (length (b ++ bit ∷ [])) (padded (b ++ bit ∷ []))) → count ≡ length b → IsFound bit (ones_at_end b) count result }
+    ensures { (b : List Bool) (bit : Bool) →
+        history ≡ number (drop (length (b ++ bit ∷ [])) (padded (b ++ bit ∷ []))) → count ≡ length b →
+        IsFound bit (ones_at_end b) count result }
 {
     if history >> 8 == 0xfe {
         return Found::Seven;

@@ -29,14 +29,21 @@ impl<C: Check> LineDecoder<C> {
         requires room { self.old.place + count ≤ 2 ^ 60 }
         ensures some { 1 ≤ result.count }
         ensures within { result.count ≤ count }
-        ensures stops { (b : List Bool) → After C.folded C.COST self.old b → TakesTo b (bits_of count bits) result.count }
+        ensures stops { (b : List Bool) → After C.folded C.COST self.old b →
+            TakesTo b (bits_of count bits) result.count }
         ensures answer { (b : List Bool) → After C.folded C.COST self.old b →
-            option_map (reported self.new.octets) result.event ≡ option_map (moved self.old.origin) (due_at self.old.longest (b ++ bits_of result.count bits) (length b + result.count - 1)) }
+            option_map (reported self.new.octets) result.event
+            ≡ option_map (moved self.old.origin)
+            (due_at self.old.longest (b ++ bits_of result.count bits) (length b + result.count - 1)) }
         ensures more { (b : List Bool) → After C.folded C.COST self.old b →
-            placed self.old.origin self.old.longest (b ++ bits_of result.count bits) ≡ placed self.old.origin self.old.longest b ++ option_to_list (option_map (reported self.new.octets) result.event) }
+            placed self.old.origin self.old.longest (b ++ bits_of result.count bits)
+            ≡ placed self.old.origin self.old.longest b
+            ++ option_to_list (option_map (reported self.new.octets) result.event) }
         ensures before { (b : List Bool) → After C.folded C.COST self.old b →
-            placed self.old.origin self.old.longest (b ++ bits_of (result.count - 1) bits) ≡ placed self.old.origin self.old.longest b }
-        ensures after { (b : List Bool) → After C.folded C.COST self.old b → After C.folded C.COST self.new (b ++ bits_of result.count bits) }
+            placed self.old.origin self.old.longest (b ++ bits_of (result.count - 1) bits)
+            ≡ placed self.old.origin self.old.longest b }
+        ensures after { (b : List Bool) → After C.folded C.COST self.old b →
+            After C.folded C.COST self.new (b ++ bits_of result.count bits) }
         ensures longest { self.new.longest ≡ self.old.longest }
         ensures origin { self.new.origin ≡ self.old.origin }
         ensures place { self.new.place ≡ self.old.place + result.count }
@@ -62,7 +69,8 @@ impl<C: Check> LineDecoder<C> {
     fn shift(&mut self, word: u64, count: u64)
         requires few { count ≤ 48 }
         requires room { self.old.place + count ≤ 2 ^ 60 }
-        ensures lags { (b bits : List Bool) → IsWord word b bits → count ≤ length bits → After C.folded C.COST self.old b → LagsBy C.folded C.COST self.new b (take count bits) }
+        ensures lags { (b bits : List Bool) → IsWord word b bits → count ≤ length bits →
+            After C.folded C.COST self.old b → LagsBy C.folded C.COST self.new b (take count bits) }
         ensures longest { self.new.longest ≡ self.old.longest }
         ensures origin { self.new.origin ≡ self.old.origin }
         ensures place { self.new.place ≡ self.old.place + count }
@@ -79,7 +87,8 @@ impl<C: Check> LineDecoder<C> {
     fn settle(&mut self, word: u64, count: u64)
         requires few { count ≤ 48 }
         requires room { self.old.spent.assembled + count ≤ self.old.spent.shifted }
-        ensures tracks { (b bits : List Bool) → IsWord word b bits → count ≤ length bits → IsCalm b bits (count - 1) → LagsBy C.folded C.COST self.old b (take count bits) →
+        ensures tracks { (b bits : List Bool) → IsWord word b bits → count ≤ length bits →
+            IsCalm b bits (count - 1) → LagsBy C.folded C.COST self.old b (take count bits) →
             Tracks C.folded C.COST self.new (b ++ take count bits) (current b) }
         ensures longest { self.new.longest ≡ self.old.longest }
         ensures origin { self.new.origin ≡ self.old.origin }
