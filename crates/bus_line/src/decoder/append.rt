@@ -67,7 +67,11 @@ impl<C: Check> LineDecoder<C> {
         ensures keeps { (os : List ℕ) → Keeps C.folded self.old os →
             Keeps C.folded self.new (os ++ octets_of count joined) }
         ensures spent { (os : List ℕ) → Keeps C.folded self.old os →
-            self.new.spent ≡ record self.old.spent { stored = self.old.spent.stored + gain (self.old.longest + 2) (length os) count; folded = self.old.spent.folded + C.COST * gain (self.old.longest + 2) (length os) count } }
+            self.new.spent
+            ≡ record self.old.spent {
+              stored = self.old.spent.stored + gain (self.old.longest + 2) (length os) count;
+              folded = self.old.spent.folded + C.COST * gain (self.old.longest + 2) (length os) count;
+            } }
         ensures kept { self.new
             ≡ record self.old { octets = self.new.octets; check = self.new.check; spent = self.new.spent } }
     {
