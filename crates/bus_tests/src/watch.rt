@@ -3,6 +3,7 @@
 mod counters;
 mod limits;
 mod memory;
+mod pairs;
 mod rows;
 mod runs;
 mod sinks;
@@ -18,6 +19,7 @@ fn sent(word: &str) -> &str {
         "flag" => "01111110",
         "short" => "00000000 00000000 00000000",
         "idle" => "111111111111111",
+        "ones-57" => "111111111111111111111111111111111111111111111111111111111",
         // 10 83 00 fd e5: to station 16, of type 0.
         "call" => "00001000 11000001 00000000 101111101 10100111",
         // 10 83 80 f5 61: from station 16, of type 128.

@@ -119,9 +119,15 @@ impl<C: Check> Analyser<C> {
         ensures unchanged { OnErr result (self.new ≡ self.old) }
     {
         settled_places();
-        let heard = hear(&mut self.decoder, &mut self.journal, None, bits, count)?;
-        self.is_decided = heard.is_decided;
-        Ok(heard.count)
+        let taken = hear(
+            &mut self.decoder,
+            &mut self.journal,
+            &mut self.is_decided,
+            None,
+            bits,
+            count,
+        )?;
+        Ok(taken)
     }
 
     /// What is seen at the last bit that [`Analyser::take`] took, if it decides a report.

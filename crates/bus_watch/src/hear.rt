@@ -12,51 +12,42 @@ use bus_fcs::Check;
 use bus_line::laws::{frame_is_spelled, reports_are};
 use bus_line::{LineDecoder, PlaceLimit};
 
-/// How many bits a line took, and whether the last of them decided a report, which is then the last
-/// of the journal.
-#[derive(Clone, Copy)]
-pub(crate) struct HeardBits {
-    pub(crate) count: u32,
-    pub(crate) is_decided: bool,
-}
-
 /// A line takes up to `count` bits, the first lowest: all of them, or those up to the first that may
-/// decide a report; and the journal takes the report that the last of them decides. `line` is `None`
-/// where there is one line.
+/// decide a report; and the journal takes the report that the last of them decides. Returns how many
+/// bits were taken. `is_decided` says then whether the last of them decided a report, which is the last
+/// of the journal. `line` is `None` where there is one line.
 #[inline(always)]
 pub(crate) fn hear<C: Check>(
     decoder: &mut LineDecoder<C>,
     journal: &mut Journal,
+    is_decided: &mut bool,
     line: Option<Line>,
     bits: u64,
     count: u32,
-) -> Result<HeardBits, PlaceLimit>
+) -> Result<u32, PlaceLimit>
     requires some { 1 ≤ count }
     requires few { count ≤ 48 }
     requires small { bits < 2 ^ count }
     requires reached { Reached C.folded C.COST decoder.old }
     requires room { decoder.old.place + count ≤ 2 ^ 60 → HasRoom (journal_state journal.old) }
     ensures limit { IsErr result ↔ (2 ^ 60 < decoder.old.place + count) }
-    ensures within { IfOk result (λ h. (1 ≤ h.count) × (h.count ≤ count)) }
-    ensures stops { IfOk result (λ h. (b : List Bool) → After C.folded C.COST decoder.old b →
-        TakesTo b (bits_of count bits) h.count) }
-    ensures hears { IfOk result (λ h. Hears C.folded C.COST line decoder.old (journal_state journal.old)
-        (bits_of h.count bits) (told_on line decoder.new.octets h.is_decided journal.new.last)
+    ensures within { IfOk result (λ n. (1 ≤ n) × (n ≤ count)) }
+    ensures stops { IfOk result (λ n. (b : List Bool) → After C.folded C.COST decoder.old b →
+        TakesTo b (bits_of count bits) n) }
+    ensures hears { IfOk result (λ n. Hears C.folded C.COST line decoder.old (journal_state journal.old)
+        (bits_of n bits) (told_on line decoder.new.octets is_decided.new journal.new.last)
         decoder.new (journal_state journal.new)) }
-    ensures unchanged { OnErr result ((decoder.new ≡ decoder.old) × (journal.new ≡ journal.old)) }
+    ensures unchanged { OnErr result ((decoder.new ≡ decoder.old) × (journal.new ≡ journal.old)
+        × (is_decided.new ≡ is_decided.old)) }
 {
     let taken = decoder.take(bits, count)?;
     let Some(event) = taken.event else {
-        return Ok(HeardBits {
-            count: taken.count,
-            is_decided: false,
-        });
+        *is_decided = false;
+        return Ok(taken.count);
     };
     reports_are();
     frame_is_spelled();
     journal.take(line, event, decoder.octets());
-    Ok(HeardBits {
-        count: taken.count,
-        is_decided: true,
-    })
+    *is_decided = true;
+    Ok(taken.count)
 }

@@ -1,6 +1,6 @@
 //! What is kept of the reports so far.
 
-ghost use Rattle.std.specs.Prelude.{◌≡◌, ◌+◌, ◌≤◌, ◌<◌, ◌^◌, List, ℕ, Option, [], ◌∷◌, ◌++◌, IfOk, length, replicate, true, Some, slice_get, option_copied, option_map};
+ghost use Rattle.std.specs.Prelude.{◌≡◌, ◌+◌, ◌≤◌, ◌<◌, ◌^◌, List, ℕ, Option, [], ◌∷◌, ◌++◌, IfOk, length, replicate, true, Some, None, slice_get, option_copied, option_map};
 
 mod keep;
 mod pair;
@@ -76,8 +76,63 @@ impl Journal {
     }
 
     /// Takes a report of a line, a frame with these octets, and keeps what follows from it as the last.
-    #[inline(never)]
+    /// `line` is `None` where there is one line, and known where this is called.
+    #[inline(always)]
     pub(crate) fn take(&mut self, line: Option<Line>, event: Event, octets: &[u8])
+        requires whole { IsWhole event.kind octets.now }
+        requires fits { length octets.now ≤ 258 }
+        requires room { HasRoom (journal_state self.old) }
+        ensures keeps { (hs : List Heard) → Keeps (journal_state self.old) hs →
+            Keeps (journal_state self.new) (hs ++ heard_on line (reported octets.now event) ∷ []) }
+        ensures says { (hs : List Heard) → Keeps (journal_state self.old) hs →
+            option_map (found_on line octets.now) self.new.last
+            ≡ Some (seen_of self.old.dictionary hs (heard_on line (reported octets.now event))) }
+        ensures given { (self.new.dictionary ≡ self.old.dictionary)
+            × (self.new.history.capacity ≡ self.old.history.capacity) }
+    {
+        match line {
+            None => self.take_of_one(event, octets),
+            Some(line) => self.take_of_two(line, event, octets),
+        }
+    }
+
+    /// A report of the only line.
+    #[inline(never)]
+    fn take_of_one(&mut self, event: Event, octets: &[u8])
+        requires whole { IsWhole event.kind octets.now }
+        requires fits { length octets.now ≤ 258 }
+        requires room { HasRoom (journal_state self.old) }
+        ensures keeps { (hs : List Heard) → Keeps (journal_state self.old) hs →
+            Keeps (journal_state self.new) (hs ++ heard_on None (reported octets.now event) ∷ []) }
+        ensures says { (hs : List Heard) → Keeps (journal_state self.old) hs →
+            option_map (found_on None octets.now) self.new.last
+            ≡ Some (seen_of self.old.dictionary hs (heard_on None (reported octets.now event))) }
+        ensures given { (self.new.dictionary ≡ self.old.dictionary)
+            × (self.new.history.capacity ≡ self.old.history.capacity) }
+    {
+        self.enter(None, event, octets);
+    }
+
+    /// A report of one of two lines.
+    #[inline(never)]
+    fn take_of_two(&mut self, line: Line, event: Event, octets: &[u8])
+        requires whole { IsWhole event.kind octets.now }
+        requires fits { length octets.now ≤ 258 }
+        requires room { HasRoom (journal_state self.old) }
+        ensures keeps { (hs : List Heard) → Keeps (journal_state self.old) hs →
+            Keeps (journal_state self.new) (hs ++ heard_on (Some line) (reported octets.now event) ∷ []) }
+        ensures says { (hs : List Heard) → Keeps (journal_state self.old) hs →
+            option_map (found_on (Some line) octets.now) self.new.last
+            ≡ Some (seen_of self.old.dictionary hs (heard_on (Some line) (reported octets.now event))) }
+        ensures given { (self.new.dictionary ≡ self.old.dictionary)
+            × (self.new.history.capacity ≡ self.old.history.capacity) }
+    {
+        self.enter(Some(line), event, octets);
+    }
+
+    /// Takes a report of a line.
+    #[inline(always)]
+    fn enter(&mut self, line: Option<Line>, event: Event, octets: &[u8])
         requires whole { IsWhole event.kind octets.now }
         requires fits { length octets.now ≤ 258 }
         requires room { HasRoom (journal_state self.old) }
@@ -106,6 +161,7 @@ impl Journal {
     }
 
     /// Takes a frame of a line.
+    #[inline(always)]
     fn frame(&mut self, line: Option<Line>, span: Span, octets: &[u8]) -> Finding
         requires at_least { 4 ≤ length octets.now }
         requires at_most { length octets.now ≤ 258 }
@@ -135,6 +191,7 @@ impl Journal {
     }
 
     /// Takes a piece that is no frame.
+    #[inline(always)]
     fn damage(&mut self, event: Event) -> Finding
         requires damage { (octets : List ℕ) → is_damage (kind_with octets event.kind) ≡ true }
         requires room { HasRoom (journal_state self.old) }

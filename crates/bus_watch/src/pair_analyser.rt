@@ -83,8 +83,9 @@ fn hear_all<C: Check>(
     ensures { Hears C.folded C.COST (Some line) decoder.old (journal_state journal.old) (bits_of count bits)
         (option_map (found_on (Some line) decoder.new.octets) result) decoder.new (journal_state journal.new) }
 {
-    match hear(decoder, journal, Some(line), bits, count) {
-        Ok(heard) if heard.is_decided => journal.last().copied(),
+    let mut is_decided = false;
+    match hear(decoder, journal, &mut is_decided, Some(line), bits, count) {
+        Ok(_) if is_decided => journal.last().copied(),
         Ok(_) => None,
         Err(PlaceLimit) => unreachable!(),
     }

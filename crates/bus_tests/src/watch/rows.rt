@@ -12,7 +12,7 @@ use std::alloc::Global;
 use std::process::Abort;
 
 /// Frames, and how they stand to the dictionary.
-const FRAMES: &str = "\
+pub(super) const FRAMES: &str = "\
     calls: =>\n\
     calls: flag call flag => \
         8 49 frame 108300fde5 station 16 type 0; pending 8 49 station 16 type 0\n\
@@ -51,7 +51,7 @@ const FRAMES: &str = "\
     states: flag type-1 flag => 8 48 frame 10830174f4 station 16 type 1 length";
 
 /// Flags alone, damage, aborts and idles.
-const DAMAGE: &str = "\
+pub(super) const DAMAGE: &str = "\
     calls: flag =>\n\
     calls: 011111101111110 =>\n\
     calls: 1111110 call flag =>\n\

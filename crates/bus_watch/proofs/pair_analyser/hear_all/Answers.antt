@@ -15,14 +15,14 @@ returns-in-Ok g c =
     let after = c.requires.reached.after in
     let n = c.args.count in
     let x = c.args.bits in
-    let h = c.in-Ok.heard in
+    let h = c.in-Ok.field-0 in
     let line = Some c.args.line in
     let os = c.hear.new.decoder.octets in
-    let all : h.count ≡ n = takes-all-of b (bits_of n x) n h.count (c.requires.calm b after) (c.in-Ok.ensures.stops b after) (length-bits n x) c.in-Ok.ensures.within.0 c.in-Ok.ensures.within.1 in
-    let told : told_on line os h.is_decided c.hear.new.journal.last ≡ option_map (found_on line os) c.copied.result =
-    ap (λ (d : Bool). told_on line os d c.hear.new.journal.last) c.if-heard.true ∙ ap (option_map (found_on line os)) (sym (c.copied.ensures ∙ c.last.ensures)) in
+    let all : h ≡ n = takes-all-of b (bits_of n x) n h (c.requires.calm b after) (c.in-Ok.ensures.stops b after) (length-bits n x) c.in-Ok.ensures.within.0 c.in-Ok.ensures.within.1 in
+    let told : told_on line os c.hear.new.is_decided c.hear.new.journal.last ≡ option_map (found_on line os) c.copied.result =
+    ap (λ (d : Bool). told_on line os d c.hear.new.journal.last) c.if-is_decided.true ∙ ap (option_map (found_on line os)) (sym (c.copied.ensures ∙ c.last.ensures)) in
     subst (λ (k : ℕ). Hears g.C.Check.folded g.C.Check.COST line c.args.decoder.now (journal_state c.args.journal.now) (bits_of k x) (option_map (found_on line os) c.copied.result) c.hear.new.decoder (journal_state c.hear.new.journal)) all
-    (subst (λ (t : Option SeenReport). Hears g.C.Check.folded g.C.Check.COST line c.args.decoder.now (journal_state c.args.journal.now) (bits_of h.count x) t c.hear.new.decoder (journal_state c.hear.new.journal)) told c.in-Ok.ensures.hears)
+    (subst (λ (t : Option SeenReport). Hears g.C.Check.folded g.C.Check.COST line c.args.decoder.now (journal_state c.args.journal.now) (bits_of h x) t c.hear.new.decoder (journal_state c.hear.new.journal)) told c.in-Ok.ensures.hears)
 
 pub returns-in-Ok-2 : goal.returns-in-Ok-2
 returns-in-Ok-2 g c =
@@ -30,10 +30,10 @@ returns-in-Ok-2 g c =
     let after = c.requires.reached.after in
     let n = c.args.count in
     let x = c.args.bits in
-    let h = c.in-Ok.heard in
+    let h = c.in-Ok.field-0 in
     let line = Some c.args.line in
     let os = c.hear.new.decoder.octets in
-    let all : h.count ≡ n = takes-all-of b (bits_of n x) n h.count (c.requires.calm b after) (c.in-Ok.ensures.stops b after) (length-bits n x) c.in-Ok.ensures.within.0 c.in-Ok.ensures.within.1 in
-    let told : told_on line os h.is_decided c.hear.new.journal.last ≡ None = ap (λ (d : Bool). told_on line os d c.hear.new.journal.last) c.if-heard.false in
+    let all : h ≡ n = takes-all-of b (bits_of n x) n h (c.requires.calm b after) (c.in-Ok.ensures.stops b after) (length-bits n x) c.in-Ok.ensures.within.0 c.in-Ok.ensures.within.1 in
+    let told : told_on line os c.hear.new.is_decided c.hear.new.journal.last ≡ None = ap (λ (d : Bool). told_on line os d c.hear.new.journal.last) c.if-is_decided.false in
     subst (λ (k : ℕ). Hears g.C.Check.folded g.C.Check.COST line c.args.decoder.now (journal_state c.args.journal.now) (bits_of k x) None c.hear.new.decoder (journal_state c.hear.new.journal)) all
-    (subst (λ (t : Option SeenReport). Hears g.C.Check.folded g.C.Check.COST line c.args.decoder.now (journal_state c.args.journal.now) (bits_of h.count x) t c.hear.new.decoder (journal_state c.hear.new.journal)) told c.in-Ok.ensures.hears)
+    (subst (λ (t : Option SeenReport). Hears g.C.Check.folded g.C.Check.COST line c.args.decoder.now (journal_state c.args.journal.now) (bits_of h x) t c.hear.new.decoder (journal_state c.hear.new.journal)) told c.in-Ok.ensures.hears)

@@ -1,0 +1,507 @@
+//! Worked lists of two lines: what is seen, the end, the tally, the history and the steps, however the
+//! pairs are cut.
+
+ghost use Rattle.std.specs.Prelude.{◌≤◌, ◌<◌, ◌^◌};
+
+use super::rows::{DAMAGE, FRAMES};
+use super::table::row_of;
+use super::text::{push_ending, push_seen};
+use super::{CALLS, bits_of};
+use crate::word::word_of;
+use bus_bits::{Span, Spent};
+use bus_dictionary::Dictionary;
+use bus_fcs::{BitCheck, Check, OctetCheck};
+use bus_line::PlaceLimit;
+use bus_watch::{
+    Counts, Ending, FeedFault, Line, NewFault, PairAnalyser, PairEnding, PairSink, Pending, Seen,
+    SinkRefused,
+};
+use std::alloc::{AllocError, Global};
+use std::process::Abort;
+
+/// The words of two lists of bits, and what is seen of them with the example dictionary of calls. The
+/// shorter list goes on with ones.
+struct PairRow {
+    first: &'static str,
+    second: &'static str,
+    want: &'static str,
+    ending: PairEnding,
+    /// How many verdicts named station 16.
+    tally: Counts,
+}
+
+const NONE: Counts = Counts {
+    answered: 0,
+    missing: 0,
+    spoilt: 0,
+    late: 0,
+};
+
+const NOTHING_OPEN: PairEnding = PairEnding {
+    first: None,
+    second: None,
+    pending: None,
+};
+
+const PAIR_ROWS: [PairRow; 7] = [
+    // the reply comes on the second line, behind the call
+    PairRow {
+        first: "flag call flag",
+        second: "ones-57 flag reply flag",
+        want: "0 15 idle on 2; 8 49 frame 108300fde5 station 16 type 0 on 1; 57 72 idle on 1; \
+            65 106 frame 108380f561 station 16 type 128, answered 8 49 station 16 type 0 on 2",
+        ending: NOTHING_OPEN,
+        tally: Counts {
+            answered: 1,
+            ..NONE
+        },
+    },
+    // on the first line it answers nothing
+    PairRow {
+        first: "flag call flag reply flag",
+        second: "",
+        want: "0 15 idle on 2; 8 49 frame 108300fde5 station 16 type 0 on 1; \
+            57 98 frame 108380f561 station 16 type 128, missing 8 49 station 16 type 0, stray on 1",
+        ending: NOTHING_OPEN,
+        tally: Counts { missing: 1, ..NONE },
+    },
+    // both end at one place: the first line's comes first
+    PairRow {
+        first: "flag call flag",
+        second: "flag reply flag",
+        want: "8 49 frame 108300fde5 station 16 type 0 on 1; \
+            8 49 frame 108380f561 station 16 type 128, answered 8 49 station 16 type 0 on 2",
+        ending: NOTHING_OPEN,
+        tally: Counts {
+            answered: 1,
+            ..NONE
+        },
+    },
+    // a call on the second line waits for nothing
+    PairRow {
+        first: "flag",
+        second: "flag call flag",
+        want: "8 23 idle on 1; 8 49 frame 108300fde5 station 16 type 0 on 2",
+        ending: NOTHING_OPEN,
+        tally: NONE,
+    },
+    // and damage on it spoils a call on the first
+    PairRow {
+        first: "flag call flag",
+        second: "flag short short flag",
+        want: "8 49 frame 108300fde5 station 16 type 0 on 1; \
+            8 56 overlong, spoilt 8 49 station 16 type 0 on 2",
+        ending: NOTHING_OPEN,
+        tally: Counts { spoilt: 1, ..NONE },
+    },
+    // a frame of the first line between the two leaves the call without an answer
+    PairRow {
+        first: "flag call flag notice flag",
+        second: "ones-57 ones-57 flag reply flag",
+        want: "0 15 idle on 2; 8 49 frame 108300fde5 station 16 type 0 on 1; \
+            57 99 frame ff83095a3b station 255 type 9, missing 8 49 station 16 type 0 on 1; \
+            107 122 idle on 1; 122 163 frame 108380f561 station 16 type 128, stray on 2",
+        ending: NOTHING_OPEN,
+        tally: Counts { missing: 1, ..NONE },
+    },
+    // the call waits still
+    PairRow {
+        first: "flag call flag 000",
+        second: "",
+        want: "0 15 idle on 2; 8 49 frame 108300fde5 station 16 type 0 on 1",
+        ending: PairEnding {
+            first: Some(Span {
+                first: 57,
+                past: 60,
+            }),
+            second: None,
+            pending: Some(Pending {
+                span: Span { first: 8, past: 49 },
+                station: 16,
+                ftype: 0,
+            }),
+        },
+        tally: NONE,
+    },
+];
+
+/// Two lists of bits of one length, and their pairs.
+#[derive(Drop)]
+struct TwoLines {
+    first: Vec<bool>,
+    second: Vec<bool>,
+    pairs: Vec<(bool, bool)>,
+}
+
+/// The lists of these words, the shorter going on with one bit value.
+fn two_lines(rt: &impl Abort, alloc: Global, first: &str, second: &str, rest: bool) -> TwoLines {
+    let mut first = bits_of(alloc, first).expect(rt, "bits");
+    let mut second = bits_of(alloc, second).expect(rt, "bits");
+    let length = first.len().max(second.len());
+    for _ in first.len()..length {
+        first.push(rest).expect(rt, "memory");
+    }
+    for _ in second.len()..length {
+        second.push(rest).expect(rt, "memory");
+    }
+    let mut pairs = Vec::new(alloc);
+    for (one, other) in first.iter().zip(second.iter()) {
+        pairs.push((*one, *other)).expect(rt, "memory");
+    }
+    TwoLines {
+        first,
+        second,
+        pairs,
+    }
+}
+
+/// Collects the texts of what it takes, and refuses some reports, counted from 1.
+#[derive(Drop)]
+struct PairCollector {
+    text: String,
+    refuses: [u64; 2],
+    count: u64,
+    refusals: u64,
+    /// Memory was refused for a text.
+    lacks: bool,
+}
+
+impl PairCollector {
+    fn new(alloc: Global, refuses: [u64; 2]) -> Self {
+        PairCollector {
+            text: String::new(alloc),
+            refuses,
+            count: 0,
+            refusals: 0,
+            lacks: false,
+        }
+    }
+}
+
+/// What is seen on a line, behind what the text has.
+fn push_seen_on(text: &mut String, line: Line, seen: &Seen<'_>) -> Result<(), AllocError> {
+    push_seen(text, seen)?;
+    text.push_str(match line {
+        Line::First => " on 1",
+        Line::Second => " on 2",
+    })
+}
+
+impl PairSink for PairCollector {
+    ghost use Rattle.std.specs.Prelude.{None};
+
+    ghost taken = { λ s. None };
+
+    ghost refusals = { λ s. s.refusals };
+
+    fn refused(&self) -> u64 {
+        self.refusals
+    }
+
+    fn take(&mut self, line: Line, seen: &Seen<'_>) -> Result<(), SinkRefused> {
+        self.count = self.count.saturating_add(1);
+        if self.count == self.refuses[0] || self.count == self.refuses[1] {
+            self.refusals += 1;
+            return Err(SinkRefused);
+        }
+        if push_seen_on(&mut self.text, line, seen).is_err() {
+            self.lacks = true;
+        }
+        Ok(())
+    }
+}
+
+/// An analyser of the example dictionary of calls, with a history of two frames.
+fn analyser<C: Check>(rt: &impl Abort, alloc: Global) -> PairAnalyser<C> {
+    let dictionary = Dictionary::read(alloc, CALLS).expect(rt, "a dictionary");
+    PairAnalyser::new(alloc, dictionary, 2, 0).expect(rt, "an analyser")
+}
+
+/// Feeds pairs to a sink whose count of refusals has room for two more.
+fn feed<C: Check>(
+    rt: &impl Abort,
+    analyser: &mut PairAnalyser<C>,
+    pairs: &[(bool, bool)],
+    sink: &mut PairCollector,
+) -> Result<(), FeedFault> {
+    assert!(rt; sink.refused() < u64::MAX - 1);
+    analyser.feed(pairs, sink)
+}
+
+/// What is seen of pairs that are pushed one by one.
+fn pushed<C: Check>(
+    rt: &impl Abort,
+    alloc: Global,
+    analyser: &mut PairAnalyser<C>,
+    pairs: &[(bool, bool)],
+) -> String {
+    let mut text = String::new(alloc);
+    for pair in pairs {
+        let seen = analyser.push(pair.0, pair.1).expect(rt, "a place");
+        if let Some(first) = &seen.first {
+            push_seen_on(&mut text, Line::First, first).expect(rt, "text");
+        }
+        if let Some(second) = &seen.second {
+            push_seen_on(&mut text, Line::Second, second).expect(rt, "text");
+        }
+    }
+    text
+}
+
+/// What was found on a line, behind what the text has.
+fn push_found<C: Check>(
+    rt: &impl Abort,
+    text: &mut String,
+    analyser: &PairAnalyser<C>,
+    line: Line,
+) {
+    if let Some(finding) = analyser.finding(line) {
+        let seen = finding.with_octets(analyser.octets(line));
+        push_seen_on(text, line, &seen).expect(rt, "text");
+    }
+}
+
+/// The same where up to `size` pairs are taken with each call.
+fn taken<C: Check>(
+    rt: &impl Abort,
+    alloc: Global,
+    analyser: &mut PairAnalyser<C>,
+    lines: &TwoLines,
+    size: u32,
+) -> String {
+    let mut text = String::new(alloc);
+    let mut first: &[bool] = &lines.first;
+    let mut second: &[bool] = &lines.second;
+    for _ in &lines.pairs {
+        if first.is_empty() {
+            break;
+        }
+        let (one, count) = word_of(rt, first, size);
+        let (other, same) = word_of(rt, second, size);
+        assert_eq!(rt; count, same);
+        let taken = analyser.take(one, other, count).expect(rt, "a place") as usize;
+        first = &first[first.len().min(taken)..];
+        second = &second[second.len().min(taken)..];
+        push_found(rt, &mut text, analyser, Line::First);
+        push_found(rt, &mut text, analyser, Line::Second);
+    }
+    text
+}
+
+fn check_row<C: Check>(rt: &impl Abort, alloc: Global, row: &PairRow) {
+    let lines = two_lines(rt, alloc, row.first, row.second, true);
+    let mut one_by_one = analyser::<C>(rt, alloc);
+    let text = pushed(rt, alloc, &mut one_by_one, &lines.pairs);
+    assert_eq!(rt; text.as_str(), row.want);
+    assert_eq!(rt; one_by_one.ending(), row.ending, "{}", row.first);
+    assert_eq!(rt; one_by_one.tally(16), row.tally, "{}", row.first);
+    assert_eq!(rt; one_by_one.tally(17), NONE, "{}", row.first);
+    for size in [1, 5, 8, 48] {
+        let mut by_words = analyser::<C>(rt, alloc);
+        let text = taken(rt, alloc, &mut by_words, &lines, size);
+        assert_eq!(rt; text.as_str(), row.want, "{size}");
+        assert_eq!(rt; by_words.ending(), row.ending, "{size}");
+        assert_eq!(rt; by_words.usage(), one_by_one.usage(), "{size}");
+    }
+    for cut in 0..=lines.pairs.len() {
+        let (front, rest) = lines.pairs.split_at_checked(cut).expect(rt, "a cut");
+        let mut fed = analyser::<C>(rt, alloc);
+        let mut sink = PairCollector::new(alloc, [0, 0]);
+        feed(rt, &mut fed, front, &mut sink).expect(rt, "room");
+        feed(rt, &mut fed, rest, &mut sink).expect(rt, "room");
+        assert_eq!(rt; sink.text.as_str(), row.want, "{cut}");
+        assert_eq!(rt; fed.usage(), one_by_one.usage(), "{cut}");
+        assert!(rt; !sink.lacks);
+    }
+}
+
+/// Each row by calls of every kind, with both checks.
+#[test]
+fn rows_of_two_lines(rt: HostRuntime) {
+    let alloc = rt.alloc();
+    for row in &PAIR_ROWS {
+        check_row::<BitCheck>(&rt, alloc, row);
+        check_row::<OctetCheck>(&rt, alloc, row);
+    }
+}
+
+/// A row of one line as the first of two, the second of which is silent: what is seen is the same
+/// but for answers, which come on the second line alone.
+fn check_first(rt: &impl Abort, alloc: Global, line: &str) {
+    if line.contains("answered") || line.contains("late") {
+        return;
+    }
+    let row = row_of(rt, alloc, line);
+    let dictionary = row.dictionary(rt, alloc);
+    let mut analyser = PairAnalyser::<OctetCheck>::new(alloc, dictionary, 16, 0).expect(
+        rt,
+        "an analyser",
+    );
+    let mut text = String::new(alloc);
+    for bit in &row.bits {
+        let seen = analyser.push(*bit, false).expect(rt, "a place");
+        assert!(rt; seen.second.is_none());
+        if let Some(first) = &seen.first {
+            push_seen(&mut text, first).expect(rt, "text");
+        }
+    }
+    let PairEnding {
+        first,
+        second,
+        pending,
+    } = analyser.ending();
+    let ending = Ending {
+        begun: first,
+        pending,
+    };
+    push_ending(&mut text, ending).expect(rt, "text");
+    assert_eq!(rt; text.as_str(), row.want);
+    assert_eq!(rt; second, None);
+}
+
+#[test]
+fn rows_of_one_line_beside_silence(rt: HostRuntime) {
+    let alloc = rt.alloc();
+    for line in FRAMES.lines() {
+        check_first(&rt, alloc, line);
+    }
+    for line in DAMAGE.lines() {
+        check_first(&rt, alloc, line);
+    }
+}
+
+/// A sink that refuses one of the two reports at a place, or both.
+struct PairRefusal {
+    refuses: [u64; 2],
+    refusals: u64,
+    told: &'static str,
+}
+
+const PAIR_REFUSALS: [PairRefusal; 3] = [
+    PairRefusal {
+        refuses: [1, 0],
+        refusals: 1,
+        told: "8 49 frame 108380f561 station 16 type 128, answered 8 49 station 16 type 0 on 2",
+    },
+    PairRefusal {
+        refuses: [2, 0],
+        refusals: 1,
+        told: "8 49 frame 108300fde5 station 16 type 0 on 1",
+    },
+    PairRefusal {
+        refuses: [1, 2],
+        refusals: 2,
+        told: "",
+    },
+];
+
+/// Two reports at one place: the second is offered also where the first was refused.
+#[test]
+fn sinks_that_refuse_one_or_both(rt: HostRuntime) {
+    let alloc = rt.alloc();
+    let lines = two_lines(&rt, alloc, "flag call flag 0", "flag reply flag", false);
+    for row in &PAIR_REFUSALS {
+        let mut analyser = analyser::<OctetCheck>(&rt, alloc);
+        let mut sink = PairCollector::new(alloc, row.refuses);
+        let fault = feed(&rt, &mut analyser, &lines.pairs, &mut sink).err();
+        assert_eq!(rt; fault, Some(FeedFault::Sink { consumed: 57 }));
+        assert_eq!(rt; sink.refused(), row.refusals);
+        assert_eq!(rt; sink.text.as_str(), row.told);
+    }
+}
+
+/// The steps of the first row, with a check that costs one an octet.
+#[test]
+fn steps_of_two_lines(rt: HostRuntime) {
+    let alloc = rt.alloc();
+    let lines = two_lines(
+        &rt,
+        alloc,
+        "flag call flag",
+        "ones-57 flag reply flag",
+        true,
+    );
+    assert_eq!(rt; lines.pairs.len(), 114);
+    let mut analyser = analyser::<OctetCheck>(&rt, alloc);
+    pushed(&rt, alloc, &mut analyser, &lines.pairs);
+    let want = Spent {
+        shifted: 228,
+        assembled: 80,
+        folded: 10,
+        stored: 10,
+        copied: 10,
+        handled: 18,
+    };
+    assert_eq!(rt; analyser.spent(), want);
+}
+
+/// The last two of three frames, with their lines.
+#[test]
+fn history_of_two_lines(rt: HostRuntime) {
+    let alloc = rt.alloc();
+    let lines = two_lines(
+        &rt,
+        alloc,
+        "flag call flag notice flag",
+        "flag reply flag",
+        false,
+    );
+    let mut analyser = analyser::<OctetCheck>(&rt, alloc);
+    pushed(&rt, alloc, &mut analyser, &lines.pairs);
+    assert_eq!(rt; analyser.history_len(), 2);
+    let reply = analyser.history(0).expect(&rt, "a frame");
+    assert_eq!(rt; reply.line, Line::Second);
+    assert_eq!(rt; reply.kept.span, Span { first: 8, past: 49 });
+    assert_eq!(rt;
+        reply.kept.octets.as_slice(),
+        [0x10, 0x83, 0x80, 0xf5, 0x61].as_slice()
+    );
+    let notice = analyser.history(1).expect(&rt, "a frame");
+    assert_eq!(rt; notice.line, Line::First);
+    assert_eq!(rt;
+        notice.kept.span,
+        Span {
+            first: 57,
+            past: 99
+        }
+    );
+    assert!(rt; analyser.history(2).is_none());
+    assert_eq!(rt; analyser.dictionary().longest(), 3);
+}
+
+fn new_at(
+    rt: &impl Abort,
+    alloc: Global,
+    depth: usize,
+    origin: u64,
+) -> Result<PairAnalyser<OctetCheck>, NewFault> {
+    let dictionary = Dictionary::read(alloc, CALLS).expect(rt, "a dictionary");
+    PairAnalyser::new(alloc, dictionary, depth, origin)
+}
+
+/// The depths and origins that are refused, and the last places.
+#[test]
+fn limits_of_two_lines(rt: HostRuntime) {
+    let alloc = rt.alloc();
+    for depth in [0, 1025] {
+        assert_eq!(rt;
+            new_at(&rt, alloc, depth, 0).err(),
+            Some(NewFault::DepthRange)
+        );
+    }
+    let past_all = (1 << 60) + 1;
+    assert_eq!(rt;
+        new_at(&rt, alloc, 1, past_all).err(),
+        Some(NewFault::Origin)
+    );
+    let mut analyser = new_at(&rt, alloc, 1, (1 << 60) - 3).expect(&rt, "an analyser");
+    let mut sink = PairCollector::new(alloc, [0, 0]);
+    let pairs = [(true, false); 4];
+    let fault = feed(&rt, &mut analyser, &pairs, &mut sink).err();
+    assert_eq!(rt; fault, Some(FeedFault::PlaceLimit));
+    assert_eq!(rt; analyser.take(0, 0, 4).err(), Some(PlaceLimit));
+    assert_eq!(rt; analyser.spent().shifted, 0);
+    feed(&rt, &mut analyser, &pairs[..3], &mut sink).expect(&rt, "room");
+    assert_eq!(rt; analyser.spent().shifted, 6);
+    assert!(rt; analyser.push(true, true).is_err());
+}
