@@ -161,7 +161,6 @@ impl Journal {
     }
 
     /// Takes a frame of a line.
-    #[inline(always)]
     fn frame(&mut self, line: Option<Line>, span: Span, octets: &[u8]) -> Finding
         requires at_least { 4 ≤ length octets.now }
         requires at_most { length octets.now ≤ 258 }
@@ -191,7 +190,6 @@ impl Journal {
     }
 
     /// Takes a piece that is no frame.
-    #[inline(always)]
     fn damage(&mut self, event: Event) -> Finding
         requires damage { (octets : List ℕ) → is_damage (kind_with octets event.kind) ≡ true }
         requires room { HasRoom (journal_state self.old) }

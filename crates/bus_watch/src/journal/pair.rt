@@ -23,7 +23,6 @@ impl Journal {
 
     /// The command that a frame is, if it waits for an answer: known, of a type below 128 that is to
     /// be answered, and to one station, on a line where commands wait.
-    #[inline(always)]
     pub(crate) fn command(
         &self,
         line: Option<Line>,
@@ -67,7 +66,6 @@ impl Journal {
 
     /// What becomes of a command, by the line, the place of the first bit and the standing of the frame
     /// that came next: `None` for a piece that is no frame.
-    #[inline(always)]
     fn outcome(&self, pending: Pending, right: Option<(Option<Line>, u64, Standing)>) -> Outcome
         ensures { result ≡ outcome self.now.dictionary pending right }
     {
@@ -85,7 +83,6 @@ impl Journal {
 
     /// Decides the command that waits, if there is one, by the line, the place of the first bit and the
     /// standing of the frame that came next: `None` for a piece that is no frame.
-    #[inline(always)]
     pub(crate) fn decide(&mut self, right: Option<(Option<Line>, u64, Standing)>) -> Option<Verdict>
         requires counts { CanCount self.old.tally }
         requires handled { self.old.spent.handled + 2 < 2 ^ 64 }
