@@ -1,34 +1,77 @@
--- The bits of a capture, and what is seen at them.
-use Rattle.std.specs.Prelude.{ℕ, Bool, List, if◌then◌else◌, ◌≡◌, ◌⊎◌, Option, Some}
-use Rattle.bus_bits.specs.Capture.{Capture, text_capture, capped, CaptureFault, bad_mark, magic, too_many, pad_bits, trailing, place_limit, short_head, short_body}
-use Rattle.bus_bits.specs.Packed.{packed_capture, packed_whole}
+-- The captures of one line and of two, and what is seen of them.
+use Rattle.std.specs.Prelude.{◌≡◌, ◌⊎◌, ℕ, Bool, true, false, List, if◌then◌else◌, Option, Some}
+use Rattle.std.specs.Io.KnownBytes.{IsAtEnd}
+use Rattle.bus_bits.specs.Capture.{CaptureOf, text_capture, text_pair_capture, capped, CaptureFault, bad_mark, magic, too_many, pad_bits, trailing, place_limit, short_head, short_body}
+use Rattle.bus_bits.specs.Packed.{packed_capture, packed_whole, packed_pair_capture, packed_pair_whole}
 use Rattle.bus_dictionary.specs.Entry.{FrameType}
 use Rattle.bus_dictionary.specs.Dictionary.{longest_of}
 use Rattle.bus_line.specs.Due as line
-use Rattle.bus_watch.specs.Heard.{of_line}
+use Rattle.bus_watch.specs.Heard.{Heard, of_line, firsts, seconds, merged}
 use Rattle.bus_watch.specs.Seen.{SeenReport, seen}
+use Rattle.bus_watch.specs.Shown.{begun_span}
+use Rattle.bus_watch.specs.declared.pending.Pending.{Pending}
+use Rattle.bus_text.specs.Listing.{Line, ending_lines, pair_ending_lines}
 use Rattle.bus_text.specs.declared.fault.ToolFault.{ToolFault}
 use Rattle.bus_text.specs.declared.fault.ToolFault.TheVariants.{BadMark, Magic, TooMany, PadBits, Trailing, PlaceLimit, ShortHead, ShortBody}
-use Rattle.std.specs.Io.KnownBytes.{IsAtEnd}
 
--- what octets give, while more may come: text, or packed
-abbrev pub unplaced : Bool → List ℕ → Capture
-unplaced text xs = if text then text_capture xs else packed_capture xs
+-- in what captures of one line and of two differ; X is what they have at each place, a bit or a pair of bits
+pub record Form (X : Type 0) : Type 0 where
+  pub text : List ℕ → CaptureOf X  -- what octets of a text give
+  pub packed : List ℕ → CaptureOf X  -- what those of a packed capture give, while more may come
+  pub packed_whole : List ℕ → CaptureOf X  -- and what those give that are the whole input
+  pub hears : ℕ → ℕ → List X → List Heard  -- the reports, by the place of the first X and the longest frame
+  pub ending : ℕ → List X → Option Pending → List Line  -- the lines of the end, by the place of the first X and the command that waits
+  pub is_two : Bool  -- the frames of the history are told with the number of their line
 
--- what octets give that are the whole input
-abbrev pub unplaced_whole : Bool → List ℕ → Capture
-unplaced_whole text xs = if text then text_capture xs else packed_whole xs
+-- one line
+abbrev pub one_line : Form Bool
+one_line = record {
+  text = text_capture;
+  packed = packed_capture;
+  packed_whole = packed_whole;
+  hears = λ origin longest b. of_line (line.placed origin longest b);
+  ending = λ origin b waits. ending_lines (begun_span origin b) waits;
+  is_two = false;
+}
 
--- where the first bit has the place `origin`
-abbrev pub capture : Bool → ℕ → List ℕ → Capture
-capture text origin xs = capped origin (unplaced text xs)
+-- two lines
+abbrev pub two_lines : Form (Bool × Bool)
+two_lines = record {
+  text = text_pair_capture;
+  packed = packed_pair_capture;
+  packed_whole = packed_pair_whole;
+  hears = merged;
+  ending = λ origin ps waits. pair_ending_lines (begun_span origin (firsts ps)) (begun_span origin (seconds ps)) waits;
+  is_two = true;
+}
 
-abbrev pub whole_capture : Bool → ℕ → List ℕ → Capture
-whole_capture text origin xs = capped origin (unplaced_whole text xs)
+module _ {X : Type 0} (f : Form X) where
+  -- what octets give, while more may come: text, or packed
+  abbrev pub unplaced : Bool → List ℕ → CaptureOf X
+  unplaced text xs = if text then f.text xs else f.packed xs
 
--- what is seen at bits, by a dictionary, whose longest frame bounds the frames
-abbrev pub seen_in : ℕ → List FrameType → List Bool → List SeenReport
-seen_in origin d b = seen d (of_line (line.placed origin (longest_of d) b))
+  -- what octets give that are the whole input
+  abbrev pub unplaced_whole : Bool → List ℕ → CaptureOf X
+  unplaced_whole text xs = if text then f.text xs else f.packed_whole xs
+
+  -- where the first bit, or pair of bits, has the place `origin`
+  abbrev pub capture : Bool → ℕ → List ℕ → CaptureOf X
+  capture text origin xs = capped origin (unplaced text xs)
+
+  abbrev pub whole_capture : Bool → ℕ → List ℕ → CaptureOf X
+  whole_capture text origin xs = capped origin (unplaced_whole text xs)
+
+  -- the reports, by a dictionary, whose longest frame bounds the frames
+  abbrev pub heard_in : ℕ → List FrameType → List X → List Heard
+  heard_in origin d b = f.hears origin (longest_of d) b
+
+  -- what is seen of them
+  abbrev pub seen_in : ℕ → List FrameType → List X → List SeenReport
+  seen_in origin d b = seen d (heard_in origin d b)
+
+  -- the octets have this fault, or they are the whole input and have it
+  abbrev pub HasFault : Bool → ℕ → Option (List ℕ) → List ℕ → CaptureFault → Type 0
+  HasFault text origin after xs cause = ((capture text origin xs).fault ≡ Some cause) ⊎ (IsAtEnd after × ((whole_capture text origin xs).fault ≡ Some cause))
 
 -- the fault of a capture, as it is answered
 abbrev pub IsSameFault : ToolFault → CaptureFault → Type 0
@@ -41,7 +84,3 @@ IsSameFault PlaceLimit f = f ≡ place_limit
 IsSameFault ShortHead f = f ≡ short_head
 IsSameFault ShortBody f = f ≡ short_body
 IsSameFault fault f = ⊥
-
--- the octets have this fault, or they are the whole input and have it
-abbrev pub HasFault : Bool → ℕ → Option (List ℕ) → List ℕ → CaptureFault → Type 0
-HasFault text origin after xs cause = ((capture text origin xs).fault ≡ Some cause) ⊎ (IsAtEnd after × ((whole_capture text origin xs).fault ≡ Some cause))

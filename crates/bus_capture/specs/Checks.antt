@@ -1,64 +1,66 @@
 -- What a call that checks a capture did to its reader and its writer.
-use Rattle.std.specs.Prelude.{◌≡◌, ℕ, ◌≤◌, Bool, List, [], length, Option, None, Result, Ok, Err}
+use Rattle.std.specs.Prelude.{◌≡◌, ℕ, ◌≤◌, List, [], length, Option, None, Result, Ok, Err}
 use Rattle.std.specs.Io.KnownBytes.{Appends, IsAtEnd}
 use Rattle.bus_bits.specs.Capture.{CaptureFault}
-use Rattle.bus_line.specs.Due as line
 use Rattle.bus_dictionary.specs.Entry.{FrameType}
-use Rattle.bus_dictionary.specs.Dictionary.{longest_of}
-use Rattle.bus_watch.specs.Heard.{of_line}
 use Rattle.bus_watch.specs.History.{history, tally}
-use Rattle.bus_capture.specs.Captures.{seen_in, IsSameFault, HasFault}
+use Rattle.bus_capture.specs.Captures.{Form, one_line, two_lines, heard_in, seen_in, IsSameFault, HasFault}
 use Rattle.bus_text.specs.CheckText.{check_text}
 use Rattle.bus_text.specs.Summary.{summary_of}
 use Rattle.bus_text.specs.Put.{Cuts}
 use Rattle.bus_capture.specs.Begins.{Begins}
-use Rattle.bus_capture.specs.Lists.{so_far, in_all, DoesNothing}
+use Rattle.bus_capture.specs.Lists.{so_far, in_all, DoesNothing, by_lines}
 use Rattle.bus_text.specs.declared.options.Options.{Options}
 use Rattle.bus_text.specs.declared.summary.Summary.{Summary}
 use Rattle.bus_text.specs.declared.fault.ToolFault.{ToolFault}
 use Rattle.bus_text.specs.declared.fault.ToolFault.TheVariants.{Dictionary, Depth, Origin, Memory, Read, ReadsLimit, Write}
 
--- the report of bits: how often each thing is seen, the verdicts of each station, and the last frames
-abbrev pub report_of : Options → List FrameType → List Bool → List ℕ
-report_of o d b =
-    check_text (summary_of (seen_in o.origin d b)) (tally d (of_line (line.placed o.origin (longest_of d) b))) (history o.depth (of_line (line.placed o.origin (longest_of d) b)))
+module _ {X : Type 0} (f : Form X) where
+  -- the report of bits: how often each thing is seen, the verdicts of each station, and the last frames
+  abbrev pub report_of : Options → List FrameType → List X → List ℕ
+  report_of o d b =
+      check_text f.is_two (summary_of (seen_in f o.origin d b)) (tally d (heard_in f o.origin d b)) (history o.depth (heard_in f o.origin d b))
 
--- these octets are the whole input and have no fault
-pub record IsAll (o : Options) (after : Option (List ℕ)) (xs : List ℕ) : Type 0 where
-  pub at : IsAtEnd after
-  pub clean : (in_all o xs).fault ≡ None
+  -- these octets are the whole input and have no fault
+  pub record IsAll (o : Options) (after : Option (List ℕ)) (xs : List ℕ) : Type 0 where
+    pub at : IsAtEnd after
+    pub clean : (in_all f o xs).fault ≡ None
 
--- their report was written
-pub record ChecksAll (o : Options) (d : List FrameType) (after start now : Option (List ℕ)) (xs : List ℕ) (s : Summary) : Type 0 where
-  pub all : IsAll o after xs
-  pub out : Appends start now (report_of o d (in_all o xs).bits)
-  pub counts : s ≡ summary_of (seen_in o.origin d (in_all o xs).bits)
+  -- their report was written
+  pub record ChecksAll (o : Options) (d : List FrameType) (after start now : Option (List ℕ)) (xs : List ℕ) (s : Summary) : Type 0 where
+    pub all : IsAll o after xs
+    pub out : Appends start now (report_of o d (in_all f o xs).bits)
+    pub counts : s ≡ summary_of (seen_in f o.origin d (in_all f o xs).bits)
 
--- they have no fault so far, and nothing was written
-pub record ChecksSoFar (o : Options) (start now : Option (List ℕ)) (xs : List ℕ) : Type 0 where
-  pub clean : (so_far o xs).fault ≡ None
-  pub unwritten : Appends start now []
+  -- they have no fault so far, and nothing was written
+  pub record ChecksSoFar (o : Options) (start now : Option (List ℕ)) (xs : List ℕ) : Type 0 where
+    pub clean : (so_far f o xs).fault ≡ None
+    pub unwritten : Appends start now []
 
--- they have this fault, and nothing was written
-pub record ChecksToFault (o : Options) (after start now : Option (List ℕ)) (xs : List ℕ) (fault : ToolFault) : Type 0 where
-  pub cause : CaptureFault
-  pub answered : IsSameFault fault cause
-  pub found : HasFault o.text o.origin after xs cause
-  pub unwritten : Appends start now []
+  -- they have this fault, and nothing was written
+  pub record ChecksToFault (o : Options) (after start now : Option (List ℕ)) (xs : List ℕ) (fault : ToolFault) : Type 0 where
+    pub cause : CaptureFault
+    pub answered : IsSameFault fault cause
+    pub found : HasFault f o.text o.origin after xs cause
+    pub unwritten : Appends start now []
 
--- the writer was cut off in their report
-pub record ChecksCut (o : Options) (d : List FrameType) (after start now : Option (List ℕ)) (xs : List ℕ) (sent : ℕ) : Type 0 where
-  pub all : IsAll o after xs
-  pub cut : Cuts start now (report_of o d (in_all o xs).bits) sent
+  -- the writer was cut off in their report
+  pub record ChecksCut (o : Options) (d : List FrameType) (after start now : Option (List ℕ)) (xs : List ℕ) (sent : ℕ) : Type 0 where
+    pub all : IsAll o after xs
+    pub cut : Cuts start now (report_of o d (in_all f o xs).bits) sent
 
--- What the call answered, which read the octets xs, leaves its reader with `after`, and led its writer from `start` to `now`.
+  -- what the call answered, which read the octets xs, leaves its reader with `after`, and led its writer from `start` to `now`
+  abbrev pub ChecksBy : Options → Option (List ℕ) → Option (List ℕ) → Option (List ℕ) → List ℕ → Result Summary ToolFault → Type 0
+  ChecksBy o after start now xs (Ok s) = (d : List FrameType) × Begins o d × ChecksAll o d after start now xs s
+  ChecksBy o after start now xs (Err (Dictionary fault)) = DoesNothing o start now xs (Dictionary fault)
+  ChecksBy o after start now xs (Err Depth) = DoesNothing o start now xs Depth
+  ChecksBy o after start now xs (Err Origin) = DoesNothing o start now xs Origin
+  ChecksBy o after start now xs (Err Memory) = DoesNothing o start now xs Memory
+  ChecksBy o after start now xs (Err Read) = (d : List FrameType) × Begins o d × ChecksSoFar o start now xs
+  ChecksBy o after start now xs (Err ReadsLimit) = (d : List FrameType) × Begins o d × (o.reads ≤ length xs) × ChecksSoFar o start now xs
+  ChecksBy o after start now xs (Err (Write sent)) = (d : List FrameType) × Begins o d × ChecksCut o d after start now xs sent
+  ChecksBy o after start now xs (Err fault) = (d : List FrameType) × Begins o d × ChecksToFault o after start now xs fault
+
+-- What the call answered that checks a capture of one line, or of two: it read the octets xs, leaves its reader with `after`, and led its writer from `start` to `now`.
 abbrev pub Checks : Options → Option (List ℕ) → Option (List ℕ) → Option (List ℕ) → List ℕ → Result Summary ToolFault → Type 0
-Checks o after start now xs (Ok s) = (d : List FrameType) × Begins o d × ChecksAll o d after start now xs s
-Checks o after start now xs (Err (Dictionary fault)) = DoesNothing o start now xs (Dictionary fault)
-Checks o after start now xs (Err Depth) = DoesNothing o start now xs Depth
-Checks o after start now xs (Err Origin) = DoesNothing o start now xs Origin
-Checks o after start now xs (Err Memory) = DoesNothing o start now xs Memory
-Checks o after start now xs (Err Read) = (d : List FrameType) × Begins o d × ChecksSoFar o start now xs
-Checks o after start now xs (Err ReadsLimit) = (d : List FrameType) × Begins o d × (o.reads ≤ length xs) × ChecksSoFar o start now xs
-Checks o after start now xs (Err (Write sent)) = (d : List FrameType) × Begins o d × ChecksCut o d after start now xs sent
-Checks o after start now xs (Err fault) = (d : List FrameType) × Begins o d × ChecksToFault o after start now xs fault
+Checks o after start now xs r = by_lines o.two (ChecksBy one_line o after start now xs r) (ChecksBy two_lines o after start now xs r)

@@ -1,4 +1,7 @@
 -- What proofs and private functions speak of: the state behind a contract, and what holds of it between two steps.
+pub mod Taps
+pub mod OneLine
+pub mod TwoLines
 pub mod Watching
 pub mod Sessions
 pub mod Reading

@@ -1,14 +1,10 @@
 -- What a call that lists a capture did to its reader and its writer.
-use Rattle.std.specs.Prelude.{◌≡◌, ℕ, ◌≤◌, ◌⊎◌, Bool, List, [], ◌++◌, length, Option, None, Result, Ok, Err}
+use Rattle.std.specs.Prelude.{◌≡◌, ℕ, ◌≤◌, ◌⊎◌, Bool, true, false, List, [], ◌++◌, length, Option, None, Result, Ok, Err}
 use Rattle.std.specs.Io.KnownBytes.{Appends, IsAtEnd}
-use Rattle.bus_bits.specs.Capture.{Capture, CaptureFault}
-use Rattle.bus_line.specs.Due as line
+use Rattle.bus_bits.specs.Capture.{CaptureOf, CaptureFault}
 use Rattle.bus_dictionary.specs.Entry.{FrameType}
-use Rattle.bus_dictionary.specs.Dictionary.{longest_of}
-use Rattle.bus_watch.specs.Heard.{of_line}
-use Rattle.bus_watch.specs.Shown.{begun_span}
 use Rattle.bus_watch.specs.Talk.{pending}
-use Rattle.bus_capture.specs.Captures.{capture, whole_capture, seen_in, IsSameFault, HasFault}
+use Rattle.bus_capture.specs.Captures.{Form, one_line, two_lines, capture, whole_capture, heard_in, seen_in, IsSameFault, HasFault}
 use Rattle.bus_text.specs.Given.{printer_of}
 use Rattle.bus_text.specs.Listing.{listing, ending_text}
 use Rattle.bus_text.specs.Summary.{summary_of}
@@ -19,54 +15,24 @@ use Rattle.bus_text.specs.declared.summary.Summary.{Summary}
 use Rattle.bus_text.specs.declared.fault.ToolFault.{ToolFault}
 use Rattle.bus_text.specs.declared.fault.ToolFault.TheVariants.{Dictionary, Depth, Origin, Memory, Read, ReadsLimit, Write}
 
--- the bits of the octets so far, and their fault; and of octets that are the whole input
-abbrev pub so_far : Options → List ℕ → Capture
-so_far o xs = capture o.text o.origin xs
+module _ {X : Type 0} (f : Form X) where
+  -- the bits of the octets so far, and their fault; and of octets that are the whole input
+  abbrev pub so_far : Options → List ℕ → CaptureOf X
+  so_far o xs = capture f o.text o.origin xs
 
-abbrev pub in_all : Options → List ℕ → Capture
-in_all o xs = whole_capture o.text o.origin xs
+  abbrev pub in_all : Options → List ℕ → CaptureOf X
+  in_all o xs = whole_capture f o.text o.origin xs
 
--- the listing of bits, without the lines of the end
-abbrev pub listing_of : Options → List FrameType → List Bool → List ℕ
-listing_of o d b = listing (printer_of o) d (seen_in o.origin d b)
+  -- the listing of bits, without the lines of the end
+  abbrev pub listing_of : Options → List FrameType → List X → List ℕ
+  listing_of o d b = listing (printer_of o) d (seen_in f o.origin d b)
 
--- the lines of the end: a piece that has begun, and a command that waits
-abbrev pub ending_of : Options → List FrameType → List Bool → List ℕ
-ending_of o d b = ending_text (printer_of o) (begun_span o.origin b) (pending d (of_line (line.placed o.origin (longest_of d) b)))
+  -- the lines of the end: pieces that have begun, and a command that waits
+  abbrev pub ending_of : Options → List FrameType → List X → List ℕ
+  ending_of o d b = ending_text (printer_of o) (f.ending o.origin b (pending d (heard_in f o.origin d b)))
 
-abbrev pub whole_listing : Options → List FrameType → List Bool → List ℕ
-whole_listing o d b = listing_of o d b ++ ending_of o d b
-
--- these octets are the whole input and have no fault: their listing was written, with the lines of the end
-pub record ListsAll (o : Options) (d : List FrameType) (after start now : Option (List ℕ)) (xs : List ℕ) (s : Summary) : Type 0 where
-  pub at : IsAtEnd after
-  pub clean : (in_all o xs).fault ≡ None
-  pub out : Appends start now (whole_listing o d (in_all o xs).bits)
-  pub counts : s ≡ summary_of (seen_in o.origin d (in_all o xs).bits)
-
--- these octets have no fault: their listing was written, without the lines of the end
-pub record ListsSoFar (o : Options) (d : List FrameType) (start now : Option (List ℕ)) (xs : List ℕ) : Type 0 where
-  pub clean : (so_far o xs).fault ≡ None
-  pub out : Appends start now (listing_of o d (so_far o xs).bits)
-
--- they have this fault: the listing of the bits before it was written, without the lines of the end
-pub record ListsToFault (o : Options) (d : List FrameType) (after start now : Option (List ℕ)) (xs : List ℕ) (fault : ToolFault) : Type 0 where
-  pub cause : CaptureFault
-  pub answered : IsSameFault fault cause
-  pub found : HasFault o.text o.origin after xs cause
-  pub out : Appends start now (listing_of o d (so_far o xs).bits)
-
--- what is to be written of these octets: the lines of the end only where they are the whole input and have no fault
-abbrev pub Says : Options → List FrameType → Option (List ℕ) → List ℕ → List ℕ → Type 0
-Says o d after xs text =
-    (text ≡ listing_of o d (so_far o xs).bits)
-    ⊎ (IsAtEnd after × ((in_all o xs).fault ≡ None) × (text ≡ whole_listing o d (in_all o xs).bits))
-
--- the writer was cut off in it
-pub record ListsCut (o : Options) (d : List FrameType) (after start now : Option (List ℕ)) (xs : List ℕ) (sent : ℕ) : Type 0 where
-  pub text : List ℕ
-  pub said : Says o d after xs text
-  pub cut : Cuts start now text sent
+  abbrev pub whole_listing : Options → List FrameType → List X → List ℕ
+  whole_listing o d b = listing_of o d b ++ ending_of o d b
 
 -- the options can't be met: nothing was read, and nothing written
 pub record DoesNothing (o : Options) (start now : Option (List ℕ)) (xs : List ℕ) (fault : ToolFault) : Type 0 where
@@ -74,14 +40,55 @@ pub record DoesNothing (o : Options) (start now : Option (List ℕ)) (xs : List 
   pub unread : xs ≡ []
   pub unwritten : Appends start now []
 
--- What the call answered, which read the octets xs, leaves its reader with `after`, and led its writer from `start` to `now`.
+module _ {X : Type 0} (f : Form X) where
+  -- these octets are the whole input and have no fault: their listing was written, with the lines of the end
+  pub record ListsAll (o : Options) (d : List FrameType) (after start now : Option (List ℕ)) (xs : List ℕ) (s : Summary) : Type 0 where
+    pub at : IsAtEnd after
+    pub clean : (in_all f o xs).fault ≡ None
+    pub out : Appends start now (whole_listing f o d (in_all f o xs).bits)
+    pub counts : s ≡ summary_of (seen_in f o.origin d (in_all f o xs).bits)
+
+  -- these octets have no fault: their listing was written, without the lines of the end
+  pub record ListsSoFar (o : Options) (d : List FrameType) (start now : Option (List ℕ)) (xs : List ℕ) : Type 0 where
+    pub clean : (so_far f o xs).fault ≡ None
+    pub out : Appends start now (listing_of f o d (so_far f o xs).bits)
+
+  -- they have this fault: the listing of the bits before it was written, without the lines of the end
+  pub record ListsToFault (o : Options) (d : List FrameType) (after start now : Option (List ℕ)) (xs : List ℕ) (fault : ToolFault) : Type 0 where
+    pub cause : CaptureFault
+    pub answered : IsSameFault fault cause
+    pub found : HasFault f o.text o.origin after xs cause
+    pub out : Appends start now (listing_of f o d (so_far f o xs).bits)
+
+  -- what is to be written of these octets: the lines of the end only where they are the whole input and have no fault
+  abbrev pub Says : Options → List FrameType → Option (List ℕ) → List ℕ → List ℕ → Type 0
+  Says o d after xs text =
+      (text ≡ listing_of f o d (so_far f o xs).bits)
+      ⊎ (IsAtEnd after × ((in_all f o xs).fault ≡ None) × (text ≡ whole_listing f o d (in_all f o xs).bits))
+
+  -- the writer was cut off in it
+  pub record ListsCut (o : Options) (d : List FrameType) (after start now : Option (List ℕ)) (xs : List ℕ) (sent : ℕ) : Type 0 where
+    pub text : List ℕ
+    pub said : Says o d after xs text
+    pub cut : Cuts start now text sent
+
+  -- what the call answered, which read the octets xs, leaves its reader with `after`, and led its writer from `start` to `now`
+  abbrev pub ListsBy : Options → Option (List ℕ) → Option (List ℕ) → Option (List ℕ) → List ℕ → Result Summary ToolFault → Type 0
+  ListsBy o after start now xs (Ok s) = (d : List FrameType) × Begins o d × ListsAll o d after start now xs s
+  ListsBy o after start now xs (Err (Dictionary fault)) = DoesNothing o start now xs (Dictionary fault)
+  ListsBy o after start now xs (Err Depth) = DoesNothing o start now xs Depth
+  ListsBy o after start now xs (Err Origin) = DoesNothing o start now xs Origin
+  ListsBy o after start now xs (Err Memory) = DoesNothing o start now xs Memory
+  ListsBy o after start now xs (Err Read) = (d : List FrameType) × Begins o d × ListsSoFar o d start now xs
+  ListsBy o after start now xs (Err ReadsLimit) = (d : List FrameType) × Begins o d × (o.reads ≤ length xs) × ListsSoFar o d start now xs
+  ListsBy o after start now xs (Err (Write sent)) = (d : List FrameType) × Begins o d × ListsCut o d after start now xs sent
+  ListsBy o after start now xs (Err fault) = (d : List FrameType) × Begins o d × ListsToFault o d after start now xs fault
+
+-- as it is of two lines, or of one
+abbrev pub by_lines : Bool → Type 0 → Type 0 → Type 0
+by_lines false one two = one
+by_lines true one two = two
+
+-- What the call answered that lists a capture of one line, or of two: it read the octets xs, leaves its reader with `after`, and led its writer from `start` to `now`.
 abbrev pub Lists : Options → Option (List ℕ) → Option (List ℕ) → Option (List ℕ) → List ℕ → Result Summary ToolFault → Type 0
-Lists o after start now xs (Ok s) = (d : List FrameType) × Begins o d × ListsAll o d after start now xs s
-Lists o after start now xs (Err (Dictionary fault)) = DoesNothing o start now xs (Dictionary fault)
-Lists o after start now xs (Err Depth) = DoesNothing o start now xs Depth
-Lists o after start now xs (Err Origin) = DoesNothing o start now xs Origin
-Lists o after start now xs (Err Memory) = DoesNothing o start now xs Memory
-Lists o after start now xs (Err Read) = (d : List FrameType) × Begins o d × ListsSoFar o d start now xs
-Lists o after start now xs (Err ReadsLimit) = (d : List FrameType) × Begins o d × (o.reads ≤ length xs) × ListsSoFar o d start now xs
-Lists o after start now xs (Err (Write sent)) = (d : List FrameType) × Begins o d × ListsCut o d after start now xs sent
-Lists o after start now xs (Err fault) = (d : List FrameType) × Begins o d × ListsToFault o d after start now xs fault
+Lists o after start now xs r = by_lines o.two (ListsBy one_line o after start now xs r) (ListsBy two_lines o after start now xs r)

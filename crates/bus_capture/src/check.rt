@@ -2,14 +2,14 @@
 
 ghost use Rattle.std.specs.Prelude.{ℕ, List, IfSome};
 ghost use Rattle.std.specs.Io.KnownBytes.{Consumes};
-ghost use Rattle.bus_capture.specs.Checks.{Checks};
-ghost use Rattle.bus_capture.specs.Known.{ChecksKnown};
+ghost use Rattle.bus_capture.specs.Checks.{Checks, ChecksBy};
+ghost use Rattle.bus_capture.specs.Known.{ChecksKnown, ChecksKnownBy};
 
 use crate::reader::CaptureReader;
-use bus_bits::laws::captures_grow;
+use crate::tap::Tap;
 use bus_fcs::OctetCheck;
 use bus_text::{Options, Summary, ToolFault};
-use bus_watch::laws::seen_grows;
+use bus_watch::{Analyser, PairAnalyser};
 use std::alloc::Global;
 use std::io::{Read, Write};
 
@@ -35,9 +35,27 @@ pub fn check_capture<R: Read, W: Write>(
     ensures known { IfSome (R.remaining r.old)
         (λ all. ChecksKnown o.now (W.contents w.old) (W.contents w.new) all result) }
 {
-    captures_grow();
-    seen_grows();
-    let mut reader = CaptureReader::<OctetCheck>::new(alloc, o, None)?;
+    if o.two {
+        check_lines::<PairAnalyser<OctetCheck>, R, W>(alloc, o, r, w)
+    } else {
+        check_lines::<Analyser<OctetCheck>, R, W>(alloc, o, r, w)
+    }
+}
+
+/// Checks a capture of one line or of two.
+fn check_lines<T: Tap, R: Read, W: Write>(
+    alloc: Global,
+    o: &Options<'_>,
+    r: &mut R,
+    w: &mut W,
+) -> Result<Summary, ToolFault>
+    ensures checked { (xs : List ℕ) × Consumes (R.remaining r.old) (R.remaining r.new) xs
+        × ChecksBy T.tap.form o.now (R.remaining r.new) (W.contents w.old) (W.contents w.new) xs result }
+    ensures known { IfSome (R.remaining r.old)
+        (λ all. ChecksKnownBy T.tap.form o.now (W.contents w.old) (W.contents w.new) all result) }
+{
+    T::laws();
+    let mut reader = CaptureReader::<T, T::Body>::new(alloc, o, None)?;
     reader.take_input(o.reads, r, w)?;
     reader.run.report(w)
 }

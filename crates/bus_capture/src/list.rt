@@ -4,19 +4,19 @@ ghost use Rattle.std.specs.Prelude.{◌≡◌, ◌<◌, ◌^◌, ℕ, List, Opti
 ghost use Rattle.bus_text.specs.Internal.Pages.{Pages};
 ghost use Rattle.bus_capture.specs.Internal.Closes.{IsNoWrite, Closes};
 ghost use Rattle.std.specs.Io.KnownBytes.{Consumes};
-ghost use Rattle.bus_capture.specs.Lists.{Lists};
-ghost use Rattle.bus_capture.specs.Known.{ListsKnown};
+ghost use Rattle.bus_capture.specs.Lists.{Lists, ListsBy};
+ghost use Rattle.bus_capture.specs.Known.{ListsKnown, ListsKnownBy};
 
 use crate::reader::CaptureReader;
-use bus_bits::laws::captures_grow;
+use crate::tap::Tap;
 use bus_fcs::OctetCheck;
 use bus_text::{Options, Page, Printer, Summary, ToolFault};
-use bus_watch::laws::seen_grows;
+use bus_watch::{Analyser, PairAnalyser};
 use std::alloc::Global;
 use std::io::{Read, Write};
 
 /// Lists the reports of a capture: a line for each report as it is decided, with what
-/// the dictionary says of a frame, one for each verdict and each stray, and at the end one for a
+/// the dictionary says of a frame, one for each verdict and each stray, and at the end one for each
 /// piece that has begun and one for a command that waits. Returns how often each thing was seen,
 /// whatever lines are wanted.
 ///
@@ -45,9 +45,27 @@ pub fn list_capture<R: Read, W: Write>(
     ensures known { IfSome (R.remaining r.old)
         (λ all. ListsKnown o.now (W.contents w.old) (W.contents w.new) all result) }
 {
-    captures_grow();
-    seen_grows();
-    let mut reader = CaptureReader::<OctetCheck>::new(alloc, o, Some(Printer::of(o)))?;
+    if o.two {
+        list_lines::<PairAnalyser<OctetCheck>, R, W>(alloc, o, r, w)
+    } else {
+        list_lines::<Analyser<OctetCheck>, R, W>(alloc, o, r, w)
+    }
+}
+
+/// Lists a capture of one line or of two.
+fn list_lines<T: Tap, R: Read, W: Write>(
+    alloc: Global,
+    o: &Options<'_>,
+    r: &mut R,
+    w: &mut W,
+) -> Result<Summary, ToolFault>
+    ensures listed { (xs : List ℕ) × Consumes (R.remaining r.old) (R.remaining r.new) xs
+        × ListsBy T.tap.form o.now (R.remaining r.new) (W.contents w.old) (W.contents w.new) xs result }
+    ensures known { IfSome (R.remaining r.old)
+        (λ all. ListsKnownBy T.tap.form o.now (W.contents w.old) (W.contents w.new) all result) }
+{
+    T::laws();
+    let mut reader = CaptureReader::<T, T::Body>::new(alloc, o, Some(Printer::of(o)))?;
     match reader.take_input(o.reads, r, w) {
         Ok(()) => reader.run.end(w),
         Err(fault) => Err(close_behind(fault, &mut reader.run.page, w)),

@@ -5,7 +5,7 @@ ghost use Rattle.std.specs.Io.KnownBytes.{Consumes};
 ghost use Rattle.bus_bits.specs.Capture.{CaptureFault};
 ghost use Rattle.bus_dictionary.specs.Entry.{FrameType};
 ghost use Rattle.bus_capture.specs.Begins.{Begins, Refuses};
-ghost use Rattle.bus_capture.specs.Internal.Asked.{IsAsked};
+ghost use Rattle.bus_capture.specs.Internal.Asked.{IsMade};
 ghost use Rattle.bus_capture.specs.Captures.{unplaced, unplaced_whole, IsSameFault};
 ghost use Rattle.bus_capture.specs.Internal.Sessions.{IsReadBy, Follows, Stops, is_text};
 ghost use Rattle.bus_capture.specs.Internal.Reading.{octets_taken, IsWhole, IsFaulty, Finishes};
@@ -13,11 +13,10 @@ ghost use Rattle.bus_capture.specs.Internal.Watching.{IsSound, IsSame};
 
 use crate::packed::PackedCapture;
 use crate::run::CaptureRun;
+use crate::tap::Tap;
 use crate::text::TextCapture;
-use bus_bits::laws::packed_is_head_and_body;
-use bus_fcs::Check;
 use bus_text::{Options, Page, Printer, Summary, ToolFault, read_dictionary};
-use bus_watch::{Analyser, NewFault};
+use bus_watch::NewFault;
 use std::alloc::Global;
 use std::io::{Read, Write};
 
@@ -26,26 +25,27 @@ const ROOM: usize = 16384;
 
 /// What a capture is, as far as it was read.
 #[derive(Drop)]
-pub enum Source {
+pub enum Source<B> {
     Text(TextCapture),
-    Packed(PackedCapture),
+    Packed(PackedCapture<B>),
 }
 
 /// A capture that is read, and what is seen at its bits.
 #[derive(Drop)]
-pub struct CaptureReader<C: Check> {
-    pub source: Source,
-    pub run: CaptureRun<C>,
+pub struct CaptureReader<T, B> {
+    pub source: Source<B>,
+    pub run: CaptureRun<T>,
 }
 
 /// An analyser by the dictionary and the depth and the origin that are asked for.
-fn new_analyser<C: Check>(alloc: Global, options: &Options<'_>) -> Result<Analyser<C>, ToolFault>
+fn new_analyser<T: Tap>(alloc: Global, options: &Options<'_>) -> Result<T, ToolFault>
     ensures { MatchResult result
-        (λ analyser. (d : List FrameType) × Begins options.now d × IsAsked C.folded C.COST options.now d analyser)
+        (λ analyser. (d : List FrameType) × Begins options.now d
+        × IsMade T.tap.watch d options.now.depth options.now.origin analyser)
         (λ fault. Refuses options.now fault) }
 {
     let dictionary = read_dictionary(alloc, options.dictionary)?;
-    match Analyser::new(alloc, dictionary, options.depth, options.origin) {
+    match T::new(alloc, dictionary, options.depth, options.origin) {
         Ok(analyser) => Ok(analyser),
         Err(NewFault::DepthRange) => Err(ToolFault::Depth),
         Err(NewFault::Origin) => Err(ToolFault::Origin),
@@ -53,7 +53,7 @@ fn new_analyser<C: Check>(alloc: Global, options: &Options<'_>) -> Result<Analys
     }
 }
 
-impl<C: Check> CaptureReader<C> {
+impl<T: Tap> CaptureReader<T, T::Body> {
     /// No octets of the capture that the options tell of.
     pub fn new(
         alloc: Global,
@@ -62,15 +62,16 @@ impl<C: Check> CaptureReader<C> {
     ) -> Result<Self, ToolFault>
         ensures made { MatchResult result
             (λ reader. (d : List FrameType) × Begins options.now d
-            × IsAsked C.folded C.COST options.now d reader.run.analyser)
+            × IsMade T.tap.watch d options.now.depth options.now.origin reader.run.analyser)
             (λ fault. Refuses options.now fault) }
         ensures fresh { IfOk result
-            (λ reader. (start : Option (List ℕ)) → Follows C.folded C.COST start start reader.source reader.run []) }
+            (λ reader. (start : Option (List ℕ)) → Follows T.tap start start reader.source reader.run []) }
         ensures given { IfOk result
             (λ reader. (is_text reader.source ≡ options.now.text) × (reader.run.printer ≡ printer)
             × (octets_taken reader.source ≡ 0)) }
-        ensures sound { IfOk result (λ reader. IsSound reader.run) }
+        ensures sound { IfOk result (λ reader. IsSound T.tap reader.run) }
     {
+        T::laws();
         let analyser = new_analyser(alloc, options)?;
         let source = if options.text {
             Source::Text(TextCapture { at: 0 })
@@ -90,17 +91,17 @@ impl<C: Check> CaptureReader<C> {
 
     /// Takes some octets, up to the first fault.
     fn take<W: Write>(&mut self, octets: &[u8], w: &mut W) -> Result<(), ToolFault>
-        requires sound { IsSound self.old.run }
+        requires sound { IsSound T.tap self.old.run }
         requires few { octets_taken self.old.source + length octets.now < 2 ^ 100 }
         ensures taken { (start : Option (List ℕ)) (xs : List ℕ) →
-            Follows C.folded C.COST start (W.contents w.old) self.old.source self.old.run xs → MatchResult result
-            (λ _. Follows C.folded C.COST start (W.contents w.new) self.new.source self.new.run (xs ++ octets.now))
-            (λ fault. Stops C.folded C.COST (is_text self.old.source) start (W.contents w.new) self.new.run
+            Follows T.tap start (W.contents w.old) self.old.source self.old.run xs → MatchResult result
+            (λ _. Follows T.tap start (W.contents w.new) self.new.source self.new.run (xs ++ octets.now))
+            (λ fault. Stops T.tap (is_text self.old.source) start (W.contents w.new) self.new.run
             (xs ++ octets.now) fault) }
         ensures text { is_text self.new.source ≡ is_text self.old.source }
         ensures few { OnOk result (octets_taken self.new.source ≤ octets_taken self.old.source + length octets.now) }
-        ensures same { IsSame self.old.run self.new.run }
-        ensures sound { IsSound self.new.run }
+        ensures same { IsSame T.tap self.old.run self.new.run }
+        ensures sound { IsSound T.tap self.new.run }
     {
         match &mut self.source {
             Source::Text(text) => text.take(octets, &mut self.run, w),
@@ -110,34 +111,34 @@ impl<C: Check> CaptureReader<C> {
 
     /// What is wrong where the input ends here.
     fn finish(&self) -> Result<(), ToolFault>
-        ensures { (xs : List ℕ) → IsReadBy self.now.source xs → MatchResult result
-            (λ _. unplaced_whole (is_text self.now.source) xs
-            ≡ record { bits = (unplaced (is_text self.now.source) xs).bits; fault = None })
+        ensures { (xs : List ℕ) → IsReadBy T.tap self.now.source xs → MatchResult result
+            (λ _. unplaced_whole T.tap.form (is_text self.now.source) xs
+            ≡ record { bits = (unplaced T.tap.form (is_text self.now.source) xs).bits; fault = None })
             (λ fault. (cause : CaptureFault) × IsSameFault fault cause
-            × (unplaced_whole (is_text self.now.source) xs
-            ≡ record { bits = (unplaced (is_text self.now.source) xs).bits; fault = Some cause })) }
+            × (unplaced_whole T.tap.form (is_text self.now.source) xs
+            ≡ record { bits = (unplaced T.tap.form (is_text self.now.source) xs).bits; fault = Some cause })) }
     {
         match &self.source {
             Source::Text(_) => Ok(()),
-            Source::Packed(packed) => packed.finish(),
+            Source::Packed(packed) => packed.finish::<T>(),
         }
     }
 
     /// Takes what one read gave, and writes its lines.
     fn take_read<W: Write>(&mut self, octets: &[u8], w: &mut W) -> Result<(), ToolFault>
-        requires sound { IsSound self.old.run }
+        requires sound { IsSound T.tap self.old.run }
         requires few { octets_taken self.old.source + length octets.now < 2 ^ 100 }
         ensures taken { (start : Option (List ℕ)) (xs : List ℕ) →
-            Follows C.folded C.COST start (W.contents w.old) self.old.source self.old.run xs → MatchResult result
-            (λ _. Follows C.folded C.COST start (W.contents w.new) self.new.source self.new.run (xs ++ octets.now))
-            (λ fault. Stops C.folded C.COST (is_text self.old.source) start (W.contents w.new) self.new.run
+            Follows T.tap start (W.contents w.old) self.old.source self.old.run xs → MatchResult result
+            (λ _. Follows T.tap start (W.contents w.new) self.new.source self.new.run (xs ++ octets.now))
+            (λ fault. Stops T.tap (is_text self.old.source) start (W.contents w.new) self.new.run
             (xs ++ octets.now) fault) }
         ensures text { is_text self.new.source ≡ is_text self.old.source }
         ensures few { OnOk result (octets_taken self.new.source ≤ octets_taken self.old.source + length octets.now) }
-        ensures same { IsSame self.old.run self.new.run }
-        ensures sound { IsSound self.new.run }
+        ensures same { IsSame T.tap self.old.run self.new.run }
+        ensures sound { IsSound T.tap self.new.run }
     {
-        packed_is_head_and_body();
+        T::laws();
         self.take(octets, w)?;
         self.run.page.write_out(w)?;
         Ok(())
@@ -150,17 +151,17 @@ impl<C: Check> CaptureReader<C> {
         r: &mut R,
         w: &mut W,
     ) -> Result<(), ToolFault>
-        requires sound { IsSound self.old.run }
+        requires sound { IsSound T.tap self.old.run }
         requires fresh { (start : Option (List ℕ)) →
-            Follows C.folded C.COST start start self.old.source self.old.run [] }
+            Follows T.tap start start self.old.source self.old.run [] }
         requires few { octets_taken self.old.source ≡ 0 }
         ensures read { (xs : List ℕ) × Consumes (R.remaining r.old) (R.remaining r.new) xs
-            × Finishes C.folded C.COST (is_text self.old.source) reads (R.remaining r.new) (W.contents w.old)
+            × Finishes T.tap (is_text self.old.source) reads (R.remaining r.new) (W.contents w.old)
             (W.contents w.new) self.new.run xs result }
-        ensures same { IsSame self.old.run self.new.run }
-        ensures sound { IsSound self.new.run }
+        ensures same { IsSame T.tap self.old.run self.new.run }
+        ensures sound { IsSound T.tap self.new.run }
     {
-        packed_is_head_and_body();
+        T::laws();
         let mut buffer = [0; ROOM];
         for _turn in 0..reads {
             let count = match r.read(&mut buffer) {

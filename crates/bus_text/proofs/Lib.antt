@@ -2,5 +2,4 @@ pub mod KnownBytesLemmas
 pub mod PagesLemmas
 pub mod ListingLemmas
 pub mod SummaryLemmas
-pub mod CheckTextLemmas
 pub mod ShowLemmas

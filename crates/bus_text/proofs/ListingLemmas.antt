@@ -46,10 +46,10 @@ listing-append p d xs ys = ap (text_of p.filter) (flat_map-append (seen_lines p.
 
 -- the listing of one report is its own line, and the lines behind it
 pub listing-one : (p : Printer) (d : List FrameType) (s : SeenReport)
-    → listing p d (s ∷ []) ≡ text_of p.filter (report_line p.heads d s ∷ []) ++ (text_of p.filter (option_to_list (option_map verdict_line s.verdict)) ++ text_of p.filter (stray_lines p.heads s))
+    → listing p d (s ∷ []) ≡ text_of p.filter (report_line p.heads d s ∷ []) ++ (text_of p.filter (option_to_list (option_map (verdict_line s.line) s.verdict)) ++ text_of p.filter (stray_lines p.heads s))
 listing-one p d s =
     let own = report_line p.heads d s in
-    let verdict = option_to_list (option_map verdict_line s.verdict) in
+    let verdict = option_to_list (option_map (verdict_line s.line) s.verdict) in
     let stray = stray_lines p.heads s in
     ap (text_of p.filter) (append-nil (seen_lines p.heads d s))
     ∙ text-append p.filter (own ∷ []) (verdict ++ stray)
@@ -57,10 +57,10 @@ listing-one p d s =
 
 -- they were put, one behind the other
 pub put-one : (p : Printer) (d : List FrameType) (s : SeenReport) (page own verdict all : List ℕ)
-    → own ≡ page ++ text_of p.filter (report_line p.heads d s ∷ []) → verdict ≡ own ++ text_of p.filter (option_to_list (option_map verdict_line s.verdict))
+    → own ≡ page ++ text_of p.filter (report_line p.heads d s ∷ []) → verdict ≡ own ++ text_of p.filter (option_to_list (option_map (verdict_line s.line) s.verdict))
     → all ≡ verdict ++ text_of p.filter (stray_lines p.heads s) → all ≡ page ++ listing p d (s ∷ [])
 put-one p d s page own verdict all e f g =
     let x = text_of p.filter (report_line p.heads d s ∷ []) in
-    let y = text_of p.filter (option_to_list (option_map verdict_line s.verdict)) in
+    let y = text_of p.filter (option_to_list (option_map (verdict_line s.line) s.verdict)) in
     let z = text_of p.filter (stray_lines p.heads s) in
     g ∙ ap (λ t. t ++ z) (f ∙ ap (λ t. t ++ y) e) ∙ append_assoc (page ++ x) y z ∙ append_assoc page x (y ++ z) ∙ sym (ap (λ t. page ++ t) (listing-one p d s))

@@ -1,10 +1,12 @@
 -- The report of a check.
-use Rattle.std.specs.Prelude.{ℕ, ◌==◌, ◌&&◌, Bool, List, [], ◌++◌, codes, decimal, if◌then◌else◌}
+use Rattle.std.specs.Prelude.{ℕ, ◌==◌, ◌&&◌, Bool, List, [], ◌++◌, codes, decimal, if◌then◌else◌, Option, Some, None}
 use Rattle.std.specs.List.{flat_map}
 use Rattle.bus_line.specs.Due.{places}
 use Rattle.bus_watch.specs.History.{KeptFrame}
 use Rattle.bus_watch.specs.declared.counts.Counts.{Counts}
-use Rattle.bus_text.specs.Listing.{hex_of, span_text}
+use Rattle.bus_bits.specs.declared.span.Span.{Span}
+use Rattle.bus_watch.specs.declared.line.Line.{Line}
+use Rattle.bus_text.specs.Listing.{hex_of, line_number, span_text}
 use Rattle.bus_text.specs.declared.summary.Summary.{Summary}
 
 abbrev pub count_text : List ℕ → ℕ → List ℕ
@@ -35,12 +37,16 @@ unfoldable pub tallies_text : (ℕ → Counts) → ℕ → List ℕ
 tallies_text tally n = flat_map (λ station. tally_text station (tally station)) (places n)
 
 -- the line of a frame that is kept
-abbrev pub kept_text : KeptFrame → List ℕ
-kept_text k = codes "last " ++ span_text k.span ++ hex_of k.octets ++ codes "\n"
+abbrev pub last_text : Option Line → Span → List ℕ → List ℕ
+last_text line span octets = codes "last " ++ line_number line ++ span_text span ++ hex_of octets ++ codes "\n"
 
-abbrev pub history_text : List KeptFrame → List ℕ
-history_text history = flat_map kept_text history
+-- with the number of its line, where there are two
+abbrev pub kept_text : Bool → KeptFrame → List ℕ
+kept_text two k = last_text (if two then Some k.line else None) k.span k.octets
 
--- the counts, the verdicts of each station by rising number, and the history, the oldest first
-abbrev pub check_text : Summary → (ℕ → Counts) → List KeptFrame → List ℕ
-check_text summary tally history = summary_text summary ++ tallies_text tally 256 ++ history_text history
+abbrev pub history_text : Bool → List KeptFrame → List ℕ
+history_text two history = flat_map (kept_text two) history
+
+-- the counts, the verdicts of each station by rising number, and the history, the oldest first, of one line or of two
+abbrev pub check_text : Bool → Summary → (ℕ → Counts) → List KeptFrame → List ℕ
+check_text two summary tally history = summary_text summary ++ tallies_text tally 256 ++ history_text two history

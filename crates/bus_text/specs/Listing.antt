@@ -12,6 +12,8 @@ use Rattle.bus_dictionary.specs.Entry.{FrameType}
 use Rattle.bus_dictionary.specs.declared.standing.Standing.{Standing}
 use Rattle.bus_dictionary.specs.Standing.{station_in, type_in}
 use Rattle.bus_watch.specs.Seen.{SeenReport, type_of}
+use Rattle.bus_watch.specs.declared.line.Line as on
+use Rattle.bus_watch.specs.declared.line.Line.TheVariants.{First, Second}
 use Rattle.bus_watch.specs.declared.outcome.Outcome.{Outcome}
 use Rattle.bus_watch.specs.declared.outcome.Outcome.TheVariants.{Answered, Late, Missing, Spoilt}
 use Rattle.bus_watch.specs.declared.verdict.Verdict.{Verdict}
@@ -61,6 +63,17 @@ report_kind report.Idle = kind.Idle
 abbrev pub span_text : Span → List ℕ
 span_text span = decimal span.first ++ codes " " ++ decimal span.past ++ codes " "
 
+-- of two lines, what is said of one begins with its number; of the only line nothing is said
+abbrev pub line_number : Option on.Line → List ℕ
+line_number None = []
+line_number (Some First) = codes "1 "
+line_number (Some Second) = codes "2 "
+
+-- the line on which the commands are, of which verdicts are said: the only one, or the first of two
+abbrev pub line_of_commands : Option on.Line → Option on.Line
+line_of_commands None = None
+line_of_commands (Some line) = Some First
+
 -- a line: its text, and what a filter asks of it
 pub record Line : Type 0 where
   pub kind : Kind
@@ -77,22 +90,22 @@ abbrev pub head_part : Bool → List FrameType → Option Standing → List ℕ
 head_part heads d None = []
 head_part heads d (Some s) = if heads then codes " " ++ head_text s d else []
 
--- the line of a report: its places, what it is, and what the head of a frame says
+-- the line of a report: on which line, its places, what it is, and what the head of a frame says
 abbrev pub report_line : Bool → List FrameType → SeenReport → Line
 report_line heads d s = record {
   kind = report_kind s.report.kind;
   station = station_of s.standing;
   ftype = type_of s.standing;
-  text = (span_text (span_of s.report) ++ report_word s.report.kind) ++ head_part heads d s.standing ++ codes "\n";
+  text = line_number s.line ++ (span_text (span_of s.report) ++ report_word s.report.kind) ++ head_part heads d s.standing ++ codes "\n";
 }
 
 -- a line about a frame of this station and type
-abbrev pub frame_line : Kind → Span → ℕ → ℕ → Line
-frame_line kind span station ftype = record {
+abbrev pub frame_line : Option on.Line → Kind → Span → ℕ → ℕ → Line
+frame_line line kind span station ftype = record {
   kind = kind;
   station = Some station;
   ftype = Some ftype;
-  text = span_text span ++ kind_word kind ++ codes " " ++ station_text station ftype ++ codes "\n";
+  text = line_number line ++ span_text span ++ kind_word kind ++ codes " " ++ station_text station ftype ++ codes "\n";
 }
 
 abbrev pub outcome_kind : Outcome → Kind
@@ -101,35 +114,45 @@ outcome_kind Missing = kind.Missing
 outcome_kind Spoilt = kind.Spoilt
 outcome_kind Late = kind.Late
 
--- the line of a verdict: with the places of its command
-abbrev pub verdict_line : Verdict → Line
-verdict_line v = frame_line (outcome_kind v.outcome) v.span v.station v.ftype
+-- the line of a verdict that a report on this line decides: with the places of its command
+abbrev pub verdict_line : Option on.Line → Verdict → Line
+verdict_line line v = frame_line (line_of_commands line) (outcome_kind v.outcome) v.span v.station v.ftype
 
 -- the line of a stray, where its type is known
-abbrev pub stray_line : Span → Standing → Option Line
-stray_line span s = option_map (frame_line kind.Stray span (station_in s)) (type_in s)
+abbrev pub stray_line : Option on.Line → Span → Standing → Option Line
+stray_line line span s = option_map (frame_line line kind.Stray span (station_in s)) (type_in s)
 
 -- the line of a frame at these places, if it is a stray; only where there is a dictionary
-abbrev pub strays_at : Bool → Bool → Span → Option Standing → List Line
-strays_at heads stray span standing = if heads && stray then flat_map (λ s. option_to_list (stray_line span s)) (option_to_list standing) else []
+abbrev pub strays_at : Option on.Line → Bool → Bool → Span → Option Standing → List Line
+strays_at line heads stray span standing = if heads && stray then flat_map (λ s. option_to_list (stray_line line span s)) (option_to_list standing) else []
 
 abbrev pub stray_lines : Bool → SeenReport → List Line
-stray_lines heads s = strays_at heads s.stray (span_of s.report) s.standing
+stray_lines heads s = strays_at s.line heads s.stray (span_of s.report) s.standing
 
 -- the lines of a report: its own, that of the verdict that it decides, and that of a stray
 abbrev pub seen_lines : Bool → List FrameType → SeenReport → List Line
-seen_lines heads d s = report_line heads d s ∷ option_to_list (option_map verdict_line s.verdict) ++ stray_lines heads s
+seen_lines heads d s = report_line heads d s ∷ option_to_list (option_map (verdict_line s.line) s.verdict) ++ stray_lines heads s
 
 -- a piece that has begun
-abbrev pub begun_line : Span → Line
-begun_line span = record { kind = kind.Begun; station = None; ftype = None; text = span_text span ++ kind_word kind.Begun ++ codes "\n" }
+abbrev pub begun_line : Option on.Line → Span → Line
+begun_line line span = record { kind = kind.Begun; station = None; ftype = None; text = line_number line ++ span_text span ++ kind_word kind.Begun ++ codes "\n" }
 
-abbrev pub pending_line : Pending → Line
-pending_line p = frame_line kind.Pending p.span p.station p.ftype
+abbrev pub pending_line : Option on.Line → Pending → Line
+pending_line line p = frame_line line kind.Pending p.span p.station p.ftype
 
--- the lines of the end
+abbrev pub begun_lines : Option on.Line → Option Span → List Line
+begun_lines line begun = option_to_list (option_map (begun_line line) begun)
+
+abbrev pub pending_lines : Option on.Line → Option Pending → List Line
+pending_lines line pending = option_to_list (option_map (pending_line line) pending)
+
+-- the lines of the end: a piece that has begun, and a command that waits
 abbrev pub ending_lines : Option Span → Option Pending → List Line
-ending_lines begun pending = option_to_list (option_map begun_line begun) ++ option_to_list (option_map pending_line pending)
+ending_lines begun pending = begun_lines None begun ++ pending_lines None pending
+
+-- of two lines: such a piece of the first, one of the second, and a command that waits
+abbrev pub pair_ending_lines : Option Span → Option Span → Option Pending → List Line
+pair_ending_lines first second pending = begun_lines (Some First) first ++ begun_lines (Some Second) second ++ pending_lines (Some First) pending
 
 -- what is wanted, if anything is, is what a line has
 abbrev pub agrees : Option ℕ → Option ℕ → Bool
@@ -160,6 +183,6 @@ lines_of heads d seen = flat_map (seen_lines heads d) seen
 abbrev pub listing : Printer → List FrameType → List SeenReport → List ℕ
 listing p d seen = text_of p.filter (lines_of p.heads d seen)
 
--- the text of the end
-abbrev pub ending_text : Printer → Option Span → Option Pending → List ℕ
-ending_text p begun pending = text_of p.filter (ending_lines begun pending)
+-- the text of some lines of the end
+abbrev pub ending_text : Printer → List Line → List ℕ
+ending_text p lines = text_of p.filter lines

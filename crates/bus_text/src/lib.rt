@@ -23,6 +23,6 @@ pub use options::Options;
 pub use page::Page;
 pub use printer::Printer;
 pub use put::{ShortWrite, put_text};
-pub use report::put_report;
+pub use report::{put_kept, put_summary, put_tally};
 pub use show::{read_dictionary, show_frame};
 pub use summary::Summary;

@@ -3,15 +3,16 @@
 ghost use Rattle.std.specs.Prelude.{◌≡◌, ◌+◌, ◌*◌, ◌++◌, ◌<◌, ◌≤◌, ◌^◌, length, decimal, codes};
 ghost use Rattle.arrayvec.specs.ArrayString.{array_string_len};
 ghost use Rattle.bus_line.specs.Shown.{kind_with, reported, span_of};
-ghost use Rattle.bus_text.specs.Listing.{hex_digit, hex_octet, hex_of, cause_word, span_text, report_word};
+ghost use Rattle.bus_text.specs.Listing.{hex_digit, hex_octet, hex_of, cause_word, line_number, span_text, report_word};
 ghost use Rattle.bus_text.specs.HeadText.{station_text};
 
 use arrayvec::ArrayString;
 use bus_line::{Cause, Event, EventKind, Span};
+use bus_watch::Line;
 use itoa::Buffer;
 
 /// A line of a frame that is shown; the longest is shorter.
-pub type Line = ArrayString<640>;
+pub type FrameLine = ArrayString<640>;
 
 /// The lower-case hexadecimal digits.
 const DIGITS: [u8; 16] = *b"0123456789abcdef";
@@ -76,6 +77,19 @@ pub fn push_station<const N: usize>(line: &mut ArrayString<N>, station: u8, ftyp
     push_octet_number(line, station);
     line.push_str(" type ");
     push_octet_number(line, ftype);
+}
+
+/// Appends the number of one of two lines, followed by a space; of the only line nothing is said.
+pub fn push_line<const N: usize>(text: &mut ArrayString<N>, line: Option<Line>)
+    requires { array_string_len text.old + 2 ≤ N }
+    ensures bytes { text.new.bytes ≡ text.old.bytes ++ line_number line }
+    ensures len { array_string_len text.new ≤ array_string_len text.old + 2 }
+{
+    match line {
+        None => {}
+        Some(Line::First) => text.push_str("1 "),
+        Some(Line::Second) => text.push_str("2 "),
+    }
 }
 
 /// Appends two places, each followed by a space.

@@ -9,6 +9,8 @@ pub struct Options<'a> {
     pub dictionary: Option<&'a str>,
     /// The capture is text, and else it is packed.
     pub text: bool,
+    /// It is of two lines, and else of one.
+    pub two: bool,
     /// The place of the first bit, at most 2^60.
     pub origin: u64,
     /// How many frames the history keeps, 1 to 1024.

@@ -13,8 +13,8 @@ use std::io::Write;
 /// The room of a page, in octets.
 const ROOM: usize = 16384;
 
-/// The most octets that one report adds.
-const MOST: usize = 1024;
+/// The most octets that one place adds: two lines may each have a report there.
+const MOST: usize = 2048;
 
 /// Lines that are not written yet, and how many octets were written before them.
 #[derive(Drop)]
@@ -57,7 +57,7 @@ impl Page {
         Ok(())
     }
 
-    /// Makes room for what one report adds.
+    /// Makes room for what one place adds.
     pub fn make_room<W: Write>(&mut self, w: &mut W) -> Result<(), ShortWrite>
         requires { self.old.written < 2 ^ 100 }
         ensures turned { (start : Option (List ℕ)) (text : List ℕ) →
@@ -66,7 +66,7 @@ impl Page {
             (λ cut. Cuts start (W.contents w.new) text cut.sent) }
         ensures kept { OnErr result (self.new ≡ self.old) }
         ensures short { IfErr result (λ cut. cut.sent < self.old.written + array_string_len self.old.text) }
-        ensures room { OnOk result (array_string_len self.new.text + 1024 ≤ 16384) }
+        ensures room { OnOk result (array_string_len self.new.text + 2048 ≤ 16384) }
         ensures sum { OnOk result
             (self.new.written + array_string_len self.new.text ≡ self.old.written + array_string_len self.old.text) }
     {

@@ -4,21 +4,21 @@ ghost use Rattle.std.specs.Prelude.{◌≡◌, ◌+◌, ℕ, List, [], ◌∷◌
 ghost use Rattle.std.specs.Option.{option_to_list};
 ghost use Rattle.arrayvec.specs.ArrayString.{array_string_len};
 ghost use Rattle.bus_line.specs.Shown.{kind_with};
-ghost use Rattle.bus_watch.specs.Shown.{found};
+ghost use Rattle.bus_watch.specs.Shown.{found_on};
 ghost use Rattle.bus_watch.specs.Seen.{type_of};
 ghost use Rattle.bus_text.specs.Given.{printer_of};
-ghost use Rattle.bus_text.specs.Listing.{report_kind, report_line, outcome_kind, frame_line, verdict_line, begun_line, pending_line, strays_at, head_part, text_of, listing, passes, station_of, ending_text};
+ghost use Rattle.bus_text.specs.Listing.{report_kind, report_line, outcome_kind, frame_line, verdict_line, begun_line, begun_lines, pending_lines, strays_at, head_part, text_of, listing, passes, station_of, line_of_commands, ending_text, ending_lines, pair_ending_lines};
 
 use crate::filter::Filter;
 use crate::head::push_head;
 use crate::kind::Kind;
-use crate::line::{push_front, push_span, push_station};
+use crate::line::{push_front, push_line, push_span, push_station};
 use crate::options::Options;
 use crate::page::Page;
 use arrayvec::ArrayString;
 use bus_dictionary::{Dictionary, Standing};
 use bus_line::{EventKind, Span};
-use bus_watch::{Ending, Finding, Outcome, Pending, Verdict};
+use bus_watch::{Ending, Finding, Line, Outcome, PairEnding, Pending, Verdict};
 
 /// Puts the lines of what is seen on a page.
 #[derive(Clone, Copy)]
@@ -53,34 +53,47 @@ fn outcome_kind(outcome: Outcome) -> Kind
     }
 }
 
+/// The line on which commands wait, where this is the only line or one of two.
+fn line_of_commands(line: Option<Line>) -> Option<Line>
+    ensures { result ≡ line_of_commands line }
+{
+    match line {
+        None => None,
+        Some(_) => Some(Line::First),
+    }
+}
+
 /// Appends a line about a frame.
 fn push_frame<const N: usize>(
-    line: &mut ArrayString<N>,
+    text: &mut ArrayString<N>,
+    line: Option<Line>,
     kind: Kind,
     span: Span,
     station: u8,
     ftype: u8,
 )
-    requires { array_string_len line.old + 100 ≤ N }
-    ensures bytes { line.new.bytes ≡ line.old.bytes ++ (frame_line kind span station ftype).text }
-    ensures len { array_string_len line.new ≤ array_string_len line.old + 100 }
+    requires { array_string_len text.old + 100 ≤ N }
+    ensures bytes { text.new.bytes ≡ text.old.bytes ++ (frame_line line kind span station ftype).text }
+    ensures len { array_string_len text.new ≤ array_string_len text.old + 100 }
 {
-    push_span(line, span);
-    line.push_str(kind.word());
-    line.push(' ');
-    push_station(line, station, ftype);
-    line.push('\n');
+    push_line(text, line);
+    push_span(text, span);
+    text.push_str(kind.word());
+    text.push(' ');
+    push_station(text, station, ftype);
+    text.push('\n');
 }
 
 /// Appends the line of a piece that has begun.
-fn push_begun<const N: usize>(line: &mut ArrayString<N>, span: Span)
-    requires { array_string_len line.old + 100 ≤ N }
-    ensures bytes { line.new.bytes ≡ line.old.bytes ++ (begun_line span).text }
-    ensures len { array_string_len line.new ≤ array_string_len line.old + 100 }
+fn push_begun<const N: usize>(text: &mut ArrayString<N>, line: Option<Line>, span: Span)
+    requires { array_string_len text.old + 100 ≤ N }
+    ensures bytes { text.new.bytes ≡ text.old.bytes ++ (begun_line line span).text }
+    ensures len { array_string_len text.new ≤ array_string_len text.old + 100 }
 {
-    push_span(line, span);
-    line.push_str(Kind::Begun.word());
-    line.push('\n');
+    push_line(text, line);
+    push_span(text, span);
+    text.push_str(Kind::Begun.word());
+    text.push('\n');
 }
 
 impl Printer {
@@ -95,19 +108,26 @@ impl Printer {
     }
 
     /// Puts the lines of a report on the page, a frame with these octets: its own, that of the verdict,
-    /// and that of the stray.
+    /// and that of the stray. `line` is the one of two lines on which it was heard, or None.
     #[inline(never)]
-    pub fn put(&self, finding: Finding, octets: &[u8], dictionary: &Dictionary, page: &mut Page)
+    pub fn put(
+        &self,
+        line: Option<Line>,
+        finding: Finding,
+        octets: &[u8],
+        dictionary: &Dictionary,
+        page: &mut Page,
+    )
         requires room { array_string_len page.old.text + 964 ≤ 16384 }
         requires held { length octets.now ≤ 258 }
         ensures bytes { page.new.text.bytes
-            ≡ page.old.text.bytes ++ listing self.now dictionary.now (found octets.now finding ∷ []) }
+            ≡ page.old.text.bytes ++ listing self.now dictionary.now (found_on line octets.now finding ∷ []) }
         ensures len { array_string_len page.new.text ≤ array_string_len page.old.text + 964 }
         ensures written { page.new.written ≡ page.old.written }
     {
-        self.put_report(finding, octets, dictionary, page);
-        self.put_verdict(finding.verdict, page);
-        self.put_stray(finding, page);
+        self.put_report(line, finding, octets, dictionary, page);
+        self.put_verdict(line, finding.verdict, page);
+        self.put_stray(line, finding, page);
     }
 
     /// Whether the filter leaves a report's own line.
@@ -123,18 +143,27 @@ impl Printer {
     }
 
     /// Puts a report's own line on the page.
-    fn put_report(&self, finding: Finding, octets: &[u8], dictionary: &Dictionary, page: &mut Page)
-        requires room { array_string_len page.old.text + 627 ≤ 16384 }
+    fn put_report(
+        &self,
+        line: Option<Line>,
+        finding: Finding,
+        octets: &[u8],
+        dictionary: &Dictionary,
+        page: &mut Page,
+    )
+        requires room { array_string_len page.old.text + 629 ≤ 16384 }
         requires held { length octets.now ≤ 258 }
         ensures bytes { page.new.text.bytes
             ≡ page.old.text.bytes
-            ++ text_of self.now.filter (report_line self.now.heads dictionary.now (found octets.now finding) ∷ []) }
-        ensures len { array_string_len page.new.text ≤ array_string_len page.old.text + 627 }
+            ++ text_of self.now.filter
+            (report_line self.now.heads dictionary.now (found_on line octets.now finding) ∷ []) }
+        ensures len { array_string_len page.new.text ≤ array_string_len page.old.text + 629 }
         ensures written { page.new.written ≡ page.old.written }
     {
         if !self.leaves(finding) {
             return;
         }
+        push_line(&mut page.text, line);
         push_front(&mut page.text, finding.event, octets);
         self.put_head(finding.standing, dictionary, page);
         page.text.push('\n');
@@ -158,27 +187,28 @@ impl Printer {
     }
 
     /// Puts the line of a verdict on the page, if there is one.
-    fn put_verdict(&self, verdict: Option<Verdict>, page: &mut Page)
+    fn put_verdict(&self, line: Option<Line>, verdict: Option<Verdict>, page: &mut Page)
         requires room { array_string_len page.old.text + 100 ≤ 16384 }
         ensures bytes { page.new.text.bytes
-            ≡ page.old.text.bytes ++ text_of self.now.filter (option_to_list (option_map verdict_line verdict)) }
+            ≡ page.old.text.bytes ++ text_of self.now.filter (option_to_list (option_map (verdict_line line) verdict)) }
         ensures len { array_string_len page.new.text ≤ array_string_len page.old.text + 100 }
         ensures written { page.new.written ≡ page.old.written }
     {
         let Some(verdict) = verdict else {
             return;
         };
+        let line = line_of_commands(line);
         let kind = outcome_kind(verdict.outcome);
-        self.put_frame(kind, verdict.span, verdict.station, verdict.ftype, page);
+        self.put_frame(line, kind, verdict.span, verdict.station, verdict.ftype, page);
     }
 
     /// Puts the line of a stray on the page, if there is a dictionary and its type is known.
-    fn put_stray(&self, finding: Finding, page: &mut Page)
+    fn put_stray(&self, line: Option<Line>, finding: Finding, page: &mut Page)
         requires room { array_string_len page.old.text + 100 ≤ 16384 }
         ensures bytes { page.new.text.bytes
             ≡ page.old.text.bytes
             ++ text_of self.now.filter
-            (strays_at self.now.heads finding.stray finding.event.span finding.standing) }
+            (strays_at line self.now.heads finding.stray finding.event.span finding.standing) }
         ensures len { array_string_len page.new.text ≤ array_string_len page.old.text + 100 }
         ensures written { page.new.written ≡ page.old.written }
     {
@@ -195,28 +225,36 @@ impl Printer {
             return;
         };
         let span = finding.event.span;
-        self.put_frame(Kind::Stray, span, standing.station(), ftype, page);
+        self.put_frame(line, Kind::Stray, span, standing.station(), ftype, page);
     }
 
     /// Puts a line about a frame on the page.
-    fn put_frame(&self, kind: Kind, span: Span, station: u8, ftype: u8, page: &mut Page)
+    fn put_frame(
+        &self,
+        line: Option<Line>,
+        kind: Kind,
+        span: Span,
+        station: u8,
+        ftype: u8,
+        page: &mut Page,
+    )
         requires room { array_string_len page.old.text + 100 ≤ 16384 }
         ensures bytes { page.new.text.bytes
-            ≡ page.old.text.bytes ++ text_of self.now.filter (frame_line kind span station ftype ∷ []) }
+            ≡ page.old.text.bytes ++ text_of self.now.filter (frame_line line kind span station ftype ∷ []) }
         ensures len { array_string_len page.new.text ≤ array_string_len page.old.text + 100 }
         ensures written { page.new.written ≡ page.old.written }
     {
         if !self.filter.passes(kind, Some(station), Some(ftype)) {
             return;
         }
-        push_frame(&mut page.text, kind, span, station, ftype);
+        push_frame(&mut page.text, line, kind, span, station, ftype);
     }
 
     /// Puts the line of a piece that has begun on the page, if one has.
-    fn put_begun(&self, begun: Option<Span>, page: &mut Page)
+    fn put_begun(&self, line: Option<Line>, begun: Option<Span>, page: &mut Page)
         requires room { array_string_len page.old.text + 100 ≤ 16384 }
         ensures bytes { page.new.text.bytes
-            ≡ page.old.text.bytes ++ text_of self.now.filter (option_to_list (option_map begun_line begun)) }
+            ≡ page.old.text.bytes ++ text_of self.now.filter (begun_lines line begun) }
         ensures len { array_string_len page.new.text ≤ array_string_len page.old.text + 100 }
         ensures written { page.new.written ≡ page.old.written }
     {
@@ -226,14 +264,14 @@ impl Printer {
         if !self.filter.passes(Kind::Begun, None, None) {
             return;
         }
-        push_begun(&mut page.text, span);
+        push_begun(&mut page.text, line, span);
     }
 
     /// Puts the line of a command without a verdict on the page, if there is one.
-    fn put_pending(&self, pending: Option<Pending>, page: &mut Page)
+    fn put_pending(&self, line: Option<Line>, pending: Option<Pending>, page: &mut Page)
         requires room { array_string_len page.old.text + 100 ≤ 16384 }
         ensures bytes { page.new.text.bytes
-            ≡ page.old.text.bytes ++ text_of self.now.filter (option_to_list (option_map pending_line pending)) }
+            ≡ page.old.text.bytes ++ text_of self.now.filter (pending_lines line pending) }
         ensures len { array_string_len page.new.text ≤ array_string_len page.old.text + 100 }
         ensures written { page.new.written ≡ page.old.written }
     {
@@ -241,6 +279,7 @@ impl Printer {
             return;
         };
         self.put_frame(
+            line,
             Kind::Pending,
             command.span,
             command.station,
@@ -253,11 +292,24 @@ impl Printer {
     pub fn put_ending(&self, ending: &Ending, page: &mut Page)
         requires room { array_string_len page.old.text + 200 ≤ 16384 }
         ensures bytes { page.new.text.bytes
-            ≡ page.old.text.bytes ++ ending_text self.now ending.now.begun ending.now.pending }
+            ≡ page.old.text.bytes ++ ending_text self.now (ending_lines ending.now.begun ending.now.pending) }
         ensures len { array_string_len page.new.text ≤ array_string_len page.old.text + 200 }
         ensures written { page.new.written ≡ page.old.written }
     {
-        self.put_begun(ending.begun, page);
-        self.put_pending(ending.pending, page);
+        self.put_begun(None, ending.begun, page);
+        self.put_pending(None, ending.pending, page);
+    }
+
+    /// Puts the lines of the end of two lines on the page.
+    pub fn put_pair_ending(&self, ending: &PairEnding, page: &mut Page)
+        requires room { array_string_len page.old.text + 300 ≤ 16384 }
+        ensures bytes { page.new.text.bytes ≡ page.old.text.bytes
+            ++ ending_text self.now (pair_ending_lines ending.now.first ending.now.second ending.now.pending) }
+        ensures len { array_string_len page.new.text ≤ array_string_len page.old.text + 300 }
+        ensures written { page.new.written ≡ page.old.written }
+    {
+        self.put_begun(Some(Line::First), ending.first, page);
+        self.put_begun(Some(Line::Second), ending.second, page);
+        self.put_pending(Some(Line::First), ending.pending, page);
     }
 }

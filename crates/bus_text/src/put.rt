@@ -4,7 +4,7 @@ ghost use Rattle.std.specs.Prelude.{◌≡◌, ◌+◌, ◌<◌, ◌≤◌, ◌+
 ghost use Rattle.std.specs.Io.KnownBytes.{Appends};
 ghost use Rattle.bus_text.specs.Internal.Pages.{Puts};
 
-use crate::line::Line;
+use crate::line::FrameLine;
 use std::io::Write;
 
 /// A write failed, or took nothing, after `sent` octets of the text.
@@ -30,7 +30,7 @@ pub fn put_text<W: Write>(w: &mut W, text: &[u8]) -> Result<(), ShortWrite>
 }
 
 /// Writes a line after `sent` octets of a text. Returns how many octets of the text went out.
-pub fn put_line<W: Write>(line: &Line, sent: u128, w: &mut W) -> Result<u128, ShortWrite>
+pub fn put_line<W: Write>(line: &FrameLine, sent: u128, w: &mut W) -> Result<u128, ShortWrite>
     requires { sent ≤ 2000000 }
     ensures put { (start : Option (List ℕ)) (before : List ℕ) → Appends start (W.contents w.old) before →
         sent ≡ length before

@@ -1,20 +1,17 @@
-//! The report of a check.
+//! The parts of the report of a check.
 
-ghost use Rattle.std.specs.Prelude.{◌≡◌, ◌+◌, ◌*◌, ◌++◌, ◌<◌, ◌≤◌, ◌^◌, ℕ, Bool, List, Option, MatchResult, OnOk, length};
+ghost use Rattle.std.specs.Prelude.{◌≡◌, ◌+◌, ◌++◌, ◌<◌, ◌≤◌, ◌^◌, ℕ, List, Option, MatchResult, OnOk, length};
 ghost use Rattle.arrayvec.specs.ArrayString.{array_string_len};
-ghost use Rattle.bus_watch.specs.History.{kept_frame, history, tally};
-ghost use Rattle.bus_watch.specs.After.{IsAfter, line};
-ghost use Rattle.bus_text.specs.CheckText.{count_text, summary_text, tally_line, has_none, tally_text, kept_text, tallies_text, history_text, check_text};
+ghost use Rattle.bus_text.specs.CheckText.{count_text, summary_text, tally_line, has_none, tally_text, last_text};
 ghost use Rattle.bus_text.specs.Put.{Cuts};
 ghost use Rattle.bus_text.specs.Internal.Pages.{Pages};
 
-use crate::line::{push_hex, push_number, push_octet_number, push_span};
+use crate::line::{push_hex, push_line, push_number, push_octet_number, push_span};
 use crate::page::Page;
 use crate::put::ShortWrite;
 use crate::summary::Summary;
 use arrayvec::ArrayString;
-use bus_fcs::Check;
-use bus_watch::{Analyser, Counts, Kept};
+use bus_watch::{Counts, Kept, Line};
 use std::io::Write;
 
 /// Appends a word, a number and the end of the line.
@@ -68,15 +65,16 @@ fn push_tally<const N: usize>(line: &mut ArrayString<N>, station: u8, counts: Co
 }
 
 /// Appends the line of a frame of the history.
-fn push_kept<const N: usize>(line: &mut ArrayString<N>, kept: &Kept)
-    requires { array_string_len line.old + 570 ≤ N }
-    ensures bytes { line.new.bytes ≡ line.old.bytes ++ kept_text (kept_frame kept.now) }
-    ensures len { array_string_len line.new ≤ array_string_len line.old + 570 }
+fn push_kept<const N: usize>(text: &mut ArrayString<N>, line: Option<Line>, kept: &Kept)
+    requires { array_string_len text.old + 572 ≤ N }
+    ensures bytes { text.new.bytes ≡ text.old.bytes ++ last_text line kept.now.span kept.now.octets.items }
+    ensures len { array_string_len text.new ≤ array_string_len text.old + 572 }
 {
-    line.push_str("last ");
-    push_span(line, kept.span);
-    push_hex(line, kept.octets.as_slice());
-    line.push('\n');
+    text.push_str("last ");
+    push_line(text, line);
+    push_span(text, kept.span);
+    push_hex(text, kept.octets.as_slice());
+    text.push('\n');
 }
 
 /// Whether no verdict is counted.
@@ -86,8 +84,27 @@ fn has_none(counts: Counts) -> bool
     counts.answered == 0 && counts.missing == 0 && counts.spoilt == 0 && counts.late == 0
 }
 
+/// Puts the ten counts on the page.
+pub fn put_summary<W: Write>(
+    summary: &Summary,
+    page: &mut Page,
+    w: &mut W,
+) -> Result<(), ShortWrite>
+    requires { page.old.written < 2 ^ 100 }
+    ensures put { (start : Option (List ℕ)) (text : List ℕ) →
+        Pages start (W.contents w.old) page.old.text.bytes page.old.written text → MatchResult result
+        (λ _. Pages start (W.contents w.new) page.new.text.bytes page.new.written (text ++ summary_text summary.now))
+        (λ cut. Cuts start (W.contents w.new) (text ++ summary_text summary.now) cut.sent) }
+    ensures few { OnOk result
+        (page.new.written + array_string_len page.new.text ≤ page.old.written + array_string_len page.old.text + 300) }
+{
+    page.make_room(w)?;
+    push_summary(&mut page.text, summary);
+    Ok(())
+}
+
 /// Puts the line of a station on the page, if it has a verdict.
-fn put_tally<W: Write>(
+pub fn put_tally<W: Write>(
     station: u8,
     counts: Counts,
     page: &mut Page,
@@ -109,92 +126,23 @@ fn put_tally<W: Write>(
     Ok(())
 }
 
-/// Puts a line for each station with a verdict on the page, by rising number.
-fn put_tallies<C: Check, W: Write>(
-    analyser: &Analyser<C>,
+/// Puts a frame of the history on the page, of one of two lines or of the only one.
+pub fn put_kept<W: Write>(
+    line: Option<Line>,
+    kept: &Kept,
     page: &mut Page,
     w: &mut W,
 ) -> Result<(), ShortWrite>
-    requires { page.old.written + array_string_len page.old.text < 2 ^ 90 }
-    ensures put { (start : Option (List ℕ)) (text : List ℕ) (b : List Bool) →
-        IsAfter C.folded C.COST analyser.now b →
-        Pages start (W.contents w.old) page.old.text.bytes page.old.written text → MatchResult result
-        (λ _. Pages start (W.contents w.new) page.new.text.bytes page.new.written
-        (text ++ tallies_text (tally analyser.now.journal.dictionary (line analyser.now b)) 256))
-        (λ cut. Cuts start (W.contents w.new)
-        (text ++ tallies_text (tally analyser.now.journal.dictionary (line analyser.now b)) 256) cut.sent) }
-    ensures few { OnOk result
-        (page.new.written + array_string_len page.new.text ≤ page.old.written + array_string_len page.old.text
-        + 140 * 256) }
-{
-    for station in 0..=255u8 {
-        put_tally(station, analyser.tally(station), page, w)?;
-    }
-    Ok(())
-}
-
-/// Puts a frame of the history on the page.
-fn put_kept<W: Write>(kept: &Kept, page: &mut Page, w: &mut W) -> Result<(), ShortWrite>
     requires { page.old.written < 2 ^ 100 }
     ensures put { (start : Option (List ℕ)) (text : List ℕ) →
         Pages start (W.contents w.old) page.old.text.bytes page.old.written text → MatchResult result
         (λ _. Pages start (W.contents w.new) page.new.text.bytes page.new.written
-        (text ++ kept_text (kept_frame kept.now)))
-        (λ cut. Cuts start (W.contents w.new) (text ++ kept_text (kept_frame kept.now)) cut.sent) }
+        (text ++ last_text line kept.now.span kept.now.octets.items))
+        (λ cut. Cuts start (W.contents w.new) (text ++ last_text line kept.now.span kept.now.octets.items) cut.sent) }
     ensures few { OnOk result
-        (page.new.written + array_string_len page.new.text ≤ page.old.written + array_string_len page.old.text + 570) }
+        (page.new.written + array_string_len page.new.text ≤ page.old.written + array_string_len page.old.text + 572) }
 {
     page.make_room(w)?;
-    push_kept(&mut page.text, kept);
+    push_kept(&mut page.text, line, kept);
     Ok(())
-}
-
-/// Puts the frames of the history on the page, the oldest first.
-fn put_history<C: Check, W: Write>(
-    analyser: &Analyser<C>,
-    page: &mut Page,
-    w: &mut W,
-) -> Result<(), ShortWrite>
-    requires { page.old.written + array_string_len page.old.text < 2 ^ 95 }
-    ensures put { (start : Option (List ℕ)) (text : List ℕ) (b : List Bool) →
-        IsAfter C.folded C.COST analyser.now b →
-        Pages start (W.contents w.old) page.old.text.bytes page.old.written text → MatchResult result
-        (λ _. Pages start (W.contents w.new) page.new.text.bytes page.new.written
-        (text ++ history_text (history analyser.now.journal.depth (line analyser.now b))))
-        (λ cut. Cuts start (W.contents w.new)
-        (text ++ history_text (history analyser.now.journal.depth (line analyser.now b))) cut.sent) }
-    ensures few { OnOk result (page.new.written < 2 ^ 96) }
-{
-    for i in 0..analyser.history_len() {
-        let Some(kept) = analyser.history(i) else {
-            return Ok(());
-        };
-        put_kept(kept, page, w)?;
-    }
-    Ok(())
-}
-
-/// Puts the whole report on the page.
-pub fn put_report<C: Check, W: Write>(
-    summary: &Summary,
-    analyser: &Analyser<C>,
-    page: &mut Page,
-    w: &mut W,
-) -> Result<(), ShortWrite>
-    requires { page.old.written + array_string_len page.old.text < 2 ^ 80 }
-    ensures put { (start : Option (List ℕ)) (text : List ℕ) (b : List Bool) →
-        IsAfter C.folded C.COST analyser.now b →
-        Pages start (W.contents w.old) page.old.text.bytes page.old.written text → MatchResult result
-        (λ _. Pages start (W.contents w.new) page.new.text.bytes page.new.written
-        (text ++ check_text summary.now (tally analyser.now.journal.dictionary (line analyser.now b))
-        (history analyser.now.journal.depth (line analyser.now b))))
-        (λ cut. Cuts start (W.contents w.new)
-        (text ++ check_text summary.now (tally analyser.now.journal.dictionary (line analyser.now b))
-        (history analyser.now.journal.depth (line analyser.now b))) cut.sent) }
-    ensures few { OnOk result (page.new.written < 2 ^ 96) }
-{
-    page.make_room(w)?;
-    push_summary(&mut page.text, summary);
-    put_tallies(analyser, page, w)?;
-    put_history(analyser, page, w)
 }

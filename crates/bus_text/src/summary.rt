@@ -10,7 +10,7 @@ ghost use Rattle.bus_text.specs.Internal.Counting.{with_kind, with_verdict, IsFe
 use bus_line::EventKind;
 use bus_watch::{Finding, Outcome, Verdict};
 
-/// How often each thing was seen on a line.
+/// How often each thing was seen, on one line or on two.
 #[derive(Clone, Copy, Debug, PartialEq, Eq)]
 pub struct Summary {
     pub frames: u64,
@@ -62,7 +62,7 @@ impl Summary {
 
     /// Counts a report, and what follows from it.
     pub fn count(&mut self, finding: Finding)
-        requires { (most : ℕ) × IsFew most self.old × (most < 2 ^ 60) }
+        requires { (most : ℕ) × IsFew most self.old × (most < 2 ^ 62) }
         ensures counted { (before : List SeenReport) (octets : List ℕ) → self.old ≡ summary_of before →
             self.new ≡ summary_of (before ++ found octets finding ∷ []) }
         ensures few { (most : ℕ) → IsFew most self.old → IsFew (most + 1) self.new }
@@ -76,7 +76,7 @@ impl Summary {
 
     /// Counts a report by what it is of.
     fn count_kind(&mut self, kind: EventKind)
-        requires { IsFew (2 ^ 61) self.old }
+        requires { IsFew (2 ^ 63) self.old }
         ensures { self.new ≡ with_kind (kind_with [] kind) self.old }
     {
         match kind {
@@ -90,7 +90,7 @@ impl Summary {
 
     /// Counts a verdict, if there is one.
     fn count_verdict(&mut self, verdict: Option<Verdict>)
-        requires { IsFew (2 ^ 61) self.old }
+        requires { IsFew (2 ^ 63) self.old }
         ensures { self.new ≡ with_verdict verdict self.old }
     {
         let Some(verdict) = verdict else {

@@ -1,13 +1,12 @@
 -- An analyser before its first bit.
 use Rattle.std.specs.Prelude.{◌≡◌, ℕ, List, []}
 use Rattle.bus_dictionary.specs.Entry.{FrameType}
-use Rattle.bus_watch.specs.After.{AnalyserState, IsAfter}
-use Rattle.bus_text.specs.declared.options.Options.{Options}
+use Rattle.bus_watch.specs.Watch.{Watch}
 
--- an analyser that took no bit, as they ask
-pub record IsAsked {C : Type 0} (folded : C → List ℕ → Type 0) (cost : ℕ) (o : Options) (d : List FrameType) (a : AnalyserState C) : Type 0 where
-  pub is_after : IsAfter folded cost a []
-  pub dictionary : a.journal.dictionary ≡ d
-  pub depth : a.journal.depth ≡ o.depth
-  pub origin : a.decoder.origin ≡ o.origin
-  pub place : a.decoder.place ≡ o.origin
+-- an analyser that took nothing, made of these
+pub record IsMade {A X : Type 0} (w : Watch A X) (d : List FrameType) (depth origin : ℕ) (a : A) : Type 0 where
+  pub is_after : w.is_after a []
+  pub dictionary : w.dictionary a ≡ d
+  pub depth : w.depth a ≡ depth
+  pub origin : w.origin a ≡ origin
+  pub place : w.place a ≡ origin

@@ -3,6 +3,7 @@ use Rattle.std.specs.Prelude.{◌≡◌, ℕ, ◌≤◌, Bool, List, length, Opt
 use Rattle.std.specs.Io.KnownBytes.{IsAtEnd}
 use Rattle.bus_bits.specs.Capture.{CaptureFault}
 use Rattle.bus_capture.specs.Captures.{capture, whole_capture, IsSameFault, HasFault}
+use Rattle.bus_capture.specs.Internal.Taps.{TapView}
 use Rattle.bus_capture.specs.Internal.Watching.{Watches, IsCutOff}
 use Rattle.bus_capture.specs.declared.run.CaptureRun.{CaptureRun}
 use Rattle.bus_capture.specs.declared.reader.Source.{Source}
@@ -11,33 +12,34 @@ use Rattle.bus_text.specs.declared.fault.ToolFault.{ToolFault}
 use Rattle.bus_text.specs.declared.fault.ToolFault.TheVariants.{Read, ReadsLimit, Write}
 
 -- how many octets of a text were taken
-abbrev pub octets_taken : Source → ℕ
+abbrev pub octets_taken : {B : Type 0} → Source B → ℕ
 octets_taken (source.Text t) = t.at
 octets_taken (source.Packed p) = 0
 
-module _ {C : Type 0} (folded : C → List ℕ → Type 0) (cost : ℕ) where
+module _ {A X N B : Type 0} (t : TapView A X N B) where
   -- the octets so far have no fault, and their bits were followed
-  pub record IsClean (text : Bool) (start now : Option (List ℕ)) (w : CaptureRun C) (xs : List ℕ) : Type 0 where
-    pub clean : (capture text w.analyser.decoder.origin xs).fault ≡ None
-    pub bits : Watches folded cost start now w (capture text w.analyser.decoder.origin xs).bits
+  pub record IsClean (text : Bool) (start now : Option (List ℕ)) (run : CaptureRun A) (xs : List ℕ) : Type 0 where
+    pub clean : (capture t.form text (t.watch.origin run.analyser) xs).fault ≡ None
+    pub bits : Watches t start now run (capture t.form text (t.watch.origin run.analyser) xs).bits
 
   -- they are the whole input, and have no fault
-  pub record IsWhole (text : Bool) (after start now : Option (List ℕ)) (w : CaptureRun C) (xs : List ℕ) : Type 0 where
+  pub record IsWhole (text : Bool) (after start now : Option (List ℕ)) (run : CaptureRun A) (xs : List ℕ) : Type 0 where
     pub at : IsAtEnd after
-    pub clean : (whole_capture text w.analyser.decoder.origin xs).fault ≡ None
-    pub bits : Watches folded cost start now w (whole_capture text w.analyser.decoder.origin xs).bits
+    pub clean : (whole_capture t.form text (t.watch.origin run.analyser) xs).fault ≡ None
+    pub bits : Watches t start now run (whole_capture t.form text (t.watch.origin run.analyser) xs).bits
 
   -- they have a fault, before which all bits were followed
-  pub record IsFaulty (text : Bool) (after start now : Option (List ℕ)) (w : CaptureRun C) (xs : List ℕ) (fault : ToolFault) : Type 0 where
+  pub record IsFaulty (text : Bool) (after start now : Option (List ℕ)) (run : CaptureRun A) (xs : List ℕ) (fault : ToolFault) : Type 0 where
     pub cause : CaptureFault
     pub answered : IsSameFault fault cause
-    pub found : HasFault text w.analyser.decoder.origin after xs cause
-    pub bits : Watches folded cost start now w (capture text w.analyser.decoder.origin xs).bits
+    pub found : HasFault t.form text (t.watch.origin run.analyser) after xs cause
+    pub bits : Watches t start now run (capture t.form text (t.watch.origin run.analyser) xs).bits
 
   -- how the reading of these octets ended, by so many reads at most, whose reader has `after` left
-  abbrev pub Finishes : Bool → ℕ → Option (List ℕ) → Option (List ℕ) → Option (List ℕ) → CaptureRun C → List ℕ → Result (Unit {0}) ToolFault → Type 0
-  Finishes text reads after start now w xs (Ok _) = IsWhole text after start now w xs
-  Finishes text reads after start now w xs (Err Read) = IsClean text start now w xs
-  Finishes text reads after start now w xs (Err ReadsLimit) = (reads ≤ length xs) × IsClean text start now w xs
-  Finishes text reads after start now w xs (Err (Write sent)) = IsCutOff start now w (capture text w.analyser.decoder.origin xs).bits sent
-  Finishes text reads after start now w xs (Err fault) = IsFaulty text after start now w xs fault
+  abbrev pub Finishes : Bool → ℕ → Option (List ℕ) → Option (List ℕ) → Option (List ℕ) → CaptureRun A → List ℕ → Result (Unit {0}) ToolFault → Type 0
+  Finishes text reads after start now run xs (Ok _) = IsWhole text after start now run xs
+  Finishes text reads after start now run xs (Err Read) = IsClean text start now run xs
+  Finishes text reads after start now run xs (Err ReadsLimit) = (reads ≤ length xs) × IsClean text start now run xs
+  Finishes text reads after start now run xs (Err (Write sent)) =
+      IsCutOff t start now run (capture t.form text (t.watch.origin run.analyser) xs).bits sent
+  Finishes text reads after start now run xs (Err fault) = IsFaulty text after start now run xs fault

@@ -1,84 +1,93 @@
--- What is known while the bits of a capture are followed.
-use Rattle.std.specs.Prelude.{◌≡◌, ℕ, ◌+◌, ◌-◌, ◌*◌, ◌<◌, ◌≤◌, ◌^◌, Bool, List, [], ◌++◌, length, take, Option, Some, None}
+-- What is known while the bits of a capture are followed, or its pairs of bits.
+use Rattle.std.specs.Prelude.{◌≡◌, ℕ, ◌+◌, ◌-◌, ◌*◌, ◌<◌, ◌≤◌, ◌^◌, List, [], ◌++◌, length, take, Option, Some, None}
 use Rattle.arrayvec.specs.ArrayString.{array_string_len}
 use Rattle.bus_dictionary.specs.Entry.{FrameType}
-use Rattle.bus_bits.specs.declared.span.Span.{Span}
+use Rattle.bus_dictionary.specs.Dictionary.{longest_of}
+use Rattle.bus_watch.specs.Heard.{Heard}
 use Rattle.bus_watch.specs.Seen.{SeenReport}
-use Rattle.bus_watch.specs.Shown.{begun_span}
 use Rattle.bus_watch.specs.Talk.{pending}
 use Rattle.bus_watch.specs.History.{history, tally}
-use Rattle.bus_watch.specs.declared.pending.Pending.{Pending}
-use Rattle.bus_watch.specs.After.{IsAfter, line, seen_after}
-use Rattle.bus_text.specs.Listing.{listing, ending_text}
+use Rattle.bus_watch.specs.Watch.{Watch, seen_by}
+use Rattle.bus_text.specs.Listing.{Line, listing, ending_text}
 use Rattle.bus_text.specs.Summary.{summary_of}
 use Rattle.bus_text.specs.Internal.Counting.{IsFew}
 use Rattle.bus_text.specs.Internal.Pages.{Pages}
 use Rattle.bus_text.specs.Put.{Cuts}
 use Rattle.bus_text.specs.CheckText.{check_text}
 use Rattle.bus_text.specs.declared.printer.Printer.{Printer}
+use Rattle.bus_capture.specs.Internal.Taps.{TapView}
 use Rattle.bus_capture.specs.declared.run.CaptureRun.{CaptureRun}
 use Rattle.bus_text.specs.declared.fault.ToolFault.{ToolFault}
 use Rattle.bus_text.specs.declared.fault.ToolFault.TheVariants.{PlaceLimit, Write}
-
--- the place bounds the counts, and the octets of the lines
-pub record IsSound {C : Type 0} (w : CaptureRun C) : Type 0 where
-  pub places : w.analyser.decoder.place ≤ 2 ^ 60
-  pub counts : IsFew w.analyser.decoder.place w.summary
-  pub octets : w.page.written + array_string_len w.page.text ≤ 1024 * w.analyser.decoder.place
 
 -- the lines of what is seen; without a printer there are none
 abbrev pub printed : Option Printer → List FrameType → List SeenReport → List ℕ
 printed None d seen = []
 printed (Some p) d seen = listing p d seen
 
--- the lines of these bits
-abbrev pub lines : {C : Type 0} → CaptureRun C → List Bool → List ℕ
-lines w b = printed w.printer w.analyser.journal.dictionary (seen_after w.analyser b)
-
--- the lines of the end behind these bits
-abbrev pub ended : Option Printer → Option Span → Option Pending → List ℕ
-ended None begun waits = []
-ended (Some p) begun waits = ending_text p begun waits
-
-abbrev pub last_lines : {C : Type 0} → CaptureRun C → List Bool → List ℕ
-last_lines w b = ended w.printer (begun_span w.analyser.decoder.origin b) (pending w.analyser.journal.dictionary (line w.analyser b))
-
--- the report of these bits
-abbrev pub reported : {C : Type 0} → CaptureRun C → List Bool → List ℕ
-reported w b = check_text w.summary (tally w.analyser.journal.dictionary (line w.analyser b)) (history w.analyser.journal.depth (line w.analyser b))
+-- the lines of the end
+abbrev pub ended : Option Printer → List Line → List ℕ
+ended None lines = []
+ended (Some p) lines = ending_text p lines
 
 -- the writer was cut off in this text
 abbrev pub IsCutIn : Option (List ℕ) → Option (List ℕ) → List ℕ → ToolFault → Type 0
 IsCutIn start now text (Write sent) = Cuts start now text sent
 IsCutIn start now text fault = ⊥
 
--- of bits whose first has the place `origin`, those with a place below 2^60
-abbrev pub within : ℕ → List Bool → List Bool
+-- of what has the place `origin` first, that with a place below 2^60
+abbrev pub within : {X : Type 0} → ℕ → List X → List X
 within origin b = take (2 ^ 60 - origin) b
 
--- these bits were followed
-pub record Watches {C : Type 0} (folded : C → List ℕ → Type 0) (cost : ℕ) (start now : Option (List ℕ)) (w : CaptureRun C) (b : List Bool) : Type 0 where
-  pub is_after : IsAfter folded cost w.analyser b
-  pub counts : w.summary ≡ summary_of (seen_after w.analyser b)
-  pub page : Pages start now w.page.text.bytes w.page.written (lines w b)
+-- the reports of these
+abbrev pub heard_by : {A X : Type 0} → Watch A X → A → List X → List Heard
+heard_by w a b = w.hears (w.origin a) (longest_of (w.dictionary a)) b
 
--- what stays the same
-pub record IsSame {C : Type 0} (old new : CaptureRun C) : Type 0 where
-  pub printer : new.printer ≡ old.printer
-  pub dictionary : new.analyser.journal.dictionary ≡ old.analyser.journal.dictionary
-  pub depth : new.analyser.journal.depth ≡ old.analyser.journal.depth
-  pub origin : new.analyser.decoder.origin ≡ old.analyser.decoder.origin
+module _ {A X N B : Type 0} (t : TapView A X N B) where
+  -- the place bounds the counts, and the octets of the lines: at a place there are two reports at most
+  pub record IsSound (run : CaptureRun A) : Type 0 where
+    pub places : t.watch.place run.analyser ≤ 2 ^ 60
+    pub counts : IsFew (2 * t.watch.place run.analyser) run.summary
+    pub octets : run.page.written + array_string_len run.page.text ≤ 2048 * t.watch.place run.analyser
 
--- the writer was cut off in the lines of the front of some bits
-pub record IsCutOff {C : Type 0} (start now : Option (List ℕ)) (w : CaptureRun C) (bits : List Bool) (sent : ℕ) : Type 0 where
-  pub front : List Bool
-  pub more : List Bool
-  pub all : bits ≡ front ++ more
-  pub cut : Cuts start now (lines w front) sent
-  pub short : sent < length (lines w front)
+  -- the lines of these bits
+  abbrev pub lines : CaptureRun A → List X → List ℕ
+  lines run b = printed run.printer (t.watch.dictionary run.analyser) (seen_by t.watch run.analyser b)
 
--- why the following of these bits stopped: only those with a place were followed, or the writer was cut off
-abbrev pub Halts : {C : Type 0} → (C → List ℕ → Type 0) → ℕ → Option (List ℕ) → Option (List ℕ) → CaptureRun C → List Bool → ToolFault → Type 0
-Halts folded cost start now w b PlaceLimit = (2 ^ 60 - w.analyser.decoder.origin < length b) × Watches folded cost start now w (within w.analyser.decoder.origin b)
-Halts folded cost start now w b (Write sent) = IsCutOff start now w (within w.analyser.decoder.origin b) sent
-Halts folded cost start now w b fault = ⊥
+  -- the lines of the end behind these bits
+  abbrev pub last_lines : CaptureRun A → List X → List ℕ
+  last_lines run b = ended run.printer (t.form.ending (t.watch.origin run.analyser) b (pending (t.watch.dictionary run.analyser) (heard_by t.watch run.analyser b)))
+
+  -- the report of these bits
+  abbrev pub reported : CaptureRun A → List X → List ℕ
+  reported run b =
+      check_text t.form.is_two run.summary (tally (t.watch.dictionary run.analyser) (heard_by t.watch run.analyser b))
+      (history (t.watch.depth run.analyser) (heard_by t.watch run.analyser b))
+
+  -- these bits were followed
+  pub record Watches (start now : Option (List ℕ)) (run : CaptureRun A) (b : List X) : Type 0 where
+    pub is_after : t.watch.is_after run.analyser b
+    pub counts : run.summary ≡ summary_of (seen_by t.watch run.analyser b)
+    pub page : Pages start now run.page.text.bytes run.page.written (lines run b)
+
+  -- what stays the same
+  pub record IsSame (old new : CaptureRun A) : Type 0 where
+    pub printer : new.printer ≡ old.printer
+    pub dictionary : t.watch.dictionary new.analyser ≡ t.watch.dictionary old.analyser
+    pub depth : t.watch.depth new.analyser ≡ t.watch.depth old.analyser
+    pub origin : t.watch.origin new.analyser ≡ t.watch.origin old.analyser
+
+  -- the writer was cut off in the lines of the front of some bits
+  pub record IsCutOff (start now : Option (List ℕ)) (run : CaptureRun A) (bits : List X) (sent : ℕ) : Type 0 where
+    pub front : List X
+    pub more : List X
+    pub all : bits ≡ front ++ more
+    pub cut : Cuts start now (lines run front) sent
+    pub short : sent < length (lines run front)
+
+  -- why the following of these bits stopped: only those with a place were followed, or the writer was cut off
+  abbrev pub Halts : Option (List ℕ) → Option (List ℕ) → CaptureRun A → List X → ToolFault → Type 0
+  Halts start now run b PlaceLimit =
+      (2 ^ 60 - t.watch.origin run.analyser < length b) × Watches start now run (within (t.watch.origin run.analyser) b)
+  Halts start now run b (Write sent) = IsCutOff start now run (within (t.watch.origin run.analyser) b) sent
+  Halts start now run b fault = ⊥

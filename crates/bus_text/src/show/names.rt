@@ -7,16 +7,16 @@ ghost use Rattle.bus_dictionary.specs.BitName.{named_bit, is_name};
 ghost use Rattle.bus_text.specs.Show.{name_text};
 ghost use Rattle.bus_text.specs.Internal.Pages.{Puts};
 
-use crate::line::{Line, push_number};
+use crate::line::{FrameLine, push_number};
 use crate::put::{ShortWrite, put_line};
 use bus_dictionary::{BitName, NameWalk};
 use std::io::Write;
 
 /// The line of a named bit.
-fn name_line(bit: &BitName) -> Line
+fn name_line(bit: &BitName) -> FrameLine
     ensures { result.bytes ≡ name_text (named_bit bit.now) }
 {
-    let mut line = Line::new();
+    let mut line = FrameLine::new();
     push_number(&mut line, u64::from(bit.at));
     line.push(' ');
     line.push_str(bit.name.as_str());

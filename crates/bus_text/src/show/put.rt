@@ -7,7 +7,7 @@ ghost use Rattle.bus_text.specs.Show.{frame_text, shown_text};
 ghost use Rattle.bus_text.specs.HeadText.{head_text};
 
 use crate::head::push_head;
-use crate::line::{Line, push_hex};
+use crate::line::{FrameLine, push_hex};
 use crate::put::{ShortWrite, put_line};
 use crate::show::names::put_names;
 use bus_dictionary::{Dictionary, Standing, set_names};
@@ -15,12 +15,12 @@ use bus_fcs::{OctetCheck, fcs_is_good};
 use std::io::Write;
 
 /// The first line: the octets, and whether their check is good.
-fn frame_line(octets: &[u8]) -> Line
+fn frame_line(octets: &[u8]) -> FrameLine
     requires at_least { 4 ≤ length octets.now }
     requires at_most { length octets.now ≤ 258 }
     ensures { result.bytes ≡ frame_text octets.now }
 {
-    let mut line = Line::new();
+    let mut line = FrameLine::new();
     line.push_str("frame ");
     push_hex(&mut line, octets);
     line.push_str(if fcs_is_good::<OctetCheck>(octets) {
@@ -32,10 +32,10 @@ fn frame_line(octets: &[u8]) -> Line
 }
 
 /// The second line: what the head says.
-fn head_line(standing: Standing, dictionary: &Dictionary) -> Line
+fn head_line(standing: Standing, dictionary: &Dictionary) -> FrameLine
     ensures { result.bytes ≡ head_text standing dictionary.now ++ codes "\n" }
 {
-    let mut line = Line::new();
+    let mut line = FrameLine::new();
     push_head(&mut line, standing, dictionary);
     line.push('\n');
     line

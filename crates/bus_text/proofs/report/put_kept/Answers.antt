@@ -1,6 +1,5 @@
 use Rattle.std.proofs.lemmas.Result.{err_from_is_err_and}
-use Rattle.bus_watch.specs.History.{kept_frame}
-use Rattle.bus_text.specs.CheckText.{kept_text}
+use Rattle.bus_text.specs.CheckText.{last_text}
 use Rattle.bus_text.proofs.PagesLemmas.{cuts-more}
 use Rattle.bus_text.proofs.report.put_kept.Goals as goal
 
@@ -8,4 +7,4 @@ pub returns-in_err-make_room-clause-put : goal.returns-in_err-make_room-clause-p
 returns-in_err-make_room-clause-put g c =
     let p = err_from_is_err_and c.from_residual.result c.from_residual.ensures.1 in
     rw (p.1, p.2) (λ start text p.
-    cuts-more start (g.W.Write.contents c.make_room.new.w) text (kept_text (kept_frame c.args.kept.now)) c.in_err-make_room.field-0.0.sent (c.in_err-make_room.ensures.turned start text p))
+    cuts-more start (g.W.Write.contents c.make_room.new.w) text (last_text c.args.line c.args.kept.now.span c.args.kept.now.octets.items) c.in_err-make_room.field-0.0.sent (c.in_err-make_room.ensures.turned start text p))

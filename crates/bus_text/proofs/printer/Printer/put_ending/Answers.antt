@@ -1,10 +1,9 @@
-use Rattle.std.proofs.Common.{option_map}
-use Rattle.std.specs.Option.{option_to_list}
-use Rattle.bus_text.specs.Listing.{begun_line, pending_line}
+use Rattle.std.proofs.Common.{None}
+use Rattle.bus_text.specs.Listing.{begun_lines, pending_lines}
 use Rattle.bus_text.proofs.ListingLemmas.{put-both}
 use Rattle.bus_text.proofs.printer.Printer.put_ending.Goals as goal
 
 pub returns-clause-bytes : goal.returns-clause-bytes
 returns-clause-bytes c =
-    put-both c.args.self.now.filter (option_to_list (option_map begun_line c.args.ending.now.begun)) (option_to_list (option_map pending_line c.args.ending.now.pending))
+    put-both c.args.self.now.filter (begun_lines None c.args.ending.now.begun) (pending_lines None c.args.ending.now.pending)
     c.args.page.now.text.bytes c.put_begun.new.page.text.bytes c.put_pending.new.page.text.bytes c.put_begun.ensures.bytes c.put_pending.ensures.bytes

@@ -1,13 +1,13 @@
 use Rattle.std.proofs.Common.{◌≡◌, ◌++◌, ◌∙◌, sym, ap, codes, append_assoc, rules}
 use Rattle.bus_line.specs.Shown.{reported, span_of}
-use Rattle.bus_watch.specs.Shown.{found}
-use Rattle.bus_text.specs.Listing.{report_line, report_word, span_text, head_part}
+use Rattle.bus_watch.specs.Shown.{found_on}
+use Rattle.bus_text.specs.Listing.{line_number, report_line, report_word, span_text, head_part}
 use Rattle.bus_text.proofs.ListingLemmas.{put-dropped, put-left}
 use Rattle.bus_text.proofs.printer.Printer.put_report.Goals as goal
 
 pub returns-then-not-leaves-clause-bytes : goal.returns-then-not-leaves-clause-bytes
 returns-then-not-leaves-clause-bytes c =
-    put-dropped c.args.self.now.filter (report_line c.args.self.now.heads c.args.dictionary.now (found c.args.octets.now c.args.finding)) c.args.page.now.text.bytes
+    put-dropped c.args.self.now.filter (report_line c.args.self.now.heads c.args.dictionary.now (found_on c.args.line c.args.octets.now c.args.finding)) c.args.page.now.text.bytes
     (sym (c.leaves.ensures c.args.octets.now) ∙ c.if-not-leaves.true)
 
 pub returns-clause-bytes : goal.returns-clause-bytes
@@ -17,9 +17,11 @@ returns-clause-bytes c =
     let front = span_text (span_of r) ++ report_word r.kind in
     let head = head_part c.args.self.now.heads c.args.dictionary.now c.args.finding.standing in
     let end : c.push.new.self.bytes ≡ c.put_head.new.page.text.bytes ++ codes "\n" = search rules in
-    let told : c.push_front.new.line.bytes ≡ page ++ front = c.push_front.ensures.bytes in
+    let line = line_number c.args.line in
+    let told : c.push_front.new.line.bytes ≡ page ++ (line ++ front) = c.push_front.ensures.bytes ∙ ap (λ t. t ++ front) c.push_line.ensures.bytes ∙ append_assoc page line front in
     let named : c.put_head.new.page.text.bytes ≡ c.push_front.new.line.bytes ++ head = c.put_head.ensures.bytes in
-    let all : c.push.new.self.bytes ≡ page ++ (front ++ head ++ codes "\n") =
-    end ∙ ap (λ t. t ++ codes "\n") (named ∙ ap (λ t. t ++ head) told ∙ append_assoc page front head) ∙ append_assoc page (front ++ head) (codes "\n") in
-    put-left c.args.self.now.filter (report_line c.args.self.now.heads c.args.dictionary.now (found c.args.octets.now c.args.finding)) page c.push.new.self.bytes
+    let all : c.push.new.self.bytes ≡ page ++ (line ++ (front ++ (head ++ codes "\n"))) =
+    end ∙ ap (λ t. t ++ codes "\n") (named ∙ ap (λ t. t ++ head) told ∙ append_assoc page (line ++ front) head) ∙ append_assoc page ((line ++ front) ++ head) (codes "\n")
+    ∙ ap (λ t. page ++ t) (append_assoc (line ++ front) head (codes "\n") ∙ append_assoc line front (head ++ codes "\n")) in
+    put-left c.args.self.now.filter (report_line c.args.self.now.heads c.args.dictionary.now (found_on c.args.line c.args.octets.now c.args.finding)) page c.push.new.self.bytes
     (sym (c.leaves.ensures c.args.octets.now) ∙ c.if-not-leaves.false) all

@@ -1,0 +1,174 @@
+//! Captures of one line.
+
+ghost use Rattle.std.specs.Prelude.{◌≡◌, ◌+◌, ◌*◌, ◌≤◌, ◌<◌, ◌^◌, ℕ, List, ◌++◌, length, take, None};
+ghost use Rattle.bus_bits.specs.Octet.{bits_of};
+ghost use Rattle.bus_bits.specs.Capture.{text_bits, text_fault};
+
+use crate::tap::{Many, Tap};
+use crate::word::Word;
+use arrayvec::ArrayVec;
+use bus_bits::laws::{captures_grow, packed_is_head_and_body};
+use bus_bits::{BadMark, HeadFault, PackedBits, PackedFault, PackedHead, TextBits};
+use bus_dictionary::Dictionary;
+use bus_fcs::Check;
+use bus_line::PlaceLimit;
+use bus_text::{Page, Printer, ShortWrite, Summary, put_kept};
+use bus_watch::laws::seen_grows;
+use bus_watch::{Analyser, Counts, NewFault};
+use std::alloc::Global;
+use std::io::Write;
+
+/// The bits of the next octets, 48 of them or as many eights as come before the first octet that is
+/// no bit and no line end.
+#[inline(always)]
+fn gather(octets: &[u8]) -> Many<u64>
+    ensures few { result.count ≤ 48 }
+    ensures small { result.word < 2 ^ result.count }
+    ensures enough { result.taken ≤ length octets.now }
+    ensures given { (xs : List ℕ) → text_fault xs ≡ None →
+        (text_fault (xs ++ take result.taken octets.now) ≡ None)
+        × (text_bits (xs ++ take result.taken octets.now)
+        ≡ text_bits xs ++ bits_of result.count result.word) }
+{
+    let mut word = Word::new();
+    let mut taken = 0;
+    while word.count <= 40 {
+        let Some(eight) = TextBits::eight(&octets[taken..]) else {
+            break;
+        };
+        word.put(eight.octet);
+        taken += eight.taken;
+    }
+    Many {
+        word: word.bits,
+        count: word.count,
+        taken,
+    }
+}
+
+impl<C: Check> Tap for Analyser<C> {
+    ghost use Rattle.bus_capture.specs.Internal.OneLine.{one_tap};
+
+    type Symbol = bool;
+
+    type Word = u64;
+
+    type Body = PackedBits;
+
+    ghost tap = { one_tap C.folded C.COST };
+
+    fn new(
+        alloc: Global,
+        dictionary: Dictionary,
+        depth: usize,
+        origin: u64,
+    ) -> Result<Self, NewFault> {
+        Analyser::new(alloc, dictionary, depth, origin)
+    }
+
+    #[inline(always)]
+    fn take(&mut self, word: u64, count: u32) -> Result<u32, PlaceLimit> {
+        Analyser::take(self, word, count)
+    }
+
+    #[inline(always)]
+    fn has_room(&self, count: u32) -> bool {
+        Analyser::has_room(self, count)
+    }
+
+    #[inline(always)]
+    fn is_decided(&self) -> bool {
+        self.finding().is_some()
+    }
+
+    fn count(&self, summary: &mut Summary) {
+        if let Some(finding) = self.finding() {
+            summary.count(*finding);
+        }
+    }
+
+    fn put(&self, printer: &Printer, page: &mut Page) {
+        if let Some(finding) = self.finding() {
+            printer.put(None, *finding, self.octets(), self.dictionary(), page);
+        }
+    }
+
+    fn put_ending(&self, printer: &Printer, page: &mut Page) {
+        printer.put_ending(&self.ending(), page);
+    }
+
+    fn tally(&self, station: u8) -> Counts {
+        Analyser::tally(self, station)
+    }
+
+    fn history_len(&self) -> usize {
+        Analyser::history_len(self)
+    }
+
+    fn put_last<W: Write>(&self, i: usize, page: &mut Page, w: &mut W) -> Result<(), ShortWrite> {
+        match self.history(i) {
+            Some(kept) => put_kept(None, kept, page, w),
+            None => Ok(()),
+        }
+    }
+
+    #[inline(always)]
+    fn word_of(symbol: bool) -> u64 {
+        u64::from(symbol)
+    }
+
+    #[inline(always)]
+    fn front(word: u64) -> u64 {
+        word % 2
+    }
+
+    #[inline(always)]
+    fn behind(word: u64, taken: u32) -> u64 {
+        word >> taken
+    }
+
+    #[inline(always)]
+    fn gather(octets: &[u8]) -> Many<u64> {
+        gather(octets)
+    }
+
+    #[inline(always)]
+    fn mark(octet: u8) -> Result<Option<bool>, BadMark> {
+        TextBits::new().step(octet)
+    }
+
+    fn read_head(head: &[u8; 16]) -> Result<PackedBits, HeadFault> {
+        packed_is_head_and_body();
+        Ok(PackedBits::new(PackedHead::read(head)?))
+    }
+
+    #[inline(always)]
+    fn take_many(body: &mut PackedBits, octets: &[u8]) -> Option<Many<u64>> {
+        packed_is_head_and_body();
+        match octets.first_chunk() {
+            Some(eight) if body.left() >= 48 => Some(Many {
+                word: body.take_six(eight),
+                count: 48,
+                taken: 6,
+            }),
+            _ => None,
+        }
+    }
+
+    #[inline(always)]
+    fn take_octet(body: &mut PackedBits, octet: u8) -> Result<ArrayVec<bool, 8>, PackedFault> {
+        packed_is_head_and_body();
+        body.step(octet)
+    }
+
+    fn finish(body: &PackedBits) -> Result<(), PackedFault> {
+        packed_is_head_and_body();
+        body.finish()
+    }
+
+    fn laws() {
+        captures_grow();
+        packed_is_head_and_body();
+        seen_grows();
+    }
+}

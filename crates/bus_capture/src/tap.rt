@@ -1,0 +1,202 @@
+//! What a capture is read into: the analyser of one line, or that of two.
+
+ghost use Rattle.std.specs.Prelude.{◌≡◌, ◌+◌, ◌*◌, ◌<◌, ◌≤◌, ◌^◌, ◌↔◌, ◌⊎◌, ℕ, Bool, false, List, [], ◌∷◌, ◌++◌, length, take, Option, Some, None, Err, MatchResult, IsErr, IfOk, OnOk, OnErr, IsTrue, slice_get};
+ghost use Rattle.std.specs.Option.{ForSome, option_to_list};
+ghost use Rattle.arrayvec.specs.ArrayString.{array_string_len};
+ghost use Rattle.bus_bits.specs.Capture.{bad_mark};
+ghost use Rattle.bus_bits.specs.Packed.{head_fault_of, packed_fault_of};
+ghost use Rattle.bus_watch.specs.History.{KeptFrame, history, tally};
+ghost use Rattle.bus_watch.specs.Seen.{SeenReport};
+ghost use Rattle.bus_watch.specs.Talk.{pending};
+ghost use Rattle.bus_watch.specs.Watch.{Leads};
+ghost use Rattle.bus_text.specs.CheckText.{kept_text};
+ghost use Rattle.bus_text.specs.Internal.Counting.{IsFew};
+ghost use Rattle.bus_text.specs.Internal.Pages.{Pages};
+ghost use Rattle.bus_text.specs.Listing.{listing, ending_text};
+ghost use Rattle.bus_text.specs.Put.{Cuts};
+ghost use Rattle.bus_text.specs.Summary.{summary_of};
+ghost use Rattle.bus_capture.specs.Internal.Asked.{IsMade};
+ghost use Rattle.bus_capture.specs.Internal.Taps.{TapView, TapLaws};
+ghost use Rattle.bus_capture.specs.Internal.Watching.{heard_by};
+
+use arrayvec::ArrayVec;
+use bus_bits::{BadMark, HeadFault, PackedFault};
+use bus_dictionary::Dictionary;
+use bus_line::PlaceLimit;
+use bus_text::{Page, Printer, ShortWrite, Summary};
+use bus_watch::{Counts, NewFault};
+use std::alloc::Global;
+use std::io::Write;
+
+/// Bits, or pairs of bits, that octets give, and how many octets these are.
+#[derive(Clone, Copy)]
+pub struct Many<N> {
+    /// The first `count` are those.
+    pub word: N,
+    /// At most 48.
+    pub count: u32,
+    pub taken: usize,
+}
+
+/// An analyser of one line, or of two, and how its captures are written: at each place they have a
+/// symbol, a bit or a pair of bits.
+pub trait Tap: Drop {
+    type Symbol: Copy;
+
+    /// Up to 48 symbols in numbers, the first lowest.
+    type Word: Copy;
+
+    /// Reads the octets of a packed capture after its head.
+    type Body: Drop;
+
+    ghost tap: { TapView Self Self.Symbol Self.Word Self.Body };
+
+    /// An analyser that took no symbol. `depth` is how many frames its history keeps, and `origin` the
+    /// place of its first symbol.
+    fn new(
+        alloc: Global,
+        dictionary: Dictionary,
+        depth: usize,
+        origin: u64,
+    ) -> Result<Self, NewFault>
+        ensures depth { (result ≡ Err NewFault.DepthRange) ↔ ((depth < 1) ⊎ (1024 < depth)) }
+        ensures origin { (result ≡ Err NewFault.Origin) ↔ ((1 ≤ depth) × (depth ≤ 1024) × (2 ^ 60 < origin)) }
+        ensures made { IfOk result (λ a. IsMade tap.watch dictionary depth origin a) };
+
+    /// Takes up to `count` symbols: all of them, or those up to the first that may decide a report.
+    /// Returns how many it took. Refuses, with nothing changed, where one would have no place.
+    fn take(&mut self, word: Self::Word, count: u32) -> Result<u32, PlaceLimit>
+        requires some { 1 ≤ count }
+        requires few { count ≤ 48 }
+        requires small { tap.fits count word }
+        ensures limit { IsErr result ↔ (2 ^ 60 < tap.watch.place self.old + count) }
+        ensures within { IfOk result (λ n. (1 ≤ n) × (n ≤ count)) }
+        ensures sees { IfOk result (λ n. Leads tap.watch self.old (tap.symbols n word) (tap.heard self.new) self.new) }
+        ensures unchanged { OnErr result (self.new ≡ self.old) };
+
+    /// Whether `count` symbols more have places.
+    fn has_room(&self, count: u32) -> bool
+        ensures { IsTrue result ↔ (tap.watch.place self.now + count ≤ 2 ^ 60) };
+
+    /// Whether anything is seen at the last symbol taken.
+    fn is_decided(&self) -> bool
+        ensures { result ≡ false → tap.heard self.now ≡ [] };
+
+    /// Counts what is seen at the last symbol taken.
+    fn count(&self, summary: &mut Summary)
+        requires { (most : ℕ) × IsFew most summary.old × (most < 2 ^ 61) }
+        ensures counted { (before : List SeenReport) → summary.old ≡ summary_of before →
+            summary.new ≡ summary_of (before ++ tap.heard self.now) }
+        ensures few { (most : ℕ) → IsFew most summary.old → IsFew (most + 2) summary.new };
+
+    /// Puts its lines on the page.
+    fn put(&self, printer: &Printer, page: &mut Page)
+        requires room { array_string_len page.old.text + 2048 ≤ 16384 }
+        ensures bytes { page.new.text.bytes
+            ≡ page.old.text.bytes ++ listing printer.now (tap.watch.dictionary self.now) (tap.heard self.now) }
+        ensures len { array_string_len page.new.text ≤ array_string_len page.old.text + 2048 }
+        ensures written { page.new.written ≡ page.old.written };
+
+    /// Puts the lines of the end on the page.
+    fn put_ending(&self, printer: &Printer, page: &mut Page)
+        requires room { array_string_len page.old.text + 300 ≤ 16384 }
+        ensures bytes { (b : List Self.Symbol) → tap.watch.is_after self.now b → page.new.text.bytes
+            ≡ page.old.text.bytes ++ ending_text printer.now (tap.form.ending (tap.watch.origin self.now) b
+            (pending (tap.watch.dictionary self.now) (heard_by tap.watch self.now b))) }
+        ensures len { array_string_len page.new.text ≤ array_string_len page.old.text + 300 }
+        ensures written { page.new.written ≡ page.old.written };
+
+    /// How many verdicts named a station.
+    fn tally(&self, station: u8) -> Counts
+        ensures { (b : List Self.Symbol) → tap.watch.is_after self.now b →
+            result ≡ tally (tap.watch.dictionary self.now) (heard_by tap.watch self.now b) station };
+
+    /// How many frames the history has.
+    fn history_len(&self) -> usize
+        ensures value { (b : List Self.Symbol) → tap.watch.is_after self.now b →
+            result ≡ length (history (tap.watch.depth self.now) (heard_by tap.watch self.now b)) }
+        ensures bound { result ≤ 1024 };
+
+    /// Puts the line of a frame of the history on the page, of which the oldest has the number 0.
+    fn put_last<W: Write>(&self, i: usize, page: &mut Page, w: &mut W) -> Result<(), ShortWrite>
+        requires { page.old.written < 2 ^ 100 }
+        ensures put { (start : Option (List ℕ)) (text : List ℕ) (b : List Self.Symbol) (k : KeptFrame) →
+            tap.watch.is_after self.now b →
+            slice_get (history (tap.watch.depth self.now) (heard_by tap.watch self.now b)) i ≡ Some k →
+            Pages start (W.contents w.old) page.old.text.bytes page.old.written text → MatchResult result
+            (λ _. Pages start (W.contents w.new) page.new.text.bytes page.new.written
+            (text ++ kept_text tap.form.is_two k))
+            (λ cut. Cuts start (W.contents w.new) (text ++ kept_text tap.form.is_two k) cut.sent) }
+        ensures few { OnOk result
+            (page.new.written + array_string_len page.new.text
+            ≤ page.old.written + array_string_len page.old.text + 572) };
+
+    /// A word of one symbol.
+    fn word_of(symbol: Self::Symbol) -> Self::Word
+        ensures { tap.fits 1 result × (tap.symbols 1 result ≡ symbol ∷ []) };
+
+    /// The first symbol of a word, alone.
+    fn front(word: Self::Word) -> Self::Word
+        ensures { tap.fits 1 result × (tap.symbols 1 result ≡ tap.symbols 1 word) };
+
+    /// The symbols of a word behind the first `taken`.
+    fn behind(word: Self::Word, taken: u32) -> Self::Word
+        requires { taken ≤ 48 }
+        ensures { (left : ℕ) → tap.fits (taken + left) word → tap.fits left result
+            × (tap.symbols (taken + left) word ≡ tap.symbols taken word ++ tap.symbols left result) };
+
+    /// The symbols of the next octets of a text, as many as come at once: none where an octet is neither
+    /// a mark nor a line end.
+    fn gather(octets: &[u8]) -> Many<Self::Word>
+        ensures few { result.count ≤ 48 }
+        ensures small { tap.fits result.count result.word }
+        ensures enough { result.taken ≤ length octets.now }
+        ensures given { (xs : List ℕ) → (tap.form.text xs).fault ≡ None →
+            ((tap.form.text (xs ++ take result.taken octets.now)).fault ≡ None)
+            × ((tap.form.text (xs ++ take result.taken octets.now)).bits
+            ≡ (tap.form.text xs).bits ++ tap.symbols result.count result.word) };
+
+    /// The symbol of an octet of a text, or None where it is skipped.
+    fn mark(octet: u8) -> Result<Option<Self::Symbol>, BadMark>
+        ensures { (xs : List ℕ) → (tap.form.text xs).fault ≡ None → MatchResult result
+            (λ symbol. ((tap.form.text (xs ++ octet ∷ [])).fault ≡ None)
+            × ((tap.form.text (xs ++ octet ∷ [])).bits ≡ (tap.form.text xs).bits ++ option_to_list symbol))
+            (λ _. ((tap.form.text (xs ++ octet ∷ [])).fault ≡ Some (bad_mark (length xs)))
+            × ((tap.form.text (xs ++ octet ∷ [])).bits ≡ (tap.form.text xs).bits)) };
+
+    /// Reads the head of a packed capture.
+    fn read_head(head: &[u8; 16]) -> Result<Self::Body, HeadFault>
+        ensures { MatchResult result
+            (λ body. tap.is_body body head.now × ((tap.form.packed head.now).bits ≡ []))
+            (λ fault. (xs : List ℕ) →
+            tap.form.packed (head.now ++ xs) ≡ record { bits = []; fault = Some (head_fault_of fault) }) };
+
+    /// The symbols of the next octets of a packed capture, where there are many and all are wanted.
+    fn take_many(body: &mut Self::Body, octets: &[u8]) -> Option<Many<Self::Word>>
+        ensures within { ForSome result (λ m. (1 ≤ m.taken) × (m.taken ≤ length octets.now) × (m.count ≤ 48)) }
+        ensures small { ForSome result (λ m. tap.fits m.count m.word) }
+        ensures given { ForSome result (λ m. (xs : List ℕ) → tap.is_body body.old xs →
+            tap.is_body body.new (xs ++ take m.taken octets.now)
+            × ((tap.form.packed (xs ++ take m.taken octets.now)).bits
+            ≡ (tap.form.packed xs).bits ++ tap.symbols m.count m.word)) }
+        ensures none { result ≡ None → body.new ≡ body.old };
+
+    /// The symbols of the next octet.
+    fn take_octet(body: &mut Self::Body, octet: u8) -> Result<ArrayVec<Self::Symbol, 8>, PackedFault>
+        ensures { (xs : List ℕ) → tap.is_body body.old xs → MatchResult result
+            (λ symbols. tap.is_body body.new (xs ++ octet ∷ [])
+            × ((tap.form.packed (xs ++ octet ∷ [])).bits ≡ (tap.form.packed xs).bits ++ symbols.items))
+            (λ fault. tap.form.packed (xs ++ octet ∷ [])
+            ≡ record { bits = (tap.form.packed xs).bits; fault = Some (packed_fault_of fault) }) };
+
+    /// What is wrong where the input ends here.
+    fn finish(body: &Self::Body) -> Result<(), PackedFault>
+        ensures { (xs : List ℕ) → tap.is_body body.now xs → MatchResult result
+            (λ _. tap.form.packed_whole xs ≡ record { bits = (tap.form.packed xs).bits; fault = None })
+            (λ fault. tap.form.packed_whole xs
+            ≡ record { bits = (tap.form.packed xs).bits; fault = Some (packed_fault_of fault) }) };
+
+    /// Its captures grow with their octets, and what is seen with its symbols.
+    fn laws()
+        ensures { TapLaws tap };
+}
