@@ -1,20 +1,22 @@
 -- What is known of the symbols that are followed, some more at a time.
-use Rattle.std.proofs.Common.{◌≡◌, ℕ, zero, suc, ◌+◌, ◌-◌, ◌*◌, ◌<◌, ◌≤◌, ◌^◌, List, [], ◌∷◌, ◌++◌, length, take, drop, Option, Some, None, refl, sym, ap, ◌∙◌, subst, arith, append_assoc, append-nil, length-append, true, false, inl, inr}
+use Rattle.std.proofs.Common.{◌≡◌, ℕ, zero, suc, ◌+◌, ◌-◌, ◌*◌, ◌<◌, ◌≤◌, ◌^◌, List, [], ◌∷◌, ◌++◌, length, take, drop, Option, Some, None, Result, Ok, Err, MatchResult, IfOk, refl, sym, ap, ◌∙◌, subst, arith, append_assoc, append-nil, length-append, true, false, inl, inr}
 use Rattle.std.proofs.lemmas.Bool.{cases_lt}
 use Rattle.std.proofs.lemmas.Grind.{common_steps}
 use Rattle.arrayvec.specs.ArrayString.{array_string_len}
+use Rattle.std.proofs.Math.Seq.{take-add, drop-append_seam}
 use Rattle.std.proofs.lemmas.List.{nil_from_length, take_all, take-append-le, take-append-drop}
 use Rattle.bus_dictionary.specs.Entry.{FrameType}
 use Rattle.bus_dictionary.specs.Dictionary.{longest_of}
 use Rattle.bus_watch.specs.Seen.{SeenReport, seen}
+use Rattle.bus_watch.specs.Talk.{pending}
 use Rattle.bus_watch.specs.Watch.{Leads, seen_by}
-use Rattle.bus_text.specs.Listing.{listing}
+use Rattle.bus_text.specs.Listing.{listing, ending_text}
 use Rattle.bus_text.specs.Summary.{summary_of}
 use Rattle.bus_text.specs.Internal.Counting.{IsFew}
 use Rattle.bus_text.specs.Internal.Pages.{Pages}
 use Rattle.bus_text.specs.Put.{Cuts}
 use Rattle.bus_capture.specs.Internal.Taps.{TapView, TapLaws}
-use Rattle.bus_capture.specs.Internal.Watching.{IsSound, Watches, IsSame, Halts, printed, lines, last_lines, within}
+use Rattle.bus_capture.specs.Internal.Watching.{IsSound, Watches, IsSame, Halts, printed, ended, lines, last_lines, heard_by, within}
 use Rattle.bus_text.specs.declared.printer.Printer.{Printer}
 use Rattle.bus_capture.specs.declared.run.CaptureRun.{CaptureRun}
 use Rattle.bus_text.specs.declared.summary.Summary.{Summary}
@@ -52,6 +54,9 @@ take-split (suc n) [] ys = grind (arith, common_steps)
 take-split (suc n) (x ∷ xs) ys =
     let fewer : n - length xs ≡ suc n - length (x ∷ xs) = omega arith in
     ap (λ zs. x ∷ zs) (take-split n xs ys ∙ ap (λ (k : ℕ). take n xs ++ take k ys) fewer)
+
+drop-drop : {X : Type 0} (i n : ℕ) (xs : List X) → drop n (drop i xs) ≡ drop (i + n) xs
+drop-drop i n xs = grind (arith, common_steps)
 
 -- fewer are few
 pub few-within : (n m : ℕ) (s : Summary) → n ≤ m → IsFew n s → IsFew m s
@@ -199,6 +204,34 @@ module _ {A X N B : Type 0} (t : TapView A X N B) where
       subst (λ (z : List X). Halts t start now w z f) (sym (word-parts law b n count word le))
       (halts-more start now w (b ++ t.symbols n word) (drop n (t.symbols count word)) f h)
 
+  -- the first symbol of a word was taken alone, or not
+  pub front-taken : TapLaws t → (start now : Option (List ℕ)) (w : CaptureRun A) (b : List X) (count : ℕ) (word front : N) (r : Result ℕ ToolFault)
+      → 1 ≤ count → t.symbols 1 front ≡ t.symbols 1 word → IfOk r (λ n. (1 ≤ n) × (n ≤ 1))
+      → MatchResult r (λ n. Watches t start now w (b ++ t.symbols n front)) (λ f. Halts t start now w (b ++ t.symbols 1 front) f)
+      → MatchResult r (λ n. Watches t start now w (b ++ t.symbols n word)) (λ f. Halts t start now w (b ++ t.symbols count word) f)
+  front-taken law start now w b count word front (Ok n) some is within h =
+      let one : n ≡ 1 = omega (arith, within.0, within.1) in
+      subst (λ (z : List X). Watches t start now w (b ++ z)) (ap (λ (k : ℕ). t.symbols k front) one ∙ is ∙ ap (λ (k : ℕ). t.symbols k word) (sym one)) h
+  front-taken law start now w b count word front (Err f) some is within h =
+      halts-word law start now w b 1 count word f some (subst (λ (z : List X). Halts t start now w (b ++ z) f) is h)
+
+  -- the next symbols of those that are left
+  pub word-next : TapLaws t → (b all : List X) (i n left : ℕ) (rest : N) → n ≤ left → t.symbols left rest ≡ drop i all
+      → (b ++ take i all) ++ t.symbols n rest ≡ b ++ take (i + n) all
+  word-next law b all i n left rest le is =
+      append_assoc b (take i all) (t.symbols n rest)
+      ∙ ap (λ (z : List X). b ++ (take i all ++ z)) (law.front n left rest le ∙ ap (λ (z : List X). take n z) is)
+      ∙ ap (λ (z : List X). b ++ z) (sym (take-add i n all))
+
+  -- and those that are left behind them
+  pub word-behind : TapLaws t → (all : List X) (i n left : ℕ) (rest later : N) → t.symbols (n + left) rest ≡ drop i all
+      → t.symbols (n + left) rest ≡ t.symbols n rest ++ t.symbols left later → t.symbols left later ≡ drop (i + n) all
+  word-behind law all i n left rest later is parts =
+      sym (drop-append_seam (t.symbols n rest) (t.symbols left later))
+      ∙ ap (λ (k : ℕ). drop k (t.symbols n rest ++ t.symbols left later)) (law.long n rest)
+      ∙ ap (λ (z : List X). drop n z) (sym parts ∙ is)
+      ∙ drop-drop i n all
+
   -- what stays the same twice, stays the same
   pub same-both : (u v w : CaptureRun A) → IsSame t u v → IsSame t v w → IsSame t u w
   same-both u v w a b = record {
@@ -222,9 +255,24 @@ module _ {A X N B : Type 0} (t : TapView A X N B) where
     octets = let o = h.octets in omega (arith, e, octets, o, some);
   }
 
+  -- without a printer there are no lines of the end
+  pub pages-unended : (start now : Option (List ℕ)) (w : CaptureRun A) (b : List X) (page later : Page)
+      → w.printer ≡ None → later ≡ page
+      → Pages start now page.text.bytes page.written (lines t w b) → Pages start now later.text.bytes later.written (lines t w b ++ last_lines t w b)
+  pages-unended start now w b page later e l h =
+      let waits = pending (t.watch.dictionary w.analyser) (heard_by t.watch w.analyser b) in
+      subst (λ (x : Page). Pages start now x.text.bytes x.written (lines t w b ++ last_lines t w b)) (sym l)
+      (subst (λ (z : List ℕ). Pages start now page.text.bytes page.written z) (sym (ap (λ x. lines t w b ++ ended x (t.form.ending (t.watch.origin w.analyser) b waits)) e ∙ append-nil (lines t w b))) h)
+
   -- the lines of the end were put on the page
-  pub pages-ended : (start now : Option (List ℕ)) (w : CaptureRun A) (b : List X) (page all : List ℕ) (written later : ℕ)
-      → all ≡ page ++ last_lines t w b → later ≡ written
-      → Pages start now page written (lines t w b) → Pages start now all later (lines t w b ++ last_lines t w b)
-  pages-ended start now w b page all written later g l h =
-      subst (λ (n : ℕ). Pages start now all n (lines t w b ++ last_lines t w b)) (sym l) (pages-more start now page all written (lines t w b) (last_lines t w b) g h)
+  pub pages-ended : (start now : Option (List ℕ)) (w : CaptureRun A) (b : List X) (p : Printer) (page put later : Page)
+      → w.printer ≡ Some p → later ≡ put
+      → put.text.bytes ≡ page.text.bytes ++ ending_text p (t.form.ending (t.watch.origin w.analyser) b (pending (t.watch.dictionary w.analyser) (heard_by t.watch w.analyser b)))
+      → put.written ≡ page.written
+      → Pages start now page.text.bytes page.written (lines t w b) → Pages start now later.text.bytes later.written (lines t w b ++ last_lines t w b)
+  pages-ended start now w b p page put later e l bytes written h =
+      let waits = pending (t.watch.dictionary w.analyser) (heard_by t.watch w.analyser b) in
+      let last : put.text.bytes ≡ page.text.bytes ++ last_lines t w b = bytes ∙ ap (λ x. page.text.bytes ++ ended x (t.form.ending (t.watch.origin w.analyser) b waits)) (sym e) in
+      subst (λ (x : Page). Pages start now x.text.bytes x.written (lines t w b ++ last_lines t w b)) (sym l)
+      (subst (λ (n : ℕ). Pages start now put.text.bytes n (lines t w b ++ last_lines t w b)) (sym written)
+      (pages-more start now page.text.bytes put.text.bytes page.written (lines t w b) (last_lines t w b) last h))
