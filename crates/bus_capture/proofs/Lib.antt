@@ -1,6 +1,6 @@
 pub mod WordLemmas
-pub mod PlacesLemmas
 pub mod WatchingLemmas
+pub mod PlacesLemmas
 pub mod ReportLemmas
 pub mod ReadingLemmas
 pub mod ListsLemmas
