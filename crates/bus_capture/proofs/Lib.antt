@@ -1,1 +1,6 @@
+pub mod FewLemmas
+pub mod GatherLemmas
+pub mod HeadedLemmas
+pub mod OneLineLemmas
+pub mod PutLemmas
 pub mod WordLemmas
