@@ -3,4 +3,5 @@ pub mod GatherLemmas
 pub mod HeadedLemmas
 pub mod OneLineLemmas
 pub mod PutLemmas
+pub mod TwoLinesLemmas
 pub mod WordLemmas
