@@ -1,3 +1,9 @@
+pub mod FewLemmas
+pub mod GatherLemmas
+pub mod HeadedLemmas
+pub mod OneLineLemmas
+pub mod PutLemmas
+pub mod TwoLinesLemmas
 pub mod WordLemmas
 pub mod WatchingLemmas
 pub mod PlacesLemmas
