@@ -1,17 +1,13 @@
 -- Bits with a place, of captures of one line or of two.
 use Rattle.std.proofs.Common.{◌≡◌, ℕ, ◌-◌, ◌+◌, ◌≤◌, ◌<◌, ◌^◌, if◌then◌else◌, List, length, take, Some, sym, ap, ◌∙◌, arith, inl, inr}
 use Rattle.std.proofs.lemmas.Bool.{cases_lt}
-use Rattle.std.proofs.lemmas.List.{take_all}
 use Rattle.bus_bits.specs.Capture.{CaptureOf, place_limit, capped}
 use Rattle.std.specs.Prelude.{Option}
 use Rattle.bus_capture.specs.Internal.Taps.{TapView, TapLaws}
 use Rattle.bus_capture.specs.Internal.Watching.{IsSound, Watches, within}
 use Rattle.bus_capture.specs.declared.run.CaptureRun.{CaptureRun}
+use Rattle.bus_capture.proofs.WatchingLemmas.{within-all}
 use Rattle.bus_bits.proofs.CaptureLemmas.{capped_all, lt_true}
-
--- bits that all have a place
-pub within-all : {X : Type 0} (origin : ℕ) (b : List X) → origin + length b ≤ 2 ^ 60 → within origin b ≡ b
-within-all origin b h = take_all (2 ^ 60 - origin) b (omega (arith, h))
 
 -- of more bits than there are places
 pub placed-over : {X : Type 0} (origin : ℕ) (c : CaptureOf X) → 2 ^ 60 - origin < length c.bits → capped origin c ≡ record { bits = within origin c.bits; fault = Some place_limit }

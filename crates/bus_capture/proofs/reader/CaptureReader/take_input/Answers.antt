@@ -1,4 +1,4 @@
-use Rattle.std.proofs.Common.{rules, Bool, ◌++◌, take, ◌∙◌, subst}
+use Rattle.std.proofs.Common.{rules, arith, Bool, ◌++◌, take, ◌∙◌, subst}
 use Rattle.std.proofs.lemmas.Result.{err_from_is_err_and}
 use Rattle.bus_capture.specs.Internal.Sessions.{is_text, Stops}
 use Rattle.bus_capture.specs.Internal.Reading.{IsClean, Finishes}
@@ -65,3 +65,18 @@ loop-turn-preserved g c =
         longer before.0 c.read.new.buf c.in-Ok.count c.loop-turn._turn before.3 (search rules) (search rules),
       );
     }
+
+pub returns-clause-read : goal.returns-clause-read
+returns-clause-read g c =
+    let before = c.loop-turn.invariant.taken in
+    let start = g.W.Write.contents c.args.w.now in
+    let now = g.W.Write.contents c.loop-turn.w in
+    let self = c.loop-turn.self in
+    let law = c.laws.ensures in
+    let clean = is-clean g.T.Tap.tap law (is_text self.source) start now self.run before.0 c.loop-turn.invariant.sound
+    (follows-unplaced g.T.Tap.tap start now self.source self.run before.0 law before.2) in (
+      before.0,
+      before.1,
+      omega (arith, before.3, c.loop-turn-test.false),
+      subst (λ (b : Bool). IsClean g.T.Tap.tap b start now self.run before.0) c.loop-turn.invariant.text clean,
+    )
