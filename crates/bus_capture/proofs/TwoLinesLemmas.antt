@@ -1,12 +1,11 @@
 -- Captures of two lines.
-use Rattle.std.proofs.Common.{◌≡◌, ℕ, ◌+◌, ◌*◌, ◌/◌, ◌%◌, ◌<◌, ◌≤◌, ◌^◌, Bool, true, false, nat_lt, if◌then◌else◌, List, [], ◌∷◌, ◌++◌, length, take, drop, zip, Some, None, Result, Ok, Err, MatchResult, refl, sym, ap, ◌∙◌, subst, arith, append_assoc, append-nil}
+use Rattle.std.proofs.Common.{◌≡◌, ℕ, ◌+◌, ◌*◌, ◌/◌, ◌%◌, ◌^◌, Bool, true, false, nat_lt, if◌then◌else◌, List, [], ◌∷◌, ◌++◌, length, take, drop, zip, Some, None, refl, sym, ap, ◌∙◌, arith, append_assoc, append-nil}
 use Rattle.std.specs.Array.{IsFirstChunk}
 use Rattle.std.proofs.lemmas.List.{length-map}
 use mir.Val.{bool_byte}
 use Rattle.bus_bits.specs.Octet.{bits_of}
 use Rattle.bus_bits.specs.Capture.{PairCapture, short_head}
-use Rattle.bus_bits.specs.Packed.{PairsAreHeaded, PairsAfter, packed_pair_capture, packed_pair_whole, pair_body, packed_body, in_pairs, packed_fault_of, headed, filled, head_bits, pair_head_fault}
-use Rattle.bus_bits.specs.declared.capture.packed_bits.PackedFault.{PackedFault}
+use Rattle.bus_bits.specs.Packed.{PairsAreHeaded, PairsAfter, packed_pair_capture, packed_pair_whole, pair_body, in_pairs, headed, filled, head_bits, pair_head_fault}
 use Rattle.bus_bits.proofs.OctetLemmas.{length-bits, bits-split, bits-low, one_bit}
 use Rattle.bus_bits.proofs.PairWordsLemmas.{zip-append}
 use Rattle.bus_dictionary.specs.Entry.{FrameType}
@@ -21,7 +20,7 @@ use Rattle.bus_text.proofs.SummaryLemmas.{summary-more}
 use Rattle.bus_capture.specs.Captures.{two_lines}
 use Rattle.bus_capture.specs.Internal.Taps.{SeenOn}
 use Rattle.bus_capture.specs.Internal.TwoLines.{ArePairsHeaded}
-use Rattle.bus_capture.proofs.HeadedLemmas.{headed-here, bits-more, fault-more}
+use Rattle.bus_capture.proofs.HeadedLemmas.{headed-here, bits-more}
 use Rattle.bus_capture.proofs.OneLineLemmas.{no_body}
 
 -- no pairs are none
@@ -62,7 +61,7 @@ pub placed-pairs : (place origin : ℕ) (ps : List (Bool × Bool)) → place ≡
 placed-pairs place origin ps e = omega (arith, e, length-map ps (λ (p : Bool × Bool). p.0))
 
 -- a good head and what follows it are read on
-pub pairs-on : (left later : ℕ) (xs ys : List ℕ) (h : ArePairsHeaded left xs) → PairsAfter (head_bits h.head) (h.body ++ ys) later → ArePairsHeaded later (xs ++ ys)
+pairs-on : (left later : ℕ) (xs ys : List ℕ) (h : ArePairsHeaded left xs) → PairsAfter (head_bits h.head) (h.body ++ ys) later → ArePairsHeaded later (xs ++ ys)
 pairs-on left later xs ys h after = record {
   head = h.head;
   body = h.body ++ ys;
@@ -86,19 +85,6 @@ octets-read law left later xs ys pairs given h =
       pairs-on left later xs ys h is.0,
       bits-more packed_pair_capture pair_body pair_head_fault (λ head zs long. (law head zs long).0) h.head h.body xs ys pairs h.all h.long h.good is.1,
     )
-
--- or refused
-pub octet-read : {T : Type 0} (items : T → List (Bool × Bool)) → PairsAreHeaded → (left later : ℕ) (xs ys : List ℕ) (r : Result T PackedFault)
-    → ((n : ℕ) (zs : List ℕ) → PairsAfter n zs left → MatchResult r
-    (λ b. PairsAfter n (zs ++ ys) later × ((pair_body n (zs ++ ys)).bits ≡ (pair_body n zs).bits ++ items b))
-    (λ f. pair_body n (zs ++ ys) ≡ record { bits = (pair_body n zs).bits; fault = Some (packed_fault_of f) }))
-    → ArePairsHeaded left xs → MatchResult r
-    (λ b. ArePairsHeaded later (xs ++ ys) × ((packed_pair_capture (xs ++ ys)).bits ≡ (packed_pair_capture xs).bits ++ items b))
-    (λ f. packed_pair_capture (xs ++ ys) ≡ record { bits = (packed_pair_capture xs).bits; fault = Some (packed_fault_of f) })
-octet-read items law left later xs ys (Ok b) given h = octets-read law left later xs ys (items b) given h
-octet-read items law left later xs ys (Err f) given h =
-    fault-more packed_pair_capture pair_body pair_head_fault (λ head zs long. (law head zs long).0) h.head h.body xs ys (packed_fault_of f) h.all h.long h.good
-    (given (head_bits h.head) h.body h.after)
 
 -- the first twelve
 pub first-twelve : (os twelve : List ℕ) → IsFirstChunk os twelve 12 → twelve ≡ take 12 os

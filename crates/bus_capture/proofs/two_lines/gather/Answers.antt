@@ -1,4 +1,4 @@
-use Rattle.std.proofs.Common.{◌≡◌, ◌-◌, length, take, drop, refl, ap, ◌∙◌, arith}
+use Rattle.std.proofs.Common.{◌-◌, length, drop, refl, arith}
 use Rattle.std.proofs.lemmas.List.{length-take, length-drop}
 use Rattle.bus_bits.specs.Capture.{text_pairs, text_pairs_fault}
 use Rattle.bus_watch.specs.Heard.{pairs_of}

@@ -1,4 +1,4 @@
-use Rattle.std.proofs.Common.{◌≡◌, [], ◌∷◌, List, Bool, ◌++◌, sym, ap, ◌∙◌}
+use Rattle.std.proofs.Common.{[], ◌∷◌, List, Bool, ◌++◌, sym, ap, ◌∙◌}
 use Rattle.bus_bits.specs.Packed.{packed_pair_capture}
 use Rattle.bus_capture.proofs.TwoLinesLemmas.{octets-read}
 use Rattle.bus_capture.proofs.two_lines.PairAnalyserTap.take_octet.Goals as goal
