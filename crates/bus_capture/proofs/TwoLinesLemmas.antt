@@ -4,7 +4,7 @@ use Rattle.std.specs.Array.{IsFirstChunk}
 use Rattle.std.proofs.lemmas.List.{length-map}
 use mir.Val.{bool_byte}
 use Rattle.bus_bits.specs.Octet.{bits_of}
-use Rattle.bus_bits.specs.Capture.{PairCapture, short_head}
+use Rattle.bus_bits.specs.Capture.{PairCapture, CaptureFault, short_head}
 use Rattle.bus_bits.specs.Packed.{PairsAreHeaded, PairsAfter, packed_pair_capture, packed_pair_whole, pair_body, in_pairs, headed, filled, head_bits, pair_head_fault}
 use Rattle.bus_bits.proofs.OctetLemmas.{length-bits, bits-split, bits-low, one_bit}
 use Rattle.bus_bits.proofs.PairWordsLemmas.{zip-append}
@@ -20,7 +20,7 @@ use Rattle.bus_text.proofs.SummaryLemmas.{summary-more}
 use Rattle.bus_capture.specs.Captures.{two_lines}
 use Rattle.bus_capture.specs.Internal.Taps.{SeenOn}
 use Rattle.bus_capture.specs.Internal.TwoLines.{ArePairsHeaded}
-use Rattle.bus_capture.proofs.HeadedLemmas.{headed-here, bits-more}
+use Rattle.bus_capture.proofs.HeadedLemmas.{headed-here, bits-more, fault-more}
 use Rattle.bus_capture.proofs.OneLineLemmas.{no_body}
 
 -- no pairs are none
@@ -85,6 +85,14 @@ octets-read law left later xs ys pairs given h =
       pairs-on left later xs ys h is.0,
       bits-more packed_pair_capture pair_body pair_head_fault (λ head zs long. (law head zs long).0) h.head h.body xs ys pairs h.all h.long h.good is.1,
     )
+
+-- or refused
+pub octets-refused : PairsAreHeaded → (left : ℕ) (xs ys : List ℕ) (cause : CaptureFault)
+    → ((n : ℕ) (zs : List ℕ) → PairsAfter n zs left → pair_body n (zs ++ ys) ≡ record { bits = (pair_body n zs).bits; fault = Some cause })
+    → ArePairsHeaded left xs → packed_pair_capture (xs ++ ys) ≡ record { bits = (packed_pair_capture xs).bits; fault = Some cause }
+octets-refused law left xs ys cause given h =
+    fault-more packed_pair_capture pair_body pair_head_fault (λ head zs long. (law head zs long).0) h.head h.body xs ys cause h.all h.long h.good
+    (given (head_bits h.head) h.body h.after)
 
 -- the first twelve
 pub first-twelve : (os twelve : List ℕ) → IsFirstChunk os twelve 12 → twelve ≡ take 12 os
