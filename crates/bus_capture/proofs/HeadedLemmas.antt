@@ -6,14 +6,14 @@ use Rattle.bus_bits.specs.Packed.{head_bits, headed}
 module _ {A : Type 0} (capture : List ℕ → CaptureOf A) (body : ℕ → List ℕ → CaptureOf A) (fault : List ℕ → Option CaptureFault)
     (law : (head xs : List ℕ) → length head ≡ 16 → capture (head ++ xs) ≡ headed (fault head) (body (head_bits head) xs)) where
   -- a good head and what follows it
-  pub headed-is : (head xs : List ℕ) → length head ≡ 16 → fault head ≡ None → capture (head ++ xs) ≡ body (head_bits head) xs
+  headed-is : (head xs : List ℕ) → length head ≡ 16 → fault head ≡ None → capture (head ++ xs) ≡ body (head_bits head) xs
   headed-is head xs long good = law head xs long ∙ ap (λ f. headed f (body (head_bits head) xs)) good
 
   pub headed-here : (head rest xs : List ℕ) → xs ≡ head ++ rest → length head ≡ 16 → fault head ≡ None → capture xs ≡ body (head_bits head) rest
   headed-here head rest xs all long good = ap capture all ∙ headed-is head rest long good
 
   -- with some octets more
-  pub headed-more : (head rest xs ys : List ℕ) → xs ≡ head ++ rest → length head ≡ 16 → fault head ≡ None → capture (xs ++ ys) ≡ body (head_bits head) (rest ++ ys)
+  headed-more : (head rest xs ys : List ℕ) → xs ≡ head ++ rest → length head ≡ 16 → fault head ≡ None → capture (xs ++ ys) ≡ body (head_bits head) (rest ++ ys)
   headed-more head rest xs ys all long good =
       headed-here head (rest ++ ys) (xs ++ ys) (ap (λ (zs : List ℕ). zs ++ ys) all ∙ append_assoc head rest ys) long good
 

@@ -1,5 +1,5 @@
 -- Captures of one line.
-use Rattle.std.proofs.Common.{◌≡◌, ℕ, ◌+◌, ◌*◌, ◌/◌, ◌<◌, ◌≤◌, ◌^◌, Bool, true, false, nat_lt, if◌then◌else◌, List, [], ◌∷◌, ◌++◌, length, take, drop, Some, None, Result, Ok, Err, MatchResult, refl, sym, ap, ◌∙◌, subst, arith, append_assoc, append-nil}
+use Rattle.std.proofs.Common.{◌≡◌, ℕ, ◌+◌, ◌*◌, ◌/◌, ◌<◌, ◌^◌, Bool, true, false, nat_lt, if◌then◌else◌, List, [], ◌∷◌, ◌++◌, length, take, drop, Some, None, Result, Ok, Err, MatchResult, refl, sym, ap, ◌∙◌, subst, arith, append_assoc, append-nil}
 use Rattle.std.specs.Array.{IsFirstChunk}
 use Rattle.std.specs.Int.{next_multiple_of}
 use Rattle.std.specs.List.{list_any}
@@ -37,7 +37,7 @@ unfolding bits_of
 no_bits n x e = ap (λ (k : ℕ). bits_of k x) e
 
 -- a good head and what follows it are read on
-pub read-on : (left later : ℕ) (xs ys : List ℕ) (h : IsHeaded left xs) → PackedAfter (head_bits h.head) (h.body ++ ys) later → IsHeaded later (xs ++ ys)
+read-on : (left later : ℕ) (xs ys : List ℕ) (h : IsHeaded left xs) → PackedAfter (head_bits h.head) (h.body ++ ys) later → IsHeaded later (xs ++ ys)
 read-on left later xs ys h after = record {
   head = h.head;
   body = h.body ++ ys;

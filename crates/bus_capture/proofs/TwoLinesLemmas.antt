@@ -1,15 +1,15 @@
 -- Captures of two lines.
-use Rattle.std.proofs.Common.{◌≡◌, ℕ, ◌+◌, ◌*◌, ◌/◌, ◌%◌, ◌<◌, ◌≤◌, ◌^◌, Bool, true, false, nat_lt, if◌then◌else◌, List, [], ◌∷◌, ◌++◌, length, take, drop, zip, Some, None, Result, Ok, Err, MatchResult, refl, sym, ap, ◌∙◌, subst, arith, append_assoc, append-nil}
+use Rattle.std.proofs.Common.{◌≡◌, ℕ, ◌+◌, ◌*◌, ◌/◌, ◌%◌, ◌^◌, Bool, true, false, nat_lt, if◌then◌else◌, List, [], ◌∷◌, ◌++◌, length, take, drop, zip, Some, None, refl, sym, ap, ◌∙◌, arith, append_assoc, append-nil}
 use Rattle.std.specs.Array.{IsFirstChunk}
+use Rattle.std.proofs.lemmas.List.{length-map}
 use mir.Val.{bool_byte}
 use Rattle.bus_bits.specs.Octet.{bits_of}
-use Rattle.bus_bits.specs.Capture.{PairCapture, short_head}
-use Rattle.bus_bits.specs.Packed.{PairsAreHeaded, PairsAfter, packed_pair_capture, packed_pair_whole, pair_body, packed_body, in_pairs, packed_fault_of, headed, filled, head_bits, pair_head_fault}
-use Rattle.bus_bits.specs.declared.capture.packed_bits.PackedFault.{PackedFault}
+use Rattle.bus_bits.specs.Capture.{PairCapture, CaptureFault, short_head}
+use Rattle.bus_bits.specs.Packed.{PairsAreHeaded, PairsAfter, packed_pair_capture, packed_pair_whole, pair_body, in_pairs, headed, filled, head_bits, pair_head_fault}
 use Rattle.bus_bits.proofs.OctetLemmas.{length-bits, bits-split, bits-low, one_bit}
 use Rattle.bus_bits.proofs.PairWordsLemmas.{zip-append}
 use Rattle.bus_dictionary.specs.Entry.{FrameType}
-use Rattle.bus_watch.specs.Heard.{pairs_of, merged}
+use Rattle.bus_watch.specs.Heard.{pairs_of, firsts, merged}
 use Rattle.bus_watch.specs.Seen.{SeenReport, seen, all_seen_at}
 use Rattle.bus_watch.specs.Shown.{found, found_on}
 use Rattle.bus_watch.specs.declared.finding.Finding.{Finding}
@@ -45,16 +45,23 @@ one_pair x y a b e f =
     ap (λ (c : List Bool). zip c (bits_of 1 y)) (one_bit x 1 a e (omega arith) (omega arith))
     ∙ ap (zip (a ∷ [])) (one_bit y 1 b f (omega arith) (omega arith))
 
--- words of both lines are joined
-pub pairs-joined : (n m k x y f g u v : ℕ) → n ≡ m → bits_of (n + k) u ≡ bits_of n x ++ bits_of k f → bits_of (m + k) v ≡ bits_of m y ++ bits_of k g
-    → pairs_of (n + k) u v ≡ pairs_of n x y ++ pairs_of k f g
-pairs-joined n m k x y f g u v same p q =
-    let r : bits_of (n + k) v ≡ bits_of n y ++ bits_of k g = subst (λ (i : ℕ). bits_of (i + k) v ≡ bits_of i y ++ bits_of k g) (sym same) q in
-    ap (λ (b : List Bool). zip b (bits_of (n + k) v)) p ∙ ap (zip (bits_of n x ++ bits_of k f)) r
+-- words of both lines with more bits
+pub pairs-joined : (n m k x y f g i j u v : ℕ) → n ≡ m → i ≡ n + k → j ≡ m + k
+    → bits_of i u ≡ bits_of n x ++ bits_of k f → bits_of j v ≡ bits_of m y ++ bits_of k g
+    → pairs_of i u v ≡ pairs_of n x y ++ pairs_of k f g
+pairs-joined n m k x y f g i j u v same more longer p q =
+    let e : j ≡ i = omega (arith, same, more, longer) in
+    let r : bits_of i v ≡ bits_of n y ++ bits_of k g =
+    ap (λ (l : ℕ). bits_of l v) (sym e) ∙ q ∙ ap (λ (l : ℕ). bits_of l y ++ bits_of k g) (sym same) in
+    ap (λ (b : List Bool). zip b (bits_of i v)) p ∙ ap (zip (bits_of n x ++ bits_of k f)) r
     ∙ zip-append (bits_of n x) (bits_of n y) (bits_of k f) (bits_of k g) (length-bits n x ∙ sym (length-bits n y))
 
+-- as many pairs as each line has bits
+pub placed-pairs : (place origin : ℕ) (ps : List (Bool × Bool)) → place ≡ origin + length (firsts ps) → place ≡ origin + length ps
+placed-pairs place origin ps e = omega (arith, e, length-map ps (λ (p : Bool × Bool). p.0))
+
 -- a good head and what follows it are read on
-pub pairs-on : (left later : ℕ) (xs ys : List ℕ) (h : ArePairsHeaded left xs) → PairsAfter (head_bits h.head) (h.body ++ ys) later → ArePairsHeaded later (xs ++ ys)
+pairs-on : (left later : ℕ) (xs ys : List ℕ) (h : ArePairsHeaded left xs) → PairsAfter (head_bits h.head) (h.body ++ ys) later → ArePairsHeaded later (xs ++ ys)
 pairs-on left later xs ys h after = record {
   head = h.head;
   body = h.body ++ ys;
@@ -80,16 +87,11 @@ octets-read law left later xs ys pairs given h =
     )
 
 -- or refused
-pub octet-read : {T : Type 0} (items : T → List (Bool × Bool)) → PairsAreHeaded → (left later : ℕ) (xs ys : List ℕ) (r : Result T PackedFault)
-    → ((n : ℕ) (zs : List ℕ) → PairsAfter n zs left → MatchResult r
-    (λ b. PairsAfter n (zs ++ ys) later × ((pair_body n (zs ++ ys)).bits ≡ (pair_body n zs).bits ++ items b))
-    (λ f. pair_body n (zs ++ ys) ≡ record { bits = (pair_body n zs).bits; fault = Some (packed_fault_of f) }))
-    → ArePairsHeaded left xs → MatchResult r
-    (λ b. ArePairsHeaded later (xs ++ ys) × ((packed_pair_capture (xs ++ ys)).bits ≡ (packed_pair_capture xs).bits ++ items b))
-    (λ f. packed_pair_capture (xs ++ ys) ≡ record { bits = (packed_pair_capture xs).bits; fault = Some (packed_fault_of f) })
-octet-read items law left later xs ys (Ok b) given h = octets-read law left later xs ys (items b) given h
-octet-read items law left later xs ys (Err f) given h =
-    fault-more packed_pair_capture pair_body pair_head_fault (λ head zs long. (law head zs long).0) h.head h.body xs ys (packed_fault_of f) h.all h.long h.good
+pub octets-refused : PairsAreHeaded → (left : ℕ) (xs ys : List ℕ) (cause : CaptureFault)
+    → ((n : ℕ) (zs : List ℕ) → PairsAfter n zs left → pair_body n (zs ++ ys) ≡ record { bits = (pair_body n zs).bits; fault = Some cause })
+    → ArePairsHeaded left xs → packed_pair_capture (xs ++ ys) ≡ record { bits = (packed_pair_capture xs).bits; fault = Some cause }
+octets-refused law left xs ys cause given h =
+    fault-more packed_pair_capture pair_body pair_head_fault (λ head zs long. (law head zs long).0) h.head h.body xs ys cause h.all h.long h.good
     (given (head_bits h.head) h.body h.after)
 
 -- the first twelve

@@ -1,4 +1,4 @@
-use Rattle.std.proofs.Common.{◌≡◌, ◌-◌, length, take, drop, refl, ap, ◌∙◌, arith}
+use Rattle.std.proofs.Common.{◌-◌, length, drop, refl, arith}
 use Rattle.std.proofs.lemmas.List.{length-take, length-drop}
 use Rattle.bus_bits.specs.Capture.{text_pairs, text_pairs_fault}
 use Rattle.bus_watch.specs.Heard.{pairs_of}
@@ -24,4 +24,14 @@ loop-first-preserved c =
     let second = c.loop-first.second in
     let eight = c.in-Some.eight in
     let fewest = c.in-Some.ensures.fewest eight refl in
-    ?
+    record {
+      few = omega (arith, c.put.ensures.count, c.loop-first-test.true);
+      same = omega (arith, c.put.ensures.count, c.put-in-loop-first.ensures.count, c.loop-first.invariant.same);
+      small = c.put.ensures.small;
+      small_second = c.put-in-loop-first.ensures.small;
+      enough = omega (arith, fewest.0.0, c.loop-first.invariant.enough, length-take (length os - i) (drop i os), length-drop i os);
+      given = λ xs clean. more-given text_pairs text_pairs_fault xs os i eight.taken (pairs_of first.count first.bits second.bits) (pairs_of 8 eight.first eight.second) _
+          (pairs-joined first.count second.count 8 first.bits second.bits eight.first eight.second c.put.new.self.count c.put-in-loop-first.new.self.count c.put.new.self.bits c.put-in-loop-first.new.self.bits
+          c.loop-first.invariant.same c.put.ensures.count c.put-in-loop-first.ensures.count c.put.ensures.bits c.put-in-loop-first.ensures.bits)
+          (c.loop-first.invariant.given xs clean) (c.in-Some.ensures.given eight refl);
+    }

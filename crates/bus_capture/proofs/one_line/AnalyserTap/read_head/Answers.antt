@@ -1,4 +1,4 @@
-use Rattle.std.proofs.Common.{[], refl, sym, append-nil, subst}
+use Rattle.std.proofs.Common.{[], sym, append-nil, subst}
 use Rattle.bus_bits.specs.Packed.{PackedAfter, packed_capture, packed_body, head_bits, head_fault}
 use Rattle.bus_capture.proofs.HeadedLemmas.{head-alone}
 use Rattle.bus_capture.proofs.OneLineLemmas.{no_body}

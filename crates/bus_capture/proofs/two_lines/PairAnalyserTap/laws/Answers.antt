@@ -1,6 +1,6 @@
 use Rattle.std.proofs.Common.{refl, sym}
 use Rattle.bus_watch.proofs.PairLemmas.{length-pairs, pairs-front}
-use Rattle.bus_capture.proofs.TwoLinesLemmas.{same_pairs, pairs-seen, head-clean}
+use Rattle.bus_capture.proofs.TwoLinesLemmas.{same_pairs, placed-pairs, pairs-seen, head-clean}
 use Rattle.bus_capture.proofs.two_lines.PairAnalyserTap.laws.Goals as goal
 
 pub returns : goal.returns
@@ -19,7 +19,7 @@ returns g c =
         seen = pairs-seen c.pairs_grow.ensures.grows;
       };
       hears = refl;
-      placed = ?;
+      placed = λ a b h. placed-pairs a.first.place a.first.origin b h.first.has_taken.place;
       long = λ n word. length-pairs n word.first word.second;
       front = λ n count word le. sym (pairs-front n count word.first word.second le);
       clean = head-clean head.headed;

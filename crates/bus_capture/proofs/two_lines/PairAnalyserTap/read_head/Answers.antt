@@ -1,4 +1,4 @@
-use Rattle.std.proofs.Common.{[], refl, sym, append-nil, subst}
+use Rattle.std.proofs.Common.{[], sym, append-nil, subst}
 use Rattle.bus_bits.specs.Packed.{PairsAfter, packed_pair_capture, pair_body, head_bits, pair_head_fault}
 use Rattle.bus_capture.proofs.HeadedLemmas.{head-alone}
 use Rattle.bus_capture.proofs.TwoLinesLemmas.{no_pair_body}
