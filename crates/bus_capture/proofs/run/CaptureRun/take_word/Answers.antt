@@ -41,10 +41,10 @@ loop-left-preserved g c =
     let within = c.in_ok-taken.ensures.within in
     let next : i + n ≡ c.args.count - left = omega (arith, c.loop-left.invariant.within, within.1) in
     let parts : c.loop-left.left ≡ n + left = omega (arith, within.1) in
-    let behind = c.behind.ensures left (subst (λ (k : ℕ). tap.fits k c.loop-left.rest) parts c.loop-left.invariant.small) in
+    let behind = c.behind-rest.ensures left (subst (λ (k : ℕ). tap.fits k c.loop-left.rest) parts c.loop-left.invariant.small) in
     record {
       within = omega (arith, c.loop-left.invariant.within);
-      rest = word-behind tap c.laws.ensures all i n left c.loop-left.rest c.behind.result
+      rest = word-behind tap c.laws.ensures all i n left c.loop-left.rest c.behind-rest.result
           (subst (λ (k : ℕ). tap.symbols k c.loop-left.rest ≡ drop i all) parts c.loop-left.invariant.rest) behind.1
           ∙ ap (λ (k : ℕ). drop k all) next;
       small = behind.0;
