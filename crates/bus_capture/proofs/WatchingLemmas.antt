@@ -1,5 +1,5 @@
 -- What is known of the symbols that are followed, some more at a time.
-use Rattle.std.proofs.Common.{◌≡◌, ℕ, zero, suc, ◌+◌, ◌-◌, ◌*◌, ◌<◌, ◌≤◌, ◌^◌, List, [], ◌∷◌, ◌++◌, length, take, drop, Option, Some, None, Result, Ok, Err, MatchResult, IfOk, refl, sym, ap, ◌∙◌, subst, arith, append_assoc, append-nil, length-append, true, false, inl, inr}
+use Rattle.std.proofs.Common.{◌≡◌, ℕ, zero, suc, ◌+◌, ◌-◌, ◌*◌, ◌<◌, ◌≤◌, ◌^◌, List, [], ◌∷◌, ◌++◌, length, take, drop, get_or, Option, Some, None, Result, Ok, Err, MatchResult, IfOk, refl, sym, ap, ◌∙◌, subst, arith, append_assoc, append-nil, length-append, true, false, inl, inr}
 use Rattle.std.proofs.lemmas.Bool.{cases_lt}
 use Rattle.std.proofs.lemmas.Grind.{common_steps}
 use Rattle.arrayvec.specs.ArrayString.{array_string_len}
@@ -54,6 +54,13 @@ take-split (suc n) [] ys = grind (arith, common_steps)
 take-split (suc n) (x ∷ xs) ys =
     let fewer : n - length xs ≡ suc n - length (x ∷ xs) = omega arith in
     ap (λ zs. x ∷ zs) (take-split n xs ys ∙ ap (λ (k : ℕ). take n xs ++ take k ys) fewer)
+
+-- an item of a list, behind those before it
+pub item-middle : {X : Type 0} (b xs : List X) (i : ℕ) (x d : X) → i < length xs → x ≡ get_or xs i d → ((b ++ take i xs) ++ x ∷ []) ++ drop (i + 1) xs ≡ b ++ xs
+item-middle b xs i x d h is = grind (arith, common_steps)
+
+pub item-next : {X : Type 0} (b xs : List X) (i : ℕ) (x d : X) → i < length xs → x ≡ get_or xs i d → (b ++ take i xs) ++ x ∷ [] ≡ b ++ take (i + 1) xs
+item-next b xs i x d h is = grind (arith, common_steps)
 
 drop-drop : {X : Type 0} (i n : ℕ) (xs : List X) → drop n (drop i xs) ≡ drop (i + n) xs
 drop-drop i n xs = grind (arith, common_steps)
