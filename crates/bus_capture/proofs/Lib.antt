@@ -1,2 +1,4 @@
 pub mod WordLemmas
 pub mod WatchingLemmas
+pub mod CapturesLemmas
+pub mod SessionsTextLemmas

@@ -84,21 +84,6 @@ few-within n m s le h = record {
 pub below : (place : ℕ) → (2 ^ 60 < place → false ≡ true) → place ≤ 2 ^ 60
 below place h = elim (cases_lt (2 ^ 60) place) [ inl u ↦ absurd (let e = h u in cc) | inr u ↦ u ]
 
--- without a printer there are no lines
-pub pages-none : (start now : Option (List ℕ)) (p : Option Printer) (d : List FrameType) (told : List SeenReport) (page : List ℕ) (written : ℕ) (text : List ℕ)
-    → p ≡ None → Pages start now page written text → Pages start now page written (text ++ printed p d told)
-pages-none start now p d told page written text e h =
-    subst (λ (t : List ℕ). Pages start now page written t) (sym (ap (λ x. text ++ printed x d told) e ∙ append-nil text)) h
-
--- the lines of what is seen were put on the page
-pub pages-told : (start now : Option (List ℕ)) (p : Option Printer) (q : Printer) (d : List FrameType) (told : List SeenReport) (page all : List ℕ) (written later : ℕ) (text : List ℕ)
-    → p ≡ Some q → all ≡ page ++ listing q d told → later ≡ written
-    → Pages start now page written text → Pages start now all later (text ++ printed p d told)
-pages-told start now p q d told page all written later text e f l h =
-    let put : Pages start now all written (text ++ listing q d told) = pages-more start now page all written text (listing q d told) f h in
-    subst (λ (n : ℕ). Pages start now all n (text ++ printed p d told)) (sym l)
-    (subst (λ x. Pages start now all written (text ++ printed x d told)) (sym e) put)
-
 module _ {A X N B : Type 0} (t : TapView A X N B) where
   -- what is seen depends on dictionary and origin alone
   pub seen-same : (a c : A) (b : List X) → t.watch.dictionary c ≡ t.watch.dictionary a → t.watch.origin c ≡ t.watch.origin a → seen_by t.watch c b ≡ seen_by t.watch a b
