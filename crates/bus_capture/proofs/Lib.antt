@@ -6,7 +6,8 @@ pub mod PutLemmas
 pub mod TwoLinesLemmas
 pub mod WordLemmas
 pub mod WatchingLemmas
-pub mod PlacesLemmas
+pub mod CapturesLemmas
+pub mod SessionsTextLemmas
 pub mod ReportLemmas
 pub mod ReadingLemmas
 pub mod ListsLemmas

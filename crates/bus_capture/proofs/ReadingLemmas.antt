@@ -21,7 +21,7 @@ use Rattle.bus_capture.specs.declared.reader.Source.TheVariants as source
 use Rattle.bus_text.specs.declared.fault.ToolFault.{ToolFault}
 use Rattle.bus_text.specs.declared.fault.ToolFault.TheVariants as fault
 use Rattle.bus_capture.proofs.WatchingLemmas.{printed-nothing}
-use Rattle.bus_capture.proofs.PlacesLemmas.{followed-fits}
+use Rattle.bus_capture.proofs.CapturesLemmas.{followed-fits}
 use Rattle.bus_bits.proofs.CaptureLemmas.{capped_all}
 
 -- nothing is seen of nothing

@@ -1,5 +1,5 @@
 -- What is known of the symbols that are followed, some more at a time.
-use Rattle.std.proofs.Common.{◌≡◌, ℕ, zero, suc, ◌+◌, ◌-◌, ◌*◌, ◌<◌, ◌≤◌, ◌^◌, List, [], ◌∷◌, ◌++◌, length, take, drop, Option, Some, None, Result, Ok, Err, MatchResult, IfOk, refl, sym, ap, ◌∙◌, subst, arith, append_assoc, append-nil, length-append, true, false, inl, inr}
+use Rattle.std.proofs.Common.{◌≡◌, ℕ, zero, suc, ◌+◌, ◌-◌, ◌*◌, ◌<◌, ◌≤◌, ◌^◌, List, [], ◌∷◌, ◌++◌, length, take, drop, get_or, Option, Some, None, Result, Ok, Err, MatchResult, IfOk, refl, sym, ap, ◌∙◌, subst, arith, append_assoc, append-nil, length-append, true, false, inl, inr}
 use Rattle.std.proofs.lemmas.Bool.{cases_lt}
 use Rattle.std.proofs.lemmas.Grind.{common_steps}
 use Rattle.arrayvec.specs.ArrayString.{array_string_len}
@@ -25,6 +25,7 @@ use Rattle.bus_text.specs.declared.fault.ToolFault.TheVariants as fault
 use Rattle.bus_text.specs.declared.page.Page.{Page}
 use Rattle.bus_text.proofs.ListingLemmas.{listing-append}
 use Rattle.bus_text.proofs.PagesLemmas.{pages-more}
+use Rattle.bus_capture.proofs.FewLemmas.{few-within}
 
 -- the lines of more are the lines, and more
 pub printed-append : (p : Option Printer) (d : List FrameType) (xs ys : List SeenReport) → printed p d (xs ++ ys) ≡ printed p d xs ++ printed p d ys
@@ -55,42 +56,19 @@ take-split (suc n) (x ∷ xs) ys =
     let fewer : n - length xs ≡ suc n - length (x ∷ xs) = omega arith in
     ap (λ zs. x ∷ zs) (take-split n xs ys ∙ ap (λ (k : ℕ). take n xs ++ take k ys) fewer)
 
+-- an item of a list, behind those before it
+pub item-middle : {X : Type 0} (b xs : List X) (i : ℕ) (x d : X) → i < length xs → x ≡ get_or xs i d → ((b ++ take i xs) ++ x ∷ []) ++ drop (i + 1) xs ≡ b ++ xs
+item-middle b xs i x d h is = grind (arith, common_steps)
+
+pub item-next : {X : Type 0} (b xs : List X) (i : ℕ) (x d : X) → i < length xs → x ≡ get_or xs i d → (b ++ take i xs) ++ x ∷ [] ≡ b ++ take (i + 1) xs
+item-next b xs i x d h is = grind (arith, common_steps)
+
 drop-drop : {X : Type 0} (i n : ℕ) (xs : List X) → drop n (drop i xs) ≡ drop (i + n) xs
 drop-drop i n xs = grind (arith, common_steps)
-
--- fewer are few
-pub few-within : (n m : ℕ) (s : Summary) → n ≤ m → IsFew n s → IsFew m s
-few-within n m s le h = record {
-  frames = let x = h.frames in omega (arith, le);
-  damaged = let x = h.damaged in omega (arith, le);
-  overlong = let x = h.overlong in omega (arith, le);
-  aborts = let x = h.aborts in omega (arith, le);
-  idles = let x = h.idles in omega (arith, le);
-  strays = let x = h.strays in omega (arith, le);
-  answered = let x = h.answered in omega (arith, le);
-  missing = let x = h.missing in omega (arith, le);
-  spoilt = let x = h.spoilt in omega (arith, le);
-  late = let x = h.late in omega (arith, le);
-}
 
 -- the places of symbols that were taken
 pub below : (place : ℕ) → (2 ^ 60 < place → false ≡ true) → place ≤ 2 ^ 60
 below place h = elim (cases_lt (2 ^ 60) place) [ inl u ↦ absurd (let e = h u in cc) | inr u ↦ u ]
-
--- without a printer there are no lines
-pub pages-none : (start now : Option (List ℕ)) (p : Option Printer) (d : List FrameType) (told : List SeenReport) (page : List ℕ) (written : ℕ) (text : List ℕ)
-    → p ≡ None → Pages start now page written text → Pages start now page written (text ++ printed p d told)
-pages-none start now p d told page written text e h =
-    subst (λ (t : List ℕ). Pages start now page written t) (sym (ap (λ x. text ++ printed x d told) e ∙ append-nil text)) h
-
--- the lines of what is seen were put on the page
-pub pages-told : (start now : Option (List ℕ)) (p : Option Printer) (q : Printer) (d : List FrameType) (told : List SeenReport) (page all : List ℕ) (written later : ℕ) (text : List ℕ)
-    → p ≡ Some q → all ≡ page ++ listing q d told → later ≡ written
-    → Pages start now page written text → Pages start now all later (text ++ printed p d told)
-pages-told start now p q d told page all written later text e f l h =
-    let put : Pages start now all written (text ++ listing q d told) = pages-more start now page all written text (listing q d told) f h in
-    subst (λ (n : ℕ). Pages start now all n (text ++ printed p d told)) (sym l)
-    (subst (λ x. Pages start now all written (text ++ printed x d told)) (sym e) put)
 
 module _ {A X N B : Type 0} (t : TapView A X N B) where
   -- what is seen depends on dictionary and origin alone

@@ -1,0 +1,41 @@
+-- Text captures, some octets more at a time.
+use Rattle.std.proofs.Common.{◌≡◌, ℕ, ◌+◌, ◌-◌, ◌<◌, ◌≤◌, ◌^◌, List, [], ◌++◌, length, take, drop, Option, None, refl, sym, ap, ◌∙◌, subst, arith, append_assoc, append-nil, true, Result, Ok, Err, MatchResult}
+use Rattle.std.proofs.Math.Seq.{take-add}
+use Rattle.std.proofs.lemmas.List.{take_all, length-drop}
+use Rattle.std.proofs.lemmas.Grind.{common_steps}
+use Rattle.bus_bits.specs.Capture.{CaptureOf, GrowsTo}
+use Rattle.bus_capture.specs.Internal.Taps.{TapView}
+use Rattle.bus_capture.specs.Internal.Watching.{Watches, Halts}
+use Rattle.bus_capture.specs.Internal.Sessions.{FollowsOctets, Stops}
+use Rattle.bus_capture.specs.declared.run.CaptureRun.{CaptureRun}
+use Rattle.bus_text.specs.declared.fault.ToolFault.{ToolFault}
+use Rattle.bus_capture.proofs.CapturesLemmas.{halts-stops}
+
+-- some octets behind those before them
+pub octets-next : (xs os : List ℕ) (i n : ℕ) → (xs ++ take i os) ++ take n (take (length os - i) (drop i os)) ≡ xs ++ take (i + n) os
+octets-next xs os i n =
+    append_assoc xs (take i os) _ ∙ ap (λ (ys : List ℕ). xs ++ (take i os ++ take n ys)) (take_all (length os - i) (drop i os) (omega (arith, length-drop i os)))
+    ∙ ap (λ (ys : List ℕ). xs ++ ys) (sym (take-add i n os))
+
+-- how many octets stand before it
+pub octets-before : (xs os : List ℕ) (i : ℕ) → i < length os → length (xs ++ take i os) ≡ length xs + i
+octets-before xs os i h = grind (arith, common_steps)
+
+pub same-grows : {X : Type 0} (c : CaptureOf X) → GrowsTo c c
+same-grows c = ([], sym (append-nil c.bits), λ f e. refl)
+
+module _ {A X N B : Type 0} (t : TapView A X N B) where
+  -- where no octets were taken
+  pub none-taken : (start now : Option (List ℕ)) (w : CaptureRun A) (xs ys : List ℕ) (n : ℕ)
+      → n ≡ 0 → FollowsOctets t start now w (xs ++ take n ys) → FollowsOctets t start now w xs
+  none-taken start now w xs ys n e h =
+      subst (FollowsOctets t start now w) (ap (λ (k : ℕ). xs ++ take k ys) e ∙ append-nil xs) h
+
+  -- the symbols of a text were taken, or not
+  pub mark-taken : (start now : Option (List ℕ)) (w : CaptureRun A) (xs : List ℕ) (b : List X) (r : Result (Unit {0}) ToolFault)
+      → t.watch.origin w.analyser ≤ 2 ^ 60 → (t.form.text xs).fault ≡ None → (t.form.text xs).bits ≡ b
+      → MatchResult r (λ _. Watches t start now w b) (λ f. Halts t start now w b f)
+      → MatchResult r (λ _. FollowsOctets t start now w xs) (λ f. Stops t true start now w xs f)
+  mark-taken start now w xs b (Ok u) low clean is h = record { clean = clean; bits = subst (Watches t start now w) (sym is) h }
+  mark-taken start now w xs b (Err f) low clean is h =
+      halts-stops t start now w (t.form.text xs) f low (subst (λ (x : List X). Halts t start now w x f) (sym is) h)
