@@ -77,6 +77,5 @@ returns-clause-read g c =
     (follows-unplaced g.T.Tap.tap start now self.source self.run before.0 law before.2) in (
       before.0,
       before.1,
-      omega (arith, before.3, c.loop-turn-test.false),
-      subst (λ (b : Bool). IsClean g.T.Tap.tap b start now self.run before.0) c.loop-turn.invariant.text clean,
+      (omega (arith, before.3, c.loop-turn-test.false), subst (λ (b : Bool). IsClean g.T.Tap.tap b start now self.run before.0) c.loop-turn.invariant.text clean),
     )

@@ -6,7 +6,8 @@ use Rattle.bus_text.specs.Internal.Pages.{Pages}
 use Rattle.bus_text.specs.declared.fault.ToolFault.TheVariants as fault
 use Rattle.bus_dictionary.specs.Entry.{FrameType}
 use Rattle.bus_capture.specs.Internal.Watching.{lines, printed}
-use Rattle.bus_capture.proofs.WatchingLemmas.{watched, watched-nothing, halted, halts-word, cut-off, sound-next, few-within, below}
+use Rattle.bus_capture.proofs.FewLemmas.{few-within}
+use Rattle.bus_capture.proofs.WatchingLemmas.{watched, watched-nothing, halted, halts-word, cut-off, sound-next, below}
 use Rattle.bus_capture.proofs.run.CaptureRun.take_some.Goals as goal
 
 pub returns-in-Err-clause-taken : goal.returns-in-Err-clause-taken
