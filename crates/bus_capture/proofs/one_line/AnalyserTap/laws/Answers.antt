@@ -16,6 +16,7 @@ returns g c =
         same = same_bits;
         short = head.short;
         places = grow.capped;
+        silent = λ origin longest. refl;
         seen = bits-seen c.seen_grows.ensures.grows;
       };
       hears = refl;

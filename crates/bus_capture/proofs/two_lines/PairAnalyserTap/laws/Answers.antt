@@ -16,6 +16,7 @@ returns g c =
         same = same_pairs;
         short = head.short;
         places = grow.capped;
+        silent = λ origin longest. refl;
         seen = pairs-seen c.pairs_grow.ensures.grows;
       };
       hears = refl;
