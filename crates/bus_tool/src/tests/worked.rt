@@ -133,6 +133,7 @@ pub fn of_text(dictionary: Option<&str>) -> Options<'_> {
     Options {
         dictionary,
         text: true,
+        two: false,
         origin: 0,
         depth: 16,
         station: None,
