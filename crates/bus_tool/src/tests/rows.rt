@@ -259,8 +259,9 @@ fn two_at_one_place(rt: HostRuntime) {
         two: true,
         ..of_text(Some(CALLS))
     };
-    let mut capture =
-        marked(rt.alloc(), &[FLAG, CALL, FLAG], &[FLAG, REPLY, FLAG]).expect(&rt, "memory");
+    let mut capture = marked(rt.alloc(), &[FLAG, CALL, FLAG], &[FLAG, REPLY, FLAG]).expect(
+        &rt, "memory",
+    );
     see_octets(
         &rt,
         rt.alloc(),
