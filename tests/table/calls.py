@@ -81,8 +81,8 @@ WHOLE = [LIST, LIST_PACKED, CHECK, ENCODE, LIST_TWO, PACKED_TWO, CHECK_TWO]
 
 SHOW = Case("a frame that is shown", ["show", "--dict", STATES, STATE], stdout=STATE_TEXT)
 
-# A page of output has 16384 octets, and is written before fewer than 1024 of them are free.
-FULL_PAGE = 16384 - 1024
+# A page of output has 16384 octets, and is written before fewer than 2048 of them are free.
+FULL_PAGE = 16384 - 2048
 
 
 def named(case: Case, name: str) -> Case:

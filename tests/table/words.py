@@ -140,7 +140,7 @@ UNKNOWN_WORDS = [
     unexpected(["encode", "--bits"], "--bits"),
     unexpected(["encode", "--dict", CALLS], "--dict"),
     unexpected(["--two"], "--two"),
-    unexpected(["show", "--two", "1013ccb8"], "--two"),
+    unexpected(["show", "--two", "1013ccb8"], "--two", tip="to pass '--two' as a value, use '-- --two'"),
     unexpected(["encode", "--two"], "--two"),
 ]
 
