@@ -182,7 +182,10 @@ pub trait Tap: Drop {
         ensures none { result ≡ None → body.new ≡ body.old };
 
     /// The symbols of the next octet.
-    fn take_octet(body: &mut Self::Body, octet: u8) -> Result<ArrayVec<Self::Symbol, 8>, PackedFault>
+    fn take_octet(
+        body: &mut Self::Body,
+        octet: u8,
+    ) -> Result<ArrayVec<Self::Symbol, 8>, PackedFault>
         ensures { (xs : List ℕ) → tap.is_body body.old xs → MatchResult result
             (λ symbols. tap.is_body body.new (xs ++ octet ∷ [])
             × ((tap.form.packed (xs ++ octet ∷ [])).bits ≡ (tap.form.packed xs).bits ++ symbols.items))

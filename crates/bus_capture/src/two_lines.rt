@@ -213,7 +213,10 @@ impl<C: Check> Tap for PairAnalyser<C> {
     }
 
     #[inline(always)]
-    fn take_octet(body: &mut PackedPairs, octet: u8) -> Result<ArrayVec<(bool, bool), 8>, PackedFault> {
+    fn take_octet(
+        body: &mut PackedPairs,
+        octet: u8,
+    ) -> Result<ArrayVec<(bool, bool), 8>, PackedFault> {
         pairs_are_head_and_body();
         let pairs = body.step(octet)?;
         Ok(roomier(pairs.as_slice()))

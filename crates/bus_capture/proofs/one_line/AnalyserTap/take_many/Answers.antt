@@ -13,5 +13,5 @@ returns-in-Some-clause-given g c = λ m is xs h.
     let read : IsHeaded c.take_six.new.self (xs ++ take 6 os) × ((packed_capture (xs ++ take 6 os)).bits ≡ (packed_capture xs).bits ++ bits_of 48 c.take_six.result)
     = subst (λ (ys : List ℕ). IsHeaded c.take_six.new.self (xs ++ ys) × ((packed_capture (xs ++ ys)).bits ≡ (packed_capture xs).bits ++ bits_of 48 c.take_six.result)) six
     (octets-read c.packed_is_head_and_body.ensures.headed c.args.body.now c.take_six.new.self xs (take 6 c.in-Some.eight.now) (bits_of 48 c.take_six.result) c.take_six.ensures.given h) in
-    let same : record {word = c.take_six.result; count = 48; taken = 6} ≡ m = cc in
+    let same : record { word = c.take_six.result; count = 48; taken = 6 } ≡ m = cc in
     subst (λ (n : Many ℕ). IsHeaded c.take_six.new.self (xs ++ take n.taken os) × ((packed_capture (xs ++ take n.taken os)).bits ≡ (packed_capture xs).bits ++ bits_of n.count n.word)) same read

@@ -15,5 +15,5 @@ returns-in-Some-clause-given g c = λ m is xs h.
     let read : ArePairsHeaded c.take_twelve.new.self (xs ++ take 12 os) × ((packed_pair_capture (xs ++ take 12 os)).bits ≡ (packed_pair_capture xs).bits ++ pairs_of 48 w.first w.second)
     = subst (λ (ys : List ℕ). ArePairsHeaded c.take_twelve.new.self (xs ++ ys) × ((packed_pair_capture (xs ++ ys)).bits ≡ (packed_pair_capture xs).bits ++ pairs_of 48 w.first w.second)) twelve
     (octets-read c.pairs_are_head_and_body.ensures.headed c.args.body.now c.take_twelve.new.self xs c.in-Some.twelve.now (pairs_of 48 w.first w.second) c.take_twelve.ensures.given h) in
-    let same : record {word = w; count = 48; taken = 12} ≡ m = cc in
+    let same : record { word = w; count = 48; taken = 12 } ≡ m = cc in
     subst (λ (n : Many PairWords). ArePairsHeaded c.take_twelve.new.self (xs ++ take n.taken os) × ((packed_pair_capture (xs ++ take n.taken os)).bits ≡ (packed_pair_capture xs).bits ++ pairs_of n.count n.word.first n.word.second)) same read
