@@ -105,6 +105,8 @@ impl<C: Check> Tap for PairAnalyser<C> {
 
     type Body = PackedPairs;
 
+    type Few = ArrayVec<(bool, bool), 8>;
+
     ghost tap = { pair_tap C.folded C.COST };
 
     fn new(
