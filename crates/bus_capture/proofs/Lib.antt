@@ -8,6 +8,7 @@ pub mod WordLemmas
 pub mod WatchingLemmas
 pub mod CapturesLemmas
 pub mod SessionsTextLemmas
+pub mod SessionsPackedLemmas
 pub mod ReportLemmas
 pub mod ReadingLemmas
 pub mod ListsLemmas

@@ -1,9 +1,14 @@
-use Rattle.std.proofs.Common.{ℕ, ◌-◌, length, ◌≡◌}
+use Rattle.std.proofs.Common.{ℕ, ◌-◌, List, ◌++◌, Option, length, take}
+use Rattle.bus_capture.specs.Internal.Watching.{IsSound, IsSame}
+use Rattle.bus_capture.specs.Internal.Sessions.{FollowsBody}
 use Rattle.bus_capture.proofs.packed.take_body.Given as goal
 
 abbrev pub invariant-loop-taken : goal.invariant-loop-taken
 invariant-loop-taken g l = record {
-  temporary : (start : ℕ) → start ≡ start;
+  sound : IsSound g.T.Tap.tap l.run;
+  same : IsSame g.T.Tap.tap l.initial.run l.run;
+  front : (start : Option (List ℕ)) (xs : List ℕ) → FollowsBody g.T.Tap.tap start (g.W.Write.contents l.initial.w) l.initial.body l.initial.run xs
+      → FollowsBody g.T.Tap.tap start (g.W.Write.contents l.w) l.body l.run (xs ++ take l.taken l.octets);
 }
 
 abbrev pub decreases-loop-taken : goal.decreases-loop-taken
