@@ -1,11 +1,12 @@
 -- Captures of two lines.
-use Rattle.std.proofs.Common.{◌≡◌, ℕ, ◌+◌, ◌*◌, ◌/◌, ◌%◌, ◌^◌, Bool, true, false, nat_lt, if◌then◌else◌, List, [], ◌∷◌, ◌++◌, length, take, drop, zip, Some, None, refl, sym, ap, ◌∙◌, arith, append_assoc, append-nil}
+use Rattle.std.proofs.Common.{◌≡◌, ℕ, ◌+◌, ◌*◌, ◌/◌, ◌%◌, ◌^◌, Bool, true, false, nat_lt, if◌then◌else◌, List, [], ◌∷◌, ◌++◌, length, take, drop, zip, Some, None, Result, Ok, Err, MatchResult, refl, sym, ap, ◌∙◌, arith, append_assoc, append-nil}
 use Rattle.std.specs.Array.{IsFirstChunk}
 use Rattle.std.proofs.lemmas.List.{length-map}
 use mir.Val.{bool_byte}
 use Rattle.bus_bits.specs.Octet.{bits_of}
 use Rattle.bus_bits.specs.Capture.{PairCapture, CaptureFault, short_head}
-use Rattle.bus_bits.specs.Packed.{PairsAreHeaded, PairsAfter, packed_pair_capture, packed_pair_whole, pair_body, in_pairs, headed, filled, head_bits, pair_head_fault}
+use Rattle.bus_bits.specs.Packed.{PairsAreHeaded, PairsAfter, packed_pair_capture, packed_pair_whole, pair_body, in_pairs, headed, filled, head_bits, pair_head_fault, packed_fault_of}
+use Rattle.bus_bits.specs.declared.capture.packed_bits.PackedFault.{PackedFault}
 use Rattle.bus_bits.proofs.OctetLemmas.{length-bits, bits-split, bits-low, one_bit}
 use Rattle.bus_bits.proofs.PairWordsLemmas.{zip-append}
 use Rattle.bus_dictionary.specs.Entry.{FrameType}
@@ -87,11 +88,16 @@ octets-read law left later xs ys pairs given h =
     )
 
 -- or refused
-pub octets-refused : PairsAreHeaded → (left : ℕ) (xs ys : List ℕ) (cause : CaptureFault)
-    → ((n : ℕ) (zs : List ℕ) → PairsAfter n zs left → pair_body n (zs ++ ys) ≡ record { bits = (pair_body n zs).bits; fault = Some cause })
-    → ArePairsHeaded left xs → packed_pair_capture (xs ++ ys) ≡ record { bits = (packed_pair_capture xs).bits; fault = Some cause }
-octets-refused law left xs ys cause given h =
-    fault-more packed_pair_capture pair_body pair_head_fault (λ head zs long. (law head zs long).0) h.head h.body xs ys cause h.all h.long h.good
+pub octet-read : {T : Type 0} (items : T → List (Bool × Bool)) → PairsAreHeaded → (left later : ℕ) (xs ys : List ℕ) (r : Result T PackedFault)
+    → ((n : ℕ) (zs : List ℕ) → PairsAfter n zs left → MatchResult r
+    (λ b. PairsAfter n (zs ++ ys) later × ((pair_body n (zs ++ ys)).bits ≡ (pair_body n zs).bits ++ items b))
+    (λ f. pair_body n (zs ++ ys) ≡ record { bits = (pair_body n zs).bits; fault = Some (packed_fault_of f) }))
+    → ArePairsHeaded left xs → MatchResult r
+    (λ b. ArePairsHeaded later (xs ++ ys) × ((packed_pair_capture (xs ++ ys)).bits ≡ (packed_pair_capture xs).bits ++ items b))
+    (λ f. packed_pair_capture (xs ++ ys) ≡ record { bits = (packed_pair_capture xs).bits; fault = Some (packed_fault_of f) })
+octet-read items law left later xs ys (Ok b) given h = octets-read law left later xs ys (items b) given h
+octet-read items law left later xs ys (Err f) given h =
+    fault-more packed_pair_capture pair_body pair_head_fault (λ head zs long. (law head zs long).0) h.head h.body xs ys (packed_fault_of f) h.all h.long h.good
     (given (head_bits h.head) h.body h.after)
 
 -- the first twelve
