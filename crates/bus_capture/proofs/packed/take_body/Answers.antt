@@ -1,19 +1,41 @@
+use Rattle.std.proofs.Common.{ℕ, ◌+◌, List, ◌++◌, take, false, sym, subst, arith, append-nil}
+use Rattle.std.proofs.lemmas.Result.{err_from_is_err_and}
+use Rattle.std.proofs.lemmas.List.{take_all}
+use Rattle.bus_bits.specs.Capture.{capped}
+use Rattle.bus_capture.specs.Internal.Sessions.{FollowsBody, Stops}
+use Rattle.bus_capture.proofs.WatchingLemmas.{same-both}
+use Rattle.bus_capture.proofs.CapturesLemmas.{stops-more, front-grown}
+use Rattle.bus_capture.proofs.SessionsTextLemmas.{octets-next}
 use Rattle.bus_capture.proofs.packed.take_body.Goals as goal
 
-pub take_some-requires-clause-sound : goal.take_some-requires-clause-sound
-take_some-requires-clause-sound g c = ?
-
 pub returns-in_err-taken-clause-taken : goal.returns-in_err-taken-clause-taken
-returns-in_err-taken-clause-taken g c = ?
+returns-in_err-taken-clause-taken g c =
+    let p = err_from_is_err_and c.from_residual.result c.from_residual.ensures.1 in
+    rw (p.1, p.2) (λ start xs f.
+    let tap = g.T.Tap.tap in
+    let os = c.args.octets.now in
+    let i = c.loop-taken.taken in
+    let stops = c.in_err-taken.ensures.taken start (xs ++ take i os) (c.loop-taken.invariant.front start xs f) in
+    let n = stops.0 in
+    let origin = tap.watch.origin c.take_some.new.run.analyser in
+    stops-more tap start _ c.take_some.new.run (capped origin (tap.form.packed (xs ++ take (i + n) os))) (capped origin (tap.form.packed (xs ++ os))) c.in_err-taken.field-0.0
+    (front-grown tap.form.packed c.laws.ensures.form.packed c.laws.ensures.form.places origin xs os (i + n))
+    (subst (λ (ys : List ℕ). Stops tap false start (g.W.Write.contents c.take_some.new.w) c.take_some.new.run ys c.in_err-taken.field-0.0) (octets-next xs os i n) stops.1))
 
-pub returns-in_err-taken-clause-same : goal.returns-in_err-taken-clause-same
-returns-in_err-taken-clause-same g c = ?
+pub loop-taken-preserved : goal.loop-taken-preserved
+loop-taken-preserved g c = record {
+  sound = c.take_some.ensures.sound;
+  same = same-both g.T.Tap.tap c.args.run.now c.loop-taken.run c.take_some.new.run c.loop-taken.invariant.same c.take_some.ensures.same;
+  front = λ start xs f.
+      let os = c.args.octets.now in
+      let i = c.loop-taken.taken in
+      subst (FollowsBody g.T.Tap.tap start (g.W.Write.contents c.take_some.new.w) c.take_some.new.body c.take_some.new.run)
+      (octets-next xs os i c.in_ok-taken.field-0)
+      (c.in_ok-taken.ensures.taken start (xs ++ take i os) (c.loop-taken.invariant.front start xs f));
+}
 
 pub returns-clause-taken : goal.returns-clause-taken
-returns-clause-taken g c = ?
-
-pub returns-clause-same : goal.returns-clause-same
-returns-clause-same g c = ?
-
-pub returns-clause-sound : goal.returns-clause-sound
-returns-clause-sound g c = ?
+returns-clause-taken g c =
+    λ start xs f.
+    subst (λ (os : List ℕ). FollowsBody g.T.Tap.tap start (g.W.Write.contents c.loop-taken.w) c.loop-taken.body c.loop-taken.run (xs ++ os))
+    (take_all c.loop-taken.taken c.args.octets.now (omega arith)) (c.loop-taken.invariant.front start xs f)

@@ -1,10 +1,15 @@
+use Rattle.std.proofs.Common.{◌≡◌, ◌≤◌, ◌^◌, List, [], ◌∷◌, ◌++◌, sym, ap, ◌∙◌, arith}
+use Rattle.bus_capture.proofs.CapturesLemmas.{followed-fits}
+use Rattle.bus_capture.proofs.SessionsPackedLemmas.{octets-taken}
 use Rattle.bus_capture.proofs.packed.take_octet.Goals as goal
 
-pub take_octet-requires : goal.take_octet-requires
-take_octet-requires g c = ?
-
-pub as_slice-requires : goal.as_slice-requires
-as_slice-requires g c = ?
-
 pub returns-in-Ok-clause-taken : goal.returns-in-Ok-clause-taken
-returns-in-Ok-clause-taken g c = ?
+returns-in-Ok-clause-taken g c =
+    λ start xs f.
+    let tap = g.T.Tap.tap in
+    let b = (tap.form.packed xs).bits in
+    let given = c.in-Ok.ensures xs f.read in
+    let fits = followed-fits tap c.laws.ensures start _ c.args.run.now b c.requires f.bits in
+    let low : tap.watch.origin c.take_symbols.new.self.analyser ≤ 2 ^ 60 = omega (arith, fits, c.take_symbols.ensures.same.origin) in
+    octets-taken tap start _ c.take_symbols.new.self (xs ++ c.args.octet ∷ []) c.take_octet.new.body (b ++ c.as_slice.result.now) c.take_symbols.result low
+    given.0 (given.1 ∙ ap (λ (x : List g.row.T-Symbol.Denot). b ++ x) (sym c.as_slice.ensures)) (c.take_symbols.ensures.taken start b f.bits)
