@@ -1,73 +1,77 @@
--- The bits of a capture that have a place, and how the following of them stops.
-use Rattle.std.proofs.Common.{◌≡◌, ℕ, ◌+◌, ◌-◌, ◌<◌, ◌≤◌, ◌^◌, Bool, if◌then◌else◌, List, ◌++◌, length, take, Option, Some, refl, sym, ap, ◌∙◌, subst, arith, inl, inr, append_assoc}
+-- The symbols of a capture that have a place, and how the following of them stops.
+use Rattle.std.proofs.Common.{◌≡◌, ℕ, ◌+◌, ◌-◌, ◌<◌, ◌≤◌, ◌^◌, if◌then◌else◌, List, ◌++◌, length, take, drop, Option, Some, refl, sym, ap, ◌∙◌, subst, arith, inl, inr, append_assoc}
 use Rattle.std.proofs.lemmas.Bool.{cases_lt}
-use Rattle.bus_bits.specs.Capture.{Capture, CaptureFault, place_limit, capped, GrowsTo}
+use Rattle.std.proofs.lemmas.List.{take-append-drop}
+use Rattle.bus_bits.specs.Capture.{CaptureOf, CaptureFault, place_limit, capped, GrowsTo}
+use Rattle.bus_capture.specs.Internal.Taps.{TapView, TapLaws}
 use Rattle.bus_capture.specs.Internal.Watching.{IsSound, Watches, Halts, within}
 use Rattle.bus_capture.specs.Internal.Sessions.{Faulty, StopsAt}
 use Rattle.bus_capture.specs.Captures.{IsSameFault}
 use Rattle.bus_capture.specs.declared.run.CaptureRun.{CaptureRun}
 use Rattle.bus_text.specs.declared.fault.ToolFault.{ToolFault}
 use Rattle.bus_text.specs.declared.fault.ToolFault.TheVariants as fault
-use Rattle.bus_capture.proofs.WatchingLemmas.{within-all, halts-more}
+use Rattle.bus_capture.proofs.WatchingLemmas.{within-all}
 use Rattle.bus_bits.proofs.CaptureLemmas.{capped_all, lt_true}
 
--- of more bits than there are places
-pub placed-over : (origin : ℕ) (c : Capture) → 2 ^ 60 - origin < length c.bits → capped origin c ≡ record { bits = within origin c.bits; fault = Some place_limit }
+-- of more symbols than there are places
+pub placed-over : {X : Type 0} (origin : ℕ) (c : CaptureOf X) → 2 ^ 60 - origin < length c.bits → capped origin c ≡ record { bits = within origin c.bits; fault = Some place_limit }
 placed-over origin c h = ap (λ b. if b then record { bits = take (2 ^ 60 - origin) c.bits; fault = Some place_limit } else c) (lt_true (2 ^ 60 - origin) (length c.bits) h)
 
-pub placed-bits : (origin : ℕ) (c : Capture) → origin ≤ 2 ^ 60 → (capped origin c).bits ≡ within origin c.bits
-placed-bits origin c low = elim (cases_lt (2 ^ 60 - origin) (length c.bits)) [
-  | inl h ↦ ap (λ (d : Capture). d.bits) (placed-over origin c h)
-  | inr h ↦ ap (λ (d : Capture). d.bits) (capped_all origin c h) ∙ sym (within-all origin c.bits (omega (arith, h, low)))
+pub placed-bits : {X : Type 0} (origin : ℕ) (c : CaptureOf X) → origin ≤ 2 ^ 60 → (capped origin c).bits ≡ within origin c.bits
+placed-bits {X} origin c low = elim (cases_lt (2 ^ 60 - origin) (length c.bits)) [
+  | inl h ↦ ap (λ (d : CaptureOf X). d.bits) (placed-over origin c h)
+  | inr h ↦ ap (λ (d : CaptureOf X). d.bits) (capped_all origin c h) ∙ sym (within-all origin c.bits (omega (arith, h, low)))
 ]
 
--- the bits that were followed have a place
-pub followed-fits : {C : Type 0} (folded : C → List ℕ → Type 0) (cost : ℕ) (start now : Option (List ℕ)) (w : CaptureRun C) (b : List Bool)
-    → IsSound w → Watches folded cost start now w b → w.analyser.decoder.origin + length b ≤ 2 ^ 60
-followed-fits folded cost start now w b sound h = let p = h.is_after.decoder.has_taken.place in let q = sound.places in omega (arith, p, q)
+-- all octets give more than some of their first, places counted from an origin
+pub front-grown : {X : Type 0} (f : List ℕ → CaptureOf X) → ((xs ys : List ℕ) → GrowsTo (f xs) (f (xs ++ ys)))
+    → ((origin : ℕ) (c d : CaptureOf X) → GrowsTo c d → GrowsTo (capped origin c) (capped origin d))
+    → (origin : ℕ) (xs os : List ℕ) (k : ℕ) → GrowsTo (capped origin (f (xs ++ take k os))) (capped origin (f (xs ++ os)))
+front-grown f law places origin xs os k =
+    places origin (f (xs ++ take k os)) (f (xs ++ os))
+    (subst (λ (ys : List ℕ). GrowsTo (f (xs ++ take k os)) (f ys))
+    (append_assoc xs (take k os) (drop k os) ∙ ap (λ (ys : List ℕ). xs ++ ys) (take-append-drop k os)) (law (xs ++ take k os) (drop k os)))
 
--- the following of a capture's bits stopped
-pub halts-stops : {C : Type 0} (folded : C → List ℕ → Type 0) (cost : ℕ) (start now : Option (List ℕ)) (w : CaptureRun C) (c : Capture) (f : ToolFault)
-    → w.analyser.decoder.origin ≤ 2 ^ 60 → Halts folded cost start now w c.bits f → StopsAt folded cost start now w (capped w.analyser.decoder.origin c) f
-halts-stops folded cost start now w c fault.PlaceLimit low h =
-    let is = placed-over w.analyser.decoder.origin c h.0 in
-    subst (λ (d : Capture). Faulty folded cost start now w d fault.PlaceLimit) (sym is) (record { cause = place_limit; found = refl; answered = refl; bits = h.1 })
-halts-stops folded cost start now w c (fault.Write sent) low h = record {
-  front = h.front;
-  more = h.more;
-  all = placed-bits w.analyser.decoder.origin c low ∙ h.all;
-  cut = h.cut;
-  short = h.short;
-}
-halts-stops folded cost start now w c _ low h = absurd h
+module _ {A X N B : Type 0} (t : TapView A X N B) where
+  -- the symbols that were followed have a place
+  pub followed-fits : TapLaws t → (start now : Option (List ℕ)) (w : CaptureRun A) (b : List X)
+      → IsSound t w → Watches t start now w b → t.watch.origin w.analyser + length b ≤ 2 ^ 60
+  followed-fits law start now w b sound h = let p = law.placed w.analyser b h.is_after in let q = sound.places in omega (arith, p, q)
 
--- and the more so with more octets
-pub halts-in : {C : Type 0} (folded : C → List ℕ → Type 0) (cost : ℕ) (start now : Option (List ℕ)) (w : CaptureRun C) (c d : Capture) (b : List Bool) (f : ToolFault)
-    → w.analyser.decoder.origin ≤ 2 ^ 60 → c.bits ≡ b → GrowsTo c d → Halts folded cost start now w b f → StopsAt folded cost start now w (capped w.analyser.decoder.origin d) f
-halts-in folded cost start now w c d b f low is grows h =
-    halts-stops folded cost start now w d f low
-    (subst (λ (x : List Bool). Halts folded cost start now w x f) (sym (grows.1 ∙ ap (λ (x : List Bool). x ++ grows.0) is)) (halts-more folded cost start now w b grows.0 f h))
+  -- the following of a capture's symbols stopped
+  pub halts-stops : (start now : Option (List ℕ)) (w : CaptureRun A) (c : CaptureOf X) (f : ToolFault)
+      → t.watch.origin w.analyser ≤ 2 ^ 60 → Halts t start now w c.bits f → StopsAt t start now w (capped (t.watch.origin w.analyser) c) f
+  halts-stops start now w c fault.PlaceLimit low h =
+      let is = placed-over (t.watch.origin w.analyser) c h.0 in
+      subst (λ (d : CaptureOf X). Faulty t start now w d fault.PlaceLimit) (sym is) (record { cause = place_limit; found = refl; answered = refl; bits = h.1 })
+  halts-stops start now w c (fault.Write sent) low h = record {
+    front = h.front;
+    more = h.more;
+    all = placed-bits (t.watch.origin w.analyser) c low ∙ h.all;
+    cut = h.cut;
+    short = h.short;
+  }
+  halts-stops start now w c _ low h = absurd h
 
--- octets with a fault, all of whose bits were followed
-pub fault-in : {C : Type 0} (folded : C → List ℕ → Type 0) (cost : ℕ) (start now : Option (List ℕ)) (w : CaptureRun C) (c d : Capture) (b : List Bool) (cause : CaptureFault) (f : ToolFault)
-    → IsSound w → IsSameFault f cause → c.bits ≡ b → c.fault ≡ Some cause → GrowsTo c d → Watches folded cost start now w b
-    → Faulty folded cost start now w (capped w.analyser.decoder.origin d) f
-fault-in folded cost start now w c d b cause f sound answered is found grows h =
-    let same : d ≡ c = grows.2 cause found in
-    let fits : w.analyser.decoder.origin + length b ≤ 2 ^ 60 = followed-fits folded cost start now w b sound h in
-    let short : length c.bits ≤ 2 ^ 60 - w.analyser.decoder.origin = omega (arith, fits, ap length is) in
-    subst (λ (x : Capture). Faulty folded cost start now w x f)
-    (sym (ap (capped w.analyser.decoder.origin) same ∙ capped_all w.analyser.decoder.origin c short))
-    (record { cause = cause; found = found; answered = answered; bits = subst (Watches folded cost start now w) (sym is) h })
+  -- a capture with a fault, all of whose symbols were followed
+  pub fault-in : TapLaws t → (start now : Option (List ℕ)) (w : CaptureRun A) (c : CaptureOf X) (b : List X) (cause : CaptureFault) (f : ToolFault)
+      → IsSound t w → IsSameFault f cause → c.bits ≡ b → c.fault ≡ Some cause → Watches t start now w b
+      → Faulty t start now w (capped (t.watch.origin w.analyser) c) f
+  fault-in law start now w c b cause f sound answered is found h =
+      let origin = t.watch.origin w.analyser in
+      let fits : origin + length b ≤ 2 ^ 60 = followed-fits law start now w b sound h in
+      let short : length c.bits ≤ 2 ^ 60 - origin = omega (arith, fits, ap length is) in
+      subst (λ (x : CaptureOf X). Faulty t start now w x f) (sym (capped_all origin c short))
+      (record { cause = cause; found = found; answered = answered; bits = subst (Watches t start now w) (sym is) h })
 
--- what stopped, stops with more octets
-pub stops-more : {C : Type 0} (folded : C → List ℕ → Type 0) (cost : ℕ) (start now : Option (List ℕ)) (w : CaptureRun C) (c d : Capture) (f : ToolFault)
-    → GrowsTo c d → StopsAt folded cost start now w c f → StopsAt folded cost start now w d f
-stops-more folded cost start now w c d (fault.Write sent) grows h = record {
-  front = h.front;
-  more = h.more ++ grows.0;
-  all = grows.1 ∙ ap (λ (x : List Bool). x ++ grows.0) h.all ∙ append_assoc h.front h.more grows.0;
-  cut = h.cut;
-  short = h.short;
-}
-stops-more folded cost start now w c d f grows h = subst (λ (x : Capture). StopsAt folded cost start now w x f) (sym (grows.2 h.cause h.found)) h
+  -- what stopped, stops with more octets
+  pub stops-more : (start now : Option (List ℕ)) (w : CaptureRun A) (c d : CaptureOf X) (f : ToolFault)
+      → GrowsTo c d → StopsAt t start now w c f → StopsAt t start now w d f
+  stops-more start now w c d (fault.Write sent) grows h = record {
+    front = h.front;
+    more = h.more ++ grows.0;
+    all = grows.1 ∙ ap (λ (x : List X). x ++ grows.0) h.all ∙ append_assoc h.front h.more grows.0;
+    cut = h.cut;
+    short = h.short;
+  }
+  stops-more start now w c d f grows h = subst (λ (x : CaptureOf X). StopsAt t start now w x f) (sym (grows.2 h.cause h.found)) h

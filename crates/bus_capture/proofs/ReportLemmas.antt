@@ -1,9 +1,9 @@
 -- The report of a check, in parts.
-use Rattle.std.proofs.Common.{◌≡◌, ℕ, zero, suc, ◌+◌, ◌-◌, ◌≤◌, List, [], ◌∷◌, ◌++◌, take, drop, slice_get, Option, Some, refl, sym, ap, ◌∙◌, subst, arith, append_assoc, append-nil}
+use Rattle.std.proofs.Common.{◌≡◌, Bool, ℕ, zero, suc, ◌+◌, ◌-◌, ◌≤◌, List, [], ◌∷◌, ◌++◌, take, drop, length, ◌<◌, inl, inr, slice_get, Option, Some, refl, sym, ap, ◌∙◌, subst, arith, append_assoc, append-nil}
 use Rattle.std.specs.List.{flat_map}
 use Rattle.std.proofs.lemmas.Grind.{flat_map-append}
 use Rattle.std.proofs.lemmas.List.{take_more, take-append-drop}
-use Rattle.std.proofs.lemmas.Option.{slice_get_within, get_or_from_slice_get}
+use Rattle.std.proofs.lemmas.Option.{slice_get_within, slice_get_cases, get_or_from_slice_get}
 use Rattle.bus_line.specs.Due.{places}
 use Rattle.bus_watch.specs.History.{KeptFrame}
 use Rattle.bus_watch.specs.declared.counts.Counts.{Counts}
@@ -54,29 +54,36 @@ cuts-tally start now text t k n c sent e le h =
     (cuts-more start now (text ++ tallies_text t (k + 1)) front.0 sent (subst (λ (l : List ℕ). Cuts start now l sent) (tallies-next text t k c e) h))
 
 -- the line of one frame more
-history-next : (text : List ℕ) (h : List KeptFrame) (i : ℕ) (f : KeptFrame) → Some f ≡ slice_get h i
-    → (text ++ history_text (take i h)) ++ kept_text f ≡ text ++ history_text (take (i + 1) h)
-history-next text h i f e =
+history-next : (two : Bool) (text : List ℕ) (h : List KeptFrame) (i : ℕ) (f : KeptFrame) → slice_get h i ≡ Some f
+    → (text ++ history_text two (take i h)) ++ kept_text two f ≡ text ++ history_text two (take (i + 1) h)
+history-next two text h i f e =
     let front : take (i + 1) h ≡ take i h ++ f ∷ [] =
-    take_more h i f (slice_get_within h i f (sym e)) ∙ ap (λ (x : KeptFrame). take i h ++ x ∷ []) (get_or_from_slice_get h i f f (sym e)) in
-    let more : history_text (take (i + 1) h) ≡ history_text (take i h) ++ kept_text f =
-    ap history_text front ∙ flat_map-append kept_text (take i h) (f ∷ []) ∙ ap (λ l. history_text (take i h) ++ l) (append-nil (kept_text f)) in
-    append_assoc text (history_text (take i h)) (kept_text f) ∙ ap (λ l. text ++ l) (sym more)
+    take_more h i f (slice_get_within h i f e) ∙ ap (λ (x : KeptFrame). take i h ++ x ∷ []) (get_or_from_slice_get h i f f e) in
+    let more : history_text two (take (i + 1) h) ≡ history_text two (take i h) ++ kept_text two f =
+    ap (history_text two) front ∙ flat_map-append (kept_text two) (take i h) (f ∷ []) ∙ ap (λ l. history_text two (take i h) ++ l) (append-nil (kept_text two f)) in
+    append_assoc text (history_text two (take i h)) (kept_text two f) ∙ ap (λ l. text ++ l) (sym more)
 
-pub pages-kept : (start now : Option (List ℕ)) (page : List ℕ) (written : ℕ) (text : List ℕ) (h : List KeptFrame) (i : ℕ) (f : KeptFrame) → Some f ≡ slice_get h i
-    → Pages start now page written ((text ++ history_text (take i h)) ++ kept_text f) → Pages start now page written (text ++ history_text (take (i + 1) h))
-pages-kept start now page written text h i f e p = subst (Pages start now page written) (history-next text h i f e) p
+pub pages-kept : (two : Bool) (start now : Option (List ℕ)) (page : List ℕ) (written : ℕ) (text : List ℕ) (h : List KeptFrame) (i : ℕ) (f : KeptFrame) → slice_get h i ≡ Some f
+    → Pages start now page written ((text ++ history_text two (take i h)) ++ kept_text two f) → Pages start now page written (text ++ history_text two (take (i + 1) h))
+pages-kept two start now page written text h i f e p = subst (Pages start now page written) (history-next two text h i f e) p
 
-pub cuts-kept : (start now : Option (List ℕ)) (text : List ℕ) (h : List KeptFrame) (i : ℕ) (f : KeptFrame) (sent : ℕ) → Some f ≡ slice_get h i
-    → Cuts start now ((text ++ history_text (take i h)) ++ kept_text f) sent → Cuts start now (text ++ history_text h) sent
-cuts-kept start now text h i f sent e c =
-    let rest = history_text (drop (i + 1) h) in
-    let whole : (text ++ history_text (take (i + 1) h)) ++ rest ≡ text ++ history_text h =
-    append_assoc text (history_text (take (i + 1) h)) rest
-    ∙ ap (λ l. text ++ l) (sym (flat_map-append kept_text (take (i + 1) h) (drop (i + 1) h)) ∙ ap history_text (take-append-drop (i + 1) h)) in
+pub cuts-kept : (two : Bool) (start now : Option (List ℕ)) (text : List ℕ) (h : List KeptFrame) (i : ℕ) (f : KeptFrame) (sent : ℕ) → slice_get h i ≡ Some f
+    → Cuts start now ((text ++ history_text two (take i h)) ++ kept_text two f) sent → Cuts start now (text ++ history_text two h) sent
+cuts-kept two start now text h i f sent e c =
+    let rest = history_text two (drop (i + 1) h) in
+    let whole : (text ++ history_text two (take (i + 1) h)) ++ rest ≡ text ++ history_text two h =
+    append_assoc text (history_text two (take (i + 1) h)) rest
+    ∙ ap (λ l. text ++ l) (sym (flat_map-append (kept_text two) (take (i + 1) h) (drop (i + 1) h)) ∙ ap (history_text two) (take-append-drop (i + 1) h)) in
     subst (λ (l : List ℕ). Cuts start now l sent) whole
-    (cuts-more start now (text ++ history_text (take (i + 1) h)) rest sent (subst (λ (l : List ℕ). Cuts start now l sent) (history-next text h i f e) c))
+    (cuts-more start now (text ++ history_text two (take (i + 1) h)) rest sent (subst (λ (l : List ℕ). Cuts start now l sent) (history-next two text h i f e) c))
 
 -- the three parts of a report, behind a text
 pub report-parts : (text s t h : List ℕ) → ((text ++ s) ++ t) ++ h ≡ text ++ ((s ++ t) ++ h)
 report-parts text s t h = ap (λ l. l ++ h) (append_assoc text s t) ∙ append_assoc text (s ++ t) h
+
+-- there is a frame at each number below their count
+pub frame-at : (h : List KeptFrame) (i : ℕ) → i < length h → (k : KeptFrame) × (slice_get h i ≡ Some k)
+frame-at h i lt = elim (slice_get_cases h i).1 [
+  | inl here ↦ (here.0, here.2)
+  | inr past ↦ absurd (let never : ⊥ = omega (arith, lt, past.0) in never)
+]

@@ -55,7 +55,7 @@ fn check_lines<T: Tap, R: Read, W: Write>(
         (λ all. ChecksKnownBy T.tap.form o.now (W.contents w.old) (W.contents w.new) all result) }
 {
     T::laws();
-    let mut reader = CaptureReader::<T, T::Body>::new(alloc, o, None)?;
+    let mut reader = CaptureReader::<T>::new(alloc, o, None)?;
     reader.take_input(o.reads, r, w)?;
     reader.run.report(w)
 }

@@ -65,7 +65,7 @@ fn list_lines<T: Tap, R: Read, W: Write>(
         (λ all. ListsKnownBy T.tap.form o.now (W.contents w.old) (W.contents w.new) all result) }
 {
     T::laws();
-    let mut reader = CaptureReader::<T, T::Body>::new(alloc, o, Some(Printer::of(o)))?;
+    let mut reader = CaptureReader::<T>::new(alloc, o, Some(Printer::of(o)))?;
     match reader.take_input(o.reads, r, w) {
         Ok(()) => reader.run.end(w),
         Err(fault) => Err(close_behind(fault, &mut reader.run.page, w)),

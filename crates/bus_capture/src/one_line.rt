@@ -55,6 +55,8 @@ impl<C: Check> Tap for Analyser<C> {
 
     type Body = PackedBits;
 
+    type Few = ArrayVec<bool, 8>;
+
     ghost tap = { one_tap C.folded C.COST };
 
     fn new(

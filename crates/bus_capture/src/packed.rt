@@ -12,6 +12,7 @@ use crate::tap::Tap;
 use arrayvec::ArrayVec;
 use bus_bits::{HeadFault, PackedFault};
 use bus_text::ToolFault;
+use std::convert::AsSlice;
 use std::io::Write;
 
 /// How many octets the head has.

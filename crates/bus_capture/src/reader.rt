@@ -32,8 +32,8 @@ pub enum Source<B> {
 
 /// A capture that is read, and what is seen at its bits.
 #[derive(Drop)]
-pub struct CaptureReader<T, B> {
-    pub source: Source<B>,
+pub struct CaptureReader<T: Tap> {
+    pub source: Source<T::Body>,
     pub run: CaptureRun<T>,
 }
 
@@ -53,7 +53,7 @@ fn new_analyser<T: Tap>(alloc: Global, options: &Options<'_>) -> Result<T, ToolF
     }
 }
 
-impl<T: Tap> CaptureReader<T, T::Body> {
+impl<T: Tap> CaptureReader<T> {
     /// No octets of the capture that the options tell of.
     pub fn new(
         alloc: Global,

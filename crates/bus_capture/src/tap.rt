@@ -19,13 +19,13 @@ ghost use Rattle.bus_capture.specs.Internal.Asked.{IsMade};
 ghost use Rattle.bus_capture.specs.Internal.Taps.{TapView, TapLaws};
 ghost use Rattle.bus_capture.specs.Internal.Watching.{heard_by};
 
-use arrayvec::ArrayVec;
 use bus_bits::{BadMark, HeadFault, PackedFault};
 use bus_dictionary::Dictionary;
 use bus_line::PlaceLimit;
 use bus_text::{Page, Printer, ShortWrite, Summary};
 use bus_watch::{Counts, NewFault};
 use std::alloc::Global;
+use std::convert::AsSlice;
 use std::io::Write;
 
 /// Bits, or pairs of bits, that octets give, and how many octets these are.
@@ -48,6 +48,9 @@ pub trait Tap: Drop {
 
     /// Reads the octets of a packed capture after its head.
     type Body: Drop;
+
+    /// The symbols of one of these octets.
+    type Few: AsSlice<Self::Symbol> + Drop;
 
     ghost tap: { TapView Self Self.Symbol Self.Word Self.Body };
 
@@ -182,10 +185,10 @@ pub trait Tap: Drop {
         ensures none { result ≡ None → body.new ≡ body.old };
 
     /// The symbols of the next octet.
-    fn take_octet(body: &mut Self::Body, octet: u8) -> Result<ArrayVec<Self::Symbol, 8>, PackedFault>
+    fn take_octet(body: &mut Self::Body, octet: u8) -> Result<Self::Few, PackedFault>
         ensures { (xs : List ℕ) → tap.is_body body.old xs → MatchResult result
             (λ symbols. tap.is_body body.new (xs ++ octet ∷ [])
-            × ((tap.form.packed (xs ++ octet ∷ [])).bits ≡ (tap.form.packed xs).bits ++ symbols.items))
+            × ((tap.form.packed (xs ++ octet ∷ [])).bits ≡ (tap.form.packed xs).bits ++ Self.Few.items symbols))
             (λ fault. tap.form.packed (xs ++ octet ∷ [])
             ≡ record { bits = (tap.form.packed xs).bits; fault = Some (packed_fault_of fault) }) };
 

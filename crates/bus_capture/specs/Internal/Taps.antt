@@ -1,5 +1,5 @@
 -- What the proofs know of one line and of two.
-use Rattle.std.specs.Prelude.{◌≡◌, ℕ, ◌+◌, ◌<◌, List, [], ◌++◌, length, Some, None}
+use Rattle.std.specs.Prelude.{◌≡◌, ℕ, ◌+◌, ◌<◌, ◌≤◌, List, [], ◌++◌, length, take, Some, None}
 use Rattle.bus_bits.specs.Capture.{CaptureOf, GrowsTo, capped, short_head}
 use Rattle.bus_dictionary.specs.Entry.{FrameType}
 use Rattle.bus_watch.specs.Seen.{SeenReport, seen}
@@ -28,6 +28,7 @@ pub record FormLaws {X : Type 0} (f : Form X) : Type 0 where
   pub same : (xs : List ℕ) → (f.packed_whole xs).bits ≡ (f.packed xs).bits
   pub short : (xs : List ℕ) → length xs < 16 → (f.packed xs ≡ record { bits = []; fault = None }) × (f.packed_whole xs ≡ record { bits = []; fault = Some short_head })
   pub places : (origin : ℕ) (c d : CaptureOf X) → GrowsTo c d → GrowsTo (capped origin c) (capped origin d)
+  pub silent : (origin longest : ℕ) → f.hears origin longest [] ≡ []
   pub seen : (d : List FrameType) (longest origin : ℕ) (b more : List X) → SeenOn f d longest origin b more
 
 pub record TapLaws {A X N B : Type 0} (t : TapView A X N B) : Type 0 where
@@ -35,4 +36,5 @@ pub record TapLaws {A X N B : Type 0} (t : TapView A X N B) : Type 0 where
   pub hears : t.watch.hears ≡ t.form.hears
   pub placed : (a : A) (b : List X) → t.watch.is_after a b → t.watch.place a ≡ t.watch.origin a + length b
   pub long : (n : ℕ) (word : N) → length (t.symbols n word) ≡ n
+  pub front : (n count : ℕ) (word : N) → n ≤ count → t.symbols n word ≡ take n (t.symbols count word)
   pub clean : (body : B) (xs : List ℕ) → t.is_body body xs → (t.form.packed xs).fault ≡ None

@@ -1,58 +1,19 @@
-use Rattle.std.proofs.Common.{ℕ, ◌+◌, List, ◌++◌, take, false, sym, subst, arith, append-nil}
-use Rattle.std.proofs.lemmas.Result.{err_from_is_err_and}
-use Rattle.std.proofs.lemmas.List.{take_all}
-use Rattle.bus_bits.specs.Capture.{capped}
-use Rattle.bus_bits.specs.Packed.{packed_capture}
-use Rattle.bus_capture.specs.Internal.Sessions.{FollowsBody, Stops}
-use Rattle.bus_capture.proofs.WatchingLemmas.{same-self, same-both}
-use Rattle.bus_capture.proofs.CapturesLemmas.{stops-more}
-use Rattle.bus_capture.proofs.SessionsTextLemmas.{octets-next}
-use Rattle.bus_capture.proofs.SessionsPackedLemmas.{packed-front}
 use Rattle.bus_capture.proofs.packed.take_body.Goals as goal
 
-pub loop-taken-init : goal.loop-taken-init
-loop-taken-init g c = record {
-  sound = c.requires;
-  same = same-self c.args.run.now;
-  front = λ start xs f. subst (FollowsBody g.C.Check.folded g.C.Check.COST start (g.W.Write.contents c.args.w.now) c.args.body.now c.args.run.now) (sym (append-nil xs)) f;
-}
+pub take_some-requires-clause-sound : goal.take_some-requires-clause-sound
+take_some-requires-clause-sound g c = ?
 
 pub returns-in_err-taken-clause-taken : goal.returns-in_err-taken-clause-taken
-returns-in_err-taken-clause-taken g c =
-    let p = err_from_is_err_and c.from_residual.result c.from_residual.ensures.1 in
-    rw (p.1, p.2) (λ start xs f.
-    let os = c.args.octets.now in
-    let i = c.loop-taken.taken in
-    let stops = c.in_err-taken.ensures.taken start (xs ++ take i os) (c.loop-taken.invariant.front start xs f) in
-    let n = stops.0 in
-    let origin = c.take_some.new.run.analyser.decoder.origin in
-    stops-more g.C.Check.folded g.C.Check.COST start _ c.take_some.new.run (capped origin (packed_capture (xs ++ take (i + n) os))) (capped origin (packed_capture (xs ++ os))) c.in_err-taken.field-0.0
-    (packed-front c.captures_grow.ensures.packed c.captures_grow.ensures.capped origin xs os (i + n))
-    (subst (λ (ys : List ℕ). Stops g.C.Check.folded g.C.Check.COST false start (g.W.Write.contents c.take_some.new.w) c.take_some.new.run ys c.in_err-taken.field-0.0) (octets-next xs os i n) stops.1))
+returns-in_err-taken-clause-taken g c = ?
 
 pub returns-in_err-taken-clause-same : goal.returns-in_err-taken-clause-same
-returns-in_err-taken-clause-same g c = same-both c.args.run.now c.loop-taken.run c.take_some.new.run c.loop-taken.invariant.same c.take_some.ensures.same
-
-pub loop-taken-preserved : goal.loop-taken-preserved
-loop-taken-preserved g c = record {
-  sound = c.take_some.ensures.sound;
-  same = same-both c.args.run.now c.loop-taken.run c.take_some.new.run c.loop-taken.invariant.same c.take_some.ensures.same;
-  front = λ start xs f.
-      let os = c.args.octets.now in
-      let i = c.loop-taken.taken in
-      subst (FollowsBody g.C.Check.folded g.C.Check.COST start (g.W.Write.contents c.take_some.new.w) c.take_some.new.body c.take_some.new.run)
-      (octets-next xs os i c.in_ok-taken.field-0)
-      (c.in_ok-taken.ensures.taken start (xs ++ take i os) (c.loop-taken.invariant.front start xs f));
-}
+returns-in_err-taken-clause-same g c = ?
 
 pub returns-clause-taken : goal.returns-clause-taken
-returns-clause-taken g c =
-    λ start xs f.
-    subst (λ (os : List ℕ). FollowsBody g.C.Check.folded g.C.Check.COST start (g.W.Write.contents c.loop-taken.w) c.loop-taken.body c.loop-taken.run (xs ++ os))
-    (take_all c.loop-taken.taken c.args.octets.now (omega arith)) (c.loop-taken.invariant.front start xs f)
+returns-clause-taken g c = ?
 
 pub returns-clause-same : goal.returns-clause-same
-returns-clause-same g c = c.loop-taken.invariant.same
+returns-clause-same g c = ?
 
 pub returns-clause-sound : goal.returns-clause-sound
-returns-clause-sound g c = c.loop-taken.invariant.sound
+returns-clause-sound g c = ?

@@ -5,10 +5,10 @@ use Rattle.bus_capture.proofs.packed.take_body.Given as goal
 
 abbrev pub invariant-loop-taken : goal.invariant-loop-taken
 invariant-loop-taken g l = record {
-  sound : IsSound l.run;
-  same : IsSame l.initial.run l.run;
-  front : (start : Option (List ℕ)) (xs : List ℕ) → FollowsBody g.C.Check.folded g.C.Check.COST start (g.W.Write.contents l.initial.w) l.initial.body l.initial.run xs
-      → FollowsBody g.C.Check.folded g.C.Check.COST start (g.W.Write.contents l.w) l.body l.run (xs ++ take l.taken l.octets);
+  sound : IsSound g.T.Tap.tap l.run;
+  same : IsSame g.T.Tap.tap l.initial.run l.run;
+  front : (start : Option (List ℕ)) (xs : List ℕ) → FollowsBody g.T.Tap.tap start (g.W.Write.contents l.initial.w) l.initial.body l.initial.run xs
+      → FollowsBody g.T.Tap.tap start (g.W.Write.contents l.w) l.body l.run (xs ++ take l.taken l.octets);
 }
 
 abbrev pub decreases-loop-taken : goal.decreases-loop-taken

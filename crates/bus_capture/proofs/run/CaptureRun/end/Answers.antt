@@ -1,26 +1,36 @@
 use Rattle.std.proofs.Common.{◌++◌, refl}
 use Rattle.std.proofs.lemmas.Result.{err_from_is_err_and}
+use Rattle.bus_text.specs.Internal.Pages.{Pages}
 use Rattle.bus_capture.specs.Internal.Watching.{lines, last_lines}
-use Rattle.bus_text.proofs.PagesLemmas.{cuts-more}
-use Rattle.bus_capture.proofs.WatchingLemmas.{pages-ended}
+use Rattle.bus_capture.proofs.WatchingLemmas.{pages-ended, pages-unended}
 use Rattle.bus_capture.proofs.run.CaptureRun.end.Goals as goal
-
-pub returns-in_err-make_room : goal.returns-in_err-make_room
-returns-in_err-make_room g c =
-    let p = err_from_is_err_and c.from_residual.result c.from_residual.ensures.1 in
-    rw (p.1, p.2) (λ start b h. cuts-more start _ (lines c.args.self b) (last_lines c.args.self b) _ (c.in_err-make_room.ensures.turned start (lines c.args.self b) h.page))
+use Rattle.bus_capture.proofs.run.CaptureRun.end.Goals.{in-Some, in_default}
 
 pub returns : goal.returns
 returns g c =
     λ start b h.
-    let page = pages-ended start _ c.args.self b c.make_room.new.self.text.bytes c.put_last.new.page.text.bytes c.make_room.new.self.written c.put_last.new.page.written c.ending.result.begun c.ending.result.pending
-    (c.ending.ensures.begun b h.is_after) (c.ending.ensures.pending b h.is_after) c.put_last.ensures.bytes c.put_last.ensures.written (c.in_ok-make_room.ensures.turned start (lines c.args.self b) h.page) in
-    (c.in_ok-close.ensures.closed start (lines c.args.self b ++ last_lines c.args.self b) page, refl)
+    let tap = g.T.Tap.tap in
+    let w = c.args.self in
+    let text = lines tap w b ++ last_lines tap w b in
+    let turned = c.in_ok-make_room.ensures.turned start (lines tap w b) h.page in
+    let page : Pages start (g.W.Write.contents c.make_room.new.w) c.match-printer.page.text.bytes c.match-printer.page.written text =
+    elim c.match-printer.branch [
+      | in-Some x ↦ pages-ended tap start _ w b x.in-Some.printer c.make_room.new.self x.put_ending.new.page c.match-printer.page x.in-Some.is x.page-is (x.put_ending.ensures.bytes b h.is_after) x.put_ending.ensures.written turned
+      | in_default x ↦ pages-unended tap start _ w b c.make_room.new.self c.match-printer.page x.in_default.is x.page-is turned
+    ] in
+    (c.in_ok-close.ensures.closed start text page, refl)
 
 pub returns-in_err-close : goal.returns-in_err-close
 returns-in_err-close g c =
     let p = err_from_is_err_and c.from_residual-in_err-close.result c.from_residual-in_err-close.ensures.1 in
     rw (p.1, p.2) (λ start b h.
-    let page = pages-ended start _ c.args.self b c.make_room.new.self.text.bytes c.put_last.new.page.text.bytes c.make_room.new.self.written c.put_last.new.page.written c.ending.result.begun c.ending.result.pending
-    (c.ending.ensures.begun b h.is_after) (c.ending.ensures.pending b h.is_after) c.put_last.ensures.bytes c.put_last.ensures.written (c.in_ok-make_room.ensures.turned start (lines c.args.self b) h.page) in
-    c.in_err-close.ensures.closed start (lines c.args.self b ++ last_lines c.args.self b) page)
+    let tap = g.T.Tap.tap in
+    let w = c.args.self in
+    let text = lines tap w b ++ last_lines tap w b in
+    let turned = c.in_ok-make_room.ensures.turned start (lines tap w b) h.page in
+    let page : Pages start (g.W.Write.contents c.make_room.new.w) c.match-printer.page.text.bytes c.match-printer.page.written text =
+    elim c.match-printer.branch [
+      | in-Some x ↦ pages-ended tap start _ w b x.in-Some.printer c.make_room.new.self x.put_ending.new.page c.match-printer.page x.in-Some.is x.page-is (x.put_ending.ensures.bytes b h.is_after) x.put_ending.ensures.written turned
+      | in_default x ↦ pages-unended tap start _ w b c.make_room.new.self c.match-printer.page x.in_default.is x.page-is turned
+    ] in
+    c.in_err-close.ensures.closed start text page)

@@ -1,18 +1,18 @@
 use Rattle.std.proofs.Common.{◌+◌, ◌≡◌, ℕ, List, [], ◌∷◌, ◌++◌, length, take, get_or, refl, sym, true, subst, arith, append-nil, length-append}
 use Rattle.std.proofs.lemmas.Result.{err_from_is_err_and}
 use Rattle.std.proofs.lemmas.List.{take_all}
-use Rattle.bus_bits.specs.Capture.{text_capture, capped}
+use Rattle.bus_bits.specs.Capture.{capped}
 use Rattle.bus_capture.specs.Internal.Sessions.{FollowsOctets, Stops}
-use Rattle.bus_capture.proofs.WatchingLemmas.{same-self, same-both}
-use Rattle.bus_capture.proofs.CapturesLemmas.{stops-more}
-use Rattle.bus_capture.proofs.SessionsTextLemmas.{octets-before, octet-next, octets-next, placed-grown, front-grown, none-taken}
+use Rattle.bus_capture.proofs.WatchingLemmas.{same-self, same-both, item-next}
+use Rattle.bus_capture.proofs.CapturesLemmas.{stops-more, front-grown}
+use Rattle.bus_capture.proofs.SessionsTextLemmas.{octets-before, octets-next, none-taken}
 use Rattle.bus_capture.proofs.text.TextCapture.take.Goals as goal
 
 pub loop-taken-init : goal.loop-taken-init
 loop-taken-init g c = record {
   sound = c.requires.sound;
-  same = same-self c.args.run.now;
-  front = λ start xs t. subst (FollowsOctets g.C.Check.folded g.C.Check.COST start (g.W.Write.contents c.args.w.now) c.args.run.now) (sym (append-nil xs)) (record { clean = t.clean; bits = t.bits });
+  same = same-self g.T.Tap.tap c.args.run.now;
+  front = λ start xs t. subst (FollowsOctets g.T.Tap.tap start (g.W.Write.contents c.args.w.now) c.args.run.now) (sym (append-nil xs)) (record { clean = t.clean; bits = t.bits });
 }
 
 pub take_many-requires : goal.take_many-requires
@@ -22,26 +22,27 @@ pub returns-in_err-many-clause-taken : goal.returns-in_err-many-clause-taken
 returns-in_err-many-clause-taken g c =
     let p = err_from_is_err_and c.from_residual.result c.from_residual.ensures.1 in
     rw (p.1, p.2) (λ start xs t.
+    let tap = g.T.Tap.tap in
     let os = c.args.octets.now in
     let i = c.loop-taken.taken in
     let stops = c.in_err-many.ensures.taken start (xs ++ take i os) (c.loop-taken.invariant.front start xs t) in
     let n = stops.0 in
-    let origin = c.take_many.new.run.analyser.decoder.origin in
-    stops-more g.C.Check.folded g.C.Check.COST start _ c.take_many.new.run (capped origin (text_capture (xs ++ take (i + n) os))) (capped origin (text_capture (xs ++ os))) c.in_err-many.field-0.0
-    (front-grown c.captures_grow.ensures.text c.captures_grow.ensures.capped origin xs os (i + n))
-    (subst (λ (ys : List ℕ). Stops g.C.Check.folded g.C.Check.COST true start (g.W.Write.contents c.take_many.new.w) c.take_many.new.run ys c.in_err-many.field-0.0) (octets-next xs os i n) stops.2))
+    let origin = tap.watch.origin c.take_many.new.run.analyser in
+    stops-more tap start _ c.take_many.new.run (capped origin (tap.form.text (xs ++ take (i + n) os))) (capped origin (tap.form.text (xs ++ os))) c.in_err-many.field-0.0
+    (front-grown tap.form.text c.laws.ensures.form.text c.laws.ensures.form.places origin xs os (i + n))
+    (subst (λ (ys : List ℕ). Stops tap true start (g.W.Write.contents c.take_many.new.w) c.take_many.new.run ys c.in_err-many.field-0.0) (octets-next xs os i n) stops.2))
 
 pub returns-in_err-many-clause-same : goal.returns-in_err-many-clause-same
-returns-in_err-many-clause-same g c = same-both c.args.run.now c.loop-taken.run c.take_many.new.run c.loop-taken.invariant.same c.take_many.ensures.same
+returns-in_err-many-clause-same g c = same-both g.T.Tap.tap c.args.run.now c.loop-taken.run c.take_many.new.run c.loop-taken.invariant.same c.take_many.ensures.same
 
 pub loop-taken-preserved-then-many-gt0 : goal.loop-taken-preserved-then-many-gt0
 loop-taken-preserved-then-many-gt0 g c = record {
   sound = c.take_many.ensures.sound;
-  same = same-both c.args.run.now c.loop-taken.run c.take_many.new.run c.loop-taken.invariant.same c.take_many.ensures.same;
+  same = same-both g.T.Tap.tap c.args.run.now c.loop-taken.run c.take_many.new.run c.loop-taken.invariant.same c.take_many.ensures.same;
   front = λ start xs t.
       let os = c.args.octets.now in
       let i = c.loop-taken.taken in
-      subst (FollowsOctets g.C.Check.folded g.C.Check.COST start (g.W.Write.contents c.take_many.new.w) c.take_many.new.run)
+      subst (FollowsOctets g.T.Tap.tap start (g.W.Write.contents c.take_many.new.w) c.take_many.new.run)
       (octets-next xs os i c.in_ok-many.many)
       (c.in_ok-many.ensures.taken start (xs ++ take i os) (c.loop-taken.invariant.front start xs t));
 }
@@ -53,35 +54,38 @@ pub returns-in_err-take_one-clause-taken : goal.returns-in_err-take_one-clause-t
 returns-in_err-take_one-clause-taken g c =
     let p = err_from_is_err_and c.from_residual-in_err-take_one.result c.from_residual-in_err-take_one.ensures.1 in
     rw (p.1, p.2) (λ start xs t.
+    let tap = g.T.Tap.tap in
     let os = c.args.octets.now in
     let i = c.loop-taken.taken in
     let x = get_or os i 0 in
     let front = xs ++ take i os in
     let at : c.args.self.now.at + i ≡ length front = omega (arith, t.at, octets-before xs os i c.loop-taken-test.true) in
-    let here = none-taken g.C.Check.folded g.C.Check.COST start _ _ front _ c.in_ok-many.many (omega (arith, c.if-many-gt0.false)) (c.in_ok-many.ensures.taken start front (c.loop-taken.invariant.front start xs t)) in
+    let here = none-taken tap start _ _ front _ c.in_ok-many.many (omega (arith, c.if-many-gt0.false)) (c.in_ok-many.ensures.taken start front (c.loop-taken.invariant.front start xs t)) in
     let stops = c.in_err-take_one.ensures.taken start front at here in
-    let origin = c.take_one.new.run.analyser.decoder.origin in
-    stops-more g.C.Check.folded g.C.Check.COST start _ c.take_one.new.run (capped origin (text_capture (front ++ x ∷ []))) (capped origin (text_capture (xs ++ os))) c.in_err-take_one.field-0.0
-    (placed-grown c.captures_grow.ensures.text c.captures_grow.ensures.capped origin xs os i x c.loop-taken-test.true refl) stops)
+    let origin = tap.watch.origin c.take_one.new.run.analyser in
+    stops-more tap start _ c.take_one.new.run (capped origin (tap.form.text (xs ++ take (i + 1) os))) (capped origin (tap.form.text (xs ++ os))) c.in_err-take_one.field-0.0
+    (front-grown tap.form.text c.laws.ensures.form.text c.laws.ensures.form.places origin xs os (i + 1))
+    (subst (λ (ys : List ℕ). Stops tap true start (g.W.Write.contents c.take_one.new.w) c.take_one.new.run ys c.in_err-take_one.field-0.0) (item-next xs os i x 0 c.loop-taken-test.true refl) stops))
 
 pub returns-in_err-take_one-clause-same : goal.returns-in_err-take_one-clause-same
 returns-in_err-take_one-clause-same g c =
-    same-both c.args.run.now c.take_many.new.run c.take_one.new.run
-    (same-both c.args.run.now c.loop-taken.run c.take_many.new.run c.loop-taken.invariant.same c.take_many.ensures.same) c.take_one.ensures.same
+    same-both g.T.Tap.tap c.args.run.now c.take_many.new.run c.take_one.new.run
+    (same-both g.T.Tap.tap c.args.run.now c.loop-taken.run c.take_many.new.run c.loop-taken.invariant.same c.take_many.ensures.same) c.take_one.ensures.same
 
 pub loop-taken-preserved : goal.loop-taken-preserved
 loop-taken-preserved g c = record {
   sound = c.take_one.ensures.sound;
-  same = same-both c.args.run.now c.take_many.new.run c.take_one.new.run
-      (same-both c.args.run.now c.loop-taken.run c.take_many.new.run c.loop-taken.invariant.same c.take_many.ensures.same) c.take_one.ensures.same;
+  same = same-both g.T.Tap.tap c.args.run.now c.take_many.new.run c.take_one.new.run
+      (same-both g.T.Tap.tap c.args.run.now c.loop-taken.run c.take_many.new.run c.loop-taken.invariant.same c.take_many.ensures.same) c.take_one.ensures.same;
   front = λ start xs t.
+      let tap = g.T.Tap.tap in
       let os = c.args.octets.now in
       let i = c.loop-taken.taken in
       let front = xs ++ take i os in
       let at : c.args.self.now.at + i ≡ length front = omega (arith, t.at, octets-before xs os i c.loop-taken-test.true) in
-      let here = none-taken g.C.Check.folded g.C.Check.COST start _ _ front _ c.in_ok-many.many (omega (arith, c.if-many-gt0.false)) (c.in_ok-many.ensures.taken start front (c.loop-taken.invariant.front start xs t)) in
-      subst (FollowsOctets g.C.Check.folded g.C.Check.COST start (g.W.Write.contents c.take_one.new.w) c.take_one.new.run)
-      (octet-next xs os i (get_or os i 0) c.loop-taken-test.true refl)
+      let here = none-taken tap start _ _ front _ c.in_ok-many.many (omega (arith, c.if-many-gt0.false)) (c.in_ok-many.ensures.taken start front (c.loop-taken.invariant.front start xs t)) in
+      subst (FollowsOctets tap start (g.W.Write.contents c.take_one.new.w) c.take_one.new.run)
+      (item-next xs os i (get_or os i 0) 0 c.loop-taken-test.true refl)
       (c.in_ok-take_one.ensures.taken start front at here);
 }
 
@@ -89,7 +93,7 @@ pub returns-clause-taken : goal.returns-clause-taken
 returns-clause-taken g c =
     λ start xs t.
     let all = take_all c.loop-taken.taken c.args.octets.now (omega arith) in
-    let f = subst (λ (os : List ℕ). FollowsOctets g.C.Check.folded g.C.Check.COST start (g.W.Write.contents c.loop-taken.w) c.loop-taken.run (xs ++ os)) all (c.loop-taken.invariant.front start xs t) in
+    let f = subst (λ (os : List ℕ). FollowsOctets g.T.Tap.tap start (g.W.Write.contents c.loop-taken.w) c.loop-taken.run (xs ++ os)) all (c.loop-taken.invariant.front start xs t) in
     record {
       at = omega (arith, t.at, length-append xs c.args.octets.now);
       clean = f.clean;

@@ -5,10 +5,10 @@ use Rattle.bus_capture.proofs.text.TextCapture.take.Given as goal
 
 abbrev pub invariant-loop-taken : goal.invariant-loop-taken
 invariant-loop-taken g l = record {
-  sound : IsSound l.run;
-  same : IsSame l.initial.run l.run;
-  front : (start : Option (List ℕ)) (xs : List ℕ) → FollowsText g.C.Check.folded g.C.Check.COST start (g.W.Write.contents l.initial.w) l.initial.self l.initial.run xs
-      → FollowsOctets g.C.Check.folded g.C.Check.COST start (g.W.Write.contents l.w) l.run (xs ++ take l.taken l.octets);
+  sound : IsSound g.T.Tap.tap l.run;
+  same : IsSame g.T.Tap.tap l.initial.run l.run;
+  front : (start : Option (List ℕ)) (xs : List ℕ) → FollowsText g.T.Tap.tap start (g.W.Write.contents l.initial.w) l.initial.self l.initial.run xs
+      → FollowsOctets g.T.Tap.tap start (g.W.Write.contents l.w) l.run (xs ++ take l.taken l.octets);
 }
 
 abbrev pub decreases-loop-taken : goal.decreases-loop-taken

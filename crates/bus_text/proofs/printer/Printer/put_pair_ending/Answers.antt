@@ -11,5 +11,5 @@ returns-clause-bytes c =
     let second = begun_lines (Some Second) c.args.ending.now.second in
     let waits = pending_lines (Some First) c.args.ending.now.pending in
     let page = c.put_begun.new.page.text.bytes in
-    let all = put-both f second waits page c.put_begun-2.new.page.text.bytes c.put_pending.new.page.text.bytes c.put_begun-2.ensures.bytes c.put_pending.ensures.bytes in
-    put-both f first (second ++ waits) c.args.page.now.text.bytes page c.put_pending.new.page.text.bytes c.put_begun.ensures.bytes all
+    let both = put-both f first second c.args.page.now.text.bytes page c.put_begun-2.new.page.text.bytes c.put_begun.ensures.bytes c.put_begun-2.ensures.bytes in
+    put-both f (first ++ second) waits c.args.page.now.text.bytes c.put_begun-2.new.page.text.bytes c.put_pending.new.page.text.bytes both c.put_pending.ensures.bytes

@@ -20,8 +20,7 @@ returns-clause-bytes c =
     let line = line_number c.args.line in
     let told : c.push_front.new.line.bytes ≡ page ++ (line ++ front) = c.push_front.ensures.bytes ∙ ap (λ t. t ++ front) c.push_line.ensures.bytes ∙ append_assoc page line front in
     let named : c.put_head.new.page.text.bytes ≡ c.push_front.new.line.bytes ++ head = c.put_head.ensures.bytes in
-    let all : c.push.new.self.bytes ≡ page ++ (line ++ (front ++ (head ++ codes "\n"))) =
-    end ∙ ap (λ t. t ++ codes "\n") (named ∙ ap (λ t. t ++ head) told ∙ append_assoc page (line ++ front) head) ∙ append_assoc page ((line ++ front) ++ head) (codes "\n")
-    ∙ ap (λ t. page ++ t) (append_assoc (line ++ front) head (codes "\n") ∙ append_assoc line front (head ++ codes "\n")) in
+    let all : c.push.new.self.bytes ≡ page ++ (((line ++ front) ++ head) ++ codes "\n") =
+    end ∙ ap (λ t. t ++ codes "\n") (named ∙ ap (λ t. t ++ head) told ∙ append_assoc page (line ++ front) head) ∙ append_assoc page ((line ++ front) ++ head) (codes "\n") in
     put-left c.args.self.now.filter (report_line c.args.self.now.heads c.args.dictionary.now (found_on c.args.line c.args.octets.now c.args.finding)) page c.push.new.self.bytes
     (sym (c.leaves.ensures c.args.octets.now) ∙ c.if-not-leaves.false) all
