@@ -2,7 +2,8 @@
  *
  *     generate BITS SEED KIND text|packed [LINE]
  *
- * BITS is the number of bits, LINE how many a line of text has, 80 unless given. The kinds:
+ * BITS is the number of bits, of two lines that of pairs; LINE how many a line of text has, 80 unless given. The
+ * kinds:
  *
  *     polling    commands to stations, answers, idle lines; one frame in twenty has one bit flipped
  *     random     random bits
@@ -10,6 +11,8 @@
  *     flags      flags, one behind the other
  *     long       frames of 250 to 256 octets
  *     stuffed    frames of 255s, which have the most inserted 0s
+ *     pairs      polling on two lines: commands on the first, answers on the second; each rests at 1
+ *                while the other sends
  *
  * The same words give the same capture. */
 #include <stdint.h>
@@ -18,7 +21,7 @@
 #include <string.h>
 
 static uint64_t state, left;
-static int packed, fill, held;
+static int packed, two, sender, fill, held;
 static unsigned marks, line = 80;
 
 static uint32_t draw(uint32_t below) {
@@ -28,18 +31,21 @@ static uint32_t draw(uint32_t below) {
     return (uint32_t)((state >> 16) % below);
 }
 
+/* A bit of the line that sends; of two lines the other rests at 1. */
 static void put_bit(int bit) {
+    int mark = two ? bit << sender | 2 >> sender : bit;
     if (left == 0)
         return;
     left--;
     if (!packed) {
-        putchar('0' + bit);
+        putchar('0' + mark);
         if (++marks % line == 0)
             putchar('\n');
         return;
     }
-    held |= bit << fill;
-    if (++fill == 8) {
+    held |= mark << fill;
+    fill += two ? 2 : 1;
+    if (fill == 8) {
         putchar(held);
         fill = held = 0;
     }
@@ -104,6 +110,10 @@ static void put_poll(void) {
     uint8_t station = (uint8_t)(16 + draw(16));
     uint8_t type = (uint8_t)draw(8);
     for (int answer = 0; answer < 2; answer++) {
+        if (two) {
+            sender = answer;
+            put_flag();
+        }
         size_t count = 3 + draw(answer ? 30 : 10);
         octets[0] = station;
         octets[1] = 0x83;
@@ -114,13 +124,14 @@ static void put_poll(void) {
     }
     if (draw(64) == 0) {
         put_ones(15 + draw(40));
-        put_flag();
+        if (!two)
+            put_flag();
     }
 }
 
 /* Some traffic of a kind; 0 where there is no such kind. */
 static int put_some(const char *kind) {
-    if (strcmp(kind, "polling") == 0)
+    if (strcmp(kind, "polling") == 0 || two)
         put_poll();
     else if (strcmp(kind, "random") == 0)
         put_random();
@@ -145,10 +156,11 @@ int main(int argc, char **argv) {
     left = strtoull(argv[1], NULL, 10);
     state = strtoull(argv[2], NULL, 10) * 2654435761u + 88172645463325252u;
     packed = strcmp(argv[4], "packed") == 0;
+    two = strcmp(argv[3], "pairs") == 0;
     if (argc == 6)
         line = (unsigned)strtoul(argv[5], NULL, 10);
     if (packed) {
-        fputs("TS2BITS1", stdout);
+        fputs(two ? "TS2BITS2" : "TS2BITS1", stdout);
         for (int i = 0; i < 8; i++)
             putchar((int)(left >> 8 * i & 0xff));
     }

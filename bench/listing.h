@@ -1,17 +1,22 @@
 /* The listing of a capture without a dictionary, bit by bit, as a C programmer would write it: what
- * plain.c and table.c share. */
+ * plain.c, table.c and pairs.c share. */
 #include <stdint.h>
 #include <stdio.h>
 #include <string.h>
 
 enum { LONGEST = 256, ROOM = LONGEST + 2 };
 
+/* What is known of one line. */
+struct line {
+    uint8_t octets[ROOM];
+    uint64_t place, first, count;
+    unsigned ones, stored, octet, recent;
+    uint16_t check;
+    int open;
+    const char *front; /* of its lines of text, or NULL */
+};
+
 static uint16_t table[256];
-static uint8_t octets[ROOM];
-static uint64_t place, first, count;
-static unsigned ones, stored, octet, recent;
-static uint16_t check;
-static int open;
 
 static void make_table(void) {
     for (unsigned i = 0; i < 256; i++) {
@@ -22,102 +27,111 @@ static void make_table(void) {
     }
 }
 
-static void start(void) {
-    open = 1;
-    first = place;
-    count = 0;
-    stored = 0;
-    octet = 0;
-    check = 0xffff;
+static void start(struct line *l) {
+    l->open = 1;
+    l->first = l->place;
+    l->count = 0;
+    l->stored = 0;
+    l->octet = 0;
+    l->check = 0xffff;
 }
 
-static void data_bit(int bit) {
-    if (!open)
+static void data_bit(struct line *l, int bit) {
+    if (!l->open)
         return;
-    octet = octet >> 1 | (unsigned)bit << 7;
-    if (++count % 8 == 0 && stored < ROOM) {
-        octets[stored++] = (uint8_t)octet;
-        check = check >> 8 ^ table[(check ^ octet) & 0xff];
+    l->octet = l->octet >> 1 | (unsigned)bit << 7;
+    if (++l->count % 8 == 0 && l->stored < ROOM) {
+        l->octets[l->stored++] = (uint8_t)l->octet;
+        l->check = l->check >> 8 ^ table[(l->check ^ l->octet) & 0xff];
     }
 }
 
-static void say(uint64_t past, const char *what) {
-    printf("%llu %llu %s\n", (unsigned long long)first, (unsigned long long)past, what);
+static void put_front(const struct line *l) {
+    if (l->front != NULL)
+        fputs(l->front, stdout);
 }
 
-static void close_piece(uint64_t past) {
-    if (!open || past <= first)
+static void say(struct line *l, uint64_t past, const char *what) {
+    put_front(l);
+    printf("%llu %llu %s\n", (unsigned long long)l->first, (unsigned long long)past, what);
+}
+
+static void close_piece(struct line *l, uint64_t past) {
+    if (!l->open || past <= l->first)
         return;
     /* the flag's own 0 and six 1s were taken as data */
-    uint64_t data = count - 7;
-    if ((recent & 0x1fff) == 0x1f7e)
-        say(past, "damaged unstuffed");
+    uint64_t data = l->count - 7;
+    if ((l->recent & 0x1fff) == 0x1f7e)
+        say(l, past, "damaged unstuffed");
     else if (data > 8 * ROOM)
-        say(past, "overlong");
+        say(l, past, "overlong");
     else if (data < 32)
-        say(past, "damaged short");
+        say(l, past, "damaged short");
     else if (data % 8 != 0)
-        say(past, "damaged unaligned");
-    else if (check != 0xf0b8)
-        say(past, "damaged fcs");
+        say(l, past, "damaged unaligned");
+    else if (l->check != 0xf0b8)
+        say(l, past, "damaged fcs");
     else {
         static const char digits[] = "0123456789abcdef";
         char text[2 * ROOM + 1];
-        for (unsigned i = 0; i < stored; i++) {
-            text[2 * i] = digits[octets[i] >> 4];
-            text[2 * i + 1] = digits[octets[i] & 15];
+        for (unsigned i = 0; i < l->stored; i++) {
+            text[2 * i] = digits[l->octets[i] >> 4];
+            text[2 * i + 1] = digits[l->octets[i] & 15];
         }
-        text[2 * stored] = 0;
-        printf("%llu %llu frame %s\n", (unsigned long long)first, (unsigned long long)past, text);
+        text[2 * l->stored] = 0;
+        put_front(l);
+        printf("%llu %llu frame %s\n", (unsigned long long)l->first, (unsigned long long)past, text);
     }
 }
 
-static void take(int bit) {
-    place++;
-    recent = recent << 1 | (unsigned)bit;
+static void take(struct line *l, int bit) {
+    l->place++;
+    l->recent = l->recent << 1 | (unsigned)bit;
     if (bit) {
-        ones++;
-        if (ones < 7)
-            data_bit(1);
-        else if (ones == 7) {
-            uint64_t past = place - 7;
-            if (open && past > first)
-                say(past, "abort");
-            open = 0;
-        } else if (ones == 15) {
-            first = place - 15;
-            say(place, "idle");
+        l->ones++;
+        if (l->ones < 7)
+            data_bit(l, 1);
+        else if (l->ones == 7) {
+            uint64_t past = l->place - 7;
+            if (l->open && past > l->first)
+                say(l, past, "abort");
+            l->open = 0;
+        } else if (l->ones == 15) {
+            l->first = l->place - 15;
+            say(l, l->place, "idle");
         }
     } else {
-        if (ones == 6 && place > 7) {
-            close_piece(place - 8);
-            start();
-        } else if (ones != 5)
-            data_bit(0);
-        ones = 0;
+        if (l->ones == 6 && l->place > 7) {
+            close_piece(l, l->place - 8);
+            start(l);
+        } else if (l->ones != 5)
+            data_bit(l, 0);
+        l->ones = 0;
     }
 }
 
+static int is_space(uint8_t mark) { return mark == ' ' || mark == '\t' || mark == '\r' || mark == '\n'; }
+
 /* The bit of an octet of a text, if it has one; 0 where it is neither a bit nor a space. */
-static int take_mark(uint8_t mark) {
+static int take_mark(struct line *l, uint8_t mark) {
     if (mark == '0' || mark == '1')
-        take(mark == '1');
-    else if (mark != ' ' && mark != '\t' && mark != '\r' && mark != '\n')
+        take(l, mark == '1');
+    else if (!is_space(mark))
         return 0;
     return 1;
 }
 
-/* Reads the head of a packed capture, and how many bits it counts; 0 where it is no good head. */
-static int read_head(uint64_t *left) {
+/* Reads the head of a packed capture, and how many bits or pairs it counts; 0 where it is no good head. */
+static int read_head(const char *magic, uint64_t *left) {
     uint8_t head[16];
-    if (fread(head, 1, 16, stdin) != 16 || memcmp(head, "TS2BITS1", 8) != 0)
+    if (fread(head, 1, 16, stdin) != 16 || memcmp(head, magic, 8) != 0)
         return 0;
     for (int i = 7; i >= 0; i--)
         *left = *left << 8 | head[8 + i];
     return 1;
 }
 
-static void say_open(void) {
-    if (open && place > first)
-        say(place, "open");
+static void say_open(struct line *l) {
+    if (l->open && l->place > l->first)
+        say(l, l->place, "open");
 }

@@ -4,23 +4,25 @@
  */
 #include "listing.h"
 
+static struct line line;
+
 int main(int argc, char **argv) {
     static uint8_t buffer[65536];
     int packed = argc > 1 && strcmp(argv[1], "packed") == 0;
     uint64_t left = 0;
     size_t got;
     make_table();
-    if (packed && !read_head(&left))
+    if (packed && !read_head("TS2BITS1", &left))
         return 2;
     while ((got = fread(buffer, 1, sizeof buffer, stdin)) > 0)
         for (size_t i = 0; i < got; i++) {
             uint8_t mark = buffer[i];
             if (packed) {
                 for (int j = 0; j < 8 && left > 0; j++, left--)
-                    take(mark >> j & 1);
-            } else if (!take_mark(mark))
+                    take(&line, mark >> j & 1);
+            } else if (!take_mark(&line, mark))
                 return 2;
         }
-    say_open();
+    say_open(&line);
     return 0;
 }

@@ -9,6 +9,7 @@ struct step {
     uint8_t data, bits, ones, apart;
 };
 
+static struct line line;
 static struct step steps[6][256];
 static uint8_t turned[256];
 
@@ -33,30 +34,30 @@ static void make_steps(void) {
 }
 
 static void take_octet(uint8_t eight) {
-    if (ones > 5 || steps[ones][eight].apart) {
+    if (line.ones > 5 || steps[line.ones][eight].apart) {
         for (int j = 0; j < 8; j++)
-            take(eight >> j & 1);
+            take(&line, eight >> j & 1);
         return;
     }
-    struct step step = steps[ones][eight];
-    place += 8;
-    recent = recent << 8 | turned[eight];
-    ones = step.ones;
-    if (!open)
+    struct step step = steps[line.ones][eight];
+    line.place += 8;
+    line.recent = line.recent << 8 | turned[eight];
+    line.ones = step.ones;
+    if (!line.open)
         return;
-    unsigned held = count % 8;
-    unsigned joined = octet >> (8 - held) | (unsigned)step.data << held;
-    count += step.bits;
+    unsigned held = line.count % 8;
+    unsigned joined = line.octet >> (8 - held) | (unsigned)step.data << held;
+    line.count += step.bits;
     held += step.bits;
     if (held >= 8) {
-        if (stored < ROOM) {
-            octets[stored++] = (uint8_t)joined;
-            check = check >> 8 ^ table[(check ^ joined) & 0xff];
+        if (line.stored < ROOM) {
+            line.octets[line.stored++] = (uint8_t)joined;
+            line.check = line.check >> 8 ^ table[(line.check ^ joined) & 0xff];
         }
         joined >>= 8;
         held -= 8;
     }
-    octet = joined << (8 - held) & 0xff;
+    line.octet = joined << (8 - held) & 0xff;
 }
 
 /* The eight marks that begin here as the bits of an octet, or -1 where they are not all marks. */
@@ -77,7 +78,7 @@ static int take_text(const uint8_t *marks, size_t got) {
             i += 8;
             continue;
         }
-        if (!take_mark(marks[i++]))
+        if (!take_mark(&line, marks[i++]))
             return 2;
     }
     return 0;
@@ -90,7 +91,7 @@ int main(int argc, char **argv) {
     size_t got;
     make_table();
     make_steps();
-    if (packed && !read_head(&left))
+    if (packed && !read_head("TS2BITS1", &left))
         return 2;
     while ((got = fread(buffer, 1, sizeof buffer, stdin)) > 0) {
         if (!packed && take_text(buffer, got) != 0)
@@ -102,9 +103,9 @@ int main(int argc, char **argv) {
                 continue;
             }
             for (int j = 0; j < 8 && left > 0; j++, left--)
-                take(buffer[i] >> j & 1);
+                take(&line, buffer[i] >> j & 1);
         }
     }
-    say_open();
+    say_open(&line);
     return 0;
 }
