@@ -10,7 +10,7 @@ use Rattle.bus_dictionary.specs.Dictionary.{longest_of}
 use Rattle.bus_watch.specs.Seen.{SeenReport, seen}
 use Rattle.bus_watch.specs.Talk.{pending}
 use Rattle.bus_watch.specs.Watch.{Leads, seen_by}
-use Rattle.bus_text.specs.Listing.{listing, ending_text}
+use Rattle.bus_text.specs.Listing.{ending_text}
 use Rattle.bus_text.specs.Summary.{summary_of}
 use Rattle.bus_text.specs.Internal.Counting.{IsFew}
 use Rattle.bus_text.specs.Internal.Pages.{Pages}
