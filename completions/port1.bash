@@ -11,8 +11,8 @@ _port1() {
         ;;
     *)
         case ${COMP_WORDS[1]} in
-        list) words='--dict --origin --bits --station --type --kind -h --help' ;;
-        check) words='--dict --origin --bits --depth -h --help' ;;
+        list) words='--dict --origin --bits --two --station --type --kind -h --help' ;;
+        check) words='--dict --origin --bits --two --depth -h --help' ;;
         show) words='--dict -h --help' ;;
         encode) words='-h --help' ;;
         help) words='list check show encode help' ;;

@@ -2,6 +2,9 @@
 
 MAGIC = b"TS2BITS1"
 
+# Of a capture of two lines, whose places have a pair of bits.
+PAIR_MAGIC = b"TS2BITS2"
+
 HEAD = len(MAGIC) + 8
 
 MOST_BITS = 2**60
@@ -11,18 +14,18 @@ class Fault(Exception):
     """Why a script stops: what it says on standard error."""
 
 
-def head(bits: int) -> bytes:
-    """The head of a packed capture of so many bits."""
-    return MAGIC + bits.to_bytes(8, "little")
+def head(bits: int, magic: bytes = MAGIC) -> bytes:
+    """The head of a packed capture of so many bits, or pairs."""
+    return magic + bits.to_bytes(8, "little")
 
 
-def bits_of_head(octets: bytes) -> int:
-    """How many bits the head of a packed capture counts."""
+def bits_of_head(octets: bytes, magic: bytes = MAGIC) -> int:
+    """How many bits, or pairs, the head of a packed capture counts."""
     if len(octets) < HEAD:
         raise Fault("short head")
-    if octets[: len(MAGIC)] != MAGIC:
+    if octets[: len(magic)] != magic:
         raise Fault("wrong magic")
-    bits = int.from_bytes(octets[len(MAGIC) : HEAD], "little")
+    bits = int.from_bytes(octets[len(magic) : HEAD], "little")
     if bits > MOST_BITS:
         raise Fault("too many bits")
     return bits

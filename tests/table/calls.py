@@ -3,10 +3,18 @@
 from dataclasses import replace
 from typing import Iterator, List, Optional, Tuple
 
-from .captures import CALL, CALLS, FLAG, IDLE, PACKED, REPLY, STATES, text
+from .captures import CALL, CALLS, FLAG, IDLE, PACKED, REPLY, STATES, marks, packed_pairs, text
 from .case import Case, Counted, fault
 from .checks import MISSING_AND_SPOILT_REPORT, report
 from .lists import MISSING_AND_SPOILT, MISSING_AND_SPOILT_LINES, ONE_CALL_LINES
+from .pairs import (
+    AT_ONE_PLACE,
+    AT_ONE_PLACE_LINES,
+    CALL_AND_REPLY,
+    CALL_AND_REPLY_LINES,
+    CALL_AND_REPLY_REPORT,
+    CALLED,
+)
 from .shows import STATE, STATE_TEXT
 from .words import HELP
 
@@ -25,6 +33,30 @@ ANSWERED_LINES = f"""\
 LIST = Case("a call and its reply", BY_CALLS, ANSWERED, ANSWERED_LINES)
 
 LIST_PACKED = Case("a packed call", ["list", "--dict", CALLS], PACKED, ONE_CALL_LINES)
+
+LIST_TWO = Case(
+    "a call and its reply on two lines",
+    ["list", "--bits", "--two", "--dict", CALLS],
+    marks(*CALL_AND_REPLY),
+    CALL_AND_REPLY_LINES,
+)
+
+# How many marks decide each of its lines: the last two are decided by one mark.
+DECIDED_TWO = [15, 57, 72, 114, 114]
+
+PACKED_TWO = Case(
+    "packed frames that end at one place",
+    ["list", "--two", "--dict", CALLS],
+    packed_pairs(*AT_ONE_PLACE),
+    AT_ONE_PLACE_LINES,
+)
+
+CHECK_TWO = Case(
+    "a check of two lines",
+    ["check", "--bits", "--two", "--dict", CALLS],
+    marks(*CALL_AND_REPLY),
+    CALL_AND_REPLY_REPORT,
+)
 
 CHECK = Case(
     "a check",
@@ -45,12 +77,12 @@ ENCODE = Case(
     "0111111000001000110000010111110110011000011011111001111110\n",
 )
 
-WHOLE = [LIST, LIST_PACKED, CHECK, ENCODE]
+WHOLE = [LIST, LIST_PACKED, CHECK, ENCODE, LIST_TWO, PACKED_TWO, CHECK_TWO]
 
 SHOW = Case("a frame that is shown", ["show", "--dict", STATES, STATE], stdout=STATE_TEXT)
 
-# A page of output has 16384 octets, and is written before fewer than 1024 of them are free.
-FULL_PAGE = 16384 - 1024
+# A page of output has 16384 octets, and is written before fewer than 2048 of them are free.
+FULL_PAGE = 16384 - 2048
 
 
 def named(case: Case, name: str) -> Case:
@@ -68,6 +100,12 @@ def any_cut() -> Iterator[Counted]:
             )
 
 
+def lines_decided(count: int) -> List[str]:
+    """The lines that so many marks of two lines decide."""
+    lines = CALL_AND_REPLY_LINES.splitlines(keepends=True)
+    return [line for line, decided in zip(lines, DECIDED_TWO) if decided <= count]
+
+
 def failing_reads() -> Iterator[Counted]:
     """Each read of one octet fails in turn: the lines that the octets before it decide are there."""
     failed = fault("read failed")
@@ -76,11 +114,15 @@ def failing_reads() -> Iterator[Counted]:
         case = named(LIST, f"where read {number} fails")
         case = replace(case, stdout=stdout, stderr=failed, status=2)
         yield Counted(case, piece=1, failing_read=number, reads=number)
-    for whole in [CHECK, LIST_PACKED, ENCODE]:
+    for whole in [CHECK, LIST_PACKED, ENCODE, LIST_TWO, PACKED_TWO, CHECK_TWO]:
         for number in range(1, len(whole.stdin) + 2):
             stdout = ""
             if whole is LIST_PACKED and number > len(PACKED):
                 stdout = CALL_LINE
+            if whole is LIST_TWO:
+                stdout = "".join(lines_decided(number - 1))
+            if whole is PACKED_TWO and number > len(PACKED_TWO.stdin):
+                stdout = AT_ONE_PLACE_LINES
             if whole is ENCODE:
                 lines = ENCODE.stdout.splitlines(keepends=True)
                 stdout = "".join(lines[: THREE[: number - 1].count(b"\n")])
@@ -107,11 +149,19 @@ def failing_writes() -> Iterator[Counted]:
 
 def lines_in_time() -> Iterator[Counted]:
     """A line goes out before the next read: where it can't, no further read comes. The call is decided
-    by the 57th octet, and its reply by the 106th."""
+    by the 57th octet, and its reply by the 106th, of two lines by the 114th."""
     for piece in [1, 60]:
         for room in range(len(ANSWERED_LINES)):
             decided = 57 if room < len(CALL_LINE) else 106
             row = with_room(LIST, room, piece)
+            yield replace(
+                row,
+                case=named(row.case, f"by reads of {piece}"),
+                reads=-(-decided // piece),
+            )
+        for room in range(len(CALL_AND_REPLY_LINES)):
+            decided = next(count for count in DECIDED_TWO if room < len("".join(lines_decided(count))))
+            row = with_room(LIST_TWO, room, piece)
             yield replace(
                 row,
                 case=named(row.case, f"by reads of {piece}"),
@@ -194,6 +244,25 @@ IN_ORDER = [
     Counted(
         Case("nothing to check", ["check", "--bits"], stdout=report()),
         calls=["read 0", f"write {len(report())}"],
+    ),
+    Counted(
+        LIST_TWO,
+        calls=["read 114", f"write {len(CALL_AND_REPLY_LINES)}", "read 0"],
+    ),
+    Counted(
+        named(LIST_TWO, "by two reads"),
+        piece=60,
+        calls=["read 60", "write 59", "read 54", f"write {len(CALL_AND_REPLY_LINES) - 59}", "read 0"],
+    ),
+    Counted(
+        Case(
+            "three lines of the end of two",
+            ["list", "--bits", "--two", "--dict", CALLS],
+            marks(CALLED + "0", FLAG + "0" * 50),
+            "1 8 49 frame 108300fde5 station 16 type 0 call\n"
+            "1 57 58 open\n2 8 58 open\n1 8 49 pending station 16 type 0\n",
+        ),
+        calls=["read 58", "write 47", "read 0", "write 58"],
     ),
     Counted(CHECK, calls=["read 138", "read 0", f"write {len(MISSING_AND_SPOILT_REPORT)}"]),
     Counted(
@@ -305,17 +374,21 @@ def failing_pages() -> Iterator[Counted]:
 def cut_short() -> Iterator[Counted]:
     """Each shorter front of a packed capture: its head has 16 octets, and its last octet ends the flag
     without which no line is decided."""
-    for words in [["list", "--dict", CALLS], ["check", "--dict", CALLS]]:
-        for count in range(len(PACKED)):
-            why = "short head" if count < 16 else "short body"
-            case = Case(
-                f"{words[0]} of {count} octets of a packed capture",
-                words,
-                stdin=PACKED[:count],
-                stderr=fault(f"capture: {why}"),
-                status=2,
-            )
-            yield Counted(case)
+    for form, options, capture in [
+        ("a packed capture", [], PACKED),
+        ("a packed capture of two lines", ["--two"], PACKED_TWO.stdin),
+    ]:
+        for command in ["list", "check"]:
+            for count in range(len(capture)):
+                why = "short head" if count < 16 else "short body"
+                case = Case(
+                    f"{command} of {count} octets of {form}",
+                    [command, *options, "--dict", CALLS],
+                    stdin=capture[:count],
+                    stderr=fault(f"capture: {why}"),
+                    status=2,
+                )
+                yield Counted(case)
 
 
 def many_spaces() -> Iterator[Counted]:
@@ -324,20 +397,25 @@ def many_spaces() -> Iterator[Counted]:
     for piece in [4097, None]:
         case = replace(LIST, name=f"many spaces, by reads of {piece or 'any size'}", stdin=wide)
         yield Counted(case, piece=piece)
+    wide = b"".join(bytes([mark]) + b" " * 5000 for mark in LIST_TWO.stdin)
+    for piece in [4097, None]:
+        case = replace(LIST_TWO, name=f"many spaces, two lines, by reads of {piece or 'any size'}", stdin=wide)
+        yield Counted(case, piece=piece)
 
 
 def bad_marks() -> Iterator[Counted]:
     """The place of a bad octet counts the octets of all reads."""
-    for command in ["list", "check"]:
-        case = Case(
-            f"a bad octet to {command}",
-            [command, "--bits"],
-            stdin=b"01111110 2",
-            stderr=fault("capture: octet 9 is no bit"),
-            status=2,
-        )
-        for piece in [1, 4, 9, 10]:
-            yield Counted(named(case, f"by reads of {piece}"), piece=piece)
+    for options, stdin in [(["--bits"], b"01111110 2"), (["--bits", "--two"], b"01232310 4")]:
+        for command in ["list", "check"]:
+            case = Case(
+                f"a bad octet to {command}",
+                [command, *options],
+                stdin=stdin,
+                stderr=fault("capture: octet 9 is no bit"),
+                status=2,
+            )
+            for piece in [1, 4, 9, 10]:
+                yield Counted(named(case, f"by reads of {piece} {options[-1]}"), piece=piece)
 
 
 def long_lines() -> Iterator[Counted]:

@@ -87,6 +87,13 @@ def text(*parts: str) -> bytes:
     return "".join(parts).encode()
 
 
+def marks(first: str, second: str) -> bytes:
+    """A text capture of two lines, of as many bits each: a mark is the first line's bit and twice the second's."""
+    pairs = list(zip(first.replace(" ", ""), second.replace(" ", "")))
+    assert len(pairs) == len(first.replace(" ", "")) == len(second.replace(" ", ""))
+    return "".join(str(int(bit) + 2 * int(other)) for bit, other in pairs).encode()
+
+
 def fcs(octets: bytes) -> bytes:
     """The check of a frame, in the order sent."""
     register = 0xFFFF
@@ -110,8 +117,17 @@ def packed(bits: str) -> bytes:
     return b"TS2BITS1" + len(bits).to_bytes(8, "little") + body
 
 
+def packed_pairs(first: str, second: str) -> bytes:
+    """A packed capture of two lines: the bits of a pair stand side by side, the first line's lower."""
+    octets = marks(first, second).decode()
+    pairs = "".join(f"{int(mark):02b}"[::-1] for mark in octets)
+    return b"TS2BITS2" + len(octets).to_bytes(8, "little") + packed(pairs)[16:]
+
+
 assert fcs(b"123456789") == bytes.fromhex("6e90")
 assert sent(bytes.fromhex("108300")) == CALL.replace(" ", "")
 assert sent(bytes.fromhex("ff8309")) == NOTICE.replace(" ", "")
 assert sent(bytes.fromhex("1083fe")) == TYPE_254.replace(" ", "")
 assert packed((FLAG + CALL + FLAG).replace(" ", "")) == PACKED
+assert marks("0101", "0011") == b"0123"
+assert packed_pairs(IDLE, IDLE) == bytes.fromhex("5453324249545332 0f00000000000000 ffffff3f")

@@ -10,6 +10,7 @@ from .case import Case, Refusals
 from .checks import CHECKS
 from .encodes import ENCODES
 from .lists import LISTS
+from .pairs import PAIRS
 from .shows import SHOWS
 from .words import WORDS
 
@@ -33,6 +34,10 @@ REFUSALS = [
     Refusals(found(CHECKS, "of missing and spoilt"), needless=9),
     Refusals(found(CHECKS, "of a packed capture"), needless=7),
     Refusals(found(CHECKS, "1024 of 1025 frames"), needless=9),
+    Refusals(found(PAIRS, "a call and its reply"), needless=10),
+    Refusals(found(PAIRS, "packed, idle lines"), needless=6),
+    Refusals(found(PAIRS, "check: a call and its reply"), needless=10),
+    Refusals(found(PAIRS, "packed, of one line taken for two"), needless=6),
     Refusals(found(SHOWS, "a state and its bits"), needless=9),
     Refusals(found(SHOWS, "without a dictionary"), needless=6),
     Refusals(found(SHOWS, "an odd number of digits"), needless=6),

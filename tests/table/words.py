@@ -139,6 +139,9 @@ UNKNOWN_WORDS = [
     unexpected(["encode", "more"], "more"),
     unexpected(["encode", "--bits"], "--bits"),
     unexpected(["encode", "--dict", CALLS], "--dict"),
+    unexpected(["--two"], "--two"),
+    unexpected(["show", "--two", "1013ccb8"], "--two", tip="to pass '--two' as a value, use '-- --two'"),
+    unexpected(["encode", "--two"], "--two"),
 ]
 
 VALUES = [
@@ -176,7 +179,15 @@ VALUES = [
             usage="port1 list --bits",
         ),
     ),
+    refusal(
+        ["check", "--two=1"],
+        error(
+            "unexpected value '1' for '--two' found; no more were expected",
+            usage="port1 check --two",
+        ),
+    ),
     twice(["list", "--bits", "--bits"], "--bits"),
+    twice(["check", "--two", "--two"], "--two"),
     twice(["list", "--origin", "1", "--origin", "1"], "--origin <N>"),
     twice(["check", "--dict", CALLS, "--dict", CALLS], "--dict <TEXT>"),
     refusal(

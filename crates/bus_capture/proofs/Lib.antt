@@ -1,5 +1,16 @@
+pub mod FewLemmas
+pub mod GatherLemmas
+pub mod HeadedLemmas
+pub mod OneLineLemmas
+pub mod PutLemmas
+pub mod TwoLinesLemmas
 pub mod WordLemmas
 pub mod WatchingLemmas
 pub mod CapturesLemmas
 pub mod SessionsTextLemmas
 pub mod SessionsPackedLemmas
+pub mod ReportLemmas
+pub mod ReadingLemmas
+pub mod ListsLemmas
+pub mod KnownLemmas
+pub mod ChecksLemmas

@@ -25,6 +25,7 @@ use Rattle.bus_text.specs.declared.fault.ToolFault.TheVariants as fault
 use Rattle.bus_text.specs.declared.page.Page.{Page}
 use Rattle.bus_text.proofs.ListingLemmas.{listing-append}
 use Rattle.bus_text.proofs.PagesLemmas.{pages-more}
+use Rattle.bus_capture.proofs.FewLemmas.{few-within}
 
 -- the lines of more are the lines, and more
 pub printed-append : (p : Option Printer) (d : List FrameType) (xs ys : List SeenReport) → printed p d (xs ++ ys) ≡ printed p d xs ++ printed p d ys
@@ -57,21 +58,6 @@ item-next b xs i x d h is = grind (arith, common_steps)
 
 drop-drop : {X : Type 0} (i n : ℕ) (xs : List X) → drop n (drop i xs) ≡ drop (i + n) xs
 drop-drop i n xs = grind (arith, common_steps)
-
--- fewer are few
-pub few-within : (n m : ℕ) (s : Summary) → n ≤ m → IsFew n s → IsFew m s
-few-within n m s le h = record {
-  frames = let x = h.frames in omega (arith, le);
-  damaged = let x = h.damaged in omega (arith, le);
-  overlong = let x = h.overlong in omega (arith, le);
-  aborts = let x = h.aborts in omega (arith, le);
-  idles = let x = h.idles in omega (arith, le);
-  strays = let x = h.strays in omega (arith, le);
-  answered = let x = h.answered in omega (arith, le);
-  missing = let x = h.missing in omega (arith, le);
-  spoilt = let x = h.spoilt in omega (arith, le);
-  late = let x = h.late in omega (arith, le);
-}
 
 -- the places of symbols that were taken
 pub below : (place : ℕ) → (2 ^ 60 < place → false ≡ true) → place ≤ 2 ^ 60

@@ -13,11 +13,7 @@ use bus_text::{Page, ShortWrite, Summary, put_summary, put_tally};
 use std::io::Write;
 
 /// Puts a line for each station with a verdict on the page, by rising number.
-fn put_tallies<T: Tap, W: Write>(
-    analyser: &T,
-    page: &mut Page,
-    w: &mut W,
-) -> Result<(), ShortWrite>
+fn put_tallies<T: Tap, W: Write>(analyser: &T, page: &mut Page, w: &mut W) -> Result<(), ShortWrite>
     requires { page.old.written + array_string_len page.old.text < 2 ^ 90 }
     ensures put { (start : Option (List ℕ)) (text : List ℕ) (b : List T.Symbol) →
         T.tap.watch.is_after analyser.now b →
@@ -38,11 +34,7 @@ fn put_tallies<T: Tap, W: Write>(
 }
 
 /// Puts the frames of the history on the page, the oldest first.
-fn put_history<T: Tap, W: Write>(
-    analyser: &T,
-    page: &mut Page,
-    w: &mut W,
-) -> Result<(), ShortWrite>
+fn put_history<T: Tap, W: Write>(analyser: &T, page: &mut Page, w: &mut W) -> Result<(), ShortWrite>
     requires { page.old.written + array_string_len page.old.text < 2 ^ 95 }
     ensures put { (start : Option (List ℕ)) (text : List ℕ) (b : List T.Symbol) →
         T.tap.watch.is_after analyser.now b →

@@ -32,7 +32,12 @@ impl<T: Tap> CaptureRun<T> {
     /// Takes symbols up to the first that may decide a report, and puts the lines of that on the page.
     /// Returns how many it took.
     #[inline(always)]
-    fn take_some<W: Write>(&mut self, word: T::Word, count: u32, w: &mut W) -> Result<u32, ToolFault>
+    fn take_some<W: Write>(
+        &mut self,
+        word: T::Word,
+        count: u32,
+        w: &mut W,
+    ) -> Result<u32, ToolFault>
         requires sound { IsSound T.tap self.old }
         requires some { 1 ≤ count }
         requires few { count ≤ 48 }
@@ -102,7 +107,12 @@ impl<T: Tap> CaptureRun<T> {
 
     /// Takes up to 48 symbols, up to the first that can't be taken.
     #[inline(always)]
-    pub fn take_word<W: Write>(&mut self, word: T::Word, count: u32, w: &mut W) -> Result<(), ToolFault>
+    pub fn take_word<W: Write>(
+        &mut self,
+        word: T::Word,
+        count: u32,
+        w: &mut W,
+    ) -> Result<(), ToolFault>
         requires sound { IsSound T.tap self.old }
         requires few { count ≤ 48 }
         requires small { T.tap.fits count word }
@@ -126,7 +136,12 @@ impl<T: Tap> CaptureRun<T> {
 
     /// Takes symbols as `take_some` does; where not all have a place, the first alone.
     #[inline(always)]
-    fn take_front<W: Write>(&mut self, word: T::Word, count: u32, w: &mut W) -> Result<u32, ToolFault>
+    fn take_front<W: Write>(
+        &mut self,
+        word: T::Word,
+        count: u32,
+        w: &mut W,
+    ) -> Result<u32, ToolFault>
         requires sound { IsSound T.tap self.old }
         requires some { 1 ≤ count }
         requires few { count ≤ 48 }
@@ -148,7 +163,11 @@ impl<T: Tap> CaptureRun<T> {
 
     /// Takes some symbols, up to the first that can't be taken.
     #[inline(always)]
-    pub fn take_symbols<W: Write>(&mut self, symbols: &[T::Symbol], w: &mut W) -> Result<(), ToolFault>
+    pub fn take_symbols<W: Write>(
+        &mut self,
+        symbols: &[T::Symbol],
+        w: &mut W,
+    ) -> Result<(), ToolFault>
         requires { IsSound T.tap self.old }
         ensures taken { (start : Option (List ℕ)) (b : List T.Symbol) →
             Watches T.tap start (W.contents w.old) self.old b → MatchResult result

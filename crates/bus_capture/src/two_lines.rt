@@ -84,18 +84,6 @@ fn put_on<C: Check>(analyser: &PairAnalyser<C>, line: Line, printer: &Printer, p
     }
 }
 
-/// At most four pairs, with room for eight.
-fn roomier(pairs: &[(bool, bool)]) -> ArrayVec<(bool, bool), 8>
-    requires { length pairs.now ≤ 4 }
-    ensures { result.items ≡ pairs.now }
-{
-    let mut all = ArrayVec::new();
-    for pair in pairs {
-        all.push(*pair);
-    }
-    all
-}
-
 impl<C: Check> Tap for PairAnalyser<C> {
     ghost use Rattle.bus_capture.specs.Internal.TwoLines.{pair_tap};
 
@@ -105,7 +93,7 @@ impl<C: Check> Tap for PairAnalyser<C> {
 
     type Body = PackedPairs;
 
-    type Few = ArrayVec<(bool, bool), 8>;
+    type Few = ArrayVec<(bool, bool), 4>;
 
     ghost tap = { pair_tap C.folded C.COST };
 
@@ -215,10 +203,12 @@ impl<C: Check> Tap for PairAnalyser<C> {
     }
 
     #[inline(always)]
-    fn take_octet(body: &mut PackedPairs, octet: u8) -> Result<ArrayVec<(bool, bool), 8>, PackedFault> {
+    fn take_octet(
+        body: &mut PackedPairs,
+        octet: u8,
+    ) -> Result<ArrayVec<(bool, bool), 4>, PackedFault> {
         pairs_are_head_and_body();
-        let pairs = body.step(octet)?;
-        Ok(roomier(pairs.as_slice()))
+        body.step(octet)
     }
 
     fn finish(body: &PackedPairs) -> Result<(), PackedFault> {

@@ -199,7 +199,14 @@ impl Printer {
         };
         let line = line_of_commands(line);
         let kind = outcome_kind(verdict.outcome);
-        self.put_frame(line, kind, verdict.span, verdict.station, verdict.ftype, page);
+        self.put_frame(
+            line,
+            kind,
+            verdict.span,
+            verdict.station,
+            verdict.ftype,
+            page,
+        );
     }
 
     /// Puts the line of a stray on the page, if there is a dictionary and its type is known.

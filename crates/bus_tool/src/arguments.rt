@@ -65,6 +65,13 @@ fn bits_arg<'a>(alloc: Global) -> Arg<'a> {
         .help("The capture is text; without this it is packed")
 }
 
+fn two_arg<'a>(alloc: Global) -> Arg<'a> {
+    Arg::new(alloc, "two")
+        .long("two")
+        .action(ArgAction::SetTrue)
+        .help("The capture is of two lines; without this it is of one")
+}
+
 fn depth_arg<'a>(alloc: Global) -> Arg<'a> {
     Arg::new(alloc, "depth")
         .long("depth")
@@ -100,6 +107,7 @@ fn list_command<'a>(alloc: Global) -> Result<Command<'a>, Error> {
             .arg(dictionary_arg(alloc))?
             .arg(origin_arg(alloc))?
             .arg(bits_arg(alloc))?
+            .arg(two_arg(alloc))?
             .arg(octet_arg(alloc, "station", "Only lines of this station, 0 to 255"))?
             .arg(octet_arg(alloc, "type", "Only lines of this frame type, 0 to 255"))?
             .arg(kind_arg(alloc))?
@@ -114,6 +122,7 @@ fn check_command<'a>(alloc: Global) -> Result<Command<'a>, Error> {
             .arg(dictionary_arg(alloc))?
             .arg(origin_arg(alloc))?
             .arg(bits_arg(alloc))?
+            .arg(two_arg(alloc))?
             .arg(depth_arg(alloc))?
             .after_help(help::CHECK),
     )
@@ -155,11 +164,12 @@ fn whole_command<'a>(alloc: Global) -> Result<Command<'a>, Error> {
     )
 }
 
-/// A listing of a text capture, of each line, without a dictionary.
+/// A listing of a text capture of one line, with every line of text, without a dictionary.
 fn plain_listing<'a>() -> Options<'a> {
     Options {
         dictionary: None,
         text: true,
+        two: false,
         origin: 0,
         depth: LISTED_DEPTH,
         station: None,
@@ -177,6 +187,7 @@ fn list_options<'a>(found: &ArgMatches<'a>) -> Result<Options<'a>, Refusal> {
     Ok(Options {
         dictionary: found.get_str("dict"),
         text: found.get_flag("bits"),
+        two: found.get_flag("two"),
         origin: found.get_one("origin").unwrap_or(0),
         station: found.get_one("station"),
         ftype: found.get_one("type"),
@@ -189,6 +200,7 @@ fn check_options<'a>(found: &ArgMatches<'a>) -> Options<'a> {
     Options {
         dictionary: found.get_str("dict"),
         text: found.get_flag("bits"),
+        two: found.get_flag("two"),
         origin: found.get_one("origin").unwrap_or(0),
         depth: found.get_one("depth").unwrap_or(CHECKED_DEPTH),
         ..plain_listing()

@@ -28,6 +28,7 @@ pub record FormLaws {X : Type 0} (f : Form X) : Type 0 where
   pub same : (xs : List ℕ) → (f.packed_whole xs).bits ≡ (f.packed xs).bits
   pub short : (xs : List ℕ) → length xs < 16 → (f.packed xs ≡ record { bits = []; fault = None }) × (f.packed_whole xs ≡ record { bits = []; fault = Some short_head })
   pub places : (origin : ℕ) (c d : CaptureOf X) → GrowsTo c d → GrowsTo (capped origin c) (capped origin d)
+  pub silent : (origin longest : ℕ) → f.hears origin longest [] ≡ []
   pub seen : (d : List FrameType) (longest origin : ℕ) (b more : List X) → SeenOn f d longest origin b more
 
 pub record TapLaws {A X N B : Type 0} (t : TapView A X N B) : Type 0 where

@@ -15,6 +15,12 @@ line ends are skipped. A packed capture begins with the eight octets TS2BITS1 an
 of its bits as eight octets, the lowest first; then come the bits, eight in each octet, the
 first of them lowest, and the bits of the last octet that are not used are 0.
 
+A capture of two lines, for --two, has two bits at each place: the first of the controller's
+line, the second of the answering line. In a text this is one octet, 0 to 3: the first bit, plus
+2 where the second is 1. A packed one begins with TS2BITS2, and has pairs where the other has
+bits: their number, then four in each octet, the first of them lowest, and the first bit of
+each pair below the second.
+
 Output goes to standard output, faults to standard error. The status is 0, or 1 where `check`
 found a damaged or overlong piece or a command that was missed, spoilt or answered late, or 2
 for any fault.
@@ -40,11 +46,17 @@ place, the place past the last bit, and what stands there. Places count bits.
 A line without a station or type is left out where --station or --type asks for one. Without
 a dictionary no type is known: no command waits, and strays have no line.
 
+With --two each line of text begins with 1 or 2, the line of the bus that it is about. Commands
+wait on the first and answers come on the second, so answered, missing, spoilt, late and
+pending stand behind a 1. A place counts pairs of bits, and is the same on both.
+
 The status is 0, or 2 for any fault, told on standard error behind the lines before it.
 
 Likely causes of faults:
-  capture: wrong magic        the capture is text: add --bits
+  capture: wrong magic        the capture is text: add --bits; or --two is missing, or is given
+                              for a capture of one line
   capture: octet 0 is no bit  the capture is packed: leave out --bits
+  capture: octet N is no bit  that octet is 2 or 3, for two lines: add --two
   dictionary: not TOML        a path in place of the text: write --dict \"$(cat FILE)\"
   write failed                the reader of the pipe has gone, as `head` does
 
@@ -60,14 +72,19 @@ overlong pieces, aborts, idle lines and strays there were, how many commands wer
 missing, spoilt and answered late, these four again for each station that has any, and the last
 frames with their places, the oldest first. Where the capture has a fault, nothing is written.
 
+With --two the counts are those of both lines together, and 1 or 2 behind `last` is the line
+of the frame.
+
 The status is 0; 1 where anything was damaged, overlong, missing, spoilt or late; 2 for any
 fault, told on standard error. It is 0 with aborts, idle lines and strays, with a piece that is
 open or a command that waits at the end, and for an empty capture: look at the counts, and at
 what `list --kind open` and `list --kind pending` write.
 
 Likely causes of faults:
-  capture: wrong magic        the capture is text: add --bits
+  capture: wrong magic        the capture is text: add --bits; or --two is missing, or is given
+                              for a capture of one line
   capture: octet 0 is no bit  the capture is packed: leave out --bits
+  capture: octet N is no bit  that octet is 2 or 3, for two lines: add --two
   dictionary: not TOML        a path in place of the text: write --dict \"$(cat FILE)\"
   write failed                the reader of the pipe has gone, as `head` does
 

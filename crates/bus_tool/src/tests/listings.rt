@@ -32,13 +32,19 @@ pub fn spaced(alloc: Global, capture: &[u8], spaces: usize) -> Result<Vec<u8>, A
 
 #[test]
 fn endless_reader(rt: HostRuntime) {
-    let options = Options {
-        reads: 20,
-        ..of_text(None)
-    };
-    for (checks, text) in [(false, "0 15 idle\n"), (true, "")] {
+    for (two, checks, octets, text) in [
+        (false, false, b"1", "0 15 idle\n"),
+        (false, true, b"1", ""),
+        (true, false, b"3", "1 0 15 idle\n2 0 15 idle\n"),
+        (true, true, b"3", ""),
+    ] {
+        let options = Options {
+            reads: 20,
+            two,
+            ..of_text(None)
+        };
         let mut reader = Repeated {
-            octets: b"1",
+            octets,
             left: u64::MAX,
             calls: 0,
         };
@@ -131,11 +137,33 @@ fn judged_before(rt: HostRuntime) {
     }
 }
 
+/// Both lines of a place are told, and the text is flushed once, also where a mark behind it is bad.
+#[test]
+fn flushes_of_two_lines(rt: HostRuntime) {
+    let bad = ToolFault::BadMark { at: 15 };
+    let cases = [
+        (false, Some(bad), 24),
+        (true, Some(ToolFault::Write { written: 24 }), 24),
+    ];
+    for (fails, want, octets) in cases {
+        let options = Options {
+            two: true,
+            ..of_text(None)
+        };
+        let mut reader: &[u8] = b"3333333333333334";
+        let mut writer = Narrow::new(rt.alloc(), 1000, fails);
+        let ending = list_capture(rt.alloc(), &options, &mut reader, &mut writer);
+        assert_eq!(rt; ending.err(), want);
+        assert_eq!(rt; (writer.out.len(), writer.flushes), (octets, 1));
+    }
+}
+
 /// A call, and the flag behind it.
 const CALL_AND_FLAG: &[u8] = b"00001000 11000001 00000000 101111101 10100111 01111110";
 
 /// To be run with each request for memory refused in turn. A refusal comes before the first read
-/// and write, and the next attempt succeeds. The first of the calls has no flag before it.
+/// and write, and the next attempt succeeds. The first of the calls has no flag before it. As marks of
+/// two lines the capture says the same of the first line, and nothing of the second.
 #[test]
 fn refused_memory(rt: HostRuntime) {
     let want = Summary {
@@ -143,7 +171,7 @@ fn refused_memory(rt: HostRuntime) {
         missing: 1098,
         ..NONE
     };
-    for checks in [false, true] {
+    for (checks, two) in [(false, false), (true, false), (false, true), (true, true)] {
         let mut is_refused = false;
         for _attempt in 0..2 {
             let mut reader = Repeated {
@@ -154,6 +182,7 @@ fn refused_memory(rt: HostRuntime) {
             let mut writer = Counted::new();
             let options = Options {
                 depth: 1024,
+                two,
                 ..of_text(Some(CALLS))
             };
             let ending = run_over(checks, rt.alloc(), &options, &mut reader, &mut writer);

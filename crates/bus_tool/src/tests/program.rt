@@ -2,7 +2,10 @@
 
 use crate::fakes::{Fixed, Narrow};
 use crate::run;
-use crate::tests::worked::{CALL_TEXT, CALLS, ONE_CALL_TEXT, PACKED};
+use crate::tests::worked::{
+    CALL_ON_FIRST, CALL_TEXT, CALLS, ONE_CALL_TEXT, PACKED, PACKED_TWO, REPLY_ON_SECOND,
+    TWO_LINES_REPORT, TWO_LINES_TEXT, marked,
+};
 use std::alloc::Global;
 use std::process::Abort;
 
@@ -46,14 +49,32 @@ fn stored_runs(rt: HostRuntime) {
     see(&rt, rt.alloc(), &["check", "--bits"], b"1 2", (2, "", told));
 }
 
+/// A capture of two lines, listed and checked.
+#[test]
+fn two_lines(rt: HostRuntime) {
+    let capture = marked(rt.alloc(), &CALL_ON_FIRST, &REPLY_ON_SECOND).expect(&rt, "memory");
+    for (command, text) in [("list", TWO_LINES_TEXT), ("check", TWO_LINES_REPORT)] {
+        let words = [command, "--two", "--bits", "--dict", CALLS];
+        see(&rt, rt.alloc(), &words, capture.as_slice(), (0, text, ""));
+    }
+    let text = "1 8 49 frame 108300fde5\n";
+    let words = ["list", "--two", "--kind", "frame"];
+    see(&rt, rt.alloc(), &words, &PACKED_TWO, (0, text, ""));
+    let told = "port1: capture: wrong magic\n";
+    see(&rt, rt.alloc(), &["list", "--two"], &PACKED, (2, "", told));
+    see(&rt, rt.alloc(), &["check"], &PACKED_TWO, (2, "", told));
+}
+
 /// A write that fails is not followed by a flush, and a text that was written by just one.
 #[test]
 fn writers_fail(rt: HostRuntime) {
-    let cases: [(&[&str], &[u8]); 6] = [
+    let cases: [(&[&str], &[u8]); 8] = [
         (&["--help"], IDLE),
         (&["--version"], IDLE),
         (&["list", "--bits"], IDLE),
         (&["check", "--bits"], IDLE),
+        (&["list", "--bits", "--two"], IDLE),
+        (&["check", "--bits", "--two"], IDLE),
         (&["show", "108300fde5"], IDLE),
         (&["encode"], b"idle\n"),
     ];
@@ -92,20 +113,33 @@ fn deaf_faults(rt: HostRuntime) {
 /// next attempt succeeds.
 #[test]
 fn refused_memory(rt: HostRuntime) {
-    let cases: [(&[&str], &str); 2] = [
-        (&["list", "--dict", CALLS, "--origin", "0"], ONE_CALL_TEXT),
-        (&["show", "--dict", CALLS, "108300fde5"], SHOWN_CALL),
+    let cases: [(&[&str], &[u8], &str); 3] = [
+        (
+            &["list", "--dict", CALLS, "--origin", "0"],
+            &PACKED,
+            ONE_CALL_TEXT,
+        ),
+        (
+            &["list", "--two", "--dict", CALLS, "--kind", "pending"],
+            &PACKED_TWO,
+            "1 8 49 pending station 16 type 0\n",
+        ),
+        (
+            &["show", "--dict", CALLS, "108300fde5"],
+            &PACKED,
+            SHOWN_CALL,
+        ),
     ];
-    for (words, text) in cases {
+    for (words, capture, text) in cases {
         let mut is_refused = false;
         for _attempt in 0..2 {
-            let mut reader = PACKED.as_slice();
+            let mut reader = capture;
             let mut writer = Fixed::new();
             let mut told = Fixed::new();
             let status = run(rt.alloc(), words, &mut reader, &mut writer, &mut told);
             if status == 2 {
                 assert!(rt; !is_refused);
-                assert_eq!(rt; reader.len(), PACKED.len());
+                assert_eq!(rt; reader.len(), capture.len());
                 assert!(rt; writer.out.is_empty());
                 assert_eq!(rt; told.out.as_slice(), "port1: no memory\n".as_bytes());
                 is_refused = true;

@@ -1,9 +1,9 @@
 //! What listings and checks answer of worked captures.
 
 use crate::tests::worked::{
-    ANSWERED, CALL, CALL_AND_REPLY, CALL_AND_REPLY_TEXT, CALL_TEXT, CALLS, FLAG, IDLE,
-    MISSING_AND_SPOILT, MISSING_AND_SPOILT_TEXT, NONE, ONE_CALL_TEXT, REPLY, SHORT, WITHIN, joined,
-    of_text,
+    ANSWERED, CALL, CALL_AND_REPLY, CALL_AND_REPLY_TEXT, CALL_ON_FIRST, CALL_TEXT, CALLS, FLAG,
+    IDLE, MISSING_AND_SPOILT, MISSING_AND_SPOILT_TEXT, NONE, ONE_CALL_TEXT, REPLY, REPLY_ON_SECOND,
+    SHORT, TWO_LINES, TWO_LINES_TEXT, WITHIN, joined, marked, of_text,
 };
 use crate::{Kind, Options, Summary, ToolFault, check_capture, list_capture};
 use std::alloc::Global;
@@ -28,20 +28,32 @@ fn see(
     text: &str,
 ) {
     let capture = joined(alloc, parts).expect(rt, "memory");
-    let mut reader = capture.as_slice();
+    see_octets(rt, alloc, options, capture.as_slice(), want, text);
+}
+
+/// The same of a capture by its octets.
+fn see_octets(
+    rt: &impl Abort,
+    alloc: Global,
+    options: &Options<'_>,
+    capture: &[u8],
+    want: Result<Summary, ToolFault>,
+    text: &str,
+) {
+    let mut reader = capture;
     let mut out = Vec::new(alloc);
     let listed = list_capture(alloc, options, &mut reader, &mut out);
     assert_eq!(rt;
         std::str::from_utf8(out.as_slice()).ok(),
         Some(text),
-        "{parts:?}"
+        "{capture:?}"
     );
-    assert_eq!(rt; listed, want, "{parts:?}");
-    let mut reader = capture.as_slice();
+    assert_eq!(rt; listed, want, "{capture:?}");
+    let mut reader = capture;
     let mut report = Vec::new(alloc);
     let checked = check_capture(alloc, options, &mut reader, &mut report);
-    assert_eq!(rt; checked, want, "{parts:?}");
-    assert_eq!(rt; report.is_empty(), want.is_err(), "{parts:?}");
+    assert_eq!(rt; checked, want, "{capture:?}");
+    assert_eq!(rt; report.is_empty(), want.is_err(), "{capture:?}");
 }
 
 #[test]
@@ -213,6 +225,60 @@ fn bad_marks(rt: HostRuntime) {
         &[FLAG, CALL, FLAG, "x", FLAG],
         later,
         CALL_TEXT,
+    );
+}
+
+/// A call on the first line and its reply on the second.
+#[test]
+fn two_lines(rt: HostRuntime) {
+    let options = Options {
+        two: true,
+        ..of_text(Some(CALLS))
+    };
+    let capture = marked(rt.alloc(), &CALL_ON_FIRST, &REPLY_ON_SECOND).expect(&rt, "memory");
+    see_octets(
+        &rt,
+        rt.alloc(),
+        &options,
+        capture.as_slice(),
+        Ok(TWO_LINES),
+        TWO_LINES_TEXT,
+    );
+}
+
+const SAME_PLACE_TEXT: &str = "\
+1 8 49 frame 108300fde5 station 16 type 0 call
+2 8 49 frame 108380f561 station 16 type 128 reply
+1 8 49 answered station 16 type 0
+";
+
+/// Both frames end at one place, behind which there may be none.
+#[test]
+fn two_at_one_place(rt: HostRuntime) {
+    let options = Options {
+        two: true,
+        ..of_text(Some(CALLS))
+    };
+    let mut capture = marked(rt.alloc(), &[FLAG, CALL, FLAG], &[FLAG, REPLY, FLAG]).expect(
+        &rt, "memory",
+    );
+    see_octets(
+        &rt,
+        rt.alloc(),
+        &options,
+        capture.as_slice(),
+        Ok(ANSWERED),
+        SAME_PLACE_TEXT,
+    );
+    capture.push(b'4').expect(&rt, "memory");
+    let bad = Err(ToolFault::BadMark { at: 57 });
+    see_octets(
+        &rt,
+        rt.alloc(),
+        &options,
+        capture.as_slice(),
+        bad,
+        SAME_PLACE_TEXT,
     );
 }
 

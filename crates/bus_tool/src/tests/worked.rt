@@ -64,6 +64,46 @@ last 8 49 108300fde5
 last 57 98 108380f561
 ";
 
+/// Fifty-seven ones, as many bits as a call and its flags have.
+pub const REST: &str = "111111111111111 111111111111111 111111111111111 111111111111";
+
+/// A call on the first of two lines, and behind it the reply on the second, 114 places.
+pub const CALL_ON_FIRST: [&str; 4] = [FLAG, CALL, FLAG, REST];
+
+pub const REPLY_ON_SECOND: [&str; 4] = [REST, FLAG, REPLY, FLAG];
+
+pub const TWO_LINES_TEXT: &str = "\
+2 0 15 idle
+1 8 49 frame 108300fde5 station 16 type 0 call
+1 57 72 idle
+2 65 106 frame 108380f561 station 16 type 128 reply
+1 8 49 answered station 16 type 0
+";
+
+pub const TWO_LINES_REPORT: &str = "\
+frames 2
+damaged 0
+overlong 0
+aborts 0
+idles 2
+strays 0
+answered 1
+missing 0
+spoilt 0
+late 0
+station 16 answered 1 missing 0 spoilt 0 late 0
+last 1 8 49 108300fde5
+last 2 65 106 108380f561
+";
+
+/// What is counted in them.
+pub const TWO_LINES: Summary = Summary {
+    frames: 2,
+    idles: 2,
+    answered: 1,
+    ..NONE
+};
+
 /// A dictionary whose longest frame has three octets.
 pub const CALLS: &str = r#"version = 1
 [[frame]]
@@ -115,6 +155,12 @@ pub const PACKED: [u8; 24] = [
     0x00, 0x7d, 0xcb, 0xfd, 0x00,
 ];
 
+/// A packed capture of two lines: the call on the first, and the second 0 all the time.
+pub const PACKED_TWO: [u8; 31] = [
+    0x54, 0x53, 0x32, 0x42, 0x49, 0x54, 0x53, 0x32, 57, 0, 0, 0, 0, 0, 0, 0, 0x54, 0x15, 0x00,
+    0x01, 0x05, 0x40, 0x00, 0x00, 0x51, 0x15, 0x45, 0x50, 0x51, 0x55, 0x00,
+];
+
 /// A text capture by its parts, of which spaces are left out.
 pub fn joined(alloc: Global, parts: &[&str]) -> Result<Vec<u8>, AllocError> {
     let mut capture = Vec::new(alloc);
@@ -128,11 +174,29 @@ pub fn joined(alloc: Global, parts: &[&str]) -> Result<Vec<u8>, AllocError> {
     Ok(capture)
 }
 
+/// A text capture of two lines by the parts of each, of which spaces are left out. They have as many
+/// bits.
+pub fn marked(alloc: Global, first: &[&str], second: &[&str]) -> Result<Vec<u8>, AllocError> {
+    let first = joined(alloc, first)?;
+    let second = joined(alloc, second)?;
+    let mut capture = Vec::new(alloc);
+    for (bit, other) in first.iter().zip(second.iter()) {
+        capture.push(match (*bit, *other) {
+            (b'0', b'0') => b'0',
+            (_, b'0') => b'1',
+            (b'0', _) => b'2',
+            _ => b'3',
+        })?;
+    }
+    Ok(capture)
+}
+
 /// A text capture from place 0 on, of which everything is listed, and all frames are kept.
 pub fn of_text(dictionary: Option<&str>) -> Options<'_> {
     Options {
         dictionary,
         text: true,
+        two: false,
         origin: 0,
         depth: 16,
         station: None,

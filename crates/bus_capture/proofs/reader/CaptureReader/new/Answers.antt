@@ -1,0 +1,25 @@
+use Rattle.std.proofs.Common.{◌≡◌, None, arith, [], refl, sym, ap, ◌∙◌, subst}
+use Rattle.bus_bits.specs.Capture.{CaptureOf}
+use Rattle.bus_capture.specs.Internal.Watching.{Watches}
+use Rattle.bus_capture.specs.Internal.Sessions.{Follows, IsRead}
+use Rattle.bus_capture.specs.declared.reader.Source.{Source}
+use Rattle.bus_capture.specs.declared.run.CaptureRun.{CaptureRun}
+use Rattle.bus_capture.proofs.ReadingLemmas.{watched-none}
+use Rattle.bus_capture.proofs.reader.CaptureReader.new.Goals as goal
+use Rattle.bus_capture.proofs.reader.CaptureReader.new.Goals.{then-options, else-options}
+
+pub returns-clause-fresh : goal.returns-clause-fresh
+returns-clause-fresh g c =
+    λ start.
+    let tap = g.T.Tap.tap in
+    let law = c.laws.ensures in
+    let run : CaptureRun g.row.T.Denot = record { analyser = c.in_ok-analyser.analyser; summary = c.none.result; printer = c.args.printer; page = c.new-2.result } in
+    let none = watched-none tap law start run c.in_ok-analyser.ensures.2.is_after c.none.ensures.none (c.new-2.ensures.blank start) in
+    let followed = λ (d : CaptureOf g.row.T-Symbol.Denot) (e : d ≡ record { bits = []; fault = None }). subst (λ (x : CaptureOf g.row.T-Symbol.Denot). Watches tap start start run x.bits) (sym e) none in
+    elim c.if-options.branch [
+      | then-options w ↦ subst (λ (s : Source g.row.T-Body.Denot). Follows tap start start s run []) (sym w.source-is) (record { at = refl; clean = ap (λ (d : CaptureOf g.row.T-Symbol.Denot). d.fault) law.form.blank; bits = followed (tap.form.text []) law.form.blank })
+      | else-options w ↦ subst (λ (s : Source g.row.T-Body.Denot). Follows tap start start s run []) (sym w.source-is) (record {
+        read = subst (λ b. IsRead tap w.new.result.head.items b []) (sym w.new.ensures.1) (w.new.ensures.0, omega arith);
+        bits = followed (tap.form.packed []) (law.form.short [] (omega arith)).0;
+      })
+    ]

@@ -1,0 +1,14 @@
+use Rattle.std.proofs.Common.{ℕ, ◌+◌, ◌*◌, ◌≤◌, List, ◌++◌, length, Option}
+use Rattle.bus_capture.specs.Internal.Watching.{heard_by}
+use Rattle.bus_watch.specs.History.{tally}
+use Rattle.bus_text.specs.CheckText.{tallies_text}
+use Rattle.bus_text.specs.Internal.Pages.{Pages}
+use Rattle.bus_capture.proofs.report.put_tallies.Given as goal
+
+-- the lines of the first stations were put
+abbrev pub invariant-loop-station : goal.invariant-loop-station
+invariant-loop-station g l = record {
+  few : l.page.written + length l.page.text.bytes ≤ l.fn.page.written + length l.fn.page.text.bytes + 140 * l.station;
+  put : (start : Option (List ℕ)) (text : List ℕ) (b : List g.row.T-Symbol.Denot) → g.T.Tap.tap.watch.is_after l.analyser b → Pages start (g.W.Write.contents l.fn.w) l.fn.page.text.bytes l.fn.page.written text
+      → Pages start (g.W.Write.contents l.w) l.page.text.bytes l.page.written (text ++ tallies_text (tally (g.T.Tap.tap.watch.dictionary l.analyser) (heard_by g.T.Tap.tap.watch l.analyser b)) l.station);
+}

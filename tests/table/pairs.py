@@ -1,0 +1,653 @@
+"""Rows of captures of two lines: of `list --two` and `check --two`.
+
+Both lines have as many bits. A line that has nothing to say rests at 1.
+"""
+
+from typing import Tuple
+
+from .captures import (
+    CALL,
+    CALLS,
+    CONTROL_19,
+    FLAG,
+    IDLE,
+    LAST_ORIGIN,
+    LONG,
+    NOTICE,
+    PACKED,
+    REPLY,
+    SHORT,
+    WITHIN,
+    WITHIN_1,
+    marks,
+    packed_pairs,
+    sent,
+    text,
+)
+from .case import Case, fault
+from .checks import report
+from .lists import KINDS, chosen
+
+# The bits of two lines.
+Lines = Tuple[str, str]
+
+TWO = ["list", "--bits", "--two"]
+
+BY_CALLS = [*TWO, "--dict", CALLS]
+
+PACKED_BY_CALLS = ["list", "--two", "--dict", CALLS]
+
+CHECK_BY_CALLS = ["check", "--bits", "--two", "--dict", CALLS]
+
+# Frames between two flags: the first two have 57 bits, the third 58.
+CALLED = FLAG + CALL.replace(" ", "") + FLAG
+
+REPLIED = FLAG + REPLY.replace(" ", "") + FLAG
+
+NOTICED = FLAG + NOTICE.replace(" ", "") + FLAG
+
+REST = "1" * 57
+
+# A call on the first line, and behind it the reply on the second.
+CALL_AND_REPLY = (CALLED + REST, REST + REPLIED)
+
+CALL_AND_REPLY_LINES = """\
+2 0 15 idle
+1 8 49 frame 108300fde5 station 16 type 0 call
+1 57 72 idle
+2 65 106 frame 108380f561 station 16 type 128 reply
+1 8 49 answered station 16 type 0
+"""
+
+CALL_AND_REPLY_REPORT = report(
+    "station 16 answered 1 missing 0 spoilt 0 late 0",
+    "last 1 8 49 108300fde5",
+    "last 2 65 106 108380f561",
+    frames=2,
+    idles=2,
+    answered=1,
+)
+
+# Both frames end at one place.
+AT_ONE_PLACE = (CALLED, REPLIED)
+
+AT_ONE_PLACE_LINES = """\
+1 8 49 frame 108300fde5 station 16 type 0 call
+2 8 49 frame 108380f561 station 16 type 128 reply
+1 8 49 answered station 16 type 0
+"""
+
+# The reply comes on the first line, where it answers nothing.
+ANSWER_ON_FIRST = (CALLED + REPLY.replace(" ", "") + FLAG, "1" * 106)
+
+ONE_CALL = (CALLED, REST)
+
+ONE_CALL_LINES = """\
+2 0 15 idle
+1 8 49 frame 108300fde5 station 16 type 0 call
+1 8 49 pending station 16 type 0
+"""
+
+# Lines of all kinds but `late`. The second call is followed by a notice before its reply comes; the third by damage on
+# the second line, where a long piece ends one bit before the call does.
+ALL_KINDS = (
+    CALLED + REST + CALLED + NOTICED + REST + CALLED + "1" * 40 + CALLED + "0",
+    "".join(
+        [
+            *[REST, REPLIED, "1" * 115, REPLIED, LONG, FLAG, SHORT, FLAG],
+            *["00001000", "1" * 49, FLAG, "00"],
+        ]
+    ),
+)
+
+ALL_KINDS_LINES = """\
+2 0 15 idle
+1 8 49 frame 108300fde5 station 16 type 0 call
+1 57 72 idle
+2 65 106 frame 108380f561 station 16 type 128 reply
+1 8 49 answered station 16 type 0
+2 114 129 idle
+1 122 163 frame 108300fde5 station 16 type 0 call
+1 179 221 frame ff83095a3b station 255 type 9 notice
+1 122 163 missing station 16 type 0
+1 229 244 idle
+2 237 278 frame 108380f561 station 16 type 128 reply
+2 237 278 stray station 16 type 128
+2 286 334 overlong
+1 294 335 frame 108300fde5 station 16 type 0 call
+1 343 358 idle
+2 342 366 damaged short
+1 294 335 spoilt station 16 type 0
+2 374 382 abort
+2 382 397 idle
+1 391 432 frame 108300fde5 station 16 type 0 call
+1 440 441 open
+2 439 441 open
+1 391 432 pending station 16 type 0
+"""
+
+# The packed form of one call on the first line.
+PACKED_CALL = packed_pairs(*ONE_CALL)
+
+CALL_LINES = chosen(ONE_CALL_LINES, 1, 2)
+
+
+def of_kind(kind: str) -> str:
+    """The lines of all kinds that are of this one, whose word stands fourth."""
+    every = ALL_KINDS_LINES.splitlines(keepends=True)
+    return "".join(line for line in every if line.split()[3] == kind)
+
+
+def listed(name: str, lines: Lines, stdout: str, dictionary: str = CALLS) -> Case:
+    """A text capture of two lines that is listed."""
+    return Case(name, [*TWO, "--dict", dictionary], marks(*lines), stdout)
+
+
+PIECES = [
+    Case("nothing", BY_CALLS),
+    Case("only space", BY_CALLS, b" \t\r\n"),
+    listed("a call and its reply", CALL_AND_REPLY, CALL_AND_REPLY_LINES),
+    listed("frames that end at one place", AT_ONE_PLACE, AT_ONE_PLACE_LINES),
+    listed(
+        "a reply on the first line",
+        ANSWER_ON_FIRST,
+        """\
+2 0 15 idle
+1 8 49 frame 108300fde5 station 16 type 0 call
+1 57 98 frame 108380f561 station 16 type 128 reply
+1 8 49 missing station 16 type 0
+1 57 98 stray station 16 type 128
+""",
+    ),
+    listed("one call", ONE_CALL, ONE_CALL_LINES),
+    Case(
+        name="all sorts of space",
+        words=BY_CALLS,
+        stdin=b"\t" + b"\r\n \t".join(bytes([mark]) for mark in marks(*ONE_CALL)) + b"\r\n\r\n",
+        stdout=ONE_CALL_LINES,
+    ),
+    listed(
+        "a call on the second line, which waits for nothing",
+        (FLAG + "1" * 49, CALLED),
+        "1 8 23 idle\n2 8 49 frame 108300fde5 station 16 type 0 call\n",
+    ),
+    listed(
+        "a reply on the second line to no call",
+        (REST, REPLIED),
+        """\
+1 0 15 idle
+2 8 49 frame 108380f561 station 16 type 128 reply
+2 8 49 stray station 16 type 128
+""",
+    ),
+    listed(
+        "a reply that ends one bit before its call",
+        ("1" + CALLED, REPLIED + "1"),
+        """\
+2 8 49 frame 108380f561 station 16 type 128 reply
+2 8 49 stray station 16 type 128
+1 9 50 frame 108300fde5 station 16 type 0 call
+2 57 58 open
+1 9 50 pending station 16 type 0
+""",
+    ),
+    listed(
+        "a reply from another station",
+        (CALLED + "1" * 56, REST + FLAG + sent(b"\x11\x83\x80") + FLAG),
+        """\
+2 0 15 idle
+1 8 49 frame 108300fde5 station 16 type 0 call
+1 57 72 idle
+2 65 105 frame 118380293b station 17 type 128 reply
+1 8 49 missing station 16 type 0
+2 65 105 stray station 17 type 128
+""",
+    ),
+    listed(
+        "a long piece on the second line, behind a call",
+        (CALLED + "1" * 7, FLAG + LONG + FLAG),
+        """\
+1 8 49 frame 108300fde5 station 16 type 0 call
+2 8 56 overlong
+1 8 49 spoilt station 16 type 0
+""",
+    ),
+    listed(
+        "an abort on the second line, behind a call",
+        (CALLED + "1" * 12, "1" * 50 + FLAG + "0000" + "1" * 7),
+        """\
+2 0 15 idle
+1 8 49 frame 108300fde5 station 16 type 0 call
+2 58 62 abort
+1 8 49 spoilt station 16 type 0
+""",
+    ),
+    listed(
+        "a reply on the second line that ends where damage on the first does",
+        (CALLED + "0" * 33 + FLAG, "1" * 41 + REPLIED),
+        """\
+2 0 15 idle
+1 8 49 frame 108300fde5 station 16 type 0 call
+1 57 90 damaged unaligned
+1 8 49 spoilt station 16 type 0
+2 49 90 frame 108380f561 station 16 type 128 reply
+2 49 90 stray station 16 type 128
+""",
+    ),
+    listed(
+        "idle lines that are told at one place",
+        (IDLE, IDLE),
+        "1 0 15 idle\n2 0 15 idle\n",
+    ),
+    listed(
+        "a piece not closed on each line",
+        (FLAG + "00001", "1" + FLAG + "0001"),
+        "1 8 13 open\n2 9 13 open\n",
+    ),
+    *[
+        listed(
+            f"a reply sixteen bits behind its call, with a window of {window} in {version}",
+            CALL_AND_REPLY,
+            CALL_AND_REPLY_LINES.replace("answered", outcome),
+            dictionary.replace("16", window),
+        )
+        for window, version, dictionary, outcome in [
+            ("16", "version 2", WITHIN, "answered"),
+            ("15", "version 2", WITHIN, "late"),
+            ("15", "version 1", WITHIN_1, "answered"),
+        ]
+    ],
+    listed("all kinds", ALL_KINDS, ALL_KINDS_LINES),
+    Case(
+        name="without a dictionary no call waits and no stray is told",
+        words=TWO,
+        stdin=marks(*CALL_AND_REPLY),
+        stdout="2 0 15 idle\n1 8 49 frame 108300fde5\n1 57 72 idle\n2 65 106 frame 108380f561\n",
+    ),
+    Case(
+        name="heads on both lines",
+        words=BY_CALLS,
+        stdin=marks(FLAG + CONTROL_19 + FLAG + "1" * 10, NOTICED),
+        stdout="1 8 40 frame 1013ccb8 control 19\n2 8 50 frame ff83095a3b station 255 type 9 notice\n",
+    ),
+    Case(
+        name="the marks 0 and 1 alone: the second line is 0 all the time",
+        words=BY_CALLS,
+        stdin=text(FLAG, CALL, FLAG),
+        stdout=chosen(ONE_CALL_LINES, 2, 3),
+    ),
+]
+
+AT_THE_LAST_PLACE = """\
+1 1152921504606846927 1152921504606846968 frame 108300fde5
+2 1152921504606846927 1152921504606846968 frame 108380f561
+"""
+
+ORIGINS = [
+    Case(
+        name="from place 100",
+        words=[*BY_CALLS, "--origin", "100"],
+        stdin=marks(*AT_ONE_PLACE),
+        stdout=AT_ONE_PLACE_LINES.replace(" 8 49 ", " 108 149 "),
+    ),
+    Case(
+        name="pieces not closed, from place 100",
+        words=[*BY_CALLS, "--origin=100"],
+        stdin=marks(CALLED + "0", "1" * 50 + FLAG),
+        stdout="""\
+2 100 115 idle
+1 108 149 frame 108300fde5 station 16 type 0 call
+1 157 158 open
+1 108 149 pending station 16 type 0
+""",
+    ),
+    Case(
+        name="to the last place",
+        words=[*TWO, f"--origin={LAST_ORIGIN - 57}"],
+        stdin=marks(*AT_ONE_PLACE),
+        stdout=AT_THE_LAST_PLACE,
+    ),
+    Case(
+        name="one pair past the last place",
+        words=[*TWO, f"--origin={LAST_ORIGIN - 57}"],
+        stdin=marks(*AT_ONE_PLACE) + b"0",
+        stdout=AT_THE_LAST_PLACE,
+        stderr=fault("capture: place limit"),
+        status=2,
+    ),
+    Case(
+        name="packed, one pair past the last place",
+        words=["list", "--two", f"--origin={LAST_ORIGIN - 57}"],
+        stdin=packed_pairs(CALLED + "0", REPLIED + "0"),
+        stdout=AT_THE_LAST_PLACE,
+        stderr=fault("capture: place limit"),
+        status=2,
+    ),
+    Case("three pairs at three places", [*TWO, "--origin", str(LAST_ORIGIN - 3)], b"303"),
+    Case(
+        name="four pairs at three places",
+        words=[*TWO, "--origin", str(LAST_ORIGIN - 3)],
+        stdin=b"3030",
+        stderr=fault("capture: place limit"),
+        status=2,
+    ),
+    Case("no pairs at no place", [*TWO, "--origin", str(LAST_ORIGIN)]),
+    Case(
+        name="one pair at no place",
+        words=["list", "--two", "--origin", str(LAST_ORIGIN)],
+        stdin=packed_pairs("1", "1"),
+        stderr=fault("capture: place limit"),
+        status=2,
+    ),
+]
+
+
+def filtered(name: str, words: list, *numbers: int) -> Case:
+    """A listing of all kinds, of which lines with these numbers, counted from 1, are left."""
+    return Case(name, [*BY_CALLS, *words], marks(*ALL_KINDS), chosen(ALL_KINDS_LINES, *numbers))
+
+
+FILTERS = [
+    *[
+        Case(f"of kind {kind}", [*BY_CALLS, "--kind", kind], marks(*ALL_KINDS), of_kind(kind))
+        for kind in KINDS
+    ],
+    filtered("of station 16", ["--station", "16"], 2, 4, 5, 7, 9, 11, 12, 14, 17, 20, 23),
+    filtered("of station 255", ["--station=255"], 8),
+    # Where line and station are mixed up, these have lines.
+    filtered("of station 1", ["--station", "1"]),
+    filtered("of station 2", ["--station", "2"]),
+    filtered("of type 0", ["--type", "0"], 2, 5, 7, 9, 14, 17, 20, 23),
+    filtered("of type 128", ["--type=128"], 4, 11, 12),
+    filtered("of type 128 and kind stray", ["--type", "128", "--kind", "stray"], 12),
+    filtered("of station 16, type 0 and kind frame", ["--kind=frame", "--station=16", "--type=0"], 2, 7, 14, 20),
+    Case(
+        name="of kind late",
+        words=[*TWO, "--dict", WITHIN.replace("16", "15"), "--kind", "late"],
+        stdin=marks(*CALL_AND_REPLY),
+        stdout="1 8 49 late station 16 type 0\n",
+    ),
+    Case(
+        name="of kind stray, where an answer is late",
+        words=[*TWO, "--dict", WITHIN.replace("16", "15"), "--kind", "stray"],
+        stdin=marks(*CALL_AND_REPLY),
+    ),
+    Case(
+        name="a fault behind lines that are left out",
+        words=[*TWO, "--kind", "abort"],
+        stdin=marks(IDLE, IDLE) + b"4",
+        stderr=fault("capture: octet 15 is no bit"),
+        status=2,
+    ),
+]
+
+TEXT_FAULTS = [
+    Case(
+        name="an octet that is no mark",
+        words=BY_CALLS,
+        stdin=b"4",
+        stderr=fault("capture: octet 0 is no bit"),
+        status=2,
+    ),
+    *[
+        Case(
+            name=f"{octet!r} behind marks and spaces",
+            words=BY_CALLS,
+            stdin=b"0123 \t" + octet,
+            stderr=fault("capture: octet 6 is no bit"),
+            status=2,
+        )
+        for octet in [b"4", b"9", b"/", b"x", b",", b"\v", b"\0", b"\xb2"]
+    ],
+    Case(
+        name="an octet that is no mark, behind a line",
+        words=BY_CALLS,
+        stdin=marks(*CALL_AND_REPLY) + b" 4",
+        stdout=CALL_AND_REPLY_LINES,
+        stderr=fault("capture: octet 115 is no bit"),
+        status=2,
+    ),
+    Case(
+        name="a packed capture taken for text",
+        words=BY_CALLS,
+        stdin=PACKED_CALL,
+        stderr=fault("capture: octet 0 is no bit"),
+        status=2,
+    ),
+    *[
+        Case(
+            name=f"marks of two lines taken for one: {' '.join(words) or 'no words'}",
+            words=words,
+            stdin=b"10 2",
+            stderr=fault("capture: octet 3 is no bit"),
+            status=2,
+        )
+        for words in [[], ["list", "--bits"], ["check", "--bits"]]
+    ],
+]
+
+# Fifteen pairs of ones: the last octet has three of them.
+PACKED_IDLE = bytes.fromhex("5453324249545332 0f00000000000000 ffffff3f")
+
+PACKED_CAPTURES = [
+    Case("packed, idle lines", ["list", "--two"], PACKED_IDLE, "1 0 15 idle\n2 0 15 idle\n"),
+    Case("packed, one call", PACKED_BY_CALLS, PACKED_CALL, ONE_CALL_LINES),
+    Case("packed, a call and its reply", PACKED_BY_CALLS, packed_pairs(*CALL_AND_REPLY), CALL_AND_REPLY_LINES),
+    Case("packed, frames that end at one place", PACKED_BY_CALLS, packed_pairs(*AT_ONE_PLACE), AT_ONE_PLACE_LINES),
+    Case("packed, all kinds", PACKED_BY_CALLS, packed_pairs(*ALL_KINDS), ALL_KINDS_LINES),
+    Case("packed, no pairs", ["list", "--two"], packed_pairs("", "")),
+    *[
+        Case(
+            name=f"packed, {name} of the fourth pair of the last octet is 1",
+            words=["list", "--two"],
+            stdin=PACKED_IDLE[:-1] + last,
+            stderr=fault("capture: spare bits are not 0"),
+            status=2,
+        )
+        for name, last in [("the second bit", b"\xbf"), ("the first bit", b"\x7f")]
+    ],
+    Case(
+        name="packed, of two lines taken for one",
+        words=["list"],
+        stdin=PACKED_IDLE,
+        stderr=fault("capture: wrong magic"),
+        status=2,
+    ),
+    Case(
+        name="packed, of one line taken for two",
+        words=["list", "--two"],
+        stdin=PACKED,
+        stderr=fault("capture: wrong magic"),
+        status=2,
+    ),
+    Case(
+        name="packed, without its last octet",
+        words=PACKED_BY_CALLS,
+        stdin=PACKED_CALL[:-1],
+        stdout=chosen(ONE_CALL_LINES, 1),
+        stderr=fault("capture: short body"),
+        status=2,
+    ),
+    Case(
+        name="packed, with an octet behind its end",
+        words=PACKED_BY_CALLS,
+        stdin=PACKED_CALL + b"\0",
+        stdout=CALL_LINES,
+        stderr=fault("capture: octets after the end"),
+        status=2,
+    ),
+    Case(
+        name="packed, a number of pairs as if they were bits",
+        words=PACKED_BY_CALLS,
+        stdin=PACKED_CALL[:8] + (2 * 57).to_bytes(8, "little") + PACKED_CALL[16:],
+        stdout=CALL_LINES,
+        stderr=fault("capture: short body"),
+        status=2,
+    ),
+    Case(
+        name="packed, with too great a count",
+        words=PACKED_BY_CALLS,
+        stdin=PACKED_CALL[:8] + (LAST_ORIGIN + 1).to_bytes(8, "little"),
+        stderr=fault("capture: too many bits"),
+        status=2,
+    ),
+    Case(
+        name="packed, with the greatest count",
+        words=PACKED_BY_CALLS,
+        stdin=PACKED_CALL[:8] + LAST_ORIGIN.to_bytes(8, "little") + PACKED_CALL[16:],
+        stdout=CALL_LINES,
+        stderr=fault("capture: short body"),
+        status=2,
+    ),
+    Case(
+        name="text taken for a packed capture",
+        words=["list", "--two"],
+        stdin=marks(*ONE_CALL),
+        stderr=fault("capture: wrong magic"),
+        status=2,
+    ),
+    Case(
+        name="packed, nothing",
+        words=["list", "--two"],
+        stderr=fault("capture: short head"),
+        status=2,
+    ),
+]
+
+CHECKED = [
+    Case("check: nothing", CHECK_BY_CALLS, stdout=report()),
+    Case(
+        name="check: a call and its reply",
+        words=CHECK_BY_CALLS,
+        stdin=marks(*CALL_AND_REPLY),
+        stdout=CALL_AND_REPLY_REPORT,
+    ),
+    Case(
+        name="check: packed, a call and its reply",
+        words=["check", "--two", "--dict", CALLS],
+        stdin=packed_pairs(*CALL_AND_REPLY),
+        stdout=CALL_AND_REPLY_REPORT,
+    ),
+    Case(
+        name="check: a reply on the first line",
+        words=CHECK_BY_CALLS,
+        stdin=marks(*ANSWER_ON_FIRST),
+        stdout=report(
+            "station 16 answered 0 missing 1 spoilt 0 late 0",
+            "last 1 8 49 108300fde5",
+            "last 1 57 98 108380f561",
+            frames=2,
+            idles=1,
+            strays=1,
+            missing=1,
+        ),
+        status=1,
+    ),
+    Case(
+        name="check: frames that end at one place, of which the last is kept",
+        words=[*CHECK_BY_CALLS, "--depth", "1"],
+        stdin=marks(*AT_ONE_PLACE),
+        stdout=report(
+            "station 16 answered 1 missing 0 spoilt 0 late 0",
+            "last 2 8 49 108380f561",
+            frames=2,
+            answered=1,
+        ),
+    ),
+    Case(
+        name="check: all kinds",
+        words=CHECK_BY_CALLS,
+        stdin=marks(*ALL_KINDS),
+        stdout=report(
+            "station 16 answered 1 missing 1 spoilt 1 late 0",
+            "last 1 8 49 108300fde5",
+            "last 2 65 106 108380f561",
+            "last 1 122 163 108300fde5",
+            "last 1 179 221 ff83095a3b",
+            "last 2 237 278 108380f561",
+            "last 1 294 335 108300fde5",
+            "last 1 391 432 108300fde5",
+            frames=7,
+            damaged=1,
+            overlong=1,
+            aborts=1,
+            idles=6,
+            strays=1,
+            answered=1,
+            missing=1,
+            spoilt=1,
+        ),
+        status=1,
+    ),
+    Case(
+        name="check: the last three frames of both lines",
+        words=[*CHECK_BY_CALLS, "--depth=3", "--origin=1000"],
+        stdin=marks(*(line[:343] for line in ALL_KINDS)),
+        stdout=report(
+            "station 16 answered 1 missing 1 spoilt 0 late 0",
+            "last 1 1179 1221 ff83095a3b",
+            "last 2 1237 1278 108380f561",
+            "last 1 1294 1335 108300fde5",
+            frames=6,
+            overlong=1,
+            idles=4,
+            strays=1,
+            answered=1,
+            missing=1,
+        ),
+        status=1,
+    ),
+    Case(
+        name="check: a late answer alone is amiss",
+        words=["check", "--bits", "--two", "--dict", WITHIN.replace("16", "15")],
+        stdin=marks(*CALL_AND_REPLY),
+        stdout=report(
+            "station 16 answered 0 missing 0 spoilt 0 late 1",
+            "last 1 8 49 108300fde5",
+            "last 2 65 106 108380f561",
+            frames=2,
+            idles=2,
+            late=1,
+        ),
+        status=1,
+    ),
+    Case(
+        name="check: damage on the second line alone is amiss",
+        words=CHECK_BY_CALLS,
+        stdin=marks("1" * 14 + "0" * 26, FLAG + SHORT + FLAG),
+        stdout=report(damaged=1),
+        status=1,
+    ),
+    Case(
+        name="check: a call on the second line is not",
+        words=CHECK_BY_CALLS,
+        stdin=marks(REST, CALLED),
+        stdout=report("last 2 8 49 108300fde5", frames=1, idles=1),
+    ),
+    Case(
+        name="check: an octet that is no mark, behind lines",
+        words=CHECK_BY_CALLS,
+        stdin=marks(*CALL_AND_REPLY) + b"4",
+        stderr=fault("capture: octet 114 is no bit"),
+        status=2,
+    ),
+    Case(
+        name="check: one pair past the last place",
+        words=["check", "--bits", "--two", f"--origin={LAST_ORIGIN - 57}"],
+        stdin=marks(*AT_ONE_PLACE) + b"0",
+        stderr=fault("capture: place limit"),
+        status=2,
+    ),
+    *[
+        Case(f"check: {name}", ["check", *words], stdin, stderr=fault(f"capture: {why}"), status=2)
+        for name, words, stdin, why in [
+            ("packed, without its last octet", ["--two"], PACKED_CALL[:-1], "short body"),
+            ("packed, with an octet behind its end", ["--two"], PACKED_CALL + b"\0", "octets after the end"),
+            ("packed, with a spare bit that is 1", ["--two"], PACKED_IDLE[:-1] + b"\xbf", "spare bits are not 0"),
+            ("packed, of two lines taken for one", [], PACKED_IDLE, "wrong magic"),
+            ("packed, of one line taken for two", ["--two"], PACKED, "wrong magic"),
+        ]
+    ],
+]
+
+PAIRS = [*PIECES, *ORIGINS, *FILTERS, *TEXT_FAULTS, *PACKED_CAPTURES, *CHECKED]
