@@ -19,7 +19,6 @@ use Rattle.bus_capture.specs.Internal.Taps.{TapView, TapLaws}
 use Rattle.bus_capture.specs.Internal.Watching.{IsSound, Watches, IsSame, Halts, printed, ended, lines, last_lines, heard_by, within}
 use Rattle.bus_text.specs.declared.printer.Printer.{Printer}
 use Rattle.bus_capture.specs.declared.run.CaptureRun.{CaptureRun}
-use Rattle.bus_text.specs.declared.summary.Summary.{Summary}
 use Rattle.bus_text.specs.declared.fault.ToolFault.{ToolFault}
 use Rattle.bus_text.specs.declared.fault.ToolFault.TheVariants as fault
 use Rattle.bus_text.specs.declared.page.Page.{Page}
