@@ -1,9 +1,8 @@
 -- Text captures, some octets more at a time.
-use Rattle.std.proofs.Common.{◌≡◌, ℕ, ◌+◌, ◌-◌, ◌<◌, ◌≤◌, ◌^◌, List, [], ◌++◌, length, take, drop, Option, None, refl, sym, ap, ◌∙◌, subst, arith, append_assoc, append-nil, true, Result, Ok, Err, MatchResult}
+use Rattle.std.proofs.Common.{◌≡◌, ℕ, ◌+◌, ◌-◌, ◌<◌, ◌≤◌, ◌^◌, List, ◌++◌, length, take, drop, Option, None, sym, ap, ◌∙◌, subst, arith, append_assoc, append-nil, true, Result, Ok, Err, MatchResult}
 use Rattle.std.proofs.Math.Seq.{take-add}
 use Rattle.std.proofs.lemmas.List.{take_all, length-drop}
 use Rattle.std.proofs.lemmas.Grind.{common_steps}
-use Rattle.bus_bits.specs.Capture.{CaptureOf, GrowsTo}
 use Rattle.bus_capture.specs.Internal.Taps.{TapView}
 use Rattle.bus_capture.specs.Internal.Watching.{Watches, Halts}
 use Rattle.bus_capture.specs.Internal.Sessions.{FollowsOctets, Stops}
@@ -20,9 +19,6 @@ octets-next xs os i n =
 -- how many octets stand before it
 pub octets-before : (xs os : List ℕ) (i : ℕ) → i < length os → length (xs ++ take i os) ≡ length xs + i
 octets-before xs os i h = grind (arith, common_steps)
-
-pub same-grows : {X : Type 0} (c : CaptureOf X) → GrowsTo c c
-same-grows c = ([], sym (append-nil c.bits), λ f e. refl)
 
 module _ {A X N B : Type 0} (t : TapView A X N B) where
   -- where no octets were taken

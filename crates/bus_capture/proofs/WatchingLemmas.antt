@@ -4,13 +4,13 @@ use Rattle.std.proofs.lemmas.Bool.{cases_lt}
 use Rattle.std.proofs.lemmas.Grind.{common_steps}
 use Rattle.arrayvec.specs.ArrayString.{array_string_len}
 use Rattle.std.proofs.Math.Seq.{take-add, drop-append_seam}
-use Rattle.std.proofs.lemmas.List.{nil_from_length, take_all, take-append-le, take-append-drop}
+use Rattle.std.proofs.lemmas.List.{take_all, take-append-le, take-append-drop}
 use Rattle.bus_dictionary.specs.Entry.{FrameType}
 use Rattle.bus_dictionary.specs.Dictionary.{longest_of}
 use Rattle.bus_watch.specs.Seen.{SeenReport, seen}
 use Rattle.bus_watch.specs.Talk.{pending}
 use Rattle.bus_watch.specs.Watch.{Leads, seen_by}
-use Rattle.bus_text.specs.Listing.{listing, ending_text}
+use Rattle.bus_text.specs.Listing.{ending_text}
 use Rattle.bus_text.specs.Summary.{summary_of}
 use Rattle.bus_text.specs.Internal.Counting.{IsFew}
 use Rattle.bus_text.specs.Internal.Pages.{Pages}
@@ -19,7 +19,6 @@ use Rattle.bus_capture.specs.Internal.Taps.{TapView, TapLaws}
 use Rattle.bus_capture.specs.Internal.Watching.{IsSound, Watches, IsSame, Halts, printed, ended, lines, last_lines, heard_by, within}
 use Rattle.bus_text.specs.declared.printer.Printer.{Printer}
 use Rattle.bus_capture.specs.declared.run.CaptureRun.{CaptureRun}
-use Rattle.bus_text.specs.declared.summary.Summary.{Summary}
 use Rattle.bus_text.specs.declared.fault.ToolFault.{ToolFault}
 use Rattle.bus_text.specs.declared.fault.ToolFault.TheVariants as fault
 use Rattle.bus_text.specs.declared.page.Page.{Page}
@@ -31,13 +30,6 @@ use Rattle.bus_capture.proofs.FewLemmas.{few-within}
 pub printed-append : (p : Option Printer) (d : List FrameType) (xs ys : List SeenReport) → printed p d (xs ++ ys) ≡ printed p d xs ++ printed p d ys
 printed-append None d xs ys = refl
 printed-append (Some p) d xs ys = listing-append p d xs ys
-
-pub printed-nothing : (p : Option Printer) (d : List FrameType) → printed p d [] ≡ []
-printed-nothing None d = refl
-printed-nothing (Some p) d = cancel (listing-append p d [] [])
-  where
-    cancel : {xs : List ℕ} → xs ≡ xs ++ xs → xs ≡ []
-    cancel {xs} e = nil_from_length xs (omega (arith, length-append xs xs, ap length e))
 
 -- symbols that all have a place
 pub within-all : {X : Type 0} (origin : ℕ) (b : List X) → origin + length b ≤ 2 ^ 60 → within origin b ≡ b
@@ -110,16 +102,6 @@ module _ {A X N B : Type 0} (t : TapView A X N B) where
     counts = counts ∙ ap summary_of (sym (seen-more w.analyser v.analyser b more told h.is_after e));
     page = subst (Pages start later v.page.text.bytes v.page.written) (sym (lines-more w v b more told p h.is_after e)) page;
   }
-
-  -- symbols that tell nothing were followed
-  pub watched-nothing : (start now : Option (List ℕ)) (w v : CaptureRun A) (b more : List X)
-      → v.printer ≡ w.printer → v.summary ≡ w.summary → v.page ≡ w.page → Leads t.watch w.analyser more [] v.analyser
-      → Watches t start now w b → Watches t start now v (b ++ more)
-  watched-nothing start now w v b more p s g e h =
-      watched start now now w v b more [] p h e
-      (s ∙ h.counts ∙ ap summary_of (sym (append-nil (seen_by t.watch w.analyser b))))
-      (subst (λ (x : List ℕ). Pages start now v.page.text.bytes v.page.written x) (sym (ap (λ (x : List ℕ). lines t w b ++ x) (printed-nothing w.printer (t.watch.dictionary w.analyser)) ∙ append-nil (lines t w b)))
-      (subst (λ (x : Page). Pages start now x.text.bytes x.written (lines t w b)) (sym g) h.page))
 
   -- symbols that have no place stop the following
   pub halted : TapLaws t → (start now : Option (List ℕ)) (w v : CaptureRun A) (b more : List X)

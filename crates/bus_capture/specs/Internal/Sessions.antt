@@ -1,7 +1,7 @@
 -- What is known while the octets of a capture are read.
-use Rattle.std.specs.Prelude.{◌≡◌, ℕ, ◌<◌, Bool, true, false, List, ◌++◌, length, Option, Some, None}
+use Rattle.std.specs.Prelude.{◌≡◌, ℕ, ◌<◌, Bool, true, false, List, length, Option, Some, None}
 use Rattle.bus_bits.specs.Capture.{CaptureOf, CaptureFault}
-use Rattle.bus_capture.specs.Captures.{Form, capture, IsSameFault}
+use Rattle.bus_capture.specs.Captures.{capture, IsSameFault}
 use Rattle.bus_capture.specs.Internal.Taps.{TapView}
 use Rattle.bus_capture.specs.Internal.Watching.{Watches, IsCutOff}
 use Rattle.bus_capture.specs.declared.run.CaptureRun.{CaptureRun}

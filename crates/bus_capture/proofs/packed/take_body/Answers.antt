@@ -1,4 +1,4 @@
-use Rattle.std.proofs.Common.{ℕ, ◌+◌, List, ◌++◌, take, false, sym, subst, arith, append-nil}
+use Rattle.std.proofs.Common.{ℕ, ◌+◌, List, ◌++◌, take, false, subst, arith}
 use Rattle.std.proofs.lemmas.Result.{err_from_is_err_and}
 use Rattle.std.proofs.lemmas.List.{take_all}
 use Rattle.bus_bits.specs.Capture.{capped}

@@ -1,4 +1,4 @@
-use Rattle.std.proofs.Common.{◌≡◌, ◌≤◌, ◌^◌, List, [], ◌∷◌, ◌++◌, sym, ap, ◌∙◌, arith}
+use Rattle.std.proofs.Common.{◌≤◌, ◌^◌, List, [], ◌∷◌, ◌++◌, sym, ap, ◌∙◌, arith}
 use Rattle.bus_capture.proofs.CapturesLemmas.{followed-fits}
 use Rattle.bus_capture.proofs.SessionsPackedLemmas.{octets-taken}
 use Rattle.bus_capture.proofs.packed.take_octet.Goals as goal

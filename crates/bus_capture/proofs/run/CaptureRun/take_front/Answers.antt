@@ -1,4 +1,3 @@
-use Rattle.std.proofs.Common.{refl}
 use Rattle.bus_capture.proofs.WatchingLemmas.{front-taken}
 use Rattle.bus_capture.proofs.run.CaptureRun.take_front.Goals as goal
 

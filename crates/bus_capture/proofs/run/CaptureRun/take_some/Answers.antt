@@ -1,13 +1,11 @@
-use Rattle.std.proofs.Common.{◌≡◌, ℕ, List, ◌++◌, ◌+◌, ◌*◌, ◌≤◌, ◌<◌, ◌^◌, length, refl, sym, ap, ◌∙◌, subst, arith, inl, inr}
+use Rattle.std.proofs.Common.{List, ◌++◌, ◌+◌, ◌*◌, ◌≤◌, ◌<◌, ◌^◌, refl, sym, ap, ◌∙◌, subst, arith, inl, inr}
 use Rattle.std.proofs.lemmas.Result.{err_from_is_err_and}
-use Rattle.bus_watch.specs.Seen.{SeenReport}
 use Rattle.bus_watch.specs.Watch.{Leads, seen_by}
 use Rattle.bus_text.specs.Internal.Pages.{Pages}
 use Rattle.bus_text.specs.declared.fault.ToolFault.TheVariants as fault
 use Rattle.bus_dictionary.specs.Entry.{FrameType}
 use Rattle.bus_capture.specs.Internal.Watching.{lines, printed}
-use Rattle.bus_capture.proofs.FewLemmas.{few-within}
-use Rattle.bus_capture.proofs.WatchingLemmas.{watched, watched-nothing, halted, halts-word, cut-off, sound-next, below}
+use Rattle.bus_capture.proofs.WatchingLemmas.{watched, halted, halts-word, cut-off, sound-next, below}
 use Rattle.bus_capture.proofs.run.CaptureRun.take_some.Goals as goal
 
 pub returns-in-Err-clause-taken : goal.returns-in-Err-clause-taken
