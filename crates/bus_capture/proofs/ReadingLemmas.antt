@@ -1,6 +1,8 @@
 -- How the reading of a capture ends.
 use Rattle.std.proofs.Common.{◌≡◌, ℕ, ◌<◌, Bool, true, false, List, [], length, Option, Some, None, Result, Ok, Err, MatchResult, refl, sym, ap, ◌∙◌, subst, arith, append-nil, inl, inr}
 use Rattle.std.specs.Io.KnownBytes.{IsAtEnd}
+use Rattle.bus_dictionary.specs.Entry.{FrameType}
+use Rattle.bus_text.specs.declared.printer.Printer.{Printer}
 use Rattle.bus_bits.specs.Capture.{CaptureOf, CaptureFault, capped}
 use Rattle.bus_dictionary.specs.Dictionary.{longest_of}
 use Rattle.bus_watch.specs.Seen.{seen}
@@ -20,9 +22,14 @@ use Rattle.bus_capture.specs.declared.reader.Source.{Source}
 use Rattle.bus_capture.specs.declared.reader.Source.TheVariants as source
 use Rattle.bus_text.specs.declared.fault.ToolFault.{ToolFault}
 use Rattle.bus_text.specs.declared.fault.ToolFault.TheVariants as fault
-use Rattle.bus_capture.proofs.WatchingLemmas.{printed-nothing}
+use Rattle.bus_capture.proofs.PutLemmas.{listing-nothing}
 use Rattle.bus_capture.proofs.CapturesLemmas.{followed-fits}
 use Rattle.bus_bits.proofs.CaptureLemmas.{capped_all}
+
+-- nothing seen has no lines
+printed-nothing : (p : Option Printer) (d : List FrameType) → printed p d [] ≡ []
+printed-nothing None d = refl
+printed-nothing (Some p) d = listing-nothing p d
 
 -- nothing is seen of nothing
 seen-none : {A X N B : Type 0} (tap : TapView A X N B) → TapLaws tap → (a : A) → seen_by tap.watch a [] ≡ []

@@ -4,7 +4,7 @@ use Rattle.std.specs.Array.{IsFirstChunk}
 use Rattle.std.proofs.lemmas.List.{length-map}
 use mir.Val.{bool_byte}
 use Rattle.bus_bits.specs.Octet.{bits_of}
-use Rattle.bus_bits.specs.Capture.{PairCapture, CaptureFault, short_head}
+use Rattle.bus_bits.specs.Capture.{PairCapture, short_head}
 use Rattle.bus_bits.specs.Packed.{PairsAreHeaded, PairsAfter, packed_pair_capture, packed_pair_whole, pair_body, in_pairs, headed, filled, head_bits, pair_head_fault, packed_fault_of}
 use Rattle.bus_bits.specs.declared.capture.packed_bits.PackedFault.{PackedFault}
 use Rattle.bus_bits.proofs.OctetLemmas.{length-bits, bits-split, bits-low, one_bit}

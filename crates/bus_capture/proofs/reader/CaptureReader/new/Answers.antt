@@ -1,4 +1,4 @@
-use Rattle.std.proofs.Common.{◌≡◌, None, arith, [], refl, sym, ap, ◌∙◌, subst}
+use Rattle.std.proofs.Common.{◌≡◌, None, arith, [], refl, sym, ap, subst}
 use Rattle.bus_bits.specs.Capture.{CaptureOf}
 use Rattle.bus_capture.specs.Internal.Watching.{Watches}
 use Rattle.bus_capture.specs.Internal.Sessions.{Follows, IsRead}
