@@ -13,6 +13,7 @@ use std::process::Abort;
 const PAIRS: usize = 1500;
 
 /// The words of two lines at once.
+#[derive(Drop)]
 struct Part {
     first: &'static str,
     second: &'static str,
