@@ -32,7 +32,10 @@ fn due_place(piece: &Piece) -> usize {
 
 /// The reports of the whole list of these bits, where a frame has at most `longest` octets and its check.
 pub(super) fn side_of(rt: &impl Abort, alloc: Global, bits: Vec<bool>, longest: usize) -> Side {
-    assert!(rt; bits.len() <= 10000 && 3 <= longest && longest <= 256, "a list");
+    assert!(rt;
+        bits.len() <= 10000 && 3 <= longest && longest <= 256,
+        "a list"
+    );
     let mut due = Vec::new(alloc);
     for _ in &bits {
         due.push(None).expect(rt, "memory");
@@ -167,7 +170,9 @@ fn sides(rt: &impl Abort, alloc: Global, before: &str, count: u32) -> Vec<Side> 
     let mut sides = Vec::new(alloc);
     for pattern in 0..patterns {
         let bits = list_of(alloc, &before, pattern, count, &[]).expect(rt, "memory");
-        sides.push(side_of(rt, alloc, bits, 256)).expect(rt, "memory");
+        sides
+            .push(side_of(rt, alloc, bits, 256))
+            .expect(rt, "memory");
     }
     sides
 }
