@@ -9,7 +9,7 @@ mod plain_reading;
 mod random_lists;
 mod rows;
 mod take;
-mod told;
+pub(crate) mod told;
 
 use crate::word::word_of;
 use std::alloc::{AllocError, Global};
@@ -28,7 +28,7 @@ fn bits_of(alloc: Global, text: &str) -> Result<Vec<bool>, AllocError> {
 }
 
 /// The lowest `count` bits of `pattern`, the least significant first, between two given lists.
-fn list_of(
+pub(crate) fn list_of(
     alloc: Global,
     before: &[bool],
     pattern: u32,

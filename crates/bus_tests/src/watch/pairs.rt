@@ -3,6 +3,11 @@
 
 ghost use Rattle.std.specs.Prelude.{◌≤◌, ◌<◌, ◌^◌};
 
+mod every_list;
+mod memory;
+mod random_lists;
+mod sinks;
+
 use super::rows::{DAMAGE, FRAMES};
 use super::table::row_of;
 use super::text::{push_ending, push_seen};
@@ -261,6 +266,25 @@ fn push_found<C: Check>(
     }
 }
 
+/// Takes up to `size` of these pairs with one call, and what was seen at the last of them goes behind
+/// what the text has; how many these are.
+fn take_some<C: Check>(
+    rt: &impl Abort,
+    text: &mut String,
+    analyser: &mut PairAnalyser<C>,
+    first: &[bool],
+    second: &[bool],
+    size: u32,
+) -> usize {
+    let (one, count) = word_of(rt, first, size);
+    let (other, same) = word_of(rt, second, size);
+    assert_eq!(rt; count, same);
+    let taken = analyser.take(one, other, count).expect(rt, "a place");
+    push_found(rt, text, analyser, Line::First);
+    push_found(rt, text, analyser, Line::Second);
+    taken as usize
+}
+
 /// The same where up to `size` pairs are taken with each call.
 fn taken<C: Check>(
     rt: &impl Abort,
@@ -276,14 +300,9 @@ fn taken<C: Check>(
         if first.is_empty() {
             break;
         }
-        let (one, count) = word_of(rt, first, size);
-        let (other, same) = word_of(rt, second, size);
-        assert_eq!(rt; count, same);
-        let taken = analyser.take(one, other, count).expect(rt, "a place") as usize;
+        let taken = take_some(rt, &mut text, analyser, first, second, size);
         first = &first[first.len().min(taken)..];
         second = &second[second.len().min(taken)..];
-        push_found(rt, &mut text, analyser, Line::First);
-        push_found(rt, &mut text, analyser, Line::Second);
     }
     text
 }
@@ -367,46 +386,6 @@ fn rows_of_one_line_beside_silence(rt: HostRuntime) {
     }
     for line in DAMAGE.lines() {
         check_first(&rt, alloc, line);
-    }
-}
-
-/// A sink that refuses one of the two reports at a place, or both.
-struct PairRefusal {
-    refuses: [u64; 2],
-    refusals: u64,
-    told: &'static str,
-}
-
-const PAIR_REFUSALS: [PairRefusal; 3] = [
-    PairRefusal {
-        refuses: [1, 0],
-        refusals: 1,
-        told: "8 49 frame 108380f561 station 16 type 128, answered 8 49 station 16 type 0 on 2",
-    },
-    PairRefusal {
-        refuses: [2, 0],
-        refusals: 1,
-        told: "8 49 frame 108300fde5 station 16 type 0 on 1",
-    },
-    PairRefusal {
-        refuses: [1, 2],
-        refusals: 2,
-        told: "",
-    },
-];
-
-/// Two reports at one place: the second is offered also where the first was refused.
-#[test]
-fn sinks_that_refuse_one_or_both(rt: HostRuntime) {
-    let alloc = rt.alloc();
-    let lines = two_lines(&rt, alloc, "flag call flag 0", "flag reply flag", false);
-    for row in &PAIR_REFUSALS {
-        let mut analyser = analyser::<OctetCheck>(&rt, alloc);
-        let mut sink = PairCollector::new(alloc, row.refuses);
-        let fault = feed(&rt, &mut analyser, &lines.pairs, &mut sink).err();
-        assert_eq!(rt; fault, Some(FeedFault::Sink { consumed: 57 }));
-        assert_eq!(rt; sink.refused(), row.refusals);
-        assert_eq!(rt; sink.text.as_str(), row.told);
     }
 }
 

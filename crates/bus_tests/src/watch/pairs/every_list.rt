@@ -1,0 +1,241 @@
+//! Every short list of pairs: what is seen of either line is the reports of the whole list of its bits.
+
+ghost use Rattle.std.specs.Prelude.{◌-◌, ◌<◌, ◌^◌};
+
+use super::super::bits_of;
+use crate::line::list_of;
+use crate::line::told::{Told, borrowed, told_by};
+use bus_dictionary::Dictionary;
+use bus_fcs::{Check, OctetCheck};
+use bus_line::{Piece, reports_whole};
+use bus_watch::{Line, PairAnalyser, PairSink, Seen, SinkRefused};
+use std::alloc::Global;
+use std::process::Abort;
+
+/// The bits of one line, and for each place the report that is due there.
+#[derive(Drop)]
+pub(super) struct Side {
+    bits: Vec<bool>,
+    due: Vec<Option<Told>>,
+}
+
+/// The place of the bit that decides a report: the last of the flag, of the seven ones or of the fifteen.
+fn due_place(piece: &Piece) -> usize {
+    let span = piece.span();
+    let place = match piece {
+        Piece::Abort { .. } => span.past.saturating_add(6),
+        Piece::Idle { .. } => span.first.saturating_add(14),
+        _ => span.past.saturating_add(7),
+    };
+    place as usize
+}
+
+/// The reports of the whole list of these bits, where a frame has at most `longest` octets and its check.
+pub(super) fn side_of(rt: &impl Abort, alloc: Global, bits: Vec<bool>, longest: usize) -> Side {
+    assert!(rt;
+        bits.len() <= 10000 && 3 <= longest && longest <= 256,
+        "a list"
+    );
+    let mut due = Vec::new(alloc);
+    for _ in &bits {
+        due.push(None).expect(rt, "memory");
+    }
+    for owned in &reports_whole(alloc, &bits, longest).expect(rt, "memory") {
+        let piece = borrowed(owned);
+        let at = due.get_mut(due_place(&piece)).expect(rt, "a place");
+        *at = Some(told_by(&piece));
+    }
+    Side { bits, due }
+}
+
+/// The reports of both lines by due place, the first line's first.
+fn merged(rt: &impl Abort, alloc: Global, first: &Side, second: &Side) -> Vec<(Line, Told)> {
+    let mut all = Vec::new(alloc);
+    for (one, other) in first.due.iter().zip(second.due.iter()) {
+        if let Some(told) = one {
+            all.push((Line::First, *told)).expect(rt, "memory");
+        }
+        if let Some(told) = other {
+            all.push((Line::Second, *told)).expect(rt, "memory");
+        }
+    }
+    all
+}
+
+fn is_due(seen: &Option<Seen<'_>>, due: Option<&Option<Told>>) -> bool {
+    let told = match seen {
+        Some(seen) => Some(told_by(&seen.piece)),
+        None => None,
+    };
+    due == Some(&told)
+}
+
+/// The first place at which pairs that are pushed decide other reports than those that are due.
+pub(super) fn differing_place<C: Check>(
+    rt: &impl Abort,
+    analyser: &mut PairAnalyser<C>,
+    first: &Side,
+    second: &Side,
+) -> Option<usize> {
+    for (place, bit) in first.bits.iter().enumerate() {
+        let other = second.bits.get(place).expect(rt, "a bit");
+        let seen = analyser.push(*bit, *other).expect(rt, "a place");
+        if !is_due(&seen.first, first.due.get(place))
+            || !is_due(&seen.second, second.due.get(place))
+        {
+            return Some(place);
+        }
+    }
+    None
+}
+
+/// Lists what it takes.
+#[derive(Drop)]
+struct Listing {
+    told: Vec<(Line, Told)>,
+    refusals: u64,
+    /// Memory was refused for a report.
+    lacks: bool,
+}
+
+impl PairSink for Listing {
+    ghost use Rattle.std.specs.Prelude.{None};
+
+    ghost taken = { λ s. None };
+
+    ghost refusals = { λ s. s.refusals };
+
+    fn refused(&self) -> u64 {
+        self.refusals
+    }
+
+    fn take(&mut self, line: Line, seen: &Seen<'_>) -> Result<(), SinkRefused> {
+        if self.told.push((line, told_by(&seen.piece))).is_err() {
+            self.lacks = true;
+        }
+        Ok(())
+    }
+}
+
+/// Whether the pairs, all fed at once, tell the merged reports in order and nothing else.
+pub(super) fn tells<C: Check>(
+    rt: &impl Abort,
+    alloc: Global,
+    analyser: &mut PairAnalyser<C>,
+    first: &Side,
+    second: &Side,
+) -> bool {
+    let mut pairs = Vec::new(alloc);
+    for (bit, other) in first.bits.iter().zip(second.bits.iter()) {
+        pairs.push((*bit, *other)).expect(rt, "memory");
+    }
+    let mut sink = Listing {
+        told: Vec::new(alloc),
+        refusals: 0,
+        lacks: false,
+    };
+    assert!(rt; sink.refused() < u64::MAX - 1);
+    analyser.feed(&pairs, &mut sink).expect(rt, "room");
+    !sink.lacks && sink.told == merged(rt, alloc, first, second)
+}
+
+/// An analyser without a dictionary.
+fn plain_analyser(rt: &impl Abort, alloc: Global) -> PairAnalyser<OctetCheck> {
+    PairAnalyser::new(alloc, Dictionary::empty(alloc), 1, 0).expect(rt, "an analyser")
+}
+
+/// The first of the second line's lists beside which the two lines differ from their merged reports.
+fn differing_second(
+    rt: &impl Abort,
+    alloc: Global,
+    first: &Side,
+    seconds: &[Side],
+) -> Option<usize> {
+    for (pattern, second) in seconds.iter().enumerate() {
+        let mut pushed = plain_analyser(rt, alloc);
+        let mut fed = plain_analyser(rt, alloc);
+        if differing_place(rt, &mut pushed, first, second).is_some()
+            || !tells(rt, alloc, &mut fed, first, second)
+        {
+            return Some(pattern);
+        }
+    }
+    None
+}
+
+/// Each list of `count` bits behind these.
+fn sides(rt: &impl Abort, alloc: Global, before: &str, count: u32) -> Vec<Side> {
+    let before = bits_of(alloc, before).expect(rt, "memory");
+    let patterns: u32 = 1 << count.min(16);
+    let mut sides = Vec::new(alloc);
+    for pattern in 0..patterns {
+        let bits = list_of(alloc, &before, pattern, count, &[]).expect(rt, "memory");
+        sides
+            .push(side_of(rt, alloc, bits, 256))
+            .expect(rt, "memory");
+    }
+    sides
+}
+
+/// Every list of `count` pairs behind these bits of the two lines.
+fn none_differs(rt: &impl Abort, alloc: Global, first: &str, second: &str, count: u32) {
+    let firsts = sides(rt, alloc, first, count);
+    let seconds = sides(rt, alloc, second, count);
+    for (pattern, side) in firsts.iter().enumerate() {
+        let found = differing_second(rt, alloc, side, &seconds);
+        assert_eq!(rt; found, None, "{count} pairs, {pattern} behind {first}");
+    }
+}
+
+/// Words of two lines, as many bits on both.
+struct Behind {
+    first: &'static str,
+    second: &'static str,
+}
+
+const BEHIND: [Behind; 4] = [
+    // a flag or an abort mark ends a short piece, on the second line a bit later
+    Behind {
+        first: "flag 000 0111",
+        second: "flag 0000 011",
+    },
+    // a frame on either line, which may end at one place
+    Behind {
+        first: "flag call 01111",
+        second: "flag reply 01111",
+    },
+    // a frame on the first line, and on the second fifteen ones, which may end at one place
+    Behind {
+        first: "flag call 01111",
+        second: "short 000000000000000000 111111111111",
+    },
+    // fifteen ones or a flag, on the second line two bits later
+    Behind {
+        first: "0 1111111111111",
+        second: "000 11111111111",
+    },
+];
+
+/// Behind a flag on both lines, every list of at most seven pairs.
+#[test]
+fn seven_pairs_behind_flags(rt: HostRuntime) {
+    for count in 0..=7 {
+        none_differs(&rt, rt.alloc(), "flag", "flag", count);
+    }
+}
+
+/// And every list of eight.
+#[test]
+fn eight_pairs_behind_flags(rt: HostRuntime) {
+    none_differs(&rt, rt.alloc(), "flag", "flag", 8);
+}
+
+/// Every list of at most six pairs where reports are near.
+#[test]
+fn six_pairs_near_reports(rt: HostRuntime) {
+    for row in &BEHIND {
+        for count in 0..=6 {
+            none_differs(&rt, rt.alloc(), row.first, row.second, count);
+        }
+    }
+}

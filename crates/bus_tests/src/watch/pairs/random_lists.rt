@@ -1,0 +1,244 @@
+//! Long lists of random traffic on two lines by calls of every kind and size.
+
+use super::super::CALLS;
+use super::every_list::{differing_place, side_of, tells};
+use super::{PairCollector, TwoLines, feed, push_seen_on, take_some, two_lines};
+use bus_dictionary::Dictionary;
+use bus_fcs::OctetCheck;
+use bus_watch::{Line, PairAnalyser, PairEnding, PairUsage};
+use std::alloc::Global;
+use std::process::Abort;
+
+/// How many pairs a list has.
+const PAIRS: usize = 1500;
+
+/// The words of two lines at once.
+#[derive(Drop)]
+struct Part {
+    first: &'static str,
+    second: &'static str,
+}
+
+/// What traffic is made of.
+const PARTS: [Part; 10] = [
+    Part {
+        first: "flag call flag",
+        second: "ones-57 flag reply flag",
+    },
+    Part {
+        first: "flag call flag",
+        second: "flag reply flag",
+    },
+    Part {
+        first: "flag call flag",
+        second: "0 flag reply flag reply flag",
+    },
+    Part {
+        first: "0 flag call flag",
+        second: "flag reply flag",
+    },
+    Part {
+        first: "flag call flag notice flag",
+        second: "short 0110100101110100110010110 short flag reply flag",
+    },
+    Part {
+        first: "flag call flag short short flag",
+        second: "flag untyped flag 0 flag",
+    },
+    Part {
+        first: "flag call 0 flag",
+        second: "flag short short flag",
+    },
+    Part {
+        first: "idle",
+        second: "0110100101110100110010110",
+    },
+    Part {
+        first: "0110100101110100110010110",
+        second: "ones-57",
+    },
+    Part {
+        first: "flag 0",
+        second: "flag 111110111110",
+    },
+];
+
+/// What an analyser says of itself.
+#[derive(Clone, Copy, PartialEq, Eq)]
+struct State {
+    usage: PairUsage,
+    ending: PairEnding,
+}
+
+fn state_of(analyser: &PairAnalyser<OctetCheck>) -> State {
+    State {
+        usage: analyser.usage(),
+        ending: analyser.ending(),
+    }
+}
+
+/// An analyser of the example dictionary of calls, with a history of five frames.
+fn analyser(rt: &impl Abort, alloc: Global) -> PairAnalyser<OctetCheck> {
+    let dictionary = Dictionary::read(alloc, CALLS).expect(rt, "a dictionary");
+    PairAnalyser::new(alloc, dictionary, 5, 0).expect(rt, "an analyser")
+}
+
+/// As many pairs of a part as there is room for, and at most so many.
+fn push_part(rt: &impl Abort, lines: &mut TwoLines, part: &TwoLines, most: usize) {
+    for pair in part.pairs.iter().take(most) {
+        if lines.pairs.len() < PAIRS {
+            lines.first.push(pair.0).expect(rt, "memory");
+            lines.second.push(pair.1).expect(rt, "memory");
+            lines.pairs.push(*pair).expect(rt, "memory");
+        }
+    }
+}
+
+/// Parts and beginnings of parts, one behind the other; the same seed gives the same lists.
+fn traffic(rt: &impl Abort, alloc: Global, seed: u64) -> TwoLines {
+    let mut lines = TwoLines {
+        first: Vec::new(alloc),
+        second: Vec::new(alloc),
+        pairs: Vec::new(alloc),
+    };
+    let mut state = seed;
+    for _ in 0..PAIRS {
+        if lines.pairs.len() >= PAIRS {
+            break;
+        }
+        state = state
+            .wrapping_mul(6364136223846793005)
+            .wrapping_add(1442695040888963407);
+        let part = &PARTS[(state >> 48) as usize % PARTS.len()];
+        let rest = (state >> 45) % 2 == 1;
+        let part = two_lines(rt, alloc, part.first, part.second, rest);
+        push_part(rt, &mut lines, &part, (state >> 33) as usize % 256);
+    }
+    lines
+}
+
+/// The frames of the history, with their lines.
+fn history_of(rt: &impl Abort, alloc: Global, analyser: &PairAnalyser<OctetCheck>) -> String {
+    let mut text = String::new(alloc);
+    for i in 0..analyser.history_len() {
+        let frame = analyser.history(i).expect(rt, "a frame");
+        let span = frame.kept.span;
+        write!(text, "{:?} {} {}", frame.line, span.first, span.past).expect(rt, "text");
+        for octet in &frame.kept.octets {
+            write!(text, " {octet:02x}").expect(rt, "text");
+        }
+    }
+    text
+}
+
+/// What was seen in one run by calls of one pair, and what the analyser says of itself after each.
+#[derive(Drop)]
+struct OneRun {
+    text: String,
+    states: Vec<State>,
+    history: String,
+}
+
+fn one_run(rt: &impl Abort, alloc: Global, lines: &TwoLines) -> OneRun {
+    let mut analyser = analyser(rt, alloc);
+    let mut text = String::new(alloc);
+    let mut states = Vec::new(alloc);
+    for pair in &lines.pairs {
+        let seen = analyser.push(pair.0, pair.1).expect(rt, "a place");
+        if let Some(first) = &seen.first {
+            push_seen_on(&mut text, Line::First, first).expect(rt, "text");
+        }
+        if let Some(second) = &seen.second {
+            push_seen_on(&mut text, Line::Second, second).expect(rt, "text");
+        }
+        states.push(state_of(&analyser)).expect(rt, "memory");
+    }
+    OneRun {
+        text,
+        states,
+        history: history_of(rt, alloc, &analyser),
+    }
+}
+
+/// Whether the analyser says the same of itself as after so many pairs of the one run.
+fn stands_at(analyser: &PairAnalyser<OctetCheck>, run: &OneRun, taken: usize) -> bool {
+    match taken.checked_sub(1) {
+        Some(at) => run.states.get(at) == Some(&state_of(analyser)),
+        None => false,
+    }
+}
+
+/// Calls of `take` of up to `size` pairs see the same, and the analyser stands the same after each.
+fn check_taken(rt: &impl Abort, alloc: Global, lines: &TwoLines, run: &OneRun, size: u32) {
+    let mut analyser = analyser(rt, alloc);
+    let mut text = String::new(alloc);
+    let mut taken: usize = 0;
+    for _ in &lines.pairs {
+        if taken >= lines.pairs.len() {
+            break;
+        }
+        let first = lines.first.get(taken..).expect(rt, "bits");
+        let second = lines.second.get(taken..).expect(rt, "bits");
+        let count = take_some(rt, &mut text, &mut analyser, first, second, size);
+        taken = taken.saturating_add(count);
+        assert!(rt; stands_at(&analyser, run, taken), "{size}");
+    }
+    assert_eq!(rt; taken, lines.pairs.len(), "{size}");
+    assert_eq!(rt; text.as_str(), run.text.as_str(), "{size}");
+    let history = history_of(rt, alloc, &analyser);
+    assert_eq!(rt; history.as_str(), run.history.as_str(), "{size}");
+}
+
+/// The same with calls of `feed` of up to `size` pairs.
+fn check_fed(rt: &impl Abort, alloc: Global, lines: &TwoLines, run: &OneRun, size: usize) {
+    let mut analyser = analyser(rt, alloc);
+    let mut sink = PairCollector::new(alloc, [0, 0]);
+    let mut fed: usize = 0;
+    for some in lines.pairs.chunks(size.max(1)) {
+        feed(rt, &mut analyser, some, &mut sink).expect(rt, "room");
+        fed = fed.saturating_add(some.len());
+        assert!(rt; stands_at(&analyser, run, fed), "{size}");
+    }
+    assert!(rt; !sink.lacks);
+    assert_eq!(rt; fed, lines.pairs.len(), "{size}");
+    assert_eq!(rt; sink.text.as_str(), run.text.as_str(), "{size}");
+    let history = history_of(rt, alloc, &analyser);
+    assert_eq!(rt; history.as_str(), run.history.as_str(), "{size}");
+}
+
+/// The reports are those of both whole lists, merged.
+#[test]
+fn merged_reports(rt: HostRuntime) {
+    let alloc = rt.alloc();
+    for seed in 1..=4u64 {
+        let TwoLines { first, second, .. } = traffic(&rt, alloc, seed);
+        let first = side_of(&rt, alloc, first, 3);
+        let second = side_of(&rt, alloc, second, 3);
+        let mut pushed = analyser(&rt, alloc);
+        let found = differing_place(&rt, &mut pushed, &first, &second);
+        assert_eq!(rt; found, None, "seed {seed}");
+        let mut fed = analyser(&rt, alloc);
+        assert!(rt; tells(&rt, alloc, &mut fed, &first, &second), "seed {seed}");
+    }
+}
+
+/// Calls of every size see what calls of one pair see.
+#[test]
+fn calls_of_every_size(rt: HostRuntime) {
+    let alloc = rt.alloc();
+    let mut text = String::new(alloc);
+    for seed in 1..=4u64 {
+        let lines = traffic(&rt, alloc, seed);
+        assert_eq!(rt; lines.pairs.len(), PAIRS);
+        let run = one_run(&rt, alloc, &lines);
+        text.push_str(&run.text).expect(&rt, "memory");
+        for size in 1..=48u32 {
+            check_taken(&rt, alloc, &lines, &run, size);
+            check_fed(&rt, alloc, &lines, &run, size as usize);
+        }
+        check_fed(&rt, alloc, &lines, &run, PAIRS);
+    }
+    for word in ["answered", "missing", "spoilt", "stray", "overlong", "idle"] {
+        assert!(rt; text.contains(word), "{word}");
+    }
+}
