@@ -13,9 +13,10 @@ use Rattle.bus_line.specs.Due.{current, due_at, placed}
 use Rattle.bus_line.specs.Internal.LineState.{LineState}
 use Rattle.bus_line.specs.Internal.Tracks.{padded, HasTaken, Tracks}
 use Rattle.bus_line.specs.Mark.{MayDecide}
-use Rattle.bus_line.specs.After.{After, TakesTo}
+use Rattle.bus_line.specs.After.{After}
 use Rattle.bus_line.proofs.RunEndLemmas.{ones-are}
 use Rattle.bus_line.specs.Internal.Late.{IsCalm, IsWord, IsStop}
+use Rattle.bus_line.specs.Internal.Flags.{StopsAt}
 use Rattle.bus_line.proofs.DueMoreLemmas.{placed-more}
 use Rattle.bus_line.proofs.DecideLemmas.{nothing-due}
 use Rattle.bus_line.proofs.WordLemmas.{word-made, word-just, padded-length}
@@ -191,14 +192,14 @@ calm-not : (n : ℕ) (b bits : List Bool) → IsCalm b bits n → (i : ℕ) → 
 calm-not n b bits h i l (inl six) = (h i l).0 ((ones-are (b ++ take i bits) 6).1 six)
 calm-not n b bits h i l (inr more) = (h i l).1 ((ones-are (b ++ take i bits) 14).1 more)
 
-pub takes-all : (w n x : ℕ) (b : List Bool) → Calm w n x b → TakesTo b (bits_of n x) n
-takes-all w n x b h = record {
+pub stops-behind-all : (w n x : ℕ) (b : List Bool) → Calm w n x b → StopsAt b (bits_of n x) n
+stops-behind-all w n x b h = record {
   before = λ i l. calm-not n b (bits_of n x) h.calm i (omega (arith, l));
   stop = λ l. absurd (omega (arith, l, length-bits n x));
 }
 
-pub takes-to : (w n m x : ℕ) (b : List Bool) → Last w n m x b → IsStop w m → TakesTo b (bits_of n x) (m + 1)
-takes-to w n m x b h s = record {
+pub stops-behind : (w n m x : ℕ) (b : List Bool) → Last w n m x b → IsStop w m → StopsAt b (bits_of n x) (m + 1)
+stops-behind w n m x b h s = record {
   before = λ i l. calm-not m b (bits_of n x) h.calm i (omega (arith, l));
   stop = λ l.
       let e : m ≡ m + 1 - 1 = omega arith in

@@ -20,6 +20,9 @@ pub mod TracksAppendLemmas
 pub mod DecideLemmas
 pub mod SettleLemmas
 pub mod AdvanceLemmas
+pub mod FlagLemmas
+pub mod FlagRunLemmas
+pub mod PassedLemmas
 pub mod ClassLemmas
 pub mod LedgerStoredLemmas
 pub mod ReportFrameLemmas

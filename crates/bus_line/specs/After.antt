@@ -1,7 +1,7 @@
 -- The lists of bits after which a decoder may stand.
-use Rattle.std.specs.Prelude.{◌≡◌, ℕ, ◌+◌, ◌-◌, ◌<◌, ◌≤◌, Bool, List, [], ◌∷◌, ◌++◌, length, take, Option, Some, None}
+use Rattle.std.specs.Prelude.{◌≡◌, ℕ, ◌+◌, ◌-◌, ◌<◌, ◌≤◌, Bool, List, [], ◌∷◌, ◌++◌, length, Option, Some, None}
 use Rattle.bus_bits.specs.Octet.{octets}
-use Rattle.bus_line.specs.Mark.{MayDecide}
+use Rattle.bus_line.specs.Mark.{MayDecideAt}
 use Rattle.bus_line.specs.Due.{current}
 use Rattle.bus_line.specs.Internal.LineState.{LineState}
 use Rattle.bus_line.specs.declared.piece.Piece.{Piece}
@@ -48,5 +48,5 @@ FitsFrame longest (Some (piece.Idle span)) = Unit {0}
 
 -- of these bits, behind those of b, so many are taken: all, or those up to the first that may decide a report
 pub record TakesTo (b bits : List Bool) (count : ℕ) : Type 0 where
-  pub before : (i : ℕ) → i + 1 < count → MayDecide (b ++ take i bits) → ⊥
-  pub stop : count < length bits → MayDecide (b ++ take (count - 1) bits)
+  pub before : (i : ℕ) → i + 1 < count → MayDecideAt b bits i → ⊥
+  pub stop : count < length bits → MayDecideAt b bits (count - 1)

@@ -2,6 +2,7 @@
 
 mod append;
 mod decide;
+mod flags;
 mod frame_buffer;
 mod late;
 mod look;
@@ -161,8 +162,10 @@ impl<C: Check> LineDecoder<C> {
         ensures within { (1 ≤ result) × (result ≤ count) }
         ensures stops { (b : List Bool) → After C.folded C.COST self.now b → TakesTo b (bits_of count bits) result }
     {
-        let calm = calm_bits(self.history | bits << 16, count);
-        if calm == count { count } else { calm + 1 }
+        let passed = 8 * self.flags_ahead(bits, count);
+        let left = count - passed;
+        let calm = calm_bits((self.history | bits << 16) >> passed, left);
+        if calm == left { count } else { passed + calm + 1 }
     }
 
     /// Takes a bit, and returns the report that it decides, if there is one. A frame's octets are

@@ -13,7 +13,7 @@ use Rattle.bus_bits.specs.Octet.{bits_of}
 use Rattle.bus_bits.specs.declared.spent.Spent.{Spent}
 use Rattle.bus_bits.proofs.OctetLemmas.{length-bits, bits-front, bits-low, one_bit}
 use Rattle.bus_line.specs.Report.{Report, due, moved}
-use Rattle.bus_line.specs.Mark.{MayDecide}
+use Rattle.bus_line.specs.Mark.{AreFlags, MayDecide, MayDecideAt}
 use Rattle.bus_line.specs.Due.{reports, placed, places, due_at}
 use Rattle.bus_line.specs.Laws.{OneMore, ReportsGrow, DueStays, DueIsIt, FramesStored, StoredPaid, AssembledWithin}
 use Rattle.bus_line.specs.Ledger.{octet_count, copied, stored, IsLedger as IsLineLedger}
@@ -58,7 +58,7 @@ pub length-pairs : (n x y : ℕ) → length (pairs_of n x y) ≡ n
 length-pairs n x y = sym (length-map (pairs_of n x y) (λ (q : Bool × Bool). q.0)) ∙ (ap length (firsts-of n x y) ∙ length-bits n x)
 
 -- where a line stands that is asked first, all that it was asked for are taken
-pub takes-all-of : (b bits : List Bool) (most n : ℕ) → ((i : ℕ) → i + 1 < most → MayDecide (b ++ take i bits) → ⊥) → TakesTo b bits n → length bits ≡ most → 1 ≤ n → n ≤ most → n ≡ most
+pub takes-all-of : (b bits : List Bool) (most n : ℕ) → ((i : ℕ) → i + 1 < most → MayDecideAt b bits i → ⊥) → TakesTo b bits n → length bits ≡ most → 1 ≤ n → n ≤ most → n ≡ most
 takes-all-of b bits most n calm t l some within = elim (cases_lt n most) [
   | inl u ↦ absurd (calm (n - 1) (omega (arith, u, some)) (t.stop (omega (arith, u, l))))
   | inr u ↦ omega (arith, u, within)
@@ -376,6 +376,13 @@ lowest n x h =
 
 pub lowest-front : (i n count x : ℕ) → n ≤ 48 → n ≤ count → i ≤ n → take i (bits_of n (x % (1 * 2 ^ n % 2 ^ 64))) ≡ take i (bits_of count x)
 lowest-front i n count x h l k = ap (take i) (lowest n x h ∙ sym (bits-front n count x l)) ∙ take-take i n (bits_of count x) k
+
+-- a bit of the lowest of a number may decide just what it may decide there
+pub decides-front : (b : List Bool) (i n count x : ℕ) → n ≤ 48 → n ≤ count → i + 1 ≤ n → MayDecideAt b (bits_of n (x % (1 * 2 ^ n % 2 ^ 64))) i → MayDecideAt b (bits_of count x) i
+decides-front b i n count x h l k d = record {
+  behind = subst (λ (z : List Bool). MayDecide (b ++ z)) (lowest-front i n count x h l (omega (arith, k))) d.behind;
+  apart = λ e are. d.apart e (subst AreFlags (sym (lowest-front (i + 1) n count x h l k)) are);
+}
 
 pub zip-front : (n : ℕ) (b c : List Bool) → take n (zip b c) ≡ zip (take n b) (take n c)
 zip-front zero b c = refl

@@ -1,7 +1,7 @@
 -- The lists of pairs of bits after which an analyser of two lines may stand, and what more pairs do.
 use Rattle.std.specs.Prelude.{◌≡◌, ℕ, ◌+◌, ◌-◌, ◌<◌, ◌⊎◌, Bool, List, ◌++◌, length, take, Option, Some, option_map}
 use Rattle.std.specs.Option.{option_to_list}
-use Rattle.bus_line.specs.Mark.{MayDecide}
+use Rattle.bus_line.specs.Mark.{MayDecideAt}
 use Rattle.bus_line.specs.Internal.LineState.{LineState}
 use Rattle.bus_line.specs.After.{After}
 use Rattle.bus_dictionary.specs.Dictionary.{longest_of}
@@ -73,6 +73,6 @@ SeesPairs folded cost old pairs told new = Leads (two_lines folded cost) old pai
 
 -- of these bits of two lines, behind those of b and c, so many are taken: all, or those up to the first that may decide a report on either line
 pub record TakesPairsTo (b c xs ys : List Bool) (count : ℕ) : Type 0 where
-  pub first : (i : ℕ) → i + 1 < count → MayDecide (b ++ take i xs) → ⊥
-  pub second : (i : ℕ) → i + 1 < count → MayDecide (c ++ take i ys) → ⊥
-  pub stop : count < length xs → MayDecide (b ++ take (count - 1) xs) ⊎ MayDecide (c ++ take (count - 1) ys)
+  pub first : (i : ℕ) → i + 1 < count → MayDecideAt b xs i → ⊥
+  pub second : (i : ℕ) → i + 1 < count → MayDecideAt c ys i → ⊥
+  pub stop : count < length xs → MayDecideAt b xs (count - 1) ⊎ MayDecideAt c ys (count - 1)

@@ -7,7 +7,7 @@ ghost use Rattle.std.specs.Io.BufRead.{Rests};
 ghost use Rattle.bus_bits.specs.Octet.{bits_of};
 ghost use Rattle.bus_dictionary.specs.Dictionary.{longest_of};
 ghost use Rattle.bus_line.specs.After.{After};
-ghost use Rattle.bus_line.specs.Mark.{MayDecide};
+ghost use Rattle.bus_line.specs.Mark.{MayDecideAt};
 ghost use Rattle.bus_watch.specs.Internal.Hears.{Hears, Reached};
 ghost use Rattle.bus_watch.specs.Internal.JournalState.{journal_state, HasRoom};
 ghost use Rattle.bus_watch.specs.PairShown.{shown_option_on};
@@ -78,7 +78,7 @@ fn hear_all<C: Check>(
     requires place { decoder.old.place + count ≤ 2 ^ 60 }
     requires reached { Reached C.folded C.COST decoder.old }
     requires calm { (b : List Bool) → After C.folded C.COST decoder.old b → (i : ℕ) → i + 1 < count →
-        MayDecide (b ++ take i (bits_of count bits)) → ⊥ }
+        MayDecideAt b (bits_of count bits) i → ⊥ }
     requires room { HasRoom (journal_state journal.old) }
     ensures { Hears C.folded C.COST (Some line) decoder.old (journal_state journal.old) (bits_of count bits)
         (option_map (found_on (Some line) decoder.new.octets) result) decoder.new (journal_state journal.new) }

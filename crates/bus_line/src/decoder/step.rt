@@ -16,11 +16,12 @@ impl<C: Check> LineDecoder<C> {
     ghost use Rattle.bus_line.specs.Internal.Tracks.{Tracks};
     ghost use Rattle.bus_line.specs.Shown.{reported};
     ghost use Rattle.bus_line.specs.After.{After, TakesTo};
+    ghost use Rattle.bus_line.specs.Internal.Flags.{StopsAt};
     ghost use Rattle.bus_line.specs.Internal.Late.{IsWord, IsCalm, LagsBy};
     ghost use Rattle.bus_line.specs.Report.{moved};
 
     /// Takes the bits up to the first that may decide a report, or all of them, and answers what the
-    /// last of them decides.
+    /// last of them decides. Flags right behind a flag decide nothing, and are taken together.
     #[inline(always)]
     pub(crate) fn advance(&mut self, bits: u64, count: u32) -> Taken
         requires some { 1 ≤ count }
@@ -31,6 +32,48 @@ impl<C: Check> LineDecoder<C> {
         ensures within { result.count ≤ count }
         ensures stops { (b : List Bool) → After C.folded C.COST self.old b →
             TakesTo b (bits_of count bits) result.count }
+        ensures answer { (b : List Bool) → After C.folded C.COST self.old b →
+            option_map (reported self.new.octets) result.event
+            ≡ option_map (moved self.old.origin)
+            (due_at self.old.longest (b ++ bits_of result.count bits) (length b + result.count - 1)) }
+        ensures more { (b : List Bool) → After C.folded C.COST self.old b →
+            placed self.old.origin self.old.longest (b ++ bits_of result.count bits)
+            ≡ placed self.old.origin self.old.longest b
+            ++ option_to_list (option_map (reported self.new.octets) result.event) }
+        ensures before { (b : List Bool) → After C.folded C.COST self.old b →
+            placed self.old.origin self.old.longest (b ++ bits_of (result.count - 1) bits)
+            ≡ placed self.old.origin self.old.longest b }
+        ensures after { (b : List Bool) → After C.folded C.COST self.old b →
+            After C.folded C.COST self.new (b ++ bits_of result.count bits) }
+        ensures longest { self.new.longest ≡ self.old.longest }
+        ensures origin { self.new.origin ≡ self.old.origin }
+        ensures place { self.new.place ≡ self.old.place + result.count }
+    {
+        let flags = self.flags_ahead(bits, count);
+        self.take_flags(flags);
+        let passed = 8 * flags;
+        if passed == count {
+            return Taken { count, event: None };
+        }
+        let taken = self.advance_to_stop(bits >> passed, count - passed);
+        Taken {
+            count: passed + taken.count,
+            event: taken.event,
+        }
+    }
+
+    /// Takes the bits up to the first behind just six ones or just fourteen, or all of them, and answers
+    /// what the last of them decides.
+    #[inline(always)]
+    fn advance_to_stop(&mut self, bits: u64, count: u32) -> Taken
+        requires some { 1 ≤ count }
+        requires few { count ≤ 48 }
+        requires small { bits < 2 ^ count }
+        requires room { self.old.place + count ≤ 2 ^ 60 }
+        ensures some { 1 ≤ result.count }
+        ensures within { result.count ≤ count }
+        ensures stops { (b : List Bool) → After C.folded C.COST self.old b →
+            StopsAt b (bits_of count bits) result.count }
         ensures answer { (b : List Bool) → After C.folded C.COST self.old b →
             option_map (reported self.new.octets) result.event
             ≡ option_map (moved self.old.origin)

@@ -2,12 +2,11 @@ use Rattle.std.proofs.Common.{◌≡◌, ◌-◌, ◌*◌, ◌%◌, ◌^◌, ◌
 use Rattle.std.proofs.lemmas.List.{length-map}
 use Rattle.bus_bits.specs.Octet.{bits_of}
 use Rattle.bus_bits.proofs.OctetLemmas.{length-bits, least}
-use Rattle.bus_line.specs.Mark.{MayDecide}
 use Rattle.bus_watch.specs.Heard.{firsts, seconds, pairs_of}
 use Rattle.bus_watch.specs.Internal.JournalState.{journal_state}
 use Rattle.bus_watch.specs.Internal.PairView.{pair_state}
 use Rattle.bus_watch.specs.Pairs.{PairState, IsAfterPairs, SeesPairs, TakesPairsTo, heard_pair, seen_after_pairs}
-use Rattle.bus_watch.proofs.PairLemmas.{lowest-front, takes-least, sees-words, words-before, room-first, room-second}
+use Rattle.bus_watch.proofs.PairLemmas.{decides-front, takes-least, sees-words, words-before, room-first, room-second}
 use Rattle.bus_watch.proofs.pair_analyser.PairAnalyser.take.Goals as goal
 
 pub hear_all-self-inside-requires-clause-calm : goal.hear_all-self-inside-requires-clause-calm
@@ -15,7 +14,7 @@ hear_all-self-inside-requires-clause-calm g c = λ b h i l m.
     let n = c.min-taken.result in
     let e : n ≡ min c.would_take-first_takes.result c.would_take-second_takes.result = c.min-taken.ensures ∙ least c.would_take-first_takes.result c.would_take-second_takes.result in
     (c.would_take-first_takes.ensures.stops b h).before i (omega (arith, l, e))
-    (subst (λ x. MayDecide (b ++ x)) (lowest-front i n c.args.count c.args.first (omega (arith, e, c.would_take-first_takes.ensures.within, c.requires.few)) (omega (arith, e, c.would_take-first_takes.ensures.within)) (omega (arith, l))) m)
+    (decides-front b i n c.args.count c.args.first (omega (arith, e, c.would_take-first_takes.ensures.within, c.requires.few)) (omega (arith, e, c.would_take-first_takes.ensures.within)) (omega (arith, l)) m)
 
 pub hear_all-self-inside-requires-clause-room : goal.hear_all-self-inside-requires-clause-room
 hear_all-self-inside-requires-clause-room g c =
@@ -29,7 +28,7 @@ hear_all-self-inside-requires-2-clause-calm g c = λ b h i l m.
     let n = c.min-taken.result in
     let e : n ≡ min c.would_take-first_takes.result c.would_take-second_takes.result = c.min-taken.ensures ∙ least c.would_take-first_takes.result c.would_take-second_takes.result in
     (c.would_take-second_takes.ensures.stops b h).before i (omega (arith, l, e))
-    (subst (λ x. MayDecide (b ++ x)) (lowest-front i n c.args.count c.args.second (omega (arith, e, c.would_take-second_takes.ensures.within, c.requires.few)) (omega (arith, e, c.would_take-second_takes.ensures.within)) (omega (arith, l))) m)
+    (decides-front b i n c.args.count c.args.second (omega (arith, e, c.would_take-second_takes.ensures.within, c.requires.few)) (omega (arith, e, c.would_take-second_takes.ensures.within)) (omega (arith, l)) m)
 
 pub hear_all-self-inside-requires-2-clause-room : goal.hear_all-self-inside-requires-2-clause-room
 hear_all-self-inside-requires-2-clause-room g c =

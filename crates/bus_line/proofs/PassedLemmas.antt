@@ -1,0 +1,127 @@
+-- Bits behind flags that follow a flag.
+use Rattle.std.proofs.Common.{◌≡◌, ◌≢◌, ℕ, ◌+◌, ◌-◌, ◌*◌, ◌/◌, ◌^◌, ◌≤◌, ◌<◌, Bool, List, [], ◌++◌, length, take, drop, Option, None, inl, inr, sym, ap, ◌∙◌, subst, arith, append-nil, append_assoc, length-append}
+use Rattle.std.specs.Option.{option_map}
+use Rattle.std.proofs.lemmas.Bool.{cases_lt}
+use Rattle.std.proofs.lemmas.Nat.{shr_below}
+use Rattle.bus_bits.specs.Octet.{bits_of, number}
+use Rattle.bus_bits.proofs.OctetLemmas.{length-bits, bits-split, bits-front}
+use Rattle.bus_line.specs.Mark.{flags}
+use Rattle.bus_line.specs.Report.{Report, moved}
+use Rattle.bus_line.specs.Due.{due_at, placed}
+use Rattle.bus_line.specs.After.{After, TakesTo}
+use Rattle.bus_line.specs.Internal.LineState.{LineState}
+use Rattle.bus_line.specs.Internal.Tracks.{padded}
+use Rattle.bus_line.specs.Internal.Late.{IsWord, IsStop}
+use Rattle.bus_line.specs.Internal.Flags.{FlagsAhead, StopsAt}
+use Rattle.bus_line.proofs.WordLemmas.{word-part}
+use Rattle.bus_line.proofs.AdvanceLemmas.{is_calm, is_last, stops-behind-all, stops-behind}
+use Rattle.bus_line.proofs.FlagRunLemmas.{flags-length, bits-behind, flags-placed, flags-due, flags-before, takes-flags, takes-behind}
+
+-- the bits behind them are a number of as many bits
+pub below : (n x k : ℕ) → 8 * k ≤ n → x < 2 ^ n → x / 2 ^ (8 * k) < 2 ^ (n - 8 * k)
+below n x k within small =
+    let e : n ≡ n - 8 * k + 8 * k = omega (arith, within) in
+    shr_below x (n - 8 * k) (8 * k) (subst (λ (j : ℕ). x < 2 ^ j) e small)
+
+module _ (b : List Bool) (n x k : ℕ) (ahead : FlagsAhead b (bits_of n x) k) where
+  within : 8 * k ≤ n
+  within = omega (arith, ahead.within, length-bits n x)
+
+  flags-are : bits_of (8 * k) x ≡ flags k
+  flags-are = sym (bits-front (8 * k) n x within) ∙ ahead.are
+
+  abbrev rest : ℕ
+  rest = x / 2 ^ (8 * k)
+
+  -- so many bits more
+  list-behind : (t : ℕ) → b ++ bits_of (8 * k + t) x ≡ (b ++ flags k) ++ bits_of t rest
+  list-behind t =
+      ap (λ (z : List Bool). b ++ z) (bits-split (8 * k) t x ∙ ap (λ (z : List Bool). z ++ bits_of t rest) flags-are)
+      ∙ sym (append_assoc b (flags k) (bits_of t rest))
+
+  size-behind : length (b ++ flags k) ≡ length b + 8 * k
+  size-behind = omega (arith, length-append b (flags k), flags-length k)
+
+  pub stops-on : (t : ℕ) → StopsAt (b ++ flags k) (bits_of (n - 8 * k) rest) t → 1 ≤ t → TakesTo b (bits_of n x) (8 * k + t)
+  stops-on t stops some = takes-behind b (bits_of n x) k t ahead (subst (λ (z : List Bool). StopsAt (b ++ flags k) z t) (sym (bits-behind (8 * k) n x within)) stops) some
+
+  pub answer-on : (longest origin l o t : ℕ) (r : Option Report) → l ≡ longest → o ≡ origin → r ≡ option_map (moved o) (due_at l ((b ++ flags k) ++ bits_of t rest) (length (b ++ flags k) + t - 1))
+      → r ≡ option_map (moved origin) (due_at longest (b ++ bits_of (8 * k + t) x) (length b + (8 * k + t) - 1))
+  answer-on longest origin l o t r same from e =
+      let m : length (b ++ flags k) + t - 1 ≡ length b + (8 * k + t) - 1 = omega (arith, size-behind) in
+      e ∙ rw (same, from, m) (ap (λ (z : List Bool). option_map (moved origin) (due_at longest z (length b + (8 * k + t) - 1))) (sym (list-behind t)))
+
+  pub more-on : (longest origin l o t : ℕ) (rs : List Report) → l ≡ longest → o ≡ origin → placed o l ((b ++ flags k) ++ bits_of t rest) ≡ placed o l (b ++ flags k) ++ rs
+      → placed origin longest (b ++ bits_of (8 * k + t) x) ≡ placed origin longest b ++ rs
+  more-on longest origin l o t rs same from e =
+      ap (placed origin longest) (list-behind t)
+      ∙ (subst (λ (j : ℕ). placed origin j ((b ++ flags k) ++ bits_of t rest) ≡ placed origin j (b ++ flags k) ++ rs) same
+      (subst (λ (j : ℕ). placed j l ((b ++ flags k) ++ bits_of t rest) ≡ placed j l (b ++ flags k) ++ rs) from e)
+      ∙ ap (λ (z : List Report). z ++ rs) (flags-placed origin longest b k ahead.behind))
+
+  pub before-on : (longest origin l o t : ℕ) → l ≡ longest → o ≡ origin → 1 ≤ t → placed o l ((b ++ flags k) ++ bits_of (t - 1) rest) ≡ placed o l (b ++ flags k)
+      → placed origin longest (b ++ bits_of (8 * k + t - 1) x) ≡ placed origin longest b
+  before-on longest origin l o t same from some e =
+      let m : 8 * k + t - 1 ≡ 8 * k + (t - 1) = omega (arith, some) in
+      ap (λ (j : ℕ). placed origin longest (b ++ bits_of j x)) m
+      ∙ (more-on longest origin l o (t - 1) [] same from (e ∙ sym (append-nil (placed o l (b ++ flags k)))) ∙ append-nil (placed origin longest b))
+
+  pub after-on : {C : Type 0} (folded : C → List ℕ → Type 0) (cost t : ℕ) (e : LineState C) → After folded cost e ((b ++ flags k) ++ bits_of t rest) → After folded cost e (b ++ bits_of (8 * k + t) x)
+  after-on folded cost t e h = subst (After folded cost e) (sym (list-behind t)) h
+
+  -- ---- where the flags are all
+
+  module _ (all : 8 * k ≡ n) (some : 1 ≤ n) where
+    are-flags : bits_of n x ≡ flags k
+    are-flags = ap (λ (j : ℕ). bits_of j x) (sym all) ∙ flags-are
+
+    pub stops-all : TakesTo b (bits_of n x) n
+    stops-all = subst (TakesTo b (bits_of n x)) all (takes-flags b (bits_of n x) k ahead (all ∙ sym (length-bits n x)))
+
+    pub answer-all : (longest origin : ℕ) → None ≡ option_map (moved origin) (due_at longest (b ++ bits_of n x) (length b + n - 1))
+    answer-all longest origin =
+        let l : 0 < k = omega (arith, all, some) in
+        sym (ap (λ (z : List Bool). option_map (moved origin) (due_at longest (b ++ z) (length b + n - 1))) are-flags
+        ∙ (ap (λ (j : ℕ). option_map (moved origin) (due_at longest (b ++ flags k) (length b + j - 1))) (sym all)
+        ∙ ap (option_map (moved origin)) (flags-due longest b k l (ahead.behind l))))
+
+    pub more-all : (longest origin : ℕ) → placed origin longest (b ++ bits_of n x) ≡ placed origin longest b ++ []
+    more-all longest origin =
+        ap (λ (z : List Bool). placed origin longest (b ++ z)) are-flags ∙ (flags-placed origin longest b k ahead.behind ∙ sym (append-nil (placed origin longest b)))
+
+    pub before-all : (longest origin : ℕ) → placed origin longest (b ++ bits_of (n - 1) x) ≡ placed origin longest b
+    before-all longest origin =
+        let l : 0 < k = omega (arith, all, some) in
+        ap (λ (z : List Bool). placed origin longest (b ++ z)) (sym (bits-front (n - 1) n x (omega arith)))
+        ∙ (ap (λ (z : List Bool). placed origin longest (b ++ take (n - 1) z)) are-flags
+        ∙ (ap (λ (j : ℕ). placed origin longest (b ++ take (j - 1) (flags k))) (sym all) ∙ flags-before origin longest b k l (ahead.behind l)))
+
+    pub after-all : {C : Type 0} (folded : C → List ℕ → Type 0) (cost : ℕ) (e : LineState C) → After folded cost e (b ++ flags k) → After folded cost e (b ++ bits_of n x)
+    after-all folded cost e h = subst (λ (z : List Bool). After folded cost e (b ++ z)) (sym are-flags) h
+
+  -- ---- how many would be taken
+
+  word-behind : (w : ℕ) → IsWord w b (bits_of n x) → IsWord (w / 2 ^ (8 * k)) (b ++ flags k) (bits_of (n - 8 * k) rest)
+  word-behind w h =
+      let e : n ≡ 8 * k + (n - 8 * k) = omega (arith, within) in
+      word-part w (8 * k) b (bits_of n x) h
+      ∙ (ap (λ (j : ℕ). number (drop j (padded (b ++ bits_of n x)))) (sym size-behind)
+      ∙ ap (λ (z : List Bool). number (drop (length (b ++ flags k)) (padded z))) (ap (λ (j : ℕ). b ++ bits_of j x) e ∙ list-behind (n - 8 * k)))
+
+  pub would-all : (w m : ℕ) → IsWord w b (bits_of n x) → m ≡ n - 8 * k → ((i : ℕ) → i < m → IsStop (w / 2 ^ (8 * k)) i → ⊥) → TakesTo b (bits_of n x) n
+  would-all w m word e calm = elim (cases_lt 0 (n - 8 * k)) [
+    | inl u ↦
+        let s : 8 * k + (n - 8 * k) ≡ n = omega (arith, within) in
+        subst (TakesTo b (bits_of n x)) s (stops-on (n - 8 * k) (stops-behind-all (w / 2 ^ (8 * k)) (n - 8 * k) rest (b ++ flags k) (is_calm (w / 2 ^ (8 * k)) (n - 8 * k) m rest (b ++ flags k) (word-behind w word) e calm)) u)
+    | inr u ↦
+        let s : 8 * k ≡ n = omega (arith, within, u) in
+        subst (TakesTo b (bits_of n x)) s (takes-flags b (bits_of n x) k ahead (s ∙ sym (length-bits n x)))
+  ]
+
+  pub would-stop : (w m : ℕ) → IsWord w b (bits_of n x) → m ≤ n - 8 * k → m ≢ n - 8 * k → ((i : ℕ) → i < m → IsStop (w / 2 ^ (8 * k)) i → ⊥) → (m < n - 8 * k → IsStop (w / 2 ^ (8 * k)) m)
+      → TakesTo b (bits_of n x) (8 * k + m + 1)
+  would-stop w m word l e calm stop =
+      let last = is_last (w / 2 ^ (8 * k)) (n - 8 * k) m rest (b ++ flags k) (word-behind w word) l e calm in
+      let s : 8 * k + (m + 1) ≡ 8 * k + m + 1 = omega arith in
+      subst (TakesTo b (bits_of n x)) s
+      (stops-on (m + 1) (stops-behind (w / 2 ^ (8 * k)) (n - 8 * k) m rest (b ++ flags k) last (stop (omega (arith, last.within, length-bits (n - 8 * k) rest)))) (omega arith))

@@ -1,0 +1,15 @@
+-- Flags that follow a flag.
+use Rattle.std.specs.Prelude.{◌≡◌, ℕ, ◌+◌, ◌-◌, ◌*◌, ◌<◌, ◌≤◌, Bool, List, ◌++◌, length, take, drop}
+use Rattle.bus_line.specs.Mark.{flag, flags, EndsInFlag, MayDecide}
+
+-- these bits begin with `k` flags and no more, and they follow a flag: none where b ends in no flag
+pub record FlagsAhead (b bits : List Bool) (k : ℕ) : Type 0 where
+  pub within : 8 * k ≤ length bits
+  pub are : take (8 * k) bits ≡ flags k
+  pub behind : 0 < k → EndsInFlag b
+  pub most : EndsInFlag b → 8 * k + 8 ≤ length bits → take 8 (drop (8 * k) bits) ≡ flag → ⊥
+
+-- of these bits so many are taken: all, or those up to the first behind just six ones or just fourteen
+pub record StopsAt (b bits : List Bool) (count : ℕ) : Type 0 where
+  pub before : (i : ℕ) → i + 1 < count → MayDecide (b ++ take i bits) → ⊥
+  pub stop : count < length bits → MayDecide (b ++ take (count - 1) bits)

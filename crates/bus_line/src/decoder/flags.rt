@@ -1,0 +1,62 @@
+//! Flags one behind the other, which decide nothing.
+
+ghost use Rattle.std.specs.Prelude.{◌≡◌, ◌≢◌, ◌+◌, ◌*◌, ◌/◌, ◌≤◌, ◌<◌, ◌^◌, List, Bool, ◌++◌, ℕ};
+ghost use Rattle.bus_bits.specs.Octet.{bits_of};
+ghost use Rattle.bus_line.specs.Mark.{flag, flags, EndsInFlag};
+ghost use Rattle.bus_line.specs.Internal.Flags.{FlagsAhead};
+
+use crate::decoder::LineDecoder;
+use bus_fcs::Check;
+
+/// How many flags these bits begin with.
+fn flags_in(bits: u64, count: u32) -> u32
+    requires { count ≤ 48 }
+    ensures within { 8 * result ≤ count }
+    ensures are { bits_of (8 * result) bits ≡ flags result }
+    ensures most { 8 * result + 8 ≤ count → bits_of 8 (bits / 2 ^ (8 * result)) ≢ flag }
+{
+    let mut found = 0;
+    while 8 * found + 8 <= count && bits >> (8 * found) & 0xff == 0x7e {
+        found += 1;
+    }
+    found
+}
+
+impl<C: Check> LineDecoder<C> {
+    ghost use Rattle.bus_line.specs.After.{After};
+
+    /// How many flags these bits begin with, where the last bit taken ended a flag; else none. Between
+    /// two such flags there is no piece (ISO/IEC 13239, interframe time fill).
+    #[inline(always)]
+    pub(crate) fn flags_ahead(&self, bits: u64, count: u32) -> u32
+        requires { count ≤ 48 }
+        ensures within { 8 * result ≤ count }
+        ensures ahead { (b : List Bool) → After C.folded C.COST self.now b →
+            FlagsAhead b (bits_of count bits) result }
+    {
+        if bits & 0xff != 0x7e || self.settles_at != self.place + 8 {
+            return 0;
+        }
+        flags_in(bits, count)
+    }
+
+    /// Takes so many flags, which follow a flag.
+    #[inline(always)]
+    pub(crate) fn take_flags(&mut self, count: u32)
+        requires few { count ≤ 6 }
+        requires room { self.old.place + 8 * count ≤ 2 ^ 60 }
+        ensures after { (b : List Bool) → After C.folded C.COST self.old b → (0 < count → EndsInFlag b) →
+            After C.folded C.COST self.new (b ++ flags count) }
+        ensures longest { self.new.longest ≡ self.old.longest }
+        ensures origin { self.new.origin ≡ self.old.origin }
+        ensures place { self.new.place ≡ self.old.place + 8 * count }
+    {
+        if count == 0 {
+            return;
+        }
+        self.place += u64::from(8 * count);
+        self.history = 0x7e7e;
+        self.first = Some(self.place);
+        self.settles_at = self.place + 8;
+    }
+}
