@@ -83,7 +83,7 @@ mark-told folded cost d at b t s h =
     let first : d.first ≡ Some (d.origin + (length b - 8 + 8)) = t.first ∙ ap (first_of d.origin) (flag-last b h) in
     s ∙ (ap settles_from first ∙ omega (arith, t.has_taken.place, n))
 
-mark-is : {C : Type 0} (folded : C → List ℕ → Type 0) (cost : ℕ) (d : LineState C) (at : ℕ) (b : List Bool) → After folded cost d b → at ≡ settles_from d.first → d.place ≤ 2 ^ 60 → at ≡ d.place + 8 → EndsInFlag b
+pub mark-is : {C : Type 0} (folded : C → List ℕ → Type 0) (cost : ℕ) (d : LineState C) (at : ℕ) (b : List Bool) → After folded cost d b → at ≡ settles_from d.first → d.place ≤ 2 ^ 60 → at ≡ d.place + 8 → EndsInFlag b
 mark-is folded cost d at b t s p e = found d.first refl
   where
     found : (first : Option ℕ) → d.first ≡ first → EndsInFlag b
@@ -111,12 +111,11 @@ none-by-mark folded cost d at b bits t s other = record {
   most = λ h l e. other (mark-told folded cost d at b t s h);
 }
 
-pub some-ahead : {C : Type 0} (folded : C → List ℕ → Type 0) (cost : ℕ) (d : LineState C) (at : ℕ) (b : List Bool) (n x k : ℕ) → After folded cost d b → at ≡ settles_from d.first → d.place ≤ 2 ^ 60 → at ≡ d.place + 8
-    → 8 * k ≤ n → bits_of (8 * k) x ≡ flags k → (8 * k + 8 ≤ n → bits_of 8 (x / 2 ^ (8 * k)) ≢ flag) → FlagsAhead b (bits_of n x) k
-some-ahead folded cost d at b n x k t s p e within are most = record {
+pub some-ahead : (b : List Bool) (n x k : ℕ) → EndsInFlag b → 8 * k ≤ n → bits_of (8 * k) x ≡ flags k → (8 * k + 8 ≤ n → bits_of 8 (x / 2 ^ (8 * k)) ≢ flag) → FlagsAhead b (bits_of n x) k
+some-ahead b n x k ends within are most = record {
   within = omega (arith, within, length-bits n x);
   are = bits-front (8 * k) n x within ∙ are;
-  behind = λ some. mark-is folded cost d at b t s p e;
+  behind = λ some. ends;
   most = λ h l next.
       let m : 8 * k + 8 ≤ n = omega (arith, l, length-bits n x) in
       most m (sym (bits-front 8 (n - 8 * k) (x / 2 ^ (8 * k)) (omega (arith, m))) ∙ (ap (take 8) (sym (bits-behind (8 * k) n x within)) ∙ next));
@@ -198,3 +197,9 @@ takes-behind b bits k n ahead stops some = record {
             ahead.most h (omega (arith, size, some, l)) next;
       };
 }
+
+-- no flag follows one: each stop is where a bit may decide a report
+pub takes-stop : (b bits : List Bool) (n : ℕ) → FlagsAhead b bits 0 → StopsAt b bits n → 1 ≤ n → TakesTo b bits n
+takes-stop b bits n none stops some =
+    let e : 8 * 0 + n ≡ n = omega arith in
+    subst (TakesTo b bits) e (takes-behind b bits 0 n none (subst (λ (z : List Bool). StopsAt z bits n) (sym (append-nil b)) stops) some)

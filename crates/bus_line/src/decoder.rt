@@ -146,7 +146,7 @@ impl<C: Check> LineDecoder<C> {
         ensures leads { IfOk result (λ t. Led C.folded C.COST self.old (bits_of t.count bits) self.new) }
         ensures unchanged { OnErr result (self.new ≡ self.old) }
     {
-        if self.place > PLACES - u64::from(count) {
+        if self.place + u64::from(count) > PLACES {
             return Err(PlaceLimit);
         }
         Ok(self.advance(bits, count))
@@ -165,7 +165,11 @@ impl<C: Check> LineDecoder<C> {
         let passed = 8 * self.flags_ahead(bits, count);
         let left = count - passed;
         let calm = calm_bits((self.history | bits << 16) >> passed, left);
-        if calm == left { count } else { passed + calm + 1 }
+        if calm == left {
+            count
+        } else {
+            passed + calm + 1
+        }
     }
 
     /// Takes a bit, and returns the report that it decides, if there is one. A frame's octets are

@@ -1,6 +1,6 @@
 //! Flags one behind the other, which decide nothing.
 
-ghost use Rattle.std.specs.Prelude.{◌≡◌, ◌≢◌, ◌+◌, ◌*◌, ◌/◌, ◌≤◌, ◌<◌, ◌^◌, List, Bool, ◌++◌, ℕ};
+ghost use Rattle.std.specs.Prelude.{◌≡◌, ◌≢◌, ◌+◌, ◌*◌, ◌/◌, ◌≤◌, ◌<◌, ◌^◌, List, Bool, true, false, ◌++◌, ℕ};
 ghost use Rattle.bus_bits.specs.Octet.{bits_of};
 ghost use Rattle.bus_line.specs.Mark.{flag, flags, EndsInFlag};
 ghost use Rattle.bus_line.specs.Internal.Flags.{FlagsAhead};
@@ -25,8 +25,18 @@ fn flags_in(bits: u64, count: u32) -> u32
 impl<C: Check> LineDecoder<C> {
     ghost use Rattle.bus_line.specs.After.{After};
 
-    /// How many flags these bits begin with, where the last bit taken ended a flag; else none. Between
-    /// two such flags there is no piece (ISO/IEC 13239, interframe time fill).
+    /// Whether the last bit taken ended a flag, and these bits go on with one. Between two such flags
+    /// there is no piece (ISO/IEC 13239, interframe time fill).
+    #[inline(always)]
+    pub(crate) fn is_flag_ahead(&self, bits: u64) -> bool
+        ensures some { result ≡ true → (b : List Bool) → After C.folded C.COST self.now b → EndsInFlag b }
+        ensures none { result ≡ false → (b : List Bool) → After C.folded C.COST self.now b → (count : ℕ) →
+            FlagsAhead b (bits_of count bits) 0 }
+    {
+        bits & 0xff == 0x7e && self.settles_at == self.place + 8
+    }
+
+    /// How many flags these bits begin with, where the last bit taken ended a flag; else none.
     #[inline(always)]
     pub(crate) fn flags_ahead(&self, bits: u64, count: u32) -> u32
         requires { count ≤ 48 }
@@ -34,10 +44,10 @@ impl<C: Check> LineDecoder<C> {
         ensures ahead { (b : List Bool) → After C.folded C.COST self.now b →
             FlagsAhead b (bits_of count bits) result }
     {
-        if bits & 0xff != 0x7e || self.settles_at != self.place + 8 {
-            return 0;
+        if self.is_flag_ahead(bits) {
+            return flags_in(bits, count);
         }
-        flags_in(bits, count)
+        0
     }
 
     /// Takes so many flags, which follow a flag.

@@ -14,9 +14,12 @@ const BITS: usize = 5000;
 /// The longest frame in octets.
 const LONGEST: usize = 5;
 
-/// What traffic is made of: a flag, a good frame and one with a wrong octet, runs of 1s and of 0s, noise.
-const PARTS: [&str; 8] = [
+/// What traffic is made of: a flag, flags one behind the other and with one 0 between them, a good frame
+/// and one with a wrong octet, runs of 1s and of 0s, noise.
+const PARTS: [&str; 10] = [
     "01111110",
+    "01111110 01111110 01111110 01111110 01111110 01111110 01111110 01111110",
+    "011111101111110 01111110 01111110",
     "01111110 00001000 11000001 00000000 101111101 10100111 01111110",
     "01111110 00001000 11000001 00000001 101111101 10100111 01111110",
     "111111111111111111111",
@@ -53,7 +56,7 @@ fn traffic(rt: &impl Abort, alloc: Global, seed: u64) -> Vec<bool> {
         state = state
             .wrapping_mul(6364136223846793005)
             .wrapping_add(1442695040888963407);
-        let part = PARTS[(state >> 61) as usize % PARTS.len()];
+        let part = PARTS[(state >> 60) as usize % PARTS.len()];
         let most = (state >> 40) as usize % 80;
         for bit in bits_of(alloc, part).expect(rt, "memory").iter().take(most) {
             bits.push(*bit).expect(rt, "memory");

@@ -20,7 +20,11 @@ struct Part {
 }
 
 /// What traffic is made of.
-const PARTS: [Part; 10] = [
+const PARTS: [Part; 11] = [
+    Part {
+        first: "flag flag flag flag flag call flag flag flag",
+        second: "0 flag flag flag flag flag flag reply flag flag",
+    },
     Part {
         first: "flag call flag",
         second: "ones-57 flag reply flag",
