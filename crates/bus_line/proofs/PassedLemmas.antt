@@ -1,5 +1,5 @@
 -- Bits behind flags that follow a flag.
-use Rattle.std.proofs.Common.{◌≡◌, ◌≢◌, ℕ, ◌+◌, ◌-◌, ◌*◌, ◌/◌, ◌^◌, ◌≤◌, ◌<◌, Bool, List, [], ◌++◌, length, take, drop, Option, None, inl, inr, sym, ap, ◌∙◌, subst, arith, append-nil, append_assoc, length-append}
+use Rattle.std.proofs.Common.{◌≡◌, ◌≢◌, ℕ, ◌+◌, ◌-◌, ◌*◌, ◌/◌, ◌^◌, ◌≤◌, ◌<◌, Bool, List, [], ◌++◌, length, take, drop, Option, None, inl, inr, sym, ap, ◌∙◌, subst, arith, refl, append-nil, append_assoc, length-append}
 use Rattle.std.specs.Option.{option_map}
 use Rattle.std.proofs.lemmas.Bool.{cases_lt}
 use Rattle.std.proofs.lemmas.Nat.{shr_below}
@@ -12,7 +12,7 @@ use Rattle.bus_line.specs.After.{After, TakesTo}
 use Rattle.bus_line.specs.Internal.LineState.{LineState}
 use Rattle.bus_line.specs.Internal.Tracks.{padded}
 use Rattle.bus_line.specs.Internal.Late.{IsWord, IsStop}
-use Rattle.bus_line.specs.Internal.Flags.{FlagsAhead, StopsAt}
+use Rattle.bus_line.specs.Internal.Flags.{FlagsAhead, IsPast, StopsAt}
 use Rattle.bus_line.proofs.WordLemmas.{word-part}
 use Rattle.bus_line.proofs.AdvanceLemmas.{is_calm, is_last, stops-behind-all, stops-behind}
 use Rattle.bus_line.proofs.FlagRunLemmas.{flags-length, bits-behind, flags-placed, flags-due, flags-before, takes-flags, takes-behind}
@@ -23,51 +23,53 @@ below n x k within small =
     let e : n ≡ n - 8 * k + 8 * k = omega (arith, within) in
     shr_below x (n - 8 * k) (8 * k) (subst (λ (j : ℕ). x < 2 ^ j) e small)
 
-module _ (b : List Bool) (n x k : ℕ) (ahead : FlagsAhead b (bits_of n x) k) where
+module _ {b : List Bool} {n x k rest left : ℕ} (past : IsPast b n x k rest left) where
+  abbrev ahead : FlagsAhead b (bits_of n x) k
+  ahead = past.ahead
+
   within : 8 * k ≤ n
   within = omega (arith, ahead.within, length-bits n x)
 
   flags-are : bits_of (8 * k) x ≡ flags k
   flags-are = sym (bits-front (8 * k) n x within) ∙ ahead.are
 
-  abbrev rest : ℕ
-  rest = x / 2 ^ (8 * k)
-
   -- so many bits more
   list-behind : (t : ℕ) → b ++ bits_of (8 * k + t) x ≡ (b ++ flags k) ++ bits_of t rest
   list-behind t =
-      ap (λ (z : List Bool). b ++ z) (bits-split (8 * k) t x ∙ ap (λ (z : List Bool). z ++ bits_of t rest) flags-are)
+      ap (λ (z : List Bool). b ++ z) (bits-split (8 * k) t x ∙ (ap (λ (z : List Bool). z ++ bits_of t (x / 2 ^ (8 * k))) flags-are ∙ ap (λ (y : ℕ). flags k ++ bits_of t y) (sym past.bits)))
       ∙ sym (append_assoc b (flags k) (bits_of t rest))
 
   size-behind : length (b ++ flags k) ≡ length b + 8 * k
   size-behind = omega (arith, length-append b (flags k), flags-length k)
 
-  pub stops-on : (t : ℕ) → StopsAt (b ++ flags k) (bits_of (n - 8 * k) rest) t → 1 ≤ t → TakesTo b (bits_of n x) (8 * k + t)
-  stops-on t stops some = takes-behind b (bits_of n x) k t ahead (subst (λ (z : List Bool). StopsAt (b ++ flags k) z t) (sym (bits-behind (8 * k) n x within)) stops) some
+  pub stops-on : (t j : ℕ) → j ≡ 8 * k + t → StopsAt (b ++ flags k) (bits_of left rest) t → 1 ≤ t → TakesTo b (bits_of n x) j
+  stops-on t j e stops some =
+      let behind : drop (8 * k) (bits_of n x) ≡ bits_of left rest = bits-behind (8 * k) n x within ∙ rw (past.bits, past.count) refl in
+      subst (TakesTo b (bits_of n x)) (sym e) (takes-behind b (bits_of n x) k t ahead (subst (λ (z : List Bool). StopsAt (b ++ flags k) z t) (sym behind) stops) some)
 
-  pub answer-on : (longest origin l o t : ℕ) (r : Option Report) → l ≡ longest → o ≡ origin → r ≡ option_map (moved o) (due_at l ((b ++ flags k) ++ bits_of t rest) (length (b ++ flags k) + t - 1))
-      → r ≡ option_map (moved origin) (due_at longest (b ++ bits_of (8 * k + t) x) (length b + (8 * k + t) - 1))
-  answer-on longest origin l o t r same from e =
-      let m : length (b ++ flags k) + t - 1 ≡ length b + (8 * k + t) - 1 = omega (arith, size-behind) in
-      e ∙ rw (same, from, m) (ap (λ (z : List Bool). option_map (moved origin) (due_at longest z (length b + (8 * k + t) - 1))) (sym (list-behind t)))
+  pub answer-on : (longest origin l o t j : ℕ) (r : Option Report) → j ≡ 8 * k + t → l ≡ longest → o ≡ origin → r ≡ option_map (moved o) (due_at l ((b ++ flags k) ++ bits_of t rest) (length (b ++ flags k) + t - 1))
+      → r ≡ option_map (moved origin) (due_at longest (b ++ bits_of j x) (length b + j - 1))
+  answer-on longest origin l o t j r e same from is =
+      let m : length (b ++ flags k) + t - 1 ≡ length b + j - 1 = omega (arith, size-behind, e) in
+      let list : (b ++ flags k) ++ bits_of t rest ≡ b ++ bits_of j x = sym (list-behind t) ∙ ap (λ (i : ℕ). b ++ bits_of i x) (sym e) in
+      is ∙ rw (same, from, m, list) refl
 
-  pub more-on : (longest origin l o t : ℕ) (rs : List Report) → l ≡ longest → o ≡ origin → placed o l ((b ++ flags k) ++ bits_of t rest) ≡ placed o l (b ++ flags k) ++ rs
-      → placed origin longest (b ++ bits_of (8 * k + t) x) ≡ placed origin longest b ++ rs
-  more-on longest origin l o t rs same from e =
-      ap (placed origin longest) (list-behind t)
-      ∙ (subst (λ (j : ℕ). placed origin j ((b ++ flags k) ++ bits_of t rest) ≡ placed origin j (b ++ flags k) ++ rs) same
-      (subst (λ (j : ℕ). placed j l ((b ++ flags k) ++ bits_of t rest) ≡ placed j l (b ++ flags k) ++ rs) from e)
-      ∙ ap (λ (z : List Report). z ++ rs) (flags-placed origin longest b k ahead.behind))
+  pub more-on : (longest origin l o t j : ℕ) (rs : List Report) → j ≡ 8 * k + t → l ≡ longest → o ≡ origin → placed o l ((b ++ flags k) ++ bits_of t rest) ≡ placed o l (b ++ flags k) ++ rs
+      → placed origin longest (b ++ bits_of j x) ≡ placed origin longest b ++ rs
+  more-on longest origin l o t j rs e same from is =
+      ap (λ (i : ℕ). placed origin longest (b ++ bits_of i x)) e
+      ∙ (ap (placed origin longest) (list-behind t)
+      ∙ (subst (λ (i : ℕ). placed origin i ((b ++ flags k) ++ bits_of t rest) ≡ placed origin i (b ++ flags k) ++ rs) same
+      (subst (λ (i : ℕ). placed i l ((b ++ flags k) ++ bits_of t rest) ≡ placed i l (b ++ flags k) ++ rs) from is)
+      ∙ ap (λ (z : List Report). z ++ rs) (flags-placed origin longest b k ahead.behind)))
 
-  pub before-on : (longest origin l o t : ℕ) → l ≡ longest → o ≡ origin → 1 ≤ t → placed o l ((b ++ flags k) ++ bits_of (t - 1) rest) ≡ placed o l (b ++ flags k)
-      → placed origin longest (b ++ bits_of (8 * k + t - 1) x) ≡ placed origin longest b
-  before-on longest origin l o t same from some e =
-      let m : 8 * k + t - 1 ≡ 8 * k + (t - 1) = omega (arith, some) in
-      ap (λ (j : ℕ). placed origin longest (b ++ bits_of j x)) m
-      ∙ (more-on longest origin l o (t - 1) [] same from (e ∙ sym (append-nil (placed o l (b ++ flags k)))) ∙ append-nil (placed origin longest b))
+  pub before-on : (longest origin l o t j : ℕ) → j ≡ 8 * k + t → l ≡ longest → o ≡ origin → 1 ≤ t → placed o l ((b ++ flags k) ++ bits_of (t - 1) rest) ≡ placed o l (b ++ flags k)
+      → placed origin longest (b ++ bits_of (j - 1) x) ≡ placed origin longest b
+  before-on longest origin l o t j e same from some is =
+      more-on longest origin l o (t - 1) (j - 1) [] (omega (arith, e, some)) same from (is ∙ sym (append-nil (placed o l (b ++ flags k)))) ∙ append-nil (placed origin longest b)
 
-  pub after-on : {C : Type 0} (folded : C → List ℕ → Type 0) (cost t : ℕ) (e : LineState C) → After folded cost e ((b ++ flags k) ++ bits_of t rest) → After folded cost e (b ++ bits_of (8 * k + t) x)
-  after-on folded cost t e h = subst (After folded cost e) (sym (list-behind t)) h
+  pub after-on : {C : Type 0} (folded : C → List ℕ → Type 0) (cost t j : ℕ) (d : LineState C) → j ≡ 8 * k + t → After folded cost d ((b ++ flags k) ++ bits_of t rest) → After folded cost d (b ++ bits_of j x)
+  after-on folded cost t j d e h = subst (λ (i : ℕ). After folded cost d (b ++ bits_of i x)) (sym e) (subst (After folded cost d) (sym (list-behind t)) h)
 
   -- ---- where the flags are all
 
@@ -101,27 +103,23 @@ module _ (b : List Bool) (n x k : ℕ) (ahead : FlagsAhead b (bits_of n x) k) wh
 
   -- ---- how many would be taken
 
-  word-behind : (w : ℕ) → IsWord w b (bits_of n x) → IsWord (w / 2 ^ (8 * k)) (b ++ flags k) (bits_of (n - 8 * k) rest)
+  word-behind : (w : ℕ) → IsWord w b (bits_of n x) → IsWord (w / 2 ^ (8 * k)) (b ++ flags k) (bits_of left rest)
   word-behind w h =
-      let e : n ≡ 8 * k + (n - 8 * k) = omega (arith, within) in
+      let e : n ≡ 8 * k + left = omega (arith, within, past.count) in
       word-part w (8 * k) b (bits_of n x) h
       ∙ (ap (λ (j : ℕ). number (drop j (padded (b ++ bits_of n x)))) (sym size-behind)
-      ∙ ap (λ (z : List Bool). number (drop (length (b ++ flags k)) (padded z))) (ap (λ (j : ℕ). b ++ bits_of j x) e ∙ list-behind (n - 8 * k)))
+      ∙ ap (λ (z : List Bool). number (drop (length (b ++ flags k)) (padded z))) (ap (λ (j : ℕ). b ++ bits_of j x) e ∙ list-behind left))
 
-  pub would-all : (w m : ℕ) → IsWord w b (bits_of n x) → m ≡ n - 8 * k → ((i : ℕ) → i < m → IsStop (w / 2 ^ (8 * k)) i → ⊥) → TakesTo b (bits_of n x) n
-  would-all w m word e calm = elim (cases_lt 0 (n - 8 * k)) [
-    | inl u ↦
-        let s : 8 * k + (n - 8 * k) ≡ n = omega (arith, within) in
-        subst (TakesTo b (bits_of n x)) s (stops-on (n - 8 * k) (stops-behind-all (w / 2 ^ (8 * k)) (n - 8 * k) rest (b ++ flags k) (is_calm (w / 2 ^ (8 * k)) (n - 8 * k) m rest (b ++ flags k) (word-behind w word) e calm)) u)
+  pub would-all : (w m : ℕ) → IsWord w b (bits_of n x) → m ≡ left → ((i : ℕ) → i < m → IsStop (w / 2 ^ (8 * k)) i → ⊥) → TakesTo b (bits_of n x) n
+  would-all w m word e calm = elim (cases_lt 0 left) [
+    | inl u ↦ stops-on left n (omega (arith, within, past.count)) (stops-behind-all (w / 2 ^ (8 * k)) left rest (b ++ flags k) (is_calm (w / 2 ^ (8 * k)) left m rest (b ++ flags k) (word-behind w word) e calm)) u
     | inr u ↦
-        let s : 8 * k ≡ n = omega (arith, within, u) in
+        let s : 8 * k ≡ n = omega (arith, within, past.count, u) in
         subst (TakesTo b (bits_of n x)) s (takes-flags b (bits_of n x) k ahead (s ∙ sym (length-bits n x)))
   ]
 
-  pub would-stop : (w m : ℕ) → IsWord w b (bits_of n x) → m ≤ n - 8 * k → m ≢ n - 8 * k → ((i : ℕ) → i < m → IsStop (w / 2 ^ (8 * k)) i → ⊥) → (m < n - 8 * k → IsStop (w / 2 ^ (8 * k)) m)
+  pub would-stop : (w m : ℕ) → IsWord w b (bits_of n x) → m ≤ left → m ≢ left → ((i : ℕ) → i < m → IsStop (w / 2 ^ (8 * k)) i → ⊥) → (m < left → IsStop (w / 2 ^ (8 * k)) m)
       → TakesTo b (bits_of n x) (8 * k + m + 1)
   would-stop w m word l e calm stop =
-      let last = is_last (w / 2 ^ (8 * k)) (n - 8 * k) m rest (b ++ flags k) (word-behind w word) l e calm in
-      let s : 8 * k + (m + 1) ≡ 8 * k + m + 1 = omega arith in
-      subst (TakesTo b (bits_of n x)) s
-      (stops-on (m + 1) (stops-behind (w / 2 ^ (8 * k)) (n - 8 * k) m rest (b ++ flags k) last (stop (omega (arith, last.within, length-bits (n - 8 * k) rest)))) (omega arith))
+      let last = is_last (w / 2 ^ (8 * k)) left m rest (b ++ flags k) (word-behind w word) l e calm in
+      stops-on (m + 1) (8 * k + m + 1) (omega arith) (stops-behind (w / 2 ^ (8 * k)) left m rest (b ++ flags k) last (stop (omega (arith, last.within, length-bits left rest)))) (omega arith)

@@ -1,5 +1,6 @@
 -- Flags that follow a flag.
-use Rattle.std.specs.Prelude.{◌≡◌, ℕ, ◌+◌, ◌-◌, ◌*◌, ◌<◌, ◌≤◌, Bool, List, ◌++◌, length, take, drop}
+use Rattle.std.specs.Prelude.{◌≡◌, ℕ, ◌+◌, ◌-◌, ◌*◌, ◌/◌, ◌^◌, ◌<◌, ◌≤◌, Bool, List, ◌++◌, length, take, drop}
+use Rattle.bus_bits.specs.Octet.{bits_of}
 use Rattle.bus_line.specs.Mark.{flag, flags, EndsInFlag, MayDecide}
 
 -- these bits begin with `k` flags and no more, and they follow a flag: none where b ends in no flag
@@ -8,6 +9,12 @@ pub record FlagsAhead (b bits : List Bool) (k : ℕ) : Type 0 where
   pub are : take (8 * k) bits ≡ flags k
   pub behind : 0 < k → EndsInFlag b
   pub most : EndsInFlag b → 8 * k + 8 ≤ length bits → take 8 (drop (8 * k) bits) ≡ flag → ⊥
+
+-- of the `n` bits of x so many are left behind these flags, and those are the bits of `rest`
+pub record IsPast (b : List Bool) (n x k rest left : ℕ) : Type 0 where
+  pub ahead : FlagsAhead b (bits_of n x) k
+  pub bits : rest ≡ x / 2 ^ (8 * k)
+  pub count : left ≡ n - 8 * k
 
 -- of these bits so many are taken: all, or those up to the first behind just six ones or just fourteen
 pub record StopsAt (b bits : List Bool) (count : ℕ) : Type 0 where

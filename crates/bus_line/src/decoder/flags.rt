@@ -1,14 +1,24 @@
 //! Flags one behind the other, which decide nothing.
 
-ghost use Rattle.std.specs.Prelude.{◌≡◌, ◌≢◌, ◌+◌, ◌*◌, ◌/◌, ◌≤◌, ◌<◌, ◌^◌, List, Bool, true, false, ◌++◌, ℕ};
+ghost use Rattle.std.specs.Prelude.{◌≡◌, ◌≢◌, ◌+◌, ◌-◌, ◌*◌, ◌/◌, ◌≤◌, ◌<◌, ◌^◌, List, Bool, true, false, ◌++◌, ℕ};
 ghost use Rattle.bus_bits.specs.Octet.{bits_of};
 ghost use Rattle.bus_line.specs.Mark.{flag, flags, EndsInFlag};
-ghost use Rattle.bus_line.specs.Internal.Flags.{FlagsAhead};
+ghost use Rattle.bus_line.specs.Internal.Flags.{FlagsAhead, IsPast};
 
 use crate::decoder::LineDecoder;
 use bus_fcs::Check;
 
+/// Bits behind flags, the first lowest.
+#[derive(Clone, Copy)]
+pub(crate) struct Rest {
+    /// How many flags there were.
+    pub(crate) flags: u32,
+    pub(crate) bits: u64,
+    pub(crate) count: u32,
+}
+
 /// How many flags these bits begin with.
+#[inline(never)]
 fn flags_in(bits: u64, count: u32) -> u32
     requires { count ≤ 48 }
     ensures within { 8 * result ≤ count }
@@ -50,9 +60,41 @@ impl<C: Check> LineDecoder<C> {
         0
     }
 
-    /// Takes so many flags, which follow a flag.
+    /// Takes the flags with which these bits go on right behind a flag, and answers what is left.
     #[inline(always)]
-    pub(crate) fn take_flags(&mut self, count: u32)
+    pub(crate) fn past_flags(&mut self, bits: u64, count: u32) -> Rest
+        requires few { count ≤ 48 }
+        requires room { self.old.place + count ≤ 2 ^ 60 }
+        ensures within { 8 * result.flags ≤ count }
+        ensures count { result.count ≡ count - 8 * result.flags }
+        ensures small { bits < 2 ^ count → result.bits < 2 ^ result.count }
+        ensures past { (b : List Bool) → After C.folded C.COST self.old b →
+            IsPast b count bits result.flags result.bits result.count }
+        ensures after { (b : List Bool) → After C.folded C.COST self.old b →
+            After C.folded C.COST self.new (b ++ flags result.flags) }
+        ensures longest { self.new.longest ≡ self.old.longest }
+        ensures origin { self.new.origin ≡ self.old.origin }
+        ensures place { self.new.place ≡ self.old.place + 8 * result.flags }
+    {
+        if !self.is_flag_ahead(bits) {
+            return Rest {
+                flags: 0,
+                bits,
+                count,
+            };
+        }
+        let flags = flags_in(bits, count);
+        self.take_flags(flags);
+        Rest {
+            flags,
+            bits: bits >> (8 * flags),
+            count: count - 8 * flags,
+        }
+    }
+
+    /// Takes so many flags, which follow a flag.
+    #[inline(never)]
+    fn take_flags(&mut self, count: u32)
         requires few { count ≤ 6 }
         requires room { self.old.place + 8 * count ≤ 2 ^ 60 }
         ensures after { (b : List Bool) → After C.folded C.COST self.old b → (0 < count → EndsInFlag b) →

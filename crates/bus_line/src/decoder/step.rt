@@ -21,7 +21,7 @@ impl<C: Check> LineDecoder<C> {
     ghost use Rattle.bus_line.specs.Report.{moved};
 
     /// Takes the bits up to the first that may decide a report, or all of them, and answers what the
-    /// last of them decides.
+    /// last of them decides. Flags right behind a flag decide nothing, and are taken together.
     #[inline(always)]
     pub(crate) fn advance(&mut self, bits: u64, count: u32) -> Taken
         requires some { 1 ≤ count }
@@ -49,50 +49,13 @@ impl<C: Check> LineDecoder<C> {
         ensures origin { self.new.origin ≡ self.old.origin }
         ensures place { self.new.place ≡ self.old.place + result.count }
     {
-        if self.is_flag_ahead(bits) {
-            return self.advance_past_flags(bits, count);
-        }
-        self.advance_to_stop(bits, count)
-    }
-
-    /// Takes the flags with which the bits go on right behind a flag, all together, since they decide
-    /// nothing, and then as `advance` does.
-    #[inline(never)]
-    fn advance_past_flags(&mut self, bits: u64, count: u32) -> Taken
-        requires some { 1 ≤ count }
-        requires few { count ≤ 48 }
-        requires small { bits < 2 ^ count }
-        requires room { self.old.place + count ≤ 2 ^ 60 }
-        ensures some { 1 ≤ result.count }
-        ensures within { result.count ≤ count }
-        ensures stops { (b : List Bool) → After C.folded C.COST self.old b →
-            TakesTo b (bits_of count bits) result.count }
-        ensures answer { (b : List Bool) → After C.folded C.COST self.old b →
-            option_map (reported self.new.octets) result.event
-            ≡ option_map (moved self.old.origin)
-            (due_at self.old.longest (b ++ bits_of result.count bits) (length b + result.count - 1)) }
-        ensures more { (b : List Bool) → After C.folded C.COST self.old b →
-            placed self.old.origin self.old.longest (b ++ bits_of result.count bits)
-            ≡ placed self.old.origin self.old.longest b
-            ++ option_to_list (option_map (reported self.new.octets) result.event) }
-        ensures before { (b : List Bool) → After C.folded C.COST self.old b →
-            placed self.old.origin self.old.longest (b ++ bits_of (result.count - 1) bits)
-            ≡ placed self.old.origin self.old.longest b }
-        ensures after { (b : List Bool) → After C.folded C.COST self.old b →
-            After C.folded C.COST self.new (b ++ bits_of result.count bits) }
-        ensures longest { self.new.longest ≡ self.old.longest }
-        ensures origin { self.new.origin ≡ self.old.origin }
-        ensures place { self.new.place ≡ self.old.place + result.count }
-    {
-        let flags = self.flags_ahead(bits, count);
-        self.take_flags(flags);
-        let passed = 8 * flags;
-        if passed == count {
+        let rest = self.past_flags(bits, count);
+        if rest.count == 0 {
             return Taken { count, event: None };
         }
-        let taken = self.advance_to_stop(bits >> passed, count - passed);
+        let taken = self.advance_to_stop(rest.bits, rest.count);
         Taken {
-            count: passed + taken.count,
+            count: count - rest.count + taken.count,
             event: taken.event,
         }
     }

@@ -12,7 +12,7 @@ returns-then-calm-left-clause-stops g c = λ b h.
     let x = c.args.bits in
     let here : HasTaken (line_state c.self.inside) b = subst (λ (s : LineState g.row.C.Denot). HasTaken s b) (sym c.self.view_is) h.has_taken in
     let word = word-joined (line_state c.self.inside) n x b here c.requires.few c.requires.small in
-    would-all b n x c.flags_ahead-passed.result (c.flags_ahead-passed.ensures.ahead b h) _ c.calm_bits-calm.result word c.if-calm-left.true c.calm_bits-calm.ensures.calm
+    would-all {b = b} {n = n} {x = x} (record { ahead = c.flags_ahead-passed.ensures.ahead b h; bits = refl; count = refl }) _ c.calm_bits-calm.result word c.if-calm-left.true c.calm_bits-calm.ensures.calm
 
 pub returns-else-calm-left-clause-stops : goal.returns-else-calm-left-clause-stops
 returns-else-calm-left-clause-stops g c = λ b h.
@@ -21,4 +21,4 @@ returns-else-calm-left-clause-stops g c = λ b h.
     let calm = c.calm_bits-calm in
     let here : HasTaken (line_state c.self.inside) b = subst (λ (s : LineState g.row.C.Denot). HasTaken s b) (sym c.self.view_is) h.has_taken in
     let word = word-joined (line_state c.self.inside) n x b here c.requires.few c.requires.small in
-    would-stop b n x c.flags_ahead-passed.result (c.flags_ahead-passed.ensures.ahead b h) _ calm.result word calm.ensures.within c.if-calm-left.false calm.ensures.calm calm.ensures.stop
+    would-stop {b = b} {n = n} {x = x} (record { ahead = c.flags_ahead-passed.ensures.ahead b h; bits = refl; count = refl }) _ calm.result word calm.ensures.within c.if-calm-left.false calm.ensures.calm calm.ensures.stop
