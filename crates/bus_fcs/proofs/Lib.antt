@@ -5,3 +5,4 @@ pub mod LawsLemmas
 pub mod RegisterLemmas
 pub mod TableLemmas
 mod Examples
+pub mod FoldLemmas

@@ -1,6 +1,6 @@
 //! The frame check bit by bit.
 
-ghost use Rattle.std.specs.Prelude.{◌≡◌, ◌+◌, ◌-◌, ◌≤◌, ◌<◌, ◌^◌, ◌↔◌, ℕ, List, [], ◌∷◌, ◌++◌, IsTrue, length};
+ghost use Rattle.std.specs.Prelude.{◌≡◌, ◌+◌, ◌-◌, ◌*◌, ◌≤◌, ◌<◌, ◌^◌, ◌↔◌, ℕ, List, [], ◌∷◌, ◌++◌, IsTrue, length, take};
 ghost use Rattle.bus_fcs.specs.Internal.Register.{IsStateAfter};
 
 use crate::check::Check;
@@ -32,6 +32,12 @@ impl Check for BitCheck {
         for _turn in 0..8u64 {
             self.state = crc_step(self.state);
             spent.tick_folded();
+        }
+    }
+
+    fn fold_some(&mut self, octets: &[u8; 8], count: usize, spent: &mut Spent) {
+        for octet in &octets[..count] {
+            self.fold(*octet, spent);
         }
     }
 

@@ -29,6 +29,15 @@ impl OctetCheck {
     }
 }
 
+/// The register behind one octet more.
+#[inline(always)]
+fn state_after(state: u16, octet: u8) -> u16
+    ensures { (octets : List ℕ) → IsStateAfter state octets → IsStateAfter result (octets ++ octet ∷ []) }
+{
+    let place = (state ^ octet as u16) & 0xff;
+    (state >> 8) ^ crc_octet(place)
+}
+
 impl Check for OctetCheck {
     ghost use Rattle.std.proofs.Common.{rules};
 
@@ -44,9 +53,22 @@ impl Check for OctetCheck {
     }
 
     fn fold(&mut self, octet: u8, spent: &mut Spent) {
-        let place = (self.state ^ octet as u16) & 0xff;
-        self.state = (self.state >> 8) ^ crc_octet(place);
+        self.state = state_after(self.state, octet);
         spent.tick_folded();
+    }
+
+    /// Works out the register behind each of six octets, and keeps that behind as many as are wanted: a
+    /// loop would end where the data decide, and that guess costs more than the octets left over.
+    #[inline(always)]
+    fn fold_some(&mut self, octets: &[u8; 8], count: usize, spent: &mut Spent) {
+        let one = state_after(self.state, octets[0]);
+        let two = state_after(one, octets[1]);
+        let three = state_after(two, octets[2]);
+        let four = state_after(three, octets[3]);
+        let five = state_after(four, octets[4]);
+        let six = state_after(five, octets[5]);
+        self.state = [self.state, one, two, three, four, five, six][count];
+        spent.folded += count as u64;
     }
 
     fn is_good(&self) -> bool {

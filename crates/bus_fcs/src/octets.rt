@@ -20,15 +20,3 @@ pub fn fcs_is_good<C: Check>(octets: &[u8]) -> bool
     }
     check.is_good()
 }
-
-/// Folds octets, the first first, and counts their units of work in `spent`.
-#[inline(always)]
-pub fn fold_octets<C: Check>(check: &mut C, octets: &[u8], spent: &mut Spent)
-    requires { spent.old.folded + C.COST * length octets.now < 2 ^ 64 }
-    ensures folded { (before : List ℕ) → C.folded check.old before → C.folded check.new (before ++ octets.now) }
-    ensures spent { spent.new ≡ record spent.old { folded = spent.old.folded + C.COST * length octets.now } }
-{
-    for octet in octets {
-        check.fold(*octet, spent);
-    }
-}

@@ -5,7 +5,7 @@ ghost use Rattle.bus_bits.specs.Octet.{bits_of, octets};
 
 use crate::decoder::LineDecoder;
 use crate::decoder::late::Data;
-use bus_fcs::{Check, fold_octets};
+use bus_fcs::Check;
 use std::cmp::min;
 
 impl<C: Check> LineDecoder<C> {
@@ -62,7 +62,7 @@ impl<C: Check> LineDecoder<C> {
     /// room for.
     #[inline(always)]
     fn put_all(&mut self, joined: u64, count: u64)
-        requires few { count ≤ 8 }
+        requires few { count ≤ 6 }
         requires room { self.old.spent.stored + count ≤ self.old.spent.assembled }
         ensures keeps { (os : List ℕ) → Keeps C.folded self.old os →
             Keeps C.folded self.new (os ++ octets_of count joined) }
@@ -83,7 +83,7 @@ impl<C: Check> LineDecoder<C> {
     /// its check.
     #[inline(always)]
     fn put(&mut self, octets: &[u8; 8], count: usize)
-        requires few { count ≤ 8 }
+        requires few { count ≤ 6 }
         requires room { length self.old.octets + count ≤ self.old.longest + 2 }
         requires counted { self.old.spent.stored + count ≤ self.old.spent.assembled }
         ensures octets { self.new.octets ≡ self.old.octets ++ take count octets.now }
@@ -98,7 +98,7 @@ impl<C: Check> LineDecoder<C> {
             ≡ record self.old { octets = self.new.octets; check = self.new.check; spent = self.new.spent } }
     {
         self.buffer.append(octets, count);
-        fold_octets(&mut self.check, &octets[..count], &mut self.spent);
+        self.check.fold_some(octets, count, &mut self.spent);
         self.spent.stored += count as u64;
     }
 }
