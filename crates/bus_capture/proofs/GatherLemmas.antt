@@ -1,11 +1,11 @@
--- Symbols gathered from the octets of a text.
+-- Octets behind others, and the symbols that are gathered from them.
 use Rattle.std.proofs.Common.{◌≡◌, ℕ, ◌+◌, ◌-◌, List, [], ◌++◌, length, take, drop, Option, None, sym, ap, ◌∙◌, subst, arith, append_assoc, append-nil}
 use Rattle.std.proofs.Math.Seq.{take-add}
 use Rattle.std.proofs.lemmas.List.{take_all, length-drop}
 use Rattle.bus_bits.specs.Capture.{CaptureFault}
 
 -- some octets behind those before them
-octets-next : (xs os : List ℕ) (i n : ℕ) → (xs ++ take i os) ++ take n (take (length os - i) (drop i os)) ≡ xs ++ take (i + n) os
+pub octets-next : (xs os : List ℕ) (i n : ℕ) → (xs ++ take i os) ++ take n (take (length os - i) (drop i os)) ≡ xs ++ take (i + n) os
 octets-next xs os i n =
     append_assoc xs (take i os) _ ∙ ap (λ (ys : List ℕ). xs ++ (take i os ++ take n ys)) (take_all (length os - i) (drop i os) (omega (arith, length-drop i os)))
     ∙ ap (λ (ys : List ℕ). xs ++ ys) (sym (take-add i n os))

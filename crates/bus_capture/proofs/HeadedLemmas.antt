@@ -1,37 +1,70 @@
 -- Packed captures of one line or of two, behind their heads.
-use Rattle.std.proofs.Common.{◌≡◌, ℕ, List, [], ◌++◌, length, Option, Some, None, sym, ap, ◌∙◌, append_assoc, append-nil}
-use Rattle.bus_bits.specs.Capture.{CaptureOf, CaptureFault}
-use Rattle.bus_bits.specs.Packed.{head_bits, headed}
+use Rattle.std.proofs.Common.{◌≡◌, ℕ, true, false, nat_lt, if◌then◌else◌, Bool, List, [], ◌++◌, length, drop, Option, Some, None, Result, Ok, Err, MatchResult, refl, sym, ap, ◌∙◌, append_assoc}
+use Rattle.bus_bits.specs.Capture.{CaptureOf, CaptureFault, short_head}
+use Rattle.bus_bits.specs.Packed.{capture_by, filled, head_bits, headed, packed_fault_of, whole_by}
+use Rattle.bus_bits.specs.declared.capture.packed_bits.PackedFault.{PackedFault}
+use Rattle.bus_capture.specs.Internal.Headed.{IsHeaded}
 
-module _ {A : Type 0} (capture : List ℕ → CaptureOf A) (body : ℕ → List ℕ → CaptureOf A) (fault : List ℕ → Option CaptureFault)
+-- the end of the input adds no symbol
+pub whole-bits : {A : Type 0} (fault : Option CaptureFault) (body : ℕ → List ℕ → CaptureOf A) (xs : List ℕ) → (whole_by (capture_by fault body xs) xs).bits ≡ (capture_by fault body xs).bits
+whole-bits {A} fault body xs = elim (nat_lt (length xs) 16) as (λ b. (whole b).bits ≡ (part b).bits) [
+  | true ↦ refl
+  | false ↦ refl
+]
+  where
+    part : Bool → CaptureOf A
+    part b = if b then record { bits = []; fault = None } else headed fault (body (head_bits xs) (drop 16 xs))
+
+    whole : Bool → CaptureOf A
+    whole b = if b then record { bits = []; fault = Some short_head } else filled (head_bits xs) (part b)
+
+module _ {A : Type 0} (capture : List ℕ → CaptureOf A) (body : ℕ → List ℕ → CaptureOf A) (fault : List ℕ → Option CaptureFault) (After : ℕ → List ℕ → ℕ → Type 0)
     (law : (head xs : List ℕ) → length head ≡ 16 → capture (head ++ xs) ≡ headed (fault head) (body (head_bits head) xs)) where
   -- a good head and what follows it
-  headed-is : (head xs : List ℕ) → length head ≡ 16 → fault head ≡ None → capture (head ++ xs) ≡ body (head_bits head) xs
-  headed-is head xs long good = law head xs long ∙ ap (λ f. headed f (body (head_bits head) xs)) good
-
-  pub headed-here : (head rest xs : List ℕ) → xs ≡ head ++ rest → length head ≡ 16 → fault head ≡ None → capture xs ≡ body (head_bits head) rest
-  headed-here head rest xs all long good = ap capture all ∙ headed-is head rest long good
+  headed-here : (left : ℕ) (xs : List ℕ) (h : IsHeaded fault After left xs) → capture xs ≡ body (head_bits h.head) h.body
+  headed-here left xs h = ap capture h.all ∙ law h.head h.body h.long ∙ ap (λ f. headed f (body (head_bits h.head) h.body)) h.good
 
   -- with some octets more
-  headed-more : (head rest xs ys : List ℕ) → xs ≡ head ++ rest → length head ≡ 16 → fault head ≡ None → capture (xs ++ ys) ≡ body (head_bits head) (rest ++ ys)
-  headed-more head rest xs ys all long good =
-      headed-here head (rest ++ ys) (xs ++ ys) (ap (λ (zs : List ℕ). zs ++ ys) all ∙ append_assoc head rest ys) long good
+  headed-more : (left : ℕ) (xs ys : List ℕ) (h : IsHeaded fault After left xs) → capture (xs ++ ys) ≡ body (head_bits h.head) (h.body ++ ys)
+  headed-more left xs ys h =
+      ap capture (ap (λ (zs : List ℕ). zs ++ ys) h.all ∙ append_assoc h.head h.body ys) ∙ law h.head (h.body ++ ys) h.long
+      ∙ ap (λ f. headed f (body (head_bits h.head) (h.body ++ ys))) h.good
 
-  -- the symbols that they give
-  pub bits-more : (head rest xs ys : List ℕ) (bits : List A) → xs ≡ head ++ rest → length head ≡ 16 → fault head ≡ None
-      → (body (head_bits head) (rest ++ ys)).bits ≡ (body (head_bits head) rest).bits ++ bits → (capture (xs ++ ys)).bits ≡ (capture xs).bits ++ bits
-  bits-more head rest xs ys bits all long good is =
-      ap (λ (c : CaptureOf A). c.bits) (headed-more head rest xs ys all long good) ∙ is
-      ∙ ap (λ (b : List A). b ++ bits) (sym (ap (λ (c : CaptureOf A). c.bits) (headed-here head rest xs all long good)))
-
-  -- their fault
-  pub fault-more : (head rest xs ys : List ℕ) (cause : CaptureFault) → xs ≡ head ++ rest → length head ≡ 16 → fault head ≡ None
-      → body (head_bits head) (rest ++ ys) ≡ record { bits = (body (head_bits head) rest).bits; fault = Some cause }
-      → capture (xs ++ ys) ≡ record { bits = (capture xs).bits; fault = Some cause }
-  fault-more head rest xs ys cause all long good is =
-      headed-more head rest xs ys all long good ∙ is
-      ∙ ap (λ (c : CaptureOf A). record { bits = c.bits; fault = Some cause }) (sym (headed-here head rest xs all long good))
+  -- it has no fault
+  pub head-clean : ((n : ℕ) (xs : List ℕ) (left : ℕ) → After n xs left → (body n xs).fault ≡ None) → (left : ℕ) (xs : List ℕ) → IsHeaded fault After left xs → (capture xs).fault ≡ None
+  head-clean clean left xs h = ap (λ (c : CaptureOf A). c.fault) (headed-here left xs h) ∙ clean (head_bits h.head) h.body left h.after
 
   -- a head alone gives no symbols where no octets behind it give none
-  pub head-alone : (head : List ℕ) → length head ≡ 16 → fault head ≡ None → (body (head_bits head) []).bits ≡ [] → (capture head).bits ≡ []
-  head-alone head long good none = ap (λ (c : CaptureOf A). c.bits) (headed-here head [] head (sym (append-nil head)) long good) ∙ none
+  pub head-alone : (left : ℕ) (head : List ℕ) (h : IsHeaded fault After left head) → (body (head_bits h.head) h.body).bits ≡ [] → (capture head).bits ≡ []
+  head-alone left head h none = ap (λ (c : CaptureOf A). c.bits) (headed-here left head h) ∙ none
+
+  -- more octets were taken
+  pub octets-read : (left later : ℕ) (xs ys : List ℕ) (bits : List A)
+      → ((n : ℕ) (zs : List ℕ) → After n zs left → After n (zs ++ ys) later × ((body n (zs ++ ys)).bits ≡ (body n zs).bits ++ bits))
+      → IsHeaded fault After left xs → IsHeaded fault After later (xs ++ ys) × ((capture (xs ++ ys)).bits ≡ (capture xs).bits ++ bits)
+  octets-read left later xs ys bits given h =
+      let is = given (head_bits h.head) h.body h.after in (
+        record {
+          head = h.head;
+          body = h.body ++ ys;
+          all = ap (λ (zs : List ℕ). zs ++ ys) h.all ∙ append_assoc h.head h.body ys;
+          long = h.long;
+          good = h.good;
+          after = is.0;
+        },
+        ap (λ (c : CaptureOf A). c.bits) (headed-more left xs ys h) ∙ is.1
+            ∙ ap (λ (b : List A). b ++ bits) (sym (ap (λ (c : CaptureOf A). c.bits) (headed-here left xs h))),
+      )
+
+  -- or refused
+  pub octet-read : {T : Type 0} (items : T → List A) (left later : ℕ) (xs ys : List ℕ) (r : Result T PackedFault)
+      → ((n : ℕ) (zs : List ℕ) → After n zs left → MatchResult r
+      (λ b. After n (zs ++ ys) later × ((body n (zs ++ ys)).bits ≡ (body n zs).bits ++ items b))
+      (λ f. body n (zs ++ ys) ≡ record { bits = (body n zs).bits; fault = Some (packed_fault_of f) }))
+      → IsHeaded fault After left xs → MatchResult r
+      (λ b. IsHeaded fault After later (xs ++ ys) × ((capture (xs ++ ys)).bits ≡ (capture xs).bits ++ items b))
+      (λ f. capture (xs ++ ys) ≡ record { bits = (capture xs).bits; fault = Some (packed_fault_of f) })
+  octet-read items left later xs ys (Ok b) given h = octets-read left later xs ys (items b) given h
+  octet-read items left later xs ys (Err f) given h =
+      headed-more left xs ys h ∙ given (head_bits h.head) h.body h.after
+      ∙ ap (λ (c : CaptureOf A). record { bits = c.bits; fault = Some (packed_fault_of f) }) (sym (headed-here left xs h))

@@ -1,5 +1,5 @@
 -- From what a call read to all that its reader had.
-use Rattle.std.proofs.Common.{◌≡◌, ℕ, ◌-◌, ◌^◌, Bool, true, false, List, [], ◌++◌, length, take, Option, Some, None, Result, Ok, Err, IfSome, refl, sym, ap, subst, ◌∙◌, append-nil, append_assoc, inl, inr}
+use Rattle.std.proofs.Common.{◌≡◌, ℕ, ◌-◌, ◌^◌, Bool, true, false, List, [], ◌++◌, length, take, Option, Some, None, Result, Ok, Err, IfSome, refl, sym, ap, subst, ◌∙◌, append-nil, inl, inr}
 use Rattle.std.specs.Io.KnownBytes.{Appends, Consumes, IsAtEnd}
 use Rattle.std.proofs.lemmas.Grind.{common_steps}
 use Rattle.std.proofs.Common.{arith}
@@ -22,6 +22,7 @@ use Rattle.bus_text.specs.declared.fault.ToolFault.TheVariants as fault
 use Rattle.bus_capture.proofs.CapturesLemmas.{placed-bits}
 use Rattle.bus_text.proofs.ListingLemmas.{listing-append}
 use Rattle.bus_text.proofs.PagesLemmas.{cuts-more}
+use Rattle.bus_bits.proofs.CaptureLemmas.{grows-trans}
 
 -- as it grows
 grows-self : {X : Type 0} (c : CaptureOf X) → GrowsTo c c
@@ -35,19 +36,11 @@ unplaced-ends : {X : Type 0} (f : Form X) → FormLaws f → (text : Bool) (xs :
 unplaced-ends f law true xs = grows-self (f.text xs)
 unplaced-ends f law false xs = law.ended xs
 
--- what grows twice, grows
-grows-on : {X : Type 0} (c d e : CaptureOf X) → GrowsTo c d → GrowsTo d e → GrowsTo c e
-grows-on {X} c d e g h = (
-  g.0 ++ h.0,
-  h.1 ∙ ap (λ z. z ++ h.0) g.1 ∙ append_assoc c.bits g.0 h.0,
-  λ f q. let same : d ≡ c = g.2 f q in h.2 f (ap (λ (x : CaptureOf X). x.fault) same ∙ q) ∙ same,
-)
-
 -- what was read, and then all
 all-grows : {X : Type 0} (form : Form X) → FormLaws form → (o : Options) (all xs ys : List ℕ) → all ≡ xs ++ ys → GrowsTo (so_far form o xs) (in_all form o all)
 all-grows form law o all xs ys e =
     subst (λ (z : List ℕ). GrowsTo (so_far form o xs) (in_all form o z)) (sym e)
-    (grows-on (so_far form o xs) (so_far form o (xs ++ ys)) (in_all form o (xs ++ ys))
+    (grows-trans (so_far form o xs) (so_far form o (xs ++ ys)) (in_all form o (xs ++ ys))
     (law.places o.origin (unplaced form o.text xs) (unplaced form o.text (xs ++ ys)) (unplaced-grows form law o.text xs ys))
     (law.places o.origin (unplaced form o.text (xs ++ ys)) (unplaced_whole form o.text (xs ++ ys)) (unplaced-ends form law o.text (xs ++ ys))))
 

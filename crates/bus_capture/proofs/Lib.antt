@@ -1,6 +1,7 @@
 pub mod FewLemmas
 pub mod GatherLemmas
 pub mod HeadedLemmas
+pub mod SeenOnLemmas
 pub mod OneLineLemmas
 pub mod PutLemmas
 pub mod TwoLinesLemmas

@@ -1,7 +1,5 @@
 -- Text captures, some octets more at a time.
-use Rattle.std.proofs.Common.{◌≡◌, ℕ, ◌+◌, ◌-◌, ◌<◌, ◌≤◌, ◌^◌, List, ◌++◌, length, take, drop, Option, None, sym, ap, ◌∙◌, subst, arith, append_assoc, append-nil, true, Result, Ok, Err, MatchResult}
-use Rattle.std.proofs.Math.Seq.{take-add}
-use Rattle.std.proofs.lemmas.List.{take_all, length-drop}
+use Rattle.std.proofs.Common.{◌≡◌, ℕ, ◌+◌, ◌<◌, ◌≤◌, ◌^◌, List, ◌++◌, length, take, Option, None, sym, ap, ◌∙◌, subst, arith, append-nil, true, Result, Ok, Err, MatchResult}
 use Rattle.std.proofs.lemmas.Grind.{common_steps}
 use Rattle.bus_capture.specs.Internal.Taps.{TapView}
 use Rattle.bus_capture.specs.Internal.Watching.{Watches, Halts}
@@ -9,12 +7,6 @@ use Rattle.bus_capture.specs.Internal.Sessions.{FollowsOctets, Stops}
 use Rattle.bus_capture.specs.declared.run.CaptureRun.{CaptureRun}
 use Rattle.bus_text.specs.declared.fault.ToolFault.{ToolFault}
 use Rattle.bus_capture.proofs.CapturesLemmas.{halts-stops}
-
--- some octets behind those before them
-pub octets-next : (xs os : List ℕ) (i n : ℕ) → (xs ++ take i os) ++ take n (take (length os - i) (drop i os)) ≡ xs ++ take (i + n) os
-octets-next xs os i n =
-    append_assoc xs (take i os) _ ∙ ap (λ (ys : List ℕ). xs ++ (take i os ++ take n ys)) (take_all (length os - i) (drop i os) (omega (arith, length-drop i os)))
-    ∙ ap (λ (ys : List ℕ). xs ++ ys) (sym (take-add i n os))
 
 -- how many octets stand before it
 pub octets-before : (xs os : List ℕ) (i : ℕ) → i < length os → length (xs ++ take i os) ≡ length xs + i

@@ -1,5 +1,6 @@
 -- What proofs and private functions speak of: the state behind a contract, and what holds of it between two steps.
 pub mod Taps
+pub mod Headed
 pub mod OneLine
 pub mod TwoLines
 pub mod Watching

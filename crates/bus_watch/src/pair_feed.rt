@@ -8,6 +8,7 @@ ghost use Rattle.bus_watch.specs.Heard.{firsts, seconds};
 ghost use Rattle.bus_watch.specs.PairShown.{shown_option_on, shown_pair};
 ghost use Rattle.bus_watch.specs.Pairs.{two_lines};
 ghost use Rattle.bus_watch.specs.Shown.{IsKeepable};
+ghost use Rattle.bus_watch.specs.Sink.{IsFull, IsWithinRoom};
 
 use crate::feed::{FedSome, PLACES};
 use crate::feed_fault::FeedFault;
@@ -47,6 +48,12 @@ fn offer<S: PairSink>(line: Line, seen: Option<Seen<'_>>, sink: &mut S) -> Resul
         (Offered S.taken S.refusals (option_to_list (shown_option_on line seen.entry)) 0 sink.old sink.new) }
     ensures err { OnErr result
         (Offered S.taken S.refusals (option_to_list (shown_option_on line seen.entry)) 1 sink.old sink.new) }
+    ensures room { S.room sink.new ≡ S.room sink.old }
+    ensures full { OnErr result (IsFull (S.room sink.new) (S.taken sink.new)) }
+    ensures still_full { OnOk result (IsFull (S.room sink.old) (S.taken sink.old) →
+        IsFull (S.room sink.new) (S.taken sink.new)) }
+    ensures within { OnOk result (IsWithinRoom (S.room sink.old) (S.taken sink.old) →
+        IsWithinRoom (S.room sink.new) (S.taken sink.new)) }
 {
     match seen {
         None => Ok(()),
@@ -62,6 +69,10 @@ fn offer_both<S: PairSink>(seen: PairSeen<'_>, sink: &mut S) -> Result<(), SinkR
     ensures ok { OnOk result (Offered S.taken S.refusals (shown_pair seen.entry) 0 sink.old sink.new) }
     ensures err { OnErr result ((n : ℕ) × (0 < n) × (n ≤ 2)
         × Offered S.taken S.refusals (shown_pair seen.entry) n sink.old sink.new) }
+    ensures room { S.room sink.new ≡ S.room sink.old }
+    ensures full { OnErr result (IsFull (S.room sink.new) (S.taken sink.new)) }
+    ensures within { OnOk result (IsWithinRoom (S.room sink.old) (S.taken sink.old) →
+        IsWithinRoom (S.room sink.new) (S.taken sink.new)) }
 {
     match offer(Line::First, seen.first, sink) {
         Ok(()) => offer(Line::Second, seen.second, sink),
@@ -95,6 +106,11 @@ impl<C: Check> PairAnalyser<C> {
         ensures refused { IfErr result (λ fault. ForSink fault (λ consumed.
             (n : ℕ) × (n ≤ 2) × (S.refusals sink.new ≡ S.refusals sink.old + n)
             × RefusedByAt (two_lines C.folded C.COST) S.taken n self.old pairs.now consumed self.new sink.old sink.new)) }
+        ensures room { S.room sink.new ≡ S.room sink.old }
+        ensures full { IfErr result (λ fault. ForSink fault (λ consumed.
+            IsFull (S.room sink.new) (S.taken sink.new))) }
+        ensures within { OnOk result (IsWithinRoom (S.room sink.old) (S.taken sink.old) →
+            IsWithinRoom (S.room sink.new) (S.taken sink.new)) }
     {
         if pairs.len() as u64 > PLACES - self.place() {
             return Err(FeedFault::PlaceLimit);
@@ -123,6 +139,10 @@ impl<C: Check> PairAnalyser<C> {
         ensures refused { OnErr result.told ((n : ℕ) × (n ≤ 2) × (S.refusals sink.new ≡ S.refusals sink.old + n)
             × RefusedBy (two_lines C.folded C.COST) S.taken n
             self.old (take result.count pairs.now) self.new sink.old sink.new) }
+        ensures room { S.room sink.new ≡ S.room sink.old }
+        ensures full { OnErr result.told (IsFull (S.room sink.new) (S.taken sink.new)) }
+        ensures kept { OnOk result.told (IsWithinRoom (S.room sink.old) (S.taken sink.old) →
+            IsWithinRoom (S.room sink.new) (S.taken sink.new)) }
     {
         let most = min(pairs.len(), 48);
         let words = pair_words(&pairs[..most]);

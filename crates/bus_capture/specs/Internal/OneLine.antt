@@ -1,20 +1,12 @@
 -- What the proofs know of one line.
-use Rattle.std.specs.Prelude.{◌≡◌, ℕ, ◌<◌, ◌^◌, Bool, List, ◌++◌, length, None}
+use Rattle.std.specs.Prelude.{ℕ, ◌<◌, ◌^◌, Bool, List}
 use Rattle.bus_bits.specs.Octet.{bits_of}
-use Rattle.bus_bits.specs.Packed.{PackedAfter, head_bits, head_fault}
+use Rattle.bus_bits.specs.Packed.{PackedAfter, head_fault}
 use Rattle.bus_watch.specs.After as after
 use Rattle.bus_watch.specs.After.{AnalyserState}
 use Rattle.bus_capture.specs.Captures.{one_line}
+use Rattle.bus_capture.specs.Internal.Headed.{IsHeaded}
 use Rattle.bus_capture.specs.Internal.Taps.{TapView}
-
--- these octets are a good head, and others after it, at which so many bits are left
-pub record IsHeaded (left : ℕ) (xs : List ℕ) : Type 0 where
-  pub head : List ℕ
-  pub body : List ℕ
-  pub all : xs ≡ head ++ body
-  pub long : length head ≡ 16
-  pub good : head_fault head ≡ None
-  pub after : PackedAfter (head_bits head) body left
 
 abbrev pub one_tap : {C : Type 0} → (C → List ℕ → Type 0) → ℕ → TapView (AnalyserState C) Bool ℕ ℕ
 one_tap folded cost = record {
@@ -23,5 +15,5 @@ one_tap folded cost = record {
   heard = λ a. after.heard a;
   symbols = λ n word. bits_of n word;
   fits = λ n word. word < 2 ^ n;
-  is_body = λ left xs. IsHeaded left xs;
+  is_body = λ left xs. IsHeaded head_fault PackedAfter left xs;
 }

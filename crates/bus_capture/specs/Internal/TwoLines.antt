@@ -1,21 +1,13 @@
 -- What the proofs know of two lines.
-use Rattle.std.specs.Prelude.{◌≡◌, ℕ, ◌<◌, ◌^◌, Bool, List, ◌++◌, length, None}
-use Rattle.bus_bits.specs.Packed.{PairsAfter, head_bits, pair_head_fault}
+use Rattle.std.specs.Prelude.{ℕ, ◌<◌, ◌^◌, Bool, List}
+use Rattle.bus_bits.specs.Packed.{PairsAfter, pair_head_fault}
 use Rattle.bus_bits.specs.declared.capture.pair_words.PairWords.{PairWords}
 use Rattle.bus_watch.specs.Heard.{pairs_of}
 use Rattle.bus_watch.specs.Pairs as pairs
 use Rattle.bus_watch.specs.Pairs.{PairState}
 use Rattle.bus_capture.specs.Captures.{two_lines}
+use Rattle.bus_capture.specs.Internal.Headed.{IsHeaded}
 use Rattle.bus_capture.specs.Internal.Taps.{TapView}
-
--- these octets are a good head, and others after it, at which so many pairs are left
-pub record ArePairsHeaded (left : ℕ) (xs : List ℕ) : Type 0 where
-  pub head : List ℕ
-  pub body : List ℕ
-  pub all : xs ≡ head ++ body
-  pub long : length head ≡ 16
-  pub good : pair_head_fault head ≡ None
-  pub after : PairsAfter (head_bits head) body left
 
 abbrev pub pair_tap : {C : Type 0} → (C → List ℕ → Type 0) → ℕ → TapView (PairState C) (Bool × Bool) PairWords ℕ
 pair_tap folded cost = record {
@@ -24,5 +16,5 @@ pair_tap folded cost = record {
   heard = λ a. pairs.heard_pair a;
   symbols = λ n word. pairs_of n word.first word.second;
   fits = λ n word. (word.first < 2 ^ n) × (word.second < 2 ^ n);
-  is_body = λ left xs. ArePairsHeaded left xs;
+  is_body = λ left xs. IsHeaded pair_head_fault PairsAfter left xs;
 }

@@ -1,6 +1,14 @@
-use Rattle.std.proofs.Common.{refl, sym}
+use Rattle.std.proofs.Common.{[], ◌∷◌, ◌++◌, ◌+◌, length, refl, sym}
 use Rattle.bus_bits.proofs.OctetLemmas.{length-bits, bits-front}
-use Rattle.bus_capture.proofs.OneLineLemmas.{same_bits, bits-seen, head-clean}
+use Rattle.bus_bits.specs.Packed.{PackedAfter, packed_capture, packed_body, head_fault}
+use Rattle.std.specs.Option.{option_to_list}
+use Rattle.bus_line.specs.Due.{placed}
+use Rattle.bus_watch.specs.Heard.{of_line}
+use Rattle.bus_watch.specs.Seen.{seen_at}
+use Rattle.bus_capture.specs.Captures.{one_line}
+use Rattle.bus_capture.proofs.HeadedLemmas.{head-clean}
+use Rattle.bus_capture.proofs.SeenOnLemmas.{seen-on}
+use Rattle.bus_capture.proofs.OneLineLemmas.{same_bits}
 use Rattle.bus_capture.proofs.one_line.AnalyserTap.laws.Goals as goal
 
 pub returns : goal.returns
@@ -17,11 +25,12 @@ returns g c =
         short = head.short;
         places = grow.capped;
         silent = λ origin longest. refl;
-        seen = bits-seen c.seen_grows.ensures.grows;
+        seen = λ d longest origin. seen-on one_line d longest origin (λ b bit. option_to_list (seen_at d (of_line (placed origin longest (b ++ bit ∷ []))) (origin + length b)))
+            (c.seen_grows.ensures.grows d longest origin);
       };
       hears = refl;
       placed = λ a b h. h.decoder.has_taken.place;
       long = length-bits;
       front = λ n count word le. sym (bits-front n count word le);
-      clean = head-clean head.headed;
+      clean = head-clean packed_capture packed_body head_fault PackedAfter (λ head zs long. (c.packed_is_head_and_body.ensures.headed head zs long).0) (λ n xs left h. h.clean);
     }

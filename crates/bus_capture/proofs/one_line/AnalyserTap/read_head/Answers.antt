@@ -1,5 +1,6 @@
 use Rattle.std.proofs.Common.{[], sym, append-nil, subst}
 use Rattle.bus_bits.specs.Packed.{PackedAfter, packed_capture, packed_body, head_bits, head_fault}
+use Rattle.bus_capture.specs.Internal.Headed.{IsHeaded}
 use Rattle.bus_capture.proofs.HeadedLemmas.{head-alone}
 use Rattle.bus_capture.proofs.OneLineLemmas.{no_body}
 use Rattle.bus_capture.proofs.one_line.AnalyserTap.read_head.Goals as goal
@@ -7,14 +8,12 @@ use Rattle.bus_capture.proofs.one_line.AnalyserTap.read_head.Goals as goal
 pub returns : goal.returns
 returns g c =
     let head = c.args.head.now in
-    let good = c.in_ok-read.ensures.0 in (
-      record {
-        head = head;
-        body = [];
-        all = sym (append-nil head);
-        long = c.told-head;
-        good = good;
-        after = subst (λ n. PackedAfter n [] c.new.result) c.in_ok-read.ensures.1 c.new.ensures;
-      },
-      head-alone packed_capture packed_body head_fault (λ h xs long. (c.packed_is_head_and_body.ensures.headed h xs long).0) head c.told-head good (no_body (head_bits head)),
-    )
+    let read : IsHeaded head_fault PackedAfter c.new.result head = record {
+      head = head;
+      body = [];
+      all = sym (append-nil head);
+      long = c.told-head;
+      good = c.in_ok-read.ensures.0;
+      after = subst (λ n. PackedAfter n [] c.new.result) c.in_ok-read.ensures.1 c.new.ensures;
+    } in
+    (read, head-alone packed_capture packed_body head_fault PackedAfter (λ head zs long. (c.packed_is_head_and_body.ensures.headed head zs long).0) c.new.result head read (no_body (head_bits head)))

@@ -1,6 +1,12 @@
-use Rattle.std.proofs.Common.{refl, sym}
+use Rattle.std.proofs.Common.{[], ◌∷◌, ◌++◌, ◌+◌, length, refl, sym}
 use Rattle.bus_watch.proofs.PairLemmas.{length-pairs, pairs-front}
-use Rattle.bus_capture.proofs.TwoLinesLemmas.{same_pairs, placed-pairs, pairs-seen, head-clean}
+use Rattle.bus_bits.specs.Packed.{PairsAfter, packed_pair_capture, pair_body, pair_head_fault}
+use Rattle.bus_watch.specs.Heard.{merged}
+use Rattle.bus_watch.specs.Seen.{all_seen_at}
+use Rattle.bus_capture.specs.Captures.{two_lines}
+use Rattle.bus_capture.proofs.HeadedLemmas.{head-clean}
+use Rattle.bus_capture.proofs.SeenOnLemmas.{seen-on}
+use Rattle.bus_capture.proofs.TwoLinesLemmas.{same_pairs, placed-pairs}
 use Rattle.bus_capture.proofs.two_lines.PairAnalyserTap.laws.Goals as goal
 
 pub returns : goal.returns
@@ -17,11 +23,12 @@ returns g c =
         short = head.short;
         places = grow.capped;
         silent = λ origin longest. refl;
-        seen = pairs-seen c.pairs_grow.ensures.grows;
+        seen = λ d longest origin. seen-on two_lines d longest origin (λ ps p. all_seen_at d (merged origin longest (ps ++ p ∷ [])) (origin + length ps))
+            (c.pairs_grow.ensures.grows d longest origin);
       };
       hears = refl;
       placed = λ a b h. placed-pairs a.first.place a.first.origin b h.first.has_taken.place;
       long = λ n word. length-pairs n word.first word.second;
       front = λ n count word le. sym (pairs-front n count word.first word.second le);
-      clean = head-clean head.headed;
+      clean = head-clean packed_pair_capture pair_body pair_head_fault PairsAfter (λ head zs long. (c.pairs_are_head_and_body.ensures.headed head zs long).0) (λ n xs left h. h.clean);
     }

@@ -11,6 +11,8 @@ loop-consumed-init g c = record {
   within = omega arith;
   fed = fed-nil (two_lines g.C.Check.folded g.C.Check.COST) g.S.PairSink.taken c.args.self.now c.args.sink.now;
   refusals = refl;
+  room = refl;
+  kept = λ w. w;
 }
 
 pub returns-then-is_err-clause-refused : goal.returns-then-is_err-clause-refused
@@ -41,4 +43,6 @@ loop-consumed-preserved g c =
       fed = subst (λ x. FedBy w g.S.PairSink.taken c.args.self.now x f.new.self c.args.sink.now f.new.sink) (sym all)
           (fed-more w g.S.PairSink.taken _ _ _ _ _ _ _ _ c.loop-consumed.invariant.fed fed);
       refusals = at-ok f.result.told c.if-is_err.ensures.value f.ensures.none_refused ∙ c.loop-consumed.invariant.refusals;
+      room = f.ensures.room ∙ c.loop-consumed.invariant.room;
+      kept = λ w. at-ok f.result.told c.if-is_err.ensures.value f.ensures.kept (c.loop-consumed.invariant.kept w);
     }
