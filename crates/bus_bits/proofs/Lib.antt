@@ -1,6 +1,7 @@
 pub mod CaptureLemmas
 pub mod EightBitsLemmas
 pub mod EightBitsOfNineLemmas
+pub mod FrontLemmas
 pub mod OctetLemmas
 pub mod PackedLemmas
 pub mod PairWordsLemmas

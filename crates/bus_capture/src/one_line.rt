@@ -2,6 +2,7 @@
 
 ghost use Rattle.std.specs.Prelude.{◌≡◌, ◌+◌, ◌*◌, ◌≤◌, ◌<◌, ◌^◌, ℕ, List, ◌++◌, length, take, None};
 ghost use Rattle.bus_bits.specs.Octet.{bits_of};
+ghost use Rattle.std.specs.Option.{ForSome};
 ghost use Rattle.bus_bits.specs.Capture.{text_bits, text_fault};
 
 use crate::tap::{Many, Tap};
@@ -18,6 +19,26 @@ use bus_watch::{Analyser, Counts, NewFault};
 use std::alloc::Global;
 use std::io::Write;
 
+/// The bits of the next 48 octets, the first the lowest. None where these are not 48 bits.
+#[inline(always)]
+fn gather_word(octets: &[u8]) -> Option<u64>
+    ensures enough { ForSome result (λ word. 48 ≤ length octets.now) }
+    ensures small { ForSome result (λ word. word < 2 ^ 48) }
+    ensures given { ForSome result (λ word. (xs : List ℕ) → text_fault xs ≡ None →
+        (text_fault (xs ++ take 48 octets.now) ≡ None)
+        × (text_bits (xs ++ take 48 octets.now) ≡ text_bits xs ++ bits_of 48 word)) }
+{
+    if octets.len() < 48 {
+        return None;
+    }
+    let mut word = Word::new();
+    while word.count <= 40 {
+        let octet = TextBits::of_eight(&octets[word.count as usize..])?;
+        word.put(octet);
+    }
+    Some(word.bits)
+}
+
 /// The bits of the next octets, 48 of them or as many eights as come before the first octet that is
 /// no bit and no line end.
 #[inline(always)]
@@ -30,6 +51,13 @@ fn gather(octets: &[u8]) -> Many<u64>
         × (text_bits (xs ++ take result.taken octets.now)
         ≡ text_bits xs ++ bits_of result.count result.word) }
 {
+    if let Some(word) = gather_word(octets) {
+        return Many {
+            word,
+            count: 48,
+            taken: 48,
+        };
+    }
     let mut word = Word::new();
     let mut taken = 0;
     while word.count <= 40 {

@@ -87,7 +87,7 @@ pub(super) fn eight_marks(octets: &[u8], high: u8) -> Option<EightMarks>
 
 /// Of the bits of `high`, those in which each octet is not `0`: 0 if all eight are marks.
 #[inline(always)]
-fn other_bits(octets: &[u8; 8], high: u8) -> u64
+pub(super) fn other_bits(octets: &[u8; 8], high: u8) -> u64
     ensures { result ≡ from_le_bytes w64 (map (λ x. bit_and (bit_xor x 48) high) octets.now) }
 {
     (u64::from_le_bytes(*octets) ^ ZEROS) & LOWEST * u64::from(high)

@@ -5,7 +5,7 @@ ghost use Rattle.std.specs.Option.{ForSome, option_to_list};
 ghost use Rattle.bus_bits.specs.Octet.{bits_of};
 ghost use Rattle.bus_bits.specs.Capture.{EightIn, text_bits, text_fault, bad_mark, is_space};
 
-use super::eight_bits::{BIT_HIGH, EightBits, eight_marks, gathered};
+use super::eight_bits::{BIT_HIGH, EightBits, eight_marks, gathered, other_bits};
 
 const ONE: u8 = b'1';
 
@@ -43,6 +43,21 @@ impl TextBits {
         } else {
             Err(BadMark)
         }
+    }
+
+    /// The bits of the next eight octets, the first the lowest. None where these are not eight bits.
+    #[inline(always)]
+    pub fn of_eight(octets: &[u8]) -> Option<u8>
+        ensures given { ForSome result (λ o. (xs : List ℕ) → text_fault xs ≡ None →
+            (text_fault (xs ++ take 8 octets.now) ≡ None)
+            × (text_bits (xs ++ take 8 octets.now) ≡ text_bits xs ++ bits_of 8 o)) }
+        ensures some { IsSome result ↔ EightIn 8 octets.now }
+    {
+        let front: &[u8; 8] = octets.first_chunk()?;
+        if other_bits(front, BIT_HIGH) != 0 {
+            return None;
+        }
+        Some(gathered(front))
     }
 
     /// The next eight bits, and how many octets they take: eight, or nine where one of these is

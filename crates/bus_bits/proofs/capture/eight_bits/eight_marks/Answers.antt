@@ -1,34 +1,18 @@
-use Rattle.std.proofs.Common.{◌≡◌, ◌≢◌, ◌<◌, ◌≤◌, ◌||◌, ℕ, ◌-◌, ◌/◌, ◌^◌, Bool, List, ◌++◌, map, filter, take, drop, get_or, length, Option, Some, None, IsSome, true, false, inl, inr, Fits, w8, slice_index_or, refl, sym, ap, ◌∙◌, subst, arith}
+use Rattle.std.proofs.Common.{◌≡◌, ◌≢◌, ◌<◌, ◌≤◌, ◌||◌, ℕ, ◌-◌, ◌/◌, ◌^◌, Bool, List, ◌++◌, map, filter, take, drop, get_or, length, Option, Some, None, IsSome, true, false, inl, inr, refl, sym, ap, ◌∙◌, subst, arith}
 use Rattle.std.proofs.lemmas.Bool.{cases_lt}
 use Rattle.std.proofs.lemmas.List.{length-take, length-drop, take_all, get_or-take}
-use Rattle.std.proofs.lemmas.List.Elements.{All-take, All-from_get_or}
 use Rattle.std.specs.Array.{IsFirstChunk}
 use Rattle.std.specs.Int.{w64, from_le_bytes, trailing_zeros}
-use Rattle.std.specs.List.{All, list_all}
+use Rattle.std.specs.List.{list_all}
 use Rattle.bus_bits.specs.Internal.Marks.{HasMarks}
 use Rattle.bus_bits.specs.Capture.{EightBy, is_space}
 use Rattle.bus_bits.specs.declared.capture.eight_bits.EightMarks.{EightMarks}
 use Rattle.bus_bits.proofs.TextBitsLemmas.{is_read}
 use Rattle.bus_bits.proofs.EightBitsLemmas.{other}
+use Rattle.bus_bits.proofs.FrontLemmas.{IsFront, all-small, first_chunk_front}
 use Rattle.bus_bits.proofs.EightBitsOfNineLemmas.{all_kept, marks_text, eight-least, eight-marks, marks-eight, text-eight, IsNine, nine-long, nine-small, nine-given, nine-text, others-none, others-place}
 use Rattle.bus_bits.proofs.capture.eight_bits.eight_marks.Goals.{then-other_bits-ne0-via-then-other_bits-ne0, then-other_bits-ne0-via-else-other_bits-ne0+then-not-is_skipped}
 use Rattle.bus_bits.proofs.capture.eight_bits.eight_marks.Goals as goal
-
-all-small : (xs : List ℕ) → ((i : ℕ) → Fits w8 (slice_index_or xs i 0)) → All (λ b. b < 256) xs
-all-small xs f = All-from_get_or (λ b. b < 256) xs 0 (λ i l. (f i).fits)
-
--- the first eight octets
-record IsFront (xs ys : List ℕ) : Type 0 where
-  long : length ys ≡ 8
-  small : All (λ b. b < 256) ys
-  same : ys ≡ take 8 xs
-
-first_chunk_front : (xs ys : List ℕ) → ((i : ℕ) → Fits w8 (slice_index_or xs i 0)) → IsFirstChunk xs ys 8 → IsFront xs ys
-first_chunk_front xs ys f h = record {
-  long = ap length h.same ∙ omega (arith, length-take 8 xs, h.enough);
-  small = subst (All (λ b. b < 256)) (sym h.same) (All-take (λ b. b < 256) 8 xs (all-small xs f));
-  same = h.same;
-}
 
 front_get : (xs ys : List ℕ) (k : ℕ) → IsFront xs ys → k < 8 → get_or ys k 0 ≡ get_or xs k 0
 front_get xs ys k f h = ap (λ (z : List ℕ). get_or z k 0) f.same ∙ get_or-take 8 xs k 0 h
