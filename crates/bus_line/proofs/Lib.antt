@@ -20,6 +20,7 @@ pub mod TracksAppendLemmas
 pub mod DecideLemmas
 pub mod SettleLemmas
 pub mod AdvanceLemmas
+pub mod FlagCountLemmas
 pub mod FlagLemmas
 pub mod FlagRunLemmas
 pub mod PassedLemmas

@@ -7,6 +7,10 @@ ghost use Rattle.bus_line.specs.Internal.Flags.{FlagsAhead, IsPast};
 
 use crate::decoder::LineDecoder;
 use bus_fcs::Check;
+use std::cmp::min;
+
+/// Six flags, one behind the other.
+const SIX_FLAGS: u64 = 0x7e7e_7e7e_7e7e;
 
 /// Bits behind flags, the first lowest.
 #[derive(Clone, Copy)]
@@ -18,18 +22,15 @@ pub(crate) struct Rest {
 }
 
 /// How many flags these bits begin with.
-#[inline(never)]
+#[inline(always)]
 fn flags_in(bits: u64, count: u32) -> u32
     requires { count ≤ 48 }
     ensures within { 8 * result ≤ count }
     ensures are { bits_of (8 * result) bits ≡ flags result }
     ensures most { 8 * result + 8 ≤ count → bits_of 8 (bits / 2 ^ (8 * result)) ≢ flag }
 {
-    let mut found = 0;
-    while 8 * found + 8 <= count && bits >> (8 * found) & 0xff == 0x7e {
-        found += 1;
-    }
-    found
+    let other = bits ^ SIX_FLAGS;
+    min(other.trailing_zeros(), count) / 8
 }
 
 impl<C: Check> LineDecoder<C> {

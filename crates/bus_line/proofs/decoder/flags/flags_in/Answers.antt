@@ -1,20 +1,20 @@
-use Rattle.std.proofs.Common.{◌*◌, ◌/◌, ◌^◌, sym, ◌∙◌, arith}
-use Rattle.std.proofs.lemmas.Nat.{and_mask}
-use Rattle.bus_line.proofs.FlagLemmas.{no-bits, flags-more, flag-octet}
+use Rattle.std.proofs.Common.{◌≡◌, ◌/◌, ◌^◌, ◌<◌, ◌∙◌, min, arith}
+use Rattle.std.specs.Int.Bits.{bit_xor}
+use Rattle.std.proofs.lemmas.Nat.{xor_lt}
+use Rattle.bus_bits.proofs.OctetLemmas.{least}
+use Rattle.bus_line.proofs.FlagCountLemmas.{six_flags, first_other, flags-below, none-behind}
 use Rattle.bus_line.proofs.decoder.flags.flags_in.Goals as goal
 
-pub loop-found-init : goal.loop-found-init
-loop-found-init c = record { within = omega arith; are = no-bits c.args.bits }
+pub returns-clause-are : goal.returns-clause-are
+returns-clause-are c =
+    let x = c.args.bits in
+    let found : c.min.result ≡ min (first_other x) c.args.count = c.min.ensures ∙ least (first_other x) c.args.count in
+    let small : bit_xor x six_flags < 2 ^ 64 = xor_lt 64 x six_flags c.ranges.bits.fits (omega arith) in
+    flags-below x (c.min.result / 8) small (omega (arith, found)) (omega (arith, found, c.requires))
 
-pub loop-found-preserved : goal.loop-found-preserved
-loop-found-preserved c =
-    let k = c.loop-found.found in
-    record {
-      within = omega (arith, c.loop-found-test.true);
-      are = flags-more k c.args.bits c.loop-found.invariant.are (sym (and_mask (c.args.bits / 2 ^ (8 * k)) 8) ∙ c.if-bits-found-eq126.true);
-    }
-
-pub returns-else-bits-found-eq126-clause-most : goal.returns-else-bits-found-eq126-clause-most
-returns-else-bits-found-eq126-clause-most c = λ l e.
-    let y = c.args.bits / 2 ^ (8 * c.loop-found.found) in
-    c.if-bits-found-eq126.false (and_mask y 8 ∙ flag-octet y e)
+pub returns-clause-most : goal.returns-clause-most
+returns-clause-most c = λ l.
+    let x = c.args.bits in
+    let found : c.min.result ≡ min (first_other x) c.args.count = c.min.ensures ∙ least (first_other x) c.args.count in
+    let small : bit_xor x six_flags < 2 ^ 64 = xor_lt 64 x six_flags c.ranges.bits.fits (omega arith) in
+    none-behind x (c.min.result / 8) small (omega (arith, found)) (omega (arith, found, l)) (omega (arith, l, c.requires))
