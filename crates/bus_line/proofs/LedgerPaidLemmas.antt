@@ -18,7 +18,7 @@ use Rattle.bus_line.specs.declared.decoder.look.Found.TheVariants.{Closing, Seve
 use Rattle.bus_line.specs.Internal.Tracks.{settled_data}
 use Rattle.bus_line.proofs.DueMoreLemmas.{reports-more}
 use Rattle.bus_line.proofs.LedgerSettledLemmas.{one_if, one-place, stored-more, is_stored-append, is_settled-late}
-use Rattle.bus_line.proofs.LedgerStoredLemmas.{kept, stored_from-is}
+use Rattle.bus_line.proofs.LedgerStoredLemmas.{kept, stored_from-is, none-behind}
 use Rattle.bus_fcs.specs.FrameCheck.{is_good}
 use Rattle.bus_line.specs.declared.cause.Cause.TheVariants.{Short, Unaligned, Fcs}
 use Rattle.bus_line.proofs.RunLemmas.{IsLow, low-from, low-unspelled}
@@ -180,15 +180,12 @@ piece-octets longest b bit (FlagAt p) e =
     choice kind true h = omega (arith, h refl)
     choice kind false h = omega arith
 
-none-behind-end : (longest : ℕ) (c : List Bool) (p : ℕ) → p + 8 ≡ length c → stored_from longest c (p + 8) ≡ 0
-none-behind-end longest c p e = count-none (kept longest c p) (length c) (λ i l. and_left _ _ (lt-leb (p + 8) i (omega (arith, e, l))))
-
 paid-flag : (longest : ℕ) (b : List Bool) (bit : Bool) (due : Option Report) → IsPaid longest b → 6 < length b → current (b ++ bit ∷ []) ≡ FlagAt (length b - 7)
     → copied longest (b ++ bit ∷ []) ≡ copied longest b + sum_by octet_count (option_to_list (piece_report (λ p. class_of longest (slice_range (b ++ bit ∷ []) (p + 8) (length b - 7))) (current b) (length b - 7))) → IsPaid longest (b ++ bit ∷ [])
 paid-flag longest b bit due h l m k =
     let c = b ++ bit ∷ [] in
     let o = ap (open_stored longest c) m in
-    let none = none-behind-end longest c (length b - 7) (omega (arith, length_push b bit)) in
+    let none = none-behind longest c (length b - 7) (omega (arith, length_push b bit)) in
     omega (arith, h, k, o, none, piece-octets longest b bit (current b) refl, stored-more longest b bit)
 
 paid-step : (longest : ℕ) (b : List Bool) (bit : Bool) (f : Found) → IsFound bit (ones_at_end b) (length b) f → IsPaid longest b → IsPaid longest (b ++ bit ∷ [])

@@ -2,7 +2,7 @@
 use Rattle.std.proofs.Common.{◌≡◌, ◌≢◌, ℕ, zero, suc, ◌+◌, ◌-◌, ◌*◌, ◌/◌, ◌%◌, ◌≤◌, ◌<◌, ◌==◌, min, Bool, true, false, ◌&&◌, List, length, refl, sym, ap, ◌∙◌, arith, inl, inr}
 use Rattle.std.specs.List.{count_by, slice_range}
 use Rattle.std.specs.Prelude.{nat_le}
-use Rattle.std.proofs.lemmas.Bool.{cases_Bool, leb-true}
+use Rattle.std.proofs.lemmas.Bool.{cases_Bool, leb-true, and_left, lt-leb}
 use Rattle.std.proofs.lemmas.Bool.Decides.{nat_tests}
 use Rattle.bus_line.specs.Internal.Run.{data_so_far}
 use Rattle.bus_line.specs.Due.{FlagAt, last_mark, current, places}
@@ -10,7 +10,7 @@ use Rattle.bus_line.specs.Ledger.{is_settled, rank_under, is_stored, stored_from
 use Rattle.bus_line.proofs.MarkLastLemmas.{last_mark-flag, last_mark-is}
 use Rattle.bus_line.proofs.DueStreamLemmas.{flag-fits}
 use Rattle.bus_line.proofs.LedgerSettledLemmas.{one_if, count-more, is_settled-late}
-use Rattle.bus_line.proofs.LedgerRankLemmas.{rank-data}
+use Rattle.bus_line.proofs.LedgerRankLemmas.{rank-data, count-none}
 
 -- the settled places of the flag, and those of them that fill a stored octet
 abbrev ranked : List Bool → ℕ → ℕ → Bool
@@ -108,3 +108,7 @@ stored_from-is longest b p e =
         and-none : (x : Bool) → (x && false) ≡ false
         and-none true = refl
         and-none false = refl
+
+-- and none where nothing stands behind the flag
+pub none-behind : (longest : ℕ) (b : List Bool) (p : ℕ) → length b ≤ p + 8 → stored_from longest b (p + 8) ≡ 0
+none-behind longest b p h = count-none (kept longest b p) (length b) (λ i l. and_left _ _ (lt-leb (p + 8) i (omega (arith, h, l))))

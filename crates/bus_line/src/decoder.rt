@@ -16,7 +16,7 @@ ghost use Rattle.std.specs.Option.{option_map, option_to_list};
 ghost use Rattle.std.specs.Borrow.{sem};
 ghost use Rattle.std.specs.Io.BufRead.{Rests};
 ghost use Rattle.bus_line.specs.Due.{due_at, begun, placed};
-ghost use Rattle.bus_line.specs.Ledger.{stored_from, IsLedger};
+ghost use Rattle.bus_line.specs.Ledger.{stored_open, IsLedger};
 ghost use Rattle.bus_bits.specs.Octet.{bits_of};
 
 use crate::decoder::frame_buffer::FrameBuffer;
@@ -217,17 +217,16 @@ impl<C: Check> LineDecoder<C> {
         self.buffer.octets()
     }
 
-    /// How many octets of the piece that has begun are in the frame buffer: at most the longest
-    /// frame and two.
+    /// How many octets of the open piece are in the frame buffer: at most the longest frame and two,
+    /// and 0 where no piece is open.
     pub fn buffered(&self) -> usize
         ensures bound { result ≤ self.now.longest + 2 }
-        ensures stored { (b : List Bool) (first : ℕ) → After C.folded C.COST self.now b → begun b ≡ Some first →
-            result ≡ stored_from self.now.longest b first }
+        ensures stored { (b : List Bool) → After C.folded C.COST self.now b →
+            result ≡ stored_open self.now.longest b }
     {
-        if self.gathered < 8 {
-            0
-        } else {
-            self.buffer.len()
+        match self.first {
+            Some(_) if self.gathered >= 8 => self.buffer.len(),
+            _ => 0,
         }
     }
 

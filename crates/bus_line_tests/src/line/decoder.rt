@@ -1,8 +1,8 @@
 //! The decoder, by calls of several sizes, with both frame checks.
 
 use super::rows::{WORKED, row_of};
-use super::told::text_of;
-use super::{bits_of, word_of};
+use super::text::push_report;
+use super::{bits_of, take_some};
 use bus_bits::Spent;
 use bus_fcs::{BitCheck, Check, OctetCheck};
 use bus_line::{LineDecoder, Piece};
@@ -23,13 +23,12 @@ struct Heard {
 
 impl Heard {
     /// A report at the bit of this place.
-    fn add(&mut self, rt: &impl Abort, alloc: Global, place: u64, piece: &Piece) {
+    fn add(&mut self, rt: &impl Abort, place: u64, piece: &Piece) {
         if !self.reports.is_empty() {
             self.reports.push_str(", ").expect(rt, "memory");
             self.places.push_str(", ").expect(rt, "memory");
         }
-        let text = text_of(alloc, piece).expect(rt, "memory");
-        self.reports.push_str(&text).expect(rt, "memory");
+        push_report(rt, &mut self.reports, piece);
         write!(self.places, "{place}").expect(rt, "memory");
     }
 }
@@ -55,14 +54,13 @@ fn hear<C: Check>(
         if rest.is_empty() {
             break;
         }
-        let place = decoder.place();
-        let (word, count) = word_of(rt, rest, size);
-        let taken = decoder.take(word, count).expect(rt, "a place");
-        let last = place.wrapping_add(u64::from(taken.count)).wrapping_sub(1);
-        rest = &rest[rest.len().min(taken.count as usize)..];
-        if let Some(event) = taken.event {
-            heard.add(rt, alloc, last, &event.with_octets(decoder.octets()));
+        let (behind, piece) = take_some(rt, &mut decoder, rest, size);
+        if let Some(piece) = piece {
+            let taken = bits.len().wrapping_sub(behind.len()) as u64;
+            let last = origin.wrapping_add(taken).wrapping_sub(1);
+            heard.add(rt, last, &piece);
         }
+        rest = behind;
         heard.most = heard.most.max(decoder.buffered());
     }
     heard.spent = decoder.spent();
@@ -100,7 +98,7 @@ fn heard_alike(
 fn worked_lists_bit_by_bit(rt: HostRuntime) {
     for line in WORKED.lines() {
         let row = row_of(&rt, line);
-        let bits = bits_of(rt.alloc(), row.bits).expect(&rt, "memory");
+        let bits = bits_of(&rt, rt.alloc(), row.bits);
         let heard = heard_alike(&rt, rt.alloc(), &bits, 3, 0);
         assert_eq!(rt; heard.reports.as_str(), row.reports, "{}", row.case);
         assert_eq!(rt; heard.places.as_str(), row.places, "{}", row.case);
@@ -159,7 +157,7 @@ const FRAMES: [(&str, u64, &str, &str); 7] = [
 fn worked_frames(rt: HostRuntime) {
     for (case, origin, bits, want) in FRAMES {
         let text = format!(in rt.alloc(); "01111110 {bits} 01111110").expect(&rt, "memory");
-        let bits = bits_of(rt.alloc(), &text).expect(&rt, "memory");
+        let bits = bits_of(&rt, rt.alloc(), &text);
         let heard = heard_alike(&rt, rt.alloc(), &bits, 5, origin);
         assert_eq!(rt; heard.reports.as_str(), want, "{case}");
     }
@@ -169,7 +167,7 @@ fn worked_frames(rt: HostRuntime) {
 #[test]
 fn octets_of_a_frame(rt: HostRuntime) {
     let text = "01111110 00001000 11000001 00000000 101111101 10100111 01111110";
-    let bits = bits_of(rt.alloc(), text).expect(&rt, "memory");
+    let bits = bits_of(&rt, rt.alloc(), text);
     let mut decoder = LineDecoder::<OctetCheck>::new(3, 0).expect(&rt, "a decoder");
     for bit in &bits {
         decoder.push(*bit).expect(&rt, "a place");
@@ -220,7 +218,7 @@ fn steps_of([shifted, assembled, folded, stored]: [u64; 4]) -> Spent {
 #[test]
 fn steps(rt: HostRuntime) {
     for (case, bits, [shifted, assembled, by_bits, by_octets, stored]) in STEPS {
-        let bits = bits_of(rt.alloc(), bits).expect(&rt, "memory");
+        let bits = bits_of(&rt, rt.alloc(), bits);
         let slow = hear::<BitCheck>(&rt, rt.alloc(), &bits, 3, 0, 1);
         assert_eq!(rt;
             slow.spent,
@@ -243,7 +241,7 @@ fn heard_from_later_on(rt: HostRuntime) {
     let text = "01111110 00001000 11000001 00000000 101111101 10100111
         01111110 00001000 11000001 00000001 10101111 100000110
         01111110 111110111 110000001 10010000 01011010 11011100 01111110";
-    let bits = bits_of(rt.alloc(), text).expect(&rt, "memory");
+    let bits = bits_of(&rt, rt.alloc(), text);
     for missing in 1..=49usize {
         let heard_bits = bits.get(missing..).unwrap_or_default();
         let heard = heard_alike(&rt, rt.alloc(), heard_bits, 3, missing as u64);

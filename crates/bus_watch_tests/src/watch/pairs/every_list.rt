@@ -3,11 +3,9 @@
 ghost use Rattle.std.specs.Prelude.{◌-◌, ◌<◌, ◌^◌};
 
 use super::super::bits_of;
-use crate::line::list_of;
-use crate::line::told::{Told, borrowed, told_by};
 use bus_dictionary::Dictionary;
 use bus_fcs::{Check, OctetCheck};
-use bus_line::{Piece, reports_whole};
+use bus_line::{OwnedPiece, Piece, reports_whole};
 use bus_watch::{Line, PairAnalyser, PairSink, Seen, SinkRefused};
 use std::alloc::Global;
 use std::process::Abort;
@@ -16,7 +14,7 @@ use std::process::Abort;
 #[derive(Drop)]
 pub(super) struct Side {
     bits: Vec<bool>,
-    due: Vec<Option<Told>>,
+    due: Vec<Option<OwnedPiece>>,
 }
 
 /// The place of the bit that decides a report: the last of the flag, of the seven ones or of the fifteen.
@@ -40,34 +38,46 @@ pub(super) fn side_of(rt: &impl Abort, alloc: Global, bits: Vec<bool>, longest: 
     for _ in &bits {
         due.push(None).expect(rt, "memory");
     }
-    for owned in &reports_whole(alloc, &bits, longest).expect(rt, "memory") {
-        let piece = borrowed(owned);
-        let at = due.get_mut(due_place(&piece)).expect(rt, "a place");
-        *at = Some(told_by(&piece));
+    for owned in reports_whole(alloc, &bits, longest).expect(rt, "memory") {
+        let at = due
+            .get_mut(due_place(&owned.as_piece()))
+            .expect(rt, "a place");
+        *at = Some(owned);
     }
     Side { bits, due }
 }
 
+/// A report, and the line that it is of.
+type OnLine<'a> = (Line, Piece<'a>);
+
 /// The reports of both lines by due place, the first line's first.
-fn merged(rt: &impl Abort, alloc: Global, first: &Side, second: &Side) -> Vec<(Line, Told)> {
+fn merged<'a>(
+    rt: &impl Abort,
+    alloc: Global,
+    first: &'a Side,
+    second: &'a Side,
+) -> Vec<OnLine<'a>> {
     let mut all = Vec::new(alloc);
     for (one, other) in first.due.iter().zip(second.due.iter()) {
-        if let Some(told) = one {
-            all.push((Line::First, *told)).expect(rt, "memory");
+        if let Some(owned) = one {
+            all.push((Line::First, owned.as_piece()))
+                .expect(rt, "memory");
         }
-        if let Some(told) = other {
-            all.push((Line::Second, *told)).expect(rt, "memory");
+        if let Some(owned) = other {
+            all.push((Line::Second, owned.as_piece()))
+                .expect(rt, "memory");
         }
     }
     all
 }
 
-fn is_due(seen: &Option<Seen<'_>>, due: Option<&Option<Told>>) -> bool {
-    let told = match seen {
-        Some(seen) => Some(told_by(&seen.piece)),
-        None => None,
-    };
-    due == Some(&told)
+/// Whether what was seen is the report that is due.
+fn is_due(seen: &Option<Seen<'_>>, due: Option<&Option<OwnedPiece>>) -> bool {
+    match (seen, due) {
+        (Some(seen), Some(Some(owned))) => seen.piece == owned.as_piece(),
+        (None, Some(None)) => true,
+        _ => false,
+    }
 }
 
 /// The first place at which pairs that are pushed decide other reports than those that are due.
@@ -89,29 +99,30 @@ pub(super) fn differing_place<C: Check>(
     None
 }
 
-/// Lists what it takes.
+/// Compares what it takes with the reports that are due.
 #[derive(Drop)]
-struct Listing {
-    told: Vec<(Line, Told)>,
-    refusals: u64,
-    /// Memory was refused for a report.
-    lacks: bool,
+struct Comparing<'a> {
+    /// Those that it has not been told yet.
+    rest: &'a [OnLine<'a>],
+    /// It was told another one than the next of them.
+    differs: bool,
 }
 
-impl PairSink for Listing {
+impl PairSink for Comparing<'_> {
     ghost use Rattle.std.specs.Prelude.{None};
 
     ghost taken = { λ s. None };
 
-    ghost refusals = { λ s. s.refusals };
+    ghost refusals = { λ s. 0 };
 
     fn refused(&self) -> u64 {
-        self.refusals
+        0
     }
 
     fn take(&mut self, line: Line, seen: &Seen<'_>) -> Result<(), SinkRefused> {
-        if self.told.push((line, told_by(&seen.piece))).is_err() {
-            self.lacks = true;
+        match self.rest.split_first() {
+            Some((next, rest)) if *next == (line, seen.piece) => self.rest = rest,
+            _ => self.differs = true,
         }
         Ok(())
     }
@@ -129,14 +140,13 @@ pub(super) fn tells<C: Check>(
     for (bit, other) in first.bits.iter().zip(second.bits.iter()) {
         pairs.push((*bit, *other)).expect(rt, "memory");
     }
-    let mut sink = Listing {
-        told: Vec::new(alloc),
-        refusals: 0,
-        lacks: false,
+    let due = merged(rt, alloc, first, second);
+    let mut sink = Comparing {
+        rest: &due,
+        differs: false,
     };
-    assert!(rt; sink.refused() < u64::MAX - 1);
     analyser.feed(&pairs, &mut sink).expect(rt, "room");
-    !sink.lacks && sink.told == merged(rt, alloc, first, second)
+    !sink.differs && sink.rest.is_empty()
 }
 
 /// An analyser without a dictionary.
@@ -163,13 +173,23 @@ fn differing_second(
     None
 }
 
+/// The lowest `count` bits of `pattern`, the lowest first, behind these.
+fn list_of(rt: &impl Abort, alloc: Global, before: &[bool], pattern: u32, count: u32) -> Vec<bool> {
+    let mut bits = Vec::new(alloc);
+    bits.extend_from_slice(before).expect(rt, "memory");
+    for at in 0..count.min(16) {
+        bits.push(pattern >> at & 1 == 1).expect(rt, "memory");
+    }
+    bits
+}
+
 /// Each list of `count` bits behind these.
 fn sides(rt: &impl Abort, alloc: Global, before: &str, count: u32) -> Vec<Side> {
     let before = bits_of(alloc, before).expect(rt, "memory");
     let patterns: u32 = 1 << count.min(16);
     let mut sides = Vec::new(alloc);
     for pattern in 0..patterns {
-        let bits = list_of(alloc, &before, pattern, count, &[]).expect(rt, "memory");
+        let bits = list_of(rt, alloc, &before, pattern, count);
         sides
             .push(side_of(rt, alloc, bits, 256))
             .expect(rt, "memory");

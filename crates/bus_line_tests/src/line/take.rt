@@ -60,7 +60,7 @@ const BEHIND: [Behind; 8] = [
 /// How many of these 48 bits a decoder takes with one call behind a list.
 fn taken_behind(rt: &impl Abort, alloc: Global, row: &Behind) -> u32 {
     let mut decoder = LineDecoder::<OctetCheck>::new(3, 0).expect(rt, "a decoder");
-    for before in &bits_of(alloc, row.before).expect(rt, "memory") {
+    for before in &bits_of(rt, alloc, row.before) {
         decoder.push(*before).expect(rt, "a place");
     }
     let place = decoder.place();

@@ -2,7 +2,7 @@
 
 use super::text::{push_ending, push_seen};
 use super::{CALLS, STATES, WITHIN, bits_of};
-use crate::word::word_of;
+use bus_bits::bits_number;
 use bus_dictionary::Dictionary;
 use bus_fcs::Check;
 use bus_watch::Analyser;
@@ -81,8 +81,11 @@ pub(super) fn taken<C: Check>(
         if rest.is_empty() {
             break;
         }
-        let (word, count) = word_of(rt, rest, size);
-        let taken = analyser.take(word, count).expect(rt, "a place");
+        let (front, _) = rest.split_at(rest.len().min(size as usize));
+        assert!(rt; 1 <= front.len() && front.len() <= 48, "a word");
+        let taken = analyser
+            .take(bits_number(front), front.len() as u32)
+            .expect(rt, "a place");
         rest = &rest[rest.len().min(taken as usize)..];
         if let Some(finding) = analyser.finding() {
             push_seen(&mut text, &finding.with_octets(analyser.octets())).expect(rt, "text");

@@ -12,8 +12,7 @@ use super::rows::{DAMAGE, FRAMES};
 use super::table::row_of;
 use super::text::{push_ending, push_seen};
 use super::{CALLS, bits_of};
-use crate::word::word_of;
-use bus_bits::{Span, Spent};
+use bus_bits::{Span, Spent, bits_number};
 use bus_dictionary::Dictionary;
 use bus_fcs::{BitCheck, Check, OctetCheck};
 use bus_line::PlaceLimit;
@@ -276,10 +275,13 @@ fn take_some<C: Check>(
     second: &[bool],
     size: u32,
 ) -> usize {
-    let (one, count) = word_of(rt, first, size);
-    let (other, same) = word_of(rt, second, size);
-    assert_eq!(rt; count, same);
-    let taken = analyser.take(one, other, count).expect(rt, "a place");
+    let count = first.len().min(second.len()).min(size as usize);
+    assert!(rt; 1 <= count && count <= 48, "a word of either line");
+    let one = bits_number(&first[..count]);
+    let other = bits_number(&second[..count]);
+    let taken = analyser
+        .take(one, other, count as u32)
+        .expect(rt, "a place");
     push_found(rt, text, analyser, Line::First);
     push_found(rt, text, analyser, Line::Second);
     taken as usize

@@ -1,10 +1,9 @@
 //! Long lists of random traffic by calls of every size.
 
-use super::told::{Told, owned_told, told_by};
-use super::{bits_of, word_of};
+use super::{bits_of, take_some};
 use bus_bits::Spent;
 use bus_fcs::OctetCheck;
-use bus_line::{LineDecoder, reports_whole};
+use bus_line::{LineDecoder, OwnedPiece, reports_whole};
 use std::alloc::Global;
 use std::process::Abort;
 
@@ -58,7 +57,7 @@ fn traffic(rt: &impl Abort, alloc: Global, seed: u64) -> Vec<bool> {
             .wrapping_add(1442695040888963407);
         let part = PARTS[(state >> 60) as usize % PARTS.len()];
         let most = (state >> 40) as usize % 80;
-        for bit in bits_of(alloc, part).expect(rt, "memory").iter().take(most) {
+        for bit in bits_of(rt, alloc, part).iter().take(most) {
             bits.push(*bit).expect(rt, "memory");
         }
     }
@@ -78,22 +77,25 @@ fn states_of(rt: &impl Abort, alloc: Global, bits: &[bool]) -> Vec<State> {
 
 /// Whether calls of up to `size` bits answer these reports in order and no others, and the decoder
 /// then says the same of itself as after as many calls of one bit.
-fn agrees(rt: &impl Abort, bits: &[bool], reports: &[Told], states: &[State], size: u32) -> bool {
+fn agrees(
+    rt: &impl Abort,
+    bits: &[bool],
+    reports: &[OwnedPiece],
+    states: &[State],
+    size: u32,
+) -> bool {
     let mut decoder = LineDecoder::<OctetCheck>::new(LONGEST, 0).expect(rt, "a decoder");
-    let mut wanted = reports.iter();
+    let mut wanted = reports.iter().map(|owned| owned.as_piece());
     let mut rest = bits;
     for _ in bits {
         if rest.is_empty() {
             break;
         }
-        let (word, count) = word_of(rt, rest, size);
-        let taken = decoder.take(word, count).expect(rt, "a place");
-        rest = &rest[rest.len().min(taken.count as usize)..];
-        if let Some(event) = taken.event {
-            if wanted.next() != Some(&told_by(&event.with_octets(decoder.octets()))) {
-                return false;
-            }
+        let (behind, piece) = take_some(rt, &mut decoder, rest, size);
+        if piece.is_some() && piece != wanted.next() {
+            return false;
         }
+        rest = behind;
         let at = bits.len().wrapping_sub(rest.len()).wrapping_sub(1);
         if states.get(at) != Some(&state_of(&decoder)) {
             return false;
@@ -110,10 +112,7 @@ fn random_lists(rt: HostRuntime) {
     for seed in 1..=4u64 {
         let bits = traffic(&rt, alloc, seed);
         assert!(&rt; bits.len() >= BITS && bits.len() <= 6000, "a list");
-        let mut reports = Vec::new(alloc);
-        for piece in &reports_whole(alloc, &bits, LONGEST).expect(&rt, "memory") {
-            reports.push(owned_told(piece)).expect(&rt, "memory");
-        }
+        let reports = reports_whole(alloc, &bits, LONGEST).expect(&rt, "memory");
         assert!(&rt; reports.len() > 50, "reports");
         let states = states_of(&rt, alloc, &bits);
         for size in 1..=48 {
