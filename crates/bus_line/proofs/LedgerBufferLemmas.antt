@@ -1,5 +1,5 @@
 -- What is buffered of the open piece.
-use Rattle.std.proofs.Common.{◌≡◌, ℕ, ◌+◌, ◌/◌, ◌≤◌, ◌<◌, min, Bool, true, false, List, length, Some, None, refl, sym, ap, ◌∙◌, arith, absurd}
+use Rattle.std.proofs.Common.{◌≡◌, ℕ, ◌+◌, ◌/◌, ◌≤◌, ◌<◌, min, Bool, true, false, List, length, Some, None, refl, sym, ap, ◌∙◌, arith}
 use Rattle.std.specs.Prelude.{nat_lt, if◌then◌else◌}
 use Rattle.std.proofs.lemmas.Bool.Decides.{nat_tests}
 use Rattle.std.proofs.lemmas.List.{length-take}
@@ -7,7 +7,7 @@ use Rattle.bus_bits.specs.Octet.{octets}
 use Rattle.bus_line.specs.Due.{Mark, NoMark, FlagAt, AbortAt, current, begun_by}
 use Rattle.bus_line.specs.Ledger.{stored_from, stored_behind, stored_open}
 use Rattle.bus_line.specs.Internal.LineState.{LineState}
-use Rattle.bus_line.specs.Internal.Tracks.{first_of, settled_data, Holds, HoldsFor}
+use Rattle.bus_line.specs.Internal.Tracks.{first_of, settled_data, HoldsFor}
 use Rattle.bus_line.specs.After.{After}
 use Rattle.bus_line.proofs.LedgerStoredLemmas.{stored_from-is, none-behind}
 use Rattle.bus_line.proofs.TracksHoldLemmas.{length-octets}
@@ -46,7 +46,7 @@ held-stored folded cost d b first h f l = by_mark (current b) refl h.piece (sym 
     by_mark NoMark e k g = absurd (cc)
     by_mark (AbortAt a) e k g = absurd (cc)
     by_mark (FlagAt p) e k g =
-        let data = settled_data b p in
-        let n : length (octets data) ≡ length data / 8 = length-octets (length data / 8) data refl in
-        let kept = ap length (k.held (omega (arith, k.count, l))) ∙ length-take (d.longest + 2) (octets data) in
+        let bits = settled_data b p in
+        let n : length (octets bits) ≡ length bits / 8 = length-octets (length bits / 8) bits refl in
+        let kept = ap length (k.held (omega (arith, k.count, l))) ∙ length-take (d.longest + 2) (octets bits) in
         omega (arith, stored-behind-flag d.longest b p e, n, kept)

@@ -4,7 +4,7 @@ use Rattle.std.specs.List.{slice_range, count_by, sum_by}
 use Rattle.std.specs.Option.{option_to_list}
 use Rattle.std.specs.Prelude.{nat_le, nat_lt}
 use Rattle.std.proofs.lemmas.List.{length_push, take_all}
-use Rattle.std.proofs.lemmas.Bool.{cases_lt, cases_eq, cases_Bool, le-leb, lt-leb, and_left, and_from, eq-eqb, eqb-true, ltb-true}
+use Rattle.std.proofs.lemmas.Bool.{cases_lt, cases_eq, cases_Bool, le-leb, and_from, eq-eqb, eqb-true, ltb-true}
 use Rattle.std.proofs.lemmas.List.Sums.{sum_by-append}
 use Rattle.bus_bits.specs.Octet.{octets}
 use Rattle.bus_line.specs.Spelling.{unspelled}
@@ -24,7 +24,7 @@ use Rattle.bus_line.specs.declared.cause.Cause.TheVariants.{Short, Unaligned, Fc
 use Rattle.bus_line.proofs.RunLemmas.{IsLow, low-from, low-unspelled}
 use Rattle.bus_line.proofs.SpellingRawLemmas.{current-low}
 use Rattle.bus_line.proofs.DueMoreLemmas.{range-append}
-use Rattle.bus_line.proofs.LedgerRankLemmas.{stores-now, count-none}
+use Rattle.bus_line.proofs.LedgerRankLemmas.{stores-now}
 use Rattle.bus_line.proofs.TracksHoldLemmas.{length-octets}
 use Rattle.bus_line.proofs.StepLemmas.{data-inserted, data-more, data-settled}
 use Rattle.std.proofs.lemmas.Bool.Decides.{nat_tests}

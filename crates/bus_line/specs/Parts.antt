@@ -21,7 +21,8 @@ state_of p = record {
 
 -- they are within the bounds of a decoder
 pub record DoFit {C : Type 0} (p : LineParts C) : Type 0 where
-  pub longest_fits : p.longest ≤ 256
+  pub longest_least : 3 ≤ p.longest
+  pub longest_most : p.longest ≤ 256
   pub room : p.len ≤ p.longest + 2
   pub place_fits : p.place ≤ 2 ^ 60
   pub begins : p.origin ≤ p.place

@@ -24,7 +24,8 @@ settles_from None = 2 ^ 62
 settles_from (Some first) = first + 8
 
 pub record IsWithin {C : Type 0} (d : Inside C) : Type 0 where
-  pub longest_fits : d.longest ≤ 256
+  pub longest_least : 3 ≤ d.longest
+  pub longest_most : d.longest ≤ 256
   pub room : length d.buffer ≤ d.longest + 2
   pub place_fits : d.place ≤ 2 ^ 60
   pub begins : d.origin ≤ d.place

@@ -42,7 +42,8 @@ impl<C: Check> LineDecoder<C> {
             Some(first) => first.saturating_add(8),
             None => NEVER,
         };
-        if parts.longest > 256
+        if parts.longest < 3
+            || parts.longest > 256
             || parts.len > parts.longest + 2
             || parts.place > PLACES
             || parts.origin > parts.place
