@@ -102,9 +102,10 @@ pub(super) fn differing_place<C: Check>(
 /// Compares what it takes with the reports that are due.
 #[derive(Drop)]
 struct Comparing<'a> {
-    /// Those that it has not been told yet.
-    rest: &'a [OnLine<'a>],
-    /// It was told another one than the next of them.
+    due: &'a [OnLine<'a>],
+    /// How many it took.
+    taken: usize,
+    /// One was not the next of those that are due.
     differs: bool,
 }
 
@@ -120,10 +121,12 @@ impl PairSink for Comparing<'_> {
     }
 
     fn take(&mut self, line: Line, seen: &Seen<'_>) -> Result<(), SinkRefused> {
-        match self.rest.split_first() {
-            Some((next, rest)) if *next == (line, seen.piece) => self.rest = rest,
-            _ => self.differs = true,
-        }
+        let is_next = match self.due.get(self.taken) {
+            Some((due, piece)) => *due == line && *piece == seen.piece,
+            None => false,
+        };
+        self.differs = self.differs || !is_next;
+        self.taken = self.taken.saturating_add(1);
         Ok(())
     }
 }
@@ -142,11 +145,12 @@ pub(super) fn tells<C: Check>(
     }
     let due = merged(rt, alloc, first, second);
     let mut sink = Comparing {
-        rest: &due,
+        due: &due,
+        taken: 0,
         differs: false,
     };
     analyser.feed(&pairs, &mut sink).expect(rt, "room");
-    !sink.differs && sink.rest.is_empty()
+    !sink.differs && sink.taken == due.len()
 }
 
 /// An analyser without a dictionary.
