@@ -2,8 +2,7 @@
 use Rattle.std.proofs.Common.{◌≡◌, ℕ, ◌+◌, ◌-◌, ◌*◌, ◌≤◌, ◌<◌, Bool, List, [], ◌∷◌, ◌++◌, length, take, drop, get_or, Bor, Option, Some, refl, sym, ap, ◌∙◌, subst, append-nil, arith, length-append, length-take}
 use Rattle.std.proofs.lemmas.List.{take_more, flat_map_more, take-take, take-append-drop}
 use Rattle.std.proofs.lemmas.Grind.{flat_map-append}
-use Rattle.bus_line.specs.Due.{begun}
-use Rattle.bus_line.specs.Ledger.{stored_from}
+use Rattle.bus_line.specs.Ledger.{stored_open}
 use Rattle.bus_dictionary.specs.Dictionary.{longest_of}
 use Rattle.bus_watch.specs.Sink.{told}
 use Rattle.bus_watch.specs.Seen.{SeenReport}
@@ -32,7 +31,7 @@ runs-alike w start end _ _ (called a c e xs told pieces tolds h r) =
 -- what the getters answer that a usage is made of
 pub record Answers {C : Type 0} (folded : C → List ℕ → Type 0) (cost : ℕ) (e : AnalyserState C) (u : Usage) : Type 0 where
   pub room : u.buffered ≤ longest_of e.journal.dictionary + 2
-  pub buffered : (b : List Bool) (first : ℕ) → IsAfter folded cost e b → begun b ≡ Some first → u.buffered ≡ stored_from (longest_of e.journal.dictionary) b first
+  pub buffered : (b : List Bool) → IsAfter folded cost e b → u.buffered ≡ stored_open (longest_of e.journal.dictionary) b
   pub kept : (b : List Bool) → IsAfter folded cost e b → u.history_len ≡ length (history e.journal.depth (line e b))
   pub deep : u.history_len ≤ e.journal.depth
   pub ledger : (b : List Bool) → IsAfter folded cost e b → IsLedger cost (longest_of e.journal.dictionary) b u.spent
@@ -49,7 +48,7 @@ whole-run folded cost e u cut h = λ start pieces tolds s r.
     (record {
       told = both.1 ∙ sym (same-seen (one_line folded cost) start e (joined pieces) alike.dictionary alike.origin);
       buffer_bound = h.room;
-      buffered = λ first f. h.buffered _ first is_after f;
+      buffered = h.buffered _ is_after;
       history = is_after.journal.history;
       history_len = h.kept _ is_after ∙ ap length (sym is_after.journal.history);
       history_bound = h.deep;

@@ -1,7 +1,6 @@
 -- What a whole run over two lines comes to.
-use Rattle.std.proofs.Common.{◌≡◌, ℕ, ◌+◌, ◌*◌, ◌≤◌, Bool, List, length, Some, sym, ap, ◌∙◌}
-use Rattle.bus_line.specs.Due.{begun}
-use Rattle.bus_line.specs.Ledger.{stored_from}
+use Rattle.std.proofs.Common.{◌≡◌, ℕ, ◌+◌, ◌*◌, ◌≤◌, Bool, List, length, sym, ap, ◌∙◌}
+use Rattle.bus_line.specs.Ledger.{stored_open}
 use Rattle.bus_dictionary.specs.Dictionary.{longest_of}
 use Rattle.bus_watch.specs.Heard.{firsts, seconds}
 use Rattle.bus_watch.specs.History.{history}
@@ -17,8 +16,8 @@ use Rattle.bus_watch.proofs.HeadlineLemmas.{runs-alike}
 pub record Answers {C : Type 0} (folded : C → List ℕ → Type 0) (cost : ℕ) (e : PairState C) (u : PairUsage) : Type 0 where
   pub first_room : u.first_buffered ≤ longest_of e.journal.dictionary + 2
   pub second_room : u.second_buffered ≤ longest_of e.journal.dictionary + 2
-  pub first_buffered : (ps : List (Bool × Bool)) (first : ℕ) → IsAfterPairs folded cost e ps → begun (firsts ps) ≡ Some first → u.first_buffered ≡ stored_from (longest_of e.journal.dictionary) (firsts ps) first
-  pub second_buffered : (ps : List (Bool × Bool)) (first : ℕ) → IsAfterPairs folded cost e ps → begun (seconds ps) ≡ Some first → u.second_buffered ≡ stored_from (longest_of e.journal.dictionary) (seconds ps) first
+  pub first_buffered : (ps : List (Bool × Bool)) → IsAfterPairs folded cost e ps → u.first_buffered ≡ stored_open (longest_of e.journal.dictionary) (firsts ps)
+  pub second_buffered : (ps : List (Bool × Bool)) → IsAfterPairs folded cost e ps → u.second_buffered ≡ stored_open (longest_of e.journal.dictionary) (seconds ps)
   pub kept : (ps : List (Bool × Bool)) → IsAfterPairs folded cost e ps → u.history_len ≡ length (history e.journal.depth (lines e ps))
   pub deep : u.history_len ≤ e.journal.depth
   pub ledger : (ps : List (Bool × Bool)) → IsAfterPairs folded cost e ps → IsPairLedger cost (longest_of e.journal.dictionary) ps u.spent
@@ -36,8 +35,8 @@ whole-pair-run folded cost e u cut h = λ start pieces tolds s r.
       told = both.1 ∙ sym (same-seen (two_lines folded cost) start e (joined pieces) alike.dictionary alike.origin);
       first_bound = h.first_room;
       second_bound = h.second_room;
-      first_buffered = λ first f. h.first_buffered _ first is_after f;
-      second_buffered = λ first f. h.second_buffered _ first is_after f;
+      first_buffered = h.first_buffered _ is_after;
+      second_buffered = h.second_buffered _ is_after;
       history = is_after.journal.history;
       history_len = h.kept _ is_after ∙ ap length (sym is_after.journal.history);
       history_bound = h.deep;

@@ -2,8 +2,8 @@
 use Rattle.std.specs.Prelude.{◌≡◌, ℕ, ◌+◌, ◌-◌, ◌*◌, ◌≤◌, ◌<◌, ◌^◌, ◌⊎◌, Bool, List, [], ◌∷◌, ◌++◌, length, take, Option, Some}
 use Rattle.std.specs.Borrow.{Bor}
 use Rattle.std.specs.List.{flat_map}
-use Rattle.bus_line.specs.Due.{placed, begun}
-use Rattle.bus_line.specs.Ledger.{stored_from}
+use Rattle.bus_line.specs.Due.{placed}
+use Rattle.bus_line.specs.Ledger.{stored_open}
 use Rattle.bus_dictionary.specs.Entry.{FrameType}
 use Rattle.bus_dictionary.specs.Dictionary.{longest_of}
 use Rattle.bus_watch.specs.Heard.{of_line}
@@ -29,9 +29,9 @@ pub record Headline
     (reports : List SeenReport) (frames : List KeptFrame) (usage : Usage) : Type 0 where
   -- it told exactly what is seen of all the bits: each report, with its places and with what follows from it, in order
   pub told : reports ≡ all_seen d origin b
-  -- the frame buffer never has more octets than the longest frame and two; of the open piece it has those so far
+  -- the frame buffer never has more octets than the longest frame and two: those of the open piece so far
   pub buffer_bound : usage.buffered ≤ longest_of d + 2
-  pub buffered : (first : ℕ) → begun b ≡ Some first → usage.buffered ≡ stored_from (longest_of d) b first
+  pub buffered : usage.buffered ≡ stored_open (longest_of d) b
   -- the history is the last frames, never more than its depth
   pub history : frames ≡ history depth (of_line (placed origin (longest_of d) b))
   pub history_len : usage.history_len ≡ length frames

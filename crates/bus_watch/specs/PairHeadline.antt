@@ -1,7 +1,6 @@
 -- The headline for two lines: what a whole run comes to, from a new analyser on.
-use Rattle.std.specs.Prelude.{◌≡◌, ℕ, ◌+◌, ◌*◌, ◌≤◌, Bool, List, [], length, Some}
-use Rattle.bus_line.specs.Due.{begun}
-use Rattle.bus_line.specs.Ledger.{stored_from}
+use Rattle.std.specs.Prelude.{◌≡◌, ℕ, ◌+◌, ◌*◌, ◌≤◌, Bool, List, [], length}
+use Rattle.bus_line.specs.Ledger.{stored_open}
 use Rattle.bus_dictionary.specs.Entry.{FrameType}
 use Rattle.bus_dictionary.specs.Dictionary.{longest_of}
 use Rattle.bus_watch.specs.Heard.{firsts, seconds, merged}
@@ -18,11 +17,11 @@ pub record PairHeadline
     (reports : List SeenReport) (frames : List KeptFrame) (usage : PairUsage) : Type 0 where
   -- it told exactly what is seen of both lines: each report, by due place, the first line's first where both have one
   pub told : reports ≡ seen d (merged origin (longest_of d) ps)
-  -- neither frame buffer ever has more octets than the longest frame and two; of an open piece it has those so far
+  -- neither frame buffer ever has more octets than the longest frame and two: those of the line's open piece so far
   pub first_bound : usage.first_buffered ≤ longest_of d + 2
   pub second_bound : usage.second_buffered ≤ longest_of d + 2
-  pub first_buffered : (first : ℕ) → begun (firsts ps) ≡ Some first → usage.first_buffered ≡ stored_from (longest_of d) (firsts ps) first
-  pub second_buffered : (first : ℕ) → begun (seconds ps) ≡ Some first → usage.second_buffered ≡ stored_from (longest_of d) (seconds ps) first
+  pub first_buffered : usage.first_buffered ≡ stored_open (longest_of d) (firsts ps)
+  pub second_buffered : usage.second_buffered ≡ stored_open (longest_of d) (seconds ps)
   -- the one history is the last frames of both lines, never more than its depth
   pub history : frames ≡ history depth (merged origin (longest_of d) ps)
   pub history_len : usage.history_len ≡ length frames

@@ -6,7 +6,7 @@ ghost use Rattle.std.specs.Borrow.{sem};
 ghost use Rattle.std.specs.Io.BufRead.{Rests};
 ghost use Rattle.bus_line.specs.After.{TakesTo};
 ghost use Rattle.bus_line.specs.Due.{begun};
-ghost use Rattle.bus_line.specs.Ledger.{stored_from};
+ghost use Rattle.bus_line.specs.Ledger.{stored_open};
 ghost use Rattle.bus_bits.specs.Octet.{bits_of};
 ghost use Rattle.bus_dictionary.specs.Dictionary.{longest_of};
 
@@ -234,12 +234,12 @@ impl<C: Check> Analyser<C> {
         self.journal.dictionary()
     }
 
-    /// How many octets of the piece that has begun are in the frame buffer: at most the dictionary's
-    /// longest frame and two.
+    /// How many octets of the open piece are in the frame buffer: at most the dictionary's longest
+    /// frame and two, and 0 where no piece is open.
     pub fn buffered(&self) -> usize
         ensures bound { result ≤ longest_of self.now.journal.dictionary + 2 }
-        ensures stored { (b : List Bool) (first : ℕ) → IsAfter C.folded C.COST self.now b → begun b ≡ Some first →
-            result ≡ stored_from (longest_of self.now.journal.dictionary) b first }
+        ensures stored { (b : List Bool) → IsAfter C.folded C.COST self.now b →
+            result ≡ stored_open (longest_of self.now.journal.dictionary) b }
     {
         self.decoder.buffered()
     }

@@ -110,7 +110,7 @@ impl<C: Check> PairAnalyser<C> {
     ghost use Rattle.bus_watch.specs.Talk.{pending};
     ghost use Rattle.bus_watch.specs.Heard.{firsts, seconds, bits_on, pairs_of};
     ghost use Rattle.bus_line.specs.Due.{begun};
-    ghost use Rattle.bus_line.specs.Ledger.{stored_from};
+    ghost use Rattle.bus_line.specs.Ledger.{stored_open};
 
     /// An analyser that took no pair of bits, whose first pair has the place `origin`.
     ///
@@ -318,13 +318,12 @@ impl<C: Check> PairAnalyser<C> {
         self.journal.dictionary()
     }
 
-    /// How many octets of the piece that has begun on a line are in its frame buffer: at most the
-    /// dictionary's longest frame and two.
+    /// How many octets of a line's open piece are in its frame buffer: at most the dictionary's longest
+    /// frame and two, and 0 where no piece is open.
     pub fn buffered(&self, line: Line) -> usize
         ensures bound { result ≤ longest_of self.now.journal.dictionary + 2 }
-        ensures stored { (ps : List (Bool × Bool)) (first : ℕ) → IsAfterPairs C.folded C.COST self.now ps →
-            begun (bits_on line ps) ≡ Some first →
-            result ≡ stored_from (longest_of self.now.journal.dictionary) (bits_on line ps) first }
+        ensures stored { (ps : List (Bool × Bool)) → IsAfterPairs C.folded C.COST self.now ps →
+            result ≡ stored_open (longest_of self.now.journal.dictionary) (bits_on line ps) }
     {
         match line {
             Line::First => self.first.buffered(),

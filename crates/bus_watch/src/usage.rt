@@ -12,7 +12,7 @@ use bus_fcs::Check;
 /// What an analyser holds, and the steps that it took, after some bits.
 #[derive(Clone, Copy, Debug, PartialEq, Eq)]
 pub struct Usage {
-    /// How many octets of the open piece are in the frame buffer.
+    /// How many octets of the open piece are in the frame buffer; 0 where no piece is open.
     pub buffered: usize,
     /// How many frames the history has.
     pub history_len: usize,
