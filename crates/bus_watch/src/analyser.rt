@@ -14,13 +14,13 @@ use crate::counts::Counts;
 use crate::ending::Ending;
 use crate::feed::PLACES;
 use crate::finding::Finding;
-use crate::hear::hear;
+use crate::hear::{begun_span, hear};
 use crate::journal::Journal;
 use crate::kept::Kept;
 use crate::laws::{seen_grows, steps_are_bounded};
 use crate::new_fault::NewFault;
 use crate::seen::Seen;
-use bus_bits::{Span, Spent};
+use bus_bits::Spent;
 use bus_dictionary::Dictionary;
 use bus_fcs::Check;
 use bus_line::laws::settled_places;
@@ -63,8 +63,12 @@ impl<C: Check> Analyser<C> {
 
     /// An analyser that took no bit, whose first bit has the place `origin`.
     ///
-    /// `depth` is how many frames the history keeps, 1 to 1024. `origin` is at most 2^60. Where it
-    /// refuses, the dictionary is dropped.
+    /// `depth` is how many frames the history keeps, 1 to 1024. `origin` is at most 2^60.
+    ///
+    /// # Errors
+    ///
+    /// `DepthRange` and `Origin` where these are out of range, `Memory` where memory was refused. The
+    /// dictionary is dropped then.
     pub fn new(
         alloc: Global,
         dictionary: Dictionary,
@@ -101,6 +105,8 @@ impl<C: Check> Analyser<C> {
     /// a report. Returns how many it took. What is seen at the last of these, if it decides a report, is
     /// then answered by [`Analyser::finding`], and [`Analyser::octets`] lends the octets of a frame.
     ///
+    /// `count` is 1 to 48, and the higher bits of the word are 0.
+    ///
     /// Refuses as [`PlaceLimit`], with nothing changed, where one of the `count` bits would have the
     /// place 2^60 or a later one.
     #[inline(always)]
@@ -119,6 +125,7 @@ impl<C: Check> Analyser<C> {
         ensures unchanged { OnErr result (self.new ≡ self.old) }
     {
         settled_places();
+        // The `?` parts the two cases for the proof.
         let taken = hear(
             &mut self.decoder,
             &mut self.journal,
@@ -220,9 +227,8 @@ impl<C: Check> Analyser<C> {
         ensures pending { (b : List Bool) → IsAfter C.folded C.COST self.now b →
             result.pending ≡ pending self.now.journal.dictionary (line self.now b) }
     {
-        let past = self.decoder.place();
         Ending {
-            begun: self.decoder.begun().map(|first| Span { first, past }),
+            begun: begun_span(&self.decoder),
             pending: self.journal.pending(),
         }
     }
@@ -248,8 +254,8 @@ impl<C: Check> Analyser<C> {
     ///
     /// A bit is taken and settles at most one other; an octet is stored and folded, at up to eight
     /// units, once for eight bits, and copied once at most; and a frame's six steps come once for
-    /// forty bits, the three of any other report once for eight. So all come to less than four for
-    /// each bit, and to less than three with a check that costs one.
+    /// forty bits, the three of any other report once for eight. So all come to at most four for each
+    /// bit, and to at most three with a check that costs one.
     pub fn spent(&self) -> Spent
         ensures ledger { (b : List Bool) → IsAfter C.folded C.COST self.now b →
             IsLedger C.COST (longest_of self.now.journal.dictionary) b result }

@@ -13,6 +13,7 @@ use bus_line::Event;
 /// [`Analyser::octets`](crate::Analyser::octets) lends.
 #[derive(Clone, Copy, Debug, PartialEq, Eq)]
 pub struct Finding {
+    /// The report itself, with its bit places.
     pub event: Event,
     /// How a frame's head matches the dictionary; nothing else has a standing.
     pub standing: Option<Standing>,
@@ -23,7 +24,7 @@ pub struct Finding {
 }
 
 impl Finding {
-    /// The same; if it is a frame, with these octets.
+    /// The finding as it is handed out; a frame's piece borrows `octets`.
     pub fn with_octets<'a>(self, octets: &'a [u8]) -> Seen<'a>
         ensures only_line { shown result ≡ found octets.now self }
         ensures either_line { (line : Line) → shown_on (Some line) result ≡ found_on (Some line) octets.now self }

@@ -5,9 +5,11 @@ ghost use Rattle.bus_bits.specs.Octet.{bits_of};
 ghost use Rattle.bus_line.specs.After.{After, TakesTo};
 ghost use Rattle.bus_watch.specs.Internal.Hears.{Hears, Reached, told_on};
 ghost use Rattle.bus_watch.specs.Internal.JournalState.{journal_state, HasRoom};
+ghost use Rattle.bus_watch.specs.Shown.{begun_span};
 
 use crate::journal::Journal;
 use crate::line::Line;
+use bus_bits::Span;
 use bus_fcs::Check;
 use bus_line::laws::{frame_is_spelled, reports_are};
 use bus_line::{LineDecoder, PlaceLimit};
@@ -50,4 +52,12 @@ pub(crate) fn hear<C: Check>(
     journal.take(line, event, decoder.octets());
     *is_decided = true;
     Ok(taken.count)
+}
+
+/// The piece that has begun on a line, up to the place of the next bit.
+pub(crate) fn begun_span<C: Check>(decoder: &LineDecoder<C>) -> Option<Span>
+    ensures { (b : List Bool) → After C.folded C.COST decoder.now b → result ≡ begun_span decoder.now.origin b }
+{
+    let past = decoder.place();
+    decoder.begun().map(|first| Span { first, past })
 }

@@ -76,7 +76,8 @@ impl Journal {
     }
 
     /// Takes a report of a line, a frame with these octets, and keeps what follows from it as the last.
-    /// `line` is `None` where there is one line, and known where this is called.
+    /// `line` is `None` where there is one line. Every caller passes a constant, so that `enter` is compiled
+    /// once for one line and once for two.
     #[inline(always)]
     pub(crate) fn take(&mut self, line: Option<Line>, event: Event, octets: &[u8])
         requires whole { IsWhole event.kind octets.now }

@@ -62,8 +62,8 @@ pub fn one_bit_is_bounded()
     frame_is_spelled();
 }
 
-/// For every list of bits, however it is cut into calls of `push` and `feed`, what they tell is what
-/// is seen of the whole list, in order.
+/// For every list of bits, however it is cut into calls of `push`, `take`, `feed` and `feed_all`, what
+/// they tell is what is seen of the whole list, in order.
 pub fn any_cut<C: Check>()
     ensures { AnyCut C.folded C.COST }
 {}

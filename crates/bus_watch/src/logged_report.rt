@@ -15,16 +15,22 @@ use bus_line::{Cause, Piece};
 /// A piece of a log: a [`Piece`] with a copy of a frame's octets.
 #[derive(Debug, Drop)]
 pub enum LoggedPiece {
+    /// A frame with a good check.
     Frame(Kept),
+    /// A piece between two flags that is no frame, and why.
     Damaged { span: Span, cause: Cause },
+    /// A piece with more data than the longest frame and its check.
     Overlong { span: Span },
+    /// A piece that seven 1 bits ended.
     Abort { span: Span },
+    /// The first fifteen 1 bits of an idle line.
     Idle { span: Span },
 }
 
 /// A report of a log: a [`Seen`] with a copy of a frame's octets.
 #[derive(Debug, Drop)]
 pub struct LoggedReport {
+    /// The report itself, with its bit places.
     pub piece: LoggedPiece,
     /// How a frame stands to the dictionary; nothing else has a standing.
     pub standing: Option<Standing>,

@@ -1,16 +1,16 @@
 //! What became of a command.
 
-/// What became of a command that waited for its answer. Idle lines are passed over.
+/// What became of a command that waited for its answer, by the next report that is no idle line; of two
+/// lines, the next on either.
 #[derive(Clone, Copy, Debug, PartialEq, Eq)]
 pub enum Outcome {
-    /// The next thing on the line was its answer, in time: a frame of the same station whose type is 128
-    /// more.
+    /// It was the answer, in time: a frame of the same station, of a type 128 higher and of the length
+    /// that the dictionary gives; of two lines, on the second.
     Answered,
-    /// The next thing on the line was another frame.
+    /// It was any other frame.
     Missing,
-    /// The next thing on the line was no frame: a damaged or overlong piece, or an abort.
+    /// It was no frame: a damaged or overlong piece, or an abort.
     Spoilt,
-    /// The next thing on the line was its answer, and more bits lay between the two than the
-    /// command's window, which its dictionary entry gives, allows.
+    /// It was the answer, but more bits lay between the two than the window of the command's entry.
     Late,
 }

@@ -16,7 +16,7 @@ ghost use Rattle.bus_watch.specs.Shown.{found_on, begun_span, IsKeepable};
 use crate::counts::Counts;
 use crate::feed::PLACES;
 use crate::finding::Finding;
-use crate::hear::hear;
+use crate::hear::{begun_span, hear};
 use crate::journal::Journal;
 use crate::laws::{pairs_grow, steps_are_bounded};
 use crate::line::Line;
@@ -25,7 +25,7 @@ use crate::pair_ending::PairEnding;
 use crate::pair_kept::PairKept;
 use crate::pair_seen::PairSeen;
 use crate::seen::Seen;
-use bus_bits::{Span, Spent};
+use bus_bits::Spent;
 use bus_dictionary::Dictionary;
 use bus_fcs::Check;
 use bus_line::laws::{reports_grow, settled_places};
@@ -91,14 +91,6 @@ fn hear_all<C: Check>(
     }
 }
 
-/// The piece that has begun on a line, up to the place of the next bit.
-fn begun_span<C: Check>(decoder: &LineDecoder<C>) -> Option<Span>
-    ensures { (b : List Bool) → After C.folded C.COST decoder.now b → result ≡ begun_span decoder.now.origin b }
-{
-    let past = decoder.place();
-    decoder.begun().map(|first| Span { first, past })
-}
-
 impl<C: Check> PairAnalyser<C> {
     ghost use Rattle.bus_watch.specs.contracts.pair_analyser.PairAnalyser.{the_row};
     ghost use Rattle.bus_watch.specs.Pairs.{IsAfterPairs, SeesPairs, TakesPairsTo, lines, seen_after_pairs, heard_pair, found_at, octets_on, seen_on};
@@ -114,8 +106,12 @@ impl<C: Check> PairAnalyser<C> {
 
     /// An analyser that took no pair of bits, whose first pair has the place `origin`.
     ///
-    /// `depth` is how many frames the history keeps, 1 to 1024. `origin` is at most 2^60. Where it
-    /// refuses, the dictionary is dropped.
+    /// `depth` is how many frames the history keeps, 1 to 1024. `origin` is at most 2^60.
+    ///
+    /// # Errors
+    ///
+    /// `DepthRange` and `Origin` where these are out of range, `Memory` where memory was refused. The
+    /// dictionary is dropped then.
     pub fn new(
         alloc: Global,
         dictionary: Dictionary,
@@ -332,7 +328,7 @@ impl<C: Check> PairAnalyser<C> {
     }
 
     /// The steps so far: those of both lines' ledgers, added up, at most seventeen for each bit of either
-    /// line; and so at most four, and at most three with a check that costs one.
+    /// line; in fact at most four, and at most three with a check that costs one.
     pub fn spent(&self) -> Spent
         ensures ledger { (ps : List (Bool × Bool)) → IsAfterPairs C.folded C.COST self.now ps →
             IsPairLedger C.COST (longest_of self.now.journal.dictionary) ps result }
@@ -345,6 +341,7 @@ impl<C: Check> PairAnalyser<C> {
     {
         steps_are_bounded();
         settled_places();
+        // Called for its bound: no more than 2^60 places, so that no sum overflows.
         let _places = self.place();
         let first = self.first.spent();
         let second = self.second.spent();

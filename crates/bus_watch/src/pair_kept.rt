@@ -8,7 +8,9 @@ use crate::line::Line;
 /// A frame that is kept, with its line.
 #[derive(Debug, Drop)]
 pub struct PairKept {
+    /// The line that it was heard on.
     pub line: Line,
+    /// The frame.
     pub kept: Kept,
 }
 

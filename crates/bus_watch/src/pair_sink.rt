@@ -26,7 +26,7 @@ pub trait PairSink {
         ensures { result ≡ refusals self.now };
 
     /// Takes a report of a line, or refuses it: then it was not taken, and the count of refusals is
-    /// one more. A sink that tells its room refuses exactly where it is full.
+    /// one more. A sink that tells both its room and what it took refuses exactly where it is full.
     fn take(&mut self, line: Line, seen: &Seen<'_>) -> Result<(), SinkRefused>
         requires count { refusals self.old < 2 ^ 64 - 1 }
         requires fits { octet_count (shown_on (Some line) seen.now).report ≤ 258 }

@@ -32,7 +32,7 @@ impl Model for ReportLog {
 }
 
 impl ReportLog {
-    /// A log with room for so many reports.
+    /// An empty log with room for `room` reports. Fails only where memory was refused.
     pub fn new(alloc: Global, room: usize) -> Result<Self, AllocError>
         ensures { IfOk result (λ log. log ≡ record { reports = []; room = room; refusals = 0 }) }
     {

@@ -36,9 +36,11 @@ pub struct Run<C: Check> {
 ///
 /// # Errors
 ///
-/// - `New`: exactly as [`Analyser::new`].
-/// - `Feed`: `PlaceLimit` exactly where the origin and all the bits pass 2^60, with nothing told; `Sink`
-///   exactly where the sink refused a report.
+/// The first of these that holds; but where memory is refused, `New(Memory)` may come in place of `Feed`.
+///
+/// - `New(DepthRange)`, `New(Origin)`: as [`Analyser::new`].
+/// - `Feed(PlaceLimit)`: the origin and the number of all bits come to more than 2^60. Nothing was told.
+/// - `Feed(Sink)`: the sink refused a report.
 pub fn run_all<C: Check, S: ReportSink>(
     alloc: Global,
     dictionary: Dictionary,
@@ -77,9 +79,11 @@ pub fn run_all<C: Check, S: ReportSink>(
 ///
 /// # Errors
 ///
-/// - `New`: `Origin` exactly where the origin is over 2^60; `Memory` where memory was refused.
-/// - `Feed`: `PlaceLimit` exactly where the origin and the bits pass 2^60; `Sink` exactly where more
-///   than `room` reports are seen.
+/// The first of these that holds; but where memory is refused, `New(Memory)` may come in place of `Feed`.
+///
+/// - `New(Origin)`: the origin is above 2^60.
+/// - `Feed(PlaceLimit)`: the origin and the number of bits come to more than 2^60.
+/// - `Feed(Sink)`: more than `room` reports are seen.
 pub fn reports_of(
     alloc: Global,
     dictionary: Dictionary,
