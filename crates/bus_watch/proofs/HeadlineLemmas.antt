@@ -1,5 +1,5 @@
 -- What a whole run comes to.
-use Rattle.std.proofs.Common.{◌≡◌, ℕ, ◌+◌, ◌-◌, ◌*◌, ◌≤◌, ◌<◌, Bool, List, [], ◌∷◌, ◌++◌, length, take, drop, get_or, Bor, Option, Some, refl, sym, ap, ◌∙◌, subst, append-nil, arith, length-append, length-take}
+use Rattle.std.proofs.Common.{◌≡◌, ℕ, ◌+◌, ◌-◌, ◌*◌, ◌≤◌, ◌<◌, Bool, List, [], ◌∷◌, ◌++◌, length, take, drop, get_or, Bor, Option, refl, sym, ap, ◌∙◌, subst, append-nil, arith, length-append, length-take}
 use Rattle.std.proofs.lemmas.List.{take_more, flat_map_more, take-take, take-append-drop}
 use Rattle.std.proofs.lemmas.Grind.{flat_map-append}
 use Rattle.bus_line.specs.Ledger.{stored_open}

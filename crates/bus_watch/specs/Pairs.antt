@@ -1,5 +1,5 @@
 -- The lists of pairs of bits after which an analyser of two lines may stand, and what more pairs do.
-use Rattle.std.specs.Prelude.{◌≡◌, ℕ, ◌+◌, ◌-◌, ◌<◌, ◌⊎◌, Bool, List, ◌++◌, length, take, Option, Some, option_map}
+use Rattle.std.specs.Prelude.{◌≡◌, ℕ, ◌+◌, ◌-◌, ◌<◌, ◌⊎◌, Bool, List, ◌++◌, length, Option, Some, option_map}
 use Rattle.std.specs.Option.{option_to_list}
 use Rattle.bus_line.specs.Mark.{MayDecideAt}
 use Rattle.bus_line.specs.Internal.LineState.{LineState}
