@@ -1,6 +1,6 @@
 -- Counts that stay few.
 use Rattle.std.proofs.Common.{ℕ, ◌≤◌, arith}
-use Rattle.bus_text.specs.Internal.Counting.{IsFew}
+use Rattle.bus_text.specs.Counting.{IsFew}
 use Rattle.bus_text.specs.declared.summary.Summary.{Summary}
 
 -- fewer are few

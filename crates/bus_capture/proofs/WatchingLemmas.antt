@@ -12,7 +12,7 @@ use Rattle.bus_watch.specs.Talk.{pending}
 use Rattle.bus_watch.specs.Watch.{Leads, seen_by}
 use Rattle.bus_text.specs.Listing.{ending_text}
 use Rattle.bus_text.specs.Summary.{summary_of}
-use Rattle.bus_text.specs.Internal.Counting.{IsFew}
+use Rattle.bus_text.specs.Counting.{IsFew}
 use Rattle.bus_text.specs.Internal.Pages.{Pages}
 use Rattle.bus_text.specs.Put.{Cuts}
 use Rattle.bus_capture.specs.Internal.Taps.{TapView, TapLaws}

@@ -10,7 +10,7 @@ ghost use Rattle.bus_watch.specs.Seen.{SeenReport};
 ghost use Rattle.bus_watch.specs.Talk.{pending};
 ghost use Rattle.bus_watch.specs.Watch.{Leads};
 ghost use Rattle.bus_text.specs.CheckText.{kept_text};
-ghost use Rattle.bus_text.specs.Internal.Counting.{IsFew};
+ghost use Rattle.bus_text.specs.Counting.{IsFew};
 ghost use Rattle.bus_text.specs.Internal.Pages.{Pages};
 ghost use Rattle.bus_text.specs.Listing.{listing, ending_text};
 ghost use Rattle.bus_text.specs.Put.{Cuts};
@@ -31,10 +31,11 @@ use std::io::Write;
 /// Bits, or pairs of bits, that octets give, and how many octets these are.
 #[derive(Clone, Copy)]
 pub struct Many<N> {
-    /// The first `count` are those.
+    /// The symbols, the first lowest.
     pub word: N,
-    /// At most 48.
+    /// How many symbols these are, at most 48.
     pub count: u32,
+    /// How many octets gave them.
     pub taken: usize,
 }
 
@@ -83,7 +84,7 @@ pub trait Tap: Drop {
 
     /// Whether anything is seen at the last symbol taken.
     fn is_decided(&self) -> bool
-        ensures { result ≡ false → tap.heard self.now ≡ [] };
+        ensures { (result ≡ false) ↔ (tap.heard self.now ≡ []) };
 
     /// Counts what is seen at the last symbol taken.
     fn count(&self, summary: &mut Summary)

@@ -4,7 +4,7 @@ ghost use Rattle.std.specs.Prelude.{◌≡◌, ◌+◌, ◌*◌, ◌≤◌, ◌<
 ghost use Rattle.arrayvec.specs.ArrayString.{array_string_len};
 ghost use Rattle.bus_bits.specs.Octet.{bits_of};
 ghost use Rattle.bus_bits.specs.Capture.{text_pairs, text_pairs_fault};
-ghost use Rattle.bus_text.specs.Internal.Counting.{IsFew};
+ghost use Rattle.bus_text.specs.Counting.{IsFew};
 ghost use Rattle.bus_text.specs.Listing.{listing};
 ghost use Rattle.bus_text.specs.Summary.{summary_of};
 ghost use Rattle.bus_watch.specs.Pairs.{seen_on};

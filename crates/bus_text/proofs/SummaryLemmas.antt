@@ -7,7 +7,7 @@ use Rattle.bus_watch.specs.Seen.{SeenReport}
 use Rattle.bus_watch.specs.declared.outcome.Outcome.TheVariants.{Answered, Late, Missing, Spoilt}
 use Rattle.bus_watch.specs.Talk.{is_idle}
 use Rattle.bus_text.specs.Summary.{is_frame, is_damaged, is_overlong, is_abort, has_outcome, summary_of}
-use Rattle.bus_text.specs.Internal.Counting.{counted, with_kind, with_seen}
+use Rattle.bus_text.specs.Counting.{counted, with_kind, with_seen}
 use Rattle.bus_text.specs.declared.summary.Summary.{Summary}
 use Rattle.bus_line.specs.Shown.{kind_with}
 use Rattle.bus_line.specs.declared.event.EventKind.{EventKind}

@@ -2,6 +2,7 @@ pub mod Kinds
 pub mod HeadText
 pub mod Listing
 pub mod Summary
+pub mod Counting
 pub mod CheckText
 pub mod Given
 pub mod Put

@@ -5,7 +5,7 @@ ghost use Rattle.bus_line.specs.Shown.{kind_with};
 ghost use Rattle.bus_watch.specs.Seen.{SeenReport};
 ghost use Rattle.bus_watch.specs.Shown.{found};
 ghost use Rattle.bus_text.specs.Summary.{summary_of};
-ghost use Rattle.bus_text.specs.Internal.Counting.{with_kind, with_verdict, IsFew};
+ghost use Rattle.bus_text.specs.Counting.{with_kind, with_verdict, with_seen, IsFew};
 
 use bus_line::EventKind;
 use bus_watch::{Finding, Outcome, Verdict};
@@ -13,17 +13,25 @@ use bus_watch::{Finding, Outcome, Verdict};
 /// How often each thing was seen, on one line or on two.
 #[derive(Clone, Copy, Debug, PartialEq, Eq)]
 pub struct Summary {
+    /// Frames with a good check.
     pub frames: u64,
+    /// Pieces between two flags that are no frame.
     pub damaged: u64,
+    /// Pieces with more data than the longest frame and its check.
     pub overlong: u64,
+    /// Pieces that seven 1 bits ended.
     pub aborts: u64,
+    /// Idle lines, each counted once.
     pub idles: u64,
     /// Frames of a type of 128 or more that answer no command.
     pub strays: u64,
-    /// Commands that were answered, by their verdicts.
+    /// Commands that were answered in time.
     pub answered: u64,
+    /// Commands that were followed by another frame.
     pub missing: u64,
+    /// Commands that were followed by what is no frame.
     pub spoilt: u64,
+    /// Commands that were answered late.
     pub late: u64,
 }
 
@@ -65,6 +73,7 @@ impl Summary {
         requires { (most : ℕ) × IsFew most self.old × (most < 2 ^ 62) }
         ensures counted { (before : List SeenReport) (octets : List ℕ) → self.old ≡ summary_of before →
             self.new ≡ summary_of (before ++ found octets finding ∷ []) }
+        ensures adds { (octets : List ℕ) → self.new ≡ with_seen (found octets finding) self.old }
         ensures few { (most : ℕ) → IsFew most self.old → IsFew (most + 1) self.new }
     {
         self.count_kind(finding.event.kind);

@@ -10,7 +10,7 @@ use Rattle.bus_watch.specs.History.{history, tally}
 use Rattle.bus_watch.specs.Watch.{Watch, seen_by}
 use Rattle.bus_text.specs.Listing.{Line, listing, ending_text}
 use Rattle.bus_text.specs.Summary.{summary_of}
-use Rattle.bus_text.specs.Internal.Counting.{IsFew}
+use Rattle.bus_text.specs.Counting.{IsFew}
 use Rattle.bus_text.specs.Internal.Pages.{Pages}
 use Rattle.bus_text.specs.Put.{Cuts}
 use Rattle.bus_text.specs.CheckText.{check_text}
