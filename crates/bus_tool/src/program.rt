@@ -1,6 +1,8 @@
 //! The program.
 
-ghost use Rattle.std.specs.Prelude.{◌≡◌, ◌≤◌, ◌↔◌, OnOk, OnErr};
+ghost use Rattle.std.specs.Prelude.{◌≡◌, ◌≢◌, ◌≤◌, ◌^◌, ◌⊎◌};
+ghost use Rattle.bus_tool.specs.Serves.{IsCheckStatus, IsStatus, Serves};
+ghost use Rattle.bus_tool.specs.declared.arguments.Request.{Request};
 
 use crate::arguments::{READS, Refusal, Request, read_arguments};
 use bus_capture::{check_capture, list_capture};
@@ -33,6 +35,8 @@ pub fn run<R: Read, W: Write, E: Write>(
     e: &mut E,
 ) -> u8
     ensures status { result ≤ 2 }
+    ensures serves { ((request : Request) × Serves (2 ^ 40) request (R.remaining r.old) (R.remaining r.new)
+        (W.contents w.old) (W.contents w.new) result) ⊎ ((R.remaining r.new ≡ R.remaining r.old) × (result ≢ 1)) }
 {
     match read_arguments(alloc, words) {
         Ok(request) => serve(alloc, &request, r, w, e),
@@ -41,7 +45,7 @@ pub fn run<R: Read, W: Write, E: Write>(
     }
 }
 
-/// Does what was asked for, and returns the status.
+/// Does what is asked for, and returns the status.
 fn serve<R: Read, W: Write, E: Write>(
     alloc: Global,
     request: &Request<'_>,
@@ -49,30 +53,26 @@ fn serve<R: Read, W: Write, E: Write>(
     w: &mut W,
     e: &mut E,
 ) -> u8
-    ensures status { result ≤ 2 }
+    ensures { Serves (2 ^ 40) request.now (R.remaining r.old) (R.remaining r.new)
+        (W.contents w.old) (W.contents w.new) result }
 {
     match request {
-        Request::List(options) => match list_capture(alloc, options, r, w) {
-            Ok(_) => FINE,
-            Err(fault) => fail(&fault, e),
-        },
-        Request::Check(options) => match check_capture(alloc, options, r, w) {
-            Ok(summary) => verdict(&summary),
-            Err(fault) => fail(&fault, e),
-        },
+        Request::List(options) => status(list_capture(alloc, options, r, w), e),
+        Request::Check(options) => verdict(check_capture(alloc, options, r, w), e),
         Request::Show { dictionary, hex } => status(show_frame(alloc, *dictionary, hex, w), e),
         Request::Encode => status(encode_frames(READS, r, w), e),
     }
 }
 
-/// The status of a check that reached the end.
-fn verdict(summary: &Summary) -> u8
-    ensures clean { (result ≡ 0) ↔
-        ((summary.now.damaged ≡ 0) × (summary.now.overlong ≡ 0) × (summary.now.missing ≡ 0)
-        × (summary.now.spoilt ≡ 0) × (summary.now.late ≡ 0)) }
-    ensures most { result ≤ 1 }
+/// The status of a check, whose fault is told.
+fn verdict<E: Write>(ending: Result<Summary, ToolFault>, e: &mut E) -> u8
+    ensures { IsCheckStatus ending result }
 {
-    if summary.is_clean() { FINE } else { AMISS }
+    match ending {
+        Ok(summary) if summary.is_clean() => FINE,
+        Ok(_) => AMISS,
+        Err(fault) => fail(&fault, e),
+    }
 }
 
 /// Reports a fault, and returns its status.
@@ -84,19 +84,18 @@ fn fail<E: Write>(fault: &ToolFault, e: &mut E) -> u8
 }
 
 /// The status of a call, whose fault is told.
-fn status<E: Write>(ending: Result<(), ToolFault>, e: &mut E) -> u8
-    ensures fine { OnOk ending (result ≡ 0) }
-    ensures fault { OnErr ending (result ≡ 2) }
+fn status<T: Drop, E: Write>(ending: Result<T, ToolFault>, e: &mut E) -> u8
+    ensures { IsStatus ending result }
 {
     match ending {
-        Ok(()) => FINE,
+        Ok(_) => FINE,
         Err(fault) => fail(&fault, e),
     }
 }
 
 /// Tells what the words have wrong, or the help that they ask for.
 fn refuse<W: Write, E: Write>(alloc: Global, error: &Error, w: &mut W, e: &mut E) -> u8
-    ensures status { result ≤ 2 }
+    ensures { (result ≡ 0) ⊎ (result ≡ 2) }
 {
     if error.kind() == ErrorKind::OutOfMemory {
         return fail(&ToolFault::Memory, e);

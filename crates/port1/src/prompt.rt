@@ -13,6 +13,8 @@ pub struct Prompting<R, W> {
 }
 
 impl<R: Read, W: Write> Read for Prompting<R, W> {
+    ghost remaining = { λ p. R.remaining p.reader };
+
     fn read(&mut self, buf: &mut [u8]) -> io::Result<usize> {
         if self.is_due {
             self.is_due = false;
