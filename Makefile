@@ -1,12 +1,13 @@
 # Builds and installs the program and the C library.
 #
-#     make                              proves and builds both, with `rt`
+#     make                              proves and builds both, with `rt`, where anything has changed
 #     make install PREFIX=$HOME/.local  puts in place the program, its man page, completions and examples, and the
 #                                       C library, its header and a file for pkg-config
 #     make install-program, make install-library       one of the two
 #     make uninstall PREFIX=$HOME/.local
 #
-# PREFIX is /usr/local unless given. DESTDIR stands before it, for packages.
+# PREFIX is /usr/local unless given. DESTDIR stands before it, for packages. The installing targets build only what
+# was never built, so that they need no toolchain; else they install what was built last.
 
 PREFIX = /usr/local
 DESTDIR =
@@ -27,9 +28,12 @@ EXAMPLES = $(filter-out examples/c,$(wildcard examples/*))
 C_EXAMPLES = $(wildcard examples/c/*.c)
 VERSION = $(shell sed -n 's/.*\.version("\(.*\)").*/\1/p' crates/bus_tool/src/arguments.rt)
 
-all: $(PROGRAM) $(LIBRARY)
+# `rt` knows what has changed.
+all:
+	cd crates/port1 && rt run -- --version
+	cd crates/port1_c && rt lib
 
-# `rt` knows what has changed; these two only make what is not there.
+# These two only make what is not there.
 $(PROGRAM):
 	cd crates/port1 && rt run -- --version
 

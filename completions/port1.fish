@@ -3,8 +3,8 @@
 set -l commands list check show encode help
 
 complete -c port1 -f
-complete -c port1 -n "not __fish_seen_subcommand_from $commands" -a list -d 'List what stands on the line'
-complete -c port1 -n "not __fish_seen_subcommand_from $commands" -a check -d 'Count it, and say whether all was well'
+complete -c port1 -n "not __fish_seen_subcommand_from $commands" -a list -d 'List what is on the line'
+complete -c port1 -n "not __fish_seen_subcommand_from $commands" -a check -d 'Count it; the exit status says whether all was well'
 complete -c port1 -n "not __fish_seen_subcommand_from $commands" -a show -d 'Show what one frame is'
 complete -c port1 -n "not __fish_seen_subcommand_from $commands" -a encode -d 'Encode frames as bits'
 complete -c port1 -n "not __fish_seen_subcommand_from $commands" -a help -d 'Print help'
@@ -19,4 +19,4 @@ complete -c port1 -n "__fish_seen_subcommand_from list" -l station -x -d 'Only l
 complete -c port1 -n "__fish_seen_subcommand_from list" -l type -x -d 'Only lines of this frame type'
 complete -c port1 -n "__fish_seen_subcommand_from list" -l kind -x -d 'Only lines of this kind' \
     -a 'frame damaged overlong abort idle stray answered missing spoilt late open pending'
-complete -c port1 -n "__fish_seen_subcommand_from check" -l depth -x -d 'How many of the last frames are told'
+complete -c port1 -n "__fish_seen_subcommand_from check" -l depth -x -d 'How many of the last frames are shown'

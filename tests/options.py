@@ -73,10 +73,11 @@ def words_of_bash(line: str) -> Set[str]:
     words = line.split(" ")
     quoted = " ".join(f"'{word}'" for word in words)
     script = (
-        f". {TOP}/completions/port1.bash; COMP_WORDS=({quoted}); COMP_CWORD={len(words) - 1}; "
+        f'. "$1"; COMP_WORDS=({quoted}); COMP_CWORD={len(words) - 1}; '
         "_port1; printf '%s\\n' \"${COMPREPLY[@]}\""
     )
-    ran = subprocess.run(["bash", "-c", script], capture_output=True, text=True, check=True)
+    completion = TOP / "completions" / "port1.bash"
+    ran = subprocess.run(["bash", "-c", script, "bash", completion], capture_output=True, text=True, check=True)
     return set(ran.stdout.split())
 
 

@@ -6,6 +6,7 @@ The examples of one document run one behind the other in a folder of their own, 
 
 import os
 import shutil
+import signal
 import subprocess
 from dataclasses import dataclass
 from pathlib import Path
@@ -63,10 +64,10 @@ def furnish(folder: Path) -> None:
         (folder / name).symlink_to(TOP / name)
 
 
-def problems_of_example(program: Path, example: Example, folder: Path) -> List[str]:
-    """What is wrong with a run of it in the folder, where `port1` is the program."""
+def output_of(program: Path, example: Example, folder: Path) -> bytes:
+    """All that a run of it writes; where it does not end in time, its shell and the programs of that are killed."""
     path = f"{program.parent}:{os.environ.get('PATH', os.defpath)}"
-    ran = subprocess.run(
+    with subprocess.Popen(
         example.command,
         shell=True,
         cwd=folder,
@@ -74,9 +75,21 @@ def problems_of_example(program: Path, example: Example, folder: Path) -> List[s
         stdin=subprocess.DEVNULL,
         stdout=subprocess.PIPE,
         stderr=subprocess.STDOUT,
-        timeout=SECONDS,
-    )
-    wrote = ran.stdout.decode(errors="replace")
+        start_new_session=True,
+    ) as shell:
+        try:
+            return shell.communicate(timeout=SECONDS)[0]
+        except subprocess.TimeoutExpired:
+            os.killpg(shell.pid, signal.SIGKILL)
+            raise
+
+
+def problems_of_example(program: Path, example: Example, folder: Path) -> List[str]:
+    """What is wrong with a run of it in the folder, where `port1` is the program."""
+    try:
+        wrote = output_of(program, example, folder).decode(errors="replace")
+    except (OSError, subprocess.TimeoutExpired) as error:
+        return [str(error)]
     if wrote == example.stdout:
         return []
     return [f"it wrote {wrote!r}", f"the document has {example.stdout!r}"]

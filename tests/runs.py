@@ -125,7 +125,10 @@ def read_as_many(file: int, count: int) -> bytes:
 def problems_of_exchange(program: Path, exchange: Exchange) -> List[str]:
     """Runs a row over a pipe, and says what is wrong."""
     pipes = {"stdin": subprocess.PIPE, "stdout": subprocess.PIPE, "stderr": subprocess.PIPE}
-    process = subprocess.Popen([program, *exchange.words], env={}, bufsize=0, **pipes)
+    try:
+        process = subprocess.Popen([program, *exchange.words], env={}, bufsize=0, **pipes)
+    except OSError as error:
+        return [str(error)]
     problems = []
     try:
         for turn in exchange.turns:

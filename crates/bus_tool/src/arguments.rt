@@ -79,7 +79,7 @@ fn depth_arg<'a>(alloc: Global) -> Arg<'a> {
         .action(ArgAction::Set)
         .value_parser(value_parser!(usize).range(1..=1024))
         .default_value("16")
-        .help("How many of the last frames are told, 1 to 1024")
+        .help("How many of the last frames are shown, 1 to 1024")
 }
 
 /// An argument that is an octet, as a number.
@@ -103,7 +103,7 @@ fn kind_arg<'a>(alloc: Global) -> Arg<'a> {
 fn list_command<'a>(alloc: Global) -> Result<Command<'a>, Error> {
     Ok(
         Command::new(alloc, "list")
-            .about("Lists what stands on the line, from a capture on standard input")
+            .about("Lists what is on the line, from a capture on standard input")
             .arg(dictionary_arg(alloc))?
             .arg(origin_arg(alloc))?
             .arg(bits_arg(alloc))?
@@ -118,7 +118,7 @@ fn list_command<'a>(alloc: Global) -> Result<Command<'a>, Error> {
 fn check_command<'a>(alloc: Global) -> Result<Command<'a>, Error> {
     Ok(
         Command::new(alloc, "check")
-            .about("Counts what stands on the line, and says by its status whether all was well")
+            .about("Counts what is on the line; the exit status says whether all was well")
             .arg(dictionary_arg(alloc))?
             .arg(origin_arg(alloc))?
             .arg(bits_arg(alloc))?

@@ -22,8 +22,8 @@ bits: their number, then four in each octet, the first of them lowest, and the f
 each pair below the second.
 
 Output goes to standard output, faults to standard error. The status is 0, or 1 where `check`
-found a damaged or overlong piece or a command that was missed, spoilt or answered late, or 2
-for any fault.
+found a damaged or overlong piece or a command that is missing, spoilt or late, or 2 for any
+fault.
 
 Example:
   port1 list --bits < capture.bits
@@ -33,7 +33,7 @@ See also: port1(1)";
 /// Of `list`.
 pub const LIST: &str = "\
 Reads a capture from standard input and writes a line as soon as it is decided: the first
-place, the place past the last bit, and what stands there. Places count bits.
+place, the place past the last bit, and what is there. Places count bits.
   frame HEX                 a frame with a good check, its octets and check; with a dictionary
                             also what its head says: `station A type T NAME`, `unknown` or
                             `length` in place of the name, `control C`, or `untyped`
@@ -47,10 +47,10 @@ A line without a station or type is left out where --station or --type asks for 
 a dictionary no type is known: no command waits, and strays have no line.
 
 With --two each line of text begins with 1 or 2, the line of the bus that it is about. Commands
-wait on the first and answers come on the second, so answered, missing, spoilt, late and
-pending stand behind a 1. A place counts pairs of bits, and is the same on both.
+wait on the first and answers come on the second, so lines with answered, missing, spoilt, late
+and pending begin with 1. A place counts pairs of bits, and is the same on both.
 
-The status is 0, or 2 for any fault, told on standard error behind the lines before it.
+The status is 0, or 2 for any fault, reported on standard error, after the lines before it.
 
 Likely causes of faults:
   capture: wrong magic        the capture is text: add --bits; or --two is missing, or is given
@@ -71,13 +71,14 @@ Reads a capture from standard input to its end. Then it writes how many frames, 
 overlong pieces, aborts, idle lines and strays there were, how many commands were answered,
 missing, spoilt and answered late, these four again for each station that has any, and the last
 frames with their places, the oldest first. Where the capture has a fault, nothing is written.
+Without a dictionary no command waits, and every frame of type 128 or more counts as a stray.
 
-With --two the counts are those of both lines together, and 1 or 2 behind `last` is the line
+With --two the counts are those of both lines together, and the 1 or 2 after `last` is the line
 of the frame.
 
 The status is 0; 1 where anything was damaged, overlong, missing, spoilt or late; 2 for any
-fault, told on standard error. It is 0 with aborts, idle lines and strays, with a piece that is
-open or a command that waits at the end, and for an empty capture: look at the counts, and at
+fault, reported on standard error. It is 0 with aborts, idle lines and strays, with a piece that
+is open or a command that waits at the end, and for an empty capture: look at the counts, and at
 what `list --kind open` and `list --kind pending` write.
 
 Likely causes of faults:
@@ -99,7 +100,7 @@ Reads no input. It writes the octets and whether their check is good, then what 
 by the dictionary, and, for a frame that the dictionary has, the place and name of each named
 bit that is 1. A frame has 4 to 258 octets; digits are of either case.
 
-The status is 0, also where the check is bad, or 2 for any fault, told on standard error.
+The status is 0, also where the check is bad, or 2 for any fault, reported on standard error.
 
 Example:
   port1 show --dict \"$(cat cabinet.toml)\" 108300fde5
@@ -109,11 +110,11 @@ See also: port1(1)";
 /// Of `encode`.
 pub const ENCODE: &str = "\
 Reads lines from standard input: `flag`, `idle`, or `frame` and the octets from the address
-through the information, in hexadecimal. For each it writes a line of the bits 0 and 1 that
-stand on the line: a flag, fifteen ones, or the frame with its check and its inserted 0s
-between flags, of which the first is left out behind a flag or a frame. Empty lines are skipped.
+through the information, in hexadecimal. For each it writes a line of the bits 0 and 1 that a
+sender puts on the line: a flag, fifteen ones, or the frame with its check and its inserted 0s
+between flags, of which the first is left out after a flag or a frame. Empty lines are skipped.
 
-The status is 0, or 2 for any fault, told on standard error behind the lines before it.
+The status is 0, or 2 for any fault, reported on standard error, after the lines before it.
 
 Example:
   printf 'frame 108300\\nidle\\n' | port1 encode

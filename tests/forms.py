@@ -1,0 +1,79 @@
+"""Looks at the form of the documents: how wide their prose is, and the counts of lines that one of them has."""
+
+import re
+from pathlib import Path
+from typing import Dict, Iterator, List, Tuple
+
+TOP = Path(__file__).resolve().parent.parent
+
+CRATES = TOP / "crates"
+
+# The columns of a line of prose, at most.
+MOST_COLUMNS = 120
+
+# Where a link goes, which does not count.
+TARGET = re.compile(r"(?<=\])\([^)\s]*\)")
+
+# The document with a table of the definitions, its rows, and the line with their sum.
+COUNTED = "docs/ARCHITECTURE.md"
+
+ROW = re.compile(r"^\| `(\w+/specs/\w+\.antt)` \| (\d+) \|", re.MULTILINE)
+
+SUM = re.compile(r"^Together (\d+) lines\.$", re.MULTILINE)
+
+# Files of specs that define nothing of their own: they list others.
+LISTS = {"Lib.antt", "Internal.antt"}
+
+
+def documents() -> List[str]:
+    return [str(path.relative_to(TOP)) for path in sorted([*TOP.glob("*.md"), *TOP.glob("docs/*.md")])]
+
+
+def prose_of(text: str) -> Iterator[Tuple[int, str]]:
+    """The lines that are neither in a table nor in a block of code, with their numbers."""
+    fenced = False
+    for number, line in enumerate(text.splitlines(), 1):
+        if line.startswith("```"):
+            fenced = not fenced
+        elif not fenced and not line.startswith(("|", "    ")):
+            yield number, line
+
+
+def problems_of_width(document: str) -> List[str]:
+    text = (TOP / document).read_text(encoding="utf-8")
+    widths = ((number, len(TARGET.sub("", line))) for number, line in prose_of(text))
+    return [
+        f"line {number} has {width} columns: break it, so that it has at most {MOST_COLUMNS}"
+        for number, width in widths
+        if width > MOST_COLUMNS
+    ]
+
+
+def lines_of_definitions() -> Dict[str, int]:
+    """How many lines each file of definitions has that a reader of the contracts needs."""
+    files = [path for path in sorted(CRATES.glob("*/specs/*.antt")) if path.name not in LISTS]
+    return {str(path.relative_to(CRATES)): len(path.read_text(encoding="utf-8").splitlines()) for path in files}
+
+
+def problems_of_counts() -> List[str]:
+    """Where the table of definitions differs from the files."""
+    text = (TOP / COUNTED).read_text(encoding="utf-8")
+    told = {name: int(lines) for name, lines in ROW.findall(text)}
+    there = lines_of_definitions()
+    problems = [f"it has no row for {name}, of {there[name]} lines" for name in there if name not in told]
+    problems += [f"there is no file crates/{name}: take its row away" for name in told if name not in there]
+    problems += [
+        f"{name} has {there[name]} lines: write that in place of {lines}"
+        for name, lines in told.items()
+        if there.get(name, lines) != lines
+    ]
+    sums = SUM.findall(text)
+    if sums != [str(sum(there.values()))]:
+        problems.append(f"all files have {sum(there.values())} lines: write `Together {sum(there.values())} lines.`")
+    return problems
+
+
+def results_of_forms() -> Iterator[Tuple[str, List[str]]]:
+    for document in documents():
+        yield f"{document}: the width of its prose", problems_of_width(document)
+    yield f"{COUNTED}: the lines of the definitions", problems_of_counts()
