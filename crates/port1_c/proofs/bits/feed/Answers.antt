@@ -1,9 +1,9 @@
-use Rattle.std.proofs.Common.{◌≡◌, ◌+◌, ◌∙◌, refl, sym, subst, arith}
+use Rattle.std.proofs.Common.{◌≡◌, ◌+◌, ◌-◌, ◌∙◌, ℕ, refl, sym, subst, arith}
 use Rattle.bus_fcs.specs.declared.octet_check.OctetCheck.{OctetCheck}
 use Rattle.bus_line.specs.Parts.{LineState}
 use Rattle.port1_c.specs.Bits.{bits_from}
-use Rattle.port1_c.specs.Line.{Tells}
-use Rattle.port1_c.proofs.TellLemmas.{silent, tell-alike, tell-more, tell-none}
+use Rattle.port1_c.specs.Line.{DecideNothing, Tells}
+use Rattle.port1_c.proofs.TellLemmas.{decide-more, silent, tell-alike, tell-more, tell-none}
 use Rattle.port1_c.proofs.bits.feed.Goals as goal
 
 pub loop-count-init : goal.loop-count-init
@@ -26,5 +26,11 @@ same c = elim c.loop-count-test.branch [ goal.else-loop-count-test w ↦ sym w.d
 pub returns-clause-tells : goal.returns-clause-tells
 returns-clause-tells c =
     let bits = bits_from c.args.octets.now c.args.at c.loop-count.count in
-    tell-alike c.args.decoder.now c.loop-count-test.decoder bits silent c.none.result refl c.none.ensures
+    tell-alike c.args.decoder.now c.loop-count-test.decoder bits silent c.none.result refl c.none.ensures.kind
     (subst (λ (s : LineState OctetCheck). Tells c.args.decoder.now bits silent s) (same c) c.loop-count.invariant.rests)
+
+pub returns-then-told-ne0-clause-before : goal.returns-then-told-ne0-clause-before
+returns-then-told-ne0-clause-before c = λ _.
+    let n : c.loop-count.count + (c.in-Ok.told.count - 1) ≡ c.loop-count.count + c.in-Ok.told.count - 1 = omega (arith, c.in-Ok.ensures.count.0) in
+    subst (λ (k : ℕ). DecideNothing c.args.decoder.now (bits_from c.args.octets.now c.args.at k)) n
+    (decide-more c.args.octets.now c.args.at c.loop-count.count (c.in-Ok.told.count - 1) c.args.decoder.now c.loop-count.decoder c.loop-count.invariant.rests c.in-Ok.ensures.before)
