@@ -5,7 +5,7 @@ ghost use Rattle.bus_bits.specs.Octet.{bits_of};
 ghost use Rattle.port1_c.specs.Bits.{bits_from};
 ghost use Rattle.port1_c.specs.Line.{DecideNothing, IsCoded, Tells};
 
-use crate::report::Port1Report;
+use crate::report::{NONE, Port1Report};
 use crate::word::word_at;
 use bus_fcs::OctetCheck;
 use bus_line::{LineDecoder, PlaceLimit};
@@ -97,17 +97,15 @@ pub(crate) fn feed(
 {
     let mut count = 0;
     while at + count < end {
-        match step(decoder, octets, at + count, end) {
-            Ok(told) => {
-                count += told.count;
-                if told.report.kind != 0 {
-                    return Told {
-                        count,
-                        report: told.report,
-                    };
-                }
-            }
-            Err(PlaceLimit) => break,
+        let Ok(told) = step(decoder, octets, at + count, end) else {
+            break;
+        };
+        count += told.count;
+        if told.report.kind != NONE {
+            return Told {
+                count,
+                report: told.report,
+            };
         }
     }
     Told {

@@ -8,10 +8,10 @@ ghost use Rattle.port1_c.specs.Line.{Sound, Stands, bit_of, first_in, frame, Goe
 
 use crate::bits;
 use crate::line::Port1Line;
-use crate::report::Port1Report;
+use crate::report::{NONE, Port1Report};
 use crate::status::{BAD_ARGUMENT, BAD_LENGTH, BAD_STATE, OK, PLACE_LIMIT};
 use bus_fcs::OctetCheck;
-use bus_line::{LineDecoder, LineFault, PlaceLimit};
+use bus_line::{LineDecoder, LineFault};
 
 /// Makes a decoder in the caller's memory, whatever stands there.
 ///
@@ -59,14 +59,12 @@ pub extern "C" fn port1_line_push(line: &mut Port1Line, bit: u8, report: &mut Po
     let Some(mut decoder) = line.load() else {
         return BAD_STATE;
     };
-    match bits::push(&mut decoder, bit != 0) {
-        Ok(told) => {
-            line.store(decoder);
-            *report = told;
-            OK
-        }
-        Err(PlaceLimit) => PLACE_LIMIT,
-    }
+    let Ok(told) = bits::push(&mut decoder, bit != 0) else {
+        return PLACE_LIMIT;
+    };
+    line.store(decoder);
+    *report = told;
+    OK
 }
 
 /// Takes bits of octets, the lowest of each first, from bit `at` on, up to the first that decides a
@@ -112,7 +110,7 @@ pub extern "C" fn port1_line_feed(
     line.store(decoder);
     *at += told.count;
     *report = told.report;
-    if told.report.kind == 0 && *at < end {
+    if told.report.kind == NONE && *at < end {
         return PLACE_LIMIT;
     }
     OK

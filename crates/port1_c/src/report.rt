@@ -9,7 +9,7 @@ use bus_bits::Span;
 use bus_line::{Cause, Event, EventKind};
 
 /// The kinds of a report. The numbers are those of `include/port1.h`, with PORT1_ before each name.
-const NONE: u32 = 0;
+pub(crate) const NONE: u32 = 0;
 
 const FRAME: u32 = 1;
 
