@@ -1,6 +1,7 @@
 /* Calls the C library on 10^6 lines and senders with any content, each object ending at a page that must not be
- * touched; sees that a refusal changes nothing, that `at` stays within what was asked for, and that a sender
- * touches the bits of its call alone; and counts the answers.
+ * touched; sees that a refusal changes nothing, that `at` stays within what was asked for, that a report has numbers
+ * that the header names, that a line of zeros is refused, and that a sender touches the bits of its call alone; and
+ * counts what the calls return.
  *
  *     wild [COUNT] */
 #define _GNU_SOURCE
@@ -24,7 +25,7 @@ static uint64_t draw(void) {
     return state;
 }
 
-/* So many octets at the end of a page, with pages that must not be touched before and behind it. */
+/* So many octets at the end of a page, with pages that must not be touched before and after it. */
 static void *at_end(size_t size) {
     char *pages = mmap(NULL, 3 * PAGE, PROT_NONE, MAP_PRIVATE | MAP_ANONYMOUS, -1, 0);
     if (pages == MAP_FAILED || mprotect(pages + PAGE, PAGE, PROT_READ | PROT_WRITE) != 0)
@@ -50,9 +51,15 @@ static void fill(struct port1_line *line) {
     line->has_first = draw() % 2;
 }
 
+/* Octets to take, a third of them ones or flags. */
+static void fill_octets(uint8_t *octets) {
+    for (int k = 0; k < OCTETS; k++)
+        octets[k] = (uint8_t)(draw() % 3 ? draw() : draw() % 2 ? 0xff : 0x7e);
+}
+
 static int bit(const uint8_t *octets, size_t i) { return octets[i / 8] >> i % 8 & 1; }
 
-/* One call of a sender with any content, by octets that end at a page's end. Answers its status, or 9 where it
+/* One call of a sender with any content, by octets that end at a page's end. Returns its status, or 9 where it
  * did what it must not. */
 static uint32_t send_once(struct port1_sender *sender, uint8_t *frame, uint8_t *end, size_t *at, size_t *bits) {
     static uint8_t before[SENT];
@@ -87,6 +94,31 @@ static uint32_t send_once(struct port1_sender *sender, uint8_t *frame, uint8_t *
     return status;
 }
 
+/* Whether the kind and the cause are numbers that the header names. */
+static int is_named(const struct port1_report *report) {
+    if (report->kind == PORT1_DAMAGED)
+        return report->cause >= PORT1_UNSTUFFED && report->cause <= PORT1_FCS;
+    return report->kind <= PORT1_IDLE && report->cause == 0;
+}
+
+/* Takes one more bit, and asks for the open piece. Returns 0 where it did what it must not. */
+static int push_once(struct port1_line *line, struct port1_report *report, uint8_t *has_begun, uint64_t *first) {
+    uint64_t was = *first;
+    uint32_t status = port1_line_push(line, (uint8_t)draw(), report);
+    if (status == PORT1_OK && !is_named(report))
+        return 0;
+    status = port1_line_open(line, has_begun, first);
+    return status != PORT1_OK || *has_begun == 1 || (*has_begun == 0 && *first == was);
+}
+
+static void print_counts(const unsigned long *feeds, const unsigned long *sends) {
+    printf("taken %lu, at the last place %lu, refused for the state %lu, for an argument %lu\n", feeds[PORT1_OK],
+           feeds[PORT1_PLACE_LIMIT], feeds[PORT1_BAD_STATE], feeds[PORT1_BAD_ARGUMENT]);
+    printf("sent %lu, refused for the length %lu, for the state %lu, for an argument %lu, for room %lu\n",
+           sends[PORT1_OK], sends[PORT1_BAD_LENGTH], sends[PORT1_BAD_STATE], sends[PORT1_BAD_ARGUMENT],
+           sends[PORT1_NO_ROOM]);
+}
+
 int main(int argc, char **argv) {
     long count = argc > 1 ? atol(argv[1]) : 1000000;
     struct port1_line *line = at_end(sizeof *line), before;
@@ -97,34 +129,34 @@ int main(int argc, char **argv) {
     struct port1_sender *sender = at_end(sizeof *sender);
     uint8_t *frame = at_end(FRAME), *sent = (uint8_t *)at_end(SENT) + SENT;
     size_t *bits = at_end(sizeof *bits);
-    unsigned long answers[5] = {0}, sends[6] = {0};
+    unsigned long feeds[5] = {0}, sends[6] = {0};
     memset(report, 0, sizeof *report);
+    *first = *has_begun = 0;
+    memset(line, 0, sizeof *line);
+    if (port1_line_push(line, 1, report) != PORT1_BAD_STATE)
+        return 6;
     for (long i = 0; i < count; i++) {
         fill(line);
-        for (int k = 0; k < OCTETS; k++)
-            octets[k] = (uint8_t)(draw() % 3 ? draw() : draw() % 2 ? 0xff : 0x7e);
+        fill_octets(octets);
         size_t end = draw() % 4 ? 8 * OCTETS : draw() % 340, begin = draw() % 330;
         *at = begin;
         before = *line;
         told = *report;
         uint32_t status = port1_line_feed(line, octets, OCTETS, at, end, report);
-        answers[status]++;
+        feeds[status]++;
         int is_refused = status == PORT1_BAD_STATE || status == PORT1_BAD_ARGUMENT;
         if (is_refused && (memcmp(line, &before, sizeof before) || memcmp(report, &told, sizeof told) || *at != begin))
             return 3;
-        if (!is_refused && (*at < begin || *at > end || line->longest != before.longest || line->origin != before.origin))
+        if (!is_refused
+            && (*at < begin || *at > end || line->longest != before.longest || line->origin != before.origin))
             return 4;
-        port1_line_push(line, (uint8_t)draw(), report);
-        port1_line_open(line, has_begun, first);
+        if ((!is_refused && !is_named(report)) || !push_once(line, report, has_begun, first))
+            return 7;
         status = send_once(sender, frame, sent, at, bits);
         if (status > PORT1_NO_ROOM)
             return 5;
         sends[status]++;
     }
-    printf("taken %lu, at the last place %lu, refused for the state %lu, for an argument %lu\n", answers[PORT1_OK],
-           answers[PORT1_PLACE_LIMIT], answers[PORT1_BAD_STATE], answers[PORT1_BAD_ARGUMENT]);
-    printf("sent %lu, refused for the length %lu, for the state %lu, for an argument %lu, for room %lu\n",
-           sends[PORT1_OK], sends[PORT1_BAD_LENGTH], sends[PORT1_BAD_STATE], sends[PORT1_BAD_ARGUMENT],
-           sends[PORT1_NO_ROOM]);
+    print_counts(feeds, sends);
     return 0;
 }

@@ -3,30 +3,34 @@
  *
  * What is proved, for every content of the memory that a call is given:
  *   - a call is safe and ends;
- *   - after port1_line_init answered PORT1_OK, and as long as only these calls write the line, the reports
+ *   - after port1_line_init returned PORT1_OK, and as long as only these calls write the line, the reports
  *     are those of the definition (crates/bus_line/specs/Report.antt) for the bits taken so far: all of
  *     them, in order, each once, told by the call that takes the bit that decides it, however the bits are
  *     cut into calls;
+ *   - the kind and the cause of each report are numbers that are named below, and the cause is 0 unless the kind
+ *     is PORT1_DAMAGED;
  *   - longest and origin stay as they were given;
- *   - after port1_sender_init, and as long as only these calls write the sender, each call that answers
+ *   - after port1_sender_init, and as long as only these calls write the sender, each call that returns
  *     PORT1_OK puts the bits of the definition (crates/bus_line/specs/Line.antt) into the octets, from the
  *     bit that it was told, and touches no other bit;
  *   - where a call refuses, with PORT1_BAD_STATE, PORT1_BAD_ARGUMENT, PORT1_BAD_LENGTH or PORT1_NO_ROOM,
  *     nothing has changed but what is said there.
  *
- * A line that was damaged or never made is refused as PORT1_BAD_STATE where its numbers cannot be those
- * of a decoder. Else it is read as some decoder, and reports what that one would: a call on it is safe and
- * ends all the same, but its reports mean nothing.
+ * A line of zeros, and one whose numbers are out of a decoder's range, is refused as PORT1_BAD_STATE. Any
+ * other content is read as some decoder, and reports what that one would: a call on a line that was damaged
+ * or never made is safe and ends all the same, but its reports mean nothing.
  *
- * The library has no data of its own, asks for no memory and calls nothing but memcpy and memset.
+ * The library has no writable data, asks for no memory and calls nothing but memcpy and memset.
  *
  * What is not proved:
- *   - this header. It is written by hand; the asserts at its end hold the layout to the library's;
+ *   - this header. It is written by hand; the asserts at its end fix the sizes and offsets worked out from
+ *     the `repr(C)` declarations in crates/port1_c/src;
  *   - the C compiler's side of a call, and any target but those that the library was built and proved for.
  *
  * The duties of the caller, which no call can check: a pointer is not null, is aligned for its type, and
- * points to as many objects as are said; what a call writes overlaps nothing else that it is given; all of
- * a line was written once, with any values; one call at a time on one line. */
+ * points to as many objects as are said; every object that a pointer names was written once, with any
+ * values (static storage, an initialiser or memset), also for port1_line_init; what a call writes overlaps
+ * nothing else that it is given; one call at a time on one line or sender. */
 #ifndef PORT1_H
 #define PORT1_H
 
@@ -37,7 +41,7 @@
 extern "C" {
 #endif
 
-/* What a call answers. */
+/* What a call returns. */
 enum {
     PORT1_OK = 0,
     PORT1_BAD_LENGTH = 1,   /* the longest frame is not of 3 to 256 octets; a frame to send not of 2 to 256 */
@@ -84,13 +88,13 @@ struct port1_report {
     uint32_t kind;  /* PORT1_NONE to PORT1_IDLE */
     uint32_t cause; /* of PORT1_DAMAGED, and else 0 */
     uint64_t first; /* the place of the first bit */
-    uint64_t past;  /* the place behind the last bit */
+    uint64_t past;  /* the place just past the last bit */
 };
 
 /* Makes a decoder that took no bit, whatever the memory holds.
  * longest: the longest frame in octets, address through information, 3 to 256, else PORT1_BAD_LENGTH.
  * origin: the place of the first bit, at most 2^60, else PORT1_PLACE_LIMIT.
- * Where it does not answer PORT1_OK, nothing has changed. */
+ * Where it does not return PORT1_OK, nothing has changed. */
 uint32_t port1_line_init(struct port1_line *line, uint64_t longest, uint64_t origin);
 
 /* Takes bits `*at` to `end` - 1 of the octets, the lowest bit of each octet first, up to the first that
@@ -105,7 +109,7 @@ uint32_t port1_line_feed(struct port1_line *line, const uint8_t *octets, size_t 
 
 /* Takes one bit: 0, or any other number for a 1. `*report` is what it decided.
  * PORT1_PLACE_LIMIT: its place would be 2^60. PORT1_BAD_STATE: the memory holds no decoder.
- * Where it does not answer PORT1_OK, nothing has changed. */
+ * Where it does not return PORT1_OK, nothing has changed. */
 uint32_t port1_line_push(struct port1_line *line, uint8_t bit, struct port1_report *report);
 
 /* Says whether a piece has begun that nothing has ended yet: `*has_begun` is then 1 and `*first` the place of
@@ -119,17 +123,18 @@ struct port1_sender {
     uint32_t behind_flag; /* 1 where a flag was sent last, which may open a frame, and else 0 */
 };
 
-/* The most bits that port1_send_frame puts: 256 octets and two of the check, a 0 inserted behind each five
+/* The most bits that port1_send_frame puts: 256 octets and two of the check, a 0 inserted after each five
  * ones, and two flags. */
 #define PORT1_FRAME_BITS 2492
 
-/* Makes a sender that sent nothing yet, whatever the memory holds. Answers PORT1_OK. */
+/* Makes a sender that sent nothing yet, whatever the memory holds. Returns PORT1_OK. */
 uint32_t port1_sender_init(struct port1_sender *sender);
 
 /* Each of these three puts the bits of one call into octets, the lowest bit of each octet first, from bit
- * `*at` on. `*at` is then the bit behind them, and `*bits` how many they are. All other bits of the octets
- * stay as they are. A buffer that has gone out is used again so: the octet of bit `*at` goes to the front,
- * and `*at` becomes its rest by 8.
+ * `*at` on. `*at` is then the bit after them, and `*bits` how many they are. All other bits of the octets
+ * stay as they are. To reuse a buffer that has gone out:
+ *     if (at % 8 != 0) octets[0] = octets[at / 8];
+ *     at %= 8;
  *
  * port1_send_flag: a flag, 8 bits.
  * port1_send_idle: fifteen ones, which abort a frame and make the line idle.
@@ -153,11 +158,25 @@ PORT1_ASSERT(size_of_line, sizeof(struct port1_line) == 360);
 PORT1_ASSERT(size_of_report, sizeof(struct port1_report) == 24);
 PORT1_ASSERT(size_of_sender, sizeof(struct port1_sender) == 4);
 PORT1_ASSERT(size_of_size, sizeof(size_t) == 8);
-PORT1_ASSERT(place, offsetof(struct port1_line, place) == 16);
-PORT1_ASSERT(has_first, offsetof(struct port1_line, has_first) == 80);
-PORT1_ASSERT(count, offsetof(struct port1_line, count) == 84);
-PORT1_ASSERT(octets, offsetof(struct port1_line, octets) == 88);
+PORT1_ASSERT(line_longest, offsetof(struct port1_line, longest) == 0);
+PORT1_ASSERT(line_origin, offsetof(struct port1_line, origin) == 8);
+PORT1_ASSERT(line_place, offsetof(struct port1_line, place) == 16);
+PORT1_ASSERT(line_first, offsetof(struct port1_line, first) == 24);
+PORT1_ASSERT(line_gathered, offsetof(struct port1_line, gathered) == 32);
+PORT1_ASSERT(line_assembled, offsetof(struct port1_line, assembled) == 40);
+PORT1_ASSERT(line_folded, offsetof(struct port1_line, folded) == 48);
+PORT1_ASSERT(line_stored, offsetof(struct port1_line, stored) == 56);
+PORT1_ASSERT(line_history, offsetof(struct port1_line, history) == 64);
+PORT1_ASSERT(line_rest, offsetof(struct port1_line, rest) == 72);
+PORT1_ASSERT(line_has_first, offsetof(struct port1_line, has_first) == 80);
+PORT1_ASSERT(line_count, offsetof(struct port1_line, count) == 84);
+PORT1_ASSERT(line_check, offsetof(struct port1_line, check) == 86);
+PORT1_ASSERT(line_octets, offsetof(struct port1_line, octets) == 88);
+PORT1_ASSERT(report_kind, offsetof(struct port1_report, kind) == 0);
+PORT1_ASSERT(report_cause, offsetof(struct port1_report, cause) == 4);
 PORT1_ASSERT(report_first, offsetof(struct port1_report, first) == 8);
+PORT1_ASSERT(report_past, offsetof(struct port1_report, past) == 16);
+PORT1_ASSERT(sender_behind_flag, offsetof(struct port1_sender, behind_flag) == 0);
 #undef PORT1_ASSERT
 
 #ifdef __cplusplus

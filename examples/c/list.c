@@ -1,4 +1,5 @@
-/* Lists a packed capture from standard input as `port1 list` does without a dictionary.
+/* Lists a well-formed packed capture from standard input, in the lines of `port1 list` without a dictionary. A bad
+ * head or a short body ends it with status 2, and what follows the last bit is not looked at.
  *
  *     list [CHUNK]
  *
@@ -10,6 +11,7 @@
 #include <string.h>
 
 #define MOST 4096
+#define MOST_BITS ((uint64_t)1 << 60)
 
 static const char *const kinds[] = {"", "frame", "damaged", "overlong", "abort", "idle"};
 static const char *const causes[] = {"", "unstuffed", "short", "unaligned", "fcs"};
@@ -52,7 +54,7 @@ int main(int argc, char **argv) {
         return 2;
     for (int i = 0; i < 8; i++)
         left |= (uint64_t)octets[8 + i] << 8 * i;
-    if (port1_line_init(&line, 256, 0) != PORT1_OK)
+    if (left > MOST_BITS || port1_line_init(&line, 256, 0) != PORT1_OK)
         return 2;
     while (left > 0) {
         size_t count = fread(octets, 1, chunk, stdin);
@@ -63,5 +65,5 @@ int main(int argc, char **argv) {
     }
     if (port1_line_open(&line, &has_begun, &first) == PORT1_OK && has_begun)
         printf("%" PRIu64 " %" PRIu64 " open\n", first, line.place);
-    return 0;
+    return fflush(stdout) == 0 && !ferror(stdout) ? 0 : 2;
 }

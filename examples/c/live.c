@@ -4,7 +4,7 @@
 #include <inttypes.h>
 #include <stdio.h>
 
-/* What a receive interrupt would call. */
+/* What a loop that reads the controller would call. */
 static uint32_t receive(struct port1_line *line, uint8_t octet) {
     size_t at = 0;
     while (at < 8) {

@@ -1,5 +1,5 @@
 -- Bits that decide nothing, and then bits that decide a report.
-use Rattle.std.proofs.Common.{◌≡◌, refl, ◌+◌, ◌++◌, ℕ, List, Bool, Option, None, ap, sym, subst, ◌∙◌, length, length-append, arith}
+use Rattle.std.proofs.Common.{◌≡◌, refl, ◌+◌, ◌++◌, ℕ, List, Bool, Option, None, Result, Ok, Err, IfOk, ap, sym, subst, ◌∙◌, length, length-append, arith}
 use Rattle.std.specs.Option.{option_to_list}
 use Rattle.std.proofs.lemmas.List.{append-nil, append_assoc}
 use Rattle.bus_fcs.specs.declared.octet_check.OctetCheck.{OctetCheck}
@@ -8,7 +8,7 @@ use Rattle.bus_line.specs.Report.{Report}
 use Rattle.bus_line.specs.Due.{placed}
 use Rattle.port1_c.specs.declared.report.Port1Report.{Port1Report}
 use Rattle.port1_c.specs.Bits.{bits_from}
-use Rattle.port1_c.specs.Line.{After, told, Tells}
+use Rattle.port1_c.specs.Line.{After, DecideNothing, told, Tells}
 use Rattle.port1_c.proofs.BitLemmas.{bits-more}
 
 abbrev pub State : Type 0
@@ -66,3 +66,33 @@ module _ (os : List ℕ) (at m n : ℕ) (a c e : State) (r : Port1Report) (p : T
     origin = q.origin ∙ p.origin;
     place = let l : length (bits_from os at (m + n)) ≡ length x + length y = ap length (bits-more os at m n) ∙ length-append x y in omega (arith, l, p.place, q.place);
   }
+
+-- no bits decide nothing
+pub decide-none : (os : List ℕ) (at n : ℕ) (d : State) → n ≡ 0 → DecideNothing d (bits_from os at n)
+unfolding bits_from
+decide-none os at n d e b h = rw e (ap (λ (x : List Bool). placed d.origin d.longest x) (append-nil b))
+
+-- bits that decide nothing, and more such bits
+module _ (os : List ℕ) (at m k : ℕ) (a c : State) (p : Tells a (bits_from os at m) silent c) (q : DecideNothing c (bits_from os (at + m) k)) where
+  abbrev earlier : List Bool
+  earlier = bits_from os at m
+
+  abbrev later : List Bool
+  later = bits_from os (at + m) k
+
+  all-bits : (b : List Bool) → (b ++ earlier) ++ later ≡ b ++ bits_from os at (m + k)
+  all-bits b = append_assoc b earlier later ∙ ap (λ (z : List Bool). b ++ z) (sym (bits-more os at m k))
+
+  later-none : (b : List Bool) → After a b → placed a.origin a.longest ((b ++ earlier) ++ later) ≡ placed a.origin a.longest (b ++ earlier)
+  later-none b h =
+      subst (λ (s : ℕ). placed s a.longest ((b ++ earlier) ++ later) ≡ placed s a.longest (b ++ earlier)) p.origin
+      (subst (λ (s : ℕ). placed c.origin s ((b ++ earlier) ++ later) ≡ placed c.origin s (b ++ earlier)) p.longest (q (b ++ earlier) (p.after b h)))
+
+  pub decide-more : DecideNothing a (bits_from os at (m + k))
+  decide-more b h =
+      ap (λ (z : List Bool). placed a.origin a.longest z) (sym (all-bits b)) ∙ (later-none b h ∙ (p.says b h ∙ append-nil (placed a.origin a.longest b)))
+
+-- two facts of an Ok value that give a third
+pub if-ok-both : {T E : Type 0} (r : Result T E) (P Q R : T → Type 0) → ((t : T) → P t → Q t → R t) → IfOk r P → IfOk r Q → IfOk r R
+if-ok-both (Ok t) P Q R f p q = f t p q
+if-ok-both (Err e) P Q R f p q = p

@@ -1,6 +1,6 @@
 -- What a C caller's memory says of a decoder and of a report.
 use Rattle.std.specs.Option.{option_to_list}
-use Rattle.std.specs.Prelude.{◌≡◌, ◌++◌, ◌==◌, not, ℕ, ◌+◌, Bool, List, length, take, Option, Some, None, if◌then◌else◌}
+use Rattle.std.specs.Prelude.{◌≡◌, ◌≢◌, ◌≤◌, ◌++◌, ◌==◌, not, ℕ, ◌+◌, Bool, List, length, take, Option, Some, None, if◌then◌else◌}
 use Rattle.bus_fcs.specs.declared.octet_check.OctetCheck.{OctetCheck}
 use Rattle.bus_fcs.specs.Folded.{HasFolded}
 use Rattle.bus_line.specs.After as line
@@ -74,6 +74,12 @@ kind_in kind cause octets =
 abbrev pub told : Port1Report → List ℕ → Option Report
 told r octets = if r.kind == 0 then None else Some (record { kind = kind_in r.kind r.cause octets; first = r.first; past = r.past })
 
+-- the numbers of include/port1.h: a kind up to 5, and a cause of 1 to 4 for a damaged piece alone
+pub record IsCoded (r : Port1Report) : Type 0 where
+  pub kind_fits : r.kind ≤ 5
+  pub damaged : r.kind ≡ 2 → (1 ≤ r.cause) × (r.cause ≤ 4)
+  pub others : r.kind ≢ 2 → r.cause ≡ 0
+
 -- the longest frame and the place of the first bit stay, and so many bits were taken
 pub record Goes (old : Port1Line) (count : ℕ) (new : Port1Line) : Type 0 where
   pub longest : new.longest ≡ old.longest
@@ -87,3 +93,7 @@ pub record Tells (old : LineState OctetCheck) (bits : List Bool) (r : Port1Repor
   pub longest : new.longest ≡ old.longest
   pub origin : new.origin ≡ old.origin
   pub place : new.place ≡ old.place + length bits
+
+-- these bits decide no report
+abbrev pub DecideNothing : LineState OctetCheck → List Bool → Type 0
+DecideNothing d bits = (b : List Bool) → After d b → placed d.origin d.longest (b ++ bits) ≡ placed d.origin d.longest b

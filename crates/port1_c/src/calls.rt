@@ -4,16 +4,19 @@ ghost use Rattle.std.specs.Prelude.{◌≡◌, ◌≢◌, ◌+◌, ◌-◌, ◌*
 ghost use Rattle.std.specs.Option.{option_map, option_to_list};
 ghost use Rattle.bus_line.specs.Due.{begun};
 ghost use Rattle.port1_c.specs.Bits.{bits_from};
-ghost use Rattle.port1_c.specs.Line.{Sound, Stands, bit_of, first_in, frame, Goes, reports_of, told};
+ghost use Rattle.port1_c.specs.Line.{Sound, Stands, bit_of, first_in, frame, Goes, IsCoded, reports_of, told};
 
 use crate::bits;
 use crate::line::Port1Line;
-use crate::report::Port1Report;
-use crate::status::{ARGUMENT, DONE, LENGTH, PLACE, STATE};
+use crate::report::{NONE, Port1Report};
+use crate::status::{BAD_ARGUMENT, BAD_LENGTH, BAD_STATE, OK, PLACE_LIMIT};
 use bus_fcs::OctetCheck;
-use bus_line::{LineDecoder, LineFault, PlaceLimit};
+use bus_line::{LineDecoder, LineFault};
 
 /// Makes a decoder in the caller's memory, whatever stands there.
+///
+/// Returns OK, BAD_LENGTH where `longest` is not 3 to 256, or PLACE_LIMIT where `origin` is past 2^60; where
+/// it is not OK, nothing has changed.
 #[unsafe(no_mangle)]
 pub extern "C" fn port1_line_init(line: &mut Port1Line, longest: u64, origin: u64) -> u32
     ensures longest { (result ≡ 1) ↔ ((longest < 3) ⊎ (256 < longest)) }
@@ -27,14 +30,17 @@ pub extern "C" fn port1_line_init(line: &mut Port1Line, longest: u64, origin: u6
     match LineDecoder::<OctetCheck>::new(longest as usize, origin) {
         Ok(decoder) => {
             line.store(decoder);
-            DONE
+            OK
         }
-        Err(LineFault::LongestRange) => LENGTH,
-        Err(LineFault::Origin) => PLACE,
+        Err(LineFault::LongestRange) => BAD_LENGTH,
+        Err(LineFault::Origin) => PLACE_LIMIT,
     }
 }
 
-/// Takes a bit: 0, or any other number for a 1.
+/// Takes a bit: 0, or any other number for a 1. The report is what it decided.
+///
+/// Returns OK, PLACE_LIMIT where its place would be 2^60, or BAD_STATE where the memory holds no decoder;
+/// where it is not OK, nothing has changed.
 #[unsafe(no_mangle)]
 pub extern "C" fn port1_line_push(line: &mut Port1Line, bit: u8, report: &mut Port1Report) -> u32
     ensures status { (result ≡ 0) ⊎ (result ≡ 2) ⊎ (result ≡ 3) }
@@ -43,28 +49,30 @@ pub extern "C" fn port1_line_push(line: &mut Port1Line, bit: u8, report: &mut Po
     ensures refused { result ≢ 3 → Sound line.old }
     ensures kept { result ≢ 0 → (line.new ≡ line.old) × (report.new ≡ report.old) }
     ensures sound { result ≡ 0 → Sound line.new }
+    ensures coded { result ≡ 0 → IsCoded report.new }
     ensures goes { result ≡ 0 → Goes line.old 1 line.new }
     ensures stands { result ≡ 0 → (b : List Bool) → Stands line.old b → Stands line.new (b ++ bit_of bit ∷ []) }
     ensures told { result ≡ 0 → (b : List Bool) → Stands line.old b →
         reports_of line.new (b ++ bit_of bit ∷ []) ≡ reports_of line.old b
         ++ option_to_list (told report.new (frame line.new)) }
 {
-    let mut decoder = match line.load() {
-        Some(decoder) => decoder,
-        None => return STATE,
+    let Some(mut decoder) = line.load() else {
+        return BAD_STATE;
     };
-    match bits::push(&mut decoder, bit != 0) {
-        Ok(told) => {
-            line.store(decoder);
-            *report = told;
-            DONE
-        }
-        Err(PlaceLimit) => PLACE,
-    }
+    let Ok(told) = bits::push(&mut decoder, bit != 0) else {
+        return PLACE_LIMIT;
+    };
+    line.store(decoder);
+    *report = told;
+    OK
 }
 
 /// Takes bits of octets, the lowest of each first, from bit `at` on, up to the first that decides a
-/// report. `at` is then the next bit to take.
+/// report. `at` is then the next bit to take, and the report what the last bit decided.
+///
+/// Returns OK, or PLACE_LIMIT where the bits before place 2^60 were taken and decided nothing. Returns
+/// BAD_ARGUMENT where `at` is past `end` or `end` past the octets, and BAD_STATE where the memory holds no
+/// decoder; nothing has changed then.
 #[unsafe(no_mangle)]
 pub extern "C" fn port1_line_feed(
     line: &mut Port1Line,
@@ -79,6 +87,7 @@ pub extern "C" fn port1_line_feed(
     ensures refused { result < 3 → Sound line.old }
     ensures kept { 3 ≤ result → (line.new ≡ line.old) × (at.new ≡ at.old) × (report.new ≡ report.old) }
     ensures sound { result < 3 → Sound line.new }
+    ensures coded { result < 3 → IsCoded report.new }
     ensures goes { result < 3 → Goes line.old (at.new - at.old) line.new }
     ensures bound { result < 3 → (at.old ≤ at.new) × (at.new ≤ end) }
     ensures all { result ≡ 0 → report.new.kind ≡ 0 → at.new ≡ end }
@@ -88,38 +97,42 @@ pub extern "C" fn port1_line_feed(
     ensures told { result < 3 → (b : List Bool) → Stands line.old b →
         reports_of line.new (b ++ bits_from octets.now at.old (at.new - at.old)) ≡ reports_of line.old b
         ++ option_to_list (told report.new (frame line.new)) }
+    ensures last { result < 3 → report.new.kind ≢ 0 → (b : List Bool) → Stands line.old b →
+        reports_of line.old (b ++ bits_from octets.now at.old (at.new - at.old - 1)) ≡ reports_of line.old b }
 {
     if end / 8 > octets.len() || (end / 8 == octets.len() && end % 8 != 0) || *at > end {
-        return ARGUMENT;
+        return BAD_ARGUMENT;
     }
-    let mut decoder = match line.load() {
-        Some(decoder) => decoder,
-        None => return STATE,
+    let Some(mut decoder) = line.load() else {
+        return BAD_STATE;
     };
     let told = bits::feed(&mut decoder, octets, *at, end);
     line.store(decoder);
     *at += told.count;
     *report = told.report;
-    if told.report.kind == 0 && *at < end {
-        return PLACE;
+    if told.report.kind == NONE && *at < end {
+        return PLACE_LIMIT;
     }
-    DONE
+    OK
 }
 
 /// Says whether a piece has begun that no flag and no abort has ended yet, and where: `has_begun` is then 1,
-/// and else 0.
+/// and else 0, with `first` as it was.
+///
+/// Returns OK, or BAD_STATE where the memory holds no decoder; nothing has changed then.
 #[unsafe(no_mangle)]
 pub extern "C" fn port1_line_open(line: &Port1Line, has_begun: &mut u8, first: &mut u64) -> u32
     ensures status { (result ≡ 0) ⊎ (result ≡ 3) }
     ensures state { Sound line.now → result ≢ 3 }
     ensures refused { result ≢ 3 → Sound line.now }
     ensures kept { result ≢ 0 → (has_begun.new ≡ has_begun.old) × (first.new ≡ first.old) }
+    ensures flag { result ≡ 0 → has_begun.new ≤ 1 }
+    ensures untouched { result ≡ 0 → has_begun.new ≡ 0 → first.new ≡ first.old }
     ensures begun { result ≡ 0 → (b : List Bool) → Stands line.now b →
         first_in has_begun.new first.new ≡ option_map (λ first. line.now.origin + first) (begun b) }
 {
-    let decoder = match line.load() {
-        Some(decoder) => decoder,
-        None => return STATE,
+    let Some(decoder) = line.load() else {
+        return BAD_STATE;
     };
     match decoder.begun() {
         Some(place) => {
@@ -128,5 +141,5 @@ pub extern "C" fn port1_line_open(line: &Port1Line, has_begun: &mut u8, first: &
         }
         None => *has_begun = 0,
     }
-    DONE
+    OK
 }

@@ -21,20 +21,23 @@ pub struct Port1Line {
     pub first: u64,
     /// How many data bits of the piece from there are settled.
     pub gathered: u64,
-    /// Counted steps: data bits settled, work on the check, octets stored.
+    /// Data bits settled, of all pieces.
     pub assembled: u64,
+    /// Units of work of the frame check.
     pub folded: u64,
+    /// Octets put into the frame buffer.
     pub stored: u64,
     /// The last sixteen bits, the oldest lowest.
     pub history: u64,
     /// The settled data bits that fill no octet yet, the first lowest.
     pub rest: u64,
+    /// 0 where no piece is open; `first` then means nothing.
     pub has_first: u32,
     /// How many of the octets there are.
     pub count: u16,
     /// The register of their check.
     pub check: u16,
-    /// The octets of a piece, at most 258, and those that are stored with the last.
+    /// The octets of a piece, at most 258; those after them are scratch space.
     pub octets: [u8; 272],
 }
 

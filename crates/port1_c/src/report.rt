@@ -3,22 +3,44 @@
 ghost use Rattle.std.specs.Prelude.{◌≡◌, ℕ, List, Option, None, Some};
 ghost use Rattle.std.specs.Option.{option_map};
 ghost use Rattle.bus_line.specs.Shown.{reported};
-ghost use Rattle.port1_c.specs.Line.{told};
+ghost use Rattle.port1_c.specs.Line.{IsCoded, told};
 
 use bus_bits::Span;
 use bus_line::{Cause, Event, EventKind};
+
+/// The kinds of a report. The numbers are those of `include/port1.h`, with PORT1_ before each name.
+pub(crate) const NONE: u32 = 0;
+
+const FRAME: u32 = 1;
+
+const DAMAGED: u32 = 2;
+
+const OVERLONG: u32 = 3;
+
+const ABORT: u32 = 4;
+
+const IDLE: u32 = 5;
+
+/// The causes of a damaged piece, likewise.
+const UNSTUFFED: u32 = 1;
+
+const SHORT: u32 = 2;
+
+const UNALIGNED: u32 = 3;
+
+const FCS: u32 = 4;
 
 /// What a bit decided. Its layout is that of `include/port1.h`.
 #[repr(C)]
 #[derive(Clone, Copy)]
 pub struct Port1Report {
-    /// 0 nothing, 1 a frame, 2 a damaged piece, 3 an overlong piece, 4 an abort, 5 an idle line.
+    /// NONE, FRAME, DAMAGED, OVERLONG, ABORT or IDLE.
     pub kind: u32,
-    /// Of a damaged piece 1 unstuffed, 2 short, 3 unaligned, 4 the frame check, and else 0.
+    /// Of a damaged piece UNSTUFFED, SHORT, UNALIGNED or FCS, and else 0.
     pub cause: u32,
     /// The place of the first bit.
     pub first: u64,
-    /// The place behind the last bit.
+    /// The place just past the last bit.
     pub past: u64,
 }
 
@@ -37,24 +59,26 @@ impl Port1Report {
 
     /// The report of an event.
     fn of_event(event: Event) -> Self
-        ensures { (octets : List ℕ) → told result octets ≡ Some (reported octets event) }
+        ensures tells { (octets : List ℕ) → told result octets ≡ Some (reported octets event) }
+        ensures coded { IsCoded result }
     {
         let span = event.span;
         match event.kind {
-            EventKind::Frame => Port1Report::of_span(1, 0, span),
-            EventKind::Damaged(Cause::Unstuffed) => Port1Report::of_span(2, 1, span),
-            EventKind::Damaged(Cause::Short) => Port1Report::of_span(2, 2, span),
-            EventKind::Damaged(Cause::Unaligned) => Port1Report::of_span(2, 3, span),
-            EventKind::Damaged(Cause::Fcs) => Port1Report::of_span(2, 4, span),
-            EventKind::Overlong => Port1Report::of_span(3, 0, span),
-            EventKind::Abort => Port1Report::of_span(4, 0, span),
-            EventKind::Idle => Port1Report::of_span(5, 0, span),
+            EventKind::Frame => Port1Report::of_span(FRAME, 0, span),
+            EventKind::Damaged(Cause::Unstuffed) => Port1Report::of_span(DAMAGED, UNSTUFFED, span),
+            EventKind::Damaged(Cause::Short) => Port1Report::of_span(DAMAGED, SHORT, span),
+            EventKind::Damaged(Cause::Unaligned) => Port1Report::of_span(DAMAGED, UNALIGNED, span),
+            EventKind::Damaged(Cause::Fcs) => Port1Report::of_span(DAMAGED, FCS, span),
+            EventKind::Overlong => Port1Report::of_span(OVERLONG, 0, span),
+            EventKind::Abort => Port1Report::of_span(ABORT, 0, span),
+            EventKind::Idle => Port1Report::of_span(IDLE, 0, span),
         }
     }
 
     /// The report of an event, if there is one.
     pub(crate) fn of(event: Option<Event>) -> Self
-        ensures { (octets : List ℕ) → told result octets ≡ option_map (reported octets) event }
+        ensures tells { (octets : List ℕ) → told result octets ≡ option_map (reported octets) event }
+        ensures coded { IsCoded result }
     {
         match event {
             Some(event) => Port1Report::of_event(event),
@@ -64,10 +88,11 @@ impl Port1Report {
 
     /// No report.
     pub(crate) fn none() -> Self
-        ensures { result.kind ≡ 0 }
+        ensures kind { result.kind ≡ 0 }
+        ensures coded { IsCoded result }
     {
         Port1Report {
-            kind: 0,
+            kind: NONE,
             cause: 0,
             first: 0,
             past: 0,

@@ -8,7 +8,7 @@ ghost use Rattle.port1_c.specs.Send.{Follows, Gains};
 use crate::call_bits::frame_bits;
 use crate::put::put_bits;
 use crate::sender::Port1Sender;
-use crate::status::{ARGUMENT, DONE, LENGTH, ROOM, STATE};
+use crate::status::{BAD_ARGUMENT, BAD_LENGTH, BAD_STATE, NO_ROOM, OK};
 
 /// Puts bits where there is room for them, and says how many they are.
 fn put(
@@ -31,14 +31,14 @@ fn put(
 {
     *bits = end - first;
     if octets.len().saturating_mul(8) - *at < *bits {
-        return ROOM;
+        return NO_ROOM;
     }
     put_bits(octets, *at, source, first, end);
     *at += *bits;
-    DONE
+    OK
 }
 
-/// The first of a frame's bits that goes out: behind a flag, which opens the frame, that behind the frame's own.
+/// The first of a frame's bits that goes out: after a flag, which opens the frame, that after the frame's own.
 fn first_bit(sender: &Port1Sender) -> usize
     ensures few { result ≤ 8 }
     ensures flag { sender.now.behind_flag ≡ 1 → result ≡ 8 }
@@ -47,17 +47,20 @@ fn first_bit(sender: &Port1Sender) -> usize
     if sender.behind_flag == 1 { 8 } else { 0 }
 }
 
-/// Makes a sender that sent nothing yet.
+/// Makes a sender that sent nothing yet. Returns OK.
 #[unsafe(no_mangle)]
 pub extern "C" fn port1_sender_init(sender: &mut Port1Sender) -> u32
     ensures status { result ≡ 0 }
     ensures follows { Follows sender.new [] }
 {
     sender.behind_flag = 0;
-    DONE
+    OK
 }
 
-/// Sends a flag.
+/// Sends a flag. `at` is then the bit after it, and `bits` how many it is.
+///
+/// Returns OK, BAD_ARGUMENT where `at` is past the octets, BAD_STATE where the memory holds no sender, or
+/// NO_ROOM where the octets end before the flag does; `bits` is told then too, and nothing else has changed.
 #[unsafe(no_mangle)]
 pub extern "C" fn port1_send_flag(
     sender: &mut Port1Sender,
@@ -80,19 +83,20 @@ pub extern "C" fn port1_send_flag(
         Follows sender.new (calls ++ Call.Flag ∷ []) }
 {
     if *at > octets.len().saturating_mul(8) {
-        return ARGUMENT;
+        return BAD_ARGUMENT;
     }
     if sender.behind_flag > 1 {
-        return STATE;
+        return BAD_STATE;
     }
     let status = put(&[0x7e], 0, 8, octets, at, bits);
-    if status == DONE {
+    if status == OK {
         sender.behind_flag = 1;
     }
     status
 }
 
-/// Sends fifteen 1 bits, which make the line idle.
+/// Sends fifteen 1 bits, which make the line idle. `at`, `bits` and what it returns are as those of
+/// [`port1_send_flag`].
 #[unsafe(no_mangle)]
 pub extern "C" fn port1_send_idle(
     sender: &mut Port1Sender,
@@ -115,20 +119,21 @@ pub extern "C" fn port1_send_idle(
         Follows sender.new (calls ++ Call.Idle ∷ []) }
 {
     if *at > octets.len().saturating_mul(8) {
-        return ARGUMENT;
+        return BAD_ARGUMENT;
     }
     if sender.behind_flag > 1 {
-        return STATE;
+        return BAD_STATE;
     }
     let status = put(&[0xff, 0x7f], 0, 15, octets, at, bits);
-    if status == DONE {
+    if status == OK {
         sender.behind_flag = 0;
     }
     status
 }
 
 /// Sends a frame of these octets, address through information, with its check and its closing flag, and an
-/// opening flag unless a flag was sent last.
+/// opening flag unless a flag was sent last. `at`, `bits` and what it returns are as those of
+/// [`port1_send_flag`]; it returns BAD_LENGTH too, where the frame has not 2 to 256 octets.
 #[unsafe(no_mangle)]
 pub extern "C" fn port1_send_frame(
     sender: &mut Port1Sender,
@@ -154,18 +159,18 @@ pub extern "C" fn port1_send_frame(
         Follows sender.new (calls ++ (Call.Frame frame.now) ∷ []) }
 {
     if *at > octets.len().saturating_mul(8) {
-        return ARGUMENT;
+        return BAD_ARGUMENT;
     }
     if sender.behind_flag > 1 {
-        return STATE;
+        return BAD_STATE;
     }
     if frame.len() < 2 || frame.len() > 256 {
-        return LENGTH;
+        return BAD_LENGTH;
     }
     let framed = frame_bits(frame);
     let first = first_bit(sender);
     let status = put(&framed.octets, first, framed.count, octets, at, bits);
-    if status == DONE {
+    if status == OK {
         sender.behind_flag = 1;
     }
     status

@@ -1,17 +1,33 @@
-use Rattle.std.proofs.Common.{◌≡◌, ◌≤◌, ◌%◌, ◌∙◌, List, Bool, subst, arith}
+use Rattle.std.proofs.Common.{◌≡◌, ◌-◌, ◌≤◌, ◌%◌, ◌∙◌, ℕ, List, Bool, subst, arith}
 use Rattle.bus_fcs.specs.declared.octet_check.OctetCheck.{OctetCheck}
 use Rattle.bus_line.specs.Parts.{LineState}
 use Rattle.bus_bits.specs.Octet.{bits_of}
 use Rattle.port1_c.specs.Bits.{bits_from}
-use Rattle.port1_c.specs.Line.{Tells}
+use Rattle.port1_c.specs.Line.{DecideNothing, Tells}
+use Rattle.port1_c.specs.declared.bits.Told.{Told}
 use Rattle.port1_c.proofs.BitLemmas.{bits-single}
+use Rattle.port1_c.proofs.TellLemmas.{decide-none, if-ok-both}
 use Rattle.port1_c.proofs.bits.step.Goals as goal
 
-pub returns-in-Ok-take-clause-tells : goal.returns-in-Ok-take-clause-tells
-returns-in-Ok-take-clause-tells c =
-    let n = c.in-Ok-take.told.count in
-    let few : n ≤ c.word_at-word.result.count = omega (arith, c.word_at-word.ensures.some, c.in-Ok-take.ensures.count.1) in
-    let bits : bits_of n (c.word_at-word.result.bits % 2) ≡ bits_from c.args.octets.now c.args.at n =
-    bits-single c.word_at-word.result.bits n c.in-Ok-take.ensures.count.1 ∙ c.word_at-word.ensures.bits n few in
-    subst (λ (s : LineState OctetCheck). Tells s (bits_from c.args.octets.now c.args.at n) c.in-Ok-take.told.report c.take-in-Err.new.decoder) c.in-Err.ensures.kept
-    (subst (λ (x : List Bool). Tells c.take.new.decoder x c.in-Ok-take.told.report c.take-in-Err.new.decoder) bits c.in-Ok-take.ensures.tells)
+abbrev One : Told → Type 0
+One t = (1 ≤ t.count) × (t.count ≤ 1)
+
+single : (c : goal.After-take-in-Err) (n : ℕ) → n ≤ 1 → bits_of n (c.word_at-word.result.bits % 2) ≡ bits_from c.args.octets.now c.args.at n
+single c n l = bits-single c.word_at-word.result.bits n l ∙ c.word_at-word.ensures.bits n (omega (arith, c.word_at-word.ensures.some, l))
+
+abbrev TellsOf : LineState OctetCheck → List Bool → LineState OctetCheck → Told → Type 0
+TellsOf old bits new t = Tells old bits t.report new
+
+pub returns-in-Err-clause-tells : goal.returns-in-Err-clause-tells
+returns-in-Err-clause-tells c =
+    let new = c.take-in-Err.new.decoder in
+    if-ok-both c.take-in-Err.result One (λ (t : Told). TellsOf c.take.new.decoder (bits_of t.count (c.word_at-word.result.bits % 2)) new t) (λ (t : Told). TellsOf c.args.decoder.now (bits_from c.args.octets.now c.args.at t.count) new t)
+    (λ t l p.
+    subst (λ (s : LineState OctetCheck). TellsOf s (bits_from c.args.octets.now c.args.at t.count) new t) c.in-Err.ensures.kept
+    (subst (λ (x : List Bool). TellsOf c.take.new.decoder x new t) (single c t.count l.1) p))
+    c.take-in-Err.ensures.count c.take-in-Err.ensures.tells
+
+pub returns-in-Err-clause-before : goal.returns-in-Err-clause-before
+returns-in-Err-clause-before c =
+    if-ok-both c.take-in-Err.result One One (λ (t : Told). DecideNothing c.args.decoder.now (bits_from c.args.octets.now c.args.at (t.count - 1)))
+    (λ t l _. decide-none c.args.octets.now c.args.at (t.count - 1) c.args.decoder.now (omega (arith, l.1))) c.take-in-Err.ensures.count c.take-in-Err.ensures.count
