@@ -41,7 +41,8 @@ pair_head_fault xs = head_fault_by (codes "TS2BITS2") xs
 abbrev pub unused : ℕ → List Bool → List Bool
 unused n d = take (next_multiple_of n 8 - n) (drop n d)
 
--- what the bits `d` of whole octets give, of which the first `n` are wanted: an octet with an unused 1 gives none, and an octet
+-- what the bits `d` of whole octets give, of which the first `n` are wanted: an octet with an unused 1 gives none, and
+-- an octet
 -- past the last wanted bit is one too many
 unfoldable pub wanted : ℕ → List Bool → Capture
 wanted n d =
@@ -66,7 +67,7 @@ abbrev pub headed : {A : Type 0} → Option CaptureFault → CaptureOf A → Cap
 headed None c = c
 headed (Some f) c = record { bits = []; fault = Some f }
 
--- what octets give, while more may come, whose head has this fault, by what those after it give
+-- what octets give while more may come: nothing before the head is whole, then its fault, or what those after it give
 abbrev pub capture_by : {A : Type 0} → Option CaptureFault → (ℕ → List ℕ → CaptureOf A) → List ℕ → CaptureOf A
 capture_by fault body xs =
     if nat_lt (length xs) 16 then record { bits = []; fault = None }
@@ -85,7 +86,8 @@ or_fault (Some f) g = Some f
 
 -- at the end of the input all `n` bits or pairs came
 abbrev pub filled : {A : Type 0} → ℕ → CaptureOf A → CaptureOf A
-filled n c = record { bits = c.bits; fault = or_fault c.fault (if nat_lt (length c.bits) n then Some short_body else None) }
+filled n c =
+    record { bits = c.bits; fault = or_fault c.fault (if nat_lt (length c.bits) n then Some short_body else None) }
 
 -- what octets give that are the whole input, by what they give while more may come
 abbrev pub whole_by : {A : Type 0} → CaptureOf A → List ℕ → CaptureOf A
@@ -130,7 +132,8 @@ PairsAreHeaded =
 abbrev pub PackedIsShort : Type 0
 PackedIsShort =
     (xs : List ℕ) → length xs < 16
-    → (packed_capture xs ≡ record { bits = []; fault = None }) × (packed_whole xs ≡ record { bits = []; fault = Some short_head })
+    → (packed_capture xs ≡ record { bits = []; fault = None })
+    × (packed_whole xs ≡ record { bits = []; fault = Some short_head })
 
 abbrev pub PairsAreShort : Type 0
 PairsAreShort =

@@ -1,4 +1,4 @@
-//! Readers of captures, one octet at a time.
+//! Readers of captures, octet by octet or several octets at once.
 
 mod eight_bits;
 mod packed_bits;

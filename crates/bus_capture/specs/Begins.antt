@@ -17,7 +17,10 @@ pub record Begins (o : Options) (d : List FrameType) : Type 0 where
 -- they can't: the dictionary, the depth and the origin are judged in this order
 abbrev pub Refuses : Options → ToolFault → Type 0
 Refuses o (Dictionary fault) = given_dictionary (dictionary_text o) ≡ Err fault
-Refuses o Depth = (d : List FrameType) × (given_dictionary (dictionary_text o) ≡ Ok d) × ((o.depth < 1) ⊎ (1024 < o.depth))
-Refuses o Origin = (d : List FrameType) × (given_dictionary (dictionary_text o) ≡ Ok d) × (1 ≤ o.depth) × (o.depth ≤ 1024) × (2 ^ 60 < o.origin)
+Refuses o Depth =
+    (d : List FrameType) × (given_dictionary (dictionary_text o) ≡ Ok d) × ((o.depth < 1) ⊎ (1024 < o.depth))
+Refuses o Origin =
+    (d : List FrameType) × (given_dictionary (dictionary_text o) ≡ Ok d) × (1 ≤ o.depth) × (o.depth ≤ 1024)
+        × (2 ^ 60 < o.origin)
 Refuses o Memory = Unit {0}
 Refuses o fault = ⊥

@@ -20,7 +20,8 @@ pub record Form (X : Type 0) : Type 0 where
   pub packed : List ℕ → CaptureOf X  -- what those of a packed capture give, while more may come
   pub packed_whole : List ℕ → CaptureOf X  -- and what those give that are the whole input
   pub hears : ℕ → ℕ → List X → List Heard  -- the reports, by the place of the first X and the longest frame
-  pub ending : ℕ → List X → Option Pending → List Line  -- the lines of the end, by the place of the first X and the command that waits
+  -- the lines of the end, by the place of the first X and the command that waits
+  pub ending : ℕ → List X → Option Pending → List Line
   pub is_two : Bool  -- the frames of the history are told with the number of their line
 
 -- one line
@@ -71,7 +72,9 @@ module _ {X : Type 0} (f : Form X) where
 
   -- the octets have this fault, or they are the whole input and have it
   abbrev pub HasFault : Bool → ℕ → Option (List ℕ) → List ℕ → CaptureFault → Type 0
-  HasFault text origin after xs cause = ((capture text origin xs).fault ≡ Some cause) ⊎ (IsAtEnd after × ((whole_capture text origin xs).fault ≡ Some cause))
+  HasFault text origin after xs cause =
+      ((capture text origin xs).fault ≡ Some cause)
+          ⊎ (IsAtEnd after × ((whole_capture text origin xs).fault ≡ Some cause))
 
 -- the fault of a capture, as it is answered
 abbrev pub IsSameFault : ToolFault → CaptureFault → Type 0

@@ -19,7 +19,8 @@ module _ {X : Type 0} (f : Form X) where
   -- the report of bits: how often each thing is seen, the verdicts of each station, and the last frames
   abbrev pub report_of : Options → List FrameType → List X → List ℕ
   report_of o d b =
-      check_text f.is_two (summary_of (seen_in f o.origin d b)) (tally d (heard_in f o.origin d b)) (history o.depth (heard_in f o.origin d b))
+      check_text f.is_two (summary_of (seen_in f o.origin d b)) (tally d (heard_in f o.origin d b))
+          (history o.depth (heard_in f o.origin d b))
 
   -- these octets are the whole input and have no fault
   pub record IsAll (o : Options) (after : Option (List ℕ)) (xs : List ℕ) : Type 0 where
@@ -27,7 +28,8 @@ module _ {X : Type 0} (f : Form X) where
     pub clean : (in_all f o xs).fault ≡ None
 
   -- their report was written
-  pub record ChecksAll (o : Options) (d : List FrameType) (after start now : Option (List ℕ)) (xs : List ℕ) (s : Summary) : Type 0 where
+  pub record ChecksAll (o : Options) (d : List FrameType) (after start now : Option (List ℕ)) (xs : List ℕ)
+      (s : Summary) : Type 0 where
     pub all : IsAll o after xs
     pub out : Appends start now (report_of o d (in_all f o xs).bits)
     pub counts : s ≡ summary_of (seen_in f o.origin d (in_all f o xs).bits)
@@ -38,29 +40,39 @@ module _ {X : Type 0} (f : Form X) where
     pub unwritten : Appends start now []
 
   -- they have this fault, and nothing was written
-  pub record ChecksToFault (o : Options) (after start now : Option (List ℕ)) (xs : List ℕ) (fault : ToolFault) : Type 0 where
+  pub record ChecksToFault (o : Options) (after start now : Option (List ℕ)) (xs : List ℕ)
+      (fault : ToolFault) : Type 0 where
     pub cause : CaptureFault
     pub answered : IsSameFault fault cause
     pub found : HasFault f o.text o.origin after xs cause
     pub unwritten : Appends start now []
 
   -- the writer was cut off in their report
-  pub record ChecksCut (o : Options) (d : List FrameType) (after start now : Option (List ℕ)) (xs : List ℕ) (sent : ℕ) : Type 0 where
+  pub record ChecksCut (o : Options) (d : List FrameType) (after start now : Option (List ℕ)) (xs : List ℕ)
+      (sent : ℕ) : Type 0 where
     pub all : IsAll o after xs
     pub cut : Cuts start now (report_of o d (in_all f o xs).bits) sent
 
-  -- what the call answered, which read the octets xs, leaves its reader with `after`, and led its writer from `start` to `now`
-  abbrev pub ChecksBy : Options → Option (List ℕ) → Option (List ℕ) → Option (List ℕ) → List ℕ → Result Summary ToolFault → Type 0
+  -- what the call answered, which read the octets xs, leaves its reader with `after`, and led its writer from `start`
+  -- to `now`
+  abbrev pub ChecksBy : Options → Option (List ℕ) → Option (List ℕ) → Option (List ℕ) → List ℕ
+      → Result Summary ToolFault → Type 0
   ChecksBy o after start now xs (Ok s) = (d : List FrameType) × Begins o d × ChecksAll o d after start now xs s
   ChecksBy o after start now xs (Err (Dictionary fault)) = DoesNothing o start now xs (Dictionary fault)
   ChecksBy o after start now xs (Err Depth) = DoesNothing o start now xs Depth
   ChecksBy o after start now xs (Err Origin) = DoesNothing o start now xs Origin
   ChecksBy o after start now xs (Err Memory) = DoesNothing o start now xs Memory
   ChecksBy o after start now xs (Err Read) = (d : List FrameType) × Begins o d × ChecksSoFar o start now xs
-  ChecksBy o after start now xs (Err ReadsLimit) = (d : List FrameType) × Begins o d × (o.reads ≤ length xs) × ChecksSoFar o start now xs
-  ChecksBy o after start now xs (Err (Write sent)) = (d : List FrameType) × Begins o d × ChecksCut o d after start now xs sent
-  ChecksBy o after start now xs (Err fault) = (d : List FrameType) × Begins o d × ChecksToFault o after start now xs fault
+  ChecksBy o after start now xs (Err ReadsLimit) =
+      (d : List FrameType) × Begins o d × (o.reads ≤ length xs) × ChecksSoFar o start now xs
+  ChecksBy o after start now xs (Err (Write sent)) =
+      (d : List FrameType) × Begins o d × ChecksCut o d after start now xs sent
+  ChecksBy o after start now xs (Err fault) =
+      (d : List FrameType) × Begins o d × ChecksToFault o after start now xs fault
 
--- What the call answered that checks a capture of one line, or of two: it read the octets xs, leaves its reader with `after`, and led its writer from `start` to `now`.
-abbrev pub Checks : Options → Option (List ℕ) → Option (List ℕ) → Option (List ℕ) → List ℕ → Result Summary ToolFault → Type 0
-Checks o after start now xs r = by_lines o.two (ChecksBy one_line o after start now xs r) (ChecksBy two_lines o after start now xs r)
+-- What the call answered that checks a capture of one line, or of two: it read the octets xs, leaves its reader with
+-- `after`, and led its writer from `start` to `now`.
+abbrev pub Checks : Options → Option (List ℕ) → Option (List ℕ) → Option (List ℕ) → List ℕ → Result Summary ToolFault
+    → Type 0
+Checks o after start now xs r =
+    by_lines o.two (ChecksBy one_line o after start now xs r) (ChecksBy two_lines o after start now xs r)

@@ -35,12 +35,14 @@ module _ {X : Type 0} (f : Form X) where
     pub found : (in_all f o all).fault ≡ Some cause
 
   -- the capture was listed, to its end or its fault
-  pub record ListsIt (o : Options) (d : List FrameType) (start now : Option (List ℕ)) (all : List ℕ) (s : Summary) : Type 0 where
+  pub record ListsIt (o : Options) (d : List FrameType) (start now : Option (List ℕ)) (all : List ℕ)
+      (s : Summary) : Type 0 where
     pub clean : (in_all f o all).fault ≡ None
     pub out : Appends start now (listing_in_all o d all)
     pub counts : s ≡ summary_of (seen_in f o.origin d (in_all f o all).bits)
 
-  pub record ListsItsFront (o : Options) (d : List FrameType) (start now : Option (List ℕ)) (all : List ℕ) : Type 0 where
+  pub record ListsItsFront (o : Options) (d : List FrameType) (start now : Option (List ℕ))
+      (all : List ℕ) : Type 0 where
     pub octets : ℕ
     pub front : ListsSoFar f o d start now (take octets all)
 
@@ -53,11 +55,14 @@ module _ {X : Type 0} (f : Form X) where
   ListsKnownBy o start now all (Err Memory) = WritesNothing o start now Memory
   ListsKnownBy o start now all (Err Read) = (d : List FrameType) × Begins o d × ListsItsFront o d start now all
   ListsKnownBy o start now all (Err ReadsLimit) = (d : List FrameType) × Begins o d × ListsItsFront o d start now all
-  ListsKnownBy o start now all (Err (Write sent)) = (d : List FrameType) × Begins o d × Cuts start now (listing_in_all o d all) sent
-  ListsKnownBy o start now all (Err fault) = (d : List FrameType) × Begins o d × IsItsFault o all fault × Appends start now (listing_in_all o d all)
+  ListsKnownBy o start now all (Err (Write sent)) =
+      (d : List FrameType) × Begins o d × Cuts start now (listing_in_all o d all) sent
+  ListsKnownBy o start now all (Err fault) =
+      (d : List FrameType) × Begins o d × IsItsFault o all fault × Appends start now (listing_in_all o d all)
 
   -- the capture was checked to its end
-  pub record ChecksIt (o : Options) (d : List FrameType) (start now : Option (List ℕ)) (all : List ℕ) (s : Summary) : Type 0 where
+  pub record ChecksIt (o : Options) (d : List FrameType) (start now : Option (List ℕ)) (all : List ℕ)
+      (s : Summary) : Type 0 where
     pub clean : (in_all f o all).fault ≡ None
     pub out : Appends start now (report_of f o d (in_all f o all).bits)
     pub counts : s ≡ summary_of (seen_in f o.origin d (in_all f o all).bits)
@@ -67,7 +72,8 @@ module _ {X : Type 0} (f : Form X) where
     pub front : ChecksSoFar f o start now (take octets all)
 
   -- the writer was cut off in the report of a capture without fault
-  pub record CutsIt (o : Options) (d : List FrameType) (start now : Option (List ℕ)) (all : List ℕ) (sent : ℕ) : Type 0 where
+  pub record CutsIt (o : Options) (d : List FrameType) (start now : Option (List ℕ)) (all : List ℕ)
+      (sent : ℕ) : Type 0 where
     pub clean : (in_all f o all).fault ≡ None
     pub cut : Cuts start now (report_of f o d (in_all f o all).bits) sent
 
@@ -81,12 +87,16 @@ module _ {X : Type 0} (f : Form X) where
   ChecksKnownBy o start now all (Err Read) = (d : List FrameType) × Begins o d × ChecksItsFront o start now all
   ChecksKnownBy o start now all (Err ReadsLimit) = (d : List FrameType) × Begins o d × ChecksItsFront o start now all
   ChecksKnownBy o start now all (Err (Write sent)) = (d : List FrameType) × Begins o d × CutsIt o d start now all sent
-  ChecksKnownBy o start now all (Err fault) = (d : List FrameType) × Begins o d × IsItsFault o all fault × Appends start now []
+  ChecksKnownBy o start now all (Err fault) =
+      (d : List FrameType) × Begins o d × IsItsFault o all fault × Appends start now []
 
--- What the listing of a capture of one line, or of two, answered, whose reader had all these octets left, and which led its writer from `start` to `now`.
+-- What the listing of a capture of one line, or of two, answered, whose reader had all these octets left, and which
+-- led its writer from `start` to `now`.
 abbrev pub ListsKnown : Options → Option (List ℕ) → Option (List ℕ) → List ℕ → Result Summary ToolFault → Type 0
-ListsKnown o start now all r = by_lines o.two (ListsKnownBy one_line o start now all r) (ListsKnownBy two_lines o start now all r)
+ListsKnown o start now all r =
+    by_lines o.two (ListsKnownBy one_line o start now all r) (ListsKnownBy two_lines o start now all r)
 
 -- What the check of one answered.
 abbrev pub ChecksKnown : Options → Option (List ℕ) → Option (List ℕ) → List ℕ → Result Summary ToolFault → Type 0
-ChecksKnown o start now all r = by_lines o.two (ChecksKnownBy one_line o start now all r) (ChecksKnownBy two_lines o start now all r)
+ChecksKnown o start now all r =
+    by_lines o.two (ChecksKnownBy one_line o start now all r) (ChecksKnownBy two_lines o start now all r)

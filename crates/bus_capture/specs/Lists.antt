@@ -42,7 +42,8 @@ pub record DoesNothing (o : Options) (start now : Option (List ℕ)) (xs : List 
 
 module _ {X : Type 0} (f : Form X) where
   -- these octets are the whole input and have no fault: their listing was written, with the lines of the end
-  pub record ListsAll (o : Options) (d : List FrameType) (after start now : Option (List ℕ)) (xs : List ℕ) (s : Summary) : Type 0 where
+  pub record ListsAll (o : Options) (d : List FrameType) (after start now : Option (List ℕ)) (xs : List ℕ)
+      (s : Summary) : Type 0 where
     pub at : IsAtEnd after
     pub clean : (in_all f o xs).fault ≡ None
     pub out : Appends start now (whole_listing f o d (in_all f o xs).bits)
@@ -54,7 +55,8 @@ module _ {X : Type 0} (f : Form X) where
     pub out : Appends start now (listing_of f o d (so_far f o xs).bits)
 
   -- they have this fault: the listing of the bits before it was written, without the lines of the end
-  pub record ListsToFault (o : Options) (d : List FrameType) (after start now : Option (List ℕ)) (xs : List ℕ) (fault : ToolFault) : Type 0 where
+  pub record ListsToFault (o : Options) (d : List FrameType) (after start now : Option (List ℕ)) (xs : List ℕ)
+      (fault : ToolFault) : Type 0 where
     pub cause : CaptureFault
     pub answered : IsSameFault fault cause
     pub found : HasFault f o.text o.origin after xs cause
@@ -67,28 +69,37 @@ module _ {X : Type 0} (f : Form X) where
       ⊎ (IsAtEnd after × ((in_all f o xs).fault ≡ None) × (text ≡ whole_listing f o d (in_all f o xs).bits))
 
   -- the writer was cut off in it
-  pub record ListsCut (o : Options) (d : List FrameType) (after start now : Option (List ℕ)) (xs : List ℕ) (sent : ℕ) : Type 0 where
+  pub record ListsCut (o : Options) (d : List FrameType) (after start now : Option (List ℕ)) (xs : List ℕ)
+      (sent : ℕ) : Type 0 where
     pub text : List ℕ
     pub said : Says o d after xs text
     pub cut : Cuts start now text sent
 
-  -- what the call answered, which read the octets xs, leaves its reader with `after`, and led its writer from `start` to `now`
-  abbrev pub ListsBy : Options → Option (List ℕ) → Option (List ℕ) → Option (List ℕ) → List ℕ → Result Summary ToolFault → Type 0
+  -- what the call answered, which read the octets xs, leaves its reader with `after`, and led its writer from `start`
+  -- to `now`
+  abbrev pub ListsBy : Options → Option (List ℕ) → Option (List ℕ) → Option (List ℕ) → List ℕ
+      → Result Summary ToolFault → Type 0
   ListsBy o after start now xs (Ok s) = (d : List FrameType) × Begins o d × ListsAll o d after start now xs s
   ListsBy o after start now xs (Err (Dictionary fault)) = DoesNothing o start now xs (Dictionary fault)
   ListsBy o after start now xs (Err Depth) = DoesNothing o start now xs Depth
   ListsBy o after start now xs (Err Origin) = DoesNothing o start now xs Origin
   ListsBy o after start now xs (Err Memory) = DoesNothing o start now xs Memory
   ListsBy o after start now xs (Err Read) = (d : List FrameType) × Begins o d × ListsSoFar o d start now xs
-  ListsBy o after start now xs (Err ReadsLimit) = (d : List FrameType) × Begins o d × (o.reads ≤ length xs) × ListsSoFar o d start now xs
-  ListsBy o after start now xs (Err (Write sent)) = (d : List FrameType) × Begins o d × ListsCut o d after start now xs sent
-  ListsBy o after start now xs (Err fault) = (d : List FrameType) × Begins o d × ListsToFault o d after start now xs fault
+  ListsBy o after start now xs (Err ReadsLimit) =
+      (d : List FrameType) × Begins o d × (o.reads ≤ length xs) × ListsSoFar o d start now xs
+  ListsBy o after start now xs (Err (Write sent)) =
+      (d : List FrameType) × Begins o d × ListsCut o d after start now xs sent
+  ListsBy o after start now xs (Err fault) =
+      (d : List FrameType) × Begins o d × ListsToFault o d after start now xs fault
 
 -- as it is of two lines, or of one
 abbrev pub by_lines : Bool → Type 0 → Type 0 → Type 0
 by_lines false one two = one
 by_lines true one two = two
 
--- What the call answered that lists a capture of one line, or of two: it read the octets xs, leaves its reader with `after`, and led its writer from `start` to `now`.
-abbrev pub Lists : Options → Option (List ℕ) → Option (List ℕ) → Option (List ℕ) → List ℕ → Result Summary ToolFault → Type 0
-Lists o after start now xs r = by_lines o.two (ListsBy one_line o after start now xs r) (ListsBy two_lines o after start now xs r)
+-- What the call answered that lists a capture of one line, or of two: it read the octets xs, leaves its reader with
+-- `after`, and led its writer from `start` to `now`.
+abbrev pub Lists : Options → Option (List ℕ) → Option (List ℕ) → Option (List ℕ) → List ℕ → Result Summary ToolFault
+    → Type 0
+Lists o after start now xs r =
+    by_lines o.two (ListsBy one_line o after start now xs r) (ListsBy two_lines o after start now xs r)

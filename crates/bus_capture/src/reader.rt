@@ -8,7 +8,7 @@ ghost use Rattle.bus_capture.specs.Begins.{Begins, Refuses};
 ghost use Rattle.bus_capture.specs.Internal.Asked.{IsMade};
 ghost use Rattle.bus_capture.specs.Captures.{unplaced, unplaced_whole, IsSameFault};
 ghost use Rattle.bus_capture.specs.Internal.Sessions.{IsReadBy, Follows, Stops, is_text};
-ghost use Rattle.bus_capture.specs.Internal.Reading.{octets_taken, IsWhole, IsFaulty, Finishes};
+ghost use Rattle.bus_capture.specs.Internal.Reading.{octets_taken, Finishes};
 ghost use Rattle.bus_capture.specs.Internal.Watching.{IsSound, IsSame};
 
 use crate::packed::PackedCapture;

@@ -1,6 +1,6 @@
 //! The report of a check.
 
-ghost use Rattle.std.specs.Prelude.{◌≡◌, ◌+◌, ◌*◌, ◌++◌, ◌<◌, ◌≤◌, ◌^◌, ℕ, Bool, List, Option, MatchResult, OnOk, length};
+ghost use Rattle.std.specs.Prelude.{◌+◌, ◌*◌, ◌++◌, ◌<◌, ◌≤◌, ◌^◌, ℕ, List, Option, MatchResult, OnOk};
 ghost use Rattle.arrayvec.specs.ArrayString.{array_string_len};
 ghost use Rattle.bus_watch.specs.History.{history, tally};
 ghost use Rattle.bus_text.specs.CheckText.{tallies_text, history_text, check_text};

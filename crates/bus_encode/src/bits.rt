@@ -1,6 +1,6 @@
 //! The bits of one call, and their text.
 
-ghost use Rattle.std.specs.Prelude.{◌≡◌, ◌+◌, ◌-◌, ◌^◌, ◌<◌, ◌≤◌, [], ◌∷◌, ◌++◌, List, Some, false, length, take};
+ghost use Rattle.std.specs.Prelude.{◌≡◌, ◌+◌, ◌-◌, ◌<◌, ◌≤◌, [], ◌∷◌, ◌++◌, List, Some, false, length};
 ghost use Rattle.bus_line.specs.Line.{Call, gain};
 ghost use Rattle.bus_line.specs.Encoding.{AfterCalls};
 ghost use Rattle.bus_encode.specs.Encode.{bits_text};

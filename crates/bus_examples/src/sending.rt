@@ -1,6 +1,6 @@
 //! The way back: the bits of a frame.
 
-ghost use Rattle.std.specs.Prelude.{◌≡◌, ◌<◌, ◌++◌, ◌⊎◌, length, IsErr, IfOk, Some};
+ghost use Rattle.std.specs.Prelude.{◌≡◌, ◌<◌, ◌++◌, ◌⊎◌, length, IfOk, Some};
 ghost use Rattle.bus_line.specs.Mark.{flag};
 ghost use Rattle.bus_line.specs.Line.{raw_bits};
 

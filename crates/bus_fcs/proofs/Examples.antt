@@ -1,4 +1,4 @@
--- Published check values, computed from the definitions alone.
+-- The published check value of this CRC and others, computed from the definitions alone.
 use Rattle.std.proofs.Common.{◌≡◌, [], ◌∷◌, true, false, refl}
 use Rattle.bus_bits.specs.Octet.{bits_of, bits_of_octets}
 use Rattle.bus_fcs.specs.Division.{add, step, divided, remainder}

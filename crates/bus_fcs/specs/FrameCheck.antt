@@ -17,4 +17,5 @@ is_good d = list_all not (remainder (ends_inverted d))
 
 -- the sixteen check bits of the content `c`
 unfoldable pub fcs : List Bool → List Bool
-fcs c = map not (add (remainder (replicate 16 true ++ replicate (length c) false)) (remainder (c ++ replicate 16 false)))
+fcs c =
+    map not (add (remainder (replicate 16 true ++ replicate (length c) false)) (remainder (c ++ replicate 16 false)))

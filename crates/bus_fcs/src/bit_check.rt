@@ -1,6 +1,6 @@
 //! The frame check bit by bit.
 
-ghost use Rattle.std.specs.Prelude.{◌≡◌, ◌+◌, ◌-◌, ◌*◌, ◌≤◌, ◌<◌, ◌^◌, ◌↔◌, ℕ, List, [], ◌∷◌, ◌++◌, IsTrue, length, take};
+ghost use Rattle.std.specs.Prelude.{◌-◌, ◌*◌, ◌^◌};
 ghost use Rattle.bus_fcs.specs.Internal.Register.{IsStateAfter};
 
 use crate::check::Check;

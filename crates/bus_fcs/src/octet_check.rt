@@ -1,6 +1,6 @@
 //! The frame check by a table.
 
-ghost use Rattle.std.specs.Prelude.{◌≡◌, ◌+◌, ◌-◌, ◌≤◌, ◌<◌, ◌^◌, ◌↔◌, ℕ, List, [], ◌∷◌, ◌++◌, IsTrue, length};
+ghost use Rattle.std.specs.Prelude.{◌≡◌, ◌+◌, ◌-◌, ◌^◌, ℕ, List, [], ◌∷◌, ◌++◌};
 ghost use Rattle.bus_fcs.specs.Internal.Register.{IsStateAfter};
 
 use crate::check::Check;
@@ -57,8 +57,8 @@ impl Check for OctetCheck {
         spent.tick_folded();
     }
 
-    /// Works out the register behind each of six octets, and keeps that behind as many as are wanted: a
-    /// loop would end where the data decide, and that guess costs more than the octets left over.
+    /// Computes the register after each of six octets and keeps the one after `count` of them: where a loop
+    /// ends would depend on the data, and a wrong guess there costs more than the octets that are not wanted.
     #[inline(always)]
     fn fold_some(&mut self, octets: &[u8; 8], count: usize, spent: &mut Spent) {
         let one = state_after(self.state, octets[0]);

@@ -1,6 +1,6 @@
 //! The frame check of octets that are all there.
 
-ghost use Rattle.std.specs.Prelude.{◌≡◌, ◌≤◌, ◌<◌, ◌+◌, ◌*◌, ◌^◌, ◌++◌, List, ℕ, length};
+ghost use Rattle.std.specs.Prelude.{◌≡◌, ◌≤◌, ◌<◌, ◌*◌, length};
 ghost use Rattle.bus_bits.specs.Octet.{bits_of_octets};
 ghost use Rattle.bus_fcs.specs.FrameCheck.{is_good};
 

@@ -22,7 +22,8 @@ ShowsHeld d (Some (piece.Abort span)) = Unit {0}
 ShowsHeld d (Some (piece.Idle span)) = Unit {0}
 
 -- a bit leads from old to new, with this answer
-pub record Pushed {C : Type 0} (folded : C → List ℕ → Type 0) (cost : ℕ) (old : LineState C) (bit : Bool) (answer : Option Piece) (new : LineState C) : Type 0 where
+pub record Pushed {C : Type 0} (folded : C → List ℕ → Type 0) (cost : ℕ) (old : LineState C) (bit : Bool)
+    (answer : Option Piece) (new : LineState C) : Type 0 where
   pub after : (b : List Bool) → After folded cost old b → After folded cost new (b ++ bit ∷ [])
   pub longest : new.longest ≡ old.longest
   pub origin : new.origin ≡ old.origin

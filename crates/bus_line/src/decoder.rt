@@ -11,7 +11,7 @@ mod parts;
 mod step;
 mod stop;
 
-ghost use Rattle.std.specs.Prelude.{◌≡◌, ◌≢◌, ◌+◌, ◌*◌, ◌-◌, ◌%◌, ◌/◌, ◌≤◌, ◌<◌, ◌^◌, ◌↔◌, ◌⊎◌, List, Bool, [], ◌∷◌, ◌++◌, IsErr, IfOk, OnOk, OnErr, IsErrOf, IsTrue, false, length, ℕ, cond, Some, None, IsSome};
+ghost use Rattle.std.specs.Prelude.{◌≡◌, ◌+◌, ◌*◌, ◌-◌, ◌≤◌, ◌<◌, ◌^◌, ◌↔◌, ◌⊎◌, List, Bool, [], ◌∷◌, ◌++◌, IsErr, IfOk, OnErr, length, Some, None};
 ghost use Rattle.std.specs.Option.{option_map, option_to_list};
 ghost use Rattle.std.specs.Borrow.{sem};
 ghost use Rattle.std.specs.Io.BufRead.{Rests};
@@ -52,8 +52,8 @@ pub struct LineDecoder<C: Check> {
     history: u64,
     /// The first place of the open piece, where the last mark is a flag.
     first: Option<u64>,
-    /// The place behind which each bit settles one of the open piece: eight past its beginning, and
-    /// where no piece is open a place that is never reached.
+    /// From the first place after this one on, each bit settles one bit of the open piece: eight past its
+    /// beginning, or a place that is never reached where no piece is open.
     settles_at: u64,
     /// How many data bits of the piece from there are settled.
     gathered: u64,
@@ -152,8 +152,8 @@ impl<C: Check> LineDecoder<C> {
         Ok(self.advance(bits, count))
     }
 
-    /// How many of these bits [`LineDecoder::take`] would take: `count`, or those up to the first that
-    /// may decide a report. Nothing changes.
+    /// How many of these bits [`LineDecoder::take`] would take, if none of them is past the place limit:
+    /// `count`, or those up to the first that may decide a report. Nothing changes.
     #[inline(always)]
     pub fn would_take(&self, bits: u64, count: u32) -> u32
         requires some { 1 ≤ count }

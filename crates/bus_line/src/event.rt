@@ -29,6 +29,7 @@ pub struct Event {
     /// The places of its bits, without the flags or the abort that bound a piece; of an idle line those
     /// of the fifteen.
     pub span: Span,
+    /// What the report is.
     pub kind: EventKind,
 }
 

@@ -15,14 +15,18 @@ count_text word n = word ++ codes " " ++ decimal n ++ codes "\n"
 -- ten counts, a line for each
 abbrev pub summary_text : Summary → List ℕ
 summary_text s =
-    count_text (codes "frames") s.frames ++ count_text (codes "damaged") s.damaged ++ count_text (codes "overlong") s.overlong
-    ++ count_text (codes "aborts") s.aborts ++ count_text (codes "idles") s.idles ++ count_text (codes "strays") s.strays
-    ++ count_text (codes "answered") s.answered ++ count_text (codes "missing") s.missing ++ count_text (codes "spoilt") s.spoilt
+    count_text (codes "frames") s.frames ++ count_text (codes "damaged") s.damaged
+        ++ count_text (codes "overlong") s.overlong
+    ++ count_text (codes "aborts") s.aborts ++ count_text (codes "idles") s.idles
+    ++ count_text (codes "strays") s.strays
+    ++ count_text (codes "answered") s.answered ++ count_text (codes "missing") s.missing
+    ++ count_text (codes "spoilt") s.spoilt
     ++ count_text (codes "late") s.late
 
 abbrev pub tally_line : ℕ → Counts → List ℕ
 tally_line station c =
-    codes "station " ++ decimal station ++ codes " answered " ++ decimal c.answered ++ codes " missing " ++ decimal c.missing
+    codes "station " ++ decimal station ++ codes " answered " ++ decimal c.answered ++ codes " missing "
+        ++ decimal c.missing
     ++ codes " spoilt " ++ decimal c.spoilt ++ codes " late " ++ decimal c.late ++ codes "\n"
 
 abbrev pub has_none : Counts → Bool

@@ -20,7 +20,8 @@ kind_word Pending = codes "pending"
 
 -- each kind
 abbrev pub all_kinds : List Kind
-all_kinds = Frame ∷ Damaged ∷ Overlong ∷ Abort ∷ Idle ∷ Stray ∷ Answered ∷ Missing ∷ Spoilt ∷ Late ∷ Begun ∷ Pending ∷ []
+all_kinds =
+    Frame ∷ Damaged ∷ Overlong ∷ Abort ∷ Idle ∷ Stray ∷ Answered ∷ Missing ∷ Spoilt ∷ Late ∷ Begun ∷ Pending ∷ []
 
 -- the kind that a word names, if it names one
 abbrev pub kind_named : List ℕ → Option Kind

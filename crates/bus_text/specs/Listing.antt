@@ -96,7 +96,9 @@ report_line heads d s = record {
   kind = report_kind s.report.kind;
   station = station_of s.standing;
   ftype = type_of s.standing;
-  text = line_number s.line ++ (span_text (span_of s.report) ++ report_word s.report.kind) ++ head_part heads d s.standing ++ codes "\n";
+  text =
+      line_number s.line ++ (span_text (span_of s.report) ++ report_word s.report.kind)
+          ++ head_part heads d s.standing ++ codes "\n";
 }
 
 -- a line about a frame of this station and type
@@ -124,18 +126,22 @@ stray_line line span s = option_map (frame_line line kind.Stray span (station_in
 
 -- the line of a frame at these places, if it is a stray; only where there is a dictionary
 abbrev pub strays_at : Option on.Line → Bool → Bool → Span → Option Standing → List Line
-strays_at line heads stray span standing = if heads && stray then flat_map (λ s. option_to_list (stray_line line span s)) (option_to_list standing) else []
+strays_at line heads stray span standing =
+    if heads && stray then flat_map (λ s. option_to_list (stray_line line span s)) (option_to_list standing) else []
 
 abbrev pub stray_lines : Bool → SeenReport → List Line
 stray_lines heads s = strays_at s.line heads s.stray (span_of s.report) s.standing
 
 -- the lines of a report: its own, that of the verdict that it decides, and that of a stray
 abbrev pub seen_lines : Bool → List FrameType → SeenReport → List Line
-seen_lines heads d s = report_line heads d s ∷ option_to_list (option_map (verdict_line s.line) s.verdict) ++ stray_lines heads s
+seen_lines heads d s =
+    report_line heads d s ∷ option_to_list (option_map (verdict_line s.line) s.verdict) ++ stray_lines heads s
 
 -- a piece that has begun
 abbrev pub begun_line : Option on.Line → Span → Line
-begun_line line span = record { kind = kind.Begun; station = None; ftype = None; text = line_number line ++ span_text span ++ kind_word kind.Begun ++ codes "\n" }
+begun_line line span =
+    record { kind = kind.Begun; station = None; ftype = None; text = line_number line ++ span_text span
+        ++ kind_word kind.Begun ++ codes "\n" }
 
 abbrev pub pending_line : Option on.Line → Pending → Line
 pending_line line p = frame_line line kind.Pending p.span p.station p.ftype
@@ -152,7 +158,8 @@ ending_lines begun pending = begun_lines None begun ++ pending_lines None pendin
 
 -- of two lines: such a piece of the first, one of the second, and a command that waits
 abbrev pub pair_ending_lines : Option Span → Option Span → Option Pending → List Line
-pair_ending_lines first second pending = begun_lines (Some First) first ++ begun_lines (Some Second) second ++ pending_lines (Some First) pending
+pair_ending_lines first second pending =
+    begun_lines (Some First) first ++ begun_lines (Some Second) second ++ pending_lines (Some First) pending
 
 -- what is wanted, if anything is, is what a line has
 abbrev pub agrees : Option ℕ → Option ℕ → Bool

@@ -38,7 +38,8 @@ abbrev pub given_dictionary : Option (List ℕ) → Result (List FrameType) Dict
 given_dictionary None = Ok []
 given_dictionary (Some text) = dictionary_of_text text
 
--- what the reading of a dictionary's text answers; want of memory may come in place of any reading, where there is a text
+-- what the reading of a dictionary's text answers; want of memory may come in place of any reading, where there is a
+-- text
 abbrev pub Reads : Option (List ℕ) → Result (List FrameType) ToolFault → Type 0
 Reads text (Ok d) = given_dictionary text ≡ Ok d
 Reads text (Err (Dictionary fault)) = given_dictionary text ≡ Err fault
@@ -68,14 +69,21 @@ names_text _ octets d = []
 
 -- what is shown of a frame
 unfoldable pub shown_text : List ℕ → List FrameType → List ℕ
-shown_text octets d = frame_text octets ++ (head_text (standing octets d) d ++ codes "\n") ++ names_text (standing octets d) octets d
+shown_text octets d =
+    frame_text octets ++ (head_text (standing octets d) d ++ codes "\n") ++ names_text (standing octets d) octets d
 
 -- What the call answered, which led its writer from `start` to `now`.
 abbrev pub Shows : Option (List ℕ) → List ℕ → Option (List ℕ) → Option (List ℕ) → Result (Unit {0}) ToolFault → Type 0
 Shows text hex start now (Err Hex) = (typed_frame hex ≡ Err Hex) × Appends start now []
 Shows text hex start now (Err FrameSize) = (typed_frame hex ≡ Err FrameSize) × Appends start now []
-Shows text hex start now (Err (Dictionary fault)) = (octets : List ℕ) × (typed_frame hex ≡ Ok octets) × (given_dictionary text ≡ Err fault) × Appends start now []
-Shows text hex start now (Err Memory) = (octets : List ℕ) × (typed_frame hex ≡ Ok octets) × (text ≢ None) × Appends start now []
-Shows text hex start now (Ok _) = (octets : List ℕ) × (d : List FrameType) × (typed_frame hex ≡ Ok octets) × (given_dictionary text ≡ Ok d) × Appends start now (shown_text octets d)
-Shows text hex start now (Err (Write written)) = (octets : List ℕ) × (d : List FrameType) × (typed_frame hex ≡ Ok octets) × (given_dictionary text ≡ Ok d) × (written ≤ length (shown_text octets d)) × Appends start now (take written (shown_text octets d))
+Shows text hex start now (Err (Dictionary fault)) =
+    (octets : List ℕ) × (typed_frame hex ≡ Ok octets) × (given_dictionary text ≡ Err fault) × Appends start now []
+Shows text hex start now (Err Memory) =
+    (octets : List ℕ) × (typed_frame hex ≡ Ok octets) × (text ≢ None) × Appends start now []
+Shows text hex start now (Ok _) =
+    (octets : List ℕ) × (d : List FrameType) × (typed_frame hex ≡ Ok octets) × (given_dictionary text ≡ Ok d)
+        × Appends start now (shown_text octets d)
+Shows text hex start now (Err (Write written)) =
+    (octets : List ℕ) × (d : List FrameType) × (typed_frame hex ≡ Ok octets) × (given_dictionary text ≡ Ok d)
+        × (written ≤ length (shown_text octets d)) × Appends start now (take written (shown_text octets d))
 Shows text hex start now (Err _) = ⊥

@@ -1,6 +1,6 @@
 //! What the head of a frame says, in a string of fixed room.
 
-ghost use Rattle.std.specs.Prelude.{◌≡◌, ◌+◌, ◌++◌, ◌≤◌, length, codes};
+ghost use Rattle.std.specs.Prelude.{◌≡◌, ◌+◌, ◌++◌, ◌≤◌, length};
 ghost use Rattle.arrayvec.specs.ArrayString.{array_string_len};
 ghost use Rattle.bus_dictionary.specs.Dictionary.{entry_at};
 ghost use Rattle.bus_text.specs.HeadText.{name_of, typed_text, head_text};

@@ -1,6 +1,6 @@
 //! Parts of lines, in strings of fixed room.
 
-ghost use Rattle.std.specs.Prelude.{◌≡◌, ◌+◌, ◌*◌, ◌++◌, ◌<◌, ◌≤◌, ◌^◌, length, decimal, codes};
+ghost use Rattle.std.specs.Prelude.{◌≡◌, ◌+◌, ◌*◌, ◌++◌, ◌<◌, ◌≤◌, length, decimal};
 ghost use Rattle.arrayvec.specs.ArrayString.{array_string_len};
 ghost use Rattle.bus_line.specs.Shown.{kind_with, reported, span_of};
 ghost use Rattle.bus_text.specs.Listing.{hex_digit, hex_octet, hex_of, cause_word, line_number, span_text, report_word};

@@ -31,7 +31,8 @@ abbrev pub heard : {C : Type 0} → AnalyserState C → List SeenReport
 heard a = option_to_list (option_map (found a.decoder.octets) a.finding)
 
 -- an analyser may stand after the bits b
-pub record IsAfter {C : Type 0} (folded : C → List ℕ → Type 0) (cost : ℕ) (a : AnalyserState C) (b : List Bool) : Type 0 where
+pub record IsAfter {C : Type 0} (folded : C → List ℕ → Type 0) (cost : ℕ) (a : AnalyserState C)
+    (b : List Bool) : Type 0 where
   pub decoder : After folded cost a.decoder b
   pub longest : a.decoder.longest ≡ longest_of a.journal.dictionary
   pub journal : Keeps a.journal (line a b)
@@ -48,5 +49,6 @@ one_line folded cost = record {
 }
 
 -- these bits lead from old to new, and this is seen at them
-abbrev pub Sees : {C : Type 0} → (C → List ℕ → Type 0) → ℕ → AnalyserState C → List Bool → List SeenReport → AnalyserState C → Type 0
+abbrev pub Sees : {C : Type 0} → (C → List ℕ → Type 0) → ℕ → AnalyserState C → List Bool → List SeenReport
+    → AnalyserState C → Type 0
 Sees folded cost old bits told new = Leads (one_line folded cost) old bits told new

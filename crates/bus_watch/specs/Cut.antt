@@ -15,7 +15,8 @@ CutLosesNothing = (d : List FrameType) (before behind : List Heard) → pending 
 -- where one waits, its verdict, at the first report behind that is no idle line, and no more
 pub record LosesOne (d : List FrameType) (before idles rest : List Heard) (h : Heard) : Type 0 where
   pub others : List SeenReport
-  pub whole : seen d (before ++ (idles ++ h ∷ rest)) ≡ seen d before ++ (seen d idles ++ seen_of d (before ++ idles) h ∷ others)
+  pub whole : seen d (before ++ (idles ++ h ∷ rest)) ≡ seen d before
+      ++ (seen d idles ++ seen_of d (before ++ idles) h ∷ others)
   pub alone : seen d (idles ++ h ∷ rest) ≡ seen d idles ++ seen_of d idles h ∷ others
   pub verdict : (seen_of d (before ++ idles) h).verdict ≡ option_map (verdict d (begins d h)) (pending d before)
   pub none : (seen_of d idles h).verdict ≡ None
@@ -24,9 +25,11 @@ abbrev pub CutLosesVerdict : Type 0
 CutLosesVerdict = (d : List FrameType) (before idles rest : List Heard) (h : Heard) →
     talk idles ≡ [] → is_idle h.report.kind ≡ false → LosesOne d before idles rest h
 
--- cut at a flag up to which no command waits, what is seen of bits is what is seen up to the end of the flag, and then what is seen from the flag on
+-- cut at a flag up to which no command waits, what is seen of bits is what is seen up to the end of the flag, and then
+-- what is seen from the flag on
 abbrev pub FlagLosesNothing : Type 0
 FlagLosesNothing = (d : List FrameType) (longest origin : ℕ) (u t : List Bool) →
     pending d (of_line (placed origin longest (u ++ flag))) ≡ None →
     seen d (of_line (placed origin longest ((u ++ flag) ++ t)))
-    ≡ seen d (of_line (placed origin longest (u ++ flag))) ++ seen d (of_line (placed (origin + length u) longest (flag ++ t)))
+    ≡ seen d (of_line (placed origin longest (u ++ flag)))
+    ++ seen d (of_line (placed (origin + length u) longest (flag ++ t)))

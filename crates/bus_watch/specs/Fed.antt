@@ -8,7 +8,8 @@ use Rattle.bus_watch.specs.declared.feed_fault.FeedFault.{FeedFault}
 use Rattle.bus_watch.specs.declared.feed_fault.FeedFault.TheVariants.{PlaceLimit, Sink}
 
 -- these led from old to new, and the sink took what is seen at them
-pub record FedBy {A X S : Type 0} (w : Watch A X) (taken : S → Option (List SeenReport)) (old : A) (xs : List X) (new : A) (before after : S) : Type 0 where
+pub record FedBy {A X S : Type 0} (w : Watch A X) (taken : S → Option (List SeenReport)) (old : A) (xs : List X)
+    (new : A) (before after : S) : Type 0 where
   pub seen : List SeenReport
   pub sees : Leads w old xs seen new
   pub took : taken after ≡ told (taken before) seen
@@ -20,14 +21,17 @@ pub data Lacks : List SeenReport → List SeenReport → ℕ → Type 0 where
   refused : (s : SeenReport) (ss ts : List SeenReport) (n : ℕ) → Lacks ss ts n → Lacks (s ∷ ss) ts (n + 1)
 
 -- a sink was offered these, and refused so many
-pub record Offered {S : Type 0} (taken : S → Option (List SeenReport)) (refusals : S → ℕ) (all : List SeenReport) (n : ℕ) (before after : S) : Type 0 where
+pub record Offered {S : Type 0} (taken : S → Option (List SeenReport)) (refusals : S → ℕ) (all : List SeenReport)
+    (n : ℕ) (before after : S) : Type 0 where
   pub took_of : List SeenReport
   pub lacks : Lacks all took_of n
   pub took : taken after ≡ told (taken before) took_of
   pub count : refusals after ≡ refusals before + n
 
--- these led from old to new, and the sink took what is seen at them, but that it refused so many of what is seen at the last
-pub record RefusedBy {A X S : Type 0} (w : Watch A X) (taken : S → Option (List SeenReport)) (refusals : ℕ) (old : A) (xs : List X) (new : A) (before after : S) : Type 0 where
+-- these led from old to new, and the sink took what is seen at them, but that it refused so many of what is seen at
+-- the last
+pub record RefusedBy {A X S : Type 0} (w : Watch A X) (taken : S → Option (List SeenReport)) (refusals : ℕ) (old : A)
+    (xs : List X) (new : A) (before after : S) : Type 0 where
   pub seen : List SeenReport
   pub at_last : List SeenReport
   pub of_last : List SeenReport
@@ -39,7 +43,8 @@ pub record RefusedBy {A X S : Type 0} (w : Watch A X) (taken : S → Option (Lis
   pub took : taken after ≡ told (taken before) (seen ++ of_last)
 
 -- of the first of a list
-pub record RefusedByAt {A X S : Type 0} (w : Watch A X) (taken : S → Option (List SeenReport)) (refusals : ℕ) (old : A) (xs : List X) (consumed : ℕ) (new : A) (before after : S) : Type 0 where
+pub record RefusedByAt {A X S : Type 0} (w : Watch A X) (taken : S → Option (List SeenReport)) (refusals : ℕ)
+    (old : A) (xs : List X) (consumed : ℕ) (new : A) (before after : S) : Type 0 where
   pub some : 0 < consumed
   pub within : consumed ≤ length xs
   pub refused : RefusedBy w taken refusals old (take consumed xs) new before after
@@ -49,17 +54,21 @@ module _ {C S : Type 0} (folded : C → List ℕ → Type 0) (cost : ℕ) (taken
   abbrev pub Fed : AnalyserState C → List Bool → AnalyserState C → S → S → Type 0
   Fed old bits new before after = FedBy (one_line folded cost) taken old bits new before after
 
-  -- these bits led from old to new, and the sink took what is seen at them but the last of it, which the last bit decides
-  pub record Refused (old : AnalyserState C) (bits : List Bool) (new : AnalyserState C) (before after : S) : Type 0 where
+  -- these bits led from old to new, and the sink took what is seen at them but the last of it, which the last bit
+  -- decides
+  pub record Refused (old : AnalyserState C) (bits : List Bool) (new : AnalyserState C)
+      (before after : S) : Type 0 where
     pub seen : List SeenReport
     pub lost : SeenReport
     pub some : 0 < length bits
     pub sees : Sees folded cost old bits (seen ++ lost ∷ []) new
-    pub front : (b : List Bool) → IsAfter folded cost old b → seen_after old (b ++ take (length bits - 1) bits) ≡ seen_after old b ++ seen
+    pub front : (b : List Bool) → IsAfter folded cost old b
+        → seen_after old (b ++ take (length bits - 1) bits) ≡ seen_after old b ++ seen
     pub took : taken after ≡ told (taken before) seen
 
   -- of the first bits of a list
-  pub record RefusedAt (old : AnalyserState C) (bits : List Bool) (consumed : ℕ) (new : AnalyserState C) (before after : S) : Type 0 where
+  pub record RefusedAt (old : AnalyserState C) (bits : List Bool) (consumed : ℕ) (new : AnalyserState C)
+      (before after : S) : Type 0 where
     pub some : 0 < consumed
     pub within : consumed ≤ length bits
     pub refused : Refused old (take consumed bits) new before after

@@ -49,11 +49,15 @@ pairs_of count first second = zip (bits_of count first) (bits_of count second)
 
 -- what is heard on a line of two at a place
 abbrev pub heard_at : Line → ℕ → ℕ → List Bool → ℕ → List Heard
-heard_at line origin longest b i = map (heard_on (Some line)) (option_to_list (option_map (moved origin) (due_at longest b i)))
+heard_at line origin longest b i =
+    map (heard_on (Some line)) (option_to_list (option_map (moved origin) (due_at longest b i)))
 
--- the reports of two lines by due place, the first line's first where both have one; the first pair has the place `origin`
+-- the reports of two lines by due place, the first line's first where both have one; the first pair has the place
+-- `origin`
 abbrev pub merged : ℕ → ℕ → List (Bool × Bool) → List Heard
-merged origin longest ps = flat_map (λ i. heard_at First origin longest (firsts ps) i ++ heard_at Second origin longest (seconds ps) i) (places (length ps))
+merged origin longest ps =
+    flat_map (λ i. heard_at First origin longest (firsts ps) i
+        ++ heard_at Second origin longest (seconds ps) i) (places (length ps))
 
 abbrev pub is_line : Line → Option Line → Bool
 is_line First (Some First) = true

@@ -19,16 +19,19 @@ use Rattle.bus_watch.specs.declared.line.Line.TheVariants.{First, Second}
 -- one bit more adds what is seen at it, if it decides a report
 abbrev pub SeenGrows : Type 0
 SeenGrows = (d : List FrameType) (longest origin : ℕ) (b : List Bool) (bit : Bool) →
-    seen d (of_line (placed origin longest (b ++ bit ∷ []))) ≡ seen d (of_line (placed origin longest b)) ++ option_to_list (seen_at d (of_line (placed origin longest (b ++ bit ∷ []))) (origin + length b))
+    seen d (of_line (placed origin longest (b ++ bit ∷ []))) ≡ seen d (of_line (placed origin longest b))
+        ++ option_to_list (seen_at d (of_line (placed origin longest (b ++ bit ∷ []))) (origin + length b))
 
 -- one pair of bits more adds what is seen at it: at most what the first line decides and then what the second does
 abbrev pub PairsGrow : Type 0
 PairsGrow = (d : List FrameType) (longest origin : ℕ) (ps : List (Bool × Bool)) (p : Bool × Bool) →
-    seen d (merged origin longest (ps ++ p ∷ [])) ≡ seen d (merged origin longest ps) ++ all_seen_at d (merged origin longest (ps ++ p ∷ [])) (origin + length ps)
+    seen d (merged origin longest (ps ++ p ∷ [])) ≡ seen d (merged origin longest ps)
+        ++ all_seen_at d (merged origin longest (ps ++ p ∷ [])) (origin + length ps)
 
 -- of two reports the one that is due first comes first, and where both are due at one place, that of the first line
 abbrev pub ComesBefore : Heard → Heard → Type 0
-ComesBefore h k = (due h.report < due k.report) ⊎ ((due h.report ≡ due k.report) × (h.line ≡ Some First) × (k.line ≡ Some Second))
+ComesBefore h k =
+    (due h.report < due k.report) ⊎ ((due h.report ≡ due k.report) × (h.line ≡ Some First) × (k.line ≡ Some Second))
 
 -- these are the reports of two lines and no others, in this order
 pub record IsMerged (rs ss : List Report) (hs : List Heard) : Type 0 where
@@ -39,7 +42,9 @@ pub record IsMerged (rs ss : List Report) (hs : List Heard) : Type 0 where
 
 -- as the merged reports are
 abbrev pub MergedIsMerged : Type 0
-MergedIsMerged = (longest origin : ℕ) (ps : List (Bool × Bool)) → IsMerged (placed origin longest (firsts ps)) (placed origin longest (seconds ps)) (merged origin longest ps)
+MergedIsMerged =
+    (longest origin : ℕ) (ps : List (Bool × Bool))
+        → IsMerged (placed origin longest (firsts ps)) (placed origin longest (seconds ps)) (merged origin longest ps)
 
 -- what is seen is the reports, and what follows from each
 abbrev pub SeenAreReports : Type 0
@@ -47,15 +52,20 @@ SeenAreReports = (d : List FrameType) (hs : List Heard) → map heard_in (seen d
 
 -- what is seen decides just the verdicts of the talk, in their order
 abbrev pub SeenDecides : Type 0
-SeenDecides = (d : List FrameType) (hs : List Heard) → filter_map (λ (s : SeenReport). s.verdict) (seen d hs) ≡ verdicts d hs
+SeenDecides =
+    (d : List FrameType) (hs : List Heard) → filter_map (λ (s : SeenReport). s.verdict) (seen d hs) ≡ verdicts d hs
 
 -- the steps of a check that costs 1 to 8 an octet are at most four a bit
 abbrev pub StepsWithinFour : Type 0
-StepsWithinFour = (cost longest : ℕ) (b : List Bool) (spent : Spent) → IsLedger cost longest b spent → cost ≤ 8 → total spent ≤ 4 * length b
+StepsWithinFour =
+    (cost longest : ℕ) (b : List Bool) (spent : Spent) → IsLedger cost longest b spent → cost ≤ 8
+        → total spent ≤ 4 * length b
 
 -- of a check that costs 1, at most three
 abbrev pub StepsWithinThree : Type 0
-StepsWithinThree = (longest : ℕ) (b : List Bool) (spent : Spent) → IsLedger 1 longest b spent → (spent.folded ≡ spent.stored) × (total spent ≤ 3 * length b)
+StepsWithinThree =
+    (longest : ℕ) (b : List Bool) (spent : Spent) → IsLedger 1 longest b spent
+        → (spent.folded ≡ spent.stored) × (total spent ≤ 3 * length b)
 
 -- lists, one behind the other
 abbrev pub joined : {X : Type 0} → List (List X) → List X
@@ -67,7 +77,8 @@ pub data Runs {A X : Type 0} (w : Watch A X) : A → List (List X) → List (Lis
   called : (a c e : A) (xs : List X) (told : List SeenReport) (pieces : List (List X)) (tolds : List (List SeenReport))
       → Leads w a xs told c → Runs w c pieces tolds e → Runs w a (xs ∷ pieces) (told ∷ tolds) e
 
--- however a list is cut into calls, what they tell, one behind the other, is what is seen of the whole list, and the analyser stands after it
+-- however a list is cut into calls, what they tell, one behind the other, is what is seen of the whole list, and the
+-- analyser stands after it
 abbrev pub IsAnyCut : {A X : Type 0} → Watch A X → Type 0
 IsAnyCut {A} {X} w = (start end : A) (pieces : List (List X)) (tolds : List (List SeenReport))
     → w.is_after start [] → Runs w start pieces tolds end

@@ -7,14 +7,16 @@ use Rattle.bus_watch.specs.declared.logged_report.LoggedPiece.TheVariants.{Frame
 use Rattle.bus_watch.specs.declared.logged_report.LoggedReport.{LoggedReport}
 
 abbrev pub logged_piece : LoggedPiece → Report
-logged_piece (Frame kept) = record { kind = Kind.Frame kept.octets.items; first = kept.span.first; past = kept.span.past }
+logged_piece (Frame kept) =
+    record { kind = Kind.Frame kept.octets.items; first = kept.span.first; past = kept.span.past }
 logged_piece (Damaged span cause) = record { kind = Kind.Damaged cause; first = span.first; past = span.past }
 logged_piece (Overlong span) = record { kind = Kind.Overlong; first = span.first; past = span.past }
 logged_piece (Abort span) = record { kind = Kind.Abort; first = span.first; past = span.past }
 logged_piece (Idle span) = record { kind = Kind.Idle; first = span.first; past = span.past }
 
 abbrev pub logged_report : LoggedReport → SeenReport
-logged_report r = record { line = None; report = logged_piece r.piece; standing = r.standing; verdict = r.verdict; stray = r.stray }
+logged_report r =
+    record { line = None; report = logged_piece r.piece; standing = r.standing; verdict = r.verdict; stray = r.stray }
 
 -- all reports of a log
 abbrev pub logged_reports : List LoggedReport → List SeenReport

@@ -11,7 +11,8 @@ use Rattle.bus_watch.specs.Pairs.{PairState, IsAfterPairs, two_lines}
 use Rattle.bus_watch.specs.Laws.{joined, Runs}
 use Rattle.bus_watch.specs.declared.pair_usage.PairUsage.{PairUsage}
 
--- what an analyser of two lines comes to that took these pairs: the reports that it told, the frames of its history, and its usage
+-- what an analyser of two lines comes to that took these pairs: the reports that it told, the frames of its history,
+-- and its usage
 pub record PairHeadline
     (cost : ℕ) (d : List FrameType) (depth origin : ℕ) (ps : List (Bool × Bool))
     (reports : List SeenReport) (frames : List KeptFrame) (usage : PairUsage) : Type 0 where

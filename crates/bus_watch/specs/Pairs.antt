@@ -48,7 +48,8 @@ abbrev pub heard_pair : {C : Type 0} → PairState C → List SeenReport
 heard_pair a = option_to_list (seen_on a First) ++ option_to_list (seen_on a Second)
 
 -- an analyser of two lines may stand after these pairs
-pub record IsAfterPairs {C : Type 0} (folded : C → List ℕ → Type 0) (cost : ℕ) (a : PairState C) (ps : List (Bool × Bool)) : Type 0 where
+pub record IsAfterPairs {C : Type 0} (folded : C → List ℕ → Type 0) (cost : ℕ) (a : PairState C)
+    (ps : List (Bool × Bool)) : Type 0 where
   pub first : After folded cost a.first (firsts ps)
   pub second : After folded cost a.second (seconds ps)
   pub origin : a.second.origin ≡ a.first.origin
@@ -68,10 +69,12 @@ two_lines folded cost = record {
 }
 
 -- these pairs lead from old to new, and this is seen at them
-abbrev pub SeesPairs : {C : Type 0} → (C → List ℕ → Type 0) → ℕ → PairState C → List (Bool × Bool) → List SeenReport → PairState C → Type 0
+abbrev pub SeesPairs : {C : Type 0} → (C → List ℕ → Type 0) → ℕ → PairState C → List (Bool × Bool) → List SeenReport
+    → PairState C → Type 0
 SeesPairs folded cost old pairs told new = Leads (two_lines folded cost) old pairs told new
 
--- of these bits of two lines, behind those of b and c, so many are taken: all, or those up to the first that may decide a report on either line
+-- of these bits of two lines, behind those of b and c, so many are taken: all, or those up to the first that may
+-- decide a report on either line
 pub record TakesPairsTo (b c xs ys : List Bool) (count : ℕ) : Type 0 where
   pub first : (i : ℕ) → i + 1 < count → MayDecideAt b xs i → ⊥
   pub second : (i : ℕ) → i + 1 < count → MayDecideAt c ys i → ⊥

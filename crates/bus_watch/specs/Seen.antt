@@ -26,7 +26,8 @@ heard_in s = heard_on s.line s.report
 
 -- the verdict that a report decides: that on its left neighbour in the talk
 abbrev pub decided : List FrameType → List Heard → Heard → Option Verdict
-decided d before h = if is_idle h.report.kind then None else option_and_then (λ left. verdict_on d left h) (last_or None (talk before))
+decided d before h =
+    if is_idle h.report.kind then None else option_and_then (λ left. verdict_on d left h) (last_or None (talk before))
 
 -- the frame type, if it has a standing that gives one
 abbrev pub type_of : Option Standing → Option ℕ

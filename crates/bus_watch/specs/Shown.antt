@@ -15,7 +15,8 @@ use Rattle.bus_watch.specs.declared.kept.Kept.{Kept}
 
 -- a report of a line and what follows from it
 abbrev pub shown_on : Option Line → Seen → SeenReport
-shown_on line s = record { line = line; report = report_of s.piece; standing = s.standing; verdict = s.verdict; stray = s.stray }
+shown_on line s =
+    record { line = line; report = report_of s.piece; standing = s.standing; verdict = s.verdict; stray = s.stray }
 
 -- of the only line
 abbrev pub shown : Seen → SeenReport
@@ -27,7 +28,14 @@ shown_option (Some s) = Some (shown s)
 
 -- a finding on a line, a frame's octets being these
 abbrev pub found_on : Option Line → List ℕ → Finding → SeenReport
-found_on line octets f = record { line = line; report = reported octets f.event; standing = f.standing; verdict = f.verdict; stray = f.stray }
+found_on line octets f =
+    record {
+      line = line;
+      report = reported octets f.event;
+      standing = f.standing;
+      verdict = f.verdict;
+      stray = f.stray;
+    }
 
 -- on the only line
 abbrev pub found : List ℕ → Finding → SeenReport

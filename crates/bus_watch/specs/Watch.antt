@@ -5,7 +5,8 @@ use Rattle.bus_dictionary.specs.Dictionary.{longest_of}
 use Rattle.bus_watch.specs.Heard.{Heard}
 use Rattle.bus_watch.specs.Seen.{SeenReport, seen}
 
--- of analysers A that take X: after which lists one may stand, what it was given, the place of the next X, and what is heard of a list by an origin and a longest frame
+-- of analysers A that take X: after which lists one may stand, what it was given, the place of the next X, and what is
+-- heard of a list by an origin and a longest frame
 pub record Watch (A X : Type 0) : Type 1 where
   pub is_after : A → List X → Type 0
   pub dictionary : A → List FrameType
@@ -19,7 +20,8 @@ abbrev pub seen_by : {A X : Type 0} → Watch A X → A → List X → List Seen
 seen_by w a xs = seen (w.dictionary a) (w.hears (w.origin a) (longest_of (w.dictionary a)) xs)
 
 -- these lead from old to new, and this is seen at them
-pub record Leads {A X : Type 0} (w : Watch A X) (old : A) (xs : List X) (told : List SeenReport) (new : A) : Type 0 where
+pub record Leads {A X : Type 0} (w : Watch A X) (old : A) (xs : List X) (told : List SeenReport)
+    (new : A) : Type 0 where
   pub is_after : (b : List X) → w.is_after old b → w.is_after new (b ++ xs)
   pub seen : (b : List X) → w.is_after old b → seen_by w old (b ++ xs) ≡ seen_by w old b ++ told
   pub dictionary : w.dictionary new ≡ w.dictionary old

@@ -1,6 +1,6 @@
 //! Many pieces at once.
 
-ghost use Rattle.std.specs.Prelude.{◌≡◌, ◌+◌, ◌-◌, ◌≤◌, ◌<◌, ◌^◌, ◌↔◌, List, Bool, IsErrOf, IsTrue, IfErr, OnOk, length};
+ghost use Rattle.std.specs.Prelude.{◌≡◌, ◌+◌, ◌-◌, ◌≤◌, ◌<◌, ◌^◌, ◌↔◌, IsErrOf, IsTrue, IfErr, OnOk, length};
 ghost use Rattle.bus_watch.specs.Fed.{Fed, RefusedAt, ForSink};
 ghost use Rattle.bus_watch.specs.Sink.{IsFull, IsWithinRoom};
 ghost use Rattle.bus_watch.specs.Headline.{bits_in};

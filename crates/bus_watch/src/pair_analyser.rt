@@ -1,6 +1,6 @@
 //! The analyser of two lines: what is seen on both, up to 48 pairs of bits at a time, in fixed memory.
 
-ghost use Rattle.std.specs.Prelude.{◌≡◌, ◌+◌, ◌-◌, ◌*◌, ◌≤◌, ◌<◌, ◌^◌, ◌↔◌, ◌⊎◌, List, Bool, [], ◌∷◌, ◌++◌, IsErr, IfOk, OnOk, OnErr, IsTrue, length, take, ℕ, Some, None, Err, slice_get, option_copied};
+ghost use Rattle.std.specs.Prelude.{◌≡◌, ◌+◌, ◌-◌, ◌*◌, ◌≤◌, ◌<◌, ◌^◌, ◌↔◌, ◌⊎◌, List, Bool, [], ◌∷◌, ◌++◌, IsErr, IfOk, OnErr, IsTrue, length, take, ℕ, Some, None, Err, slice_get, option_copied};
 ghost use Rattle.std.specs.Option.{option_map};
 ghost use Rattle.std.specs.Borrow.{sem};
 ghost use Rattle.std.specs.Io.BufRead.{Rests};
@@ -101,7 +101,6 @@ impl<C: Check> PairAnalyser<C> {
     ghost use Rattle.bus_watch.specs.Ledger.{IsPairLedger, total};
     ghost use Rattle.bus_watch.specs.Talk.{pending};
     ghost use Rattle.bus_watch.specs.Heard.{firsts, seconds, bits_on, pairs_of};
-    ghost use Rattle.bus_line.specs.Due.{begun};
     ghost use Rattle.bus_line.specs.Ledger.{stored_open};
 
     /// An analyser that took no pair of bits, whose first pair has the place `origin`.

@@ -1,6 +1,6 @@
 //! Many pairs of bits at once.
 
-ghost use Rattle.std.specs.Prelude.{◌≡◌, ◌+◌, ◌-◌, ◌≤◌, ◌<◌, ◌^◌, ◌↔◌, List, Bool, ℕ, IsErrOf, IfErr, OnOk, OnErr, length, take};
+ghost use Rattle.std.specs.Prelude.{◌≡◌, ◌+◌, ◌-◌, ◌≤◌, ◌<◌, ◌^◌, ◌↔◌, ℕ, IsErrOf, IfErr, OnOk, OnErr, length, take};
 ghost use Rattle.std.specs.Option.{option_to_list};
 ghost use Rattle.bus_bits.specs.Octet.{number};
 ghost use Rattle.bus_watch.specs.Fed.{FedBy, RefusedBy, RefusedByAt, ForSink, Offered};

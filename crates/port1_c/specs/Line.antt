@@ -29,7 +29,8 @@ parts l = record {
   cells = l.octets;
   len = l.count;
   check = record { state = l.check };
-  spent = record { shifted = 0; assembled = l.assembled; folded = l.folded; stored = l.stored; copied = 0; handled = 0 };
+  spent =
+      record { shifted = 0; assembled = l.assembled; folded = l.folded; stored = l.stored; copied = 0; handled = 0 };
 }
 
 -- the memory holds a decoder
@@ -61,7 +62,9 @@ abbrev pub bit_of : ℕ → Bool
 bit_of n = not (n == 0)
 
 abbrev pub cause_in : ℕ → Cause
-cause_in n = if n == 1 then cause.Unstuffed else (if n == 2 then cause.Short else (if n == 3 then cause.Unaligned else cause.Fcs))
+cause_in n =
+    if n == 1 then cause.Unstuffed
+        else (if n == 2 then cause.Short else (if n == 3 then cause.Unaligned else cause.Fcs))
 
 abbrev pub kind_in : ℕ → ℕ → List ℕ → Kind
 kind_in kind cause octets =
@@ -72,7 +75,9 @@ kind_in kind cause octets =
 
 -- the report that the memory tells, if it tells one; a frame's octets are these
 abbrev pub told : Port1Report → List ℕ → Option Report
-told r octets = if r.kind == 0 then None else Some (record { kind = kind_in r.kind r.cause octets; first = r.first; past = r.past })
+told r octets =
+    if r.kind == 0
+        then None else Some (record { kind = kind_in r.kind r.cause octets; first = r.first; past = r.past })
 
 -- the numbers of include/port1.h: a kind up to 5, and a cause of 1 to 4 for a damaged piece alone
 pub record IsCoded (r : Port1Report) : Type 0 where
@@ -87,9 +92,12 @@ pub record Goes (old : Port1Line) (count : ℕ) (new : Port1Line) : Type 0 where
   pub place : new.place ≡ old.place + count
 
 -- these bits lead from old to new, and decide just this report, if it is one
-pub record Tells (old : LineState OctetCheck) (bits : List Bool) (r : Port1Report) (new : LineState OctetCheck) : Type 0 where
+pub record Tells (old : LineState OctetCheck) (bits : List Bool) (r : Port1Report)
+    (new : LineState OctetCheck) : Type 0 where
   pub after : (b : List Bool) → After old b → After new (b ++ bits)
-  pub says : (b : List Bool) → After old b → placed old.origin old.longest (b ++ bits) ≡ placed old.origin old.longest b ++ option_to_list (told r new.octets)
+  pub says : (b : List Bool) → After old b
+      → placed old.origin old.longest (b ++ bits) ≡ placed old.origin old.longest b
+      ++ option_to_list (told r new.octets)
   pub longest : new.longest ≡ old.longest
   pub origin : new.origin ≡ old.origin
   pub place : new.place ≡ old.place + length bits

@@ -1,6 +1,6 @@
 //! The bits of one frame.
 
-ghost use Rattle.std.specs.Prelude.{◌≡◌, ◌+◌, ◌*◌, ◌≤◌, ◌<◌, ◌^◌, ◌++◌, Some, length};
+ghost use Rattle.std.specs.Prelude.{◌≡◌, ◌+◌, ◌*◌, ◌≤◌, ◌<◌, ◌++◌, Some, length};
 ghost use Rattle.bus_line.specs.Line.{raw_bits};
 ghost use Rattle.bus_line.specs.Mark.{flag};
 ghost use Rattle.port1_c.specs.Bits.{bits_from};

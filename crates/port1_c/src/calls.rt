@@ -1,6 +1,6 @@
 //! What C calls.
 
-ghost use Rattle.std.specs.Prelude.{◌≡◌, ◌≢◌, ◌+◌, ◌-◌, ◌*◌, ◌≤◌, ◌<◌, ◌^◌, ◌↔◌, ◌⊎◌, List, Bool, ◌∷◌, ◌++◌, [], ℕ, length};
+ghost use Rattle.std.specs.Prelude.{◌≡◌, ◌≢◌, ◌+◌, ◌-◌, ◌*◌, ◌≤◌, ◌<◌, ◌^◌, ◌↔◌, ◌⊎◌, List, Bool, ◌∷◌, ◌++◌, [], length};
 ghost use Rattle.std.specs.Option.{option_map, option_to_list};
 ghost use Rattle.bus_line.specs.Due.{begun};
 ghost use Rattle.port1_c.specs.Bits.{bits_from};

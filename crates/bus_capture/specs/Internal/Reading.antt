@@ -29,14 +29,16 @@ module _ {A X N B : Type 0} (t : TapView A X N B) where
     pub bits : Watches t start now run (whole_capture t.form text (t.watch.origin run.analyser) xs).bits
 
   -- they have a fault, before which all bits were followed
-  pub record IsFaulty (text : Bool) (after start now : Option (List ℕ)) (run : CaptureRun A) (xs : List ℕ) (fault : ToolFault) : Type 0 where
+  pub record IsFaulty (text : Bool) (after start now : Option (List ℕ)) (run : CaptureRun A) (xs : List ℕ)
+      (fault : ToolFault) : Type 0 where
     pub cause : CaptureFault
     pub answered : IsSameFault fault cause
     pub found : HasFault t.form text (t.watch.origin run.analyser) after xs cause
     pub bits : Watches t start now run (capture t.form text (t.watch.origin run.analyser) xs).bits
 
   -- how the reading of these octets ended, by so many reads at most, whose reader has `after` left
-  abbrev pub Finishes : Bool → ℕ → Option (List ℕ) → Option (List ℕ) → Option (List ℕ) → CaptureRun A → List ℕ → Result (Unit {0}) ToolFault → Type 0
+  abbrev pub Finishes : Bool → ℕ → Option (List ℕ) → Option (List ℕ) → Option (List ℕ) → CaptureRun A → List ℕ
+      → Result (Unit {0}) ToolFault → Type 0
   Finishes text reads after start now run xs (Ok _) = IsWhole text after start now run xs
   Finishes text reads after start now run xs (Err Read) = IsClean text start now run xs
   Finishes text reads after start now run xs (Err ReadsLimit) = (reads ≤ length xs) × IsClean text start now run xs

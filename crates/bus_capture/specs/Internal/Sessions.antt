@@ -34,7 +34,8 @@ module _ {A X N B : Type 0} (t : TapView A X N B) where
     pub bits : Watches t start now run (t.form.text xs).bits
 
   -- these octets of a text were taken, and their bits followed
-  pub record FollowsText (start now : Option (List ℕ)) (text : TextCapture) (run : CaptureRun A) (xs : List ℕ) : Type 0 where
+  pub record FollowsText (start now : Option (List ℕ)) (text : TextCapture) (run : CaptureRun A)
+      (xs : List ℕ) : Type 0 where
     pub at : text.at ≡ length xs
     pub clean : (t.form.text xs).fault ≡ None
     pub bits : Watches t start now run (t.form.text xs).bits
@@ -45,7 +46,8 @@ module _ {A X N B : Type 0} (t : TapView A X N B) where
     pub bits : Watches t start now run (t.form.packed xs).bits
 
   -- these octets of a packed capture were taken, and their bits followed
-  pub record FollowsPacked (start now : Option (List ℕ)) (p : PackedCapture B) (run : CaptureRun A) (xs : List ℕ) : Type 0 where
+  pub record FollowsPacked (start now : Option (List ℕ)) (p : PackedCapture B) (run : CaptureRun A)
+      (xs : List ℕ) : Type 0 where
     pub read : IsRead p.head.items p.body xs
     pub bits : Watches t start now run (t.form.packed xs).bits
 
@@ -54,13 +56,15 @@ module _ {A X N B : Type 0} (t : TapView A X N B) where
   Follows start now (source.Packed p) run xs = FollowsPacked start now p run xs
 
   -- this capture has a fault, and its bits with a place were followed
-  pub record Faulty (start now : Option (List ℕ)) (run : CaptureRun A) (c : CaptureOf X) (fault : ToolFault) : Type 0 where
+  pub record Faulty (start now : Option (List ℕ)) (run : CaptureRun A) (c : CaptureOf X)
+      (fault : ToolFault) : Type 0 where
     pub cause : CaptureFault
     pub found : c.fault ≡ Some cause
     pub answered : IsSameFault fault cause
     pub bits : Watches t start now run c.bits
 
-  -- why the taking of octets stopped, whose bits are these: their fault, or the writer was cut off in the lines of some of them
+  -- why the taking of octets stopped, whose bits are these: their fault, or the writer was cut off in the lines of
+  -- some of them
   abbrev pub StopsAt : Option (List ℕ) → Option (List ℕ) → CaptureRun A → CaptureOf X → ToolFault → Type 0
   StopsAt start now run c (Write sent) = IsCutOff t start now run c.bits sent
   StopsAt start now run c fault = Faulty start now run c fault

@@ -26,7 +26,9 @@ pub record FormLaws {X : Type 0} (f : Form X) : Type 0 where
   pub packed : (xs ys : List ℕ) → GrowsTo (f.packed xs) (f.packed (xs ++ ys))
   pub ended : (xs : List ℕ) → GrowsTo (f.packed xs) (f.packed_whole xs)
   pub same : (xs : List ℕ) → (f.packed_whole xs).bits ≡ (f.packed xs).bits
-  pub short : (xs : List ℕ) → length xs < 16 → (f.packed xs ≡ record { bits = []; fault = None }) × (f.packed_whole xs ≡ record { bits = []; fault = Some short_head })
+  pub short : (xs : List ℕ) → length xs < 16
+      → (f.packed xs ≡ record { bits = []; fault = None })
+      × (f.packed_whole xs ≡ record { bits = []; fault = Some short_head })
   pub places : (origin : ℕ) (c d : CaptureOf X) → GrowsTo c d → GrowsTo (capped origin c) (capped origin d)
   pub silent : (origin longest : ℕ) → f.hears origin longest [] ≡ []
   pub seen : (d : List FrameType) (longest origin : ℕ) (b more : List X) → SeenOn f d longest origin b more

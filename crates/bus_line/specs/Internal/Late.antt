@@ -21,7 +21,8 @@ IsStop w i = (w / 2 ^ (9 + i) % 128 ≡ 126) ⊎ (w / 2 ^ (1 + i) % 32768 ≡ 32
 -- of the first `k` bits behind the eight lowest those that are no 0 after five ones, the oldest first
 abbrev pub late_data : ℕ → ℕ → List Bool
 late_data word zero = []
-late_data word (suc k) = late_data word k ++ (if word / 2 ^ (3 + k) % 64 == 31 then [] else (word / 2 ^ (8 + k) % 2 == 1) ∷ [])
+late_data word (suc k) =
+    late_data word k ++ (if word / 2 ^ (3 + k) % 64 == 31 then [] else (word / 2 ^ (8 + k) % 2 == 1) ∷ [])
 
 -- of the lowest `k` bits those that `marks` does not mark, the lowest first
 abbrev pub kept : ℕ → ℕ → ℕ → List Bool
@@ -29,7 +30,8 @@ kept bits marks zero = []
 kept bits marks (suc k) = kept bits marks k ++ (if marks / 2 ^ k % 2 == 1 then [] else (bits / 2 ^ k % 2 == 1) ∷ [])
 
 -- more bits were taken, and not yet settled
-pub record LagsBy {C : Type 0} (folded : C → List ℕ → Type 0) (cost : ℕ) (d : LineState C) (b bits : List Bool) : Type 0 where
+pub record LagsBy {C : Type 0} (folded : C → List ℕ → Type 0) (cost : ℕ) (d : LineState C)
+    (b bits : List Bool) : Type 0 where
   pub has_taken : HasTaken d (b ++ bits)
   pub first : d.first ≡ first_of d.origin (current b)
   pub piece : HoldsFor folded d b (current b)

@@ -1,4 +1,5 @@
--- A decoder's fields, as they are seen, and their bounds. The bits taken are not counted apart: they are as many as the places behind the origin.
+-- A decoder's fields, as they are seen, and their bounds. The bits taken are not counted apart: they are as many as
+-- the places behind the origin.
 use Rattle.std.specs.Prelude.{◌≡◌, ℕ, ◌+◌, ◌-◌, ◌*◌, ◌≤◌, ◌^◌, length, Option, Some, None}
 use Rattle.std.specs.Option.{ForSome}
 use Rattle.bus_line.specs.Internal.LineState.{LineState}
@@ -18,7 +19,8 @@ line_state d = record {
   spent = record d.spent { shifted = d.place - d.origin };
 }
 
--- the place behind which each bit settles one of the piece that begins there; with no piece open, no bit's place comes so far
+-- the place behind which each bit settles one of the piece that begins there; with no piece open, no bit's place comes
+-- so far
 abbrev pub settles_from : Option ℕ → ℕ
 settles_from None = 2 ^ 62
 settles_from (Some first) = first + 8

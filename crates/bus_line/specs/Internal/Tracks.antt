@@ -46,7 +46,8 @@ pub record HasTaken {C : Type 0} (d : LineState C) (b : List Bool) : Type 0 wher
   pub history : d.history ≡ number (drop (length b) (padded b))
 
 -- the bits b were taken and settled, and this mark was the last
-pub record Tracks {C : Type 0} (folded : C → List ℕ → Type 0) (cost : ℕ) (d : LineState C) (b : List Bool) (mark : Mark) : Type 0 where
+pub record Tracks {C : Type 0} (folded : C → List ℕ → Type 0) (cost : ℕ) (d : LineState C) (b : List Bool)
+    (mark : Mark) : Type 0 where
   pub has_taken : HasTaken d b
   pub first : d.first ≡ first_of d.origin mark
   pub piece : HoldsFor folded d b mark

@@ -1,6 +1,6 @@
 //! Data bits more of a piece.
 
-ghost use Rattle.std.specs.Prelude.{◌≡◌, ◌+◌, ◌-◌, ◌*◌, ◌/◌, ◌≤◌, ◌<◌, ◌^◌, List, Bool, [], ◌∷◌, ◌++◌, length, ℕ, take};
+ghost use Rattle.std.specs.Prelude.{◌≡◌, ◌+◌, ◌-◌, ◌*◌, ◌/◌, ◌≤◌, ◌<◌, ◌^◌, List, Bool, ◌++◌, length, ℕ, take};
 ghost use Rattle.bus_bits.specs.Octet.{bits_of, octets};
 
 use crate::decoder::LineDecoder;

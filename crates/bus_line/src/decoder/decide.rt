@@ -1,8 +1,8 @@
 //! What a bit after six ones or fourteen decides.
 
-ghost use Rattle.std.specs.Prelude.{◌≡◌, ◌+◌, ◌*◌, ◌-◌, ◌%◌, ◌/◌, ◌≤◌, ◌<◌, ◌^◌, ◌↔◌, List, Bool, [], ◌∷◌, ◌++◌, length, ℕ, Some, None, Option, slice_range};
+ghost use Rattle.std.specs.Prelude.{◌≡◌, ◌+◌, ◌*◌, ◌-◌, ◌%◌, ◌≤◌, ◌<◌, List, Bool, [], ◌∷◌, ◌++◌, length, ℕ, Some, None, Option, slice_range};
 ghost use Rattle.std.specs.Option.{option_map};
-ghost use Rattle.bus_line.specs.Due.{Mark, FlagAt, current, due_at, class_of, piece_report};
+ghost use Rattle.bus_line.specs.Due.{FlagAt, current, due_at, class_of, piece_report};
 ghost use Rattle.bus_line.specs.Report.{Abort};
 
 use crate::cause::Cause;

@@ -6,8 +6,8 @@ use std::marker::Model;
 
 /// The octets of one piece, at most 258, in fixed memory.
 ///
-/// Eight are stored at a time, so there are at least eight cells more; with six beyond these a buffer is moved in
-/// whole words.
+/// Eight octets are always stored at a time, so eight spare cells follow the 258; six more make whole words of 64
+/// bits.
 #[derive(Drop)]
 pub(crate) struct FrameBuffer {
     cells: [u8; 272],

@@ -1,6 +1,6 @@
 //! The bits of one call on their way out.
 
-ghost use Rattle.std.specs.Prelude.{◌≡◌, ◌+◌, ◌-◌, ◌*◌, ◌<◌, ◌^◌, List, [], ◌∷◌, length, OnOk, OnErr};
+ghost use Rattle.std.specs.Prelude.{◌≡◌, ◌+◌, ◌-◌, ◌*◌, ◌<◌, ◌^◌, [], ◌∷◌, length, OnOk, OnErr};
 ghost use Rattle.bus_bits.specs.Octet.{bits_of, bits_of_octets};
 ghost use Rattle.bus_line.specs.Internal.StuffingWriter.{Sent, Cut};
 ghost use Rattle.bus_line.specs.Internal.Inserting.{raw_after, run_after};

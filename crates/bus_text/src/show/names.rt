@@ -1,9 +1,9 @@
 //! The lines of the bits that are 1.
 
-ghost use Rattle.std.specs.Prelude.{◌≡◌, ◌+◌, ◌*◌, ◌<◌, ◌≤◌, ◌^◌, List, ℕ, Option, ◌++◌, IfOk, length, codes};
+ghost use Rattle.std.specs.Prelude.{◌≡◌, ◌+◌, ◌<◌, ◌≤◌, List, ℕ, Option, ◌++◌, length};
 ghost use Rattle.std.specs.List.{flat_map};
 ghost use Rattle.std.specs.Io.KnownBytes.{Appends};
-ghost use Rattle.bus_dictionary.specs.BitName.{named_bit, is_name};
+ghost use Rattle.bus_dictionary.specs.BitName.{named_bit};
 ghost use Rattle.bus_text.specs.Show.{name_text};
 ghost use Rattle.bus_text.specs.Internal.Pages.{Puts};
 

@@ -18,4 +18,6 @@ counted station (Some v) c = if v.station == station then one_more v.outcome c e
 
 -- of each station
 abbrev pub Counted : Option Verdict → List Counts → List Counts → Type 0
-Counted verdict old new = (station : ℕ) (c : Counts) → slice_get old station ≡ Some c → slice_get new station ≡ Some (counted station verdict c)
+Counted verdict old new =
+    (station : ℕ) (c : Counts) → slice_get old station ≡ Some c
+        → slice_get new station ≡ Some (counted station verdict c)

@@ -30,13 +30,19 @@ told_on line octets is_decided last = option_map (found_on line octets) (fresh i
 abbrev pub heard_option : Option Line → Option Report → List Heard
 heard_option line o = map (heard_on line) (option_to_list o)
 
--- these bits on a line lead a decoder and a journal on; the last of them decides what is told, and no other decides a report
-pub record Hears {C : Type 0} (folded : C → List ℕ → Type 0) (cost : ℕ) (line : Option Line) (old : LineState C) (before : JournalState) (bits : List Bool) (told : Option SeenReport) (new : LineState C) (after : JournalState) : Type 0 where
+-- these bits on a line lead a decoder and a journal on; the last of them decides what is told, and no other decides a
+-- report
+pub record Hears {C : Type 0} (folded : C → List ℕ → Type 0) (cost : ℕ) (line : Option Line) (old : LineState C)
+    (before : JournalState) (bits : List Bool) (told : Option SeenReport)
+    (new : LineState C) (after : JournalState) : Type 0 where
   pub report : Option Report
   pub led : Led folded cost old bits new
-  pub calm : (b : List Bool) → After folded cost old b → placed old.origin old.longest (b ++ take (length bits - 1) bits) ≡ placed old.origin old.longest b
-  pub grows : (b : List Bool) → After folded cost old b → placed old.origin old.longest (b ++ bits) ≡ placed old.origin old.longest b ++ option_to_list report
+  pub calm : (b : List Bool) → After folded cost old b
+      → placed old.origin old.longest (b ++ take (length bits - 1) bits) ≡ placed old.origin old.longest b
+  pub grows : (b : List Bool) → After folded cost old b
+      → placed old.origin old.longest (b ++ bits) ≡ placed old.origin old.longest b ++ option_to_list report
   pub keeps : (hs : List Heard) → Keeps before hs → Keeps after (hs ++ heard_option line report)
-  pub seen : (hs : List Heard) → Keeps before hs → seen before.dictionary (hs ++ heard_option line report) ≡ seen before.dictionary hs ++ option_to_list told
+  pub seen : (hs : List Heard) → Keeps before hs
+      → seen before.dictionary (hs ++ heard_option line report) ≡ seen before.dictionary hs ++ option_to_list told
   pub dictionary : after.dictionary ≡ before.dictionary
   pub depth : after.depth ≡ before.depth

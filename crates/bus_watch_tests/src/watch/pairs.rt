@@ -1,7 +1,7 @@
 //! Worked lists of two lines: what is seen, the end, the tally, the history and the steps, however the
 //! pairs are cut.
 
-ghost use Rattle.std.specs.Prelude.{◌≤◌, ◌<◌, ◌^◌};
+ghost use Rattle.std.specs.Prelude.{◌<◌};
 
 mod every_list;
 mod memory;

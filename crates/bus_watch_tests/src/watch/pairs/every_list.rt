@@ -1,6 +1,6 @@
 //! Every short list of pairs: what is seen of either line is the reports of the whole list of its bits.
 
-ghost use Rattle.std.specs.Prelude.{◌-◌, ◌<◌, ◌^◌};
+ghost use Rattle.std.specs.Prelude.{◌-◌, ◌<◌};
 
 use super::super::bits_of;
 use bus_dictionary::Dictionary;
