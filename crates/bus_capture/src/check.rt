@@ -19,7 +19,7 @@ use std::io::{Read, Write};
 ///
 /// The dictionary is read first, then memory is taken for the history, and then the capture is read,
 /// by at most `reads` calls of the reader. Nothing is written before its end; after the last octet
-/// the writer is flushed. What lines are wanted does not matter.
+/// the writer is flushed. The filters of the options are ignored.
 ///
 /// # Errors
 ///

@@ -15,10 +15,10 @@ use bus_watch::{Analyser, PairAnalyser};
 use std::alloc::Global;
 use std::io::{Read, Write};
 
-/// Lists the reports of a capture: a line for each report as it is decided, with what
-/// the dictionary says of a frame, one for each verdict and each stray, and at the end one for each
-/// piece that has begun and one for a command that waits. Returns how often each thing was seen,
-/// whatever lines are wanted.
+/// Lists a capture: a line for each report as it is decided, with what the dictionary says of a frame,
+/// one for each verdict and, where there is a dictionary, for each stray; and at the end one for each open
+/// piece and for a command that waits. Of these only the lines that pass the filters of the options are
+/// written. Returns how often each thing was seen, whatever the filters.
 ///
 /// The dictionary is read first, then memory is taken for the history, and then the capture is read,
 /// by at most `reads` calls of the reader. The lines that one read decided are written before the

@@ -10,7 +10,7 @@ use std::io::{Read, Write};
 
 /// Writes the bits that lines ask an encoder for.
 ///
-/// A line ends with LF or the end of the input, and a CR before that is none of its own. It is
+/// A line ends with LF or the end of the input, and a CR right before that is not part of it. It is
 /// `flag`, `idle`, or `frame`, a space, and the octets of a frame from its address through its
 /// information, two hexadecimal digits of either case each; an empty line asks for nothing. For
 /// each line that asks for something the bits that the line gains by it are written as `0` and `1`,

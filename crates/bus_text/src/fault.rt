@@ -64,8 +64,7 @@ pub enum ToolFault {
     /// The word names no kind of line.
     #[error("unknown kind")]
     Kind,
-    /// The line of this number has another form than lines may have, or is too long. Lines count
-    /// from 1.
+    /// The line of this number is malformed or too long. Lines count from 1.
     #[error("line {0}: bad line")]
     BadLine(u128),
     /// The frame of the line of this number does not have 2 to 256 octets.

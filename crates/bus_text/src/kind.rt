@@ -6,16 +6,25 @@ ghost use Rattle.bus_text.specs.Kinds.{kind_word, kind_named};
 /// The kinds of lines of a listing.
 #[derive(Clone, Copy, Debug, PartialEq, Eq)]
 pub enum Kind {
+    /// A frame with a good check.
     Frame,
+    /// A piece between two flags that is no frame.
     Damaged,
+    /// A piece with more data than the longest frame and its check.
     Overlong,
+    /// A piece that seven 1 bits ended.
     Abort,
+    /// An idle line.
     Idle,
     /// A frame of a type of 128 or more that answers no command.
     Stray,
+    /// A command that was answered in time.
     Answered,
+    /// A command that was followed by another frame.
     Missing,
+    /// A command that was followed by what is no frame.
     Spoilt,
+    /// A command that was answered late.
     Late,
     /// A piece that no flag or abort has ended.
     Begun,

@@ -7,9 +7,9 @@ use crate::kind::Kind;
 pub struct Options<'a> {
     /// The text of the dictionary, as TOML.
     pub dictionary: Option<&'a str>,
-    /// The capture is text, and else it is packed.
+    /// Whether the capture is text; otherwise it is packed.
     pub text: bool,
-    /// It is of two lines, and else of one.
+    /// Whether it is of two lines; otherwise it is of one.
     pub two: bool,
     /// The place of the first bit, at most 2^60.
     pub origin: u64,

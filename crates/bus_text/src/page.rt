@@ -13,13 +13,15 @@ use std::io::Write;
 /// The room of a page, in octets.
 const ROOM: usize = 16384;
 
-/// The most octets that one place adds: two lines may each have a report there.
+/// The room kept for one place, in octets: two lines may each have a report there, of at most 964.
 const MOST: usize = 2048;
 
 /// Lines that are not written yet, and how many octets were written before them.
 #[derive(Drop)]
 pub struct Page {
+    /// The lines that are not written yet.
     pub text: ArrayString<ROOM>,
+    /// How many octets were written before them.
     pub written: u128,
 }
 

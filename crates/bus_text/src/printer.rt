@@ -209,7 +209,7 @@ impl Printer {
         );
     }
 
-    /// Puts the line of a stray on the page, if there is a dictionary and its type is known.
+    /// Puts the line of a stray on the page, if there is a dictionary.
     fn put_stray(&self, line: Option<Line>, finding: Finding, page: &mut Page)
         requires room { array_string_len page.old.text + 100 ≤ 16384 }
         ensures bytes { page.new.text.bytes

@@ -10,6 +10,7 @@ use std::io::Write;
 /// A write failed, or took nothing, after `sent` octets of the text.
 #[derive(Clone, Copy, Debug)]
 pub struct ShortWrite {
+    /// How many octets were written.
     pub sent: u128,
 }
 

@@ -28,9 +28,9 @@ pub fn read_dictionary(alloc: Global, text: Option<&str>) -> Result<Dictionary, 
     }
 }
 
-/// Writes what one frame is that `hex` has in hexadecimal digits of either case, its check among
-/// its octets: the octets and whether the check is good, what the head says by the dictionary, and
-/// the names of the bits that are 1. The writer is flushed once.
+/// Writes what one frame is. `hex` has its octets, the two of the check among them, in hexadecimal digits
+/// of either case. Written are the octets and whether the check is good, what the head says by the
+/// dictionary, and the names of the bits that are 1. The writer is flushed once.
 ///
 /// # Errors
 ///

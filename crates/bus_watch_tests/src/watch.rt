@@ -10,7 +10,9 @@ mod sinks;
 mod table;
 mod text;
 
+use bus_watch::Counts;
 use std::alloc::{AllocError, Global};
+use std::process::Abort;
 
 /// The bits of a word, in the order sent: a flag, a group of bits, or a frame as it is sent between
 /// flags, where a group of nine has one inserted 0. Any other word is bits already.
@@ -85,6 +87,20 @@ length = 2
 bits = [ { at = 9, name = "flash" }, { at = 0, name = "call1" }, { at = 7, name = "ped" } ]
 "#;
 
+/// No verdict.
+const NONE: Counts = Counts {
+    answered: 0,
+    missing: 0,
+    spoilt: 0,
+    late: 0,
+};
+
+/// A flag, eight zeros and a flag: a damaged piece.
+const DAMAGED: [bool; 24] = [
+    false, true, true, true, true, true, true, false, false, false, false, false, false, false,
+    false, false, false, true, true, true, true, true, true, false,
+];
+
 /// Appends the bits of a text of `0` and `1`. All else in it is space.
 fn push_bits(bits: &mut Vec<bool>, text: &str) -> Result<(), AllocError> {
     for character in text.bytes() {
@@ -104,4 +120,16 @@ fn bits_of(alloc: Global, words: &str) -> Result<Vec<bool>, AllocError> {
         push_bits(&mut bits, sent(word))?;
     }
     Ok(bits)
+}
+
+/// These texts, a semicolon and a space between each two.
+fn joined(rt: &impl Abort, alloc: Global, texts: &[&str]) -> String {
+    let mut all = String::new(alloc);
+    for text in texts {
+        if !all.is_empty() {
+            all.push_str("; ").expect(rt, "memory");
+        }
+        all.push_str(text).expect(rt, "memory");
+    }
+    all
 }

@@ -34,7 +34,7 @@ fn see(rt: &impl Abort, alloc: Global, words: &[&str], input: &[u8], want: (u8, 
     assert_eq!(rt; got, status, "{words:?}");
 }
 
-/// A capture by no words at all, and what is encoded and listed again.
+/// No words at all list a text capture, `encode` writes bits, and `check` tells the place of a bad mark.
 #[test]
 fn stored_runs(rt: HostRuntime) {
     see(&rt, rt.alloc(), &[], IDLE, (0, "0 15 idle\n", ""));

@@ -1,17 +1,12 @@
 //! An analyser asks for memory once, for its history.
 
+use super::DAMAGED;
 use bus_dictionary::Dictionary;
 use bus_fcs::{BitCheck, Check, OctetCheck};
 use bus_line::Span;
 use bus_watch::{Analyser, NewFault, ReportSink, Seen, SinkRefused};
 use std::alloc::Global;
 use std::process::Abort;
-
-/// A flag, eight zeros and a flag: a damaged piece.
-const DAMAGED: [bool; 24] = [
-    false, true, true, true, true, true, true, false, false, false, false, false, false, false,
-    false, false, false, true, true, true, true, true, true, false,
-];
 
 /// A sink that counts what it takes, in no memory.
 #[derive(Drop)]

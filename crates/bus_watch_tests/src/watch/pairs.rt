@@ -11,7 +11,7 @@ mod sinks;
 use super::rows::{DAMAGE, FRAMES};
 use super::table::row_of;
 use super::text::{push_ending, push_seen};
-use super::{CALLS, bits_of};
+use super::{CALLS, NONE, bits_of};
 use bus_bits::{Span, Spent, bits_number};
 use bus_dictionary::Dictionary;
 use bus_fcs::{BitCheck, Check, OctetCheck};
@@ -33,13 +33,6 @@ struct PairRow {
     /// How many verdicts named station 16.
     tally: Counts,
 }
-
-const NONE: Counts = Counts {
-    answered: 0,
-    missing: 0,
-    spoilt: 0,
-    late: 0,
-};
 
 const NOTHING_OPEN: PairEnding = PairEnding {
     first: None,

@@ -3,7 +3,7 @@
 use super::sinks::{Collector, run};
 use super::table::{Row, pushed, row_of, taken};
 use super::text::push_ending;
-use super::{CALLS, bits_of};
+use super::{CALLS, NONE, bits_of};
 use bus_dictionary::Dictionary;
 use bus_fcs::{BitCheck, Check, OctetCheck};
 use bus_line::Span;
@@ -131,13 +131,6 @@ fn any_cut(rt: HostRuntime) {
         check_cuts(&rt, alloc, line);
     }
 }
-
-const NONE: Counts = Counts {
-    answered: 0,
-    missing: 0,
-    spoilt: 0,
-    late: 0,
-};
 
 fn check_tally<C: Check>(rt: &impl Abort, alloc: Global, words: &str, want: Counts) {
     let dictionary = Dictionary::read(alloc, CALLS).expect(rt, "a dictionary");

@@ -107,7 +107,7 @@ fn usage_of(folded: u64) -> Usage {
 fn check_run<C: Check>(rt: &impl Abort, alloc: Global, folded: u64) {
     let bits = bits_of(alloc, THREE).expect(rt, "memory");
     let (front, rest) = bits.split_at_checked(68).expect(rt, "too few bits");
-    let mut log = ReportLog::new(alloc, 3).expect(rt, "an analyser");
+    let mut log = ReportLog::new(alloc, 3).expect(rt, "a log");
     let dictionary = Dictionary::read(alloc, CALLS).expect(rt, "a dictionary");
     let run = run_all::<C, ReportLog>(
         alloc,
@@ -132,7 +132,7 @@ fn whole_runs(rt: HostRuntime) {
 /// A run into a log with room for one report.
 fn check_fault(rt: &impl Abort, alloc: Global, depth: usize, origin: u64, want: RunFault) {
     let bits = bits_of(alloc, THREE).expect(rt, "memory");
-    let mut log = ReportLog::new(alloc, 1).expect(rt, "an analyser");
+    let mut log = ReportLog::new(alloc, 1).expect(rt, "a log");
     let dictionary = Dictionary::read(alloc, CALLS).expect(rt, "a dictionary");
     let run = run_all::<OctetCheck, ReportLog>(
         alloc,

@@ -1,7 +1,7 @@
 //! Sinks that collect what they take, and refuse where a test wants it.
 
 use super::text::push_seen;
-use super::{CALLS, bits_of};
+use super::{CALLS, bits_of, joined};
 use bus_dictionary::Dictionary;
 use bus_fcs::{BitCheck, Check, OctetCheck};
 use bus_watch::{
@@ -125,17 +125,6 @@ const REFUSALS: [Refusal; 3] = [
         all: &[TOLD_CALL, TOLD_REPLY],
     },
 ];
-
-fn joined(rt: &impl Abort, alloc: Global, texts: &[&str]) -> String {
-    let mut all = String::new(alloc);
-    for text in texts {
-        if !all.is_empty() {
-            all.push_str("; ").expect(rt, "memory");
-        }
-        all.push_str(text).expect(rt, "memory");
-    }
-    all
-}
 
 fn check_refusal<C: Check>(rt: &impl Abort, alloc: Global, bits: &[bool], row: &Refusal) {
     let (refuses, consumed) = (row.refuses, row.consumed);

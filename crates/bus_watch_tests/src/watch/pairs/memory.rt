@@ -1,18 +1,12 @@
 //! An analyser of two lines asks for memory once, for its history.
 
-use super::super::CALLS;
+use super::super::{CALLS, DAMAGED};
 use bus_dictionary::{DictFault, Dictionary};
 use bus_fcs::{BitCheck, Check, OctetCheck};
 use bus_line::Span;
 use bus_watch::{Line, NewFault, PairAnalyser, PairEnding, PairSink, Seen, SinkRefused};
 use std::alloc::Global;
 use std::process::Abort;
-
-/// A flag, eight zeros and a flag on both lines: a damaged piece on either.
-const DAMAGED: [bool; 24] = [
-    false, true, true, true, true, true, true, false, false, false, false, false, false, false,
-    false, false, false, true, true, true, true, true, true, false,
-];
 
 /// A sink that counts what it takes, in no memory.
 #[derive(Drop)]

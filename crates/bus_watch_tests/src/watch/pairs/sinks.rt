@@ -1,6 +1,7 @@
 //! Sinks that refuse reports of either line, or of both at one place, and what they take afterwards.
 
-use super::{NONE, PairCollector, TwoLines, analyser, feed, pushed, two_lines};
+use super::super::{NONE, joined};
+use super::{PairCollector, TwoLines, analyser, feed, pushed, two_lines};
 use bus_fcs::{BitCheck, Check, OctetCheck};
 use bus_watch::{Counts, FeedFault, PairAnalyser, PairSink};
 use std::alloc::Global;
@@ -87,17 +88,6 @@ const PAIR_REFUSALS: [PairRefusal; 8] = [
         all: &[TOLD_CALL, TOLD_REPLY],
     },
 ];
-
-fn joined(rt: &impl Abort, alloc: Global, texts: &[&str]) -> String {
-    let mut all = String::new(alloc);
-    for text in texts {
-        if !all.is_empty() {
-            all.push_str("; ").expect(rt, "memory");
-        }
-        all.push_str(text).expect(rt, "memory");
-    }
-    all
-}
 
 /// Feeding stops behind each place at which a report is refused, and goes on from there.
 fn check_refusal<C: Check>(rt: &impl Abort, alloc: Global, lines: &TwoLines, row: &PairRefusal) {
