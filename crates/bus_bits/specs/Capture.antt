@@ -98,7 +98,7 @@ text_pair_capture xs = record { bits = text_pairs xs; fault = text_pairs_fault x
 abbrev pub capped : {A : Type 0} → ℕ → CaptureOf A → CaptureOf A
 capped origin c =
     if nat_lt (2 ^ 60 - origin) (length c.bits)
-        then record { bits = take (2 ^ 60 - origin) c.bits; fault = Some place_limit } else c
+    then record { bits = take (2 ^ 60 - origin) c.bits; fault = Some place_limit } else c
 
 -- however a text is cut, its bits are the same
 abbrev pub TextGrows : Type 0

@@ -21,6 +21,6 @@ Refuses o Depth =
     (d : List FrameType) × (given_dictionary (dictionary_text o) ≡ Ok d) × ((o.depth < 1) ⊎ (1024 < o.depth))
 Refuses o Origin =
     (d : List FrameType) × (given_dictionary (dictionary_text o) ≡ Ok d) × (1 ≤ o.depth) × (o.depth ≤ 1024)
-        × (2 ^ 60 < o.origin)
+    × (2 ^ 60 < o.origin)
 Refuses o Memory = Unit {0}
 Refuses o fault = ⊥

@@ -74,7 +74,7 @@ module _ {X : Type 0} (f : Form X) where
   abbrev pub HasFault : Bool → ℕ → Option (List ℕ) → List ℕ → CaptureFault → Type 0
   HasFault text origin after xs cause =
       ((capture text origin xs).fault ≡ Some cause)
-          ⊎ (IsAtEnd after × ((whole_capture text origin xs).fault ≡ Some cause))
+      ⊎ (IsAtEnd after × ((whole_capture text origin xs).fault ≡ Some cause))
 
 -- the fault of a capture, as it is answered
 abbrev pub IsSameFault : ToolFault → CaptureFault → Type 0

@@ -20,7 +20,7 @@ module _ {X : Type 0} (f : Form X) where
   abbrev pub report_of : Options → List FrameType → List X → List ℕ
   report_of o d b =
       check_text f.is_two (summary_of (seen_in f o.origin d b)) (tally d (heard_in f o.origin d b))
-          (history o.depth (heard_in f o.origin d b))
+      (history o.depth (heard_in f o.origin d b))
 
   -- these octets are the whole input and have no fault
   pub record IsAll (o : Options) (after : Option (List ℕ)) (xs : List ℕ) : Type 0 where

@@ -75,7 +75,8 @@ impl<T: Tap> CaptureRun<T> {
         ensures told { (start : Option (List ℕ)) (text : List ℕ) →
             Pages start (W.contents w.old) self.old.page.text.bytes self.old.page.written text → MatchResult result
             (λ _. Pages start (W.contents w.new) self.new.page.text.bytes self.new.page.written
-            (text ++ printed self.old.printer (T.tap.watch.dictionary self.old.analyser) (T.tap.heard self.old.analyser)))
+            (text ++ printed self.old.printer (T.tap.watch.dictionary self.old.analyser)
+            (T.tap.heard self.old.analyser)))
             (λ cut. Cuts start (W.contents w.new) text cut.sent × (cut.sent < length text)) }
         ensures octets { self.new.page.written + array_string_len self.new.page.text
             ≤ self.old.page.written + array_string_len self.old.page.text + 2048 }

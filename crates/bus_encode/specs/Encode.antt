@@ -21,7 +21,7 @@ is_text text line = pointwise (λ x y. x == y) line text
 abbrev pub sized_frame : ℕ → List ℕ → Result (Option Call) ToolFault
 sized_frame number octets =
     if nat_le 2 (length octets) && nat_le (length octets) 256
-        then Ok (Some (Frame octets)) else Err (FrameLength number)
+    then Ok (Some (Frame octets)) else Err (FrameLength number)
 
 -- a frame of octets that were decoded, at least one
 abbrev pub decoded_frame : ℕ → Result (List ℕ) FromHexError → Result (Option Call) ToolFault
@@ -70,8 +70,11 @@ asked_behind before (line ∷ lines) = and_then (line_asked before line) (asked_
 -- a line that stands open asks for nothing yet, but it is refused where it is too long, however it goes on
 abbrev pub open_asked : ℕ → List ℕ → Asked
 open_asked before line =
-    record { calls = []; fault = if nat_lt 600 (length (strip_last 13 line))
-        then Some (BadLine (line_number before)) else None }
+    record {
+      calls = [];
+      fault = if nat_lt 600 (length (strip_last 13 line))
+          then Some (BadLine (line_number before)) else None;
+    }
 
 -- what these octets ask for, which more octets may follow
 unfoldable pub asked_so_far : List ℕ → Asked

@@ -25,7 +25,7 @@ Encodes reads after start now xs (Err ReadsLimit) =
     (reads ≤ length xs) × ((asked_so_far xs).fault ≡ None) × Appends start now (encode_text (asked_so_far xs).calls)
 Encodes reads after start now xs (Err (Write written)) =
     (a : Asked) × Asks after xs a × (written ≤ length (encode_text a.calls))
-        × Appends start now (take written (encode_text a.calls))
+    × Appends start now (take written (encode_text a.calls))
 Encodes reads after start now xs (Err _) = ⊥
 
 -- What the call answered, whose reader had all these octets left, and which led its writer from `start` to `now`.
@@ -38,11 +38,11 @@ EncodesAll start now all (Err (FrameLength n)) =
     ((asked_in_all all).fault ≡ Some (FrameLength n)) × Appends start now (encode_text (asked_in_all all).calls)
 EncodesAll start now all (Err Read) =
     (k : ℕ) × ((asked_so_far (take k all)).fault ≡ None)
-        × Appends start now (encode_text (asked_so_far (take k all)).calls)
+    × Appends start now (encode_text (asked_so_far (take k all)).calls)
 EncodesAll start now all (Err ReadsLimit) =
     (k : ℕ) × ((asked_so_far (take k all)).fault ≡ None)
-        × Appends start now (encode_text (asked_so_far (take k all)).calls)
+    × Appends start now (encode_text (asked_so_far (take k all)).calls)
 EncodesAll start now all (Err (Write written)) =
     (written ≤ length (encode_text (asked_in_all all).calls))
-        × Appends start now (take written (encode_text (asked_in_all all).calls))
+    × Appends start now (take written (encode_text (asked_in_all all).calls))
 EncodesAll start now all (Err _) = ⊥

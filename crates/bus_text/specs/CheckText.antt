@@ -16,7 +16,7 @@ count_text word n = word ++ codes " " ++ decimal n ++ codes "\n"
 abbrev pub summary_text : Summary → List ℕ
 summary_text s =
     count_text (codes "frames") s.frames ++ count_text (codes "damaged") s.damaged
-        ++ count_text (codes "overlong") s.overlong
+    ++ count_text (codes "overlong") s.overlong
     ++ count_text (codes "aborts") s.aborts ++ count_text (codes "idles") s.idles
     ++ count_text (codes "strays") s.strays
     ++ count_text (codes "answered") s.answered ++ count_text (codes "missing") s.missing
@@ -26,7 +26,7 @@ summary_text s =
 abbrev pub tally_line : ℕ → Counts → List ℕ
 tally_line station c =
     codes "station " ++ decimal station ++ codes " answered " ++ decimal c.answered ++ codes " missing "
-        ++ decimal c.missing
+    ++ decimal c.missing
     ++ codes " spoilt " ++ decimal c.spoilt ++ codes " late " ++ decimal c.late ++ codes "\n"
 
 abbrev pub has_none : Counts → Bool

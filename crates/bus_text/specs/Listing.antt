@@ -98,7 +98,7 @@ report_line heads d s = record {
   ftype = type_of s.standing;
   text =
       line_number s.line ++ (span_text (span_of s.report) ++ report_word s.report.kind)
-          ++ head_part heads d s.standing ++ codes "\n";
+      ++ head_part heads d s.standing ++ codes "\n";
 }
 
 -- a line about a frame of this station and type
@@ -140,8 +140,13 @@ seen_lines heads d s =
 -- a piece that has begun
 abbrev pub begun_line : Option on.Line → Span → Line
 begun_line line span =
-    record { kind = kind.Begun; station = None; ftype = None; text = line_number line ++ span_text span
-        ++ kind_word kind.Begun ++ codes "\n" }
+    record {
+      kind = kind.Begun;
+      station = None;
+      ftype = None;
+      text = line_number line ++ span_text span
+          ++ kind_word kind.Begun ++ codes "\n";
+    }
 
 abbrev pub pending_line : Option on.Line → Pending → Line
 pending_line line p = frame_line line kind.Pending p.span p.station p.ftype

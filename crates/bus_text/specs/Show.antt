@@ -82,8 +82,8 @@ Shows text hex start now (Err Memory) =
     (octets : List ℕ) × (typed_frame hex ≡ Ok octets) × (text ≢ None) × Appends start now []
 Shows text hex start now (Ok _) =
     (octets : List ℕ) × (d : List FrameType) × (typed_frame hex ≡ Ok octets) × (given_dictionary text ≡ Ok d)
-        × Appends start now (shown_text octets d)
+    × Appends start now (shown_text octets d)
 Shows text hex start now (Err (Write written)) =
     (octets : List ℕ) × (d : List FrameType) × (typed_frame hex ≡ Ok octets) × (given_dictionary text ≡ Ok d)
-        × (written ≤ length (shown_text octets d)) × Appends start now (take written (shown_text octets d))
+    × (written ≤ length (shown_text octets d)) × Appends start now (take written (shown_text octets d))
 Shows text hex start now (Err _) = ⊥

@@ -133,7 +133,8 @@ impl Printer {
     /// Whether the filter leaves a report's own line.
     fn leaves(&self, finding: Finding) -> bool
         ensures { (octets : List ℕ) → result ≡ passes self.now.filter
-            (report_kind (kind_with octets finding.event.kind)) (station_of finding.standing) (type_of finding.standing) }
+            (report_kind (kind_with octets finding.event.kind)) (station_of finding.standing)
+            (type_of finding.standing) }
     {
         self.filter.passes(
             kind_of(finding.event.kind),

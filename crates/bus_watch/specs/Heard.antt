@@ -57,7 +57,7 @@ heard_at line origin longest b i =
 abbrev pub merged : ℕ → ℕ → List (Bool × Bool) → List Heard
 merged origin longest ps =
     flat_map (λ i. heard_at First origin longest (firsts ps) i
-        ++ heard_at Second origin longest (seconds ps) i) (places (length ps))
+    ++ heard_at Second origin longest (seconds ps) i) (places (length ps))
 
 abbrev pub is_line : Line → Option Line → Bool
 is_line First (Some First) = true

@@ -20,13 +20,13 @@ use Rattle.bus_watch.specs.declared.line.Line.TheVariants.{First, Second}
 abbrev pub SeenGrows : Type 0
 SeenGrows = (d : List FrameType) (longest origin : ℕ) (b : List Bool) (bit : Bool) →
     seen d (of_line (placed origin longest (b ++ bit ∷ []))) ≡ seen d (of_line (placed origin longest b))
-        ++ option_to_list (seen_at d (of_line (placed origin longest (b ++ bit ∷ []))) (origin + length b))
+    ++ option_to_list (seen_at d (of_line (placed origin longest (b ++ bit ∷ []))) (origin + length b))
 
 -- one pair of bits more adds what is seen at it: at most what the first line decides and then what the second does
 abbrev pub PairsGrow : Type 0
 PairsGrow = (d : List FrameType) (longest origin : ℕ) (ps : List (Bool × Bool)) (p : Bool × Bool) →
     seen d (merged origin longest (ps ++ p ∷ [])) ≡ seen d (merged origin longest ps)
-        ++ all_seen_at d (merged origin longest (ps ++ p ∷ [])) (origin + length ps)
+    ++ all_seen_at d (merged origin longest (ps ++ p ∷ [])) (origin + length ps)
 
 -- of two reports the one that is due first comes first, and where both are due at one place, that of the first line
 abbrev pub ComesBefore : Heard → Heard → Type 0
@@ -44,7 +44,7 @@ pub record IsMerged (rs ss : List Report) (hs : List Heard) : Type 0 where
 abbrev pub MergedIsMerged : Type 0
 MergedIsMerged =
     (longest origin : ℕ) (ps : List (Bool × Bool))
-        → IsMerged (placed origin longest (firsts ps)) (placed origin longest (seconds ps)) (merged origin longest ps)
+    → IsMerged (placed origin longest (firsts ps)) (placed origin longest (seconds ps)) (merged origin longest ps)
 
 -- what is seen is the reports, and what follows from each
 abbrev pub SeenAreReports : Type 0
@@ -59,13 +59,13 @@ SeenDecides =
 abbrev pub StepsWithinFour : Type 0
 StepsWithinFour =
     (cost longest : ℕ) (b : List Bool) (spent : Spent) → IsLedger cost longest b spent → cost ≤ 8
-        → total spent ≤ 4 * length b
+    → total spent ≤ 4 * length b
 
 -- of a check that costs 1, at most three
 abbrev pub StepsWithinThree : Type 0
 StepsWithinThree =
     (longest : ℕ) (b : List Bool) (spent : Spent) → IsLedger 1 longest b spent
-        → (spent.folded ≡ spent.stored) × (total spent ≤ 3 * length b)
+    → (spent.folded ≡ spent.stored) × (total spent ≤ 3 * length b)
 
 -- lists, one behind the other
 abbrev pub joined : {X : Type 0} → List (List X) → List X

@@ -45,7 +45,7 @@ asks (Some e) = e.answered
 abbrev pub command : List FrameType → Span → Standing → Option Pending
 command d span (Known station ftype) =
     if nat_lt ftype 128 && (asks (entry_at ftype d) && not (station == 255))
-        then Some (record { span = span; station = station; ftype = ftype }) else None
+    then Some (record { span = span; station = station; ftype = ftype }) else None
 command d span standing = None
 
 -- where commands wait
@@ -76,7 +76,7 @@ abbrev pub outcome : List FrameType → Pending → Option (Option Line × ℕ �
 outcome d p None = Spoilt
 outcome d p (Some (line, first, Known station ftype)) =
     if may_answer line && (station == p.station && ftype == p.ftype + 128)
-        then (if is_late (window_of (entry_at p.ftype d)) p.span first then Late else Answered) else Missing
+    then (if is_late (window_of (entry_at p.ftype d)) p.span first then Late else Answered) else Missing
 outcome d p (Some (line, first, standing)) = Missing
 
 abbrev pub verdict : List FrameType → Option (Option Line × ℕ × Standing) → Pending → Verdict

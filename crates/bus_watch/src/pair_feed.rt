@@ -105,7 +105,8 @@ impl<C: Check> PairAnalyser<C> {
         ensures none_refused { OnOk result (S.refusals sink.new ≡ S.refusals sink.old) }
         ensures refused { IfErr result (λ fault. ForSink fault (λ consumed.
             (n : ℕ) × (n ≤ 2) × (S.refusals sink.new ≡ S.refusals sink.old + n)
-            × RefusedByAt (two_lines C.folded C.COST) S.taken n self.old pairs.now consumed self.new sink.old sink.new)) }
+            × RefusedByAt (two_lines C.folded C.COST) S.taken n self.old pairs.now consumed self.new
+            sink.old sink.new)) }
         ensures room { S.room sink.new ≡ S.room sink.old }
         ensures full { IfErr result (λ fault. ForSink fault (λ consumed.
             IsFull (S.room sink.new) (S.taken sink.new))) }

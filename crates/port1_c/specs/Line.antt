@@ -64,7 +64,7 @@ bit_of n = not (n == 0)
 abbrev pub cause_in : ℕ → Cause
 cause_in n =
     if n == 1 then cause.Unstuffed
-        else (if n == 2 then cause.Short else (if n == 3 then cause.Unaligned else cause.Fcs))
+    else (if n == 2 then cause.Short else (if n == 3 then cause.Unaligned else cause.Fcs))
 
 abbrev pub kind_in : ℕ → ℕ → List ℕ → Kind
 kind_in kind cause octets =
@@ -77,7 +77,7 @@ kind_in kind cause octets =
 abbrev pub told : Port1Report → List ℕ → Option Report
 told r octets =
     if r.kind == 0
-        then None else Some (record { kind = kind_in r.kind r.cause octets; first = r.first; past = r.past })
+    then None else Some (record { kind = kind_in r.kind r.cause octets; first = r.first; past = r.past })
 
 -- the numbers of include/port1.h: a kind up to 5, and a cause of 1 to 4 for a damaged piece alone
 pub record IsCoded (r : Port1Report) : Type 0 where

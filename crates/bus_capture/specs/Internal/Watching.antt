@@ -58,7 +58,7 @@ module _ {A X N B : Type 0} (t : TapView A X N B) where
   abbrev pub last_lines : CaptureRun A → List X → List ℕ
   last_lines run b =
       ended run.printer (t.form.ending (t.watch.origin run.analyser) b
-          (pending (t.watch.dictionary run.analyser) (heard_by t.watch run.analyser b)))
+      (pending (t.watch.dictionary run.analyser) (heard_by t.watch run.analyser b)))
 
   -- the report of these bits
   abbrev pub reported : CaptureRun A → List X → List ℕ

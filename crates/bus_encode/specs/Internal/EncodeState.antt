@@ -44,7 +44,7 @@ Halts start now written a (BadLine n) =
     (a.fault ≡ Some (BadLine n)) × Appends start now (encode_text a.calls) × (written ≡ length (encode_text a.calls))
 Halts start now written a (FrameLength n) =
     (a.fault ≡ Some (FrameLength n)) × Appends start now (encode_text a.calls)
-        × (written ≡ length (encode_text a.calls))
+    × (written ≡ length (encode_text a.calls))
 Halts start now written a (Write sent) =
     (sent ≤ length (encode_text a.calls)) × Appends start now (take sent (encode_text a.calls))
 Halts start now written a _ = ⊥
@@ -62,11 +62,11 @@ abbrev pub Finishes : ℕ → Option (List ℕ) → Option (List ℕ) → Option
     → Result (Unit {0}) ToolFault → Type 0
 Finishes reads after start now written xs (Ok _) =
     IsAtEnd after × ((asked_in_all xs).fault ≡ None) × Appends start now (encode_text (asked_in_all xs).calls)
-        × (written ≡ length (encode_text (asked_in_all xs).calls))
+    × (written ≡ length (encode_text (asked_in_all xs).calls))
 Finishes reads after start now written xs (Err Read) =
     ((asked_so_far xs).fault ≡ None) × Appends start now (encode_text (asked_so_far xs).calls)
-        × (written ≡ length (encode_text (asked_so_far xs).calls))
+    × (written ≡ length (encode_text (asked_so_far xs).calls))
 Finishes reads after start now written xs (Err ReadsLimit) =
     (reads ≤ length xs) × ((asked_so_far xs).fault ≡ None) × Appends start now (encode_text (asked_so_far xs).calls)
-        × (written ≡ length (encode_text (asked_so_far xs).calls))
+    × (written ≡ length (encode_text (asked_so_far xs).calls))
 Finishes reads after start now written xs (Err e) = (a : Asked) × Asks after xs a × Halts start now written a e

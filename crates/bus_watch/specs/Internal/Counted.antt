@@ -20,4 +20,4 @@ counted station (Some v) c = if v.station == station then one_more v.outcome c e
 abbrev pub Counted : Option Verdict → List Counts → List Counts → Type 0
 Counted verdict old new =
     (station : ℕ) (c : Counts) → slice_get old station ≡ Some c
-        → slice_get new station ≡ Some (counted station verdict c)
+    → slice_get new station ≡ Some (counted station verdict c)

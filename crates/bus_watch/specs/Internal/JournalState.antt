@@ -44,7 +44,7 @@ pub record Keeps (j : JournalState) (hs : List Heard) : Type 0 where
 abbrev pub CanCount : List Counts → Type 0
 CanCount tally =
     (station : ℕ) (c : Counts) → station < 256 → slice_get tally station ≡ Some c
-        → (c.answered + 1 < 2 ^ 64) × (c.missing + 1 < 2 ^ 64) × (c.spoilt + 1 < 2 ^ 64) × (c.late + 1 < 2 ^ 64)
+    → (c.answered + 1 < 2 ^ 64) × (c.missing + 1 < 2 ^ 64) × (c.spoilt + 1 < 2 ^ 64) × (c.late + 1 < 2 ^ 64)
 
 -- a report more can be counted
 pub record HasRoom (j : JournalState) : Type 0 where

@@ -50,7 +50,8 @@ impl Journal {
     /// An answer whose first bit has this place: in time, or late by the window of the command's entry.
     fn answer(&self, pending: Pending, first: u64) -> Outcome
         ensures { result
-            ≡ (if is_late (window_of (entry_at pending.ftype self.now.dictionary)) pending.span first then Late else Answered) }
+            ≡ (if is_late (window_of (entry_at pending.ftype self.now.dictionary)) pending.span first
+            then Late else Answered) }
     {
         let window = match self.dictionary.entry(pending.ftype) {
             Some(entry) => entry.window(),
