@@ -90,6 +90,10 @@ impl<C: Check> LineDecoder<C> {
     ///
     /// `longest` is the longest frame in octets, address through information, 3 to 256. `origin` is
     /// at most 2^60.
+    ///
+    /// # Errors
+    ///
+    /// `LongestRange`, and else `Origin`, where these are out of range.
     pub fn new(longest: usize, origin: u64) -> Result<Self, LineFault>
         ensures range { (result ≡ Err LineFault.LongestRange) ↔ ((longest < 3) ⊎ (256 < longest)) }
         ensures origin { (result ≡ Err LineFault.Origin) ↔ ((3 ≤ longest) × (longest ≤ 256) × (2 ^ 60 < origin)) }

@@ -32,6 +32,7 @@ mod decoder;
 mod encode_fault;
 mod encoder;
 mod event;
+mod flag;
 pub mod laws;
 mod line_fault;
 mod line_parts;

@@ -32,7 +32,7 @@ impl<C: Check> LineDecoder<C> {
         ensures origin { self.new.origin ≡ self.old.origin }
         ensures place { self.new.place ≡ self.old.place }
     {
-        // The bits of a mark were all taken, so no place before it is cut off at 0.
+        // All bits of the mark have been taken, so these subtractions never saturate.
         let place = self.place;
         match look(self.history, place - 1 - self.origin) {
             Found::Closing => {
