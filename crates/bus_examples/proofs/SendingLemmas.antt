@@ -1,5 +1,5 @@
 -- There is room for the bits of a frame.
-use Rattle.std.proofs.Common.{◌≡◌, ◌<◌, ◌≤◌, ◌+◌, ◌++◌, ◌⊎◌, ℕ, List, Bool, true, false, [], length, take, Option, Some, None, Result, Ok, Err, IsErrAnd, IsTrue, inl, inr, refl, arith, length-take}
+use Rattle.std.proofs.Common.{◌≡◌, ◌<◌, ◌≤◌, ◌++◌, ◌⊎◌, ℕ, List, Bool, true, false, [], length, take, Option, Some, None, Result, Ok, Err, IsErrAnd, IsTrue, inl, inr, refl, arith, length-take}
 use Rattle.std.proofs.lemmas.Bool.{cases_lt}
 use Rattle.bus_line.specs.Line.{Call, Frame, added, gain}
 use Rattle.bus_line.specs.Internal.EncoderState.{EncoderState}

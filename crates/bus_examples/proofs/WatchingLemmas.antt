@@ -1,5 +1,5 @@
 -- Results and their faults.
-use Rattle.std.proofs.Common.{◌≡◌, Result, Ok, Err, Option, Some, IfErr, IsErrAnd, sym, subst}
+use Rattle.std.proofs.Common.{◌≡◌, Result, Ok, Err, Some, IfErr, IsErrAnd, sym, subst}
 
 pub same : {A : Type 0} {x y : A} → Some x ≡ Some y → x ≡ y
 same e = cc

@@ -1,6 +1,7 @@
 //! Bit by bit, as an interrupt or a loop hands them in.
 
-ghost use Rattle.std.specs.Prelude.{◌≡◌, ◌≤◌, ◌^◌, ◌↔◌, Bool, List, [], ◌∷◌, ◌++◌, IsErr, IfOk, OnOk, OnErr, length, option_and_then};
+ghost use Rattle.std.specs.Prelude.{◌≡◌, ◌≤◌, ◌^◌, ◌↔◌, Bool, List, [], ◌∷◌, ◌++◌, IsErr, IfOk, OnOk, OnErr, length, Option, option_and_then};
+ghost use Rattle.std.specs.Option.{option_to_list};
 ghost use Rattle.bus_line.specs.After.{After, Led};
 ghost use Rattle.bus_line.specs.Due.{due_at};
 ghost use Rattle.bus_line.specs.Shown.{shown};
@@ -60,7 +61,9 @@ pub fn unanswered<C: Check>(analyser: &mut Analyser<C>, bit: bool) -> Result<Opt
     ensures station { IfOk result (λ station. (b : List Bool) → IsAfter C.folded C.COST analyser.old b →
         station ≡ option_and_then (λ s. unanswered_in s.verdict) (seen_at analyser.old.journal.dictionary
         (line analyser.old (b ++ bit ∷ [])) analyser.old.decoder.place)) }
-    ensures sees { OnOk result ((told : List SeenReport) × Sees C.folded C.COST analyser.old (bit ∷ []) told analyser.new) }
+    ensures sees { IfOk result (λ station. (seen : Option SeenReport)
+        × (station ≡ option_and_then (λ s. unanswered_in s.verdict) seen)
+        × Sees C.folded C.COST analyser.old (bit ∷ []) (option_to_list seen) analyser.new) }
     ensures unchanged { OnErr result (analyser.new ≡ analyser.old) }
 {
     let Some(seen) = analyser.push(bit)? else {

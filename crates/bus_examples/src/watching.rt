@@ -12,6 +12,9 @@ use bus_watch::laws::seen_grows;
 use bus_watch::{Analyser, FeedFault, NewFault, ReportLog};
 use std::alloc::Global;
 
+/// How many frames the history of the analyser keeps.
+const HISTORY_FRAMES: usize = 16;
+
 /// Why a line was not watched to its end.
 #[derive(Clone, Copy, Debug, PartialEq, Eq)]
 pub enum WatchFault {
@@ -37,16 +40,13 @@ impl From<FeedFault> for WatchFault {
     }
 }
 
-/// How many frames the history of the analyser keeps.
-const HISTORY_FRAMES: usize = 16;
-
 /// Watches these bits, and keeps what is seen, at most `room` reports.
 ///
 /// # Errors
 ///
 /// - `New(Memory)`: memory was refused. It may come in place of `Feed`; `New` has no other fault.
 /// - `Feed(PlaceLimit)`: there are more than 2^60 bits.
-/// - `Feed(Sink)`: there are no more, and more than `room` reports are seen.
+/// - `Feed(Sink)`: there are no more than that, but more than `room` reports are seen.
 pub fn watch(
     alloc: Global,
     dictionary: Dictionary,

@@ -1,4 +1,4 @@
-use Rattle.std.proofs.Common.{◌≡◌, ◌<◌, ◌++◌, ◌↔◌, ◌⊎◌, length, IsErr, IfOk, Some, ℕ, List, [], Bool, subst, refl}
+use Rattle.std.proofs.Common.{◌≡◌, ◌++◌, Some, List, [], Bool, subst, refl}
 use Rattle.bus_line.specs.Mark.{flag}
 use Rattle.bus_line.specs.Line.{raw_bits}
 use Rattle.bus_examples.proofs.SendingLemmas.{only_length, is_of}
