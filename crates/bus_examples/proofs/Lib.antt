@@ -1,1 +1,3 @@
 pub mod FramesLemmas
+pub mod SendingLemmas
+pub mod WatchingLemmas

@@ -1,6 +1,6 @@
 //! Frames alone: a decoder over a buffer of bits.
 
-ghost use Rattle.std.specs.Prelude.{◌≡◌, ℕ, List, IfOk};
+ghost use Rattle.std.specs.Prelude.{◌≡◌, ◌≢◌, ◌<◌, ◌^◌, ◌↔◌, ℕ, List, IsErr, IfOk, length};
 ghost use Rattle.std.specs.Option.{option_map, option_to_list};
 ghost use Rattle.bus_line.specs.Due.{placed};
 ghost use Rattle.bus_line.specs.Shown.{reported};
@@ -13,7 +13,7 @@ use bus_line::{Event, EventKind, LineDecoder, LineFault, PlaceLimit};
 /// Why the frames of a buffer were not counted.
 #[derive(Clone, Copy, Debug, PartialEq, Eq)]
 pub enum CountFault {
-    /// The decoder was not made.
+    /// The decoder was not made. [`count_frames`] never gives it: its longest frame and its origin are in range.
     New(LineFault),
     /// There were too many bits.
     Places(PlaceLimit),
@@ -56,7 +56,9 @@ fn frames_in(event: Option<Event>) -> usize
 ///
 /// `Places`: there are more than 2^60 bits.
 pub fn count_frames<C: Check>(bits: &[bool]) -> Result<usize, CountFault>
-    ensures { IfOk result (λ count. count ≡ frame_count (placed 0 256 bits.now)) }
+    ensures limit { IsErr result ↔ (2 ^ 60 < length bits.now) }
+    ensures made { (fault : LineFault) → result ≢ Err (New fault) }
+    ensures count { IfOk result (λ count. count ≡ frame_count (placed 0 256 bits.now)) }
 {
     let mut decoder = LineDecoder::<C>::new(256, 0)?;
     let mut count: usize = 0;

@@ -1,11 +1,12 @@
 //! Bit by bit, as an interrupt or a loop hands them in.
 
-ghost use Rattle.std.specs.Prelude.{◌≡◌, Bool, List, [], ◌∷◌, ◌++◌, IfOk, length, option_and_then};
-ghost use Rattle.bus_line.specs.After.{After};
+ghost use Rattle.std.specs.Prelude.{◌≡◌, ◌≤◌, ◌^◌, ◌↔◌, Bool, List, [], ◌∷◌, ◌++◌, IsErr, IfOk, OnOk, OnErr, length, Option, option_and_then};
+ghost use Rattle.std.specs.Option.{option_to_list};
+ghost use Rattle.bus_line.specs.After.{After, Led};
 ghost use Rattle.bus_line.specs.Due.{due_at};
 ghost use Rattle.bus_line.specs.Shown.{shown};
-ghost use Rattle.bus_watch.specs.After.{IsAfter, line};
-ghost use Rattle.bus_watch.specs.Seen.{seen_at};
+ghost use Rattle.bus_watch.specs.After.{IsAfter, Sees, line};
+ghost use Rattle.bus_watch.specs.Seen.{SeenReport, seen_at};
 ghost use Rattle.bus_examples.specs.Live.{closes_for, unanswered_in};
 
 use bus_fcs::Check;
@@ -26,13 +27,18 @@ fn is_frame_of(piece: Option<Piece<'_>>, station: u8) -> bool
 }
 
 /// Takes a bit, and tells whether it closes a good frame of a station.
+///
+/// Refuses as [`PlaceLimit`], with nothing changed, where the bit's place would be 2^60.
 pub fn closes_frame_of<C: Check>(
     decoder: &mut LineDecoder<C>,
     station: u8,
     bit: bool,
 ) -> Result<bool, PlaceLimit>
-    ensures { IfOk result (λ closes. (b : List Bool) → After C.folded C.COST decoder.old b →
+    ensures limit { IsErr result ↔ (2 ^ 60 ≤ decoder.old.place) }
+    ensures closes { IfOk result (λ closes. (b : List Bool) → After C.folded C.COST decoder.old b →
         closes ≡ closes_for station (due_at decoder.old.longest (b ++ bit ∷ []) (length b))) }
+    ensures leads { OnOk result (Led C.folded C.COST decoder.old (bit ∷ []) decoder.new) }
+    ensures unchanged { OnErr result (decoder.new ≡ decoder.old) }
 {
     Ok(is_frame_of(decoder.push(bit)?, station))
 }
@@ -48,10 +54,17 @@ fn station_without_answer(verdict: Option<Verdict>) -> Option<u8>
 }
 
 /// Takes a bit, and returns the station whose command it shows to have no answer in time, if it does.
+///
+/// Refuses as [`PlaceLimit`], with nothing changed, where the bit's place would be 2^60.
 pub fn unanswered<C: Check>(analyser: &mut Analyser<C>, bit: bool) -> Result<Option<u8>, PlaceLimit>
-    ensures { IfOk result (λ station. (b : List Bool) → IsAfter C.folded C.COST analyser.old b →
+    ensures limit { IsErr result ↔ (2 ^ 60 ≤ analyser.old.decoder.place) }
+    ensures station { IfOk result (λ station. (b : List Bool) → IsAfter C.folded C.COST analyser.old b →
         station ≡ option_and_then (λ s. unanswered_in s.verdict) (seen_at analyser.old.journal.dictionary
         (line analyser.old (b ++ bit ∷ [])) analyser.old.decoder.place)) }
+    ensures sees { IfOk result (λ station. (seen : Option SeenReport)
+        × (station ≡ option_and_then (λ s. unanswered_in s.verdict) seen)
+        × Sees C.folded C.COST analyser.old (bit ∷ []) (option_to_list seen) analyser.new) }
+    ensures unchanged { OnErr result (analyser.new ≡ analyser.old) }
 {
     let Some(seen) = analyser.push(bit)? else {
         return Ok(None);

@@ -15,7 +15,7 @@ fn folded<C: Check>(octets: &[u8]) -> C {
     check
 }
 
-/// Published check values, as sent.
+/// The published check value of this CRC (`123456789`), and values worked out outside this code, as sent.
 #[test]
 fn trailers(rt: HostRuntime) {
     let cases: [(&[u8], [u8; 2]); 9] = [

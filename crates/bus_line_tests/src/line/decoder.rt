@@ -175,6 +175,48 @@ fn octets_of_a_frame(rt: HostRuntime) {
     assert_eq!(rt; decoder.octets(), [0x10, 0x83, 0x00, 0xfd, 0xe5].as_slice());
 }
 
+/// Each case with its bits and the octets that stand in the buffer after the last of them: eight later bits settle
+/// a bit, and an abort leaves no piece open.
+const BUFFERED: [(&str, &str, usize); 5] = [
+    (
+        "a flag, an octet and seven zeros",
+        "01111110 00000000 0000000",
+        0,
+    ),
+    (
+        "a flag and 24 zeros",
+        "01111110 00000000 00000000 00000000",
+        2,
+    ),
+    (
+        "a flag, 24 zeros and six ones",
+        "01111110 00000000 00000000 00000000 111111",
+        2,
+    ),
+    (
+        "a flag, 24 zeros and an abort",
+        "01111110 00000000 00000000 00000000 1111111",
+        0,
+    ),
+    (
+        "a flag and 32 zeros",
+        "01111110 00000000 00000000 00000000 00000000",
+        3,
+    ),
+];
+
+#[test]
+fn octets_in_the_buffer(rt: HostRuntime) {
+    for (case, bits, want) in BUFFERED {
+        let bits = bits_of(&rt, rt.alloc(), bits);
+        let mut decoder = LineDecoder::<OctetCheck>::new(3, 0).expect(&rt, "a decoder");
+        for bit in &bits {
+            decoder.push(*bit).expect(&rt, "a place");
+        }
+        assert_eq!(rt; decoder.buffered(), want, "{case}");
+    }
+}
+
 /// Each case with its bits: how many are taken, how many are data, the work of the check by bits and
 /// by octets, and the octets that are stored.
 const STEPS: [(&str, &str, [u64; 5]); 6] = [

@@ -14,7 +14,7 @@ struct Behind {
     taken: u32,
 }
 
-const BEHIND: [Behind; 8] = [
+const BEHIND: [Behind; 11] = [
     Behind {
         before: "",
         bits: 0x00,
@@ -55,22 +55,39 @@ const BEHIND: [Behind; 8] = [
         bits: 0x10,
         taken: 48,
     },
+    Behind {
+        before: "01111110",
+        bits: 0x7e7e_7e7e_7e7e,
+        taken: 48,
+    },
+    Behind {
+        before: "01111110",
+        bits: 0x7e7e,
+        taken: 48,
+    },
+    Behind {
+        before: "01111110",
+        bits: 0x3f7e,
+        taken: 15,
+    },
 ];
 
-/// How many of these 48 bits a decoder takes with one call behind a list.
+/// How many of these 48 bits a decoder takes with one call behind a list. It would take as many as the row says.
 fn taken_behind(rt: &impl Abort, alloc: Global, row: &Behind) -> u32 {
     let mut decoder = LineDecoder::<OctetCheck>::new(3, 0).expect(rt, "a decoder");
     for before in &bits_of(rt, alloc, row.before) {
         decoder.push(*before).expect(rt, "a place");
     }
     let place = decoder.place();
+    assert_eq!(rt; decoder.would_take(row.bits % (1 << 48), 48), row.taken);
     let taken = decoder.take(row.bits % (1 << 48), 48).expect(rt, "a place");
     let count = taken.count;
     assert_eq!(rt; decoder.place(), place.wrapping_add(u64::from(count)));
     count
 }
 
-/// It stops behind the first bit before which just six ones are, or just fourteen.
+/// It stops behind the first bit before which just six ones are, or just fourteen, unless that bit ends one of
+/// the flags that directly follow a flag.
 #[test]
 fn bits_at_once(rt: HostRuntime) {
     for row in BEHIND {

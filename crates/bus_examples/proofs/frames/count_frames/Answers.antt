@@ -1,4 +1,5 @@
-use Rattle.std.proofs.Common.{◌≡◌, ◌+◌, ◌++◌, List, Bool, ℕ, [], ◌∷◌, take, get_or, false, sym, ap, ◌∙◌, subst, arith}
+use Rattle.std.proofs.Common.{◌≡◌, ◌+◌, ◌^◌, ◌++◌, inl, inr, List, Bool, ℕ, [], ◌∷◌, take, get_or, false, sym, ap, ◌∙◌, subst, arith}
+use Rattle.std.proofs.lemmas.Bool.{cases_lt}
 use Rattle.std.specs.Option.{option_map, option_to_list}
 use Rattle.std.proofs.lemmas.List.{take_all}
 use Rattle.bus_bits.specs.Octet.{bits_of}
@@ -40,8 +41,13 @@ loop-bit-preserved g c =
       longest = told.leads.longest ∙ inv.longest;
       count = sym all;
       few = omega (arith, counted, at_most_one c.take.new.self.octets taken.event, inv.few);
+      place = told.leads.place ∙ rw (one) (ap (λ (n : ℕ). n + 1) inv.place);
+      room = elim (cases_lt (2 ^ 60) (old.place + 1)) [
+        | inl far ↦ absurd (let e = told.limit.1 far in cc)
+        | inr near ↦ omega (arith, near, inv.place)
+      ];
     }
 
-pub returns : goal.returns
-returns g c =
+pub returns-clause-count : goal.returns-clause-count
+returns-clause-count g c =
     c.loop-bit.invariant.count ∙ ap (λ (x : List Bool). frame_count (placed 0 256 x)) (take_all c.loop-bit.bit-index c.args.bits.now c.loop-bit-test.false)

@@ -1,4 +1,4 @@
-use Rattle.std.proofs.Common.{◌≡◌, ◌≤◌, take}
+use Rattle.std.proofs.Common.{◌≡◌, ◌≤◌, ◌^◌, take}
 use Rattle.bus_line.specs.Due.{placed}
 use Rattle.bus_line.specs.After.{After}
 use Rattle.bus_examples.specs.Frames.{frame_count}
@@ -11,4 +11,6 @@ invariant-loop-bit g l = record {
   longest : l.decoder.longest ≡ 256;
   count : l.count ≡ frame_count (placed 0 256 (take l.bit-index l.bits));
   few : l.count ≤ l.bit-index;
+  place : l.decoder.place ≡ l.bit-index;
+  room : l.bit-index ≤ 2 ^ 60;
 }

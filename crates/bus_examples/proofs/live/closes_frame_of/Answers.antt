@@ -8,7 +8,7 @@ moved_is_same : (station origin : ℕ) (r : Option Report) → closes_for statio
 moved_is_same station origin None = refl
 moved_is_same station origin (Some r) = refl
 
-pub returns : goal.returns
-returns g c b h =
+pub returns-clause-closes : goal.returns-clause-closes
+returns-clause-closes g c b h =
     c.is_frame_of.ensures ∙ ap (closes_for c.args.station) (c.in_ok-push.ensures.answer b h)
     ∙ moved_is_same c.args.station c.args.decoder.now.origin _
