@@ -1,32 +1,58 @@
-# Builds and installs the program and the C library.
+# Builds, tests and installs the program, the scripts and the C library.
 #
-#     make                              proves and builds both, with `rt`, where anything has changed
-#     make install PREFIX=$HOME/.local  puts in place the program, its man page, completions and examples, and the
-#                                       C library, its header and a file for pkg-config
-#     make install-program, make install-library       one of the two
+#     make                              proves and builds program and library, with `rt`, where anything has changed
+#     make check                        tests the program, the scripts and the page
+#     make page                         builds the page, page/out/port1.html: the analyser as one file for a browser
+#     make install PREFIX=$HOME/.local  all of the following
+#     make install-program              the program, its man page and completions, and what install-scripts does
+#     make install-scripts              the scripts of contrib, with links to them in bin, the documents and examples
+#     make install-library              the C library, static and shared, its header, files for pkg-config and CMake, and
+#                                       examples; with PYTHONDIR=FOLDER also the Python module that calls it
+#     make install-library TARGET=aarch64-unknown-linux-gnu    the same for another of contrib/mcu/build's targets
 #     make uninstall PREFIX=$HOME/.local
 #
 # PREFIX is /usr/local unless given. DESTDIR stands before it, for packages. The installing targets build only what
-# was never built, so that they need no toolchain; else they install what was built last.
+# was never built, so that they need no toolchain; else they install what was built last. `uninstall` takes away what
+# any of them put in place, with all that is in share/port1 and share/doc/port1, and the folders that are empty then.
+# With a TARGET, or an empty SHARED, there is no shared library; CC links it.
 
 PREFIX = /usr/local
 DESTDIR =
+TARGET =
 BINDIR = $(PREFIX)/bin
 LIBDIR = $(PREFIX)/lib
 INCLUDEDIR = $(PREFIX)/include
 PKGCONFIGDIR = $(LIBDIR)/pkgconfig
+CMAKEDIR = $(LIBDIR)/cmake/port1
+PYTHONDIR =
 DATADIR = $(PREFIX)/share
 MANDIR = $(DATADIR)/man/man1
 BASHDIR = $(DATADIR)/bash-completion/completions
 ZSHDIR = $(DATADIR)/zsh/site-functions
 FISHDIR = $(DATADIR)/fish/vendor_completions.d
-EXAMPLEDIR = $(DATADIR)/doc/port1/examples
+OWNDIR = $(DATADIR)/port1
+OWNDOCDIR = $(DATADIR)/doc/port1
+EXAMPLEDIR = $(OWNDOCDIR)/examples
 
 PROGRAM = crates/port1/out/port1
-LIBRARY = crates/port1_c/out/libport1_c.a
-EXAMPLES = $(filter-out examples/c,$(wildcard examples/*))
+PAGE = page/out/port1.html
+LIBRARY = crates/port1_c/out/$(if $(TARGET),$(TARGET)/)libport1_c.a
+SONAME = libport1.so.2
+SHARED = $(if $(TARGET),,$(dir $(LIBRARY))$(SONAME))
 C_EXAMPLES = $(wildcard examples/c/*.c)
 VERSION = $(shell sed -n 's/.*\.version("\(.*\)").*/\1/p' crates/bus_tool/src/arguments.rt)
+
+# What finds the examples but for those in C, what stands in contrib but for its tests, and the scripts there.
+EXAMPLES = find examples -path examples/c -prune -o -name __pycache__ -prune -o -name .pytest_cache -prune -o -type f
+CONTRIB = find contrib -name tests -prune -o -name __pycache__ -prune -o ! -name self-test
+SCRIPTS = find contrib -maxdepth 1 -type f -perm -u+x ! -name self-test
+
+# The folders that may be empty in the end, each behind those in it. Those that a system has anyway stay there.
+FOLDERS = "$(MANDIR)" "$(BASHDIR)" "$(DATADIR)/bash-completion" "$(ZSHDIR)" "$(DATADIR)/zsh" "$(FISHDIR)" \
+	"$(DATADIR)/fish" "$(PKGCONFIGDIR)" "$(CMAKEDIR)" "$(LIBDIR)/cmake" \
+	$(if $(PYTHONDIR),"$(PYTHONDIR)") $(if $(SYSTEM),,$(COMMON_FOLDERS))
+COMMON_FOLDERS = "$(DATADIR)/man" "$(DATADIR)/doc" "$(DATADIR)" "$(LIBDIR)" "$(INCLUDEDIR)" "$(BINDIR)"
+SYSTEM = $(if $(DESTDIR),,$(filter /usr /usr/local,$(PREFIX)))
 
 # `rt` knows what has changed.
 all:
@@ -37,38 +63,84 @@ all:
 $(PROGRAM):
 	cd crates/port1 && rt run -- --version
 
-$(LIBRARY):
+crates/port1_c/out/libport1_c.a:
 	cd crates/port1_c && rt lib
+
+crates/port1_c/out/%/libport1_c.a:
+	contrib/mcu/build crates/port1_c/out '$*'
+
+# The linker is told to refuse an archive that is not position independent.
+%/$(SONAME): %/libport1_c.a packages/libport1.map
+	$(CC) -shared -o $@ -Wl,-soname,$(SONAME) -Wl,-z,text -Wl,--version-script=packages/libport1.map \
+		-Wl,--whole-archive $< -Wl,--no-whole-archive
+
+check: $(PROGRAM)
+	tests/program
+	contrib/self-test
+	tests/page
+
+page:
+	page/build
 
 install: install-program install-library
 
-install-program: $(PROGRAM)
+install-program: $(PROGRAM) install-scripts
 	install -d "$(DESTDIR)$(BINDIR)" "$(DESTDIR)$(MANDIR)" "$(DESTDIR)$(BASHDIR)" "$(DESTDIR)$(ZSHDIR)" \
-		"$(DESTDIR)$(FISHDIR)" "$(DESTDIR)$(EXAMPLEDIR)"
+		"$(DESTDIR)$(FISHDIR)"
 	install -m 755 $(PROGRAM) "$(DESTDIR)$(BINDIR)/port1"
 	install -m 644 docs/port1.1 "$(DESTDIR)$(MANDIR)/port1.1"
 	install -m 644 completions/port1.bash "$(DESTDIR)$(BASHDIR)/port1"
 	install -m 644 completions/_port1 "$(DESTDIR)$(ZSHDIR)/_port1"
 	install -m 644 completions/port1.fish "$(DESTDIR)$(FISHDIR)/port1.fish"
-	install -m 644 $(EXAMPLES) "$(DESTDIR)$(EXAMPLEDIR)"
 
-install-library: $(LIBRARY)
-	install -d "$(DESTDIR)$(LIBDIR)" "$(DESTDIR)$(INCLUDEDIR)" "$(DESTDIR)$(PKGCONFIGDIR)" \
+# The documents' commands run in share/port1, which has `contrib` and `examples` as this folder has.
+install-scripts:
+	install -d "$(DESTDIR)$(BINDIR)" "$(DESTDIR)$(OWNDIR)/docs"
+	$(EXAMPLES) -exec install -D -m 644 '{}' "$(DESTDIR)$(OWNDOCDIR)/{}" ';'
+	install -m 644 $(wildcard *.md) "$(DESTDIR)$(OWNDIR)"
+	install -m 644 $(wildcard docs/*.md) "$(DESTDIR)$(OWNDIR)/docs"
+	$(CONTRIB) -type f -perm -u+x -exec install -D -m 755 '{}' "$(DESTDIR)$(OWNDIR)/{}" ';'
+	$(CONTRIB) -type f ! -perm -u+x -exec install -D -m 644 '{}' "$(DESTDIR)$(OWNDIR)/{}" ';'
+	$(CONTRIB) -type l -exec cp -P --remove-destination --parents '{}' "$(DESTDIR)$(OWNDIR)" ';'
+	test ! -e $(PAGE) || install -D -m 644 $(PAGE) "$(DESTDIR)$(OWNDIR)/page/port1.html"
+	ln -sfnr "$(DESTDIR)$(EXAMPLEDIR)" "$(DESTDIR)$(OWNDIR)/examples"
+	$(SCRIPTS) -exec ln -sfr "$(DESTDIR)$(OWNDIR)/{}" "$(DESTDIR)$(BINDIR)" ';'
+
+# A file of packages, where it is installed: paths are told from there, so that all of it may be moved.
+from-there = $$(realpath -ms --relative-to="$(2)" "$(1)")
+fill-in = sed -e "s|@PREFIX@|$(call from-there,$(PREFIX),$(2))|; s|@LIBDIR@|$(call from-there,$(LIBDIR),$(2))|" \
+	-e "s|@INCLUDEDIR@|$(call from-there,$(INCLUDEDIR),$(2))|; s|@VERSION@|$(VERSION)|; s|@SONAME@|$(SONAME)|" \
+	packages/$(1).in > "$(DESTDIR)$(2)/$(1)"
+
+install-library: $(LIBRARY) $(SHARED)
+	install -d "$(DESTDIR)$(LIBDIR)" "$(DESTDIR)$(INCLUDEDIR)" "$(DESTDIR)$(PKGCONFIGDIR)" "$(DESTDIR)$(CMAKEDIR)" \
 		"$(DESTDIR)$(EXAMPLEDIR)/c"
 	install -m 644 $(LIBRARY) "$(DESTDIR)$(LIBDIR)/libport1_c.a"
 	install -m 644 include/port1.h "$(DESTDIR)$(INCLUDEDIR)/port1.h"
-	printf '%s\n' 'libdir=$(LIBDIR)' 'includedir=$(INCLUDEDIR)' '' 'Name: port1' \
-		'Description: Frames of a synchronous HDLC line from its bits, and bits from frames' \
-		'Version: $(VERSION)' 'Cflags: -I$${includedir}' 'Libs: -L$${libdir} -lport1_c' \
-		> "$(DESTDIR)$(PKGCONFIGDIR)/port1.pc"
+	$(call fill-in,port1.pc,$(PKGCONFIGDIR))
+	$(call fill-in,port1Config.cmake,$(CMAKEDIR))
+	$(call fill-in,port1ConfigVersion.cmake,$(CMAKEDIR))
 	install -m 644 $(C_EXAMPLES) "$(DESTDIR)$(EXAMPLEDIR)/c"
+ifneq ($(SHARED),)
+	install -m 644 $(SHARED) "$(DESTDIR)$(LIBDIR)/$(SONAME)"
+	ln -sf $(SONAME) "$(DESTDIR)$(LIBDIR)/libport1.so"
+endif
+ifneq ($(PYTHONDIR),)
+	install -d "$(DESTDIR)$(PYTHONDIR)/port1"
+	install -m 644 contrib/python/port1/__init__.py contrib/python/port1/py.typed "$(DESTDIR)$(PYTHONDIR)/port1"
+endif
 
+# Which links there are is told by the scripts that are installed, which need not be those of today.
 uninstall:
+	for script in "$(DESTDIR)$(OWNDIR)"/contrib/*; do link="$(DESTDIR)$(BINDIR)/$${script##*/}"; \
+		test ! "$$link" -ef "$$script" || rm -f "$$link"; done
 	rm -f "$(DESTDIR)$(BINDIR)/port1" "$(DESTDIR)$(MANDIR)/port1.1" "$(DESTDIR)$(BASHDIR)/port1" \
 		"$(DESTDIR)$(ZSHDIR)/_port1" "$(DESTDIR)$(FISHDIR)/port1.fish" "$(DESTDIR)$(LIBDIR)/libport1_c.a" \
-		"$(DESTDIR)$(INCLUDEDIR)/port1.h" "$(DESTDIR)$(PKGCONFIGDIR)/port1.pc"
-	cd "$(DESTDIR)$(EXAMPLEDIR)/c" 2> /dev/null && rm -f $(notdir $(C_EXAMPLES)) || true
-	cd "$(DESTDIR)$(EXAMPLEDIR)" 2> /dev/null && rm -f $(notdir $(EXAMPLES)) || true
-	rmdir "$(DESTDIR)$(EXAMPLEDIR)/c" "$(DESTDIR)$(EXAMPLEDIR)" "$(DESTDIR)$(DATADIR)/doc/port1" 2> /dev/null || true
+		"$(DESTDIR)$(INCLUDEDIR)/port1.h" "$(DESTDIR)$(PKGCONFIGDIR)/port1.pc" "$(DESTDIR)$(LIBDIR)/$(SONAME)" \
+		"$(DESTDIR)$(LIBDIR)/libport1.so" "$(DESTDIR)$(CMAKEDIR)/port1Config.cmake" \
+		"$(DESTDIR)$(CMAKEDIR)/port1ConfigVersion.cmake"
+	rm -rf "$(DESTDIR)$(OWNDIR)" "$(DESTDIR)$(OWNDOCDIR)" $(if $(PYTHONDIR),"$(DESTDIR)$(PYTHONDIR)/port1")
+	for folder in $(FOLDERS); do rmdir "$(DESTDIR)$$folder" 2> /dev/null || true; done
+	test -z "$(DESTDIR)" || { cd "$(DESTDIR)" 2> /dev/null && rmdir -p ".$(PREFIX)" 2> /dev/null; } || true
 
-.PHONY: all install install-program install-library uninstall
+.PHONY: all check page install install-program install-scripts install-library uninstall

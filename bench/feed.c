@@ -1,9 +1,14 @@
-/* Nanoseconds for an octet of a packed capture, fed in chunks of 1, 8, 32, 256 and 4096 octets to the C library, and
+/* Nanoseconds for an octet of a packed capture, fed in chunks of 1, 2, 7, 8, 32 and 4096 octets to the C library, and
  * to the HDLC receivers of libspandsp and libosmocore where these are installed. A table on standard output; the
  * fastest of RUNS runs, 9 unless given. Each says how many good frames it found, which must be alike for all but the
  * first frames of libspandsp, whose receiver wants a flag or two before it begins.
  *
- *     feed CAPTURE [RUNS] */
+ *     feed CAPTURE [RUNS]
+ *
+ * With the number of a receiver, from 0 on in the order of the table, and of a chunk's octets it feeds that one once, by
+ * the function `drive`, for a program that counts instructions; the status is 3 where it is not installed.
+ *
+ *     feed CAPTURE 1 RECEIVER OCTETS */
 #define _GNU_SOURCE
 #include "port1.h"
 #include <dlfcn.h>
@@ -21,9 +26,15 @@ static struct port1_line line;
 static int begin_port1(void) { return port1_line_init(&line, 256, 0) == PORT1_OK; }
 
 static void feed_port1(const uint8_t *octets, size_t count) {
-    size_t at = 0;
-    struct port1_report report;
+    uint64_t at = 0;
+    struct port1_report report = {0};
     while (at < 8 * count && port1_line_feed(&line, octets, count, &at, 8 * count, &report) == PORT1_OK)
+        frames += report.kind == PORT1_FRAME;
+}
+
+static void push_port1(const uint8_t *octets, size_t count) {
+    struct port1_report report = {0};
+    for (size_t i = 0; i < 8 * count && port1_line_push(&line, octets[i / 8] >> i % 8 & 1, &report) == PORT1_OK; i++)
         frames += report.kind == PORT1_FRAME;
 }
 
@@ -99,12 +110,13 @@ static const struct peer {
     int is_reversed;
 } peers[] = {
     {"port1_line_feed", begin_port1, feed_port1, 0},
+    {"port1_line_push", begin_port1, push_port1, 0},
     {"hdlc_rx_put", begin_spandsp, feed_spandsp, 1},
     {"hdlc_rx_put_bit", begin_spandsp, feed_spandsp_bits, 0},
     {"osmo_isdnhdlc_decode", begin_osmo, feed_osmo, 0},
 };
 
-static const size_t chunks[] = {1, 8, 32, 256, 4096};
+static const size_t chunks[] = {1, 2, 7, 8, 32, 4096};
 
 static double now(void) {
     struct timespec t;
@@ -112,12 +124,18 @@ static double now(void) {
     return (double)t.tv_sec * 1e9 + (double)t.tv_nsec;
 }
 
+__attribute__((noinline)) void drive(const struct peer *peer, const uint8_t *octets, size_t count, size_t chunk);
+
+void drive(const struct peer *peer, const uint8_t *octets, size_t count, size_t chunk) {
+    for (size_t at = 0; at < count; at += chunk)
+        peer->feed(octets + at, count - at < chunk ? count - at : chunk);
+}
+
 static double run(const struct peer *peer, const uint8_t *octets, size_t count, size_t chunk) {
     frames = 0;
     peer->begin();
     double begun = now();
-    for (size_t at = 0; at < count; at += chunk)
-        peer->feed(octets + at, count - at < chunk ? count - at : chunk);
+    drive(peer, octets, count, chunk);
     return (now() - begun) / (double)count;
 }
 
@@ -137,6 +155,13 @@ int main(int argc, char **argv) {
     size_t count = fread(octets, 1, sizeof octets, capture);
     for (size_t k = 0; k < count; k++)
         back[k] = reversed(octets[k]);
+    if (argc > 4) {
+        const struct peer *peer = &peers[(size_t)atoi(argv[3]) % (sizeof peers / sizeof *peers)];
+        if (!peer->begin())
+            return 3;
+        drive(peer, peer->is_reversed ? back : octets, count, (size_t)atoi(argv[4]));
+        return 0;
+    }
     printf("%-22s", "ns an octet, chunks of");
     for (size_t c = 0; c < sizeof chunks / sizeof *chunks; c++)
         printf(" %7zu", chunks[c]);

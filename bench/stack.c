@@ -17,8 +17,7 @@ static void (*call)(void);
 static struct port1_line line;
 static struct port1_sender sender;
 static uint8_t capture[1 << 16], sent[400], frame[256], has_begun;
-static size_t count, at, bits;
-static uint64_t first;
+static uint64_t count, at, bits, first;
 static struct port1_report report;
 
 static void nothing(void) {}

@@ -1,12 +1,23 @@
 # Completion of port1 for bash.
 
 _port1() {
-    local word=${COMP_WORDS[COMP_CWORD]} before=${COMP_WORDS[COMP_CWORD - 1]} words=
-    case $before in
+    local word=${COMP_WORDS[COMP_CWORD]} at=$((COMP_CWORD - 1)) words=
+    if [[ $word == '=' ]]; then
+        word=
+    elif [[ ${COMP_WORDS[at]} == '=' ]]; then
+        at=$((at - 1))
+    fi
+    case ${COMP_WORDS[at]} in
+    *[\<\>])
+        # File names, which bash completes.
+        return
+        ;;
     --kind)
         words='frame damaged overlong abort idle stray answered missing spoilt late open pending'
         ;;
     --dict | --origin | --station | --type | --depth)
+        # A text or a number: no file names, but whatever bash completes within "$(cat FILE)".
+        [[ $word == *'$('* ]] || compopt +o default 2> /dev/null
         return
         ;;
     *)
@@ -20,7 +31,8 @@ _port1() {
         esac
         ;;
     esac
+    compopt +o default 2> /dev/null
     mapfile -t COMPREPLY < <(compgen -W "$words" -- "$word")
 }
 
-complete -F _port1 port1
+complete -o bashdefault -o default -F _port1 port1

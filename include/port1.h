@@ -1,5 +1,5 @@
 /* port1.h: the frames of a synchronous HDLC line (ISO/IEC 13239, 16-bit frame check) from its bits, and
- * bits from frames, in memory of the caller's. Link libport1_c.a. C99 or later, C++11 or later.
+ * bits from frames, in memory of the caller's. Link libport1_c.a or libport1.so. C99 or later, C++11 or later.
  *
  * What is proved, for every content of the memory that a call is given:
  *   - a call is safe and ends;
@@ -13,6 +13,9 @@
  *   - after port1_sender_init, and as long as only these calls write the sender, each call that returns
  *     PORT1_OK puts the bits of the definition (crates/bus_line/specs/Line.antt) into the octets, from the
  *     bit that it was told, and touches no other bit;
+ *   - after port1_pair_init, and as long as only port1_pair_take writes the pairing, with one table, each call
+ *     that returns PORT1_OK tells the standing, the verdict and the stray of the definitions
+ *     (crates/bus_watch/specs/Seen.antt) for the reports taken so far, by numbers that are named below;
  *   - where a call refuses, with PORT1_BAD_STATE, PORT1_BAD_ARGUMENT, PORT1_BAD_LENGTH or PORT1_NO_ROOM,
  *     nothing has changed but what is said there.
  *
@@ -20,17 +23,24 @@
  * other content is read as some decoder, and reports what that one would: a call on a line that was damaged
  * or never made is safe and ends all the same, but its reports mean nothing.
  *
- * The library has no writable data, asks for no memory and calls nothing but memcpy and memset.
+ * The library has no writable data, asks for no memory and calls nothing but memcpy and memset, and on 32-bit
+ * targets what the compiler's own library has for 64-bit numbers. As it shares nothing between calls, calls on
+ * different objects may run at the same time, in threads and in interrupts.
+ *
+ * Numbers of octets and of bits are uint64_t on every target, so a 32-bit one passes them as 64-bit numbers.
  *
  * What is not proved:
  *   - this header. It is written by hand; the asserts at its end fix the sizes and offsets worked out from
- *     the `repr(C)` declarations in crates/port1_c/src;
+ *     the `repr(C)` declarations in crates/port1_c/src, and tests compare both, field by field;
  *   - the C compiler's side of a call, and any target but those that the library was built and proved for.
  *
- * The duties of the caller, which no call can check: a pointer is not null, is aligned for its type, and
- * points to as many objects as are said; every object that a pointer names was written once, with any
- * values (static storage, an initialiser or memset), also for port1_line_init; what a call writes overlaps
- * nothing else that it is given; one call at a time on one line or sender. */
+ * The duties of the caller, which no call can check:
+ *   - a pointer is not null, is aligned for its type, and points to as many objects as are said. Where that is
+ *     none, because `count` or `length` is 0, the pointer may be null;
+ *   - every object that a pointer names was written once, with any values (static storage, an initialiser or
+ *     memset): also the line for port1_line_init, and also a report or a number that a call only writes;
+ *   - what a call writes overlaps nothing else that it is given;
+ *   - no object that a call writes is in use by another call at the same time. */
 #ifndef PORT1_H
 #define PORT1_H
 
@@ -40,6 +50,12 @@
 #ifdef __cplusplus
 extern "C" {
 #endif
+
+/* The version of this header and of the library that came with it. */
+#define PORT1_VERSION "1.0.0"
+#define PORT1_VERSION_MAJOR 1
+#define PORT1_VERSION_MINOR 0
+#define PORT1_VERSION_PATCH 0
 
 /* What a call returns. */
 enum {
@@ -75,10 +91,9 @@ struct port1_line {
     uint64_t longest; /* the longest frame in octets, address through information */
     uint64_t origin;  /* the place of the first bit */
     uint64_t place;   /* the place of the next bit */
-    uint64_t first, gathered, assembled, folded, stored, history, rest;
-    uint32_t has_first;
-    uint16_t count;      /* of the octets that follow */
-    uint16_t check;
+    uint64_t settles_at, folded, stored, assembled, gathered, rest, history;
+    uint32_t count;      /* of the octets that follow */
+    uint16_t spare, check;
     uint8_t octets[272]; /* after PORT1_FRAME the first `count`: address, control, information and the two
                           * of the frame check, until the next call that takes bits */
 };
@@ -104,7 +119,7 @@ uint32_t port1_line_init(struct port1_line *line, uint64_t longest, uint64_t ori
  * PORT1_PLACE_LIMIT: the bits before place 2^60 were taken, and decided nothing.
  * PORT1_BAD_ARGUMENT: just where `*at` > `end` or `end` > 8 * `count`. Nothing has changed.
  * PORT1_BAD_STATE: the memory holds no decoder. Nothing has changed. */
-uint32_t port1_line_feed(struct port1_line *line, const uint8_t *octets, size_t count, size_t *at, size_t end,
+uint32_t port1_line_feed(struct port1_line *line, const uint8_t *octets, uint64_t count, uint64_t *at, uint64_t end,
                          struct port1_report *report);
 
 /* Takes one bit: 0, or any other number for a 1. `*report` is what it decided.
@@ -130,7 +145,7 @@ struct port1_sender {
 /* Makes a sender that sent nothing yet, whatever the memory holds. Returns PORT1_OK. */
 uint32_t port1_sender_init(struct port1_sender *sender);
 
-/* Each of these three puts the bits of one call into octets, the lowest bit of each octet first, from bit
+/* Each of these puts the bits of one call into octets, the lowest bit of each octet first, from bit
  * `*at` on. `*at` is then the bit after them, and `*bits` how many they are. All other bits of the octets
  * stay as they are. To reuse a buffer that has gone out:
  *     if (at % 8 != 0) octets[0] = octets[at / 8];
@@ -147,36 +162,150 @@ uint32_t port1_sender_init(struct port1_sender *sender);
  * PORT1_BAD_LENGTH: `length` is not 2 to 256. Nothing has changed.
  * PORT1_NO_ROOM: just where `*at` + `*bits` > 8 * `count`. Nothing has changed but `*bits`, which says how
  * many they would be. */
-uint32_t port1_send_flag(struct port1_sender *sender, uint8_t *octets, size_t count, size_t *at, size_t *bits);
-uint32_t port1_send_idle(struct port1_sender *sender, uint8_t *octets, size_t count, size_t *at, size_t *bits);
-uint32_t port1_send_frame(struct port1_sender *sender, const uint8_t *frame, size_t length, uint8_t *octets,
-                          size_t count, size_t *at, size_t *bits);
+uint32_t port1_send_flag(struct port1_sender *sender, uint8_t *octets, uint64_t count, uint64_t *at, uint64_t *bits);
+uint32_t port1_send_idle(struct port1_sender *sender, uint8_t *octets, uint64_t count, uint64_t *at, uint64_t *bits);
+uint32_t port1_send_frame(struct port1_sender *sender, const uint8_t *frame, uint64_t length, uint8_t *octets,
+                          uint64_t count, uint64_t *at, uint64_t *bits);
 
-/* The layout that the library was compiled with: an array of a negative size is an error in C99 and C++. */
-#define PORT1_ASSERT(name, holds) typedef char port1_assert_##name[(holds) ? 1 : -1]
-PORT1_ASSERT(size_of_line, sizeof(struct port1_line) == 360);
-PORT1_ASSERT(size_of_report, sizeof(struct port1_report) == 24);
-PORT1_ASSERT(size_of_sender, sizeof(struct port1_sender) == 4);
-PORT1_ASSERT(size_of_size, sizeof(size_t) == 8);
-PORT1_ASSERT(line_longest, offsetof(struct port1_line, longest) == 0);
-PORT1_ASSERT(line_origin, offsetof(struct port1_line, origin) == 8);
-PORT1_ASSERT(line_place, offsetof(struct port1_line, place) == 16);
-PORT1_ASSERT(line_first, offsetof(struct port1_line, first) == 24);
-PORT1_ASSERT(line_gathered, offsetof(struct port1_line, gathered) == 32);
-PORT1_ASSERT(line_assembled, offsetof(struct port1_line, assembled) == 40);
-PORT1_ASSERT(line_folded, offsetof(struct port1_line, folded) == 48);
-PORT1_ASSERT(line_stored, offsetof(struct port1_line, stored) == 56);
-PORT1_ASSERT(line_history, offsetof(struct port1_line, history) == 64);
-PORT1_ASSERT(line_rest, offsetof(struct port1_line, rest) == 72);
-PORT1_ASSERT(line_has_first, offsetof(struct port1_line, has_first) == 80);
-PORT1_ASSERT(line_count, offsetof(struct port1_line, count) == 84);
-PORT1_ASSERT(line_check, offsetof(struct port1_line, check) == 86);
-PORT1_ASSERT(line_octets, offsetof(struct port1_line, octets) == 88);
-PORT1_ASSERT(report_kind, offsetof(struct port1_report, kind) == 0);
-PORT1_ASSERT(report_cause, offsetof(struct port1_report, cause) == 4);
-PORT1_ASSERT(report_first, offsetof(struct port1_report, first) == 8);
-PORT1_ASSERT(report_past, offsetof(struct port1_report, past) == 16);
-PORT1_ASSERT(sender_behind_flag, offsetof(struct port1_sender, behind_flag) == 0);
+/* Ends a transmission with a whole octet: puts `*at` % 8 idles, after which `*at` is a multiple of 8. Fifteen ones are
+ * one less than two octets, so that each idle moves the end back by one bit. They are read back as one idle; zeros in
+ * their place would be a piece of damage before the next frame. Returns what port1_send_flag returns. */
+uint32_t port1_send_align(struct port1_sender *sender, uint8_t *octets, uint64_t count, uint64_t *at, uint64_t *bits);
+
+/* What a table says of one frame type: 8 octets. The table is an array, whose entries are those of the types 0, 1,
+ * and so on, up to 256 of them; a type behind its end is not known. */
+struct port1_entry {
+    uint8_t known;    /* 0 where there is no entry of the type; the rest then means nothing */
+    uint8_t length;   /* how many octets follow the type octet, without the check */
+    uint8_t answered; /* 0 where commands of the type are not to be answered; of types below 128 alone */
+    uint8_t spare;    /* not read */
+    uint32_t window;  /* within how many bits the answer is to begin, or 0 for no limit */
+};
+
+/* A pairing: 24 octets. 0 is one of no reports, so one of static storage needs no port1_pair_init. It may be copied.
+ * Read it; write nothing into it. */
+struct port1_pair {
+    uint64_t first; /* the place of the first bit of the command that waits */
+    uint64_t past;  /* the place just past its last bit */
+    uint32_t waits; /* 0 where no command waits; the rest then means nothing */
+    uint8_t station;
+    uint8_t ftype;  /* the frame type of the command */
+    uint16_t spare; /* not read */
+};
+
+/* How a frame stands to the table; 0 for a piece that is no frame. */
+enum {
+    PORT1_OTHER_CONTROL = 1, /* a control octet other than 0x83 */
+    PORT1_UNTYPED = 2,       /* no octet between control and check */
+    PORT1_UNKNOWN = 3,       /* a type that the table has not */
+    PORT1_WRONG_LENGTH = 4,  /* another length than the table has for the type */
+    PORT1_KNOWN = 5          /* of a type of the table, with its length */
+};
+
+/* What became of a command; 0 where nothing was decided. */
+enum {
+    PORT1_ANSWERED = 1, /* the next thing was the answer: of the same station, of a type 128 higher, known */
+    PORT1_LATE = 2,     /* it was, and more bits than the window lay between */
+    PORT1_MISSING = 3,  /* it was another frame */
+    PORT1_SPOILT = 4    /* it was damaged, overlong or an abort */
+};
+
+/* What follows from a report: 40 octets. */
+struct port1_seen {
+    uint32_t standing; /* 0, or PORT1_OTHER_CONTROL to PORT1_KNOWN */
+    uint32_t verdict;  /* on the command that waited: 0, or PORT1_ANSWERED to PORT1_SPOILT */
+    uint64_t first;    /* of that command, the place of the first bit */
+    uint64_t past;     /* and the place just past its last bit */
+    uint32_t stray;    /* 1 for a frame of a type of 128 or more that answers no command, and else 0 */
+    uint8_t station;   /* of a frame: its first octet */
+    uint8_t control;   /* its second, where that is another than 0x83 */
+    uint8_t ftype;     /* its type, where it has one */
+    uint8_t command_station;
+    uint8_t command_type;
+    uint8_t spare[7];
+};
+
+/* Makes a pairing of no reports, whatever the memory holds. Returns PORT1_OK. */
+uint32_t port1_pair_init(struct port1_pair *pair);
+
+/* Takes a report, the octets of a frame with it, and says what follows from it. It is given each report of a line in
+ * order: of one line, `line` is 0; of two, 1 for the controller's line, on which commands wait, and 2 for the line of
+ * the answers, in the order in which their last bits were taken, and the first line's before the second's where both
+ * have one at a place. The places of both have to count the same bits.
+ *
+ * A command waits if its entry says that it is answered, its type is below 128 and its station not 255. The next
+ * report that is no idle decides on it.
+ *
+ * PORT1_BAD_ARGUMENT: just where `line` is above 2, the kind or the cause of the report is none that is named above,
+ * or a frame has fewer than four octets. Nothing has changed. */
+uint32_t port1_pair_take(struct port1_pair *pair, const struct port1_entry *entries, uint64_t entry_count,
+                         uint32_t line, const struct port1_report *report, const uint8_t *octets, uint64_t count,
+                         struct port1_seen *seen);
+
+/* The layout that the library was compiled with. Where the language has no assert of its own, an array of a negative
+ * size is the error. */
+#if defined(__cplusplus) && __cplusplus >= 201103L
+#define PORT1_ASSERT(name, holds, text) static_assert(holds, text)
+#elif defined(__STDC_VERSION__) && __STDC_VERSION__ >= 201112L
+#define PORT1_ASSERT(name, holds, text) _Static_assert(holds, text)
+#else
+#define PORT1_ASSERT(name, holds, text) typedef char port1_assert_##name[(holds) ? 1 : -1]
+#endif
+#define PORT1_SIZE(type, octets)                                                                                     \
+    PORT1_ASSERT(size_of_##type, sizeof(struct port1_##type) == octets,                                              \
+                 "port1.h: struct port1_" #type " has not the " #octets " octets that it has in the library")
+#define PORT1_PLACE(type, field, octet)                                                                              \
+    PORT1_ASSERT(type##_##field, offsetof(struct port1_##type, field) == octet,                                      \
+                 "port1.h: " #field " of struct port1_" #type " is not at octet " #octet ", where the library has it")
+PORT1_SIZE(line, 360);
+PORT1_PLACE(line, longest, 0);
+PORT1_PLACE(line, origin, 8);
+PORT1_PLACE(line, place, 16);
+PORT1_PLACE(line, settles_at, 24);
+PORT1_PLACE(line, folded, 32);
+PORT1_PLACE(line, stored, 40);
+PORT1_PLACE(line, assembled, 48);
+PORT1_PLACE(line, gathered, 56);
+PORT1_PLACE(line, rest, 64);
+PORT1_PLACE(line, history, 72);
+PORT1_PLACE(line, count, 80);
+PORT1_PLACE(line, spare, 84);
+PORT1_PLACE(line, check, 86);
+PORT1_PLACE(line, octets, 88);
+PORT1_SIZE(report, 24);
+PORT1_PLACE(report, kind, 0);
+PORT1_PLACE(report, cause, 4);
+PORT1_PLACE(report, first, 8);
+PORT1_PLACE(report, past, 16);
+PORT1_SIZE(sender, 4);
+PORT1_PLACE(sender, behind_flag, 0);
+PORT1_SIZE(entry, 8);
+PORT1_PLACE(entry, known, 0);
+PORT1_PLACE(entry, length, 1);
+PORT1_PLACE(entry, answered, 2);
+PORT1_PLACE(entry, spare, 3);
+PORT1_PLACE(entry, window, 4);
+PORT1_SIZE(pair, 24);
+PORT1_PLACE(pair, first, 0);
+PORT1_PLACE(pair, past, 8);
+PORT1_PLACE(pair, waits, 16);
+PORT1_PLACE(pair, station, 20);
+PORT1_PLACE(pair, ftype, 21);
+PORT1_PLACE(pair, spare, 22);
+PORT1_SIZE(seen, 40);
+PORT1_PLACE(seen, standing, 0);
+PORT1_PLACE(seen, verdict, 4);
+PORT1_PLACE(seen, first, 8);
+PORT1_PLACE(seen, past, 16);
+PORT1_PLACE(seen, stray, 24);
+PORT1_PLACE(seen, station, 28);
+PORT1_PLACE(seen, control, 29);
+PORT1_PLACE(seen, ftype, 30);
+PORT1_PLACE(seen, command_station, 31);
+PORT1_PLACE(seen, command_type, 32);
+PORT1_PLACE(seen, spare, 33);
+#undef PORT1_PLACE
+#undef PORT1_SIZE
 #undef PORT1_ASSERT
 
 #ifdef __cplusplus

@@ -5,57 +5,97 @@ The examples of one document run one behind the other in a folder of their own, 
 """
 
 import os
+import re
 import shutil
 import signal
 import subprocess
 from dataclasses import dataclass
+from functools import lru_cache
+from itertools import takewhile
 from pathlib import Path
-from typing import Iterator, List
+from typing import FrozenSet, Iterator, List
 
 TOP = Path(__file__).resolve().parent.parent
 
 # The documents with examples.
-DOCUMENTS = ["README.md", "docs/DICTIONARY.md", "docs/TROUBLESHOOTING.md", "docs/COOKBOOK.md"]
+DOCUMENTS = [
+    "README.md",
+    "docs/DICTIONARY.md",
+    "docs/TROUBLESHOOTING.md",
+    "docs/COOKBOOK.md",
+    "docs/MANY-CAPTURES.md",
+]
 
 INDENT = "    "
 
 PROMPT = f"{INDENT}$ "
 
-# The programs of other projects that examples may need.
-FOREIGN = {"sigrok-cli", "text2pcap", "tshark"}
+# What begins a section, or a paragraph with a heading in bold letters.
+HEADINGS = ("## ", "**")
+
+# The programs of other projects that examples may need, and the modules of Python, by the script that needs them.
+FOREIGN = {"parallel", "sigrok-cli", "text2pcap", "tshark"}
+MODULES = {
+    "contrib/recording-to-bits": "numpy",
+    "contrib/vcd-to-bits": "numpy",
+    "contrib/check-dictionary": "jsonschema",
+}
+
+# A variable that is set for the examples behind it.
+ASSIGNMENT = re.compile(r"[A-Z]+=\"[^\"]*\"")
 
 SECONDS = 20
 
 
 @dataclass(frozen=True)
 class Example:
-    """A line of the shell, and what it writes."""
+    """A line of the shell, what it writes, and the words of it and of those before it under its heading."""
 
     command: str
     stdout: str
+    words: FrozenSet[str] = frozenset()
 
 
 def examples(text: str) -> Iterator[Example]:
-    """Each prompt with the indented lines behind it."""
+    """Each prompt with the indented lines behind it, and with the variables that were set before."""
     lines = text.splitlines()
+    variables = ""
+    words: FrozenSet[str] = frozenset()
     for number, line in enumerate(lines):
+        if line.startswith(HEADINGS):
+            words = frozenset()
         if not line.startswith(PROMPT):
             continue
-        written = []
-        for behind in lines[number + 1 :]:
-            if not behind.startswith(INDENT) or behind.startswith(PROMPT):
-                break
-            written.append(behind[len(INDENT) :] + "\n")
-        yield Example(line[len(PROMPT) :], "".join(written))
+        command = line[len(PROMPT) :]
+        if ASSIGNMENT.fullmatch(command):
+            variables += f"{command}; "
+        else:
+            words |= set(command.split())
+            yield Example(variables + command, written_behind(lines[number + 1 :]), words)
+
+
+def written_behind(lines: List[str]) -> str:
+    """The indented lines up to the next prompt."""
+    written = takewhile(lambda line: line.startswith(INDENT) and not line.startswith(PROMPT), lines)
+    return "".join(f"{line[len(INDENT) :]}\n" for line in written)
 
 
 def examples_of(document: str) -> List[Example]:
     return list(examples((TOP / document).read_text(encoding="utf-8")))
 
 
+@lru_cache()
+def has_module(name: str) -> bool:
+    """Whether the Python that runs scripts has a module."""
+    return subprocess.run(["python3", "-c", f"import {name}"], stderr=subprocess.DEVNULL).returncode == 0
+
+
 def missing_tool(example: Example) -> str:
-    """The program of another project that the example needs and this machine lacks, or nothing."""
-    return next((tool for tool in FOREIGN & set(example.command.split()) if shutil.which(tool) is None), "")
+    """The program or module of another project that this machine lacks, and that the example needs, or one before it
+    under its heading, whose files it may read; or nothing."""
+    tools = [tool for tool in sorted(FOREIGN & example.words) if shutil.which(tool) is None]
+    modules = [MODULES[word] for word in sorted(MODULES.keys() & example.words) if not has_module(MODULES[word])]
+    return next(iter(tools + modules), "")
 
 
 def furnish(folder: Path) -> None:
@@ -71,7 +111,7 @@ def output_of(program: Path, example: Example, folder: Path) -> bytes:
         example.command,
         shell=True,
         cwd=folder,
-        env={"PATH": path, "LC_ALL": "C"},
+        env={"PATH": path, "LC_ALL": "C", "HOME": str(folder)},
         stdin=subprocess.DEVNULL,
         stdout=subprocess.PIPE,
         stderr=subprocess.STDOUT,

@@ -5,7 +5,6 @@
  *
  * CHUNK is how many octets are fed at a time, 4096 unless given. */
 #include "port1.h"
-#include <inttypes.h>
 #include <stdio.h>
 #include <stdlib.h>
 #include <string.h>
@@ -16,8 +15,13 @@
 static const char *const kinds[] = {"", "frame", "damaged", "overlong", "abort", "idle"};
 static const char *const causes[] = {"", "unstuffed", "short", "unaligned", "fcs"};
 
+/* Begins a line of the listing: the places of the first bit and just past the last, and a word. */
+static void begin(uint64_t first, uint64_t past, const char *word) {
+    printf("%llu %llu %s", (unsigned long long)first, (unsigned long long)past, word);
+}
+
 static void print(const struct port1_line *line, const struct port1_report *report) {
-    printf("%" PRIu64 " %" PRIu64 " %s", report->first, report->past, kinds[report->kind]);
+    begin(report->first, report->past, kinds[report->kind]);
     if (report->kind == PORT1_FRAME) {
         putchar(' ');
         for (unsigned i = 0; i < line->count; i++)
@@ -29,10 +33,10 @@ static void print(const struct port1_line *line, const struct port1_report *repo
 }
 
 /* Feeds the first `bits` bits of these octets. */
-static uint32_t feed(struct port1_line *line, const uint8_t *octets, size_t count, size_t bits) {
-    size_t at = 0;
+static uint32_t feed(struct port1_line *line, const uint8_t *octets, uint64_t count, uint64_t bits) {
+    uint64_t at = 0;
     while (at < bits) {
-        struct port1_report report;
+        struct port1_report report = {0, 0, 0, 0};
         uint32_t status = port1_line_feed(line, octets, count, &at, bits, &report);
         if (status != PORT1_OK)
             return status;
@@ -57,13 +61,13 @@ int main(int argc, char **argv) {
     if (left > MOST_BITS || port1_line_init(&line, 256, 0) != PORT1_OK)
         return 2;
     while (left > 0) {
-        size_t count = fread(octets, 1, chunk, stdin);
-        size_t bits = 8 * count < left ? 8 * count : (size_t)left;
+        uint64_t count = fread(octets, 1, chunk, stdin);
+        uint64_t bits = 8 * count < left ? 8 * count : left;
         if (count == 0 || feed(&line, octets, count, bits) != PORT1_OK)
             return 2;
         left -= bits;
     }
     if (port1_line_open(&line, &has_begun, &first) == PORT1_OK && has_begun)
-        printf("%" PRIu64 " %" PRIu64 " open\n", first, line.place);
+        begin(first, line.place, "open\n");
     return fflush(stdout) == 0 && !ferror(stdout) ? 0 : 2;
 }

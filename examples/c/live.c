@@ -1,19 +1,18 @@
 /* Prints each good frame as it closes, from octets that come one at a time on standard input, as they would
  * from a serial controller that packs eight bits of the line in an octet, the first lowest. */
 #include "port1.h"
-#include <inttypes.h>
 #include <stdio.h>
 
 /* What a loop that reads the controller would call. */
 static uint32_t receive(struct port1_line *line, uint8_t octet) {
-    size_t at = 0;
+    uint64_t at = 0;
     while (at < 8) {
-        struct port1_report report;
+        struct port1_report report = {0, 0, 0, 0};
         uint32_t status = port1_line_feed(line, &octet, 1, &at, 8, &report);
         if (status != PORT1_OK)
             return status;
         if (report.kind == PORT1_FRAME) {
-            printf("%" PRIu64 ":", report.past);
+            printf("%llu:", (unsigned long long)report.past);
             for (unsigned i = 0; i < line->count; i++)
                 printf(" %02x", (unsigned)line->octets[i]);
             putchar('\n');

@@ -45,10 +45,10 @@ HELPS = [
 
 USAGES = {
     "port1": "port1 [COMMAND]",
-    "list": "port1 list [OPTIONS]",
-    "check": "port1 check [OPTIONS]",
+    "list": "port1 list [OPTIONS] < CAPTURE",
+    "check": "port1 check [OPTIONS] < CAPTURE",
     "show": "port1 show [OPTIONS] <HEX>",
-    "encode": "port1 encode",
+    "encode": "port1 encode < LINES",
 }
 
 
@@ -127,7 +127,6 @@ UNKNOWN_WORDS = [
         ["list", "--orign", "1"],
         "--orign",
         tip="a similar argument exists: '--origin'",
-        usage="port1 list --origin <N>",
     ),
     unexpected(["list", "--version"], "--version"),
     unexpected(["list", "list"], "list"),
@@ -176,14 +175,14 @@ VALUES = [
         ["list", "--bits=yes"],
         error(
             "unexpected value 'yes' for '--bits' found; no more were expected",
-            usage="port1 list --bits",
+            usage=USAGES["list"],
         ),
     ),
     refusal(
         ["check", "--two=1"],
         error(
             "unexpected value '1' for '--two' found; no more were expected",
-            usage="port1 check --two",
+            usage=USAGES["check"],
         ),
     ),
     twice(["list", "--bits", "--bits"], "--bits"),

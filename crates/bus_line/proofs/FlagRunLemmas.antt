@@ -77,7 +77,7 @@ flags-then b bits k are i l =
 -- ---- whether there are any
 
 -- the decoder's place tells whether a flag ended there
-mark-told : {C : Type 0} (folded : C → List ℕ → Type 0) (cost : ℕ) (d : LineState C) (at : ℕ) (b : List Bool) → After folded cost d b → at ≡ settles_from d.first → EndsInFlag b → at ≡ d.place + 8
+pub mark-told : {C : Type 0} (folded : C → List ℕ → Type 0) (cost : ℕ) (d : LineState C) (at : ℕ) (b : List Bool) → After folded cost d b → at ≡ settles_from d.first → EndsInFlag b → at ≡ d.place + 8
 mark-told folded cost d at b t s h =
     let n : length b ≡ length h.front + 8 = ap length h.all ∙ length-append h.front flag in
     let first : d.first ≡ Some (d.origin + (length b - 8 + 8)) = t.first ∙ ap (first_of d.origin) (flag-last b h) in
@@ -103,12 +103,12 @@ none-by-octet b n x other = record {
   most = λ h l e. other (flag-octet x (sym (bits-front 8 n x (omega (arith, l, length-bits n x))) ∙ e));
 }
 
-pub none-by-mark : {C : Type 0} (folded : C → List ℕ → Type 0) (cost : ℕ) (d : LineState C) (at : ℕ) (b bits : List Bool) → After folded cost d b → at ≡ settles_from d.first → at ≢ d.place + 8 → FlagsAhead b bits 0
-none-by-mark folded cost d at b bits t s other = record {
+pub none-by-mark : (b bits : List Bool) → (EndsInFlag b → ⊥) → FlagsAhead b bits 0
+none-by-mark b bits other = record {
   within = omega arith;
   are = refl;
   behind = λ l. absurd (omega (arith, l));
-  most = λ h l e. other (mark-told folded cost d at b t s h);
+  most = λ h l e. other h;
 }
 
 pub some-ahead : (b : List Bool) (n x k : ℕ) → EndsInFlag b → 8 * k ≤ n → bits_of (8 * k) x ≡ flags k → (8 * k + 8 ≤ n → bits_of 8 (x / 2 ^ (8 * k)) ≢ flag) → FlagsAhead b (bits_of n x) k

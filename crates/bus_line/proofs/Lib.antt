@@ -12,6 +12,7 @@ pub mod LedgerSettledLemmas
 pub mod SpellingRawLemmas
 pub mod LedgerRankLemmas
 pub mod WordLemmas
+pub mod WordsLemmas
 pub mod LateLemmas
 pub mod LateKeptLemmas
 pub mod TracksHoldLemmas

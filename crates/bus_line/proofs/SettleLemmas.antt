@@ -194,7 +194,7 @@ tracks-settled folded cost p d e b bits gained h f s l o q w first holds t =
     }
 
 -- no data leave the counters
-spent-none : (s : Spent) (cost longest n : ℕ) → s ≡ record s { assembled = s.assembled + 0; stored = s.stored + octets_more longest n 0; folded = s.folded + cost * octets_more longest n 0 }
+pub spent-none : (s : Spent) (cost longest n : ℕ) → s ≡ record s { assembled = s.assembled + 0; stored = s.stored + octets_more longest n 0; folded = s.folded + cost * octets_more longest n 0 }
 spent-none s cost longest n =
     let z : octets_more longest n 0 ≡ 0 = omega arith in
     let y = mul-zero cost in

@@ -1,6 +1,5 @@
 -- What proofs and private functions speak of: the state behind a contract, and what holds of it between two steps.
 pub mod Run
-pub mod Buffer
 pub mod LineState
 pub mod LineView
 pub mod Late

@@ -3,11 +3,9 @@
 mod append;
 mod decide;
 mod flags;
-mod frame_buffer;
 mod late;
 mod look;
 mod marked;
-mod parts;
 mod step;
 mod stop;
 
@@ -19,22 +17,16 @@ ghost use Rattle.bus_line.specs.Due.{due_at, begun, placed};
 ghost use Rattle.bus_line.specs.Ledger.{stored_open, IsLedger};
 ghost use Rattle.bus_bits.specs.Octet.{bits_of};
 
-use crate::decoder::frame_buffer::FrameBuffer;
 use crate::decoder::stop::calm_bits;
 use crate::event::Event;
 use crate::line_fault::LineFault;
+use crate::line_words::{LineWords, NEVER, PLACES};
 use crate::piece::Piece;
 use crate::place_limit::PlaceLimit;
 use crate::taken::Taken;
 use bus_bits::Spent;
 use bus_fcs::Check;
 use std::marker::Model;
-
-/// The first place that no bit can have.
-const PLACES: u64 = 1 << 60;
-
-/// A place that is never reached.
-const NEVER: u64 = 1 << 62;
 
 /// Finds the frames, damaged pieces, overlong pieces, aborts and idles of a line (ISO/IEC 13239)
 /// from its bits, up to 48 at a time.
@@ -43,28 +35,13 @@ const NEVER: u64 = 1 << 62;
 /// takes no memory.
 #[derive(Drop)]
 pub struct LineDecoder<C: Check> {
-    /// The longest frame in octets, address through information.
-    longest: usize,
-    origin: u64,
-    /// The place of the next bit.
-    place: u64,
-    /// The last sixteen bits, the oldest lowest, with 0s before the first.
-    history: u64,
-    /// The first place of the open piece, where the last mark is a flag.
-    first: Option<u64>,
-    /// From the first place after this one on, each bit settles one bit of the open piece: eight past its
-    /// beginning, or a place that is never reached where no piece is open.
-    settles_at: u64,
-    /// How many data bits of the piece from there are settled.
-    gathered: u64,
-    /// Those of them that fill no octet yet, the first lowest.
-    rest: u64,
-    /// The octets of the piece, or of the frame before it until the first octet is full.
-    buffer: FrameBuffer,
-    /// The check of these octets.
+    words: LineWords,
+    /// The check of the octets.
     check: C,
-    /// The steps so far without the bits taken, which are the places since the origin.
-    spent: Spent,
+    /// The first [`LineWords::len`] are the octets of the piece, or of the frame before it until the first octet is
+    /// full: at most 258. Eight octets are always stored at a time, so eight spare cells follow; six more make whole
+    /// words of 64 bits.
+    cells: [u8; 272],
 }
 
 impl<C: Check> Model for LineDecoder<C> {
@@ -72,11 +49,11 @@ impl<C: Check> Model for LineDecoder<C> {
 
     ghost Value = { LineState C };
 
-    ghost use Rattle.bus_line.specs.Internal.LineView.{line_state, IsWithin};
+    ghost use Rattle.bus_line.specs.Internal.LineView.{line_state, IsDecoder};
 
     ghost view = { line_state };
 
-    ghost invariant = { IsWithin };
+    ghost invariant = { IsDecoder };
 }
 
 impl<C: Check> LineDecoder<C> {
@@ -100,24 +77,11 @@ impl<C: Check> LineDecoder<C> {
         ensures after { IfOk result (λ d. After C.folded C.COST d []) }
         ensures given { IfOk result (λ d. (d.longest ≡ longest) × (d.origin ≡ origin) × (d.place ≡ origin)) }
     {
-        if longest < 3 || longest > 256 {
-            return Err(LineFault::LongestRange);
-        }
-        if origin > PLACES {
-            return Err(LineFault::Origin);
-        }
+        let words = LineWords::new(longest, origin)?;
         Ok(LineDecoder {
-            longest,
-            origin,
-            place: origin,
-            history: 0,
-            first: None,
-            settles_at: NEVER,
-            gathered: 0,
-            rest: 0,
-            buffer: FrameBuffer::new(),
+            words,
             check: C::fresh(),
-            spent: Spent::zero(),
+            cells: [0; 272],
         })
     }
 
@@ -150,10 +114,13 @@ impl<C: Check> LineDecoder<C> {
         ensures leads { IfOk result (λ t. Led C.folded C.COST self.old (bits_of t.count bits) self.new) }
         ensures unchanged { OnErr result (self.new ≡ self.old) }
     {
-        if self.place + u64::from(count) > PLACES {
+        if self.words.place + u64::from(count) > PLACES {
             return Err(PlaceLimit);
         }
-        Ok(self.advance(bits, count))
+        Ok(
+            self.words
+                .advance(&mut self.check, &mut self.cells, bits, count),
+        )
     }
 
     /// How many of these bits [`LineDecoder::take`] would take, if none of them is past the place limit:
@@ -166,9 +133,9 @@ impl<C: Check> LineDecoder<C> {
         ensures within { (1 ≤ result) × (result ≤ count) }
         ensures stops { (b : List Bool) → After C.folded C.COST self.now b → TakesTo b (bits_of count bits) result }
     {
-        let passed = 8 * self.flags_ahead(bits, count);
+        let passed = 8 * self.words.flags_ahead(bits, count);
         let left = count - passed;
-        let calm = calm_bits((self.history | bits << 16) >> passed, left);
+        let calm = calm_bits((self.words.history | bits << 16) >> passed, left);
         if calm == left {
             count
         } else {
@@ -191,10 +158,12 @@ impl<C: Check> LineDecoder<C> {
         ensures* rests { sem 𝓛 (Rests (the_row C.row C.Check) self.entry (λ new.
             IfOk result (λ o. Pushed C.folded C.COST self.old bit o new) × OnErr result (new ≡ self.old))) }
     {
-        if self.place >= PLACES {
+        if self.words.place >= PLACES {
             return Err(PlaceLimit);
         }
-        let taken = self.advance(u64::from(bit), 1);
+        let taken = self
+            .words
+            .advance(&mut self.check, &mut self.cells, u64::from(bit), 1);
         Ok(self.lent(taken.event))
     }
 
@@ -218,7 +187,7 @@ impl<C: Check> LineDecoder<C> {
         ensures bound { length result.now ≤ self.now.longest + 2 }
         ensures longest { self.now.longest ≤ 256 }
     {
-        self.buffer.octets()
+        &self.cells[..self.words.len as usize]
     }
 
     /// How many octets of the open piece are in the frame buffer: at most the longest frame and two,
@@ -228,10 +197,13 @@ impl<C: Check> LineDecoder<C> {
         ensures stored { (b : List Bool) → After C.folded C.COST self.now b →
             result ≡ stored_open self.now.longest b }
     {
-        match self.first {
-            Some(_) if self.gathered >= 8 => self.buffer.len(),
-            _ => 0,
+        if self.words.settles_at == NEVER {
+            return 0;
         }
+        if self.words.gathered < 8 {
+            return 0;
+        }
+        self.words.len as usize
     }
 
     /// The place of the next bit: the origin and the bits so far.
@@ -240,7 +212,7 @@ impl<C: Check> LineDecoder<C> {
         ensures fits { result ≤ 2 ^ 60 }
         ensures after { (b : List Bool) → After C.folded C.COST self.now b → result ≡ self.now.origin + length b }
     {
-        self.place
+        self.words.place
     }
 
     /// The steps so far.
@@ -250,8 +222,11 @@ impl<C: Check> LineDecoder<C> {
             IsLedger C.COST self.now.longest b result }
     {
         Spent {
-            shifted: self.place - self.origin,
-            ..self.spent
+            shifted: self.words.place - self.words.origin,
+            assembled: self.words.assembled,
+            folded: self.words.folded,
+            stored: self.words.stored,
+            ..Spent::zero()
         }
     }
 
@@ -260,9 +235,6 @@ impl<C: Check> LineDecoder<C> {
         ensures after { (b : List Bool) → After C.folded C.COST self.now b →
             result ≡ option_map (λ first. self.now.origin + first) (begun b) }
     {
-        match self.first {
-            Some(first) if first < self.place => Some(first),
-            _ => None,
-        }
+        self.words.begun()
     }
 }

@@ -104,6 +104,7 @@ fn list_command<'a>(alloc: Global) -> Result<Command<'a>, Error> {
     Ok(
         Command::new(alloc, "list")
             .about("Lists what is on the line, from a capture on standard input")
+            .override_usage("port1 list [OPTIONS] < CAPTURE")
             .arg(dictionary_arg(alloc))?
             .arg(origin_arg(alloc))?
             .arg(bits_arg(alloc))?
@@ -119,6 +120,7 @@ fn check_command<'a>(alloc: Global) -> Result<Command<'a>, Error> {
     Ok(
         Command::new(alloc, "check")
             .about("Counts what is on the line; the exit status says whether all was well")
+            .override_usage("port1 check [OPTIONS] < CAPTURE")
             .arg(dictionary_arg(alloc))?
             .arg(origin_arg(alloc))?
             .arg(bits_arg(alloc))?
@@ -146,6 +148,7 @@ fn show_command<'a>(alloc: Global) -> Result<Command<'a>, Error> {
 fn encode_command<'a>(alloc: Global) -> Command<'a> {
     Command::new(alloc, "encode")
         .about("Encodes flags, idle lines and frames on standard input as the bits that are sent")
+        .override_usage("port1 encode < LINES")
         .after_help(help::ENCODE)
 }
 

@@ -16,3 +16,4 @@ pub mod OrderLemmas
 pub mod PairFedLemmas
 pub mod PairHeadlineLemmas
 mod Examples
+pub mod PairingLemmas

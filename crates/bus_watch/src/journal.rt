@@ -4,19 +4,18 @@ ghost use Rattle.std.specs.Prelude.{◌≡◌, ◌+◌, ◌≤◌, ◌<◌, ◌^
 
 mod keep;
 mod pair;
-mod stray;
 
 use crate::counts::Counts;
 use crate::finding::Finding;
 use crate::line::Line;
 use crate::pair_kept::PairKept;
+use crate::pairing::{command, is_stray};
 use crate::pending::Pending;
 use bus_bits::{Span, Spent};
 use bus_dictionary::{Dictionary, Standing};
 use bus_line::{Event, EventKind};
 use circular_buffer::HeapCircularBuffer;
 use std::alloc::{AllocError, Global};
-use stray::is_stray;
 
 /// What is kept of the reports so far: the command that waits, the verdicts for each station, and
 /// the last frames.
@@ -177,7 +176,7 @@ impl Journal {
         self.spent.tick_handled();
         let standing = self.standing(octets);
         let verdict = self.decide(Some((line, span.first, standing)));
-        self.waiting = self.command(line, span, standing);
+        self.waiting = command(&self.dictionary, line, span, standing);
         self.keep(line, span, octets);
         Finding {
             event: Event {

@@ -1,12 +1,12 @@
 -- What a sender puts into the octets.
-use Rattle.std.proofs.Common.{◌≡◌, ◌≢◌, ℕ, ◌+◌, ◌-◌, ◌≤◌, Bool, true, false, List, [], ◌∷◌, ◌++◌, length, drop, Option, None, Some, refl, sym, ap, subst, ◌∙◌, arith, length-append}
+use Rattle.std.proofs.Common.{◌≡◌, ◌≢◌, ℕ, zero, suc, ◌+◌, ◌-◌, ◌*◌, ◌≤◌, ◌<◌, replicate, Bool, true, false, List, [], ◌∷◌, ◌++◌, length, drop, Option, None, Some, refl, sym, ap, subst, ◌∙◌, arith, length-append}
 use Rattle.std.specs.Bool.{if◌then◌else◌}
 use Rattle.std.specs.List.{last_or}
 use Rattle.std.proofs.Math.Seq.{drop-append_seam}
-use Rattle.bus_line.specs.Line.{Call, Flag, Idle, Frame, ends_with_flag, gain, raw_bits}
+use Rattle.bus_line.specs.Line.{Call, Flag, Idle, Frame, ends_with_flag, gain, line_behind, raw_bits}
 use Rattle.bus_line.specs.Mark.{flag}
 use Rattle.port1_c.specs.Bits.{bits_from, Puts}
-use Rattle.port1_c.specs.Send.{Follows, Gains}
+use Rattle.port1_c.specs.Send.{Follows, Gains, GainsAll, idles}
 use Rattle.port1_c.specs.declared.sender.Port1Sender.{Port1Sender}
 use Rattle.port1_c.proofs.BitLemmas.{bits-more, length-from}
 
@@ -62,3 +62,33 @@ module _ (o octets : List ℕ) (count : ℕ) (framed : bits_from octets 0 count 
   pub frame-gains : (s : Port1Sender) (old new : List ℕ) (at first : ℕ) → (s.behind_flag ≡ 1 → first ≡ 8) → (s.behind_flag ≢ 1 → first ≡ 0)
       → Puts old at (bits_from octets first (count - first)) new → Gains s old at (Frame o) new
   frame-gains s old new at first one other p calls f = subst (λ (bits : List Bool). Puts old at bits new) (frame-bits s calls first f one other) p
+
+-- octets of ones have the bits of idles
+ones-are-idles : (k : ℕ) → k < 8 → (before : Option Call) → bits_from (replicate 14 255) 0 (15 * k) ≡ line_behind before (idles k)
+unfolding bits_from
+ones-are-idles zero l before = refl
+ones-are-idles (suc zero) l before = refl
+ones-are-idles (suc (suc zero)) l before = refl
+ones-are-idles (suc (suc (suc zero))) l before = refl
+ones-are-idles (suc (suc (suc (suc zero)))) l before = refl
+ones-are-idles (suc (suc (suc (suc (suc zero))))) l before = refl
+ones-are-idles (suc (suc (suc (suc (suc (suc zero)))))) l before = refl
+ones-are-idles (suc (suc (suc (suc (suc (suc (suc zero))))))) l before = refl
+ones-are-idles (suc (suc (suc (suc (suc (suc (suc (suc k)))))))) l before = absurd (omega (arith, l))
+
+pub idles-gain : (s : Port1Sender) (old new : List ℕ) (at k n : ℕ) → k < 8 → n ≡ 15 * k → Puts old at (bits_from (replicate 14 255) 0 n) new → GainsAll s old at (idles k) new
+idles-gain s old new at k n l e p calls f =
+    subst (λ (bits : List Bool). Puts old at bits new) (ap (bits_from (replicate 14 255) 0) e ∙ ones-are-idles k l (last_or None calls)) p
+
+last-row : (n : ℕ) → last_or (Some Idle) (idles n) ≡ Some Idle
+last-row zero = refl
+last-row (suc n) = last-row n
+
+last-idles : (o : Option Call) (calls : List Call) (n : ℕ) → last_or o (calls ++ idles (suc n)) ≡ Some Idle
+last-idles o [] n = last-row n
+last-idles o (c ∷ calls) n = last-idles (Some c) calls n
+
+-- behind idles no flag may open a frame
+pub follows-idles : (s : Port1Sender) (calls : List Call) (k : ℕ) → 0 < k → s.behind_flag ≡ 0 → Follows s (calls ++ idles k)
+follows-idles s calls zero l e = absurd (omega (arith, l))
+follows-idles s calls (suc n) l e = e ∙ ap (λ (o : Option Call). if ends_with_flag o then 1 else 0) (sym (last-idles None calls n))

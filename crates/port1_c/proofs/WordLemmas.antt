@@ -81,3 +81,11 @@ eight-small all q h (suc (suc (suc (suc (suc (suc (suc (suc k)))))))) d l = absu
 pub bits-eight : (all : List ℕ) (q : ℕ) → ((i : ℕ) → slice_index all i < 256) → bits_of 64 (from_le_bytes w64 (eight all q)) ≡ bits_from all (8 * q) 64
 bits-eight all q h =
     ap (bits_of 64) (word-eight (eight all q) refl) ∙ (word-front (eight all q) [] (eight-small all q h) ∙ bits-octets (eight all q) all q (8 * q) 64 refl refl (eight-items all q))
+
+both : {a b : ℕ} {xs ys : List ℕ} → a ≡ b → xs ≡ ys → a ∷ xs ≡ b ∷ ys
+both {a} {b} {xs} {ys} p q = ap (λ x. x ∷ xs) p ∙ ap (λ ys. b ∷ ys) q
+
+-- likewise the first eight, each given by its value
+pub bits-first : (all : List ℕ) (a b c d e f g h : ℕ) → a ≡ slice_index all 0 → b ≡ slice_index all 1 → c ≡ slice_index all 2 → d ≡ slice_index all 3 → e ≡ slice_index all 4 → f ≡ slice_index all 5 → g ≡ slice_index all 6 → h ≡ slice_index all 7 → ((i : ℕ) → slice_index all i < 256) → bits_of 64 (from_le_bytes w64 (a ∷ b ∷ c ∷ d ∷ e ∷ f ∷ g ∷ h ∷ [])) ≡ bits_from all 0 64
+bits-first all a b c d e f g h ea eb ec ed ee ef eg eh small =
+    ap (λ (os : List ℕ). bits_of 64 (from_le_bytes w64 os)) (both ea (both eb (both ec (both ed (both ee (both ef (both eg (ap (λ (x : ℕ). x ∷ []) eh)))))))) ∙ bits-eight all 0 small

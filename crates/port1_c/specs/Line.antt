@@ -5,8 +5,7 @@ use Rattle.bus_fcs.specs.declared.octet_check.OctetCheck.{OctetCheck}
 use Rattle.bus_fcs.specs.Folded.{HasFolded}
 use Rattle.bus_line.specs.After as line
 use Rattle.bus_line.specs.Due.{placed}
-use Rattle.bus_line.specs.Parts.{DoFit, LineState, state_of}
-use Rattle.bus_line.specs.declared.line_parts.LineParts.{LineParts}
+use Rattle.bus_line.specs.Words.{IsWithin, LineState, state}
 use Rattle.bus_line.specs.Report.{Report, Kind}
 use Rattle.bus_line.specs.declared.cause.Cause.{Cause}
 use Rattle.bus_line.specs.declared.cause.Cause.TheVariants as cause
@@ -16,30 +15,17 @@ use Rattle.port1_c.specs.declared.report.Port1Report.{Port1Report}
 abbrev pub first_in : ℕ → ℕ → Option ℕ
 first_in has first = if has == 0 then None else Some first
 
--- the parts of a decoder that the memory holds
-abbrev pub parts : Port1Line → LineParts OctetCheck
-parts l = record {
-  longest = l.longest;
-  origin = l.origin;
-  place = l.place;
-  history = l.history;
-  first = first_in l.has_first l.first;
-  gathered = l.gathered;
-  rest = l.rest;
-  cells = l.octets;
-  len = l.count;
-  check = record { state = l.check };
-  spent =
-      record { shifted = 0; assembled = l.assembled; folded = l.folded; stored = l.stored; copied = 0; handled = 0 };
-}
-
 -- the memory holds a decoder
 abbrev pub Sound : Port1Line → Type 0
-Sound l = DoFit (parts l)
+Sound l = IsWithin l.words
+
+-- the check whose register the memory holds
+abbrev pub check_of : Port1Line → OctetCheck
+check_of l = record { state = l.words.register }
 
 -- the decoder that the memory holds
 abbrev pub held : Port1Line → LineState OctetCheck
-held l = state_of (parts l)
+held l = state l.words (check_of l) l.octets
 
 -- a decoder may stand after the bits b
 abbrev pub After : LineState OctetCheck → List Bool → Type 0
@@ -51,11 +37,11 @@ Stands l b = After (held l) b
 
 -- the octets of the frame that was just told
 abbrev pub frame : Port1Line → List ℕ
-frame l = take l.count l.octets
+frame l = take l.words.len l.octets
 
 -- the reports of the bits b
 abbrev pub reports_of : Port1Line → List Bool → List Report
-reports_of l b = placed l.origin l.longest b
+reports_of l b = placed l.words.origin l.words.longest b
 
 -- a number that stands for a bit
 abbrev pub bit_of : ℕ → Bool
@@ -87,9 +73,9 @@ pub record IsCoded (r : Port1Report) : Type 0 where
 
 -- the longest frame and the place of the first bit stay, and so many bits were taken
 pub record Goes (old : Port1Line) (count : ℕ) (new : Port1Line) : Type 0 where
-  pub longest : new.longest ≡ old.longest
-  pub origin : new.origin ≡ old.origin
-  pub place : new.place ≡ old.place + count
+  pub longest : new.words.longest ≡ old.words.longest
+  pub origin : new.words.origin ≡ old.words.origin
+  pub place : new.words.place ≡ old.words.place + count
 
 -- these bits lead from old to new, and decide just this report, if it is one
 pub record Tells (old : LineState OctetCheck) (bits : List Bool) (r : Port1Report)

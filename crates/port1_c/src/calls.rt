@@ -1,6 +1,6 @@
 //! What C calls.
 
-ghost use Rattle.std.specs.Prelude.{◌≡◌, ◌≢◌, ◌+◌, ◌-◌, ◌*◌, ◌≤◌, ◌<◌, ◌^◌, ◌↔◌, ◌⊎◌, List, Bool, ◌∷◌, ◌++◌, [], length};
+ghost use Rattle.std.specs.Prelude.{◌≡◌, ◌≢◌, ◌+◌, ◌-◌, ◌*◌, ◌≤◌, ◌<◌, ◌^◌, ◌↔◌, ◌⊎◌, List, Bool, ◌∷◌, ◌++◌, [], IsTrue, length};
 ghost use Rattle.std.specs.Option.{option_map, option_to_list};
 ghost use Rattle.bus_line.specs.Due.{begun};
 ghost use Rattle.port1_c.specs.Bits.{bits_from};
@@ -8,10 +8,9 @@ ghost use Rattle.port1_c.specs.Line.{Sound, Stands, bit_of, first_in, frame, Goe
 
 use crate::bits;
 use crate::line::Port1Line;
-use crate::report::{NONE, Port1Report};
+use crate::report::Port1Report;
 use crate::status::{BAD_ARGUMENT, BAD_LENGTH, BAD_STATE, OK, PLACE_LIMIT};
-use bus_fcs::OctetCheck;
-use bus_line::{LineDecoder, LineFault};
+use bus_line::{LineFault, LineWords};
 
 /// Makes a decoder in the caller's memory, whatever stands there.
 ///
@@ -24,12 +23,13 @@ pub extern "C" fn port1_line_init(line: &mut Port1Line, longest: u64, origin: u6
     ensures status { result ≤ 2 }
     ensures sound { result ≡ 0 → Sound line.new }
     ensures stands { result ≡ 0 → Stands line.new [] }
-    ensures given { result ≡ 0 → (line.new.longest ≡ longest) × (line.new.origin ≡ origin) × (line.new.place ≡ origin) }
+    ensures given { result ≡ 0 → (line.new.words.longest ≡ longest) × (line.new.words.origin ≡ origin) × (line.new.words.place ≡ origin) }
     ensures kept { result ≢ 0 → line.new ≡ line.old }
 {
-    match LineDecoder::<OctetCheck>::new(longest as usize, origin) {
-        Ok(decoder) => {
-            line.store(decoder);
+    match LineWords::new(longest as usize, origin) {
+        Ok(words) => {
+            line.words = words;
+            line.octets = [0; 272];
             OK
         }
         Err(LineFault::LongestRange) => BAD_LENGTH,
@@ -44,7 +44,7 @@ pub extern "C" fn port1_line_init(line: &mut Port1Line, longest: u64, origin: u6
 #[unsafe(no_mangle)]
 pub extern "C" fn port1_line_push(line: &mut Port1Line, bit: u8, report: &mut Port1Report) -> u32
     ensures status { (result ≡ 0) ⊎ (result ≡ 2) ⊎ (result ≡ 3) }
-    ensures limit { Sound line.old → (result ≡ 2 ↔ 2 ^ 60 ≤ line.old.place) }
+    ensures limit { Sound line.old → (result ≡ 2 ↔ 2 ^ 60 ≤ line.old.words.place) }
     ensures state { Sound line.old → result ≢ 3 }
     ensures refused { result ≢ 3 → Sound line.old }
     ensures kept { result ≢ 0 → (line.new ≡ line.old) × (report.new ≡ report.old) }
@@ -56,15 +56,21 @@ pub extern "C" fn port1_line_push(line: &mut Port1Line, bit: u8, report: &mut Po
         reports_of line.new (b ++ bit_of bit ∷ []) ≡ reports_of line.old b
         ++ option_to_list (told report.new (frame line.new)) }
 {
-    let Some(mut decoder) = line.load() else {
+    if !line.words.are_sound() {
         return BAD_STATE;
-    };
-    let Ok(told) = bits::push(&mut decoder, bit != 0) else {
+    }
+    let Ok(told) = line.push(bit != 0) else {
         return PLACE_LIMIT;
     };
-    line.store(decoder);
     *report = told;
     OK
+}
+
+/// Whether there are such bits of these octets.
+fn are_within(octets: &[u8], at: usize, end: usize) -> bool
+    ensures { IsTrue result ↔ (end ≤ 8 * length octets.now) × (at ≤ end) }
+{
+    end.div_ceil(8) <= octets.len() && at <= end
 }
 
 /// Takes bits of octets, the lowest of each first, from bit `at` on, up to the first that decides a
@@ -91,7 +97,7 @@ pub extern "C" fn port1_line_feed(
     ensures goes { result < 3 → Goes line.old (at.new - at.old) line.new }
     ensures bound { result < 3 → (at.old ≤ at.new) × (at.new ≤ end) }
     ensures all { result ≡ 0 → report.new.kind ≡ 0 → at.new ≡ end }
-    ensures limit { result ≡ 2 → (report.new.kind ≡ 0) × (at.new < end) × (line.new.place ≡ 2 ^ 60) }
+    ensures limit { result ≡ 2 → (report.new.kind ≡ 0) × (at.new < end) × (line.new.words.place ≡ 2 ^ 60) }
     ensures stands { result < 3 → (b : List Bool) → Stands line.old b →
         Stands line.new (b ++ bits_from octets.now at.old (at.new - at.old)) }
     ensures told { result < 3 → (b : List Bool) → Stands line.old b →
@@ -100,20 +106,17 @@ pub extern "C" fn port1_line_feed(
     ensures last { result < 3 → report.new.kind ≢ 0 → (b : List Bool) → Stands line.old b →
         reports_of line.old (b ++ bits_from octets.now at.old (at.new - at.old - 1)) ≡ reports_of line.old b }
 {
-    if end / 8 > octets.len() || (end / 8 == octets.len() && end % 8 != 0) || *at > end {
+    let is_octet = bits::are_octet(octets, *at, end);
+    if !is_octet && !are_within(octets, *at, end) {
         return BAD_ARGUMENT;
     }
-    let Some(mut decoder) = line.load() else {
+    if !line.words.are_sound() {
         return BAD_STATE;
-    };
-    let told = bits::feed(&mut decoder, octets, *at, end);
-    line.store(decoder);
-    *at += told.count;
-    *report = told.report;
-    if told.report.kind == NONE && *at < end {
-        return PLACE_LIMIT;
     }
-    OK
+    if is_octet {
+        return bits::feed_octet(line, octets, at, report);
+    }
+    bits::feed(line, octets, at, end, report)
 }
 
 /// Says whether a piece has begun that no flag and no abort has ended yet, and where: `has_begun` is then 1,
@@ -129,12 +132,12 @@ pub extern "C" fn port1_line_open(line: &Port1Line, has_begun: &mut u8, first: &
     ensures flag { result ≡ 0 → has_begun.new ≤ 1 }
     ensures untouched { result ≡ 0 → has_begun.new ≡ 0 → first.new ≡ first.old }
     ensures begun { result ≡ 0 → (b : List Bool) → Stands line.now b →
-        first_in has_begun.new first.new ≡ option_map (λ first. line.now.origin + first) (begun b) }
+        first_in has_begun.new first.new ≡ option_map (λ first. line.now.words.origin + first) (begun b) }
 {
-    let Some(decoder) = line.load() else {
+    if !line.words.are_sound() {
         return BAD_STATE;
-    };
-    match decoder.begun() {
+    }
+    match line.words.begun() {
         Some(place) => {
             *has_begun = 1;
             *first = place;

@@ -4,16 +4,27 @@
 mod bits;
 mod call_bits;
 mod calls;
+mod entry;
+pub mod laws;
 mod line;
+mod pair;
+mod pairing;
 mod put;
 mod report;
+mod seen;
 mod send;
 mod sender;
 mod status;
 mod word;
 
 pub use calls::{port1_line_feed, port1_line_init, port1_line_open, port1_line_push};
+pub use entry::Port1Entry;
 pub use line::Port1Line;
+pub use pair::Port1Pair;
+pub use pairing::{port1_pair_init, port1_pair_take};
 pub use report::Port1Report;
-pub use send::{port1_send_flag, port1_send_frame, port1_send_idle, port1_sender_init};
+pub use seen::Port1Seen;
+pub use send::{
+    port1_send_align, port1_send_flag, port1_send_frame, port1_send_idle, port1_sender_init,
+};
 pub use sender::Port1Sender;

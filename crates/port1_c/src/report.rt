@@ -1,9 +1,10 @@
 //! A report in a caller's memory.
 
-ghost use Rattle.std.specs.Prelude.{◌≡◌, ℕ, List, Option, None, Some};
+ghost use Rattle.std.specs.Prelude.{◌≡◌, ◌≤◌, ◌↔◌, ℕ, List, Option, None, Some, IsSome, IfSome, length};
 ghost use Rattle.std.specs.Option.{option_map};
 ghost use Rattle.bus_line.specs.Shown.{reported};
-ghost use Rattle.port1_c.specs.Line.{IsCoded, told};
+ghost use Rattle.port1_c.specs.Line.{IsCoded, cause_in, told};
+ghost use Rattle.port1_c.specs.Pair.{IsReport, heard_in};
 
 use bus_bits::Span;
 use bus_line::{Cause, Event, EventKind};
@@ -58,7 +59,7 @@ impl Port1Report {
     }
 
     /// The report of an event.
-    fn of_event(event: Event) -> Self
+    pub(crate) fn of_event(event: Event) -> Self
         ensures tells { (octets : List ℕ) → told result octets ≡ Some (reported octets event) }
         ensures coded { IsCoded result }
     {
@@ -83,6 +84,43 @@ impl Port1Report {
         match event {
             Some(event) => Port1Report::of_event(event),
             None => Port1Report::none(),
+        }
+    }
+
+    /// The event that it tells, if there can be such a one; that of a frame has four octets or more.
+    pub(crate) fn event(&self, octets: &[u8]) -> Option<Event>
+        ensures some { IsSome result ↔ IsReport self.now octets.now }
+        ensures value { IfSome result (λ e. reported octets.now e ≡ (heard_in 0 self.now octets.now).report) }
+        ensures frame { IfSome result (λ e. e.kind ≡ EventKind.Frame → 4 ≤ length octets.now) }
+    {
+        let kind = match self.kind {
+            FRAME if octets.len() >= 4 => EventKind::Frame,
+            DAMAGED => EventKind::Damaged(self.cause()?),
+            OVERLONG => EventKind::Overlong,
+            ABORT => EventKind::Abort,
+            IDLE => EventKind::Idle,
+            _ => return None,
+        };
+        Some(Event {
+            kind,
+            span: Span {
+                first: self.first,
+                past: self.past,
+            },
+        })
+    }
+
+    /// The cause of damage, if it is one.
+    fn cause(&self) -> Option<Cause>
+        ensures some { IsSome result ↔ (1 ≤ self.now.cause) × (self.now.cause ≤ 4) }
+        ensures value { IfSome result (λ c. c ≡ cause_in self.now.cause) }
+    {
+        match self.cause {
+            UNSTUFFED => Some(Cause::Unstuffed),
+            SHORT => Some(Cause::Short),
+            UNALIGNED => Some(Cause::Unaligned),
+            FCS => Some(Cause::Fcs),
+            _ => None,
         }
     }
 

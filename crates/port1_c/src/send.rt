@@ -1,9 +1,9 @@
 //! What C calls to send.
 
-ghost use Rattle.std.specs.Prelude.{◌≡◌, ◌≢◌, ◌+◌, ◌-◌, ◌*◌, ◌≤◌, ◌<◌, ◌^◌, ◌↔◌, ◌⊎◌, List, [], ◌∷◌, ◌++◌, length};
+ghost use Rattle.std.specs.Prelude.{◌≡◌, ◌≢◌, ◌+◌, ◌-◌, ◌*◌, ◌%◌, ◌≤◌, ◌<◌, ◌^◌, ◌↔◌, ◌⊎◌, List, [], ◌∷◌, ◌++◌, length};
 ghost use Rattle.bus_line.specs.Line.{Call, gain};
 ghost use Rattle.port1_c.specs.Bits.{bits_from, Puts};
-ghost use Rattle.port1_c.specs.Send.{Follows, Gains};
+ghost use Rattle.port1_c.specs.Send.{Follows, Gains, GainsAll, idles};
 
 use crate::call_bits::frame_bits;
 use crate::put::put_bits;
@@ -126,6 +126,44 @@ pub extern "C" fn port1_send_idle(
     }
     let status = put(&[0xff, 0x7f], 0, 15, octets, at, bits);
     if status == OK {
+        sender.behind_flag = 0;
+    }
+    status
+}
+
+/// Sends so many idles that the transmission ends with a whole octet: one for each bit of the octet that it has
+/// begun, since fifteen is one less than two octets. They are read back as one idle. None are sent where `at`
+/// is a multiple of 8. `at`, `bits` and what it returns are as those of [`port1_send_flag`].
+#[unsafe(no_mangle)]
+pub extern "C" fn port1_send_align(
+    sender: &mut Port1Sender,
+    octets: &mut [u8],
+    at: &mut usize,
+    bits: &mut usize,
+) -> u32
+    ensures status { (result ≡ 0) ⊎ (result ≡ 3) ⊎ (result ≡ 4) ⊎ (result ≡ 5) }
+    ensures argument { (result ≡ 4) ↔ (8 * length octets.old < at.old) }
+    ensures state { (result ≡ 3) ↔ ((at.old ≤ 8 * length octets.old) × (1 < sender.old.behind_flag)) }
+    ensures room { (result ≡ 0) ⊎ (result ≡ 5) → (result ≡ 5
+        ↔ ((8 * length octets.old < at.old + bits.new) ⊎ (2 ^ 64 ≤ at.old + bits.new))) }
+    ensures kept { result ≢ 0 → (sender.new ≡ sender.old) × (octets.new ≡ octets.old) × (at.new ≡ at.old) }
+    ensures untold { (result ≡ 3) ⊎ (result ≡ 4) → bits.new ≡ bits.old }
+    ensures told { (result ≡ 0) ⊎ (result ≡ 5) → bits.new ≡ 15 * (at.old % 8) }
+    ensures at { result ≡ 0 → at.new ≡ at.old + bits.new }
+    ensures aligned { result ≡ 0 → at.new % 8 ≡ 0 }
+    ensures gains { result ≡ 0 → GainsAll sender.old octets.old at.old (idles (at.old % 8)) octets.new }
+    ensures follows { result ≡ 0 → (calls : List Call) → Follows sender.old calls →
+        Follows sender.new (calls ++ idles (at.old % 8)) }
+{
+    if *at > octets.len().saturating_mul(8) {
+        return BAD_ARGUMENT;
+    }
+    if sender.behind_flag > 1 {
+        return BAD_STATE;
+    }
+    let idles = *at % 8;
+    let status = put(&[0xff; 14], 0, 15 * idles, octets, at, bits);
+    if status == OK && idles > 0 {
         sender.behind_flag = 0;
     }
     status

@@ -1,6 +1,7 @@
 -- Flags that follow a flag.
 use Rattle.std.specs.Prelude.{◌≡◌, ℕ, ◌+◌, ◌-◌, ◌*◌, ◌/◌, ◌^◌, ◌<◌, ◌≤◌, Bool, List, ◌++◌, length, take, drop}
 use Rattle.bus_bits.specs.Octet.{bits_of}
+use Rattle.bus_line.specs.declared.line_words.LineWords.{LineWords}
 use Rattle.bus_line.specs.Mark.{flag, flags, EndsInFlag, MayDecide}
 
 -- these bits begin with `k` flags and no more, and they follow a flag: none where b ends in no flag
@@ -20,3 +21,14 @@ pub record IsPast (b : List Bool) (n x k rest left : ℕ) : Type 0 where
 pub record StopsAt (b bits : List Bool) (count : ℕ) : Type 0 where
   pub before : (i : ℕ) → i + 1 < count → MayDecide (b ++ take i bits) → ⊥
   pub stop : count < length bits → MayDecide (b ++ take (count - 1) bits)
+
+-- words that tell whether the bits taken end in a flag
+pub record ShowsFlag (w : LineWords) (b : List Bool) : Type 0 where
+  pub ends : w.settles_at ≡ w.place + 8 → EndsInFlag b
+  pub told : EndsInFlag b → w.settles_at ≡ w.place + 8
+
+-- so many flags more lead from old to new
+pub record PassesFlags (old : LineWords) (count : ℕ) (new : LineWords) : Type 0 where
+  pub none : count ≡ 0 → new ≡ old
+  pub some : 0 < count
+      → new ≡ record old { place = old.place + 8 * count; history = 32382; settles_at = old.place + 8 * count + 8 }

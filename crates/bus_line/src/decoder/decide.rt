@@ -2,42 +2,46 @@
 
 ghost use Rattle.std.specs.Prelude.{◌≡◌, ◌+◌, ◌*◌, ◌-◌, ◌%◌, ◌≤◌, ◌<◌, List, Bool, [], ◌∷◌, ◌++◌, length, ℕ, Some, None, Option, slice_range};
 ghost use Rattle.std.specs.Option.{option_map};
-ghost use Rattle.bus_line.specs.Due.{FlagAt, current, due_at, class_of, piece_report};
+ghost use Rattle.bus_line.specs.Due.{FlagAt, Mark, current, due_at, class_of, piece_report};
 ghost use Rattle.bus_line.specs.Report.{Abort};
 
 use crate::cause::Cause;
 use crate::decoder::look::{Found, look};
-use crate::decoder::{LineDecoder, NEVER};
 use crate::event::{Event, EventKind};
+use crate::line_words::{LineWords, NEVER};
 use bus_bits::Span;
 use bus_fcs::Check;
 
-impl<C: Check> LineDecoder<C> {
+impl LineWords {
+    ghost use Rattle.bus_line.specs.Words.{first_in, IsWithin, state};
     ghost use Rattle.bus_line.specs.After.{After};
-    ghost use Rattle.bus_line.specs.Internal.Tracks.{Tracks};
+    ghost use Rattle.bus_line.specs.Internal.Tracks.{first_of, Tracks};
     ghost use Rattle.bus_line.specs.Shown.{kind_with, reported};
     ghost use Rattle.bus_line.specs.Report.{moved};
 
     /// Finds whether the newest bit ends a flag, or is the seventh or the fifteenth one of a run, and
     /// returns what that decides.
     #[inline(never)]
-    pub(crate) fn decide(&mut self) -> Option<Event>
-        requires { self.old.origin < self.old.place }
-        ensures answer { (b : List Bool) (bit : Bool) → Tracks C.folded C.COST self.old (b ++ bit ∷ []) (current b) →
-            option_map (reported self.new.octets) result
+    pub(crate) fn decide<C: Check>(&mut self, check: &C) -> Option<Event>
+        requires within { IsWithin self.old }
+        requires some { self.old.origin < self.old.place }
+        ensures answer { (cells : List ℕ) (b : List Bool) (bit : Bool) →
+            Tracks C.folded C.COST (state self.old check.now cells) (b ++ bit ∷ []) (current b) →
+            option_map (reported (state self.new check.now cells).octets) result
             ≡ option_map (moved self.old.origin) (due_at self.old.longest (b ++ bit ∷ []) (length b)) }
-        ensures after { (b : List Bool) (bit : Bool) → Tracks C.folded C.COST self.old (b ++ bit ∷ []) (current b) →
-            After C.folded C.COST self.new (b ++ bit ∷ []) }
+        ensures after { (cells : List ℕ) (b : List Bool) (bit : Bool) →
+            Tracks C.folded C.COST (state self.old check.now cells) (b ++ bit ∷ []) (current b) →
+            After C.folded C.COST (state self.new check.now cells) (b ++ bit ∷ []) }
         ensures longest { self.new.longest ≡ self.old.longest }
         ensures origin { self.new.origin ≡ self.old.origin }
         ensures place { self.new.place ≡ self.old.place }
+        ensures within { IsWithin self.new }
     {
-        // All bits of the mark have been taken, so these subtractions never saturate.
+        // All bits of the mark have been taken, so no subtraction saturates.
         let place = self.place;
         match look(self.history, place - 1 - self.origin) {
             Found::Closing => {
-                let event = self.closed(place.saturating_sub(8));
-                self.first = Some(place);
+                let event = self.closed(check, place - 8);
                 self.settles_at = place + 8;
                 self.gathered = 0;
                 self.rest = 0;
@@ -45,7 +49,6 @@ impl<C: Check> LineDecoder<C> {
             }
             Found::Seven => {
                 let event = self.aborted(place.saturating_sub(7));
-                self.first = None;
                 self.settles_at = NEVER;
                 event
             }
@@ -61,50 +64,58 @@ impl<C: Check> LineDecoder<C> {
     }
 
     /// The piece that a flag at `past` closes, if it is not empty.
-    fn closed(&self, past: u64) -> Option<Event>
-        ensures { (b : List Bool) (bit : Bool) → Tracks C.folded C.COST self.now (b ++ bit ∷ []) (current b) →
+    fn closed<C: Check>(&self, check: &C, past: u64) -> Option<Event>
+        requires { IsWithin self.now }
+        ensures { (cells : List ℕ) (b : List Bool) (bit : Bool) →
+            Tracks C.folded C.COST (state self.now check.now cells) (b ++ bit ∷ []) (current b) →
             7 ≤ length b → past ≡ self.now.origin + (length b - 7) →
-            option_map (reported self.now.octets) result
+            option_map (reported (state self.now check.now cells).octets) result
             ≡ option_map (moved self.now.origin)
             (piece_report (λ p. class_of self.now.longest (slice_range (b ++ bit ∷ []) (p + 8) (length b - 7)))
             (current b) (length b - 7)) }
     {
-        match self.first {
-            Some(first) if first < past => Some(Event {
-                kind: self.class(),
-                span: Span { first, past },
-            }),
-            _ => None,
+        let first = self.first_or_never();
+        if first >= past {
+            return None;
         }
+        Some(Event {
+            kind: self.class(check),
+            span: Span { first, past },
+        })
     }
 
     /// The piece that an abort mark at `past` ends, if it is not empty.
     fn aborted(&self, past: u64) -> Option<Event>
-        ensures { (b : List Bool) (bit : Bool) → Tracks C.folded C.COST self.now (b ++ bit ∷ []) (current b) →
-            past ≡ self.now.origin + (length b - 6) →
-            option_map (reported self.now.octets) result
-            ≡ option_map (moved self.now.origin) (piece_report (λ p. Abort) (current b) (length b - 6)) }
+        requires within { IsWithin self.now }
+        requires past { past ≤ self.now.place }
+        ensures { (octets : List ℕ) (mark : Mark) (end : ℕ) →
+            first_in self.now.settles_at ≡ first_of self.now.origin mark → past ≡ self.now.origin + end →
+            option_map (reported octets) result
+            ≡ option_map (moved self.now.origin) (piece_report (λ p. Abort) mark end) }
     {
-        match self.first {
-            Some(first) if first < past => Some(Event {
-                kind: EventKind::Abort,
-                span: Span { first, past },
-            }),
-            _ => None,
+        let first = self.first_or_never();
+        if first >= past {
+            return None;
         }
+        Some(Event {
+            kind: EventKind::Abort,
+            span: Span { first, past },
+        })
     }
 
     /// What the piece between the last flag and the one that the newest bit ends is, the first that fits.
-    fn class(&self) -> EventKind
-        ensures { (b : List Bool) (bit : Bool) (p : ℕ) →
-            Tracks C.folded C.COST self.now (b ++ bit ∷ []) (current b) → current b ≡ FlagAt p → p + 15 < length b →
-            kind_with self.now.octets result
+    fn class<C: Check>(&self, check: &C) -> EventKind
+        requires { IsWithin self.now }
+        ensures { (cells : List ℕ) (b : List Bool) (bit : Bool) (p : ℕ) →
+            Tracks C.folded C.COST (state self.now check.now cells) (b ++ bit ∷ []) (current b) →
+            current b ≡ FlagAt p → p + 15 < length b →
+            kind_with (state self.now check.now cells).octets result
             ≡ class_of self.now.longest (slice_range (b ++ bit ∷ []) (p + 8) (length b - 7)) }
     {
         if (self.history >> 3) & 0x1f == 0x1f {
             return EventKind::Damaged(Cause::Unstuffed);
         }
-        if self.gathered > 8 * (self.longest as u64 + 2) {
+        if self.gathered > 8 * (self.longest + 2) {
             return EventKind::Overlong;
         }
         if self.gathered < 32 {
@@ -113,7 +124,7 @@ impl<C: Check> LineDecoder<C> {
         if self.gathered % 8 != 0 {
             return EventKind::Damaged(Cause::Unaligned);
         }
-        if !self.check.is_good() {
+        if !check.is_good() {
             return EventKind::Damaged(Cause::Fcs);
         }
         EventKind::Frame

@@ -5,8 +5,7 @@ ghost use Rattle.bus_bits.specs.Octet.{bits_of};
 ghost use Rattle.bus_line.specs.Mark.{flag, flags, EndsInFlag};
 ghost use Rattle.bus_line.specs.Internal.Flags.{FlagsAhead, IsPast};
 
-use crate::decoder::LineDecoder;
-use bus_fcs::Check;
+use crate::line_words::LineWords;
 use std::cmp::min;
 
 /// Six flags, one behind the other.
@@ -33,15 +32,17 @@ fn flags_in(bits: u64, count: u32) -> u32
     min(other.trailing_zeros(), count) / 8
 }
 
-impl<C: Check> LineDecoder<C> {
-    ghost use Rattle.bus_line.specs.After.{After};
+impl LineWords {
+    ghost use Rattle.bus_line.specs.Words.{IsWithin};
+    ghost use Rattle.bus_line.specs.Internal.Flags.{ShowsFlag, PassesFlags};
 
     /// Whether the last bit taken ended a flag, and these bits go on with one. Between two such flags
     /// there is no piece (ISO/IEC 13239, interframe time fill).
     #[inline(always)]
     pub(crate) fn is_flag_ahead(&self, bits: u64) -> bool
-        ensures some { result ≡ true → (b : List Bool) → After C.folded C.COST self.now b → EndsInFlag b }
-        ensures none { result ≡ false → (b : List Bool) → After C.folded C.COST self.now b → (count : ℕ) →
+        requires { IsWithin self.now }
+        ensures some { result ≡ true → (b : List Bool) → ShowsFlag self.now b → EndsInFlag b }
+        ensures none { result ≡ false → (b : List Bool) → ShowsFlag self.now b → (count : ℕ) →
             FlagsAhead b (bits_of count bits) 0 }
     {
         bits & 0xff == 0x7e && self.settles_at == self.place + 8
@@ -50,10 +51,10 @@ impl<C: Check> LineDecoder<C> {
     /// How many flags these bits begin with, where the last bit taken ended a flag; else none.
     #[inline(always)]
     pub(crate) fn flags_ahead(&self, bits: u64, count: u32) -> u32
-        requires { count ≤ 48 }
+        requires within { IsWithin self.now }
+        requires few { count ≤ 48 }
         ensures within { 8 * result ≤ count }
-        ensures ahead { (b : List Bool) → After C.folded C.COST self.now b →
-            FlagsAhead b (bits_of count bits) result }
+        ensures ahead { (b : List Bool) → ShowsFlag self.now b → FlagsAhead b (bits_of count bits) result }
     {
         if self.is_flag_ahead(bits) {
             return flags_in(bits, count);
@@ -64,18 +65,19 @@ impl<C: Check> LineDecoder<C> {
     /// Takes the flags with which these bits go on right behind a flag, and answers what is left.
     #[inline(always)]
     pub(crate) fn past_flags(&mut self, bits: u64, count: u32) -> Rest
+        requires within { IsWithin self.old }
         requires few { count ≤ 48 }
         requires room { self.old.place + count ≤ 2 ^ 60 }
-        ensures within { 8 * result.flags ≤ count }
+        ensures flags { 8 * result.flags ≤ count }
         ensures count { result.count ≡ count - 8 * result.flags }
         ensures small { bits < 2 ^ count → result.bits < 2 ^ result.count }
-        ensures past { (b : List Bool) → After C.folded C.COST self.old b →
+        ensures past { (b : List Bool) → ShowsFlag self.old b →
             IsPast b count bits result.flags result.bits result.count }
-        ensures after { (b : List Bool) → After C.folded C.COST self.old b →
-            After C.folded C.COST self.new (b ++ flags result.flags) }
+        ensures passes { PassesFlags self.old result.flags self.new }
         ensures longest { self.new.longest ≡ self.old.longest }
         ensures origin { self.new.origin ≡ self.old.origin }
         ensures place { self.new.place ≡ self.old.place + 8 * result.flags }
+        ensures within { IsWithin self.new }
     {
         if !self.is_flag_ahead(bits) {
             return Rest {
@@ -96,20 +98,20 @@ impl<C: Check> LineDecoder<C> {
     /// Takes so many flags, which follow a flag.
     #[inline(never)]
     fn take_flags(&mut self, count: u32)
+        requires within { IsWithin self.old }
         requires few { count ≤ 6 }
         requires room { self.old.place + 8 * count ≤ 2 ^ 60 }
-        ensures after { (b : List Bool) → After C.folded C.COST self.old b → (0 < count → EndsInFlag b) →
-            After C.folded C.COST self.new (b ++ flags count) }
+        ensures passes { PassesFlags self.old count self.new }
         ensures longest { self.new.longest ≡ self.old.longest }
         ensures origin { self.new.origin ≡ self.old.origin }
         ensures place { self.new.place ≡ self.old.place + 8 * count }
+        ensures within { IsWithin self.new }
     {
         if count == 0 {
             return;
         }
         self.place += u64::from(8 * count);
         self.history = 0x7e7e;
-        self.first = Some(self.place);
         self.settles_at = self.place + 8;
     }
 }

@@ -1,6 +1,6 @@
 //! What the newest bit ends, by the last bits.
 
-ghost use Rattle.std.specs.Prelude.{◌≡◌, List, Bool, [], ◌∷◌, ◌++◌, length, drop};
+ghost use Rattle.std.specs.Prelude.{◌≡◌, ◌<◌, List, Bool, [], ◌∷◌, ◌++◌, length, drop};
 ghost use Rattle.bus_bits.specs.Octet.{number};
 ghost use Rattle.bus_line.specs.Internal.Look.{IsFound};
 ghost use Rattle.bus_line.specs.Internal.Run.{ones_at_end};
@@ -20,7 +20,8 @@ pub(crate) enum Found {
 
 /// What the newest bit ends, by the last sixteen bits, the oldest lowest. `count` bits came before it.
 pub(crate) fn look(history: u64, count: u64) -> Found
-    ensures { (b : List Bool) (bit : Bool) →
+    ensures closing { result ≡ Found.Closing → 6 < count }
+    ensures found { (b : List Bool) (bit : Bool) →
         history ≡ number (drop (length (b ++ bit ∷ [])) (padded (b ++ bit ∷ []))) → count ≡ length b →
         IsFound bit (ones_at_end b) count result }
 {

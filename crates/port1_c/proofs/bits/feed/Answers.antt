@@ -1,36 +1,32 @@
-use Rattle.std.proofs.Common.{◌≡◌, ◌+◌, ◌-◌, ◌∙◌, ℕ, refl, sym, subst, arith}
-use Rattle.bus_fcs.specs.declared.octet_check.OctetCheck.{OctetCheck}
-use Rattle.bus_line.specs.Parts.{LineState}
+use Rattle.std.proofs.Common.{◌≡◌, ◌+◌, ◌-◌, ℕ, subst, arith}
 use Rattle.port1_c.specs.Bits.{bits_from}
-use Rattle.port1_c.specs.Line.{DecideNothing, Tells}
-use Rattle.port1_c.proofs.TellLemmas.{decide-more, silent, tell-alike, tell-more, tell-none}
+use Rattle.port1_c.specs.Line.{DecideNothing, Tells, held}
 use Rattle.port1_c.proofs.bits.feed.Goals as goal
 
-pub loop-count-init : goal.loop-count-init
-loop-count-init c = record { within = omega (arith, c.requires.some); rests = tell-none c.args.octets.now c.args.at c.args.decoder.now }
+pub returns-then-at-end-clause-tells : goal.returns-then-at-end-clause-tells
+returns-then-at-end-clause-tells c =
+    let at = c.args.at.now in
+    let told = c.take_all-told in
+    let n : told.result.count ≡ at + told.result.count - at = omega arith in
+    subst (λ (k : ℕ). Tells (held c.args.line.now) (bits_from c.args.octets.now at k) told.result.report (held told.new.line)) n told.ensures.tells
 
-pub returns-then-told-ne-NONE-clause-tells : goal.returns-then-told-ne-NONE-clause-tells
-returns-then-told-ne-NONE-clause-tells c =
-    tell-more c.args.octets.now c.args.at c.loop-count.count c.in-Ok.told.count c.args.decoder.now c.loop-count.decoder c.step.new.decoder c.in-Ok.told.report c.loop-count.invariant.rests c.in-Ok.ensures.tells
-
-pub loop-count-preserved : goal.loop-count-preserved
-loop-count-preserved c = record {
-  within = omega (arith, c.in-Ok.ensures.count.1);
-  rests = tell-alike c.args.decoder.now c.step.new.decoder (bits_from c.args.octets.now c.args.at (c.loop-count.count + c.in-Ok.told.count)) c.in-Ok.told.report silent (omega (arith, c.if-told-ne-NONE.false)) refl
-      (tell-more c.args.octets.now c.args.at c.loop-count.count c.in-Ok.told.count c.args.decoder.now c.loop-count.decoder c.step.new.decoder c.in-Ok.told.report c.loop-count.invariant.rests c.in-Ok.ensures.tells);
-}
-
-same : (c : goal.After-none) → c.loop-count.decoder ≡ c.loop-count-test.decoder
-same c = elim c.loop-count-test.branch [ goal.else-loop-count-test w ↦ sym w.decoder-is | goal.then-loop-count-test+in_default w ↦ sym (w.decoder-is ∙ w.in_default.ensures.kept) ]
+pub returns-then-at-end-clause-before : goal.returns-then-at-end-clause-before
+returns-then-at-end-clause-before c = λ some.
+    let at = c.args.at.now in
+    let told = c.take_all-told in
+    let n : told.result.count ≡ at + told.result.count - at = omega arith in
+    subst (λ (k : ℕ). DecideNothing (held c.args.line.now) (bits_from c.args.octets.now at (k - 1))) n (told.ensures.before some)
 
 pub returns-clause-tells : goal.returns-clause-tells
 returns-clause-tells c =
-    let bits = bits_from c.args.octets.now c.args.at c.loop-count.count in
-    tell-alike c.args.decoder.now c.loop-count-test.decoder bits silent c.none.result refl c.none.ensures.kind
-    (subst (λ (s : LineState OctetCheck). Tells c.args.decoder.now bits silent s) (same c) c.loop-count.invariant.rests)
+    let at = c.args.at.now in
+    let told = c.take_all-told in
+    let n : told.result.count ≡ at + told.result.count - at = omega arith in
+    subst (λ (k : ℕ). Tells (held c.args.line.now) (bits_from c.args.octets.now at k) told.result.report (held told.new.line)) n told.ensures.tells
 
-pub returns-then-told-ne-NONE-clause-before : goal.returns-then-told-ne-NONE-clause-before
-returns-then-told-ne-NONE-clause-before c = λ _.
-    let n : c.loop-count.count + (c.in-Ok.told.count - 1) ≡ c.loop-count.count + c.in-Ok.told.count - 1 = omega (arith, c.in-Ok.ensures.count.0) in
-    subst (λ (k : ℕ). DecideNothing c.args.decoder.now (bits_from c.args.octets.now c.args.at k)) n
-    (decide-more c.args.octets.now c.args.at c.loop-count.count (c.in-Ok.told.count - 1) c.args.decoder.now c.loop-count.decoder c.loop-count.invariant.rests c.in-Ok.ensures.before)
+pub returns-clause-before : goal.returns-clause-before
+returns-clause-before c = λ some.
+    let at = c.args.at.now in
+    let told = c.take_all-told in
+    let n : told.result.count ≡ at + told.result.count - at = omega arith in
+    subst (λ (k : ℕ). DecideNothing (held c.args.line.now) (bits_from c.args.octets.now at (k - 1))) n (told.ensures.before some)

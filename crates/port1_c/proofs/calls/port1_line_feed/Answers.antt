@@ -1,38 +1,38 @@
-use Rattle.std.proofs.Common.{◌≡◌, ◌+◌, ◌-◌, ◌++◌, ℕ, subst, arith}
-use Rattle.std.specs.Option.{option_to_list}
+use Rattle.std.proofs.Common.{◌≡◌, ◌-◌, ◌++◌, ℕ, sym, subst, arith}
 use Rattle.port1_c.specs.Bits.{bits_from}
-use Rattle.port1_c.specs.Line.{Stands, frame, held, reports_of, told}
-use Rattle.port1_c.proofs.StoreLemmas.{goes-on, stands-on, told-on}
+use Rattle.port1_c.specs.Line.{Stands}
+use Rattle.port1_c.proofs.BitLemmas.{length-from}
 use Rattle.port1_c.proofs.calls.port1_line_feed.Goals as goal
 
-pub returns-then-at-end-2-clause-stands : goal.returns-then-at-end-2-clause-stands
-returns-then-at-end-2-clause-stands c = λ _ b s.
-    let n : c.feed-told.result.count ≡ c.args.at.now + c.feed-told.result.count - c.args.at.now = omega arith in
-    subst (λ (k : ℕ). Stands c.store.new.self (b ++ bits_from c.args.octets.now c.args.at.now k)) n
-    (stands-on (held c.args.line.now) c.in-Some.decoder c.feed-told.new.decoder (held c.store.new.self) (bits_from c.args.octets.now c.args.at.now c.feed-told.result.count) c.feed-told.result.report c.in-Some.ensures.value c.store.ensures.value c.feed-told.ensures.tells b s)
+pub returns-then-is_octet-clause-stands : goal.returns-then-is_octet-clause-stands
+returns-then-is_octet-clause-stands c = λ _ b s.
+    let os = c.args.octets.now in
+    let new = c.feed_octet.new.at in
+    let line = c.feed_octet.new.line in
+    let start = (c.are_octet-is_octet.ensures c.if-is_octet.true).1 in
+    let all : new ≡ new - 0 = omega arith in
+    subst (λ (z : ℕ). Stands line (b ++ bits_from os z (new - z))) (sym start)
+    (subst (λ (n : ℕ). Stands line (b ++ bits_from os 0 n)) all (c.feed_octet.ensures.tells.after b s))
 
-pub returns-then-at-end-2-clause-told : goal.returns-then-at-end-2-clause-told
-returns-then-at-end-2-clause-told c = λ _ b s.
-    let n : c.feed-told.result.count ≡ c.args.at.now + c.feed-told.result.count - c.args.at.now = omega arith in
-    subst (λ (k : ℕ). reports_of c.store.new.self (b ++ bits_from c.args.octets.now c.args.at.now k) ≡ reports_of c.args.line.now b ++ option_to_list (told c.feed-told.result.report (frame c.store.new.self))) n
-    (told-on (held c.args.line.now) c.in-Some.decoder c.feed-told.new.decoder (held c.store.new.self) (bits_from c.args.octets.now c.args.at.now c.feed-told.result.count) c.feed-told.result.report c.in-Some.ensures.value c.store.ensures.value c.feed-told.ensures.tells b s)
+pub returns-then-is_octet-clause-goes : goal.returns-then-is_octet-clause-goes
+returns-then-is_octet-clause-goes c = λ _.
+    let tells = c.feed_octet.ensures.tells in
+    let start = (c.are_octet-is_octet.ensures c.if-is_octet.true).1 in
+    record {
+      longest = tells.longest;
+      origin = tells.origin;
+      place = omega (arith, start, tells.place, length-from c.args.octets.now 0 c.feed_octet.new.at);
+    }
 
 pub returns-clause-stands : goal.returns-clause-stands
-returns-clause-stands c = λ _ b s.
-    let n : c.feed-told.result.count ≡ c.args.at.now + c.feed-told.result.count - c.args.at.now = omega arith in
-    subst (λ (k : ℕ). Stands c.store.new.self (b ++ bits_from c.args.octets.now c.args.at.now k)) n
-    (stands-on (held c.args.line.now) c.in-Some.decoder c.feed-told.new.decoder (held c.store.new.self) (bits_from c.args.octets.now c.args.at.now c.feed-told.result.count) c.feed-told.result.report c.in-Some.ensures.value c.store.ensures.value c.feed-told.ensures.tells b s)
-
-pub returns-clause-told : goal.returns-clause-told
-returns-clause-told c = λ _ b s.
-    let n : c.feed-told.result.count ≡ c.args.at.now + c.feed-told.result.count - c.args.at.now = omega arith in
-    subst (λ (k : ℕ). reports_of c.store.new.self (b ++ bits_from c.args.octets.now c.args.at.now k) ≡ reports_of c.args.line.now b ++ option_to_list (told c.feed-told.result.report (frame c.store.new.self))) n
-    (told-on (held c.args.line.now) c.in-Some.decoder c.feed-told.new.decoder (held c.store.new.self) (bits_from c.args.octets.now c.args.at.now c.feed-told.result.count) c.feed-told.result.report c.in-Some.ensures.value c.store.ensures.value c.feed-told.ensures.tells b s)
-
-pub returns-then-at-end-2-clause-goes : goal.returns-then-at-end-2-clause-goes
-returns-then-at-end-2-clause-goes c = λ _.
-    goes-on c.args.line.now c.store.new.self c.in-Some.decoder c.feed-told.new.decoder c.args.octets.now c.args.at.now c.feed-told.result.count c.feed-told.result.report c.in-Some.ensures.value c.store.ensures.longest c.store.ensures.origin c.store.ensures.place c.feed-told.ensures.tells
+returns-clause-stands c = λ _ b s. c.feed.ensures.tells.after b s
 
 pub returns-clause-goes : goal.returns-clause-goes
 returns-clause-goes c = λ _.
-    goes-on c.args.line.now c.store.new.self c.in-Some.decoder c.feed-told.new.decoder c.args.octets.now c.args.at.now c.feed-told.result.count c.feed-told.result.report c.in-Some.ensures.value c.store.ensures.longest c.store.ensures.origin c.store.ensures.place c.feed-told.ensures.tells
+    let tells = c.feed.ensures.tells in
+    let at = c.args.at.now in
+    record {
+      longest = tells.longest;
+      origin = tells.origin;
+      place = omega (arith, tells.place, length-from c.args.octets.now at (c.feed.new.at - at));
+    }

@@ -1,7 +1,8 @@
 use Rattle.std.proofs.Common.{refl, sym, subst}
 use Rattle.bus_line.specs.Internal.LineState.{LineState}
 use Rattle.bus_line.specs.Internal.LineView.{line_state}
-use Rattle.bus_line.specs.Internal.Tracks.{HasTaken}
+use Rattle.bus_line.specs.After.{After}
+use Rattle.bus_line.proofs.WordsLemmas.{shows-flag}
 use Rattle.bus_line.proofs.AdvanceLemmas.{word-joined}
 use Rattle.bus_line.proofs.PassedLemmas.{would-all, would-stop}
 use Rattle.bus_line.proofs.decoder.LineDecoder.would_take.Goals as goal
@@ -10,15 +11,19 @@ pub returns-then-calm-left-clause-stops : goal.returns-then-calm-left-clause-sto
 returns-then-calm-left-clause-stops g c = λ b h.
     let n = c.args.count in
     let x = c.args.bits in
-    let here : HasTaken (line_state c.self.inside) b = subst (λ (s : LineState g.row.C.Denot). HasTaken s b) (sym c.self.view_is) h.has_taken in
-    let word = word-joined (line_state c.self.inside) n x b here c.requires.few c.requires.small in
-    would-all {b = b} {n = n} {x = x} (record { ahead = c.flags_ahead-passed.ensures.ahead b h; bits = refl; count = refl }) _ c.calm_bits-calm.result word c.if-calm-left.true c.calm_bits-calm.ensures.calm
+    let d = c.self.inside in
+    let here : After g.C.Check.folded g.C.Check.COST (line_state d) b = subst (λ (s : LineState g.row.C.Denot). After g.C.Check.folded g.C.Check.COST s b) (sym c.self.view_is) h in
+    let shown = shows-flag _ _ d.words d.check d.cells b c.self.invariant.within here in
+    let word = word-joined (line_state d) n x b here.has_taken c.requires.few c.requires.small in
+    would-all {b = b} {n = n} {x = x} (record { ahead = c.flags_ahead-passed.ensures.ahead b shown; bits = refl; count = refl }) _ c.calm_bits-calm.result word c.if-calm-left.true c.calm_bits-calm.ensures.calm
 
 pub returns-else-calm-left-clause-stops : goal.returns-else-calm-left-clause-stops
 returns-else-calm-left-clause-stops g c = λ b h.
     let n = c.args.count in
     let x = c.args.bits in
     let calm = c.calm_bits-calm in
-    let here : HasTaken (line_state c.self.inside) b = subst (λ (s : LineState g.row.C.Denot). HasTaken s b) (sym c.self.view_is) h.has_taken in
-    let word = word-joined (line_state c.self.inside) n x b here c.requires.few c.requires.small in
-    would-stop {b = b} {n = n} {x = x} (record { ahead = c.flags_ahead-passed.ensures.ahead b h; bits = refl; count = refl }) _ calm.result word calm.ensures.within c.if-calm-left.false calm.ensures.calm calm.ensures.stop
+    let d = c.self.inside in
+    let here : After g.C.Check.folded g.C.Check.COST (line_state d) b = subst (λ (s : LineState g.row.C.Denot). After g.C.Check.folded g.C.Check.COST s b) (sym c.self.view_is) h in
+    let shown = shows-flag _ _ d.words d.check d.cells b c.self.invariant.within here in
+    let word = word-joined (line_state d) n x b here.has_taken c.requires.few c.requires.small in
+    would-stop {b = b} {n = n} {x = x} (record { ahead = c.flags_ahead-passed.ensures.ahead b shown; bits = refl; count = refl }) _ calm.result word calm.ensures.within c.if-calm-left.false calm.ensures.calm calm.ensures.stop

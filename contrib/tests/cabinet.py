@@ -1,0 +1,306 @@
+"""A simulated cabinet whose truth is known: a controller and its stations on four wires, recorded by a logic analyser.
+
+The controller's clock runs all the time. The stations share the other pair: either the one that answers drives its own
+clock while it sends (gated), or one clock runs all the time (free). Bits change at falling edges and are taken at
+rising ones.
+"""
+
+import random
+from dataclasses import dataclass, field
+from typing import Iterator, List, NamedTuple, Sequence, Tuple
+
+import numpy as np
+
+# Bits a second.
+RATE = 153600
+
+FLAG = "01111110"
+
+# The shortest recording.
+LEAST_BITS = 4
+
+# Channels, in the order of their bits in a sample.
+TXC, TXD, RXC, RXD = range(4)
+
+DICTIONARY = """version = 2
+[[frame]]
+type = 0
+name = "call"
+length = 2
+answered = true
+window = 200
+[[frame]]
+type = 1
+name = "poll"
+length = 0
+answered = true
+window = 200
+[[frame]]
+type = 9
+name = "notice"
+length = 4
+[[frame]]
+type = 128
+name = "reply"
+length = 6
+[[frame]]
+type = 129
+name = "state"
+length = 20
+"""
+
+# Octets behind the type of each command, and of its answer.
+LENGTHS = {0: (2, 6), 1: (0, 20)}
+
+
+def check_of(octets: Sequence[int]) -> int:
+    """The frame check: ISO/IEC 13239, 16-bit frame checking sequence."""
+    register = 0xFFFF
+    for octet in octets:
+        for place in range(8):
+            mixed = (register ^ octet >> place) & 1
+            register = register >> 1 ^ (0x8408 if mixed else 0)
+    return register ^ 0xFFFF
+
+
+def body_of(octets: Sequence[int]) -> str:
+    """The bits of a frame between its flags: the lowest of each octet first, a 0 put behind five ones."""
+    check = check_of(octets)
+    bits = "".join(f"{octet:08b}"[::-1] for octet in [*octets, check & 0xFF, check >> 8])
+    return bits.replace("11111", "111110")
+
+
+def damaged(bits: str, generator: random.Random) -> str:
+    """Bits, one of which was inverted on the way."""
+    place = generator.randrange(len(bits))
+    return bits[:place] + ("1" if bits[place] == "0" else "0") + bits[place + 1 :]
+
+
+# A frame that a station sends right behind an answer.
+OTHER = body_of([3, 0x83, 129, *range(20)])
+
+
+class Stretch(NamedTuple):
+    """Bits that are sent one behind the other, the first taken at a time in seconds, with a rate.
+
+    From some bit on another station may send, whose clock goes on a little later.
+    """
+
+    begin: float
+    bits: str
+    rate: float
+    handed_over: int = 0
+    later: float = 0
+
+    def rises(self) -> "np.ndarray":
+        """When the clock rises."""
+        places = np.arange(len(self.bits))
+        return self.begin + places / self.rate + np.where(places >= self.handed_over, self.later, 0)
+
+
+class Answer(NamedTuple):
+    """What stations send from a time on, in bits of the controller, and with which bit another station goes on."""
+
+    begin: float
+    bits: str
+    handed_over: int = 0
+    later: float = 0  # in bits
+
+
+@dataclass(frozen=True)
+class Cabinet:
+    """What is simulated. Parts per million are those of the answering clocks against the controller's."""
+
+    seed: int
+    ppm: float = 0
+    gated: bool = True
+    samples: int = 4_000_000  # a second
+    polls: int = 40
+    jitter: int = 1  # an edge is seen so many samples too late at most
+    glitches: int = 0  # samples inverted on each channel
+    whole: bool = True  # else the recording begins and ends anywhere
+
+
+class Recorded(NamedTuple):
+    """Samples, channel 0 lowest, and the bits of both lines with the samples in which their clocks rose."""
+
+    samples: "np.ndarray"
+    first: Tuple["np.ndarray", str]
+    second: List[Tuple["np.ndarray", str]]  # stretch by stretch
+
+
+class Bus:
+    """Goes through the polls, and writes down what the controller sends, and what the stations do."""
+
+    def __init__(self, cabinet: Cabinet):
+        self.cabinet = cabinet
+        self.generator = random.Random(cabinet.seed)
+        self.phase = self.generator.random() / RATE  # of the stations' clocks against the controller's
+        self.first: List[str] = ["1" * 40]
+        self.count = 40
+        self.answers: List[Answer] = []
+        self.wait = 40.0
+
+    def send(self, bits: str) -> None:
+        self.first.append(bits)
+        self.count += len(bits)
+
+    def fill(self, count: int) -> None:
+        """Flags or ones, until something is to be sent."""
+        whole = self.generator.choice([FLAG, "1"])
+        self.send((whole * count)[: count // 8 * 8] + "1" * 16)
+
+    def poll(self) -> None:
+        """A command and what comes of it: an answer, in time or late, no answer, or damage of either."""
+        generator = self.generator
+        kind = generator.choice([0, 1])
+        station = generator.randrange(1, 20)
+        command, answer = LENGTHS[kind]
+        data = [generator.randrange(256) for _ in range(command)]
+        body = body_of([station, 0x83, kind, *data])
+        fate = generator.choices(["answered", "late", "missing", "command", "answer", "notice"], [8, 1, 1, 1, 1, 1])[0]
+        self.send(FLAG + (damaged(body, generator) if fate == "command" else body) + FLAG)
+        if fate == "notice":
+            self.send(body_of([255, 0x83, 9, 1, 2, 3, 4]) + FLAG)
+        if fate not in ("missing", "command", "notice"):
+            reply = body_of([station, 0x83, kind + 128, *(generator.randrange(256) for _ in range(answer))])
+            delay = generator.uniform(300, 400) if fate == "late" else generator.uniform(9, 150)
+            self.answer(damaged(reply, generator) if fate == "answer" else reply, delay)
+        self.fill(generator.randrange(900, 1100))
+
+    def answer(self, body: str, delay: float) -> None:
+        """An answer, and sometimes another frame at once behind it, from the same station or from another."""
+        first = FLAG + body + FLAG
+        behind, later = self.generator.choice([("", 0), ("", 0), (OTHER + FLAG, 0), (FLAG + OTHER + FLAG, 0.8)])
+        self.answers.append(Answer(self.count + delay, first + behind, len(first), later * self.generator.random()))
+
+    def stretches(self) -> Iterator[Stretch]:
+        """The answers as their clocks take them."""
+        rate = RATE * (1 + self.cabinet.ppm / 1e6)
+        if self.cabinet.gated:
+            for answer in self.answers:
+                yield Stretch(answer.begin / RATE, answer.bits, rate, answer.handed_over, answer.later / RATE)
+            return
+        bits = ""
+        for answer in self.answers:
+            bits += "1" * (round(answer.begin / RATE * rate) - len(bits)) + answer.bits
+        bits += "1" * (round(self.count / RATE * rate) - len(bits))
+        yield Stretch(self.phase, bits, rate)
+
+
+@dataclass
+class Wire:
+    """The samples in which a channel changes, and its levels from there on."""
+
+    times: List["np.ndarray"] = field(default_factory=list)
+    levels: List["np.ndarray"] = field(default_factory=list)
+
+    def add(self, times: "np.ndarray", levels: "np.ndarray") -> None:
+        self.times.append(times)
+        self.levels.append(levels)
+
+    def sampled(self, count: int, rest: int) -> "np.ndarray":
+        times = np.concatenate([np.zeros(1, dtype=np.int64), *self.times, np.array([count])])
+        levels = np.concatenate([np.full(1, rest, dtype=np.uint8), *self.levels])
+        return np.repeat(levels, np.diff(np.maximum.accumulate(np.clip(times, 0, count))))
+
+
+def levels_of(bits: str) -> "np.ndarray":
+    return np.frombuffer(bits.encode(), dtype=np.uint8) - ord("0")
+
+
+class Analyser:
+    """Samples the wires."""
+
+    def __init__(self, cabinet: Cabinet):
+        self.cabinet = cabinet
+        self.generator = np.random.default_rng(cabinet.seed)
+
+    def seen(self, times: "np.ndarray") -> "np.ndarray":
+        """The samples that are the first to see what happens at times in seconds."""
+        exact = np.ceil(times * self.cabinet.samples).astype(np.int64)
+        return exact + self.generator.integers(0, self.cabinet.jitter + 1, len(times))
+
+    def record(self, clock: Wire, data: Wire, stretch: Stretch, rest: int) -> "np.ndarray":
+        """Puts a stretch on the wires; the clock rests at a level, the data at 1. Returns when the clock rises."""
+        rises = stretch.rises()
+        half = 0.5 / stretch.rate
+        seen = self.seen(rises)
+        falls = np.append(self.seen(rises - half), self.seen(rises[-1:] + half) if rest == 0 else seen[-1:])
+        both = np.empty(2 * len(seen) + 1, dtype=np.int64)
+        both[0::2], both[1::2] = falls, seen
+        levels = np.tile(np.array([0, 1], dtype=np.uint8), len(seen) + 1)[: len(both)]
+        levels[-1] = rest
+        clock.add(both, levels)
+        ends = self.seen(np.append(rises - half, rises[-1] + half))
+        data.add(ends, np.append(levels_of(stretch.bits), 1).astype(np.uint8))
+        return seen
+
+
+def samples_of(analyser: Analyser, wires: Sequence[Wire], count: int, rest: int) -> "np.ndarray":
+    samples = np.zeros(count, dtype=np.uint8)
+    for channel, (wire, level) in enumerate(zip(wires, [0, 1, rest, 1])):
+        levels = wire.sampled(count, level)
+        levels[analyser.generator.integers(0, count, analyser.cabinet.glitches)] ^= 1
+        samples |= levels << channel
+    return samples
+
+
+def cut(recorded: Recorded, begin: int, end: int) -> Recorded:
+    """What is left of a recording of these samples alone. An edge in the first of them is none."""
+
+    def kept(times: "np.ndarray", bits: str) -> Tuple["np.ndarray", str]:
+        low, high = np.searchsorted(times, [begin + 1, end])
+        return times[low:high] - begin, bits[low:high]
+
+    stretches = [kept(*stretch) for stretch in recorded.second]
+    return Recorded(recorded.samples[begin:end], kept(*recorded.first), [some for some in stretches if some[1]])
+
+
+def recorded_of(cabinet: Cabinet) -> Recorded:
+    """A recording of the cabinet."""
+    bus = Bus(cabinet)
+    for _ in range(cabinet.polls):
+        bus.poll()
+    return recorded_from(cabinet, bus)
+
+
+def recorded_from(cabinet: Cabinet, bus: Bus) -> Recorded:
+    """A recording of what went over a bus."""
+    analyser = Analyser(cabinet)
+    wires = [Wire() for _ in range(4)]
+    rest = bus.generator.choice([0, 1])
+    bits = "".join(bus.first)
+    edges = analyser.record(wires[TXC], wires[TXD], Stretch(0.5 / RATE, bits, RATE), 0)
+    second = [
+        (analyser.record(wires[RXC], wires[RXD], stretch, rest), stretch.bits) for stretch in bus.stretches()
+    ]
+    count = int(edges[-1]) + cabinet.samples // RATE
+    recorded = Recorded(samples_of(analyser, wires, count, rest), (edges, bits), second)
+    if cabinet.whole:
+        return recorded
+    begin, end = sorted(bus.generator.sample(range(count), 2))
+    least = LEAST_BITS * cabinet.samples // RATE
+    return cut(recorded, max(0, min(begin, end - least)), max(end, least))
+
+
+def parts_between_idle(bits: str) -> Iterator[Tuple[int, str]]:
+    """The parts of a line without fifteen ones in a row, and where they begin."""
+    zeros = [place for place, bit in enumerate(bits) if bit == "0"]
+    begin = 0
+    for at in range(1, len(zeros) + 1):
+        if at == len(zeros) or zeros[at] - zeros[at - 1] > 15:
+            yield zeros[begin], bits[zeros[begin] : zeros[at - 1] + 1]
+            begin = at
+
+
+def truth_of(recorded: Recorded) -> str:
+    """The capture of two lines: each part of the second line from the place on at which the first bit was taken."""
+    edges, bits = recorded.first
+    second = np.ones(len(bits), dtype=np.uint8)
+    for times, sent in recorded.second:
+        for begin, part in parts_between_idle(sent):
+            place = int(np.searchsorted(edges, times[begin]))
+            some = levels_of(part)[: max(0, len(bits) - place)]
+            second[place : place + len(some)] = some
+    return "".join(map(str, levels_of(bits) + 2 * second))

@@ -1,0 +1,111 @@
+"""What the tests of the scripts share: runs of a script, captures made bit by bit, and tests that are skipped."""
+
+import os
+import random
+import shutil
+import struct
+import subprocess
+from dataclasses import dataclass
+from functools import lru_cache
+from pathlib import Path
+from typing import Callable, List, Sequence, Union
+
+CONTRIB = Path(__file__).resolve().parent.parent
+
+TOP = CONTRIB.parent
+
+# How long a run may take, in seconds.
+SECONDS = 300
+
+Word = Union[str, Path]
+
+# A test of its own: it is given an empty folder, and says what is wrong.
+Test = Callable[[Path], List[str]]
+
+CALL = "01111110 00001000 11000001 00000000 101111101 10100111 01111110"
+
+REPLY = "01111110 00001000 11000001 00000001 10101111 100000110 01111110"
+
+DICTIONARY = (TOP / "examples" / "call-and-reply.toml").read_text(encoding="ascii")
+
+WINDOWS = (TOP / "examples" / "call-within-window.toml").read_text(encoding="ascii")
+
+
+@dataclass(frozen=True)
+class Run:
+    """A run of a script: its words, what it reads, and all that it is to write."""
+
+    name: str
+    words: Sequence[str]
+    stdin: bytes
+    stdout: bytes = b""
+    stderr: str = ""
+    status: int = 0
+
+
+class Skipped(Exception):
+    """A test that is not run, and why."""
+
+
+def needs(tool: str) -> None:
+    if shutil.which(tool) is None:
+        raise Skipped(f"no {tool}")
+
+
+# The scripts that need a module of Python which is not Python's own.
+MODULES = {"check-dictionary": "jsonschema", "recording-to-bits": "numpy", "vcd-to-bits": "numpy"}
+
+
+@lru_cache()
+def has_module(name: str) -> bool:
+    """Whether the Python that runs scripts has a module."""
+    return subprocess.run(["python3", "-c", f"import {name}"], stderr=subprocess.DEVNULL).returncode == 0
+
+
+def needs_module(name: str) -> None:
+    if not has_module(name):
+        raise Skipped(f"no Python module {name}")
+
+
+def lacks_module(script: str) -> bool:
+    return script in MODULES and not has_module(MODULES[script])
+
+
+def plain(bits: str) -> str:
+    return "".join(bits.split())
+
+
+def lines(bits: str) -> bytes:
+    """Bits as the scripts write them, 64 in each line."""
+    return "".join(bits[at : at + 64] + "\n" for at in range(0, len(bits), 64)).encode()
+
+
+def packed(bits: str) -> bytes:
+    """A packed capture, octet by octet."""
+    body = bytearray((len(bits) + 7) // 8)
+    for place, bit in enumerate(bits):
+        body[place // 8] |= int(bit) << place % 8
+    return b"TS2BITS1" + struct.pack("<Q", len(bits)) + bytes(body)
+
+
+ONE_CALL = packed(plain(CALL))
+
+
+def ran(words: Sequence[str], stdin: bytes = b"", **options) -> subprocess.CompletedProcess:
+    command = [CONTRIB / words[0], *words[1:]]
+    return subprocess.run(command, input=stdin, capture_output=True, timeout=SECONDS, **options)
+
+
+def written_by(words: Sequence[str]) -> bytes:
+    """What a program writes that reads nothing and has to succeed."""
+    return subprocess.run(words, stdin=subprocess.DEVNULL, capture_output=True, check=True, timeout=SECONDS).stdout
+
+
+def listed(capture: bytes, options: Sequence[str]) -> subprocess.CompletedProcess:
+    """The listing of one run."""
+    words = [os.environ["PORT1"], "list", *options]
+    return subprocess.run(words, input=capture, capture_output=True, timeout=SECONDS)
+
+
+def random_bits(generator: random.Random, count: int) -> str:
+    return f"{generator.getrandbits(count):0{count}b}" if count else ""

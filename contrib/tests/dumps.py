@@ -1,0 +1,159 @@
+"""Bits from a value change dump."""
+
+import random
+from pathlib import Path
+from typing import List
+
+from tests.case import CALL, Run, lines, needs, plain, ran, random_bits, written_by
+
+# Definitions as IEEE 1364 has them, other kinds of signals among them, the data before the clock.
+DEFINITIONS = """$date today $end
+$version by hand $end
+$timescale 1 us $end
+$scope module tap $end
+$var wire 1 " dat $end
+$var wire 1 ! clk $end
+$var reg 8 # bus [7:0] $end
+$var real 64 % volts $end
+$var wire 1 & both $end
+$var wire 1 ' both $end
+$upscope $end
+$enddefinitions $end
+"""
+
+
+def dump(bits: str, times_alone: bool) -> bytes:
+    """A dump in which the data changes where the clock falls, each time on a line of its own or not."""
+    behind = "\n" if times_alone else " "
+    texts = [DEFINITIONS, f'#0{behind}$dumpvars 0! x" b00000000 # r1.5 % x& x\' $end\n']
+    for place, bit in enumerate(bits):
+        texts.append(f'#{10 * place + 5}{behind}0!{behind}{bit}"{behind}b0000000{bit} #\n')
+        texts.append(f"#{10 * place + 10}{behind}$comment 1! is no change here $end 1!{behind}r2.5 %\n")
+    return "".join(texts).encode()
+
+
+SIGNALS = "dat, clk, both, both"
+
+CLK = "vcd-to-bits: clk has"
+
+AT_TAKEN_EDGE = "vcd-to-bits: warning: the data changes at the edge of clk that is taken: try it"
+
+SHORT = "vcd-to-bits: warning: the data of clk has a pulse shorter than half a bit (at sample 8)\n"
+
+# A dump with the data of two lines, which change between the edges of the clock and at one of them.
+TWO_DATA = b"""$var wire 1 ! clk $end $var wire 1 " dat $end $var wire 1 ( ans $end $enddefinitions $end
+#0 0! 0" 1( #5 1! #6 0! 1" #7 0( #8 1! 1( #9 0! #10 1! #11 0! 0" 0( #12 1!
+"""
+
+RUNS = [
+    Run("times alone", ["vcd-to-bits", "clk", "dat"], dump(plain(CALL), True), lines(plain(CALL)), f"{CLK} 57 edges\n"),
+    Run("times before changes", ["vcd-to-bits", "clk", "dat"], dump(plain(CALL), False), lines(plain(CALL)), f"{CLK} 57 edges\n"),
+    Run(
+        "falling edges",
+        ["vcd-to-bits", "--falling", "clk", "dat"],
+        dump("0110", True) + b"#45 0!\n",
+        b"0110\n",
+        f"{CLK} 4 edges\n{AT_TAKEN_EDGE} without --falling\n",
+    ),
+    Run(
+        "data that changes with the edge",
+        ["vcd-to-bits", "clk", "dat"],
+        DEFINITIONS.encode() + b'#0 0! 0"\n#5 1! 1"\n#6 0!\n#7 0" 1!\n',
+        b"01\n",
+        f"{CLK} 2 edges\n{AT_TAKEN_EDGE} with --falling\n",
+    ),
+    Run(
+        "a signal named in two scopes",
+        ["vcd-to-bits", "clk", "dat"],
+        b"$scope module probe $end $var wire 1 ! clk $end $upscope $end " + dump("0110", True),
+        b"0110\n",
+        f"{CLK} 4 edges\n",
+    ),
+    Run(
+        "no edges",
+        ["vcd-to-bits", "clk", "dat"],
+        DEFINITIONS.encode() + b'#0 1! 0"\n#9 0!\n',
+        b"",
+        f"{CLK} 0 edges\nvcd-to-bits: warning: clk has no edges\n",
+    ),
+    Run(
+        "an edge of no known level before",
+        ["vcd-to-bits", "clk", "dat"],
+        DEFINITIONS.encode() + b'#0 x! 0"\n#5 1!\n#6 0!\n#7 1!\n',
+        b"0\n",
+        f"{CLK} 1 edge\n",
+    ),
+    Run(
+        "data without a value",
+        ["vcd-to-bits", "clk", "dat"],
+        DEFINITIONS.encode() + b'#0 0! 1"\n#1 1!\n#2 0! z"\n#5 1!\n',
+        b"1\n",
+        "vcd-to-bits: at 0.000005 s the data has no known level\n",
+        2,
+    ),
+    Run("two lines", ["vcd-to-bits", "clk", "dat", "ans"], TWO_DATA, b"2130\n", f"{CLK} 4 edges\n{SHORT}"),
+    Run("two lines, the other way", ["vcd-to-bits", "clk", "ans", "dat"], TWO_DATA, b"1230\n", f"{CLK} 4 edges\n{SHORT}"),
+    Run(
+        "one of two lines",
+        ["vcd-to-bits", "clk", "ans"],
+        TWO_DATA,
+        b"1010\n",
+        f"{CLK} 4 edges\n{AT_TAKEN_EDGE} with --falling\n{SHORT}",
+    ),
+    Run(
+        "a second line without a value",
+        ["vcd-to-bits", "clk", "dat", "ans"],
+        TWO_DATA.replace(b"#7 0(", b"#7 z("),
+        b"2\n",
+        "vcd-to-bits: at sample 8 the data has no known level\n",
+        2,
+    ),
+    Run(
+        "no such signal",
+        ["vcd-to-bits", "clk", "data"],
+        dump("0", True),
+        b"",
+        f"vcd-to-bits: no channel has the name data; there are: {SIGNALS}\n",
+        2,
+    ),
+    Run(
+        "two signals",
+        ["vcd-to-bits", "both", "dat"],
+        dump("0", True),
+        b"",
+        f"vcd-to-bits: 2 channels have the name both; there are: {SIGNALS}\n",
+        2,
+    ),
+    Run(
+        "no dump",
+        ["vcd-to-bits", "--format=vcd", "clk", "dat"],
+        b"01111110",
+        b"",
+        "vcd-to-bits: the input is no value change dump: it has no $enddefinitions\n",
+        2,
+    ),
+]
+
+
+def plain_dump(bits: str) -> bytes:
+    """A dump of clock and data alone."""
+    names = "$timescale 1 us $end\n$scope module tap $end\n$var wire 1 ! clk $end\n$var wire 1 \" dat $end\n"
+    texts = [names, "$upscope $end\n$enddefinitions $end\n"]
+    for place, bit in enumerate(bits):
+        texts.append(f'#{10 * place}\n0!\n{bit}"\n#{10 * place + 5}\n1!\n')
+    return "".join(texts).encode() + f"#{10 * len(bits)}\n0!\n".encode()
+
+
+def vcd_through_sigrok(folder: Path) -> List[str]:
+    """The real sigrok-cli makes a session of a dump, and writes it as a dump of its own."""
+    needs("sigrok-cli")
+    bits = random_bits(random.Random(2), 20_000)
+    dumped, session = folder / "tap.vcd", folder / "tap.sr"
+    dumped.write_bytes(plain_dump(bits))
+    written_by(["sigrok-cli", "-i", dumped, "-I", "vcd", "-o", session])
+    written = written_by(["sigrok-cli", "-i", session, "-O", "vcd"])
+    got = ran(["vcd-to-bits", "clk", "dat"], written)
+    return [] if got.stdout == lines(bits) else [f"got {got.stdout[:99]!r}.. {got.stderr!r}"]
+
+
+TESTS = [vcd_through_sigrok]

@@ -1,0 +1,221 @@
+"""What `make install` puts in place, that it works there, and that `make uninstall` leaves nothing of it."""
+
+import os
+import re
+import subprocess
+from pathlib import Path
+from typing import Dict, List, Sequence, Set
+
+from tests.case import (
+    CALL,
+    CONTRIB,
+    ONE_CALL,
+    SECONDS,
+    TOP,
+    Run,
+    Skipped,
+    Test,
+    lines,
+    needs,
+    plain,
+    written_by,
+)
+
+RUNS: List[Run] = []
+
+ONE_FRAME = b"8 49 frame 108300fde5\n"
+
+# What belongs to the work on the scripts and not to their use.
+TESTS_OF_SCRIPTS = {"tests", "self-test", "__pycache__"}
+
+
+def scripts() -> List[str]:
+    """The scripts of contrib: whatever can be run there, but for what tests them."""
+    runnable = (path for path in CONTRIB.iterdir() if path.is_file() and os.access(path, os.X_OK))
+    return sorted(path.name for path in runnable if path.name not in TESTS_OF_SCRIPTS)
+
+
+def made(target: str, words: Sequence[str], folder: Path) -> None:
+    """Runs make with the built program, and with files in place of the library, which need not be built for this."""
+    library = folder / "library.a"
+    for path in (library, folder / "libport1.so.2"):
+        path.write_bytes(b"no library\n")
+    given = [f"PROGRAM={os.environ['PORT1']}", f"LIBRARY={library}", *words]
+    subprocess.run(["make", "-s", "-C", TOP, target, *given], check=True, capture_output=True, timeout=SECONDS)
+
+
+def left_in(folder: Path) -> List[str]:
+    return sorted(str(path.relative_to(folder)) for path in folder.rglob("*"))
+
+
+def environment(binaries: Path) -> Dict[str, str]:
+    return {"PATH": f"{binaries}:{os.environ.get('PATH', os.defpath)}", "LC_ALL": "C"}
+
+
+def wrote(command: str, binaries: Path, folder: Path) -> bytes:
+    """What a command of the shell writes in a folder, with the installed programs on the path."""
+    using = environment(binaries)
+    ran = subprocess.run(["sh", "-c", command], cwd=folder, env=using, capture_output=True, timeout=SECONDS)
+    return ran.stdout + ran.stderr
+
+
+def problems_of_scripts(binaries: Path, folder: Path) -> List[str]:
+    """Whether each script is a link in bin that leads to a script beside, and tells its help from another folder."""
+    found = sorted(path.name for path in binaries.iterdir() if path.name != "port1")
+    problems = [] if found == scripts() else [f"in bin there are {found}"]
+    for name in found:
+        problems += [f"{name}: not a relative link"] if os.readlink(binaries / name).startswith("/") else []
+        ran = subprocess.run([name, "--help"], cwd=folder, env=environment(binaries), capture_output=True, text=True)
+        if ran.stderr.startswith(f"{name}: needs the Python module"):
+            continue  # it was found and ran, as far as it can here
+        if ran.returncode != 0 or ran.stderr or name not in ran.stdout:
+            problems.append(f"{name} --help: status {ran.returncode}: {ran.stdout}{ran.stderr}")
+    return problems
+
+
+def problems_of_use(prefix: Path, folder: Path) -> List[str]:
+    """The scripts at work, by their names elsewhere, and as the documents call them in share/port1."""
+    binaries, share = prefix / "bin", prefix / "share" / "port1"
+    (folder / "one.ts2").write_bytes(ONE_CALL)
+    rows = [
+        ("port1 list < one.ts2", folder, ONE_FRAME),
+        ("list-in-parts one.ts2", folder, ONE_FRAME),
+        ("unpack-bits < one.ts2", folder, lines(plain(CALL))),
+        ("unpack-bits < one.ts2 | pack-bits | cmp - one.ts2", folder, b""),
+        ("port1 list --bits < examples/one-call.bits", share, ONE_FRAME),
+        ("contrib/pack-bits < examples/one-call.bits | cmp - examples/one-call.ts2", share, b""),
+        ("contrib/list-in-parts examples/one-call.ts2", share, ONE_FRAME),
+        ("ls docs/COOKBOOK.md README.md examples/c/list.c examples/ci/test_captures.py", share, None),
+    ]
+    problems = []
+    for command, place, wanted in rows:
+        written = wrote(command, binaries, place)
+        if wanted is None:
+            wanted = b"".join(sorted(word.encode() + b"\n" for word in command.split()[1:]))
+            written = b"".join(sorted(written.splitlines(keepends=True)))
+        problems += [] if written == wanted else [f"{command}: wanted {wanted!r}, got {written!r}"]
+    return problems
+
+
+def files_of_contrib(folder: Path) -> List[str]:
+    """The files and links of a contrib, but for what tests them."""
+    found = [path.relative_to(folder) for path in folder.rglob("*") if not path.is_dir()]
+    return sorted(str(path) for path in found if not TESTS_OF_SCRIPTS & set(path.parts))
+
+
+def problems_of_links(prefix: Path) -> List[str]:
+    """Whether each document that an installed document points to is there, or is a source, which is not installed."""
+    problems = []
+    share = prefix / "share" / "port1"
+    for document in [*share.glob("*.md"), *share.glob("docs/*.md")]:
+        for link in re.findall(r"\]\(([^)#:]+\.md)", document.read_text(encoding="utf-8")):
+            problems += [] if (document.parent / link).is_file() else [f"{document.name}: there is no {link}"]
+    return problems
+
+
+def in_a_home(folder: Path) -> List[str]:
+    """All of it in a folder, twice; each script runs; then nothing is left."""
+    needs("make")
+    prefix, elsewhere, work = folder / "of port1", folder / "elsewhere", folder / "work"
+    for place in (prefix, elsewhere, work):
+        place.mkdir()
+    for _ in range(2):
+        made("install", [f"PREFIX={prefix}"], work)
+    problems = problems_of_scripts(prefix / "bin", elsewhere) + problems_of_use(prefix, elsewhere)
+    problems += problems_of_links(prefix)
+    installed = files_of_contrib(prefix / "share" / "port1" / "contrib")
+    problems += [] if installed == files_of_contrib(CONTRIB) else [f"of contrib there are {installed}"]
+    made("uninstall", [f"PREFIX={prefix}"], work)
+    return problems + [f"left: {path}" for path in left_in(prefix)]
+
+
+def for_a_package(folder: Path) -> List[str]:
+    """With DESTDIR, moved to another place, where all links still lead on; then nothing is left, however deep."""
+    needs("make")
+    stage, moved, work = folder / "stage", folder / "moved", folder / "work"
+    work.mkdir()
+    words = [f"DESTDIR={stage}", "PREFIX=/usr/local"]
+    made("install", words, work)
+    stage.rename(moved)
+    prefix = moved / "usr" / "local"
+    problems = problems_of_scripts(prefix / "bin", work) + problems_of_use(prefix, work)
+    moved.rename(stage)
+    made("uninstall", words, work)
+    return problems + [f"left: {path}" for path in left_in(stage)]
+
+
+def one_target_at_a_time(folder: Path) -> List[str]:
+    """Each installing target alone is taken away again; uninstalling where nothing is does nothing."""
+    needs("make")
+    problems = []
+    for target in ["install-program", "install-scripts", "install-library", "uninstall"]:
+        prefix = folder / target
+        prefix.mkdir()
+        made(target, [f"PREFIX={prefix}"], folder)
+        problems += [f"{target}: it put nothing in place"] if target != "uninstall" and not left_in(prefix) else []
+        made("uninstall", [f"PREFIX={prefix}"], folder)
+        problems += [f"{target}: left: {path}" for path in left_in(prefix)]
+    return problems
+
+
+def what_is_of_others(folder: Path) -> List[str]:
+    """Uninstalling keeps what others put beside, and a link of one's own to a script elsewhere."""
+    needs("make")
+    prefix = folder / "prefix"
+    made("install", [f"PREFIX={prefix}"], folder)
+    kept = [prefix / "bin" / "other", prefix / "share" / "man" / "man1" / "other.1", prefix / "share" / "zsh" / "rest"]
+    for path in kept:
+        path.write_text("of others\n", encoding="ascii")
+    mine = prefix / "bin" / "pack-bits"
+    mine.unlink()
+    mine.symlink_to(CONTRIB / "pack-bits")
+    made("uninstall", [f"PREFIX={prefix}"], folder)
+    left = sorted(path for path in prefix.rglob("*") if not path.is_dir())
+    return [] if left == sorted([*kept, mine]) else [f"left: {left}"]
+
+
+def make_check(folder: Path) -> List[str]:
+    """What `make check` runs."""
+    needs("make")
+    words = ["make", "-n", "-C", TOP, "check", f"PROGRAM={os.environ['PORT1']}"]
+    ran = subprocess.run(words, capture_output=True, text=True, timeout=SECONDS)
+    found = [line for line in ran.stdout.splitlines() if not line.startswith("make")]
+    return [] if found == ["tests/program", "contrib/self-test"] else [f"it runs {found}: {ran.stderr}"]
+
+
+def made_by_documents() -> Set[str]:
+    """What the commands of the documents write to in the folder where they run, or to a folder there."""
+    found: Set[str] = set()
+    for document in [TOP / "README.md", *(TOP / "docs").glob("*.md")]:
+        text = document.read_text(encoding="utf-8")
+        commands = "\n".join(re.findall(r"^ {4}(?:\$ )?(.*)", text, flags=re.MULTILINE))
+        targets = re.findall(r"(?: >>? ?| -o |--joblog |--junitxml=|--cut |mkdir )([\w./-]+)", commands)
+        targets += re.findall(r"list-to-pcap \d+ ([\w.]+)", commands)
+        found |= {target for target in targets if not re.match(r"/|-|examples|\d", target)}
+    return found
+
+
+def what_git_passes_over(folder: Path) -> List[str]:
+    """What the documents' commands make is ignored; no source is, and no further example would be."""
+    needs("git")
+    if not (TOP / ".git").exists():
+        raise Skipped("no repository")
+    git = ["git", "-C", str(TOP)]
+    made = sorted(made_by_documents())
+    passed = written_by([*git, "check-ignore", "--no-index", *made]).decode().split()
+    problems = [f"not ignored: {name}" for name in made if name not in passed]
+    problems += [] if {"tap.bits", "before.txt", "captures"} <= set(made) else [f"the documents make {made}"]
+    sources = written_by([*git, "ls-files", "--cached", "--ignored", "--exclude-standard"]).decode().split()
+    others = ["examples/new.bits", "examples/new.ts2", "examples/ci/new.py", "contrib/new", "docs/new.md"]
+    hidden = subprocess.run([*git, "check-ignore", "--no-index", *others], capture_output=True, text=True)
+    return problems + [f"ignored: {name}" for name in sources + hidden.stdout.split()]
+
+
+TESTS: List[Test] = [
+    what_git_passes_over,
+    in_a_home,
+    for_a_package,
+    one_target_at_a_time,
+    what_is_of_others,
+    make_check,
+]

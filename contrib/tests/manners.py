@@ -1,0 +1,160 @@
+"""How every script takes wrong calls, asks for help, and input and output that fail."""
+
+import os
+import subprocess
+import tempfile
+from pathlib import Path
+from typing import Dict, Iterator, List, NamedTuple, Tuple
+
+from tests.case import CONTRIB, DICTIONARY, SECONDS, Run, Word, lacks_module
+
+
+def scripts() -> List[str]:
+    """All scripts of the folder: what can be run there, but for what tests them."""
+    runnable = (path for path in CONTRIB.iterdir() if path.is_file() and os.access(path, os.X_OK))
+    return sorted(path.name for path in runnable if path.name != "self-test")
+
+
+class Call(NamedTuple):
+    """Words with which a script reads standard input and writes standard output, and input enough for a long output."""
+
+    words: List[str]
+    stdin: bytes
+
+
+FRAMES = b"8 49 frame 108300fde5\n57 98 frame 108300fde5\n" * 20_000
+
+BITS = b"0111111000001000" * 50_000
+
+CALLS: Dict[str, Call] = {
+    "bus-summary": Call([], FRAMES),
+    "dictionary-to-lua": Call([], DICTIONARY.encode()),
+    "draft-dictionary": Call([], FRAMES),
+    "flip-bits": Call(["0"], BITS),
+    "list-to-jsonl": Call([], FRAMES),
+    "list-to-page": Call(["--page", str(CONTRIB / "tests" / "page.html"), "title"], FRAMES),
+    "list-to-pcap": Call(["153600", "--text"], FRAMES),
+    "pack-bits": Call([], BITS),
+    "recording-to-bits": Call(["0", "1"], bytes([0, 1, 2, 3]) * 200_000),
+    "unpack-bits": Call([], b"TS2BITS1" + (8_000_000).to_bytes(8, "little") + bytes(1_000_000)),
+    "vcd-to-bits": Call(["0", "1"], bytes([0, 1, 2, 3]) * 200_000),
+}
+
+# Scripts that are given a file in their words.
+FILES = ["check-dictionary", "list-in-parts"]
+
+RUNS: List[Run] = []
+
+
+def calls() -> List[Tuple[str, Call]]:
+    """Those that this machine has the modules for."""
+    return [(name, call) for name, call in CALLS.items() if not lacks_module(name)]
+
+
+def files() -> List[str]:
+    return [name for name in FILES if not lacks_module(name)]
+
+
+def lines_of(octets: bytes) -> List[str]:
+    return octets.decode("utf-8", "replace").splitlines()
+
+
+def called(name: str, words: List[Word], **options) -> "subprocess.CompletedProcess[bytes]":
+    words = [CONTRIB / name, *words]
+    return subprocess.run(words, stdout=subprocess.PIPE, stderr=subprocess.PIPE, timeout=SECONDS, **options)
+
+
+def every_script_is_tested(_: Path) -> List[str]:
+    """A new script needs its words in the tables above."""
+    return [f"{name} is in no table" for name in scripts() if name not in CALLS and name not in FILES]
+
+
+def help_for_each(_: Path) -> List[str]:
+    """Help goes to standard output with status 0."""
+    problems = []
+    for name in scripts():
+        got = called(name, ["--help"], stdin=subprocess.DEVNULL)
+        begins = got.stdout.startswith(f"usage: {name} ".encode())
+        if not begins or got.stderr or got.returncode != 0:
+            problems.append(f"{name}: status {got.returncode}, {got.stdout[:60]!r}, {got.stderr[:200]!r}")
+    return problems
+
+
+def wrong_calls(_: Path) -> List[str]:
+    """A wrong call is told on standard error, usage first and the reason last, with status 2 and no other output."""
+    problems = []
+    for name in scripts():
+        got = called(name, ["--no-such-option"], stdin=subprocess.DEVNULL)
+        told = lines_of(got.stderr) or [""]
+        is_told = told[0].startswith(f"usage: {name} ") and told[-1].startswith(f"{name}: error: ")
+        if not is_told or got.stdout or got.returncode != 2:
+            problems.append(f"{name}: status {got.returncode}, {got.stdout[:60]!r}, {told}")
+    return problems
+
+
+def is_one_line(got: "subprocess.CompletedProcess[bytes]", name: str) -> bool:
+    told = lines_of(got.stderr)
+    return got.returncode == 2 and len(told) == 1 and told[0].startswith(f"{name}: ")
+
+
+def folders(folder: Path) -> Iterator[str]:
+    """A folder as standard input, or as the file, is one line with status 2."""
+    for name, call in calls():
+        descriptor = os.open(folder, os.O_RDONLY)
+        got = called(name, [*call.words], stdin=descriptor)
+        os.close(descriptor)
+        if not is_one_line(got, name):
+            yield f"{name}: status {got.returncode}, {got.stderr!r}"
+    for name in files():
+        got = called(name, [folder], stdin=subprocess.DEVNULL)
+        if not is_one_line(got, name):
+            yield f"{name}: status {got.returncode}, {got.stderr!r}"
+
+
+def folders_as_input(folder: Path) -> List[str]:
+    return list(folders(folder))
+
+
+def files_that_are_not_there(folder: Path) -> List[str]:
+    """A file that cannot be read is one line with status 2."""
+    problems = []
+    for name in files():
+        got = called(name, [folder / "nothing"], stdin=subprocess.DEVNULL)
+        if not is_one_line(got, name):
+            problems.append(f"{name}: status {got.returncode}, {got.stderr!r}")
+    return problems
+
+
+def told_without_reader(name: str, call: Call) -> "subprocess.CompletedProcess[bytes]":
+    """A run whose output nobody reads."""
+    reader, writer = os.pipe()
+    os.close(reader)
+    words = [CONTRIB / name, *call.words]
+    with tempfile.TemporaryFile() as source:
+        source.write(call.stdin)
+        source.seek(0)
+        try:
+            return subprocess.run(words, stdin=source, stdout=writer, stderr=subprocess.PIPE, timeout=SECONDS)
+        finally:
+            os.close(writer)
+
+
+def nobody_reads(_: Path) -> List[str]:
+    """Where the reader of the output has gone, one line says so, with status 2."""
+    problems = []
+    for name, call in calls():
+        got = told_without_reader(name, call)
+        told = lines_of(got.stderr)
+        if got.returncode != 2 or told[-1:] != [f"{name}: write failed: whoever read the output has gone"]:
+            problems.append(f"{name}: status {got.returncode}, {told}")
+    return problems
+
+
+TESTS = [
+    every_script_is_tested,
+    help_for_each,
+    wrong_calls,
+    folders_as_input,
+    files_that_are_not_there,
+    nobody_reads,
+]

@@ -1,0 +1,241 @@
+"""A big capture listed in parts."""
+
+import os
+import random
+import shutil
+import struct
+import subprocess
+import tempfile
+from pathlib import Path
+from typing import List, Sequence, Tuple
+
+from tests.case import (
+    CALL,
+    CONTRIB,
+    DICTIONARY,
+    ONE_CALL,
+    REPLY,
+    SECONDS,
+    TOP,
+    WINDOWS,
+    Run,
+    Skipped,
+    listed,
+    packed,
+    plain,
+    ran,
+    random_bits,
+    written_by,
+)
+
+RUNS: List[Run] = []
+
+
+def dirty_line(generator: random.Random, count: int) -> str:
+    """Commands, replies, flags, idle lines and random bits, one behind the other."""
+    call, reply = plain(CALL)[8:], plain(REPLY)[8:]
+    notice = "111110111110000001100100000101101011011100" + "01111110"
+    texts = ["01111110"]
+    while sum(map(len, texts)) < count:
+        texts.append(
+            generator.choice(
+                [call, call, reply, reply, notice, "01111110", "1" * generator.randrange(60), call[:20], "0" * 30]
+                + [random_bits(generator, generator.randrange(40))]
+            )
+        )
+    return "".join(texts)[:count]
+
+
+OPTIONS = [
+    [],
+    ["--dict", DICTIONARY],
+    ["--dict", DICTIONARY, "--origin", "1000"],
+    ["--origin=77", "--dict", DICTIONARY, "--kind", "missing"],
+    ["--dict", DICTIONARY, "--kind", "pending"],
+    ["--dict", DICTIONARY, "--kind", "stray"],
+    ["--dict", DICTIONARY, "--station", "16"],
+    ["--dict", WINDOWS],
+    ["--dict", WINDOWS, "--kind", "late"],
+    ["--dict", DICTIONARY, "--type", "128"],
+    ["--kind", "open"],
+    ["--kind", "idle"],
+]
+
+
+def parted(folder: Path, capture: bytes, options: Sequence[str], parts: int, overlap: int) -> List[str]:
+    """Whether a listing in parts is the listing of one run, with the status and faults."""
+    path = folder / "capture.ts2"
+    path.write_bytes(capture)
+    one = listed(capture, options)
+    words = ["list-in-parts", "--overlap", str(overlap), "--parts", str(parts), "--jobs", "4", str(path), *options]
+    many = ran(words)
+    if (one.stdout, one.stderr, one.returncode) == (many.stdout, many.stderr, many.returncode):
+        return []
+    kept = Path(tempfile.mkdtemp(prefix="list-in-parts-")) / "capture.ts2"
+    kept.write_bytes(capture)
+    return [f"{parts} parts, overlap {overlap}, {options[-2:]}: not as one run; {kept}; {many.stderr.decode()}"]
+
+
+def parts_of_dirty_lines(folder: Path) -> List[str]:
+    """Small captures cut into many parts with little overlap, which has to grow."""
+    generator = random.Random(3)
+    problems = []
+    for round in range(48):
+        capture = packed(dirty_line(generator, generator.randrange(3000)))
+        options = OPTIONS[round % len(OPTIONS)]
+        parts, overlap = generator.choice([1, 2, 3, 5, 9, 20]), generator.choice([1, 2, 7, 30])
+        problems += parted(folder, capture, options, parts, overlap)
+    return problems
+
+
+def parts_up_to_the_end(folder: Path) -> List[str]:
+    """So many parts that the last cuts are at the end of the capture, which is of whole octets. Something is open or
+    pending there, and what says so is to be written once."""
+    generator = random.Random(9)
+    call = plain(CALL)
+    line, (first, second) = dirty_line(generator, 8000 - len(call)), polling(generator, 4000 - len(call))
+    problems = []
+    for kind, end in [("pending", call), ("open", call[:48].ljust(len(call), "0"))]:
+        two_lines = packed_two(first[: 4000 - len(call)] + end, second[: 4000 - len(call)] + "1" * len(call))
+        for capture, more in [(packed(line + end), []), (two_lines, ["--two"])]:
+            options = [*more, "--dict", DICTIONARY]
+            said = listed(capture, options).stdout.decode().count(f" {kind}")
+            problems += [] if said == 1 else [f"{said} lines of the listing are {kind}"]
+            for parts in (33, 100, 999):
+                problems += parted(folder, capture, options, parts, 3)
+    return problems
+
+
+def parts_of_traffic(folder: Path) -> List[str]:
+    """Each kind of traffic that bench/generate makes."""
+    if shutil.which("cc") is None:
+        raise Skipped("no cc")
+    generate = folder / "generate"
+    written_by(["cc", "-O2", "-o", generate, TOP / "bench" / "generate.c"])
+    problems = []
+    for number, kind in enumerate(["polling", "random", "ones", "flags", "long", "stuffed"]):
+        for count, parts, overlap in [(99_999, 8, 16), (100_003, 3, 4096), (1_000_001, 16, 256)]:
+            words = [generate, str(count), str(number + 1), kind, "packed"]
+            capture = written_by(words)
+            problems += parted(folder, capture, OPTIONS[number % 3], parts, overlap)
+    return problems
+
+
+def parts_with_faults(folder: Path) -> List[str]:
+    """What cannot be cut is listed in one run, with its fault."""
+    problems = []
+    shorter, longer, spare = ONE_CALL[:-1], ONE_CALL + b"\0", ONE_CALL[:-1] + b"\2"
+    for capture in [b"", b"0111", ONE_CALL[:9], b"U" + ONE_CALL[1:], shorter, longer, spare]:
+        problems += parted(folder, capture, ["--dict", DICTIONARY], 2, 1)
+    far = ["--origin", str(2**60)]
+    for options in [["--bits"], ["--help"], ["--kind", "frames"], ["--dict", "version = 3"], far, ["--no"]]:
+        problems += parted(folder, ONE_CALL, options, 2, 1)
+    return problems
+
+
+def packed_two(first: str, second: str) -> bytes:
+    """A packed capture of two lines, which ends with the shorter one."""
+    marks = [int(one) + 2 * int(other) for one, other in zip(first, second)]
+    body = bytearray((len(marks) + 3) // 4)
+    for place, mark in enumerate(marks):
+        body[place // 4] |= mark << 2 * (place % 4)
+    return b"TS2BITS2" + struct.pack("<Q", len(marks)) + bytes(body)
+
+
+def polling(generator: random.Random, count: int) -> Tuple[str, str]:
+    """Commands on the first line and replies on the second, each with its rest or noise on the other."""
+    first = second = ""
+    while len(first) < count:
+        command, reply, rest = plain(CALL), plain(REPLY), "1" * generator.randrange(40)
+        noise = random_bits(generator, len(command))
+        first += command + rest + generator.choice(["1" * len(reply), "01111110" * 9, noise])[: len(reply)]
+        second += generator.choice(["1" * len(command), noise]) + rest
+        second += generator.choice([reply, reply, "1" * len(reply), noise])[: len(reply)].ljust(len(reply), "1")
+    return first, second
+
+
+def parts_of_two_lines(folder: Path) -> List[str]:
+    """Small captures of two lines, cut as those of one are, and each kind of capture taken for the other."""
+    generator = random.Random(5)
+    problems = []
+    for round in range(24):
+        capture = packed_two(*polling(generator, generator.randrange(3000)))
+        parts, overlap = generator.choice([2, 3, 5, 9]), generator.choice([5, 20, 30, 50])
+        problems += parted(folder, capture, [*OPTIONS[round % len(OPTIONS)], "--two"], parts, overlap)
+    one_line = packed(dirty_line(generator, 3000))
+    one_rests = packed_two(dirty_line(generator, 3000), "1" * 3000)
+    for octets, options in [(capture, []), (one_line, ["--two"]), (one_rests, ["--two"])]:
+        problems += parted(folder, octets, [*options, "--dict", DICTIONARY], 3, 1)
+    return problems
+
+
+def parts_of_odd_words(folder: Path) -> List[str]:
+    """Paths and options that a shell does not take as they stand."""
+    strange = folder / "it's a $HOME"
+    strange.mkdir()
+    capture = packed(dirty_line(random.Random(6), 3000))
+    dictionary = "# it's a \"test\" of `quotes`, $HOME and \\\\\n" + DICTIONARY + "\n\n"
+    problems = parted(strange, capture, [f"--dict={dictionary}", "--origin=1000000", "--"], 4, 20)
+    os.environ["TMPDIR"] = str(strange)
+    problems += parted(strange, capture, ["--origin", "7", "--dict", dictionary, "--station", "16"], 4, 20)
+    del os.environ["TMPDIR"]
+    return problems + [f"left: {path}" for path in strange.iterdir() if path.name != "capture.ts2"]
+
+
+def parts_to_sinks(folder: Path) -> List[str]:
+    """A file that is appended to, and one that takes nothing."""
+    capture, listing = folder / "sinks.ts2", folder / "listing.txt"
+    capture.write_bytes(packed(dirty_line(random.Random(7), 3000)))
+    words = [CONTRIB / "list-in-parts", "--parts", "4", "--overlap", "20", capture]
+    one = listed(capture.read_bytes(), []).stdout
+    listing.write_bytes(b"as it was\n")
+    with listing.open("ab") as sink:
+        status = subprocess.run(words, stdout=sink, timeout=SECONDS).returncode
+    problems = [] if (status, listing.read_bytes()) == (0, b"as it was\n" + one) else ["not appended"]
+    with Path("/dev/full").open("wb") as full:
+        got = subprocess.run(words, stdout=full, stderr=subprocess.PIPE, timeout=SECONDS)
+    if got.returncode != 2 or b"list-in-parts: write failed\n" not in got.stderr:
+        problems.append(f"a full sink: {got}")
+    return problems
+
+
+def parts_step_by_step(folder: Path) -> List[str]:
+    """The parts run by hand, the last first, and what --join says before all have run and where one is spoilt."""
+    line, options = dirty_line(random.Random(4), 40_000), ["--dict", DICTIONARY]
+    two_lines = packed_two(*polling(random.Random(8), 20_000))
+    return by_hand(folder / "one", packed(line), options) + by_hand(folder / "two", two_lines, [*options, "--two"])
+
+
+def by_hand(folder: Path, capture: bytes, options: Sequence[str]) -> List[str]:
+    folder.mkdir()
+    path, parts = folder / "steps.ts2", folder / "parts"
+    path.write_bytes(capture)
+    cut = ran(["list-in-parts", "--cut", str(parts), "--parts", "4", "--overlap", "64", str(path), *options])
+    scripts = sorted(parts.glob("part-*.sh"))
+    if cut.returncode != 0 or len(scripts) != 4:
+        return [f"{len(scripts)} scripts; {cut.stderr.decode()}"]
+    problems = []
+    early = ran(["list-in-parts", "--join", str(parts)])
+    if early.returncode != 2 or early.stdout != b"" or b"not listed: part-0000 " not in early.stderr:
+        problems.append(f"too early: {early}")
+    for script in reversed(scripts):
+        subprocess.run(["sh", script], check=True, cwd="/", timeout=SECONDS)
+    joined = ran(["list-in-parts", "--join", str(parts)]).stdout
+    one = listed(capture, options).stdout
+    (parts / "part-0002.list").write_bytes(b"8 49 frame 108300fde5\n")
+    spoilt = ran(["list-in-parts", "--join", str(parts)])
+    if spoilt.returncode != 2 or b"part-0002: it does not begin" not in spoilt.stderr:
+        problems.append(f"a spoilt part: {spoilt}")
+    return problems + ([] if joined == one else ["not as one run"])
+
+
+TESTS = [
+    parts_of_dirty_lines,
+    parts_up_to_the_end,
+    parts_of_traffic,
+    parts_with_faults,
+    parts_of_two_lines,
+    parts_of_odd_words,
+    parts_to_sinks,
+    parts_step_by_step,
+]

@@ -1,0 +1,452 @@
+"""Frames for Wireshark: capture files with directions and comments, and a dissector of a dictionary."""
+
+import json
+import os
+import struct
+import subprocess
+from pathlib import Path
+from typing import Any, Dict, List, Sequence, Tuple
+
+from tests.case import SECONDS, TOP, WINDOWS, Run, Skipped, Word, listed, needs, ran
+
+SDLC = 268
+
+RATE = "153600"
+
+RUNS = [
+    Run(
+        "frames alone",
+        ["list-to-pcap", RATE, "--text"],
+        b"8 49 frame 108300fde5 station 16 type 0 call\n57 72 idle\n"
+        b"153608 153649 frame 108380f561\n8 49 missing station 16 type 0\n",
+        b"0.000052\n000000 10 83 00\n1.000052\n000000 10 83 80\n",
+    ),
+    Run(
+        "frames of two lines",
+        ["list-to-pcap", RATE, "--text"],
+        b"1 8 49 frame 108300fde5 station 16 type 0 call\n1 57 72 idle\n"
+        b"2 153608 153649 frame 108380f561\n1 8 49 missing station 16 type 0\n2 153657 153658 open\n",
+        b"0.000052\n000000 10 83 00\n1.000052\n000000 10 83 80\n",
+    ),
+    Run(
+        "no listing",
+        ["list-to-pcap", "1", "--text"],
+        b"frames 2\n",
+        b"",
+        "list-to-pcap: line 1 is no line of `port1 list`: 'frames 2'\n",
+        2,
+    ),
+    Run(
+        "no dictionary",
+        ["dictionary-to-lua"],
+        b"version = 1\n",
+        b"",
+        "dictionary-to-lua: no dictionary: 'frame'; see check-dictionary\n",
+        2,
+    ),
+]
+
+
+def tshark(folder: Path, words: Sequence[Word]) -> str:
+    """What tshark writes, without the user's settings; it may tell nothing else."""
+    environment = {**os.environ, "HOME": str(folder), "XDG_CONFIG_HOME": str(folder), "TZ": "UTC", "LC_ALL": "C.UTF-8"}
+    got = subprocess.run(["tshark", *words], capture_output=True, env=environment, timeout=SECONDS)
+    told = [line for line in got.stderr.decode().splitlines() if line and not line.startswith("Running as user")]
+    if told:
+        raise OSError(f"tshark: {told}")
+    return got.stdout.decode()
+
+
+def columns(folder: Path, path: Path, fields: Sequence[str], *words: Word) -> List[List[str]]:
+    """These fields of each packet."""
+    asked = [word for name in fields for word in ("-e", name)]
+    text = tshark(folder, ["-r", path, *words, "-T", "fields", "-E", "separator=|", *asked])
+    return [line.split("|") for line in text.splitlines()]
+
+
+def compared(got: Any, wanted: Any) -> List[str]:
+    return [] if got == wanted else [f"wanted {wanted!r}, got {got!r}"]
+
+
+# Capture files of list-to-pcap.
+
+# How Wireshark shows the directions of a packet.
+UNSAID, INBOUND, OUTBOUND = "0x00000000", "0x00000001", "0x00000002"
+
+TWO_LINES = b"""1 0 7 damaged short
+1 8 49 frame 108300fde5 station 16 type 0 call
+2 65 106 frame 108380f561 station 16 type 128 reply
+1 8 49 answered station 16 type 0
+1 122 163 frame 108300fde5 station 16 type 0 call
+2 203 244 frame 108380f561 station 16 type 128 reply
+1 122 163 late station 16 type 0
+2 250 291 frame 118380ff6a station 17 type 128 reply
+2 250 291 stray station 17 type 128
+1 300 341 frame 108300fde5 station 16 type 0 call
+2 350 360 damaged fcs
+1 300 341 spoilt station 16 type 0
+1 360 401 frame 108300fde5 station 16 type 0 call
+1 420 461 frame 108300fde5 station 16 type 0 call
+1 360 401 missing station 16 type 0
+2 470 485 idle
+1 480 600 overlong
+2 600 620 abort
+1 153600 153641 frame 108300fde5 station 16 type 0 call
+1 153641 153650 open
+1 153600 153641 pending station 16 type 0
+"""
+
+# Direction, time and comment of each packet. A bit is 6.510417 microseconds.
+TWO_LINES_PACKETS = [
+    [OUTBOUND, "0.000052000", "after 1 0 7 damaged short"],
+    [INBOUND, "0.000423000", ""],
+    [OUTBOUND, "0.000794000", "late, answer after 40 bits"],
+    [INBOUND, "0.001321000", ""],
+    [INBOUND, "0.001627000", "stray"],
+    [OUTBOUND, "0.001953000", "then 2 350 360 damaged fcs; spoilt"],
+    [OUTBOUND, "0.002343000", "missing"],
+    [OUTBOUND, "0.002734000", "then 1 480 600 overlong; then 2 600 620 abort"],
+    [OUTBOUND, "1.000000000", "pending"],
+]
+
+SAID = ["frame.packet_flags_direction", "frame.time_epoch", "frame.comment"]
+
+
+def needs_all() -> None:
+    for tool in ("text2pcap", "editcap", "mergecap", "tshark"):
+        needs(tool)
+
+
+def pcap_by_text2pcap(folder: Path) -> List[str]:
+    """The real text2pcap makes a file with the link type and the packets that were asked for."""
+    needs("text2pcap")
+    path = folder / "x.pcap"
+    got = ran(["list-to-pcap", RATE, str(path)], b"8 49 frame 108300fde5\n153608 153649 frame 108380f561\n")
+    if got.returncode != 0:
+        return [got.stderr.decode()]
+    octets = path.read_bytes()
+    head = struct.unpack("<IHHiIII", octets[:24])
+    packets, at = [], 24
+    while at < len(octets):
+        seconds, micros, kept, _ = struct.unpack("<IIII", octets[at : at + 16])
+        packets.append((seconds, micros, octets[at + 16 : at + 16 + kept].hex()))
+        at += 16 + kept
+    return compared((head[6], packets), (SDLC, [(0, 52, "108300"), (1, 52, "108380")]))
+
+
+def pcap_in_tshark(folder: Path) -> List[str]:
+    """The real tshark reads the addresses and control octets that went in."""
+    needs("text2pcap")
+    needs("tshark")
+    path = folder / "y.pcap"
+    ran(["list-to-pcap", RATE, str(path)], b"8 49 frame 108300fde5\n57 98 frame ff83095a3b\n")
+    rows = columns(folder, path, ["sdlc.address", "sdlc.control"])
+    return compared([[int(cell, 0) for cell in row] for row in rows], [[0x10, 0x83], [0xFF, 0x83]])
+
+
+def pcapng_of_two_lines(folder: Path) -> List[str]:
+    """Directions, times and comments of a listing of two lines, all that a comment may say."""
+    needs_all()
+    path = folder / "z.pcapng"
+    got = ran(["list-to-pcap", RATE, path], TWO_LINES)
+    told = compared((got.returncode, got.stdout, got.stderr), (0, b"", b""))
+    filters = {'frame.comment contains "then"': ["6", "8"], "frame.packet_flags_direction == 1": ["2", "4", "5"]}
+    for text, wanted in filters.items():
+        told += compared([row[0] for row in columns(folder, path, ["frame.number"], "-Y", text)], wanted)
+    return told + compared(columns(folder, path, SAID), TWO_LINES_PACKETS)
+
+
+def pcapng_of_one_line(folder: Path) -> List[str]:
+    """A listing of one line says nothing of directions; of much damage a comment tells the first eight."""
+    needs_all()
+    path = folder / "z.pcapng"
+    damage = [f"{place} {place + 9} damaged short" for place in range(60, 160, 10)]
+    listing = "\n".join(["8 49 frame 108300fde5", *damage, "200 241 frame 108380f561", ""])
+    got = ran(["list-to-pcap", RATE, path], listing.encode())
+    comment = "; ".join([f"then {line}" for line in damage[:8]] + ["and 2 more"])
+    wanted = [[UNSAID, "0.000052000", comment], [UNSAID, "0.001302000", ""]]
+    return compared(got.stderr, b"") + compared(columns(folder, path, SAID), wanted)
+
+
+def pcapng_of_many_parts(folder: Path) -> List[str]:
+    """Packets that go in by parts stay in order, each with its own comment."""
+    needs_all()
+    path = folder / "z.pcapng"
+    texts, wanted = [], []
+    for number in range(25_000):
+        first = 200 * number
+        texts.append(f"{1 + number % 2} {first} {first + 41} frame 108300fde5\n")
+        micros = first * 10**6 // 153600
+        row = [OUTBOUND if number % 2 == 0 else INBOUND, f"{micros // 10**6}.{micros % 10**6:06d}000", ""]
+        if number % 3 == 0:
+            texts.append(f"1 {first + 50} {first + 90} damaged fcs\n")
+            row[2] = f"then 1 {first + 50} {first + 90} damaged fcs"
+        wanted.append(row)
+    got = ran(["list-to-pcap", RATE, path], "".join(texts).encode())
+    rows = columns(folder, path, SAID)
+    wrong = [(was, right) for was, right in zip(rows, wanted) if was != right]
+    return compared((got.stderr, len(rows), wrong[:3]), (b"", len(wanted), []))
+
+
+def pcapng_of_nothing(folder: Path) -> List[str]:
+    """A listing without frames is a capture without packets; a fault leaves no capture."""
+    needs_all()
+    empty, bad = folder / "empty.pcapng", folder / "bad.pcapng"
+    got = ran(["list-to-pcap", RATE, empty], b"8 30 damaged short\n")
+    fault = ran(["list-to-pcap", RATE, bad], b"8 49 frame 108300fde5\nframe\n")
+    told = b"list-to-pcap: line 2 is no line of `port1 list`: 'frame'\n"
+    return compared(
+        (got.returncode, columns(folder, empty, SAID), fault.returncode, fault.stderr, bad.exists()),
+        (0, [], 2, told, False),
+    )
+
+
+def wrong_calls(folder: Path) -> List[str]:
+    """Usage and reason on standard error, with status 2."""
+    calls = {
+        "no whole number above 0": ["list-to-pcap", "0", "x.pcap"],
+        "is required": ["list-to-pcap", RATE],
+        "not allowed with": ["list-to-pcap", RATE, "x.pcap", "--text"],
+        "no name of lower-case letters": ["dictionary-to-lua", "--name", "Port 1"],
+    }
+    problems = []
+    for reason, words in calls.items():
+        got = ran(words, cwd=folder)
+        if got.returncode != 2 or got.stdout or b"usage: " not in got.stderr or reason.encode() not in got.stderr:
+            problems.append(f"{words}: {got}")
+    return problems + compared(list(folder.iterdir()), [])
+
+
+# The dissector.
+
+ODD = """version = 1
+[[frame]]
+type = 0
+name = 'q"u\\o]]%s%n'
+length = 0
+[[frame]]
+type = 9
+name = "Gr\\u00fcn-\\u4ea4"
+length = 2
+bits = [ { at = 0, name = '"' }, { at = 9, name = '\\' }, { at = 2, name = "\\u00fc" }, { at = 15, name = "1" } ]
+[[frame]]
+type = 10
+name = "Walk"
+length = 1
+bits = [ { at = 0, name = "A-b" }, { at = 1, name = "a_b" }, { at = 2, name = "A_b" }, { at = 3, name = "a_b_2" } ]
+[[frame]]
+type = 138
+name = "answer"
+length = 1
+bits = [ { at = 7, name = "A-b" } ]
+"""
+
+# The frames of the tests, without a check: direction (of pcapng: 0 none, 1 in, 2 out) and octets.
+FRAMES = [
+    (0, "10"),
+    (0, "1083"),
+    (0, "1084ff"),
+    (0, "108300"),
+    (0, "1083090502"),
+    (0, "1083090080"),
+    (0, "11830a03"),
+    (0, "11838a80"),
+    (0, "ff830a0c"),
+    (1, "108300"),
+    (2, "11838a00"),
+    (2, "1084"),
+    (0, "10830901"),
+    (0, "108305"),
+    (0, ""),
+]
+
+
+def block(kind: int, body: bytes) -> bytes:
+    """A block of pcapng."""
+    body += bytes(-len(body) % 4)
+    size = struct.pack("<I", len(body) + 12)
+    return struct.pack("<I", kind) + size + body + size
+
+
+def pcapng(frames: Sequence[Tuple[int, str]]) -> bytes:
+    """A capture with link type SDLC: section header, interface, and packets with their flags."""
+    blocks = [block(0x0A0D0D0A, struct.pack("<IHHq", 0x1A2B3C4D, 1, 0, -1)), block(1, struct.pack("<HHI", SDLC, 0, 0))]
+    for number, (direction, digits) in enumerate(frames):
+        octets = bytes.fromhex(digits)
+        padded = octets + bytes(-len(octets) % 4)
+        flags = struct.pack("<HHI", 2, 4, direction) + bytes(4) if direction else b""
+        blocks.append(block(6, struct.pack("<IIIII", 0, 0, number, len(octets), len(octets)) + padded + flags))
+    return b"".join(blocks)
+
+
+def dissected(folder: Path, dictionary: str = ODD, *options: str) -> List[Word]:
+    """The words with which tshark reads the frames with the dissector of a dictionary."""
+    needs("tshark")
+    capture, script, probe = folder / "frames.pcapng", folder / "port1.lua", folder / "probe.lua"
+    capture.write_bytes(pcapng(FRAMES))
+    probe.write_text('print("the probe was run")\n')
+    if "the probe was run" not in tshark(folder, ["-X", f"lua_script:{probe}", "-r", capture]):
+        raise Skipped("this tshark runs no Lua scripts, at least not for this user")
+    got = ran(["dictionary-to-lua", *options], dictionary.encode())
+    if got.returncode != 0:
+        raise OSError(got.stderr.decode())
+    script.write_bytes(got.stdout)
+    return ["-X", f"lua_script:{script}", "-r", capture]
+
+
+def layers(folder: Path, words: Sequence[Word], name: str = "port1") -> List[Dict[str, Any]]:
+    """What tshark says of the dissector's layer of each packet, in JSON."""
+    packets = json.loads(tshark(folder, [*words, "-T", "json"]))
+    return [packet["_source"]["layers"].get(name, {}) for packet in packets]
+
+
+def dissector_fields(folder: Path) -> List[str]:
+    """Each field of each frame; the place of a named bit is that of docs/DICTIONARY.md."""
+    head = {"port1.station": "16", "port1.control": "0x83"}
+    other = {"port1.station": "17", "port1.control": "0x83"}
+    got = layers(folder, dissected(folder))
+    zero, nine = 'q"u\\o]]%s%n', "Gr\u00fcn-\u4ea4"
+    bits = [f"port1.bit.{name}" for name in ("_", "__2", "__3", "1")]
+    typed = {**head, "port1.type": "9", "port1.name": nine}
+    wanted = {
+        0: {"port1.station": "16"},
+        1: {**head, "port1.standing": "untyped"},
+        2: {"port1.station": "16", "port1.control": "0x84", "port1.standing": "control"},
+        3: {**head, "port1.type": "0", "port1.name": zero, "port1.standing": zero},
+        4: {**typed, "port1.data": "05:02", "port1.standing": nine, **dict(zip(bits, "1110"))},
+        5: {**typed, "port1.data": "00:80", "port1.standing": nine, **dict(zip(bits, "0001"))},
+        7: {**other, "port1.type": "138", "port1.name": "answer", "port1.data": "80", "port1.standing": "answer"},
+        12: {**typed, "port1.data": "01", "port1.standing": "length"},
+        13: {**head, "port1.type": "5", "port1.standing": "unknown"},
+        14: {},
+    }
+    wanted[7]["port1.bit.a_b"] = "1"
+    return [problem for number, layer in wanted.items() for problem in compared(got[number], layer)]
+
+
+def dissector_names(folder: Path) -> List[str]:
+    """Names with quotes, backslashes, percent signs and other scripts stand as they are."""
+    text = tshark(folder, [*dissected(folder), "-O", "port1"])
+    wanted = [
+        'NEMA TS 2 Port 1, station 16 type 0 q"u\\o]]%s%n',
+        'Type: q"u\\o]]%s%n (0)',
+        "Name: Gr\u00fcn-\u4ea4",
+        '.... ...1 = ": True',
+        ".... ..1. = \\: True",
+        ".... .1.. = \u00fc: True",
+        "1... .... = A-b: True",
+    ]
+    return [f"no {line!r} in {text!r}" for line in wanted if line not in text]
+
+
+# Filters, and the packets that pass them, counted from 1.
+FILTERS = {
+    "port1.type == 0 && port1.station == 16": [4, 10],
+    "port1.station == 17": [7, 8, 11],
+    'port1.name == "Walk"': [7, 9],
+    'port1.standing == "length"': [13],
+    'port1.standing == "unknown"': [14],
+    'port1.standing == "control"': [3, 12],
+    "port1.type >= 128": [8, 11],
+    "port1 && !port1.type": [1, 2, 3, 12],
+    "port1.data[0] == 0x05": [5],
+    "port1.bit.a_b == 1": [7, 8],
+    "port1.bit.a_b == 0": [9, 11],
+    "port1.bit.a_b_2 == 1": [7],
+    "port1.bit.a_b_3 == 1": [9],
+    "port1.bit.a_b_2_2 == 1": [9],
+    "port1.bit.1 == 1": [6],
+    "frame.packet_flags_direction == 1": [10],
+}
+
+
+def dissector_filters(folder: Path) -> List[str]:
+    words = dissected(folder)
+    problems = []
+    for text, wanted in FILTERS.items():
+        got = tshark(folder, [*words, "-Y", text, "-T", "fields", "-e", "frame.number"]).split()
+        problems += [f"{text}: {problem}" for problem in compared(got, [str(number) for number in wanted])]
+    return problems
+
+
+# The columns Source, Protocol and Destination alone.
+WAYS = ["-o", 'gui.column.format:"S","%s","P","%p","D","%d"', "-T", "tabs"]
+
+
+def ways(folder: Path, words: Sequence[Word]) -> List[List[str]]:
+    return [[cell.strip() for cell in line.split("\t")] for line in tshark(folder, [*words, *WAYS]).splitlines()]
+
+
+def dissector_ways(folder: Path) -> List[str]:
+    """Who sends and who is meant: by the direction of the capture, else by the type."""
+    rows = ways(folder, dissected(folder))
+    wanted = {
+        0: ["", "Port 1", ""],
+        3: ["controller", "Port 1", "station 16"],
+        6: ["controller", "Port 1", "station 17"],
+        7: ["station 17", "Port 1", "controller"],
+        8: ["controller", "Port 1", "all stations"],
+        9: ["station 16", "Port 1", "controller"],
+        10: ["controller", "Port 1", "station 17"],
+        11: ["controller", "Port 1", "station 16"],
+    }
+    return [problem for number, row in wanted.items() for problem in compared(rows[number], row)]
+
+
+def dissector_of_malformed(folder: Path) -> List[str]:
+    """Frames of no octet up to four, and those cut short, give no error of Lua or of Wireshark."""
+    words = dissected(folder)
+    short = [(way, digits[: 2 * count]) for way in (0, 1, 2) for count in range(5) for _, digits in FRAMES]
+    (folder / "frames.pcapng").write_bytes(pcapng(short))
+    text = tshark(folder, [*words, "-V"])
+    found = [word for word in ("Lua Error", "Malformed", "(Error/") if word in text]
+    count = sum(1 for line in text.splitlines() if line.startswith("Frame "))
+    return compared((found, count), ([], len(short)))
+
+
+def dissector_of_other_name(folder: Path) -> List[str]:
+    """With --name the protocol and its filters have another name."""
+    words = dissected(folder, ODD, "--name", "bus_a")
+    got = layers(folder, words, "bus_a")
+    wanted = {"bus_a.station": "16", "bus_a.control": "0x83", "bus_a.type": "5", "bus_a.standing": "unknown"}
+    return compared(got[13], wanted)
+
+
+def dissector_of_a_listing(folder: Path) -> List[str]:
+    """From the bits of two lines to named packets, with what became of the commands."""
+    needs_all()
+    words = dissected(folder, WINDOWS)[:2]
+    capture = (TOP / "examples" / "two-lines.bits").read_bytes()
+    path = folder / "two-lines.pcapng"
+    ran(["list-to-pcap", RATE, path], listed(capture, ["--bits", "--two", "--dict", WINDOWS]).stdout)
+    wanted = [
+        ["call", "", "controller"],
+        ["reply", "", "station 16"],
+        ["call", "late, answer after 40 bits", "controller"],
+        ["reply", "", "station 16"],
+        ["call", "missing", "controller"],
+        ["call", "", "controller"],
+        ["reply", "", "station 16"],
+    ]
+    rows = columns(folder, path, ["port1.name", "frame.comment"], *words)
+    senders = [row[0] for row in ways(folder, [*words, "-r", path])]
+    late = columns(folder, path, ["frame.number"], *words, "-Y", 'port1.type == 0 && frame.comment contains "late"')
+    return compared([[*row, sender] for row, sender in zip(rows, senders)], wanted) + compared(late, [["3"]])
+
+
+TESTS = [
+    pcap_by_text2pcap,
+    pcap_in_tshark,
+    pcapng_of_two_lines,
+    pcapng_of_one_line,
+    pcapng_of_many_parts,
+    pcapng_of_nothing,
+    wrong_calls,
+    dissector_fields,
+    dissector_names,
+    dissector_filters,
+    dissector_ways,
+    dissector_of_malformed,
+    dissector_of_other_name,
+    dissector_of_a_listing,
+]

@@ -1,0 +1,33 @@
+use Rattle.std.proofs.Common.{◌+◌, ◌*◌, ◌^◌, ◌/◌, ◌-◌, ◌%◌, ap, refl}
+use Rattle.bus_line.specs.Words.{state}
+use Rattle.bus_line.specs.declared.line_words.LineWords.{LineWords}
+use Rattle.bus_line.proofs.TracksAppendLemmas.{append-holds, append-spent, joined}
+use Rattle.bus_line.proofs.WordsLemmas.{kept-put}
+use Rattle.bus_line.proofs.line_words.LineWords.append.Goals as goal
+
+pub returns-clause-holds : goal.returns-clause-holds
+returns-clause-holds g c = λ bits h.
+    let w = c.args.self.now in
+    let d = state w c.args.check.now c.args.cells.now in
+    let a = state c.begin.new.self c.begin.new.check c.args.cells.now in
+    let e = state c.put_all.new.self c.put_all.new.check c.put_all.new.cells in
+    let n = c.args.more.count in
+    let b = c.begin.new.self in
+    append-holds _ d a e n c.args.more.bits (joined w.rest (w.gathered % 8) c.args.more.bits) ((w.gathered % 8 + n) / 8) _ bits h c.requires.few c.requires.small refl refl
+    (ap (λ (s : LineWords). s.gathered) c.begin.ensures.kept)
+    (ap (λ (s : LineWords). s.longest) c.begin.ensures.kept)
+    (c.begin.ensures.keeps c.args.cells.now bits h)
+    c.put_all.ensures.keeps (kept-put (record b { assembled = b.assembled + n; gathered = b.gathered + n; rest = joined w.rest (w.gathered % 8) c.args.more.bits / 2 ^ (8 * ((w.gathered % 8 + n) / 8)) }) c.put_all.new.self c.put_all.new.check c.begin.new.check c.put_all.new.cells c.args.cells.now c.put_all.ensures.kept)
+
+pub returns-clause-spent : goal.returns-clause-spent
+returns-clause-spent g c = λ bits h.
+    let w = c.args.self.now in
+    let d = state w c.args.check.now c.args.cells.now in
+    let a = state c.begin.new.self c.begin.new.check c.args.cells.now in
+    let e = state c.put_all.new.self c.put_all.new.check c.put_all.new.cells in
+    let n = c.args.more.count in
+    append-spent _ _ d a e n (joined w.rest (w.gathered % 8) c.args.more.bits) ((w.gathered % 8 + n) / 8) _ bits h refl
+    (ap (λ (s : LineWords). s.longest) c.begin.ensures.kept)
+    (c.begin.ensures.keeps c.args.cells.now bits h)
+    c.put_all.ensures.spent
+    (ap (λ (s : LineWords). record d.spent { shifted = s.place - s.origin; assembled = s.assembled + n; folded = s.folded; stored = s.stored }) c.begin.ensures.kept)

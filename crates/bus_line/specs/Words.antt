@@ -1,0 +1,62 @@
+-- A decoder's words, and the decoder that they make with a check and octets beside them.
+use Rattle.std.specs.Prelude.{◌≢◌, ◌==◌, ℕ, ◌+◌, ◌-◌, ◌*◌, ◌≤◌, ◌^◌, List, take, Option, Some, None, if◌then◌else◌}
+pub use Rattle.bus_line.specs.Internal.LineState.{LineState}
+use Rattle.bus_line.specs.declared.line_words.LineWords.{LineWords}
+
+-- the first place of the open piece, by the place behind which each bit settles one of it
+abbrev pub first_in : ℕ → Option ℕ
+first_in at = if at == 2 ^ 62 then None else Some (at - 8)
+
+-- the decoder that these make; how many bits it took is told by its places
+abbrev pub state : {C : Type 0} → LineWords → C → List ℕ → LineState C
+state w check cells = record {
+  longest = w.longest;
+  origin = w.origin;
+  place = w.place;
+  history = w.history;
+  first = first_in w.settles_at;
+  gathered = w.gathered;
+  rest = w.rest;
+  octets = take w.len cells;
+  check = check;
+  spent = record {
+    shifted = w.place - w.origin;
+    assembled = w.assembled;
+    folded = w.folded;
+    stored = w.stored;
+    copied = 0;
+    handled = 0;
+  };
+}
+
+-- before the first bit
+abbrev pub fresh_words : ℕ → ℕ → LineWords
+fresh_words longest origin = record {
+  longest = longest;
+  origin = origin;
+  place = origin;
+  settles_at = 2 ^ 62;
+  gathered = 0;
+  assembled = 0;
+  folded = 0;
+  stored = 0;
+  history = 0;
+  rest = 0;
+  spare = 0;
+  len = 0;
+  register = 0;
+}
+
+-- they are within the bounds of a decoder
+pub record IsWithin (w : LineWords) : Type 0 where
+  pub longest_least : 3 ≤ w.longest
+  pub longest_most : w.longest ≤ 256
+  pub room : w.len ≤ w.longest + 2
+  pub place_fits : w.place ≤ 2 ^ 60
+  pub begins : w.origin ≤ w.place
+  pub settles_late : 8 ≤ w.settles_at
+  pub settles : w.settles_at ≢ 2 ^ 62 → w.settles_at ≤ w.place + 8
+  pub gathered_fits : w.gathered ≤ w.assembled
+  pub settled : w.assembled ≤ w.place - w.origin
+  pub filled : w.stored ≤ w.assembled
+  pub paid : w.folded ≤ 8 * w.stored

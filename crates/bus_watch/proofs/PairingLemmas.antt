@@ -1,0 +1,16 @@
+-- The command that waits after one report more.
+use Rattle.std.proofs.Common.{◌≡◌, true, List, [], ◌∷◌, ◌++◌, None, sym, ap, ◌∙◌}
+use Rattle.std.specs.Option.{option_and_then}
+use Rattle.bus_dictionary.specs.Entry.{FrameType}
+use Rattle.bus_line.specs.Shown.{span_of}
+use Rattle.bus_watch.specs.Heard.{Heard}
+use Rattle.bus_watch.specs.Internal.JournalState.{is_damage}
+use Rattle.bus_watch.specs.Talk.{command_on, pending}
+use Rattle.bus_watch.proofs.JournalStateLemmas.{damage-quiet}
+use Rattle.bus_watch.proofs.TalkLemmas.{pending-talk}
+
+-- none waits behind damage
+pub waiting-damage : (d : List FrameType) (hs : List Heard) (r : Heard) → is_damage r.report.kind ≡ true → None ≡ pending d (hs ++ r ∷ [])
+waiting-damage d hs r h =
+    let q = damage-quiet d r.report.kind h in
+    sym (pending-talk d hs r q.0 ∙ ap (λ s. option_and_then (command_on r.line d (span_of r.report)) s) q.1.no_standing)

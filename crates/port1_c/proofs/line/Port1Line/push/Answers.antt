@@ -1,0 +1,30 @@
+use Rattle.std.proofs.Common.{◌++◌, ◌∷◌, [], ◌∙◌, ℕ, Option, sym, ap, subst}
+use Rattle.std.specs.Option.{option_map, option_to_list}
+use Rattle.bus_fcs.specs.declared.octet_check.OctetCheck.{OctetCheck}
+use Rattle.bus_line.specs.Due.{placed}
+use Rattle.bus_line.specs.Report.{Report}
+use Rattle.bus_line.specs.Shown.{reported}
+use Rattle.bus_line.specs.Words.{state}
+use Rattle.port1_c.specs.Line.{Tells, held}
+use Rattle.port1_c.proofs.line.Port1Line.push.Goals as goal
+
+pub returns-in-Ok-Some-clause-tells : goal.returns-in-Ok-Some-clause-tells
+returns-in-Ok-Some-clause-tells c =
+    let old = c.args.self.now in
+    let bits = c.args.bit ∷ [] in
+    let report = c.of_event.result in
+    let words = c.push.new.self in
+    let octets = c.push.new.cells in
+    let new = state words c.push.new.check octets in
+    let leads = c.in-Ok-Some.ensures.leads in
+    let register = ap (λ (r : ℕ). record { state = r }) c.register-self-in-Ok-Some.ensures in
+    let here = c.with_register-check.ensures in
+    subst (λ (k : OctetCheck). Tells (held old) bits report (state words k octets)) (sym register)
+    (subst (λ (k : OctetCheck). Tells (state old.words k old.octets) bits report new) here (record {
+      after = leads.after;
+      says = λ b h. c.in-Ok-Some.ensures.more b h
+          ∙ ap (λ (o : Option Report). placed old.words.origin old.words.longest b ++ option_to_list o) (ap (option_map (reported new.octets)) c.in-Ok-Some.field-0-is ∙ sym (c.of_event.ensures.tells new.octets));
+      longest = leads.longest;
+      origin = leads.origin;
+      place = leads.place;
+    }))

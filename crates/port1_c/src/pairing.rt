@@ -1,0 +1,73 @@
+//! What C calls to pair commands with answers.
+
+ghost use Rattle.std.specs.Prelude.{◌≡◌, ◌≢◌, ◌<◌, ◌↔◌, ◌⊎◌, List, [], ◌∷◌, ◌++◌, Some, IsSome, IfSome};
+ghost use Rattle.bus_watch.specs.Heard.{Heard};
+ghost use Rattle.bus_watch.specs.Seen.{seen_of};
+ghost use Rattle.port1_c.specs.Pair.{IsCodedSeen, IsReport, Waits, entries_of, fresh, heard_in, line_in, seen_in};
+
+use crate::entry::{Port1Entry, Table};
+use crate::pair::Port1Pair;
+use crate::report::Port1Report;
+use crate::seen::Port1Seen;
+use crate::status::{BAD_ARGUMENT, OK};
+use bus_watch::Line;
+
+/// The line of a number, if it is that of one.
+fn line_of(number: u32) -> Option<Option<Line>>
+    ensures some { IsSome result ↔ (number < 3) }
+    ensures value { IfSome result (λ line. line ≡ line_in number) }
+{
+    match number {
+        0 => Some(None),
+        1 => Some(Some(Line::First)),
+        2 => Some(Some(Line::Second)),
+        _ => None,
+    }
+}
+
+/// Makes a pairing of no reports, whatever the memory holds. Returns OK.
+#[unsafe(no_mangle)]
+pub extern "C" fn port1_pair_init(pair: &mut Port1Pair) -> u32
+    ensures status { result ≡ 0 }
+    ensures value { pair.new ≡ fresh }
+    ensures waits { (entries : List Port1Entry) → Waits pair.new entries [] }
+{
+    *pair = Port1Pair::new();
+    OK
+}
+
+/// Takes a report of a line, a frame with these octets, and says what follows from it by a table of the frame
+/// types. `line` is 0 where there is one line, and else 1 for the controller's and 2 for that of the answers.
+///
+/// Returns OK, or BAD_ARGUMENT where there is no such line or no such report, and nothing has changed.
+#[unsafe(no_mangle)]
+pub extern "C" fn port1_pair_take(
+    pair: &mut Port1Pair,
+    entries: &[Port1Entry],
+    line: u32,
+    report: &Port1Report,
+    octets: &[u8],
+    seen: &mut Port1Seen,
+) -> u32
+    ensures status { (result ≡ 0) ⊎ (result ≡ 4) }
+    ensures taken { result ≡ 0 ↔ (line < 3) × IsReport report.now octets.now }
+    ensures kept { result ≢ 0 → (pair.new ≡ pair.old) × (seen.new ≡ seen.old) }
+    ensures coded { result ≡ 0 → IsCodedSeen seen.new }
+    ensures waits { result ≡ 0 → (hs : List Heard) → Waits pair.old entries.now hs →
+        Waits pair.new entries.now (hs ++ heard_in line report.now octets.now ∷ []) }
+    ensures says { result ≡ 0 → (hs : List Heard) → Waits pair.old entries.now hs →
+        seen_in seen.new (heard_in line report.now octets.now)
+        ≡ seen_of (entries_of 0 entries.now) hs (heard_in line report.now octets.now) }
+{
+    let Some(line) = line_of(line) else {
+        return BAD_ARGUMENT;
+    };
+    let Some(event) = report.event(octets) else {
+        return BAD_ARGUMENT;
+    };
+    let mut pairing = pair.load();
+    let finding = pairing.take(&Table { entries }, line, event, octets);
+    *pair = Port1Pair::of(pairing);
+    *seen = Port1Seen::of(&finding);
+    OK
+}

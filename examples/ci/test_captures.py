@@ -1,0 +1,89 @@
+"""One test for each capture of a folder, for a server that runs tests and reads JUnit XML.
+
+    pytest --junitxml=bus.xml --captures=FOLDER --dictionary=FILE test_captures.py
+
+A capture fails where it has no frame, where it has a fault, and where anything in it is one of the kinds of `WRONG`
+below; the message has the fault and these lines of `port1 list`. The counts of `port1 check` are properties of the
+test. A folder without captures fails, too. Say `--two` for captures of two lines. The program is `port1`, or what the
+variable PORT1 says. The options and the variables that stand for them are in conftest.py; this folder may be copied
+and changed.
+"""
+
+import os
+import subprocess
+from pathlib import Path
+from typing import Callable, Dict, List, NamedTuple
+
+import pytest
+
+PORT1 = os.environ.get("PORT1", "port1")
+
+# The kinds of lines that a good capture has none of.
+WRONG = ("damaged", "overlong", "missing", "spoilt", "late", "pending")
+
+# How many of them a message has, at most.
+MOST_LINES = 100
+
+
+class Finding(NamedTuple):
+    """What is wrong with a capture: how many lines of the listing tell so, the first of them, and the fault."""
+
+    count: int
+    lines: List[str]
+    fault: str
+
+    def message(self) -> str:
+        more = [f"and {self.count - MOST_LINES} lines more"] if self.count > MOST_LINES else []
+        told = [f"{self.count} lines tell what is wrong:", *self.lines, *more] if self.count else []
+        return "\n".join(([self.fault] if self.fault else []) + told)
+
+
+def words_of(command: str, capture: Path, options: List[str]) -> List[str]:
+    """What runs a command of `port1` on a capture."""
+    return [PORT1, command, *options, *(["--bits"] if capture.suffix == ".bits" else [])]
+
+
+def counts_of(capture: Path, options: List[str]) -> Dict[str, int]:
+    """What `port1 check` counts; nothing where the capture has a fault."""
+    with capture.open("rb") as file:
+        words = words_of("check", capture, options)
+        checked = subprocess.run(words, stdin=file, stdout=subprocess.PIPE, stderr=subprocess.DEVNULL, text=True)
+    pairs = (line.split() for line in checked.stdout.splitlines())
+    return {words[0]: int(words[1]) for words in pairs if len(words) == 2}
+
+
+def kind_of(line: str) -> str:
+    """The first word of a line that is no number."""
+    return next(word for word in line.split() if not word.isdigit())
+
+
+def finding_of(capture: Path, options: List[str]) -> Finding:
+    """What `port1 list` says that is wrong."""
+    words = words_of("list", capture, options)
+    count, lines = 0, []
+    pipes = {"stdout": subprocess.PIPE, "stderr": subprocess.PIPE, "text": True}
+    with capture.open("rb") as file, subprocess.Popen(words, stdin=file, **pipes) as listing:
+        for line in listing.stdout:
+            if kind_of(line) in WRONG:
+                count += 1
+                lines += [line.rstrip()] if count <= MOST_LINES else []
+        fault = listing.stderr.read().strip()
+    if listing.returncode != 0 and not fault:
+        fault = f"`port1 list` ended with status {listing.returncode}"
+    return Finding(count, lines, fault)
+
+
+def test_folder(captures: List[Path]) -> None:
+    if not captures:
+        pytest.fail("the folder has no captures: no *.bits and no *.ts2", pytrace=False)
+
+
+def test_capture(capture: Path, options: List[str], record_property: Callable[[str, object], None]) -> None:
+    counts = counts_of(capture, options)
+    for name, count in counts.items():
+        record_property(name, count)
+    message = finding_of(capture, options).message()
+    if not message and counts.get("frames", 0) == 0:
+        message = "the capture has no frame"
+    if message:
+        pytest.fail(message, pytrace=False)

@@ -1,0 +1,29 @@
+import { BLOCK } from "./decoder.js";
+
+/** So many octets of each line are kept at most, which is a day and more of Port 1. */
+const MOST_KEPT = 2 ** 31;
+
+/** The bits of a capture, as they were decoded, so that a picture can show them. */
+export class KeptBits {
+  constructor() {
+    this.chunks = []; // for each block, the octets of each line
+    this.length = 0; // in bits
+  }
+
+  /** Keeps a block. All but the last are whole. */
+  take(octets, bits) {
+    if (this.chunks.length * BLOCK < MOST_KEPT) this.chunks.push(octets.map((some) => some.slice()));
+    this.length += bits;
+  }
+
+  /** The bits of a line from one place to another, as text; those that are not there or were not kept are left out. */
+  text(line, first, past) {
+    let text = "";
+    for (let place = Math.max(first, 0); place < Math.min(past, this.length); place++) {
+      const chunk = this.chunks[Math.floor(place / (8 * BLOCK))];
+      const within = place % (8 * BLOCK);
+      if (chunk) text += (chunk[line][within >> 3] >> (within & 7)) & 1;
+    }
+    return text;
+  }
+}

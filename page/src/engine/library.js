@@ -1,0 +1,61 @@
+import { Fault } from "../fault.js";
+
+const PAGE = 65536;
+
+/** The C library, compiled for WebAssembly with 64-bit memory. Pointers and numbers of octets are BigInts. */
+export class Library {
+  /** @param {WebAssembly.Instance} instance */
+  constructor(instance) {
+    this.calls = instance.exports;
+    this.memory = instance.exports.memory;
+    this.used = this.memory.buffer.byteLength;
+    this.view = new DataView(this.memory.buffer);
+    this.octets = new Uint8Array(this.memory.buffer);
+  }
+
+  /** Takes some octets of memory, all 0, for ever, after those that the library has for itself. @returns {number} */
+  allocate(size) {
+    const begin = this.used;
+    this.used += (size + 7) & ~7;
+    const lacking = this.used - this.memory.buffer.byteLength;
+    if (lacking > 0) {
+      grow(this.memory, Math.ceil(lacking / PAGE));
+      this.view = new DataView(this.memory.buffer);
+      this.octets = new Uint8Array(this.memory.buffer);
+    }
+    return begin;
+  }
+
+  /** A 64-bit number in memory, which is one of a place or a count and so below 2^53. */
+  number(at) {
+    return this.view.getUint32(at, true) + 4294967296 * this.view.getUint32(at + 4, true);
+  }
+
+  /** Makes sure that a call did what it was asked. */
+  demand(status, what) {
+    if (status !== 0) throw new Fault(`${what}: the decoder returned ${status}`);
+  }
+}
+
+/** Makes a 64-bit memory longer. Browsers take a BigInt, Node 20 still takes a number. */
+function grow(memory, pages) {
+  try {
+    memory.grow(BigInt(pages));
+  } catch (fault) {
+    if (!(fault instanceof TypeError)) throw fault;
+    memory.grow(pages);
+  }
+}
+
+/** Whether this browser can run the decoder: it needs 64-bit memory. */
+export function canRun() {
+  // An empty module with a memory of 64-bit addresses.
+  const module = Uint8Array.of(0, 97, 115, 109, 1, 0, 0, 0, 5, 3, 1, 4, 0);
+  return typeof WebAssembly === "object" && WebAssembly.validate(module);
+}
+
+/** @param {Uint8Array} module @returns {Promise<Library>} */
+export async function libraryOf(module) {
+  const { instance } = await WebAssembly.instantiate(module, {});
+  return new Library(instance);
+}

@@ -1,0 +1,69 @@
+import { Fault } from "../fault.js";
+import { Conversion } from "./conversion.js";
+import { tableOf } from "./csv.js";
+import { Moments } from "./doubts.js";
+import { measured } from "./period.js";
+import { PIECE, Source } from "./source.js";
+import { dumpOf } from "./vcd.js";
+
+export { channelsOf, formOf } from "./forms.js";
+
+/**
+ * What is wanted of a recording.
+ * @typedef {object} Wanted
+ * @property {import("./forms.js").Form} form
+ * @property {string[]} channels by name: TXC TXD RXC RXD, two lines with a clock each; CLOCK DATA SECOND, two lines
+ *   with one clock; CLOCK DATA, one line
+ * @property {boolean} [rising] whether a bit is what the data has just before a rising edge, as it is unless told
+ * @property {number} [size] octets that are read at a time
+ */
+
+/**
+ * The bits of a recording.
+ * @typedef {object} Taken
+ * @property {AsyncGenerator<Uint8Array>} marks 0 or 1 for a bit of one line; for two lines the bit of the first, and 2
+ *   for a bit 1 of the second
+ * @property {string[]} told notes and warnings, when the marks have come to their end
+ */
+
+const READERS = { vcd: dumpOf, csv: tableOf };
+
+/**
+ * Takes the bits from a recording.
+ * @param {AsyncIterable<Uint8Array>|Iterable<Uint8Array>} pieces of the recording, of any size
+ * @param {Wanted} wanted
+ * @returns {Taken}
+ */
+export function bitsOf(pieces, wanted) {
+  const told = [];
+  return { marks: marksOf(new Source(pieces), wanted, told), told };
+}
+
+async function* marksOf(source, { form, channels, rising = true, size = PIECE }, told) {
+  try {
+    if (channels.length < 2 || channels.length > 4) {
+      throw new Fault("two, three or four channels are to be named");
+    }
+    const { ticks, changes } = await READERS[form](source, channels, size);
+    const own = channels.length === 4 ? [0, 2] : [0];
+    const { period, read } = await measured(changes, own, rising);
+    const conversion = new Conversion(channels, rising, period, new Moments(ticks));
+    yield* conversion.marks(withLast(read, changes));
+    told.push(...conversion.told());
+  } finally {
+    await source.close();
+  }
+}
+
+/** Changes that have been read and those that come, and whether they are the last. */
+async function* withLast(read, changes) {
+  for (let at = 0; at + 1 < read.length; at++) {
+    yield { some: read[at], isLast: false };
+  }
+  let before = read.at(-1);
+  for await (const some of changes) {
+    yield { some: before, isLast: false };
+    before = some;
+  }
+  yield { some: before, isLast: true };
+}

@@ -1,0 +1,65 @@
+import { TableHead } from "./csv-head.js";
+import { namesOf, signalsOf } from "./signals.js";
+import { Words } from "./words.js";
+
+/**
+ * The forms of recordings that are read: value change dumps, and tables with commas.
+ * @typedef {"vcd"|"csv"} Form
+ */
+
+/** What may stand before the first word of a recording. */
+const BEFORE_TEXT = Uint8Array.from([0xef, 0xbb, 0xbf, 9, 10, 13, 32]);
+
+const [DOLLAR, SEMICOLON, COMMA] = [36, 59, 44];
+
+/**
+ * Of which form a recording is.
+ * @param {Uint8Array} head its first 4096 octets
+ * @returns {Form|null} none where these octets are of neither form
+ */
+export function formOf(head) {
+  const first = head.find((octet) => !BEFORE_TEXT.includes(octet));
+  if (first === DOLLAR) {
+    return "vcd";
+  }
+  const isText = head.every((octet) => (octet >= 32 ? octet !== 127 : octet === 9 || octet === 10 || octet === 13));
+  return isText && (first === SEMICOLON || head.includes(COMMA)) ? "csv" : null;
+}
+
+/**
+ * The channels of a recording by which they are taken: their names, or the numbers of columns that share a name.
+ * @param {Uint8Array} head its first octets, as many as its definitions or the lines before its samples take
+ * @param {Form} form
+ * @returns {string[]}
+ */
+export function channelsOf(head, form) {
+  if (form === "vcd") {
+    return [...new Set(namesOf(signalsOf(new Words(head, head.length))))];
+  }
+  const names = namesOfTable(head);
+  const shared = sharedNames(names);
+  const all = new Set(names);
+  return names.map((name, at) => (shared.has(name) && !all.has(String(at)) ? String(at) : name));
+}
+
+/** The names that more than one column has. */
+function sharedNames(names) {
+  const known = new Set();
+  const shared = new Set();
+  for (const name of names) {
+    (known.has(name) ? shared : known).add(name);
+  }
+  return shared;
+}
+
+function namesOfTable(octets) {
+  const head = new TableHead();
+  let begin = 0;
+  for (let end = octets.indexOf(10); end >= 0; end = octets.indexOf(10, begin)) {
+    if (head.ends(octets.subarray(begin, end))) {
+      break;
+    }
+    begin = end + 1;
+  }
+  return head.table().names;
+}

@@ -1,0 +1,123 @@
+import { Fault } from "../fault.js";
+
+/** Octets of one read. What the script does at a time, and so what it tells, depends on it. */
+export const PIECE = 1 << 22;
+
+/** The longest line or word, in octets: no analyser writes one that is nearly as long. */
+const LONGEST = 1 << 22;
+
+const LINE_END = 10;
+
+/** The octets of a file that comes in pieces of any size. What is read stands until the next read alone. */
+export class Source {
+  /** @param {AsyncIterable<Uint8Array>|Iterable<Uint8Array>} pieces */
+  constructor(pieces) {
+    this.pieces = pieces[Symbol.asyncIterator]?.() ?? pieces[Symbol.iterator]();
+    this.held = new Uint8Array(0);
+    this.begin = 0;
+    this.past = 0;
+  }
+
+  /**
+   * So many octets, fewer at the end.
+   * @param {number} count
+   * @returns {Promise<Uint8Array>}
+   */
+  async read(count) {
+    while (this.past - this.begin < count && (await this.more()));
+    return this.take(Math.min(count, this.past - this.begin));
+  }
+
+  /**
+   * Whole lines, of more than so many octets together but for the last; none at the end.
+   * @param {number} count
+   * @returns {Promise<Uint8Array>}
+   */
+  async lines(count) {
+    let seen = count; // the line end that is wanted is not before this
+    for (;;) {
+      const end = this.lineEnd(seen);
+      if (end >= 0) {
+        return this.take(end + 1);
+      }
+      seen = Math.max(count, this.past - this.begin);
+      if (seen > count + LONGEST) {
+        throw new Fault(`a line is longer than ${LONGEST} octets`);
+      }
+      if (!(await this.more())) {
+        return this.take(this.past - this.begin);
+      }
+    }
+  }
+
+  /**
+   * The next line, empty at the end.
+   * @returns {Promise<Uint8Array>}
+   */
+  line() {
+    return this.lines(0);
+  }
+
+  /** Says that no more is wanted. */
+  async close() {
+    await this.pieces.return?.();
+  }
+
+  lineEnd(seen) {
+    return this.held.subarray(this.begin, this.past).indexOf(LINE_END, seen);
+  }
+
+  async more() {
+    const { done, value } = await this.pieces.next();
+    if (!done) {
+      this.append(value);
+    }
+    return !done;
+  }
+
+  append(piece) {
+    const kept = this.past - this.begin;
+    if (this.past + piece.length > this.held.length) {
+      const fits = kept + piece.length <= this.held.length;
+      const room = fits ? this.held : new Uint8Array(kept + Math.max(piece.length, kept));
+      room.set(this.held.subarray(this.begin, this.past));
+      [this.held, this.begin, this.past] = [room, 0, kept];
+    }
+    this.held.set(piece, this.past);
+    this.past += piece.length;
+  }
+
+  take(count) {
+    const taken = this.held.subarray(this.begin, this.begin + count);
+    this.begin += count;
+    return taken;
+  }
+}
+
+/**
+ * Octets with others before them.
+ * @param {Uint8Array} first
+ * @param {Uint8Array} second
+ * @returns {Uint8Array}
+ */
+export function joined(first, second) {
+  if (first.length === 0) {
+    return second;
+  }
+  const both = new Uint8Array(first.length + second.length);
+  both.set(first);
+  both.set(second, first.length);
+  return both;
+}
+
+/**
+ * What goes on in the next piece: too much of it is a fault.
+ * @param {Uint8Array} rest
+ * @returns {Uint8Array}
+ */
+export function notTooLong(rest) {
+  if (rest.length > LONGEST) {
+    throw new Fault(`a word is longer than ${LONGEST} octets`);
+  }
+  return rest;
+}

@@ -1,0 +1,27 @@
+import { Fault } from "../fault.js";
+import { SPACE, quoted, stripped } from "./text.js";
+
+/** Units of time by the names that recordings give them, in ticks a second. */
+export const UNITS = new Map([
+  ["s", 1], ["ms", 1e3], ["us", 1e6], ["ns", 1e9], ["ps", 1e12], ["fs", 1e15],
+  ["seconds", 1], ["milliseconds", 1e3], ["microseconds", 1e6], ["nanoseconds", 1e9], ["picoseconds", 1e12],
+]);
+
+const RATE = new RegExp(`^(\\d+)(?:\\.(\\d+))?[${SPACE}]*([kMG]?)(?:Hz)?$`);
+
+const ZEROS = new Map([["", 0], ["k", 3], ["M", 6], ["G", 9]]);
+
+/**
+ * A rate such as `4 MHz`, `4M` or `4000000`, in whole hertz.
+ * @param {string} text
+ * @returns {number}
+ */
+export function hertz(text) {
+  const found = RATE.exec(stripped(text));
+  if (found === null) {
+    throw new Fault(`${quoted(text)} is no rate`);
+  }
+  const [, whole, decimals = "", prefix] = found;
+  const zeros = ZEROS.get(prefix);
+  return Number(whole + decimals.slice(0, zeros).padEnd(zeros, "0"));
+}

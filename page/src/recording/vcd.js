@@ -1,0 +1,211 @@
+import { Fault } from "../fault.js";
+import { ChangeList, MOST, safeTime } from "./changes.js";
+import { wholeOf } from "./numbers.js";
+import { codeOf, signalsOf } from "./signals.js";
+import { joined, notTooLong } from "./source.js";
+import { decoded } from "./text.js";
+import { Words, afterLastSpace, beginOfWord, characters, endOfWord } from "./words.js";
+
+const [HASH, DOLLAR, ZERO, NINE] = [35, 36, 48, 57];
+
+/** Digits of a time that a double holds for certain. */
+const EXACT_DIGITS = 15;
+
+/** What a value does to a channel, by its octet: NONE if it is no value. */
+const [LOW, HIGH, UNKNOWN, NONE] = [0, 1, 2, 3];
+const VALUES = new Uint8Array(256).fill(NONE);
+Object.entries({ 0: LOW, 1: HIGH, x: UNKNOWN, X: UNKNOWN, z: UNKNOWN, Z: UNKNOWN }).forEach(([value, does]) => {
+  VALUES[value.charCodeAt(0)] = does;
+});
+
+/** Whether the value of a vector or of a real number begins, by its first octet. */
+const BEGINS_VECTOR = new Uint8Array(256);
+Array.from("bBrR").forEach((letter) => {
+  BEGINS_VECTOR[letter.charCodeAt(0)] = 1;
+});
+
+/** A value of more bits than any channel that is followed has. */
+const MANY_BITS = new Uint8Array(0);
+
+/** What a change of each of some codes does to the levels: which bits it keeps, and which it sets for each value. */
+class Actions {
+  /** @param {string[]} channels the code of each channel */
+  constructor(channels) {
+    const codes = [...new Set(channels)];
+    this.codes = codes.map((code) => Uint8Array.from(code, (character) => character.charCodeAt(0)));
+    this.longest = Math.max(...codes.map((code) => code.length));
+    const masks = codes.map((code) => channels.reduce((mask, other, at) => mask | (other === code ? 1 << at : 0), 0));
+    this.kept = masks.map((mask) => 0xff & ~(mask | (mask << MOST)));
+    this.put = masks.flatMap((mask) => [0, mask, mask << MOST]);
+  }
+
+  /** The levels after a change that stands in some octets; -1 if it is of no channel that is followed. */
+  applied(levels, octets, begin, past) {
+    const value = VALUES[octets[begin]];
+    const code = value === NONE ? -1 : this.codeAt(octets, begin + 1, past);
+    return code < 0 ? -1 : this.after(levels, value, code);
+  }
+
+  after(levels, value, code) {
+    return (levels & this.kept[code]) | this.put[3 * code + value];
+  }
+
+  codeAt(octets, begin, past) {
+    for (let code = 0; code < this.codes.length; code++) {
+      if (isSame(octets, begin, past, this.codes[code])) {
+        return code;
+      }
+    }
+    return -1;
+  }
+}
+
+function isSame(octets, begin, past, wanted) {
+  if (past - begin !== wanted.length) {
+    return false;
+  }
+  for (let at = 0; at < wanted.length; at++) {
+    if (octets[begin + at] !== wanted[at]) {
+      return false;
+    }
+  }
+  return true;
+}
+
+/** Reads the words of a dump after its definitions. */
+export class DumpReader {
+  /** @param {string[]} codes of the channels */
+  constructor(codes) {
+    this.actions = new Actions(codes);
+    this.list = new ChangeList();
+    this.levels = ((1 << codes.length) - 1) << MOST;
+    this.time = 0;
+    this.told = -1; // the levels that were told last
+    this.isComment = false;
+    this.vector = null; // a value whose code comes next, without its first letter
+  }
+
+  /**
+   * The changes in the words of some octets.
+   * @param {Uint8Array} octets
+   * @param {number} begin
+   * @param {number} past where the last word has ended
+   * @returns {import("./changes.js").Changes}
+   */
+  read(octets, begin, past) {
+    let at = beginOfWord(octets, begin, past);
+    while (at < past) {
+      const end = endOfWord(octets, at, past);
+      this.word(octets, at, end);
+      at = beginOfWord(octets, end, past);
+    }
+    return this.list.take(this.time);
+  }
+
+  word(octets, begin, past) {
+    if (this.isComment || this.vector !== null) {
+      this.goOn(octets, begin, past);
+      return;
+    }
+    const levels = this.actions.applied(this.levels, octets, begin, past);
+    if (levels >= 0) {
+      this.levels = levels;
+    } else if (octets[begin] === HASH) {
+      this.tell();
+      this.time = timeOf(octets, begin, past);
+    } else {
+      this.open(octets, begin, past);
+    }
+  }
+
+  tell() {
+    if (this.levels !== this.told) {
+      this.list.add(this.time, this.levels);
+      this.told = this.levels;
+    }
+  }
+
+  /** A comment, or the value of a vector, which another word ends. */
+  open(octets, begin, past) {
+    if (octets[begin] === DOLLAR) {
+      this.isComment = characters(octets.subarray(begin, past)) === "$comment";
+    } else if (BEGINS_VECTOR[octets[begin]] === 1) {
+      this.vector = past - begin - 1 <= this.actions.longest ? octets.slice(begin + 1, past) : MANY_BITS;
+    }
+  }
+
+  goOn(octets, begin, past) {
+    if (this.isComment) {
+      this.isComment = characters(octets.subarray(begin, past)) !== "$end";
+      return;
+    }
+    if (this.vector !== MANY_BITS) {
+      const change = joined(this.vector, octets.subarray(begin, past));
+      const levels = this.actions.applied(this.levels, change, 0, change.length);
+      this.levels = levels < 0 ? this.levels : levels;
+    }
+    this.vector = null;
+  }
+
+  /** What stands at the last time. */
+  end() {
+    this.list.add(this.time, this.levels);
+    return this.list.take(this.time + 1);
+  }
+}
+
+/** The time after a #. */
+function timeOf(octets, begin, past) {
+  if (past - begin - 1 > EXACT_DIGITS || past - begin === 1) {
+    return otherTimeOf(octets, begin, past);
+  }
+  let time = 0;
+  for (let at = begin + 1; at < past; at++) {
+    if (octets[at] < ZERO || octets[at] > NINE) {
+      return otherTimeOf(octets, begin, past);
+    }
+    time = time * 10 + (octets[at] - ZERO);
+  }
+  return time;
+}
+
+function otherTimeOf(octets, begin, past) {
+  const text = decoded(octets.subarray(begin, past));
+  const time = wholeOf(text.slice(1));
+  if (Number.isNaN(time)) {
+    throw new Fault(`${text} is no time`);
+  }
+  return safeTime(time, text);
+}
+
+/**
+ * A value change dump (VCD, IEEE 1364).
+ * @param {import("./source.js").Source} source
+ * @param {string[]} names
+ * @param {number} size octets of one read; the definitions stand in the first
+ * @returns {Promise<import("./changes.js").Recording>}
+ */
+export async function dumpOf(source, names, size) {
+  const piece = await source.read(size);
+  const past = afterLastSpace(piece);
+  const words = new Words(piece, past);
+  const signals = signalsOf(words);
+  if (!signals.isWhole) {
+    throw new Fault("the input is no value change dump: it has no $enddefinitions");
+  }
+  const reader = new DumpReader(names.map((name) => codeOf(name, signals)));
+  return { ticks: signals.ticks, changes: changesOf(source, size, reader, piece, words.at, past) };
+}
+
+async function* changesOf(source, size, reader, first, begin, past) {
+  yield reader.read(first, begin, past);
+  let rest = first.slice(past);
+  for (let piece = await source.read(size); piece.length > 0; piece = await source.read(size)) {
+    const octets = joined(rest, piece);
+    const end = afterLastSpace(octets);
+    yield reader.read(octets, 0, end);
+    rest = notTooLong(octets.slice(end));
+  }
+  yield reader.read(rest, 0, rest.length);
+  yield reader.end();
+}

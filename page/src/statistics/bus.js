@@ -1,0 +1,154 @@
+import { isUnfit } from "../listing/kinds.js";
+import { ANSWER } from "../port1.js";
+import { Commands } from "./commands.js";
+import { Counts, Kinds } from "./kinds.js";
+import { Tally } from "./pieces.js";
+import { Slots } from "./slots.js";
+
+/**
+ * A line of a listing.
+ * @typedef {object} Row
+ * @property {1|2|null} line of the bus, in a listing of two lines
+ * @property {number} first place of the first bit
+ * @property {number} past place just after the last bit
+ * @property {string} kind
+ * @property {Uint8Array|null} octets of a frame, the two of its check at the end
+ * @property {number|null} station
+ * @property {number|null} type
+ * @property {string} name what the dictionary calls a frame; `unknown` or `length` where it does not fit; else empty
+ * @property {string} cause of damage, else empty
+ * @property {number|null} replyBits from the end of a command to the first bit of its answer
+ */
+
+const newCommands = () => new Commands();
+
+/** All that is counted of a listing, in memory that does not grow with it. Rows are not to change once taken. */
+export class Bus {
+  /** @param {number} rate bits a second, a whole number above 0 */
+  constructor(rate) {
+    this.rate = rate;
+    this.rows = 0;
+    this.first = 0; // the place where the listing begins
+    this.past = 0;
+    this.lines = 1;
+    this.frames = 0;
+    this.named = false; // whether a dictionary gave a frame its name, or said that it has none
+    this.damage = new Tally();
+    this.slots = new Slots(rate);
+    /** @type {Kinds<Commands>} */
+    this.commands = new Kinds();
+    this.backward = 0; // commands on the second line
+    this.strays = new Counts();
+    this.pending = new Counts();
+    this.misfits = { length: new Counts(), unknown: new Counts() }; // frames without an entry that fits
+    /** @type {Row|null} */
+    this.before = null; // the line that settles a verdict: the last one that is no stray
+  }
+
+  /** How many damaged pieces there are. */
+  get damaged() {
+    return this.damage.total;
+  }
+
+  /**
+   * @param {number} place
+   * @param {number} frames that begin there
+   * @returns {import("./commands.js").Moment}
+   */
+  moment(place, frames) {
+    const framesBefore = this.frames;
+    return { place, damage: this.damage.now(), framesBefore, framesAfter: framesBefore + frames };
+  }
+
+  /** @param {Row} row */
+  commandsOf(row) {
+    return this.commands.at(row.station, row.type, newCommands);
+  }
+
+  /** @param {Row} row */
+  takeFrame(row) {
+    if (row.name !== "") {
+      this.named = true;
+      if (isUnfit(row.name)) {
+        this.misfits[row.name].add(row.station, row.type);
+      }
+    }
+    if (row.type !== null && row.type < ANSWER) {
+      if (row.line === 2) {
+        this.backward += 1;
+      } else {
+        this.commandsOf(row).send(row.name, this.moment(row.first, 1));
+      }
+    }
+    this.frames += 1;
+  }
+
+  /** @param {Row} row */
+  takeDamage(row) {
+    this.damage.add(row.line, row.cause || row.kind);
+    this.slots.add(row.first);
+  }
+
+  /**
+   * Counts what a row says, but not where the listing begins and ends.
+   * @param {Row} row
+   * @param {Row|null} before the row that settles it where it is a verdict
+   */
+  take(row, before) {
+    switch (row.kind) {
+      case "frame":
+        this.takeFrame(row);
+        break;
+      case "answered":
+      case "late":
+      case "missing":
+      case "spoilt":
+        this.commandsOf(row).judge(row, before);
+        break;
+      case "damaged":
+      case "overlong":
+      case "abort":
+        this.takeDamage(row);
+        break;
+      case "stray":
+        this.strays.add(row.station, row.type);
+        break;
+      case "pending":
+        this.pending.add(row.station, row.type);
+        break;
+    }
+  }
+
+  /**
+   * Counts the next rows of a listing. What is counted so far can be told at any time.
+   * @param {Iterable<Row>} rows
+   */
+  takeSome(rows) {
+    for (const row of rows) {
+      if (this.rows === 0 || row.first < this.first) {
+        this.first = row.first;
+      }
+      this.past = Math.max(this.past, row.past);
+      this.lines = row.line === null ? 1 : 2;
+      this.rows += 1;
+      this.take(row, this.before);
+      if (row.kind !== "stray") {
+        this.before = row;
+      }
+    }
+  }
+
+  /** Ends a listing, and lets go of its last row. */
+  end() {
+    this.before = null;
+  }
+
+  /**
+   * Counts a whole listing.
+   * @param {Iterable<Row>} rows
+   */
+  takeAll(rows) {
+    this.takeSome(rows);
+    this.end();
+  }
+}

@@ -1,0 +1,263 @@
+import { isUnfit } from "../listing/kinds.js";
+import { holes } from "./gaps.js";
+import { piecesNamed, sumOf } from "./pieces.js";
+import { counted, spanOf, unitsOf } from "./units.js";
+
+// The most sentences of one sort; the table has the rest.
+const MOST_TOLD = 6;
+
+// How many sentences the head of the page has.
+const HEAD_SENTENCES = 3;
+
+const isOrAre = (count) => (count === 1 ? "is" : "are");
+
+const sum = (numbers) => numbers.reduce((total, number) => total + number, 0);
+
+function typeNamed(kind, name) {
+  return name !== "" && !isUnfit(name) ? `type ${kind.type} (${name})` : `type ${kind.type}`;
+}
+
+/** What stood in a gap, and what that says. */
+function contentsOf(gap, bus) {
+  const damaged = sumOf(gap.damage);
+  if (damaged > 0) {
+    const lay = damaged === 1 ? "piece lay" : "pieces lay";
+    const isOnFirst = gap.damage.some((sort) => sort.line !== 2);
+    const meaning = isOnFirst ? "commands may have been destroyed" : "but none on line 1, where commands are";
+    return `${damaged} damaged ${lay} within (${piecesNamed(gap.damage)}): ${meaning}.`;
+  }
+  if (gap.frames !== 0) {
+    return "Nothing damaged lay within, but other frames: it seems that none were sent.";
+  }
+  return `No frame and nothing damaged lay within: the ${bus.lines === 1 ? "line was" : "lines were"} at rest.`;
+}
+
+function sentenceOfHole(hole, bus, units) {
+  const { kind, commands, gap, usual, lacking, others } = hole;
+  const text =
+    `Station ${kind.station} got no ${typeNamed(kind, commands.name)} for ${units.duration(gap.length)}` +
+    ` from ${units.seconds(gap.first)} s on (place ${gap.first})${hole.where}. Usually it gets one each` +
+    ` ${units.duration(usual)}, so ${lacking} ${isOrAre(lacking)} lacking. ${contentsOf(gap, bus)}`;
+  const stand = others === 1 ? "stands" : "stand";
+  return others > 0 ? `${text} ${counted(others, "other gap")} of this kind ${stand} out too.` : text;
+}
+
+/** What came in place of answers, if it was another answer. */
+function replacement(commands) {
+  const row = commands.replacement;
+  if (row === null) {
+    return "";
+  }
+  const name = isUnfit(row.name) ? `, ${row.name}` : "";
+  const times = commands.replaced === 1 ? "once" : `${commands.replaced} times`;
+  return ` In place of the answer came ${times} another one, last of station ${row.station}, type ${row.type}${name}.`;
+}
+
+/** Whether commands of a kind were missed, and none answered. */
+function isSilent(commands) {
+  const { answered, late, missing } = commands.verdicts;
+  return missing > 0 && answered + late === 0;
+}
+
+/** The kinds of commands that asked for an answer, station by station. */
+function byStation(bus) {
+  const stations = new Map();
+  for (const [kind, commands] of bus.commands.sorted()) {
+    if (commands.decided > 0) {
+      stations.set(kind.station, [...(stations.get(kind.station) ?? []), [kind, commands]]);
+    }
+  }
+  return stations;
+}
+
+function sentenceOfSilentStation(station, kinds) {
+  const total = sum(kinds.map(([, commands]) => commands.decided));
+  const types = kinds.map(([kind, commands]) => typeNamed(kind, commands.name)).join(", ");
+  const extra = kinds.map(([, commands]) => replacement(commands)).join("");
+  return `Station ${station} is silent: it answered none of ${counted(total, "command")}, of ${types}.${extra}`;
+}
+
+function sentencesOfSilent(bus) {
+  return [...byStation(bus)].flatMap(([station, kinds]) => {
+    const quiet = kinds.filter(([, commands]) => isSilent(commands));
+    if (quiet.length === kinds.length) {
+      return [sentenceOfSilentStation(station, kinds)];
+    }
+    return quiet.map(
+      ([kind, commands]) =>
+        `Station ${station} answered none of ${counted(commands.decided, "command")} of` +
+        ` ${typeNamed(kind, commands.name)}, but others.${replacement(commands)}`,
+    );
+  });
+}
+
+/** The kinds of commands that have a verdict, those first that have it in the greatest share. */
+function worst(bus, verdict) {
+  const having = bus.commands.sorted().filter(([, commands]) => commands.verdicts[verdict] > 0);
+  const share = ([, commands]) => commands.verdicts[verdict] / commands.decided;
+  return having.sort((one, other) => share(other) - share(one));
+}
+
+function sentencesOfMissing(bus, units) {
+  const some = worst(bus, "missing").filter(([, commands]) => !isSilent(commands));
+  return some.map(([kind, commands]) => {
+    const { missing } = commands.verdicts;
+    const run = commands.longestSilence;
+    const row = run.commands > 1 ? `, ${run.commands} in a row from ${units.seconds(run.first)} s on` : "";
+    const at = missing === 1 ? ` at ${units.seconds(run.first)} s` : row;
+    return (
+      `Station ${kind.station} gave no answer to ${missing} of ${counted(commands.decided, "command")} of` +
+      ` ${typeNamed(kind, commands.name)}${at}.${replacement(commands)}`
+    );
+  });
+}
+
+function timesOfLate(commands, units) {
+  if (commands.late.total === 0) {
+    return "";
+  }
+  const { inTime } = commands;
+  const others = inTime.total > 0 ? `in time after ${spanOf(inTime, units)}` : "none in time";
+  return `: after ${spanOf(commands.late, units)}; ${others}`;
+}
+
+function sentencesOfLate(bus, units) {
+  return worst(bus, "late").map(
+    ([kind, commands]) =>
+      `Station ${kind.station} answered ${commands.verdicts.late} of ${counted(commands.decided, "command")} of` +
+      ` ${typeNamed(kind, commands.name)} late${timesOfLate(commands, units)}.`,
+  );
+}
+
+function sentencesOfSpoilt(bus) {
+  return worst(bus, "spoilt").map(([kind, commands]) => {
+    const numbered = [1, 2].filter((line) => commands.spoiltBy.has(line));
+    const lines = numbered.map((line) => `${commands.spoiltBy.get(line)} on line ${line}`).join(" and ");
+    return (
+      `Of station ${kind.station}'s answers to ${counted(commands.decided, "command")} of` +
+      ` ${typeNamed(kind, commands.name)} ${commands.verdicts.spoilt} may have been spoilt: damage came first` +
+      (lines === "" ? "." : ` (${lines}).`)
+    );
+  });
+}
+
+function kindsCounted(counts) {
+  const most = counts.first(MOST_TOLD);
+  return most.map(([{ station, type }, count]) => `station ${station} type ${type}: ${count}`).join(", ");
+}
+
+/** What else is wrong: damage, frames that are no answers, and what the dictionary does not fit. */
+function sentencesOfRest(bus) {
+  const found = [];
+  if (bus.damaged > 0) {
+    found.push(`${counted(bus.damaged, "piece")} ${isOrAre(bus.damaged)} damaged; see below.`);
+  }
+  const { length, unknown: lacking } = bus.misfits;
+  for (const [counts, meaning] of [
+    [length, "another length than in the dictionary"],
+    [lacking, "a type that it lacks"],
+  ]) {
+    if (counts.total > 0) {
+      found.push(`${counted(counts.total, "frame")} of ${meaning}, most of ${kindsCounted(counts)}.`);
+    }
+  }
+  if (bus.strays.total > 0) {
+    const strays = counted(bus.strays.total, "stray");
+    found.push(`${strays}, frames of answers to no command, most of ${kindsCounted(bus.strays)}.`);
+  }
+  return found;
+}
+
+/** The first sentences of a sort, and how many more there are. */
+function told(sentences) {
+  const rest = sentences.length - MOST_TOLD;
+  return rest <= 0
+    ? sentences
+    : [...sentences.slice(0, MOST_TOLD), `And ${rest} more of this sort; the table has them.`];
+}
+
+function sentencesOfLines(bus) {
+  const forward = sum(bus.commands.sorted().map(([, commands]) => commands.sent));
+  const came = `${counted(bus.backward, "command")} came on line 2`;
+  return bus.backward > forward ? [`${came}: are the two lines exchanged?`] : [];
+}
+
+/**
+ * What is wrong, in sentences, the most serious first.
+ * @param {import("./bus.js").Bus} bus
+ * @returns {string[]}
+ */
+export function wrong(bus) {
+  const units = unitsOf(bus.rate);
+  return [
+    ...sentencesOfLines(bus),
+    ...told(holes(bus).map((hole) => sentenceOfHole(hole, bus, units))),
+    ...told(sentencesOfSilent(bus)),
+    ...told(sentencesOfMissing(bus, units)),
+    ...told(sentencesOfLate(bus, units)),
+    ...told(sentencesOfSpoilt(bus)),
+    ...sentencesOfRest(bus),
+  ];
+}
+
+function lackOf(bus) {
+  if (bus.rows === 0) {
+    return "The listing is empty: nothing is known of the bus.";
+  }
+  if (bus.frames === 0) {
+    return "The listing has no frames: the bus had none, or a filter left them out.";
+  }
+  if (!bus.named) {
+    return "The listing was made without a dictionary: which commands were answered, and when, is not known.";
+  }
+  const decided = sum(bus.commands.sorted().map(([, commands]) => commands.decided));
+  return decided === 0 ? "No command asked for an answer: the dictionary may lack `answered = true`." : "";
+}
+
+/**
+ * What the listing cannot tell, in sentences.
+ * @param {import("./bus.js").Bus} bus
+ * @returns {string[]}
+ */
+export function unknown(bus) {
+  const { total } = bus.pending;
+  const waiting = `${counted(total, "command")} at the end still ${total === 1 ? "waits" : "wait"} for an answer.`;
+  return [lackOf(bus), total > 0 ? waiting : ""].filter((text) => text !== "");
+}
+
+/**
+ * That nothing is wrong, as far as the listing can tell; nothing where it has no frames.
+ * @param {import("./bus.js").Bus} bus
+ * @returns {string[]}
+ */
+export function allIsWell(bus) {
+  if (bus.frames === 0) {
+    return [];
+  }
+  return bus.named
+    ? ["Nothing is wrong: nothing is damaged, missing, spoilt or late, and no gap between commands stands out."]
+    : ["Nothing is damaged, and no gap between commands stands out."];
+}
+
+/**
+ * The sentences for the head of the page: the first ones of what is wrong, or that nothing is, and what is not known.
+ * @param {import("./bus.js").Bus} bus
+ * @returns {string[]}
+ */
+export function headSentences(bus) {
+  const found = wrong(bus);
+  return found.length > 0 ? found.slice(0, HEAD_SENTENCES) : [...allIsWell(bus), ...unknown(bus)];
+}
+
+/**
+ * How much was listed: seconds, lines, frames and damaged pieces.
+ * @param {import("./bus.js").Bus} bus
+ * @returns {string}
+ */
+export function headLine(bus) {
+  const what = bus.lines === 1 ? "one line" : "two lines";
+  return (
+    `${unitsOf(bus.rate).seconds(bus.past - bus.first)} s of ${what} at ${bus.rate} bits a second:` +
+    ` ${counted(bus.frames, "frame")}, ${counted(bus.damaged, "damaged piece")}.`
+  );
+}

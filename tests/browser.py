@@ -1,0 +1,213 @@
+"""Drives a browser by WebDriver BiDi: Chromium by chromedriver (Debian: chromium-driver), Firefox by itself."""
+
+import base64
+import importlib
+import importlib.util
+import json
+import os
+import shutil
+import subprocess
+import time
+import urllib.error
+import urllib.request
+from contextlib import contextmanager
+from pathlib import Path
+from typing import Any, Dict, Iterator, List, Optional, Sequence
+
+# How long anything may take, in seconds.
+PATIENCE = 120.0
+
+FIREFOX_SETTINGS = """\
+user_pref("remote.active-protocols", 1);
+user_pref("datareporting.policy.dataSubmissionEnabled", false);
+user_pref("browser.shell.checkDefaultBrowser", false);
+"""
+
+
+class Fault(Exception):
+    """What a browser refused, or what did not come in time."""
+
+
+class Session:
+    """A page of a browser, and what is asked of it."""
+
+    def __init__(self, socket: Any):
+        self.socket = socket
+        self.number = 0
+        self.events: List[Dict[str, Any]] = []
+        self.context = ""
+
+    def open_page(self) -> None:
+        tree = self.call("browsingContext.getTree", {})
+        self.context = tree["contexts"][0]["context"]
+        self.call("session.subscribe", {"events": ["log.entryAdded"]})
+
+    def call(self, method: str, parameters: Dict[str, Any]) -> Any:
+        """The result of a command. What the browser tells meanwhile is kept."""
+        self.number += 1
+        self.socket.send(json.dumps({"id": self.number, "method": method, "params": parameters}))
+        while True:
+            said = json.loads(self.socket.recv())
+            if said.get("id") != self.number:
+                self.events.append(said)
+            elif said["type"] == "success":
+                return said["result"]
+            else:
+                raise Fault(f"{method}: {said.get('message')}")
+
+    def visit(self, address: str) -> None:
+        self.call("browsingContext.navigate", {"context": self.context, "url": address, "wait": "complete"})
+
+    def value(self, expression: str) -> Any:
+        """The value of an expression, or of what it promises, as JSON."""
+        words = {
+            "expression": f"Promise.resolve({expression}).then((it) => JSON.stringify(it === undefined ? null : it))",
+            "target": {"context": self.context},
+            "awaitPromise": True,
+            "userActivation": True,
+        }
+        found = self.call("script.evaluate", words)
+        if found["type"] != "success":
+            raise Fault(f"{expression}: {found['exceptionDetails']['text']}")
+        return json.loads(found["result"]["value"])
+
+    def wait_until(self, expression: str, seconds: float = PATIENCE) -> float:
+        """Waits until an expression is true. How long that took, in seconds."""
+        began = time.monotonic()
+        while not self.value(f"Boolean({expression})"):
+            if time.monotonic() - began > seconds:
+                raise Fault(f"{expression} was not true within {seconds} s")
+            time.sleep(0.02)
+        return time.monotonic() - began
+
+    def set_files(self, selector: str, files: Sequence[Path]) -> None:
+        """Chooses files, as a user does."""
+        found = self.call(
+            "browsingContext.locateNodes",
+            {"context": self.context, "locator": {"type": "css", "value": selector}},
+        )
+        element = {"sharedId": found["nodes"][0]["sharedId"]}
+        words = {"context": self.context, "element": element, "files": [str(file) for file in files]}
+        self.call("input.setFiles", words)
+
+    def picture(self, file: Path, whole: bool = True) -> None:
+        """Writes a picture of the page, as PNG."""
+        words = {"context": self.context, "origin": "document" if whole else "viewport"}
+        found = self.call("browsingContext.captureScreenshot", words)
+        file.write_bytes(base64.b64decode(found["data"]))
+
+    def printed(self) -> bytes:
+        """The page as it is printed: a PDF."""
+        found = self.call("browsingContext.print", {"context": self.context})
+        return base64.b64decode(found["data"])
+
+    def size(self, width: int, height: int) -> None:
+        words = {"context": self.context, "viewport": {"width": width, "height": height}}
+        self.call("browsingContext.setViewport", words)
+
+    def complaints(self) -> List[str]:
+        """What the page wrote to the console as errors, the refusals of its security policy among them."""
+        said = [event["params"] for event in self.events if event.get("method") == "log.entryAdded"]
+        return [entry["text"] for entry in said if entry["level"] == "error"]
+
+
+def connected(address: str) -> Any:
+    """A socket to a browser that may still be starting."""
+    websocket = importlib.import_module("websocket")
+    until = time.monotonic() + PATIENCE
+    while True:
+        try:
+            return websocket.create_connection(address, timeout=PATIENCE, suppress_origin=True)
+        except (OSError, websocket.WebSocketException):
+            if time.monotonic() > until:
+                raise
+            time.sleep(0.1)
+
+
+def free_port() -> int:
+    import socket
+
+    with socket.socket() as one:
+        one.bind(("127.0.0.1", 0))
+        return int(one.getsockname()[1])
+
+
+@contextmanager
+def running(words: Sequence[str], folder: Path) -> Iterator[None]:
+    """A program that runs meanwhile, and in the end does not."""
+    environment = {**os.environ, "HOME": str(folder), "MOZ_REMOTE_ALLOW_SYSTEM_ACCESS": "1"}
+    quiet = subprocess.DEVNULL
+    process = subprocess.Popen(words, env=environment, stdin=quiet, stdout=quiet, stderr=quiet)
+    try:
+        yield
+    finally:
+        process.terminate()
+        try:
+            process.wait(timeout=10)
+        except subprocess.TimeoutExpired:
+            process.kill()
+            process.wait()
+
+
+@contextmanager
+def chromium(folder: Path) -> Iterator[Session]:
+    port = free_port()
+    options = {"args": ["--headless=new", "--no-sandbox", "--disable-gpu", f"--user-data-dir={folder / 'chromium'}"]}
+    wanted = {"alwaysMatch": {"webSocketUrl": True, "goog:chromeOptions": options}}
+    with running(["chromedriver", f"--port={port}"], folder):
+        opened = asked(f"http://127.0.0.1:{port}/session", {"capabilities": wanted})["value"]
+        session = Session(connected(opened["capabilities"]["webSocketUrl"]))
+        session.open_page()
+        try:
+            yield session
+        finally:
+            session.socket.close()
+            asked(f"http://127.0.0.1:{port}/session/{opened['sessionId']}", None, "DELETE")
+
+
+def asked(address: str, body: Optional[Dict[str, Any]], method: str = "POST") -> Any:
+    """What a server answers; it may still be starting."""
+    data = None if body is None else json.dumps(body).encode()
+    request = urllib.request.Request(address, data, {"Content-Type": "application/json"}, method=method)
+    until = time.monotonic() + PATIENCE
+    while True:
+        try:
+            with urllib.request.urlopen(request, timeout=PATIENCE) as answer:
+                return json.load(answer)
+        except ConnectionError:
+            pass
+        except urllib.error.URLError as error:
+            if not isinstance(error.reason, ConnectionError):
+                raise
+        if time.monotonic() > until:
+            raise Fault(f"{address} does not answer")
+        time.sleep(0.1)
+
+
+@contextmanager
+def firefox(folder: Path) -> Iterator[Session]:
+    port = free_port()
+    profile = folder / "firefox"
+    profile.mkdir()
+    (profile / "user.js").write_text(FIREFOX_SETTINGS, encoding="utf-8")
+    words = ["firefox-esr", "--headless", "--no-remote", f"--remote-debugging-port={port}", "--profile", str(profile)]
+    with running(words, folder):
+        session = Session(connected(f"ws://127.0.0.1:{port}/session"))
+        session.call("session.new", {"capabilities": {}})
+        session.open_page()
+        try:
+            yield session
+        finally:
+            session.call("session.end", {})
+            session.socket.close()
+
+
+# The browsers, and the programs that each needs.
+BROWSERS = {"chromium": (chromium, ["chromium", "chromedriver"]), "firefox": (firefox, ["firefox-esr"])}
+
+
+def lacking(name: str) -> List[str]:
+    """What is not installed of what a browser takes."""
+    programs = [program for program in BROWSERS[name][1] if shutil.which(program) is None]
+    module = importlib.util.find_spec("websocket") is None
+    return programs + (["the Python module websocket (Debian: python3-websocket)"] if module else [])

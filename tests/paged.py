@@ -1,0 +1,527 @@
+"""The tests of the page."""
+
+import base64
+import json
+import os
+import random
+import re
+import shutil
+import subprocess
+import tempfile
+from contextlib import contextmanager
+from functools import lru_cache, partial
+from pathlib import Path
+from typing import Any, Callable, Dict, Iterator, List, NamedTuple, Optional, Sequence, Tuple
+
+import browser
+from library import Bench, captures, damaged, octets_of, talk, traffic
+
+TOP = Path(__file__).resolve().parent.parent
+
+PROGRAM = Path(os.environ.get("PORT1") or TOP / "crates" / "port1" / "out" / "port1")
+
+# What makes Node run modules with 64-bit memory, which browsers do without being told.
+NODE = ["node", "--no-warnings", "--experimental-wasm-memory64"]
+
+# Debian's Python has the modules that the scripts need.
+ENVIRONMENT = {**os.environ, "PATH": f"/usr/bin:{os.environ['PATH']}"}
+
+LEAST_NODE = 20
+
+# By how the name of a test begins, the module that the script needs with which it compares.
+MODULES = {"recording": "numpy", "dictionary-check": "jsonschema", "dictionary": "tomllib"}
+
+SECONDS = 1800
+
+ENGINE = re.compile(r'id="engine">(.*?)</script>', re.DOTALL)
+
+# A dictionary whose names a careless page would run, and the talk of tests/library.py in its types.
+NAMES = """\
+version = 2
+[[frame]]
+type = 0
+name = "<img/src=x/onerror=alert(1)>"
+length = 1
+answered = true
+window = 40
+[[frame]]
+type = 1
+name = "</script><script>alert(2)</script>"
+length = 0
+answered = true
+[[frame]]
+type = 9
+name = "&lt;b&gt;"
+length = 2
+[[frame]]
+type = 128
+name = "unknown"
+length = 2
+[[frame]]
+type = 129
+name = "length"
+length = 1
+"""
+
+
+class Skipped(Exception):
+    """Why a test is not run."""
+
+
+class Test(NamedTuple):
+    name: str
+    problems: Callable[[], List[str]]
+
+
+class Job(NamedTuple):
+    """A file that the page and the program list."""
+
+    name: str
+    content: bytes
+    words: Tuple[str, ...]  # of the program
+    form: str
+    lines: int
+    dictionary: str = ""
+
+
+def need(*programs: str) -> None:
+    missing = [program for program in programs if shutil.which(program) is None]
+    if missing:
+        raise Skipped(f"no {' and no '.join(missing)}")
+
+
+# ---- the modules, in Node
+
+
+@lru_cache(maxsize=None)
+def has_module(name: str) -> bool:
+    return subprocess.run(["python3", "-c", f"import {name}"], env=ENVIRONMENT, stderr=subprocess.DEVNULL).returncode == 0
+
+
+def need_modules(file: Path) -> None:
+    """The modules of Python that the scripts have whose results are compared."""
+    for begins, module in MODULES.items():
+        if file.name.startswith(begins) and not has_module(module):
+            raise Skipped(f"no Python module {module}")
+
+
+def need_node() -> None:
+    need("node")
+    version = subprocess.run(["node", "--version"], capture_output=True, text=True).stdout
+    if int(version.lstrip("v").partition(".")[0]) < LEAST_NODE:
+        raise Skipped(f"Node is {version.strip()}, older than {LEAST_NODE}")
+
+
+def problems_of_modules(file: Path, is_all: bool) -> List[str]:
+    need_node()
+    need_modules(file)
+    environment = {**ENVIRONMENT, "PORT1": str(PROGRAM), "PORT1_ALL": "1" if is_all else ""}
+    words = [*NODE, "--test", "--test-reporter=tap", str(file)]
+    ran = subprocess.run(words, cwd=TOP, env=environment, capture_output=True, text=True, timeout=SECONDS)
+    if ran.returncode == 0:
+        return []
+    wrong = [line for line in ran.stdout.splitlines() if line.lstrip().startswith(("not ok", "error:", "expected:"))]
+    return [*wrong[:20], ran.stderr[-2000:]]
+
+
+PLACE = re.compile(r"^PORT1_(?:PLACE\((\w+), (\w+)|SIZE\((\w+)), (\d+)\);$", re.MULTILINE)
+
+LAYOUT = re.compile(r"^export const ([A-Z]+) = \{(.*?)\};$", re.MULTILINE | re.DOTALL)
+
+FIELD = re.compile(r"(\w+): (\d+)")
+
+
+def problems_of_layout() -> List[str]:
+    """Whether the page has the fields of the library's structs where the header has them."""
+    header = (TOP / "include" / "port1.h").read_text(encoding="utf-8")
+    places = {(found[1] or found[3], found[2] or "size"): int(found[4]) for found in PLACE.finditer(header)}
+    problems = []
+    for struct in LAYOUT.finditer((TOP / "page" / "src" / "engine" / "layout.js").read_text(encoding="utf-8")):
+        for name, place in FIELD.findall(struct[2]):
+            field = re.sub("[A-Z]", lambda upper: f"_{upper[0].lower()}", name)
+            wanted = places.get((struct[1].lower(), "ftype" if field == "type" else field))
+            if wanted != int(place):
+                problems.append(f"{name} of {struct[1]} is at {place}, in the header at {wanted}")
+    return problems
+
+
+# ---- listings
+
+
+@lru_cache(maxsize=None)
+def engine_of(page: Path) -> bytes:
+    """The decoder that is in the page."""
+    if not page.is_file():
+        raise Skipped(f"there is no {page}: `make page` builds it")
+    found = ENGINE.search(page.read_text(encoding="utf-8"))
+    if found is None:
+        raise Skipped(f"{page} has no decoder")
+    return base64.b64decode(found[1])
+
+
+def bench() -> Bench:
+    if not PROGRAM.is_file():
+        raise Skipped(f"there is no {PROGRAM}: `make` builds it")
+    return Bench(PROGRAM, Path(), Path())
+
+
+def listed(page: Path, jobs: Sequence[Dict[str, Any]]) -> List[Dict[str, Any]]:
+    """What the modules of the page make of files."""
+    need_node()
+    with tempfile.TemporaryDirectory(prefix="port1-") as folder:
+        module = Path(folder, "port1.wasm")
+        module.write_bytes(engine_of(page))
+        words = [*NODE, str(TOP / "page" / "tests" / "list.js"), str(module)]
+        ran = subprocess.run(words, input=json.dumps(jobs), capture_output=True, text=True, timeout=SECONDS)
+    if ran.returncode != 0:
+        raise RuntimeError(f"list.js failed: {ran.stderr[-2000:]}")
+    found: List[Dict[str, Any]] = json.loads(ran.stdout)
+    return found
+
+
+def program_lists(job: Job) -> Tuple[str, Optional[str]]:
+    """What the program writes, and its fault."""
+    words = [str(PROGRAM), "list", *job.words, *([f"--dict={job.dictionary}"] if job.dictionary else [])]
+    ran = subprocess.run(words, input=job.content, capture_output=True, timeout=SECONDS)
+    fault = ran.stderr.decode().strip()
+    return ran.stdout.decode(), fault[len("port1: ") :] if fault else None
+
+
+def text_job(name: str, bits: str, lines: int, dictionary: str) -> Job:
+    return Job(name, bits.encode(), ("--bits", "--two") if lines == 2 else ("--bits",), "text", lines, dictionary)
+
+
+def packed_pairs(marks: str) -> bytes:
+    """Marks of two lines as a packed capture."""
+    body = bytes(sum(int(mark) << 2 * at for at, mark in enumerate(marks[k : k + 4])) for k in range(0, len(marks), 4))
+    return b"TS2BITS2" + len(marks).to_bytes(8, "little") + body
+
+
+def example_jobs() -> Iterator[Job]:
+    """Every capture among the examples, with each dictionary there and without."""
+    dictionaries = ["", *(path.read_text() for path in sorted((TOP / "examples").glob("*.toml")))]
+    for path in sorted([*(TOP / "examples").glob("*.bits"), *(TOP / "examples").glob("*.ts2")]):
+        content = path.read_bytes()
+        is_two = content.startswith(b"TS2BITS2") or (path.suffix == ".bits" and any(mark in content for mark in b"23"))
+        words = (("--bits",) if path.suffix == ".bits" else ()) + (("--two",) if is_two else ())
+        form = "text" if path.suffix == ".bits" else "packed"
+        for number, dictionary in enumerate(dictionaries):
+            yield Job(f"{path.name}, dictionary {number}", content, words, form, 1 + is_two, dictionary)
+
+
+def generated_jobs(count: int) -> Iterator[Job]:
+    """Talks of one line and of two, with dictionaries, as text and packed."""
+    here = bench()
+    dictionaries = [NAMES, (TOP / "examples" / "call-within-window.toml").read_text(), ""]
+    for seed in range(count):
+        generator = random.Random(seed)
+        first, second = talk(here, generator), talk(here, generator)
+        dictionary = dictionaries[seed % 3]
+        pairs = "".join(str(int(one) + 2 * int(other)) for one, other in zip(first, second))
+        yield text_job(f"one line, seed {seed}", first, 1, dictionary)
+        yield text_job(f"two lines, seed {seed}", pairs, 2, dictionary)
+        packed = b"TS2BITS1" + len(first).to_bytes(8, "little") + octets_of(first)
+        yield Job(f"one line, packed, seed {seed}", packed, (), "packed", 1, dictionary)
+        yield Job(f"two lines, packed, seed {seed}", packed_pairs(pairs), ("--two",), "packed", 2, dictionary)
+
+
+def traffic_jobs() -> Iterator[Job]:
+    """Traffic of every kind, and captures longer than the blocks that the page gives to the decoder."""
+    here = bench()
+    for name, capture in captures(here):
+        yield Job(name, capture, (), "packed", 1)
+    for kind, made in traffic(here).items():
+        bits = made(random.Random(5), 1200007)
+        yield text_job(f"1200007 bits of {kind}", bits, 1, "")
+        pairs = bits.replace("1", "3")
+        yield text_job(f"1200007 pairs of {kind}", pairs, 2, NAMES)
+
+
+def broken_jobs() -> Iterator[Job]:
+    """Captures with each fault that there can be."""
+    bits = "0111111000001000110000010000000010111110110100111011111101111111111111110"
+    packed = b"TS2BITS1" + len(bits).to_bytes(8, "little") + octets_of(bits)
+    pairs = packed_pairs(bits)
+    for cut in [0, 5, 8, 15, 16, 17, 20]:
+        yield Job(f"packed, cut after {cut} octets", packed[:cut], (), "packed", 1)
+        yield Job(f"packed pairs, cut after {cut} octets", pairs[:cut], ("--two",), "packed", 2)
+    yield Job("wrong magic", b"TS2BITS3" + packed[8:], (), "packed", 1)
+    yield Job("one line for two", packed, ("--two",), "packed", 2)
+    yield Job("two lines for one", pairs, (), "packed", 1)
+    yield Job("too many bits", b"TS2BITS1" + (2**60 + 1).to_bytes(8, "little"), (), "packed", 1)
+    yield Job("spare bits", packed[:-1] + bytes([packed[-1] | 0x80]), (), "packed", 1)
+    yield Job("spare pairs", pairs[:-1] + bytes([pairs[-1] | 0x80]), ("--two",), "packed", 2)
+    yield Job("octets after the end", packed + b"\0", (), "packed", 1)
+    for wrong in "x2~":
+        yield text_job(f"{wrong} in the text", bits[:60] + wrong + bits[60:], 1, "")
+    yield text_job("4 in a text of two lines", bits[:60] + "4" + bits[60:], 2, "")
+    yield text_job("spaces", " ".join(bits) + "\r\n\t", 1, "")
+    yield text_job("nothing", "", 1, "")
+    for text in ["version = 3", "x", "version = 1\n[[frame]]\ntype = 256", NAMES.replace("length = 2", "length = 254")]:
+        yield text_job(f"a bad dictionary: {text[:20]!r}", bits, 1, text)
+
+
+def problems_of_jobs(page: Path, jobs: Callable[[], Iterator[Job]]) -> List[str]:
+    bench()
+    every = list(jobs())
+    with tempfile.TemporaryDirectory(prefix="port1-") as folder:
+        asked = []
+        for number, job in enumerate(every):
+            file = Path(folder, str(number))
+            file.write_bytes(job.content)
+            told = {"file": str(file), "form": job.form, "lines": job.lines, "dictionary": job.dictionary}
+            asked.append(told)
+        found = listed(page, asked)
+    problems = []
+    for job, got in zip(every, found):
+        text, fault = program_lists(job)
+        if (got["text"], got["fault"]) != (text, fault):
+            problems.append(f"{job.name}: wanted {text[:200]!r}, {fault}; got {got['text'][:200]!r}, {got['fault']}")
+    return problems
+
+
+RECORDINGS = [
+    ("four-wires.csv", ["TXC", "TXD", "RXC", "RXD"]),
+    ("one-call.vcd", ["clk", "dat"]),
+    ("call-and-reply.vcd", ["clk", "tx", "rx"]),
+]
+
+
+def problems_of_recording(page: Path, name: str, channels: Sequence[str]) -> List[str]:
+    """Whether the listing of a recording is that of the script's capture."""
+    bench()
+    file = TOP / "examples" / name
+    taken = subprocess.run(
+        [str(TOP / "contrib" / "recording-to-bits"), *channels], stdin=file.open(), capture_output=True, env=ENVIRONMENT
+    )
+    if taken.returncode != 0:
+        raise Skipped(taken.stderr.decode().strip())
+    lines = 1 if len(channels) == 2 else 2
+    wanted, fault = program_lists(text_job(name, taken.stdout.decode(), lines, NAMES))
+    job = {"file": str(file), "channels": list(channels), "rising": True, "dictionary": NAMES}
+    got = listed(page, [job])[0]
+    told = [line.partition(": ")[2] for line in taken.stderr.decode().splitlines()]
+    problems = [] if got["text"] == wanted else [f"wanted {wanted[:300]!r}, got {got['text'][:300]!r}"]
+    problems += [] if got["fault"] == fault else [f"wanted {fault}, got {got['fault']}"]
+    return problems + ([] if got["notes"] == told else [f"wanted the notes {told}, got {got['notes']}"])
+
+
+# ---- in browsers
+
+
+@contextmanager
+def opened(name: str, address: str) -> Iterator[browser.Session]:
+    missing = browser.lacking(name)
+    if missing:
+        raise Skipped(f"no {' and no '.join(missing)}")
+    with tempfile.TemporaryDirectory(prefix="port1-") as folder:
+        with browser.BROWSERS[name][0](Path(folder)) as session:
+            session.size(1280, 900)
+            session.visit(address)
+            yield session
+
+
+def address_of(page: Path) -> str:
+    engine_of(page)
+    return page.as_uri()
+
+
+def shown_text(session: browser.Session) -> str:
+    """The whole listing, as the page saves it."""
+    text: str = session.value("page1.desk.text().then((blob) => blob.text())")
+    return text
+
+
+def read_file(session: browser.Session, files: Sequence[Path]) -> None:
+    """Chooses files, and waits until they are read."""
+    session.value("void (document.getElementById('status').textContent = '')")
+    session.set_files("#files", files)
+    session.wait_until("/ lines in | no |fault|is no|Say which/.test(document.getElementById('status').textContent)")
+
+
+def text_of(session: browser.Session, selector: str) -> str:
+    found: str = session.value(f"document.querySelector({json.dumps(selector)}).textContent")
+    return found
+
+
+def summary_of(listing: str) -> str:
+    """What the script in contrib writes."""
+    words = [str(TOP / "contrib" / "bus-summary")]
+    return subprocess.run(words, input=listing.encode(), capture_output=True, check=True, env=ENVIRONMENT).stdout.decode()
+
+
+def numbers_of(text: str) -> List[str]:
+    return re.findall(r"\d+(?:\.\d+)?", text)
+
+
+def problems_of_page(page: Path, name: str) -> List[str]:
+    """Reads files as a user does, and looks at all that is shown."""
+    bench()
+    problems = []
+    examples = TOP / "examples"
+    with opened(name, address_of(page)) as session:
+        read_file(session, [examples / "port1-failure.toml", examples / "port1-failure.bits"])
+        dictionary = (examples / "port1-failure.toml").read_text()
+        content = (examples / "port1-failure.bits").read_bytes()
+        two = any(mark in content for mark in b"23")
+        wanted, _ = program_lists(text_job("", content.decode(), 1 + two, dictionary))
+        problems += [] if shown_text(session) == wanted else ["the listing is not the program's"]
+        summary = summary_of(wanted)
+        problems += [] if session.value("page1.desk.summaryText()") == summary else ["the summary is not the script's"]
+        problems += problems_of_table(session, summary)
+        problems += problems_of_search(session, wanted)
+        problems += problems_of_marks(session)
+        problems += [f"the console says {text}" for text in session.complaints()]
+    return problems
+
+
+def problems_of_table(session: browser.Session, summary: str) -> List[str]:
+    """Whether each number of the table is that of the script's."""
+    shown = session.value("[...document.querySelectorAll('#table tbody tr')].map((row) => [...row.cells].map((cell) => cell.textContent))")
+    table = [line.split() for line in summary.splitlines() if re.match(r" *\d+ +\d+ +\S+ +\d+ ", line)]
+    return [] if shown == table and table else [f"the table is {shown}, not {table}"]
+
+
+def problems_of_search(session: browser.Session, listing: str) -> List[str]:
+    """Whether a search finds the lines that it should."""
+    wanted = sum(" missing " in line for line in listing.splitlines())
+    session.value("void (document.getElementById('query-kind').value = 'missing')")
+    session.value("document.getElementById('query').dispatchEvent(new Event('input')) && page1.desk.lines(0, 1)")
+    session.wait_until(f"document.getElementById('query-count').textContent === '{wanted} lines'", 20)
+    session.wait_until("[...document.querySelectorAll('#lines .line')].every((line) => / missing /.test(line.textContent))", 20)
+    session.value("document.getElementById('query').reset() ?? page1.search()")
+    return [] if wanted > 0 else ["nothing is missing"]
+
+
+def problems_of_marks(session: browser.Session) -> List[str]:
+    """Whether a mark of the timeline leads to its line, and that the bits show when one is near enough."""
+    session.wait_until("document.querySelector('#timeline .mark.missing')", 20)
+    session.value("document.querySelector('#timeline .mark.missing').dispatchEvent(new MouseEvent('click', {bubbles: true}))")
+    session.wait_until("/ missing /.test(document.querySelector('#lines .chosen')?.textContent)", 20)
+    session.value("document.querySelector('#lines .chosen').click()")
+    session.wait_until("document.querySelectorAll('#timeline .bits').length > 20", 20)
+    return []
+
+
+def problems_of_dictionary(page: Path, name: str) -> List[str]:
+    """Whether a draft is the script's, and a wrong dictionary is told by the program's own text, and by its lines."""
+    bench()
+    capture = TOP / "examples" / "missing-and-spoilt.bits"
+    listing, _ = program_lists(text_job("", capture.read_text(), 1, ""))
+    words = [str(TOP / "contrib" / "draft-dictionary")]
+    draft = subprocess.run(words, input=listing.encode(), capture_output=True, check=True, env=ENVIRONMENT).stdout.decode()
+    with opened(name, address_of(page)) as session:
+        read_file(session, [capture])
+        session.value("document.getElementById('draft').click()")
+        session.wait_until("document.getElementById('dictionary').value !== ''", 20)
+        shown = session.value("document.getElementById('dictionary').value")
+        problems = [] if shown == draft else [f"the draft is {shown!r}, not {draft!r}"]
+        wrong = draft.replace("length = 0", "length = 254")
+        session.value(f"void (document.getElementById('dictionary').value = {json.dumps(wrong)})")
+        session.value("document.getElementById('dictionary').dispatchEvent(new Event('input'))")
+        session.wait_until("document.querySelector('#findings .fault')", 20)
+        line = wrong[: wrong.index("length = 254")].count("\n") + 1
+        told = session.value("[...document.querySelectorAll('#findings .fault')].map((item) => item.textContent)")
+        wanted = f"line {line}: frame 1: length: 254 is not 0 to 253"
+        problems += [] if wanted in told else [f"the findings are {told}, without {wanted!r}"]
+        session.value("document.getElementById('settings').requestSubmit()")
+        session.wait_until("document.getElementById('status').textContent === 'dictionary: frame 1: bad length'", 20)
+    return problems
+
+
+def problems_of_names(page: Path, name: str) -> List[str]:
+    """Whether what a dictionary calls a frame stays text."""
+    here = bench()
+    bits = talk(here, random.Random(2))
+    with tempfile.TemporaryDirectory(prefix="port1-") as folder, opened(name, address_of(page)) as session:
+        capture, dictionary = Path(folder, "<b>capture.bits"), Path(folder, "names.toml")
+        capture.write_text(bits)
+        dictionary.write_text(NAMES)
+        read_file(session, [dictionary, capture])
+        problems = [] if "<img/src=x/onerror=alert(1)>" in text_of(session, "#table") else ["the table has not the name"]
+        for selector in ["#result img", "#result script", "#result b", "#status b"]:
+            if session.value(f"document.querySelector('{selector}')") is not None:
+                problems.append(f"there is a {selector}")
+        return problems + [f"the console says {text}" for text in session.complaints()]
+
+
+def problems_of_fault(page: Path, name: str) -> List[str]:
+    """Whether a broken capture shows the program's own text, and what stands before the fault."""
+    bench()
+    job = next(job for job in broken_jobs() if job.name == "spare bits")
+    wanted, fault = program_lists(job)
+    with tempfile.TemporaryDirectory(prefix="port1-") as folder, opened(name, address_of(page)) as session:
+        file = Path(folder, "broken.ts2")
+        file.write_bytes(job.content)
+        read_file(session, [file])
+        text = text_of(session, "#fault")
+        problems = [] if text.endswith(f"port1: {fault}") else [f"the page says {text!r}, the program {fault!r}"]
+        return problems + ([] if shown_text(session) == wanted else ["the listing is not the program's"])
+
+
+def problems_of_wires(page: Path, name: str) -> List[str]:
+    """Whether the channels of a recording are found by their names, and its bits taken."""
+    with opened(name, address_of(page)) as session:
+        read_file(session, [TOP / "examples" / "four-wires.csv"])
+        chosen = session.value("[0, 1, 2, 3].map((at) => document.getElementById(`channel-${at}`).value)")
+        session.value("document.getElementById('settings').requestSubmit()")
+        session.wait_until("/ lines in /.test(document.getElementById('status').textContent)")
+        problems = [] if chosen == ["TXC", "TXD", "RXC", "RXD"] else [f"the channels are {chosen}"]
+        return problems + ([] if " frame " in shown_text(session) else ["there is no frame"])
+
+
+def problems_of_report(page: Path, name: str) -> List[str]:
+    """Whether a report shows what the page does, and prints."""
+    engine_of(page)
+    bench()
+    content = (TOP / "examples" / "port1-failure.bits").read_text()
+    dictionary = TOP / "examples" / "port1-failure.toml"
+    wanted, _ = program_lists(text_job("", content, 1 + any(mark in content for mark in "23"), dictionary.read_text()))
+    words = [str(TOP / "contrib" / "list-to-page"), f"--page={page}", f"--dictionary={dictionary}", "Cabinet <7> & more"]
+    made = subprocess.run(words, input=wanted.encode(), capture_output=True, env=ENVIRONMENT)
+    if made.returncode != 0:
+        return [made.stderr.decode()]
+    with tempfile.TemporaryDirectory(prefix="port1-") as folder:
+        report = Path(folder, "report.html")
+        report.write_bytes(made.stdout)
+        with opened(name, report.as_uri()) as session:
+            session.wait_until("/ lines in /.test(document.getElementById('status').textContent)")
+            problems = [] if shown_text(session) == wanted else ["the listing is not the one that was given"]
+            problems += [] if session.value("document.title") == "Cabinet <7> & more" else ["the title is another"]
+            problems += problems_of_table(session, summary_of(wanted))
+            problems += [] if len(session.printed()) > 10000 else ["nothing is printed"]
+            return problems + [f"the console says {text}" for text in session.complaints()]
+
+
+def problems_of_size(page: Path) -> List[str]:
+    """Whether the page is one file of less than 6 MB, which fetches nothing."""
+    engine_of(page)
+    text = page.read_text(encoding="utf-8")
+    problems = [] if len(text.encode()) < 6_000_000 else [f"it has {len(text.encode())} octets"]
+    for word in ['src="', "@import", "<link", "<iframe", "unsafe-inline", "unsafe-eval'"]:
+        if word in text.replace("wasm-unsafe-eval'", "").partition("<body>")[0]:
+            problems.append(f"its head has {word}")
+    return problems + ([] if "default-src 'none'" in text else ["its policy lets something in"])
+
+
+def tests_of(page: Path, is_all: bool) -> Iterator[Test]:
+    for file in sorted((TOP / "page" / "tests").glob("*.test.js")):
+        yield Test(f"modules: {file.name}", partial(problems_of_modules, file, is_all))
+    yield Test("the layout of the library", problems_of_layout)
+    yield Test("listings: examples", partial(problems_of_jobs, page, example_jobs))
+    yield Test("listings: talks", partial(problems_of_jobs, page, partial(generated_jobs, 50 if is_all else 13)))
+    yield Test("listings: traffic", partial(problems_of_jobs, page, traffic_jobs))
+    yield Test("listings: broken captures", partial(problems_of_jobs, page, broken_jobs))
+    for name, channels in RECORDINGS:
+        yield Test(f"listings: {name}", partial(problems_of_recording, page, name, channels))
+    yield Test("one file that fetches nothing", partial(problems_of_size, page))
+    for name in browser.BROWSERS:
+        for what, problems in [
+            ("what is shown", problems_of_page),
+            ("a dictionary", problems_of_dictionary),
+            ("names of a dictionary", problems_of_names),
+            ("a fault", problems_of_fault),
+            ("four wires", problems_of_wires),
+            ("a report", problems_of_report),
+        ]:
+            yield Test(f"{name}: {what}", partial(problems, page, name))
