@@ -403,9 +403,10 @@ static void take_most(void) {
     filled -= moved;
 }
 
-/* Takes the rest, up to an index, and says what is open at a good end. */
+/* Takes the rest, up to an index, behind which no flag ends, and says what is open at a good end. */
 static void take_rest(size_t count, int good) {
     memset(raw + filled, 0, SPARE);
+    filled = count / 8;
     if (in_ones)
         next = past_ones(next);
     if (count > 6 && next < count - 6)
