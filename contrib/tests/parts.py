@@ -113,7 +113,7 @@ def parts_of_traffic(folder: Path) -> List[str]:
     generate = folder / "generate"
     written_by(["cc", "-O2", "-o", generate, TOP / "bench" / "generate.c"])
     problems = []
-    for number, kind in enumerate(["polling", "random", "ones", "flags", "long", "stuffed"]):
+    for number, kind in enumerate(["polling", "random", "ones", "flags", "long", "stuffed", "short", "dialogue3"]):
         for count, parts, overlap in [(99_999, 8, 16), (100_003, 3, 4096), (1_000_001, 16, 256)]:
             words = [generate, str(count), str(number + 1), kind, "packed"]
             capture = written_by(words)
