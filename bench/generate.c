@@ -195,7 +195,7 @@ static void put_said(uint8_t station, unsigned type) {
     put_frame(octets, count, draw(100) == 0 ? (int)draw((uint32_t)count * 8) : -1);
 }
 
-/* What lies between two who speak, behind the flag of the first: a flag, or a few, or an idle line. */
+/* What lies between two frames, after the flag that closes the first: more flags, or an idle line. */
 static void put_flags(uint32_t count) {
     while (count-- > 0)
         put_flag();

@@ -1,4 +1,4 @@
-/* The fastest peer of `port1 list`, by words of 64 bits: how fast this processor can list a capture at all.
+/* The fastest peer of `port1 list`, by words of 64 bits: what this processor can do in practice.
  *
  *     words text|packed < CAPTURE
  *
@@ -37,9 +37,9 @@ static uint64_t first;
 
 /* The octets of a piece. In front of them are 0s, and what turns a check that begins with 0 into one
  * that begins with 65535. */
-enum { FRONT = 32 };
-static uint8_t cells[FRONT + ROOM + SPARE + 8] = {[FRONT - 2] = 0x21, [FRONT - 1] = 0xf3};
-static uint8_t *const octets = cells + FRONT;
+enum { LEAD = 32 };
+static uint8_t cells[LEAD + ROOM + SPARE + 8] = {[LEAD - 2] = 0x21, [LEAD - 1] = 0xf3};
+static uint8_t *const octets = cells + LEAD;
 
 static uint64_t load(const void *from) {
     uint64_t word;
@@ -52,11 +52,12 @@ static void store(void *to, uint64_t word) { memcpy(to, &word, 8); }
 /* The raw bits from this one on, at least 57 of them. */
 static inline uint64_t bits_at(size_t index) { return load(raw + index / 8) >> index % 8; }
 
-/* ---- What is written. ---- */
+/* What is written. */
 
 static char written[CHUNK + LINE];
 static char *end = written;
 
+/* Writes the lines that wait. */
 static void flush(void) {
     fwrite(written, 1, (size_t)(end - written), stdout);
     end = written;
@@ -78,6 +79,7 @@ static void make_fours(void) {
     }
 }
 
+/* A number, and where what follows it goes; so do all that put something. */
 static char *put_number(char *to, uint64_t number) {
     char digits[20];
     size_t count = 0;
@@ -127,7 +129,7 @@ static inline void say_line(uint64_t from, uint64_t past, const char *what, size
 
 #define SAY(from, past, what) say_line(from, past, what "\n", sizeof what)
 
-/* ---- What the processor does by instructions of its own, if it has them. ---- */
+/* What the processor has instructions for, or not. */
 
 #if VECTORS
 
@@ -158,6 +160,7 @@ static inline int is_good(size_t count) {
     return (uint64_t)_mm_cvtsi128_si64(_mm_clmulepi64_si128(rest, inverse, 0x01)) >> 48 == 0;
 }
 
+/* So many octets of a piece in hexadecimal; up to 30 marks after them are overwritten. */
 static inline void put_digits(char *to, size_t count) {
     const __m256i digits = _mm256_broadcastsi128_si256(_mm_loadu_si128((const __m128i *)"0123456789abcdef"));
     for (size_t i = 0; i < count; i += 16) {
@@ -244,7 +247,7 @@ static int read_marks(const uint8_t *marks, uint64_t *bits, uint64_t *ones) {
 
 #endif
 
-/* ---- Pieces. ---- */
+/* Pieces. */
 
 /* Where the next data goes: the octet, and the bits that it has. */
 struct data {
@@ -309,9 +312,9 @@ static inline void take_piece(size_t index) {
         say_frame(past, bits / 8);
 }
 
-/* ---- Runs of ones. ---- */
+/* Runs of ones. */
 
-/* The index of the first 0 from this one on; what is behind all bits is 0. */
+/* The index of the first 0 from this one on; there are 0s after all bits. */
 static size_t past_ones(size_t index) {
     const uint8_t *from = raw + index / 8;
     uint64_t word = load(from) | (((uint64_t)1 << index % 8) - 1);
@@ -325,19 +328,19 @@ static size_t past_ones(size_t index) {
 /* Takes a run of seven ones or more; where it ends. */
 static __attribute__((noinline)) size_t take_ones(size_t index) {
     uint64_t past = origin + index;
-    size_t behind = past_ones(index);
+    size_t after = past_ones(index);
     if (is_open && past > first)
         SAY(first, past, "abort");
     is_open = 0;
-    if (behind - index >= 15) {
+    if (after - index >= 15) {
         first = past;
         SAY(first, first + 15, "idle");
     }
-    in_ones = behind == filled * 8;
-    return behind;
+    in_ones = after == filled * 8;
+    return after;
 }
 
-/* Takes the flags right behind a flag, eight at a time; where the last of them ends. */
+/* Takes the flags right after a flag, eight at a time; where the last of them ends. */
 static __attribute__((noinline)) size_t take_flags(size_t index) {
     const uint8_t *from = raw + index / 8, *begin = from;
     unsigned turned = index % 8;
@@ -353,32 +356,43 @@ static inline size_t take_run(size_t index) {
     if ((ahead & 0x7f) != 0x3f)
         return take_ones(index);
     take_piece(index - 1);
-    size_t behind = index + 7;
+    size_t after = index + 7;
     if ((ahead & 0x7fff) == 0x3f3f)
-        behind = take_flags(behind);
+        after = take_flags(after);
     is_open = 1;
-    first = origin + behind;
-    return behind;
+    first = origin + after;
+    return after;
 }
 
-/* Takes the runs that begin before an index. */
+/* The bits of a word from an index on, which may lie beyond it. */
+static inline uint64_t bits_from(uint64_t bits, size_t index) {
+    return index < 64 ? bits & ~(uint64_t)0 << index : 0;
+}
+
+/* Takes the runs that begin in the word at an index, before a limit, and were not taken. */
+static inline void take_word(uint64_t sixes, size_t begin, size_t limit) {
+    if (next > begin)
+        sixes = bits_from(sixes, next - begin);
+    while (sixes != 0) {
+        size_t index = begin + (size_t)__builtin_ctzll(sixes);
+        if (index >= limit)
+            return;
+        next = take_run(index);
+        sixes = bits_from(sixes, next - begin);
+    }
+}
+
+/* Takes the runs that begin before an index. A word shows where six ones begin in its first 59 bits; 56 of
+ * them are new. */
 static void take_runs(size_t limit) {
-    for (const uint8_t *from = raw + next / 8; from < raw + (limit + 7) / 8; from += 7) {
-        uint64_t word = load(from), twos = word & word >> 1, fours = twos & twos >> 2;
-        uint64_t sixes = fours & twos >> 4;
+    const uint8_t *last = raw + (limit + 7) / 8;
+    for (const uint8_t *from = raw + next / 8; from < last; from += 7) {
+        uint64_t word = load(from), twos = word & word >> 1;
+        uint64_t sixes = twos & twos >> 2 & twos >> 4;
         if (__builtin_expect(sixes == 0, 1))
             continue;
-        size_t begin = (size_t)(from - raw) * 8;
-        if (next > begin)
-            sixes = next - begin > 63 ? 0 : sixes & ~(uint64_t)0 << (next - begin);
-        while (sixes != 0) {
-            size_t index = begin + (size_t)__builtin_ctzll(sixes);
-            if (index >= limit)
-                return;
-            next = take_run(index);
-            sixes = next - begin > 63 ? 0 : sixes & ~(uint64_t)0 << (next - begin);
-        }
-        if (next > begin + 63)
+        take_word(sixes, (size_t)(from - raw) * 8, limit);
+        if (next > (size_t)(from - raw) * 8 + 63)
             from = raw + next / 8 - 7;
     }
 }
@@ -403,7 +417,7 @@ static void take_most(void) {
     filled -= moved;
 }
 
-/* Takes the rest, up to an index, behind which no flag ends, and says what is open at a good end. */
+/* Takes the rest, up to an index, after which no flag ends, and says what is open at a good end. */
 static void take_rest(size_t count, int good) {
     memset(raw + filled, 0, SPARE);
     filled = count / 8;
@@ -416,7 +430,7 @@ static void take_rest(size_t count, int good) {
     flush();
 }
 
-/* ---- Captures. ---- */
+/* Captures. */
 
 /* Six ones and a 0 at the very beginning are no flag. */
 static void begin(void) {
