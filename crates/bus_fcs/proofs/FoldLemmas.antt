@@ -1,24 +1,47 @@
--- Registers behind octets.
-use Rattle.std.proofs.Common.{◌≡◌, ℕ, zero, suc, ◌+◌, ◌≤◌, ◌<◌, List, [], ◌∷◌, ◌++◌, length, take, get_or, sym, ap, ◌∙◌, subst, arith, append_assoc}
-use Rattle.std.specs.Prelude.{slice_index_or}
-use Rattle.std.proofs.lemmas.List.{take_more}
-use Rattle.bus_fcs.specs.Internal.Register.{IsStateAfter}
+-- The register after many octets.
+use Rattle.std.proofs.Common.{◌≡◌, ℕ, ◌*◌, ◌%◌, ◌^◌, ◌≤◌, ◌<◌, List, [], ◌∷◌, ◌++◌, length, take, drop, append-nil, sym, ap, ◌∙◌, arith, append_assoc, bit_xor}
+use Rattle.std.specs.List.{All}
+use Rattle.std.specs.Int.{w64, from_le_bytes}
+use Rattle.std.specs.Int.Bits.{xor_zero_r}
+use Rattle.std.proofs.lemmas.List.{length-take, take-append-drop}
+use Rattle.std.proofs.lemmas.List.Elements.{All-head, All-tail, All-take}
+use Rattle.std.proofs.lemmas.Nat.{mod_low}
+use Rattle.bus_bits.proofs.EightBitsLemmas.{word, word-eight}
+use Rattle.bus_bits.proofs.EightBitsOfNineLemmas.{word-lt, word-append}
+use Rattle.bus_fcs.specs.Internal.Register.{crc_steps, IsStateAfter}
+use Rattle.bus_fcs.proofs.RegisterLemmas.{state_more, turns_none, octet-first}
 
--- one octet more
-pub state-more : (state i : ℕ) (octets before : List ℕ) → i < length octets → IsStateAfter state ((before ++ take i octets) ++ get_or octets i 0 ∷ []) → IsStateAfter state (before ++ take (suc i) octets)
-state-more state i octets before l h =
-    let n : suc i ≡ i + 1 = omega arith in
-    subst (IsStateAfter state) (append_assoc before (take i octets) (get_or octets i 0 ∷ []) ∙ ap (λ (os : List ℕ). before ++ os) (sym (take_more octets i 0 l) ∙ ap (λ (j : ℕ). take j octets) (sym n))) h
+-- octets more, in one word
+state-word : (os before : List ℕ) (s : ℕ) → All (λ o. o < 256) os → IsStateAfter s before
+    → IsStateAfter (crc_steps (8 * length os) (bit_xor s (word os))) (before ++ os)
+unfolding word
+state-word [] before s small h =
+    let same : crc_steps 0 (bit_xor s 0) ≡ s = turns_none (bit_xor s 0) ∙ xor_zero_r s in
+    rw (same, append-nil before) h
+state-word (o ∷ os) before s small h =
+    let octet : o < 256 = All-head (λ n. n < 256) o os small in
+    let first = state_more s o before octet h in
+    let others = All-tail (λ n. n < 256) o os small in
+    let rest = state-word os (before ++ o ∷ []) (crc_steps 8 (bit_xor s o)) others first in
+    let same = octet-first (length os) s o (word os) octet in
+    rw same (rw append_assoc at rest)
 
--- that behind as many as are wanted
-pub state-of : (s0 s1 s2 s3 s4 s5 s6 : ℕ) (octets before : List ℕ) → IsStateAfter s0 (before ++ take 0 octets) → IsStateAfter s1 (before ++ take 1 octets) → IsStateAfter s2 (before ++ take 2 octets) → IsStateAfter s3 (before ++ take 3 octets)
-    → IsStateAfter s4 (before ++ take 4 octets) → IsStateAfter s5 (before ++ take 5 octets) → IsStateAfter s6 (before ++ take 6 octets)
-    → (count : ℕ) → count ≤ 6 → IsStateAfter (slice_index_or (s0 ∷ s1 ∷ s2 ∷ s3 ∷ s4 ∷ s5 ∷ s6 ∷ []) count 0) (before ++ take count octets)
-state-of s0 s1 s2 s3 s4 s5 s6 octets before h0 h1 h2 h3 h4 h5 h6 zero l = h0
-state-of s0 s1 s2 s3 s4 s5 s6 octets before h0 h1 h2 h3 h4 h5 h6 (suc zero) l = h1
-state-of s0 s1 s2 s3 s4 s5 s6 octets before h0 h1 h2 h3 h4 h5 h6 (suc (suc zero)) l = h2
-state-of s0 s1 s2 s3 s4 s5 s6 octets before h0 h1 h2 h3 h4 h5 h6 (suc (suc (suc zero))) l = h3
-state-of s0 s1 s2 s3 s4 s5 s6 octets before h0 h1 h2 h3 h4 h5 h6 (suc (suc (suc (suc zero)))) l = h4
-state-of s0 s1 s2 s3 s4 s5 s6 octets before h0 h1 h2 h3 h4 h5 h6 (suc (suc (suc (suc (suc zero))))) l = h5
-state-of s0 s1 s2 s3 s4 s5 s6 octets before h0 h1 h2 h3 h4 h5 h6 (suc (suc (suc (suc (suc (suc zero)))))) l = h6
-state-of s0 s1 s2 s3 s4 s5 s6 octets before h0 h1 h2 h3 h4 h5 h6 (suc (suc (suc (suc (suc (suc (suc n))))))) l = absurd (omega (arith, l))
+-- the first of eight octets in one word
+word-first : (k : ℕ) (os : List ℕ) → k ≤ length os → All (λ o. o < 256) os → word os % 2 ^ (8 * k) ≡ word (take k os)
+word-first k os h small =
+    let long : length (take k os) ≡ k = omega (arith, length-take k os, h) in
+    let below = word-lt (take k os) (All-take (λ o. o < 256) k os small) in
+    ap (λ (n : ℕ). word os % 2 ^ (8 * n)) (sym long)
+    ∙ ap (λ (xs : List ℕ). word xs % 2 ^ (8 * length (take k os))) (sym (take-append-drop k os))
+    ∙ ap (λ (n : ℕ). n % 2 ^ (8 * length (take k os))) (word-append (take k os) (drop k os))
+    ∙ mod_low (word (drop k os)) (8 * length (take k os)) (word (take k os)) below
+
+pub state-some : (k s w : ℕ) (os before : List ℕ) → k ≤ 7 → length os ≡ 8 → All (λ o. o < 256) os
+    → w ≡ from_le_bytes w64 os → IsStateAfter s before
+    → IsStateAfter (crc_steps (8 * k) (bit_xor s (w % 2 ^ (8 * k)))) (before ++ take k os)
+state-some k s w os before few eight small is h =
+    let long : length (take k os) ≡ k = omega (arith, length-take k os, eight, few) in
+    let first : w % 2 ^ (8 * k) ≡ word (take k os) =
+    ap (λ (n : ℕ). n % 2 ^ (8 * k)) (is ∙ word-eight os eight) ∙ word-first k os (omega (arith, eight, few)) small in
+    let all = state-word (take k os) before s (All-take (λ o. o < 256) k os small) h in
+    rw first (rw long at all)

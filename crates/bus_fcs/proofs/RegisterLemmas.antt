@@ -2,6 +2,7 @@
 use Rattle.std.proofs.Common.{◌≡◌, ◌↔◌, ℕ, zero, suc, ◌+◌, ◌-◌, ◌*◌, ◌/◌, ◌%◌, ◌^◌, ◌<◌, ◌≤◌, Bool, true, false, cond, not, List, [], ◌∷◌, ◌++◌, length, map, take, drop, replicate, refl, sym, ap, subst, ◌∙◌, arith, append_assoc, length-append, bit_xor, inl, inr, ◌⊎◌}
 use Rattle.std.proofs.lemmas.List.{append-nil, length-replicate, length-map, take-append-drop, length-take, length-drop, replicate-append-replicate}
 use Rattle.std.proofs.Math.Nat.{pow-suc, mul_assoc, add-zero}
+use Rattle.std.proofs.lemmas.Nat.{pow_pos, mod_below, mod_low, mod-pow-add, shl-shr, shr_split}
 use Rattle.std.specs.Int.Bits.{xor_block, xor_comm, xor_assoc, xor_self, xor_zero_r, xor_shr, xor_mod, xor_shifted}
 use Rattle.bus_bits.proofs.OctetLemmas.{number-push, number-lt, same_number, length-bits, number-bits, number-append, length-bits_of_octets, bits_of_octets-push}
 use Rattle.bus_fcs.specs.Division.{plus, add, step, divided, remainder}
@@ -260,18 +261,32 @@ turns_shift (suc n) h =
     ap (λ (k : ℕ). h * k) (pow-suc 2 n) ∙ sym (mul_assoc h (2 ^ n) 2) ∙ sym (add-zero (h * 2 ^ n * 2)) in
     ap (λ (k : ℕ). crc_steps n (crc_step_of k)) e ∙ ap (crc_steps n) (turn_even (h * 2 ^ n)) ∙ turns_shift n h
 
-pub turns_split : (s : ℕ) → crc_steps 8 s ≡ bit_xor (s / 256) (crc_steps 8 (s % 256))
-turns_split s =
-    let e : bit_xor (s / 256 * 2 ^ 8) (s % 256) ≡ s = xor_shifted (s / 256) 8 (s % 256) (omega arith) ∙ omega arith in
-    ap (crc_steps 8) (sym e) ∙ crc_steps-xor 8 (s / 256 * 2 ^ 8) (s % 256)
-    ∙ ap (λ (k : ℕ). bit_xor k (crc_steps 8 (s % 256))) (turns_shift 8 (s / 256))
+-- steps one after the other
+steps-sum : (m n s : ℕ) → crc_steps (m + n) s ≡ crc_steps n (crc_steps m s)
+unfolding crc_steps
+steps-sum zero n s = let e : zero + n ≡ n = omega arith in ap (λ (k : ℕ). crc_steps k s) e
+steps-sum (suc m) n s =
+    let e : suc m + n ≡ suc (m + n) = omega arith in ap (λ (k : ℕ). crc_steps k s) e ∙ steps-sum m n (crc_step_of s)
+
+-- zeros in front only take steps
+steps-past : (k m h : ℕ) → crc_steps (k + m) (h * 2 ^ k) ≡ crc_steps m h
+steps-past k m h = steps-sum k m (h * 2 ^ k) ∙ ap (crc_steps m) (turns_shift k h)
+
+-- the lowest bits apart, which alone take the steps
+split : (n s : ℕ) → bit_xor (s / 2 ^ n * 2 ^ n) (s % 2 ^ n) ≡ s
+split n s = xor_shifted (s / 2 ^ n) n (s % 2 ^ n) (mod_below s (2 ^ n) (pow_pos n)) ∙ shr_split s n
+
+pub turns_split : (n s : ℕ) → crc_steps n s ≡ bit_xor (s / 2 ^ n) (crc_steps n (s % 2 ^ n))
+turns_split n s =
+    ap (crc_steps n) (sym (split n s)) ∙ crc_steps-xor n (s / 2 ^ n * 2 ^ n) (s % 2 ^ n)
+    ∙ ap (λ (k : ℕ). bit_xor k (crc_steps n (s % 2 ^ n))) (turns_shift n (s / 2 ^ n))
 
 pub turns_octet : (s o : ℕ) → o < 256 → crc_steps 8 (bit_xor s o) ≡ bit_xor (s / 256) (crc_steps 8 (bit_xor s o % 256))
 turns_octet s o h =
     let z : o / 256 ≡ 0 = omega arith in
     let e : bit_xor s o / 256 ≡ s / 256 =
     xor_shr s o 8 ∙ ap (bit_xor (s / 256)) z ∙ xor_zero_r (s / 256) in
-    turns_split (bit_xor s o) ∙ ap (λ (k : ℕ). bit_xor k (crc_steps 8 (bit_xor s o % 256))) e
+    turns_split 8 (bit_xor s o) ∙ ap (λ (k : ℕ). bit_xor k (crc_steps 8 (bit_xor s o % 256))) e
 
 -- one turn more
 pub turns_more : (n s : ℕ) → crc_steps (n + 1) s ≡ crc_step_of (crc_steps n s)
@@ -282,3 +297,72 @@ turns_more (suc n) s = let e : suc n + 1 ≡ suc (n + 1) = omega arith in ap (λ
 pub turns_none : (s : ℕ) → crc_steps 0 s ≡ s
 unfolding crc_steps
 turns_none s = refl
+
+-- ---- many octets at once
+
+-- the highest octet of some, where those below it are known
+higher : (k m n z : ℕ) → crc_steps (k + m) (n % 2 ^ k) ≡ z
+    → crc_steps (k + m) (n % 2 ^ (8 + k)) ≡ bit_xor z (crc_steps m (n / 2 ^ k % 256))
+higher k m n z h =
+    let o : ℕ = n / 2 ^ k % 256 in
+    let apart : n % 2 ^ (8 + k) ≡ bit_xor (n % 2 ^ k) (o * 2 ^ k) =
+    mod-pow-add n 8 k ∙ sym (xor_shifted o k (n % 2 ^ k) (mod_below n (2 ^ k) (pow_pos k)))
+    ∙ xor_comm (o * 2 ^ k) (n % 2 ^ k) in
+    ap (crc_steps (k + m)) apart ∙ crc_steps-xor (k + m) (n % 2 ^ k) (o * 2 ^ k)
+    ∙ ap (λ (x : ℕ). bit_xor x (crc_steps (k + m) (o * 2 ^ k))) h ∙ ap (bit_xor z) (steps-past k m o)
+
+-- each of seven octets takes its own steps and those of the octets that follow it
+pub seven-octets : (n : ℕ) → crc_steps 56 (n % 2 ^ 56)
+    ≡ (let two = bit_xor (crc_steps 56 (n % 256)) (crc_steps 48 (n / 2 ^ 8 % 256)) in
+    let four = bit_xor (bit_xor two (crc_steps 40 (n / 2 ^ 16 % 256))) (crc_steps 32 (n / 2 ^ 24 % 256)) in
+    let six = bit_xor (bit_xor four (crc_steps 24 (n / 2 ^ 32 % 256))) (crc_steps 16 (n / 2 ^ 40 % 256)) in
+    bit_xor six (crc_steps 8 (n / 2 ^ 48 % 256)))
+seven-octets n =
+    let four = higher 24 32 n _ (higher 16 40 n _ (higher 8 48 n _ refl)) in
+    higher 48 8 n _ (higher 40 16 n _ (higher 32 24 n _ four))
+
+-- the lowest bits of a sum, shifted up until the others are out, of 56
+shifted-out : (n x : ℕ) → n ≤ 56 → (x * 2 ^ (56 - n)) % 2 ^ 64 % 2 ^ 56 ≡ x % 2 ^ n * 2 ^ (56 - n)
+shifted-out n x h =
+    let k : ℕ = 56 - n in
+    let y : ℕ = x * 2 ^ k in
+    let whole : n + k ≡ 56 = omega arith in
+    let none : y % 2 ^ k ≡ 0 = ap (λ (z : ℕ). z % 2 ^ k) (sym (add-zero y)) ∙ mod_low x k 0 (pow_pos k) in
+    ap (λ (z : ℕ). z % 2 ^ 56) (mod-pow-add y 8 56)
+    ∙ mod_low (y / 2 ^ 56 % 2 ^ 8) 56 (y % 2 ^ 56) (omega arith) ∙ ap (λ (j : ℕ). y % 2 ^ j) (sym whole)
+    ∙ mod-pow-add y n k
+    ∙ ap (λ (z : ℕ). z % 2 ^ n * 2 ^ k + y % 2 ^ k) (shl-shr x k) ∙ omega (arith, none)
+
+-- the steps for the lowest bits of a word, by those of 56 bits
+pub some-bits : (n s w : ℕ) → n ≤ 56
+    → bit_xor (s / 2 ^ n) (crc_steps 56 ((bit_xor w s * 2 ^ (56 - n)) % 2 ^ 64 % 2 ^ 56))
+    ≡ crc_steps n (bit_xor s (w % 2 ^ n))
+some-bits n s w h =
+    let k : ℕ = 56 - n in
+    let x : ℕ = bit_xor w s in
+    let high : ℕ = s / 2 ^ n * 2 ^ n in
+    let whole : 56 ≡ k + n = omega arith in
+    let past : crc_steps 56 (x % 2 ^ n * 2 ^ k) ≡ crc_steps n (x % 2 ^ n) =
+    ap (λ (j : ℕ). crc_steps j (x % 2 ^ n * 2 ^ k)) whole ∙ steps-past k n (x % 2 ^ n) in
+    let sum : bit_xor (s % 2 ^ n) (w % 2 ^ n) ≡ x % 2 ^ n =
+    sym (xor_mod s w n) ∙ ap (λ (j : ℕ). j % 2 ^ n) (xor_comm s w) in
+    let apart : bit_xor s (w % 2 ^ n) ≡ bit_xor high (x % 2 ^ n) =
+    ap (λ (j : ℕ). bit_xor j (w % 2 ^ n)) (sym (split n s)) ∙ xor_assoc high (s % 2 ^ n) (w % 2 ^ n)
+    ∙ ap (bit_xor high) sum in
+    let stepped : crc_steps n (bit_xor s (w % 2 ^ n)) ≡ bit_xor (s / 2 ^ n) (crc_steps n (x % 2 ^ n)) =
+    ap (crc_steps n) apart ∙ crc_steps-xor n high (x % 2 ^ n)
+    ∙ ap (λ (j : ℕ). bit_xor j (crc_steps n (x % 2 ^ n))) (turns_shift n (s / 2 ^ n)) in
+    ap (λ (j : ℕ). bit_xor (s / 2 ^ n) (crc_steps 56 j)) (shifted-out n x h) ∙ ap (bit_xor (s / 2 ^ n)) past
+    ∙ sym stepped
+
+-- one octet more, and a word of those that follow it
+pub octet-first : (n s o w : ℕ) → o < 256
+    → crc_steps (8 * suc n) (bit_xor s (w * 256 + o)) ≡ crc_steps (8 * n) (bit_xor (crc_steps 8 (bit_xor s o)) w)
+octet-first n s o w h =
+    let after : ℕ = crc_steps 8 (bit_xor s o) in
+    let whole : 8 * suc n ≡ 8 + 8 * n = omega arith in
+    let apart : bit_xor s (w * 256 + o) ≡ bit_xor (bit_xor s o) (w * 256) =
+    ap (bit_xor s) (sym (xor_shifted w 8 o h) ∙ xor_comm (w * 256) o) ∙ sym (xor_assoc s o (w * 256)) in
+    ap (λ (j : ℕ). crc_steps j (bit_xor s (w * 256 + o))) whole ∙ steps-sum 8 (8 * n) (bit_xor s (w * 256 + o))
+    ∙ ap (λ (j : ℕ). crc_steps (8 * n) (crc_steps 8 j)) apart
+    ∙ ap (crc_steps (8 * n)) (crc_steps-xor 8 (bit_xor s o) (w * 256) ∙ ap (bit_xor after) (turns_shift 8 w))

@@ -1,17 +1,25 @@
--- The table of octets.
-use Rattle.std.proofs.Common.{◌≡◌, ℕ, ◌<◌, ◌%◌, ◌/◌, map, get_or, refl, ap, ◌∙◌, arith, bit_xor, sym}
+-- The tables of octets.
+use Rattle.std.proofs.Common.{◌≡◌, ℕ, zero, suc, ◌+◌, ◌*◌, ◌<◌, ◌≤◌, List, map, get_or, take, drop, refl, sym, ap, ◌∙◌, arith}
 use Rattle.std.specs.List.{range_with_len}
+use Rattle.std.proofs.lemmas.List.{get_or-take, get_or-drop}
 use Rattle.std.proofs.lemmas.List.FromFn.{get_or-map-range_with_len}
 use Rattle.bus_fcs.specs.Internal.Register.{crc_step_of, crc_steps}
-use Rattle.bus_fcs.specs.declared.table.TheConstants.{TABLE}
-use Rattle.bus_fcs.proofs.RegisterLemmas.{turns_octet}
+use Rattle.bus_fcs.specs.declared.table.TheConstants.{SLICES}
 
-pub table_is : TABLE ≡ map (crc_steps 8) (range_with_len 0 256)
+-- each table has what the steps make of every octet
+table_is : (k : ℕ) → k ≤ 6 → take 256 (drop (256 * k) SLICES) ≡ map (crc_steps (8 * k + 8)) (range_with_len 0 256)
 unfolding crc_steps crc_step_of
-table_is = refl
+table_is zero h = refl
+table_is (suc zero) h = refl
+table_is (suc (suc zero)) h = refl
+table_is (suc (suc (suc zero))) h = refl
+table_is (suc (suc (suc (suc zero)))) h = refl
+table_is (suc (suc (suc (suc (suc zero))))) h = refl
+table_is (suc (suc (suc (suc (suc (suc zero)))))) h = refl
+table_is (suc (suc (suc (suc (suc (suc (suc k))))))) h = absurd (omega arith)
 
-pub table_at : (i : ℕ) → i < 256 → get_or TABLE i 0 ≡ crc_steps 8 i
-table_at i h = ap (λ t. get_or t i 0) table_is ∙ get_or-map-range_with_len (crc_steps 8) 0 256 i i 0 h (omega arith)
-
-pub octet_turns : (s o : ℕ) → o < 256 → bit_xor (s / 256) (get_or TABLE (bit_xor s o % 256) 0) ≡ crc_steps 8 (bit_xor s o)
-octet_turns s o h = ap (bit_xor (s / 256)) (table_at (bit_xor s o % 256) (omega arith)) ∙ sym (turns_octet s o h)
+pub table_at : (k i : ℕ) → k ≤ 6 → i < 256 → get_or SLICES (256 * k + i) 0 ≡ crc_steps (8 * k + 8) i
+table_at k i h l =
+    sym (get_or-take 256 (drop (256 * k) SLICES) i 0 l ∙ get_or-drop (256 * k) SLICES i 0)
+    ∙ ap (λ (t : List ℕ). get_or t i 0) (table_is k h)
+    ∙ get_or-map-range_with_len (crc_steps (8 * k + 8)) 0 256 i i 0 l (omega arith)

@@ -1,20 +1,20 @@
-//! The frame check by a table.
+//! The frame check by tables.
 
-ghost use Rattle.std.specs.Prelude.{◌≡◌, ◌+◌, ◌-◌, ◌^◌, ℕ, List, [], ◌∷◌, ◌++◌};
-ghost use Rattle.bus_fcs.specs.Internal.Register.{IsStateAfter};
+ghost use Rattle.std.specs.Prelude.{◌≡◌, ◌+◌, ◌-◌, ◌*◌, ◌%◌, ◌^◌, ◌≤◌, ℕ, List, [], ◌∷◌, ◌++◌, bit_xor};
+ghost use Rattle.bus_fcs.specs.Internal.Register.{IsStateAfter, crc_steps};
 
 use crate::check::Check;
-use crate::register::{INITIAL, crc_octet, is_residue, trailer_of};
+use crate::register::{INITIAL, crc_octet, crc_seven, is_residue, trailer_of};
 use bus_bits::Spent;
 
-/// Works by a table of 256 values: one unit of work an octet.
+/// Works by tables of 256 values: one unit of work an octet.
 #[derive(Drop)]
 pub struct OctetCheck {
     state: u16,
 }
 
 impl OctetCheck {
-    /// The register behind the octets so far.
+    /// The register after the octets so far.
     pub fn register(&self) -> u16
         ensures { result ≡ self.now.state }
     {
@@ -29,13 +29,25 @@ impl OctetCheck {
     }
 }
 
-/// The register behind one octet more.
+/// The register after one octet more.
 #[inline(always)]
 fn state_after(state: u16, octet: u8) -> u16
     ensures { (octets : List ℕ) → IsStateAfter state octets → IsStateAfter result (octets ++ octet ∷ []) }
 {
     let place = (state ^ octet as u16) & 0xff;
-    (state >> 8) ^ crc_octet(place)
+    (state >> 8) ^ crc_octet(u64::from(place), 0)
+}
+
+/// The register after the first `count` of eight octets more. The others are shifted out, so that no branch depends
+/// on how many there are: 0s come before the wanted ones, and a register of 0 stays 0 over these.
+#[inline(always)]
+fn state_after_some(state: u16, octets: u64, count: usize) -> u16
+    requires few { count ≤ 7 }
+    ensures { result ≡ crc_steps (8 * count) (bit_xor state (octets % 2 ^ (8 * count))) }
+{
+    let bits = 8 * count;
+    let wanted = (octets ^ u64::from(state)) << (56 - bits);
+    (u64::from(state) >> bits) as u16 ^ crc_seven(wanted)
 }
 
 impl Check for OctetCheck {
@@ -57,17 +69,9 @@ impl Check for OctetCheck {
         spent.tick_folded();
     }
 
-    /// Computes the register after each of six octets and keeps the one after `count` of them: where a loop
-    /// ends would depend on the data, and a wrong guess there costs more than the octets that are not wanted.
     #[inline(always)]
     fn fold_some(&mut self, octets: &[u8; 8], count: usize, spent: &mut Spent) {
-        let one = state_after(self.state, octets[0]);
-        let two = state_after(one, octets[1]);
-        let three = state_after(two, octets[2]);
-        let four = state_after(three, octets[3]);
-        let five = state_after(four, octets[4]);
-        let six = state_after(five, octets[5]);
-        self.state = [self.state, one, two, three, four, five, six][count];
+        self.state = state_after_some(self.state, u64::from_le_bytes(*octets), count);
         spent.folded += count as u64;
     }
 
