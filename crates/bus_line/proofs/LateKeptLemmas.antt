@@ -1,16 +1,16 @@
 -- What is left of bits without the inserted 0s.
-use Rattle.std.proofs.Common.{◌≡◌, ◌≢◌, ℕ, zero, suc, ◌+◌, ◌-◌, ◌*◌, ◌/◌, ◌%◌, ◌^◌, ◌<◌, ◌≤◌, ◌==◌, Bool, List, [], ◌∷◌, ◌++◌, refl, sym, ap, ◌∙◌, subst, arith, bit_or, nat_eq, not, inl, inr}
-use Rattle.std.specs.Prelude.{bit_and, bit_xor, false, ◌↔◌}
+use Rattle.std.proofs.Common.{◌≡◌, ◌≢◌, ℕ, zero, suc, ◌+◌, ◌-◌, ◌*◌, ◌/◌, ◌%◌, ◌^◌, ◌<◌, ◌≤◌, ◌==◌, Bool, List, [], ◌∷◌, ◌++◌, refl, sym, ap, ◌∙◌, subst, arith, nat_eq, not, inl, inr}
+use Rattle.std.specs.Prelude.{bit_and, false, ◌↔◌}
 use mir.Val.{bool_byte}
-use Rattle.std.specs.Int.Bits.{xor_step, xor_self}
+use Rattle.std.specs.Int.Bits.{and_self, and_zero_r}
 use Rattle.std.specs.Int.{bit_at, w64, trailing_zeros}
-use Rattle.std.proofs.lemmas.Nat.{shr-shr, and_le_l, and_mask, pow_below, pow_pos, one_shl}
-use Rattle.std.proofs.lemmas.Nat.Bits.{bit_at-suc, bit_at-zero, bit_at_and, bit_at_or, bit_at_not, bit_at_ones, bit_at_ones_above, bit_at_above, bit_at-lt, bit_at-trailing_zeros}
+use Rattle.std.proofs.lemmas.Nat.{shr-shr, and_le_l, and_mask, and_shr, and_block, mod_below, mod-pow-add, mul-add-lt, pow-add, pow_below, pow_pos, one_shl, shr_below, shr_high, shr_split}
+use Rattle.std.proofs.lemmas.Grind.{and-not_self}
+use Rattle.std.proofs.lemmas.Nat.Bits.{bit_at-zero, bit_at_and, bit_at_not, bit_at_ones, bit_at_above, bit_at_cat_low, bit_at_cat_high, bit_at-pow_other, bit_at-lt, bit_at-trailing_zeros}
 use Rattle.std.proofs.lemmas.List.{append-nil}
 use Rattle.std.proofs.lemmas.Bool.{cases_lt, eq-eqb, ne_eqb}
-use Rattle.std.proofs.Math.Nat.{pow-suc}
+use Rattle.std.proofs.Math.Nat.{pow-suc, mul_assoc, add-zero, mod-eq_of_lt, mod_self}
 use Rattle.bus_bits.specs.Octet.{bits_of}
-use Rattle.bus_bits.proofs.OctetLemmas.{bits-low}
 use Rattle.bus_line.specs.Internal.Late.{kept, late_data}
 
 -- ---- bits of a number
@@ -69,19 +69,27 @@ kept-without x y s t j (suc k) l h a b =
     ]
 
 -- where none is marked, all are kept
-kept-all : (x k : ℕ) → kept x 0 k ≡ bits_of k x
+pub kept-all : (x k : ℕ) → kept x 0 k ≡ bits_of k x
 unfolding bits_of
 kept-all x zero = refl
 kept-all x (suc k) =
     let z : bit_at 0 k ≢ 1 = λ o. omega (arith, bit_at-zero k, o) in
     kept-in x 0 k z ∙ (ap (λ (l : List Bool). l ++ (bit_at x k == 1) ∷ []) (kept-all x k) ∙ sym (bits-back k x))
 
--- what is left, where none is marked any more
-pub kept-done : (x n : ℕ) → n ≤ 48 → (bits_of n (bit_and x (1 * 2 ^ n % 18446744073709551616 - 1)) ≡ kept x 0 n) × (bit_and x (1 * 2 ^ n % 18446744073709551616 - 1) < 2 ^ n)
-kept-done x n h =
-    let e : bit_and x (1 * 2 ^ n % 18446744073709551616 - 1) ≡ x % 2 ^ n = ap (λ (m : ℕ). bit_and x (m - 1)) (one_shl n 64 (omega arith)) ∙ and_mask x n in
-    let p = pow_pos n in
-    (ap (bits_of n) e ∙ (bits-low n x ∙ sym (kept-all x n)), omega (arith, e, p))
+-- marked bits do not matter
+kept-others : (x y s k : ℕ) → ((i : ℕ) → i < k → bit_at s i ≢ 1 → bit_at y i ≡ bit_at x i) → kept y s k ≡ kept x s k
+kept-others x y s zero h = refl
+kept-others x y s (suc k) h =
+    let rest = kept-others x y s k (λ i l. h i (omega (arith, l))) in
+    elim (cases_lt (bit_at s k) 1) [
+      | inl l ↦
+          let free : bit_at s k ≢ 1 = λ o. omega (arith, l, o) in
+          kept-in y s k free ∙ ap (λ (n : ℕ). kept y s k ++ (n == 1) ∷ []) (h k (omega arith) free)
+          ∙ ap (λ (z : List Bool). z ++ (bit_at x k == 1) ∷ []) rest ∙ sym (kept-in x s k free)
+      | inr g ↦
+          let out : bit_at s k ≡ 1 = let l = bit_at-lt s k in omega (arith, g, l) in
+          kept-out y s k out ∙ rest ∙ sym (kept-out x s k out)
+    ]
 
 -- an inserted 0 is no data, and any other bit is
 late-inserted : (w k : ℕ) → w / 2 ^ (3 + k) % 64 ≡ 31 → late_data w (suc k) ≡ late_data w k
@@ -103,7 +111,7 @@ late-kept w x s (suc k) h e =
       | inr g ↦ let y = bit_at-lt s k in let o : bit_at s k ≡ 1 = omega (arith, g, y) in kept-out x s k o ∙ (rest ∙ sym (late-inserted w k (here.0 o)))
     ]
 
-pub late-word : (w s n : ℕ) → n ≤ 48 → ((i : ℕ) → i < 48 → bit_at s i ≡ 1 ↔ w / 2 ^ (3 + i) % 64 ≡ 31)
+pub late-word : (w s n : ℕ) → n ≤ 56 → ((i : ℕ) → i < 56 → bit_at s i ≡ 1 ↔ w / 2 ^ (3 + i) % 64 ≡ 31)
     → (kept (w / 256) (bit_and s (1 * 2 ^ n % 18446744073709551616 - 1)) n ≡ late_data w n) × (bit_and s (1 * 2 ^ n % 18446744073709551616 - 1) < 2 ^ n)
 late-word w s n f h =
     let m : ℕ = bit_and s (1 * 2 ^ n % 18446744073709551616 - 1) in
@@ -119,110 +127,227 @@ late-word w s n f h =
       omega (arith, e, p),
     )
 
--- ---- the lowest bit taken out
-
--- the places below the lowest 1; where there is none, all but the highest
-abbrev pub below : ℕ → ℕ
-below s = bit_xor s ((s + 18446744073709551615) % 18446744073709551616) / 2
+-- ---- the bits that are not marked
 
 abbrev MAX : ℕ
 MAX = 18446744073709551615
 
-abbrev pub without : ℕ → ℕ → ℕ
-without x m = bit_or (bit_and x m) (bit_and (x / 2) (MAX - m))
+-- the lowest bits, without those that are marked
+abbrev pub unmarked : ℕ → ℕ → ℕ → ℕ
+unmarked x s n = bit_and (bit_and x (1 * 2 ^ n % 18446744073709551616 - 1)) (MAX - s)
 
--- a number and the one below it differ up to the lowest 1
-differs : (j s : ℕ) → bit_at s j ≡ 1 → ((i : ℕ) → i < j → bit_at s i ≡ 0) → bit_xor s (s - 1) ≡ 2 ^ suc j - 1
-differs zero s h z =
-    let o : s % 2 ≡ 1 = omega (arith, h) in
-    let e : (s - 1) / 2 ≡ s / 2 = omega (arith, o) in
-    let f : (s - 1) % 2 ≡ 0 = omega (arith, o) in
-    xor_step s (s - 1) ∙ rw (e, f, o, xor_self (s / 2)) refl
-differs (suc j) s h z =
-    let b : bit_at (s / 2) j ≡ 1 = sym (bit_at-suc s j) ∙ h in
-    let i = differs j (s / 2) b (λ k l. sym (bit_at-suc s k) ∙ z (suc k) (omega (arith, l))) in
-    let o : s % 2 ≡ 0 = omega (arith, z 0 (omega arith)) in
-    let p : 0 < s / 2 = elim (cases_lt 0 (s / 2)) [ inl q ↦ q | inr q ↦ absurd (let y : s / 2 ≡ 0 = omega (arith, q) in let x = bit_at-zero j in omega (arith, b, x, ap (λ (n : ℕ). bit_at n j) y)) ] in
-    let e : (s - 1) / 2 ≡ s / 2 - 1 = omega (arith, o, p) in
-    let f : (s - 1) % 2 ≡ 1 = omega (arith, o, p) in
-    let w = pow-suc 2 (suc j) in
-    let y = pow_pos (suc j) in
-    xor_step s (s - 1) ∙ (rw (e, f, o, i) (omega (arith, w, y)))
+-- bits of which none that is marked is 1, and which are as others but for these
+pub record AreMarked (x s n y t m : ℕ) : Type 0 where
+  pub small : y < 2 ^ m
+  pub marked : t < 2 ^ m
+  pub zeros : bit_and y t ≡ 0
+  pub same : kept y t m ≡ kept x s n
 
-below-is : (s j : ℕ) → 0 < s → s < 2 ^ 64 → bit_at s j ≡ 1 → ((i : ℕ) → i < j → bit_at s i ≡ 0) → below s ≡ 2 ^ j - 1
-below-is s j p b h z =
-    let e : (s + 18446744073709551615) % 18446744073709551616 ≡ s - 1 = omega (arith, p, b) in
-    let w = pow-suc 2 j in
-    let y = pow_pos j in
-    ap (λ (n : ℕ). bit_xor s n / 2) e ∙ omega (arith, differs j s h z, w, y)
+unmarked-at : (x s n i : ℕ) → n ≤ 56 → s < 2 ^ 64 → i < n → bit_at s i ≢ 1 → bit_at (unmarked x s n) i ≡ bit_at x i
+unmarked-at x s n i few below l free =
+    let all : ℕ = 1 * 2 ^ n % 18446744073709551616 - 1 in
+    let ones : bit_at all i ≡ 1 =
+    ap (λ (m : ℕ). bit_at (m - 1) i) (one_shl n 64 (omega (arith, few))) ∙ bit_at_ones n i l in
+    let low = bit_at_and x all i in
+    let both = bit_at_and (bit_and x all) (MAX - s) i in
+    let other = bit_at_not w64 s i below (omega (arith, few, l)) in
+    let bit = bit_at-lt s i in
+    let mine = bit_at-lt x i in
+    let zero : bit_at s i ≡ 0 = omega (arith, free, bit) in
+    omega (arith, ones, low, both, other, zero, mine)
 
-upper : (x m j : ℕ) → m ≡ 2 ^ j - 1 → j < 64 → (i : ℕ) → i < 64 → (i < j → bit_at (bit_and (x / 2) (MAX - m)) i ≡ 0) × (j ≤ i → bit_at (bit_and (x / 2) (MAX - m)) i ≡ bit_at x (suc i))
-upper x m j e h i l =
-    let b : m < 2 ^ 64 = omega (arith, e, pow_below j 64 h) in
-    let a = bit_at_and (x / 2) (MAX - m) i in
-    let n = bit_at_not w64 m i b l in
-    let s = bit_at-suc x i in
-    let y = bit_at-lt (x / 2) i in
-    ((λ t. omega (arith, a, n, ap (λ (q : ℕ). bit_at q i) e, bit_at_ones j i t)), λ t. omega (arith, a, n, s, y, ap (λ (q : ℕ). bit_at q i) e, bit_at_ones_above j i t))
+pub unmarked-are : (x s n : ℕ) → n ≤ 56 → s < 2 ^ n → AreMarked x s n (unmarked x s n) s n
+unmarked-are x s n few below =
+    let all : ℕ = 1 * 2 ^ n % 18446744073709551616 - 1 in
+    let mask : all ≡ 2 ^ n - 1 = ap (λ (m : ℕ). m - 1) (one_shl n 64 (omega (arith, few))) in
+    let low : bit_and x all ≡ x % 2 ^ n = ap (bit_and x) mask ∙ and_mask x n in
+    let word : s < 2 ^ 64 = omega (arith, below, pow_below n 64 (omega (arith, few))) in
+    record {
+      small = omega (arith, and_le_l (bit_and x all) (MAX - s), low, mod_below x (2 ^ n) (pow_pos n));
+      marked = below;
+      zeros = and-not_self (bit_and x all) MAX s s refl (omega (arith, word)) refl;
+      same = kept-others x (unmarked x s n) s n (λ i l free. unmarked-at x s n i few word l free);
+    }
 
-without-is : (x m j k : ℕ) → m ≡ 2 ^ j - 1 → j < 64 → k ≤ 64 → Without j k x (without x m)
-without-is x m j k e h f i l =
-    let u = upper x m j e h i (omega (arith, f, l)) in
-    let o = bit_at_or (bit_and x m) (bit_and (x / 2) (MAX - m)) i in
-    let a = bit_at_and x m i in
-    let y = bit_at-lt x i in
-    let g = ap (λ (q : ℕ). bit_at q i) e in
-    ((λ t. omega (arith, o, a, g, y, u.0 t, bit_at_ones j i t)), λ t. omega (arith, o, a, g, u.1 t, bit_at_ones_above j i t))
+-- ---- the lowest marked bit taken out
 
-rest-is : (s m j k : ℕ) → m ≡ 2 ^ j - 1 → j < 64 → k ≤ 64 → ((i : ℕ) → i < j → bit_at s i ≡ 0) → Without j k s (bit_and (s / 2) (MAX - m))
-rest-is s m j k e h f z i l =
-    let u = upper s m j e h i (omega (arith, f, l)) in ((λ t. u.0 t ∙ sym (z i t)), u.1)
+-- the number below, or all ones below 0
+abbrev pub one_less : ℕ → ℕ
+one_less s = (s + MAX) % 18446744073709551616
 
-abbrev Turned : ℕ → ℕ → ℕ → ℕ → Type 0
-Turned x s n k = (bit_and (s / 2) (MAX - below s) < 2 ^ k) × (kept (without x (below s)) (bit_and (s / 2) (MAX - below s)) k ≡ kept x s n)
+-- a number by a place and those above and below it
+parts : (x j : ℕ) → x ≡ x / 2 ^ suc j * 2 ^ suc j + (bit_at x j * 2 ^ j + x % 2 ^ j)
+parts x j =
+    let e : 1 + j ≡ suc j = omega arith in
+    let low : x % 2 ^ suc j ≡ bit_at x j * 2 ^ j + x % 2 ^ j = ap (λ (k : ℕ). x % 2 ^ k) (sym e) ∙ mod-pow-add x 1 j in
+    sym (shr_split x (suc j)) ∙ ap (λ (r : ℕ). x / 2 ^ suc j * 2 ^ suc j + r) low
 
--- some bit is marked: without the lowest one as much is kept
-marked : (x s n : ℕ) → 0 < s → n ≤ 48 → s < 2 ^ n → Turned x s n (n - 1)
-marked x s zero z l b = absurd (omega (arith, z, b))
-marked x s (suc k) p l b =
-    let h : s < 2 ^ 64 = omega (arith, b, pow_below (suc k) 64 (omega (arith, l))) in
-    let t = bit_at-trailing_zeros w64 s p h in
-    let j : ℕ = trailing_zeros w64 s in
-    let m = below-is s j p h t.1 t.2 in
-    let q : suc k - 1 ≡ k = omega arith in
-    let f : j ≤ k = elim (cases_lt k j) [ inl g ↦ absurd (omega (arith, t.1, bit_at_above s (suc k) j b (omega (arith, g)))) | inr g ↦ g ] in
-    let v : bit_and (s / 2) (MAX - below s) < 2 ^ k = omega (arith, and_le_l (s / 2) (MAX - below s), b, pow-suc 2 k) in (
-      subst (λ (i : ℕ). bit_and (s / 2) (MAX - below s) < 2 ^ i) (sym q) v,
-      ap (kept (without x (below s)) (bit_and (s / 2) (MAX - below s))) q
-          ∙ kept-without x (without x (below s)) s (bit_and (s / 2) (MAX - below s)) j k f t.1 (without-is x (below s) j k m t.0 (omega (arith, l))) (rest-is s (below s) j k m t.0 (omega (arith, l)) t.2),
-    )
+none-below : (s j : ℕ) → ((i : ℕ) → i < j → bit_at s i ≡ 0) → s % 2 ^ j ≡ 0
+none-below s zero h = omega arith
+none-below s (suc j) h =
+    let e : 1 + j ≡ suc j = omega arith in
+    let here : bit_at s j ≡ 0 = h j (omega arith) in
+    let rest = none-below s j (λ i l. h i (omega (arith, l))) in
+    ap (λ (k : ℕ). s % 2 ^ k) (sym e) ∙ mod-pow-add s 1 j ∙ ap (λ (b : ℕ). b * 2 ^ j + s % 2 ^ j) here
+    ∙ omega (arith, rest)
 
--- none is: all places are below
-below-none : below 0 ≡ 9223372036854775807
-below-none = refl
-
-unmarked : (x n : ℕ) → n ≤ 48 → Turned x 0 n n
-unmarked x n h = (
-  pow_pos n,
-  kept-same x (without x (below 0)) 0 0 n
-      (λ i l.
-      let o = ap (λ (q : ℕ). bit_at q i) below-none ∙ bit_at_ones 63 i (omega (arith, l, h)) in
-      let u = bit_at_not w64 (below 0) i (omega (arith, below-none)) (omega (arith, l, h)) in
-      let y = bit_at-lt x i in
-      omega (arith, bit_at_or (bit_and x (below 0)) (bit_and (x / 2) (MAX - below 0)) i, bit_at_and x (below 0) i, bit_at_and (x / 2) (MAX - below 0) i, o, u, y))
-      (λ i l. refl),
+-- the places above one lower, and those below as they are
+lower : (a l m j k : ℕ) → l < 2 ^ suc j → m < 2 ^ j → ((i : ℕ) → i < j → bit_at m i ≡ bit_at l i)
+    → Without j k (a * 2 ^ suc j + l) (a * 2 ^ j + m)
+lower a l m j k small little same i within = (
+  (λ below.
+      let left = bit_at_cat_low a j m i below in
+      let right = bit_at_cat_low a (suc j) l i (omega (arith, below)) in
+      left ∙ same i below ∙ sym right),
+  (λ above.
+      let left = bit_at_cat_high a j m i little above in
+      let right = bit_at_cat_high a (suc j) l (suc i) small (omega (arith, above)) in
+      let e : i - j ≡ suc i - suc j = omega arith in
+      left ∙ ap (bit_at a) e ∙ sym right),
 )
 
+-- bits and marks by the place of the lowest mark: others above it, and the bits below it
+record ByPlace (x s a b l j : ℕ) : Type 0 where
+  bits : x ≡ a * 2 ^ suc j + l
+  marks : s ≡ b * 2 ^ suc j + 2 ^ j
+  small : l < 2 ^ j
+  zeros : bit_and a b ≡ 0
+
+by_place : (x s j : ℕ) → bit_at s j ≡ 1 → ((i : ℕ) → i < j → bit_at s i ≡ 0) → bit_and x s ≡ 0
+    → ByPlace x s (x / 2 ^ suc j) (s / 2 ^ suc j) (x % 2 ^ j) j
+by_place x s j one none clear =
+    let bit : bit_at x j ≡ 0 =
+    let both = bit_at_and x s j in
+    let nothing = ap (λ (n : ℕ). bit_at n j) clear ∙ bit_at-zero j in
+    let lt = bit_at-lt x j in
+    omega (arith, both, nothing, one, lt) in
+    let above = ap (λ (c : ℕ). x / 2 ^ suc j * 2 ^ suc j + (c * 2 ^ j + x % 2 ^ j)) bit in
+    let mark = ap (λ (c : ℕ). s / 2 ^ suc j * 2 ^ suc j + (c * 2 ^ j + s % 2 ^ j)) one in
+    record {
+      bits = parts x j ∙ above ∙ omega arith;
+      marks = parts s j ∙ mark ∙ omega (arith, none-below s j none);
+      small = mod_below x (2 ^ j) (pow_pos j);
+      zeros = sym (and_shr x s (suc j)) ∙ ap (λ (n : ℕ). n / 2 ^ suc j) clear ∙ omega (arith, pow_pos (suc j));
+    }
+
+abbrev pub bits_left : ℕ → ℕ → ℕ
+bits_left x s = (x + bit_and x (one_less s)) / 2
+
+abbrev pub marks_left : ℕ → ℕ
+marks_left s = bit_and s (one_less s) / 2
+
+-- the lowest mark gone, and its bit with it
+bits-left : (x s a b l j : ℕ) → s < 2 ^ 64 → ByPlace x s a b l j → bits_left x s ≡ a * 2 ^ j + l
+bits-left x s a b l j word h =
+    let p = pow_pos j in
+    let double = pow-suc 2 j in
+    let wide : l < 2 ^ suc j = omega (arith, h.small, double, p) in
+    let ones : 2 ^ j - 1 < 2 ^ suc j = omega (arith, double, p) in
+    let one : one_less s ≡ b * 2 ^ suc j + (2 ^ j - 1) = omega (arith, word, h.marks, p) in
+    let low : bit_and x (one_less s) ≡ l =
+    ap (λ (n : ℕ). bit_and n (one_less s)) h.bits ∙ ap (bit_and (a * 2 ^ suc j + l)) one
+    ∙ and_block (suc j) a b l (2 ^ j - 1) wide ones ∙ ap (λ (n : ℕ). n * 2 ^ suc j + bit_and l (2 ^ j - 1)) h.zeros
+    ∙ omega (arith, and_mask l j, mod-eq_of_lt h.small) in
+    let twice : a * 2 ^ suc j ≡ a * 2 ^ j * 2 = ap (λ (k : ℕ). a * k) double ∙ sym (mul_assoc a (2 ^ j) 2) in
+    omega (arith, low, h.bits, twice)
+
+marks-left : (x s a b l j : ℕ) → s < 2 ^ 64 → ByPlace x s a b l j → marks_left s ≡ b * 2 ^ j
+marks-left x s a b l j word h =
+    let p = pow_pos j in
+    let double = pow-suc 2 j in
+    let mark : 2 ^ j < 2 ^ suc j = omega (arith, double, p) in
+    let ones : 2 ^ j - 1 < 2 ^ suc j = omega (arith, double, p) in
+    let one : one_less s ≡ b * 2 ^ suc j + (2 ^ j - 1) = omega (arith, word, h.marks, p) in
+    let none : bit_and (2 ^ j) (2 ^ j - 1) ≡ 0 = and_mask (2 ^ j) j ∙ mod_self (2 ^ j) in
+    let others : bit_and s (one_less s) ≡ bit_and b b * 2 ^ suc j + bit_and (2 ^ j) (2 ^ j - 1) =
+    ap (λ (n : ℕ). bit_and n (one_less s)) h.marks ∙ ap (bit_and (b * 2 ^ suc j + 2 ^ j)) one
+    ∙ and_block (suc j) b b (2 ^ j) (2 ^ j - 1) mark ones in
+    let same : bit_and b b * 2 ^ suc j ≡ b * 2 ^ suc j = ap (λ (n : ℕ). n * 2 ^ suc j) (and_self b) in
+    let twice : b * 2 ^ suc j ≡ b * 2 ^ j * 2 = ap (λ (k : ℕ). b * k) double ∙ sym (mul_assoc b (2 ^ j) 2) in
+    omega (arith, others, none, same, twice)
+
+left-small : (x a l j k : ℕ) → j ≤ k → x < 2 ^ suc k → x ≡ a * 2 ^ suc j + l → l < 2 ^ j → a * 2 ^ j + l < 2 ^ k
+left-small x a l j k within below is small =
+    let e : suc k ≡ (k - j) + suc j = omega arith in
+    let double = pow-suc 2 j in
+    let above : x / 2 ^ suc j < 2 ^ (k - j) = shr_below x (k - j) (suc j) (rw e at below) in
+    let high : x / 2 ^ suc j ≡ a =
+    ap (λ (n : ℕ). n / 2 ^ suc j) is ∙ shr_high a (suc j) l (omega (arith, small, double)) in
+    let product : 2 ^ j * 2 ^ (k - j) ≡ 2 ^ k =
+    let f : j + (k - j) ≡ k = omega arith in sym (pow-add 2 j (k - j)) ∙ ap (λ (n : ℕ). 2 ^ n) f in
+    let all = mul-add-lt a (2 ^ j) l (2 ^ (k - j)) (omega (arith, above, high)) small in
+    omega (arith, all, product)
+
+out-are : (x s a b l j k : ℕ) → s < 2 ^ 64 → j ≤ k → bit_at s j ≡ 1 → x < 2 ^ suc k → s < 2 ^ suc k
+    → ByPlace x s a b l j → AreMarked x s (suc k) (bits_left x s) (marks_left s) k
+out-are x s a b l j k word within one x-below s-below h =
+    let p = pow_pos j in
+    let double = pow-suc 2 j in
+    let wide : l < 2 ^ suc j = omega (arith, h.small, double, p) in
+    let mark : 2 ^ j < 2 ^ suc j = omega (arith, double, p) in
+    let bits = bits-left x s a b l j word h in
+    let marks : marks_left s ≡ b * 2 ^ j + 0 = marks-left x s a b l j word h ∙ sym (add-zero (b * 2 ^ j)) in
+    let none : (i : ℕ) → i < j → bit_at 0 i ≡ bit_at (2 ^ j) i =
+    λ i l. bit_at-zero i ∙ sym (bit_at-pow_other j i (λ e. omega (arith, e, l))) in
+    let kept-bits : Without j k (a * 2 ^ suc j + l) (a * 2 ^ j + l) = lower a l l j k wide h.small (λ i l. refl) in
+    let kept-marks : Without j k (b * 2 ^ suc j + 2 ^ j) (b * 2 ^ j + 0) = lower b (2 ^ j) 0 j k mark p none in
+    record {
+      small = rw bits (left-small x a l j k within x-below h.bits h.small);
+      marked = omega (arith, and_le_l s (one_less s), s-below, pow-suc 2 k);
+      zeros = rw (bits, marks) (and_block j a b l 0 h.small p ∙ rw (h.zeros, and_zero_r l) (omega arith));
+      same =
+          kept-without x (bits_left x s) s (marks_left s) j k within one (rw (bits, h.bits) kept-bits)
+          (rw (marks, h.marks) kept-marks);
+    }
+
+-- some bit is marked
+some-out : (x s n : ℕ) → 0 < s → n ≤ 56 → x < 2 ^ n → s < 2 ^ n → bit_and x s ≡ 0
+    → AreMarked x s n (bits_left x s) (marks_left s) (n - 1)
+some-out x s zero some few x-below s-below clear = absurd (omega (arith, some, s-below))
+some-out x s (suc k) some few x-below s-below clear =
+    let word : s < 2 ^ 64 = omega (arith, s-below, pow_below (suc k) 64 (omega (arith, few))) in
+    let t = bit_at-trailing_zeros w64 s some word in
+    let j : ℕ = trailing_zeros w64 s in
+    let e : suc k - 1 ≡ k = omega arith in
+    let within : j ≤ k =
+    elim (cases_lt k j) [
+      | inl g ↦ absurd (omega (arith, t.1, bit_at_above s (suc k) j s-below (omega (arith, g))))
+      | inr g ↦ g
+    ] in
+    let h = by_place x s j t.1 t.2 clear in
+    rw e (out-are x s (x / 2 ^ suc j) (s / 2 ^ suc j) (x % 2 ^ j) j k word within t.1 x-below s-below h)
+
+-- none is marked
+none-out : (x n : ℕ) → n ≤ 56 → x < 2 ^ n → AreMarked x 0 n (bits_left x 0) (marks_left 0) n
+none-out x n few below =
+    let all : bit_and x (one_less 0) ≡ x =
+    and_mask x 64 ∙ mod-eq_of_lt (omega (arith, below, pow_below n 64 (omega (arith, few)))) in
+    let bits : bits_left x 0 ≡ x = omega (arith, all) in
+    record {
+      small = rw bits below;
+      marked = pow_pos n;
+      zeros = and_zero_r (bits_left x 0);
+      same = rw bits refl;
+    }
+
 -- one step: the lowest marked bit is taken out, if there is one
-pub lowest-out : (x s n m : ℕ) → n ≤ 48 → s < 2 ^ n → m ≡ bool_byte (not (nat_eq s 0)) → Turned x s n (n - m)
-lowest-out x s n m f b d =
+pub lowest-out : (x s n m : ℕ) → n ≤ 56 → x < 2 ^ n → s < 2 ^ n → bit_and x s ≡ 0 → m ≡ bool_byte (not (nat_eq s 0))
+    → AreMarked x s n (bits_left x s) (marks_left s) (n - m)
+lowest-out x s n m few x-below s-below clear d =
     elim (cases_lt 0 s) [
       | inl p ↦
           let some : (s == 0) ≡ false = ne_eqb s 0 (λ z. omega (arith, p, z)) in
-          let k : n - 1 ≡ n - m = ap (λ (i : ℕ). n - i) (sym (d ∙ ap (λ c. bool_byte (not c)) some)) in
-          subst (Turned x s n) k (marked x s n p f b)
+          let e : n - m ≡ n - 1 = ap (λ (i : ℕ). n - i) (d ∙ ap (λ c. bool_byte (not c)) some) in
+          rw e (some-out x s n p few x-below s-below clear)
       | inr g ↦
           let z : 0 ≡ s = omega (arith, g) in
-          let k : n ≡ n - m = let i : m ≡ 0 = d ∙ ap (λ (c : ℕ). bool_byte (not (nat_eq c 0))) (sym z) in omega (arith, i) in
-          subst (Turned x s n) k (subst (λ (i : ℕ). Turned x i n n) z (unmarked x n f))
+          let e : n ≡ n - m =
+          let i : m ≡ 0 = d ∙ ap (λ (c : ℕ). bool_byte (not (nat_eq c 0))) (sym z) in omega (arith, i) in
+          subst (AreMarked x s n (bits_left x s) (marks_left s)) e
+          (subst (λ (i : ℕ). AreMarked x i n (bits_left x i) (marks_left i) n) z (none-out x n few x-below))
     ]
+
+-- the sum of the step has a word's bits
+pub sum-fits : (x s n : ℕ) → n ≤ 56 → x < 2 ^ n → x + bit_and x (one_less s) < 2 ^ 64
+sum-fits x s n few below =
+    omega (arith, and_le_l x (one_less s), below, pow_below n 57 (omega (arith, few)))

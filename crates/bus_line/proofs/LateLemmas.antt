@@ -212,7 +212,7 @@ first-stop w count h k =
 abbrev pub inserted : ℕ → ℕ
 inserted w = bit_and (five w / 8) (MAX - w / 256)
 
-pub inserted-at : (w k : ℕ) → w < 2 ^ 64 → k < 48 → bit_at (inserted w) k ≡ 1 ↔ w / 2 ^ (3 + k) % 64 ≡ 31
+pub inserted-at : (w k : ℕ) → w < 2 ^ 64 → k < 56 → bit_at (inserted w) k ≡ 1 ↔ w / 2 ^ (3 + k) % 64 ≡ 31
 inserted-at w k h l =
     let v : ℕ = w / 2 ^ (3 + k) in
     let s : five w / 8 / 2 ^ k ≡ five v = shr-shr (five w) 3 k ∙ five-shr w (3 + k) in

@@ -6,7 +6,7 @@ ghost use Rattle.bus_line.specs.Internal.Late.{kept, late_data};
 
 use crate::decoder::marked::Marked;
 
-/// Data bits, at most 48, the first lowest.
+/// Data bits, at most 56, the first lowest.
 #[derive(Clone, Copy)]
 pub(crate) struct Data {
     pub(crate) bits: u64,
@@ -17,7 +17,7 @@ pub(crate) struct Data {
 /// 0 (ISO/IEC 13239, transparency).
 #[inline(always)]
 pub(crate) fn late_data(word: u64, count: u64) -> Data
-    requires { count ≤ 48 }
+    requires { count ≤ 56 }
     ensures value { bits_of result.count result.bits ≡ late_data word count }
     ensures few { result.count ≤ count }
     ensures small { result.bits < 2 ^ result.count }
@@ -29,7 +29,7 @@ pub(crate) fn late_data(word: u64, count: u64) -> Data
 /// Which of the bits behind the eight lowest of the word are inserted 0s: a 0 behind five ones.
 #[inline(always)]
 fn inserted_zeros(word: u64) -> u64
-    ensures { (k : ℕ) → k < 48 → (result / 2 ^ k % 2 ≡ 1 ↔ word / 2 ^ (3 + k) % 64 ≡ 31) }
+    ensures { (k : ℕ) → k < 56 → (result / 2 ^ k % 2 ≡ 1 ↔ word / 2 ^ (3 + k) % 64 ≡ 31) }
 {
     let two = word & word >> 1;
     let four = two & two >> 2;
@@ -40,14 +40,15 @@ fn inserted_zeros(word: u64) -> u64
 /// So many bits without those marked as inserted, the first lowest.
 #[inline(always)]
 fn squeezed(bits: u64, inserted: u64, count: u64) -> Data
-    requires few { count ≤ 48 }
+    requires few { count ≤ 56 }
     requires marked { inserted < 2 ^ count }
     ensures value { bits_of result.count result.bits ≡ kept bits inserted count }
     ensures few { result.count ≤ count }
     ensures small { result.bits < 2 ^ result.count }
 {
+    let all = (1 << count) - 1;
     let mut left = Marked {
-        bits,
+        bits: bits & all & !inserted,
         marks: inserted,
         count,
     }
@@ -56,7 +57,7 @@ fn squeezed(bits: u64, inserted: u64, count: u64) -> Data
         left = left.without_lowest();
     }
     Data {
-        bits: left.bits & ((1 << left.count) - 1),
+        bits: left.bits,
         count: left.count,
     }
 }

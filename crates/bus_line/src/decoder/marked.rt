@@ -1,9 +1,9 @@
 //! Bits of which some are to be left out.
 
-ghost use Rattle.std.specs.Prelude.{◌≡◌, ◌≢◌, ◌≤◌, ◌<◌, ◌^◌};
+ghost use Rattle.std.specs.Prelude.{◌≡◌, ◌≢◌, ◌≤◌, ◌<◌, ◌^◌, bit_and};
 ghost use Rattle.bus_line.specs.Internal.Late.{kept};
 
-/// Bits, the first lowest, and marks on some of them.
+/// Bits, the first lowest, and marks on some of their 0s.
 #[derive(Clone, Copy)]
 pub(crate) struct Marked {
     pub(crate) bits: u64,
@@ -17,19 +17,24 @@ impl Marked {
     /// the line's data decide whether one is.
     #[inline(always)]
     pub(crate) fn without_lowest(self) -> Marked
-        requires few { self.count ≤ 48 }
+        requires few { self.count ≤ 56 }
+        requires small { self.bits < 2 ^ self.count }
         requires marked { self.marks < 2 ^ self.count }
+        requires zeros { bit_and self.bits self.marks ≡ 0 }
         ensures same { kept result.bits result.marks result.count ≡ kept self.bits self.marks self.count }
         ensures few { result.count ≤ self.count }
+        ensures small { result.bits < 2 ^ result.count }
         ensures marked { result.marks < 2 ^ result.count }
+        ensures zeros { bit_and result.bits result.marks ≡ 0 }
         ensures fewer { self.marks ≢ 0 → result.count < self.count }
     {
         let Marked { bits, marks, count } = self;
-        // the places below the lowest mark, and all where there is none
-        let below = (marks ^ marks.wrapping_sub(1)) >> 1;
+        // 1 at the places below the lowest mark, and at other marks; everywhere, where there is no mark
+        let less = marks.wrapping_sub(1);
         Marked {
-            bits: bits & below | bits >> 1 & !below,
-            marks: marks >> 1 & !below,
+            // The bits below the mark are doubled and then halved, and those above it halved.
+            bits: (bits + (bits & less)) >> 1,
+            marks: (marks & less) >> 1,
             count: count - u64::from(marks != 0),
         }
     }

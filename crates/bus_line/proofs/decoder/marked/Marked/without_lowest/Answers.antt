@@ -1,12 +1,31 @@
-use Rattle.bus_line.proofs.LateKeptLemmas.{lowest-out}
+use Rattle.bus_line.proofs.LateKeptLemmas.{lowest-out, sum-fits}
 use Rattle.bus_line.proofs.decoder.marked.Marked.without_lowest.Goals as goal
+
+pub overflow_add-result : goal.overflow_add-result
+overflow_add-result c =
+    let m = c.args.self in
+    record { fits = sum-fits m.bits m.marks m.count c.requires.few c.requires.small }
 
 pub returns-clause-same : goal.returns-clause-same
 returns-clause-same c =
     let m = c.args.self in
-    (lowest-out m.bits m.marks m.count c.from.result c.requires.few c.requires.marked c.from.ensures).1
+    let r = c.requires in
+    (lowest-out m.bits m.marks m.count c.from.result r.few r.small r.marked r.zeros c.from.ensures).same
+
+pub returns-clause-small : goal.returns-clause-small
+returns-clause-small c =
+    let m = c.args.self in
+    let r = c.requires in
+    (lowest-out m.bits m.marks m.count c.from.result r.few r.small r.marked r.zeros c.from.ensures).small
 
 pub returns-clause-marked : goal.returns-clause-marked
 returns-clause-marked c =
     let m = c.args.self in
-    (lowest-out m.bits m.marks m.count c.from.result c.requires.few c.requires.marked c.from.ensures).0
+    let r = c.requires in
+    (lowest-out m.bits m.marks m.count c.from.result r.few r.small r.marked r.zeros c.from.ensures).marked
+
+pub returns-clause-zeros : goal.returns-clause-zeros
+returns-clause-zeros c =
+    let m = c.args.self in
+    let r = c.requires in
+    (lowest-out m.bits m.marks m.count c.from.result r.few r.small r.marked r.zeros c.from.ensures).zeros
