@@ -107,7 +107,7 @@ pub stops-checks : {A X N B : Type 0} (tap : TapView A X N B) (o : Options) (d :
 stops-checks {A} {X} tap o d text after start now w xs f begins l e = cases f
   where
     out : Watches tap start now w (capture tap.form text (tap.watch.origin w.analyser) xs).bits → Appends start now []
-    out h = none-out start now w.page.text.bytes w.page.written (lines tap w (capture tap.form text (tap.watch.origin w.analyser) xs).bits) (no-lines tap w (capture tap.form text (tap.watch.origin w.analyser) xs).bits l.printer) h.page
+    out h = none-out start now w.page.text w.page.written (lines tap w (capture tap.form text (tap.watch.origin w.analyser) xs).bits) (no-lines tap w (capture tap.form text (tap.watch.origin w.analyser) xs).bits l.printer) h.page
 
     clean-is : IsClean tap text start now w xs → ChecksSoFar tap.form o start now xs
     clean-is h = record { clean = sym (ap (λ (c : CaptureOf X). c.fault) (so-far-is tap.form o text (tap.watch.origin w.analyser) xs e l.origin)) ∙ h.clean; unwritten = out h.bits }

@@ -160,7 +160,7 @@ closed-lists form o d after start later xs f answer text begins is go (inr h) =
 pub stops-lists : {A X N B : Type 0} (tap : TapView A X N B) (o : Options) (d : List FrameType) (text : Bool) (after start now later : Option (List ℕ)) (w : CaptureRun A) (xs : List ℕ) (f answer : ToolFault)
     → TapLaws tap → Begins o d → IsListed tap o d w → text ≡ o.text → Finishes tap text o.reads after start now w xs (Err f)
     → ((sent : ℕ) → f ≡ fault.Write sent → (answer ≡ fault.Write sent) × (later ≡ now))
-    → (IsNoWrite f → (start : Option (List ℕ)) (t : List ℕ) → Pages start now w.page.text.bytes w.page.written t → Closes start later t f answer)
+    → (IsNoWrite f → (start : Option (List ℕ)) (t : List ℕ) → Pages start now w.page.text w.page.written t → Closes start later t f answer)
     → ListsBy tap.form o after start later xs (Err answer)
 stops-lists {A} {X} tap o d text after start now later w xs f answer law begins l e = cases f
   where
@@ -183,7 +183,7 @@ stops-lists {A} {X} tap o d text after start now later w xs f answer law begins 
 
     cases : (f : ToolFault) → Finishes tap text o.reads after start now w xs (Err f)
         → ((sent : ℕ) → f ≡ fault.Write sent → (answer ≡ fault.Write sent) × (later ≡ now))
-        → (IsNoWrite f → (start : Option (List ℕ)) (t : List ℕ) → Pages start now w.page.text.bytes w.page.written t → Closes start later t f answer)
+        → (IsNoWrite f → (start : Option (List ℕ)) (t : List ℕ) → Pages start now w.page.text w.page.written t → Closes start later t f answer)
         → ListsBy tap.form o after start later xs (Err answer)
     cases fault.Read h cut close =
         closed-lists tap.form o d after start later xs fault.Read answer (lines tap w bits) begins is (λ out. (d, begins, clean-is h out)) (close (λ sent q. cc) start (lines tap w bits) h.bits.page)

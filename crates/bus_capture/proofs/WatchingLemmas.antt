@@ -2,7 +2,6 @@
 use Rattle.std.proofs.Common.{◌≡◌, ℕ, zero, suc, ◌+◌, ◌-◌, ◌*◌, ◌<◌, ◌≤◌, ◌^◌, List, [], ◌∷◌, ◌++◌, length, take, drop, get_or, Option, Some, None, Result, Ok, Err, MatchResult, IfOk, refl, sym, ap, ◌∙◌, subst, arith, append_assoc, append-nil, length-append, true, false, inl, inr}
 use Rattle.std.proofs.lemmas.Bool.{cases_lt}
 use Rattle.std.proofs.lemmas.Grind.{common_steps}
-use Rattle.arrayvec.specs.ArrayString.{array_string_len}
 use Rattle.std.proofs.Math.Seq.{take-add, drop-append_seam}
 use Rattle.std.proofs.lemmas.List.{take_all, take-append-le, take-append-drop}
 use Rattle.bus_dictionary.specs.Entry.{FrameType}
@@ -95,12 +94,12 @@ module _ {A X N B : Type 0} (t : TapView A X N B) where
   pub watched : (start now later : Option (List ℕ)) (w v : CaptureRun A) (b more : List X) (told : List SeenReport)
       → v.printer ≡ w.printer → Watches t start now w b → Leads t.watch w.analyser more told v.analyser
       → v.summary ≡ summary_of (seen_by t.watch w.analyser b ++ told)
-      → Pages start later v.page.text.bytes v.page.written (lines t w b ++ printed w.printer (t.watch.dictionary w.analyser) told)
+      → Pages start later v.page.text v.page.written (lines t w b ++ printed w.printer (t.watch.dictionary w.analyser) told)
       → Watches t start later v (b ++ more)
   watched start now later w v b more told p h e counts page = record {
     is_after = e.is_after b h.is_after;
     counts = counts ∙ ap summary_of (sym (seen-more w.analyser v.analyser b more told h.is_after e));
-    page = subst (Pages start later v.page.text.bytes v.page.written) (sym (lines-more w v b more told p h.is_after e)) page;
+    page = subst (Pages start later v.page.text v.page.written) (sym (lines-more w v b more told p h.is_after e)) page;
   }
 
   -- symbols that have no place stop the following
@@ -207,7 +206,7 @@ module _ {A X N B : Type 0} (t : TapView A X N B) where
   -- some symbols more are sound where they add two to each count at most, and 2048 octets
   pub sound-next : (w v : CaptureRun A) (n : ℕ) → 1 ≤ n → t.watch.place v.analyser ≡ t.watch.place w.analyser + n → t.watch.place w.analyser + n ≤ 2 ^ 60
       → IsFew (2 * t.watch.place w.analyser + 2) v.summary
-      → v.page.written + array_string_len v.page.text ≤ w.page.written + array_string_len w.page.text + 2048
+      → v.page.written + length v.page.text ≤ w.page.written + length w.page.text + 2048
       → IsSound t w → IsSound t v
   sound-next w v n some e le few octets h = record {
     places = omega (arith, e, le);
@@ -218,21 +217,21 @@ module _ {A X N B : Type 0} (t : TapView A X N B) where
   -- without a printer there are no lines of the end
   pub pages-unended : (start now : Option (List ℕ)) (w : CaptureRun A) (b : List X) (page later : Page)
       → w.printer ≡ None → later ≡ page
-      → Pages start now page.text.bytes page.written (lines t w b) → Pages start now later.text.bytes later.written (lines t w b ++ last_lines t w b)
+      → Pages start now page.text page.written (lines t w b) → Pages start now later.text later.written (lines t w b ++ last_lines t w b)
   pages-unended start now w b page later e l h =
       let waits = pending (t.watch.dictionary w.analyser) (heard_by t.watch w.analyser b) in
-      subst (λ (x : Page). Pages start now x.text.bytes x.written (lines t w b ++ last_lines t w b)) (sym l)
-      (subst (λ (z : List ℕ). Pages start now page.text.bytes page.written z) (sym (ap (λ x. lines t w b ++ ended x (t.form.ending (t.watch.origin w.analyser) b waits)) e ∙ append-nil (lines t w b))) h)
+      subst (λ (x : Page). Pages start now x.text x.written (lines t w b ++ last_lines t w b)) (sym l)
+      (subst (λ (z : List ℕ). Pages start now page.text page.written z) (sym (ap (λ x. lines t w b ++ ended x (t.form.ending (t.watch.origin w.analyser) b waits)) e ∙ append-nil (lines t w b))) h)
 
   -- the lines of the end were put on the page
   pub pages-ended : (start now : Option (List ℕ)) (w : CaptureRun A) (b : List X) (p : Printer) (page put later : Page)
       → w.printer ≡ Some p → later ≡ put
-      → put.text.bytes ≡ page.text.bytes ++ ending_text p (t.form.ending (t.watch.origin w.analyser) b (pending (t.watch.dictionary w.analyser) (heard_by t.watch w.analyser b)))
+      → put.text ≡ page.text ++ ending_text p (t.form.ending (t.watch.origin w.analyser) b (pending (t.watch.dictionary w.analyser) (heard_by t.watch w.analyser b)))
       → put.written ≡ page.written
-      → Pages start now page.text.bytes page.written (lines t w b) → Pages start now later.text.bytes later.written (lines t w b ++ last_lines t w b)
+      → Pages start now page.text page.written (lines t w b) → Pages start now later.text later.written (lines t w b ++ last_lines t w b)
   pages-ended start now w b p page put later e l bytes written h =
       let waits = pending (t.watch.dictionary w.analyser) (heard_by t.watch w.analyser b) in
-      let last : put.text.bytes ≡ page.text.bytes ++ last_lines t w b = bytes ∙ ap (λ x. page.text.bytes ++ ended x (t.form.ending (t.watch.origin w.analyser) b waits)) (sym e) in
-      subst (λ (x : Page). Pages start now x.text.bytes x.written (lines t w b ++ last_lines t w b)) (sym l)
-      (subst (λ (n : ℕ). Pages start now put.text.bytes n (lines t w b ++ last_lines t w b)) (sym written)
-      (pages-more start now page.text.bytes put.text.bytes page.written (lines t w b) (last_lines t w b) last h))
+      let last : put.text ≡ page.text ++ last_lines t w b = bytes ∙ ap (λ x. page.text ++ ended x (t.form.ending (t.watch.origin w.analyser) b waits)) (sym e) in
+      subst (λ (x : Page). Pages start now x.text x.written (lines t w b ++ last_lines t w b)) (sym l)
+      (subst (λ (n : ℕ). Pages start now put.text n (lines t w b ++ last_lines t w b)) (sym written)
+      (pages-more start now page.text put.text page.written (lines t w b) (last_lines t w b) last h))

@@ -79,7 +79,7 @@ fn close_behind<W: Write>(fault: ToolFault, page: &mut Page, w: &mut W) -> ToolF
     ensures cut { (sent : ℕ) → fault ≡ ToolFault.Write sent →
         (result ≡ ToolFault.Write sent) × (W.contents w.new ≡ W.contents w.old) }
     ensures closed { IsNoWrite fault → (start : Option (List ℕ)) (text : List ℕ) →
-        Pages start (W.contents w.old) page.old.text.bytes page.old.written text →
+        Pages start (W.contents w.old) page.old.text page.old.written text →
         Closes start (W.contents w.new) text fault result }
 {
     if let ToolFault::Write { written } = fault {

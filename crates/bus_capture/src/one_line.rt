@@ -111,15 +111,17 @@ impl<C: Check> Tap for Analyser<C> {
         self.finding().is_some()
     }
 
+    #[inline(always)]
     fn count(&self, summary: &mut Summary) {
         if let Some(finding) = self.finding() {
-            summary.count(*finding);
+            summary.count(finding);
         }
     }
 
+    #[inline(always)]
     fn put(&self, printer: &Printer, page: &mut Page) {
         if let Some(finding) = self.finding() {
-            printer.put(None, *finding, self.octets(), self.dictionary(), page);
+            printer.put(None, finding, self.octets(), self.dictionary(), page);
         }
     }
 

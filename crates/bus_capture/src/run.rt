@@ -1,7 +1,6 @@
 //! Follows the bits of one capture.
 
 ghost use Rattle.std.specs.Io.KnownBytes.{Appends};
-ghost use Rattle.arrayvec.specs.ArrayString.{array_string_len};
 ghost use Rattle.bus_capture.specs.Internal.Watching.{printed};
 ghost use Rattle.std.specs.Prelude.{◌≡◌, ◌+◌, ◌≤◌, ◌<◌, ◌^◌, ◌⊎◌, ℕ, List, [], ◌∷◌, ◌++◌, Option, MatchResult, IfOk, length};
 ghost use Rattle.bus_watch.specs.Seen.{SeenReport};
@@ -73,13 +72,13 @@ impl<T: Tap> CaptureRun<T> {
             self.new.summary ≡ summary_of (before ++ T.tap.heard self.old.analyser) }
         ensures few { (most : ℕ) → IsFew most self.old.summary → IsFew (most + 2) self.new.summary }
         ensures told { (start : Option (List ℕ)) (text : List ℕ) →
-            Pages start (W.contents w.old) self.old.page.text.bytes self.old.page.written text → MatchResult result
-            (λ _. Pages start (W.contents w.new) self.new.page.text.bytes self.new.page.written
+            Pages start (W.contents w.old) self.old.page.text self.old.page.written text → MatchResult result
+            (λ _. Pages start (W.contents w.new) self.new.page.text self.new.page.written
             (text ++ printed self.old.printer (T.tap.watch.dictionary self.old.analyser)
             (T.tap.heard self.old.analyser)))
             (λ cut. Cuts start (W.contents w.new) text cut.sent × (cut.sent < length text)) }
-        ensures octets { self.new.page.written + array_string_len self.new.page.text
-            ≤ self.old.page.written + array_string_len self.old.page.text + 2048 }
+        ensures octets { self.new.page.written + length self.new.page.text
+            ≤ self.old.page.written + length self.old.page.text + 2048 }
     {
         self.analyser.count(&mut self.summary);
         let Some(printer) = &self.printer else {

@@ -2,7 +2,6 @@
 
 ghost use Rattle.std.specs.Prelude.{◌≡◌, ◌+◌, ◌<◌, ◌≤◌, ◌^◌, ◌↔◌, ◌⊎◌, ℕ, false, List, [], ◌∷◌, ◌++◌, length, take, Option, Some, None, Err, MatchResult, IsErr, IfOk, OnOk, OnErr, IsTrue, slice_get};
 ghost use Rattle.std.specs.Option.{ForSome, option_to_list};
-ghost use Rattle.arrayvec.specs.ArrayString.{array_string_len};
 ghost use Rattle.bus_bits.specs.Capture.{bad_mark};
 ghost use Rattle.bus_bits.specs.Packed.{head_fault_of, packed_fault_of};
 ghost use Rattle.bus_watch.specs.History.{KeptFrame, history, tally};
@@ -95,19 +94,19 @@ pub trait Tap: Drop {
 
     /// Puts its lines on the page.
     fn put(&self, printer: &Printer, page: &mut Page)
-        requires room { array_string_len page.old.text + 2048 ≤ 16384 }
-        ensures bytes { page.new.text.bytes
-            ≡ page.old.text.bytes ++ listing printer.now (tap.watch.dictionary self.now) (tap.heard self.now) }
-        ensures len { array_string_len page.new.text ≤ array_string_len page.old.text + 2048 }
+        requires room { length page.old.text + 2048 ≤ 16384 }
+        ensures bytes { page.new.text
+            ≡ page.old.text ++ listing printer.now (tap.watch.dictionary self.now) (tap.heard self.now) }
+        ensures len { length page.new.text ≤ length page.old.text + 2048 }
         ensures written { page.new.written ≡ page.old.written };
 
     /// Puts the lines of the end on the page.
     fn put_ending(&self, printer: &Printer, page: &mut Page)
-        requires room { array_string_len page.old.text + 300 ≤ 16384 }
-        ensures bytes { (b : List Self.Symbol) → tap.watch.is_after self.now b → page.new.text.bytes
-            ≡ page.old.text.bytes ++ ending_text printer.now (tap.form.ending (tap.watch.origin self.now) b
+        requires room { length page.old.text + 300 ≤ 16384 }
+        ensures bytes { (b : List Self.Symbol) → tap.watch.is_after self.now b → page.new.text
+            ≡ page.old.text ++ ending_text printer.now (tap.form.ending (tap.watch.origin self.now) b
             (pending (tap.watch.dictionary self.now) (heard_by tap.watch self.now b))) }
-        ensures len { array_string_len page.new.text ≤ array_string_len page.old.text + 300 }
+        ensures len { length page.new.text ≤ length page.old.text + 300 }
         ensures written { page.new.written ≡ page.old.written };
 
     /// How many verdicts named a station.
@@ -127,13 +126,13 @@ pub trait Tap: Drop {
         ensures put { (start : Option (List ℕ)) (text : List ℕ) (b : List Self.Symbol) (k : KeptFrame) →
             tap.watch.is_after self.now b →
             slice_get (history (tap.watch.depth self.now) (heard_by tap.watch self.now b)) i ≡ Some k →
-            Pages start (W.contents w.old) page.old.text.bytes page.old.written text → MatchResult result
-            (λ _. Pages start (W.contents w.new) page.new.text.bytes page.new.written
+            Pages start (W.contents w.old) page.old.text page.old.written text → MatchResult result
+            (λ _. Pages start (W.contents w.new) page.new.text page.new.written
             (text ++ kept_text tap.form.is_two k))
             (λ cut. Cuts start (W.contents w.new) (text ++ kept_text tap.form.is_two k) cut.sent) }
         ensures few { OnOk result
-            (page.new.written + array_string_len page.new.text
-            ≤ page.old.written + array_string_len page.old.text + 572) };
+            (page.new.written + length page.new.text
+            ≤ page.old.written + length page.old.text + 572) };
 
     /// A word of one symbol.
     fn word_of(symbol: Self::Symbol) -> Self::Word

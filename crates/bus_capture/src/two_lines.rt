@@ -1,7 +1,6 @@
 //! Captures of two lines.
 
 ghost use Rattle.std.specs.Prelude.{◌≡◌, ◌+◌, ◌*◌, ◌≤◌, ◌<◌, ◌^◌, ℕ, List, ◌++◌, length, take, None, Some, zip};
-ghost use Rattle.arrayvec.specs.ArrayString.{array_string_len};
 ghost use Rattle.bus_bits.specs.Octet.{bits_of};
 ghost use Rattle.bus_bits.specs.Capture.{text_pairs, text_pairs_fault};
 ghost use Rattle.bus_text.specs.Counting.{IsFew};
@@ -66,21 +65,21 @@ fn count_on<C: Check>(analyser: &PairAnalyser<C>, line: Line, summary: &mut Summ
     ensures few { (most : ℕ) → IsFew most summary.old → IsFew (most + 1) summary.new }
 {
     if let Some(finding) = analyser.finding(line) {
-        summary.count(*finding);
+        summary.count(finding);
     }
 }
 
 /// Puts its lines on the page.
 fn put_on<C: Check>(analyser: &PairAnalyser<C>, line: Line, printer: &Printer, page: &mut Page)
-    requires room { array_string_len page.old.text + 964 ≤ 16384 }
-    ensures bytes { page.new.text.bytes ≡ page.old.text.bytes
+    requires room { length page.old.text + 964 ≤ 16384 }
+    ensures bytes { page.new.text ≡ page.old.text
         ++ listing printer.now analyser.now.journal.dictionary (option_to_list (seen_on analyser.now line)) }
-    ensures len { array_string_len page.new.text ≤ array_string_len page.old.text + 964 }
+    ensures len { length page.new.text ≤ length page.old.text + 964 }
     ensures written { page.new.written ≡ page.old.written }
 {
     if let Some(finding) = analyser.finding(line) {
         let octets = analyser.octets(line);
-        printer.put(Some(line), *finding, octets, analyser.dictionary(), page);
+        printer.put(Some(line), finding, octets, analyser.dictionary(), page);
     }
 }
 

@@ -29,6 +29,7 @@ impl Filter {
     }
 
     /// Whether a line of this kind, station and type is written.
+    #[inline(always)]
     pub fn passes(&self, kind: Kind, station: Option<u8>, ftype: Option<u8>) -> bool
         ensures { result ≡ passes self.now kind station ftype }
     {
@@ -39,6 +40,7 @@ impl Filter {
 }
 
 /// Whether a line has what is wanted, if anything is.
+#[inline(always)]
 fn agrees(wanted: Option<u8>, has: Option<u8>) -> bool
     ensures { result ≡ agrees wanted has }
 {

@@ -1,6 +1,6 @@
 //! The kinds of lines.
 
-ghost use Rattle.std.specs.Prelude.{◌≡◌, ◌≢◌, ◌≤◌, length, IfSome, None};
+ghost use Rattle.std.specs.Prelude.{◌≡◌, ◌≢◌, ◌≤◌, ◌++◌, length, take, codes, IfSome, None};
 ghost use Rattle.bus_text.specs.Kinds.{kind_word, kind_named};
 
 /// The kinds of lines of a listing.
@@ -56,6 +56,28 @@ impl Kind {
         ensures none { result ≡ None → (kind : Kind) → word.now ≢ kind_word kind }
     {
         KINDS.iter().find(|kind| kind.word() == word).copied()
+    }
+
+    /// How lines of this kind name it, with a space after it, and how many octets these are.
+    #[inline(always)]
+    pub(crate) fn padded(self) -> ([u8; 16], usize)
+        ensures word { take result.1 result.0 ≡ kind_word self ++ codes " " }
+        ensures count { result.1 ≤ 9 }
+    {
+        match self {
+            Kind::Frame => (*b"frame           ", 6),
+            Kind::Damaged => (*b"damaged         ", 8),
+            Kind::Overlong => (*b"overlong        ", 9),
+            Kind::Abort => (*b"abort           ", 6),
+            Kind::Idle => (*b"idle            ", 5),
+            Kind::Stray => (*b"stray           ", 6),
+            Kind::Answered => (*b"answered        ", 9),
+            Kind::Missing => (*b"missing         ", 8),
+            Kind::Spoilt => (*b"spoilt          ", 7),
+            Kind::Late => (*b"late            ", 5),
+            Kind::Begun => (*b"open            ", 5),
+            Kind::Pending => (*b"pending         ", 8),
+        }
     }
 
     /// How lines of this kind name it.

@@ -1,13 +1,13 @@
 //! Lines that are written at once.
 
-ghost use Rattle.std.specs.Prelude.{◌≡◌, ◌+◌, ◌<◌, ◌≤◌, ◌^◌, ℕ, List, [], Option, MatchResult, OnOk, OnErr, IfErr};
+ghost use Rattle.std.specs.Prelude.{◌≡◌, ◌+◌, ◌<◌, ◌≤◌, ◌^◌, ℕ, List, [], Option, MatchResult, OnOk, OnErr, IfErr, length};
 ghost use Rattle.std.specs.Io.KnownBytes.{Appends};
-ghost use Rattle.arrayvec.specs.ArrayString.{array_string_len};
 ghost use Rattle.bus_text.specs.Put.{Cuts};
 ghost use Rattle.bus_text.specs.Internal.Pages.{Pages};
 
+use crate::places::Places;
 use crate::put::{ShortWrite, put_text};
-use arrayvec::ArrayString;
+use crate::text::Text;
 use std::io::Write;
 
 /// The room of a page, in octets.
@@ -20,36 +20,40 @@ const MOST: usize = 2048;
 #[derive(Drop)]
 pub struct Page {
     /// The lines that are not written yet.
-    pub text: ArrayString<ROOM>,
+    pub text: Text<ROOM>,
     /// How many octets were written before them.
     pub written: u128,
+    /// What the places in them are written by.
+    pub(crate) places: Places,
 }
 
 impl Page {
     /// An empty page, before which nothing was written.
     pub fn new() -> Self
-        ensures blank { (start : Option (List ℕ)) → Pages start start result.text.bytes result.written [] }
-        ensures none { (result.written ≡ 0) × (array_string_len result.text ≡ 0) }
+        ensures blank { (start : Option (List ℕ)) → Pages start start result.text result.written [] }
+        ensures none { (result.written ≡ 0) × (length result.text ≡ 0) }
     {
         Page {
-            text: ArrayString::new(),
+            text: Text::new(),
             written: 0,
+            places: Places::new(),
         }
     }
 
     /// Writes the page, and empties it.
+    #[inline(never)]
     pub fn write_out<W: Write>(&mut self, w: &mut W) -> Result<(), ShortWrite>
         requires { self.old.written < 2 ^ 100 }
         ensures turned { (start : Option (List ℕ)) (text : List ℕ) →
-            Pages start (W.contents w.old) self.old.text.bytes self.old.written text → MatchResult result
-            (λ _. Pages start (W.contents w.new) self.new.text.bytes self.new.written text)
+            Pages start (W.contents w.old) self.old.text self.old.written text → MatchResult result
+            (λ _. Pages start (W.contents w.new) self.new.text self.new.written text)
             (λ cut. Cuts start (W.contents w.new) text cut.sent) }
         ensures kept { OnErr result (self.new ≡ self.old) }
-        ensures short { IfErr result (λ cut. cut.sent < self.old.written + array_string_len self.old.text) }
-        ensures empty { OnOk result (array_string_len self.new.text ≡ 0) }
-        ensures sum { OnOk result (self.new.written ≡ self.old.written + array_string_len self.old.text) }
+        ensures short { IfErr result (λ cut. cut.sent < self.old.written + length self.old.text) }
+        ensures empty { OnOk result (length self.new.text ≡ 0) }
+        ensures sum { OnOk result (self.new.written ≡ self.old.written + length self.old.text) }
     {
-        if let Err(cut) = put_text(w, self.text.as_str().as_bytes()) {
+        if let Err(cut) = put_text(w, self.text.as_bytes()) {
             return Err(ShortWrite {
                 sent: self.written + cut.sent,
             });
@@ -60,17 +64,18 @@ impl Page {
     }
 
     /// Makes room for what one place adds.
+    #[inline(always)]
     pub fn make_room<W: Write>(&mut self, w: &mut W) -> Result<(), ShortWrite>
         requires { self.old.written < 2 ^ 100 }
         ensures turned { (start : Option (List ℕ)) (text : List ℕ) →
-            Pages start (W.contents w.old) self.old.text.bytes self.old.written text → MatchResult result
-            (λ _. Pages start (W.contents w.new) self.new.text.bytes self.new.written text)
+            Pages start (W.contents w.old) self.old.text self.old.written text → MatchResult result
+            (λ _. Pages start (W.contents w.new) self.new.text self.new.written text)
             (λ cut. Cuts start (W.contents w.new) text cut.sent) }
         ensures kept { OnErr result (self.new ≡ self.old) }
-        ensures short { IfErr result (λ cut. cut.sent < self.old.written + array_string_len self.old.text) }
-        ensures room { OnOk result (array_string_len self.new.text + 2048 ≤ 16384) }
+        ensures short { IfErr result (λ cut. cut.sent < self.old.written + length self.old.text) }
+        ensures room { OnOk result (length self.new.text + 2048 ≤ 16384) }
         ensures sum { OnOk result
-            (self.new.written + array_string_len self.new.text ≡ self.old.written + array_string_len self.old.text) }
+            (self.new.written + length self.new.text ≡ self.old.written + length self.old.text) }
     {
         if self.text.remaining_capacity() >= MOST {
             return Ok(());
@@ -82,11 +87,11 @@ impl Page {
     pub fn close<W: Write>(&mut self, w: &mut W) -> Result<(), ShortWrite>
         requires { self.old.written < 2 ^ 100 }
         ensures closed { (start : Option (List ℕ)) (text : List ℕ) →
-            Pages start (W.contents w.old) self.old.text.bytes self.old.written text → MatchResult result
+            Pages start (W.contents w.old) self.old.text self.old.written text → MatchResult result
             (λ _. Appends start (W.contents w.new) text)
             (λ cut. Cuts start (W.contents w.new) text cut.sent) }
-        ensures empty { OnOk result (array_string_len self.new.text ≡ 0) }
-        ensures sum { OnOk result (self.new.written ≡ self.old.written + array_string_len self.old.text) }
+        ensures empty { OnOk result (length self.new.text ≡ 0) }
+        ensures sum { OnOk result (self.new.written ≡ self.old.written + length self.old.text) }
     {
         self.write_out(w)?;
         if self.written == 0 {

@@ -1,21 +1,21 @@
 //! Puts the lines of what is seen on a page.
 
-ghost use Rattle.std.specs.Prelude.{◌≡◌, ◌+◌, ℕ, List, [], ◌∷◌, ◌++◌, ◌≤◌, length, option_map};
+ghost use Rattle.std.specs.Prelude.{◌≡◌, ◌+◌, ℕ, List, [], ◌∷◌, ◌++◌, ◌≤◌, length, option_map, codes};
 ghost use Rattle.std.specs.Option.{option_to_list};
-ghost use Rattle.arrayvec.specs.ArrayString.{array_string_len};
 ghost use Rattle.bus_line.specs.Shown.{kind_with};
 ghost use Rattle.bus_watch.specs.Shown.{found_on};
 ghost use Rattle.bus_watch.specs.Seen.{type_of};
 ghost use Rattle.bus_text.specs.Given.{printer_of};
+ghost use Rattle.bus_text.specs.Kinds.{kind_word};
 ghost use Rattle.bus_text.specs.Listing.{report_kind, report_line, outcome_kind, frame_line, verdict_line, begun_line, begun_lines, pending_lines, strays_at, head_part, text_of, listing, passes, station_of, line_of_commands, ending_text, ending_lines, pair_ending_lines};
 
 use crate::filter::Filter;
 use crate::head::push_head;
 use crate::kind::Kind;
-use crate::line::{push_front, push_line, push_span, push_station};
+use crate::line::{push_front, push_line_number, push_span, push_station};
 use crate::options::Options;
 use crate::page::Page;
-use arrayvec::ArrayString;
+use crate::text::Text;
 use bus_dictionary::{Dictionary, Standing};
 use bus_line::{EventKind, Span};
 use bus_watch::{Ending, Finding, Line, Outcome, PairEnding, Pending, Verdict};
@@ -29,6 +29,7 @@ pub struct Printer {
 }
 
 /// The kind of a report's line.
+#[inline(always)]
 fn kind_of(kind: EventKind) -> Kind
     ensures { (octets : List ℕ) → result ≡ report_kind (kind_with octets kind) }
 {
@@ -42,6 +43,7 @@ fn kind_of(kind: EventKind) -> Kind
 }
 
 /// The kind of a verdict's line.
+#[inline(always)]
 fn outcome_kind(outcome: Outcome) -> Kind
     ensures { result ≡ outcome_kind outcome }
 {
@@ -54,6 +56,7 @@ fn outcome_kind(outcome: Outcome) -> Kind
 }
 
 /// The line on which commands wait, where this is the only line or one of two.
+#[inline(always)]
 fn line_of_commands(line: Option<Line>) -> Option<Line>
     ensures { result ≡ line_of_commands line }
 {
@@ -63,37 +66,44 @@ fn line_of_commands(line: Option<Line>) -> Option<Line>
     }
 }
 
-/// Appends a line about a frame.
-fn push_frame<const N: usize>(
-    text: &mut ArrayString<N>,
-    line: Option<Line>,
-    kind: Kind,
-    span: Span,
-    station: u8,
-    ftype: u8,
-)
-    requires { array_string_len text.old + 100 ≤ N }
-    ensures bytes { text.new.bytes ≡ text.old.bytes ++ (frame_line line kind span station ftype).text }
-    ensures len { array_string_len text.new ≤ array_string_len text.old + 100 }
+/// Appends the word of a line about a frame, and a space.
+#[inline(always)]
+fn push_kind<const N: usize>(text: &mut Text<N>, kind: Kind)
+    requires { length text.old + 16 ≤ N }
+    ensures bytes { text.new ≡ text.old ++ (kind_word kind ++ codes " ") }
+    ensures len { length text.new ≤ length text.old + 9 }
 {
-    push_line(text, line);
-    push_span(text, span);
-    text.push_str(kind.word());
-    text.push(' ');
-    push_station(text, station, ftype);
-    text.push('\n');
+    let (word, count) = kind.padded();
+    text.put(word, count);
+}
+
+/// Appends a line about a frame.
+#[inline(always)]
+fn push_frame(page: &mut Page, line: Option<Line>, kind: Kind, span: Span, station: u8, ftype: u8)
+    requires { length page.old.text + 100 ≤ 16384 }
+    ensures bytes { page.new.text ≡ page.old.text ++ (frame_line line kind span station ftype).text }
+    ensures len { length page.new.text ≤ length page.old.text + 100 }
+    ensures written { page.new.written ≡ page.old.written }
+{
+    push_line_number(&mut page.text, line);
+    push_span(&mut page.text, &mut page.places, span);
+    push_kind(&mut page.text, kind);
+    push_station(&mut page.text, station, ftype);
+    page.text.push(b'\n');
 }
 
 /// Appends the line of a piece that has begun.
-fn push_begun<const N: usize>(text: &mut ArrayString<N>, line: Option<Line>, span: Span)
-    requires { array_string_len text.old + 100 ≤ N }
-    ensures bytes { text.new.bytes ≡ text.old.bytes ++ (begun_line line span).text }
-    ensures len { array_string_len text.new ≤ array_string_len text.old + 100 }
+#[inline(always)]
+fn push_begun(page: &mut Page, line: Option<Line>, span: Span)
+    requires { length page.old.text + 100 ≤ 16384 }
+    ensures bytes { page.new.text ≡ page.old.text ++ (begun_line line span).text }
+    ensures len { length page.new.text ≤ length page.old.text + 100 }
+    ensures written { page.new.written ≡ page.old.written }
 {
-    push_line(text, line);
-    push_span(text, span);
-    text.push_str(Kind::Begun.word());
-    text.push('\n');
+    push_line_number(&mut page.text, line);
+    push_span(&mut page.text, &mut page.places, span);
+    page.text.push_str(Kind::Begun.word());
+    page.text.push(b'\n');
 }
 
 impl Printer {
@@ -113,16 +123,16 @@ impl Printer {
     pub fn put(
         &self,
         line: Option<Line>,
-        finding: Finding,
+        finding: &Finding,
         octets: &[u8],
         dictionary: &Dictionary,
         page: &mut Page,
     )
-        requires room { array_string_len page.old.text + 964 ≤ 16384 }
+        requires room { length page.old.text + 964 ≤ 16384 }
         requires held { length octets.now ≤ 258 }
-        ensures bytes { page.new.text.bytes
-            ≡ page.old.text.bytes ++ listing self.now dictionary.now (found_on line octets.now finding ∷ []) }
-        ensures len { array_string_len page.new.text ≤ array_string_len page.old.text + 964 }
+        ensures bytes { page.new.text
+            ≡ page.old.text ++ listing self.now dictionary.now (found_on line octets.now finding.now ∷ []) }
+        ensures len { length page.new.text ≤ length page.old.text + 964 }
         ensures written { page.new.written ≡ page.old.written }
     {
         self.put_report(line, finding, octets, dictionary, page);
@@ -131,10 +141,11 @@ impl Printer {
     }
 
     /// Whether the filter leaves a report's own line.
-    fn leaves(&self, finding: Finding) -> bool
+    #[inline(always)]
+    fn leaves(&self, finding: &Finding) -> bool
         ensures { (octets : List ℕ) → result ≡ passes self.now.filter
-            (report_kind (kind_with octets finding.event.kind)) (station_of finding.standing)
-            (type_of finding.standing) }
+            (report_kind (kind_with octets finding.now.event.kind)) (station_of finding.now.standing)
+            (type_of finding.now.standing) }
     {
         self.filter.passes(
             kind_of(finding.event.kind),
@@ -144,37 +155,39 @@ impl Printer {
     }
 
     /// Puts a report's own line on the page.
+    #[inline(always)]
     fn put_report(
         &self,
         line: Option<Line>,
-        finding: Finding,
+        finding: &Finding,
         octets: &[u8],
         dictionary: &Dictionary,
         page: &mut Page,
     )
-        requires room { array_string_len page.old.text + 629 ≤ 16384 }
+        requires room { length page.old.text + 640 ≤ 16384 }
         requires held { length octets.now ≤ 258 }
-        ensures bytes { page.new.text.bytes
-            ≡ page.old.text.bytes
+        ensures bytes { page.new.text
+            ≡ page.old.text
             ++ text_of self.now.filter
-            (report_line self.now.heads dictionary.now (found_on line octets.now finding) ∷ []) }
-        ensures len { array_string_len page.new.text ≤ array_string_len page.old.text + 629 }
+            (report_line self.now.heads dictionary.now (found_on line octets.now finding.now) ∷ []) }
+        ensures len { length page.new.text ≤ length page.old.text + 629 }
         ensures written { page.new.written ≡ page.old.written }
     {
         if !self.leaves(finding) {
             return;
         }
-        push_line(&mut page.text, line);
-        push_front(&mut page.text, finding.event, octets);
+        push_line_number(&mut page.text, line);
+        push_front(&mut page.text, &mut page.places, &finding.event, octets);
         self.put_head(finding.standing, dictionary, page);
-        page.text.push('\n');
+        page.text.push(b'\n');
     }
 
     /// Puts a space and what the head of a frame says on the page, if there is a dictionary.
+    #[inline(always)]
     fn put_head(&self, standing: Option<Standing>, dictionary: &Dictionary, page: &mut Page)
-        requires room { array_string_len page.old.text + 62 ≤ 16384 }
-        ensures bytes { page.new.text.bytes ≡ page.old.text.bytes ++ head_part self.now.heads dictionary.now standing }
-        ensures len { array_string_len page.new.text ≤ array_string_len page.old.text + 62 }
+        requires room { length page.old.text + 66 ≤ 16384 }
+        ensures bytes { page.new.text ≡ page.old.text ++ head_part self.now.heads dictionary.now standing }
+        ensures len { length page.new.text ≤ length page.old.text + 62 }
         ensures written { page.new.written ≡ page.old.written }
     {
         let Some(standing) = standing else {
@@ -183,16 +196,17 @@ impl Printer {
         if !self.heads {
             return;
         }
-        page.text.push(' ');
+        page.text.push(b' ');
         push_head(&mut page.text, standing, dictionary);
     }
 
     /// Puts the line of a verdict on the page, if there is one.
+    #[inline(always)]
     fn put_verdict(&self, line: Option<Line>, verdict: Option<Verdict>, page: &mut Page)
-        requires room { array_string_len page.old.text + 100 ≤ 16384 }
-        ensures bytes { page.new.text.bytes
-            ≡ page.old.text.bytes ++ text_of self.now.filter (option_to_list (option_map (verdict_line line) verdict)) }
-        ensures len { array_string_len page.new.text ≤ array_string_len page.old.text + 100 }
+        requires room { length page.old.text + 100 ≤ 16384 }
+        ensures bytes { page.new.text
+            ≡ page.old.text ++ text_of self.now.filter (option_to_list (option_map (verdict_line line) verdict)) }
+        ensures len { length page.new.text ≤ length page.old.text + 100 }
         ensures written { page.new.written ≡ page.old.written }
     {
         let Some(verdict) = verdict else {
@@ -211,13 +225,14 @@ impl Printer {
     }
 
     /// Puts the line of a stray on the page, if there is a dictionary.
-    fn put_stray(&self, line: Option<Line>, finding: Finding, page: &mut Page)
-        requires room { array_string_len page.old.text + 100 ≤ 16384 }
-        ensures bytes { page.new.text.bytes
-            ≡ page.old.text.bytes
+    #[inline(always)]
+    fn put_stray(&self, line: Option<Line>, finding: &Finding, page: &mut Page)
+        requires room { length page.old.text + 100 ≤ 16384 }
+        ensures bytes { page.new.text
+            ≡ page.old.text
             ++ text_of self.now.filter
-            (strays_at line self.now.heads finding.stray finding.event.span finding.standing) }
-        ensures len { array_string_len page.new.text ≤ array_string_len page.old.text + 100 }
+            (strays_at line self.now.heads finding.now.stray finding.now.event.span finding.now.standing) }
+        ensures len { length page.new.text ≤ length page.old.text + 100 }
         ensures written { page.new.written ≡ page.old.written }
     {
         if !self.heads {
@@ -237,6 +252,7 @@ impl Printer {
     }
 
     /// Puts a line about a frame on the page.
+    #[inline(never)]
     fn put_frame(
         &self,
         line: Option<Line>,
@@ -246,24 +262,24 @@ impl Printer {
         ftype: u8,
         page: &mut Page,
     )
-        requires room { array_string_len page.old.text + 100 ≤ 16384 }
-        ensures bytes { page.new.text.bytes
-            ≡ page.old.text.bytes ++ text_of self.now.filter (frame_line line kind span station ftype ∷ []) }
-        ensures len { array_string_len page.new.text ≤ array_string_len page.old.text + 100 }
+        requires room { length page.old.text + 100 ≤ 16384 }
+        ensures bytes { page.new.text
+            ≡ page.old.text ++ text_of self.now.filter (frame_line line kind span station ftype ∷ []) }
+        ensures len { length page.new.text ≤ length page.old.text + 100 }
         ensures written { page.new.written ≡ page.old.written }
     {
         if !self.filter.passes(kind, Some(station), Some(ftype)) {
             return;
         }
-        push_frame(&mut page.text, line, kind, span, station, ftype);
+        push_frame(page, line, kind, span, station, ftype);
     }
 
     /// Puts the line of a piece that has begun on the page, if one has.
     fn put_begun(&self, line: Option<Line>, begun: Option<Span>, page: &mut Page)
-        requires room { array_string_len page.old.text + 100 ≤ 16384 }
-        ensures bytes { page.new.text.bytes
-            ≡ page.old.text.bytes ++ text_of self.now.filter (begun_lines line begun) }
-        ensures len { array_string_len page.new.text ≤ array_string_len page.old.text + 100 }
+        requires room { length page.old.text + 100 ≤ 16384 }
+        ensures bytes { page.new.text
+            ≡ page.old.text ++ text_of self.now.filter (begun_lines line begun) }
+        ensures len { length page.new.text ≤ length page.old.text + 100 }
         ensures written { page.new.written ≡ page.old.written }
     {
         let Some(span) = begun else {
@@ -272,15 +288,15 @@ impl Printer {
         if !self.filter.passes(Kind::Begun, None, None) {
             return;
         }
-        push_begun(&mut page.text, line, span);
+        push_begun(page, line, span);
     }
 
     /// Puts the line of a command without a verdict on the page, if there is one.
     fn put_pending(&self, line: Option<Line>, pending: Option<Pending>, page: &mut Page)
-        requires room { array_string_len page.old.text + 100 ≤ 16384 }
-        ensures bytes { page.new.text.bytes
-            ≡ page.old.text.bytes ++ text_of self.now.filter (pending_lines line pending) }
-        ensures len { array_string_len page.new.text ≤ array_string_len page.old.text + 100 }
+        requires room { length page.old.text + 100 ≤ 16384 }
+        ensures bytes { page.new.text
+            ≡ page.old.text ++ text_of self.now.filter (pending_lines line pending) }
+        ensures len { length page.new.text ≤ length page.old.text + 100 }
         ensures written { page.new.written ≡ page.old.written }
     {
         let Some(command) = pending else {
@@ -298,10 +314,10 @@ impl Printer {
 
     /// Puts the lines of the end on the page.
     pub fn put_ending(&self, ending: &Ending, page: &mut Page)
-        requires room { array_string_len page.old.text + 200 ≤ 16384 }
-        ensures bytes { page.new.text.bytes
-            ≡ page.old.text.bytes ++ ending_text self.now (ending_lines ending.now.begun ending.now.pending) }
-        ensures len { array_string_len page.new.text ≤ array_string_len page.old.text + 200 }
+        requires room { length page.old.text + 200 ≤ 16384 }
+        ensures bytes { page.new.text
+            ≡ page.old.text ++ ending_text self.now (ending_lines ending.now.begun ending.now.pending) }
+        ensures len { length page.new.text ≤ length page.old.text + 200 }
         ensures written { page.new.written ≡ page.old.written }
     {
         self.put_begun(None, ending.begun, page);
@@ -310,10 +326,10 @@ impl Printer {
 
     /// Puts the lines of the end of two lines on the page.
     pub fn put_pair_ending(&self, ending: &PairEnding, page: &mut Page)
-        requires room { array_string_len page.old.text + 300 ≤ 16384 }
-        ensures bytes { page.new.text.bytes ≡ page.old.text.bytes
+        requires room { length page.old.text + 300 ≤ 16384 }
+        ensures bytes { page.new.text ≡ page.old.text
             ++ ending_text self.now (pair_ending_lines ending.now.first ending.now.second ending.now.pending) }
-        ensures len { array_string_len page.new.text ≤ array_string_len page.old.text + 300 }
+        ensures len { length page.new.text ≤ length page.old.text + 300 }
         ensures written { page.new.written ≡ page.old.written }
     {
         self.put_begun(Some(Line::First), ending.first, page);

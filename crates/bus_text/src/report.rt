@@ -1,80 +1,82 @@
 //! The parts of the report of a check.
 
 ghost use Rattle.std.specs.Prelude.{◌≡◌, ◌+◌, ◌++◌, ◌<◌, ◌≤◌, ◌^◌, ℕ, List, Option, MatchResult, OnOk, length};
-ghost use Rattle.arrayvec.specs.ArrayString.{array_string_len};
 ghost use Rattle.bus_text.specs.CheckText.{count_text, summary_text, tally_line, has_none, tally_text, last_text};
 ghost use Rattle.bus_text.specs.Put.{Cuts};
 ghost use Rattle.bus_text.specs.Internal.Pages.{Pages};
 
-use crate::line::{push_hex, push_line, push_number, push_octet_number, push_span};
+use crate::hex_digits::push_hex;
+use crate::line::{push_line_number, push_span};
+use crate::number::{push_number, push_octet_number};
 use crate::page::Page;
 use crate::put::ShortWrite;
 use crate::summary::Summary;
-use arrayvec::ArrayString;
+use crate::text::Text;
 use bus_watch::{Counts, Kept, Line};
 use std::io::Write;
 
 /// Appends a word, a number and the end of the line.
-fn push_count<const N: usize>(line: &mut ArrayString<N>, word: &str, count: u64)
-    requires room { array_string_len line.old + 30 ≤ N }
+fn push_count<const N: usize>(text: &mut Text<N>, word: &str, count: u64)
+    requires room { length text.old + 30 ≤ N }
     requires short { length word.now ≤ 8 }
-    ensures bytes { line.new.bytes ≡ line.old.bytes ++ count_text word.now count }
-    ensures len { array_string_len line.new ≤ array_string_len line.old + 30 }
+    ensures bytes { text.new ≡ text.old ++ count_text word.now count }
+    ensures len { length text.new ≤ length text.old + 30 }
 {
-    line.push_str(word);
-    line.push(' ');
-    push_number(line, count);
-    line.push('\n');
+    text.push_str(word);
+    text.push(b' ');
+    push_number(text, count);
+    text.push(b'\n');
 }
 
 /// Appends the ten counts, a line for each.
-fn push_summary<const N: usize>(line: &mut ArrayString<N>, summary: &Summary)
-    requires { array_string_len line.old + 300 ≤ N }
-    ensures bytes { line.new.bytes ≡ line.old.bytes ++ summary_text summary.now }
-    ensures len { array_string_len line.new ≤ array_string_len line.old + 300 }
+fn push_summary<const N: usize>(text: &mut Text<N>, summary: &Summary)
+    requires { length text.old + 300 ≤ N }
+    ensures bytes { text.new ≡ text.old ++ summary_text summary.now }
+    ensures len { length text.new ≤ length text.old + 300 }
 {
-    push_count(line, "frames", summary.frames);
-    push_count(line, "damaged", summary.damaged);
-    push_count(line, "overlong", summary.overlong);
-    push_count(line, "aborts", summary.aborts);
-    push_count(line, "idles", summary.idles);
-    push_count(line, "strays", summary.strays);
-    push_count(line, "answered", summary.answered);
-    push_count(line, "missing", summary.missing);
-    push_count(line, "spoilt", summary.spoilt);
-    push_count(line, "late", summary.late);
+    push_count(text, "frames", summary.frames);
+    push_count(text, "damaged", summary.damaged);
+    push_count(text, "overlong", summary.overlong);
+    push_count(text, "aborts", summary.aborts);
+    push_count(text, "idles", summary.idles);
+    push_count(text, "strays", summary.strays);
+    push_count(text, "answered", summary.answered);
+    push_count(text, "missing", summary.missing);
+    push_count(text, "spoilt", summary.spoilt);
+    push_count(text, "late", summary.late);
 }
 
 /// Appends the line of a station's verdicts.
-fn push_tally<const N: usize>(line: &mut ArrayString<N>, station: u8, counts: Counts)
-    requires { array_string_len line.old + 140 ≤ N }
-    ensures bytes { line.new.bytes ≡ line.old.bytes ++ tally_line station counts }
-    ensures len { array_string_len line.new ≤ array_string_len line.old + 140 }
+fn push_tally<const N: usize>(text: &mut Text<N>, station: u8, counts: Counts)
+    requires { length text.old + 140 ≤ N }
+    ensures bytes { text.new ≡ text.old ++ tally_line station counts }
+    ensures len { length text.new ≤ length text.old + 140 }
 {
-    line.push_str("station ");
-    push_octet_number(line, station);
-    line.push_str(" answered ");
-    push_number(line, counts.answered);
-    line.push_str(" missing ");
-    push_number(line, counts.missing);
-    line.push_str(" spoilt ");
-    push_number(line, counts.spoilt);
-    line.push_str(" late ");
-    push_number(line, counts.late);
-    line.push('\n');
+    text.push_str("station ");
+    push_octet_number(text, station);
+    text.push_str(" answered ");
+    push_number(text, counts.answered);
+    text.push_str(" missing ");
+    push_number(text, counts.missing);
+    text.push_str(" spoilt ");
+    push_number(text, counts.spoilt);
+    text.push_str(" late ");
+    push_number(text, counts.late);
+    text.push(b'\n');
 }
 
 /// Appends the line of a frame of the history.
-fn push_kept<const N: usize>(text: &mut ArrayString<N>, line: Option<Line>, kept: &Kept)
-    requires { array_string_len text.old + 572 ≤ N }
-    ensures bytes { text.new.bytes ≡ text.old.bytes ++ last_text line kept.now.span kept.now.octets.items }
-    ensures len { array_string_len text.new ≤ array_string_len text.old + 572 }
+fn push_kept(page: &mut Page, line: Option<Line>, kept: &Kept)
+    requires { length page.old.text + 572 ≤ 16384 }
+    ensures bytes { page.new.text ≡ page.old.text ++ last_text line kept.now.span kept.now.octets.items }
+    ensures len { length page.new.text ≤ length page.old.text + 572 }
+    ensures written { page.new.written ≡ page.old.written }
 {
-    text.push_str("last ");
-    push_line(text, line);
-    push_span(text, kept.span);
-    push_hex(text, kept.octets.as_slice());
-    text.push('\n');
+    page.text.push_str("last ");
+    push_line_number(&mut page.text, line);
+    push_span(&mut page.text, &mut page.places, kept.span);
+    push_hex(&mut page.text, kept.octets.as_slice());
+    page.text.push(b'\n');
 }
 
 /// Whether no verdict is counted.
@@ -92,11 +94,11 @@ pub fn put_summary<W: Write>(
 ) -> Result<(), ShortWrite>
     requires { page.old.written < 2 ^ 100 }
     ensures put { (start : Option (List ℕ)) (text : List ℕ) →
-        Pages start (W.contents w.old) page.old.text.bytes page.old.written text → MatchResult result
-        (λ _. Pages start (W.contents w.new) page.new.text.bytes page.new.written (text ++ summary_text summary.now))
+        Pages start (W.contents w.old) page.old.text page.old.written text → MatchResult result
+        (λ _. Pages start (W.contents w.new) page.new.text page.new.written (text ++ summary_text summary.now))
         (λ cut. Cuts start (W.contents w.new) (text ++ summary_text summary.now) cut.sent) }
     ensures few { OnOk result
-        (page.new.written + array_string_len page.new.text ≤ page.old.written + array_string_len page.old.text + 300) }
+        (page.new.written + length page.new.text ≤ page.old.written + length page.old.text + 300) }
 {
     page.make_room(w)?;
     push_summary(&mut page.text, summary);
@@ -112,11 +114,11 @@ pub fn put_tally<W: Write>(
 ) -> Result<(), ShortWrite>
     requires { page.old.written < 2 ^ 100 }
     ensures put { (start : Option (List ℕ)) (text : List ℕ) →
-        Pages start (W.contents w.old) page.old.text.bytes page.old.written text → MatchResult result
-        (λ _. Pages start (W.contents w.new) page.new.text.bytes page.new.written (text ++ tally_text station counts))
+        Pages start (W.contents w.old) page.old.text page.old.written text → MatchResult result
+        (λ _. Pages start (W.contents w.new) page.new.text page.new.written (text ++ tally_text station counts))
         (λ cut. Cuts start (W.contents w.new) (text ++ tally_text station counts) cut.sent) }
     ensures few { OnOk result
-        (page.new.written + array_string_len page.new.text ≤ page.old.written + array_string_len page.old.text + 140) }
+        (page.new.written + length page.new.text ≤ page.old.written + length page.old.text + 140) }
 {
     if has_none(counts) {
         return Ok(());
@@ -135,14 +137,14 @@ pub fn put_kept<W: Write>(
 ) -> Result<(), ShortWrite>
     requires { page.old.written < 2 ^ 100 }
     ensures put { (start : Option (List ℕ)) (text : List ℕ) →
-        Pages start (W.contents w.old) page.old.text.bytes page.old.written text → MatchResult result
-        (λ _. Pages start (W.contents w.new) page.new.text.bytes page.new.written
+        Pages start (W.contents w.old) page.old.text page.old.written text → MatchResult result
+        (λ _. Pages start (W.contents w.new) page.new.text page.new.written
         (text ++ last_text line kept.now.span kept.now.octets.items))
         (λ cut. Cuts start (W.contents w.new) (text ++ last_text line kept.now.span kept.now.octets.items) cut.sent) }
     ensures few { OnOk result
-        (page.new.written + array_string_len page.new.text ≤ page.old.written + array_string_len page.old.text + 572) }
+        (page.new.written + length page.new.text ≤ page.old.written + length page.old.text + 572) }
 {
     page.make_room(w)?;
-    push_kept(&mut page.text, line, kept);
+    push_kept(page, line, kept);
     Ok(())
 }

@@ -69,11 +69,12 @@ impl Summary {
     }
 
     /// Counts a report, and what follows from it.
-    pub fn count(&mut self, finding: Finding)
+    #[inline(always)]
+    pub fn count(&mut self, finding: &Finding)
         requires { (most : ℕ) × IsFew most self.old × (most < 2 ^ 62) }
         ensures counted { (before : List SeenReport) (octets : List ℕ) → self.old ≡ summary_of before →
-            self.new ≡ summary_of (before ++ found octets finding ∷ []) }
-        ensures adds { (octets : List ℕ) → self.new ≡ with_seen (found octets finding) self.old }
+            self.new ≡ summary_of (before ++ found octets finding.now ∷ []) }
+        ensures adds { (octets : List ℕ) → self.new ≡ with_seen (found octets finding.now) self.old }
         ensures few { (most : ℕ) → IsFew most self.old → IsFew (most + 1) self.new }
     {
         self.count_kind(finding.event.kind);

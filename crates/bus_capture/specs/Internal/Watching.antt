@@ -1,6 +1,5 @@
 -- What is known while the bits of a capture are followed, or its pairs of bits.
 use Rattle.std.specs.Prelude.{◌≡◌, ℕ, ◌+◌, ◌-◌, ◌*◌, ◌<◌, ◌≤◌, ◌^◌, List, [], ◌++◌, length, take, Option, Some, None}
-use Rattle.arrayvec.specs.ArrayString.{array_string_len}
 use Rattle.bus_dictionary.specs.Entry.{FrameType}
 use Rattle.bus_dictionary.specs.Dictionary.{longest_of}
 use Rattle.bus_watch.specs.Heard.{Heard}
@@ -48,7 +47,7 @@ module _ {A X N B : Type 0} (t : TapView A X N B) where
   pub record IsSound (run : CaptureRun A) : Type 0 where
     pub places : t.watch.place run.analyser ≤ 2 ^ 60
     pub counts : IsFew (2 * t.watch.place run.analyser) run.summary
-    pub octets : run.page.written + array_string_len run.page.text ≤ 2048 * t.watch.place run.analyser
+    pub octets : run.page.written + length run.page.text ≤ 2048 * t.watch.place run.analyser
 
   -- the lines of these bits
   abbrev pub lines : CaptureRun A → List X → List ℕ
@@ -70,7 +69,7 @@ module _ {A X N B : Type 0} (t : TapView A X N B) where
   pub record Watches (start now : Option (List ℕ)) (run : CaptureRun A) (b : List X) : Type 0 where
     pub is_after : t.watch.is_after run.analyser b
     pub counts : run.summary ≡ summary_of (seen_by t.watch run.analyser b)
-    pub page : Pages start now run.page.text.bytes run.page.written (lines run b)
+    pub page : Pages start now run.page.text run.page.written (lines run b)
 
   -- what stays the same
   pub record IsSame (old new : CaptureRun A) : Type 0 where

@@ -7,20 +7,21 @@ ghost use Rattle.bus_dictionary.specs.BitName.{named_bit};
 ghost use Rattle.bus_text.specs.Show.{name_text};
 ghost use Rattle.bus_text.specs.Internal.Pages.{Puts};
 
-use crate::line::{FrameLine, push_number};
+use crate::line::FrameLine;
+use crate::number::push_number;
 use crate::put::{ShortWrite, put_line};
 use bus_dictionary::{BitName, NameWalk};
 use std::io::Write;
 
 /// The line of a named bit.
 fn name_line(bit: &BitName) -> FrameLine
-    ensures { result.bytes ≡ name_text (named_bit bit.now) }
+    ensures { result ≡ name_text (named_bit bit.now) }
 {
     let mut line = FrameLine::new();
     push_number(&mut line, u64::from(bit.at));
-    line.push(' ');
+    line.push(b' ');
     line.push_str(bit.name.as_str());
-    line.push('\n');
+    line.push(b'\n');
     line
 }
 

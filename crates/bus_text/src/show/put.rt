@@ -7,7 +7,8 @@ ghost use Rattle.bus_text.specs.Show.{frame_text, shown_text};
 ghost use Rattle.bus_text.specs.HeadText.{head_text};
 
 use crate::head::push_head;
-use crate::line::{FrameLine, push_hex};
+use crate::hex_digits::push_hex;
+use crate::line::FrameLine;
 use crate::put::{ShortWrite, put_line};
 use crate::show::names::put_names;
 use bus_dictionary::{Dictionary, Standing, set_names};
@@ -18,7 +19,7 @@ use std::io::Write;
 fn frame_line(octets: &[u8]) -> FrameLine
     requires at_least { 4 ≤ length octets.now }
     requires at_most { length octets.now ≤ 258 }
-    ensures { result.bytes ≡ frame_text octets.now }
+    ensures { result ≡ frame_text octets.now }
 {
     let mut line = FrameLine::new();
     line.push_str("frame ");
@@ -33,11 +34,11 @@ fn frame_line(octets: &[u8]) -> FrameLine
 
 /// The second line: what the head says.
 fn head_line(standing: Standing, dictionary: &Dictionary) -> FrameLine
-    ensures { result.bytes ≡ head_text standing dictionary.now ++ codes "\n" }
+    ensures { result ≡ head_text standing dictionary.now ++ codes "\n" }
 {
     let mut line = FrameLine::new();
     push_head(&mut line, standing, dictionary);
-    line.push('\n');
+    line.push(b'\n');
     line
 }
 

@@ -46,5 +46,5 @@ returns-clause-put g c = λ start text b is_after p.
     let now = g.W.Write.contents c.put_history.new.w in
     let first = c.in_ok-put_summary.ensures.put start text p in
     let second = c.in_ok-put_tallies.ensures.put start (text ++ s) b is_after first in
-    subst (λ (l : List ℕ). MatchResult c.put_history.result (λ _. Pages start now c.put_history.new.page.text.bytes c.put_history.new.page.written l) (λ cut. Cuts start now l cut.sent)) (report-parts text s t h)
+    subst (λ (l : List ℕ). MatchResult c.put_history.result (λ _. Pages start now c.put_history.new.page.text c.put_history.new.page.written l) (λ cut. Cuts start now l cut.sent)) (report-parts text s t h)
     (c.put_history.ensures.put start ((text ++ s) ++ t) b is_after second)

@@ -12,7 +12,7 @@ loop-station-init g c = record {
   few = omega arith;
   put = λ start text b is_after p.
       let t = tally (g.T.Tap.tap.watch.dictionary c.args.analyser.now) (heard_by g.T.Tap.tap.watch c.args.analyser.now b) in
-      subst (Pages start (g.W.Write.contents c.args.w.now) c.args.page.now.text.bytes c.args.page.now.written) (sym (ap (λ l. text ++ l) (tallies-none t) ∙ append-nil text)) p;
+      subst (Pages start (g.W.Write.contents c.args.w.now) c.args.page.now.text c.args.page.now.written) (sym (ap (λ l. text ++ l) (tallies-none t) ∙ append-nil text)) p;
 }
 
 pub returns-in_err-put_tally-clause-put : goal.returns-in_err-put_tally-clause-put
@@ -30,7 +30,7 @@ loop-station-preserved g c = record {
   put = λ start text b is_after p.
       let t = tally (g.T.Tap.tap.watch.dictionary c.args.analyser.now) (heard_by g.T.Tap.tap.watch c.args.analyser.now b) in
       let k = c.loop-station.station in
-      pages-tally start (g.W.Write.contents c.put_tally.new.w) c.put_tally.new.page.text.bytes c.put_tally.new.page.written text t k c.tally.result (c.tally.ensures b is_after)
+      pages-tally start (g.W.Write.contents c.put_tally.new.w) c.put_tally.new.page.text c.put_tally.new.page.written text t k c.tally.result (c.tally.ensures b is_after)
       (c.in_ok-put_tally.ensures.put start (text ++ tallies_text t k) (c.loop-station.invariant.put start text b is_after p));
 }
 
@@ -43,6 +43,6 @@ returns-in_ok-put_tally-clause-put g c = λ start text b is_after p.
     let k = c.loop-station.station in
     let last : k ≡ 255 = search rules in
     let all : k + 1 ≡ 256 = omega (arith, last) in
-    subst (λ n. Pages start (g.W.Write.contents c.put_tally.new.w) c.put_tally.new.page.text.bytes c.put_tally.new.page.written (text ++ tallies_text t n)) all
-    (pages-tally start (g.W.Write.contents c.put_tally.new.w) c.put_tally.new.page.text.bytes c.put_tally.new.page.written text t k c.tally.result (c.tally.ensures b is_after)
+    subst (λ n. Pages start (g.W.Write.contents c.put_tally.new.w) c.put_tally.new.page.text c.put_tally.new.page.written (text ++ tallies_text t n)) all
+    (pages-tally start (g.W.Write.contents c.put_tally.new.w) c.put_tally.new.page.text c.put_tally.new.page.written text t k c.tally.result (c.tally.ensures b is_after)
     (c.in_ok-put_tally.ensures.put start (text ++ tallies_text t k) (c.loop-station.invariant.put start text b is_after p)))

@@ -12,5 +12,5 @@ returns-in_err-make_room-clause-put g c =
 pub returns-clause-put : goal.returns-clause-put
 returns-clause-put g c = λ start text p.
     let page = c.make_room.new.self in
-    pages-more start (g.W.Write.contents c.make_room.new.w) page.text.bytes c.push_summary.new.line.bytes page.written text (summary_text c.args.summary.now) c.push_summary.ensures.bytes
+    pages-more start (g.W.Write.contents c.make_room.new.w) page.text c.push_summary.new.text page.written text (summary_text c.args.summary.now) c.push_summary.ensures.bytes
     (c.in_ok-make_room.ensures.turned start text p)

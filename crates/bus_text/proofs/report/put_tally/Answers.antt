@@ -13,7 +13,7 @@ returns-in_err-make_room-clause-put g c =
 pub returns-clause-put : goal.returns-clause-put
 returns-clause-put g c = λ start text p.
     let line = tally_line c.args.station c.args.counts in
-    let page = c.make_room.new.self.text.bytes in
+    let page = c.make_room.new.self.text in
     let told : tally_text c.args.station c.args.counts ≡ line = ap (λ (b : Bool). if b then [] else line) (sym c.has_none.ensures ∙ c.if-has_none.false) in
-    pages-more start (g.W.Write.contents c.make_room.new.w) page c.push_tally.new.line.bytes c.make_room.new.self.written text (tally_text c.args.station c.args.counts)
+    pages-more start (g.W.Write.contents c.make_room.new.w) page c.push_tally.new.text c.make_room.new.self.written text (tally_text c.args.station c.args.counts)
     (c.push_tally.ensures.bytes ∙ ap (λ l. page ++ l) (sym told)) (c.in_ok-make_room.ensures.turned start text p)

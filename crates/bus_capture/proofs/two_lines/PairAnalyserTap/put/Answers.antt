@@ -11,7 +11,7 @@ returns-clause-bytes g c =
     let a = c.args.self.now in
     let p = c.args.printer.now in
     let d = a.journal.dictionary in
-    let text = c.args.page.now.text.bytes in
+    let text = c.args.page.now.text in
     let first = option_to_list (seen_on a First) in
     let second = option_to_list (seen_on a Second) in
     c.put_on-2.ensures.bytes ∙ ap (λ (t : List ℕ). t ++ listing p d second) c.put_on.ensures.bytes

@@ -4,7 +4,7 @@ use Rattle.bus_text.proofs.page.Page.write_out.Goals as goal
 
 pub returns-clause-turned : goal.returns-clause-turned
 returns-clause-turned g c = λ start text p.
-    let bytes = c.args.self.now.text.bytes in
+    let bytes = c.args.self.now.text in
     record {
       sent = p.sent ++ bytes;
       out = appends_both start (g.W.Write.contents c.args.w.now) (g.W.Write.contents c.put_text.new.w) p.sent bytes p.out (search rules);

@@ -18,28 +18,28 @@ is_told line heads stray span standing h s = ap (λ (b : Bool). strays_at line b
 
 pub returns-then-not-self-clause-bytes : goal.returns-then-not-self-clause-bytes
 returns-then-not-self-clause-bytes c =
-    let b = c.args.finding in
-    put-none c.args.self.now.filter (strays_at c.args.line c.args.self.now.heads b.stray b.event.span b.standing) c.args.page.now.text.bytes (no_heads c.args.line c.args.self.now.heads b.stray b.event.span b.standing (search (rules, tests)))
+    let b = c.args.finding.now in
+    put-none c.args.self.now.filter (strays_at c.args.line c.args.self.now.heads b.stray b.event.span b.standing) c.args.page.now.text (no_heads c.args.line c.args.self.now.heads b.stray b.event.span b.standing (search (rules, tests)))
 
 pub returns-then-not-finding-clause-bytes : goal.returns-then-not-finding-clause-bytes
 returns-then-not-finding-clause-bytes c =
-    let b = c.args.finding in
+    let b = c.args.finding.now in
     let heads : c.args.self.now.heads ≡ true = search (rules, tests) in
     let stray : b.stray ≡ false = search (rules, tests) in
-    put-none c.args.self.now.filter (strays_at c.args.line c.args.self.now.heads b.stray b.event.span b.standing) c.args.page.now.text.bytes
+    put-none c.args.self.now.filter (strays_at c.args.line c.args.self.now.heads b.stray b.event.span b.standing) c.args.page.now.text
     (ap (λ (h : Bool). strays_at c.args.line h b.stray b.event.span b.standing) heads ∙ ap (λ (s : Bool). strays_at c.args.line true s b.event.span b.standing) stray)
 
 pub returns-in_default-clause-bytes : goal.returns-in_default-clause-bytes
 returns-in_default-clause-bytes c =
-    let b = c.args.finding in
-    put-none c.args.self.now.filter (strays_at c.args.line c.args.self.now.heads b.stray b.event.span b.standing) c.args.page.now.text.bytes
+    let b = c.args.finding.now in
+    put-none c.args.self.now.filter (strays_at c.args.line c.args.self.now.heads b.stray b.event.span b.standing) c.args.page.now.text
     (is_told c.args.line c.args.self.now.heads b.stray b.event.span b.standing (search (rules, tests)) (search (rules, tests))
     ∙ ap (λ (s : Option Standing). strays_at c.args.line true true b.event.span s) c.in_default.is)
 
 pub returns-in_default-frame_type-clause-bytes : goal.returns-in_default-frame_type-clause-bytes
 returns-in_default-frame_type-clause-bytes c =
-    let b = c.args.finding in
-    put-none c.args.self.now.filter (strays_at c.args.line c.args.self.now.heads b.stray b.event.span b.standing) c.args.page.now.text.bytes
+    let b = c.args.finding.now in
+    put-none c.args.self.now.filter (strays_at c.args.line c.args.self.now.heads b.stray b.event.span b.standing) c.args.page.now.text
     (is_told c.args.line c.args.self.now.heads b.stray b.event.span b.standing (search (rules, tests)) (search (rules, tests))
     ∙ ap (λ (s : Option Standing). strays_at c.args.line true true b.event.span s) c.in-Some.is
     ∙ ap (λ (t : Option ℕ). option_to_list (option_map (frame_line c.args.line kind.Stray b.event.span (station_in c.in-Some.standing)) t) ++ []) (sym c.frame_type.ensures ∙ c.in_default-frame_type.is))
