@@ -5,8 +5,8 @@
  *
  *     feed CAPTURE [RUNS]
  *
- * With the number of a receiver, from 0 on in the order of the table, and of a chunk's octets it feeds that one once, by
- * the function `drive`, for a program that counts instructions; the status is 3 where it is not installed.
+ * With the number of a receiver, from 0 on in the order of the table, and of a chunk's octets it feeds that one once,
+ * by the function `drive`, for a program that counts instructions; the status is 3 where it is not installed.
  *
  *     feed CAPTURE 1 RECEIVER OCTETS */
 #define _GNU_SOURCE
