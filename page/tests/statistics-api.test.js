@@ -7,7 +7,7 @@ import { Bus } from "../src/statistics/bus.js";
 import { damageOf } from "../src/statistics/damage.js";
 import { repliesOf } from "../src/statistics/replies.js";
 import { report } from "../src/statistics/report.js";
-import { headLine, headSentences, unknown, wrong } from "../src/statistics/sentences.js";
+import { allIsWell, headLine, unknown, wrong } from "../src/statistics/sentences.js";
 import { tableOf } from "../src/statistics/table.js";
 import { rowsOf } from "./support/listing.js";
 import { madeListing } from "./support/made_listing.js";
@@ -47,23 +47,21 @@ test("what is wrong, without numbers and unwrapped", () => {
     "1 piece is damaged; see below.",
   ]);
   assert.deepEqual(unknown(bus), []);
-  assert.deepEqual(headSentences(bus), wrong(bus));
   assert.equal(headLine(bus), "0.030 s of two lines at 153600 bits a second: 7 frames, 1 damaged piece.");
 });
 
-test("three sentences at most stand at the head", () => {
-  const bus = busOf(`${LISTING}2 5000 5041 stray station 16 type 128\n`);
-  assert.equal(wrong(bus).length, 4);
-  assert.deepEqual(headSentences(bus), wrong(bus).slice(0, 3));
-});
-
-test("where nothing is wrong, that and the doubts stand at the head", () => {
-  assert.deepEqual(headSentences(busOf("")), ["The listing is empty: nothing is known of the bus."]);
-  assert.deepEqual(headSentences(busOf("8 49 frame 108300fde5\n")), [
+test("where nothing is wrong, that and the doubts are said", () => {
+  const said = (listing) => {
+    const bus = busOf(listing);
+    assert.deepEqual(wrong(bus), []);
+    return [...allIsWell(bus), ...unknown(bus)];
+  };
+  assert.deepEqual(said(""), ["The listing is empty: nothing is known of the bus."]);
+  assert.deepEqual(said("8 49 frame 108300fde5\n"), [
     "Nothing is damaged, and no gap between commands stands out.",
     "The listing was made without a dictionary: which commands were answered, and when, is not known.",
   ]);
-  assert.deepEqual(headSentences(busOf(exchange(8, 100, "answered") + verdict("pending", 900))), [
+  assert.deepEqual(said(exchange(8, 100, "answered") + verdict("pending", 900)), [
     "Nothing is wrong: nothing is damaged, missing, spoilt or late, and no gap between commands stands out.",
     "1 command at the end still waits for an answer.",
   ]);

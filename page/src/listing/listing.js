@@ -39,8 +39,8 @@ const DIGITS = Array.from({ length: 256 }, (_, octet) => octet.toString(16).padS
  * @property {Uint8Array|null} octets of a frame, the two of its check at the end
  * @property {number|null} station
  * @property {number|null} type
- * @property {string} name what the dictionary calls a frame; `unknown` or `length` where it does not fit
- * @property {string} cause of damage
+ * @property {string} name what the dictionary calls a frame; `unknown` or `length` where it does not fit; else empty
+ * @property {string} cause of damage, else empty
  * @property {number|null} replyBits from the end of a command to the first bit of its answer
  */
 export class Listing extends Columns {

@@ -5,20 +5,7 @@ import { Counts, Kinds } from "./kinds.js";
 import { Tally } from "./pieces.js";
 import { Slots } from "./slots.js";
 
-/**
- * A line of a listing.
- * @typedef {object} Row
- * @property {1|2|null} line of the bus, in a listing of two lines
- * @property {number} first place of the first bit
- * @property {number} past place just after the last bit
- * @property {string} kind
- * @property {Uint8Array|null} octets of a frame, the two of its check at the end
- * @property {number|null} station
- * @property {number|null} type
- * @property {string} name what the dictionary calls a frame; `unknown` or `length` where it does not fit; else empty
- * @property {string} cause of damage, else empty
- * @property {number|null} replyBits from the end of a command to the first bit of its answer
- */
+/** @typedef {import("../listing/listing.js").Row} Row */
 
 const newCommands = () => new Commands();
 

@@ -6,9 +6,6 @@ import { counted, spanOf, unitsOf } from "./units.js";
 // The most sentences of one sort; the table has the rest.
 const MOST_TOLD = 6;
 
-// How many sentences the head of the page has.
-const HEAD_SENTENCES = 3;
-
 const isOrAre = (count) => (count === 1 ? "is" : "are");
 
 const sum = (numbers) => numbers.reduce((total, number) => total + number, 0);
@@ -237,16 +234,6 @@ export function allIsWell(bus) {
   return bus.named
     ? ["Nothing is wrong: nothing is damaged, missing, spoilt or late, and no gap between commands stands out."]
     : ["Nothing is damaged, and no gap between commands stands out."];
-}
-
-/**
- * The sentences for the head of the page: the first ones of what is wrong, or that nothing is, and what is not known.
- * @param {import("./bus.js").Bus} bus
- * @returns {string[]}
- */
-export function headSentences(bus) {
-  const found = wrong(bus);
-  return found.length > 0 ? found.slice(0, HEAD_SENTENCES) : [...allIsWell(bus), ...unknown(bus)];
 }
 
 /**
