@@ -109,6 +109,21 @@ RUNS = [
         2,
     ),
     Run(
+        "times that go back",
+        ["vcd-to-bits", "clk", "dat"],
+        DEFINITIONS.encode() + b'#0 0! 0"\n#5 1!\n#3 0!\n',
+        b"",
+        "vcd-to-bits: #3 stands after #5, which is a later time\n",
+        2,
+    ),
+    Run(
+        "one time twice",
+        ["vcd-to-bits", "clk", "dat"],
+        DEFINITIONS.encode() + b'#0 0! 0"\n#5 1!\n#5\n#9 0!\n',
+        b"0\n",
+        f"{CLK} 1 edge\n",
+    ),
+    Run(
         "no such signal",
         ["vcd-to-bits", "clk", "data"],
         dump("0", True),

@@ -69,6 +69,14 @@ const RUNS = [
     stderr: EDGES.replace("clk", "Channel 0"),
   },
   {
+    name: "times of a dump that go back",
+    form: "vcd",
+    channels: ["a", "b"],
+    input: "$timescale 1 us $end $var wire 1 ! a $end $var wire 1 # b $end $enddefinitions $end\n#0 0! 0#\n#5 1!\n#3 0!\n",
+    stderr: `${PREFIX}#3 stands after #5, which is a later time\n`,
+    status: 2,
+  },
+  {
     name: "times that go back",
     form: "csv",
     channels: ["Channel 0", "Channel 1 (data)"],

@@ -248,7 +248,7 @@ class DumpReader:
                     times.append(self.time)
                     levels.append(self.levels)
                     self.told = self.levels
-                self.time = time_of(word)
+                self.time = self.time_of(word)
             else:
                 self.other(word)
         return changes_of(times, levels, self.time)
@@ -266,16 +266,19 @@ class DumpReader:
         elif word[:1] in b"bBrR":
             self.scalar = word
 
+    def time_of(self, word: bytes) -> int:
+        """A time, which is not before the one that stands before it."""
+        try:
+            time = int(word[1:])
+        except ValueError:
+            raise Fault(f"{word.decode('utf-8', 'replace')} is no time") from None
+        if time < self.time:
+            raise Fault(f"#{time} stands after #{self.time}, which is a later time")
+        return time
+
     def end(self) -> Changes:
         """What stands at the last time."""
         return changes_of([self.time], [self.levels], self.time + 1)
-
-
-def time_of(word: bytes) -> int:
-    try:
-        return int(word[1:])
-    except ValueError:
-        raise Fault(f"{word.decode('utf-8', 'replace')} is no time") from None
 
 
 def dump(source: BinaryIO, names: Sequence[str]) -> Recording:

@@ -112,10 +112,19 @@ export class DumpReader {
       this.levels = levels;
     } else if (octets[begin] === HASH) {
       this.tell();
-      this.time = timeOf(octets, begin, past);
+      this.time = this.timeOf(octets, begin, past);
     } else {
       this.open(octets, begin, past);
     }
+  }
+
+  /** A time, which is not before the one that stands before it. */
+  timeOf(octets, begin, past) {
+    const time = timeOf(octets, begin, past);
+    if (time < this.time) {
+      throw new Fault(`#${time} stands after #${this.time}, which is a later time`);
+    }
+    return time;
   }
 
   tell() {
