@@ -1,3 +1,4 @@
+pub mod BitLemmas
 pub mod CaptureLemmas
 pub mod EightBitsLemmas
 pub mod EightBitsOfNineLemmas
@@ -7,4 +8,5 @@ pub mod PackedLemmas
 pub mod PairWordsLemmas
 pub mod PairsLemmas
 pub mod TextBitsLemmas
+pub mod WordLemmas
 mod Examples

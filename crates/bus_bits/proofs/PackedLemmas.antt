@@ -276,21 +276,6 @@ all-first (suc k) [] h i d l = absurd (omega (arith, l))
 all-first (suc k) (o ∷ os) h zero d l = h 0 d (omega arith)
 all-first (suc k) (o ∷ os) h (suc i) d l = all-first k os (λ j e m. h (suc j) e (omega (arith, m))) i d (omega (arith, l))
 
--- the first six of eight octets, joined
-pub six-taken : (n : ℕ) (xs os : List ℕ) (left w : ℕ) → PackedAfter n xs left → 48 ≤ left → length os ≡ 8 → All (λ o. o < 256) os → w ≡ from_le_bytes w64 os % 2 ^ 48
-    → PackedAfter n (xs ++ take 6 os) (left - 48) × ((packed_body n (xs ++ take 6 os)).bits ≡ (packed_body n xs).bits ++ bits_of 48 w)
-six-taken n xs os left w h l eight below is =
-    let six : length (take 6 os) ≡ 6 = length-take 6 os ∙ omega (arith, eight) in
-    let all = wholes-taken n xs (take 6 os) left h (omega (arith, six, l)) in
-    let e : left - 8 * length (take 6 os) ≡ left - 48 = omega (arith, six) in
-    let k : 8 * length (take 6 os) ≡ 48 = omega (arith, six) in
-    let bits : bits_of_octets (take 6 os) ≡ bits_of 48 w =
-    sym (word-front (take 6 os) (drop 6 os) (all-first 6 os below)) ∙ ap (λ (j : ℕ). bits_of j (word (take 6 os ++ drop 6 os))) k
-    ∙ ap (λ (ys : List ℕ). bits_of 48 (word ys)) (take-append-drop 6 os) ∙ ap (bits_of 48) (sym (word-eight os eight)) ∙ sym (bits-low 48 (from_le_bytes w64 os)) ∙ ap (bits_of 48) (sym is) in (
-      subst (PackedAfter n (xs ++ take 6 os)) e all.0,
-      all.1 ∙ ap (λ (b : List Bool). (packed_body n xs).bits ++ b) bits,
-    )
-
 -- ---- the end of the input
 
 pub filled-all : {A : Type 0} (n : ℕ) (c : CaptureOf A) → c.fault ≡ None → n ≤ length c.bits → (filled n c).fault ≡ None

@@ -1,4 +1,5 @@
 pub mod Octet
+pub mod Bits
 pub mod Capture
 pub mod Packed
 pub mod Internal

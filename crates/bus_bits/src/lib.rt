@@ -6,6 +6,7 @@ pub mod laws;
 mod octet;
 mod span;
 mod spent;
+mod word;
 
 pub use capture::{
     BadMark, EightBits, EightPairs, HeadFault, PackedBits, PackedFault, PackedHead, PackedPairs,
@@ -14,3 +15,4 @@ pub use capture::{
 pub use octet::{bits_number, bits_octet, octet_bits};
 pub use span::Span;
 pub use spent::Spent;
+pub use word::{Word, seven_octets_at, word_at};

@@ -1,15 +1,22 @@
 -- Captures of one line.
-use Rattle.std.proofs.Common.{◌≡◌, ℕ, ◌+◌, ◌*◌, ◌/◌, ◌<◌, ◌^◌, Bool, true, false, nat_lt, if◌then◌else◌, List, [], take, Some, None, refl, ap, ◌∙◌, subst, arith}
+use Rattle.std.proofs.Common.{◌≡◌, ℕ, ◌+◌, ◌*◌, ◌/◌, ◌<◌, ◌^◌, Bool, true, false, nat_lt, if◌then◌else◌, List, [], ◌++◌, ◌-◌, ◌≤◌, take, Option, Some, None, refl, sym, ap, ◌∙◌, subst, append_assoc, append-nil, arith}
 use Rattle.std.specs.Array.{IsFirstChunk}
 use Rattle.std.specs.Int.{next_multiple_of}
 use Rattle.std.specs.List.{list_any}
 use Rattle.std.proofs.lemmas.Grind.{common_steps}
 use Rattle.std.proofs.lemmas.Nat.{shr_below}
 use mir.Val.{bool_byte}
+use Rattle.bus_bits.specs.Bits.{bits_from}
 use Rattle.bus_bits.specs.Octet.{bits_of, bits_of_octets}
+use Rattle.bus_bits.proofs.BitLemmas.{bits-more}
 use Rattle.bus_bits.specs.Capture.{Capture, pad_bits, trailing}
 use Rattle.bus_bits.specs.Packed.{packed_capture, packed_whole, packed_body, wanted, unused, head_fault}
+use Rattle.bus_text.specs.declared.fault.ToolFault.{ToolFault}
+use Rattle.bus_capture.specs.Internal.Taps.{TapView}
+use Rattle.bus_capture.specs.Internal.Watching.{Halts}
+use Rattle.bus_capture.specs.declared.run.CaptureRun.{CaptureRun}
 use Rattle.bus_capture.proofs.HeadedLemmas.{whole-bits}
+use Rattle.bus_capture.proofs.WatchingLemmas.{halts-more}
 
 -- a bit alone fits
 pub one-fits : (x : ℕ) (bit : Bool) → x ≡ bool_byte bit → x < 2
@@ -25,10 +32,6 @@ behind-fits n taken left h =
 pub no_bits : (n x : ℕ) → n ≡ 0 → bits_of n x ≡ []
 unfolding bits_of
 no_bits n x e = ap (λ (k : ℕ). bits_of k x) e
-
--- the first six of the first eight
-pub first-six : (os eight : List ℕ) → IsFirstChunk os eight 8 → take 6 eight ≡ take 6 os
-first-six os eight h = ap (take 6) h.same ∙ grind (arith, common_steps)
 
 take_none : (k : ℕ) (bits : List Bool) → bits ≡ [] → take k bits ≡ []
 take_none k bits e = grind (arith, common_steps)
@@ -48,3 +51,23 @@ no_body n = elim (list_any (λ (b : Bool). b) (unused n [])) as (λ b. (capture_
 pub same_bits : (xs : List ℕ) → (packed_whole xs).bits ≡ (packed_capture xs).bits
 unfolding packed_whole packed_capture
 same_bits xs = whole-bits (head_fault xs) packed_body xs
+
+-- ---- bits of octets
+
+-- what stopped in some bits of octets, stops in all of them
+pub halts-from : {A N B : Type 0} (t : TapView A Bool N B) (start now : Option (List ℕ)) (w : CaptureRun A) (b : List Bool) (os : List ℕ) (at n all : ℕ) (f : ToolFault) → n ≤ all
+    → Halts t start now w (b ++ bits_from os at n) f → Halts t start now w (b ++ bits_from os at all) f
+halts-from t start now w b os at n all f l h =
+    let e : all ≡ n + (all - n) = omega (arith, l) in
+    let parts : (b ++ bits_from os at n) ++ bits_from os (at + n) (all - n) ≡ b ++ bits_from os at all =
+    append_assoc b (bits_from os at n) (bits_from os (at + n) (all - n)) ∙ ap (λ (z : List Bool). b ++ z) (sym (bits-more os at n (all - n)) ∙ ap (bits_from os at) (sym e)) in
+    subst (λ (z : List Bool). Halts t start now w z f) parts (halts-more t start now w (b ++ bits_from os at n) (bits_from os (at + n) (all - n)) f h)
+
+-- some bits, and those behind them
+pub from-next : (b : List Bool) (os : List ℕ) (at n : ℕ) → (b ++ bits_from os 0 at) ++ bits_from os at n ≡ b ++ bits_from os 0 (at + n)
+from-next b os at n = let e : 0 + at ≡ at = omega arith in append_assoc b (bits_from os 0 at) (bits_from os at n) ∙ ap (λ (z : List Bool). b ++ z) (ap (λ (j : ℕ). bits_from os 0 at ++ bits_from os j n) (sym e) ∙ sym (bits-more os 0 at n))
+
+-- none
+pub from-none : (b : List Bool) (os : List ℕ) → b ≡ b ++ bits_from os 0 0
+unfolding bits_from
+from-none b os = sym (append-nil b)

@@ -1,5 +1,5 @@
 -- Packed captures, some octets more at a time.
-use Rattle.std.proofs.Common.{◌≡◌, ℕ, ◌-◌, ◌<◌, ◌≤◌, ◌^◌, false, List, [], ◌∷◌, ◌++◌, length, take, drop, get_or, Option, Some, Result, Ok, Err, MatchResult, refl, sym, ap, ◌∙◌, subst, arith}
+use Rattle.std.proofs.Common.{◌≡◌, ℕ, ◌-◌, ◌<◌, ◌≤◌, ◌^◌, false, List, [], ◌∷◌, ◌++◌, length, take, drop, get_or, Option, Some, Result, Ok, Err, MatchResult, refl, sym, ap, ◌∙◌, subst, append-nil, arith}
 use Rattle.std.specs.Result.{IsErrAnd}
 use Rattle.std.proofs.lemmas.Grind.{common_steps}
 use Rattle.bus_bits.specs.Capture.{CaptureOf}
@@ -16,6 +16,10 @@ use Rattle.bus_capture.proofs.CapturesLemmas.{halts-stops}
 pub first-octet : (xs os : List ℕ) → 0 < length os → xs ++ get_or os 0 0 ∷ [] ≡ xs ++ take 1 os
 first-octet xs [] h = absurd (omega (arith, h))
 first-octet xs (o ∷ os) h = refl
+
+-- no octets were read
+pub none-read : {A X N B : Type 0} (t : TapView A X N B) (start now : Option (List ℕ)) (run : CaptureRun A) (body : B) (xs os : List ℕ) (n : ℕ) → n ≡ 0 → FollowsBody t start now body run (xs ++ take n os) → FollowsBody t start now body run xs
+none-read t start now run body xs os n e h = subst (FollowsBody t start now body run) (ap (λ (k : ℕ). xs ++ take k os) e ∙ append-nil xs) h
 
 -- a head is filled from the front of some octets
 pub filled-head : (xs os : List ℕ) → (xs ++ take (16 - length xs) os) ++ drop (16 - length xs) os ≡ xs ++ os

@@ -9,7 +9,7 @@ use Rattle.bus_dictionary.specs.Dictionary.{longest_of}
 use Rattle.bus_watch.specs.Seen.{SeenReport, seen}
 use Rattle.bus_watch.specs.Talk.{pending}
 use Rattle.bus_watch.specs.Watch.{Leads, seen_by}
-use Rattle.bus_text.specs.Listing.{ending_text}
+use Rattle.bus_text.specs.Listing.{ending_text, text_of}
 use Rattle.bus_text.specs.Summary.{summary_of}
 use Rattle.bus_text.specs.Counting.{IsFew}
 use Rattle.bus_text.specs.Internal.Pages.{Pages}
@@ -61,6 +61,12 @@ drop-drop i n xs = grind (arith, common_steps)
 pub below : (place : ℕ) → (2 ^ 60 < place → false ≡ true) → place ≤ 2 ^ 60
 below place h = elim (cases_lt (2 ^ 60) place) [ inl u ↦ absurd (let e = h u in cc) | inr u ↦ u ]
 
+-- nothing is seen, nothing is printed
+printed-none : (p : Option Printer) (d : List FrameType) → printed p d [] ≡ []
+unfolding text_of
+printed-none None d = refl
+printed-none (Some p) d = refl
+
 module _ {A X N B : Type 0} (t : TapView A X N B) where
   -- what is seen depends on dictionary and origin alone
   pub seen-same : (a c : A) (b : List X) → t.watch.dictionary c ≡ t.watch.dictionary a → t.watch.origin c ≡ t.watch.origin a → seen_by t.watch c b ≡ seen_by t.watch a b
@@ -101,6 +107,20 @@ module _ {A X N B : Type 0} (t : TapView A X N B) where
     counts = counts ∙ ap summary_of (sym (seen-more w.analyser v.analyser b more told h.is_after e));
     page = subst (Pages start later v.page.text v.page.written) (sym (lines-more w v b more told p h.is_after e)) page;
   }
+
+  -- symbols at which nothing is seen were followed
+  pub unheard : (start now : Option (List ℕ)) (w v : CaptureRun A) (b more : List X) (told : List SeenReport)
+      → v ≡ record w { analyser = v.analyser } → told ≡ [] → Watches t start now w b → Leads t.watch w.analyser more told v.analyser → Watches t start now v (b ++ more)
+  unheard start now w v b more told same none h e =
+      let d = t.watch.dictionary w.analyser in
+      let before = seen_by t.watch w.analyser b in
+      let seen : before ≡ before ++ told = sym (append-nil before) ∙ ap (λ (x : List SeenReport). before ++ x) (sym none) in
+      let text : lines t w b ≡ lines t w b ++ printed w.printer d told =
+      sym (append-nil (lines t w b)) ∙ ap (λ (x : List ℕ). lines t w b ++ x) (sym (printed-none w.printer d) ∙ ap (printed w.printer d) (sym none)) in
+      let page : v.page ≡ w.page = ap (λ (r : CaptureRun A). r.page) same in
+      watched start now now w v b more told (ap (λ (r : CaptureRun A). r.printer) same) h e
+      (ap (λ (r : CaptureRun A). r.summary) same ∙ (h.counts ∙ ap summary_of seen))
+      (subst (Pages start now v.page.text v.page.written) text (subst (λ (x : Page). Pages start now x.text x.written (lines t w b)) (sym page) h.page))
 
   -- symbols that have no place stop the following
   pub halted : TapLaws t → (start now : Option (List ℕ)) (w v : CaptureRun A) (b more : List X)

@@ -2,6 +2,7 @@
 #![tactic(auto)]
 
 mod check;
+mod follow;
 mod list;
 mod one_line;
 mod packed;

@@ -8,7 +8,7 @@ ghost use Rattle.bus_capture.specs.Lists.{Lists, ListsBy};
 ghost use Rattle.bus_capture.specs.Known.{ListsKnown, ListsKnownBy};
 
 use crate::reader::CaptureReader;
-use crate::tap::Tap;
+use crate::follow::Follow;
 use bus_fcs::OctetCheck;
 use bus_text::{Options, Page, Printer, Summary, ToolFault};
 use bus_watch::{Analyser, PairAnalyser};
@@ -53,7 +53,7 @@ pub fn list_capture<R: Read, W: Write>(
 }
 
 /// Lists a capture of one line or of two.
-fn list_lines<T: Tap, R: Read, W: Write>(
+fn list_lines<T: Follow, R: Read, W: Write>(
     alloc: Global,
     o: &Options<'_>,
     r: &mut R,

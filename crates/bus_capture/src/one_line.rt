@@ -1,10 +1,15 @@
 //! Captures of one line.
 
-ghost use Rattle.std.specs.Prelude.{◌≡◌, ◌+◌, ◌*◌, ◌≤◌, ◌<◌, ◌^◌, ℕ, List, ◌++◌, length, take, None};
+ghost use Rattle.std.specs.Prelude.{◌≡◌, ◌+◌, ◌-◌, ◌*◌, ◌≤◌, ◌<◌, ◌^◌, ℕ, Bool, List, Option, ◌++◌, length, take, None, IfOk, MatchResult};
+ghost use Rattle.bus_bits.specs.Bits.{bits_from};
 ghost use Rattle.bus_bits.specs.Octet.{bits_of};
+ghost use Rattle.bus_capture.specs.Internal.OneLine.{one_tap};
+ghost use Rattle.bus_capture.specs.Internal.Watching.{Halts, IsSame, IsSound, Watches};
 ghost use Rattle.std.specs.Option.{ForSome};
 ghost use Rattle.bus_bits.specs.Capture.{text_bits, text_fault};
 
+use crate::follow::Follow;
+use crate::run::CaptureRun;
 use crate::tap::{Many, Tap};
 use crate::word::Word;
 use arrayvec::ArrayVec;
@@ -13,7 +18,7 @@ use bus_bits::{BadMark, HeadFault, PackedBits, PackedFault, PackedHead, TextBits
 use bus_dictionary::Dictionary;
 use bus_fcs::Check;
 use bus_line::PlaceLimit;
-use bus_text::{Page, Printer, ShortWrite, Summary, put_kept};
+use bus_text::{Page, Printer, ShortWrite, Summary, ToolFault, put_kept};
 use bus_watch::laws::seen_grows;
 use bus_watch::{Analyser, Counts, NewFault};
 use std::alloc::Global;
@@ -74,9 +79,64 @@ fn gather(octets: &[u8]) -> Many<u64>
     }
 }
 
-impl<C: Check> Tap for Analyser<C> {
-    ghost use Rattle.bus_capture.specs.Internal.OneLine.{one_tap};
+/// Takes bits of these octets, from bit `at` on, up to the first that decides a report, and puts the lines of that on the
+/// page. Returns how many it took.
+#[inline(always)]
+fn take_some<C: Check, W: Write>(
+    octets: &[u8],
+    at: usize,
+    run: &mut CaptureRun<Analyser<C>>,
+    w: &mut W,
+) -> Result<usize, ToolFault>
+    requires sound { IsSound (one_tap C.folded C.COST) run.old }
+    requires some { at < 8 * length octets.now }
+    requires few { 8 * length octets.now < 2 ^ 64 }
+    ensures within { IfOk result (λ n. (1 ≤ n) × (at + n ≤ 8 * length octets.now)) }
+    ensures taken { (start : Option (List ℕ)) (b : List Bool) →
+        Watches (one_tap C.folded C.COST) start (W.contents w.old) run.old b → MatchResult result
+        (λ n. Watches (one_tap C.folded C.COST) start (W.contents w.new) run.new (b ++ bits_from octets.now at n))
+        (λ fault. Halts (one_tap C.folded C.COST) start (W.contents w.new) run.new
+        (b ++ bits_from octets.now at (8 * length octets.now - at)) fault) }
+    ensures same { IsSame (one_tap C.folded C.COST) run.old run.new }
+    ensures sound { IsSound (one_tap C.folded C.COST) run.new }
+{
+    Analyser::<C>::laws();
+    let taken = match run.analyser.scan(octets, at, 8 * octets.len()) {
+        Ok(taken) => taken,
+        Err(PlaceLimit) => return Err(ToolFault::PlaceLimit),
+    };
+    if run.analyser.is_decided() {
+        run.tell(w)?;
+    }
+    Ok(taken)
+}
 
+/// Takes all bits of these octets, up to the first that can't be taken.
+#[inline(never)]
+fn take_octets<C: Check, W: Write>(
+    octets: &[u8],
+    run: &mut CaptureRun<Analyser<C>>,
+    w: &mut W,
+) -> Result<(), ToolFault>
+    requires sound { IsSound (one_tap C.folded C.COST) run.old }
+    requires few { 8 * length octets.now < 2 ^ 64 }
+    ensures taken { (start : Option (List ℕ)) (b : List Bool) →
+        Watches (one_tap C.folded C.COST) start (W.contents w.old) run.old b → MatchResult result
+        (λ _. Watches (one_tap C.folded C.COST) start (W.contents w.new) run.new
+        (b ++ bits_from octets.now 0 (8 * length octets.now)))
+        (λ fault. Halts (one_tap C.folded C.COST) start (W.contents w.new) run.new
+        (b ++ bits_from octets.now 0 (8 * length octets.now)) fault) }
+    ensures same { IsSame (one_tap C.folded C.COST) run.old run.new }
+    ensures sound { IsSound (one_tap C.folded C.COST) run.new }
+{
+    let mut at = 0;
+    while at < 8 * octets.len() {
+        at += take_some(octets, at, run, w)?;
+    }
+    Ok(())
+}
+
+impl<C: Check> Tap for Analyser<C> {
     type Symbol = bool;
 
     type Word = u64;
@@ -160,11 +220,6 @@ impl<C: Check> Tap for Analyser<C> {
     }
 
     #[inline(always)]
-    fn gather(octets: &[u8]) -> Many<u64> {
-        gather(octets)
-    }
-
-    #[inline(always)]
     fn mark(octet: u8) -> Result<Option<bool>, BadMark> {
         TextBits::new().step(octet)
     }
@@ -172,19 +227,6 @@ impl<C: Check> Tap for Analyser<C> {
     fn read_head(head: &[u8; 16]) -> Result<PackedBits, HeadFault> {
         packed_is_head_and_body();
         Ok(PackedBits::new(PackedHead::read(head)?))
-    }
-
-    #[inline(always)]
-    fn take_many(body: &mut PackedBits, octets: &[u8]) -> Option<Many<u64>> {
-        packed_is_head_and_body();
-        match octets.first_chunk() {
-            Some(eight) if body.left() >= 48 => Some(Many {
-                word: body.take_six(eight),
-                count: 48,
-                taken: 6,
-            }),
-            _ => None,
-        }
     }
 
     #[inline(always)]
@@ -202,5 +244,35 @@ impl<C: Check> Tap for Analyser<C> {
         captures_grow();
         packed_is_head_and_body();
         seen_grows();
+    }
+}
+
+impl<C: Check> Follow for Analyser<C> {
+    #[inline(always)]
+    fn take_text<W: Write>(
+        octets: &[u8],
+        run: &mut CaptureRun<Self>,
+        w: &mut W,
+    ) -> Result<usize, ToolFault> {
+        Self::laws();
+        let next = gather(octets);
+        run.take_word(next.word, next.count, w)?;
+        Ok(next.taken)
+    }
+
+    #[inline(always)]
+    fn take_packed<W: Write>(
+        body: &mut PackedBits,
+        octets: &[u8],
+        run: &mut CaptureRun<Self>,
+        w: &mut W,
+    ) -> Result<usize, ToolFault> {
+        packed_is_head_and_body();
+        Self::laws();
+        let count = body.whole(octets.len());
+        let whole = &octets[..count];
+        body.take_all(whole);
+        take_octets(whole, run, w)?;
+        Ok(count)
     }
 }

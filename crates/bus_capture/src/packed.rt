@@ -7,6 +7,7 @@ ghost use Rattle.bus_capture.specs.Internal.Watching.{IsSound, IsSame};
 ghost use Rattle.bus_capture.specs.Internal.Sessions.{FollowsPacked, FollowsBody, IsRead, Stops};
 ghost use Rattle.bus_capture.specs.Captures.{IsSameFault};
 
+use crate::follow::Follow;
 use crate::run::CaptureRun;
 use crate::tap::Tap;
 use arrayvec::ArrayVec;
@@ -73,7 +74,7 @@ fn take_octet<T: Tap, W: Write>(
 
 /// Takes the next octets after the head, many or one, and returns how many these were.
 #[inline(always)]
-fn take_some<T: Tap, W: Write>(
+fn take_some<T: Follow, W: Write>(
     body: &mut T::Body,
     octets: &[u8],
     run: &mut CaptureRun<T>,
@@ -90,10 +91,9 @@ fn take_some<T: Tap, W: Write>(
     ensures same { IsSame T.tap run.old run.new }
     ensures sound { IsSound T.tap run.new }
 {
-    T::laws();
-    if let Some(many) = T::take_many(body, octets) {
-        run.take_word(many.word, many.count, w)?;
-        return Ok(many.taken);
+    let taken = T::take_packed(body, octets, run, w)?;
+    if taken > 0 {
+        return Ok(taken);
     }
     take_octet(body, octets[0], run, w)?;
     Ok(1)
@@ -101,7 +101,7 @@ fn take_some<T: Tap, W: Write>(
 
 /// Takes octets after the head, up to the first fault.
 #[inline(never)]
-fn take_body<T: Tap, W: Write>(
+fn take_body<T: Follow, W: Write>(
     body: &mut T::Body,
     octets: &[u8],
     run: &mut CaptureRun<T>,
@@ -156,7 +156,7 @@ impl<B> PackedCapture<B> {
     }
 
     /// Takes some octets, up to the first fault.
-    pub fn take<T: Tap<Body = B>, W: Write>(
+    pub fn take<T: Follow<Body = B>, W: Write>(
         &mut self,
         octets: &[u8],
         run: &mut CaptureRun<T>,
@@ -177,7 +177,7 @@ impl<B> PackedCapture<B> {
     }
 
     /// Takes octets of the head, and then those after it.
-    fn take_head<T: Tap<Body = B>, W: Write>(
+    fn take_head<T: Follow<Body = B>, W: Write>(
         &mut self,
         octets: &[u8],
         run: &mut CaptureRun<T>,

@@ -13,6 +13,7 @@ ghost use Rattle.bus_capture.specs.Internal.Watching.{IsSound, IsSame};
 
 use crate::packed::PackedCapture;
 use crate::run::CaptureRun;
+use crate::follow::Follow;
 use crate::tap::Tap;
 use crate::text::TextCapture;
 use bus_text::{Options, Page, Printer, Summary, ToolFault, read_dictionary};
@@ -53,7 +54,7 @@ fn new_analyser<T: Tap>(alloc: Global, options: &Options<'_>) -> Result<T, ToolF
     }
 }
 
-impl<T: Tap> CaptureReader<T> {
+impl<T: Follow> CaptureReader<T> {
     /// No octets of the capture that the options tell of.
     pub fn new(
         alloc: Global,

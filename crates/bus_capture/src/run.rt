@@ -63,7 +63,7 @@ impl<T: Tap> CaptureRun<T> {
 
     /// Counts what is seen at the last symbol, and puts its lines on the page.
     #[inline(never)]
-    fn tell<W: Write>(&mut self, w: &mut W) -> Result<(), ShortWrite>
+    pub fn tell<W: Write>(&mut self, w: &mut W) -> Result<(), ShortWrite>
         requires few { (most : ℕ) × IsFew most self.old.summary × (most < 2 ^ 61) }
         requires sent { self.old.page.written < 2 ^ 100 }
         ensures analyser { self.new.analyser ≡ self.old.analyser }

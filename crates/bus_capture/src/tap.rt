@@ -148,17 +148,6 @@ pub trait Tap: Drop {
         ensures { (left : ℕ) → tap.fits (taken + left) word → tap.fits left result
             × (tap.symbols (taken + left) word ≡ tap.symbols taken word ++ tap.symbols left result) };
 
-    /// The symbols of the next octets of a text, as many as come at once: none where an octet is neither
-    /// a mark nor a line end.
-    fn gather(octets: &[u8]) -> Many<Self::Word>
-        ensures few { result.count ≤ 48 }
-        ensures small { tap.fits result.count result.word }
-        ensures enough { result.taken ≤ length octets.now }
-        ensures given { (xs : List ℕ) → (tap.form.text xs).fault ≡ None →
-            ((tap.form.text (xs ++ take result.taken octets.now)).fault ≡ None)
-            × ((tap.form.text (xs ++ take result.taken octets.now)).bits
-            ≡ (tap.form.text xs).bits ++ tap.symbols result.count result.word) };
-
     /// The symbol of an octet of a text, or None where it is skipped.
     fn mark(octet: u8) -> Result<Option<Self::Symbol>, BadMark>
         ensures { (xs : List ℕ) → (tap.form.text xs).fault ≡ None → MatchResult result
@@ -173,16 +162,6 @@ pub trait Tap: Drop {
             (λ body. tap.is_body body head.now × ((tap.form.packed head.now).bits ≡ []))
             (λ fault. (xs : List ℕ) →
             tap.form.packed (head.now ++ xs) ≡ record { bits = []; fault = Some (head_fault_of fault) }) };
-
-    /// The symbols of the next octets of a packed capture, where there are many and all are wanted.
-    fn take_many(body: &mut Self::Body, octets: &[u8]) -> Option<Many<Self::Word>>
-        ensures within { ForSome result (λ m. (1 ≤ m.taken) × (m.taken ≤ length octets.now) × (m.count ≤ 48)) }
-        ensures small { ForSome result (λ m. tap.fits m.count m.word) }
-        ensures given { ForSome result (λ m. (xs : List ℕ) → tap.is_body body.old xs →
-            tap.is_body body.new (xs ++ take m.taken octets.now)
-            × ((tap.form.packed (xs ++ take m.taken octets.now)).bits
-            ≡ (tap.form.packed xs).bits ++ tap.symbols m.count m.word)) }
-        ensures none { result ≡ None → body.new ≡ body.old };
 
     /// The symbols of the next octet.
     fn take_octet(body: &mut Self::Body, octet: u8) -> Result<Self::Few, PackedFault>

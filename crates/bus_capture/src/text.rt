@@ -4,6 +4,7 @@ ghost use Rattle.std.specs.Prelude.{◌≡◌, ◌+◌, ◌≤◌, ◌<◌, ◌^
 ghost use Rattle.bus_capture.specs.Internal.Watching.{IsSound, IsSame};
 ghost use Rattle.bus_capture.specs.Internal.Sessions.{FollowsOctets, FollowsText, Stops};
 
+use crate::follow::Follow;
 use crate::run::CaptureRun;
 use crate::tap::Tap;
 use bus_bits::BadMark;
@@ -15,30 +16,6 @@ use std::io::Write;
 pub struct TextCapture {
     /// How many octets were taken.
     pub at: u128,
-}
-
-/// Takes the next symbols, up to 48, where the next octets give many at once, and returns how many
-/// octets these were: none, where they don't.
-#[inline(always)]
-fn take_many<T: Tap, W: Write>(
-    octets: &[u8],
-    run: &mut CaptureRun<T>,
-    w: &mut W,
-) -> Result<usize, ToolFault>
-    requires { IsSound T.tap run.old }
-    ensures enough { IfOk result (λ n. n ≤ length octets.now) }
-    ensures taken { (start : Option (List ℕ)) (xs : List ℕ) →
-        FollowsOctets T.tap start (W.contents w.old) run.old xs → MatchResult result
-        (λ n. FollowsOctets T.tap start (W.contents w.new) run.new (xs ++ take n octets.now))
-        (λ fault. (n : ℕ) × (n ≤ length octets.now)
-        × Stops T.tap true start (W.contents w.new) run.new (xs ++ take n octets.now) fault) }
-    ensures same { IsSame T.tap run.old run.new }
-    ensures sound { IsSound T.tap run.new }
-{
-    T::laws();
-    let next = T::gather(octets);
-    run.take_word(next.word, next.count, w)?;
-    Ok(next.taken)
 }
 
 /// Takes one octet, before which there were `at` others.
@@ -68,7 +45,7 @@ fn take_one<T: Tap, W: Write>(
 impl TextCapture {
     /// Takes some octets, up to the first fault.
     #[inline(never)]
-    pub fn take<T: Tap, W: Write>(
+    pub fn take<T: Follow, W: Write>(
         &mut self,
         octets: &[u8],
         run: &mut CaptureRun<T>,
@@ -87,7 +64,7 @@ impl TextCapture {
         T::laws();
         let mut taken = 0;
         while taken < octets.len() {
-            let many = take_many(&octets[taken..], run, w)?;
+            let many = T::take_text(&octets[taken..], run, w)?;
             if many > 0 {
                 taken += many;
                 continue;

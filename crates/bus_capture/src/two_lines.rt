@@ -8,8 +8,13 @@ ghost use Rattle.bus_text.specs.Listing.{listing};
 ghost use Rattle.bus_text.specs.Summary.{summary_of};
 ghost use Rattle.bus_watch.specs.Pairs.{seen_on};
 ghost use Rattle.bus_watch.specs.Seen.{SeenReport};
-ghost use Rattle.std.specs.Option.{option_to_list};
+ghost use Rattle.std.specs.Option.{ForSome, option_to_list};
+ghost use Rattle.bus_bits.specs.Packed.{PairsAfter, packed_pair_capture, pair_head_fault};
+ghost use Rattle.bus_watch.specs.Heard.{pairs_of};
+ghost use Rattle.bus_capture.specs.Internal.Headed.{IsHeaded};
 
+use crate::follow::Follow;
+use crate::run::CaptureRun;
 use crate::tap::{Many, Tap};
 use crate::word::Word;
 use arrayvec::ArrayVec;
@@ -18,7 +23,7 @@ use bus_bits::{BadMark, HeadFault, PackedFault, PackedPairs, PairHead, PairWords
 use bus_dictionary::Dictionary;
 use bus_fcs::Check;
 use bus_line::PlaceLimit;
-use bus_text::{Page, Printer, ShortWrite, Summary, put_kept};
+use bus_text::{Page, Printer, ShortWrite, Summary, ToolFault, put_kept};
 use bus_watch::laws::pairs_grow;
 use bus_watch::{Counts, Line, NewFault, PairAnalyser};
 use std::alloc::Global;
@@ -54,6 +59,28 @@ fn gather(octets: &[u8]) -> Many<PairWords>
         },
         count: first.count,
         taken,
+    }
+}
+
+/// The pairs of the next octets of a packed capture, where there are many and all are wanted.
+#[inline(always)]
+fn many_of(body: &mut PackedPairs, octets: &[u8]) -> Option<Many<PairWords>>
+    ensures within { ForSome result (λ m. (1 ≤ m.taken) × (m.taken ≤ length octets.now) × (m.count ≤ 48)) }
+    ensures small { ForSome result (λ m. (m.word.first < 2 ^ m.count) × (m.word.second < 2 ^ m.count)) }
+    ensures given { ForSome result (λ m. (xs : List ℕ) → IsHeaded pair_head_fault PairsAfter body.old xs →
+        IsHeaded pair_head_fault PairsAfter body.new (xs ++ take m.taken octets.now)
+        × ((packed_pair_capture (xs ++ take m.taken octets.now)).bits
+        ≡ (packed_pair_capture xs).bits ++ pairs_of m.count m.word.first m.word.second)) }
+    ensures none { result ≡ None → body.new ≡ body.old }
+{
+    pairs_are_head_and_body();
+    match octets.first_chunk() {
+        Some(twelve) if body.left() >= 48 => Some(Many {
+            word: body.take_twelve(twelve),
+            count: 48,
+            taken: 12,
+        }),
+        _ => None,
     }
 }
 
@@ -174,11 +201,6 @@ impl<C: Check> Tap for PairAnalyser<C> {
     }
 
     #[inline(always)]
-    fn gather(octets: &[u8]) -> Many<PairWords> {
-        gather(octets)
-    }
-
-    #[inline(always)]
     fn mark(octet: u8) -> Result<Option<(bool, bool)>, BadMark> {
         TextPairs::new().step(octet)
     }
@@ -186,19 +208,6 @@ impl<C: Check> Tap for PairAnalyser<C> {
     fn read_head(head: &[u8; 16]) -> Result<PackedPairs, HeadFault> {
         pairs_are_head_and_body();
         Ok(PackedPairs::new(PairHead::read(head)?))
-    }
-
-    #[inline(always)]
-    fn take_many(body: &mut PackedPairs, octets: &[u8]) -> Option<Many<PairWords>> {
-        pairs_are_head_and_body();
-        match octets.first_chunk() {
-            Some(twelve) if body.left() >= 48 => Some(Many {
-                word: body.take_twelve(twelve),
-                count: 48,
-                taken: 12,
-            }),
-            _ => None,
-        }
     }
 
     #[inline(always)]
@@ -219,5 +228,34 @@ impl<C: Check> Tap for PairAnalyser<C> {
         pair_captures_grow();
         pairs_are_head_and_body();
         pairs_grow();
+    }
+}
+
+impl<C: Check> Follow for PairAnalyser<C> {
+    #[inline(always)]
+    fn take_text<W: Write>(
+        octets: &[u8],
+        run: &mut CaptureRun<Self>,
+        w: &mut W,
+    ) -> Result<usize, ToolFault> {
+        Self::laws();
+        let next = gather(octets);
+        run.take_word(next.word, next.count, w)?;
+        Ok(next.taken)
+    }
+
+    #[inline(always)]
+    fn take_packed<W: Write>(
+        body: &mut PackedPairs,
+        octets: &[u8],
+        run: &mut CaptureRun<Self>,
+        w: &mut W,
+    ) -> Result<usize, ToolFault> {
+        Self::laws();
+        let Some(many) = many_of(body, octets) else {
+            return Ok(0);
+        };
+        run.take_word(many.word, many.count, w)?;
+        Ok(many.taken)
     }
 }

@@ -39,7 +39,7 @@ four-shr w k =
     let t = two-shr w k in
     and_shr (two w) (two w / 4) k ∙ (ap (λ (x : ℕ). bit_and x (two w / 4 / 2 ^ k)) t ∙ ap (λ (x : ℕ). bit_and (two (w / 2 ^ k)) x) (shr-turn (two w) 2 k ∙ ap (λ (x : ℕ). x / 4) t))
 
-six-shr : (w k : ℕ) → six w / 2 ^ k ≡ six (w / 2 ^ k)
+pub six-shr : (w k : ℕ) → six w / 2 ^ k ≡ six (w / 2 ^ k)
 six-shr w k =
     and_shr (four w) (two w / 16) k
     ∙ (ap (λ (x : ℕ). bit_and x (two w / 16 / 2 ^ k)) (four-shr w k) ∙ ap (λ (x : ℕ). bit_and (four (w / 2 ^ k)) x) (shr-turn (two w) 4 k ∙ ap (λ (x : ℕ). x / 16) (two-shr w k)))
@@ -70,7 +70,7 @@ four-ones w =
     let b = two-low (w / 4) in
     ((λ e. omega (arith, f, a, b, e)), λ m. omega (arith, f, a, b, m))
 
-six-ones : (w : ℕ) → (six w % 2 ≡ 1 → w % 64 ≡ 63) × (w % 64 ≡ 63 → six w % 2 ≡ 1)
+pub six-ones : (w : ℕ) → (six w % 2 ≡ 1 → w % 64 ≡ 63) × (w % 64 ≡ 63 → six w % 2 ≡ 1)
 six-ones w =
     let s = six-low w in
     let f = four-low w in

@@ -21,6 +21,8 @@ pub mod TracksAppendLemmas
 pub mod DecideLemmas
 pub mod SettleLemmas
 pub mod AdvanceLemmas
+pub mod TellLemmas
+pub mod QuietLemmas
 pub mod FlagCountLemmas
 pub mod FlagLemmas
 pub mod FlagRunLemmas

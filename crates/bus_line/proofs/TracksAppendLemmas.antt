@@ -67,7 +67,7 @@ part-both d e = ap number (rest d e) ∙ sym (number-drop (8 * (length (part d +
 abbrev pub joined : ℕ → ℕ → ℕ → ℕ
 joined rest held bits = bit_or rest (bits * 2 ^ held % 18446744073709551616)
 
-joined-is : (rest held n bits : ℕ) (got : List Bool) → rest ≡ number (part got) → held ≡ length got % 8 → n ≤ 48 → bits < 2 ^ n → joined rest held bits ≡ number (part got ++ bits_of n bits)
+joined-is : (rest held n bits : ℕ) (got : List Bool) → rest ≡ number (part got) → held ≡ length got % 8 → n ≤ 56 → bits < 2 ^ n → joined rest held bits ≡ number (part got ++ bits_of n bits)
 joined-is rest held n bits got r h f b =
     let l = length-part got in
     let x : held ≡ length (part got) = h ∙ sym l in
@@ -81,7 +81,7 @@ joined-is rest held n bits got r h f b =
     swap a r p q e f = omega (arith, e, f)
 
 -- what is held behind so many data bits more
-pub holds-joined : {C : Type 0} (folded : C → List ℕ → Type 0) (d e : LineState C) (n bits : ℕ) (got : List Bool) → Holds folded d got → n ≤ 48 → bits < 2 ^ n
+pub holds-joined : {C : Type 0} (folded : C → List ℕ → Type 0) (d e : LineState C) (n bits : ℕ) (got : List Bool) → Holds folded d got → n ≤ 56 → bits < 2 ^ n
     → e.gathered ≡ d.gathered + n → e.rest ≡ joined d.rest (d.gathered % 8) bits / 2 ^ (8 * ((d.gathered % 8 + n) / 8)) → e.longest ≡ d.longest
     → Keeps folded e (octets got ++ octets_of ((d.gathered % 8 + n) / 8) (joined d.rest (d.gathered % 8) bits))
     → Holds folded e (got ++ bits_of n bits)
@@ -189,7 +189,7 @@ keeps-more folded d e k m n more os h i f g l o c =
 keeps-set : {C : Type 0} (folded : C → List ℕ → Type 0) (a : LineState C) (gathered rest : ℕ) (spent : Spent) (os : List ℕ) → Keeps folded a os → Keeps folded (record a { gathered = gathered; rest = rest; spent = spent }) os
 keeps-set folded a gathered rest spent os h = record { held = h.held; checked = h.checked }
 
-pub append-holds : {C : Type 0} (folded : C → List ℕ → Type 0) (d a e : LineState C) (n bits j k : ℕ) (t : Spent) (got : List Bool) → Holds folded d got → n ≤ 48 → bits < 2 ^ n
+pub append-holds : {C : Type 0} (folded : C → List ℕ → Type 0) (d a e : LineState C) (n bits j k : ℕ) (t : Spent) (got : List Bool) → Holds folded d got → n ≤ 56 → bits < 2 ^ n
     → j ≡ joined d.rest (d.gathered % 8) bits → k ≡ (d.gathered % 8 + n) / 8 → a.gathered ≡ d.gathered → a.longest ≡ d.longest → Keeps folded a (octets got)
     → ((os : List ℕ) → Keeps folded (record a { gathered = a.gathered + n; rest = j / 2 ^ (8 * k); spent = t }) os → Keeps folded e (os ++ octets_of k j))
     → e ≡ record a { gathered = a.gathered + n; rest = j / 2 ^ (8 * k); octets = e.octets; check = e.check; spent = e.spent }

@@ -1,8 +1,10 @@
 -- The lists of bits after which a decoder may stand.
 use Rattle.std.specs.Prelude.{◌≡◌, ℕ, ◌+◌, ◌-◌, ◌<◌, ◌≤◌, Bool, List, [], ◌∷◌, ◌++◌, length, Option, Some, None}
+use Rattle.std.specs.Option.{option_to_list}
 use Rattle.bus_bits.specs.Octet.{octets}
 use Rattle.bus_line.specs.Mark.{MayDecideAt}
-use Rattle.bus_line.specs.Due.{current}
+use Rattle.bus_line.specs.Due.{current, placed}
+use Rattle.bus_line.specs.Report.{Report}
 use Rattle.bus_line.specs.Internal.LineState.{LineState}
 use Rattle.bus_line.specs.declared.piece.Piece.{Piece}
 use Rattle.bus_line.specs.declared.piece.Piece.TheVariants as piece
@@ -37,6 +39,18 @@ pub record Led {C : Type 0} (folded : C → List ℕ → Type 0) (cost : ℕ) (o
   pub longest : new.longest ≡ old.longest
   pub origin : new.origin ≡ old.origin
   pub place : new.place ≡ old.place + length bits
+
+-- these bits lead from old to new, and decide this report and no other; where it is none they decide nothing
+pub record Tells {C : Type 0} (folded : C → List ℕ → Type 0) (cost : ℕ) (old : LineState C) (bits : List Bool)
+    (report : Option Report) (new : LineState C) : Type 0 where
+  pub leads : Led folded cost old bits new
+  pub says : (b : List Bool) → After folded cost old b
+      → placed old.origin old.longest (b ++ bits) ≡ placed old.origin old.longest b ++ option_to_list report
+
+-- these bits decide no report
+abbrev pub DecideNothing : {C : Type 0} → (C → List ℕ → Type 0) → ℕ → LineState C → List Bool → Type 0
+DecideNothing folded cost d bits =
+    (b : List Bool) → After folded cost d b → placed d.origin d.longest (b ++ bits) ≡ placed d.origin d.longest b
 
 -- a frame has no more octets than the longest and its check
 abbrev pub FitsFrame : ℕ → Option Piece → Type 0

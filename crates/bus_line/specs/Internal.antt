@@ -4,6 +4,7 @@ pub mod LineState
 pub mod LineView
 pub mod Late
 pub mod Flags
+pub mod Quiet
 pub mod Look
 pub mod Inserting
 pub mod EncoderState

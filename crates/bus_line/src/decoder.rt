@@ -6,6 +6,8 @@ mod flags;
 mod late;
 mod look;
 mod marked;
+mod quiet;
+mod scan;
 mod step;
 mod stop;
 
@@ -15,6 +17,7 @@ ghost use Rattle.std.specs.Borrow.{sem};
 ghost use Rattle.std.specs.Io.BufRead.{Rests};
 ghost use Rattle.bus_line.specs.Due.{due_at, begun, placed};
 ghost use Rattle.bus_line.specs.Ledger.{stored_open, IsLedger};
+ghost use Rattle.bus_bits.specs.Bits.{bits_from};
 ghost use Rattle.bus_bits.specs.Octet.{bits_of};
 
 use crate::decoder::stop::calm_bits;
@@ -23,6 +26,7 @@ use crate::line_fault::LineFault;
 use crate::line_words::{LineWords, NEVER, PLACES};
 use crate::piece::Piece;
 use crate::place_limit::PlaceLimit;
+use crate::scanned::Scanned;
 use crate::taken::Taken;
 use bus_bits::Spent;
 use bus_fcs::Check;
@@ -59,7 +63,7 @@ impl<C: Check> Model for LineDecoder<C> {
 impl<C: Check> LineDecoder<C> {
     ghost use Rattle.bus_line.specs.contracts.decoder.LineDecoder.{the_row};
     ghost use Rattle.bus_line.specs.Internal.LineState.{LineState};
-    ghost use Rattle.bus_line.specs.After.{After, Pushed, Led, TakesTo, ShowsHeld, FitsFrame};
+    ghost use Rattle.bus_line.specs.After.{After, DecideNothing, Pushed, Led, TakesTo, Tells, ShowsHeld, FitsFrame};
     ghost use Rattle.bus_line.specs.Shown.{shown, reported};
     ghost use Rattle.bus_line.specs.Report.{moved};
 
@@ -121,6 +125,42 @@ impl<C: Check> LineDecoder<C> {
             self.words
                 .advance(&mut self.check, &mut self.cells, bits, count),
         )
+    }
+
+    /// Takes bits of these octets, the least significant of each first, from bit `at` on and before bit `end`: up to the
+    /// first that decides a report, or all. Returns how many it took, and the report that the last of these decides,
+    /// if there is one. If that is a frame, [`LineDecoder::octets`] lends its octets.
+    ///
+    /// It stops in front of a bit whose place would be 2^60, and refuses as [`PlaceLimit`], with nothing changed, where
+    /// that is the first. `end` is at most eight times the number of octets.
+    #[inline(always)]
+    pub fn scan(
+        &mut self,
+        octets: &[u8],
+        at: usize,
+        end: usize,
+    ) -> Result<Scanned, PlaceLimit>
+        requires some { at < end }
+        requires enough { end ≤ 8 * length octets.now }
+        ensures limit { IsErr result ↔ (2 ^ 60 ≤ self.old.place) }
+        ensures count { IfOk result (λ s. (1 ≤ s.count) × (s.count ≤ end - at)) }
+        ensures fits { IfOk result (λ s. self.old.place + s.count ≤ 2 ^ 60) }
+        ensures all { IfOk result (λ s. s.event ≡ None → s.count < end - at → self.new.place ≡ 2 ^ 60) }
+        ensures answer { IfOk result (λ s. (b : List Bool) → After C.folded C.COST self.old b →
+            option_map (reported self.new.octets) s.event
+            ≡ option_map (moved self.old.origin)
+            (due_at self.old.longest (b ++ bits_from octets.now at s.count) (length b + s.count - 1))) }
+        ensures tells { IfOk result (λ s. Tells C.folded C.COST self.old (bits_from octets.now at s.count)
+            (option_map (reported self.new.octets) s.event) self.new) }
+        ensures before { IfOk result (λ s.
+            DecideNothing C.folded C.COST self.old (bits_from octets.now at (s.count - 1))) }
+        ensures unchanged { OnErr result (self.new ≡ self.old) }
+    {
+        // The `?` parts the two cases for the proof.
+        let scanned = self
+            .words
+            .scan(&mut self.check, &mut self.cells, octets, at, end)?;
+        Ok(scanned)
     }
 
     /// How many of these bits [`LineDecoder::take`] would take, if none of them is past the place limit:

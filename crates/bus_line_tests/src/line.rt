@@ -8,6 +8,7 @@ mod limits;
 mod plain_reading;
 mod random_lists;
 mod rows;
+mod scans;
 mod take;
 mod text;
 

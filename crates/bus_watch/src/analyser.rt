@@ -1,12 +1,13 @@
 //! The analyser: what is seen on a line, up to 48 bits at a time, in fixed memory.
 
-ghost use Rattle.std.specs.Prelude.{◌≡◌, ◌+◌, ◌-◌, ◌*◌, ◌≤◌, ◌<◌, ◌^◌, ◌↔◌, ◌⊎◌, List, Bool, [], ◌∷◌, ◌++◌, IsErr, IfOk, OnErr, IsTrue, false, length, Some, Err, slice_get, option_copied, None};
+ghost use Rattle.std.specs.Prelude.{◌≡◌, ◌≢◌, ◌+◌, ◌-◌, ◌*◌, ◌≤◌, ◌<◌, ◌^◌, ◌↔◌, ◌⊎◌, List, Bool, [], ◌∷◌, ◌++◌, IsErr, IfOk, OnErr, IsTrue, false, length, Some, Err, slice_get, option_copied, None};
 ghost use Rattle.std.specs.Option.{option_map, option_to_list};
 ghost use Rattle.std.specs.Borrow.{sem};
 ghost use Rattle.std.specs.Io.BufRead.{Rests};
 ghost use Rattle.bus_line.specs.After.{TakesTo};
 ghost use Rattle.bus_line.specs.Due.{begun};
 ghost use Rattle.bus_line.specs.Ledger.{stored_open};
+ghost use Rattle.bus_bits.specs.Bits.{bits_from};
 ghost use Rattle.bus_bits.specs.Octet.{bits_of};
 ghost use Rattle.bus_dictionary.specs.Dictionary.{longest_of};
 
@@ -14,7 +15,7 @@ use crate::counts::Counts;
 use crate::ending::Ending;
 use crate::feed::PLACES;
 use crate::finding::Finding;
-use crate::hear::{begun_span, hear};
+use crate::hear::{begun_span, hear, hear_octets};
 use crate::journal::Journal;
 use crate::kept::Kept;
 use crate::laws::{seen_grows, steps_are_bounded};
@@ -137,7 +138,42 @@ impl<C: Check> Analyser<C> {
         Ok(taken)
     }
 
-    /// What is seen at the last bit that [`Analyser::take`] took, if it decides a report.
+    /// Takes bits of these octets, the least significant of each first, from bit `at` on and before bit `end`: up to the
+    /// first that decides a report, or all. Returns how many it took. What is seen at the last of these, if it decides a
+    /// report, is then answered by [`Analyser::finding`], and [`Analyser::octets`] lends the octets of a frame.
+    ///
+    /// `at` is before `end`, which is at most eight times the number of octets. It stops in front of a bit whose place
+    /// would be 2^60, and refuses as [`PlaceLimit`], with nothing changed, where that is the first.
+    #[inline(always)]
+    pub fn scan(&mut self, octets: &[u8], at: usize, end: usize) -> Result<usize, PlaceLimit>
+        requires some { at < end }
+        requires enough { end ≤ 8 * length octets.now }
+        ensures limit { IsErr result ↔ (2 ^ 60 ≤ self.old.decoder.place) }
+        ensures within { IfOk result (λ n. (1 ≤ n) × (n ≤ end - at)) }
+        ensures fits { IfOk result (λ n. self.old.decoder.place + n ≤ 2 ^ 60) }
+        ensures all { IfOk result (λ n. n < end - at →
+            (self.new.decoder.place ≡ 2 ^ 60) ⊎ (self.new.finding ≢ None)) }
+        ensures sees { IfOk result (λ n. Sees C.folded C.COST self.old (bits_from octets.now at n)
+            (heard self.new) self.new) }
+        ensures before { IfOk result (λ n. (b : List Bool) → IsAfter C.folded C.COST self.old b →
+            seen_after self.old (b ++ bits_from octets.now at (n - 1)) ≡ seen_after self.old b) }
+        ensures unchanged { OnErr result (self.new ≡ self.old) }
+    {
+        settled_places();
+        // The `?` parts the two cases for the proof.
+        let taken = hear_octets(
+            &mut self.decoder,
+            &mut self.journal,
+            &mut self.is_decided,
+            None,
+            octets,
+            at,
+            end,
+        )?;
+        Ok(taken)
+    }
+
+    /// What is seen at the last bit that [`Analyser::take`] or [`Analyser::scan`] took, if it decides a report.
     /// [`Analyser::octets`] lends the octets of a frame.
     #[inline(always)]
     pub fn finding(&self) -> Option<&Finding>

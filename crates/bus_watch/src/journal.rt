@@ -1,6 +1,6 @@
 //! What is kept of the reports so far.
 
-ghost use Rattle.std.specs.Prelude.{◌≡◌, ◌+◌, ◌≤◌, ◌<◌, ◌^◌, List, ℕ, Option, [], ◌∷◌, ◌++◌, IfOk, length, replicate, true, Some, None, slice_get, option_copied, option_map};
+ghost use Rattle.std.specs.Prelude.{◌≡◌, ◌≢◌, ◌+◌, ◌≤◌, ◌<◌, ◌^◌, List, ℕ, Option, [], ◌∷◌, ◌++◌, IfOk, length, replicate, true, Some, None, slice_get, option_copied, option_map};
 
 mod keep;
 mod pair;
@@ -87,6 +87,7 @@ impl Journal {
         ensures says { (hs : List Heard) → Keeps (journal_state self.old) hs →
             option_map (found_on line octets.now) self.new.last
             ≡ Some (seen_of self.old.dictionary hs (heard_on line (reported octets.now event))) }
+        ensures told { self.new.last ≢ None }
         ensures given { (self.new.dictionary ≡ self.old.dictionary)
             × (self.new.history.capacity ≡ self.old.history.capacity) }
     {
@@ -107,6 +108,7 @@ impl Journal {
         ensures says { (hs : List Heard) → Keeps (journal_state self.old) hs →
             option_map (found_on None octets.now) self.new.last
             ≡ Some (seen_of self.old.dictionary hs (heard_on None (reported octets.now event))) }
+        ensures told { self.new.last ≢ None }
         ensures given { (self.new.dictionary ≡ self.old.dictionary)
             × (self.new.history.capacity ≡ self.old.history.capacity) }
     {
@@ -124,6 +126,7 @@ impl Journal {
         ensures says { (hs : List Heard) → Keeps (journal_state self.old) hs →
             option_map (found_on (Some line) octets.now) self.new.last
             ≡ Some (seen_of self.old.dictionary hs (heard_on (Some line) (reported octets.now event))) }
+        ensures told { self.new.last ≢ None }
         ensures given { (self.new.dictionary ≡ self.old.dictionary)
             × (self.new.history.capacity ≡ self.old.history.capacity) }
     {
@@ -141,6 +144,7 @@ impl Journal {
         ensures says { (hs : List Heard) → Keeps (journal_state self.old) hs →
             option_map (found_on line octets.now) self.new.last
             ≡ Some (seen_of self.old.dictionary hs (heard_on line (reported octets.now event))) }
+        ensures told { self.new.last ≢ None }
         ensures given { (self.new.dictionary ≡ self.old.dictionary)
             × (self.new.history.capacity ≡ self.old.history.capacity) }
     {

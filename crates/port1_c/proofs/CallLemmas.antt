@@ -6,9 +6,9 @@ use Rattle.bus_line.specs.Internal.EncoderState.{EncoderState}
 use Rattle.bus_line.specs.Encoding.{AfterCalls, Encoded, Refused}
 use Rattle.bus_line.specs.declared.encode_fault.EncodeFault.{EncodeFault}
 use Rattle.bus_line.specs.declared.encode_fault.EncodeFault.TheVariants.{Ended, LengthRange, Sink}
-use Rattle.port1_c.specs.Bits.{bits_from}
+use Rattle.bus_bits.specs.Bits.{bits_from}
 use Rattle.port1_c.specs.declared.call_bits.CallBits.{CallBits}
-use Rattle.port1_c.proofs.BitLemmas.{length-from}
+use Rattle.bus_bits.proofs.BitLemmas.{length-from}
 
 abbrev pub taken : CallBits → Option (List Bool)
 taken sink = Some (bits_from sink.octets 0 sink.count)

@@ -1,7 +1,8 @@
 -- Bits that are put into octets.
 use Rattle.std.proofs.Common.{◌≡◌, ◌≢◌, ℕ, zero, suc, ◌+◌, ◌<◌, ◌≤◌, Bool, List, [], ◌∷◌, ◌++◌, length, refl, sym, ap, ◌∙◌, arith}
-use Rattle.port1_c.specs.Bits.{bit_at, bits_from, Puts}
-use Rattle.port1_c.proofs.BitLemmas.{bits-more, length-from}
+use Rattle.bus_bits.specs.Bits.{bit_at, bits_from}
+use Rattle.port1_c.specs.Bits.{Puts}
+use Rattle.bus_bits.proofs.BitLemmas.{bits-more, length-from}
 
 -- bits that are alike
 pub bits-alike : (os ps : List ℕ) (i n : ℕ) → ((j : ℕ) → i ≤ j → j < i + n → bit_at os j ≡ bit_at ps j) → bits_from os i n ≡ bits_from ps i n

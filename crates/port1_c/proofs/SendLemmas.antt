@@ -5,10 +5,11 @@ use Rattle.std.specs.List.{last_or}
 use Rattle.std.proofs.Math.Seq.{drop-append_seam}
 use Rattle.bus_line.specs.Line.{Call, Flag, Idle, Frame, ends_with_flag, gain, line_behind, raw_bits}
 use Rattle.bus_line.specs.Mark.{flag}
-use Rattle.port1_c.specs.Bits.{bits_from, Puts}
+use Rattle.bus_bits.specs.Bits.{bits_from}
+use Rattle.port1_c.specs.Bits.{Puts}
 use Rattle.port1_c.specs.Send.{Follows, Gains, GainsAll, idles}
 use Rattle.port1_c.specs.declared.sender.Port1Sender.{Port1Sender}
-use Rattle.port1_c.proofs.BitLemmas.{bits-more, length-from}
+use Rattle.bus_bits.proofs.BitLemmas.{bits-more, length-from}
 
 last-push : (o : Option Call) (calls : List Call) (call : Call) → last_or o (calls ++ call ∷ []) ≡ Some call
 last-push o [] call = refl

@@ -7,9 +7,9 @@ use Rattle.bus_line.specs.Words.{LineState}
 use Rattle.bus_line.specs.Report.{Report}
 use Rattle.bus_line.specs.Due.{placed}
 use Rattle.port1_c.specs.declared.report.Port1Report.{Port1Report}
-use Rattle.port1_c.specs.Bits.{bits_from}
+use Rattle.bus_bits.specs.Bits.{bits_from}
 use Rattle.port1_c.specs.Line.{After, DecideNothing, told, Tells}
-use Rattle.port1_c.proofs.BitLemmas.{bits-more}
+use Rattle.bus_bits.proofs.BitLemmas.{bits-more}
 
 abbrev pub State : Type 0
 State = LineState OctetCheck

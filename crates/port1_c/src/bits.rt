@@ -1,13 +1,13 @@
 //! Bits into a decoder, with a report told in plain numbers.
 
 ghost use Rattle.std.specs.Prelude.{true, ◌≡◌, ◌≢◌, ◌+◌, ◌-◌, ◌*◌, ◌≤◌, ◌<◌, ◌^◌, ◌⊎◌, IsErr, IfOk, OnErr, ◌∷◌, [], length};
-ghost use Rattle.port1_c.specs.Bits.{bits_from};
+ghost use Rattle.bus_bits.specs.Bits.{bits_from};
 ghost use Rattle.port1_c.specs.Line.{DecideNothing, IsCoded, Sound, Tells, held};
 
 use crate::line::Port1Line;
 use crate::report::{NONE, Port1Report};
 use crate::status::{OK, PLACE_LIMIT};
-use crate::word::word_at;
+use bus_bits::word_at;
 use bus_line::PlaceLimit;
 
 /// How many bits were taken, and what the last of them decided.

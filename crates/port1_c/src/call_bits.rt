@@ -3,7 +3,7 @@
 ghost use Rattle.std.specs.Prelude.{◌≡◌, ◌+◌, ◌*◌, ◌≤◌, ◌<◌, ◌++◌, Some, length};
 ghost use Rattle.bus_line.specs.Line.{raw_bits};
 ghost use Rattle.bus_line.specs.Mark.{flag};
-ghost use Rattle.port1_c.specs.Bits.{bits_from};
+ghost use Rattle.bus_bits.specs.Bits.{bits_from};
 
 use crate::put::set_bit;
 use bus_line::{BitSink, LineEncoder, SinkRefused};

@@ -15,7 +15,6 @@ mod seen;
 mod send;
 mod sender;
 mod status;
-mod word;
 
 pub use calls::{port1_line_feed, port1_line_init, port1_line_open, port1_line_push};
 pub use entry::Port1Entry;

@@ -1,7 +1,8 @@
 //! Single bits of packed octets.
 
 ghost use Rattle.std.specs.Prelude.{◌≡◌, ◌≢◌, ◌+◌, ◌-◌, ◌*◌, ◌≤◌, ◌<◌, ◌^◌, ◌/◌, ◌%◌, ℕ, cond, length};
-ghost use Rattle.port1_c.specs.Bits.{bit_at, bits_from, Puts};
+ghost use Rattle.bus_bits.specs.Bits.{bit_at, bits_from};
+ghost use Rattle.port1_c.specs.Bits.{Puts};
 
 /// Bit `at` of these octets, the lowest of each first.
 #[inline(always)]

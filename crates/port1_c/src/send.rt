@@ -2,7 +2,8 @@
 
 ghost use Rattle.std.specs.Prelude.{◌≡◌, ◌≢◌, ◌+◌, ◌-◌, ◌*◌, ◌%◌, ◌≤◌, ◌<◌, ◌^◌, ◌↔◌, ◌⊎◌, List, [], ◌∷◌, ◌++◌, length};
 ghost use Rattle.bus_line.specs.Line.{Call, gain};
-ghost use Rattle.port1_c.specs.Bits.{bits_from, Puts};
+ghost use Rattle.bus_bits.specs.Bits.{bits_from};
+ghost use Rattle.port1_c.specs.Bits.{Puts};
 ghost use Rattle.port1_c.specs.Send.{Follows, Gains, GainsAll, idles};
 
 use crate::call_bits::frame_bits;

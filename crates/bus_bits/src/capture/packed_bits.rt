@@ -1,17 +1,16 @@
 //! The bits of a packed capture, after its head.
 
-ghost use Rattle.std.specs.Prelude.{◌≡◌, ℕ, List, [], ◌∷◌, ◌++◌, length, Some, None, MatchResult, OnErr, ◌≤◌, ◌<◌, ◌^◌, take};
+ghost use Rattle.std.specs.Prelude.{◌≡◌, ℕ, List, [], ◌∷◌, ◌++◌, length, Some, None, MatchResult, OnErr, ◌≤◌, ◌<◌, ◌+◌, ◌*◌, ◌^◌, ◌⊎◌, take};
 ghost use Rattle.std.specs.List.{list_any};
+ghost use Rattle.bus_bits.specs.Bits.{bits_from};
 ghost use Rattle.bus_bits.specs.Octet.{bits_of};
 ghost use Rattle.bus_bits.specs.Packed.{PackedAfter, packed_body, packed_fault_of, filled};
 
 use crate::capture::packed_head::PackedHead;
 use crate::octet::octet_bits;
 use arrayvec::ArrayVec;
+use std::cmp::min;
 use std::marker::Model;
-
-/// The 48 bits of six octets.
-const SIX: u64 = (1 << 48) - 1;
 
 /// Why the octets after a head are not its bits.
 #[derive(Clone, Copy, Debug, PartialEq, Eq)]
@@ -82,18 +81,28 @@ impl PackedBits {
         Ok(gathered(&bits[..used]))
     }
 
-    /// Takes the first six of eight octets, of which all bits are wanted, and gives these 48, the
-    /// first lowest.
+    /// How many of the next `count` octets are octets of which all eight bits are wanted.
     #[inline(always)]
-    pub fn take_six(&mut self, octets: &[u8; 8]) -> u64
-        requires { 48 ≤ self.old }
-        ensures given { (n : ℕ) (xs : List ℕ) → PackedAfter n xs self.old →
-            PackedAfter n (xs ++ take 6 octets.now) self.new
-            × ((packed_body n (xs ++ take 6 octets.now)).bits ≡ (packed_body n xs).bits ++ bits_of 48 result) }
-        ensures small { result < 2 ^ 48 }
+    pub fn whole(&self, count: usize) -> usize
+        ensures within { result ≤ count }
+        ensures wanted { 8 * result ≤ self.now }
+        ensures few { 8 * result < 2 ^ 64 }
+        ensures most { (result ≡ count) ⊎ (self.now < 8 * result + 8) }
     {
-        self.left -= 48;
-        u64::from_le_bytes(*octets) & SIX
+        min(count as u64, self.left / 8) as usize
+    }
+
+    /// Takes octets of which all eight bits are wanted, without giving these.
+    #[inline(always)]
+    pub fn take_all(&mut self, octets: &[u8])
+        requires { 8 * length octets.now ≤ self.old }
+        ensures given { (n : ℕ) (xs : List ℕ) → PackedAfter n xs self.old →
+            PackedAfter n (xs ++ octets.now) self.new
+            × ((packed_body n (xs ++ octets.now)).bits
+            ≡ (packed_body n xs).bits ++ bits_from octets.now 0 (8 * length octets.now)) }
+    {
+        let left = self.left;
+        self.left = left - 8 * octets.len() as u64;
     }
 
     /// Takes an octet of which all eight bits are wanted, without giving them.

@@ -18,7 +18,7 @@ impl LineWords {
     #[inline(always)]
     pub(crate) fn append<C: Check>(&mut self, check: &mut C, cells: &mut [u8; 272], more: Data)
         requires within { IsWithin self.old }
-        requires few { more.count ≤ 48 }
+        requires few { more.count ≤ 56 }
         requires small { more.bits < 2 ^ more.count }
         requires room { self.old.assembled + more.count ≤ self.old.place - self.old.origin }
         ensures holds { (bits : List Bool) → Holds C.folded (state self.old check.old cells.old) bits →
@@ -153,7 +153,7 @@ impl LineWords {
     #[inline(always)]
     fn put_all<C: Check>(&mut self, check: &mut C, cells: &mut [u8; 272], joined: u64, count: u64)
         requires within { IsWithin self.old }
-        requires few { count ≤ 6 }
+        requires few { count ≤ 7 }
         requires room { self.old.stored + count ≤ self.old.assembled }
         ensures keeps { (os : List ℕ) → Keeps C.folded (state self.old check.old cells.old) os →
             Keeps C.folded (state self.new check.new cells.new) (os ++ octets_of count joined) }
@@ -246,7 +246,7 @@ impl LineWords {
         count: usize,
     )
         requires within { IsWithin self.old }
-        requires few { count ≤ 6 }
+        requires few { count ≤ 7 }
         requires room { self.old.len + count ≤ self.old.longest + 2 }
         requires counted { self.old.stored + count ≤ self.old.assembled }
         ensures octets { take self.new.len cells.new ≡ take self.old.len cells.old ++ take count octets.now }

@@ -30,13 +30,13 @@ const PARTS: [&str; 10] = [
 
 /// What a decoder says of itself.
 #[derive(Clone, Copy, PartialEq, Eq)]
-struct State {
+pub(super) struct State {
     spent: Spent,
     buffered: usize,
     begun: Option<u64>,
 }
 
-fn state_of(decoder: &LineDecoder<OctetCheck>) -> State {
+pub(super) fn state_of(decoder: &LineDecoder<OctetCheck>) -> State {
     State {
         spent: decoder.spent(),
         buffered: decoder.buffered(),
@@ -45,7 +45,7 @@ fn state_of(decoder: &LineDecoder<OctetCheck>) -> State {
 }
 
 /// Parts and beginnings of parts, one behind the other; the same seed gives the same list.
-fn traffic(rt: &impl Abort, alloc: Global, seed: u64) -> Vec<bool> {
+pub(super) fn traffic(rt: &impl Abort, alloc: Global, seed: u64) -> Vec<bool> {
     let mut bits = Vec::new(alloc);
     let mut state = seed;
     for _ in 0..BITS {

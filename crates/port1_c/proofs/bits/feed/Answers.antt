@@ -1,5 +1,5 @@
 use Rattle.std.proofs.Common.{◌≡◌, ◌+◌, ◌-◌, ℕ, subst, arith}
-use Rattle.port1_c.specs.Bits.{bits_from}
+use Rattle.bus_bits.specs.Bits.{bits_from}
 use Rattle.port1_c.specs.Line.{DecideNothing, Tells, held}
 use Rattle.port1_c.proofs.bits.feed.Goals as goal
 

@@ -2,10 +2,10 @@ use Rattle.std.proofs.Common.{◌≡◌, ◌+◌, ◌-◌, ◌/◌, ◌^◌, ℕ
 use Rattle.std.specs.Prelude.{slice_index}
 use Rattle.std.proofs.lemmas.Bool.{cases_lt}
 use Rattle.bus_bits.specs.Octet.{bits_of}
-use Rattle.port1_c.specs.Bits.{bits_from}
+use Rattle.bus_bits.specs.Bits.{bits_from}
 use Rattle.port1_c.specs.Line.{DecideNothing, Tells, held}
 use Rattle.port1_c.specs.declared.line.Port1Line.{Port1Line}
-use Rattle.port1_c.proofs.BitLemmas.{bits-in}
+use Rattle.bus_bits.proofs.BitLemmas.{bits-in}
 use Rattle.port1_c.proofs.TellLemmas.{decide-more, silent, tell-alike, tell-more}
 use Rattle.port1_c.proofs.bits.feed_octet.Goals as goal
 

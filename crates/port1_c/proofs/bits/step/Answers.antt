@@ -2,10 +2,10 @@ use Rattle.std.proofs.Common.{◌≡◌, ◌-◌, ◌≤◌, ◌%◌, ◌∙◌,
 use Rattle.bus_fcs.specs.declared.octet_check.OctetCheck.{OctetCheck}
 use Rattle.bus_line.specs.Words.{LineState}
 use Rattle.bus_bits.specs.Octet.{bits_of}
-use Rattle.port1_c.specs.Bits.{bits_from}
+use Rattle.bus_bits.specs.Bits.{bits_from}
 use Rattle.port1_c.specs.Line.{DecideNothing, Tells, held}
 use Rattle.port1_c.specs.declared.bits.Told.{Told}
-use Rattle.port1_c.proofs.BitLemmas.{bits-single}
+use Rattle.bus_bits.proofs.BitLemmas.{bits-single}
 use Rattle.port1_c.proofs.TellLemmas.{decide-none, if-ok-both}
 use Rattle.port1_c.proofs.bits.step.Goals as goal
 

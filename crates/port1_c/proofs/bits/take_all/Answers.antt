@@ -1,7 +1,7 @@
 use Rattle.std.proofs.Common.{◌≡◌, ◌+◌, ◌-◌, ◌∙◌, ℕ, ap, refl, sym, subst, arith}
 use Rattle.bus_fcs.specs.declared.octet_check.OctetCheck.{OctetCheck}
 use Rattle.bus_line.specs.Words.{LineState}
-use Rattle.port1_c.specs.Bits.{bits_from}
+use Rattle.bus_bits.specs.Bits.{bits_from}
 use Rattle.port1_c.specs.Line.{DecideNothing, Tells, held}
 use Rattle.port1_c.proofs.TellLemmas.{decide-more, silent, tell-alike, tell-more, tell-none}
 use Rattle.port1_c.proofs.bits.take_all.Goals as goal

@@ -1,5 +1,5 @@
 use Rattle.std.proofs.Common.{◌+◌, ◌-◌, ◌≤◌}
-use Rattle.port1_c.specs.Bits.{bits_from}
+use Rattle.bus_bits.specs.Bits.{bits_from}
 use Rattle.port1_c.specs.Line.{Sound, Tells, held}
 use Rattle.port1_c.proofs.TellLemmas.{silent}
 use Rattle.port1_c.proofs.bits.take_all.Given as goal

@@ -1,7 +1,7 @@
 use Rattle.std.proofs.Common.{◌≡◌, ◌-◌, ◌++◌, ℕ, sym, subst, arith}
-use Rattle.port1_c.specs.Bits.{bits_from}
+use Rattle.bus_bits.specs.Bits.{bits_from}
 use Rattle.port1_c.specs.Line.{Stands}
-use Rattle.port1_c.proofs.BitLemmas.{length-from}
+use Rattle.bus_bits.proofs.BitLemmas.{length-from}
 use Rattle.port1_c.proofs.calls.port1_line_feed.Goals as goal
 
 pub returns-then-is_octet-clause-stands : goal.returns-then-is_octet-clause-stands

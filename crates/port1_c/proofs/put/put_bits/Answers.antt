@@ -1,5 +1,6 @@
 use Rattle.std.proofs.Common.{◌≡◌, ◌-◌, ℕ, ◌∙◌, subst, arith}
-use Rattle.port1_c.specs.Bits.{bits_from, Puts}
+use Rattle.bus_bits.specs.Bits.{bits_from}
+use Rattle.port1_c.specs.Bits.{Puts}
 use Rattle.port1_c.proofs.PutLemmas.{puts-none, puts-more}
 use Rattle.port1_c.proofs.put.put_bits.Goals as goal
 

@@ -1,4 +1,5 @@
-use Rattle.port1_c.specs.Bits.{bits_from, Puts}
+use Rattle.bus_bits.specs.Bits.{bits_from}
+use Rattle.port1_c.specs.Bits.{Puts}
 use Rattle.port1_c.proofs.put.put_bits.Given as goal
 
 abbrev pub invariant-loop-i : goal.invariant-loop-i

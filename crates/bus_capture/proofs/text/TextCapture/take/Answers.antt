@@ -16,8 +16,8 @@ loop-taken-init g c = record {
   front = λ start xs t. subst (FollowsOctets g.T.Tap.tap start (g.W.Write.contents c.args.w.now) c.args.run.now) (sym (append-nil xs)) (record { clean = t.clean; bits = t.bits });
 }
 
-pub take_many-requires : goal.take_many-requires
-take_many-requires g c = c.loop-taken.invariant.sound
+pub take_text-requires : goal.take_text-requires
+take_text-requires g c = c.loop-taken.invariant.sound
 
 pub returns-in_err-many-clause-taken : goal.returns-in_err-many-clause-taken
 returns-in_err-many-clause-taken g c =
@@ -28,28 +28,28 @@ returns-in_err-many-clause-taken g c =
     let i = c.loop-taken.taken in
     let stops = c.in_err-many.ensures.taken start (xs ++ take i os) (c.loop-taken.invariant.front start xs t) in
     let n = stops.0 in
-    let origin = tap.watch.origin c.take_many.new.run.analyser in
-    stops-more tap start _ c.take_many.new.run (capped origin (tap.form.text (xs ++ take (i + n) os))) (capped origin (tap.form.text (xs ++ os))) c.in_err-many.field-0.0
+    let origin = tap.watch.origin c.take_text.new.run.analyser in
+    stops-more tap start _ c.take_text.new.run (capped origin (tap.form.text (xs ++ take (i + n) os))) (capped origin (tap.form.text (xs ++ os))) c.in_err-many.field-0.0
     (front-grown tap.form.text c.laws.ensures.form.text c.laws.ensures.form.places origin xs os (i + n))
-    (subst (λ (ys : List ℕ). Stops tap true start (g.W.Write.contents c.take_many.new.w) c.take_many.new.run ys c.in_err-many.field-0.0) (octets-next xs os i n) stops.2))
+    (subst (λ (ys : List ℕ). Stops tap true start (g.W.Write.contents c.take_text.new.w) c.take_text.new.run ys c.in_err-many.field-0.0) (octets-next xs os i n) stops.2))
 
 pub returns-in_err-many-clause-same : goal.returns-in_err-many-clause-same
-returns-in_err-many-clause-same g c = same-both g.T.Tap.tap c.args.run.now c.loop-taken.run c.take_many.new.run c.loop-taken.invariant.same c.take_many.ensures.same
+returns-in_err-many-clause-same g c = same-both g.T.Tap.tap c.args.run.now c.loop-taken.run c.take_text.new.run c.loop-taken.invariant.same c.take_text.ensures.same
 
 pub loop-taken-preserved-then-many-gt0 : goal.loop-taken-preserved-then-many-gt0
 loop-taken-preserved-then-many-gt0 g c = record {
-  sound = c.take_many.ensures.sound;
-  same = same-both g.T.Tap.tap c.args.run.now c.loop-taken.run c.take_many.new.run c.loop-taken.invariant.same c.take_many.ensures.same;
+  sound = c.take_text.ensures.sound;
+  same = same-both g.T.Tap.tap c.args.run.now c.loop-taken.run c.take_text.new.run c.loop-taken.invariant.same c.take_text.ensures.same;
   front = λ start xs t.
       let os = c.args.octets.now in
       let i = c.loop-taken.taken in
-      subst (FollowsOctets g.T.Tap.tap start (g.W.Write.contents c.take_many.new.w) c.take_many.new.run)
+      subst (FollowsOctets g.T.Tap.tap start (g.W.Write.contents c.take_text.new.w) c.take_text.new.run)
       (octets-next xs os i c.in_ok-many.many)
       (c.in_ok-many.ensures.taken start (xs ++ take i os) (c.loop-taken.invariant.front start xs t));
 }
 
 pub take_one-requires : goal.take_one-requires
-take_one-requires g c = c.take_many.ensures.sound
+take_one-requires g c = c.take_text.ensures.sound
 
 pub returns-in_err-take_one-clause-taken : goal.returns-in_err-take_one-clause-taken
 returns-in_err-take_one-clause-taken g c =
@@ -70,14 +70,14 @@ returns-in_err-take_one-clause-taken g c =
 
 pub returns-in_err-take_one-clause-same : goal.returns-in_err-take_one-clause-same
 returns-in_err-take_one-clause-same g c =
-    same-both g.T.Tap.tap c.args.run.now c.take_many.new.run c.take_one.new.run
-    (same-both g.T.Tap.tap c.args.run.now c.loop-taken.run c.take_many.new.run c.loop-taken.invariant.same c.take_many.ensures.same) c.take_one.ensures.same
+    same-both g.T.Tap.tap c.args.run.now c.take_text.new.run c.take_one.new.run
+    (same-both g.T.Tap.tap c.args.run.now c.loop-taken.run c.take_text.new.run c.loop-taken.invariant.same c.take_text.ensures.same) c.take_one.ensures.same
 
 pub loop-taken-preserved : goal.loop-taken-preserved
 loop-taken-preserved g c = record {
   sound = c.take_one.ensures.sound;
-  same = same-both g.T.Tap.tap c.args.run.now c.take_many.new.run c.take_one.new.run
-      (same-both g.T.Tap.tap c.args.run.now c.loop-taken.run c.take_many.new.run c.loop-taken.invariant.same c.take_many.ensures.same) c.take_one.ensures.same;
+  same = same-both g.T.Tap.tap c.args.run.now c.take_text.new.run c.take_one.new.run
+      (same-both g.T.Tap.tap c.args.run.now c.loop-taken.run c.take_text.new.run c.loop-taken.invariant.same c.take_text.ensures.same) c.take_one.ensures.same;
   front = λ start xs t.
       let tap = g.T.Tap.tap in
       let os = c.args.octets.now in

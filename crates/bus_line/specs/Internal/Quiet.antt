@@ -1,0 +1,15 @@
+-- Time fill that is taken at once.
+use Rattle.std.specs.Prelude.{◌≡◌, ℕ, ◌+◌, ◌-◌, ◌*◌, ◌/◌, ◌<◌, ◌≤◌, List}
+use Rattle.bus_bits.specs.Bits.{bits_from}
+use Rattle.bus_line.specs.declared.line_words.LineWords.{LineWords}
+use Rattle.bus_line.specs.Mark.{flags}
+
+-- so many ones more, behind sixteen, lead from old to new
+pub record PassesOnes (old : LineWords) (count : ℕ) (new : LineWords) : Type 0 where
+  pub behind : 0 < count → old.history ≡ 65535
+  pub new_is : new ≡ record old { place = old.place + count }
+
+-- the bits of these octets from bit `from` on and before bit `to` are whole flags
+pub record AreFlags (octets : List ℕ) (from to : ℕ) : Type 0 where
+  pub whole : to - from ≡ 8 * ((to - from) / 8)
+  pub are : bits_from octets from (to - from) ≡ flags ((to - from) / 8)

@@ -1,0 +1,276 @@
+//! Many bits at once, from octets.
+
+ghost use Rattle.std.specs.Prelude.{◌≡◌, ◌≢◌, ◌+◌, ◌-◌, ◌*◌, ◌/◌, ◌≤◌, ◌<◌, ◌^◌, ◌↔◌, List, Bool, false, true, IsErr, IfOk, OnErr, None, length, ℕ, replicate};
+ghost use Rattle.std.specs.Option.{option_map};
+ghost use Rattle.bus_bits.specs.Bits.{bits_from};
+ghost use Rattle.bus_bits.specs.Octet.{bits_of};
+
+use crate::decoder::late::late_data;
+use crate::decoder::quiet::{flags_end, has_six, ones_end};
+use crate::line_words::{LineWords, NEVER, PLACES};
+use crate::place_limit::PlaceLimit;
+use crate::scanned::Scanned;
+use bus_bits::{seven_octets_at, word_at};
+use bus_fcs::Check;
+use std::cmp::min;
+
+impl LineWords {
+    ghost use Rattle.bus_line.specs.Words.{IsWithin, state};
+    ghost use Rattle.bus_line.specs.Shown.{reported};
+    ghost use Rattle.bus_line.specs.After.{DecideNothing, Tells};
+    ghost use Rattle.bus_line.specs.Internal.Flags.{PassesFlags};
+    ghost use Rattle.bus_line.specs.Internal.Quiet.{PassesOnes, AreFlags};
+
+    /// Takes bits as [`LineDecoder::scan`](crate::LineDecoder::scan) does, with the octets of the piece and
+    /// their check in the caller's hands. The first [`LineWords::len`] of the cells are then the octets.
+    ///
+    /// Refuses as [`PlaceLimit`], with nothing changed, where the first bit's place would be 2^60.
+    #[inline(always)]
+    pub fn scan<C: Check>(
+        &mut self,
+        check: &mut C,
+        cells: &mut [u8; 272],
+        octets: &[u8],
+        at: usize,
+        end: usize,
+    ) -> Result<Scanned, PlaceLimit>
+        requires within { IsWithin self.old }
+        requires some { at < end }
+        requires enough { end ≤ 8 * length octets.now }
+        ensures limit { IsErr result ↔ (2 ^ 60 ≤ self.old.place) }
+        ensures count { IfOk result (λ s. (1 ≤ s.count) × (s.count ≤ end - at)) }
+        ensures all { IfOk result (λ s. s.event ≡ None → s.count < end - at → self.new.place ≡ 2 ^ 60) }
+        ensures tells { IfOk result (λ s. Tells C.folded C.COST (state self.old check.old cells.old)
+            (bits_from octets.now at s.count)
+            (option_map (reported (state self.new check.new cells.new).octets) s.event)
+            (state self.new check.new cells.new)) }
+        ensures before { IfOk result (λ s. DecideNothing C.folded C.COST (state self.old check.old cells.old)
+            (bits_from octets.now at (s.count - 1))) }
+        ensures unchanged { OnErr result ((self.new ≡ self.old) × (check.new ≡ check.old)
+            × (cells.new ≡ cells.old)) }
+        ensures within { IsWithin self.new }
+        ensures cells { length cells.new ≡ 272 }
+    {
+        let room = PLACES - self.place;
+        if room == 0 {
+            return Err(PlaceLimit);
+        }
+        let count = min((end - at) as u64, room) as usize;
+        Ok(self.scan_all(check, cells, octets, at, at + count))
+    }
+
+    /// Takes bits up to the first that decides a report, or all, which have places.
+    #[inline(always)]
+    fn scan_all<C: Check>(
+        &mut self,
+        check: &mut C,
+        cells: &mut [u8; 272],
+        octets: &[u8],
+        from: usize,
+        end: usize,
+    ) -> Scanned
+        requires within { IsWithin self.old }
+        requires some { from ≤ end }
+        requires enough { end ≤ 8 * length octets.now }
+        requires room { self.old.place + (end - from) ≤ 2 ^ 60 }
+        ensures count { result.count ≤ end - from }
+        ensures some { from < end → 1 ≤ result.count }
+        ensures all { result.event ≡ None → result.count ≡ end - from }
+        ensures tells { Tells C.folded C.COST (state self.old check.old cells.old)
+            (bits_from octets.now from result.count)
+            (option_map (reported (state self.new check.new cells.new).octets) result.event)
+            (state self.new check.new cells.new) }
+        ensures before { DecideNothing C.folded C.COST (state self.old check.old cells.old)
+            (bits_from octets.now from (result.count - 1)) }
+        ensures within { IsWithin self.new }
+        ensures cells { length cells.new ≡ 272 }
+    {
+        let mut at = from;
+        while at < end {
+            let scanned = self.scan_some(check, cells, octets, at, end);
+            at += scanned.count;
+            if scanned.event.is_some() {
+                return Scanned {
+                    count: at - from,
+                    event: scanned.event,
+                };
+            }
+        }
+        Scanned {
+            count: end - from,
+            event: None,
+        }
+    }
+
+    /// Takes up to 48 bits, or those of them up to the first that may decide a report; and if that decides none, those
+    /// behind them that decide nothing, as many as come at once.
+    #[inline(always)]
+    fn scan_some<C: Check>(
+        &mut self,
+        check: &mut C,
+        cells: &mut [u8; 272],
+        octets: &[u8],
+        from: usize,
+        end: usize,
+    ) -> Scanned
+        requires within { IsWithin self.old }
+        requires some { from < end }
+        requires enough { end ≤ 8 * length octets.now }
+        requires room { self.old.place + (end - from) ≤ 2 ^ 60 }
+        ensures count { (1 ≤ result.count) × (result.count ≤ end - from) }
+        ensures tells { Tells C.folded C.COST (state self.old check.old cells.old)
+            (bits_from octets.now from result.count)
+            (option_map (reported (state self.new check.new cells.new).octets) result.event)
+            (state self.new check.new cells.new) }
+        ensures before { DecideNothing C.folded C.COST (state self.old check.old cells.old)
+            (bits_from octets.now from (result.count - 1)) }
+        ensures within { IsWithin self.new }
+        ensures cells { length cells.new ≡ 272 }
+    {
+        let word = word_at(octets, from, end);
+        let taken = self.advance(check, cells, word.bits, word.count);
+        let at = from + taken.count as usize;
+        if taken.event.is_some() {
+            return Scanned {
+                count: at - from,
+                event: taken.event,
+            };
+        }
+        let past = self.pass_quiet(check, cells, octets, at, end);
+        Scanned {
+            count: past - from,
+            event: None,
+        }
+    }
+
+    /// Takes bits that decide nothing, 56 at a time: those of an open piece without six ones in a row, and time fill
+    /// (ISO/IEC 13239, interframe time fill). Returns where the next bit is.
+    #[inline(always)]
+    fn pass_quiet<C: Check>(
+        &mut self,
+        check: &mut C,
+        cells: &mut [u8; 272],
+        octets: &[u8],
+        from: usize,
+        end: usize,
+    ) -> usize
+        requires within { IsWithin self.old }
+        requires some { from ≤ end }
+        requires enough { end ≤ 8 * length octets.now }
+        requires room { self.old.place + (end - from) ≤ 2 ^ 60 }
+        ensures within { (from ≤ result) × (result ≤ end) }
+        ensures tells { Tells C.folded C.COST (state self.old check.old cells.old)
+            (bits_from octets.now from (result - from)) None (state self.new check.new cells.new) }
+        ensures sound { IsWithin self.new }
+        ensures cells { length cells.new ≡ 272 }
+    {
+        if self.settles_at <= self.place {
+            return self.pass_data(check, cells, octets, from, end);
+        }
+        if self.settles_at == NEVER {
+            return self.pass_ones(octets, from, end);
+        }
+        if self.settles_at == self.place + 8 {
+            return self.pass_flags(octets, from, end);
+        }
+        from
+    }
+
+    /// Takes bits of the open piece, 56 at a time, before the first of which six ones end.
+    #[inline(always)]
+    fn pass_data<C: Check>(
+        &mut self,
+        check: &mut C,
+        cells: &mut [u8; 272],
+        octets: &[u8],
+        from: usize,
+        end: usize,
+    ) -> usize
+        requires within { IsWithin self.old }
+        requires open { self.old.settles_at ≤ self.old.place }
+        requires some { from ≤ end }
+        requires enough { end ≤ 8 * length octets.now }
+        requires room { self.old.place + (end - from) ≤ 2 ^ 60 }
+        ensures within { (from ≤ result) × (result ≤ end) }
+        ensures tells { Tells C.folded C.COST (state self.old check.old cells.old)
+            (bits_from octets.now from (result - from)) None (state self.new check.new cells.new) }
+        ensures sound { IsWithin self.new }
+        ensures cells { length cells.new ≡ 272 }
+    {
+        let mut at = from;
+        while end - at >= 64 {
+            if !self.take_data(check, cells, seven_octets_at(octets, at)) {
+                break;
+            }
+            at += 56;
+        }
+        at
+    }
+
+    /// Takes the lowest 56 of these bits, which go on with the open piece, if six ones end before none of them.
+    #[inline(always)]
+    fn take_data<C: Check>(&mut self, check: &mut C, cells: &mut [u8; 272], bits: u64) -> bool
+        requires within { IsWithin self.old }
+        requires open { self.old.settles_at ≤ self.old.place }
+        requires room { self.old.place + 56 ≤ 2 ^ 60 }
+        ensures none { result ≡ false → (self.new ≡ self.old) × (check.new ≡ check.old) × (cells.new ≡ cells.old) }
+        ensures tells { result ≡ true → Tells C.folded C.COST (state self.old check.old cells.old) (bits_of 56 bits)
+            None (state self.new check.new cells.new) }
+        ensures open { self.new.settles_at ≤ self.new.place }
+        ensures within { IsWithin self.new }
+        ensures cells { length cells.new ≡ 272 }
+    {
+        let behind = self.history >> 8 | bits << 8;
+        if has_six(behind) {
+            return false;
+        }
+        let settled = late_data(self.history | bits << 16, 56);
+        self.place += 56;
+        self.history = behind >> 48;
+        self.append(check, cells, settled);
+        true
+    }
+
+    /// Takes ones of an idle line, where no piece is open, 56 at a time.
+    #[inline(always)]
+    fn pass_ones(&mut self, octets: &[u8], from: usize, end: usize) -> usize
+        requires within { IsWithin self.old }
+        requires idle { self.old.settles_at ≡ 2 ^ 62 }
+        requires some { from ≤ end }
+        requires enough { end ≤ 8 * length octets.now }
+        requires room { self.old.place + (end - from) ≤ 2 ^ 60 }
+        ensures within { (from ≤ result) × (result ≤ end) }
+        ensures bits { bits_from octets.now from (result - from) ≡ replicate (result - from) true }
+        ensures passes { PassesOnes self.old (result - from) self.new }
+        ensures sound { IsWithin self.new }
+    {
+        if self.history != 0xffff {
+            return from;
+        }
+        let at = ones_end(octets, from, end);
+        self.place += (at - from) as u64;
+        at
+    }
+
+    /// Takes flags behind a flag, seven at a time.
+    #[inline(always)]
+    fn pass_flags(&mut self, octets: &[u8], from: usize, end: usize) -> usize
+        requires within { IsWithin self.old }
+        requires flag { self.old.settles_at ≡ self.old.place + 8 }
+        requires some { from ≤ end }
+        requires enough { end ≤ 8 * length octets.now }
+        requires room { self.old.place + (end - from) ≤ 2 ^ 60 }
+        ensures within { (from ≤ result) × (result ≤ end) }
+        ensures flags { AreFlags octets.now from result }
+        ensures passes { PassesFlags self.old ((result - from) / 8) self.new }
+        ensures sound { IsWithin self.new }
+    {
+        let at = flags_end(octets, from, end);
+        if at > from {
+            self.place += (at - from) as u64;
+            self.history = 0x7e7e;
+            self.settles_at = self.place + 8;
+        }
+        at
+    }
+}

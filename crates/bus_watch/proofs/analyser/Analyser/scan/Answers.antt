@@ -1,0 +1,51 @@
+use Rattle.std.proofs.Common.{◌≡◌, ◌-◌, ◌++◌, List, Bool, None, length, take, sym, ap, ◌∙◌, subst, arith}
+use Rattle.std.specs.Option.{option_to_list}
+use Rattle.bus_bits.specs.Bits.{bits_from}
+use Rattle.bus_bits.proofs.BitLemmas.{front-from}
+use Rattle.bus_dictionary.specs.Dictionary.{longest_of}
+use Rattle.bus_watch.specs.Internal.JournalState.{journal_state}
+use Rattle.bus_watch.specs.Internal.AnalyserView.{analyser_state}
+use Rattle.bus_watch.specs.Internal.Hears.{fresh, told_on}
+use Rattle.bus_watch.specs.After.{AnalyserState, IsAfter, Sees, seen_after}
+use Rattle.bus_watch.proofs.AfterLemmas.{IsCalmFor, sees-heard, seen-before}
+use Rattle.bus_watch.proofs.AnalyserViewLemmas.{room}
+use Rattle.bus_watch.proofs.analyser.Analyser.scan.Goals as goal
+
+pub hear_octets-requires-clause-room : goal.hear_octets-requires-clause-room
+hear_octets-requires-clause-room g c = λ place.
+    room g.C.Check.folded g.C.Check.COST _ c.self.invariant.bits c.settled_places.ensures.frames c.settled_places.ensures.paid c.settled_places.ensures.within c.self.invariant.reached
+    (omega (arith, place, c.self.invariant.reached.decoder.has_taken.place))
+
+pub invariant_of-self-2 : goal.invariant_of-self-2
+invariant_of-self-2 g c =
+    let x = bits_from c.args.octets.now c.args.at c.in_ok-taken.taken in
+    let h = c.in_ok-taken.ensures.hears in
+    let new : AnalyserState g.row.C.Denot = record { decoder = c.hear_octets.new.decoder; journal = journal_state c.hear_octets.new.journal; finding = fresh c.hear_octets.new.has_decided c.hear_octets.new.journal.last } in
+    let sees = sees-heard g.C.Check.folded g.C.Check.COST (analyser_state c.self.inside) new x _ h in
+    record {
+      depth = omega (arith, c.self.invariant.depth, h.depth);
+      longest = h.led.longest ∙ c.self.invariant.longest ∙ ap longest_of (sym h.dictionary);
+      bits = c.self.invariant.bits ++ x;
+      reached = sees.is_after c.self.invariant.bits c.self.invariant.reached;
+    }
+
+pub returns-clause-all : goal.returns-clause-all
+returns-clause-all g c = c.in_ok-taken.ensures.all
+
+pub returns-clause-sees : goal.returns-clause-sees
+returns-clause-sees g c =
+    let x = bits_from c.args.octets.now c.args.at c.in_ok-taken.taken in
+    let told = told_on None c.hear_octets.new.decoder.octets c.hear_octets.new.has_decided c.hear_octets.new.journal.last in
+    let new : AnalyserState g.row.C.Denot = record { decoder = c.hear_octets.new.decoder; journal = journal_state c.hear_octets.new.journal; finding = fresh c.hear_octets.new.has_decided c.hear_octets.new.journal.last } in
+    subst (λ a. Sees g.C.Check.folded g.C.Check.COST a x (option_to_list told) new) c.self.view_is
+    (sees-heard g.C.Check.folded g.C.Check.COST (analyser_state c.self.inside) new x told c.in_ok-taken.ensures.hears)
+
+pub returns-clause-before : goal.returns-clause-before
+returns-clause-before g c =
+    let n = c.in_ok-taken.taken in
+    let os = c.args.octets.now in
+    let x = bits_from os c.args.at (n - 1) in
+    let d = c.self.inside.decoder in
+    let calm = subst (IsCalmFor g.C.Check.folded g.C.Check.COST d) (front-from os c.args.at n) c.in_ok-taken.ensures.hears.calm in
+    subst (λ a. (b : List Bool) → IsAfter g.C.Check.folded g.C.Check.COST a b → seen_after a (b ++ x) ≡ seen_after a b) c.self.view_is
+    (seen-before g.C.Check.folded g.C.Check.COST (analyser_state c.self.inside) x calm)
