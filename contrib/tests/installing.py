@@ -85,6 +85,7 @@ def problems_of_use(prefix: Path, folder: Path) -> List[str]:
         ("port1 list --bits < examples/one-call.bits", share, ONE_FRAME),
         ("contrib/pack-bits < examples/one-call.bits | cmp - examples/one-call.ts2", share, b""),
         ("contrib/list-in-parts examples/one-call.ts2", share, ONE_FRAME),
+        ("by-definition list < one.ts2", folder, ONE_FRAME),
         ("ls docs/COOKBOOK.md README.md examples/c/list.c examples/ci/test_captures.py", share, None),
     ]
     problems = []
