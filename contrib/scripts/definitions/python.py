@@ -33,9 +33,10 @@ from definitions.syntax import (
 # Names that stand for values of Python.
 PLAIN = {"true": "True", "false": "False", "zero": "0", "[]": "NOTHING"}
 
-# Room for calls within calls: a definition by each bit of a list calls itself as often as there are bits.
+# Room for calls within calls: a definition by each bit of a list calls itself as often as there are bits. Up to version
+# 3.10 of Python a call takes up to 500 octets of the stack.
 STACK = 1 << 29
-DEPTH = 1 << 22
+DEPTH = STACK // 1024
 
 Scope = Dict[str, str]
 
