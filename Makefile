@@ -79,6 +79,7 @@ crates/port1_c/out/%/libport1_c.a:
 
 check: $(PROGRAM)
 	tests/program
+	tests/promises
 	contrib/self-test
 	tests/page
 
@@ -101,7 +102,7 @@ install-scripts:
 	install -d "$(DESTDIR)$(BINDIR)" "$(DESTDIR)$(OWNDIR)/docs"
 	$(EXAMPLES) -exec install -D -m 644 '{}' "$(DESTDIR)$(OWNDOCDIR)/{}" ';'
 	install -m 644 $(wildcard *.md) "$(DESTDIR)$(OWNDIR)"
-	install -m 644 $(wildcard docs/*.md) "$(DESTDIR)$(OWNDIR)/docs"
+	install -m 644 $(wildcard docs/*.md docs/*.toml) "$(DESTDIR)$(OWNDIR)/docs"
 	$(CONTRIB) -type f -perm -u+x -exec install -D -m 755 '{}' "$(DESTDIR)$(OWNDIR)/{}" ';'
 	$(CONTRIB) -type f ! -perm -u+x -exec install -D -m 644 '{}' "$(DESTDIR)$(OWNDIR)/{}" ';'
 	$(SPECS) -exec install -D -m 644 '{}' "$(DESTDIR)$(OWNDIR)/{}" ';'

@@ -100,6 +100,10 @@ def dictionary_of(example: Path) -> List[str]:
     return ["--dict", text.rstrip("\n")]
 
 
+# Octets of a capture that takes half a minute.
+LONG = 50_000
+
+
 def examples() -> Iterator[Tuple[Path, List[str]]]:
     """Each capture of the examples, as it is meant and as it is not."""
     for example in sorted((TOP / "examples").iterdir()):
@@ -113,10 +117,9 @@ def problems_of_examples() -> List[str]:
     definitions = definitions_of(TOP)
     problems: List[str] = []
     for example, options in examples():
-        capture = example.read_bytes()
-        for words in [["list", *options], ["check", *options, *dictionary_of(example)]]:
-            problems += compared(definitions, words, capture, example.name)
-        problems += compared(definitions, ["list", *options, *dictionary_of(example)], capture, example.name)
+        capture, dictionary = example.read_bytes(), dictionary_of(example)
+        for words in [["list", *dictionary], ["check", *dictionary], ["list"]][: 1 if len(capture) > LONG else 3]:
+            problems += compared(definitions, [words[0], *options, *words[1:]], capture, example.name)
     return problems
 
 

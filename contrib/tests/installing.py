@@ -181,7 +181,8 @@ def make_check(folder: Path) -> List[str]:
     words = ["make", "-n", "-C", TOP, "check", f"PROGRAM={os.environ['PORT1']}"]
     ran = subprocess.run(words, capture_output=True, text=True, timeout=SECONDS)
     found = [line for line in ran.stdout.splitlines() if not line.startswith("make")]
-    return [] if found == ["tests/program", "contrib/self-test"] else [f"it runs {found}: {ran.stderr}"]
+    wanted = ["tests/program", "tests/promises", "contrib/self-test", "tests/page"]
+    return [] if found == wanted else [f"it runs {found}: {ran.stderr}"]
 
 
 def made_by_documents() -> Set[str]:
