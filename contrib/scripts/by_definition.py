@@ -9,7 +9,8 @@
 --dict TEXT. `ledger` writes the counts that bound the work: settled places, octets that are stored, octets of frames,
 and steps of reports; of two lines for each. `python` writes what is run, definition by definition, below the functions
 of the toolchain that a table does. No decoder is written here: what a frame is stands in the definitions alone, and
-what the translator does not know in them it refuses. A text of TOML is read by Python's own reader.
+what the translator does not know in them it refuses. A text of TOML is read by Python's own reader, which takes
+brackets that are deeper in one another than port1 does.
 
 It is slow: a listing takes about a second for 10000 bits, a ledger more. A fault of the capture is told by its name in
 the definitions. Status 0: no fault, also where a check finds something; 2: a fault.

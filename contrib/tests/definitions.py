@@ -1,10 +1,12 @@
 """The definitions, run: beside the program, edited, and in forms that the translator does not know."""
 
+import importlib
 import os
 import random
 import shutil
 import struct
 import subprocess
+import sys
 from pathlib import Path
 from typing import Dict, Iterator, List, NamedTuple, Sequence, Tuple
 
@@ -68,6 +70,22 @@ FAULTS = {
     "place_limit": "place limit",
     "short_head": "short head",
     "short_body": "short body",
+}
+
+
+# And of each fault of a dictionary.
+DICTIONARY_FAULTS = {
+    "NotToml": "not TOML",
+    "Version": "version is not 1 or 2",
+    "NoFrames": "no frames",
+    "BadType": "frame {}: bad type",
+    "BadName": "frame {}: bad name",
+    "BadLength": "frame {}: bad length",
+    "BadAnswered": "frame {}: bad answered",
+    "BadWindow": "frame {}: bad window",
+    "BadBit": "frame {}: bad bit",
+    "TwiceType": "type {} twice",
+    "NoAnswerEntry": "type {} has no answer entry",
 }
 
 
@@ -185,6 +203,33 @@ def run_deep(problems) -> List[str]:
     return found
 
 
+def dictionaries_of_the_table() -> Dict[str, str]:
+    """The texts of the dictionaries in the program's table of runs, and what each run says of its own."""
+    sys.path.append(str(TOP / "tests"))
+    rows = importlib.import_module("table.dictionaries").DICTIONARIES
+    return {row.words[row.words.index("--dict") + 1]: row.stderr for row in rows}
+
+
+def fault_of(definitions: Definitions, text: str) -> str:
+    """What the program says of the fault that a dictionary has by the definitions, if it has one."""
+    try:
+        definitions.dictionary(definitions.options(read_words(["list", f"--dict={text}"])))
+        return ""
+    except Fault as fault:
+        name, _, value = str(fault)[len("dictionary: ") :].partition(" ")
+        return f"port1: dictionary: {DICTIONARY_FAULTS[name].format(value)}\n"
+
+
+def on_dictionaries_with_faults(folder: Path) -> List[str]:
+    """Each way to have each fault, and those at a limit that have none."""
+    definitions = definitions_of(TOP)
+    texts = dictionaries_of_the_table()
+    problems = [] if len(texts) > 500 else [f"there are {len(texts)} dictionaries"]
+    for text, said in texts.items():
+        problems += differing(said, fault_of(definitions, text), text)
+    return problems
+
+
 def on_long_captures(folder: Path) -> List[str]:
     """Definitions that call themselves once for each bit of a list."""
     definitions = definitions_of(TOP)
@@ -244,7 +289,7 @@ def as_it_is_written(folder: Path) -> List[str]:
 
 # What stands before the definitions below.
 BEGINNING = """\
-use Rattle.std.specs.Prelude.{ℕ, zero, suc, ◌+◌, ◌∷◌, List, [], length, map, reverse, Option, Some, None}
+use Rattle.std.specs.Prelude.{ℕ, zero, suc, ◌+◌, ◌∷◌, List, [], length, map, sum_by, reverse, Option, Some, None, if◌then◌else◌}
 use Rattle.some.specs.Other.{there}
 pub data Kind : Type 0 where
   Odd : ℕ → Kind
@@ -256,6 +301,10 @@ UNKNOWN: List[Tuple[str, str]] = [
     ("abbrev it : List ℕ → List ℕ\nit xs = reverse xs\n", "6: not known: reverse"),
     ("abbrev it : ℕ → ℕ\nit n = there n\n", "6: not known: there"),
     ("abbrev it : ℕ → ℕ\nit n = n ⊕ 1\n", "6: not known: ⊕"),
+    ("abbrev it : ℕ → ℕ\nit n = n * 1\n", "6: not known: ◌*◌"),
+    ("abbrev it : ℕ → ℕ\nit n = true\n", "6: not known: true"),
+    ("abbrev it : ℕ → ℕ\nit there = 1\n", "6: not known: a form of an argument: there"),
+    ("pub data Two : Type 0 where\n  A B : Two\n", "6: not known: a case without a type: A"),
     ("abbrev it : ℕ → ℕ\nit 3 = 4\n", "6: not known: a form of an argument"),
     ("abbrev it : ℕ → ℕ\nit (Even n) = n\n", "6: not known: a form of an argument: Even"),
     ("abbrev it : ℕ → ℕ\nit n = elim n [ zero ↦ 1 ]\n", "6: not known here: elim"),
@@ -266,7 +315,8 @@ UNKNOWN: List[Tuple[str, str]] = [
     ("abbrev it : ℕ → ℕ\nit n = n +\n", "6: not known here: the end"),
     ("abbrev it : ℕ → Type 0\nit n = n ≡ 1\n", "6: not known here: ≡"),
     ("abbrev it : ℕ → ℕ\nit n = do m ← n\n", "6: not known: steps that are no block of lines"),
-    ('abbrev pub it : List ℕ\nit = length "\\q"\n', "6: not known in a text: \\q"),
+    ('abbrev it : List ℕ\nit = length "\\q"\n', "6: not known in a text: \\q"),
+    ('abbrev it : List ℕ\nit = length "é"\n', '6: not known in a text: "é"'),
     ("abbrev it : ℕ → ℕ\nit zero = 1\nit = 2\n", "5: not known: clauses of different lengths"),
     ("abbrev it : ℕ → ℕ\n", "5: not known: it has no clause"),
     ("abbrev it : ℕ → ℕ\nit n = n.a.b and \"x\n", "6: not read: '\"x\\n'"),
@@ -289,6 +339,10 @@ def unknown_forms(folder: Path) -> List[str]:
     return problems
 
 
+ONE_TWO = "(1 ∷ 2 ∷ [])"
+
+TIMES = "\nabbrev there : ℕ → ℕ → ℕ\nthere n m = n * m\n"
+
 # Definitions, what `it` is called with, and what it gives: each form of the language that is known.
 KNOWN: List[Tuple[str, Sequence[object], object]] = [
     ("abbrev it : ℕ → ℕ\nit n = n - 5 + 2 ^ 3 ^ 1 * 2 / 3 % 4\n", [3], 1),
@@ -301,6 +355,8 @@ KNOWN: List[Tuple[str, Sequence[object], object]] = [
     ("abbrev it : List ℕ → ℕ\nit (x ∷ y ∷ []) = x\nit (x ∷ y ∷ z) = length z\nit xs = 8\n", [(6, 5)], 6),
     ("abbrev it : ℕ → ℕ\nit n = of (Kind.Odd n)\nabbrev of : Kind → ℕ\nof (Odd n) = n\n", [3], 3),
     ("abbrev it : ℕ → ℕ\nit n = length (map (there n) (1 ∷ []))\nabbrev there : ℕ → ℕ → ℕ\nthere n m = n\n", [3], 1),
+    (f"abbrev it : ℕ → ℕ\nit n = sum_by (λ x. there n x + length (n ∷ [])) {ONE_TWO}{TIMES}", [3], 11),
+    (f"abbrev it : ℕ → ℕ\nit n = sum_by (λ x. let y = x + 1 in there n y) {ONE_TWO}{TIMES}", [3], 15),
     ("abbrev it : Option ℕ → Option ℕ → ℕ\nit None _ = 1\nit _ None = 2\nit (Some a) (Some b) = a\n", [4, 3], 4),
 ]
 
@@ -312,7 +368,8 @@ def as_value(value: object) -> object:
 def known_forms(folder: Path) -> List[str]:
     path = folder / "some" / "specs" / "Text.antt"
     path.parent.mkdir(parents=True)
-    first = BEGINNING.replace("use Rattle.some.specs.Other.{there}\n", "").replace("◌∷◌", "◌∷◌, ◌*◌, ◌-◌")
+    first = BEGINNING.replace("use Rattle.some.specs.Other.{there}\n", "")
+    first = first.replace("◌∷◌", "◌∷◌, ◌*◌, ◌-◌, ◌/◌, ◌%◌, ◌^◌, ◌==◌")
     problems = []
     for text, given, wanted in KNOWN:
         path.write_text(first + text, encoding="utf-8")
@@ -363,6 +420,7 @@ TESTS = [
     as_it_is_written,
     as_the_program,
     on_random_captures,
+    on_dictionaries_with_faults,
     on_long_captures,
     on_too_long_a_capture,
 ]

@@ -47,6 +47,7 @@ class Module:
         self.cases: Set[str] = set()
         self.types: Dict[str, str] = {}
         self.used: Dict[str, str] = {}
+        self.modules: Set[str] = set()  # of what is used, the names that stand for whole files
         self.blocks = 0
         self.read(tokens_of(path.read_text(encoding="utf-8"), str(path)), 0, ())
 
@@ -78,10 +79,9 @@ class Module:
             path = "".join(texts[: texts.index("{") - 1])
             names = [text for text in texts[texts.index("{") + 1 : -1] if text != ","]
             self.used.update({name: f"{path}.{name}" for name in names})
-        elif "as" in texts:
-            self.used[texts[-1]] = "".join(texts[: texts.index("as")])
         else:
-            self.used[texts[-1]] = "".join(texts)
+            self.used[texts[-1]] = "".join(texts[: texts.index("as")] if "as" in texts else texts)
+            self.modules.add(texts[-1])
 
     def read_block(self, tokens: List[Token]) -> None:
         """`module _`, arguments, of which those in braces are types, `where`, and its items further right."""
@@ -96,7 +96,11 @@ class Module:
         """A type with cases: each on a line of its own."""
         self.types[tokens[2].text] = self.name
         column = min((token.column for token in tokens[1:] if token.opens), default=0)
-        self.cases.update(token.text for token in tokens[1:] if token.opens and token.column == column)
+        for at, token in enumerate(tokens):
+            if at > 0 and token.opens and token.column == column:
+                if tokens[at + 1 : at + 2] == [] or tokens[at + 1].text != ":":
+                    raise Fault(f"{self.path}:{token.line}: not known: a case without a type: {token.text}")
+                self.cases.add(token.text)
 
     def read_definition(self, items: List[List[Token]], at: int, given: Tuple[str, ...]) -> int:
         """A name with its type, and the clauses that follow; the place of the item behind them."""

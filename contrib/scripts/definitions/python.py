@@ -197,20 +197,23 @@ class Writer:
     def match(self, pattern: Tree, of: str, line: int, tests: List[str], lines: List[str], scope: Scope) -> None:
         """What a form asks of a value, and the names that it gives to its parts."""
         parts: List[Tuple[Tree, str]] = []
-        if isinstance(pattern, Name) and pattern.parts[0] in (*PLAIN, "_"):
+        if isinstance(pattern, Name) and (pattern.parts[0] == "_" or self.is_plain(pattern.parts[0])):
             test = {"true": of, "false": f"not {of}", "zero": f"{of} == 0", "[]": f"{of}.past == {of}.first"}
             tests += [test[pattern.parts[0]]] if pattern.parts[0] != "_" else []
         elif isinstance(pattern, Several):
             parts = [(each, f"{of}[{at}]") for at, each in enumerate(pattern.items)]
         elif isinstance(pattern, Operator) and pattern.sign == "∷":
             self.match_list(pattern, of, line, tests, lines, scope)
-        elif isinstance(pattern, Apply) and pattern.function == Name(("suc",), line) and len(pattern.arguments) == 1:
+        elif isinstance(pattern, Apply) and len(pattern.arguments) == 1 and self.is_suc(pattern.function):
             tests.append(f"{of} > 0")
             parts = [(pattern.arguments[0], f"({of} - 1)")]
         else:
             parts = self.match_case(pattern, of, line, tests, lines, scope)
         for part, value in parts:
             self.match(part, value, line, tests, lines, scope)
+
+    def is_suc(self, tree: Tree) -> bool:
+        return isinstance(tree, Name) and tree.parts == ("suc",) and self.is_plain("suc")
 
     def match_case(
         self, pattern: Tree, of: str, line: int, tests: List[str], lines: List[str], scope: Scope
@@ -224,7 +227,8 @@ class Writer:
             tests.append(f"{of}.name == {meaning.name!r}")
             arguments = pattern.arguments if isinstance(pattern, Apply) else ()
             return [(each, f"{of}.values[{at}]") for at, each in enumerate(arguments)]
-        if isinstance(pattern, Apply) or len(head.parts) > 1:
+        is_unknown = meaning is None and head.parts[0] in self.module.used.keys() - self.module.modules
+        if isinstance(pattern, Apply) or len(head.parts) > 1 or is_unknown:
             raise self.fault(line, f"a form of an argument: {'.'.join(head.parts)}")
         scope[head.parts[0]] = f"{head.parts[0]}_"
         lines.append(f"{head.parts[0]}_ = {of}")
@@ -271,8 +275,8 @@ class Writer:
         return f"Record({', '.join(f'{name}={self.write(each, scope)}' for name, each in tree.fields)})"
 
     def operator(self, tree: Operator, scope: Scope) -> str:
-        """One of the table's, or one that a file of definitions has."""
-        if tree.sign in table.OPERATORS:
+        """One of the table's, where the file takes it from the toolchain, or one that a file of definitions has."""
+        if self.module.used.get(f"◌{tree.sign}◌") == f"Rattle.{table.PRELUDE}.◌{tree.sign}◌":
             return table.OPERATORS[tree.sign].format(self.write(tree.left, scope), self.write(tree.right, scope))
         return self.call(Apply(Name((f"◌{tree.sign}◌",), tree.line), (tree.left, tree.right)), scope)
 
@@ -313,14 +317,18 @@ class Writer:
         first = name.parts[0]
         if first in scope:
             return asked(scope[first], name.parts[1:]) + "".join(f"({each})" for each in arguments)
-        if first in PLAIN and len(name.parts) == 1 and not arguments:
+        if self.is_plain(first) and len(name.parts) == 1 and not arguments:
             return PLAIN[first]
-        if first == "suc" and len(arguments) == 1:
+        if first == "suc" and self.is_plain(first) and len(arguments) == 1:
             return f"({arguments[0]} + 1)"
         meaning, count = self.meaning(name)
         if count < len(name.parts):
             return asked(self.meant(meaning, []), name.parts[count:]) + "".join(f"({each})" for each in arguments)
         return self.meant(meaning, arguments)
+
+    def is_plain(self, name: str) -> bool:
+        """Whether a name stands for a value of Python, or for a successor: the file takes it from the toolchain."""
+        return name in (*PLAIN, "suc") and self.module.used.get(name) == f"Rattle.{table.PRELUDE}.{name}"
 
     def meaning(self, name: Name) -> Tuple[Meaning, int]:
         """What the longest front of a name is that is something, and how many parts that has."""
@@ -361,7 +369,7 @@ def with_room(main: Callable[[], Optional[int]]) -> Optional[int]:
     def run() -> None:
         try:
             ended.append(main())
-        except (AttributeError, IndexError, KeyError, TypeError) as error:
+        except (AttributeError, IndexError, KeyError, NameError, TypeError) as error:
             ended.append(Fault(f"the translation is wrong: {error}"))
         except (RecursionError, MemoryError):
             ended.append(Fault("the capture is too long for this way to list it"))

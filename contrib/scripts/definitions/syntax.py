@@ -108,6 +108,8 @@ def text_value(token: Token, name: str) -> str:
                 raise Fault(f"{name}:{token.line}: not known in a text: \\{escape}")
             letter = ESCAPES[escape]
         letters.append(letter)
+    if not token.text.isascii():
+        raise Fault(f"{name}:{token.line}: not known in a text: {token.text}")
     return "".join(letters)
 
 

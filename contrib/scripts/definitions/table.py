@@ -190,7 +190,7 @@ def from_le_bytes(width: int, octets: Items) -> int:
 
 def codes(text: str) -> Items:
     """The octets of a text."""
-    return items_of(text.encode())
+    return items_of(text.encode("utf-8"))
 
 
 def decimal(number: int) -> Items:
@@ -216,12 +216,20 @@ def rest_of(number: int, by: int) -> int:
 # TOML. A whole number is `pos n`, or `negsuc n` for -1 - n. Tables are read by Python, and so is the text of them.
 
 
+def fits(value: Any) -> bool:
+    """Whether all whole numbers in a value have 64 bits, as TOML asks for; Python's reader takes others, too."""
+    if isinstance(value, (dict, list)):
+        return all(map(fits, value.values() if isinstance(value, dict) else value))
+    return not isinstance(value, int) or -(2**63) <= value < 2**63
+
+
 def parse_document(text: Items) -> Case:
     """The table that a text of TOML is, if it is one, as Python's reader has it."""
     try:
-        return some(toml_of(bytes(text).decode("utf-8")))
+        members = toml_of(bytes(text).decode("utf-8"))
     except (NotToml, UnicodeDecodeError):
         return NONE
+    return some(members) if fits(members) else NONE
 
 
 def table(members: Dict[str, Any]) -> Dict[str, Any]:
