@@ -289,7 +289,7 @@ def as_it_is_written(folder: Path) -> List[str]:
 
 # What stands before the definitions below.
 BEGINNING = """\
-use Rattle.std.specs.Prelude.{ℕ, zero, suc, ◌+◌, ◌∷◌, List, [], length, map, sum_by, reverse, Option, Some, None, if◌then◌else◌}
+use Rattle.std.specs.Prelude.{ℕ, zero, suc, ◌+◌, ◌∷◌, List, [], length, map, sum_by, reverse, Option, Some, None}
 use Rattle.some.specs.Other.{there}
 pub data Kind : Type 0 where
   Odd : ℕ → Kind
