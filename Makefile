@@ -5,7 +5,8 @@
 #     make page                         builds the page, page/out/port1.html: the analyser as one file for a browser
 #     make install PREFIX=$HOME/.local  all of the following
 #     make install-program              the program, its man page and completions, and what install-scripts does
-#     make install-scripts              the scripts of contrib, with links to them in bin, the documents and examples
+#     make install-scripts              the scripts of contrib, with links to them in bin, the documents, examples and
+#                                       definitions
 #     make install-library              the C library, static and shared, its header, files for pkg-config and CMake, and
 #                                       examples; with PYTHONDIR=FOLDER also the Python module that calls it
 #     make install-library TARGET=aarch64-unknown-linux-gnu    the same for another of contrib/mcu/build's targets
@@ -42,10 +43,12 @@ SHARED = $(if $(TARGET),,$(dir $(LIBRARY))$(SONAME))
 C_EXAMPLES = $(wildcard examples/c/*.c)
 VERSION = $(shell sed -n 's/.*\.version("\(.*\)").*/\1/p' crates/bus_tool/src/arguments.rt)
 
-# What finds the examples but for those in C, what stands in contrib but for its tests, and the scripts there.
+# What finds the examples but for those in C, what stands in contrib but for its tests, the scripts there, and the
+# definitions, which one of the scripts runs.
 EXAMPLES = find examples -path examples/c -prune -o -name __pycache__ -prune -o -name .pytest_cache -prune -o -type f
 CONTRIB = find contrib -name tests -prune -o -name __pycache__ -prune -o ! -name self-test
 SCRIPTS = find contrib -maxdepth 1 -type f -perm -u+x ! -name self-test
+SPECS = find crates -path '*/specs/Internal' -prune -o -path '*/specs/*.antt' -type f
 
 # The folders that may be empty in the end, each behind those in it. Those that a system has anyway stay there.
 FOLDERS = "$(MANDIR)" "$(BASHDIR)" "$(DATADIR)/bash-completion" "$(ZSHDIR)" "$(DATADIR)/zsh" "$(FISHDIR)" \
@@ -76,6 +79,7 @@ crates/port1_c/out/%/libport1_c.a:
 
 check: $(PROGRAM)
 	tests/program
+	tests/promises
 	contrib/self-test
 	tests/page
 
@@ -93,14 +97,15 @@ install-program: $(PROGRAM) install-scripts
 	install -m 644 completions/_port1 "$(DESTDIR)$(ZSHDIR)/_port1"
 	install -m 644 completions/port1.fish "$(DESTDIR)$(FISHDIR)/port1.fish"
 
-# The documents' commands run in share/port1, which has `contrib` and `examples` as this folder has.
+# The documents' commands run in share/port1, which has `contrib`, `examples` and the definitions as this folder has.
 install-scripts:
 	install -d "$(DESTDIR)$(BINDIR)" "$(DESTDIR)$(OWNDIR)/docs"
 	$(EXAMPLES) -exec install -D -m 644 '{}' "$(DESTDIR)$(OWNDOCDIR)/{}" ';'
 	install -m 644 $(wildcard *.md) "$(DESTDIR)$(OWNDIR)"
-	install -m 644 $(wildcard docs/*.md) "$(DESTDIR)$(OWNDIR)/docs"
+	install -m 644 $(wildcard docs/*.md docs/*.toml) "$(DESTDIR)$(OWNDIR)/docs"
 	$(CONTRIB) -type f -perm -u+x -exec install -D -m 755 '{}' "$(DESTDIR)$(OWNDIR)/{}" ';'
 	$(CONTRIB) -type f ! -perm -u+x -exec install -D -m 644 '{}' "$(DESTDIR)$(OWNDIR)/{}" ';'
+	$(SPECS) -exec install -D -m 644 '{}' "$(DESTDIR)$(OWNDIR)/{}" ';'
 	$(CONTRIB) -type l -exec cp -P --remove-destination --parents '{}' "$(DESTDIR)$(OWNDIR)" ';'
 	test ! -e $(PAGE) || install -D -m 644 $(PAGE) "$(DESTDIR)$(OWNDIR)/page/port1.html"
 	ln -sfnr "$(DESTDIR)$(EXAMPLEDIR)" "$(DESTDIR)$(OWNDIR)/examples"

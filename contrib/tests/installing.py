@@ -85,6 +85,7 @@ def problems_of_use(prefix: Path, folder: Path) -> List[str]:
         ("port1 list --bits < examples/one-call.bits", share, ONE_FRAME),
         ("contrib/pack-bits < examples/one-call.bits | cmp - examples/one-call.ts2", share, b""),
         ("contrib/list-in-parts examples/one-call.ts2", share, ONE_FRAME),
+        ("by-definition list < one.ts2", folder, ONE_FRAME),
         ("ls docs/COOKBOOK.md README.md examples/c/list.c examples/ci/test_captures.py", share, None),
     ]
     problems = []
@@ -180,7 +181,8 @@ def make_check(folder: Path) -> List[str]:
     words = ["make", "-n", "-C", TOP, "check", f"PROGRAM={os.environ['PORT1']}"]
     ran = subprocess.run(words, capture_output=True, text=True, timeout=SECONDS)
     found = [line for line in ran.stdout.splitlines() if not line.startswith("make")]
-    return [] if found == ["tests/program", "contrib/self-test"] else [f"it runs {found}: {ran.stderr}"]
+    wanted = ["tests/program", "tests/promises", "contrib/self-test", "tests/page"]
+    return [] if found == wanted else [f"it runs {found}: {ran.stderr}"]
 
 
 def made_by_documents() -> Set[str]:

@@ -28,6 +28,7 @@ BITS = b"0111111000001000" * 50_000
 
 CALLS: Dict[str, Call] = {
     "bus-summary": Call([], FRAMES),
+    "by-definition": Call(["list", "--bits"], BITS[:1600]),
     "dictionary-to-lua": Call([], DICTIONARY.encode()),
     "draft-dictionary": Call([], FRAMES),
     "flip-bits": Call(["0"], BITS),

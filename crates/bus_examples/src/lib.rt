@@ -13,3 +13,6 @@ pub use live::{closes_frame_of, unanswered};
 pub use reading::asks_for_answer;
 pub use sending::{FrameBits, frame_bits};
 pub use watching::{WatchFault, watch};
+
+#[cfg(test)]
+mod tests;

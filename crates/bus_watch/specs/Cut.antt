@@ -1,4 +1,4 @@
--- What is lost of what is seen where a list is cut in two and each part is watched by itself.
+-- What is lost of what is seen where reports, and not their bits, are parted in two lists, each watched by itself.
 use Rattle.std.specs.Prelude.{◌≡◌, ℕ, ◌+◌, Bool, false, List, [], ◌∷◌, ◌++◌, length, None, option_map}
 use Rattle.bus_line.specs.Mark.{flag}
 use Rattle.bus_line.specs.Due.{placed}

@@ -40,8 +40,8 @@ abbrev pub asks : Option FrameType → Bool
 asks None = false
 asks (Some e) = e.answered
 
--- a frame of this standing is a command that waits: known, of a type below 128 that is answered (NEMA TS 2, Port 1), to
--- one station and not to all (ISO/IEC 13239, all-station address)
+-- a frame of this standing is a command that waits: known, of a type below 128 that is answered (this product's profile
+-- of Port 1), to one station and not to all (ISO/IEC 13239, all-station address)
 abbrev pub command : List FrameType → Span → Standing → Option Pending
 command d span (Known station ftype) =
     if nat_lt ftype 128 && (asks (entry_at ftype d) && not (station == 255))
@@ -70,8 +70,8 @@ is_late (Some window) command first = nat_lt (command.past + window) first
 abbrev pub begins : List FrameType → Heard → Option (Option Line × ℕ × Standing)
 begins d h = option_map (λ s. (h.line, h.report.first, s)) (standing_of d h.report.kind)
 
--- what becomes of a command, by what is right of it: a known frame of the same station whose type is 128 more is its
--- answer, in time or late, on a line where answers come
+-- what becomes of a command, by what is right of it: a known frame of the same station whose type is 128 more (this
+-- product's profile of Port 1) is its answer, in time or late, on a line where answers come
 abbrev pub outcome : List FrameType → Pending → Option (Option Line × ℕ × Standing) → Outcome
 outcome d p None = Spoilt
 outcome d p (Some (line, first, Known station ftype)) =

@@ -29,9 +29,9 @@ pub fn pairs_grow()
     reports_grow();
 }
 
-/// Where a list is cut in two and each part is watched by itself, what is seen is the same, but where a
-/// command waits at the cut: then its verdict is lost, and with it whether its answer is a stray. So a
-/// capture may be cut at any flag up to which no command waits.
+/// Where a list of reports is cut in two and each part is watched by itself, what is seen is the same, but where a
+/// command waits at the cut: then its verdict is lost, and with it whether its answer is a stray. Bits may be cut right
+/// behind a flag up to which no command waits, and watched again from that flag on; cut inside a frame, they lose it.
 pub fn cut_loses_a_verdict()
     ensures nothing { CutLosesNothing }
     ensures verdict { CutLosesVerdict }

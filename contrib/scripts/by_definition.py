@@ -1,0 +1,197 @@
+"""Says of a capture what the definitions say: the reviewed text of crates/*/specs, translated to Python and run.
+
+    by-definition list [OPTIONS] < CAPTURE
+    by-definition check [OPTIONS] < CAPTURE
+    by-definition ledger [OPTIONS] < CAPTURE
+    by-definition python
+
+`list` and `check` write what port1 is proved to write; OPTIONS are those of port1, and --dictionary FILE may stand for
+--dict TEXT. `ledger` writes the counts that bound the work: settled places, octets that are stored, octets of frames,
+and steps of reports; of two lines for each. `python` writes what is run, definition by definition, below the functions
+of the toolchain that a table does. No decoder is written here: what a frame is stands in the definitions alone, and
+what the translator does not know in them it refuses. A text of TOML is read by Python's own reader, which takes
+brackets that are deeper in one another than port1 does.
+
+It is slow: a listing takes about a second for 10000 bits, a ledger more. A fault of the capture is told by its name in
+the definitions. Status 0: no fault, also where a check finds something; 2: a fault.
+"""
+
+import argparse
+import os
+import sys
+from pathlib import Path
+from typing import Any, Iterator, NamedTuple, Optional, Sequence
+
+from common import manners
+from common.manners import Fault
+from common.program import TOP
+from definitions import table
+from definitions.python import Translation, with_room
+from definitions.values import Case, Items, Record, items_of
+
+MOST_PLACES = 2**60
+
+# What is run, by file and name. A definition in a block with a form takes the form first.
+LISTING = ("bus_capture.specs.Known", "listing_in_all")
+REPORT = ("bus_capture.specs.Checks", "report_of")
+WHOLE = ("bus_capture.specs.Lists", "in_all")
+FORMS = [("bus_capture.specs.Captures", "one_line"), ("bus_capture.specs.Captures", "two_lines")]
+DICTIONARY = ("bus_text.specs.Show", "given_dictionary")
+DICTIONARY_TEXT = ("bus_text.specs.Given", "dictionary_text")
+KIND = ("bus_text.specs.Kinds", "kind_named")
+LONGEST = ("bus_dictionary.specs.Dictionary", "longest_of")
+SIDES = [("bus_watch.specs.Heard", "firsts"), ("bus_watch.specs.Heard", "seconds")]
+SETTLED = ("bus_line.specs.Ledger", "assembled")
+COUNTS = [("bus_line.specs.Ledger", "stored"), ("bus_line.specs.Ledger", "copied")]
+REPORTS = ("bus_line.specs.Due", "reports")
+HANDLED = ("bus_watch.specs.Ledger", "handled")
+
+NEEDED = [LISTING, REPORT, WHOLE, *FORMS, DICTIONARY, DICTIONARY_TEXT, KIND]
+NEEDED += [LONGEST, *SIDES, SETTLED, *COUNTS, REPORTS, HANDLED]
+
+
+class Answer(NamedTuple):
+    """What is written, and the fault of the capture that comes then, if there is one."""
+
+    text: bytes
+    fault: str
+
+
+def whole_number(least: int, most: int) -> Any:
+    """A whole number within bounds, for a parser."""
+
+    def number(text: str) -> int:
+        value = manners.natural(text)
+        if not least <= value <= most:
+            raise argparse.ArgumentTypeError(f"{text} is not {least} to {most}")
+        return value
+
+    return number
+
+
+def add_filters(command: argparse.ArgumentParser) -> None:
+    octet = whole_number(0, 255)
+    command.add_argument("--station", metavar="N", type=octet, help="only lines of this station")
+    command.add_argument("--type", metavar="N", type=octet, help="only lines of this frame type")
+    command.add_argument("--kind", metavar="K", help="only lines of this kind")
+
+
+def read_words(words: Optional[Sequence[str]] = None) -> argparse.Namespace:
+    parser = manners.parser(__doc__)
+    commands = parser.add_subparsers(dest="command", metavar="COMMAND", required=True)
+    for name, what in [("list", "what is on the line"), ("check", "how often"), ("ledger", "counts of the work")]:
+        command = commands.add_parser(name, help=what)
+        texts = command.add_mutually_exclusive_group()
+        texts.add_argument("--dict", metavar="TEXT", help="the text of a dictionary")
+        texts.add_argument("--dictionary", metavar="FILE", type=Path, help="the file of a dictionary")
+        command.add_argument("--bits", action="store_true", help="the capture is text")
+        command.add_argument("--two", action="store_true", help="the capture is of two lines")
+        command.add_argument("--origin", metavar="N", type=whole_number(0, MOST_PLACES), default=0)
+        if name == "list":
+            add_filters(command)
+        if name == "check":
+            command.add_argument("--depth", metavar="N", type=whole_number(1, 1024), default=16)
+    commands.add_parser("python", help="what is run")
+    return parser.parse_args(words)
+
+
+def octets_of_dictionary(words: argparse.Namespace) -> Optional[bytes]:
+    """The text of the dictionary; of a file without the last line ends, as a shell hands it to port1."""
+    if words.dictionary is not None:
+        return words.dictionary.read_bytes().rstrip(b"\n")
+    return None if words.dict is None else os.fsencode(words.dict)
+
+
+def option(value: Any) -> Case:
+    return table.NONE if value is None else table.some(value)
+
+
+def told(fault: Case) -> str:
+    """A fault by the name that it has in the definitions."""
+    return " ".join([fault.name.rpartition(".")[2], *map(str, fault.values)])
+
+
+class Definitions:
+    """The definitions that are run, by name."""
+
+    def __init__(self, crates: Path) -> None:
+        self.translation = Translation(crates)
+        self.functions = dict(zip(NEEDED, self.translation.functions(NEEDED)))
+
+    def run(self, name: Any, *arguments: Any) -> Any:
+        return self.functions[name](*arguments)
+
+    def options(self, words: argparse.Namespace) -> Record:
+        """What `Options` of the program has, but for the number of reads."""
+        given = vars(words)
+        text = octets_of_dictionary(words)
+        kind = table.NONE
+        if given.get("kind") is not None:
+            kind = self.run(KIND, items_of(os.fsencode(given["kind"])))
+            if kind.name == "None":
+                raise Fault("unknown kind")
+        return Record(
+            dictionary=option(None if text is None else Record(now=items_of(text))),
+            text=words.bits,
+            origin=words.origin,
+            depth=given.get("depth"),
+            station=option(given.get("station")),
+            ftype=option(given.get("type")),
+            kind=kind,
+        )
+
+    def dictionary(self, options: Record) -> Items:
+        read = self.run(DICTIONARY, self.run(DICTIONARY_TEXT, options))
+        if read.name == "Err":
+            raise Fault(f"dictionary: {told(read.values[0])}")
+        return read.values[0]
+
+    def ledger(self, bits: Items, entries: Items) -> Iterator[str]:
+        longest = self.run(LONGEST, entries)
+        yield f"{SETTLED[1]} {self.run(SETTLED, bits)}"
+        for name in COUNTS:
+            yield f"{name[1]} {self.run(name, longest, bits)}"
+        yield f"{HANDLED[1]} {self.run(HANDLED, self.run(REPORTS, longest, bits))}"
+
+    def ledgers(self, words: argparse.Namespace, bits: Items, entries: Items) -> bytes:
+        sides = [(f"{at} ", self.run(name, bits)) for at, name in enumerate(SIDES, 1)] if words.two else [("", bits)]
+        return "".join(f"{front}{line}\n" for front, side in sides for line in self.ledger(side, entries)).encode()
+
+    def answer(self, words: argparse.Namespace, octets: bytes) -> Answer:
+        """What a call comes to whose capture has these octets."""
+        options = self.options(words)
+        entries = self.dictionary(options)
+        form = self.run(FORMS[words.two])
+        capture = items_of(octets)
+        whole = self.run(WHOLE, form, options, capture)
+        fault = f"capture: {told(whole.fault.values[0])}" if whole.fault.name == "Some" else ""
+        if words.command == "list":
+            return Answer(bytes(self.run(LISTING, form, options, entries, capture)), fault)
+        if fault:
+            return Answer(b"", fault)
+        if words.command == "check":
+            return Answer(bytes(self.run(REPORT, form, options, entries, whole.bits)), "")
+        return Answer(self.ledgers(words, whole.bits, entries), "")
+
+
+def write_python(definitions: Definitions) -> None:
+    for line in table.meanings():
+        print(f"# {line}")
+    print("\n", definitions.translation.text(), sep="\n", end="")
+
+
+def main() -> None:
+    words = read_words()
+    definitions = Definitions(TOP / "crates")
+    if words.command == "python":
+        write_python(definitions)
+        return
+    answer = definitions.answer(words, sys.stdin.buffer.read())
+    sys.stdout.buffer.write(answer.text)
+    sys.stdout.buffer.flush()
+    if answer.fault:
+        raise Fault(answer.fault)
+
+
+if __name__ == "__main__":
+    manners.run(lambda: with_room(main))

@@ -1,0 +1,139 @@
+//! The examples, on a call, its reply and a notice.
+
+use crate::{
+    WatchFault, asks_for_answer, closes_frame_of, count_frames, frame_bits, unanswered, watch,
+};
+use bus_dictionary::Dictionary;
+use bus_fcs::{BitCheck, Check, OctetCheck};
+use bus_line::{EncodeFault, LineDecoder};
+use bus_watch::{Analyser, FeedFault, LoggedPiece};
+use std::alloc::Global;
+use std::process::Abort;
+
+/// Example types only: their numbers and names are made up and stand for no real frame type.
+const CALLS: &str = r#"version = 1
+[[frame]]
+type = 0
+name = "call"
+length = 0
+answered = true
+[[frame]]
+type = 128
+name = "reply"
+length = 0
+[[frame]]
+type = 9
+name = "notice"
+length = 0
+"#;
+
+/// A call between flags: 10 83 00 fd e5, as it is sent.
+const CALL: &str = "01111110 00001000 11000001 00000000 101111101 10100111 01111110";
+
+/// A call, its reply and a notice to all stations, with a flag between each two.
+const THREE: &str = "01111110 00001000 11000001 00000000 101111101 10100111
+    01111110 00001000 11000001 00000001 10101111 100000110
+    01111110 111110111 110000001 10010000 01011010 11011100 01111110";
+
+/// The same call twice.
+const TWICE: &str = "01111110 00001000 11000001 00000000 101111101 10100111
+    01111110 00001000 11000001 00000000 101111101 10100111 01111110";
+
+/// The bits of a text of `0` and `1`. All else in it is space.
+fn bits_of(rt: &impl Abort, alloc: Global, text: &str) -> Vec<bool> {
+    let mut bits = Vec::new(alloc);
+    for character in text.bytes() {
+        if character == b'0' || character == b'1' {
+            bits.push(character == b'1').expect(rt, "memory");
+        }
+    }
+    bits
+}
+
+fn calls(rt: &impl Abort, alloc: Global) -> Dictionary {
+    Dictionary::read(alloc, CALLS).expect(rt, "a dictionary")
+}
+
+#[test]
+fn frames_of_a_buffer(rt: HostRuntime) {
+    let three = bits_of(&rt, rt.alloc(), THREE);
+    assert_eq!(rt; count_frames::<OctetCheck>(&three), Ok(3));
+    let call = bits_of(&rt, rt.alloc(), CALL);
+    assert_eq!(rt; count_frames::<BitCheck>(&call), Ok(1));
+    assert_eq!(rt; count_frames::<OctetCheck>(&[]), Ok(0));
+}
+
+/// The last place at which a frame of a station ends, and how many there are.
+fn frames_of<C: Check>(rt: &impl Abort, bits: &[bool], station: u8) -> (usize, u8) {
+    let mut decoder = LineDecoder::<C>::new(256, 0).expect(rt, "a decoder");
+    let mut found = (0, 0u8);
+    for (place, bit) in bits.iter().enumerate() {
+        if closes_frame_of(&mut decoder, station, *bit).expect(rt, "a place") {
+            found = (place, found.1.saturating_add(1));
+        }
+    }
+    found
+}
+
+/// A frame ends with the last bit of its closing flag.
+#[test]
+fn frame_of_a_station(rt: HostRuntime) {
+    let three = bits_of(&rt, rt.alloc(), THREE);
+    assert_eq!(rt; frames_of::<OctetCheck>(&rt, &three, 16), (105, 2));
+    assert_eq!(rt; frames_of::<BitCheck>(&rt, &three, 255), (155, 1));
+    assert_eq!(rt; frames_of::<OctetCheck>(&rt, &three, 17), (0, 0));
+}
+
+/// The station that a list shows to have no answer, and at which place.
+fn silent(rt: &impl Abort, alloc: Global, text: &str) -> Option<(usize, u8)> {
+    let dictionary = calls(rt, alloc);
+    let mut analyser = Analyser::<OctetCheck>::new(alloc, dictionary, 16, 0).expect(rt, "memory");
+    let bits = bits_of(rt, alloc, text);
+    let mut found = None;
+    for (place, bit) in bits.iter().enumerate() {
+        if let Some(station) = unanswered(&mut analyser, *bit).expect(rt, "a place") {
+            found = Some((place, station));
+        }
+    }
+    found
+}
+
+#[test]
+fn station_without_answer(rt: HostRuntime) {
+    assert_eq!(rt; silent(&rt, rt.alloc(), THREE), None);
+    assert_eq!(rt; silent(&rt, rt.alloc(), CALL), None);
+    assert_eq!(rt; silent(&rt, rt.alloc(), TWICE), Some((105, 16)));
+}
+
+/// All reports in a log with room for them; with less, the first that it refuses ends the run.
+#[test]
+fn all_that_is_seen(rt: HostRuntime) {
+    let three = bits_of(&rt, rt.alloc(), THREE);
+    let log = watch(rt.alloc(), calls(&rt, rt.alloc()), &three, 3).expect(&rt, "a log");
+    assert_eq!(rt; log.reports().len(), 3);
+    let reply = log.reports().get(1).expect(&rt, "a report");
+    assert!(rt; reply.verdict.is_some());
+    assert!(rt; matches!(reply.piece, LoggedPiece::Frame(_)));
+    let fault = watch(rt.alloc(), calls(&rt, rt.alloc()), &three, 2).err();
+    assert_eq!(rt;
+        fault,
+        Some(WatchFault::Feed(FeedFault::Sink { consumed: 156 }))
+    );
+}
+
+#[test]
+fn bits_of_a_frame(rt: HostRuntime) {
+    let sent = frame_bits(&[0x10, 0x83, 0x00]).expect(&rt, "bits");
+    let call = bits_of(&rt, rt.alloc(), CALL);
+    assert!(rt; sent.bits.as_slice() == call.as_slice());
+    assert_eq!(rt; frame_bits(&[0x10]).err(), Some(EncodeFault::LengthRange));
+    assert_eq!(rt; frame_bits(&[0; 257]).err(), Some(EncodeFault::LengthRange));
+}
+
+#[test]
+fn types_that_ask(rt: HostRuntime) {
+    let dictionary = calls(&rt, rt.alloc());
+    assert!(rt; asks_for_answer(&dictionary, 0));
+    assert!(rt; !asks_for_answer(&dictionary, 128));
+    assert!(rt; !asks_for_answer(&dictionary, 7));
+}
