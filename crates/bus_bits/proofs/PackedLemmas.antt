@@ -1,6 +1,6 @@
 -- Packed captures, one octet more and any cut.
 use Rattle.std.proofs.Common.{◌≡◌, ℕ, zero, suc, ◌+◌, ◌-◌, ◌*◌, ◌/◌, ◌%◌, ◌^◌, ◌<◌, ◌≤◌, ◌==◌, inl, inr, Bool, true, false, nat_lt, if◌then◌else◌, List, [], ◌∷◌, ◌++◌, length, take, drop, codes, slice_range, Option, Some, None, All, refl, sym, ap, ◌∙◌, subst, arith, length-append, append_assoc}
-use Rattle.std.proofs.lemmas.List.{append-nil, length-take, take_all, drop_all, take_at, take-append-le, drop-append-le, length-drop, drop_at, take-append-drop}
+use Rattle.std.proofs.lemmas.List.{append-nil, length-take, take_all, drop_all, take_at, take-append-le, drop-append-le, length-drop, drop_at}
 use Rattle.std.proofs.Math.Seq.{take-append-add, drop-append-add}
 use Rattle.std.specs.Int.{w64, from_le_bytes, next_multiple_of}
 use Rattle.std.specs.List.{list_any, starts_with}
@@ -10,7 +10,7 @@ use Rattle.bus_bits.specs.Capture.{CaptureOf, Capture, CaptureFault, magic, too_
 use Rattle.bus_bits.specs.Packed.{head_bits, head_fault_by, head_fault, unused, wanted, packed_body, headed, capture_by, packed_capture, or_fault, filled, whole_by, packed_whole, PackedAfter}
 use Rattle.bus_bits.proofs.CaptureLemmas.{lt_true, le_false, same, le_or_lt, take_past, same_grows, clean_grows, grows_along}
 use Rattle.bus_bits.proofs.OctetLemmas.{length-bits, length-bits_of_octets, bits_of_octets-push, bits_of_octets-append, bits-split, bits-low}
-use Rattle.bus_bits.proofs.EightBitsLemmas.{word, word-eight}
+use Rattle.bus_bits.proofs.EightBitsLemmas.{word}
 
 -- an unused bit is 1
 abbrev pub pads : ℕ → List Bool → Bool

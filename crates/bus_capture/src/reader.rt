@@ -11,9 +11,9 @@ ghost use Rattle.bus_capture.specs.Internal.Sessions.{IsReadBy, Follows, Stops, 
 ghost use Rattle.bus_capture.specs.Internal.Reading.{octets_taken, Finishes};
 ghost use Rattle.bus_capture.specs.Internal.Watching.{IsSound, IsSame};
 
+use crate::follow::Follow;
 use crate::packed::PackedCapture;
 use crate::run::CaptureRun;
-use crate::follow::Follow;
 use crate::tap::Tap;
 use crate::text::TextCapture;
 use bus_text::{Options, Page, Printer, Summary, ToolFault, read_dictionary};

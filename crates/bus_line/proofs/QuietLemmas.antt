@@ -1,5 +1,5 @@
 -- Bits that decide nothing, 56 at a time.
-use Rattle.std.proofs.Common.{◌≡◌, ◌≢◌, ℕ, zero, suc, ◌+◌, ◌-◌, ◌*◌, ◌/◌, ◌%◌, ◌^◌, ◌≤◌, ◌<◌, ◌==◌, min, Bool, true, List, [], ◌∷◌, ◌++◌, length, take, drop, replicate, Option, None, refl, sym, ap, ◌∙◌, subst, arith, inl, inr, if◌then◌else◌}
+use Rattle.std.proofs.Common.{◌≡◌, ◌≢◌, ℕ, zero, suc, ◌+◌, ◌-◌, ◌*◌, ◌/◌, ◌%◌, ◌^◌, ◌≤◌, ◌<◌, ◌==◌, Bool, true, List, [], ◌∷◌, ◌++◌, length, drop, replicate, None, refl, sym, ap, ◌∙◌, subst, arith, inl, inr, if◌then◌else◌}
 use Rattle.std.specs.Prelude.{bit_and, bit_or}
 use Rattle.std.specs.Int.{bit_at}
 use Rattle.std.specs.Int.Bits.{or_shifted_r}
@@ -10,10 +10,9 @@ use Rattle.bus_bits.specs.Bits.{bits_from}
 use Rattle.bus_bits.proofs.BitLemmas.{bits-more}
 use Rattle.std.proofs.lemmas.Nat.Bits.{bit_at_and, bit_at-zero, bit_at_mask_inside}
 use Rattle.bus_bits.specs.Octet.{bits_of, number}
-use Rattle.bus_bits.proofs.OctetLemmas.{bits-low, length-bits, number-bits, number-lt}
-use Rattle.std.specs.Option.{option_to_list}
+use Rattle.bus_bits.proofs.OctetLemmas.{bits-low, number-bits, number-lt}
 use Rattle.bus_line.specs.Mark.{flag, flags, EndsInFlag}
-use Rattle.bus_line.specs.Due.{current, placed}
+use Rattle.bus_line.specs.Due.{placed}
 use Rattle.bus_line.specs.After.{After, Tells}
 use Rattle.bus_line.specs.Words.{first_in, IsWithin, state}
 use Rattle.bus_line.specs.declared.line_words.LineWords.{LineWords}
@@ -24,8 +23,8 @@ use Rattle.bus_line.proofs.LateLemmas.{six, six-ones, six-shr}
 use Rattle.bus_line.specs.Internal.LineState.{LineState}
 use Rattle.bus_line.specs.Internal.Tracks.{padded, HasTaken}
 use Rattle.bus_line.proofs.WordLemmas.{padded-length, word-made}
-use Rattle.bus_line.proofs.AdvanceLemmas.{all-after, all-placed, calm-before, calm-placed, calm-after, is_calm, Calm}
-use Rattle.bus_line.proofs.SettleLemmas.{word-settled, word-unsettled}
+use Rattle.bus_line.proofs.AdvanceLemmas.{calm-before, calm-placed, calm-after}
+use Rattle.bus_line.proofs.SettleLemmas.{word-unsettled}
 use Rattle.bus_line.proofs.WordsLemmas.{flags-passed, shift-lags, shows-flag}
 use Rattle.bus_line.proofs.FlagRunLemmas.{flags-length, flags-placed}
 use Rattle.bus_line.proofs.TellLemmas.{tells-none, tells-more}

@@ -134,12 +134,7 @@ impl<C: Check> LineDecoder<C> {
     /// It stops in front of a bit whose place would be 2^60, and refuses as [`PlaceLimit`], with nothing changed, where
     /// that is the first. `end` is at most eight times the number of octets.
     #[inline(always)]
-    pub fn scan(
-        &mut self,
-        octets: &[u8],
-        at: usize,
-        end: usize,
-    ) -> Result<Scanned, PlaceLimit>
+    pub fn scan(&mut self, octets: &[u8], at: usize, end: usize) -> Result<Scanned, PlaceLimit>
         requires some { at < end }
         requires enough { end ≤ 8 * length octets.now }
         ensures limit { IsErr result ↔ (2 ^ 60 ≤ self.old.place) }

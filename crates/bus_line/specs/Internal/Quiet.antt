@@ -1,5 +1,5 @@
 -- Time fill that is taken at once.
-use Rattle.std.specs.Prelude.{◌≡◌, ℕ, ◌+◌, ◌-◌, ◌*◌, ◌/◌, ◌<◌, ◌≤◌, List}
+use Rattle.std.specs.Prelude.{◌≡◌, ℕ, ◌+◌, ◌-◌, ◌*◌, ◌/◌, ◌<◌, List}
 use Rattle.bus_bits.specs.Bits.{bits_from}
 use Rattle.bus_line.specs.declared.line_words.LineWords.{LineWords}
 use Rattle.bus_line.specs.Mark.{flags}

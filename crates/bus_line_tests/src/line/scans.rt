@@ -36,7 +36,10 @@ fn scan_some(
     size: usize,
 ) -> usize {
     let end = at.wrapping_add(size).min(bits.len());
-    assert!(rt; at < end && end / 8 <= octets.len() && octets.len() < 10_000, "bits of octets");
+    assert!(rt;
+        at < end && end / 8 <= octets.len() && octets.len() < 10_000,
+        "bits of octets"
+    );
     assert!(rt; end <= 8 * octets.len(), "bits of octets");
     let answer = scanned.scan(octets, at, end).expect(rt, "a place");
     let mut last = None;
@@ -47,7 +50,10 @@ fn scan_some(
     assert!(rt; answer.event == last, "another report");
     assert!(rt; scanned.octets() == taken.octets(), "other octets");
     assert!(rt; scanned.place() == taken.place(), "another place");
-    assert!(rt; state_of(scanned) == state_of(taken), "another ledger, buffer or open piece");
+    assert!(rt;
+        state_of(scanned) == state_of(taken),
+        "another ledger, buffer or open piece"
+    );
     answer.count
 }
 

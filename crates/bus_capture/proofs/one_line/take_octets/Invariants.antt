@@ -1,4 +1,4 @@
-use Rattle.std.proofs.Common.{◌≡◌, ◌-◌, ◌*◌, ◌≤◌, ℕ, Bool, List, ◌++◌, length, Option}
+use Rattle.std.proofs.Common.{◌-◌, ◌*◌, ◌≤◌, ℕ, Bool, List, ◌++◌, length, Option}
 use Rattle.bus_bits.specs.Bits.{bits_from}
 use Rattle.bus_capture.specs.Internal.OneLine.{one_tap}
 use Rattle.bus_capture.specs.Internal.Watching.{IsSound, Watches, IsSame}

@@ -1,4 +1,4 @@
-use Rattle.std.proofs.Common.{List, Bool, ℕ, ◌≡◌, ◌++◌, ◌+◌, ◌-◌, ◌*◌, ◌≤◌, ◌<◌, ◌^◌, length, [], refl, sym, ap, ◌∙◌, subst, arith}
+use Rattle.std.proofs.Common.{List, ℕ, ◌++◌, ◌+◌, ◌-◌, ◌*◌, length, refl, sym, ap, ◌∙◌, subst, arith}
 use Rattle.std.proofs.lemmas.Result.{err_from_is_err_and}
 use Rattle.bus_bits.specs.Bits.{bits_from}
 use Rattle.bus_bits.proofs.BitLemmas.{length-from}

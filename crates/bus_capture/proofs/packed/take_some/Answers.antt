@@ -1,4 +1,4 @@
-use Rattle.std.proofs.Common.{List, ℕ, ◌++◌, take, false, ap, ◌∙◌, subst, sym, arith, append-nil}
+use Rattle.std.proofs.Common.{List, ℕ, false, subst, arith}
 use Rattle.std.proofs.lemmas.Result.{err_from_is_err_and}
 use Rattle.bus_capture.specs.Internal.Sessions.{FollowsBody, Stops}
 use Rattle.bus_capture.proofs.SessionsPackedLemmas.{first-octet, none-read}

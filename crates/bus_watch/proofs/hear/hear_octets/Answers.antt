@@ -1,8 +1,8 @@
-use Rattle.std.proofs.Common.{◌≡◌, ◌+◌, ◌-◌, ◌^◌, ◌++◌, ℕ, true, List, ◌∷◌, [], length, take, Some, inl, inr, refl, sym, ap, ◌∙◌, subst}
+use Rattle.std.proofs.Common.{◌≡◌, ◌+◌, ◌-◌, ◌^◌, ◌++◌, ℕ, true, List, ◌∷◌, [], length, Some, inl, inr, refl, sym, subst}
 use Rattle.std.specs.Option.{option_map}
 use Rattle.std.proofs.lemmas.Bool.{cases_lt}
 use Rattle.bus_bits.specs.Bits.{bits_from}
-use Rattle.bus_bits.proofs.BitLemmas.{front-from, length-from}
+use Rattle.bus_bits.proofs.BitLemmas.{front-from}
 use Rattle.bus_line.specs.Report.{moved}
 use Rattle.bus_line.specs.Due.{due_at}
 use Rattle.bus_line.specs.Shown.{reported}

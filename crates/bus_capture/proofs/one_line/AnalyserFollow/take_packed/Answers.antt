@@ -1,9 +1,8 @@
-use Rattle.std.proofs.Common.{◌≡◌, ◌≤◌, ◌*◌, ◌+◌, ◌^◌, ℕ, List, Bool, ◌++◌, Ok, Err, length, take, min, ◌∙◌, ap, sym, refl, subst, arith}
+use Rattle.std.proofs.Common.{◌≤◌, ◌*◌, ◌^◌, ◌++◌, Ok, Err, length, take, arith}
 use Rattle.std.proofs.lemmas.Result.{err_from_is_err_and}
 use Rattle.std.proofs.lemmas.List.{length-take}
 use Rattle.bus_bits.specs.Bits.{bits_from}
 use Rattle.bus_bits.specs.Packed.{PackedAfter, packed_capture, packed_body, head_fault}
-use Rattle.bus_capture.specs.Internal.Headed.{IsHeaded}
 use Rattle.bus_capture.specs.Internal.OneLine.{one_tap}
 use Rattle.bus_capture.proofs.CapturesLemmas.{followed-fits}
 use Rattle.bus_capture.proofs.HeadedLemmas.{octets-read}

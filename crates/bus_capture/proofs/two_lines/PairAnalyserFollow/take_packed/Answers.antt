@@ -1,6 +1,6 @@
-use Rattle.std.proofs.Common.{◌≤◌, ◌^◌, ℕ, List, ◌++◌, Ok, Err, take, false, refl, sym, subst, append-nil, arith}
+use Rattle.std.proofs.Common.{◌≤◌, ◌^◌, ℕ, ◌++◌, Ok, Err, take, refl, sym, subst, append-nil, arith}
 use Rattle.std.proofs.lemmas.Result.{err_from_is_err_and}
-use Rattle.bus_capture.specs.Internal.Sessions.{FollowsBody, Stops}
+use Rattle.bus_capture.specs.Internal.Sessions.{FollowsBody}
 use Rattle.bus_capture.specs.Internal.TwoLines.{pair_tap}
 use Rattle.bus_capture.proofs.CapturesLemmas.{followed-fits}
 use Rattle.bus_capture.proofs.SessionsPackedLemmas.{octets-taken}
@@ -29,7 +29,6 @@ returns-clause-taken g c = λ start xs f.
     let fits = followed-fits tap c.laws.ensures start _ c.args.run.now b c.requires f.bits in
     let low : tap.watch.origin c.take_word.new.self.analyser ≤ 2 ^ 60 = omega (arith, fits, c.take_word.ensures.same.origin) in
     octets-taken tap start _ c.take_word.new.self (xs ++ take many.taken c.args.octets.now) c.many_of.new.body (b ++ tap.symbols many.count many.word) (Ok tt) low given.0 given.1 (c.in_ok-take_word.ensures.taken start b f.bits)
-
 
 pub returns-in_default-clause-taken : goal.returns-in_default-clause-taken
 returns-in_default-clause-taken g c = λ start xs f.

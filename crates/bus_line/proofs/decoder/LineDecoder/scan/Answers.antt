@@ -1,4 +1,4 @@
-use Rattle.std.proofs.Common.{ap, ◌∙◌, arith}
+use Rattle.std.proofs.Common.{ap, arith}
 use Rattle.bus_bits.proofs.BitLemmas.{length-from}
 use Rattle.bus_line.specs.Internal.LineState.{LineState}
 use Rattle.bus_line.proofs.TellLemmas.{tells-due}

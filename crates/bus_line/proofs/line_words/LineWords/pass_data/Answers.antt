@@ -1,5 +1,4 @@
-use Rattle.std.proofs.Common.{◌≡◌, ◌+◌, ◌-◌, ◌≤◌, List, Bool, None, ◌∙◌, sym, subst, arith}
-use Rattle.bus_bits.specs.Octet.{bits_of}
+use Rattle.std.proofs.Common.{◌+◌, ◌-◌, List, Bool, None, subst, arith}
 use Rattle.bus_line.specs.After.{Tells}
 use Rattle.bus_line.specs.Words.{state}
 use Rattle.bus_line.proofs.TellLemmas.{place-on, tells-from, tells-on}

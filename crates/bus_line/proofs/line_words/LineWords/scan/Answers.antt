@@ -1,4 +1,4 @@
-use Rattle.std.proofs.Common.{◌≡◌, ◌+◌, ◌-◌, min, ◌∙◌, arith}
+use Rattle.std.proofs.Common.{◌≡◌, ◌-◌, min, ◌∙◌, arith}
 use Rattle.bus_bits.proofs.BitLemmas.{length-from}
 use Rattle.bus_bits.proofs.OctetLemmas.{least}
 use Rattle.bus_line.proofs.line_words.LineWords.scan.Goals as goal

@@ -1,4 +1,4 @@
-use Rattle.std.proofs.Common.{◌≡◌, ◌+◌, ◌-◌, ℕ, List, Bool, Option, None, ◌∙◌, ap, sym, subst, arith}
+use Rattle.std.proofs.Common.{◌≡◌, ◌+◌, ◌-◌, ℕ, Option, None, ◌∙◌, ap, sym, subst, arith}
 use Rattle.std.specs.Option.{option_map}
 use Rattle.bus_bits.specs.Bits.{bits_from}
 use Rattle.bus_line.specs.After.{Tells}

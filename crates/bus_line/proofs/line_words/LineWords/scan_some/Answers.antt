@@ -1,7 +1,6 @@
 use Rattle.std.proofs.Common.{◌≡◌, ◌+◌, ◌-◌, ◌≤◌, ℕ, List, Bool, Option, None, ap, ◌∙◌, sym, subst, arith}
 use Rattle.std.specs.Option.{option_map}
 use Rattle.bus_bits.specs.Bits.{bits_from}
-use Rattle.bus_bits.specs.Octet.{bits_of}
 use Rattle.bus_bits.proofs.OctetLemmas.{length-bits}
 use Rattle.bus_line.specs.After.{DecideNothing, Tells}
 use Rattle.bus_line.specs.Report.{Report}

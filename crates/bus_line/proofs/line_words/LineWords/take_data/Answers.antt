@@ -1,4 +1,4 @@
-use Rattle.std.proofs.Common.{◌≡◌, ◌+◌, ◌-◌, ◌*◌, ◌/◌, ◌%◌, ◌^◌, ◌≤◌, ℕ, List, Bool, length, take, min, refl, sym, ap, ◌∙◌, arith}
+use Rattle.std.proofs.Common.{◌≡◌, ◌+◌, ◌-◌, ◌*◌, ◌/◌, ◌%◌, ◌^◌, ◌≤◌, ℕ, List, Bool, length, refl, ap, ◌∙◌, arith}
 use Rattle.std.specs.Prelude.{bit_or}
 use Rattle.bus_bits.specs.Octet.{bits_of}
 use Rattle.bus_bits.proofs.OctetLemmas.{length-bits}
@@ -32,8 +32,8 @@ returns-clause-tells g c = λ _.
     let began = settles-open old.settles_at mid.place (first_in old.settles_at) told c.requires.room (omega (arith, c.requires.open)) in
     let at : old.settles_at ≡ began.0 + 8 = told ∙ ap settles_from began.1 in
     let calm : (b : List Bool) → After g.C.Check.folded g.C.Check.COST d b → Calm w 56 x b = λ b h.
-        let small = history-small d b h.has_taken in
-        is_calm w 56 56 x b (word-is old.history x b h.has_taken.history) refl (no-stop w behind (word-behind old.history x small) (c.has_six.ensures c.if-has_six.false)) in
+    let small = history-small d b h.has_taken in
+    is_calm w 56 56 x b (word-is old.history x b h.has_taken.history) refl (no-stop w behind (word-behind old.history x small) (c.has_six.ensures c.if-has_six.false)) in
     record {
       leads = record {
         after = λ b h.
