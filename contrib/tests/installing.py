@@ -25,6 +25,15 @@ RUNS: List[Run] = []
 
 ONE_FRAME = b"8 49 frame 108300fde5\n"
 
+# What is installed under a name that says what it is for, and the file that it is.
+SAME_FILES = {
+    "share/man/man1/port1.1": "docs/port1.1",
+    "share/bash-completion/completions/port1": "completions/port1.bash",
+    "share/zsh/site-functions/_port1": "completions/_port1",
+    "share/fish/vendor_completions.d/port1.fish": "completions/port1.fish",
+    "include/port1.h": "include/port1.h",
+}
+
 # What belongs to the work on the scripts and not to their use.
 TESTS_OF_SCRIPTS = {"tests", "self-test", "__pycache__"}
 
@@ -98,6 +107,12 @@ def problems_of_use(prefix: Path, folder: Path) -> List[str]:
     return problems
 
 
+def problems_of_files(prefix: Path) -> List[str]:
+    """Whether each file is the one that its place is for."""
+    rows = [(place, source, (TOP / source).read_bytes()) for place, source in SAME_FILES.items()]
+    return [f"{place}: not {source}" for place, source, octets in rows if (prefix / place).read_bytes() != octets]
+
+
 def files_of_contrib(folder: Path) -> List[str]:
     """The files and links of a contrib, but for what tests them."""
     found = [path.relative_to(folder) for path in folder.rglob("*") if not path.is_dir()]
@@ -123,23 +138,38 @@ def in_a_home(folder: Path) -> List[str]:
     for _ in range(2):
         made("install", [f"PREFIX={prefix}"], work)
     problems = problems_of_scripts(prefix / "bin", elsewhere) + problems_of_use(prefix, elsewhere)
-    problems += problems_of_links(prefix)
+    problems += problems_of_links(prefix) + problems_of_files(prefix)
     installed = files_of_contrib(prefix / "share" / "port1" / "contrib")
     problems += [] if installed == files_of_contrib(CONTRIB) else [f"of contrib there are {installed}"]
     made("uninstall", [f"PREFIX={prefix}"], work)
     return problems + [f"left: {path}" for path in left_in(prefix)]
 
 
+def contents(folder: Path) -> Dict[str, bytes]:
+    """The octets of each file of a folder, and where each link leads."""
+    paths = [path for path in folder.rglob("*") if path.is_symlink() or path.is_file()]
+    links = {path: os.fsencode(os.readlink(path)) for path in paths if path.is_symlink()}
+    return {str(path.relative_to(folder)): links.get(path) or path.read_bytes() for path in paths}
+
+
+def unlike_files(wanted: Dict[str, bytes], got: Dict[str, bytes]) -> List[str]:
+    names = sorted({*wanted, *got})
+    return [f"{name}: not as without DESTDIR" for name in names if wanted.get(name) != got.get(name)]
+
+
 def for_a_package(folder: Path) -> List[str]:
-    """With DESTDIR, moved to another place, where all links still lead on; then nothing is left, however deep."""
+    """With DESTDIR the same files as without, and moved to another place, where all links still lead on; then nothing
+    is left, however deep."""
     needs("make")
-    stage, moved, work = folder / "stage", folder / "moved", folder / "work"
+    stage, moved, work, plain = folder / "stage", folder / "moved", folder / "work", folder / "plain"
     work.mkdir()
     words = [f"DESTDIR={stage}", "PREFIX=/usr/local"]
     made("install", words, work)
+    made("install", [f"PREFIX={plain}"], work)
     stage.rename(moved)
     prefix = moved / "usr" / "local"
     problems = problems_of_scripts(prefix / "bin", work) + problems_of_use(prefix, work)
+    problems += unlike_files(contents(plain), contents(prefix))
     moved.rename(stage)
     made("uninstall", words, work)
     return problems + [f"left: {path}" for path in left_in(stage)]

@@ -91,6 +91,7 @@ def shared_library(folder: Path) -> List[str]:
 def by_pkg_config(folder: Path) -> List[str]:
     """The examples, linked with what pkg-config says, and with the shared library in place of the archive."""
     needs("pkg-config")
+    needs("readelf")
     prefix = moved(folder)
     examples = prefix / "share" / "doc" / "port1" / "examples" / "c"
     rows = {"static": "", "shared": " | sed s/-lport1_c/-lport1/"}
@@ -101,6 +102,8 @@ def by_pkg_config(folder: Path) -> List[str]:
         settings = {"PKG_CONFIG_PATH": str(prefix / "lib" / "pkgconfig"), "LD_LIBRARY_PATH": str(prefix / "lib")}
         problems += unlike(f"{name}: cc", "", told(words, **settings))
         problems += unlike(name, ONE_FRAME, told([folder / name], ONE_CALL, **settings))
+        needed = told(["readelf", "-d", folder / name])
+        problems += unlike(f"{name} needs it", name == "shared", "[libport1.so.2]" in needed)
     shown = told(["pkg-config", "--modversion", "port1"], PKG_CONFIG_PATH=str(prefix / "lib" / "pkgconfig"))
     version = told([os.environ["PORT1"], "--version"]).split()[1]
     return problems + unlike("version", f"{version}\n", shown)
