@@ -45,6 +45,27 @@ TWO_DATA = b"""$var wire 1 ! clk $end $var wire 1 " dat $end $var wire 1 ( ans $
 #0 0! 0" 1( #5 1! #6 0! 1" #7 0( #8 1! 1( #9 0! #10 1! #11 0! 0" 0( #12 1!
 """
 
+# The data changes at either edge, so that rising and falling edges have other bits; no pulse of the clock is short.
+BOTH_EDGES = b'#0 0! 0"\n#5 1! 1"\n#10 0!\n#15 1! 0"\n#20 0! 1"\n'
+
+# A clock that comes from no level and goes to none, which is no edge, and then a pulse of it.
+NO_LEVEL = '#0 0! 0"\n#4 {level}!\n#5 1!\n#8 {level}!\n#9 0!\n#12 1"\n#13 1!\n#16 0"\n#17 0!\n'
+
+# The wires changed as vectors of one bit, in letters of either case.
+VECTORS = b'#0 B0 ! b0 "\n#5 b1 ! B1 &\n#6 B0 ! B1 "\n#9 B1 !\n#10 Bz "\n'
+
+# Vectors and reals by codes that would be changes and times if they stood alone.
+ODD_CODES = b"""$var wire 1 ! clk $end $var wire 1 " dat $end
+$var reg 8 1! bus [7:0] $end $var reg 8 #3 bus [7:0] $end $var real 64 0! volts $end $var real 64 #2 amperes $end
+$enddefinitions $end
+#0 0! 1" b0 1! B1 1! r1.5 0! R2.5 0!
+#5 b1 #3 B0 #3 r1.5 #2 R2.5 #2 1!
+#6 R3.5 0! r3.5 0! B1 #3 R2.5 #2
+#7 0!
+#8 0" B1 1!
+#9 1!
+"""
+
 RUNS = [
     Run("times alone", ["vcd-to-bits", "clk", "dat"], dump(plain(CALL), True), lines(plain(CALL)), f"{CLK} 57 edges\n"),
     Run("times before changes", ["vcd-to-bits", "clk", "dat"], dump(plain(CALL), False), lines(plain(CALL)), f"{CLK} 57 edges\n"),
@@ -55,6 +76,39 @@ RUNS = [
         b"0110\n",
         f"{CLK} 4 edges\n{AT_TAKEN_EDGE} without --falling\n",
     ),
+    Run(
+        "rising edges of a clock with other bits at the falling ones",
+        ["vcd-to-bits", "clk", "dat"],
+        DEFINITIONS.encode() + BOTH_EDGES,
+        b"01\n",
+        f"{CLK} 2 edges\n{AT_TAKEN_EDGE} with --falling\n",
+    ),
+    Run(
+        "falling edges of a clock with other bits at the rising ones",
+        ["vcd-to-bits", "--falling", "clk", "dat"],
+        DEFINITIONS.encode() + BOTH_EDGES,
+        b"10\n",
+        f"{CLK} 2 edges\n",
+    ),
+    *[
+        Run(
+            " ".join(["a clock of the level", level, *options]),
+            ["vcd-to-bits", *options, "clk", "dat"],
+            DEFINITIONS.encode() + NO_LEVEL.format(level=level).encode(),
+            bits,
+            f"{CLK} 1 edge\n",
+        )
+        for level in "xXzZ"
+        for options, bits in [([], b"1\n"), (["--falling"], b"0\n")]
+    ],
+    Run(
+        "vectors of one bit",
+        ["vcd-to-bits", "clk", "dat"],
+        DEFINITIONS.encode() + VECTORS,
+        b"01\n",
+        f"{CLK} 2 edges\n",
+    ),
+    Run("codes that look like changes", ["vcd-to-bits", "clk", "dat"], ODD_CODES, b"10\n", f"{CLK} 2 edges\n"),
     Run(
         "data that changes with the edge",
         ["vcd-to-bits", "clk", "dat"],
