@@ -17,8 +17,8 @@ RUNS = [
     Run(
         "frames alone",
         ["list-to-pcap", RATE, "--text"],
-        b"8 49 frame 108300fde5 station 16 type 0 call\n57 72 idle\n"
-        b"153608 153649 frame 108380f561\n8 49 missing station 16 type 0\n",
+        b"0 7 damaged short\n8 49 frame 108300fde5 station 16 type 0 call\n57 72 idle\n80 90 abort\n99 140 damaged fcs\n"
+        b"150 700 overlong\n153608 153649 frame 108380f561\n8 49 missing station 16 type 0\n",
         b"0.000052\n000000 10 83 00\n1.000052\n000000 10 83 80\n",
     ),
     Run(
@@ -199,6 +199,22 @@ def pcapng_of_nothing(folder: Path) -> List[str]:
         (got.returncode, columns(folder, empty, SAID), fault.returncode, fault.stderr, bad.exists()),
         (0, [], 2, told, False),
     )
+
+
+def failing_text2pcap(folder: Path) -> List[str]:
+    """Where a program of Wireshark's fails, whether it has read or not, it is told with what that says."""
+    stand_in = folder / "text2pcap"
+    listing = b"8 49 frame 108300fde5\n" * 20_000
+    problems = []
+    for reads in ("cat > read; ", ""):
+        stand_in.write_text(f"#!/bin/sh\n{reads}echo no room >&2\nexit 3\n", encoding="ascii")
+        stand_in.chmod(0o755)
+        path = {**os.environ, "PATH": f"{folder}:{os.environ.get('PATH', os.defpath)}"}
+        for name in ("x.pcap", "x.pcapng"):
+            got = ran(["list-to-pcap", RATE, folder / name], listing, cwd=folder, env=path)
+            told = b"list-to-pcap: text2pcap ended with status 3: no room\n"
+            problems += compared((got.returncode, got.stdout, got.stderr), (2, b"", told))
+    return problems
 
 
 def wrong_calls(folder: Path) -> List[str]:
@@ -441,6 +457,7 @@ TESTS = [
     pcapng_of_one_line,
     pcapng_of_many_parts,
     pcapng_of_nothing,
+    failing_text2pcap,
     wrong_calls,
     dissector_fields,
     dissector_names,
