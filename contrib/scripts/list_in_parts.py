@@ -433,7 +433,8 @@ def ended(number: int, _frame: Any) -> None:
 
 def main() -> int:
     for number in (signal.SIGHUP, signal.SIGTERM):
-        signal.signal(number, ended)
+        if signal.getsignal(number) != signal.SIG_IGN:  # as nohup has it
+            signal.signal(number, ended)
     return status_of(request_of_words())
 
 

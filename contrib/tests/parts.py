@@ -3,11 +3,14 @@
 import os
 import random
 import shutil
+import signal
 import struct
 import subprocess
 import tempfile
+import time
+from contextlib import suppress
 from pathlib import Path
-from typing import List, Sequence, Tuple
+from typing import Dict, List, NamedTuple, Sequence, Tuple
 
 from tests.case import (
     CALL,
@@ -229,6 +232,105 @@ def by_hand(folder: Path, capture: bytes, options: Sequence[str]) -> List[str]:
     return problems + ([] if joined == one else ["not as one run"])
 
 
+class StandIn(NamedTuple):
+    """What a program in place of `port1` does that is asked for a part, or for a seam, and what is told then."""
+
+    name: str
+    of_part: str
+    of_seam: str
+    told: str
+
+
+LISTS = '"$LISTS" "$@"'
+
+STAND_INS = [
+    StandIn("a part that fails", f"{LISTS}; exit 3", LISTS, "octets 0 to 534: not listed"),
+    StandIn("a part that is killed", f"{LISTS}; kill -9 $$", LISTS, "octets 0 to 534: not listed"),
+    StandIn("a seam that fails", LISTS, f"{LISTS}; exit 3", "octets 470 to 534: not listed"),
+    StandIn("a file that shrinks", LISTS, f'{LISTS} && truncate -s 99 "$CAPTURE"', "the file has become shorter"),
+]
+
+# How long a run with a stand-in may take, in seconds.
+SOON = 30
+
+
+def by_stand_in(folder: Path, of_part: str, of_seam: str) -> Tuple[List[Path], Dict[str, str]]:
+    """A run of two parts by a stand-in: its words and environment. A part is listed to a file, a seam to a pipe."""
+    program, capture = folder / "stand-in", folder / "capture.ts2"
+    capture.write_bytes(packed(plain(CALL) * 100))
+    cases = f"if [ -f /dev/stdout ]; then {of_part}; else case $* in *--origin=*) {of_seam} ;; *) {LISTS} ;; esac; fi"
+    program.write_text(f"#!/bin/sh\n{cases}\n", encoding="ascii")
+    program.chmod(0o755)
+    settings = {"PORT1": str(program), "LISTS": os.environ["PORT1"], "CAPTURE": str(capture), "FOLDER": str(folder)}
+    words = [CONTRIB / "list-in-parts", "--parts", "2", "--jobs", "2", "--overlap", "64", capture]
+    return words, {**os.environ, **settings}
+
+
+def parts_that_fail(folder: Path) -> List[str]:
+    """A part or a seam that is not listed, and a capture that becomes shorter: a fault, and an end."""
+    problems = []
+    for row in STAND_INS:
+        words, environment = by_stand_in(folder, row.of_part, row.of_seam)
+        got = subprocess.run(words, capture_output=True, env=environment, timeout=SOON)
+        if (got.returncode, got.stdout) != (2, b"") or f"list-in-parts: {row.told}\n" not in got.stderr.decode():
+            problems.append(f"{row.name}: status {got.returncode}, {got.stderr!r}, {len(got.stdout)} octets")
+    return problems
+
+
+def started(folder: Path) -> List[int]:
+    """The processes of both parts, as soon as they have begun."""
+    path, end = folder / "started", time.monotonic() + SOON
+    while time.monotonic() < end and path.read_text().count("\n") < 2:
+        time.sleep(0.05)
+    return [int(line) for line in path.read_text().split()]
+
+
+def kill_left(processes: Sequence[int]) -> List[int]:
+    """Which of the processes are still there, which are killed then."""
+    left = []
+    for number in processes:
+        with suppress(ProcessLookupError):
+            os.kill(number, signal.SIGKILL)
+            left.append(number)
+    return left
+
+
+class Ended(NamedTuple):
+    """What the run is started by, the signals that it is sent, and its status then."""
+
+    starts: Sequence[str]
+    signals: Sequence[signal.Signals]
+    status: int
+
+
+ENDED = [
+    Ended([], [signal.SIGHUP], 128 + signal.SIGHUP),
+    Ended([], [signal.SIGTERM], 128 + signal.SIGTERM),
+    Ended(["nohup"], [signal.SIGHUP, signal.SIGTERM], 128 + signal.SIGTERM),
+]
+
+
+def parts_that_are_ended(folder: Path) -> List[str]:
+    """A signal ends it, and the processes of its parts with it; not one that it is started to pass over."""
+    problems = []
+    for row in ENDED:
+        words, environment = by_stand_in(folder, 'echo $$ >> "$FOLDER/started"; exec sleep 600', LISTS)
+        (folder / "started").write_text("")
+        with subprocess.Popen([*row.starts, *words], env=environment, stdout=subprocess.DEVNULL) as process:
+            processes = started(folder)
+            try:
+                for number in row.signals:
+                    process.send_signal(number)
+                    with suppress(subprocess.TimeoutExpired):
+                        process.wait(1 if number != row.signals[-1] else SOON)
+            finally:
+                process.kill()
+                left = kill_left(processes)
+        if (process.returncode, len(processes), left) != (row.status, 2, []):
+            problems.append(f"{row}: status {process.returncode}, {len(processes)} processes, left {left}")
+    return problems
+
+
 TESTS = [
     parts_of_dirty_lines,
     parts_up_to_the_end,
@@ -238,4 +340,6 @@ TESTS = [
     parts_of_odd_words,
     parts_to_sinks,
     parts_step_by_step,
+    parts_that_fail,
+    parts_that_are_ended,
 ]
