@@ -1,4 +1,5 @@
-"""Runs the examples of the documents: what stands behind a `$` line is all that it writes.
+"""Runs the examples of the documents: what stands behind a `$` line is all that it writes. Its status is 2 where that
+ends with a fault of the program, and 0 else, but for the lines of STATUSES.
 
 The examples of one document run one behind the other in a folder of their own, which has the folders
 `examples` and `contrib`; so one example may read what another wrote.
@@ -13,7 +14,7 @@ from dataclasses import dataclass
 from functools import lru_cache
 from itertools import takewhile
 from pathlib import Path
-from typing import FrozenSet, Iterator, List
+from typing import FrozenSet, Iterator, List, Tuple
 
 TOP = Path(__file__).resolve().parent.parent
 
@@ -44,16 +45,34 @@ MODULES = {
 # A variable that is set for the examples behind it.
 ASSIGNMENT = re.compile(r"[A-Z]+=\"[^\"]*\"")
 
+# A fault of the program, behind all else that is written.
+FAULT = re.compile(r"(?:.*\n)*port1: .*\n")
+
+# The lines with other statuses, by their beginnings.
+STATUSES = {
+    'port1 check --bits --dict "$DICT" < examples/missing-and-spoilt.bits': 1,
+    "diff before.txt after.txt": 1,
+    "contrib/recording-to-bits clock dat < examples/one-call.vcd": 2,
+    "parallel --joblog jobs.log 'port1 list": 1,
+}
+
 SECONDS = 20
 
 
 @dataclass(frozen=True)
 class Example:
-    """A line of the shell, what it writes, and the words of it and of those before it under its heading."""
+    """A line of the shell, what it writes, and the words of it and of those before it under its heading. Before the
+    line stand the variables that were set."""
 
     command: str
     stdout: str
     words: FrozenSet[str] = frozenset()
+    variables: str = ""
+
+    @property
+    def status(self) -> int:
+        others = (status for line, status in STATUSES.items() if self.command.startswith(self.variables + line))
+        return next(others, 2 if FAULT.fullmatch(self.stdout) else 0)
 
 
 def examples(text: str) -> Iterator[Example]:
@@ -71,7 +90,7 @@ def examples(text: str) -> Iterator[Example]:
             variables += f"{command}; "
         else:
             words |= set(command.split())
-            yield Example(variables + command, written_behind(lines[number + 1 :]), words)
+            yield Example(variables + command, written_behind(lines[number + 1 :]), words, variables)
 
 
 def written_behind(lines: List[str]) -> str:
@@ -104,8 +123,9 @@ def furnish(folder: Path) -> None:
         (folder / name).symlink_to(TOP / name)
 
 
-def output_of(program: Path, example: Example, folder: Path) -> bytes:
-    """All that a run of it writes; where it does not end in time, its shell and the programs of that are killed."""
+def run_of(program: Path, example: Example, folder: Path) -> Tuple[bytes, int]:
+    """All that a run of it writes, and its status; where it does not end in time, its shell and the programs of that
+    are killed."""
     path = f"{program.parent}:{os.environ.get('PATH', os.defpath)}"
     with subprocess.Popen(
         example.command,
@@ -118,7 +138,7 @@ def output_of(program: Path, example: Example, folder: Path) -> bytes:
         start_new_session=True,
     ) as shell:
         try:
-            return shell.communicate(timeout=SECONDS)[0]
+            return shell.communicate(timeout=SECONDS)[0], shell.returncode
         except subprocess.TimeoutExpired:
             os.killpg(shell.pid, signal.SIGKILL)
             raise
@@ -127,9 +147,11 @@ def output_of(program: Path, example: Example, folder: Path) -> bytes:
 def problems_of_example(program: Path, example: Example, folder: Path) -> List[str]:
     """What is wrong with a run of it in the folder, where `port1` is the program."""
     try:
-        wrote = output_of(program, example, folder).decode(errors="replace")
+        octets, status = run_of(program, example, folder)
     except (OSError, subprocess.TimeoutExpired) as error:
         return [str(error)]
+    wrote = octets.decode(errors="replace")
+    problems = [] if status == example.status else [f"its status is {status}, not {example.status}"]
     if wrote == example.stdout:
-        return []
-    return [f"it wrote {wrote!r}", f"the document has {example.stdout!r}"]
+        return problems
+    return [f"it wrote {wrote!r}", f"the document has {example.stdout!r}", *problems]
