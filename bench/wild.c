@@ -3,7 +3,8 @@
  * decoder are accepted, and stay within them, that a refusal changes nothing, that `at` stays within what was asked
  * for, that a report has numbers that the header names, that a line of zeros is refused, and that a sender touches the
  * bits of its call alone; and counts the lines that are accepted and what the calls return. Status 3 is a line that
- * went wrong, 5 a sender, 6 a line of zeros that was taken.
+ * went wrong, 4 an answer that no call gave, which of some thousand lines and senders each ought to, 5 a sender, 6 a
+ * line of zeros that was taken.
  *
  *     wild [COUNT] */
 #define _GNU_SOURCE
@@ -216,6 +217,19 @@ static void print_counts(void) {
            sends[PORT1_NO_ROOM]);
 }
 
+/* Whether every consistent line was accepted and some others were, and each answer was given. */
+static int is_all_seen(void) {
+    static const int fed[] = {PORT1_OK, PORT1_PLACE_LIMIT, PORT1_BAD_STATE, PORT1_BAD_ARGUMENT};
+    static const int sent[] = {PORT1_OK, PORT1_BAD_LENGTH, PORT1_BAD_STATE, PORT1_BAD_ARGUMENT, PORT1_NO_ROOM};
+    int is_seen = alive[CONSISTENT] > 0 && alive[CONSISTENT] == drawn[CONSISTENT] && alive[NEARLY] > 0
+        && alive[NEAR] > 0;
+    for (size_t k = 0; k < sizeof fed / sizeof *fed; k++)
+        is_seen = is_seen && feeds[fed[k]] > 0;
+    for (size_t k = 0; k < sizeof sent / sizeof *sent; k++)
+        is_seen = is_seen && sends[sent[k]] > 0;
+    return is_seen;
+}
+
 int main(int argc, char **argv) {
     long count = argc > 1 ? atol(argv[1]) : 1000000;
     struct port1_sender *sender = at_end(sizeof *sender);
@@ -241,5 +255,5 @@ int main(int argc, char **argv) {
         sends[status]++;
     }
     print_counts();
-    return 0;
+    return is_all_seen() ? 0 : 4;
 }
