@@ -43,11 +43,19 @@ KINDS = "frame damaged overlong abort idle stray answered missing spoilt late op
 
 FRAME = "8 49 frame 108300fde5"
 
+# What is no value of an option: files, and other options.
+NO_VALUES = ["written.txt", "bus.toml", "--two"]
+
 # Where a line end is typed, the command runs, and what it writes shows what the shell had completed.
 TABLE = [
     Row("port1 \t\t", ["list", "check", "show", "encode"], ["one-call"]),
-    Row("port1 help \t\t", ["list", "check", "show", "encode"], ["one-call"]),
+    Row("port1 help \t\t", ["list", "check", "show", "encode"], ["one-call", "--version"]),
+    Row("port1 help sh\t\n", ["Usage: port1 show"]),
     Row("port1 li\t --bits < one-call.bits\n", [FRAME]),
+    Row("port1 ch\t --bits < one-call.bits\n", ["frames 1"]),
+    Row("port1 sh\t 108300fde5\n", ["station 16 type 0 unknown"]),
+    Row("echo flag | port1 en\t\n", ["01111110"]),
+    Row("port1 he\t show\n", ["Usage: port1 show"]),
     Row("port1 list --\t\t", ["--dict", "--origin", "--bits", "--two", "--station", "--type", "--kind"], ["--depth"]),
     Row("port1 check --\t\t", ["--dict", "--origin", "--bits", "--two", "--depth"], ["--kind"]),
     Row("port1 list --bits --origi\t 100 < one-call.bits\n", ["108 149 frame 108300fde5"]),
@@ -61,7 +69,16 @@ TABLE = [
     Row('port1 list --bits --kind missing --dict "$(cat bus.toml)" < two\t\n', ["8 49 missing station 16 type 0"]),
     Row('port1 list --bits --kind pending --dict "$(cat bus.t\t)" < one-call.bits\n', ["8 49 pending station 16"]),
     Row("port1 list --bits < one-call.bits > writ\t; cat written.txt\n", [FRAME]),
-    Row("port1 list --bits --station \t\t16 < one-call.bits\n", [FRAME], ["one-call.ts2", "bus.toml"], ["bash", "zsh"]),
+    *[
+        Row(f"port1 {command} --bits {option} \t\t{value} < one-call.bits\n", [text], NO_VALUES, ["bash", "zsh"])
+        for command, option, value, text in [
+            ("list", "--station", "16", FRAME),
+            ("list", "--type", "0", FRAME),
+            ("list", "--origin", "100", "108 149 frame 108300fde5"),
+            ("list", "--dict", "version=1", "port1: dictionary: no frames"),
+            ("check", "--depth", "1", "last 8 49 108300fde5"),
+        ]
+    ],
 ]
 
 
