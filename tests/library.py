@@ -9,6 +9,7 @@ are installed. It takes `nm` and `size`, too.
 import os
 import random
 import re
+import select
 import shutil
 import subprocess
 import tempfile
@@ -25,9 +26,10 @@ TOP = Path(__file__).resolve().parent.parent
 
 STRICT = ["-Wall", "-Wextra", "-Wpedantic", "-Wconversion", "-Werror", "-O2"]
 
-# How long a run may take, and a build of the library, in seconds.
+# How long a run may take, a build of the library, and what a program shows while it is given no more, in seconds.
 SECONDS = 60
 SECONDS_OF_BUILD = 3600
+SECONDS_OF_WAITING = 10
 
 CHUNKS = [1, 7, 4096]
 
@@ -363,12 +365,27 @@ def problems_of_list(bench: Bench, programs: Sequence[Path], capture: bytes) -> 
 
 def problems_of_live(bench: Bench, programs: Sequence[Path]) -> List[str]:
     bits = damaged(bench.encoded(orders(random.Random(9), 400)), random.Random(9))
+    bits += bench.encoded(f"flag\nframe {'a5' * 256}\nidle\n")
     bits = bits[: len(bits) // 8 * 8]
     words = [line.split() for line in bench.listed(bits.encode(), "--bits", "--kind", "frame").decode().splitlines()]
     shown = [f"{past}: {' '.join(re.findall('..', octets))}\n" for _, past, _, octets in words]
     got = [bench.run([program], octets_of(bits)).decode() for program in programs]
     problems = [] if len(shown) > 50 else [f"there are {len(shown)} frames"]
     return problems + [f"wanted {len(shown)} frames, got {len(each)} octets" for each in got if each != "".join(shown)]
+
+
+def problems_of_waiting(bench: Bench, programs: Sequence[Path]) -> List[str]:
+    """Whether a frame is shown as it closes, before more octets come."""
+    bits = bench.encoded("frame 108300\nidle\n")
+    problems = []
+    for program in programs:
+        with subprocess.Popen([program], stdin=subprocess.PIPE, stdout=subprocess.PIPE) as process:
+            assert process.stdin is not None
+            os.write(process.stdin.fileno(), octets_of(bits[: len(bits) // 8 * 8]))
+            shown, _, _ = select.select([process.stdout], [], [], SECONDS_OF_WAITING)
+            process.stdin.close()
+            problems += [] if shown else [f"{program.name} shows it only at the end"]
+    return problems
 
 
 def problems_of_send(bench: Bench, programs: Sequence[Path], text: str) -> List[str]:
@@ -430,6 +447,8 @@ def texts_to_send() -> Iterator[Tuple[str, str]]:
     for seed in range(1, 5):
         yield f"lines by seed {seed}", orders(random.Random(seed), 600)
     yield "frames of all lengths", "".join(f"frame {'ff' * length}\n" for length in range(2, 257))
+    # Seven bits are carried over, and 2491 come behind them, of the 2492 that a frame may have: one octet more.
+    yield "most bits behind an octet that is not full", f"idle\nframe {'ff' * 254}8fff\n"
 
 
 def results_of_examples(bench: Bench) -> Iterator[Result]:
@@ -443,6 +462,7 @@ def results_of_examples(bench: Bench) -> Iterator[Result]:
     for name, capture in captures(bench):
         yield f"library: list: {name}", problems_of_list(bench, programs["list"], capture)
     yield "library: live", problems_of_live(bench, programs["live"])
+    yield "library: live shows a frame as it closes", problems_of_waiting(bench, programs["live"])
     for name, text in texts_to_send():
         yield f"library: send: {name}", problems_of_send(bench, programs["send"], text)
     yield from results_of_watch(bench, programs["watch"])
