@@ -17,8 +17,8 @@ RUNS = [
     Run(
         "frames alone",
         ["list-to-pcap", RATE, "--text"],
-        b"0 7 damaged short\n8 49 frame 108300fde5 station 16 type 0 call\n57 72 idle\n80 90 abort\n99 140 damaged fcs\n"
-        b"150 700 overlong\n153608 153649 frame 108380f561\n8 49 missing station 16 type 0\n",
+        b"0 7 damaged short\n8 49 frame 108300fde5 station 16 type 0 call\n57 72 idle\n80 90 abort\n"
+        b"99 140 damaged fcs\n150 700 overlong\n153608 153649 frame 108380f561\n8 49 missing station 16 type 0\n",
         b"0.000052\n000000 10 83 00\n1.000052\n000000 10 83 80\n",
     ),
     Run(
