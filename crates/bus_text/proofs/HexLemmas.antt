@@ -3,9 +3,10 @@ use Rattle.std.proofs.Common.{arith, ◌≡◌, refl, sym, ◌∙◌, ap, subst,
 use Rattle.std.specs.Simd.Lanes.{Each1, zip2, sel_l, top, pick_l}
 use Rattle.std.proofs.lemmas.Simd.{zip2_splat, pick_l_whole}
 use Rattle.std.proofs.lemmas.Nat.{and_mask}
-use Rattle.std.proofs.lemmas.List.{take-append-drop, length-take-le, drop-drop}
-use Rattle.std.proofs.Math.Seq.{take-append-add, take-append_seam, take-add}
+use Rattle.std.proofs.lemmas.List.{take-append-drop, length-take-le, length-append, drop-drop}
+use Rattle.std.proofs.Math.Seq.{take-append-add, take-append_seam, drop-append_seam, take-add}
 use Rattle.std.specs.Prelude.{replicate}
+use Rattle.std.specs.List.{range_with_len}
 use Rattle.std.specs.Simd.{first_chunks}
 use Rattle.bus_text.specs.declared.hex_digits.TheConstants.{DIGITS}
 use Rattle.bus_text.specs.Listing.{hex_digit, hex_of}
@@ -178,3 +179,17 @@ hex_chunk n i os count more =
     ap (λ chunk. hex_of (take (n * i) os) ++ hex_of chunk) (chunk_at n i os count more)
     ∙ sym (hex_append (take (n * i) os) (take n (drop (n * i) os)))
     ∙ ap hex_of (sym (take-add (n * i) n os) ∙ ap (λ k. take k os) after)
+
+-- the digits of as many octets in each half
+pub halves : (n : ℕ) (first last a b : List ℕ) → length first ≡ n → length last ≡ n → length a ≡ 2 * n
+    → a ++ b ≡ hex_of (pick_l 0 (first ++ last) (range_with_len 0 (n + n))) → (a ≡ hex_of first) × (b ≡ hex_of last)
+halves n first last a b f l long is =
+    let all : pick_l 0 (first ++ last) (range_with_len 0 (n + n)) ≡ first ++ last =
+    pick_l_whole 0 (first ++ last) (n + n) (omega (arith, length-append first last, f, l)) in
+    let whole : a ++ b ≡ hex_of first ++ hex_of last = is ∙ ap hex_of all ∙ hex_append first last in
+    let same : length a ≡ length (hex_of first) = omega (arith, hex_length first, f, long) in (
+      sym (take-append_seam a b) ∙ ap (take (length a)) whole ∙ ap (λ k. take k (hex_of first ++ hex_of last)) same
+          ∙ take-append_seam (hex_of first) (hex_of last),
+      sym (drop-append_seam a b) ∙ ap (drop (length a)) whole ∙ ap (λ k. drop k (hex_of first ++ hex_of last)) same
+          ∙ drop-append_seam (hex_of first) (hex_of last),
+    )

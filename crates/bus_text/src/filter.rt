@@ -1,8 +1,9 @@
 //! Which lines are written.
 
-ghost use Rattle.std.specs.Prelude.{◌≡◌};
+ghost use Rattle.std.specs.Prelude.{◌≡◌, ℕ, true, Option, IsTrue};
 ghost use Rattle.bus_text.specs.Listing.{agrees, passes};
 ghost use Rattle.bus_text.specs.Given.{filter_of};
+ghost use Rattle.bus_text.specs.declared.kind.Kind.{Kind};
 
 use crate::kind::Kind;
 use crate::options::Options;
@@ -26,6 +27,15 @@ impl Filter {
             ftype: options.ftype,
             kind: options.kind,
         }
+    }
+
+    /// Whether nothing is asked for, so that every line is written.
+    #[inline(always)]
+    pub(crate) fn is_open(&self) -> bool
+        ensures { IsTrue result → (kind : Kind) (station ftype : Option ℕ) →
+            passes self.now kind station ftype ≡ true }
+    {
+        self.station.is_none() && self.ftype.is_none() && self.kind.is_none()
     }
 
     /// Whether a line of this kind, station and type is written.

@@ -10,7 +10,8 @@ use std::simd::prelude::*;
 /// The digits of sixteen octets, half of them in each array.
 #[inline(always)]
 fn digits_of_sixteen(octets: &[u8; 16]) -> ([u8; 16], [u8; 16])
-    ensures { result.0 ++ result.1 ≡ hex_of octets.now }
+    ensures digits { result.0 ++ result.1 ≡ hex_of octets.now }
+    ensures half { length result.0 ≡ 16 }
 {
     let lanes = u8x16::from_array(*octets);
     let high = lanes >> u8x16::splat(4);
@@ -36,7 +37,8 @@ fn letters_of_sixteen(digits: u8x16) -> u8x16
 /// The digits of eight octets.
 #[inline(always)]
 fn digits_of_eight(octets: &[u8; 8]) -> ([u8; 8], [u8; 8])
-    ensures { result.0 ++ result.1 ≡ hex_of octets.now }
+    ensures digits { result.0 ++ result.1 ≡ hex_of octets.now }
+    ensures half { length result.0 ≡ 8 }
 {
     let lanes = u8x8::from_array(*octets);
     let high = lanes >> u8x8::splat(4);
@@ -57,6 +59,32 @@ fn letters_of_eight(digits: u8x8) -> u8x8
 {
     let letters = digits.simd_gt(u8x8::splat(9));
     digits + letters.select(u8x8::splat(b'a' - 10), u8x8::splat(b'0'))
+}
+
+/// The digits of eight octets, and of eight more.
+#[inline(always)]
+fn digits_of_eights(first: &[u8; 8], last: &[u8; 8]) -> ([u8; 16], [u8; 16])
+    ensures first { result.0 ≡ hex_of first.now }
+    ensures last { result.1 ≡ hex_of last.now }
+{
+    let octets = u8x8::from_array(*first).shuffle::<16>(
+        u8x8::from_array(*last),
+        [0, 1, 2, 3, 4, 5, 6, 7, 8, 9, 10, 11, 12, 13, 14, 15],
+    );
+    digits_of_sixteen(&octets.to_array())
+}
+
+/// The digits of four octets, and of four more.
+#[inline(always)]
+fn digits_of_fours(first: &[u8; 4], last: &[u8; 4]) -> ([u8; 8], [u8; 8])
+    ensures first { result.0 ≡ hex_of first.now }
+    ensures last { result.1 ≡ hex_of last.now }
+{
+    let octets = u8x4::from_array(*first).shuffle::<8>(
+        u8x4::from_array(*last),
+        [0, 1, 2, 3, 4, 5, 6, 7],
+    );
+    digits_of_eight(&octets.to_array())
 }
 
 const DIGITS: [u8; 16] = *b"0123456789abcdef";
@@ -107,19 +135,8 @@ fn push_sixteen<const N: usize>(text: &mut Text<N>, octets: &[u8; 16])
     text.push_octets(second);
 }
 
-/// Appends the digits of eight octets.
-#[inline(always)]
-fn push_eight<const N: usize>(text: &mut Text<N>, octets: &[u8; 8])
-    requires { length text.old + 16 ≤ N }
-    ensures bytes { text.new ≡ text.old ++ hex_of octets.now }
-    ensures len { length text.new ≡ length text.old + 16 }
-{
-    let (first, second) = digits_of_eight(octets);
-    text.push_octets(first);
-    text.push_octets(second);
-}
-
-/// Appends two hexadecimal digits for each of fewer than sixteen octets.
+/// Appends two hexadecimal digits for each of fewer than sixteen octets. Where these are eight or more, the last eight
+/// are written over some that stand already.
 #[inline(always)]
 fn push_few<const N: usize>(text: &mut Text<N>, octets: &[u8])
     requires room { length text.old + 2 * length octets.now ≤ N }
@@ -129,9 +146,29 @@ fn push_few<const N: usize>(text: &mut Text<N>, octets: &[u8])
 {
     match (octets.first_chunk::<8>(), octets.last_chunk::<8>()) {
         (Some(first), Some(last)) => {
-            push_eight(text, first);
+            let (first, last) = digits_of_eights(first, last);
+            text.push_octets(first);
             text.take_back(2 * (16 - octets.len()));
-            push_eight(text, last);
+            text.push_octets(last);
+        }
+        _ => push_fewer(text, octets),
+    }
+}
+
+/// Appends two hexadecimal digits for each of fewer than eight octets, likewise.
+#[inline(always)]
+fn push_fewer<const N: usize>(text: &mut Text<N>, octets: &[u8])
+    requires room { length text.old + 2 * length octets.now ≤ N }
+    requires few { length octets.now < 8 }
+    ensures bytes { text.new ≡ text.old ++ hex_of octets.now }
+    ensures len { length text.new ≡ length text.old + 2 * length octets.now }
+{
+    match (octets.first_chunk::<4>(), octets.last_chunk::<4>()) {
+        (Some(first), Some(last)) => {
+            let (first, last) = digits_of_fours(first, last);
+            text.push_octets(first);
+            text.take_back(2 * (8 - octets.len()));
+            text.push_octets(last);
         }
         _ => push_each(text, octets),
     }

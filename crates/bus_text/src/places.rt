@@ -1,6 +1,7 @@
 //! Places in decimal, one after the other.
 
-ghost use Rattle.std.specs.Prelude.{◌≡◌, ◌+◌, ◌*◌, ◌^◌, ◌++◌, ◌<◌, ◌≤◌, ℕ, length, take, codes, decimal};
+ghost use Rattle.std.specs.Prelude.{◌≡◌, ◌+◌, ◌*◌, ◌/◌, ◌^◌, ◌++◌, ◌<◌, ◌≤◌, ℕ, length, take, codes, decimal};
+ghost use Rattle.bus_text.specs.Internal.Fronts.{IsFront};
 
 use crate::number::push_number;
 use crate::text::Text;
@@ -26,29 +27,36 @@ pub struct Places {
     front: Front,
 }
 
-/// A number and its digits.
+/// The digits of ten thousand places that only their last four tell apart.
 #[derive(Drop)]
 struct Front {
-    number: u64,
+    /// The first of these places.
+    base: u64,
     digits: [u8; 16],
     count: usize,
 }
 
 impl Model for Places {
-    ghost use Rattle.std.specs.Prelude.{◌≡◌, ◌≤◌, take, decimal};
+    ghost use Rattle.std.specs.Prelude.{ℕ};
+    ghost use Rattle.bus_text.specs.Internal.Fronts.{IsFront};
 
     ghost Value = { Unit {0} };
 
     ghost view = { λ places. tt };
 
-    ghost invariant = { λ places. (places.front.count ≤ 16)
-        × (take places.front.count places.front.digits ≡ decimal places.front.number) };
+    ghost invariant = { λ places. (number : ℕ) × IsFront places.front number };
 }
 
 impl Places {
     /// What no place was written by.
     pub fn new() -> Self {
-        Places { front: front_of(0) }
+        Places {
+            front: Front {
+                base: 10000,
+                digits: [b'1'; 16],
+                count: 1,
+            },
+        }
     }
 
     /// Appends a place and a space.
@@ -58,38 +66,50 @@ impl Places {
         ensures bytes { text.new ≡ text.old ++ (decimal place ++ codes " ") }
         ensures len { length text.new ≤ length text.old + 21 }
     {
-        let front = place / 10000;
-        if front == 0 {
+        if place < 10000 {
             push_number(text, place);
             text.push(b' ');
             return;
         }
-        if front != self.front.number {
-            self.front = front_of(front);
-        }
+        let rest = turn_to(&mut self.front, place);
         text.put(self.front.digits, self.front.count);
-        text.put(last_four(place % 10000), 5);
+        text.put(last_four(rest), 5);
     }
 }
 
-/// A number and its digits.
+/// Makes it the front of a place, if it is another's, and returns what the last four digits are.
+#[inline(always)]
+fn turn_to(front: &mut Front, place: u64) -> u64
+    requires kept { (number : ℕ) × IsFront front.old number }
+    requires long { 10000 ≤ place }
+    ensures turned { IsFront front.new (place / 10000) }
+    ensures rest { 10000 * (place / 10000) + result ≡ place }
+{
+    let rest = place.wrapping_sub(front.base);
+    if rest < 10000 {
+        return rest;
+    }
+    renew(front, place / 10000);
+    place % 10000
+}
+
+/// Works out the digits of a number.
 #[inline(never)]
-fn front_of(number: u64) -> Front
-    requires { number < 10 ^ 16 }
-    ensures number { result.number ≡ number }
-    ensures digits { take result.count result.digits ≡ decimal number }
-    ensures count { result.count ≤ 16 }
+fn renew(front: &mut Front, number: u64)
+    requires some { 1 ≤ number }
+    requires few { 10000 * number < 2 ^ 64 }
+    ensures { IsFront front.new number }
 {
     let mut buffer = Buffer::new();
     let text = buffer.format(number).as_bytes();
     let count = text.len();
     let mut digits = [b'0'; 16];
     digits[..count].copy_from_slice(text);
-    Front {
-        number,
+    *front = Front {
+        base: 10000 * number,
         digits,
         count,
-    }
+    };
 }
 
 /// The last four digits of a number and a space, in the first five octets.

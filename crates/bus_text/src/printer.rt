@@ -119,7 +119,7 @@ impl Printer {
 
     /// Puts the lines of a report on the page, a frame with these octets: its own, that of the verdict,
     /// and that of the stray. `line` is the one of two lines on which it was heard, or None.
-    #[inline(never)]
+    #[inline(always)]
     pub fn put(
         &self,
         line: Option<Line>,
@@ -147,11 +147,12 @@ impl Printer {
             (report_kind (kind_with octets finding.now.event.kind)) (station_of finding.now.standing)
             (type_of finding.now.standing) }
     {
-        self.filter.passes(
-            kind_of(finding.event.kind),
-            finding.standing.map(Standing::station),
-            finding.standing.and_then(Standing::frame_type),
-        )
+        self.filter.is_open()
+            || self.filter.passes(
+                kind_of(finding.event.kind),
+                finding.standing.map(Standing::station),
+                finding.standing.and_then(Standing::frame_type),
+            )
     }
 
     /// Puts a report's own line on the page.

@@ -1,5 +1,6 @@
 pub mod TalkLemmas
 pub mod JournalStateLemmas
+pub mod HistoryLemmas
 pub mod SeenLemmas
 pub mod CutLemmas
 pub mod AnalyserViewLemmas
@@ -12,6 +13,7 @@ pub mod FailLemmas
 pub mod LawsBitLemmas
 pub mod MergedLemmas
 pub mod PairLemmas
+pub mod PairScanLemmas
 pub mod OrderLemmas
 pub mod PairFedLemmas
 pub mod PairHeadlineLemmas

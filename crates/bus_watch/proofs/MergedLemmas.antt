@@ -53,7 +53,7 @@ merged-more stays origin longest ps p =
     ∙ ap (λ ys. merged origin longest ps ++ ys) (append-nil (f n))))))
 
 -- reports only grow
-placed-grows : ReportsGrow → (origin longest : ℕ) (b c : List Bool) → (rs : List Report) × (placed origin longest (b ++ c) ≡ placed origin longest b ++ rs)
+pub placed-grows : ReportsGrow → (origin longest : ℕ) (b c : List Bool) → (rs : List Report) × (placed origin longest (b ++ c) ≡ placed origin longest b ++ rs)
 placed-grows grow origin longest b c =
     let g = grow longest b c in
     (map (moved origin) g.0, ap (map (moved origin)) g.1 ∙ map-append (moved origin) (reports longest b) g.0)
@@ -63,7 +63,7 @@ no-items [] e = refl
 no-items (x ∷ xs) e = absurd (omega (arith, e))
 
 -- where bits decide nothing, no front of them does
-quiet-front : ReportsGrow → (origin longest : ℕ) (b c d : List Bool) → placed origin longest (b ++ (c ++ d)) ≡ placed origin longest b → placed origin longest (b ++ c) ≡ placed origin longest b
+pub quiet-front : ReportsGrow → (origin longest : ℕ) (b c d : List Bool) → placed origin longest (b ++ (c ++ d)) ≡ placed origin longest b → placed origin longest (b ++ c) ≡ placed origin longest b
 quiet-front grow origin longest b c d e =
     let g = placed-grows grow origin longest b c in
     let h = placed-grows grow origin longest (b ++ c) d in
@@ -88,7 +88,7 @@ due-from more line origin longest b x r e =
     ap (map (heard_on (Some line))) (append_cancel_left (placed origin longest b) _ _ (sym grown ∙ e))
 
 -- what a pair adds, by what it decides on each line
-added-is : OneMore → (origin longest : ℕ) (ps : List (Bool × Bool)) (p : Bool × Bool) (r s : Option Report)
+pub added-is : OneMore → (origin longest : ℕ) (ps : List (Bool × Bool)) (p : Bool × Bool) (r s : Option Report)
     → placed origin longest (firsts ps ++ p.0 ∷ []) ≡ placed origin longest (firsts ps) ++ option_to_list r
     → placed origin longest (seconds ps ++ p.1 ∷ []) ≡ placed origin longest (seconds ps) ++ option_to_list s
     → added origin longest ps p ≡ heard_option (Some First) r ++ heard_option (Some Second) s

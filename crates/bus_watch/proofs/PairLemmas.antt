@@ -157,17 +157,17 @@ module _ {C : Type 0} (folded : C → List ℕ → Type 0) (cost : ℕ) (old new
       }
 
 -- the octets of a line
-of_one-octets : FramesStored → StoredPaid → AssembledWithin → (on : Line) (origin longest : ℕ) (b : List Bool) → copied_of (of_one on origin longest b) ≤ length b
+pub of_one-octets : FramesStored → StoredPaid → AssembledWithin → (on : Line) (origin longest : ℕ) (b : List Bool) → copied_of (of_one on origin longest b) ≤ length b
 of_one-octets frames paid within on origin longest b =
     omega (arith, heard-octets (Some on) (placed origin longest b), octets-moved origin (reports longest b), frames longest b, paid longest b, within b)
 
-copied-adds : (xs ys : List Heard) → copied_of (xs ++ ys) ≡ copied_of xs + copied_of ys
+pub copied-adds : (xs ys : List Heard) → copied_of (xs ++ ys) ≡ copied_of xs + copied_of ys
 copied-adds xs ys = sum_by-append (λ (h : Heard). octet_count h.report) xs ys
 
 handled-adds : (xs ys : List Heard) → handled_of (xs ++ ys) ≡ handled_of xs + handled_of ys
 handled-adds xs ys = sum_by-append (λ (h : Heard). steps h.report) xs ys
 
-merged-length : (origin longest : ℕ) (ps : List (Bool × Bool)) → length (merged origin longest ps) ≤ length ps + length ps
+pub merged-length : (origin longest : ℕ) (ps : List (Bool × Bool)) → length (merged origin longest ps) ≤ length ps + length ps
 merged-length origin longest ps =
     omega (
       arith,

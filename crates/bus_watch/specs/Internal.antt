@@ -5,3 +5,5 @@ pub mod Hears
 pub mod AnalyserView
 pub mod PairView
 pub mod LogView
+pub mod HistoryState
+pub mod HistoryView

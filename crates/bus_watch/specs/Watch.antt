@@ -1,5 +1,5 @@
 -- What bits do to an analyser, or pairs of bits to one of two lines.
-use Rattle.std.specs.Prelude.{◌≡◌, ℕ, ◌+◌, List, ◌++◌, length}
+use Rattle.std.specs.Prelude.{◌≡◌, ℕ, ◌+◌, ◌*◌, ◌≤◌, List, ◌++◌, length}
 use Rattle.bus_dictionary.specs.Entry.{FrameType}
 use Rattle.bus_dictionary.specs.Dictionary.{longest_of}
 use Rattle.bus_watch.specs.Heard.{Heard}
@@ -28,3 +28,11 @@ pub record Leads {A X : Type 0} (w : Watch A X) (old : A) (xs : List X) (told : 
   pub depth : w.depth new ≡ w.depth old
   pub origin : w.origin new ≡ w.origin old
   pub place : w.place new ≡ w.place old + length xs
+
+-- these lead from old to new, and what is seen at them was told, at most two reports at each
+pub record LeadsTold {A X : Type 0} (w : Watch A X) (old : A) (xs : List X) (new : A) (is_told : List SeenReport → Type 0)
+    : Type 0 where
+  pub seen : List SeenReport
+  pub sees : Leads w old xs seen new
+  pub few : length seen ≤ 2 * length xs
+  pub told : is_told seen

@@ -180,7 +180,7 @@ impl<C: Check> Analyser<C> {
         ensures { option_copied result ≡ self.now.finding }
     {
         if self.is_decided {
-            self.journal.last()
+            Some(self.journal.last())
         } else {
             None
         }

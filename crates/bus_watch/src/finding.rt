@@ -6,8 +6,9 @@ ghost use Rattle.bus_watch.specs.declared.line.Line.{Line};
 
 use crate::seen::Seen;
 use crate::verdict::Verdict;
+use bus_bits::Span;
 use bus_dictionary::Standing;
-use bus_line::Event;
+use bus_line::{Event, EventKind};
 
 /// One report, and what follows from it for the talk on the line, without the octets of a frame, which
 /// [`Analyser::octets`](crate::Analyser::octets) lends.
@@ -24,6 +25,19 @@ pub struct Finding {
 }
 
 impl Finding {
+    /// What stands where there was no report.
+    pub(crate) fn nothing() -> Self {
+        Finding {
+            event: Event {
+                span: Span { first: 0, past: 0 },
+                kind: EventKind::Idle,
+            },
+            standing: None,
+            verdict: None,
+            stray: false,
+        }
+    }
+
     /// The finding as it is handed out; a frame's piece borrows `octets`.
     pub fn with_octets<'a>(self, octets: &'a [u8]) -> Seen<'a>
         ensures only_line { shown result ≡ found octets.now self }

@@ -7,6 +7,7 @@ mod pair;
 
 use crate::counts::Counts;
 use crate::finding::Finding;
+use crate::history::History;
 use crate::line::Line;
 use crate::pair_kept::PairKept;
 use crate::pairing::{command, is_stray};
@@ -14,7 +15,6 @@ use crate::pending::Pending;
 use bus_bits::{Span, Spent};
 use bus_dictionary::{Dictionary, Standing};
 use bus_line::{Event, EventKind};
-use circular_buffer::HeapCircularBuffer;
 use std::alloc::{AllocError, Global};
 
 /// What is kept of the reports so far: the command that waits, the verdicts for each station, and
@@ -25,9 +25,9 @@ pub(crate) struct Journal {
     waiting: Option<Pending>,
     /// By station.
     tally: [Counts; 256],
-    history: HeapCircularBuffer<PairKept>,
-    /// What the last report was found to be, and `None` before the first.
-    last: Option<Finding>,
+    history: History,
+    /// What the last report was found to be; before the first it says nothing.
+    last: Finding,
     /// The steps `copied` and `handled`; the others are counted elsewhere.
     spent: Spent,
 }
@@ -60,16 +60,17 @@ impl Journal {
         dictionary: Dictionary,
         depth: usize,
     ) -> Result<Self, AllocError>
+        requires { 1 ≤ depth }
         ensures keeps { IfOk result (λ j. Keeps (journal_state j) []) }
         ensures given { IfOk result (λ j. (j.dictionary ≡ dictionary) × (j.history.capacity ≡ depth)) }
     {
-        let history = HeapCircularBuffer::with_capacity(alloc, depth)?;
+        let history = History::new(alloc, depth)?;
         Ok(Journal {
             dictionary,
             waiting: None,
             tally: no_counts(),
             history,
-            last: None,
+            last: Finding::nothing(),
             spent: Spent::zero(),
         })
     }
@@ -85,9 +86,8 @@ impl Journal {
         ensures keeps { (hs : List Heard) → Keeps (journal_state self.old) hs →
             Keeps (journal_state self.new) (hs ++ heard_on line (reported octets.now event) ∷ []) }
         ensures says { (hs : List Heard) → Keeps (journal_state self.old) hs →
-            option_map (found_on line octets.now) self.new.last
-            ≡ Some (seen_of self.old.dictionary hs (heard_on line (reported octets.now event))) }
-        ensures told { self.new.last ≢ None }
+            found_on line octets.now self.new.last
+            ≡ seen_of self.old.dictionary hs (heard_on line (reported octets.now event)) }
         ensures given { (self.new.dictionary ≡ self.old.dictionary)
             × (self.new.history.capacity ≡ self.old.history.capacity) }
     {
@@ -106,9 +106,8 @@ impl Journal {
         ensures keeps { (hs : List Heard) → Keeps (journal_state self.old) hs →
             Keeps (journal_state self.new) (hs ++ heard_on None (reported octets.now event) ∷ []) }
         ensures says { (hs : List Heard) → Keeps (journal_state self.old) hs →
-            option_map (found_on None octets.now) self.new.last
-            ≡ Some (seen_of self.old.dictionary hs (heard_on None (reported octets.now event))) }
-        ensures told { self.new.last ≢ None }
+            found_on None octets.now self.new.last
+            ≡ seen_of self.old.dictionary hs (heard_on None (reported octets.now event)) }
         ensures given { (self.new.dictionary ≡ self.old.dictionary)
             × (self.new.history.capacity ≡ self.old.history.capacity) }
     {
@@ -124,9 +123,8 @@ impl Journal {
         ensures keeps { (hs : List Heard) → Keeps (journal_state self.old) hs →
             Keeps (journal_state self.new) (hs ++ heard_on (Some line) (reported octets.now event) ∷ []) }
         ensures says { (hs : List Heard) → Keeps (journal_state self.old) hs →
-            option_map (found_on (Some line) octets.now) self.new.last
-            ≡ Some (seen_of self.old.dictionary hs (heard_on (Some line) (reported octets.now event))) }
-        ensures told { self.new.last ≢ None }
+            found_on (Some line) octets.now self.new.last
+            ≡ seen_of self.old.dictionary hs (heard_on (Some line) (reported octets.now event)) }
         ensures given { (self.new.dictionary ≡ self.old.dictionary)
             × (self.new.history.capacity ≡ self.old.history.capacity) }
     {
@@ -142,100 +140,99 @@ impl Journal {
         ensures keeps { (hs : List Heard) → Keeps (journal_state self.old) hs →
             Keeps (journal_state self.new) (hs ++ heard_on line (reported octets.now event) ∷ []) }
         ensures says { (hs : List Heard) → Keeps (journal_state self.old) hs →
-            option_map (found_on line octets.now) self.new.last
-            ≡ Some (seen_of self.old.dictionary hs (heard_on line (reported octets.now event))) }
-        ensures told { self.new.last ≢ None }
+            found_on line octets.now self.new.last
+            ≡ seen_of self.old.dictionary hs (heard_on line (reported octets.now event)) }
         ensures given { (self.new.dictionary ≡ self.old.dictionary)
             × (self.new.history.capacity ≡ self.old.history.capacity) }
     {
-        let finding = match event.kind {
+        match event.kind {
             EventKind::Frame => self.frame(line, event.span, octets),
             EventKind::Idle => self.idle(event),
             EventKind::Damaged(_) | EventKind::Overlong | EventKind::Abort => self.damage(event),
-        };
-        self.last = Some(finding);
+        }
     }
 
-    /// What the last report was found to be, if there was one.
+    /// What the last report was found to be.
     #[inline(always)]
-    pub(crate) fn last(&self) -> Option<&Finding>
-        ensures { option_copied result ≡ self.now.last }
+    pub(crate) fn last(&self) -> &Finding
+        ensures { result.now ≡ self.now.last }
     {
-        self.last.as_ref()
+        &self.last
     }
 
     /// Takes a frame of a line.
-    fn frame(&mut self, line: Option<Line>, span: Span, octets: &[u8]) -> Finding
+    #[inline(always)]
+    fn frame(&mut self, line: Option<Line>, span: Span, octets: &[u8])
         requires at_least { 4 ≤ length octets.now }
         requires at_most { length octets.now ≤ 258 }
         requires room { HasRoom (journal_state self.old) }
         ensures keeps { (hs : List Heard) → Keeps (journal_state self.old) hs → Keeps (journal_state self.new)
             (hs ++ heard_on line (record { kind = Frame octets.now; first = span.first; past = span.past }) ∷ []) }
         ensures says { (hs : List Heard) → Keeps (journal_state self.old) hs →
-            found_on line octets.now result ≡ seen_of self.old.dictionary hs
+            found_on line octets.now self.new.last ≡ seen_of self.old.dictionary hs
             (heard_on line (record { kind = Frame octets.now; first = span.first; past = span.past })) }
         ensures given { (self.new.dictionary ≡ self.old.dictionary)
             × (self.new.history.capacity ≡ self.old.history.capacity) }
     {
         self.spent.tick_handled();
         let standing = self.standing(octets);
-        let verdict = self.decide(Some((line, span.first, standing)));
-        self.waiting = command(&self.dictionary, line, span, standing);
-        self.keep(line, span, octets);
-        Finding {
-            event: Event {
-                kind: EventKind::Frame,
-                span,
-            },
-            standing: Some(standing),
-            verdict,
-            stray: is_stray(standing, verdict),
+        self.decide(Some((line, span.first, standing)));
+        self.last.event = Event {
+            kind: EventKind::Frame,
+            span,
+        };
+        self.last.standing = Some(standing);
+        self.last.stray = is_stray(standing, self.last.verdict);
+        if let Some(command) = command(&self.dictionary, line, span, standing) {
+            self.waiting = Some(command);
         }
+        self.keep(line, span, octets);
     }
 
     /// Takes a piece that is no frame.
-    fn damage(&mut self, event: Event) -> Finding
+    #[inline(always)]
+    fn damage(&mut self, event: Event)
         requires damage { (octets : List ℕ) → is_damage (kind_with octets event.kind) ≡ true }
         requires room { HasRoom (journal_state self.old) }
         ensures keeps { (line : Option Line) (octets : List ℕ) (hs : List Heard) → Keeps (journal_state self.old) hs →
             Keeps (journal_state self.new) (hs ++ heard_on line (reported octets event) ∷ []) }
         ensures says { (line : Option Line) (octets : List ℕ) (hs : List Heard) → Keeps (journal_state self.old) hs →
-            found_on line octets result ≡ seen_of self.old.dictionary hs (heard_on line (reported octets event)) }
+            found_on line octets self.new.last
+            ≡ seen_of self.old.dictionary hs (heard_on line (reported octets event)) }
         ensures given { (self.new.dictionary ≡ self.old.dictionary)
             × (self.new.history.capacity ≡ self.old.history.capacity) }
     {
         self.spent.tick_handled();
-        Finding {
-            event,
-            standing: None,
-            verdict: self.decide(None),
-            stray: false,
-        }
+        self.decide(None);
+        self.last.event = event;
+        self.last.standing = None;
+        self.last.stray = false;
     }
 
     /// Takes an idle: neither pairing nor tally changes.
-    fn idle(&mut self, event: Event) -> Finding
+    #[inline(always)]
+    fn idle(&mut self, event: Event)
         requires idle { (octets : List ℕ) → is_idle (kind_with octets event.kind) ≡ true }
         requires room { HasRoom (journal_state self.old) }
         ensures keeps { (line : Option Line) (octets : List ℕ) (hs : List Heard) → Keeps (journal_state self.old) hs →
             Keeps (journal_state self.new) (hs ++ heard_on line (reported octets event) ∷ []) }
         ensures says { (line : Option Line) (octets : List ℕ) (hs : List Heard) → Keeps (journal_state self.old) hs →
-            found_on line octets result ≡ seen_of self.old.dictionary hs (heard_on line (reported octets event)) }
+            found_on line octets self.new.last
+            ≡ seen_of self.old.dictionary hs (heard_on line (reported octets event)) }
         ensures given { (self.new.dictionary ≡ self.old.dictionary)
             × (self.new.history.capacity ≡ self.old.history.capacity) }
     {
         self.spent.tick_handled();
         self.spent.tick_handled();
         self.spent.tick_handled();
-        Finding {
-            event,
-            standing: None,
-            verdict: None,
-            stray: false,
-        }
+        self.last.event = event;
+        self.last.standing = None;
+        self.last.verdict = None;
+        self.last.stray = false;
     }
 
     /// How a frame's head matches the dictionary, by its head and its type's entry.
+    #[inline(always)]
     fn standing(&mut self, octets: &[u8]) -> Standing
         requires whole { 4 ≤ length octets.now }
         requires room { self.old.spent.handled + 2 < 2 ^ 64 }

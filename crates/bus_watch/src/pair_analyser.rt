@@ -13,6 +13,8 @@ ghost use Rattle.bus_watch.specs.Internal.JournalState.{journal_state, HasRoom};
 ghost use Rattle.bus_watch.specs.PairShown.{shown_option_on};
 ghost use Rattle.bus_watch.specs.Shown.{found_on, begun_span, IsKeepable};
 
+mod scan;
+
 use crate::counts::Counts;
 use crate::feed::PLACES;
 use crate::finding::Finding;
@@ -85,7 +87,7 @@ fn hear_all<C: Check>(
 {
     let mut is_decided = false;
     match hear(decoder, journal, &mut is_decided, Some(line), bits, count) {
-        Ok(_) if is_decided => journal.last().copied(),
+        Ok(_) if is_decided => Some(*journal.last()),
         Ok(_) => None,
         Err(PlaceLimit) => unreachable!(),
     }

@@ -4,15 +4,14 @@ ghost use Rattle.std.specs.Prelude.{◌≡◌, ◌+◌, ◌≤◌, ◌<◌, ◌^
 ghost use Rattle.circular_buffer.specs.Buffer.{keep_last};
 
 use crate::journal::Journal;
-use crate::kept::Kept;
 use crate::line::{Line, kept_line};
-use crate::pair_kept::PairKept;
 use bus_bits::Span;
 
 impl Journal {
     ghost use Rattle.bus_watch.specs.History.{kept_pair, line_of};
 
     /// Copies a frame into the history, in place of the oldest where that is full.
+    #[inline(always)]
     pub(crate) fn keep(&mut self, line: Option<Line>, span: Span, octets: &[u8])
         requires fits { length octets.now ≤ 258 }
         requires copied { self.old.spent.copied + length octets.now < 2 ^ 64 }
@@ -31,10 +30,6 @@ impl Journal {
     {
         self.spent.copied += octets.len() as u64;
         self.spent.tick_handled();
-        let kept = PairKept {
-            line: kept_line(line),
-            kept: Kept::of(span, octets),
-        };
-        self.history.push_back(kept);
+        self.history.put(kept_line(line), span, octets);
     }
 }

@@ -16,28 +16,36 @@ impl Journal {
     ghost use Rattle.bus_watch.specs.Internal.Counted.{Counted};
 
     /// Decides the command that waits, if there is one, by the line, the place of the first bit and the
-    /// standing of the frame that came next: `None` for a piece that is no frame.
-    pub(crate) fn decide(&mut self, right: Option<(Option<Line>, u64, Standing)>) -> Option<Verdict>
+    /// standing of the frame that came next: `None` for a piece that is no frame. What was
+    /// found last has the verdict then, or none.
+    #[inline(always)]
+    pub(crate) fn decide(&mut self, right: Option<(Option<Line>, u64, Standing)>)
         requires counts { CanCount self.old.tally }
         requires handled { self.old.spent.handled + 2 < 2 ^ 64 }
-        ensures value { result ≡ option_map (verdict self.old.dictionary right) self.old.waiting }
-        ensures tally { Counted result self.old.tally self.new.tally }
+        ensures value { self.new.last.verdict ≡ option_map (verdict self.old.dictionary right) self.old.waiting }
+        ensures tally { Counted self.new.last.verdict self.old.tally self.new.tally }
         ensures kept { self.new
             ≡ record self.old {
               waiting = None;
               tally = self.new.tally;
+              last = record self.old.last { verdict = self.new.last.verdict };
               spent = record self.old.spent { handled = self.old.spent.handled + 2 };
             } }
     {
         self.spent.tick_handled();
         self.spent.tick_handled();
-        let pending = self.waiting.take()?;
+        let Some(pending) = self.waiting else {
+            self.last.verdict = None;
+            return;
+        };
+        self.waiting = None;
         let verdict = verdict(&self.dictionary, pending, right);
+        self.last.verdict = Some(verdict);
         self.count(verdict);
-        Some(verdict)
     }
 
     /// Counts a verdict for its station.
+    #[inline(always)]
     fn count(&mut self, verdict: Verdict)
         requires { CanCount self.old.tally }
         ensures tally { Counted (Some verdict) self.old.tally self.new.tally }
@@ -52,6 +60,7 @@ impl Counts {
     ghost use Rattle.bus_watch.specs.Internal.Counted.{one_more};
 
     /// One verdict more.
+    #[inline(always)]
     fn counted(self, outcome: Outcome) -> Counts
         requires answered { self.answered + 1 < 2 ^ 64 }
         requires missing { self.missing + 1 < 2 ^ 64 }

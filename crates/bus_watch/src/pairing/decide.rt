@@ -17,6 +17,7 @@ const ALL_STATIONS: u8 = 255;
 
 /// The command that a frame is, if it waits for an answer: known, of a type below 128 that is to
 /// be answered, and to one station, on a line where commands wait.
+#[inline(always)]
 pub(crate) fn command<R: Rules>(
     rules: &R,
     line: Option<Line>,
@@ -42,6 +43,7 @@ pub(crate) fn command<R: Rules>(
 }
 
 /// An answer whose first bit has this place: in time, or late by the window of the command's entry.
+#[inline(always)]
 fn answer<R: Rules>(rules: &R, pending: Pending, first: u64) -> Outcome
     ensures { result
         ≡ (if is_late (window_of (entry_at pending.ftype (R.entries rules.now))) pending.span first
@@ -61,6 +63,7 @@ fn answer<R: Rules>(rules: &R, pending: Pending, first: u64) -> Outcome
 
 /// What becomes of a command, by the line, the place of the first bit and the standing of the frame
 /// that came next: `None` for a piece that is no frame.
+#[inline(always)]
 fn outcome<R: Rules>(
     rules: &R,
     pending: Pending,
@@ -82,6 +85,7 @@ fn outcome<R: Rules>(
 
 /// The verdict on a command, by the line, the place of the first bit and the standing of the frame that
 /// came next: `None` for a piece that is no frame.
+#[inline(always)]
 pub(crate) fn verdict<R: Rules>(
     rules: &R,
     pending: Pending,

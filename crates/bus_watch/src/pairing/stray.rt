@@ -9,6 +9,7 @@ use bus_dictionary::Standing;
 
 /// Whether a frame of this standing, which decides this verdict, has an answer's type and answers
 /// nothing.
+#[inline(always)]
 pub(crate) fn is_stray(standing: Standing, verdict: Option<Verdict>) -> bool
     ensures { result ≡ is_stray (Some standing) verdict }
 {
@@ -19,6 +20,7 @@ pub(crate) fn is_stray(standing: Standing, verdict: Option<Verdict>) -> bool
 }
 
 /// Whether a verdict says that the command was answered, in time or late.
+#[inline(always)]
 fn answers(verdict: Option<Verdict>) -> bool
     ensures { result ≡ answers verdict }
 {

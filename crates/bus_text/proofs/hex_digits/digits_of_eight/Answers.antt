@@ -14,6 +14,9 @@ letters_of_eight-requires-2 c = record {
   digits = digits_below 8 c.args.octets.now c.told-octets c.fits-octets seconds_of_eight;
 }
 
-pub returns : goal.returns
-returns c =
+pub returns-clause-digits : goal.returns-clause-digits
+returns-clause-digits c =
     rw (c.letters_of_eight.ensures) (rw (c.letters_of_eight-2.ensures) (eight_woven c.args.octets.now c.told-octets))
+
+pub returns-clause-half : goal.returns-clause-half
+returns-clause-half c = rw (c.letters_of_eight.ensures) refl

@@ -7,4 +7,4 @@ returns-clause-bytes g c =
     c.push_octets-2.ensures.bytes
     ∙ ap (λ text. text ++ halves.1) c.push_octets.ensures.bytes
     ∙ append_assoc c.args.text.now halves.0 halves.1
-    ∙ ap (λ digits. c.args.text.now ++ digits) c.digits_of_sixteen.ensures
+    ∙ ap (λ digits. c.args.text.now ++ digits) c.digits_of_sixteen.ensures.digits

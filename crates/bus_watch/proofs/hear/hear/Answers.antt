@@ -1,4 +1,4 @@
-use Rattle.std.proofs.Common.{◌≡◌, ◌+◌, ◌-◌, ◌^◌, ◌++◌, ℕ, true, List, ◌∷◌, [], length, Some, inl, inr, refl, sym, subst, arith}
+use Rattle.std.proofs.Common.{◌≡◌, ◌+◌, ◌-◌, ◌^◌, ◌++◌, ℕ, true, List, ◌∷◌, [], length, Some, inl, inr, refl, sym, ap, subst, arith}
 use Rattle.std.specs.Option.{option_map}
 use Rattle.std.proofs.lemmas.Bool.{cases_lt}
 use Rattle.bus_bits.specs.Octet.{bits_of}
@@ -52,5 +52,5 @@ returns-clause-hears g c =
     let grows = subst (λ o. GrowsBy g.C.Check.folded g.C.Check.COST d (bits_of n x) (option_map (reported os) o)) c.in-Some.is c.in_ok-taken.ensures.more in
     let calm = calm-but-last g.C.Check.folded g.C.Check.COST n x d (length-bits n x) (bits-front (n - 1) n x (omega arith)) c.in_ok-taken.ensures.before in
     let keeps = subst (λ (y : List ℕ). (hs : List Heard) → Keeps old hs → Keeps new (hs ++ heard_on line (reported y e) ∷ [])) c.octets.ensures.value c.take-2.ensures.keeps in
-    let says = subst (λ (y : List ℕ). (hs : List Heard) → Keeps old hs → option_map (found_on line y) c.take-2.new.self.last ≡ Some (seen_of old.dictionary hs (heard_on line (reported y e)))) c.octets.ensures.value c.take-2.ensures.says in
-    hears-some g.C.Check.folded g.C.Check.COST line d c.take.new.self old new (bits_of n x) (reported os e) (told_on line os true c.take-2.new.self.last) c.in_ok-taken.ensures.leads grows calm keeps says c.take-2.ensures.given.0 c.take-2.ensures.given.1
+    let says = subst (λ (y : List ℕ). (hs : List Heard) → Keeps old hs → found_on line y c.take-2.new.self.last ≡ seen_of old.dictionary hs (heard_on line (reported y e))) c.octets.ensures.value c.take-2.ensures.says in
+    hears-some g.C.Check.folded g.C.Check.COST line d c.take.new.self old new (bits_of n x) (reported os e) (told_on line os true c.take-2.new.self.last) c.in_ok-taken.ensures.leads grows calm keeps (λ hs k. ap Some (says hs k)) c.take-2.ensures.given.0 c.take-2.ensures.given.1

@@ -1,4 +1,4 @@
-use Rattle.std.proofs.Common.{◌≡◌, ◌+◌, ◌-◌, ◌^◌, ◌++◌, ℕ, true, List, ◌∷◌, [], length, Some, inl, inr, refl, sym, subst}
+use Rattle.std.proofs.Common.{◌≡◌, ◌+◌, ◌-◌, ◌^◌, ◌++◌, ℕ, true, List, ◌∷◌, [], length, Some, inl, inr, refl, sym, ap, subst}
 use Rattle.std.specs.Option.{option_map}
 use Rattle.std.proofs.lemmas.Bool.{cases_lt}
 use Rattle.bus_bits.specs.Bits.{bits_from}
@@ -54,5 +54,5 @@ returns-clause-hears g c =
     let grows = subst (λ o. GrowsBy g.C.Check.folded g.C.Check.COST d x (option_map (reported os) o)) c.in-Some.is tells.says in
     let calm = subst (IsCalmFor g.C.Check.folded g.C.Check.COST d) (sym (front-from c.args.octets.now c.args.at scanned.scanned.count)) scanned.ensures.before in
     let keeps = subst (λ (y : List ℕ). (hs : List Heard) → Keeps old hs → Keeps new (hs ++ heard_on line (reported y e) ∷ [])) c.octets.ensures.value c.take.ensures.keeps in
-    let says = subst (λ (y : List ℕ). (hs : List Heard) → Keeps old hs → option_map (found_on line y) c.take.new.self.last ≡ Some (seen_of old.dictionary hs (heard_on line (reported y e)))) c.octets.ensures.value c.take.ensures.says in
-    hears-some g.C.Check.folded g.C.Check.COST line d c.scan.new.self old new x (reported os e) (told_on line os true c.take.new.self.last) tells.leads grows calm keeps says c.take.ensures.given.0 c.take.ensures.given.1
+    let says = subst (λ (y : List ℕ). (hs : List Heard) → Keeps old hs → found_on line y c.take.new.self.last ≡ seen_of old.dictionary hs (heard_on line (reported y e))) c.octets.ensures.value c.take.ensures.says in
+    hears-some g.C.Check.folded g.C.Check.COST line d c.scan.new.self old new x (reported os e) (told_on line os true c.take.new.self.last) tells.leads grows calm keeps (λ hs k. ap Some (says hs k)) c.take.ensures.given.0 c.take.ensures.given.1
