@@ -283,7 +283,7 @@ pub record IsNine (is_mark : ℕ → Bool) (xs marks : List ℕ) (k : ℕ) : Typ
 
 module _ (is_mark : ℕ → Bool) where
   -- what is skipped is no mark
-  skipped_between : (xs ys : List ℕ) (x : ℕ) → is_mark x ≡ false → filter is_mark (xs ++ x ∷ ys) ≡ filter is_mark (xs ++ ys)
+  pub skipped_between : (xs ys : List ℕ) (x : ℕ) → is_mark x ≡ false → filter is_mark (xs ++ x ∷ ys) ≡ filter is_mark (xs ++ ys)
   skipped_between [] ys x f = ap (λ b. cond b (x ∷ filter is_mark ys) (filter is_mark ys)) f
   skipped_between (y ∷ xs) ys x f = ap (λ (z : List ℕ). cond (is_mark y) (y ∷ z) z) (skipped_between xs ys x f)
 
@@ -291,7 +291,7 @@ module _ (is_mark : ℕ → Bool) where
   text_between [] ys x h = (and_parts (is_read is_mark x) (list_all (is_read is_mark) ys) h).0
   text_between (y ∷ xs) ys x h = text_between xs ys x (and_parts (is_read is_mark y) (list_all (is_read is_mark) (xs ++ x ∷ ys)) h).1
 
-  between_text : (xs ys : List ℕ) (x : ℕ) → is_read is_mark x ≡ true → list_all (is_read is_mark) (xs ++ ys) ≡ true
+  pub between_text : (xs ys : List ℕ) (x : ℕ) → is_read is_mark x ≡ true → list_all (is_read is_mark) (xs ++ ys) ≡ true
       → list_all (is_read is_mark) (xs ++ x ∷ ys) ≡ true
   between_text [] ys x t h = and_from (is_read is_mark x) (list_all (is_read is_mark) ys) t h
   between_text (y ∷ xs) ys x t h =

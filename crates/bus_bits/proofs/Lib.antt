@@ -3,10 +3,14 @@ pub mod CaptureLemmas
 pub mod EightBitsLemmas
 pub mod EightBitsOfNineLemmas
 pub mod FrontLemmas
+pub mod GatherLemmas
 pub mod OctetLemmas
 pub mod PackedLemmas
 pub mod PairWordsLemmas
 pub mod PairsLemmas
+pub mod PairBlockLemmas
 pub mod TextBitsLemmas
+pub mod TextBlockLemmas
+pub mod TextMarksLemmas
 pub mod WordLemmas
 mod Examples

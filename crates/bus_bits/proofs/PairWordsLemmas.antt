@@ -1,22 +1,15 @@
 -- Pairs of bits in one number, parted into two.
-use Rattle.std.proofs.Common.{◌≡◌, ℕ, zero, suc, ◌+◌, ◌*◌, ◌/◌, ◌%◌, ◌^◌, ◌<◌, ◌≤◌, ◌==◌, inl, inr, Bool, true, false, nat_lt, cond, List, [], ◌∷◌, ◌++◌, length, length-append, get_or, take, drop, bit_and, bit_or, refl, sym, ap, ◌∙◌, subst, arith, mod-lt}
+use Rattle.std.proofs.Common.{◌≡◌, ℕ, zero, suc, ◌+◌, ◌*◌, ◌/◌, ◌%◌, ◌^◌, ◌<◌, ◌≤◌, ◌==◌, inl, inr, Bool, true, false, nat_lt, cond, List, [], ◌∷◌, ◌++◌, length, bit_and, bit_or, refl, sym, ap, ◌∙◌, subst, arith, mod-lt}
 use Rattle.std.proofs.lemmas.Bool.Decides.{nat_tests}
 use Rattle.std.proofs.lemmas.Bool.{eqb-true}
-use Rattle.std.proofs.lemmas.List.Elements.{All-take, All-drop}
-use Rattle.std.proofs.lemmas.List.{drop_more, drop_all, append-nil, length-take, length-drop, take-append-drop}
 use Rattle.std.proofs.lemmas.Nat.Bits.{bit_at_and, bit_at_or, bit_at_lowest, bit_at-suc, bit_at_above, bit_at-lt, bit_at_cat_low, same_from_bits_below}
-use Rattle.std.proofs.lemmas.Nat.{shr-shr, and_le_r, div-add-mod', pow_pos, or_comm, or_shifted}
-use Rattle.std.specs.Int.{bit_at, w64, from_le_bytes}
-use Rattle.std.specs.List.{All}
+use Rattle.std.proofs.lemmas.Nat.{shr-shr, and_le_r, div-add-mod', pow_pos}
+use Rattle.std.specs.Int.{bit_at}
 use Rattle.std.specs.Prelude.{zip}
-use Rattle.bus_bits.specs.Octet.{bits_of, bits_of_octets}
+use Rattle.bus_bits.specs.Octet.{bits_of}
 use Rattle.bus_bits.specs.Packed.{in_pairs}
 use Rattle.bus_bits.proofs.CaptureLemmas.{le_or_lt}
-use Rattle.bus_bits.proofs.EightBitsLemmas.{upto, upto-all, word, word-eight}
-use Rattle.bus_bits.proofs.EightBitsOfNineLemmas.{word-lt, word-append}
-use Rattle.bus_bits.proofs.OctetLemmas.{length-bits, bits-split, bits-low, length-bits_of_octets, bits_of_octets-append}
-use Rattle.bus_bits.proofs.PackedLemmas.{word-front}
-use Rattle.bus_bits.proofs.PairsLemmas.{pairs-append}
+use Rattle.bus_bits.proofs.EightBitsLemmas.{upto, upto-all}
 
 -- ---- bits at even places
 
@@ -228,107 +221,3 @@ zip-append [] [] c d h = refl
 zip-append [] (y ∷ b) c d h = absurd (omega (arith, h))
 zip-append (x ∷ a) [] c d h = absurd (omega (arith, h))
 zip-append (x ∷ a) (y ∷ b) c d h = ap (λ (z : List (Bool × Bool)). (x, y) ∷ z) (zip-append a b c d (omega (arith, h)))
-
-joined-is : (f g : ℕ) → f < 2 ^ 32 → g < 2 ^ 16 → bit_or f (g * 4294967296 % 18446744073709551616) ≡ g * 2 ^ 32 + f
-joined-is f g l m =
-    let e : g * 4294967296 % 18446744073709551616 ≡ g * 2 ^ 32 = omega (arith, m) in
-    ap (bit_or f) e ∙ or_comm f (g * 2 ^ 32) ∙ or_shifted g 32 f l
-
-pub joined-small : (f g : ℕ) → f < 2 ^ 32 → g < 2 ^ 16 → bit_or f (g * 4294967296 % 18446744073709551616) < 281474976710656
-joined-small f g l m = omega (arith, joined-is f g l m, l, m)
-
-pub joined-bits : (f g : ℕ) → f < 2 ^ 32 → g < 2 ^ 16 → bits_of 48 (bit_or f (g * 4294967296 % 18446744073709551616)) ≡ bits_of 32 f ++ bits_of 16 g
-joined-bits f g l m =
-    let low : (g * 2 ^ 32 + f) % 2 ^ 32 ≡ f = omega (arith, l) in
-    let high : (g * 2 ^ 32 + f) / 2 ^ 32 ≡ g = omega (arith, l) in
-    ap (bits_of 48) (joined-is f g l m) ∙ bits-split 32 16 (g * 2 ^ 32 + f)
-    ∙ ap (λ (b : List Bool). b ++ bits_of 16 ((g * 2 ^ 32 + f) / 2 ^ 32)) (sym (bits-low 32 (g * 2 ^ 32 + f)) ∙ ap (bits_of 32) low)
-    ∙ ap (λ (n : ℕ). bits_of 32 f ++ bits_of 16 n) high
-
--- the numbers of twelve octets, and the two that they are parted into
-pub record IsTwelve (os front back : List ℕ) (f g s t : ℕ) : Type 0 where
-  pub all : os ≡ front ++ back
-  pub small : (f < 2 ^ 32) × (g < 2 ^ 16) × (s < 2 ^ 32) × (t < 2 ^ 16)
-  pub first : in_pairs (bits_of_octets front) ≡ zip (bits_of 32 f) (bits_of 32 s)
-  pub second : in_pairs (bits_of_octets back) ≡ zip (bits_of 16 g) (bits_of 16 t)
-
-pub twelve-pairs : (os front back : List ℕ) (f g s t : ℕ) → IsTwelve os front back f g s t
-    → in_pairs (bits_of_octets os)
-    ≡ zip (bits_of 48 (bit_or f (g * 4294967296 % 18446744073709551616))) (bits_of 48 (bit_or s (t * 4294967296 % 18446744073709551616)))
-twelve-pairs os front back f g s t h =
-    ap (λ (z : List ℕ). in_pairs (bits_of_octets z)) h.all
-    ∙ ap in_pairs (bits_of_octets-append front back)
-    ∙ pairs-append (bits_of_octets front) (bits_of_octets back) (omega (arith, length-bits_of_octets front))
-    ∙ ap (λ (z : List (Bool × Bool)). z ++ in_pairs (bits_of_octets back)) h.first
-    ∙ ap (λ (z : List (Bool × Bool)). zip (bits_of 32 f) (bits_of 32 s) ++ z) h.second
-    ∙ sym (zip-append (bits_of 32 f) (bits_of 32 s) (bits_of 16 g) (bits_of 16 t) (length-bits 32 f ∙ sym (length-bits 32 s)))
-    ∙ ap (λ (z : List Bool). zip z (bits_of 32 s ++ bits_of 16 t)) (sym (joined-bits f g h.small.0 h.small.1))
-    ∙ ap (zip (bits_of 48 (bit_or f (g * 4294967296 % 18446744073709551616)))) (sym (joined-bits s t h.small.2 h.small.3))
-
--- octets by their places
-pub listed-twelve : (o : List ℕ) → length o ≡ 12
-    → o ≡ (get_or o 0 0 ∷ get_or o 1 0 ∷ get_or o 2 0 ∷ get_or o 3 0 ∷ get_or o 4 0 ∷ get_or o 5 0 ∷ get_or o 6 0 ∷ get_or o 7 0 ∷ [])
-    ++ (get_or o 8 0 ∷ get_or o 9 0 ∷ get_or o 10 0 ∷ get_or o 11 0 ∷ [])
-listed-twelve o h =
-    let a0 = drop_more o 0 0 (omega (arith, h)) in
-    let a1 = drop_more o 1 0 (omega (arith, h)) in
-    let a2 = drop_more o 2 0 (omega (arith, h)) in
-    let a3 = drop_more o 3 0 (omega (arith, h)) in
-    let a4 = drop_more o 4 0 (omega (arith, h)) in
-    let a5 = drop_more o 5 0 (omega (arith, h)) in
-    let a6 = drop_more o 6 0 (omega (arith, h)) in
-    let a7 = drop_more o 7 0 (omega (arith, h)) in
-    let a8 = drop_more o 8 0 (omega (arith, h)) in
-    let a9 = drop_more o 9 0 (omega (arith, h)) in
-    let a10 = drop_more o 10 0 (omega (arith, h)) in
-    let a11 = drop_more o 11 0 (omega (arith, h)) in
-    let end = drop_all 12 o (omega (arith, h)) in
-    cc
-
--- eight of them in one number, and the other four in another
-read-twelve : (o : List ℕ) (m n : ℕ) → length o ≡ 12 → All (λ b. b < 256) o
-    → m ≡ from_le_bytes w64 (get_or o 0 0 ∷ get_or o 1 0 ∷ get_or o 2 0 ∷ get_or o 3 0 ∷ get_or o 4 0 ∷ get_or o 5 0 ∷ get_or o 6 0 ∷ get_or o 7 0 ∷ [])
-    → n ≡ from_le_bytes w64 (get_or o 8 0 ∷ get_or o 9 0 ∷ get_or o 10 0 ∷ get_or o 11 0 ∷ 0 ∷ 0 ∷ 0 ∷ 0 ∷ [])
-    → (bits_of 64 m ≡ bits_of_octets (take 8 o)) × (bits_of 32 n ≡ bits_of_octets (drop 8 o)) × (n < 2 ^ 32)
-unfolding word
-read-twelve o m n h s is-m is-n =
-    let z : List ℕ = 0 ∷ 0 ∷ 0 ∷ 0 ∷ [] in
-    let front : take 8 o ≡ get_or o 0 0 ∷ get_or o 1 0 ∷ get_or o 2 0 ∷ get_or o 3 0 ∷ get_or o 4 0 ∷ get_or o 5 0 ∷ get_or o 6 0 ∷ get_or o 7 0 ∷ [] =
-    ap (take 8) (listed-twelve o h) in
-    let back : drop 8 o ≡ get_or o 8 0 ∷ get_or o 9 0 ∷ get_or o 10 0 ∷ get_or o 11 0 ∷ [] = ap (drop 8) (listed-twelve o h) in
-    let eight : length (take 8 o) ≡ 8 = omega (arith, length-take 8 o, h) in
-    let four : length (drop 8 o) ≡ 4 = omega (arith, length-drop 8 o, h) in
-    let w : m ≡ word (take 8 o) = is-m ∙ ap (from_le_bytes w64) (sym front) ∙ word-eight (take 8 o) eight in
-    let v : n ≡ word (drop 8 o ++ z) =
-    is-n ∙ ap (λ (y : List ℕ). from_le_bytes w64 (y ++ z)) (sym back)
-    ∙ word-eight (drop 8 o ++ z) (omega (arith, length-append (drop 8 o) z, four)) in
-    let i : 8 * length (take 8 o) ≡ 64 = omega (arith, eight) in
-    let j : 8 * length (drop 8 o) ≡ 32 = omega (arith, four) in
-    let low : All (λ b. b < 256) (drop 8 o) = All-drop (λ b. b < 256) 8 o s in
-    let small : word (drop 8 o) < 2 ^ 32 = subst (λ (k : ℕ). word (drop 8 o) < 2 ^ k) j (word-lt (drop 8 o) low) in (
-      ap (bits_of 64) (w ∙ ap word (sym (append-nil (take 8 o))))
-          ∙ ap (λ (k : ℕ). bits_of k (word (take 8 o ++ []))) (sym i)
-          ∙ word-front (take 8 o) [] (All-take (λ b. b < 256) 8 o s),
-      ap (bits_of 32) v ∙ ap (λ (k : ℕ). bits_of k (word (drop 8 o ++ z))) (sym j) ∙ word-front (drop 8 o) z low,
-      omega (arith, v, word-append (drop 8 o) z, small),
-    )
-
--- a number is parted into these
-pub record IsParted (word f s : ℕ) : Type 0 where
-  pub pairs : (k : ℕ) → k ≤ 32 → in_pairs (bits_of (2 * k) word) ≡ zip (bits_of k f) (bits_of k s)
-  pub small : (k : ℕ) → k ≤ 32 → word < 2 ^ (2 * k) → (f < 2 ^ k) × (s < 2 ^ k)
-
-pub parted-twelve : (o : List ℕ) (m n f g s t : ℕ) → length o ≡ 12 → All (λ b. b < 256) o
-    → m ≡ from_le_bytes w64 (get_or o 0 0 ∷ get_or o 1 0 ∷ get_or o 2 0 ∷ get_or o 3 0 ∷ get_or o 4 0 ∷ get_or o 5 0 ∷ get_or o 6 0 ∷ get_or o 7 0 ∷ [])
-    → n ≡ from_le_bytes w64 (get_or o 8 0 ∷ get_or o 9 0 ∷ get_or o 10 0 ∷ get_or o 11 0 ∷ 0 ∷ 0 ∷ 0 ∷ 0 ∷ [])
-    → m < 2 ^ 64 → IsParted m f s → IsParted n g t → IsTwelve o (take 8 o) (drop 8 o) f g s t
-parted-twelve o m n f g s t h small is-m is-n fits front back =
-    let r = read-twelve o m n h small is-m is-n in
-    let x = front.small 32 (omega arith) (omega (arith, fits)) in
-    let y = back.small 16 (omega arith) r.2 in
-    record {
-      all = sym (take-append-drop 8 o);
-      small = (x.0, y.0, x.1, y.1);
-      first = ap in_pairs (sym r.0) ∙ front.pairs 32 (omega arith);
-      second = ap in_pairs (sym r.1) ∙ back.pairs 16 (omega arith);
-    }

@@ -4,8 +4,11 @@ mod eight_bits;
 mod packed_bits;
 mod packed_head;
 mod packed_pairs;
+mod pair_block;
 mod pair_words;
 mod text_bits;
+mod text_block;
+mod text_marks;
 mod text_pairs;
 
 pub use eight_bits::{EightBits, EightPairs};
@@ -14,4 +17,5 @@ pub use packed_head::{HeadFault, PackedHead, PairHead};
 pub use packed_pairs::PackedPairs;
 pub use pair_words::PairWords;
 pub use text_bits::{BadMark, TextBits};
-pub use text_pairs::TextPairs;
+pub use text_block::TextBlock;
+pub use text_pairs::{PartedText, TextPairs};

@@ -10,7 +10,7 @@ mod word;
 
 pub use capture::{
     BadMark, EightBits, EightPairs, HeadFault, PackedBits, PackedFault, PackedHead, PackedPairs,
-    PairHead, PairWords, TextBits, TextPairs,
+    PairHead, PairWords, PartedText, TextBits, TextBlock, TextPairs,
 };
 pub use octet::{bits_number, bits_octet, octet_bits};
 pub use span::Span;

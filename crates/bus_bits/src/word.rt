@@ -79,7 +79,7 @@ fn only(octets: &[u8]) -> u64
 
 /// Eight of these octets as a number, the first lowest.
 #[inline(always)]
-fn eight_at(octets: &[u8], from: usize) -> u64
+pub(crate) fn eight_at(octets: &[u8], from: usize) -> u64
     requires { from + 8 ≤ length octets.now }
     ensures { bits_of 64 result ≡ bits_from octets.now (8 * from) 64 }
 {

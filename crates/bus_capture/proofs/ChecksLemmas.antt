@@ -27,20 +27,20 @@ use Rattle.bus_capture.proofs.ListsLemmas.{counts-are, heard-is, so-far-is, in-a
 
 -- what was asked of a check, and is kept
 pub record IsChecked {A X N B : Type 0} (tap : TapView A X N B) (o : Options) (d : List FrameType) (w : CaptureRun A) : Type 0 where
-  pub printer : w.printer ≡ None
+  pub printer : w.teller.printer ≡ None
   pub dictionary : (tap.watch.dictionary w.analyser) ≡ d
   pub depth : (tap.watch.depth w.analyser) ≡ o.depth
   pub origin : (tap.watch.origin w.analyser) ≡ o.origin
 
-pub checked : {A X N B : Type 0} (tap : TapView A X N B) (o : Options) (d : List FrameType) (w v : CaptureRun A) → w.printer ≡ None → IsMade tap.watch d o.depth o.origin w.analyser → IsSame tap w v → IsChecked tap o d v
+pub checked : {A X N B : Type 0} (tap : TapView A X N B) (o : Options) (d : List FrameType) (w v : CaptureRun A) → w.teller.printer ≡ None → IsMade tap.watch d o.depth o.origin w.analyser → IsSame tap w v → IsChecked tap o d v
 checked tap o d w v p a s = record { printer = s.printer ∙ p; dictionary = s.dictionary ∙ a.dictionary; depth = s.depth ∙ a.depth; origin = s.origin ∙ a.origin }
 
 -- a check has no lines
-pub no-lines : {A X N B : Type 0} (tap : TapView A X N B) (w : CaptureRun A) (b : List X) → w.printer ≡ None → lines tap w b ≡ []
+pub no-lines : {A X N B : Type 0} (tap : TapView A X N B) (w : CaptureRun A) (b : List X) → w.teller.printer ≡ None → lines tap w b ≡ []
 no-lines tap w b e = ap (λ p. printed p (tap.watch.dictionary w.analyser) (seen_by tap.watch w.analyser b)) e
 
 -- the report of bits, as the options tell of it
-report-is : {A X N B : Type 0} (tap : TapView A X N B) → TapLaws tap → (o : Options) (d : List FrameType) (w : CaptureRun A) (b : List X) → IsChecked tap o d w → w.summary ≡ summary_of (seen_in tap.form o.origin d b) → reported tap w b ≡ report_of tap.form o d b
+report-is : {A X N B : Type 0} (tap : TapView A X N B) → TapLaws tap → (o : Options) (d : List FrameType) (w : CaptureRun A) (b : List X) → IsChecked tap o d w → w.teller.summary ≡ summary_of (seen_in tap.form o.origin d b) → reported tap w b ≡ report_of tap.form o d b
 report-is tap law o d w b h counts =
     let two = tap.form.is_two in
     let sum = summary_of (seen_in tap.form o.origin d b) in
@@ -62,7 +62,7 @@ checks-nothing form o after start now _ why out = absurd why
 pub ends-checks : {A X N B : Type 0} (tap : TapView A X N B) (o : Options) (d : List FrameType) (text : Bool) (after start now later : Option (List ℕ)) (w : CaptureRun A) (xs : List ℕ) (r : Result Summary ToolFault)
     → TapLaws tap → Begins o d → IsChecked tap o d w → text ≡ o.text → IsWhole tap text after start now w xs
     → MatchResult r
-    (λ s. Appends start later (lines tap w (whole_capture tap.form text (tap.watch.origin w.analyser) xs).bits ++ reported tap w (whole_capture tap.form text (tap.watch.origin w.analyser) xs).bits) × (s ≡ w.summary))
+    (λ s. Appends start later (lines tap w (whole_capture tap.form text (tap.watch.origin w.analyser) xs).bits ++ reported tap w (whole_capture tap.form text (tap.watch.origin w.analyser) xs).bits) × (s ≡ w.teller.summary))
     (λ f. IsCutIn start later (lines tap w (whole_capture tap.form text (tap.watch.origin w.analyser) xs).bits ++ reported tap w (whole_capture tap.form text (tap.watch.origin w.analyser) xs).bits) f)
     → ChecksBy tap.form o after start later xs r
 ends-checks {A} {X} tap o d text after start now later w xs r law begins l e h ends = cases r ends
@@ -76,7 +76,7 @@ ends-checks {A} {X} tap o d text after start now later w xs r law begins l e h e
     whole : IsAll tap.form o after xs
     whole = record { at = h.at; clean = sym (ap (λ (c : CaptureOf X). c.fault) is) ∙ h.clean }
 
-    counts : w.summary ≡ summary_of (seen_in tap.form o.origin d (in_all tap.form o xs).bits)
+    counts : w.teller.summary ≡ summary_of (seen_in tap.form o.origin d (in_all tap.form o xs).bits)
     counts = counts-are tap law o d w all.bits l.dictionary l.origin h.bits.counts ∙ ap (λ (c : CaptureOf X). summary_of (seen_in tap.form o.origin d c.bits)) is
 
     texts : lines tap w all.bits ++ reported tap w all.bits ≡ report_of tap.form o d (in_all tap.form o xs).bits
@@ -86,7 +86,7 @@ ends-checks {A} {X} tap o d text after start now later w xs r law begins l e h e
         ∙ report-is tap law o d w (in_all tap.form o xs).bits l counts
 
     cases : (r : Result Summary ToolFault)
-        → MatchResult r (λ s. Appends start later (lines tap w all.bits ++ reported tap w all.bits) × (s ≡ w.summary)) (λ f. IsCutIn start later (lines tap w all.bits ++ reported tap w all.bits) f)
+        → MatchResult r (λ s. Appends start later (lines tap w all.bits ++ reported tap w all.bits) × (s ≡ w.teller.summary)) (λ f. IsCutIn start later (lines tap w all.bits ++ reported tap w all.bits) f)
         → ChecksBy tap.form o after start later xs r
     cases (Ok s) m = (d, begins, record { all = whole; out = subst (Appends start later) texts m.0; counts = m.1 ∙ counts })
     cases (Err (fault.Write sent)) m = (d, begins, record { all = whole; cut = subst (λ (t : List ℕ). Cuts start later t sent) texts m })
@@ -107,7 +107,7 @@ pub stops-checks : {A X N B : Type 0} (tap : TapView A X N B) (o : Options) (d :
 stops-checks {A} {X} tap o d text after start now w xs f begins l e = cases f
   where
     out : Watches tap start now w (capture tap.form text (tap.watch.origin w.analyser) xs).bits → Appends start now []
-    out h = none-out start now w.page.text w.page.written (lines tap w (capture tap.form text (tap.watch.origin w.analyser) xs).bits) (no-lines tap w (capture tap.form text (tap.watch.origin w.analyser) xs).bits l.printer) h.page
+    out h = none-out start now w.teller.page.text w.teller.page.written (lines tap w (capture tap.form text (tap.watch.origin w.analyser) xs).bits) (no-lines tap w (capture tap.form text (tap.watch.origin w.analyser) xs).bits l.printer) h.page
 
     clean-is : IsClean tap text start now w xs → ChecksSoFar tap.form o start now xs
     clean-is h = record { clean = sym (ap (λ (c : CaptureOf X). c.fault) (so-far-is tap.form o text (tap.watch.origin w.analyser) xs e l.origin)) ∙ h.clean; unwritten = out h.bits }

@@ -1,12 +1,11 @@
-pub mod FewLemmas
-pub mod GatherLemmas
 pub mod HeadedLemmas
 pub mod SeenOnLemmas
 pub mod OneLineLemmas
 pub mod PutLemmas
 pub mod TwoLinesLemmas
-pub mod WordLemmas
 pub mod WatchingLemmas
+pub mod TellingLemmas
+pub mod ToldLemmas
 pub mod CapturesLemmas
 pub mod SessionsTextLemmas
 pub mod SessionsPackedLemmas

@@ -25,7 +25,7 @@ use Rattle.bus_text.specs.declared.options.Options.{Options}
 use Rattle.bus_text.specs.declared.summary.Summary.{Summary}
 use Rattle.bus_text.specs.declared.fault.ToolFault.{ToolFault}
 use Rattle.bus_text.specs.declared.fault.ToolFault.TheVariants as fault
-use Rattle.bus_capture.proofs.WatchingLemmas.{printed-append}
+use Rattle.bus_capture.specs.Internal.TellingLaws.{printed-append}
 use Rattle.bus_text.proofs.PagesLemmas.{cuts-more}
 
 -- what is seen of more bits goes on
@@ -41,17 +41,17 @@ pub cut-all : {A X N B : Type 0} (tap : TapView A X N B) → TapLaws tap → (st
 cut-all tap law start now w b sent h =
     let d = tap.watch.dictionary w.analyser in
     let on = seen-on tap law d (tap.watch.origin w.analyser) h.front h.more in
-    let more : lines tap w b ≡ lines tap w h.front ++ printed w.printer d on.0 =
-    ap (lines tap w) h.all ∙ ap (printed w.printer d) on.1 ∙ printed-append w.printer d (seen_by tap.watch w.analyser h.front) on.0 in
-    subst (λ (t : List ℕ). Cuts start now t sent) (sym more) (cuts-more start now (lines tap w h.front) (printed w.printer d on.0) sent h.cut)
+    let more : lines tap w b ≡ lines tap w h.front ++ printed w.teller.printer d on.0 =
+    ap (lines tap w) h.all ∙ ap (printed w.teller.printer d) on.1 ∙ printed-append w.teller.printer d (seen_by tap.watch w.analyser h.front) on.0 in
+    subst (λ (t : List ℕ). Cuts start now t sent) (sym more) (cuts-more start now (lines tap w h.front) (printed w.teller.printer d on.0) sent h.cut)
 
 -- what was asked of a listing, and is kept
 pub record IsListed {A X N B : Type 0} (tap : TapView A X N B) (o : Options) (d : List FrameType) (w : CaptureRun A) : Type 0 where
-  pub printer : w.printer ≡ Some (printer_of o)
+  pub printer : w.teller.printer ≡ Some (printer_of o)
   pub dictionary : tap.watch.dictionary w.analyser ≡ d
   pub origin : tap.watch.origin w.analyser ≡ o.origin
 
-pub listed : {A X N B : Type 0} (tap : TapView A X N B) (o : Options) (d : List FrameType) (w v : CaptureRun A) → w.printer ≡ Some (printer_of o) → IsMade tap.watch d o.depth o.origin w.analyser → IsSame tap w v → IsListed tap o d v
+pub listed : {A X N B : Type 0} (tap : TapView A X N B) (o : Options) (d : List FrameType) (w v : CaptureRun A) → w.teller.printer ≡ Some (printer_of o) → IsMade tap.watch d o.depth o.origin w.analyser → IsSame tap w v → IsListed tap o d v
 listed tap o d w v p a s = record { printer = s.printer ∙ p; dictionary = s.dictionary ∙ a.dictionary; origin = s.origin ∙ a.origin }
 
 -- the reports, as the options tell of them
@@ -78,7 +78,7 @@ last-are tap law o d w b h =
     ∙ ap (λ (x : List FrameType). ending_text (printer_of o) (tap.form.ending o.origin b (pending x (heard_by tap.watch w.analyser b)))) h.dictionary
     ∙ ap (λ hs. ending_text (printer_of o) (tap.form.ending o.origin b (pending d hs))) (heard-is tap law o d w.analyser b h.dictionary h.origin)
 
-pub counts-are : {A X N B : Type 0} (tap : TapView A X N B) → TapLaws tap → (o : Options) (d : List FrameType) (w : CaptureRun A) (b : List X) → tap.watch.dictionary w.analyser ≡ d → tap.watch.origin w.analyser ≡ o.origin → w.summary ≡ summary_of (seen_by tap.watch w.analyser b) → w.summary ≡ summary_of (seen_in tap.form o.origin d b)
+pub counts-are : {A X N B : Type 0} (tap : TapView A X N B) → TapLaws tap → (o : Options) (d : List FrameType) (w : CaptureRun A) (b : List X) → tap.watch.dictionary w.analyser ≡ d → tap.watch.origin w.analyser ≡ o.origin → w.teller.summary ≡ summary_of (seen_by tap.watch w.analyser b) → w.teller.summary ≡ summary_of (seen_in tap.form o.origin d b)
 counts-are tap law o d w b e f h = h ∙ ap summary_of (seen-is tap law o d w.analyser b e f)
 
 -- the options can't be met
@@ -105,7 +105,7 @@ lines-so-far {X = X} tap law o d text w xs e h = ap (λ (c : CaptureOf X). lines
 pub ends-lists : {A X N B : Type 0} (tap : TapView A X N B) (o : Options) (d : List FrameType) (text : Bool) (after start now later : Option (List ℕ)) (w : CaptureRun A) (xs : List ℕ) (r : Result Summary ToolFault)
     → TapLaws tap → Begins o d → IsListed tap o d w → text ≡ o.text → IsWhole tap text after start now w xs
     → MatchResult r
-    (λ s. Appends start later (lines tap w (whole_capture tap.form text (tap.watch.origin w.analyser) xs).bits ++ last_lines tap w (whole_capture tap.form text (tap.watch.origin w.analyser) xs).bits) × (s ≡ w.summary))
+    (λ s. Appends start later (lines tap w (whole_capture tap.form text (tap.watch.origin w.analyser) xs).bits ++ last_lines tap w (whole_capture tap.form text (tap.watch.origin w.analyser) xs).bits) × (s ≡ w.teller.summary))
     (λ f. IsCutIn start later (lines tap w (whole_capture tap.form text (tap.watch.origin w.analyser) xs).bits ++ last_lines tap w (whole_capture tap.form text (tap.watch.origin w.analyser) xs).bits) f)
     → ListsBy tap.form o after start later xs r
 ends-lists {A} {X} tap o d text after start now later w xs r law begins l e h ends = cases r ends
@@ -126,7 +126,7 @@ ends-lists {A} {X} tap o d text after start now later w xs r law begins l e h en
         ∙ ap (λ (t : List ℕ). listing_of tap.form o d (in_all tap.form o xs).bits ++ t) (last-are tap law o d w (in_all tap.form o xs).bits l)
 
     cases : (r : Result Summary ToolFault)
-        → MatchResult r (λ s. Appends start later (lines tap w all.bits ++ last_lines tap w all.bits) × (s ≡ w.summary)) (λ f. IsCutIn start later (lines tap w all.bits ++ last_lines tap w all.bits) f)
+        → MatchResult r (λ s. Appends start later (lines tap w all.bits ++ last_lines tap w all.bits) × (s ≡ w.teller.summary)) (λ f. IsCutIn start later (lines tap w all.bits ++ last_lines tap w all.bits) f)
         → ListsBy tap.form o after start later xs r
     cases (Ok s) m = (
       d,
@@ -160,7 +160,7 @@ closed-lists form o d after start later xs f answer text begins is go (inr h) =
 pub stops-lists : {A X N B : Type 0} (tap : TapView A X N B) (o : Options) (d : List FrameType) (text : Bool) (after start now later : Option (List ℕ)) (w : CaptureRun A) (xs : List ℕ) (f answer : ToolFault)
     → TapLaws tap → Begins o d → IsListed tap o d w → text ≡ o.text → Finishes tap text o.reads after start now w xs (Err f)
     → ((sent : ℕ) → f ≡ fault.Write sent → (answer ≡ fault.Write sent) × (later ≡ now))
-    → (IsNoWrite f → (start : Option (List ℕ)) (t : List ℕ) → Pages start now w.page.text w.page.written t → Closes start later t f answer)
+    → (IsNoWrite f → (start : Option (List ℕ)) (t : List ℕ) → Pages start now w.teller.page.text w.teller.page.written t → Closes start later t f answer)
     → ListsBy tap.form o after start later xs (Err answer)
 stops-lists {A} {X} tap o d text after start now later w xs f answer law begins l e = cases f
   where
@@ -183,7 +183,7 @@ stops-lists {A} {X} tap o d text after start now later w xs f answer law begins 
 
     cases : (f : ToolFault) → Finishes tap text o.reads after start now w xs (Err f)
         → ((sent : ℕ) → f ≡ fault.Write sent → (answer ≡ fault.Write sent) × (later ≡ now))
-        → (IsNoWrite f → (start : Option (List ℕ)) (t : List ℕ) → Pages start now w.page.text w.page.written t → Closes start later t f answer)
+        → (IsNoWrite f → (start : Option (List ℕ)) (t : List ℕ) → Pages start now w.teller.page.text w.teller.page.written t → Closes start later t f answer)
         → ListsBy tap.form o after start later xs (Err answer)
     cases fault.Read h cut close =
         closed-lists tap.form o d after start later xs fault.Read answer (lines tap w bits) begins is (λ out. (d, begins, clean-is h out)) (close (λ sent q. cc) start (lines tap w bits) h.bits.page)

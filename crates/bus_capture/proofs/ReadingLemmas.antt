@@ -39,13 +39,13 @@ seen-none tap law a =
 
 -- nothing was followed yet
 pub watched-none : {A X N B : Type 0} (tap : TapView A X N B) → TapLaws tap → (start : Option (List ℕ)) (w : CaptureRun A)
-    → tap.watch.is_after w.analyser [] → w.summary ≡ summary_of [] → Pages start start w.page.text w.page.written [] → Watches tap start start w []
+    → tap.watch.is_after w.analyser [] → w.teller.summary ≡ summary_of [] → Pages start start w.teller.page.text w.teller.page.written [] → Watches tap start start w []
 watched-none tap law start w is_after counts page =
     let d = tap.watch.dictionary w.analyser in
     let none = seen-none tap law w.analyser in record {
       is_after = is_after;
       counts = counts ∙ ap summary_of (sym none);
-      page = subst (λ (t : List ℕ). Pages start start w.page.text w.page.written t) (sym (ap (printed w.printer d) none ∙ printed-nothing w.printer d)) page;
+      page = subst (λ (t : List ℕ). Pages start start w.teller.page.text w.teller.page.written t) (sym (ap (printed w.teller.printer d) none ∙ printed-nothing w.teller.printer d)) page;
     }
 
 -- what is known of a text, of a packed capture

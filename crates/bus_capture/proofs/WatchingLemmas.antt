@@ -9,7 +9,7 @@ use Rattle.bus_dictionary.specs.Dictionary.{longest_of}
 use Rattle.bus_watch.specs.Seen.{SeenReport, seen}
 use Rattle.bus_watch.specs.Talk.{pending}
 use Rattle.bus_watch.specs.Watch.{Leads, seen_by}
-use Rattle.bus_text.specs.Listing.{ending_text, text_of}
+use Rattle.bus_text.specs.Listing.{ending_text}
 use Rattle.bus_text.specs.Summary.{summary_of}
 use Rattle.bus_text.specs.Counting.{IsFew}
 use Rattle.bus_text.specs.Internal.Pages.{Pages}
@@ -21,14 +21,8 @@ use Rattle.bus_capture.specs.declared.run.CaptureRun.{CaptureRun}
 use Rattle.bus_text.specs.declared.fault.ToolFault.{ToolFault}
 use Rattle.bus_text.specs.declared.fault.ToolFault.TheVariants as fault
 use Rattle.bus_text.specs.declared.page.Page.{Page}
-use Rattle.bus_text.proofs.ListingLemmas.{listing-append}
 use Rattle.bus_text.proofs.PagesLemmas.{pages-more}
-use Rattle.bus_capture.proofs.FewLemmas.{few-within}
-
--- the lines of more are the lines, and more
-pub printed-append : (p : Option Printer) (d : List FrameType) (xs ys : List SeenReport) → printed p d (xs ++ ys) ≡ printed p d xs ++ printed p d ys
-printed-append None d xs ys = refl
-printed-append (Some p) d xs ys = listing-append p d xs ys
+use Rattle.bus_capture.specs.Internal.TellingLaws.{few-within, printed-append, printed-none}
 
 -- symbols that all have a place
 pub within-all : {X : Type 0} (origin : ℕ) (b : List X) → origin + length b ≤ 2 ^ 60 → within origin b ≡ b
@@ -61,12 +55,6 @@ drop-drop i n xs = grind (arith, common_steps)
 pub below : (place : ℕ) → (2 ^ 60 < place → false ≡ true) → place ≤ 2 ^ 60
 below place h = elim (cases_lt (2 ^ 60) place) [ inl u ↦ absurd (let e = h u in cc) | inr u ↦ u ]
 
--- nothing is seen, nothing is printed
-printed-none : (p : Option Printer) (d : List FrameType) → printed p d [] ≡ []
-unfolding text_of
-printed-none None d = refl
-printed-none (Some p) d = refl
-
 module _ {A X N B : Type 0} (t : TapView A X N B) where
   -- what is seen depends on dictionary and origin alone
   pub seen-same : (a c : A) (b : List X) → t.watch.dictionary c ≡ t.watch.dictionary a → t.watch.origin c ≡ t.watch.origin a → seen_by t.watch c b ≡ seen_by t.watch a b
@@ -75,11 +63,11 @@ module _ {A X N B : Type 0} (t : TapView A X N B) where
       ∙ ap (λ (n : ℕ). seen (t.watch.dictionary a) (t.watch.hears n (longest_of (t.watch.dictionary a)) b)) o
 
   -- and so with the lines
-  pub lines-same : (w v : CaptureRun A) (b : List X) → v.printer ≡ w.printer → t.watch.dictionary v.analyser ≡ t.watch.dictionary w.analyser → t.watch.origin v.analyser ≡ t.watch.origin w.analyser → lines t v b ≡ lines t w b
+  pub lines-same : (w v : CaptureRun A) (b : List X) → v.teller.printer ≡ w.teller.printer → t.watch.dictionary v.analyser ≡ t.watch.dictionary w.analyser → t.watch.origin v.analyser ≡ t.watch.origin w.analyser → lines t v b ≡ lines t w b
   lines-same w v b p d o =
       ap (λ x. printed x (t.watch.dictionary v.analyser) (seen_by t.watch v.analyser b)) p
-      ∙ ap (λ (x : List FrameType). printed w.printer x (seen_by t.watch v.analyser b)) d
-      ∙ ap (printed w.printer (t.watch.dictionary w.analyser)) (seen-same w.analyser v.analyser b d o)
+      ∙ ap (λ (x : List FrameType). printed w.teller.printer x (seen_by t.watch v.analyser b)) d
+      ∙ ap (printed w.teller.printer (t.watch.dictionary w.analyser)) (seen-same w.analyser v.analyser b d o)
 
   -- what is seen of more symbols
   pub seen-more : (a c : A) (b more : List X) (told : List SeenReport)
@@ -88,24 +76,24 @@ module _ {A X N B : Type 0} (t : TapView A X N B) where
 
   -- the lines of more symbols
   pub lines-more : (w v : CaptureRun A) (b more : List X) (told : List SeenReport)
-      → v.printer ≡ w.printer → t.watch.is_after w.analyser b → Leads t.watch w.analyser more told v.analyser
-      → lines t v (b ++ more) ≡ lines t w b ++ printed w.printer (t.watch.dictionary w.analyser) told
+      → v.teller.printer ≡ w.teller.printer → t.watch.is_after w.analyser b → Leads t.watch w.analyser more told v.analyser
+      → lines t v (b ++ more) ≡ lines t w b ++ printed w.teller.printer (t.watch.dictionary w.analyser) told
   lines-more w v b more told p s e =
       ap (λ x. printed x (t.watch.dictionary v.analyser) (seen_by t.watch v.analyser (b ++ more))) p
-      ∙ ap (λ (d : List FrameType). printed w.printer d (seen_by t.watch v.analyser (b ++ more))) e.dictionary
-      ∙ ap (printed w.printer (t.watch.dictionary w.analyser)) (seen-more w.analyser v.analyser b more told s e)
-      ∙ printed-append w.printer (t.watch.dictionary w.analyser) (seen_by t.watch w.analyser b) told
+      ∙ ap (λ (d : List FrameType). printed w.teller.printer d (seen_by t.watch v.analyser (b ++ more))) e.dictionary
+      ∙ ap (printed w.teller.printer (t.watch.dictionary w.analyser)) (seen-more w.analyser v.analyser b more told s e)
+      ∙ printed-append w.teller.printer (t.watch.dictionary w.analyser) (seen_by t.watch w.analyser b) told
 
   -- symbols that tell this were followed
   pub watched : (start now later : Option (List ℕ)) (w v : CaptureRun A) (b more : List X) (told : List SeenReport)
-      → v.printer ≡ w.printer → Watches t start now w b → Leads t.watch w.analyser more told v.analyser
-      → v.summary ≡ summary_of (seen_by t.watch w.analyser b ++ told)
-      → Pages start later v.page.text v.page.written (lines t w b ++ printed w.printer (t.watch.dictionary w.analyser) told)
+      → v.teller.printer ≡ w.teller.printer → Watches t start now w b → Leads t.watch w.analyser more told v.analyser
+      → v.teller.summary ≡ summary_of (seen_by t.watch w.analyser b ++ told)
+      → Pages start later v.teller.page.text v.teller.page.written (lines t w b ++ printed w.teller.printer (t.watch.dictionary w.analyser) told)
       → Watches t start later v (b ++ more)
   watched start now later w v b more told p h e counts page = record {
     is_after = e.is_after b h.is_after;
     counts = counts ∙ ap summary_of (sym (seen-more w.analyser v.analyser b more told h.is_after e));
-    page = subst (Pages start later v.page.text v.page.written) (sym (lines-more w v b more told p h.is_after e)) page;
+    page = subst (Pages start later v.teller.page.text v.teller.page.written) (sym (lines-more w v b more told p h.is_after e)) page;
   }
 
   -- symbols at which nothing is seen were followed
@@ -115,12 +103,12 @@ module _ {A X N B : Type 0} (t : TapView A X N B) where
       let d = t.watch.dictionary w.analyser in
       let before = seen_by t.watch w.analyser b in
       let seen : before ≡ before ++ told = sym (append-nil before) ∙ ap (λ (x : List SeenReport). before ++ x) (sym none) in
-      let text : lines t w b ≡ lines t w b ++ printed w.printer d told =
-      sym (append-nil (lines t w b)) ∙ ap (λ (x : List ℕ). lines t w b ++ x) (sym (printed-none w.printer d) ∙ ap (printed w.printer d) (sym none)) in
-      let page : v.page ≡ w.page = ap (λ (r : CaptureRun A). r.page) same in
-      watched start now now w v b more told (ap (λ (r : CaptureRun A). r.printer) same) h e
-      (ap (λ (r : CaptureRun A). r.summary) same ∙ (h.counts ∙ ap summary_of seen))
-      (subst (Pages start now v.page.text v.page.written) text (subst (λ (x : Page). Pages start now x.text x.written (lines t w b)) (sym page) h.page))
+      let text : lines t w b ≡ lines t w b ++ printed w.teller.printer d told =
+      sym (append-nil (lines t w b)) ∙ ap (λ (x : List ℕ). lines t w b ++ x) (sym (printed-none w.teller.printer d) ∙ ap (printed w.teller.printer d) (sym none)) in
+      let page : v.teller.page ≡ w.teller.page = ap (λ (r : CaptureRun A). r.teller.page) same in
+      watched start now now w v b more told (ap (λ (r : CaptureRun A). r.teller.printer) same) h e
+      (ap (λ (r : CaptureRun A). r.teller.summary) same ∙ (h.counts ∙ ap summary_of seen))
+      (subst (Pages start now v.teller.page.text v.teller.page.written) text (subst (λ (x : Page). Pages start now x.text x.written (lines t w b)) (sym page) h.page))
 
   -- symbols that have no place stop the following
   pub halted : TapLaws t → (start now : Option (List ℕ)) (w v : CaptureRun A) (b more : List X)
@@ -136,7 +124,7 @@ module _ {A X N B : Type 0} (t : TapView A X N B) where
 
   -- a writer was cut off before the lines of some symbols
   pub cut-off : TapLaws t → (start now : Option (List ℕ)) (w v : CaptureRun A) (b more : List X) (told : List SeenReport) (sent : ℕ)
-      → v.printer ≡ w.printer → t.watch.place w.analyser + length more ≤ 2 ^ 60 → t.watch.is_after w.analyser b → Leads t.watch w.analyser more told v.analyser
+      → v.teller.printer ≡ w.teller.printer → t.watch.place w.analyser + length more ≤ 2 ^ 60 → t.watch.is_after w.analyser b → Leads t.watch w.analyser more told v.analyser
       → Cuts start now (lines t w b) sent → sent < length (lines t w b) → Halts t start now v (b ++ more) (fault.Write sent)
   cut-off law start now w v b more told sent p place s e cut short =
       let is_after : t.watch.place w.analyser ≡ t.watch.origin w.analyser + length b = law.placed w.analyser b s in
@@ -225,18 +213,18 @@ module _ {A X N B : Type 0} (t : TapView A X N B) where
 
   -- some symbols more are sound where they add two to each count at most, and 2048 octets
   pub sound-next : (w v : CaptureRun A) (n : ℕ) → 1 ≤ n → t.watch.place v.analyser ≡ t.watch.place w.analyser + n → t.watch.place w.analyser + n ≤ 2 ^ 60
-      → IsFew (2 * t.watch.place w.analyser + 2) v.summary
-      → v.page.written + length v.page.text ≤ w.page.written + length w.page.text + 2048
+      → IsFew (2 * t.watch.place w.analyser + 2) v.teller.summary
+      → v.teller.page.written + length v.teller.page.text ≤ w.teller.page.written + length w.teller.page.text + 2048
       → IsSound t w → IsSound t v
   sound-next w v n some e le few octets h = record {
     places = omega (arith, e, le);
-    counts = few-within (2 * t.watch.place w.analyser + 2) (2 * t.watch.place v.analyser) v.summary (omega (arith, e, some)) few;
+    counts = few-within (2 * t.watch.place w.analyser + 2) (2 * t.watch.place v.analyser) v.teller.summary (omega (arith, e, some)) few;
     octets = let o = h.octets in omega (arith, e, octets, o, some);
   }
 
   -- without a printer there are no lines of the end
   pub pages-unended : (start now : Option (List ℕ)) (w : CaptureRun A) (b : List X) (page later : Page)
-      → w.printer ≡ None → later ≡ page
+      → w.teller.printer ≡ None → later ≡ page
       → Pages start now page.text page.written (lines t w b) → Pages start now later.text later.written (lines t w b ++ last_lines t w b)
   pages-unended start now w b page later e l h =
       let waits = pending (t.watch.dictionary w.analyser) (heard_by t.watch w.analyser b) in
@@ -245,7 +233,7 @@ module _ {A X N B : Type 0} (t : TapView A X N B) where
 
   -- the lines of the end were put on the page
   pub pages-ended : (start now : Option (List ℕ)) (w : CaptureRun A) (b : List X) (p : Printer) (page put later : Page)
-      → w.printer ≡ Some p → later ≡ put
+      → w.teller.printer ≡ Some p → later ≡ put
       → put.text ≡ page.text ++ ending_text p (t.form.ending (t.watch.origin w.analyser) b (pending (t.watch.dictionary w.analyser) (heard_by t.watch w.analyser b)))
       → put.written ≡ page.written
       → Pages start now page.text page.written (lines t w b) → Pages start now later.text later.written (lines t w b ++ last_lines t w b)

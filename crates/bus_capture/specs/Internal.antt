@@ -4,6 +4,8 @@ pub mod Headed
 pub mod OneLine
 pub mod TwoLines
 pub mod Watching
+pub mod Telling
+pub mod TellingLaws
 pub mod Sessions
 pub mod Reading
 pub mod Closes

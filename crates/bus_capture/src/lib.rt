@@ -10,9 +10,9 @@ mod reader;
 mod report;
 mod run;
 mod tap;
+mod teller;
 mod text;
 mod two_lines;
-mod word;
 
 pub use check::check_capture;
 pub use list::list_capture;

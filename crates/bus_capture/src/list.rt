@@ -68,7 +68,7 @@ fn list_lines<T: Follow, R: Read, W: Write>(
     let mut reader = CaptureReader::<T>::new(alloc, o, Some(Printer::of(o)))?;
     match reader.take_input(o.reads, r, w) {
         Ok(()) => reader.run.end(w),
-        Err(fault) => Err(close_behind(fault, &mut reader.run.page, w)),
+        Err(fault) => Err(close_behind(fault, &mut reader.run.teller.page, w)),
     }
 }
 

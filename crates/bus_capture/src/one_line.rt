@@ -1,17 +1,14 @@
 //! Captures of one line.
 
-ghost use Rattle.std.specs.Prelude.{◌≡◌, ◌+◌, ◌-◌, ◌*◌, ◌≤◌, ◌<◌, ◌^◌, ℕ, Bool, List, Option, ◌++◌, length, take, None, IfOk, MatchResult};
+ghost use Rattle.std.specs.Prelude.{◌≡◌, ◌+◌, ◌-◌, ◌*◌, ◌≤◌, ◌<◌, ◌^◌, ℕ, Bool, List, true, Option, ◌++◌, length, take, None, IfOk, MatchResult};
 ghost use Rattle.bus_bits.specs.Bits.{bits_from};
-ghost use Rattle.bus_bits.specs.Octet.{bits_of};
 ghost use Rattle.bus_capture.specs.Internal.OneLine.{one_tap};
+ghost use Rattle.bus_capture.specs.Internal.Sessions.{FollowsOctets, Stops};
 ghost use Rattle.bus_capture.specs.Internal.Watching.{Halts, IsSame, IsSound, Watches};
-ghost use Rattle.std.specs.Option.{ForSome};
-ghost use Rattle.bus_bits.specs.Capture.{text_bits, text_fault};
 
 use crate::follow::Follow;
 use crate::run::CaptureRun;
-use crate::tap::{Many, Tap};
-use crate::word::Word;
+use crate::tap::Tap;
 use arrayvec::ArrayVec;
 use bus_bits::laws::{captures_grow, packed_is_head_and_body};
 use bus_bits::{BadMark, HeadFault, PackedBits, PackedFault, PackedHead, TextBits};
@@ -24,84 +21,30 @@ use bus_watch::{Analyser, Counts, NewFault};
 use std::alloc::Global;
 use std::io::Write;
 
-/// The bits of the next 48 octets, the first the lowest. None where these are not 48 bits.
-#[inline(always)]
-fn gather_word(octets: &[u8]) -> Option<u64>
-    ensures enough { ForSome result (λ word. 48 ≤ length octets.now) }
-    ensures small { ForSome result (λ word. word < 2 ^ 48) }
-    ensures given { ForSome result (λ word. (xs : List ℕ) → text_fault xs ≡ None →
-        (text_fault (xs ++ take 48 octets.now) ≡ None)
-        × (text_bits (xs ++ take 48 octets.now) ≡ text_bits xs ++ bits_of 48 word)) }
-{
-    if octets.len() < 48 {
-        return None;
-    }
-    let mut word = Word::new();
-    while word.count <= 40 {
-        let octet = TextBits::of_eight(&octets[word.count as usize..])?;
-        word.put(octet);
-    }
-    Some(word.bits)
-}
-
-/// The bits of the next octets, 48 of them or as many eights as come before the first octet that is
-/// no bit and no line end.
-#[inline(always)]
-fn gather(octets: &[u8]) -> Many<u64>
-    ensures few { result.count ≤ 48 }
-    ensures small { result.word < 2 ^ result.count }
-    ensures enough { result.taken ≤ length octets.now }
-    ensures given { (xs : List ℕ) → text_fault xs ≡ None →
-        (text_fault (xs ++ take result.taken octets.now) ≡ None)
-        × (text_bits (xs ++ take result.taken octets.now)
-        ≡ text_bits xs ++ bits_of result.count result.word) }
-{
-    if let Some(word) = gather_word(octets) {
-        return Many {
-            word,
-            count: 48,
-            taken: 48,
-        };
-    }
-    let mut word = Word::new();
-    let mut taken = 0;
-    while word.count <= 40 {
-        let Some(eight) = TextBits::eight(&octets[taken..]) else {
-            break;
-        };
-        word.put(eight.octet);
-        taken += eight.taken;
-    }
-    Many {
-        word: word.bits,
-        count: word.count,
-        taken,
-    }
-}
-
-/// Takes bits of these octets, from bit `at` on, up to the first that decides a report, and puts the lines of that on the
-/// page. Returns how many it took.
+/// Takes bits of these octets, from bit `at` on and before bit `end`, up to the first that decides a report, and puts
+/// the lines of that on the page. Returns how many it took.
 #[inline(always)]
 fn take_some<C: Check, W: Write>(
     octets: &[u8],
     at: usize,
+    end: usize,
     run: &mut CaptureRun<Analyser<C>>,
     w: &mut W,
 ) -> Result<usize, ToolFault>
     requires sound { IsSound (one_tap C.folded C.COST) run.old }
-    requires some { at < 8 * length octets.now }
-    requires few { 8 * length octets.now < 2 ^ 64 }
-    ensures within { IfOk result (λ n. (1 ≤ n) × (at + n ≤ 8 * length octets.now)) }
+    requires some { at < end }
+    requires within { end ≤ 8 * length octets.now }
+    ensures within { IfOk result (λ n. (1 ≤ n) × (at + n ≤ end)) }
     ensures taken { (start : Option (List ℕ)) (b : List Bool) →
         Watches (one_tap C.folded C.COST) start (W.contents w.old) run.old b → MatchResult result
         (λ n. Watches (one_tap C.folded C.COST) start (W.contents w.new) run.new (b ++ bits_from octets.now at n))
         (λ fault. Halts (one_tap C.folded C.COST) start (W.contents w.new) run.new
-        (b ++ bits_from octets.now at (8 * length octets.now - at)) fault) }
+        (b ++ bits_from octets.now at (end - at)) fault) }
     ensures same { IsSame (one_tap C.folded C.COST) run.old run.new }
     ensures sound { IsSound (one_tap C.folded C.COST) run.new }
 {
     Analyser::<C>::laws();
-    let taken = match run.analyser.scan(octets, at, 8 * octets.len()) {
+    let taken = match run.analyser.scan(octets, at, end) {
         Ok(taken) => taken,
         Err(PlaceLimit) => return Err(ToolFault::PlaceLimit),
     };
@@ -111,29 +54,81 @@ fn take_some<C: Check, W: Write>(
     Ok(taken)
 }
 
-/// Takes all bits of these octets, up to the first that can't be taken.
+/// Takes the bits of these octets before bit `end`, up to the first that can't be taken.
 #[inline(never)]
-fn take_octets<C: Check, W: Write>(
+fn take_bits<C: Check, W: Write>(
     octets: &[u8],
+    end: usize,
     run: &mut CaptureRun<Analyser<C>>,
     w: &mut W,
 ) -> Result<(), ToolFault>
     requires sound { IsSound (one_tap C.folded C.COST) run.old }
-    requires few { 8 * length octets.now < 2 ^ 64 }
+    requires within { end ≤ 8 * length octets.now }
     ensures taken { (start : Option (List ℕ)) (b : List Bool) →
         Watches (one_tap C.folded C.COST) start (W.contents w.old) run.old b → MatchResult result
-        (λ _. Watches (one_tap C.folded C.COST) start (W.contents w.new) run.new
-        (b ++ bits_from octets.now 0 (8 * length octets.now)))
+        (λ _. Watches (one_tap C.folded C.COST) start (W.contents w.new) run.new (b ++ bits_from octets.now 0 end))
         (λ fault. Halts (one_tap C.folded C.COST) start (W.contents w.new) run.new
-        (b ++ bits_from octets.now 0 (8 * length octets.now)) fault) }
+        (b ++ bits_from octets.now 0 end) fault) }
     ensures same { IsSame (one_tap C.folded C.COST) run.old run.new }
     ensures sound { IsSound (one_tap C.folded C.COST) run.new }
 {
     let mut at = 0;
-    while at < 8 * octets.len() {
-        at += take_some(octets, at, run, w)?;
+    while at < end {
+        at += take_some(octets, at, end, run, w)?;
     }
     Ok(())
+}
+
+/// Takes the next eight bits of a text, where eight octets give them or nine with one that is skipped. Returns how many
+/// octets these were.
+#[inline(always)]
+fn take_eight<C: Check, W: Write>(
+    text: &[u8],
+    run: &mut CaptureRun<Analyser<C>>,
+    w: &mut W,
+) -> Result<usize, ToolFault>
+    requires { IsSound (one_tap C.folded C.COST) run.old }
+    ensures enough { IfOk result (λ n. n ≤ length text.now) }
+    ensures taken { (start : Option (List ℕ)) (xs : List ℕ) →
+        FollowsOctets (one_tap C.folded C.COST) start (W.contents w.old) run.old xs → MatchResult result
+        (λ n. FollowsOctets (one_tap C.folded C.COST) start (W.contents w.new) run.new (xs ++ take n text.now))
+        (λ fault. (n : ℕ) × (n ≤ length text.now)
+        × Stops (one_tap C.folded C.COST) true start (W.contents w.new) run.new (xs ++ take n text.now) fault) }
+    ensures same { IsSame (one_tap C.folded C.COST) run.old run.new }
+    ensures sound { IsSound (one_tap C.folded C.COST) run.new }
+{
+    Analyser::<C>::laws();
+    let Some(eight) = TextBits::eight(text) else {
+        return Ok(0);
+    };
+    take_bits(&[eight.octet], 8, run, w)?;
+    Ok(eight.taken)
+}
+
+/// Packs the next octets of a text into a block of this size, and takes its bits. Returns how many octets these were.
+#[inline(never)]
+fn take_block<C: Check, W: Write, const N: usize>(
+    text: &[u8],
+    run: &mut CaptureRun<Analyser<C>>,
+    w: &mut W,
+) -> Result<usize, ToolFault>
+    requires sound { IsSound (one_tap C.folded C.COST) run.old }
+    requires some { 1 ≤ N }
+    requires few { 8 * N < 2 ^ 64 }
+    ensures enough { IfOk result (λ n. n ≤ length text.now) }
+    ensures taken { (start : Option (List ℕ)) (xs : List ℕ) →
+        FollowsOctets (one_tap C.folded C.COST) start (W.contents w.old) run.old xs → MatchResult result
+        (λ n. FollowsOctets (one_tap C.folded C.COST) start (W.contents w.new) run.new (xs ++ take n text.now))
+        (λ fault. (n : ℕ) × (n ≤ length text.now)
+        × Stops (one_tap C.folded C.COST) true start (W.contents w.new) run.new (xs ++ take n text.now) fault) }
+    ensures same { IsSame (one_tap C.folded C.COST) run.old run.new }
+    ensures sound { IsSound (one_tap C.folded C.COST) run.new }
+{
+    Analyser::<C>::laws();
+    let mut block = [0; N];
+    let packed = TextBits::pack(text, &mut block);
+    take_bits(&block, packed.count, run, w)?;
+    Ok(packed.taken)
 }
 
 impl<C: Check> Tap for Analyser<C> {
@@ -159,11 +154,6 @@ impl<C: Check> Tap for Analyser<C> {
     #[inline(always)]
     fn take(&mut self, word: u64, count: u32) -> Result<u32, PlaceLimit> {
         Analyser::take(self, word, count)
-    }
-
-    #[inline(always)]
-    fn has_room(&self, count: u32) -> bool {
-        Analyser::has_room(self, count)
     }
 
     #[inline(always)]
@@ -210,16 +200,6 @@ impl<C: Check> Tap for Analyser<C> {
     }
 
     #[inline(always)]
-    fn front(word: u64) -> u64 {
-        word % 2
-    }
-
-    #[inline(always)]
-    fn behind(word: u64, taken: u32) -> u64 {
-        word >> taken
-    }
-
-    #[inline(always)]
     fn mark(octet: u8) -> Result<Option<bool>, BadMark> {
         TextBits::new().step(octet)
     }
@@ -254,10 +234,14 @@ impl<C: Check> Follow for Analyser<C> {
         run: &mut CaptureRun<Self>,
         w: &mut W,
     ) -> Result<usize, ToolFault> {
-        Self::laws();
-        let next = gather(octets);
-        run.take_word(next.word, next.count, w)?;
-        Ok(next.taken)
+        if octets.len() < 16 {
+            return take_eight(octets, run, w);
+        }
+        // A short text does not pay for clearing a large block.
+        if octets.len() < 1024 {
+            return take_block::<C, W, 128>(octets, run, w);
+        }
+        take_block::<C, W, 2048>(octets, run, w)
     }
 
     #[inline(always)]
@@ -272,7 +256,7 @@ impl<C: Check> Follow for Analyser<C> {
         let count = body.whole(octets.len());
         let whole = &octets[..count];
         body.take_all(whole);
-        take_octets(whole, run, w)?;
+        take_bits(whole, 8 * whole.len(), run, w)?;
         Ok(count)
     }
 }

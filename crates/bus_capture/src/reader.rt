@@ -15,8 +15,9 @@ use crate::follow::Follow;
 use crate::packed::PackedCapture;
 use crate::run::CaptureRun;
 use crate::tap::Tap;
+use crate::teller::Teller;
 use crate::text::TextCapture;
-use bus_text::{Options, Page, Printer, Summary, ToolFault, read_dictionary};
+use bus_text::{Options, Printer, ToolFault, read_dictionary};
 use bus_watch::NewFault;
 use std::alloc::Global;
 use std::io::{Read, Write};
@@ -68,7 +69,7 @@ impl<T: Follow> CaptureReader<T> {
         ensures fresh { IfOk result
             (λ reader. (start : Option (List ℕ)) → Follows T.tap start start reader.source reader.run []) }
         ensures given { IfOk result
-            (λ reader. (is_text reader.source ≡ options.now.text) × (reader.run.printer ≡ printer)
+            (λ reader. (is_text reader.source ≡ options.now.text) × (reader.run.teller.printer ≡ printer)
             × (octets_taken reader.source ≡ 0)) }
         ensures sound { IfOk result (λ reader. IsSound T.tap reader.run) }
     {
@@ -83,9 +84,7 @@ impl<T: Follow> CaptureReader<T> {
             source,
             run: CaptureRun {
                 analyser,
-                summary: Summary::none(),
-                printer,
-                page: Page::new(),
+                teller: Teller::new(printer),
             },
         })
     }
@@ -141,7 +140,7 @@ impl<T: Follow> CaptureReader<T> {
     {
         T::laws();
         self.take(octets, w)?;
-        self.run.page.write_out(w)?;
+        self.run.teller.page.write_out(w)?;
         Ok(())
     }
 

@@ -27,17 +27,6 @@ use std::alloc::Global;
 use std::convert::AsSlice;
 use std::io::Write;
 
-/// Bits, or pairs of bits, that octets give, and how many octets these are.
-#[derive(Clone, Copy)]
-pub struct Many<N> {
-    /// The symbols, the first lowest.
-    pub word: N,
-    /// How many symbols these are, at most 48.
-    pub count: u32,
-    /// How many octets gave them.
-    pub taken: usize,
-}
-
 /// An analyser of one line, or of two, and how its captures are written: at each place they have a
 /// symbol, a bit or a pair of bits.
 pub trait Tap: Drop {
@@ -76,10 +65,6 @@ pub trait Tap: Drop {
         ensures within { IfOk result (λ n. (1 ≤ n) × (n ≤ count)) }
         ensures sees { IfOk result (λ n. Leads tap.watch self.old (tap.symbols n word) (tap.heard self.new) self.new) }
         ensures unchanged { OnErr result (self.new ≡ self.old) };
-
-    /// Whether `count` symbols more have places.
-    fn has_room(&self, count: u32) -> bool
-        ensures { IsTrue result ↔ (tap.watch.place self.now + count ≤ 2 ^ 60) };
 
     /// Whether anything is seen at the last symbol taken.
     fn is_decided(&self) -> bool
@@ -137,16 +122,6 @@ pub trait Tap: Drop {
     /// A word of one symbol.
     fn word_of(symbol: Self::Symbol) -> Self::Word
         ensures { tap.fits 1 result × (tap.symbols 1 result ≡ symbol ∷ []) };
-
-    /// The first symbol of a word, alone.
-    fn front(word: Self::Word) -> Self::Word
-        ensures { tap.fits 1 result × (tap.symbols 1 result ≡ tap.symbols 1 word) };
-
-    /// The symbols of a word behind the first `taken`.
-    fn behind(word: Self::Word, taken: u32) -> Self::Word
-        requires { taken ≤ 48 }
-        ensures { (left : ℕ) → tap.fits (taken + left) word → tap.fits left result
-            × (tap.symbols (taken + left) word ≡ tap.symbols taken word ++ tap.symbols left result) };
 
     /// The symbol of an octet of a text, or None where it is skipped.
     fn mark(octet: u8) -> Result<Option<Self::Symbol>, BadMark>

@@ -1,22 +1,19 @@
 //! Captures of two lines.
 
-ghost use Rattle.std.specs.Prelude.{◌≡◌, ◌+◌, ◌*◌, ◌≤◌, ◌<◌, ◌^◌, ℕ, List, ◌++◌, length, take, None, Some, zip};
-ghost use Rattle.bus_bits.specs.Octet.{bits_of};
-ghost use Rattle.bus_bits.specs.Capture.{text_pairs, text_pairs_fault};
+ghost use Rattle.std.specs.Prelude.{◌≡◌, ◌+◌, ◌*◌, ◌≤◌, ◌<◌, ◌^◌, ℕ, Bool, List, Option, ◌++◌, length, MatchResult, zip};
+ghost use Rattle.bus_bits.specs.Bits.{bits_from};
+ghost use Rattle.bus_capture.specs.Internal.TwoLines.{pair_tap};
+ghost use Rattle.bus_capture.specs.Internal.Watching.{Halts, IsSame, IsSound, Watches};
 ghost use Rattle.bus_text.specs.Counting.{IsFew};
 ghost use Rattle.bus_text.specs.Listing.{listing};
 ghost use Rattle.bus_text.specs.Summary.{summary_of};
 ghost use Rattle.bus_watch.specs.Pairs.{seen_on};
 ghost use Rattle.bus_watch.specs.Seen.{SeenReport};
-ghost use Rattle.std.specs.Option.{ForSome, option_to_list};
-ghost use Rattle.bus_bits.specs.Packed.{PairsAfter, packed_pair_capture, pair_head_fault};
-ghost use Rattle.bus_watch.specs.Heard.{pairs_of};
-ghost use Rattle.bus_capture.specs.Internal.Headed.{IsHeaded};
+ghost use Rattle.std.specs.Option.{option_to_list};
 
 use crate::follow::Follow;
 use crate::run::CaptureRun;
-use crate::tap::{Many, Tap};
-use crate::word::Word;
+use crate::tap::Tap;
 use arrayvec::ArrayVec;
 use bus_bits::laws::{pair_captures_grow, pairs_are_head_and_body};
 use bus_bits::{BadMark, HeadFault, PackedFault, PackedPairs, PairHead, PairWords, TextPairs};
@@ -27,61 +24,43 @@ use bus_text::{Page, Printer, ShortWrite, Summary, ToolFault, put_kept};
 use bus_watch::laws::pairs_grow;
 use bus_watch::{Counts, Line, NewFault, PairAnalyser};
 use std::alloc::Global;
+use std::cmp::min;
 use std::io::Write;
 
-/// The pairs of the next octets, 48 of them or as many eights as come before the first octet that is
-/// no pair and no line end.
-#[inline(always)]
-fn gather(octets: &[u8]) -> Many<PairWords>
-    ensures few { result.count ≤ 48 }
-    ensures small { (result.word.first < 2 ^ result.count) × (result.word.second < 2 ^ result.count) }
-    ensures enough { result.taken ≤ length octets.now }
-    ensures given { (xs : List ℕ) → text_pairs_fault xs ≡ None →
-        (text_pairs_fault (xs ++ take result.taken octets.now) ≡ None)
-        × (text_pairs (xs ++ take result.taken octets.now)
-        ≡ text_pairs xs ++ zip (bits_of result.count result.word.first) (bits_of result.count result.word.second)) }
-{
-    let mut first = Word::new();
-    let mut second = Word::new();
-    let mut taken = 0;
-    while first.count <= 40 {
-        let Some(eight) = TextPairs::eight(&octets[taken..]) else {
-            break;
-        };
-        first.put(eight.first);
-        second.put(eight.second);
-        taken += eight.taken;
-    }
-    Many {
-        word: PairWords {
-            first: first.bits,
-            second: second.bits,
-        },
-        count: first.count,
-        taken,
-    }
-}
+/// How many octets of either line are taken at once.
+const BLOCK: usize = 256;
 
-/// The pairs of the next octets of a packed capture, where there are many and all are wanted.
-#[inline(always)]
-fn many_of(body: &mut PackedPairs, octets: &[u8]) -> Option<Many<PairWords>>
-    ensures within { ForSome result (λ m. (1 ≤ m.taken) × (m.taken ≤ length octets.now) × (m.count ≤ 48)) }
-    ensures small { ForSome result (λ m. (m.word.first < 2 ^ m.count) × (m.word.second < 2 ^ m.count)) }
-    ensures given { ForSome result (λ m. (xs : List ℕ) → IsHeaded pair_head_fault PairsAfter body.old xs →
-        IsHeaded pair_head_fault PairsAfter body.new (xs ++ take m.taken octets.now)
-        × ((packed_pair_capture (xs ++ take m.taken octets.now)).bits
-        ≡ (packed_pair_capture xs).bits ++ pairs_of m.count m.word.first m.word.second)) }
-    ensures none { result ≡ None → body.new ≡ body.old }
+/// Takes pairs of bits of these octets, the first so many, and tells what is seen at them.
+#[inline(never)]
+fn take_pairs<C: Check, W: Write>(
+    first: &[u8],
+    second: &[u8],
+    count: usize,
+    run: &mut CaptureRun<PairAnalyser<C>>,
+    w: &mut W,
+) -> Result<(), ToolFault>
+    requires sound { IsSound (pair_tap C.folded C.COST) run.old }
+    requires enough { (count ≤ 8 * length first.now) × (count ≤ 8 * length second.now) }
+    requires few { count ≤ 2048 }
+    ensures taken { (start : Option (List ℕ)) (b : List (Bool × Bool)) →
+        Watches (pair_tap C.folded C.COST) start (W.contents w.old) run.old b → MatchResult result
+        (λ _. Watches (pair_tap C.folded C.COST) start (W.contents w.new) run.new
+        (b ++ zip (bits_from first.now 0 count) (bits_from second.now 0 count)))
+        (λ fault. Halts (pair_tap C.folded C.COST) start (W.contents w.new) run.new
+        (b ++ zip (bits_from first.now 0 count) (bits_from second.now 0 count)) fault) }
+    ensures same { IsSame (pair_tap C.folded C.COST) run.old run.new }
+    ensures sound { IsSound (pair_tap C.folded C.COST) run.new }
 {
-    pairs_are_head_and_body();
-    match octets.first_chunk() {
-        Some(twelve) if body.left() >= 48 => Some(Many {
-            word: body.take_twelve(twelve),
-            count: 48,
-            taken: 12,
-        }),
-        _ => None,
+    PairAnalyser::<C>::laws();
+    run.teller.cut = None;
+    let taken = run.analyser.scan(first, second, count, &mut run.teller, w);
+    if let Some(cut) = run.teller.cut {
+        return Err(ToolFault::from(cut));
     }
+    if taken < count {
+        return Err(ToolFault::PlaceLimit);
+    }
+    Ok(())
 }
 
 /// Counts what is seen on a line at the last pair taken, if anything.
@@ -111,8 +90,6 @@ fn put_on<C: Check>(analyser: &PairAnalyser<C>, line: Line, printer: &Printer, p
 }
 
 impl<C: Check> Tap for PairAnalyser<C> {
-    ghost use Rattle.bus_capture.specs.Internal.TwoLines.{pair_tap};
-
     type Symbol = (bool, bool);
 
     type Word = PairWords;
@@ -135,11 +112,6 @@ impl<C: Check> Tap for PairAnalyser<C> {
     #[inline(always)]
     fn take(&mut self, word: PairWords, count: u32) -> Result<u32, PlaceLimit> {
         PairAnalyser::take(self, word.first, word.second, count)
-    }
-
-    #[inline(always)]
-    fn has_room(&self, count: u32) -> bool {
-        PairAnalyser::has_room(self, count)
     }
 
     #[inline(always)]
@@ -185,22 +157,6 @@ impl<C: Check> Tap for PairAnalyser<C> {
     }
 
     #[inline(always)]
-    fn front(word: PairWords) -> PairWords {
-        PairWords {
-            first: word.first % 2,
-            second: word.second % 2,
-        }
-    }
-
-    #[inline(always)]
-    fn behind(word: PairWords, taken: u32) -> PairWords {
-        PairWords {
-            first: word.first >> taken,
-            second: word.second >> taken,
-        }
-    }
-
-    #[inline(always)]
     fn mark(octet: u8) -> Result<Option<(bool, bool)>, BadMark> {
         TextPairs::new().step(octet)
     }
@@ -239,8 +195,10 @@ impl<C: Check> Follow for PairAnalyser<C> {
         w: &mut W,
     ) -> Result<usize, ToolFault> {
         Self::laws();
-        let next = gather(octets);
-        run.take_word(next.word, next.count, w)?;
+        let mut first = [0; BLOCK];
+        let mut second = [0; BLOCK];
+        let next = TextPairs::part(octets, &mut first, &mut second);
+        take_pairs(&first, &second, 8 * next.filled, run, w)?;
         Ok(next.taken)
     }
 
@@ -251,11 +209,14 @@ impl<C: Check> Follow for PairAnalyser<C> {
         run: &mut CaptureRun<Self>,
         w: &mut W,
     ) -> Result<usize, ToolFault> {
+        pairs_are_head_and_body();
         Self::laws();
-        let Some(many) = many_of(body, octets) else {
-            return Ok(0);
-        };
-        run.take_word(many.word, many.count, w)?;
-        Ok(many.taken)
+        let count = body.whole(min(octets.len(), 2 * BLOCK));
+        let whole = &octets[..count];
+        let mut first = [0; BLOCK];
+        let mut second = [0; BLOCK];
+        body.take_all(whole, &mut first, &mut second);
+        take_pairs(&first, &second, 4 * whole.len(), run, w)?;
+        Ok(count)
     }
 }

@@ -1,8 +1,7 @@
 //! Captures of two lines, octet by octet.
 
 use bus_bits::{
-    BadMark, EightPairs, HeadFault, PackedFault, PackedHead, PackedPairs, PairHead, PairWords,
-    TextPairs,
+    BadMark, EightPairs, HeadFault, PackedFault, PackedHead, PackedPairs, PairHead, TextPairs,
 };
 use std::process::Abort;
 
@@ -156,19 +155,21 @@ fn packed_pairs_are_given(rt: HostRuntime) {
 }
 
 #[test]
-fn twelve_octets_are_parted(rt: HostRuntime) {
+fn sixteen_octets_are_parted(rt: HostRuntime) {
     // Bits 0 1 0 1 of the first line in each e4, and 0 0 1 1 of the second. In 55 the first line
     // alone has four ones, in aa the second alone.
     let octets = [
-        0xe4, 0x55, 0xaa, 0, 0xe4, 0, 0, 0x55, 0x01, 0x02, 0x40, 0x80,
+        0xe4, 0x55, 0xaa, 0, 0xe4, 0, 0, 0x55, 0x01, 0x02, 0x40, 0x80, 0xe4, 0xe4, 0, 0,
     ];
-    let mut packed = PackedPairs::new(PairHead { pairs: 49 });
-    assert!(rt; packed.left() >= 48);
-    let words = packed.take_twelve(&octets);
-    let want = PairWords {
-        first: 0x0801_f00a_00fa,
-        second: 0x8010_000c_0f0c,
-    };
-    assert_eq!(rt; words, want);
+    let mut packed = PackedPairs::new(PairHead { pairs: 65 });
+    let mut first = [0xff; 9];
+    let mut second = [0xff; 9];
+    assert_eq!(rt; packed.whole(15), 8);
+    assert_eq!(rt; packed.whole(40), 16);
+    if packed.left() >= 64 {
+        packed.take_all(&octets, &mut first, &mut second);
+    }
+    assert_eq!(rt; first, [0xfa, 0, 0x0a, 0xf0, 0x01, 0x08, 0xaa, 0, 0xff]);
+    assert_eq!(rt; second, [0x0c, 0x0f, 0x0c, 0, 0x10, 0x80, 0xcc, 0, 0xff]);
     assert_eq!(rt; packed.left(), 1);
 }

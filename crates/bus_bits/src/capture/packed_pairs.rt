@@ -1,14 +1,16 @@
 //! The pairs of a packed capture of two lines, after its head.
 
-ghost use Rattle.std.specs.Prelude.{◌≡◌, ℕ, List, [], ◌∷◌, ◌++◌, Some, None, MatchResult, OnErr, ◌≤◌, ◌<◌, ◌^◌, zip};
+ghost use Rattle.std.specs.Prelude.{◌≡◌, ℕ, ◌+◌, ◌*◌, ◌%◌, List, [], ◌∷◌, ◌++◌, Some, None, MatchResult, OnErr, ◌≤◌, ◌<◌, ◌⊎◌, length, zip};
+ghost use Rattle.bus_bits.specs.Bits.{bits_from};
 ghost use Rattle.bus_bits.specs.Octet.{bits_of};
 ghost use Rattle.bus_bits.specs.Packed.{PairsAfter, pair_body, packed_fault_of, filled, in_pairs};
 
 use super::packed_bits::{PackedFault, gathered, has_one};
 use super::packed_head::PairHead;
-use super::pair_words::{PairWords, parted};
+use super::pair_block::part;
 use crate::octet::octet_bits;
 use arrayvec::ArrayVec;
+use std::cmp::min;
 use std::marker::Model;
 
 /// Reads the octets after a head of two lines, each for four pairs, from the least significant bits
@@ -66,24 +68,33 @@ impl PackedPairs {
         Ok(gathered(&octet_pairs(octet)[..used as usize]))
     }
 
-    /// Takes twelve octets, of which all pairs are wanted, and gives these 48, the first lowest.
+    /// How many of the next `count` octets can be taken at once: eights of octets of which all pairs are wanted.
     #[inline(always)]
-    pub fn take_twelve(&mut self, octets: &[u8; 12]) -> PairWords
-        requires { 48 ≤ self.old }
+    pub fn whole(&self, count: usize) -> usize
+        ensures within { result ≤ count }
+        ensures wanted { 4 * result ≤ self.now }
+        ensures eights { result % 8 ≡ 0 }
+        ensures most { (count < result + 8) ⊎ (self.now < 4 * result + 32) }
+    {
+        8 * min(count as u64 / 8, self.left / 32) as usize
+    }
+
+    /// Takes eights of octets of which all pairs are wanted, and parts them: the first line's bits are then those of one
+    /// block and the second line's those of another, each in octets whose lowest bit is the first.
+    #[inline(always)]
+    pub fn take_all(&mut self, octets: &[u8], first: &mut [u8], second: &mut [u8])
+        requires wanted { 4 * length octets.now ≤ self.old }
+        requires eights { length octets.now % 8 ≡ 0 }
+        requires room { (length octets.now ≤ 2 * length first.old) × (length octets.now ≤ 2 * length second.old) }
         ensures given { (n : ℕ) (xs : List ℕ) → PairsAfter n xs self.old →
             PairsAfter n (xs ++ octets.now) self.new
-            × ((pair_body n (xs ++ octets.now)).bits
-            ≡ (pair_body n xs).bits ++ zip (bits_of 48 result.first) (bits_of 48 result.second)) }
-        ensures small { (result.first < 2 ^ 48) × (result.second < 2 ^ 48) }
+            × ((pair_body n (xs ++ octets.now)).bits ≡ (pair_body n xs).bits
+            ++ zip (bits_from first.new 0 (4 * length octets.now)) (bits_from second.new 0 (4 * length octets.now))) }
+        ensures len { (length first.new ≡ length first.old) × (length second.new ≡ length second.old) }
     {
-        self.left -= 48;
-        let [a, b, c, d, e, f, g, h, i, j, k, l] = *octets;
-        let front = parted(u64::from_le_bytes([a, b, c, d, e, f, g, h]));
-        let back = parted(u64::from_le_bytes([i, j, k, l, 0, 0, 0, 0]));
-        PairWords {
-            first: front.first | back.first << 32,
-            second: front.second | back.second << 32,
-        }
+        let left = self.left;
+        self.left = left - 4 * octets.len() as u64;
+        part(octets, first, second);
     }
 
     /// Refuses the end of the input as [`PackedFault::ShortBody`] where pairs are left.

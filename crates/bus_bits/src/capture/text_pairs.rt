@@ -1,7 +1,8 @@
 //! The pairs of a text capture of two lines.
 
-ghost use Rattle.std.specs.Prelude.{◌≡◌, ℕ, List, [], ◌∷◌, ◌++◌, ◌≤◌, ◌⊎◌, ◌↔◌, length, take, zip, MatchResult, Some, None, IsSome};
+ghost use Rattle.std.specs.Prelude.{◌≡◌, ℕ, ◌*◌, List, [], ◌∷◌, ◌++◌, ◌≤◌, ◌⊎◌, ◌↔◌, length, take, zip, MatchResult, Some, None, IsSome};
 ghost use Rattle.std.specs.Option.{ForSome, option_to_list};
+ghost use Rattle.bus_bits.specs.Bits.{bits_from};
 ghost use Rattle.bus_bits.specs.Octet.{bits_of};
 ghost use Rattle.bus_bits.specs.Capture.{EightPairsIn, text_pairs, text_pairs_fault, bad_mark};
 
@@ -9,6 +10,15 @@ use super::eight_bits::{EightPairs, PAIR_HIGH, eight_marks, gathered_pairs};
 use super::text_bits::{BadMark, is_skipped};
 
 const ZERO: u8 = b'0';
+
+/// What was parted of a text.
+#[derive(Clone, Copy, Debug, PartialEq, Eq)]
+pub struct PartedText {
+    /// How many octets of either line it gave.
+    pub filled: usize,
+    /// How many octets of the text these took.
+    pub taken: usize,
+}
 
 /// Reads a text capture of two lines: an octet `0` to `3` is the pair of bits that were received at
 /// one place, and space, tab, CR and LF between them are skipped.
@@ -63,5 +73,32 @@ impl TextPairs {
             second,
             taken: eight.taken,
         })
+    }
+
+    /// Parts the next pairs of a text, eight at a time, as long as they come and as the blocks have room: the first
+    /// line's bits into one block and the second line's into another, each in octets whose lowest bit is the first.
+    #[inline(always)]
+    pub fn part(text: &[u8], first: &mut [u8], second: &mut [u8]) -> PartedText
+        requires same { length first.old ≡ length second.old }
+        ensures enough { result.taken ≤ length text.now }
+        ensures within { result.filled ≤ length first.new }
+        ensures given { (xs : List ℕ) → text_pairs_fault xs ≡ None →
+            (text_pairs_fault (xs ++ take result.taken text.now) ≡ None)
+            × (text_pairs (xs ++ take result.taken text.now) ≡ text_pairs xs
+            ++ zip (bits_from first.new 0 (8 * result.filled)) (bits_from second.new 0 (8 * result.filled))) }
+        ensures len { (length first.new ≡ length first.old) × (length second.new ≡ length second.old) }
+    {
+        let mut filled = 0;
+        let mut taken = 0;
+        while filled < first.len() {
+            let Some(eight) = TextPairs::eight(&text[taken..]) else {
+                break;
+            };
+            first[filled] = eight.first;
+            second[filled] = eight.second;
+            filled += 1;
+            taken += eight.taken;
+        }
+        PartedText { filled, taken }
     }
 }

@@ -46,34 +46,34 @@ module _ {A X N B : Type 0} (t : TapView A X N B) where
   -- the place bounds the counts, and the octets of the lines: at a place there are two reports at most
   pub record IsSound (run : CaptureRun A) : Type 0 where
     pub places : t.watch.place run.analyser ≤ 2 ^ 60
-    pub counts : IsFew (2 * t.watch.place run.analyser) run.summary
-    pub octets : run.page.written + length run.page.text ≤ 2048 * t.watch.place run.analyser
+    pub counts : IsFew (2 * t.watch.place run.analyser) run.teller.summary
+    pub octets : run.teller.page.written + length run.teller.page.text ≤ 2048 * t.watch.place run.analyser
 
   -- the lines of these bits
   abbrev pub lines : CaptureRun A → List X → List ℕ
-  lines run b = printed run.printer (t.watch.dictionary run.analyser) (seen_by t.watch run.analyser b)
+  lines run b = printed run.teller.printer (t.watch.dictionary run.analyser) (seen_by t.watch run.analyser b)
 
   -- the lines of the end behind these bits
   abbrev pub last_lines : CaptureRun A → List X → List ℕ
   last_lines run b =
-      ended run.printer (t.form.ending (t.watch.origin run.analyser) b
+      ended run.teller.printer (t.form.ending (t.watch.origin run.analyser) b
       (pending (t.watch.dictionary run.analyser) (heard_by t.watch run.analyser b)))
 
   -- the report of these bits
   abbrev pub reported : CaptureRun A → List X → List ℕ
   reported run b =
-      check_text t.form.is_two run.summary (tally (t.watch.dictionary run.analyser) (heard_by t.watch run.analyser b))
+      check_text t.form.is_two run.teller.summary (tally (t.watch.dictionary run.analyser) (heard_by t.watch run.analyser b))
       (history (t.watch.depth run.analyser) (heard_by t.watch run.analyser b))
 
   -- these bits were followed
   pub record Watches (start now : Option (List ℕ)) (run : CaptureRun A) (b : List X) : Type 0 where
     pub is_after : t.watch.is_after run.analyser b
-    pub counts : run.summary ≡ summary_of (seen_by t.watch run.analyser b)
-    pub page : Pages start now run.page.text run.page.written (lines run b)
+    pub counts : run.teller.summary ≡ summary_of (seen_by t.watch run.analyser b)
+    pub page : Pages start now run.teller.page.text run.teller.page.written (lines run b)
 
   -- what stays the same
   pub record IsSame (old new : CaptureRun A) : Type 0 where
-    pub printer : new.printer ≡ old.printer
+    pub printer : new.teller.printer ≡ old.teller.printer
     pub dictionary : t.watch.dictionary new.analyser ≡ t.watch.dictionary old.analyser
     pub depth : t.watch.depth new.analyser ≡ t.watch.depth old.analyser
     pub origin : t.watch.origin new.analyser ≡ t.watch.origin old.analyser

@@ -25,7 +25,7 @@ returns-in-Ok g c =
     let made = c.in_ok-reader.ensures.made in
     let given = c.in_ok-reader.ensures.given in
     let read = c.in-Ok.ensures.read in
-    let printer : c.in_ok-reader.reader.run.printer ≡ Some (printer_of o) = given.1 ∙ ap Some c.of.ensures in
+    let printer : c.in_ok-reader.reader.run.teller.printer ≡ Some (printer_of o) = given.1 ∙ ap Some c.of.ensures in
     let asked = listed g.T.Tap.tap o made.0 c.in_ok-reader.reader.run w printer made.2 c.take_input.ensures.same in
     let lists = ends-lists g.T.Tap.tap o made.0 (is_text c.in_ok-reader.reader.source) (g.R.Read.remaining c.take_input.new.r) start _ _ w read.0 c.end.result c.laws.ensures made.1 asked given.0 read.2
     (c.end.ensures start (whole_capture g.T.Tap.tap.form (is_text c.in_ok-reader.reader.source) (g.T.Tap.tap.watch.origin w.analyser) read.0).bits read.2.bits) in
@@ -42,7 +42,7 @@ returns-in-Err g c =
     let made = c.in_ok-reader.ensures.made in
     let given = c.in_ok-reader.ensures.given in
     let read = c.in-Err.ensures.read in
-    let printer : c.in_ok-reader.reader.run.printer ≡ Some (printer_of o) = given.1 ∙ ap Some c.of.ensures in
+    let printer : c.in_ok-reader.reader.run.teller.printer ≡ Some (printer_of o) = given.1 ∙ ap Some c.of.ensures in
     let asked = listed g.T.Tap.tap o made.0 c.in_ok-reader.reader.run w printer made.2 c.take_input.ensures.same in
     let lists = stops-lists g.T.Tap.tap o made.0 (is_text c.in_ok-reader.reader.source) (g.R.Read.remaining c.take_input.new.r) start _ _ w read.0 c.in-Err.fault c.close_behind.result
     c.laws.ensures made.1 asked given.0 read.2 c.close_behind.ensures.cut c.close_behind.ensures.closed in

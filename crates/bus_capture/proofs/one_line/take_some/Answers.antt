@@ -1,4 +1,4 @@
-use Rattle.std.proofs.Common.{List, ℕ, ◌++◌, ◌+◌, ◌-◌, ◌*◌, length, refl, sym, ap, ◌∙◌, subst, arith}
+use Rattle.std.proofs.Common.{List, ℕ, ◌++◌, ◌+◌, ◌-◌, ◌*◌, refl, sym, ap, ◌∙◌, subst, arith}
 use Rattle.std.proofs.lemmas.Result.{err_from_is_err_and}
 use Rattle.bus_bits.specs.Bits.{bits_from}
 use Rattle.bus_bits.proofs.BitLemmas.{length-from}
@@ -9,7 +9,7 @@ use Rattle.bus_text.specs.declared.fault.ToolFault.TheVariants as fault
 use Rattle.bus_dictionary.specs.Entry.{FrameType}
 use Rattle.bus_capture.specs.Internal.OneLine.{one_tap}
 use Rattle.bus_capture.specs.Internal.Watching.{lines, printed}
-use Rattle.bus_capture.proofs.FewLemmas.{few-within}
+use Rattle.bus_capture.specs.Internal.TellingLaws.{few-within}
 use Rattle.bus_capture.proofs.OneLineLemmas.{halts-from}
 use Rattle.bus_capture.proofs.WatchingLemmas.{watched, unheard, halted, cut-off, sound-next}
 use Rattle.bus_capture.proofs.one_line.take_some.Goals as goal
@@ -19,7 +19,7 @@ returns-in-Err-clause-taken g c =
     λ start b h.
     let tap = one_tap g.C.Check.folded g.C.Check.COST in
     let os = c.args.octets.now in
-    let left = 8 * length os - c.args.at in
+    let left = c.args.end - c.args.at in
     halted tap c.laws.ensures start _ c.args.run.now _ b (bits_from os c.args.at left)
     (ap (λ (a : AnalyserState g.row.C.Denot). record c.args.run.now { analyser = a }) c.in-Err.ensures.unchanged)
     (omega (arith, c.requires.some, length-from os c.args.at left)) (c.in-Err.ensures.limit.0 refl) c.requires.sound h
@@ -35,7 +35,7 @@ returns-in_err-tell-clause-taken g c =
     let told = tap.heard c.scan.new.self in
     let sees = subst (λ (a : AnalyserState g.row.C.Denot). Leads tap.watch c.args.run.now.analyser x told a) (sym c.in_err-tell.ensures.analyser) c.in-Ok.ensures.sees in
     let cut = c.in_err-tell.ensures.told start (lines tap c.args.run.now b) h.page in
-    halts-from tap start (g.W.Write.contents c.tell.new.w) c.tell.new.self b os c.args.at n (8 * length os - c.args.at) (fault.Write c.in_err-tell.field-0.0.sent) c.in-Ok.ensures.within.1
+    halts-from tap start (g.W.Write.contents c.tell.new.w) c.tell.new.self b os c.args.at n (c.args.end - c.args.at) (fault.Write c.in_err-tell.field-0.0.sent) c.in-Ok.ensures.within.1
     (cut-off tap c.laws.ensures start (g.W.Write.contents c.tell.new.w) c.args.run.now c.tell.new.self b x told c.in_err-tell.field-0.0.sent c.in_err-tell.ensures.printer
     (omega (arith, c.in-Ok.ensures.fits, length-from os c.args.at n)) h.is_after sees cut.0 cut.1))
 
@@ -58,7 +58,7 @@ returns-in_ok-tell-clause-taken g c =
     let page = c.in_ok-tell.ensures.told start (lines tap c.args.run.now b) h.page in
     watched tap start _ _ c.args.run.now c.tell.new.self b x told c.in_ok-tell.ensures.printer h sees
     (c.in_ok-tell.ensures.counted (seen_by tap.watch c.args.run.now.analyser b) h.counts)
-    (subst (λ (d : List FrameType). Pages start (g.W.Write.contents c.tell.new.w) c.tell.new.self.page.text c.tell.new.self.page.written (lines tap c.args.run.now b ++ printed c.args.run.now.printer d told)) here.dictionary page)
+    (subst (λ (d : List FrameType). Pages start (g.W.Write.contents c.tell.new.w) c.tell.new.self.teller.page.text c.tell.new.self.teller.page.written (lines tap c.args.run.now b ++ printed c.args.run.now.teller.printer d told)) here.dictionary page)
 
 pub returns-in_ok-tell-clause-sound : goal.returns-in_ok-tell-clause-sound
 returns-in_ok-tell-clause-sound g c =
@@ -81,4 +81,4 @@ returns-else-is_decided-clause-sound g c =
     let n = c.in-Ok.taken in
     let place = c.args.run.now.analyser.decoder.place in
     let next = c.in-Ok.ensures.sees.place ∙ ap (λ (k : ℕ). place + k) (length-from c.args.octets.now c.args.at n) in
-    sound-next tap c.args.run.now _ n c.in-Ok.ensures.within.0 next c.in-Ok.ensures.fits (few-within (2 * place) (2 * place + 2) c.args.run.now.summary (omega arith) c.requires.sound.counts) (omega arith) c.requires.sound
+    sound-next tap c.args.run.now _ n c.in-Ok.ensures.within.0 next c.in-Ok.ensures.fits (few-within (2 * place) (2 * place + 2) c.args.run.now.teller.summary (omega arith) c.requires.sound.counts) (omega arith) c.requires.sound

@@ -5,7 +5,7 @@ use Rattle.bus_bits.specs.Capture.{capped}
 use Rattle.bus_capture.specs.Internal.Sessions.{FollowsBody, Stops}
 use Rattle.bus_capture.proofs.WatchingLemmas.{same-both}
 use Rattle.bus_capture.proofs.CapturesLemmas.{stops-more, front-grown}
-use Rattle.bus_capture.proofs.GatherLemmas.{octets-next}
+use Rattle.bus_bits.proofs.GatherLemmas.{octets-next}
 use Rattle.bus_capture.proofs.packed.take_body.Goals as goal
 
 pub returns-in_err-taken-clause-taken : goal.returns-in_err-taken-clause-taken

@@ -1,6 +1,5 @@
 use Rattle.std.proofs.Common.{◌≤◌, ◌*◌, ◌^◌, ◌++◌, Ok, Err, length, take, arith}
 use Rattle.std.proofs.lemmas.Result.{err_from_is_err_and}
-use Rattle.std.proofs.lemmas.List.{length-take}
 use Rattle.bus_bits.specs.Bits.{bits_from}
 use Rattle.bus_bits.specs.Packed.{PackedAfter, packed_capture, packed_body, head_fault}
 use Rattle.bus_capture.specs.Internal.OneLine.{one_tap}
@@ -9,13 +8,8 @@ use Rattle.bus_capture.proofs.HeadedLemmas.{octets-read}
 use Rattle.bus_capture.proofs.SessionsPackedLemmas.{octets-taken}
 use Rattle.bus_capture.proofs.one_line.AnalyserFollow.take_packed.Goals as goal
 
-pub take_octets-requires-clause-few : goal.take_octets-requires-clause-few
-take_octets-requires-clause-few g c =
-    let count = c.whole-count.result in
-    omega (arith, length-take count c.args.octets.now, c.whole-count.ensures.few)
-
-pub returns-in_err-take_octets-clause-taken : goal.returns-in_err-take_octets-clause-taken
-returns-in_err-take_octets-clause-taken g c =
+pub returns-in_err-take_bits-clause-taken : goal.returns-in_err-take_bits-clause-taken
+returns-in_err-take_bits-clause-taken g c =
     let p = err_from_is_err_and c.from_residual.result c.from_residual.ensures.1 in
     rw (p.1, p.2) (λ start xs f.
     let tap = one_tap g.C.Check.folded g.C.Check.COST in
@@ -25,9 +19,9 @@ returns-in_err-take_octets-clause-taken g c =
     let read = octets-read packed_capture packed_body head_fault PackedAfter (λ head zs long. (c.packed_is_head_and_body.ensures.headed head zs long).0)
     c.args.body.now c.take_all.new.self xs whole (bits_from whole 0 (8 * length whole)) c.take_all.ensures.given f.read in
     let fits = followed-fits tap c.laws.ensures start _ c.args.run.now b c.requires f.bits in
-    let low : tap.watch.origin c.take_octets.new.run.analyser ≤ 2 ^ 60 = omega (arith, fits, c.take_octets.ensures.same.origin) in (
+    let low : tap.watch.origin c.take_bits.new.run.analyser ≤ 2 ^ 60 = omega (arith, fits, c.take_bits.ensures.same.origin) in (
       count,
-      octets-taken tap start _ c.take_octets.new.run (xs ++ whole) c.take_all.new.self (b ++ bits_from whole 0 (8 * length whole)) (Err c.in_err-take_octets.field-0.0) low read.0 read.1 (c.in_err-take_octets.ensures.taken start b f.bits),
+      octets-taken tap start _ c.take_bits.new.run (xs ++ whole) c.take_all.new.self (b ++ bits_from whole 0 (8 * length whole)) (Err c.in_err-take_bits.field-0.0) low read.0 read.1 (c.in_err-take_bits.ensures.taken start b f.bits),
     ))
 
 pub returns-clause-taken : goal.returns-clause-taken
@@ -38,5 +32,5 @@ returns-clause-taken g c = λ start xs f.
     let read = octets-read packed_capture packed_body head_fault PackedAfter (λ head zs long. (c.packed_is_head_and_body.ensures.headed head zs long).0)
     c.args.body.now c.take_all.new.self xs whole (bits_from whole 0 (8 * length whole)) c.take_all.ensures.given f.read in
     let fits = followed-fits tap c.laws.ensures start _ c.args.run.now b c.requires f.bits in
-    let low : tap.watch.origin c.take_octets.new.run.analyser ≤ 2 ^ 60 = omega (arith, fits, c.take_octets.ensures.same.origin) in
-    octets-taken tap start _ c.take_octets.new.run (xs ++ whole) c.take_all.new.self (b ++ bits_from whole 0 (8 * length whole)) (Ok tt) low read.0 read.1 (c.in_ok-take_octets.ensures.taken start b f.bits)
+    let low : tap.watch.origin c.take_bits.new.run.analyser ≤ 2 ^ 60 = omega (arith, fits, c.take_bits.ensures.same.origin) in
+    octets-taken tap start _ c.take_bits.new.run (xs ++ whole) c.take_all.new.self (b ++ bits_from whole 0 (8 * length whole)) (Ok tt) low read.0 read.1 (c.in_ok-take_bits.ensures.taken start b f.bits)

@@ -19,4 +19,4 @@ returns-in_err-write_out-clause-taken g c =
     (follows-unplaced g.T.Tap.tap start _ c.take.new.self.source c.take.new.self.run ys law taken) in
     let here = subst (λ (b : Bool). IsClean g.T.Tap.tap b start (g.W.Write.contents c.take.new.w) c.take.new.self.run ys) c.take.ensures.text clean in
     let bits = (capture g.T.Tap.tap.form (is_text c.args.self.now.source) (g.T.Tap.tap.watch.origin c.take.new.self.run.analyser) ys).bits in
-    is-cut g.T.Tap.tap start _ (record c.take.new.self.run { page = c.write_out.new.self }) bits _ (c.in_err-write_out.ensures.turned start (lines g.T.Tap.tap c.take.new.self.run bits) here.bits.page) (cut-short start _ _ _ (lines g.T.Tap.tap c.take.new.self.run bits) _ here.bits.page c.in_err-write_out.ensures.short))
+    is-cut g.T.Tap.tap start _ (record c.take.new.self.run { teller = record c.take.new.self.run.teller { page = c.write_out.new.self } }) bits _ (c.in_err-write_out.ensures.turned start (lines g.T.Tap.tap c.take.new.self.run bits) here.bits.page) (cut-short start _ _ _ (lines g.T.Tap.tap c.take.new.self.run bits) _ here.bits.page c.in_err-write_out.ensures.short))

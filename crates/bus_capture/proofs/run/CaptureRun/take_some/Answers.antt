@@ -54,7 +54,7 @@ returns-in_ok-tell-clause-taken g c =
     let page = c.in_ok-tell.ensures.told start (lines tap c.args.self.now b) h.page in
     watched tap start _ _ c.args.self.now c.tell.new.self b x told c.in_ok-tell.ensures.printer h sees
     (c.in_ok-tell.ensures.counted (seen_by tap.watch c.args.self.now.analyser b) h.counts)
-    (subst (λ (d : List FrameType). Pages start (g.W.Write.contents c.tell.new.w) c.tell.new.self.page.text c.tell.new.self.page.written (lines tap c.args.self.now b ++ printed c.args.self.now.printer d told)) here.dictionary page)
+    (subst (λ (d : List FrameType). Pages start (g.W.Write.contents c.tell.new.w) c.tell.new.self.teller.page.text c.tell.new.self.teller.page.written (lines tap c.args.self.now b ++ printed c.args.self.now.teller.printer d told)) here.dictionary page)
 
 pub returns-in_ok-tell-clause-sound : goal.returns-in_ok-tell-clause-sound
 returns-in_ok-tell-clause-sound g c =

@@ -5,7 +5,7 @@ use Rattle.bus_bits.specs.Capture.{capped}
 use Rattle.bus_capture.specs.Internal.Sessions.{FollowsOctets, Stops}
 use Rattle.bus_capture.proofs.WatchingLemmas.{same-self, same-both, item-next}
 use Rattle.bus_capture.proofs.CapturesLemmas.{stops-more, front-grown}
-use Rattle.bus_capture.proofs.GatherLemmas.{octets-next}
+use Rattle.bus_bits.proofs.GatherLemmas.{octets-next}
 use Rattle.bus_capture.proofs.SessionsTextLemmas.{octets-before, none-taken}
 use Rattle.bus_capture.proofs.text.TextCapture.take.Goals as goal
 

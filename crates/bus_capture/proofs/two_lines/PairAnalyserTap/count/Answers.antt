@@ -3,7 +3,7 @@ use Rattle.std.specs.Option.{option_to_list}
 use Rattle.bus_text.specs.Summary.{summary_of}
 use Rattle.bus_watch.specs.Pairs.{seen_on}
 use Rattle.bus_watch.specs.declared.line.Line.TheVariants.{First, Second}
-use Rattle.bus_capture.proofs.FewLemmas.{few-within}
+use Rattle.bus_capture.specs.Internal.TellingLaws.{few-within}
 use Rattle.bus_capture.proofs.two_lines.PairAnalyserTap.count.Goals as goal
 
 pub count_on-requires-2 : goal.count_on-requires-2

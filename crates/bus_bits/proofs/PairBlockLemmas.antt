@@ -1,0 +1,88 @@
+-- Pairs that are parted into octets of either line.
+use Rattle.std.proofs.Common.{◌≡◌, ℕ, ◌+◌, ◌-◌, ◌*◌, ◌/◌, ◌%◌, ◌^◌, ◌<◌, ◌≤◌, List, [], ◌∷◌, ◌++◌, length, take, drop, zip, append-nil, length-append, refl, sym, ap, ◌∙◌, arith}
+use Rattle.std.specs.Prelude.{slice_index, slice_set}
+use Rattle.std.proofs.lemmas.List.{get_or-take, length-drop, length-set, length-take, take_more_set}
+use Rattle.std.proofs.lemmas.Nat.{shr-shr}
+use Rattle.std.proofs.lemmas.Slice.{take-put_mid}
+use borrow.Rule.Slice.PartMut.{put_mid}
+use Rattle.bus_bits.specs.Octet.{bits_of, bits_of_octets}
+use Rattle.bus_bits.specs.Bits.{bits_from}
+use Rattle.bus_bits.specs.Packed.{in_pairs}
+use Rattle.bus_bits.proofs.BitLemmas.{bits-more, length-from}
+use Rattle.bus_bits.proofs.OctetLemmas.{bits_of_octets-append, bits_of_octets-push, bits-low, bits-split}
+use Rattle.bus_bits.proofs.PairsLemmas.{pairs-append}
+use Rattle.bus_bits.proofs.PairWordsLemmas.{zip-append}
+use Rattle.bus_bits.proofs.WordLemmas.{bits-octets}
+
+-- four octets of a number
+pub four-bits : (b : ℕ) → bits_of_octets (b % 256 ∷ b / 256 % 256 ∷ b / 65536 % 256 ∷ b / 16777216 % 256 ∷ []) ≡ bits_of 32 b
+unfolding bits_of_octets
+four-bits b =
+    let second : b / 2 ^ 8 / 2 ^ 8 ≡ b / 65536 = shr-shr b 8 8 in
+    let third : b / 65536 / 2 ^ 8 ≡ b / 16777216 = shr-shr b 16 8 in
+    let low : (n : ℕ) → bits_of 8 (n % 256) ≡ bits_of 8 n = λ n. bits-low 8 n in
+    let one : bits_of_octets (b / 16777216 % 256 ∷ []) ≡ bits_of 8 (b / 16777216) = append-nil (bits_of 8 (b / 16777216 % 256)) ∙ low (b / 16777216) in
+    let two : bits_of_octets (b / 65536 % 256 ∷ b / 16777216 % 256 ∷ []) ≡ bits_of 16 (b / 65536) =
+    ap (λ bits. bits ++ bits_of_octets (b / 16777216 % 256 ∷ [])) (low (b / 65536))
+    ∙ (ap (λ bits. bits_of 8 (b / 65536) ++ bits) (one ∙ ap (bits_of 8) (sym third)) ∙ sym (bits-split 8 8 (b / 65536))) in
+    let three : bits_of_octets (b / 256 % 256 ∷ b / 65536 % 256 ∷ b / 16777216 % 256 ∷ []) ≡ bits_of 24 (b / 256) =
+    ap (λ bits. bits ++ bits_of_octets (b / 65536 % 256 ∷ b / 16777216 % 256 ∷ [])) (low (b / 256))
+    ∙ (ap (λ bits. bits_of 8 (b / 256) ++ bits) (two ∙ ap (bits_of 16) (sym second)) ∙ sym (bits-split 8 16 (b / 256))) in
+    ap (λ bits. bits ++ bits_of_octets (b / 256 % 256 ∷ b / 65536 % 256 ∷ b / 16777216 % 256 ∷ [])) (low b)
+    ∙ (ap (λ bits. bits_of 8 b ++ bits) three ∙ sym (bits-split 8 24 b))
+
+-- the first octets of a slice
+bits-front-octets : (os : List ℕ) (k : ℕ) → k ≤ length os → bits_from os 0 (8 * k) ≡ bits_of_octets (take k os)
+bits-front-octets os k l =
+    let long : length (take k os) ≡ k = omega (arith, length-take k os, l) in
+    sym (bits-octets (take k os) os 0 0 (8 * k) refl (ap (λ (n : ℕ). 8 * n) (sym long)) (λ i below. get_or-take k os i 0 (omega (arith, below, long)) ∙ ap (slice_index os) (omega arith)))
+
+-- and some that were written behind them
+pub bits-stored : (os written : List ℕ) (from k n : ℕ) → k ≡ length written → n ≡ from + k → n ≤ length os
+    → bits_from (put_mid from (n - from) os written) 0 (8 * n) ≡ bits_from os 0 (8 * from) ++ bits_of_octets written
+bits-stored os written from k n long e l =
+    let behind = drop (n - from) (drop from os) in
+    let same : length (put_mid from (n - from) os written) ≡ length os =
+    omega (arith, length-append (take from os) (written ++ behind), length-append written behind, length-take from os, length-drop (n - from) (drop from os), length-drop from os, long, e, l) in
+    bits-front-octets (put_mid from (n - from) os written) n (omega (arith, same, l))
+    ∙ (ap bits_of_octets (take-put_mid from (n - from) os written n (omega (arith, e, long)) (omega (arith, e, l)))
+    ∙ (bits_of_octets-append (take from os) written
+    ∙ ap (λ bits. bits ++ bits_of_octets written) (sym (bits-front-octets os from (omega (arith, e, l))))))
+
+-- eight octets more, parted into four of either line
+pub pairs-parted : (os first second further others : List ℕ) (i j f s word : ℕ)
+    → in_pairs (bits_from os 0 (8 * i)) ≡ zip (bits_from first 0 (4 * i)) (bits_from second 0 (4 * i))
+    → j ≡ i + 8 → bits_of 64 word ≡ bits_from os (8 * i) 64 → in_pairs (bits_of 64 word) ≡ zip (bits_of 32 f) (bits_of 32 s)
+    → bits_from further 0 (4 * j) ≡ bits_from first 0 (4 * i) ++ bits_of 32 f
+    → bits_from others 0 (4 * j) ≡ bits_from second 0 (4 * i) ++ bits_of 32 s
+    → in_pairs (bits_from os 0 (8 * j)) ≡ zip (bits_from further 0 (4 * j)) (bits_from others 0 (4 * j))
+pairs-parted os first second further others i j f s word before e is parted one two =
+    let all : 8 * j ≡ 8 * i + 64 = omega (arith, e) in
+    let here : 0 + 8 * i ≡ 8 * i = omega arith in
+    let even : length (bits_from os 0 (8 * i)) % 2 ≡ 0 = omega (arith, length-from os 0 (8 * i)) in
+    let grown : in_pairs (bits_from os 0 (8 * j)) ≡ in_pairs (bits_from os 0 (8 * i)) ++ in_pairs (bits_from os (8 * i) 64) =
+    ap (λ (n : ℕ). in_pairs (bits_from os 0 n)) all
+    ∙ (ap in_pairs (bits-more os 0 (8 * i) 64 ∙ ap (λ (k : ℕ). bits_from os 0 (8 * i) ++ bits_from os k 64) here)
+    ∙ pairs-append (bits_from os 0 (8 * i)) (bits_from os (8 * i) 64) even) in
+    grown
+    ∙ (ap (λ ps. ps ++ in_pairs (bits_from os (8 * i) 64)) before
+    ∙ (ap (λ ps. zip (bits_from first 0 (4 * i)) (bits_from second 0 (4 * i)) ++ ps) (ap in_pairs (sym is) ∙ parted)
+    ∙ (sym (zip-append (bits_from first 0 (4 * i)) (bits_from second 0 (4 * i)) (bits_of 32 f) (bits_of 32 s) (length-from first 0 (4 * i) ∙ sym (length-from second 0 (4 * i))))
+    ∙ (ap (λ bits. zip bits (bits_from second 0 (4 * i) ++ bits_of 32 s)) (sym one) ∙ ap (zip (bits_from further 0 (4 * j))) (sym two)))))
+
+-- an octet that was written behind those before it
+pub octet-stored : (os : List ℕ) (i o : ℕ) → i < length os → bits_from (slice_set os i o) 0 (8 * (i + 1)) ≡ bits_from os 0 (8 * i) ++ bits_of 8 o
+octet-stored os i o l =
+    bits-front-octets (slice_set os i o) (i + 1) (omega (arith, length-set os i o, l))
+    ∙ (ap bits_of_octets (take_more_set os i o l)
+    ∙ (bits_of_octets-push (take i os) o
+    ∙ ap (λ bits. bits ++ bits_of 8 o) (sym (bits-front-octets os i (omega (arith, l))))))
+
+-- eight pairs more, an octet of either line
+pub pairs-stored : (first second : List ℕ) (i f s : ℕ) → i < length first → i < length second
+    → zip (bits_from (slice_set first i f) 0 (8 * (i + 1))) (bits_from (slice_set second i s) 0 (8 * (i + 1)))
+    ≡ zip (bits_from first 0 (8 * i)) (bits_from second 0 (8 * i)) ++ zip (bits_of 8 f) (bits_of 8 s)
+pairs-stored first second i f s l m =
+    ap (λ bits. zip bits (bits_from (slice_set second i s) 0 (8 * (i + 1)))) (octet-stored first i f l)
+    ∙ (ap (zip (bits_from first 0 (8 * i) ++ bits_of 8 f)) (octet-stored second i s m)
+    ∙ zip-append (bits_from first 0 (8 * i)) (bits_from second 0 (8 * i)) (bits_of 8 f) (bits_of 8 s) (length-from first 0 (8 * i) ∙ sym (length-from second 0 (8 * i))))

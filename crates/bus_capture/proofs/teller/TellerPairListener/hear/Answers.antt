@@ -1,0 +1,61 @@
+use Rattle.std.proofs.Common.{◌≡◌, ◌+◌, ◌++◌, ◌∷◌, [], ℕ, Some, None, length, refl, sym, ap, ◌∙◌, subst, arith, length-append}
+use Rattle.bus_text.proofs.PagesLemmas.{cut-short, cuts-more, pages-more}
+use Rattle.bus_text.specs.Internal.Pages.{Pages}
+use Rattle.bus_text.specs.Listing.{listing}
+use Rattle.bus_watch.specs.Shown.{found_on}
+use Rattle.bus_capture.specs.Internal.Telling.{IsOut}
+use Rattle.bus_capture.specs.Internal.Watching.{printed}
+use Rattle.bus_capture.proofs.TellingLemmas.{not-cut}
+use Rattle.bus_capture.proofs.TwoLinesLemmas.{counted-on}
+use Rattle.bus_capture.proofs.teller.TellerPairListener.hear.Goals as goal
+
+pub returns-in_default-clause-left : goal.returns-in_default-clause-left
+returns-in_default-clause-left g c = λ more room.
+    ((room.0.0 + 1, c.count.ensures.few room.0.0 room.0.1, omega (arith, room.0.2)), omega (arith, room.1))
+
+pub returns-in-Err-clause-left : goal.returns-in-Err-clause-left
+returns-in-Err-clause-left g c = λ more room.
+    let same = c.in-Err.ensures.kept in
+    ((room.0.0 + 1, c.count.ensures.few room.0.0 room.0.1, omega (arith, room.0.2)), omega (arith, room.1, ap (λ page. page.written + length page.text) same))
+
+pub returns-clause-left : goal.returns-clause-left
+returns-clause-left g c = λ more room. (
+  (room.0.0 + 1, c.count.ensures.few room.0.0 room.0.1, omega (arith, room.0.2)),
+  omega (arith, room.1, c.put.ensures.len, c.put.ensures.written, c.in_default-make_room.ensures.sum),
+)
+
+pub returns-in-Err-clause-heard : goal.returns-in-Err-clause-heard
+returns-in-Err-clause-heard g c =
+    let none : c.args.self.now.cut ≡ None = not-cut c.args.self.now.cut (c.if-is_some.ensures) in
+    let same = c.in-Err.ensures.kept in
+    record {
+      printer = refl;
+      out = λ start text h.
+          let before = subst (λ cut. IsOut start (g.W.Write.contents c.args.w.now) c.args.self.now.page cut text) none h in
+          let more = printed c.args.self.now.printer c.args.dictionary.now (found_on (Some c.args.line) c.args.octets.now c.args.finding.now ∷ []) in
+          let short = cut-short start (g.W.Write.contents c.args.w.now) c.args.self.now.page.text c.args.self.now.page.written text c.in-Err.cut.sent before c.in-Err.ensures.short in
+          (cuts-more start _ text more c.in-Err.cut.sent (c.in-Err.ensures.turned start text before), omega (arith, short, length-append text more));
+      stays = λ sent cut. absurd (cc);
+      counted = λ all is whole. absurd (cc);
+      few = λ most few. c.count.ensures.few most few;
+      octets = omega (arith, ap (λ page. page.written + length page.text) same);
+    }
+
+pub returns-clause-heard : goal.returns-clause-heard
+returns-clause-heard g c =
+    let none : c.args.self.now.cut ≡ None = not-cut c.args.self.now.cut (c.if-is_some.ensures) in
+    let seen = found_on (Some c.args.line) c.args.octets.now c.args.finding.now in
+    record {
+      printer = refl;
+      out = λ start text h.
+          let before = subst (λ cut. IsOut start (g.W.Write.contents c.args.w.now) c.args.self.now.page cut text) none h in
+          let turned = c.in_default-make_room.ensures.turned start text before in
+          let lines = listing c.in-Some.printer c.args.dictionary.now (seen ∷ []) in
+          let put = pages-more start (g.W.Write.contents c.make_room.new.w) c.make_room.new.self.text c.put.new.page.text c.make_room.new.self.written text lines c.put.ensures.bytes turned in
+          subst (λ cut. IsOut start (g.W.Write.contents c.make_room.new.w) c.put.new.page cut (text ++ printed c.args.self.now.printer c.args.dictionary.now (seen ∷ []))) (sym none)
+          (rw (c.in-Some.is) (subst (λ (n : ℕ). Pages start (g.W.Write.contents c.make_room.new.w) c.put.new.page.text n (text ++ lines)) (sym c.put.ensures.written) put));
+      stays = λ sent cut. cut;
+      counted = λ all is whole. c.count.ensures.counted all c.args.octets.now is ∙ counted-on all c.args.line c.args.octets.now c.args.finding.now;
+      few = λ most few. c.count.ensures.few most few;
+      octets = omega (arith, c.put.ensures.len, c.put.ensures.written, c.in_default-make_room.ensures.sum);
+    }

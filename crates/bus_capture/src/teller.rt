@@ -1,0 +1,77 @@
+//! Tells what is seen: counts it, and writes its lines.
+
+ghost use Rattle.std.specs.Prelude.{◌≡◌, ℕ, Option, List, [], length};
+ghost use Rattle.bus_text.specs.Counting.{IsFew};
+ghost use Rattle.bus_text.specs.Internal.Pages.{Pages};
+ghost use Rattle.bus_text.specs.Summary.{summary_of};
+ghost use Rattle.bus_capture.specs.Internal.Telling.{HasRoom, Tells};
+ghost use Rattle.bus_capture.specs.Internal.TellingLaws.{has-less, tells-more, tells-none};
+
+use bus_dictionary::Dictionary;
+use bus_text::{Page, Printer, ShortWrite, Summary};
+use bus_watch::{Finding, Line, PairListener};
+use std::io::Write;
+
+/// Counts what is seen, and writes its lines.
+#[derive(Drop)]
+pub struct Teller {
+    pub summary: Summary,
+    /// Puts the lines on the page; without it there are none.
+    pub printer: Option<Printer>,
+    pub page: Page,
+    /// Where the writer was cut off while a listener heard of two lines, which then hears no more.
+    pub cut: Option<ShortWrite>,
+}
+
+impl Teller {
+    /// No report yet.
+    pub fn new(printer: Option<Printer>) -> Self
+        ensures printer { result.printer ≡ printer }
+        ensures none { result.summary ≡ summary_of [] }
+        ensures few { IsFew 0 result.summary }
+        ensures blank { (start : Option (List ℕ)) → Pages start start result.page.text result.page.written [] }
+        ensures empty { (result.page.written ≡ 0) × (length result.page.text ≡ 0) }
+    {
+        Teller {
+            summary: Summary::none(),
+            printer,
+            page: Page::new(),
+            cut: None,
+        }
+    }
+}
+
+impl<W: Write> PairListener<W> for Teller {
+    ghost hears = { λ d l w seen m v. Tells d l (W.contents w) seen m (W.contents v) };
+
+    ghost has_room = { HasRoom };
+
+    fn hear(
+        &mut self,
+        line: Line,
+        finding: &Finding,
+        octets: &[u8],
+        dictionary: &Dictionary,
+        w: &mut W,
+    ) {
+        if self.cut.is_some() {
+            return;
+        }
+        self.summary.count(finding);
+        let Some(printer) = &self.printer else {
+            return;
+        };
+        if let Err(cut) = self.page.make_room(w) {
+            self.cut = Some(cut);
+            return;
+        }
+        printer.put(Some(line), finding, octets, dictionary, &mut self.page);
+    }
+
+    ghost hears_none = { λ d l w. tells-none d l (W.contents w) };
+
+    ghost hears_more = { λ d k l m u v w seen more told further.
+        tells-more d k l m (W.contents u) (W.contents v) (W.contents w) seen more told further };
+
+    ghost has_less = { has-less };
+}
