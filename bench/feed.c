@@ -32,6 +32,16 @@ static void feed_port1(const uint8_t *octets, size_t count) {
         frames += report.kind == PORT1_FRAME;
 }
 
+/* Octets whose first bit is the highest. */
+static void feed_port1_high_first(const uint8_t *octets, size_t count) {
+    struct port1_report report = {0};
+    for (size_t i = 0; i < count; i++) {
+        uint64_t at = 0;
+        while (at < 8 && port1_line_feed_high_first(&line, octets[i], &at, &report) == PORT1_OK)
+            frames += report.kind == PORT1_FRAME;
+    }
+}
+
 static void push_port1(const uint8_t *octets, size_t count) {
     struct port1_report report = {0};
     for (size_t i = 0; i < 8 * count && port1_line_push(&line, octets[i / 8] >> i % 8 & 1, &report) == PORT1_OK; i++)
@@ -110,6 +120,7 @@ static const struct peer {
     int is_reversed;
 } peers[] = {
     {"port1_line_feed", begin_port1, feed_port1, 0},
+    {"port1_line_feed_high_first", begin_port1, feed_port1_high_first, 1},
     {"port1_line_push", begin_port1, push_port1, 0},
     {"hdlc_rx_put", begin_spandsp, feed_spandsp, 1},
     {"hdlc_rx_put_bit", begin_spandsp, feed_spandsp_bits, 0},
@@ -162,16 +173,16 @@ int main(int argc, char **argv) {
         drive(peer, peer->is_reversed ? back : octets, count, (size_t)atoi(argv[4]));
         return 0;
     }
-    printf("%-22s", "ns an octet, chunks of");
+    printf("%-26s", "ns an octet, chunks of");
     for (size_t c = 0; c < sizeof chunks / sizeof *chunks; c++)
         printf(" %7zu", chunks[c]);
     printf("   frames\n");
     for (size_t p = 0; p < sizeof peers / sizeof *peers; p++) {
         if (!peers[p].begin()) {
-            printf("%-22s is not there\n", peers[p].name);
+            printf("%-26s is not there\n", peers[p].name);
             continue;
         }
-        printf("%-22s", peers[p].name);
+        printf("%-26s", peers[p].name);
         for (size_t c = 0; c < sizeof chunks / sizeof *chunks; c++) {
             double least = 1e18;
             for (int r = 0; r < runs; r++) {

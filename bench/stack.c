@@ -27,6 +27,17 @@ static void feed(void) {
     while (at < 8 * count)
         port1_line_feed(&line, capture, count, &at, 8 * count, &report);
 }
+static uint8_t reversed(uint8_t octet) {
+    uint8_t back = 0;
+    for (int k = 0; k < 8; k++)
+        back |= (uint8_t)((octet >> k & 1) << (7 - k));
+    return back;
+}
+static void feed_high_first(void) {
+    for (size_t i = 0; i < count; i++)
+        for (at = 0; at < 8;)
+            port1_line_feed_high_first(&line, reversed(capture[i]), &at, &report);
+}
 static void push(void) {
     for (size_t i = 0; i < 8 * count; i++)
         port1_line_push(&line, capture[i / 8] >> i % 8 & 1, &report);
@@ -59,8 +70,13 @@ int main(int argc, char **argv) {
     static const struct {
         const char *name;
         void (*call)(void);
-    } calls[] = {{"port1_line_init", init},   {"port1_line_feed", feed},   {"port1_line_push", push},
-                 {"port1_line_open", open_at}, {"port1_send_flag", flag}, {"port1_send_idle", idle},
+    } calls[] = {{"port1_line_init", init},
+                 {"port1_line_feed", feed},
+                 {"port1_line_feed_high_first", feed_high_first},
+                 {"port1_line_push", push},
+                 {"port1_line_open", open_at},
+                 {"port1_send_flag", flag},
+                 {"port1_send_idle", idle},
                  {"port1_send_frame", frame_of_256}};
     FILE *file = argc > 1 ? fopen(argv[1], "rb") : NULL;
     if (file == NULL || fseek(file, 16, SEEK_SET) != 0)
@@ -69,8 +85,8 @@ int main(int argc, char **argv) {
     memset(frame, 0xff, sizeof frame);
     for (size_t k = 0; k < sizeof calls / sizeof *calls; k++) {
         depth(calls[k].call);
-        printf("%-18s %5zu octets of stack\n", calls[k].name, depth(calls[k].call) - depth(nothing));
+        printf("%-26s %5zu octets of stack\n", calls[k].name, depth(calls[k].call) - depth(nothing));
     }
-    printf("%-18s %5zu octets\n", "struct port1_line", sizeof line);
+    printf("%-26s %5zu octets\n", "struct port1_line", sizeof line);
     return 0;
 }

@@ -122,6 +122,13 @@ uint32_t port1_line_init(struct port1_line *line, uint64_t longest, uint64_t ori
 uint32_t port1_line_feed(struct port1_line *line, const uint8_t *octets, uint64_t count, uint64_t *at, uint64_t end,
                          struct port1_report *report);
 
+/* Takes bits `*at` to 7 of one octet, bit 0 being the highest, up to the first that decides a report: for controllers
+ * that have the first bit of the line highest. `*at` is then the next bit to take, 8 where there is none, and `*report`
+ * what the last bit decided.
+ *
+ * It returns what port1_line_feed returns, PORT1_BAD_ARGUMENT just where `*at` > 8. */
+uint32_t port1_line_feed_high_first(struct port1_line *line, uint8_t octet, uint64_t *at, struct port1_report *report);
+
 /* Takes one bit: 0, or any other number for a 1. `*report` is what it decided.
  * PORT1_PLACE_LIMIT: its place would be 2^60. PORT1_BAD_STATE: the memory holds no decoder.
  * Where it does not return PORT1_OK, nothing has changed. */

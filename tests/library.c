@@ -65,6 +65,7 @@ static void no_decoder(void) {
     line = zeros;
     report = before;
     WANT(port1_line_feed(&line, octets, 4, &at, 32, &report) == PORT1_BAD_STATE);
+    WANT(port1_line_feed_high_first(&line, 0xff, &at, &report) == PORT1_BAD_STATE);
     WANT(port1_line_push(&line, 1, &report) == PORT1_BAD_STATE);
     WANT(port1_line_open(&line, &has_begun, &first) == PORT1_BAD_STATE);
     WANT(memcmp(&line, &zeros, sizeof line) == 0 && memcmp(&report, &before, sizeof report) == 0);
@@ -137,6 +138,28 @@ static void push_and_open(void) {
     }
     WANT(report.first == 1008 && report.past == 1049 && report.cause == 0);
     WANT(line.count == 5 && memcmp(line.octets, "\x10\x83\x00\xfd\xe5", 5) == 0);
+}
+
+/* The same frame by octets whose first bit is the highest, and seven bits behind it. */
+static void high_first(void) {
+    static const uint8_t sent[] = {0x7e, 0x08, 0xc1, 0x00, 0xbe, 0xd3, 0xbf, 0x55};
+    uint64_t at = 0;
+    WANT(port1_line_init(&line, 256, 1000) == PORT1_OK);
+    for (size_t k = 0; k < sizeof sent; k++) {
+        at = 0;
+        WANT(port1_line_feed_high_first(&line, sent[k], &at, &report) == PORT1_OK);
+        WANT(at == (k + 1 < sizeof sent ? 8u : 1u) && line.place == 1000 + 8 * k + at);
+        WANT((report.kind == PORT1_FRAME) == (k + 1 == sizeof sent));
+    }
+    WANT(report.first == 1008 && report.past == 1049 && line.count == 5);
+    WANT(memcmp(line.octets, "\x10\x83\x00\xfd\xe5", 5) == 0);
+    WANT(port1_line_feed_high_first(&line, 0x55, &at, &report) == PORT1_OK && at == 8 && report.kind == PORT1_NONE);
+    WANT(port1_line_feed_high_first(&line, 0xff, &at, &report) == PORT1_OK && at == 8 && line.place == 1064);
+    at = 9;
+    WANT(port1_line_feed_high_first(&line, 0xff, &at, &report) == PORT1_BAD_ARGUMENT && at == 9 && line.place == 1064);
+    at = 3;
+    WANT(port1_line_init(&line, 256, LIMIT - 2) == PORT1_OK);
+    WANT(port1_line_feed_high_first(&line, 0xff, &at, &report) == PORT1_PLACE_LIMIT && at == 5 && line.place == LIMIT);
 }
 
 /* What a sender refuses, and that `bits` is told where room lacks. */
@@ -292,8 +315,8 @@ static void pair_refusals(void) {
 
 int main(void) {
     static void (*const tests[])(void) = {version,       line_init,     no_decoder,   null_octets, feed_arguments,
-                                          place_limit,   push_and_open, send_refusals, send_lengths, fresh_lines,
-                                          send_align,    verdicts,      two_lines,    pair_refusals};
+                                          place_limit,   push_and_open, high_first,   send_refusals, send_lengths,
+                                          fresh_lines,   send_align,    verdicts,     two_lines,   pair_refusals};
     for (size_t k = 0; k < sizeof tests / sizeof *tests; k++)
         tests[k]();
     return wrong;

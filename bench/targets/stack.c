@@ -1,6 +1,7 @@
 /* How many octets of stack each call of the C library takes, with what it calls: runs it on a stack of known content,
  * and counts the octets from the deepest that was changed. A call of the library has a row in the table below. What
- * is fed is `capture` of capture.h, bit by bit where push takes it. */
+ * is fed is `capture` of capture.h, bit by bit where push takes it, and its octets reversed where the highest bit is to
+ * be the first. */
 #include "capture.h"
 #include "port1.h"
 #include <inttypes.h>
@@ -51,6 +52,17 @@ static void feed(void) {
     for (at = 0; at < 8 * sizeof capture;)
         port1_line_feed(&line, capture, sizeof capture, &at, 8 * sizeof capture, &report);
 }
+static uint8_t reversed(uint8_t octet) {
+    uint8_t back = 0;
+    for (int k = 0; k < 8; k++)
+        back |= (uint8_t)((octet >> k & 1) << (7 - k));
+    return back;
+}
+static void feed_high_first(void) {
+    for (uint32_t i = 0; i < sizeof capture; i++)
+        for (at = 0; at < 8;)
+            port1_line_feed_high_first(&line, reversed(capture[i]), &at, &report);
+}
 static void push(void) {
     for (uint32_t i = 0; i < 8 * sizeof capture; i++)
         port1_line_push(&line, capture[i / 8] >> i % 8 & 1, &report);
@@ -75,10 +87,18 @@ static const struct {
     const char *name;
     void (*call)(void);
 } calls[] = {
-    {"port1_line_init", init},      {"port1_line_feed", feed},          {"port1_line_push", push},
-    {"port1_line_open", open_piece}, {"port1_sender_init", make_sender}, {"port1_send_flag", send_flag},
-    {"port1_send_idle", send_idle}, {"port1_send_frame", send_frame},   {"port1_send_align", send_align},
-    {"port1_pair_init", pair_init}, {"port1_pair_take", pair_take},
+    {"port1_line_init", init},
+    {"port1_line_feed", feed},
+    {"port1_line_feed_high_first", feed_high_first},
+    {"port1_line_push", push},
+    {"port1_line_open", open_piece},
+    {"port1_sender_init", make_sender},
+    {"port1_send_flag", send_flag},
+    {"port1_send_idle", send_idle},
+    {"port1_send_frame", send_frame},
+    {"port1_send_align", send_align},
+    {"port1_pair_init", pair_init},
+    {"port1_pair_take", pair_take},
 };
 
 static uint32_t depth(void (*call)(void)) {

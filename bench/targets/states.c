@@ -188,6 +188,30 @@ static uint32_t feed(void) {
     return status;
 }
 
+static uint8_t reversed(uint8_t octet) {
+    uint8_t back = 0;
+    for (int k = 0; k < 8; k++)
+        back |= (uint8_t)((octet >> k & 1) << (7 - k));
+    return back;
+}
+
+/* Four octets, one after the other, each mostly from its first bit on. */
+static uint32_t feed_high_first(void) {
+    uint32_t status = PORT1_OK;
+    fill_taken();
+    for (uint32_t k = 0; k < 4 && status == PORT1_OK; k++) {
+        uint8_t octet = reversed(taken[k]);
+        received.at = below(8) == 0 ? below(12) : 0;
+        do {
+            status = note_received(
+                port1_line_feed_high_first(&received.line, octet, &received.at, &received.report));
+            if (status == PORT1_OK)
+                reports[received.report.kind]++;
+        } while (status == PORT1_OK && received.report.kind != PORT1_NONE);
+    }
+    return status;
+}
+
 static uint32_t push(void) {
     uint8_t bit = (uint8_t)(below(4) == 0 ? draw() : below(2));
     return note_received(port1_line_push(&received.line, bit, &received.report));
@@ -267,10 +291,18 @@ static const struct {
     const char *name;
     uint32_t (*call)(void);
 } calls[] = {
-    {"port1_line_feed", feed},       {"port1_line_push", push},        {"port1_line_open", open_piece},
-    {"port1_line_init", init},       {"port1_send_frame", send_frame}, {"port1_send_flag", send_flag},
-    {"port1_send_idle", send_idle},  {"port1_sender_init", make_sender}, {"port1_send_align", send_align},
-    {"port1_pair_init", make_pair},  {"port1_pair_take", pair_take},
+    {"port1_line_feed", feed},
+    {"port1_line_feed_high_first", feed_high_first},
+    {"port1_line_push", push},
+    {"port1_line_open", open_piece},
+    {"port1_line_init", init},
+    {"port1_send_frame", send_frame},
+    {"port1_send_flag", send_flag},
+    {"port1_send_idle", send_idle},
+    {"port1_sender_init", make_sender},
+    {"port1_send_align", send_align},
+    {"port1_pair_init", make_pair},
+    {"port1_pair_take", pair_take},
 };
 
 int main(void) {

@@ -10,10 +10,10 @@
     encoder = LineEncoder()
     sent = encoder.flag() + encoder.frame(b"\\x10\\x83\\x00") + encoder.flag() + encoder.end()
 
-Octets are taken and given with the first bit lowest. A place is a number of bits: that of the decoder's first bit is
-`origin`. A report says which bits it is of, from `first` to just before `past`, and `str(report)` is the line that
-`port1 list` writes without a dictionary. Nothing is shared between two decoders or encoders, so each thread may have
-its own; a call holds Python's global lock.
+Octets are taken and given with the first bit lowest; `feed_high_first` takes them with the first bit highest. A place
+is a number of bits: that of the decoder's first bit is `origin`. A report says which bits it is of, from `first` to
+just before `past`, and `str(report)` is the line that `port1 list` writes without a dictionary. Nothing is shared
+between two decoders or encoders, so each thread may have its own; a call holds Python's global lock.
 
 The library is libport1.so.2: that of the environment variable PORT1_LIBRARY, else one beside this module, one in `lib`
 of a folder above it, where `make install-library` puts it, one that was built in the repository, or what the system's
@@ -39,6 +39,9 @@ __all__ = [
     "PlaceLimit",
     "Report",
 ]
+
+# The version of the library that this came with.
+__version__ = "1.0.0"
 
 NAME = "libport1.so.2"
 
@@ -218,6 +221,7 @@ class LineDecoder:
         self._report = ctypes.byref(self._told)
         self._push = library.port1_line_push
         self._feed = library.port1_line_feed
+        self._feed_high_first = library.port1_line_feed_high_first
         self._open = library.port1_line_open
         status = library.port1_line_init(self._line, ctypes.c_uint64(longest), ctypes.c_uint64(origin))
         if status != OK:
@@ -239,6 +243,23 @@ class LineDecoder:
             status = self._feed(self._line, held, count, place, last, self._report)
             if status == OK and self._told.kind:
                 reports.append(self._reported())
+        if status not in (OK, PLACE_LIMIT):
+            raise refusal(status)
+        return told(reports, status)
+
+    def feed_high_first(self, octets: Octets) -> Iterator[Report]:
+        """Takes the bits of these octets, the highest of each first, and gives the reports that they decide.
+
+        All bits are taken when this returns, and PlaceLimit comes as it does of `feed`.
+        """
+        at, reports, status = ctypes.c_uint64(0), [], OK
+        place = ctypes.byref(at)
+        for octet in held_octets(octets):
+            at.value = 0
+            while at.value < 8 and status == OK:
+                status = self._feed_high_first(self._line, octet, place, self._report)
+                if status == OK and self._told.kind:
+                    reports.append(self._reported())
         if status not in (OK, PLACE_LIMIT):
             raise refusal(status)
         return told(reports, status)

@@ -1,6 +1,5 @@
 -- What a C caller's memory says of a decoder and of a report.
-use Rattle.std.specs.Option.{option_to_list}
-use Rattle.std.specs.Prelude.{◌≡◌, ◌≢◌, ◌≤◌, ◌++◌, ◌==◌, not, ℕ, ◌+◌, Bool, List, length, take, Option, Some, None, if◌then◌else◌}
+use Rattle.std.specs.Prelude.{◌≡◌, ◌≢◌, ◌≤◌, ◌==◌, not, ℕ, ◌+◌, Bool, List, take, Option, Some, None, if◌then◌else◌}
 use Rattle.bus_fcs.specs.declared.octet_check.OctetCheck.{OctetCheck}
 use Rattle.bus_fcs.specs.Folded.{HasFolded}
 use Rattle.bus_line.specs.After as line
@@ -78,16 +77,9 @@ pub record Goes (old : Port1Line) (count : ℕ) (new : Port1Line) : Type 0 where
   pub place : new.words.place ≡ old.words.place + count
 
 -- these bits lead from old to new, and decide just this report, if it is one
-pub record Tells (old : LineState OctetCheck) (bits : List Bool) (r : Port1Report)
-    (new : LineState OctetCheck) : Type 0 where
-  pub after : (b : List Bool) → After old b → After new (b ++ bits)
-  pub says : (b : List Bool) → After old b
-      → placed old.origin old.longest (b ++ bits) ≡ placed old.origin old.longest b
-      ++ option_to_list (told r new.octets)
-  pub longest : new.longest ≡ old.longest
-  pub origin : new.origin ≡ old.origin
-  pub place : new.place ≡ old.place + length bits
+abbrev pub Tells : LineState OctetCheck → List Bool → Port1Report → LineState OctetCheck → Type 0
+Tells old bits r new = line.Tells HasFolded 1 old bits (told r new.octets) new
 
 -- these bits decide no report
 abbrev pub DecideNothing : LineState OctetCheck → List Bool → Type 0
-DecideNothing d bits = (b : List Bool) → After d b → placed d.origin d.longest (b ++ bits) ≡ placed d.origin d.longest b
+DecideNothing d bits = line.DecideNothing HasFolded 1 d bits

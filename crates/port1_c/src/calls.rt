@@ -4,6 +4,7 @@ ghost use Rattle.std.specs.Prelude.{◌≡◌, ◌≢◌, ◌+◌, ◌-◌, ◌*
 ghost use Rattle.std.specs.Option.{option_map, option_to_list};
 ghost use Rattle.bus_line.specs.Due.{begun};
 ghost use Rattle.bus_bits.specs.Bits.{bits_from};
+ghost use Rattle.port1_c.specs.Bits.{high_first};
 ghost use Rattle.port1_c.specs.Line.{Sound, Stands, bit_of, first_in, frame, Goes, IsCoded, reports_of, told};
 
 use crate::bits;
@@ -70,7 +71,10 @@ pub extern "C" fn port1_line_push(line: &mut Port1Line, bit: u8, report: &mut Po
 fn are_within(octets: &[u8], at: usize, end: usize) -> bool
     ensures { IsTrue result ↔ (end ≤ 8 * length octets.now) × (at ≤ end) }
 {
-    end.div_ceil(8) <= octets.len() && at <= end
+    if at < end {
+        return (end - 1) / 8 < octets.len();
+    }
+    at == end && end.div_ceil(8) <= octets.len()
 }
 
 /// Takes bits of octets, the lowest of each first, from bit `at` on, up to the first that decides a
@@ -96,6 +100,7 @@ pub extern "C" fn port1_line_feed(
     ensures coded { result < 3 → IsCoded report.new }
     ensures goes { result < 3 → Goes line.old (at.new - at.old) line.new }
     ensures bound { result < 3 → (at.old ≤ at.new) × (at.new ≤ end) }
+    ensures some { result < 3 → report.new.kind ≢ 0 → at.old < at.new }
     ensures all { result ≡ 0 → report.new.kind ≡ 0 → at.new ≡ end }
     ensures limit { result ≡ 2 → (report.new.kind ≡ 0) × (at.new < end) × (line.new.words.place ≡ 2 ^ 60) }
     ensures stands { result < 3 → (b : List Bool) → Stands line.old b →
@@ -106,17 +111,53 @@ pub extern "C" fn port1_line_feed(
     ensures last { result < 3 → report.new.kind ≢ 0 → (b : List Bool) → Stands line.old b →
         reports_of line.old (b ++ bits_from octets.now at.old (at.new - at.old - 1)) ≡ reports_of line.old b }
 {
-    let is_octet = bits::are_octet(octets, *at, end);
-    if !is_octet && !are_within(octets, *at, end) {
+    if bits::are_octet(octets, *at, end) {
+        return bits::feed_octet(line, octets[0], at, report);
+    }
+    if !are_within(octets, *at, end) {
         return BAD_ARGUMENT;
     }
-    if !line.words.are_sound() {
-        return BAD_STATE;
-    }
-    if is_octet {
-        return bits::feed_octet(line, octets, at, report);
-    }
     bits::feed(line, octets, at, end, report)
+}
+
+/// Takes bits of one octet, the highest first, from bit `at` on, bit 0 being the highest, up to the first that decides
+/// a report. `at` is then the next bit to take, and the report what the last bit decided.
+///
+/// Returns what [`port1_line_feed`] returns; BAD_ARGUMENT where `at` is past 8.
+#[unsafe(no_mangle)]
+pub extern "C" fn port1_line_feed_high_first(
+    line: &mut Port1Line,
+    octet: u8,
+    at: &mut usize,
+    report: &mut Port1Report,
+) -> u32
+    ensures argument { (result ≡ 4) ↔ (8 < at.old) }
+    ensures status { (result ≡ 0) ⊎ (result ≡ 2) ⊎ (result ≡ 3) ⊎ (result ≡ 4) }
+    ensures state { Sound line.old → result ≢ 3 }
+    ensures refused { result < 3 → Sound line.old }
+    ensures kept { 3 ≤ result → (line.new ≡ line.old) × (at.new ≡ at.old) × (report.new ≡ report.old) }
+    ensures sound { result < 3 → Sound line.new }
+    ensures coded { result < 3 → IsCoded report.new }
+    ensures goes { result < 3 → Goes line.old (at.new - at.old) line.new }
+    ensures bound { result < 3 → (at.old ≤ at.new) × (at.new ≤ 8) }
+    ensures some { result < 3 → report.new.kind ≢ 0 → at.old < at.new }
+    ensures all { result ≡ 0 → report.new.kind ≡ 0 → at.new ≡ 8 }
+    ensures limit { result ≡ 2 → (report.new.kind ≡ 0) × (at.new < 8) × (line.new.words.place ≡ 2 ^ 60) }
+    ensures stands { result < 3 → (b : List Bool) → Stands line.old b →
+        Stands line.new (b ++ high_first octet at.old (at.new - at.old)) }
+    ensures told { result < 3 → (b : List Bool) → Stands line.old b →
+        reports_of line.new (b ++ high_first octet at.old (at.new - at.old)) ≡ reports_of line.old b
+        ++ option_to_list (told report.new (frame line.new)) }
+    ensures last { result < 3 → report.new.kind ≢ 0 → (b : List Bool) → Stands line.old b →
+        reports_of line.old (b ++ high_first octet at.old (at.new - at.old - 1)) ≡ reports_of line.old b }
+{
+    if *at == 0 {
+        return bits::feed_octet(line, octet.reverse_bits(), at, report);
+    }
+    if *at > 8 {
+        return BAD_ARGUMENT;
+    }
+    bits::feed(line, &[octet.reverse_bits()], at, 8, report)
 }
 
 /// Says whether a piece has begun that no flag and no abort has ended yet, and where: `has_begun` is then 1,

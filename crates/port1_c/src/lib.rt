@@ -16,7 +16,9 @@ mod send;
 mod sender;
 mod status;
 
-pub use calls::{port1_line_feed, port1_line_init, port1_line_open, port1_line_push};
+pub use calls::{
+    port1_line_feed, port1_line_feed_high_first, port1_line_init, port1_line_open, port1_line_push,
+};
 pub use entry::Port1Entry;
 pub use line::Port1Line;
 pub use pair::Port1Pair;

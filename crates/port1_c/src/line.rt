@@ -1,6 +1,7 @@
 //! A decoder in a caller's memory.
 
-ghost use Rattle.std.specs.Prelude.{◌≡◌, ◌+◌, ◌-◌, ◌≤◌, ◌<◌, ◌^◌, ◌↔◌, IsErr, IfOk, OnErr, ◌∷◌, []};
+ghost use Rattle.std.specs.Prelude.{◌≡◌, ◌+◌, ◌-◌, ◌*◌, ◌≤◌, ◌<◌, ◌^◌, ◌↔◌, IsErr, IfOk, OnErr, ◌∷◌, [], length};
+ghost use Rattle.bus_bits.specs.Bits.{bits_from};
 ghost use Rattle.bus_bits.specs.Octet.{bits_of};
 ghost use Rattle.port1_c.specs.Line.{DecideNothing, IsCoded, Sound, Tells, held};
 
@@ -20,35 +21,39 @@ pub struct Port1Line {
 }
 
 impl Port1Line {
-    /// Takes up to `count` bits, the first lowest: all of them, or those up to one that decides a report.
+    /// Takes bits of these octets, the lowest of each first, from bit `at` on and before bit `end`: up to the first
+    /// that decides a report, or all, but none whose place would be 2^60.
     #[inline(always)]
-    pub(crate) fn take(&mut self, bits: u64, count: u32) -> Result<Told, PlaceLimit>
+    pub(crate) fn scan(&mut self, octets: &[u8], at: usize, end: usize) -> Result<Told, PlaceLimit>
         requires sound { Sound self.old }
-        requires some { 1 ≤ count }
-        requires few { count ≤ 48 }
-        requires small { bits < 2 ^ count }
-        ensures limit { IsErr result ↔ (2 ^ 60 < self.old.words.place + count) }
+        requires some { at < end }
+        requires within { end ≤ 8 * length octets.now }
+        ensures limit { IsErr result ↔ (2 ^ 60 ≤ self.old.words.place) }
         ensures kept { OnErr result (self.new ≡ self.old) }
-        ensures count { IfOk result (λ t. (1 ≤ t.count) × (t.count ≤ count)) }
+        ensures count { IfOk result (λ t. (1 ≤ t.count) × (t.count ≤ end - at)) }
+        ensures all { IfOk result (λ t. t.report.kind ≡ 0 → t.count < end - at → self.new.words.place ≡ 2 ^ 60) }
         ensures coded { IfOk result (λ t. IsCoded t.report) }
-        ensures tells { IfOk result (λ t. Tells (held self.old) (bits_of t.count bits) t.report (held self.new)) }
-        ensures before { IfOk result (λ t. DecideNothing (held self.old) (bits_of (t.count - 1) bits)) }
+        ensures tells { IfOk result (λ t. Tells (held self.old) (bits_from octets.now at t.count) t.report (held self.new)) }
+        ensures before { IfOk result (λ t. DecideNothing (held self.old) (bits_from octets.now at (t.count - 1))) }
         ensures sound { Sound self.new }
     {
         let mut check = OctetCheck::with_register(self.words.register);
-        match self.words.take(&mut check, &mut self.octets, bits, count) {
-            Ok(taken) => {
+        match self
+            .words
+            .scan(&mut check, &mut self.octets, octets, at, end)
+        {
+            Ok(scanned) => {
                 self.words.register = check.register();
                 Ok(Told {
-                    count: taken.count as usize,
-                    report: Port1Report::of(taken.event),
+                    count: scanned.count,
+                    report: Port1Report::of(scanned.event),
                 })
             }
             Err(PlaceLimit) => Err(PlaceLimit),
         }
     }
 
-    /// Takes up to eight bits as `take` does, and quicker.
+    /// Takes up to eight bits, the first lowest: all of them, or those up to one that may decide a report.
     #[inline(always)]
     pub(crate) fn take_short(&mut self, bits: u64, count: u32) -> Result<Told, PlaceLimit>
         requires sound { Sound self.old }

@@ -1,6 +1,6 @@
 //! A report in a caller's memory.
 
-ghost use Rattle.std.specs.Prelude.{◌≡◌, ◌≤◌, ◌↔◌, ℕ, List, Option, None, Some, IsSome, IfSome, length};
+ghost use Rattle.std.specs.Prelude.{◌≡◌, ◌≢◌, ◌≤◌, ◌↔◌, ℕ, List, Option, None, Some, IsSome, IfSome, length};
 ghost use Rattle.std.specs.Option.{option_map};
 ghost use Rattle.bus_line.specs.Shown.{reported};
 ghost use Rattle.port1_c.specs.Line.{IsCoded, cause_in, told};
@@ -61,6 +61,7 @@ impl Port1Report {
     /// The report of an event.
     pub(crate) fn of_event(event: Event) -> Self
         ensures tells { (octets : List ℕ) → told result octets ≡ Some (reported octets event) }
+        ensures some { result.kind ≢ 0 }
         ensures coded { IsCoded result }
     {
         let span = event.span;
@@ -79,6 +80,7 @@ impl Port1Report {
     /// The report of an event, if there is one.
     pub(crate) fn of(event: Option<Event>) -> Self
         ensures tells { (octets : List ℕ) → told result octets ≡ option_map (reported octets) event }
+        ensures none { result.kind ≡ 0 → event ≡ None }
         ensures coded { IsCoded result }
     {
         match event {
@@ -127,6 +129,7 @@ impl Port1Report {
     /// No report.
     pub(crate) fn none() -> Self
         ensures kind { result.kind ≡ 0 }
+        ensures tells { (octets : List ℕ) → told result octets ≡ None }
         ensures coded { IsCoded result }
     {
         Port1Report {

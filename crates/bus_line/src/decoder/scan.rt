@@ -143,8 +143,8 @@ impl LineWords {
         }
     }
 
-    /// Takes bits that decide nothing, 56 at a time: those of an open piece without six ones in a row, and time fill
-    /// (ISO/IEC 13239, interframe time fill). Returns where the next bit is.
+    /// Takes bits that decide nothing, 56 at a time where 64 are left: those of an open piece without six ones in a row,
+    /// and time fill (ISO/IEC 13239, interframe time fill). Returns where the next bit is.
     #[inline(always)]
     fn pass_quiet<C: Check>(
         &mut self,
@@ -164,6 +164,9 @@ impl LineWords {
         ensures sound { IsWithin self.new }
         ensures cells { length cells.new ≡ 272 }
     {
+        if end - from < 64 {
+            return from;
+        }
         if self.settles_at <= self.place {
             return self.pass_data(check, cells, octets, from, end);
         }

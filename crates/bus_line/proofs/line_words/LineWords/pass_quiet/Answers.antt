@@ -5,6 +5,10 @@ use Rattle.bus_line.proofs.QuietLemmas.{passed-flags, passed-ones}
 use Rattle.bus_line.proofs.TellLemmas.{tells-from}
 use Rattle.bus_line.proofs.line_words.LineWords.pass_quiet.Goals as goal
 
+pub returns-then-end-from-lt64-clause-tells : goal.returns-then-end-from-lt64-clause-tells
+returns-then-end-from-lt64-clause-tells g c =
+    tells-from g.C.Check.folded g.C.Check.COST c.args.octets.now c.args.from (c.args.from - c.args.from) (state c.args.self.now c.args.check.now c.args.cells.now) (omega arith)
+
 pub returns-then-self-eq-NEVER-clause-tells : goal.returns-then-self-eq-NEVER-clause-tells
 returns-then-self-eq-NEVER-clause-tells g c =
     let folded = g.C.Check.folded in
