@@ -11,6 +11,9 @@
 #                                       examples; with PYTHONDIR=FOLDER also the Python module that calls it
 #     make install-library TARGET=aarch64-unknown-linux-gnu    the same for another of contrib/mcu/build's targets
 #     make uninstall PREFIX=$HOME/.local
+#     make dist GATE=FILE TOOLCHAIN=FILE MAINTAINER='NAME <ADDRESS>'
+#                                       packs what was built last into dist: a tarball and Debian packages;
+#                                       `packages/dist --help` says what these variables are
 #
 # PREFIX is /usr/local unless given. DESTDIR stands before it, for packages. The installing targets build only what
 # was never built, so that they need no toolchain; else they install what was built last. `uninstall` takes away what
@@ -44,11 +47,11 @@ C_EXAMPLES = $(wildcard examples/c/*.c)
 VERSION = $(shell sed -n 's/.*\.version("\(.*\)").*/\1/p' crates/bus_tool/src/arguments.rt)
 
 # What finds the examples but for those in C, what stands in contrib but for its tests, the scripts there, and the
-# definitions, which one of the scripts runs.
+# definitions, which one of the scripts runs; what `rt` builds has copies of these.
 EXAMPLES = find examples -path examples/c -prune -o -name __pycache__ -prune -o -name .pytest_cache -prune -o -type f
 CONTRIB = find contrib -name tests -prune -o -name __pycache__ -prune -o ! -name self-test
 SCRIPTS = find contrib -maxdepth 1 -type f -perm -u+x ! -name self-test
-SPECS = find crates -path '*/specs/Internal' -prune -o -path '*/specs/*.antt' -type f
+SPECS = find crates -name out -prune -o -path '*/specs/Internal' -prune -o -path '*/specs/*.antt' -type f
 
 # The folders that may be empty in the end, each behind those in it. Those that a system has anyway stay there.
 FOLDERS = "$(MANDIR)" "$(BASHDIR)" "$(DATADIR)/bash-completion" "$(ZSHDIR)" "$(DATADIR)/zsh" "$(FISHDIR)" \
@@ -135,6 +138,10 @@ ifneq ($(PYTHONDIR),)
 	install -m 644 contrib/python/port1/__init__.py contrib/python/port1/py.typed "$(DESTDIR)$(PYTHONDIR)/port1"
 endif
 
+# make hands the variables of its command line on.
+dist:
+	VERSION=$(VERSION) packages/dist
+
 # Which links there are is told by the scripts that are installed, which need not be those of today.
 uninstall:
 	for script in "$(DESTDIR)$(OWNDIR)"/contrib/*; do link="$(DESTDIR)$(BINDIR)/$${script##*/}"; \
@@ -148,4 +155,4 @@ uninstall:
 	for folder in $(FOLDERS); do rmdir "$(DESTDIR)$$folder" 2> /dev/null || true; done
 	test -z "$(DESTDIR)" || { cd "$(DESTDIR)" 2> /dev/null && rmdir -p ".$(PREFIX)" 2> /dev/null; } || true
 
-.PHONY: all check page install install-program install-scripts install-library uninstall
+.PHONY: all check page install install-program install-scripts install-library dist uninstall

@@ -178,17 +178,22 @@ PRINTED = """import sys
 from port1 import *
 capture = sys.stdin.buffer.read()
 count, body = int.from_bytes(capture[8:16], "little"), capture[16:]
-size = int(sys.argv[1])
+size, pushed = int(sys.argv[1]), 0
 decoder = LineDecoder(longest=256, origin=0)
-if size:
+if size > 0:
+    pushed = count
     for at in range(0, len(body), size):
         for report in decoder.feed(body[at : at + size], min(8 * size, count - 8 * at)):
             print(report)
-else:
-    for place in range(count):
-        report = decoder.push(body[place // 8] >> place % 8 & 1)
-        if report is not None:
-            print(report)
+elif size < 0:
+    pushed = count - count % 8
+    reversed_octets = bytes(int(f"{octet:08b}"[::-1], 2) for octet in body[: pushed // 8])
+    for report in decoder.feed_high_first(reversed_octets):
+        print(report)
+for place in range(pushed, count):
+    report = decoder.push(body[place // 8] >> place % 8 & 1)
+    if report is not None:
+        print(report)
 if decoder.open is not None:
     print(decoder.open, decoder.place, "open")
 """
@@ -225,6 +230,10 @@ decoder = LineDecoder(3, 2**60 - 65)
 told = decoder.feed(bytes([0x7e]) + bytes([0xff] * 40))
 print(decoder.place == 2**60, next(told))
 print(raised(lambda: next(told)))
+decoder = LineDecoder(3, 2**60 - 65)
+told = decoder.feed_high_first(bytes([0x7e]) + bytes([0xff] * 40))
+print(decoder.place == 2**60, next(told))
+print(raised(lambda: next(told)))
 decoder = LineDecoder(3)
 print(decoder.longest, decoder.origin, decoder.place, decoder.open, list(decoder.feed(b"")))
 print([repr(report) for report in decoder.feed(bytearray([0x7e, 0x10, 0x83, 0x00, 0x7d, 0xcb, 0xfd, 0x00]), 57)])
@@ -243,6 +252,8 @@ REFUSED_PRINTS = """('OutOfRange', True, 'the longest frame is of 3 to 256 octet
 ('OutOfRange', True, 'a bit is 0 or 1, not 2')
 ('OutOfRange', True, 'a bit is 0 or 1, not 1')
 ('TypeError', False, "memoryview: a bytes-like object is required, not 'int'")
+True 1152921504606846919 1152921504606846934 idle
+('PlaceLimit', False, 'a bit would have the place 2^60')
 True 1152921504606846919 1152921504606846934 idle
 ('PlaceLimit', False, 'a bit would have the place 2^60')
 3 0 0 None []
@@ -295,12 +306,13 @@ def captures() -> Dict[str, str]:
 
 
 def decoder_in_python(folder: Path) -> List[str]:
-    """It reports what `port1 list` lists, fed bit by bit (0), by octets and by more, from the folder that was moved."""
+    """It reports what `port1 list` lists, from the folder that was moved: fed with the highest bit of each octet first
+    (-1), bit by bit (0), by octets and by more."""
     prefix = moved(folder)
     problems = []
     for name, bits in captures().items():
         wanted = listed(packed(bits), []).stdout
-        for size in ("0", "1", "7", "4096"):
+        for size in ("-1", "0", "1", "7", "4096"):
             got = python(PRINTED, [size], packed(bits), prefix / "lib" / "python")
             problems += [] if got == wanted else [f"{name}, {size}: wanted {wanted[-300:]!r}, got {got[-300:]!r}"]
     return problems
