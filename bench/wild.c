@@ -157,13 +157,19 @@ static uint64_t *at, *first;
 static uint8_t *octets, *has_begun;
 static unsigned long drawn[DRAWN], alive[DRAWN], feeds[5], sends[6];
 
-/* Takes bits. Returns 0 where it did what it must not. */
+/* Takes bits, in every fourth call those of one octet, the highest first. Returns 0 where it did what it must not. */
 static int feed_once(void) {
     struct port1_line before = *line;
     struct port1_report told = *report;
+    int is_high_first = draw() % 4 == 0;
     uint64_t end = draw() % 4 ? 8 * OCTETS : draw() % 340, begin = draw() % 330;
+    if (is_high_first) {
+        end = 8;
+        begin %= 10;
+    }
     *at = begin;
-    uint32_t status = port1_line_feed(line, octets, OCTETS, at, end, report);
+    uint32_t status = is_high_first ? port1_line_feed_high_first(line, octets[0], at, report)
+                                    : port1_line_feed(line, octets, OCTETS, at, end, report);
     if (status > PORT1_BAD_ARGUMENT || (status == PORT1_BAD_ARGUMENT) != (begin > end || end > 8 * OCTETS))
         return 0;
     feeds[status]++;
