@@ -11,6 +11,7 @@
  *     feed CAPTURE 1 RECEIVER OCTETS */
 #define _GNU_SOURCE
 #include "port1.h"
+#include "reversed.h"
 #include <dlfcn.h>
 #include <stdio.h>
 #include <stdlib.h>
@@ -148,13 +149,6 @@ static double run(const struct peer *peer, const uint8_t *octets, size_t count, 
     double begun = now();
     drive(peer, octets, count, chunk);
     return (now() - begun) / (double)count;
-}
-
-static uint8_t reversed(uint8_t octet) {
-    uint8_t back = 0;
-    for (int k = 0; k < 8; k++)
-        back |= (uint8_t)((octet >> k & 1) << (7 - k));
-    return back;
 }
 
 int main(int argc, char **argv) {

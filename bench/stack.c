@@ -4,6 +4,7 @@
  *     stack CAPTURE */
 #define _GNU_SOURCE
 #include "port1.h"
+#include "reversed.h"
 #include <stdio.h>
 #include <string.h>
 #include <ucontext.h>
@@ -26,12 +27,6 @@ static void feed(void) {
     at = 0;
     while (at < 8 * count)
         port1_line_feed(&line, capture, count, &at, 8 * count, &report);
-}
-static uint8_t reversed(uint8_t octet) {
-    uint8_t back = 0;
-    for (int k = 0; k < 8; k++)
-        back |= (uint8_t)((octet >> k & 1) << (7 - k));
-    return back;
 }
 static void feed_high_first(void) {
     for (size_t i = 0; i < count; i++)

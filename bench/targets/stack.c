@@ -2,6 +2,7 @@
  * and counts the octets from the deepest that was changed. A call of the library has a row in the table below. What
  * is fed is `capture` of capture.h, bit by bit where push takes it, and its octets reversed where the highest bit is to
  * be the first. */
+#include "../reversed.h"
 #include "capture.h"
 #include "port1.h"
 #include <inttypes.h>
@@ -51,12 +52,6 @@ static void init(void) { port1_line_init(&line, 256, 0); }
 static void feed(void) {
     for (at = 0; at < 8 * sizeof capture;)
         port1_line_feed(&line, capture, sizeof capture, &at, 8 * sizeof capture, &report);
-}
-static uint8_t reversed(uint8_t octet) {
-    uint8_t back = 0;
-    for (int k = 0; k < 8; k++)
-        back |= (uint8_t)((octet >> k & 1) << (7 - k));
-    return back;
 }
 static void feed_high_first(void) {
     for (uint32_t i = 0; i < sizeof capture; i++)

@@ -6,6 +6,7 @@
  * 2^60. Of the others, half are such a decoder with one octet of its numbers changed, which is often no decoder, and
  * half are random octets. Each state goes through all rows of the table below: a call of the library has a function
  * there, which draws what it is given, calls it, and hashes what it may write. */
+#include "../reversed.h"
 #include "port1.h"
 #include <inttypes.h>
 #include <stddef.h>
@@ -186,13 +187,6 @@ static uint32_t feed(void) {
             reports[received.report.kind]++;
     } while (status == PORT1_OK && received.report.kind != PORT1_NONE && ++calls < 40);
     return status;
-}
-
-static uint8_t reversed(uint8_t octet) {
-    uint8_t back = 0;
-    for (int k = 0; k < 8; k++)
-        back |= (uint8_t)((octet >> k & 1) << (7 - k));
-    return back;
 }
 
 /* Four octets, one after the other, each mostly from its first bit on. */
