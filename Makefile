@@ -1,7 +1,7 @@
 # Builds, tests and installs the program, the scripts and the C library.
 #
 #     make                              proves and builds program and library, with `rt`, where anything has changed
-#     make check                        tests the program, the scripts and the page
+#     make check                        tests the program, the libraries' use of memory, the scripts and the page
 #     make page                         builds the page, page/out/port1.html: the analyser as one file for a browser
 #     make install PREFIX=$HOME/.local  all of the following
 #     make install-program              the program, its man page and completions, and what install-scripts does
@@ -82,6 +82,7 @@ crates/port1_c/out/%/libport1_c.a:
 
 check: $(PROGRAM)
 	tests/program
+	tests/memory
 	tests/promises
 	contrib/self-test
 	tests/page

@@ -20,15 +20,15 @@ from itertools import zip_longest
 from pathlib import Path
 from typing import Callable, Dict, Iterator, List, NamedTuple, Sequence, Tuple, TypeVar, Union
 
+from built import problems_of_build
 from header import Layout, Sources, results_of_header, version_of_program
 
 TOP = Path(__file__).resolve().parent.parent
 
 STRICT = ["-Wall", "-Wextra", "-Wpedantic", "-Wconversion", "-Werror", "-O2"]
 
-# How long a run may take, a build of the library, and what a program shows while it is given no more, in seconds.
+# How long a run may take, and what a program shows while it is given no more, in seconds.
 SECONDS = 60
-SECONDS_OF_BUILD = 3600
 SECONDS_OF_WAITING = 10
 
 CHUNKS = [1, 7, 4096]
@@ -162,36 +162,6 @@ class Bench:
 
 
 # ---- the archive
-
-
-def sources_of(top: Path) -> Iterator[Path]:
-    """The files that the archive is made of."""
-    line = next(line for line in (top / "crates.txt").read_text().splitlines() if line.startswith("port1_c "))
-    for name in ["port1_c", *line.split(":")[1].split()]:
-        yield from (top / "crates" / name / "src").rglob("*.rt")
-
-
-def is_built(archive: Path, top: Path) -> bool:
-    newest = max((path.stat().st_mtime for path in sources_of(top)), default=0.0)
-    return archive.is_file() and archive.stat().st_mtime >= newest
-
-
-def problems_of_build(archive: Path, top: Path) -> List[str]:
-    """Builds the archive where it is missing or old."""
-    if is_built(archive, top):
-        return []
-    crate = archive.parent.parent
-    print(f"{archive} is missing or old: `rt lib` builds it", flush=True)
-    ran = subprocess.run(
-        ["rt", "lib"],
-        cwd=crate,
-        stdin=subprocess.DEVNULL,
-        stdout=subprocess.PIPE,
-        stderr=subprocess.STDOUT,
-        text=True,
-        timeout=SECONDS_OF_BUILD,
-    )
-    return [] if ran.returncode == 0 and archive.is_file() else [f"`rt lib` in {crate}: {ran.stdout[-2000:]}"]
 
 
 def problems_of_symbols(bench: Bench) -> List[str]:
@@ -504,7 +474,7 @@ def results_of_library(program: Path, top: Path = TOP) -> Iterator[Result]:
     yield from results_of_header(top)
     archive = program.parent.parent.parent / "port1_c" / "out" / "libport1_c.a"
     try:
-        problems = problems_of_build(archive, top)
+        problems = problems_of_build(archive, top, ["rt", "lib"])
         yield "library: the archive", problems
         if not problems:
             with tempfile.TemporaryDirectory(prefix="port1-") as folder:

@@ -80,7 +80,7 @@ def run(program: Path, case: Case, variables: Optional[Mapping[str, str]] = None
             preexec_fn=close_streams if closed else None,
         )
         taken = None
-        if isinstance(case.stdin, bytes):
+        if isinstance(case.stdin, bytes) and stdin is not None:
             taken = os.lseek(stdin, 0, os.SEEK_CUR)
         return Ending(ran.stdout or b"", ran.stderr, ran.returncode, taken)
 
@@ -124,14 +124,17 @@ def read_as_many(file: int, count: int) -> bytes:
 
 def problems_of_exchange(program: Path, exchange: Exchange) -> List[str]:
     """Runs a row over a pipe, and says what is wrong."""
-    pipes = {"stdin": subprocess.PIPE, "stdout": subprocess.PIPE, "stderr": subprocess.PIPE}
+    words: List[Union[str, Path]] = [program, *exchange.words]
+    pipe = subprocess.PIPE
+    no_variables: Mapping[str, str] = {}
     try:
-        process = subprocess.Popen([program, *exchange.words], env={}, bufsize=0, **pipes)
+        process = subprocess.Popen(words, stdin=pipe, stdout=pipe, stderr=pipe, env=no_variables, bufsize=0)
     except OSError as error:
         return [str(error)]
     problems = []
     try:
         for turn in exchange.turns:
+            assert process.stdin is not None and process.stdout is not None
             process.stdin.write(turn.sends)
             wanted = turn.gets.encode()
             got = read_as_many(process.stdout.fileno(), len(wanted))

@@ -211,7 +211,7 @@ def make_check(folder: Path) -> List[str]:
     words = ["make", "-n", "-C", TOP, "check", f"PROGRAM={os.environ['PORT1']}"]
     ran = subprocess.run(words, capture_output=True, text=True, timeout=SECONDS)
     found = [line for line in ran.stdout.splitlines() if not line.startswith("make")]
-    wanted = ["tests/program", "tests/promises", "contrib/self-test", "tests/page"]
+    wanted = ["tests/program", "tests/memory", "tests/promises", "contrib/self-test", "tests/page"]
     return [] if found == wanted else [f"it runs {found}: {ran.stderr}"]
 
 

@@ -5,6 +5,7 @@ mod decoder;
 mod encoder;
 mod every_list;
 mod limits;
+mod memory;
 mod plain_reading;
 mod random_lists;
 mod rows;

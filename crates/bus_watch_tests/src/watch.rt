@@ -9,6 +9,7 @@ mod runs;
 mod sinks;
 mod table;
 mod text;
+mod traffic;
 
 use bus_watch::Counts;
 use std::alloc::{AllocError, Global};

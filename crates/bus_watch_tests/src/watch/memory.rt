@@ -1,6 +1,10 @@
-//! An analyser asks for memory once, for its history.
+//! An analyser asks for memory once, for its history. `tests/memory` runs these tests with each request refused in
+//! turn, and counts the requests.
 
-use super::DAMAGED;
+use super::limits::{analyser_of, dictionary_of};
+use super::traffic::{BITS, OCTETS, ROUNDS, octets_of, round_of};
+use super::{Counts, DAMAGED};
+use bus_bits::bits_number;
 use bus_dictionary::Dictionary;
 use bus_fcs::{BitCheck, Check, OctetCheck};
 use bus_line::Span;
@@ -13,6 +17,15 @@ use std::process::Abort;
 struct Counter {
     count: u64,
     refusals: u64,
+}
+
+impl Counter {
+    fn new() -> Self {
+        Counter {
+            count: 0,
+            refusals: 0,
+        }
+    }
 }
 
 impl ReportSink for Counter {
@@ -34,19 +47,16 @@ impl ReportSink for Counter {
 
 /// Each call that takes bits.
 fn take_bits<C: Check>(rt: &impl Abort, analyser: &mut Analyser<C>) {
-    let mut sink = Counter {
-        count: 0,
-        refusals: 0,
-    };
+    let mut sink = Counter::new();
     for bit in DAMAGED {
         let _ = analyser.push(bit).expect(rt, "a place");
     }
+    assert!(rt; sink.refused() == 0);
     analyser.feed(&DAMAGED, &mut sink).expect(rt, "room");
-    if sink.refused() == 0 {
-        analyser
-            .feed_all(&[&DAMAGED, &[], &DAMAGED], &mut sink)
-            .expect(rt, "memory");
-    }
+    assert!(rt; sink.refused() == 0);
+    analyser
+        .feed_all(&[&DAMAGED, &[], &DAMAGED], &mut sink)
+        .expect(rt, "room");
     assert_eq!(rt; sink.count, 3);
     assert_eq!(rt; analyser.take(0, 9).expect(rt, "a place"), 9);
 }
@@ -82,4 +92,95 @@ fn check_memory<C: Check>(rt: &impl Abort, alloc: Global) {
 fn one_request(rt: HostRuntime) {
     check_memory::<BitCheck>(&rt, rt.alloc());
     check_memory::<OctetCheck>(&rt, rt.alloc());
+}
+
+/// An analyser of the example. Where memory is refused to the first attempt, the second makes it.
+fn analyser_at_last(rt: &impl Abort, alloc: Global) -> Analyser<OctetCheck> {
+    match analyser_of(rt, alloc) {
+        Some(analyser) => analyser,
+        None => analyser_of(rt, alloc).expect(rt, "memory"),
+    }
+}
+
+/// A call that is answered, one without an answer, one with a spoilt answer, an overlong piece, an abort and an idle
+/// line.
+const ROUND: &str =
+    "flag call flag reply flag call flag call flag short flag short short flag 0000";
+
+fn push_round(rt: &impl Abort, analyser: &mut Analyser<OctetCheck>, bits: &[bool; BITS]) {
+    for bit in bits {
+        let _ = analyser.push(*bit).expect(rt, "a place");
+    }
+}
+
+fn take_round(rt: &impl Abort, analyser: &mut Analyser<OctetCheck>, bits: &[bool; BITS]) {
+    let mut rest: &[bool] = bits;
+    for _ in bits {
+        if rest.is_empty() {
+            break;
+        }
+        let (front, _) = rest.split_at(rest.len().min(48));
+        assert!(rt; 1 <= front.len() && front.len() <= 48, "a word");
+        let taken = analyser
+            .take(bits_number(front), front.len() as u32)
+            .expect(rt, "a place");
+        rest = &rest[rest.len().min(taken as usize)..];
+    }
+}
+
+fn scan_round(rt: &impl Abort, analyser: &mut Analyser<OctetCheck>, octets: &[u8; OCTETS]) {
+    let mut at: usize = 0;
+    for _ in 0..BITS {
+        if at >= BITS {
+            break;
+        }
+        let taken = analyser.scan(octets, at, BITS).expect(rt, "a place");
+        at = at.saturating_add(taken);
+    }
+}
+
+/// Each call that takes many bits, over as many rounds; each is to see all reports of each.
+fn take_rounds(rt: &impl Abort, analyser: &mut Analyser<OctetCheck>) {
+    let bits = round_of(rt, ROUND);
+    let octets = octets_of(&bits);
+    let mut sink = Counter::new();
+    for _ in 0..ROUNDS {
+        push_round(rt, analyser, &bits);
+        assert!(rt; sink.refused() == 0);
+        analyser.feed(&bits, &mut sink).expect(rt, "room");
+        take_round(rt, analyser, &bits);
+        scan_round(rt, analyser, &octets);
+    }
+    assert_eq!(rt; sink.count, 8 * ROUNDS);
+    let want = Counts {
+        answered: 4 * ROUNDS,
+        missing: 4 * ROUNDS,
+        spoilt: 4 * ROUNDS,
+        late: 0,
+    };
+    assert_eq!(rt; analyser.tally(16), want);
+}
+
+/// The requests of the dictionary alone. Where memory is refused to the first attempt, the second reads it.
+#[test]
+fn read(rt: HostRuntime) {
+    let dictionary = match dictionary_of(&rt, rt.alloc()) {
+        Some(dictionary) => dictionary,
+        None => dictionary_of(&rt, rt.alloc()).expect(&rt, "memory"),
+    };
+    assert_eq!(rt; dictionary.longest(), 3);
+}
+
+/// Those of the dictionary and of an analyser.
+#[test]
+fn made(rt: HostRuntime) {
+    let analyser = analyser_at_last(&rt, rt.alloc());
+    assert_eq!(rt; analyser.history_len(), 0);
+}
+
+/// They are as many where each call that takes bits takes 10^5 of them.
+#[test]
+fn many_bits(rt: HostRuntime) {
+    let mut analyser = analyser_at_last(&rt, rt.alloc());
+    take_rounds(&rt, &mut analyser);
 }

@@ -1,10 +1,16 @@
-//! An analyser of two lines asks for memory once, for its history.
+//! An analyser of two lines asks for memory once, for its history. `tests/memory` runs these tests with each request
+//! refused in turn, and counts the requests.
 
-use super::super::{CALLS, DAMAGED};
-use bus_dictionary::{DictFault, Dictionary};
+use super::super::limits::dictionary_of;
+use super::super::traffic::{BITS, ROUNDS, octets_of, round_of};
+use super::super::{Counts, DAMAGED};
+use bus_bits::bits_number;
+use bus_dictionary::Dictionary;
 use bus_fcs::{BitCheck, Check, OctetCheck};
 use bus_line::Span;
-use bus_watch::{Line, NewFault, PairAnalyser, PairEnding, PairSink, Seen, SinkRefused};
+use bus_watch::{
+    Finding, Line, NewFault, PairAnalyser, PairEnding, PairListener, PairSink, Seen, SinkRefused,
+};
 use std::alloc::Global;
 use std::process::Abort;
 
@@ -36,13 +42,19 @@ impl PairSink for Counter {
     }
 }
 
+impl Counter {
+    fn new() -> Self {
+        Counter {
+            first: 0,
+            second: 0,
+            refusals: 0,
+        }
+    }
+}
+
 /// Each call that takes pairs.
 fn take_pairs<C: Check>(rt: &impl Abort, analyser: &mut PairAnalyser<C>) {
-    let mut sink = Counter {
-        first: 0,
-        second: 0,
-        refusals: 0,
-    };
+    let mut sink = Counter::new();
     for bit in DAMAGED {
         let _ = analyser.push(bit, bit).expect(rt, "a place");
     }
@@ -103,9 +115,145 @@ fn one_request(rt: HostRuntime) {
 #[test]
 fn refused_memory(rt: HostRuntime) {
     let alloc = rt.alloc();
-    match Dictionary::read(alloc, CALLS) {
-        Ok(dictionary) => check_memory::<OctetCheck>(&rt, alloc, dictionary, 16),
-        Err(DictFault::Memory) => {}
-        Err(_) => panic!(&rt; "no dictionary"),
+    if let Some(dictionary) = dictionary_of(&rt, alloc) {
+        check_memory::<OctetCheck>(&rt, alloc, dictionary, 16);
     }
+}
+
+/// A listener that counts the reports that it hears of, in no memory.
+#[derive(Drop)]
+struct Hearer;
+
+impl PairListener<u64> for Hearer {
+    ghost hears = { λ d l before seen m behind. Unit {0} };
+
+    ghost has_room = { λ l more. Unit {0} };
+
+    fn hear(
+        &mut self,
+        _line: Line,
+        _finding: &Finding,
+        _octets: &[u8],
+        _dictionary: &Dictionary,
+        count: &mut u64,
+    ) {
+        *count = count.saturating_add(1);
+    }
+
+    ghost hears_none = { λ d l count. tt };
+
+    ghost hears_more = { λ d k l m before between behind seen more told further. tt };
+
+    ghost has_less = { λ l more less fewer room. tt };
+}
+
+/// An analyser of the example, unless memory is refused.
+fn analyser_of(rt: &impl Abort, alloc: Global) -> Option<PairAnalyser<OctetCheck>> {
+    match PairAnalyser::new(alloc, dictionary_of(rt, alloc)?, 1, 0) {
+        Ok(analyser) => Some(analyser),
+        Err(NewFault::Memory) => None,
+        Err(_) => panic!(rt; "no analyser"),
+    }
+}
+
+/// The same. Where memory is refused to the first attempt, the second makes it.
+fn analyser_at_last(rt: &impl Abort, alloc: Global) -> PairAnalyser<OctetCheck> {
+    match analyser_of(rt, alloc) {
+        Some(analyser) => analyser,
+        None => analyser_of(rt, alloc).expect(rt, "memory"),
+    }
+}
+
+/// A call that is answered on the second line, one without an answer, one with a spoilt answer, an overlong piece, an
+/// abort, idle lines, and damage on the second line.
+const FIRST: &str =
+    "flag call flag ones-57 flag call flag call flag short flag short short flag 0000";
+
+const SECOND: &str = "ones-57 flag reply flag short flag";
+
+/// The bits of both lines in a round, and their pairs.
+#[derive(Drop)]
+struct Round {
+    first: [bool; BITS],
+    second: [bool; BITS],
+    pairs: [(bool, bool); BITS],
+}
+
+/// The round of these words.
+fn round_of_two(rt: &impl Abort, first: &str, second: &str) -> Round {
+    let first = round_of(rt, first);
+    let second = round_of(rt, second);
+    let mut pairs = [(true, true); BITS];
+    for (pair, (one, other)) in pairs.iter_mut().zip(first.iter().zip(&second)) {
+        *pair = (*one, *other);
+    }
+    Round {
+        first,
+        second,
+        pairs,
+    }
+}
+
+fn push_round(rt: &impl Abort, analyser: &mut PairAnalyser<OctetCheck>, round: &Round) {
+    for pair in &round.pairs {
+        let _ = analyser.push(pair.0, pair.1).expect(rt, "a place");
+    }
+}
+
+fn take_round(rt: &impl Abort, analyser: &mut PairAnalyser<OctetCheck>, round: &Round) {
+    let mut at: usize = 0;
+    for _ in 0..BITS {
+        if at >= BITS {
+            break;
+        }
+        let past = at.saturating_add(48).min(BITS);
+        let count = past.saturating_sub(at);
+        assert!(rt; at < past && 1 <= count && count <= 48, "a word");
+        let first = bits_number(&round.first[at..past]);
+        let second = bits_number(&round.second[at..past]);
+        let taken = analyser
+            .take(first, second, count as u32)
+            .expect(rt, "a place");
+        at = at.saturating_add(taken as usize);
+    }
+}
+
+/// Each call that takes many pairs, over as many rounds; each is to see all reports of each.
+fn take_rounds(rt: &impl Abort, analyser: &mut PairAnalyser<OctetCheck>) {
+    let round = round_of_two(rt, FIRST, SECOND);
+    let first = octets_of(&round.first);
+    let second = octets_of(&round.second);
+    let mut sink = Counter::new();
+    let mut heard = 0;
+    for _ in 0..ROUNDS {
+        push_round(rt, analyser, &round);
+        assert!(rt; sink.refused() == 0);
+        analyser.feed(&round.pairs, &mut sink).expect(rt, "room");
+        take_round(rt, analyser, &round);
+        let count = analyser.scan(&first, &second, BITS, &mut Hearer, &mut heard);
+        assert_eq!(rt; count, BITS);
+    }
+    let told = sink.first.saturating_add(sink.second);
+    assert_eq!(rt; (told, heard), (11 * ROUNDS, 11 * ROUNDS));
+    let want = Counts {
+        answered: 4 * ROUNDS,
+        missing: 4 * ROUNDS,
+        spoilt: 4 * ROUNDS,
+        late: 0,
+    };
+    assert_eq!(rt; analyser.tally(16), want);
+}
+
+/// The requests of the dictionary and of an analyser.
+#[test]
+fn made(rt: HostRuntime) {
+    let analyser = analyser_at_last(&rt, rt.alloc());
+    assert_eq!(rt; analyser.history_len(), 0);
+}
+
+/// They are as many where each call that takes pairs takes 10^5 of them.
+#[test]
+fn many_pairs(rt: HostRuntime) {
+    let mut analyser = analyser_at_last(&rt, rt.alloc());
+    take_rounds(&rt, &mut analyser);
 }
