@@ -39,11 +39,17 @@ def exported(library: str, of: Optional[str] = None) -> Set[str]:
 def header_of(lines: List[str], at: int) -> List[str]:
     """The lines of a function up to its body, or to the end where it has none."""
     header: List[str] = []
+    depth, has_clause = 0, False
     for line in lines[at:]:
-        header.append(line)
         text = line.strip()
-        is_clause = re.match(r"(requires|ensures|ghost)\b", text)
-        if text in ("{", "{}") or text.endswith(";") or (text.endswith(" {") and not is_clause):
+        if depth == 0 and text in ("{", "{}"):
+            break
+        header.append(line)
+        has_clause = has_clause or re.match(r"(requires|ensures|ghost)\b", text) is not None
+        if not has_clause and text.endswith((";", " {", " {}")):
+            break
+        depth += text.count("{") - text.count("}")
+        if has_clause and depth == 0 and text.endswith(";"):
             break
     return header
 

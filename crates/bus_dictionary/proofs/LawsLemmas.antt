@@ -4,12 +4,13 @@ use Rattle.std.specs.List.{All, AllPairs}
 use Rattle.std.proofs.lemmas.List.Elements.{All-cons}
 use Rattle.std.proofs.lemmas.List.Quantifiers.{all_pairs_push}
 use Rattle.std.proofs.lemmas.Bool.Decides.{nat_tests}
-use Rattle.toml.specs.Data.{Data, Items, item, no_items, get, as_bool}
+use Rattle.toml.specs.Data.{Data, Items, item, no_items, Members, table, get, as_bool}
+use Rattle.toml.specs.Parse.{parse_document}
 use Rattle.bus_dictionary.specs.declared.fault.DictFault.TheVariants.{Version, NoFrames, BadType, BadName, BadLength, BadAnswered, BadWindow, TwiceType}
 use Rattle.bus_dictionary.specs.DictFault.{need}
 use Rattle.bus_dictionary.specs.BitName.{name_at, bits_in}
 use Rattle.bus_dictionary.specs.Entry.{FrameType, type_at, size_at, if_may_be_answered, answered_in, window_in, has_type, entry_of}
-use Rattle.bus_dictionary.specs.Dictionary.{entries_of, lacks_answer, refuse_lacking, version_at, frames_at, dictionary_of}
+use Rattle.bus_dictionary.specs.Dictionary.{entries_of, lacks_answer, refuse_lacking, version_at, frames_at, dictionary_of, document_of, dictionary_of_text}
 use Rattle.bus_dictionary.specs.Laws.{IsFrameType, IsDictionary}
 use Rattle.bus_dictionary.proofs.SaysLemmas.{window_fits}
 use Rattle.bus_dictionary.proofs.BitNameLemmas.{then_ok, need_ok, unless_ok, name_at_ok, number_at_ok, bits_in_ok}
@@ -104,3 +105,15 @@ dictionary_is_map d es h =
     let start : AreEntries [] = record { map = λ i j d h k. absurd (omega arith); each = λ k d h. absurd (omega arith) } in
     let parts = entries_of_ok version 1 [] frames all start are_all in
     subst IsDictionary same (record { map = parts.map; each = parts.each; answers = none_lacks all all none })
+
+-- no entries are a dictionary, too
+pub empty_is_map : IsDictionary []
+empty_is_map = record { map = λ i j d h k. absurd (omega arith); each = λ k d h. absurd (omega arith); answers = λ k d h. absurd (omega arith) }
+
+document_is_map : (document : Option Members) (es : List FrameType) → document_of document ≡ Ok es → IsDictionary es
+document_is_map None es h = cc
+document_is_map (Some ms) es h = dictionary_is_map (table ms) es h
+
+-- what a text says, where it is a dictionary
+pub text_is_map : (text : List ℕ) (es : List FrameType) → dictionary_of_text text ≡ Ok es → IsDictionary es
+text_is_map text es h = document_is_map (parse_document text) es h

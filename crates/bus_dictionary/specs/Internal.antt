@@ -1,4 +1,5 @@
 -- What proofs and private functions speak of: the state behind a contract, and what holds of it between two steps.
+pub mod DictionaryView
 pub mod EntryView
 pub mod NameWalkView
 pub mod TypeNumbers
