@@ -3,7 +3,6 @@ use Rattle.std.proofs.Common.{◌≡◌, ℕ, zero, suc, ◌+◌, ◌-◌, ◌*�
 use Rattle.std.proofs.lemmas.Nat.{shr-shr}
 use Rattle.std.specs.Prelude.{slice_index}
 use Rattle.bus_bits.specs.Octet.{bits_of}
-use Rattle.bus_bits.proofs.OctetLemmas.{bits-low}
 use Rattle.bus_bits.specs.Bits.{bit_at, bits_from}
 
 -- these, and those behind them
@@ -35,13 +34,6 @@ bits-in os q k i (suc m) e l =
     let head : (slice_index os q / 2 ^ k % 2 == 1) ≡ bit_at os i = rw (d, r) refl in
     let tail : bits_of m (slice_index os q / 2 ^ k / 2) ≡ bits_from os (i + 1) m = ap (bits_of m) (shr-shr (slice_index os q) k 1) ∙ bits-in os q (k + 1) (i + 1) m n s in
     ap (λ x. x ∷ bits_of m (slice_index os q / 2 ^ k / 2)) head ∙ ap (λ x. bit_at os i ∷ x) tail
-
--- its first bit alone
-pub bits-single : (x m : ℕ) → m ≤ 1 → bits_of m (x % 2) ≡ bits_of m x
-unfolding bits_of
-bits-single x zero l = refl
-bits-single x (suc zero) l = bits-low 1 x
-bits-single x (suc (suc m)) l = absurd (omega (arith, l))
 
 -- so many of them
 bits-taken : (os : List ℕ) (i n m : ℕ) → m ≤ n → take m (bits_from os i n) ≡ bits_from os i m

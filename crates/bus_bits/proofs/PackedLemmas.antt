@@ -270,12 +270,6 @@ word-front (o ∷ os) rest h =
     ∙ ap (λ (b : List Bool). b ++ bits_of (8 * length os) ((n * 256 + o) / 2 ^ 8)) (sym (bits-low 8 (n * 256 + o)) ∙ ap (bits_of 8) low)
     ∙ ap (λ (k : ℕ). bits_of 8 o ++ bits_of (8 * length os) k) high ∙ ap (λ (b : List Bool). bits_of 8 o ++ b) (word-front os rest (λ i d l. h (suc i) d (omega (arith, l))))
 
-pub all-first : (k : ℕ) (os : List ℕ) → All (λ o. o < 256) os → All (λ o. o < 256) (take k os)
-all-first zero os h i d l = absurd (omega (arith, l))
-all-first (suc k) [] h i d l = absurd (omega (arith, l))
-all-first (suc k) (o ∷ os) h zero d l = h 0 d (omega arith)
-all-first (suc k) (o ∷ os) h (suc i) d l = all-first k os (λ j e m. h (suc j) e (omega (arith, m))) i d (omega (arith, l))
-
 -- ---- the end of the input
 
 pub filled-all : {A : Type 0} (n : ℕ) (c : CaptureOf A) → c.fault ≡ None → n ≤ length c.bits → (filled n c).fault ≡ None
@@ -287,13 +281,6 @@ pub filled-few : {A : Type 0} (n : ℕ) (c : CaptureOf A) → c.fault ≡ None �
 filled-few n c h l =
     ap (λ (g : Option CaptureFault). or_fault g (if nat_lt (length c.bits) n then Some short_body else None)) h
     ∙ ap (λ (b : Bool). if b then Some short_body else None) (lt_true (length c.bits) n l)
-
-pub packed-full : (n : ℕ) (xs : List ℕ) → PackedAfter n xs 0 → (filled n (packed_body n xs)).fault ≡ None
-packed-full n xs h = filled-all n (packed_body n xs) h.clean (omega (arith, h.left_over))
-
-pub packed-short : (n : ℕ) (xs : List ℕ) (left : ℕ) → PackedAfter n xs left → 0 < left
-    → (filled n (packed_body n xs)).fault ≡ Some short_body
-packed-short n xs left h p = filled-few n (packed_body n xs) h.clean (omega (arith, h.left_over, p))
 
 -- ---- any cut of what stands behind a head
 

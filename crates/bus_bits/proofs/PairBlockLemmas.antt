@@ -1,5 +1,5 @@
 -- Pairs that are parted into octets of either line.
-use Rattle.std.proofs.Common.{◌≡◌, ℕ, ◌+◌, ◌-◌, ◌*◌, ◌/◌, ◌%◌, ◌^◌, ◌<◌, ◌≤◌, List, [], ◌∷◌, ◌++◌, length, take, drop, zip, append-nil, length-append, refl, sym, ap, ◌∙◌, arith}
+use Rattle.std.proofs.Common.{◌≡◌, ℕ, ◌+◌, ◌-◌, ◌*◌, ◌/◌, ◌%◌, ◌^◌, ◌<◌, ◌≤◌, List, Bool, [], ◌∷◌, ◌++◌, length, take, drop, zip, append-nil, length-append, refl, sym, ap, ◌∙◌, arith}
 use Rattle.std.specs.Prelude.{slice_index, slice_set}
 use Rattle.std.proofs.lemmas.List.{get_or-take, length-drop, length-set, length-take, take_more_set}
 use Rattle.std.proofs.lemmas.Nat.{shr-shr}
@@ -9,7 +9,7 @@ use Rattle.bus_bits.specs.Octet.{bits_of, bits_of_octets}
 use Rattle.bus_bits.specs.Bits.{bits_from}
 use Rattle.bus_bits.specs.Packed.{in_pairs}
 use Rattle.bus_bits.proofs.BitLemmas.{bits-more, length-from}
-use Rattle.bus_bits.proofs.OctetLemmas.{bits_of_octets-append, bits_of_octets-push, bits-low, bits-split}
+use Rattle.bus_bits.proofs.OctetLemmas.{length-bits, bits_of_octets-append, bits_of_octets-push, bits-low, bits-split}
 use Rattle.bus_bits.proofs.PairsLemmas.{pairs-append}
 use Rattle.bus_bits.proofs.PairWordsLemmas.{zip-append}
 use Rattle.bus_bits.proofs.WordLemmas.{bits-octets}
@@ -49,26 +49,40 @@ bits-stored os written from k n long e l =
     ∙ (bits_of_octets-append (take from os) written
     ∙ ap (λ bits. bits ++ bits_of_octets written) (sym (bits-front-octets os from (omega (arith, e, l))))))
 
--- eight octets more, parted into four of either line
-pub pairs-parted : (os first second further others : List ℕ) (i j f s word : ℕ)
+-- octets more, whose pairs are parted
+pub pairs-parted : (os first second further others : List ℕ) (i j count : ℕ) (ones twos : List Bool)
     → in_pairs (bits_from os 0 (8 * i)) ≡ zip (bits_from first 0 (4 * i)) (bits_from second 0 (4 * i))
-    → j ≡ i + 8 → bits_of 64 word ≡ bits_from os (8 * i) 64 → in_pairs (bits_of 64 word) ≡ zip (bits_of 32 f) (bits_of 32 s)
-    → bits_from further 0 (4 * j) ≡ bits_from first 0 (4 * i) ++ bits_of 32 f
-    → bits_from others 0 (4 * j) ≡ bits_from second 0 (4 * i) ++ bits_of 32 s
+    → 8 * j ≡ 8 * i + count → in_pairs (bits_from os (8 * i) count) ≡ zip ones twos
+    → bits_from further 0 (4 * j) ≡ bits_from first 0 (4 * i) ++ ones
+    → bits_from others 0 (4 * j) ≡ bits_from second 0 (4 * i) ++ twos
     → in_pairs (bits_from os 0 (8 * j)) ≡ zip (bits_from further 0 (4 * j)) (bits_from others 0 (4 * j))
-pairs-parted os first second further others i j f s word before e is parted one two =
-    let all : 8 * j ≡ 8 * i + 64 = omega (arith, e) in
+pairs-parted os first second further others i j count ones twos before all parted one two =
     let here : 0 + 8 * i ≡ 8 * i = omega arith in
     let even : length (bits_from os 0 (8 * i)) % 2 ≡ 0 = omega (arith, length-from os 0 (8 * i)) in
-    let grown : in_pairs (bits_from os 0 (8 * j)) ≡ in_pairs (bits_from os 0 (8 * i)) ++ in_pairs (bits_from os (8 * i) 64) =
+    let grown : in_pairs (bits_from os 0 (8 * j)) ≡ in_pairs (bits_from os 0 (8 * i)) ++ in_pairs (bits_from os (8 * i) count) =
     ap (λ (n : ℕ). in_pairs (bits_from os 0 n)) all
-    ∙ (ap in_pairs (bits-more os 0 (8 * i) 64 ∙ ap (λ (k : ℕ). bits_from os 0 (8 * i) ++ bits_from os k 64) here)
-    ∙ pairs-append (bits_from os 0 (8 * i)) (bits_from os (8 * i) 64) even) in
+    ∙ (ap in_pairs (bits-more os 0 (8 * i) count ∙ ap (λ (k : ℕ). bits_from os 0 (8 * i) ++ bits_from os k count) here)
+    ∙ pairs-append (bits_from os 0 (8 * i)) (bits_from os (8 * i) count) even) in
     grown
-    ∙ (ap (λ ps. ps ++ in_pairs (bits_from os (8 * i) 64)) before
-    ∙ (ap (λ ps. zip (bits_from first 0 (4 * i)) (bits_from second 0 (4 * i)) ++ ps) (ap in_pairs (sym is) ∙ parted)
-    ∙ (sym (zip-append (bits_from first 0 (4 * i)) (bits_from second 0 (4 * i)) (bits_of 32 f) (bits_of 32 s) (length-from first 0 (4 * i) ∙ sym (length-from second 0 (4 * i))))
-    ∙ (ap (λ bits. zip bits (bits_from second 0 (4 * i) ++ bits_of 32 s)) (sym one) ∙ ap (zip (bits_from further 0 (4 * j))) (sym two)))))
+    ∙ (ap (λ ps. ps ++ in_pairs (bits_from os (8 * i) count)) before
+    ∙ (ap (λ ps. zip (bits_from first 0 (4 * i)) (bits_from second 0 (4 * i)) ++ ps) parted
+    ∙ (sym (zip-append (bits_from first 0 (4 * i)) (bits_from second 0 (4 * i)) ones twos (length-from first 0 (4 * i) ∙ sym (length-from second 0 (4 * i))))
+    ∙ (ap (λ bits. zip bits (bits_from second 0 (4 * i) ++ twos)) (sym one) ∙ ap (zip (bits_from further 0 (4 * j))) (sym two)))))
+
+-- sixteen octets in two numbers, each parted
+pub sixteen-parted : (os : List ℕ) (i low high a b c d : ℕ)
+    → bits_of 64 low ≡ bits_from os (8 * i) 64 → bits_of 64 high ≡ bits_from os (8 * (i + 8)) 64
+    → in_pairs (bits_of 64 low) ≡ zip (bits_of 32 a) (bits_of 32 c) → in_pairs (bits_of 64 high) ≡ zip (bits_of 32 b) (bits_of 32 d)
+    → in_pairs (bits_from os (8 * i) 128) ≡ zip (bits_of 32 a ++ bits_of 32 b) (bits_of 32 c ++ bits_of 32 d)
+sixteen-parted os i low high a b c d front behind one two =
+    let here : 8 * i + 64 ≡ 8 * (i + 8) = omega arith in
+    let even : length (bits_of 64 low) % 2 ≡ 0 = omega (arith, length-bits 64 low) in
+    ap in_pairs (bits-more os (8 * i) 64 64 ∙ (ap (λ (k : ℕ). bits_from os (8 * i) 64 ++ bits_from os k 64) here
+    ∙ (ap (λ bits. bits ++ bits_from os (8 * (i + 8)) 64) (sym front) ∙ ap (λ bits. bits_of 64 low ++ bits) (sym behind))))
+    ∙ (pairs-append (bits_of 64 low) (bits_of 64 high) even
+    ∙ (ap (λ ps. ps ++ in_pairs (bits_of 64 high)) one
+    ∙ (ap (λ ps. zip (bits_of 32 a) (bits_of 32 c) ++ ps) two
+    ∙ sym (zip-append (bits_of 32 a) (bits_of 32 c) (bits_of 32 b) (bits_of 32 d) (length-bits 32 a ∙ sym (length-bits 32 c))))))
 
 -- an octet that was written behind those before it
 pub octet-stored : (os : List ℕ) (i o : ℕ) → i < length os → bits_from (slice_set os i o) 0 (8 * (i + 1)) ≡ bits_from os 0 (8 * i) ++ bits_of 8 o

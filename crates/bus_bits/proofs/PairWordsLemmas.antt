@@ -1,9 +1,9 @@
 -- Pairs of bits in one number, parted into two.
-use Rattle.std.proofs.Common.{◌≡◌, ℕ, zero, suc, ◌+◌, ◌*◌, ◌/◌, ◌%◌, ◌^◌, ◌<◌, ◌≤◌, ◌==◌, inl, inr, Bool, true, false, nat_lt, cond, List, [], ◌∷◌, ◌++◌, length, bit_and, bit_or, refl, sym, ap, ◌∙◌, subst, arith, mod-lt}
+use Rattle.std.proofs.Common.{◌≡◌, ℕ, zero, suc, ◌+◌, ◌*◌, ◌/◌, ◌%◌, ◌^◌, ◌<◌, ◌≤◌, ◌==◌, inl, inr, Bool, true, false, nat_lt, cond, List, [], ◌∷◌, ◌++◌, length, bit_and, bit_or, refl, sym, ap, ◌∙◌, subst, arith}
 use Rattle.std.proofs.lemmas.Bool.Decides.{nat_tests}
 use Rattle.std.proofs.lemmas.Bool.{eqb-true}
-use Rattle.std.proofs.lemmas.Nat.Bits.{bit_at_and, bit_at_or, bit_at_lowest, bit_at-suc, bit_at_above, bit_at-lt, bit_at_cat_low, same_from_bits_below}
-use Rattle.std.proofs.lemmas.Nat.{shr-shr, and_le_r, div-add-mod', pow_pos}
+use Rattle.std.proofs.lemmas.Nat.Bits.{bit_at_and, bit_at_or, bit_at_lowest, bit_at-suc, bit_at_above, bit_at-lt}
+use Rattle.std.proofs.lemmas.Nat.{shr-shr, and_le_r}
 use Rattle.std.specs.Int.{bit_at}
 use Rattle.std.specs.Prelude.{zip}
 use Rattle.bus_bits.specs.Octet.{bits_of}
@@ -161,7 +161,7 @@ pub record IsEven (w a b c d e f : ℕ) : Type 0 where
 masked : (x y m : ℕ) → x ≡ bit_and y m → m < 2 ^ 64 → x < 2 ^ 64
 masked x y m e l = omega (arith, e, and_le_r y m, l)
 
-pub even-bits : (w a b c d e f : ℕ) → IsEven w a b c d e f → ((i : ℕ) → i < 32 → bit_at f i ≡ bit_at w (2 * i)) × (f < 2 ^ 32)
+pub even-bits : (w a b c d e f : ℕ) → IsEven w a b c d e f → (i : ℕ) → i < 32 → bit_at f i ≡ bit_at w (2 * i)
 even-bits w a b c d e f h =
     let s1 = subst (IsSpread 1 2 w) (sym h.ones) (spread-ones w h.fits) in
     let s2 = subst (IsSpread 2 4 w) (sym h.twos)
@@ -173,23 +173,8 @@ even-bits w a b c d e f h =
     let s16 = subst (IsSpread 16 32 w) (sym h.sixteens)
     (spread-more 8 16 32 281470681808895 w d (omega arith) (omega arith) h.fits (masked d (bit_or c (c / 2 ^ 4)) 71777214294589695 h.eights (omega arith)) step-16 s8) in
     let s32 = subst (IsSpread 32 64 w) (sym h.all)
-    (spread-more 16 32 64 4294967295 w e (omega arith) (omega arith) h.fits (masked e (bit_or d (d / 2 ^ 8)) 281470681808895 h.sixteens (omega arith)) step-32 s16) in (
-      λ i l. let k : i % 64 < 32 = omega (arith, l) in let j : i + i % 64 ≡ 2 * i = omega (arith, l) in s32.kept i k ∙ ap (bit_at w) j,
-      omega (arith, h.all, and_le_r (bit_or e (e / 2 ^ 16)) 4294967295),
-    )
-
--- and these have no higher bits than half of its own
-pub even-small : (w f k : ℕ) → ((i : ℕ) → i < 32 → bit_at f i ≡ bit_at w (2 * i)) → f < 2 ^ 32 → k ≤ 32 → w < 2 ^ (2 * k) → f < 2 ^ k
-even-small w f k h l m below =
-    let low : f % 2 ^ k < 2 ^ k = mod-lt f (pow_pos k) in
-    let split : f ≡ f / 2 ^ k * 2 ^ k + f % 2 ^ k = sym (div-add-mod' f (2 ^ k)) in
-    let e : f ≡ f % 2 ^ k =
-    same_from_bits_below 32 f (f % 2 ^ k) l (omega (arith, l, split))
-    (λ i j. elim (le_or_lt k i) [
-      | inl far ↦ h i j ∙ bit_at_above w (2 * k) (2 * i) below (omega (arith, far)) ∙ sym (bit_at_above (f % 2 ^ k) k i low far)
-      | inr near ↦ ap (λ (n : ℕ). bit_at n i) split ∙ bit_at_cat_low (f / 2 ^ k) k (f % 2 ^ k) i near
-    ]) in
-    subst (λ (n : ℕ). n < 2 ^ k) (sym e) low
+    (spread-more 16 32 64 4294967295 w e (omega arith) (omega arith) h.fits (masked e (bit_or d (d / 2 ^ 8)) 281470681808895 h.sixteens (omega arith)) step-32 s16) in
+    λ i l. let k : i % 64 < 32 = omega (arith, l) in let j : i + i % 64 ≡ 2 * i = omega (arith, l) in s32.kept i k ∙ ap (bit_at w) j
 
 -- ---- pairs of two numbers
 

@@ -3,12 +3,12 @@ use Rattle.std.proofs.Common.{◌≡◌, ℕ, zero, suc, ◌+◌, ◌-◌, ◌*�
 use Rattle.std.proofs.lemmas.List.{length-take, length-drop, take_all, drop_all}
 use Rattle.std.specs.List.{list_any}
 use Rattle.bus_bits.specs.Octet.{bits_of, bits_of_octets}
-use Rattle.bus_bits.specs.Capture.{mark_pair, Capture, PairCapture, pad_bits, trailing, short_head, short_body, GrowsTo}
+use Rattle.bus_bits.specs.Capture.{mark_pair, Capture, PairCapture, pad_bits, trailing, short_head, GrowsTo}
 use Rattle.bus_bits.specs.Packed.{head_bits, pair_head_fault, wanted, packed_body, in_pairs, pair_body, headed, packed_pair_capture, filled, packed_pair_whole, PackedAfter, PairsAfter}
 use Rattle.bus_bits.proofs.CaptureLemmas.{le_or_lt, same}
 use Rattle.bus_bits.proofs.OctetLemmas.{length-bits, bits_of_eight}
 use Rattle.bus_bits.proofs.TextBitsLemmas.{both_ones}
-use Rattle.bus_bits.proofs.PackedLemmas.{pads, wanted-pads, wanted-bits, by_eights, packed-new, packed-trailing, packed-pad, packed-more, wholes-taken, filled-all, filled-few, body-grows, behind-short, behind-headed, behind-grows, behind-ends}
+use Rattle.bus_bits.proofs.PackedLemmas.{pads, wanted-pads, wanted-bits, by_eights, packed-new, packed-trailing, packed-pad, packed-more, wholes-taken, body-grows, behind-short, behind-headed, behind-grows, behind-ends}
 
 -- ---- bits two by two
 
@@ -159,13 +159,6 @@ pairs-taken n xs os left h l =
       from-bits n (xs ++ os) (left - 4 * length os) (2 * left - 8 * length os) r.0 (omega (arith, l)),
       ap in_pairs r.1 ∙ pairs-append (packed_body (2 * n) xs).bits (bits_of_octets os) (even-body n xs),
     )
-
-pub pairs-full : (n : ℕ) (xs : List ℕ) → PairsAfter n xs 0 → (filled n (pair_body n xs)).fault ≡ None
-pairs-full n xs h = filled-all n (pair_body n xs) h.clean (omega (arith, h.left_over))
-
-pub pairs-short : (n : ℕ) (xs : List ℕ) (left : ℕ) → PairsAfter n xs left → 0 < left
-    → (filled n (pair_body n xs)).fault ≡ Some short_body
-pairs-short n xs left h p = filled-few n (pair_body n xs) h.clean (omega (arith, h.left_over, p))
 
 -- ---- any cut of a capture
 

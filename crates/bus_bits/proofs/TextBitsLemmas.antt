@@ -6,7 +6,7 @@ use Rattle.std.proofs.lemmas.List.Sums.{take_while-cons}
 use Rattle.std.proofs.Math.Bool.{or-true}
 use Rattle.std.proofs.lemmas.Bool.Decides.{nat_tests}
 use Rattle.bus_bits.proofs.CaptureLemmas.{lt_true, le_false, same}
-use Rattle.bus_bits.specs.Capture.{CaptureOf, bad_mark, is_bit, is_pair, is_space, front_by, marks_by, fault_by, mark_pair, text_front, text_bits, text_fault, text_capture, text_pairs, text_pairs_fault, text_pair_capture, GrowsTo}
+use Rattle.bus_bits.specs.Capture.{CaptureOf, bad_mark, is_bit, is_pair, is_space, front_by, marks_by, fault_by, mark_pair, text_bits, text_fault, text_capture, text_pairs, text_pairs_fault, text_pair_capture, GrowsTo}
 
 passes : (p : ℕ → Bool) (x : ℕ) (xs : List ℕ) → p x ≡ true → take_while p (x ∷ xs) ≡ x ∷ take_while p xs
 passes p x xs h = take_while-cons p x xs ∙ ap (λ b. cond b (x ∷ take_while p xs) []) h
@@ -122,9 +122,6 @@ module _ (is_mark : ℕ → Bool) where
 abbrev pub is_text : ℕ → Bool
 is_text x = is_bit x || is_space x
 
-pub text-whole : (xs : List ℕ) → text_fault xs ≡ None → (text_front xs ≡ xs) × ((ys : List ℕ) → text_front (xs ++ ys) ≡ xs ++ text_front ys)
-text-whole = marks-whole is_bit
-
 pub text-more : (xs : List ℕ) (x : ℕ) → text_fault xs ≡ None → is_text x ≡ true
     → (text_fault (xs ++ x ∷ []) ≡ None) × (text_bits (xs ++ x ∷ []) ≡ text_bits xs ++ cond (is_bit x) ((x == 49) ∷ []) [])
 text-more = values-more is_bit (λ x. x == 49)
@@ -141,9 +138,6 @@ mark_is_text x h = (grind (arith, nat_tests), grind (arith, nat_tests))
 
 pub mark_by_half : (x : ℕ) → x / 2 ≢ 24 → is_bit x ≡ false
 mark_by_half x h = grind (arith, nat_tests)
-
-mark_text : (x : ℕ) → is_bit x ≡ true → is_text x ≡ true
-mark_text x h = ap (λ b. b || is_space x) h
 
 pub text_space : (x : ℕ) → is_space x ≡ true → is_text x ≡ true
 text_space x h = ap (λ b. is_bit x || b) h ∙ or-true (is_bit x)

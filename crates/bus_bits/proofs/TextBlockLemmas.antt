@@ -1,13 +1,13 @@
 -- Bits of a text, packed into a block.
-use Rattle.std.proofs.Common.{◌≡◌, ℕ, zero, suc, ◌+◌, ◌-◌, ◌*◌, ◌/◌, ◌%◌, ◌^◌, ◌<◌, ◌≤◌, ◌==◌, Bool, true, cond, List, [], ◌∷◌, ◌++◌, length, take, drop, set, get_or, map, None, inl, inr, refl, sym, ap, ◌∙◌, subst, arith, append_assoc, append-nil, length-append}
+use Rattle.std.proofs.Common.{◌≡◌, ℕ, zero, suc, ◌+◌, ◌-◌, ◌*◌, ◌/◌, ◌%◌, ◌^◌, ◌<◌, ◌≤◌, ◌==◌, Bool, true, false, cond, List, [], ◌∷◌, ◌++◌, length, take, drop, set, get_or, map, None, inl, inr, refl, sym, ap, ◌∙◌, subst, arith, append_assoc, append-nil, length-append}
 use Rattle.std.specs.Prelude.{bit_and, bit_or, slice_index}
 use Rattle.std.specs.Int.{w64, bit_at, to_le_bytes}
 use Rattle.std.specs.Int.Bits.{or_shifted_r}
 use Rattle.std.specs.List.{list_all}
 use Rattle.std.proofs.lemmas.Bool.{and_from, cases_lt}
 use Rattle.std.proofs.lemmas.Grind.{common_steps}
-use Rattle.std.proofs.lemmas.Nat.{and_mask, mod_low, mul-add-lt, pow-add, pow_below, shl_whole, shr-shr, shr_below, shr_high}
-use Rattle.std.proofs.lemmas.List.{get_or-set_same, length-drop, length-take, take-append-le, take-map, take-set-le, take-take, take_all, take_more}
+use Rattle.std.proofs.lemmas.Nat.{and_mask, mod_low, mul-add-lt, pow-add, shl_whole, shr-shr, shr_below, shr_high}
+use Rattle.std.proofs.lemmas.List.{get_or-drop, get_or-set_same, get_or-take, length-drop, length-take, take-append-le, take-map, take-set-le, take-take, take_all, take_more}
 use Rattle.std.proofs.Math.Seq.{take-append-add}
 use Rattle.bus_bits.specs.Bits.{bits_from}
 use Rattle.bus_bits.specs.Octet.{bits_of, bits_of_octets}
@@ -179,6 +179,24 @@ front-given os front k count ones given same l is all are ys clean =
     are ∙ (sym (bits-front count k ones l) ∙ (ap (take count) is ∙ (take-map value count front ∙ ap (map value) front-same))) in
     text-given is_bit value os (take count os) count given (marks_text is_bit (take count os) marks) (all_kept is_bit (take count os) marks) bits ys clean
 
+unmarked : (n : ℕ) (xs : List ℕ) → bits_of 16 n ≡ map is_bit xs → bit_at n 0 ≡ 0 → is_bit (get_or xs 0 0) ≡ false
+unfolding bits_of
+unmarked n [] is h = refl
+unmarked n (x ∷ xs) is h =
+    let zero : n % 2 ≡ 0 = omega (arith, h) in
+    sym (ap (λ (z : List Bool). get_or z 0 true) is) ∙ ap (λ (m : ℕ). m == 1) zero
+
+-- the octet at which no mark is 1 is no bit
+pub first-none : (text front : List ℕ) (at n : ℕ) → at < length text → front ≡ take 16 (take (length text - at) (drop at text)) → bits_of 16 n ≡ map is_bit front
+    → bit_at n 0 ≡ 0 → is_bit (slice_index text at) ≡ false
+first-none text front at n l same is none =
+    let some : 0 < length text - at = omega (arith, l) in
+    let place : at + 0 ≡ at = omega arith in
+    let item : get_or front 0 0 ≡ slice_index text at =
+    ap (λ (os : List ℕ). get_or os 0 0) same
+    ∙ (get_or-take 16 (take (length text - at) (drop at text)) 0 0 (omega arith) ∙ (get_or-take (length text - at) (drop at text) 0 0 some ∙ (get_or-drop at text 0 0 ∙ ap (slice_index text) place))) in
+    ap is_bit (sym item) ∙ unmarked n front is none
+
 -- two halves are the whole
 pub bits-halves : (block : List Bool) (n : ℕ) → (block ++ bits_of 32 (bit_and n 4294967295)) ++ bits_of 32 (n / 4294967296) ≡ block ++ bits_of 64 n
 bits-halves block n =
@@ -204,10 +222,6 @@ space-passed text block p l s h = record {
             ∙ (append-nil (text_bits (xs ++ take p.taken text)) ∙ before.1))),
       );
 }
-
--- an octet that is not full fits one
-pub rest-fits : (rest held : ℕ) → rest < 2 ^ held → held < 8 → rest < 256
-rest-fits rest held l f = omega (arith, l, pow_below held 8 f)
 
 no-bits : (block : List ℕ) → bits_of_octets (take 0 block) ++ bits_of 0 0 ≡ []
 unfolding bits_of_octets bits_of

@@ -1,5 +1,5 @@
 -- The bits of a capture: those before the first fault, and the fault.
-use Rattle.std.specs.Prelude.{◌≡◌, ◌≤◌, ℕ, ◌-◌, ◌/◌, ◌%◌, ◌^◌, ◌==◌, ◌||◌, Bool, List, ◌++◌, length, map, filter, take, take_while, nat_lt, if◌then◌else◌, Option, Some, None}
+use Rattle.std.specs.Prelude.{◌≡◌, ◌≤◌, ◌<◌, ◌⊎◌, ℕ, ◌+◌, ◌-◌, ◌/◌, ◌%◌, ◌^◌, ◌==◌, ◌||◌, Bool, false, List, ◌++◌, length, slice_index, map, filter, take, take_while, nat_lt, if◌then◌else◌, Option, Some, None}
 
 -- why a capture can't be read on
 pub data CaptureFault : Type 0 where
@@ -85,6 +85,12 @@ EightIn n xs = EightBy is_bit n xs
 -- or eight pairs
 abbrev pub EightPairsIn : ℕ → List ℕ → Type 0
 EightPairsIn n xs = EightBy is_pair n xs
+
+-- after the first `taken` octets fewer than sixteen follow, or one that is neither a bit nor skipped
+abbrev pub TextEnds : List ℕ → ℕ → Type 0
+TextEnds xs taken =
+    (length xs < taken + 16)
+    ⊎ ((is_bit (slice_index xs taken) ≡ false) × (is_space (slice_index xs taken) ≡ false))
 
 -- text: a `0` or `1` is a bit
 abbrev pub text_capture : List ℕ → Capture

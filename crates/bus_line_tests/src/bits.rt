@@ -1,6 +1,8 @@
 //! Captures, octet by octet.
 
-use bus_bits::{BadMark, EightBits, HeadFault, PackedBits, PackedFault, PackedHead, TextBits};
+use bus_bits::{
+    BadMark, EightBits, HeadFault, PackedBits, PackedFault, PackedHead, TextBits, TextBlock,
+};
 use std::process::Abort;
 
 const HEAD: [u8; 16] = *b"TS2BITS1\x39\0\0\0\0\0\0\0";
@@ -41,6 +43,87 @@ fn eight_bits_are_an_octet(rt: HostRuntime) {
     check_eight(&rt, b"001020110", None);
     check_eight(&rt, b"0010011", None);
     check_eight(&rt, b"00100112", None);
+}
+
+/// A text in front of an octet that is no bit, and its bits in a block.
+struct PackRow {
+    text: &'static str,
+    bits: usize,
+    block: &'static [u8],
+}
+
+const PACKED: [PackRow; 8] = [
+    PackRow {
+        text: "",
+        bits: 0,
+        block: &[],
+    },
+    PackRow {
+        text: "1",
+        bits: 1,
+        block: &[0x01],
+    },
+    PackRow {
+        text: " \t\r\n01111110\n",
+        bits: 8,
+        block: &[0x7e],
+    },
+    PackRow {
+        text: "0111111000001",
+        bits: 13,
+        block: &[0x7e, 0x10],
+    },
+    // sixteen octets at once
+    PackRow {
+        text: "0111111000001000",
+        bits: 16,
+        block: &[0x7e, 0x10],
+    },
+    // a space within them, and the bits after it in the octet that is not full
+    PackRow {
+        text: "01111110 00001000 1",
+        bits: 17,
+        block: &[0x7e, 0x10, 0x01],
+    },
+    // 64 octets at once, and one more
+    PackRow {
+        text: "01111110000010001100000100000000101111101101001110111111000000001",
+        bits: 65,
+        block: &[0x7e, 0x10, 0x83, 0x00, 0x7d, 0xcb, 0xfd, 0x00, 0x01],
+    },
+    // a bit, and 64 octets at once after it
+    PackRow {
+        text: "1\n0111111000001000110000010000000010111110110100111011111100000000\n",
+        bits: 65,
+        block: &[0xfd, 0x20, 0x06, 0x01, 0xfa, 0x96, 0xfb, 0x01, 0x00],
+    },
+];
+
+/// The first octets of a text of 128 octets, which end as the row's text does, and then octets that are no bits.
+fn before_others(rt: &impl Abort, text: &str) -> [u8; 128] {
+    let mut octets = [b'x'; 128];
+    octets
+        .get_mut(..text.len())
+        .expect(rt, "a short text")
+        .copy_from_slice(text.as_bytes());
+    octets
+}
+
+#[test]
+fn texts_are_packed(rt: HostRuntime) {
+    for row in &PACKED {
+        let octets = before_others(&rt, row.text);
+        let mut block = [0xff; 32];
+        let TextBlock { count, taken } = TextBits::pack(&octets, &mut block);
+        assert_eq!(rt; count, row.bits, "{}", row.text);
+        assert_eq!(rt; taken, row.text.len(), "{}", row.text);
+        assert_eq!(rt;
+            block.get(..row.block.len()),
+            Some(row.block),
+            "{}",
+            row.text
+        );
+    }
 }
 
 fn check_head(rt: &impl Abort, head: &[u8; 16], want: Result<u64, HeadFault>) {

@@ -164,7 +164,7 @@ fn sixteen_octets_are_parted(rt: HostRuntime) {
     let mut packed = PackedPairs::new(PairHead { pairs: 65 });
     let mut first = [0xff; 9];
     let mut second = [0xff; 9];
-    assert_eq!(rt; packed.whole(15), 8);
+    assert_eq!(rt; packed.whole(15), 0);
     assert_eq!(rt; packed.whole(40), 16);
     if packed.left() >= 64 {
         packed.take_all(&octets, &mut first, &mut second);

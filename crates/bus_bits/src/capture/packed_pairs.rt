@@ -68,23 +68,23 @@ impl PackedPairs {
         Ok(gathered(&octet_pairs(octet)[..used as usize]))
     }
 
-    /// How many of the next `count` octets can be taken at once: eights of octets of which all pairs are wanted.
+    /// How many of the next `count` octets can be taken at once: sixteens of octets of which all pairs are wanted.
     #[inline(always)]
     pub fn whole(&self, count: usize) -> usize
         ensures within { result ≤ count }
         ensures wanted { 4 * result ≤ self.now }
-        ensures eights { result % 8 ≡ 0 }
-        ensures most { (count < result + 8) ⊎ (self.now < 4 * result + 32) }
+        ensures sixteens { result % 16 ≡ 0 }
+        ensures most { (count < result + 16) ⊎ (self.now < 4 * result + 64) }
     {
-        8 * min(count as u64 / 8, self.left / 32) as usize
+        16 * min(count as u64 / 16, self.left / 64) as usize
     }
 
-    /// Takes eights of octets of which all pairs are wanted, and parts them: the first line's bits are then those of one
+    /// Takes sixteens of octets of which all pairs are wanted, and parts them: the first line's bits are then those of one
     /// block and the second line's those of another, each in octets whose lowest bit is the first.
     #[inline(always)]
     pub fn take_all(&mut self, octets: &[u8], first: &mut [u8], second: &mut [u8])
         requires wanted { 4 * length octets.now ≤ self.old }
-        requires eights { length octets.now % 8 ≡ 0 }
+        requires sixteens { length octets.now % 16 ≡ 0 }
         requires room { (length octets.now ≤ 2 * length first.old) × (length octets.now ≤ 2 * length second.old) }
         ensures given { (n : ℕ) (xs : List ℕ) → PairsAfter n xs self.old →
             PairsAfter n (xs ++ octets.now) self.new

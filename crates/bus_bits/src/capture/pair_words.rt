@@ -1,9 +1,11 @@
 //! The bits of two lines in one number, parted into two.
 
-ghost use Rattle.std.specs.Prelude.{◌≡◌, ℕ, ◌≤◌, ◌<◌, ◌*◌, ◌/◌, ◌^◌, zip, bit_and, bit_or};
+ghost use Rattle.std.specs.Prelude.{◌≡◌, ℕ, ◌<◌, ◌*◌, ◌/◌, ◌^◌, zip, slice_index, get_or, bit_and, bit_or};
 ghost use Rattle.std.specs.Int.{bit_at};
 ghost use Rattle.bus_bits.specs.Octet.{bits_of};
 ghost use Rattle.bus_bits.specs.Packed.{in_pairs};
+
+use std::simd::prelude::*;
 
 /// Bits of both lines at the same places, the first lowest.
 #[derive(Clone, Copy, Debug, PartialEq, Eq)]
@@ -14,27 +16,37 @@ pub struct PairWords {
     pub second: u64,
 }
 
-/// The 32 pairs of a number, from the least significant bits on.
+/// The bits of sixteen octets of pairs, parted.
+#[derive(Clone, Copy)]
+pub(super) struct BothLines {
+    /// The first line's, 32 in each.
+    pub(super) first: [u64; 2],
+    /// The second line's.
+    pub(super) second: [u64; 2],
+}
+
+/// The 32 pairs of each of two numbers, from the least significant bits on.
 #[inline(always)]
-pub(super) fn parted(word: u64) -> PairWords
-    ensures pairs { (k : ℕ) → k ≤ 32 →
-        in_pairs (bits_of (2 * k) word) ≡ zip (bits_of k result.first) (bits_of k result.second) }
-    ensures small { (k : ℕ) → k ≤ 32 → word < 2 ^ (2 * k) → (result.first < 2 ^ k) × (result.second < 2 ^ k) }
+pub(super) fn parted(low: u64, high: u64) -> BothLines
+    ensures low { in_pairs (bits_of 64 low)
+        ≡ zip (bits_of 32 (slice_index result.first 0)) (bits_of 32 (slice_index result.second 0)) }
+    ensures high { in_pairs (bits_of 64 high)
+        ≡ zip (bits_of 32 (slice_index result.first 1)) (bits_of 32 (slice_index result.second 1)) }
 {
-    PairWords {
-        first: even_bits(word),
-        second: even_bits(word >> 1),
+    let words = u64x2::from_array([low, high]);
+    BothLines {
+        first: even_bits(words).to_array(),
+        second: even_bits(words >> 1).to_array(),
     }
 }
 
-/// The bits at the even places of a number, close together.
+/// The bits at the even places of each number, close together.
 #[inline(always)]
-fn even_bits(word: u64) -> u64
-    ensures bits { (i : ℕ) → i < 32 → bit_at result i ≡ bit_at word (2 * i) }
-    ensures small { (k : ℕ) → k ≤ 32 → word < 2 ^ (2 * k) → result < 2 ^ k }
+fn even_bits(words: u64x2) -> u64x2
+    ensures { (j : ℕ) → j < 2 → (i : ℕ) → i < 32 → bit_at (get_or result j 0) i ≡ bit_at (get_or words j 0) (2 * i) }
 {
     // They stand by ones, and then by twos, fours and so on, each with as many 0 above.
-    let ones = word & 0x5555_5555_5555_5555;
+    let ones = words & u64x2::splat(0x5555_5555_5555_5555);
     let twos = closer(ones, 1, 0x3333_3333_3333_3333);
     let fours = closer(twos, 2, 0x0f0f_0f0f_0f0f_0f0f);
     let eights = closer(fours, 4, 0x00ff_00ff_00ff_00ff);
@@ -42,11 +54,12 @@ fn even_bits(word: u64) -> u64
     closer(sixteens, 16, 0xffff_ffff)
 }
 
-/// These bits and the same so many places lower, of which those of a mask are kept.
+/// The bits of each number and the same so many places lower, of which those of a mask are kept.
 #[inline(always)]
-fn closer(bits: u64, places: u32, mask: u64) -> u64
+fn closer(bits: u64x2, places: u64, mask: u64) -> u64x2
     requires { places < 64 }
-    ensures { result ≡ bit_and (bit_or bits (bits / 2 ^ places)) mask }
+    ensures { (j : ℕ) → j < 2 → get_or result j 0
+        ≡ bit_and (bit_or (get_or bits j 0) (get_or bits j 0 / 2 ^ places)) mask }
 {
-    (bits | bits >> places) & mask
+    (bits | bits >> u64x2::splat(places)) & u64x2::splat(mask)
 }

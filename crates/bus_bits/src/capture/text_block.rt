@@ -1,9 +1,9 @@
 //! Text captures packed into blocks of octets, the first bit the lowest of the first octet.
 
-ghost use Rattle.std.specs.Prelude.{◌≡◌, ◌+◌, ◌*◌, ◌≤◌, ◌<◌, ◌^◌, ℕ, List, ◌++◌, length, take, None};
+ghost use Rattle.std.specs.Prelude.{◌≡◌, ◌+◌, ◌*◌, ◌≤◌, ◌<◌, ◌^◌, ◌⊎◌, ℕ, List, false, ◌++◌, length, slice_index, take, None};
 ghost use Rattle.bus_bits.specs.Bits.{bits_from};
 ghost use Rattle.bus_bits.specs.Octet.{bits_of};
-ghost use Rattle.bus_bits.specs.Capture.{text_bits, text_fault};
+ghost use Rattle.bus_bits.specs.Capture.{TextEnds, is_bit, is_space, text_bits, text_fault};
 ghost use Rattle.bus_bits.specs.Internal.Packs.{IsPacked, packed_bits};
 
 use super::text_bits::{TextBits, is_skipped};
@@ -43,6 +43,7 @@ impl TextBits {
         ensures given { (xs : List ℕ) → text_fault xs ≡ None →
             (text_fault (xs ++ take result.taken text.now) ≡ None)
             × (text_bits (xs ++ take result.taken text.now) ≡ text_bits xs ++ bits_from block.new 0 result.count) }
+        ensures most { (8 * length block.new < result.count + 176) ⊎ TextEnds text.now result.taken }
         ensures len { length block.new ≡ length block.old }
     {
         let mut now = Packing {
@@ -71,6 +72,7 @@ fn close(block: &mut [u8], packing: Packing) -> TextBlock
     requires rest { packing.rest < 2 ^ packing.held }
     ensures bits { bits_from block.new 0 result.count ≡ packed_bits block.old packing }
     ensures within { result.count ≤ 8 * length block.new }
+    ensures count { result.count ≡ 8 * packing.filled + packing.held }
     ensures taken { result.taken ≡ packing.taken }
     ensures len { length block.new ≡ length block.old }
 {
@@ -88,6 +90,7 @@ fn pack_some(text: &[u8], block: &mut [u8], packing: Packing) -> Packing
     requires room { packing.filled + 22 ≤ length block.old }
     ensures packed { IsPacked text.now block.new result }
     ensures more { packing.taken ≤ result.taken }
+    ensures most { result.taken ≡ packing.taken → TextEnds text.now result.taken }
     ensures len { length block.new ≡ length block.old }
 {
     let long = pack_sixty_four(text, block, packing);
@@ -105,6 +108,7 @@ fn pack_short_lines(text: &[u8], block: &mut [u8], packing: Packing) -> Packing
     requires room { packing.filled + 14 ≤ length block.old }
     ensures packed { IsPacked text.now block.new result }
     ensures more { packing.taken ≤ result.taken }
+    ensures most { result.taken ≡ packing.taken → TextEnds text.now result.taken }
     ensures len { length block.new ≡ length block.old }
 {
     let first = pack_line(text, block, packing);
@@ -121,6 +125,7 @@ fn pack_line(text: &[u8], block: &mut [u8], packing: Packing) -> Packing
     ensures packed { IsPacked text.now block.new result }
     ensures room { result.filled ≤ packing.filled + 2 }
     ensures more { packing.taken ≤ result.taken }
+    ensures most { result.taken ≡ packing.taken → TextEnds text.now result.taken }
     ensures len { length block.new ≡ length block.old }
 {
     let packing = pack_sixteen(text, block, packing);
@@ -156,6 +161,8 @@ fn pack_sixteen(text: &[u8], block: &mut [u8], packing: Packing) -> Packing
     ensures packed { IsPacked text.now block.new result }
     ensures room { result.filled ≤ packing.filled + 2 }
     ensures more { packing.taken ≤ result.taken }
+    ensures most { result.taken ≡ packing.taken →
+        (length text.now < result.taken + 16) ⊎ (is_bit (slice_index text.now result.taken) ≡ false) }
     ensures len { length block.new ≡ length block.old }
 {
     let Some(front) = text[packing.taken..].first_chunk() else {
@@ -176,6 +183,7 @@ fn pass_spaces(text: &[u8], packing: Packing) -> Packing
     ensures packed { (block : List ℕ) → IsPacked text.now block packing → IsPacked text.now block result }
     ensures filled { result.filled ≡ packing.filled }
     ensures more { packing.taken ≤ result.taken }
+    ensures most { result.taken < length text.now → is_space (slice_index text.now result.taken) ≡ false }
 {
     let mut now = packing;
     while now.taken < text.len() && is_skipped(text[now.taken]) {

@@ -1,6 +1,6 @@
 //! The pairs of a text capture of two lines.
 
-ghost use Rattle.std.specs.Prelude.{◌≡◌, ℕ, ◌*◌, List, [], ◌∷◌, ◌++◌, ◌≤◌, ◌⊎◌, ◌↔◌, length, take, zip, MatchResult, Some, None, IsSome};
+ghost use Rattle.std.specs.Prelude.{◌≡◌, ℕ, ◌*◌, List, [], ◌∷◌, ◌++◌, ◌≤◌, ◌<◌, ◌⊎◌, ◌↔◌, length, take, drop, zip, MatchResult, Some, None, IsSome};
 ghost use Rattle.std.specs.Option.{ForSome, option_to_list};
 ghost use Rattle.bus_bits.specs.Bits.{bits_from};
 ghost use Rattle.bus_bits.specs.Octet.{bits_of};
@@ -75,8 +75,9 @@ impl TextPairs {
         })
     }
 
-    /// Parts the next pairs of a text, eight at a time, as long as they come and as the blocks have room: the first
-    /// line's bits into one block and the second line's into another, each in octets whose lowest bit is the first.
+    /// Parts the next pairs of a text, eight at a time as [`TextPairs::eight`] finds them, as long as they come so and
+    /// the blocks have room: the first line's bits into one block and the second line's into another, each in octets
+    /// whose lowest bit is the first.
     #[inline(always)]
     pub fn part(text: &[u8], first: &mut [u8], second: &mut [u8]) -> PartedText
         requires same { length first.old ≡ length second.old }
@@ -86,6 +87,8 @@ impl TextPairs {
             (text_pairs_fault (xs ++ take result.taken text.now) ≡ None)
             × (text_pairs (xs ++ take result.taken text.now) ≡ text_pairs xs
             ++ zip (bits_from first.new 0 (8 * result.filled)) (bits_from second.new 0 (8 * result.filled))) }
+        ensures most { result.filled < length first.new → (n : ℕ) → n ≡ 8 ⊎ n ≡ 9 →
+            ¬ (EightPairsIn n (drop result.taken text.now)) }
         ensures len { (length first.new ≡ length first.old) × (length second.new ≡ length second.old) }
     {
         let mut filled = 0;

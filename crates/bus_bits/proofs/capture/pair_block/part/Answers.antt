@@ -1,28 +1,34 @@
-use Rattle.std.proofs.Common.{◌≡◌, ◌+◌, ◌*◌, ◌/◌, ℕ, length, zip, ap, ◌∙◌, refl, subst, arith}
+use Rattle.std.proofs.Common.{◌≡◌, ◌+◌, ◌*◌, ◌/◌, ◌++◌, ℕ, length, zip, slice_index, ap, ◌∙◌, refl, subst, arith}
+use Rattle.bus_bits.specs.Octet.{bits_of}
 use Rattle.bus_bits.specs.Bits.{bits_from}
 use Rattle.bus_bits.specs.Packed.{in_pairs}
-use Rattle.bus_bits.proofs.PairBlockLemmas.{pairs-parted}
+use Rattle.bus_bits.proofs.PairBlockLemmas.{pairs-parted, sixteen-parted}
 use Rattle.bus_bits.proofs.WordLemmas.{bits-whole}
 use Rattle.bus_bits.proofs.capture.pair_block.part.Goals as goal
 
 pub loop-at-init : goal.loop-at-init
 unfolding bits_from in_pairs
-loop-at-init c = record { within = omega arith; eights = refl; pairs = refl; first = refl; second = refl }
+loop-at-init c = record { within = omega arith; sixteens = refl; pairs = refl; first = refl; second = refl }
 
 pub loop-at-preserved : goal.loop-at-preserved
 loop-at-preserved c =
+    let os = c.args.octets.now in
     let i = c.loop-at.at in
-    let half : (n : ℕ) → n ≡ 8 * (i / 2) → n ≡ 4 * i = λ n e. omega (arith, e, c.loop-at.invariant.eights) in
-    let stored : 8 * (i / 2) + 32 ≡ 4 * (i + 8) = omega (arith, c.loop-at.invariant.eights) in
-    let before : 8 * (i / 2) ≡ 4 * i = omega (arith, c.loop-at.invariant.eights) in
+    let one = c.parted-words.result.first in
+    let two = c.parted-words.result.second in
+    let stored : 8 * (i / 2) + 64 ≡ 4 * (i + 16) = omega (arith, c.loop-at.invariant.sixteens) in
+    let before : 8 * (i / 2) ≡ 4 * i = omega (arith, c.loop-at.invariant.sixteens) in
     record {
-      within = omega (arith, c.loop-at.invariant.within, c.loop-at.invariant.eights, c.loop-at-test.true, c.requires.eights);
-      eights = omega (arith, c.loop-at.invariant.eights);
-      pairs = pairs-parted c.args.octets.now c.loop-at.first c.loop-at.second c.store_four.new.octets c.store_four-in-loop-at.new.octets i (i + 8)
-          c.parted-words.result.first c.parted-words.result.second c.eight_at.result c.loop-at.invariant.pairs refl c.eight_at.ensures (c.parted-words.ensures.pairs 32 (omega arith))
-          (rw (← stored, ← before) c.store_four.ensures.bits) (rw (← stored, ← before) c.store_four-in-loop-at.ensures.bits);
-      first = c.store_four.ensures.len ∙ c.loop-at.invariant.first;
-      second = c.store_four-in-loop-at.ensures.len ∙ c.loop-at.invariant.second;
+      within = omega (arith, c.loop-at.invariant.within, c.loop-at.invariant.sixteens, c.loop-at-test.true, c.requires.sixteens);
+      sixteens = omega (arith, c.loop-at.invariant.sixteens);
+      pairs = pairs-parted os c.loop-at.first c.loop-at.second c.store_eight.new.octets c.store_eight-in-loop-at.new.octets i (i + 16) 128
+          (bits_of 32 (slice_index one 0) ++ bits_of 32 (slice_index one 1)) (bits_of 32 (slice_index two 0) ++ bits_of 32 (slice_index two 1))
+          c.loop-at.invariant.pairs (omega arith)
+          (sixteen-parted os i c.eight_at.result c.eight_at-in-loop-at.result (slice_index one 0) (slice_index one 1) (slice_index two 0) (slice_index two 1)
+          c.eight_at.ensures c.eight_at-in-loop-at.ensures c.parted-words.ensures.low c.parted-words.ensures.high)
+          (rw (← stored, ← before) c.store_eight.ensures.bits) (rw (← stored, ← before) c.store_eight-in-loop-at.ensures.bits);
+      first = c.store_eight.ensures.len ∙ c.loop-at.invariant.first;
+      second = c.store_eight-in-loop-at.ensures.len ∙ c.loop-at.invariant.second;
     }
 
 pub returns-clause-pairs : goal.returns-clause-pairs

@@ -1,24 +1,20 @@
-use Rattle.std.proofs.Common.{◌≡◌, ◌<◌, ◌*◌, ◌^◌, ℕ, refl, bit_and}
-use Rattle.std.specs.Int.{bit_at}
-use Rattle.bus_bits.proofs.PairWordsLemmas.{even-bits, even-small}
-use Rattle.bus_bits.proofs.capture.pair_words.even_bits.Goals.{After-closer}
+use Rattle.std.proofs.Common.{◌<◌, ◌/◌, ◌^◌, ◌∷◌, [], refl, bit_and, bit_or, get_or, length, ap, ◌∙◌, arith, w64}
+use Rattle.std.proofs.lemmas.Simd.{below_from_Fits, get_or-replicate, get_or-zip2, Each1-get_or}
+use Rattle.bus_bits.proofs.PairWordsLemmas.{even-bits}
 use Rattle.bus_bits.proofs.capture.pair_words.even_bits.Goals as goal
 
-even : (c : After-closer) → ((i : ℕ) → i < 32 → bit_at c.closer.result i ≡ bit_at c.args.word (2 * i)) × (c.closer.result < 2 ^ 32)
-even c =
-    let w = c.args.word in
-    even-bits w (bit_and w 6148914691236517205) c.closer-twos.result c.closer-fours.result c.closer-eights.result c.closer-sixteens.result c.closer.result (record {
-      fits = c.ranges.word.fits;
+pub returns : goal.returns
+returns c = λ j two.
+    let word = get_or c.args.words j 0 in
+    let within : j < length c.args.words = omega (arith, two, c.fits-words.0) in
+    let ones = get_or-zip2 bit_and c.args.words (6148914691236517205 ∷ 6148914691236517205 ∷ []) j 0 0 0 within two ∙ ap (bit_and word) (get_or-replicate 2 j 6148914691236517205 0 two) in
+    even-bits word (bit_and word 6148914691236517205) (get_or c.closer-twos.result j 0) (get_or c.closer-fours.result j 0)
+    (get_or c.closer-eights.result j 0) (get_or c.closer-sixteens.result j 0) (get_or c.closer.result j 0) (record {
+      fits = Each1-get_or (λ n. n < 2 ^ 64) c.args.words j 0 within (below_from_Fits w64 c.args.words c.fits-words.1);
       ones = refl;
-      twos = c.closer-twos.ensures;
-      fours = c.closer-fours.ensures;
-      eights = c.closer-eights.ensures;
-      sixteens = c.closer-sixteens.ensures;
-      all = c.closer.ensures;
+      twos = c.closer-twos.ensures j two ∙ ap (λ n. bit_and (bit_or n (n / 2)) 3689348814741910323) ones;
+      fours = c.closer-fours.ensures j two;
+      eights = c.closer-eights.ensures j two;
+      sixteens = c.closer-sixteens.ensures j two;
+      all = c.closer.ensures j two;
     })
-
-pub returns-clause-bits : goal.returns-clause-bits
-returns-clause-bits c = (even c).0
-
-pub returns-clause-small : goal.returns-clause-small
-returns-clause-small c = λ k l below. let e = even c in even-small c.args.word c.closer.result k e.0 e.1 l below

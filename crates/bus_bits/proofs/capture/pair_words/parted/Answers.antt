@@ -1,15 +1,13 @@
-use Rattle.std.proofs.Common.{◌*◌, arith, ◌∙◌}
+use Rattle.std.proofs.Common.{◌*◌, arith, ◌∙◌, slice_index}
 use Rattle.bus_bits.proofs.PairWordsLemmas.{parted-bits, half_at}
 use Rattle.bus_bits.proofs.capture.pair_words.parted.Goals as goal
 
-pub returns-clause-pairs : goal.returns-clause-pairs
-returns-clause-pairs c =
-    λ k few.
-    let w = c.args.word in
-    parted-bits k w c.even_bits.result c.even_bits-2.result (λ i l. c.even_bits.ensures.bits i (omega (arith, l, few)))
-    (λ i l. c.even_bits-2.ensures.bits i (omega (arith, l, few)) ∙ half_at w (2 * i))
+pub returns-clause-low : goal.returns-clause-low
+returns-clause-low c =
+    parted-bits 32 c.args.low (slice_index c.even_bits.result 0) (slice_index c.even_bits-2.result 0)
+    (λ i l. c.even_bits.ensures 0 (omega arith) i l) (λ i l. c.even_bits-2.ensures 0 (omega arith) i l ∙ half_at c.args.low (2 * i))
 
-pub returns-clause-small : goal.returns-clause-small
-returns-clause-small c =
-    λ k few below.
-    (c.even_bits.ensures.small k few below, c.even_bits-2.ensures.small k few (omega (arith, below)))
+pub returns-clause-high : goal.returns-clause-high
+returns-clause-high c =
+    parted-bits 32 c.args.high (slice_index c.even_bits.result 1) (slice_index c.even_bits-2.result 1)
+    (λ i l. c.even_bits.ensures 1 (omega arith) i l) (λ i l. c.even_bits-2.ensures 1 (omega arith) i l ∙ half_at c.args.high (2 * i))

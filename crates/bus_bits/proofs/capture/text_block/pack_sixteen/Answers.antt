@@ -1,12 +1,13 @@
-use Rattle.std.proofs.Common.{◌≡◌, ◌-◌, ◌*◌, ◌%◌, ◌<◌, ◌≤◌, ◌^◌, ℕ, List, length, take, drop, refl, ap, ◌∙◌, arith}
+use Rattle.std.proofs.Common.{◌≡◌, ◌-◌, ◌*◌, ◌%◌, ◌<◌, ◌≤◌, ◌^◌, ℕ, List, length, take, drop, inr, refl, sym, ap, slice_index, ◌∙◌, arith}
 use Rattle.std.specs.Int.{bit_at, trailing_ones, w64}
-use Rattle.std.proofs.lemmas.List.{length-take}
+use Rattle.std.proofs.lemmas.List.{length-take, length-drop}
 use Rattle.std.proofs.lemmas.Nat.{and_mask, one_shl}
 use Rattle.std.proofs.lemmas.Nat.Bits.{bit_at-trailing_ones}
 use Rattle.std.specs.Prelude.{bit_and}
 use Rattle.bus_bits.specs.Octet.{bits_of}
+use Rattle.bus_bits.specs.Capture.{is_bit}
 use Rattle.bus_bits.proofs.OctetLemmas.{bits-low}
-use Rattle.bus_bits.proofs.TextBlockLemmas.{front-given, front-marks, ones-few, packed-more}
+use Rattle.bus_bits.proofs.TextBlockLemmas.{first-none, front-given, front-marks, ones-few, packed-more}
 use Rattle.bus_bits.proofs.TextMarksLemmas.{all-front}
 use Rattle.bus_bits.proofs.capture.text_block.pack_sixteen.Goals as goal
 
@@ -55,3 +56,15 @@ returns-clause-room c =
     let marks = c.marks_of_sixteen-marks in
     let ones = bit_at-trailing_ones w64 marks.result.bits (omega (arith, marks.ensures.few.1)) in
     omega (arith, c.trailing_ones-count.ensures, ones-few marks.result.bits (trailing_ones w64 marks.result.bits) marks.ensures.few.1 ones.2, c.put_bits-2.ensures.count, c.put_bits-2.ensures.held, c.requires.packed.few)
+
+pub returns-clause-most : goal.returns-clause-most
+returns-clause-most c = λ none.
+    let p = c.args.packing in
+    let text = c.args.text.now in
+    let marks = c.marks_of_sixteen-marks in
+    let chunk = c.in-Some.ensures.cases in
+    let ones = bit_at-trailing_ones w64 marks.result.bits (omega (arith, marks.ensures.few.1)) in
+    let count : trailing_ones w64 marks.result.bits ≡ 0 = omega (arith, none, c.put_bits-2.ensures.taken, c.trailing_ones-count.ensures) in
+    let some : p.taken < length text = omega (arith, chunk.enough, length-take (length text - p.taken) (drop p.taken text), length-drop p.taken text) in
+    inr (ap (λ n. is_bit (slice_index text n)) none
+    ∙ first-none text c.in-Some.front.now p.taken marks.result.bits some chunk.same marks.ensures.bits (ap (bit_at marks.result.bits) (sym count) ∙ ones.1))

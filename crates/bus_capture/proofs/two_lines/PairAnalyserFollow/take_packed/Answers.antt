@@ -1,12 +1,19 @@
 use Rattle.std.proofs.Common.{◌≤◌, ◌*◌, ◌^◌, ◌++◌, Ok, Err, length, take, zip, arith}
+use Rattle.std.proofs.lemmas.List.{length-take}
 use Rattle.std.proofs.lemmas.Result.{err_from_is_err_and}
 use Rattle.bus_bits.specs.Bits.{bits_from}
+use Rattle.bus_bits.proofs.OctetLemmas.{least}
 use Rattle.bus_bits.specs.Packed.{PairsAfter, packed_pair_capture, pair_body, pair_head_fault}
 use Rattle.bus_capture.specs.Internal.TwoLines.{pair_tap}
 use Rattle.bus_capture.proofs.CapturesLemmas.{followed-fits}
 use Rattle.bus_capture.proofs.HeadedLemmas.{octets-read}
 use Rattle.bus_capture.proofs.SessionsPackedLemmas.{octets-taken}
 use Rattle.bus_capture.proofs.two_lines.PairAnalyserFollow.take_packed.Goals as goal
+
+pub take_all-requires-clause-sixteens : goal.take_all-requires-clause-sixteens
+take_all-requires-clause-sixteens g c =
+    let count = c.whole-count.result in
+    omega (arith, length-take count c.args.octets.now, least (length c.args.octets.now) 512, c.min.ensures, c.whole-count.ensures.within, c.whole-count.ensures.sixteens)
 
 pub returns-in_err-take_pairs-clause-taken : goal.returns-in_err-take_pairs-clause-taken
 returns-in_err-take_pairs-clause-taken g c =
