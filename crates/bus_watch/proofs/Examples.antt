@@ -1,5 +1,5 @@
 -- What is seen of lists that were worked out by hand, computed from the definitions alone. Types and names are made up.
-use Rattle.std.proofs.Common.{◌≡◌, ℕ, Bool, true, false, List, [], ◌∷◌, Option, Some, None, codes, refl}
+use Rattle.std.proofs.Common.{◌≡◌, ℕ, Bool, true, false, List, [], ◌∷◌, Option, Some, None, codes, refl, zip}
 use Rattle.bus_bits.specs.Octet.{number, octets}
 use Rattle.bus_bits.specs.Capture.{text_bits}
 use Rattle.bus_fcs.specs.Division.{add, step, divided, remainder}
@@ -10,8 +10,9 @@ use Rattle.bus_line.specs.Due.{placed}
 use Rattle.bus_dictionary.specs.Entry.{FrameType}
 use Rattle.bus_dictionary.specs.declared.standing.Standing.{Standing}
 use Rattle.bus_dictionary.specs.declared.standing.Standing.TheVariants.{Unknown, Known}
-use Rattle.bus_watch.specs.Heard.{of_line}
-use Rattle.bus_watch.specs.declared.line.Line.TheVariants.{First}
+use Rattle.bus_watch.specs.Heard.{of_line, merged}
+use Rattle.bus_watch.specs.declared.line.Line.TheVariants.{First, Second}
+use Rattle.bus_watch.specs.declared.line.Line.{Line}
 use Rattle.bus_watch.specs.Talk.{pending}
 use Rattle.bus_watch.specs.Seen.{SeenReport, seen}
 use Rattle.bus_watch.specs.History.{tally, history}
@@ -120,3 +121,33 @@ last_of_two = refl
 fifteen_steps : handled three_reports ≡ 15
 unfolding three_reports
 fifteen_steps = refl
+
+abbrev told_on : Line → Report → Option Standing → Option Verdict → Bool → SeenReport
+told_on line r standing verdict stray = record { line = Some line; report = r; standing = standing; verdict = verdict; stray = stray }
+
+abbrev idle_from : ℕ → ℕ → Report
+idle_from first past = record { kind = Idle; first = first; past = past }
+
+abbrev both : List ℕ → List ℕ → List (Bool × Bool)
+both first second = zip (text_bits first) (text_bits second)
+
+-- two lines: the call on the first, its reply on the second behind it
+answered_on_second : seen calls (merged 0 3 (both (codes "01111110 00001000 11000001 00000000 101111101 10100111 01111110 111111111111111111111111111111111111111111111111111111111") (codes "111111111111111111111111111111111111111111111111111111111 01111110 00001000 11000001 00000001 10101111 100000110 01111110")))
+    ≡ told_on Second (idle_from 0 15) None None false ∷ told_on First (call_at 8 49) (Some (Known 16 0)) None false ∷ told_on First (idle_from 57 72) None None false
+    ∷ told_on Second (reply_at 65 106) (Some (Known 16 128)) (verdict_on_call Answered 8 49) false ∷ []
+unfolding is_good remainder divided step add ends_inverted octets number
+answered_on_second = refl
+
+-- the reply on the first line answers nothing
+unanswered_on_first : seen calls (merged 0 3 (both (codes "01111110 00001000 11000001 00000000 101111101 10100111 01111110 00001000 11000001 00000001 10101111 100000110 01111110") (codes "1111111111111111111111111111111111111111111111111111111111111111111111111111111111111111111111111111111111")))
+    ≡ told_on Second (idle_from 0 15) None None false ∷ told_on First (call_at 8 49) (Some (Known 16 0)) None false
+    ∷ told_on First (reply_at 57 98) (Some (Known 16 128)) (verdict_on_call Missing 8 49) true ∷ []
+unfolding is_good remainder divided step add ends_inverted octets number
+unanswered_on_first = refl
+
+-- both are decided at one place: the first line's comes first
+both_at_one_place : seen calls (merged 0 3 (both (codes "01111110 00001000 11000001 00000000 101111101 10100111 01111110") (codes "01111110 00001000 11000001 00000001 10101111 100000110 01111110")))
+    ≡ told_on First (call_at 8 49) (Some (Known 16 0)) None false
+    ∷ told_on Second (reply_at 8 49) (Some (Known 16 128)) (verdict_on_call Answered 8 49) false ∷ []
+unfolding is_good remainder divided step add ends_inverted octets number
+both_at_one_place = refl

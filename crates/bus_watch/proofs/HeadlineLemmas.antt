@@ -1,16 +1,19 @@
 -- What a whole run comes to.
-use Rattle.std.proofs.Common.{◌≡◌, ℕ, ◌+◌, ◌-◌, ◌*◌, ◌≤◌, ◌<◌, Bool, List, [], ◌∷◌, ◌++◌, length, take, drop, get_or, Bor, Option, refl, sym, ap, ◌∙◌, subst, append-nil, arith, length-append, length-take}
+use Rattle.std.proofs.Common.{◌≡◌, ℕ, ◌+◌, ◌-◌, ◌*◌, ◌≤◌, ◌<◌, Bool, List, [], ◌∷◌, ◌++◌, length, map, take, drop, get_or, Bor, Option, refl, sym, ap, ◌∙◌, subst, append-nil, arith, length-append, length-take}
 use Rattle.std.proofs.lemmas.List.{take_more, flat_map_more, take-take, take-append-drop}
 use Rattle.std.proofs.lemmas.Grind.{flat_map-append}
+use Rattle.bus_line.specs.Due.{placed, reports}
+use Rattle.bus_line.specs.Laws.{ReportsAre}
 use Rattle.bus_line.specs.Ledger.{stored_open}
 use Rattle.bus_dictionary.specs.Dictionary.{longest_of}
+use Rattle.bus_watch.specs.Heard.{of_line}
 use Rattle.bus_watch.specs.Sink.{told}
-use Rattle.bus_watch.specs.Seen.{SeenReport}
+use Rattle.bus_watch.specs.Seen.{SeenReport, heard_in}
 use Rattle.bus_watch.specs.History.{history}
 use Rattle.bus_watch.specs.Ledger.{IsLedger, total}
 use Rattle.bus_watch.specs.Watch.{Watch}
 use Rattle.bus_watch.specs.After.{AnalyserState, IsAfter, line, one_line}
-use Rattle.bus_watch.specs.Laws.{AnyCut, Runs, ended, called, joined}
+use Rattle.bus_watch.specs.Laws.{AnyCut, SeenAreReports, Runs, ended, called, joined}
 use Rattle.bus_watch.proofs.FedLemmas.{same-seen}
 use Rattle.bus_watch.specs.Fed.{Fed, RefusedAt}
 use Rattle.bus_watch.specs.Headline.{Headline, WholeRun, StoppedAt, all_seen, bits_in}
@@ -39,14 +42,17 @@ pub record Answers {C : Type 0} (folded : C → List ℕ → Type 0) (cost : ℕ
   pub four : (b : List Bool) → IsAfter folded cost e b → total u.spent ≤ 4 * length b
   pub three : cost ≡ 1 → (b : List Bool) → IsAfter folded cost e b → total u.spent ≤ 3 * length b
 
-pub whole-run : {C : Type 0} (folded : C → List ℕ → Type 0) (cost : ℕ) (e : AnalyserState C) (u : Usage) → AnyCut folded cost → Answers folded cost e u → WholeRun folded cost e u
-whole-run folded cost e u cut h = λ start pieces tolds s r.
+pub whole-run : {C : Type 0} (folded : C → List ℕ → Type 0) (cost : ℕ) (e : AnalyserState C) (u : Usage) → AnyCut folded cost → ReportsAre → SeenAreReports → Answers folded cost e u → WholeRun folded cost e u
+whole-run folded cost e u cut are in-order h = λ start pieces tolds s r.
     let alike = runs-alike (one_line folded cost) start e pieces tolds r in
     let both = cut start e pieces tolds s r in
     let is_after = both.0 in
+    let b = joined pieces in
+    let all_told = both.1 ∙ sym (same-seen (one_line folded cost) start e b alike.dictionary alike.origin) in
     rw (← alike.dictionary, ← alike.depth, ← alike.origin)
     (record {
-      told = both.1 ∙ sym (same-seen (one_line folded cost) start e (joined pieces) alike.dictionary alike.origin);
+      told = all_told;
+      framing = (reports (longest_of e.journal.dictionary) b, are (longest_of e.journal.dictionary) b, ap (map heard_in) all_told ∙ in-order e.journal.dictionary (of_line (placed e.decoder.origin (longest_of e.journal.dictionary) b)));
       buffer_bound = h.room;
       buffered = h.buffered _ is_after;
       history = is_after.journal.history;

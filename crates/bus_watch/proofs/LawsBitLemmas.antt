@@ -1,6 +1,7 @@
 -- What one bit more costs.
-use Rattle.std.proofs.Common.{◌≡◌, ℕ, ◌+◌, ◌-◌, ◌*◌, ◌≤◌, Bool, true, false, List, [], ◌∷◌, ◌++◌, length, Option, Some, None, refl, sym, ap, ◌∙◌, arith, if◌then◌else◌, length-append, slice_range, length-take, drop}
+use Rattle.std.proofs.Common.{◌≡◌, ℕ, ◌+◌, ◌-◌, ◌*◌, ◌≤◌, Bool, true, false, List, [], ◌∷◌, ◌++◌, length, Option, Some, None, refl, sym, ap, subst, ◌∙◌, arith, if◌then◌else◌, length-append, slice_range, length-take, drop}
 use Rattle.std.specs.List.{sum_by}
+use Rattle.std.proofs.lemmas.List.{map-append}
 use Rattle.std.specs.Option.{option_to_list}
 use Rattle.std.proofs.lemmas.List.Sums.{sum_by-append}
 use Rattle.bus_bits.specs.Octet.{bits_of, bits_of_octets}
@@ -9,8 +10,9 @@ use Rattle.bus_line.specs.Due.{reports, due_at}
 use Rattle.bus_line.specs.Ledger.{kind_octets, octet_count, stored, is_stored, is_settled}
 use Rattle.bus_line.specs.Spelling.{IsSpelledBy, ends, short, five, ones}
 use Rattle.bus_line.specs.Laws.{OneMore, SettlesOne, StoresOne, DueIsIt, FrameIsSpelled}
-use Rattle.bus_watch.specs.Ledger.{kind_steps, steps}
-use Rattle.bus_watch.specs.Laws.{BitCosts, ClosedPaid}
+use Rattle.bus_watch.specs.Ledger.{IsLedger, kind_steps, steps, total}
+use Rattle.bus_watch.specs.Heard.{firsts, seconds}
+use Rattle.bus_watch.specs.Laws.{BitCosts, PairCosts, ClosedPaid}
 
 one-at-most : (x : Bool) → (if x then 1 else 0) ≤ 1
 one-at-most true = omega arith
@@ -77,6 +79,13 @@ eight-each (o ∷ os) = omega (arith, eight-each os)
 
 frame-due : (kind : Kind) (first past : ℕ) (os : List ℕ) → kind ≡ Frame os → due_by kind first past ≡ past + 7
 frame-due kind first past os e = rw e refl
+
+-- of two lines
+pub pair-costs : BitCosts → PairCosts
+pair-costs one cost longest ps p before after h s t =
+    let first = one cost longest (firsts ps) p.0 s.first t.first h s.first_is (subst (λ b. IsLedger cost longest b t.first) (map-append (λ (q : Bool × Bool). q.0) ps (p ∷ [])) t.first_is) in
+    let second = one cost longest (seconds ps) p.1 s.second t.second h s.second_is (subst (λ b. IsLedger cost longest b t.second) (map-append (λ (q : Bool × Bool). q.1) ps (p ∷ [])) t.second_is) in
+    omega (arith, first, second, ap total s.sum, ap total t.sum)
 
 pub closed-paid : DueIsIt → FrameIsSpelled → ClosedPaid
 closed-paid it spelled longest b bit r os e k =

@@ -1,13 +1,20 @@
 -- What a whole run over two lines comes to.
-use Rattle.std.proofs.Common.{◌≡◌, ℕ, ◌+◌, ◌*◌, ◌≤◌, Bool, List, length, sym, ap, ◌∙◌}
+use Rattle.std.proofs.Common.{◌≡◌, ℕ, ◌+◌, ◌-◌, ◌*◌, ◌≤◌, Bool, List, [], ◌∷◌, ◌++◌, length, map, take, Option, sym, ap, ◌∙◌, subst, append-nil, arith, length-take}
+use Rattle.std.proofs.lemmas.List.{take-take}
+use Rattle.bus_line.specs.Due.{reports}
+use Rattle.bus_line.specs.Laws.{ReportsAre}
 use Rattle.bus_line.specs.Ledger.{stored_open}
 use Rattle.bus_dictionary.specs.Dictionary.{longest_of}
-use Rattle.bus_watch.specs.Heard.{firsts, seconds}
+use Rattle.bus_watch.specs.Heard.{firsts, seconds, merged, of_side}
 use Rattle.bus_watch.specs.History.{history}
+use Rattle.bus_watch.specs.Seen.{SeenReport, heard_in}
+use Rattle.bus_watch.specs.declared.line.Line.TheVariants.{First, Second}
 use Rattle.bus_watch.specs.Ledger.{IsPairLedger, total}
 use Rattle.bus_watch.specs.Pairs.{PairState, IsAfterPairs, two_lines, lines}
-use Rattle.bus_watch.specs.Laws.{AnyCutOfPairs, joined}
-use Rattle.bus_watch.specs.PairHeadline.{WholePairRun}
+use Rattle.bus_watch.specs.Laws.{AnyCutOfPairs, SeenAreReports, MergedIsMerged, joined, ended, called}
+use Rattle.bus_watch.specs.PairHeadline.{PairHeadline, StoppedAtPair, WholePairRun, all_seen_on_both}
+use Rattle.bus_watch.specs.Fed.{FedBy, RefusedByAt}
+use Rattle.bus_watch.specs.Sink.{told}
 use Rattle.bus_watch.specs.declared.pair_usage.PairUsage.{PairUsage}
 use Rattle.bus_watch.proofs.FedLemmas.{same-seen}
 use Rattle.bus_watch.proofs.HeadlineLemmas.{runs-alike}
@@ -25,14 +32,22 @@ pub record Answers {C : Type 0} (folded : C → List ℕ → Type 0) (cost : ℕ
   pub four : (ps : List (Bool × Bool)) → IsAfterPairs folded cost e ps → total u.spent ≤ 4 * (2 * length ps)
   pub three : cost ≡ 1 → (ps : List (Bool × Bool)) → IsAfterPairs folded cost e ps → total u.spent ≤ 3 * (2 * length ps)
 
-pub whole-pair-run : {C : Type 0} (folded : C → List ℕ → Type 0) (cost : ℕ) (e : PairState C) (u : PairUsage) → AnyCutOfPairs folded cost → Answers folded cost e u → WholePairRun folded cost e u
-whole-pair-run folded cost e u cut h = λ start pieces tolds s r.
+pub whole-pair-run : {C : Type 0} (folded : C → List ℕ → Type 0) (cost : ℕ) (e : PairState C) (u : PairUsage) → AnyCutOfPairs folded cost → ReportsAre → SeenAreReports → MergedIsMerged → Answers folded cost e u → WholePairRun folded cost e u
+whole-pair-run folded cost e u cut are in-order sides h = λ start pieces tolds s r.
     let alike = runs-alike (two_lines folded cost) start e pieces tolds r in
     let both = cut start e pieces tolds s r in
     let is_after = both.0 in
+    let ps = joined pieces in
+    let longest = longest_of e.journal.dictionary in
+    let origin = e.first.origin in
+    let all_told = both.1 ∙ sym (same-seen (two_lines folded cost) start e ps alike.dictionary alike.origin) in
+    let all_heard = ap (map heard_in) all_told ∙ in-order e.journal.dictionary (merged origin longest ps) in
+    let merges = sides longest origin ps in
     rw (← alike.dictionary, ← alike.depth, ← alike.origin)
     (record {
-      told = both.1 ∙ sym (same-seen (two_lines folded cost) start e (joined pieces) alike.dictionary alike.origin);
+      told = all_told;
+      first_framing = (reports longest (firsts ps), are longest (firsts ps), ap (of_side First) all_heard ∙ merges.first);
+      second_framing = (reports longest (seconds ps), are longest (seconds ps), ap (of_side Second) all_heard ∙ merges.second);
       first_bound = h.first_room;
       second_bound = h.second_room;
       first_buffered = h.first_buffered _ is_after;
@@ -45,3 +60,38 @@ whole-pair-run folded cost e u cut h = λ start pieces tolds s r.
       four = h.four _ is_after;
       three = λ one. h.three one _ is_after;
     })
+
+-- what was fed to a new analyser is a whole run
+pub fed-pair-headline : {C S : Type 0} (folded : C → List ℕ → Type 0) (cost : ℕ) (taken : S → Option (List SeenReport)) (a e : PairState C) (ps : List (Bool × Bool)) (s t : S) (u : PairUsage)
+    → IsAfterPairs folded cost a [] → (f : FedBy (two_lines folded cost) taken a ps e s t) → WholePairRun folded cost e u
+    → PairHeadline cost a.journal.dictionary a.journal.depth a.first.origin ps f.seen e.journal.history u
+fed-pair-headline folded cost taken a e ps s t u new f whole =
+    let d = a.journal.dictionary in
+    let depth = a.journal.depth in
+    let origin = a.first.origin in
+    let h = whole a (ps ∷ []) (f.seen ∷ []) new (called a e e ps f.seen [] [] f.sees (ended e)) in
+    subst (λ x. PairHeadline cost d depth origin x f.seen e.journal.history u) (append-nil ps)
+    (subst (λ y. PairHeadline cost d depth origin (ps ++ []) y e.journal.history u) (append-nil f.seen) h)
+
+-- where a sink refused reports of what a new analyser was fed
+pub stopped-at-pair : {C S : Type 0} (folded : C → List ℕ → Type 0) (cost : ℕ) (taken : S → Option (List SeenReport)) (a e : PairState C) (ps : List (Bool × Bool)) (s t : S) (n consumed : ℕ)
+    → IsAfterPairs folded cost a [] → RefusedByAt (two_lines folded cost) taken n a ps consumed e s t
+    → StoppedAtPair taken n a.journal.dictionary a.first.origin ps s t consumed
+stopped-at-pair folded cost taken a e ps s t n consumed new at =
+    let r = at.refused in
+    let d = a.journal.dictionary in
+    let origin = a.first.origin in
+    let count : length (take consumed ps) - 1 ≡ consumed - 1 = omega (arith, at.within, length-take consumed ps) in
+    let front : take (length (take consumed ps) - 1) (take consumed ps) ≡ take (consumed - 1) ps =
+    ap (λ k. take k (take consumed ps)) count ∙ take-take (consumed - 1) consumed ps (omega arith) in
+    let before : all_seen_on_both d origin (take (consumed - 1) ps) ≡ r.seen = ap (all_seen_on_both d origin) (sym front) ∙ r.front [] new in
+    record {
+      some = at.some;
+      within = at.within;
+      at_last = r.at_last;
+      of_last = r.of_last;
+      seen = r.sees.seen [] new ∙ ap (λ xs. xs ++ r.at_last) (sym before);
+      some_refused = r.some_refused;
+      lacks = r.lacks;
+      took = r.took ∙ ap (λ xs. told (taken s) (xs ++ r.of_last)) (sym before);
+    }

@@ -1,13 +1,14 @@
 -- The headline: what a whole run comes to, from a new analyser on.
-use Rattle.std.specs.Prelude.{◌≡◌, ℕ, ◌+◌, ◌-◌, ◌*◌, ◌≤◌, ◌<◌, ◌^◌, ◌⊎◌, Bool, List, [], ◌∷◌, ◌++◌, length, take, Option}
+use Rattle.std.specs.Prelude.{◌≡◌, ℕ, ◌+◌, ◌-◌, ◌*◌, ◌≤◌, ◌<◌, ◌^◌, ◌⊎◌, Bool, List, [], ◌∷◌, ◌++◌, length, map, take, Option}
 use Rattle.std.specs.Borrow.{Bor}
 use Rattle.std.specs.List.{flat_map}
 use Rattle.bus_line.specs.Due.{placed}
 use Rattle.bus_line.specs.Ledger.{stored_open}
+use Rattle.bus_line.specs.Report.{Report, AreReports, moved}
 use Rattle.bus_dictionary.specs.Entry.{FrameType}
 use Rattle.bus_dictionary.specs.Dictionary.{longest_of}
 use Rattle.bus_watch.specs.Heard.{of_line}
-use Rattle.bus_watch.specs.Seen.{SeenReport, seen}
+use Rattle.bus_watch.specs.Seen.{SeenReport, heard_in, seen}
 use Rattle.bus_watch.specs.History.{KeptFrame, history}
 use Rattle.bus_watch.specs.Ledger.{IsLedger, total}
 use Rattle.bus_watch.specs.Sink.{told}
@@ -29,6 +30,10 @@ pub record Headline
     (reports : List SeenReport) (frames : List KeptFrame) (usage : Usage) : Type 0 where
   -- it told exactly what is seen of all the bits: each report, with its places and with what follows from it, in order
   pub told : reports ≡ all_seen d origin b
+  -- and that is the list's frames, damaged pieces, overlong pieces, aborts and idles, all of them and no others, by
+  -- rising due place, each moved on by the origin
+  pub framing : (rs : List Report) × AreReports (longest_of d) b rs
+      × (map heard_in reports ≡ of_line (map (moved origin) rs))
   -- the frame buffer never has more octets than the longest frame and two: those of the open piece so far
   pub buffer_bound : usage.buffered ≤ longest_of d + 2
   pub buffered : usage.buffered ≡ stored_open (longest_of d) b

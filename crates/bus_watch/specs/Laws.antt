@@ -10,7 +10,7 @@ use Rattle.bus_dictionary.specs.Entry.{FrameType}
 use Rattle.bus_watch.specs.Talk.{verdicts}
 use Rattle.bus_watch.specs.Heard.{Heard, of_line, firsts, seconds, merged, of_side}
 use Rattle.bus_watch.specs.Seen.{SeenReport, heard_in, seen, seen_at, all_seen_at}
-use Rattle.bus_watch.specs.Ledger.{IsLedger, total}
+use Rattle.bus_watch.specs.Ledger.{IsLedger, IsPairLedger, total}
 use Rattle.bus_watch.specs.Watch.{Watch, Leads, seen_by}
 use Rattle.bus_watch.specs.After.{one_line}
 use Rattle.bus_watch.specs.Pairs.{two_lines}
@@ -108,3 +108,9 @@ ClosedPaid = (longest : ℕ) (b : List Bool) (bit : Bool) (r : Report) (os : Lis
     → due_at longest (b ++ bit ∷ []) (length b) ≡ Some r → r.kind ≡ Frame os
     → (closed_octets longest b bit ≡ length os)
     × (8 * length os ≤ r.past - r.first) × (r.first ≤ r.past) × (r.past + 7 ≡ length b)
+
+-- of two lines one pair more costs what its bits cost on either line
+abbrev pub PairCosts : Type 0
+PairCosts = (cost longest : ℕ) (ps : List (Bool × Bool)) (p : Bool × Bool) (before after : Spent) → cost ≤ 8
+    → IsPairLedger cost longest ps before → IsPairLedger cost longest (ps ++ p ∷ []) after
+    → total after ≤ total before + 34 + closed_octets longest (firsts ps) p.0 + closed_octets longest (seconds ps) p.1

@@ -1,10 +1,11 @@
--- A report of a log, as it was seen.
-use Rattle.std.specs.Prelude.{List, map, None}
+-- A report of a log, of one line or of two, as it was seen.
+use Rattle.std.specs.Prelude.{List, map, None, Some}
 use Rattle.bus_line.specs.Report.{Kind, Report}
 use Rattle.bus_watch.specs.Seen.{SeenReport}
 use Rattle.bus_watch.specs.declared.logged_report.LoggedPiece.{LoggedPiece}
 use Rattle.bus_watch.specs.declared.logged_report.LoggedPiece.TheVariants.{Frame, Damaged, Overlong, Abort, Idle}
 use Rattle.bus_watch.specs.declared.logged_report.LoggedReport.{LoggedReport}
+use Rattle.bus_watch.specs.declared.pair_log.PairLogged.{PairLogged}
 
 abbrev pub logged_piece : LoggedPiece → Report
 logged_piece (Frame kept) =
@@ -21,3 +22,11 @@ logged_report r =
 -- all reports of a log
 abbrev pub logged_reports : List LoggedReport → List SeenReport
 logged_reports rs = map logged_report rs
+
+-- a report of one of two lines
+abbrev pub logged_pair : PairLogged → SeenReport
+logged_pair r = record (logged_report r.logged) { line = Some r.line }
+
+-- all reports of a log of two lines
+abbrev pub logged_pairs : List PairLogged → List SeenReport
+logged_pairs rs = map logged_pair rs

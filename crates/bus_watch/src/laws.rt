@@ -1,7 +1,7 @@
 //! Laws over the definitions.
 
 ghost use Rattle.bus_watch.specs.Cut.{CutLosesNothing, CutLosesVerdict, FlagLosesNothing};
-ghost use Rattle.bus_watch.specs.Laws.{SeenGrows, SeenAreReports, SeenDecides, StepsWithinFour, StepsWithinThree, BitCosts, ClosedPaid, AnyCut, AnyCutOfPairs, PairsGrow, MergedIsMerged};
+ghost use Rattle.bus_watch.specs.Laws.{SeenGrows, SeenAreReports, SeenDecides, StepsWithinFour, StepsWithinThree, BitCosts, PairCosts, ClosedPaid, AnyCut, AnyCutOfPairs, PairsGrow, MergedIsMerged};
 
 use bus_fcs::Check;
 use bus_line::laws::{
@@ -51,9 +51,10 @@ pub fn steps_are_bounded()
 }
 
 /// One bit costs at most seventeen steps and the octets of the frame that it closes, for each of
-/// which eight bits of that frame came before.
+/// which eight bits of that frame came before; a pair of bits costs what its bits cost on either line.
 pub fn one_bit_is_bounded()
     ensures costs { BitCosts }
+    ensures pairs { PairCosts }
     ensures paid { ClosedPaid }
 {
     reports_are();

@@ -4,11 +4,12 @@ ghost use Rattle.std.specs.Prelude.{◌+◌, ◌≤◌};
 ghost use Rattle.bus_dictionary.specs.Dictionary.{longest_of};
 ghost use Rattle.bus_watch.specs.PairHeadline.{WholePairRun};
 
-use crate::laws::any_cut_of_pairs;
+use crate::laws::{any_cut_of_pairs, pairs_grow, seen_grows};
 use crate::line::Line;
 use crate::pair_analyser::PairAnalyser;
 use bus_bits::Spent;
 use bus_fcs::Check;
+use bus_line::laws::reports_are;
 
 /// What an analyser of two lines holds, and the steps that it took, after some pairs of bits.
 #[derive(Clone, Copy, Debug, PartialEq, Eq)]
@@ -37,6 +38,9 @@ impl<C: Check> PairAnalyser<C> {
         ensures second_bound { result.second_buffered ≤ longest_of self.now.journal.dictionary + 2 }
         ensures history_bound { result.history_len ≤ self.now.journal.depth }
     {
+        reports_are();
+        seen_grows();
+        pairs_grow();
         any_cut_of_pairs::<C>();
         PairUsage {
             first_buffered: self.buffered(Line::First),

@@ -5,9 +5,10 @@ ghost use Rattle.bus_dictionary.specs.Dictionary.{longest_of};
 ghost use Rattle.bus_watch.specs.Headline.{WholeRun};
 
 use crate::analyser::Analyser;
-use crate::laws::any_cut;
+use crate::laws::{any_cut, seen_grows};
 use bus_bits::Spent;
 use bus_fcs::Check;
+use bus_line::laws::reports_are;
 
 /// What an analyser holds, and the steps that it took, after some bits.
 #[derive(Clone, Copy, Debug, PartialEq, Eq)]
@@ -32,6 +33,8 @@ impl<C: Check> Analyser<C> {
         ensures buffer_bound { result.buffered ≤ longest_of self.now.journal.dictionary + 2 }
         ensures history_bound { result.history_len ≤ self.now.journal.depth }
     {
+        reports_are();
+        seen_grows();
         any_cut::<C>();
         Usage {
             buffered: self.buffered(),

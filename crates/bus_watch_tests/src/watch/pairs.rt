@@ -6,6 +6,7 @@ ghost use Rattle.std.specs.Prelude.{◌<◌};
 mod every_list;
 mod memory;
 mod random_lists;
+mod runs;
 mod sinks;
 
 use super::rows::{DAMAGE, FRAMES};

@@ -6,7 +6,7 @@ use super::super::bits_of;
 use bus_dictionary::Dictionary;
 use bus_fcs::{Check, OctetCheck};
 use bus_line::{OwnedPiece, Piece, reports_whole};
-use bus_watch::{Line, PairAnalyser, PairSink, Seen, SinkRefused};
+use bus_watch::{Finding, Line, PairAnalyser, PairListener, PairSink, Seen, SinkRefused};
 use std::alloc::Global;
 use std::process::Abort;
 
@@ -129,6 +129,78 @@ impl PairSink for Comparing<'_> {
         self.taken = self.taken.saturating_add(1);
         Ok(())
     }
+}
+
+impl PairListener<u64> for Comparing<'_> {
+    ghost use Rattle.std.specs.Prelude.{⊤};
+
+    ghost hears = { λ d l x ss m y. ⊤ };
+
+    ghost has_room = { λ l more. ⊤ };
+
+    /// Counts the reports in what it writes to.
+    fn hear(
+        &mut self,
+        line: Line,
+        finding: &Finding,
+        octets: &[u8],
+        dictionary: &Dictionary,
+        out: &mut u64,
+    ) {
+        *out = out.saturating_add(1);
+        let seen = finding.with_octets(octets);
+        self.differs = self.take(line, &seen).is_err() || self.differs;
+    }
+
+    ghost hears_none = { λ d l x. tt };
+
+    ghost hears_more = { λ d k l m x y z ss ts a b. tt };
+
+    ghost has_less = { λ l more less h r. tt };
+}
+
+/// Whether the pairs, scanned from octets of either line in two calls, are told as the merged reports in order and
+/// nothing else.
+pub(super) fn hears<C: Check>(
+    rt: &impl Abort,
+    alloc: Global,
+    analyser: &mut PairAnalyser<C>,
+    first: &Side,
+    second: &Side,
+) -> bool {
+    let due = merged(rt, alloc, first, second);
+    let mut listener = Comparing {
+        due: &due,
+        taken: 0,
+        differs: false,
+    };
+    let mut heard = 0;
+    let (one, other) = (
+        first.bits.len() / 3,
+        first.bits.len() - first.bits.len() / 3,
+    );
+    for (from, count) in [(0, one), (one, other)] {
+        let bits = octets_from(rt, alloc, &first.bits, from);
+        let others = octets_from(rt, alloc, &second.bits, from);
+        assert!(rt; bits.len() <= 10000 && others.len() <= 10000);
+        assert!(rt; count <= 8 * bits.len() && count <= 8 * others.len());
+        let taken = analyser.scan(&bits, &others, count, &mut listener, &mut heard);
+        assert_eq!(rt; taken, count);
+    }
+    !listener.differs && listener.taken == due.len() && heard == due.len() as u64
+}
+
+/// These bits from one on in octets, the first the lowest.
+fn octets_from(rt: &impl Abort, alloc: Global, bits: &[bool], from: usize) -> Vec<u8> {
+    let mut octets = Vec::new(alloc);
+    for eight in bits.get(from..).expect(rt, "a bit").chunks(8) {
+        let mut octet = 0;
+        for (at, bit) in eight.iter().enumerate() {
+            octet |= u8::from(*bit) << (at & 7);
+        }
+        octets.push(octet).expect(rt, "memory");
+    }
+    octets
 }
 
 /// Whether the pairs, all fed at once, tell the merged reports in order and nothing else.

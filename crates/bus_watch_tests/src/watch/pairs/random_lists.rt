@@ -1,7 +1,7 @@
 //! Long lists of random traffic on two lines by calls of every kind and size.
 
 use super::super::CALLS;
-use super::every_list::{differing_place, side_of, tells};
+use super::every_list::{differing_place, hears, side_of, tells};
 use super::{PairCollector, TwoLines, feed, push_seen_on, take_some, two_lines};
 use bus_dictionary::Dictionary;
 use bus_fcs::OctetCheck;
@@ -223,6 +223,11 @@ fn merged_reports(rt: HostRuntime) {
         assert_eq!(rt; found, None, "seed {seed}");
         let mut fed = analyser(&rt, alloc);
         assert!(rt; tells(&rt, alloc, &mut fed, &first, &second), "seed {seed}");
+        let mut scanned = analyser(&rt, alloc);
+        assert!(rt;
+            hears(&rt, alloc, &mut scanned, &first, &second),
+            "seed {seed}"
+        );
     }
 }
 

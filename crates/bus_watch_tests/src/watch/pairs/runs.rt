@@ -1,0 +1,120 @@
+//! Whole runs over two lines, into a log.
+
+use super::super::CALLS;
+use super::super::limits::FAR;
+use super::{TwoLines, two_lines};
+use bus_bits::Span;
+use bus_dictionary::Dictionary;
+use bus_fcs::OctetCheck;
+use bus_watch::{
+    FeedFault, Line, LoggedPiece, NewFault, PairLog, PairRun, PairSink, RunFault, run_pairs,
+};
+use std::alloc::Global;
+use std::process::Abort;
+
+/// A call on the first line, and beside it its reply on the second: both are decided by the last of these pairs.
+fn call_beside_reply(rt: &impl Abort, alloc: Global) -> TwoLines {
+    two_lines(rt, alloc, "flag call flag", "flag reply flag", false)
+}
+
+/// A run over these pairs into a log with so much room.
+fn run(
+    rt: &impl Abort,
+    alloc: Global,
+    depth: usize,
+    origin: u64,
+    log: &mut PairLog,
+) -> Result<PairRun<OctetCheck>, RunFault> {
+    let dictionary = Dictionary::read(alloc, CALLS).expect(rt, "a dictionary");
+    let pairs = call_beside_reply(rt, alloc).pairs;
+    assert!(rt; log.refused() < u64::MAX - 1);
+    run_pairs(alloc, dictionary, depth, origin, &pairs, log)
+}
+
+/// The span of a logged frame, and how many octets it has.
+fn frame_of(piece: &LoggedPiece) -> Option<(Span, usize)> {
+    match piece {
+        LoggedPiece::Frame(kept) => Some((kept.span, kept.octets.len())),
+        _ => None,
+    }
+}
+
+/// The log has both frames, the first line's first.
+#[test]
+fn both_are_logged(rt: HostRuntime) {
+    let alloc = rt.alloc();
+    let mut log = PairLog::new(alloc, 2).expect(&rt, "a log");
+    let done = run(&rt, alloc, 2, 100, &mut log).expect(&rt, "a run");
+    assert_eq!(rt; done.usage.history_len, 2);
+    assert_eq!(rt; done.analyser.usage(), done.usage);
+    let span = Span {
+        first: 108,
+        past: 149,
+    };
+    let lines = [Line::First, Line::Second];
+    assert_eq!(rt; log.reports().len(), lines.len());
+    for (report, line) in log.reports().iter().zip(lines) {
+        assert_eq!(rt; report.line, line);
+        assert_eq!(rt; frame_of(&report.logged.piece), Some((span, 5)));
+        assert_eq!(rt; report.logged.verdict.is_some(), line == Line::Second);
+    }
+}
+
+/// How a run ends early.
+struct FaultRow {
+    room: usize,
+    depth: usize,
+    origin: u64,
+    want: RunFault,
+}
+
+const FAULTS: [FaultRow; 6] = [
+    FaultRow {
+        room: 2,
+        depth: 0,
+        origin: 0,
+        want: RunFault::New(NewFault::DepthRange),
+    },
+    FaultRow {
+        room: 2,
+        depth: 1025,
+        origin: FAR + 1,
+        want: RunFault::New(NewFault::DepthRange),
+    },
+    FaultRow {
+        room: 2,
+        depth: 1,
+        origin: FAR + 1,
+        want: RunFault::New(NewFault::Origin),
+    },
+    FaultRow {
+        room: 2,
+        depth: 1,
+        origin: FAR - 56,
+        want: RunFault::Feed(FeedFault::PlaceLimit),
+    },
+    // there is no room for the reports, and then for one of them
+    FaultRow {
+        room: 0,
+        depth: 1,
+        origin: 0,
+        want: RunFault::Feed(FeedFault::Sink { consumed: 57 }),
+    },
+    FaultRow {
+        room: 1,
+        depth: 1,
+        origin: FAR - 57,
+        want: RunFault::Feed(FeedFault::Sink { consumed: 57 }),
+    },
+];
+
+#[test]
+fn faults_of_runs(rt: HostRuntime) {
+    let alloc = rt.alloc();
+    for row in &FAULTS {
+        let mut log = PairLog::new(alloc, row.room).expect(&rt, "a log");
+        let ended = run(&rt, alloc, row.depth, row.origin, &mut log);
+        assert_eq!(rt; ended.err(), Some(row.want), "{}", row.room);
+        assert!(rt; log.reports().len() <= log.room());
+    }
+}
