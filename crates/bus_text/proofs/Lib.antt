@@ -6,3 +6,4 @@ pub mod ShowLemmas
 mod TextLemmas
 mod HexLemmas
 mod NumberLemmas
+mod Examples
