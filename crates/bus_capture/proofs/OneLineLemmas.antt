@@ -22,16 +22,6 @@ pub one-fits : (x : ℕ) (bit : Bool) → x ≡ bool_byte bit → x < 2
 one-fits x true e = omega (arith, e)
 one-fits x false e = omega (arith, e)
 
--- what is left of a word fits
-pub behind-fits : (n taken left : ℕ) → n < 2 ^ (taken + left) → n / 2 ^ taken < 2 ^ left
-behind-fits n taken left h =
-    let e : taken + left ≡ left + taken = omega arith in shr_below n left taken (subst (λ (k : ℕ). n < 2 ^ k) e h)
-
--- no bits are none
-pub no_bits : (n x : ℕ) → n ≡ 0 → bits_of n x ≡ []
-unfolding bits_of
-no_bits n x e = ap (λ (k : ℕ). bits_of k x) e
-
 take_none : (k : ℕ) (bits : List Bool) → bits ≡ [] → take k bits ≡ []
 take_none k bits e = grind (arith, common_steps)
 

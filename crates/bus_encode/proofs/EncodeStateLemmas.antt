@@ -168,10 +168,6 @@ middle_halts start now written x i xs ys e h is s =
     let more = so_far-grows front (drop (i + 1) ys) in
     subst (λ (l : List ℕ). Halts start now written (asked_so_far l) e) whole (subst (λ (a : Asked). Halts start now written a e) (sym more.1) (halts-then start now written (asked_so_far front) more.0 e s))
 
--- one octet more
-pub next_octet : (x i : ℕ) (xs ys : List ℕ) → i < length ys → x ≡ get_or ys i 0 → (xs ++ take i ys) ++ x ∷ [] ≡ xs ++ take (i + 1) ys
-next_octet x i xs ys h is = grind (arith, common_steps)
-
 -- all of them
 pub all_octets : (i : ℕ) (ys : List ℕ) → length ys ≤ i → take i ys ≡ ys
 all_octets i ys h = grind (arith, common_steps)
@@ -219,15 +215,6 @@ clean_so_far start now line number e written xs t =
     )
 
 -- ---- the flush
-
-pub unflushed : (reads : ℕ) (after start now : Option (List ℕ)) (written : ℕ) (xs : List ℕ) (r : Result (Unit {0}) ToolFault) → Finishes reads after start now written xs r → Encodes reads after start now xs r
-unflushed reads after start now written xs (Ok u) f = (f.0, f.1, f.2)
-unflushed reads after start now written xs (Err Read) f = (f.0, f.1)
-unflushed reads after start now written xs (Err ReadsLimit) f = (f.0, f.1, f.2)
-unflushed reads after start now written xs (Err (BadLine n)) f = (f.0, f.1, f.2.0, f.2.1)
-unflushed reads after start now written xs (Err (FrameLength n)) f = (f.0, f.1, f.2.0, f.2.1)
-unflushed reads after start now written xs (Err (Write n)) f = (f.0, f.1, f.2.0, f.2.1)
-unflushed reads after start now written xs (Err _) f = absurd f.2
 
 pub flushed : (reads : ℕ) (after start now then : Option (List ℕ)) (written : ℕ) (xs : List ℕ) (r : Result (Unit {0}) ToolFault) → Keeps now then → Finishes reads after start now written xs r → Encodes reads after start then xs r
 flushed reads after start now then written xs (Ok u) k f = (f.0, f.1, appends_kept start now then _ f.2 k)

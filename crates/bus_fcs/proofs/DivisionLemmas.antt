@@ -1,7 +1,7 @@
 -- The long division.
 use Rattle.std.proofs.Common.{◌≡◌, ℕ, zero, suc, ◌+◌, ◌-◌, ◌≤◌, Bool, true, false, List, [], ◌∷◌, ◌++◌, length, replicate, refl, sym, ap, ◌∙◌, arith, append_assoc, length-append}
 use Rattle.std.proofs.lemmas.List.{append-nil, same_from_push}
-use Rattle.bus_fcs.specs.Division.{plus, add, step, divided, remainder}
+use Rattle.bus_fcs.specs.Division.{add, step, divided, remainder}
 use Rattle.bus_fcs.proofs.DivisionSumLemmas.{length-add, add_again, add_left_comm, add_assoc_of, add-append, add-parts}
 
 -- what stands under the divisor's highest bit
@@ -23,10 +23,6 @@ step-false d = refl
 pub length-step : (b : Bool) (d : List Bool) → length (step (b ∷ d)) ≡ length d
 length-step true d = ap length (step-true d) ∙ length-add rest d
 length-step false d = ap length (step-false d)
-
-add-cons : (a b : Bool) (x y : List Bool) → add (a ∷ x) (b ∷ y) ≡ plus a b ∷ add x y
-unfolding add
-add-cons a b x y = refl
 
 -- a step of a sum
 pub step-add : (x y : List Bool) → length x ≡ length y → step (add x y) ≡ add (step x) (step y)

@@ -4,7 +4,7 @@ use Rattle.std.proofs.lemmas.List.{append-nil, length-replicate, length-map, tak
 use Rattle.std.proofs.Math.Nat.{pow-suc, mul_assoc, add-zero}
 use Rattle.std.proofs.lemmas.Nat.{pow_pos, mod_below, mod_low, mod-pow-add, shl-shr, shr_split}
 use Rattle.std.specs.Int.Bits.{xor_block, xor_comm, xor_assoc, xor_self, xor_zero_r, xor_shr, xor_mod, xor_shifted}
-use Rattle.bus_bits.proofs.OctetLemmas.{number-push, number-lt, same_number, length-bits, number-bits, number-append, length-bits_of_octets, bits_of_octets-push}
+use Rattle.bus_bits.proofs.OctetLemmas.{number-push, same_number, length-bits, number-bits, number-append, length-bits_of_octets, bits_of_octets-push}
 use Rattle.bus_fcs.specs.Division.{plus, add, step, divided, remainder}
 use Rattle.bus_fcs.specs.FrameCheck.{Good, fcs}
 use Rattle.bus_bits.specs.Octet.{bits_of, bits_of_octets, number}
@@ -170,13 +170,6 @@ state_more s o os h e =
 pub state_none : IsStateAfter 0xffff []
 unfolding IsStateAfter register remainder divided step add number bits_of_octets
 state_none = refl
-
-pub state-lt : (s : ℕ) (os : List ℕ) → IsStateAfter s os → s < 2 ^ 16
-unfolding IsStateAfter
-state-lt s os e =
-    let h = length-register (bits_of_octets os) in
-    let b = number-lt (register (bits_of_octets os)) in
-    rw e (rw h at b)
 
 length_residue : length residue ≡ 16
 length_residue = length-divided 16 (ones ++ zeros 16)

@@ -35,12 +35,6 @@ impl Check for BitCheck {
         }
     }
 
-    fn fold_some(&mut self, octets: &[u8; 8], count: usize, spent: &mut Spent) {
-        for octet in &octets[..count] {
-            self.fold(*octet, spent);
-        }
-    }
-
     fn is_good(&self) -> bool {
         is_residue(self.state)
     }

@@ -61,7 +61,7 @@ calm-due longest (suc i) b bits h s m =
     let x = get_or bits i false in
     let c = h i (omega arith) in
     let k : length b + suc i - 1 ≡ length (b ++ take i bits) = omega (arith, length-front i b bits (omega (arith, m))) in
-    ap (λ (j : ℕ). due_at longest (b ++ take (suc i) bits) j) k ∙ (ap (λ (z : List Bool). due_at longest z (length u)) (next-bit i b bits (omega (arith, m))) ∙ nothing-due longest u x c.0 c.1)
+    rw (k, next-bit i b bits (omega (arith, m))) (nothing-due longest u x c.0 c.1)
 
 -- what is settled with the mark before them is so with theirs
 pub calm-after : {C : Type 0} (folded : C → List ℕ → Type 0) (cost n : ℕ) (d : LineState C) (b bits : List Bool) → IsCalm b bits n → n ≤ length bits → Tracks folded cost d (b ++ take n bits) (current b) → After folded cost d (b ++ take n bits)
@@ -69,23 +69,20 @@ calm-after folded cost n d b bits h l t = subst (Tracks folded cost d (b ++ take
 
 -- ---- the bit behind calm bits
 
+last-list : (n : ℕ) (b bits : List Bool) → n < length bits → b ++ take (n + 1) bits ≡ (b ++ take n bits) ++ get_or bits n false ∷ []
+last-list n b bits l = let s : n + 1 ≡ suc n = omega arith in rw s (next-bit n b bits l)
+
 -- is still to be decided
 pub tracks-last : {C : Type 0} (folded : C → List ℕ → Type 0) (cost n : ℕ) (d : LineState C) (b bits : List Bool) → IsCalm b bits n → n < length bits → Tracks folded cost d (b ++ take (n + 1) bits) (current b)
     → Tracks folded cost d ((b ++ take n bits) ++ get_or bits n false ∷ []) (current (b ++ take n bits))
 tracks-last folded cost n d b bits h l t =
-    let s : n + 1 ≡ suc n = omega arith in
-    subst (λ (z : List Bool). Tracks folded cost d z (current (b ++ take n bits))) (next-bit n b bits l)
-    (subst (λ (j : ℕ). Tracks folded cost d (b ++ take j bits) (current (b ++ take n bits))) s
-    (subst (Tracks folded cost d (b ++ take (n + 1) bits)) (sym (mark-calm b bits n n h (omega arith) (omega (arith, l)))) t))
-
-last-list : (n : ℕ) (b bits : List Bool) → n < length bits → b ++ take (n + 1) bits ≡ (b ++ take n bits) ++ get_or bits n false ∷ []
-last-list n b bits l = let s : n + 1 ≡ suc n = omega arith in ap (λ (j : ℕ). b ++ take j bits) s ∙ next-bit n b bits l
+    rw (← last-list n b bits l, mark-calm b bits n n h (omega arith) (omega (arith, l))) t
 
 -- what it decides
 pub last-due : (longest n : ℕ) (b bits : List Bool) → n < length bits → due_at longest ((b ++ take n bits) ++ get_or bits n false ∷ []) (length (b ++ take n bits)) ≡ due_at longest (b ++ take (n + 1) bits) (length b + (n + 1) - 1)
 last-due longest n b bits l =
     let k : length (b ++ take n bits) ≡ length b + (n + 1) - 1 = omega (arith, length-front n b bits (omega (arith, l))) in
-    ap (λ (z : List Bool). due_at longest z (length (b ++ take n bits))) (sym (last-list n b bits l)) ∙ ap (λ (j : ℕ). due_at longest (b ++ take (n + 1) bits) j) k
+    rw (← last-list n b bits l, k) refl
 
 -- is all that they and it add
 pub last-placed : (origin longest n : ℕ) (b bits : List Bool) (o : Option Report) → IsCalm b bits n → n < length bits → o ≡ option_map (moved origin) (due_at longest (b ++ take (n + 1) bits) (length b + (n + 1) - 1))
@@ -93,12 +90,11 @@ pub last-placed : (origin longest n : ℕ) (b bits : List Bool) (o : Option Repo
 last-placed origin longest n b bits o h l e =
     let u = b ++ take n bits in
     let x = get_or bits n false in
-    ap (placed origin longest) (last-list n b bits l)
-    ∙ (placed-more origin longest u x o (e ∙ ap (option_map (moved origin)) (sym (last-due longest n b bits l)))
-    ∙ ap (λ (z : List Report). z ++ option_to_list o) (calm-placed origin longest n b bits h n (omega arith) (omega (arith, l))))
+    let due = rw (← last-due longest n b bits l) at e in
+    rw (last-list n b bits l, placed-more origin longest u x o due, calm-placed origin longest n b bits h n (omega arith) (omega (arith, l))) refl
 
 pub after-last : {C : Type 0} (folded : C → List ℕ → Type 0) (cost n : ℕ) (d : LineState C) (b bits : List Bool) → n < length bits → After folded cost d ((b ++ take n bits) ++ get_or bits n false ∷ []) → After folded cost d (b ++ take (n + 1) bits)
-after-last folded cost n d b bits l h = subst (After folded cost d) (sym (last-list n b bits l)) h
+after-last folded cost n d b bits l h = rw (last-list n b bits l) h
 
 -- ---- all together
 
@@ -115,12 +111,12 @@ is_calm w n m x b h e calm =
 pub all-due : (longest origin w n x : ℕ) (b : List Bool) → Calm w n x b → 1 ≤ n → None ≡ option_map (moved origin) (due_at longest (b ++ bits_of n x) (length b + n - 1))
 all-due longest origin w n x b h s =
     let k = length-bits n x in
-    sym (ap (option_map (moved origin)) (ap (λ (z : List Bool). due_at longest (b ++ z) (length b + n - 1)) (sym (bits-front n n x (omega arith))) ∙ calm-due longest n b (bits_of n x) h.calm s (omega (arith, k))))
+    rw (← bits-front n n x (omega arith), calm-due longest n b (bits_of n x) h.calm s (omega (arith, k))) refl
 
 pub all-placed : (longest origin w n x : ℕ) (b : List Bool) → Calm w n x b → placed origin longest (b ++ bits_of n x) ≡ placed origin longest b ++ []
 all-placed longest origin w n x b h =
     let k = length-bits n x in
-    ap (λ (z : List Bool). placed origin longest (b ++ z)) (sym (bits-front n n x (omega arith))) ∙ (calm-placed origin longest n b (bits_of n x) h.calm n (omega arith) (omega (arith, k)) ∙ sym (append-nil (placed origin longest b)))
+    rw (← bits-front n n x (omega arith), calm-placed origin longest n b (bits_of n x) h.calm n (omega arith) (omega (arith, k))) (sym (append-nil (placed origin longest b)))
 
 pub all-after : {C : Type 0} (folded : C → List ℕ → Type 0) (cost w n x t : ℕ) (e : LineState C) (b : List Bool) → Calm w n x b → t ≡ n
     → (IsCalm b (bits_of n x) (t - 1) → Tracks folded cost e (b ++ take t (bits_of n x)) (current b)) → After folded cost e (b ++ bits_of n x)
@@ -160,31 +156,27 @@ pub last-answer : (longest origin l o w n m x : ℕ) (b : List Bool) (r : Option
     → r ≡ option_map (moved o) (due_at l (but_last b n m x ++ last_of n m x ∷ []) (length (but_last b n m x)))
     → r ≡ option_map (moved origin) (due_at longest (b ++ bits_of (m + 1) x) (length b + (m + 1) - 1))
 last-answer longest origin l o w n m x b r h p q e =
-    e ∙ (ap (λ (j : ℕ). option_map (moved j) (due_at l (but_last b n m x ++ last_of n m x ∷ []) (length (but_last b n m x)))) q
-    ∙ ap (option_map (moved origin)) (ap (λ (j : ℕ). due_at j (but_last b n m x ++ last_of n m x ∷ []) (length (but_last b n m x))) p
-    ∙ (last-due longest m b (bits_of n x) h.within ∙ ap (λ (z : List Bool). due_at longest (b ++ z) (length b + (m + 1) - 1)) h.front)))
+    rw (← h.front, ← last-due longest m b (bits_of n x) h.within, ← p, ← q) e
 
 pub last-more : (longest origin w n m x : ℕ) (b : List Bool) (r : Option Report) → Last w n m x b → r ≡ option_map (moved origin) (due_at longest (b ++ bits_of (m + 1) x) (length b + (m + 1) - 1))
     → placed origin longest (b ++ bits_of (m + 1) x) ≡ placed origin longest b ++ option_to_list r
 last-more longest origin w n m x b r h e =
-    ap (λ (z : List Bool). placed origin longest (b ++ z)) (sym h.front)
-    ∙ last-placed origin longest m b (bits_of n x) r h.calm h.within (e ∙ ap (λ (z : List Bool). option_map (moved origin) (due_at longest (b ++ z) (length b + (m + 1) - 1))) (sym h.front))
+    rw (← h.front) (last-placed origin longest m b (bits_of n x) r h.calm h.within (rw (← h.front) at e))
 
 pub last-after : {C : Type 0} (folded : C → List ℕ → Type 0) (cost w n m x : ℕ) (e : LineState C) (b : List Bool) → Last w n m x b → After folded cost e (but_last b n m x ++ last_of n m x ∷ []) → After folded cost e (b ++ bits_of (m + 1) x)
-last-after folded cost w n m x e b h k = subst (λ (z : List Bool). After folded cost e (b ++ z)) h.front (after-last folded cost m e b (bits_of n x) h.within k)
+last-after folded cost w n m x e b h k = rw (← h.front) (after-last folded cost m e b (bits_of n x) h.within k)
 
 -- nothing is due at calm bits
 pub calm-before-last : (longest origin w n i x : ℕ) (b : List Bool) → Calm w n x b → i ≤ n → placed origin longest (b ++ bits_of i x) ≡ placed origin longest b
 calm-before-last longest origin w n i x b h l =
     let k = length-bits n x in
-    ap (λ (z : List Bool). placed origin longest (b ++ z)) (sym (bits-front i n x l)) ∙ calm-placed origin longest n b (bits_of n x) h.calm i l (omega (arith, l, k))
+    rw (← bits-front i n x l) (calm-placed origin longest n b (bits_of n x) h.calm i l (omega (arith, l, k)))
 
 pub last-before : (longest origin w n m x : ℕ) (b : List Bool) → Last w n m x b → placed origin longest (b ++ bits_of (m + 1 - 1) x) ≡ placed origin longest b
 last-before longest origin w n m x b h =
     let k = length-bits n x in
     let e : m + 1 - 1 ≡ m = omega arith in
-    ap (λ (j : ℕ). placed origin longest (b ++ bits_of j x)) e
-    ∙ (ap (λ (z : List Bool). placed origin longest (b ++ z)) (sym (bits-front m n x (omega (arith, h.within, k)))) ∙ calm-placed origin longest m b (bits_of n x) h.calm m (omega arith) (omega (arith, h.within)))
+    rw (e, ← bits-front m n x (omega (arith, h.within, k))) (calm-placed origin longest m b (bits_of n x) h.calm m (omega arith) (omega (arith, h.within)))
 
 -- ---- how many are taken
 

@@ -91,9 +91,6 @@ due-past longest u s i g l = alike (due_at longest (u ++ s) (length u + i)) (due
 abbrev CutsAt : ℕ → List Bool → List Bool → Type 0
 CutsAt longest u v = reports longest ((u ++ flag) ++ v) ≡ reports longest (u ++ flag) ++ placed (length u) longest (flag ++ v)
 
-begins-flag : (v : List Bool) → IsFlag (flag ++ v) 0
-begins-flag v = refl
-
 cut-step : (longest : ℕ) (u v : List Bool) (x : Bool) → CutsAt longest u v → CutsAt longest u (v ++ x ∷ [])
 cut-step longest u v x h =
     let n = length u in

@@ -197,9 +197,3 @@ takes-behind b bits k n ahead stops some = record {
             ahead.most h (omega (arith, size, some, l)) next;
       };
 }
-
--- no flag follows one: each stop is where a bit may decide a report
-pub takes-stop : (b bits : List Bool) (n : ℕ) → FlagsAhead b bits 0 → StopsAt b bits n → 1 ≤ n → TakesTo b bits n
-takes-stop b bits n none stops some =
-    let e : 8 * 0 + n ≡ n = omega arith in
-    subst (TakesTo b bits) e (takes-behind b bits 0 n none (subst (λ (z : List Bool). StopsAt z bits n) (sym (append-nil b)) stops) some)

@@ -26,9 +26,6 @@ none-behind-mark longest origin b NoMark e f = sym (ap (λ m. stored_behind long
 none-behind-mark longest origin b (AbortAt a) e f = sym (ap (λ m. stored_behind longest b (begun_by m (length b))) e)
 none-behind-mark longest origin b (FlagAt p) e f = absurd (cc)
 
-pub none-begun : {C : Type 0} (folded : C → List ℕ → Type 0) (cost : ℕ) (d : LineState C) (b : List Bool) → After folded cost d b → d.first ≡ None → 0 ≡ stored_open d.longest b
-none-begun folded cost d b h f = none-behind-mark d.longest d.origin b (current b) refl (sym h.first ∙ f)
-
 -- before the first octet none is stored
 pub none-stored : {C : Type 0} (folded : C → List ℕ → Type 0) (cost : ℕ) (d : LineState C) (b : List Bool) → After folded cost d b → d.gathered < 8 → 0 ≡ stored_open d.longest b
 none-stored folded cost d b h l = by_mark (current b) refl h.piece

@@ -1,16 +1,15 @@
 -- Bits behind flags that follow a flag.
-use Rattle.std.proofs.Common.{◌≡◌, ◌≢◌, ℕ, ◌+◌, ◌-◌, ◌*◌, ◌/◌, ◌^◌, ◌≤◌, ◌<◌, Bool, List, [], ◌++◌, length, take, drop, Option, None, inl, inr, sym, ap, ◌∙◌, subst, arith, refl, append-nil, append_assoc, length-append}
+use Rattle.std.proofs.Common.{◌≡◌, ◌≢◌, ℕ, ◌+◌, ◌-◌, ◌*◌, ◌/◌, ◌^◌, ◌≤◌, ◌<◌, Bool, List, [], ◌++◌, length, drop, Option, None, inl, inr, sym, ap, ◌∙◌, subst, arith, refl, append-nil, append_assoc, length-append}
 use Rattle.std.specs.Option.{option_map}
 use Rattle.std.proofs.lemmas.Bool.{cases_lt}
 use Rattle.std.proofs.lemmas.Nat.{shr_below}
-use Rattle.bus_bits.specs.Octet.{bits_of, number}
+use Rattle.bus_bits.specs.Octet.{bits_of}
 use Rattle.bus_bits.proofs.OctetLemmas.{length-bits, bits-split, bits-front}
 use Rattle.bus_line.specs.Mark.{flags}
 use Rattle.bus_line.specs.Report.{Report, moved}
 use Rattle.bus_line.specs.Due.{due_at, placed}
 use Rattle.bus_line.specs.After.{After, TakesTo}
 use Rattle.bus_line.specs.Internal.LineState.{LineState}
-use Rattle.bus_line.specs.Internal.Tracks.{padded}
 use Rattle.bus_line.specs.Internal.Late.{IsWord, IsStop}
 use Rattle.bus_line.specs.Internal.Flags.{FlagsAhead, IsPast, StopsAt}
 use Rattle.bus_line.proofs.WordLemmas.{word-part}
@@ -36,8 +35,7 @@ module _ {b : List Bool} {n x k rest left : ℕ} (past : IsPast b n x k rest lef
   -- so many bits more
   list-behind : (t : ℕ) → b ++ bits_of (8 * k + t) x ≡ (b ++ flags k) ++ bits_of t rest
   list-behind t =
-      ap (λ (z : List Bool). b ++ z) (bits-split (8 * k) t x ∙ (ap (λ (z : List Bool). z ++ bits_of t (x / 2 ^ (8 * k))) flags-are ∙ ap (λ (y : ℕ). flags k ++ bits_of t y) (sym past.bits)))
-      ∙ sym (append_assoc b (flags k) (bits_of t rest))
+      rw (bits-split (8 * k) t x, flags-are, ← past.bits) (sym (append_assoc b (flags k) (bits_of t rest)))
 
   size-behind : length (b ++ flags k) ≡ length b + 8 * k
   size-behind = omega (arith, length-append b (flags k), flags-length k)
@@ -45,7 +43,7 @@ module _ {b : List Bool} {n x k rest left : ℕ} (past : IsPast b n x k rest lef
   pub stops-on : (t j : ℕ) → j ≡ 8 * k + t → StopsAt (b ++ flags k) (bits_of left rest) t → 1 ≤ t → TakesTo b (bits_of n x) j
   stops-on t j e stops some =
       let behind : drop (8 * k) (bits_of n x) ≡ bits_of left rest = bits-behind (8 * k) n x within ∙ rw (past.bits, past.count) refl in
-      subst (TakesTo b (bits_of n x)) (sym e) (takes-behind b (bits_of n x) k t ahead (subst (λ (z : List Bool). StopsAt (b ++ flags k) z t) (sym behind) stops) some)
+      rw e (takes-behind b (bits_of n x) k t ahead (rw behind stops) some)
 
   pub answer-on : (longest origin l o t j : ℕ) (r : Option Report) → j ≡ 8 * k + t → l ≡ longest → o ≡ origin → r ≡ option_map (moved o) (due_at l ((b ++ flags k) ++ bits_of t rest) (length (b ++ flags k) + t - 1))
       → r ≡ option_map (moved origin) (due_at longest (b ++ bits_of j x) (length b + j - 1))
@@ -57,11 +55,7 @@ module _ {b : List Bool} {n x k rest left : ℕ} (past : IsPast b n x k rest lef
   pub more-on : (longest origin l o t j : ℕ) (rs : List Report) → j ≡ 8 * k + t → l ≡ longest → o ≡ origin → placed o l ((b ++ flags k) ++ bits_of t rest) ≡ placed o l (b ++ flags k) ++ rs
       → placed origin longest (b ++ bits_of j x) ≡ placed origin longest b ++ rs
   more-on longest origin l o t j rs e same from is =
-      ap (λ (i : ℕ). placed origin longest (b ++ bits_of i x)) e
-      ∙ (ap (placed origin longest) (list-behind t)
-      ∙ (subst (λ (i : ℕ). placed origin i ((b ++ flags k) ++ bits_of t rest) ≡ placed origin i (b ++ flags k) ++ rs) same
-      (subst (λ (i : ℕ). placed i l ((b ++ flags k) ++ bits_of t rest) ≡ placed i l (b ++ flags k) ++ rs) from is)
-      ∙ ap (λ (z : List Report). z ++ rs) (flags-placed origin longest b k ahead.behind)))
+      rw (e, list-behind t, ← flags-placed origin longest b k ahead.behind) (rw (same, from) at is)
 
   pub before-on : (longest origin l o t j : ℕ) → j ≡ 8 * k + t → l ≡ longest → o ≡ origin → 1 ≤ t → placed o l ((b ++ flags k) ++ bits_of (t - 1) rest) ≡ placed o l (b ++ flags k)
       → placed origin longest (b ++ bits_of (j - 1) x) ≡ placed origin longest b
@@ -69,7 +63,7 @@ module _ {b : List Bool} {n x k rest left : ℕ} (past : IsPast b n x k rest lef
       more-on longest origin l o (t - 1) (j - 1) [] (omega (arith, e, some)) same from (is ∙ sym (append-nil (placed o l (b ++ flags k)))) ∙ append-nil (placed origin longest b)
 
   pub after-on : {C : Type 0} (folded : C → List ℕ → Type 0) (cost t j : ℕ) (d : LineState C) → j ≡ 8 * k + t → After folded cost d ((b ++ flags k) ++ bits_of t rest) → After folded cost d (b ++ bits_of j x)
-  after-on folded cost t j d e h = subst (λ (i : ℕ). After folded cost d (b ++ bits_of i x)) (sym e) (subst (After folded cost d) (sym (list-behind t)) h)
+  after-on folded cost t j d e h = rw (e, list-behind t) h
 
   -- ---- where the flags are all
 
@@ -83,23 +77,19 @@ module _ {b : List Bool} {n x k rest left : ℕ} (past : IsPast b n x k rest lef
     pub answer-all : (longest origin : ℕ) → None ≡ option_map (moved origin) (due_at longest (b ++ bits_of n x) (length b + n - 1))
     answer-all longest origin =
         let l : 0 < k = omega (arith, all, some) in
-        sym (ap (λ (z : List Bool). option_map (moved origin) (due_at longest (b ++ z) (length b + n - 1))) are-flags
-        ∙ (ap (λ (j : ℕ). option_map (moved origin) (due_at longest (b ++ flags k) (length b + j - 1))) (sym all)
-        ∙ ap (option_map (moved origin)) (flags-due longest b k l (ahead.behind l))))
+        rw (are-flags, ← all, flags-due longest b k l (ahead.behind l)) refl
 
     pub more-all : (longest origin : ℕ) → placed origin longest (b ++ bits_of n x) ≡ placed origin longest b ++ []
     more-all longest origin =
-        ap (λ (z : List Bool). placed origin longest (b ++ z)) are-flags ∙ (flags-placed origin longest b k ahead.behind ∙ sym (append-nil (placed origin longest b)))
+        rw are-flags (flags-placed origin longest b k ahead.behind ∙ sym (append-nil (placed origin longest b)))
 
     pub before-all : (longest origin : ℕ) → placed origin longest (b ++ bits_of (n - 1) x) ≡ placed origin longest b
     before-all longest origin =
         let l : 0 < k = omega (arith, all, some) in
-        ap (λ (z : List Bool). placed origin longest (b ++ z)) (sym (bits-front (n - 1) n x (omega arith)))
-        ∙ (ap (λ (z : List Bool). placed origin longest (b ++ take (n - 1) z)) are-flags
-        ∙ (ap (λ (j : ℕ). placed origin longest (b ++ take (j - 1) (flags k))) (sym all) ∙ flags-before origin longest b k l (ahead.behind l)))
+        rw (← bits-front (n - 1) n x (omega arith), are-flags, ← all) (flags-before origin longest b k l (ahead.behind l))
 
     pub after-all : {C : Type 0} (folded : C → List ℕ → Type 0) (cost : ℕ) (e : LineState C) → After folded cost e (b ++ flags k) → After folded cost e (b ++ bits_of n x)
-    after-all folded cost e h = subst (λ (z : List Bool). After folded cost e (b ++ z)) (sym are-flags) h
+    after-all folded cost e h = rw are-flags h
 
   -- ---- how many would be taken
 
@@ -107,8 +97,7 @@ module _ {b : List Bool} {n x k rest left : ℕ} (past : IsPast b n x k rest lef
   word-behind w h =
       let e : n ≡ 8 * k + left = omega (arith, within, past.count) in
       word-part w (8 * k) b (bits_of n x) h
-      ∙ (ap (λ (j : ℕ). number (drop j (padded (b ++ bits_of n x)))) (sym size-behind)
-      ∙ ap (λ (z : List Bool). number (drop (length (b ++ flags k)) (padded z))) (ap (λ (j : ℕ). b ++ bits_of j x) e ∙ list-behind left))
+      ∙ rw (← size-behind, e, list-behind left) refl
 
   pub would-all : (w m : ℕ) → IsWord w b (bits_of n x) → m ≡ left → ((i : ℕ) → i < m → IsStop (w / 2 ^ (8 * k)) i → ⊥) → TakesTo b (bits_of n x) n
   would-all w m word e calm = elim (cases_lt 0 left) [

@@ -7,7 +7,7 @@ use Rattle.bus_line.specs.Spelling.{ones}
 use Rattle.bus_line.specs.Internal.Run.{ones_after, ones_at_end}
 use Rattle.bus_line.proofs.RunLemmas.{HasSix}
 use Rattle.bus_line.proofs.RunLemmas.{zero-six, IsLow, low-from}
-use Rattle.bus_line.specs.Mark.{flag, StandsAt, IsFlag, IsAbort, IsMark, IsPiece}
+use Rattle.bus_line.specs.Mark.{flag, StandsAt, IsFlag, IsAbort, IsMark}
 use Rattle.bus_line.specs.Due.{is_flag, is_abort, FlagAt, AbortAt, last_mark, current}
 use Rattle.bus_line.specs.Ledger.{is_settled, belongs, is_inserted}
 use Rattle.bus_line.proofs.MarkLemmas.{stands-within, stands-bit, is_abort-append, last_mark-append, flag-true}
@@ -77,9 +77,6 @@ pub current-low : (b : List Bool) (p m : ℕ) → current b ≡ FlagAt p → m +
 current-low b p m e l six =
     let r = last_mark-flag b (length b) p e in
     raw-low b p m r.flag (λ q u k. omega (arith, r.greatest q u k)) l six
-
-pub piece-low : (b : List Bool) (p m : ℕ) → IsPiece b p m → HasSix (slice_range b (p + 8) m) → ⊥
-piece-low b p m h six = raw-low b p m h.opening h.next.least (mark-fits b m h.next.mark) six
 
 -- an abort mark that just ended is the last mark
 marks : (b : List Bool) (i : ℕ) → 8 ≤ length b → (belongs (last_mark b (suc (length b - 8))) (length b - 8) && (not (is_abort b (suc (length b - 8))) && not (is_inserted b (length b - 8)))) ≡ (belongs (current b) (length b - 8) && not (is_inserted b (length b - 8)))

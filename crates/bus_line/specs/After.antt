@@ -1,5 +1,5 @@
 -- The lists of bits after which a decoder may stand.
-use Rattle.std.specs.Prelude.{◌≡◌, ℕ, ◌+◌, ◌-◌, ◌<◌, ◌≤◌, Bool, List, [], ◌∷◌, ◌++◌, length, Option, Some, None}
+use Rattle.std.specs.Prelude.{◌≡◌, ℕ, ◌+◌, ◌-◌, ◌<◌, ◌≤◌, Bool, List, [], ◌∷◌, ◌++◌, length, Option, Some}
 use Rattle.std.specs.Option.{option_to_list}
 use Rattle.bus_bits.specs.Octet.{octets}
 use Rattle.bus_line.specs.Mark.{MayDecideAt}
@@ -16,12 +16,8 @@ After folded cost d b = Tracks folded cost d b (current b)
 
 -- a frame that is answered stands in the buffer
 abbrev pub ShowsHeld : {C : Type 0} → LineState C → Option Piece → Type 0
-ShowsHeld d None = Unit {0}
 ShowsHeld d (Some (piece.Frame span octets)) = octets.now ≡ d.octets
-ShowsHeld d (Some (piece.Damaged span cause)) = Unit {0}
-ShowsHeld d (Some (piece.Overlong span)) = Unit {0}
-ShowsHeld d (Some (piece.Abort span)) = Unit {0}
-ShowsHeld d (Some (piece.Idle span)) = Unit {0}
+ShowsHeld d answer = Unit {0}
 
 -- a bit leads from old to new, with this answer
 pub record Pushed {C : Type 0} (folded : C → List ℕ → Type 0) (cost : ℕ) (old : LineState C) (bit : Bool)
@@ -54,12 +50,8 @@ DecideNothing folded cost d bits =
 
 -- a frame has no more octets than the longest and its check
 abbrev pub FitsFrame : ℕ → Option Piece → Type 0
-FitsFrame longest None = Unit {0}
 FitsFrame longest (Some (piece.Frame span octets)) = (length octets.now ≤ longest + 2) × (longest ≤ 256)
-FitsFrame longest (Some (piece.Damaged span cause)) = Unit {0}
-FitsFrame longest (Some (piece.Overlong span)) = Unit {0}
-FitsFrame longest (Some (piece.Abort span)) = Unit {0}
-FitsFrame longest (Some (piece.Idle span)) = Unit {0}
+FitsFrame longest answer = Unit {0}
 
 -- of these bits, behind those of b, so many are taken: all, or those up to the first that may decide a report
 pub record TakesTo (b bits : List Bool) (count : ℕ) : Type 0 where

@@ -78,10 +78,6 @@ digits n os = zip2 (λ a b. a / 2 ^ b) os (replicate n 4) ++ zip2 bit_and os (re
 digits_are : (n : ℕ) (os : List ℕ) → length os ≡ n → digits n os ≡ map (λ o. o / 16) os ++ map (λ o. o % 16) os
 digits_are n os long = rw (high_digits n os long) (rw (low_digits n os long) refl)
 
-high_below : (os : List ℕ) → ((i : ℕ) → get_or os i 0 < 256) → Each1 (λ d. d < 16) (map (λ o. o / 16) os)
-high_below [] fits = tt
-high_below (o ∷ os) fits = (omega (arith, fits 0), high_below os (λ i. fits (suc i)))
-
 all_below : (os : List ℕ) → ((i : ℕ) → get_or os i 0 < 256) → (is : List ℕ)
     → Each1 (λ d. d < 16) (map (λ o. o / 16) os ++ map (λ o. o % 16) is)
 all_below [] fits [] = tt

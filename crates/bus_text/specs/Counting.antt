@@ -14,28 +14,17 @@ counted b n = if b then n + 1 else n
 
 -- a piece of this kind is counted
 abbrev pub with_kind : Kind → Summary → Summary
-with_kind k s = record {
+with_kind k s = record s {
   frames = counted (is_frame k) s.frames;
   damaged = counted (is_damaged k) s.damaged;
   overlong = counted (is_overlong k) s.overlong;
   aborts = counted (is_abort k) s.aborts;
   idles = counted (is_idle k) s.idles;
-  strays = s.strays;
-  answered = s.answered;
-  missing = s.missing;
-  spoilt = s.spoilt;
-  late = s.late;
 }
 
 -- a verdict is counted
 abbrev pub with_verdict : Option Verdict → Summary → Summary
-with_verdict v s = record {
-  frames = s.frames;
-  damaged = s.damaged;
-  overlong = s.overlong;
-  aborts = s.aborts;
-  idles = s.idles;
-  strays = s.strays;
+with_verdict v s = record s {
   answered = counted (has_outcome Answered v) s.answered;
   missing = counted (has_outcome Missing v) s.missing;
   spoilt = counted (has_outcome Spoilt v) s.spoilt;
@@ -44,18 +33,7 @@ with_verdict v s = record {
 
 -- a stray is counted
 abbrev pub with_stray : Bool → Summary → Summary
-with_stray stray s = record {
-  frames = s.frames;
-  damaged = s.damaged;
-  overlong = s.overlong;
-  aborts = s.aborts;
-  idles = s.idles;
-  strays = counted stray s.strays;
-  answered = s.answered;
-  missing = s.missing;
-  spoilt = s.spoilt;
-  late = s.late;
-}
+with_stray stray s = record s { strays = counted stray s.strays }
 
 -- one report more is counted
 abbrev pub with_seen : SeenReport → Summary → Summary
