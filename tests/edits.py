@@ -1,0 +1,83 @@
+"""The must-fail edits: files with a line `file: NAME`, and then pairs of lines `old: TEXT` and `new: TEXT`.
+
+An edit may name a test that tells it from the right body, in a comment, which `rt` does not read:
+
+    # told-by: CRATE TEST
+
+TEST is the path of a test of that crate, as `line::scans::scans`.
+"""
+
+import re
+from pathlib import Path
+from typing import Dict, Iterator, List, NamedTuple, Set
+
+TOLD_BY = re.compile(r"^# told-by: (\w+) ([\w:]+)$", re.MULTILINE)
+
+
+class Test(NamedTuple):
+    """A test of a crate, by its path."""
+
+    crate: str
+    path: str
+
+
+class Change(NamedTuple):
+    """What is changed in a file, whose path begins at the repository's top."""
+
+    file: Path
+    old: str
+    new: str
+
+    def make(self, top: Path) -> None:
+        """Makes it in a work tree. A ValueError where the old text does not stand in the file exactly once."""
+        path = top / self.file
+        text = path.read_text(encoding="utf-8")
+        if text.count(self.old) != 1:
+            raise ValueError(f"{self.file} has it {text.count(self.old)} times: {self.old}")
+        path.write_text(text.replace(self.old, self.new), encoding="utf-8")
+
+
+class Edit(NamedTuple):
+    """An edit, CRATE/NAME: its own text, and its changes."""
+
+    name: str
+    text: str
+    changes: List[Change]
+
+
+def edit_of(path: Path) -> Edit:
+    """The edit of a file crates/CRATE/must-fail/NAME.edit."""
+    crate = path.parent.parent.name
+    text = path.read_text(encoding="utf-8")
+    file, old = Path(), ""
+    changes: List[Change] = []
+    for line in text.splitlines():
+        key, _, rest = line.partition(":")
+        if key == "file":
+            file = Path("crates", crate, rest.strip())
+        elif key == "old":
+            old = rest[1:]
+        elif key == "new":
+            changes.append(Change(file, old, rest[1:]))
+    return Edit(f"{crate}/{path.stem}", text, changes)
+
+
+def tests_told(text: str) -> List[Test]:
+    """The tests that an edit names."""
+    return [Test(*match) for match in TOLD_BY.findall(text)]
+
+
+def test_of(file: str, name: str) -> Iterator[Test]:
+    """The test of this name in a file, CRATE/src/FILE.rt, if it is one of a crate's sources."""
+    match = re.fullmatch(r"(\w+)/src/([\w/]+)\.rt", file)
+    if match:
+        yield Test(match[1], f"{match[2].replace('/', '::')}::{name}")
+
+
+def unknown_tests(crates: Path, tests: Dict[str, Set[str]]) -> Iterator[str]:
+    """The edits that name a test which is not there, where these are the tests of each file."""
+    every = {test for file, names in tests.items() for name in names for test in test_of(file, name)}
+    for path in sorted(crates.glob("*/must-fail/*.edit")):
+        for test in tests_told(path.read_text(encoding="utf-8")):
+            if test not in every:
+                yield f"{path.parent.parent.name}/{path.stem}: no test {test.crate} {test.path}"
