@@ -53,7 +53,7 @@ CONTRIB = find contrib -name tests -prune -o -name __pycache__ -prune -o ! -name
 SCRIPTS = find contrib -maxdepth 1 -type f -perm -u+x ! -name self-test
 SPECS = find crates -name out -prune -o -path '*/specs/Internal' -prune -o -path '*/specs/*.antt' -type f
 
-# The folders that may be empty in the end, each behind those in it. Those that a system has anyway stay there.
+# The folders that may be empty in the end, each after those in it. Those that a system has anyway stay there.
 FOLDERS = "$(MANDIR)" "$(BASHDIR)" "$(DATADIR)/bash-completion" "$(ZSHDIR)" "$(DATADIR)/zsh" "$(FISHDIR)" \
 	"$(DATADIR)/fish" "$(PKGCONFIGDIR)" "$(CMAKEDIR)" "$(LIBDIR)/cmake" \
 	$(if $(PYTHONDIR),"$(PYTHONDIR)") $(if $(SYSTEM),,$(COMMON_FOLDERS))

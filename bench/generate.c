@@ -9,7 +9,7 @@
  *     polling    commands to stations, answers, idle lines; one frame in twenty has one bit flipped
  *     random     random bits
  *     ones       a line that is idle all the time
- *     flags      flags, one behind the other
+ *     flags      flags, one after the other
  *     long       frames of 250 to 256 octets
  *     stuffed    frames of 255s, which have the most inserted 0s
  *     short      frames of 5 to 9 octets, one flag between each two

@@ -1,4 +1,4 @@
-/* A faster peer of `port1 list`: eight bits at a time by a table of what each octet is behind each run
+/* A faster peer of `port1 list`: eight bits at a time by a table of what each octet is after each run
  * of ones, as software HDLC receivers do it; an octet in which a run reaches six ones goes bit by bit.
  *
  *     table text|packed < CAPTURE

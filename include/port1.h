@@ -180,7 +180,7 @@ uint32_t port1_send_frame(struct port1_sender *sender, const uint8_t *frame, uin
 uint32_t port1_send_align(struct port1_sender *sender, uint8_t *octets, uint64_t count, uint64_t *at, uint64_t *bits);
 
 /* What a table says of one frame type: 8 octets. The table is an array, whose entries are those of the types 0, 1,
- * and so on, up to 256 of them; a type behind its end is not known. */
+ * and so on, up to 256 of them; a type past its end is not known. */
 struct port1_entry {
     uint8_t known;    /* 0 where there is no entry of the type; the rest then means nothing */
     uint8_t length;   /* how many octets follow the type octet, without the check */

@@ -2,7 +2,7 @@
    the file that the variable CALLS names, a line for each: `read N` or `write N`, where N is how many
    octets went, or -1 where the call failed. PIECE is the most octets that one read gives, FAILS the
    number of the read that fails, counted from 1, and ROOM how many octets standard output takes in all,
-   behind which a write fails; each is without bound where its variable is not set. Where DEAF is set, a
+   after which a write fails; each is without bound where its variable is not set. Where DEAF is set, a
    write without room takes nothing in place of failing, and its line is `deaf 0`. */
 
 #define _GNU_SOURCE

@@ -37,7 +37,7 @@ ASSERTED_SIZE = re.compile(r"^PORT1_SIZE\((\w+), (\d+)\);", re.MULTILINE)
 ASSERTED_PLACE = re.compile(r"^PORT1_PLACE\((\w+), (\w+), (\d+)\);", re.MULTILINE)
 
 # A number of a header that is no constant of the library: the most bits of a frame of 256 octets and its check, with
-# a 0 behind each five of them and two flags.
+# a 0 after each five of them and two flags.
 MOST_DATA = 8 * (256 + 2)
 MOST_BITS = MOST_DATA + MOST_DATA // 5 + 16
 
@@ -64,7 +64,7 @@ class Layout:
 
 
 class Parameter(NamedTuple):
-    """A parameter of a function in C; the count behind a slice may have any name."""
+    """A parameter of a function in C; the count after a slice may have any name."""
 
     type: str
     name: Optional[str]

@@ -140,7 +140,7 @@ static void push_and_open(void) {
     WANT(line.count == 5 && memcmp(line.octets, "\x10\x83\x00\xfd\xe5", 5) == 0);
 }
 
-/* The same frame by octets whose first bit is the highest, and seven bits behind it. */
+/* The same frame by octets whose first bit is the highest, and seven bits after it. */
 static void high_first(void) {
     static const uint8_t sent[] = {0x7e, 0x08, 0xc1, 0x00, 0xbe, 0xd3, 0xbf, 0x55};
     uint64_t at = 0;
@@ -258,7 +258,7 @@ static void call_waits(void) {
     WANT(seen.standing == PORT1_KNOWN && seen.verdict == 0 && seen.stray == 0 && seen.station == 16 && seen.ftype == 0);
 }
 
-/* What becomes of the command, by the report behind it. */
+/* What becomes of the command, by the report after it. */
 static void verdicts(void) {
     static const struct {
         struct port1_report report;

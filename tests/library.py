@@ -149,7 +149,7 @@ class Bench:
         return self.compile(compiler, source, target, "-x", "none", self.archive)
 
     def run(self, words: Sequence[Word], stdin: bytes = b"") -> bytes:
-        """What a program writes, with its status behind it where that is not 0."""
+        """What a program writes, with its status after it where that is not 0."""
         ran = subprocess.run(words, input=stdin, stdout=subprocess.PIPE, timeout=SECONDS)
         return ran.stdout + (f"status {ran.returncode}".encode() if ran.returncode else b"")
 
@@ -157,7 +157,7 @@ class Bench:
         return self.run([self.program, "list", *words], capture)
 
     def encoded(self, text: str) -> str:
-        """The bits of lines, one behind the other."""
+        """The bits of lines, one after the other."""
         return "".join(self.run([self.program, "encode"], text.encode()).decode().split())
 
 
@@ -417,8 +417,8 @@ def texts_to_send() -> Iterator[Tuple[str, str]]:
     for seed in range(1, 5):
         yield f"lines by seed {seed}", orders(random.Random(seed), 600)
     yield "frames of all lengths", "".join(f"frame {'ff' * length}\n" for length in range(2, 257))
-    # Seven bits are carried over, and 2491 come behind them, of the 2492 that a frame may have: one octet more.
-    yield "most bits behind an octet that is not full", f"idle\nframe {'ff' * 254}8fff\n"
+    # Seven bits are carried over, and 2491 come after them, of the 2492 that a frame may have: one octet more.
+    yield "most bits after an octet that is not full", f"idle\nframe {'ff' * 254}8fff\n"
 
 
 def results_of_examples(bench: Bench) -> Iterator[Result]:

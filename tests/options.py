@@ -69,7 +69,7 @@ def kinds_of_page() -> Set[str]:
 
 
 def words_of_bash(line: str) -> Set[str]:
-    """What bash offers behind a line that ends with a space, or with the beginning of a word."""
+    """What bash offers after a line that ends with a space, or with the beginning of a word."""
     words = line.split(" ")
     quoted = " ".join(f"'{word}'" for word in words)
     script = (
@@ -122,7 +122,7 @@ def options_of_fish() -> Options:
 
 
 def kinds_of_completion(name: str) -> Set[str]:
-    """The kinds behind --kind in the text of a completion."""
+    """The kinds after --kind in the text of a completion."""
     text = (TOP / "completions" / name).read_text(encoding="ascii")
     return set(re.search(r"frame damaged[\w ]*", text).group(0).split())
 

@@ -1,7 +1,7 @@
-"""Runs the examples of the documents: what stands behind a `$` line is all that it writes. Its status is 2 where that
+"""Runs the examples of the documents: what stands after a `$` line is all that it writes. Its status is 2 where that
 ends with a fault of the program, and 0 else, but for the lines of STATUSES.
 
-The examples of one document run one behind the other in a folder of their own, which has the folders
+The examples of one document run one after the other in a folder of their own, which has the folders
 `examples` and `contrib`; so one example may read what another wrote.
 """
 
@@ -42,10 +42,10 @@ MODULES = {
     "contrib/check-dictionary": "jsonschema",
 }
 
-# A variable that is set for the examples behind it.
+# A variable that is set for the examples after it.
 ASSIGNMENT = re.compile(r"[A-Z]+=\"[^\"]*\"")
 
-# A fault of the program, behind all else that is written.
+# A fault of the program, after all else that is written.
 FAULT = re.compile(r"(?:.*\n)*port1: .*\n")
 
 # The lines with other statuses, by their beginnings.
@@ -76,7 +76,7 @@ class Example:
 
 
 def examples(text: str) -> Iterator[Example]:
-    """Each prompt with the indented lines behind it, and with the variables that were set before."""
+    """Each prompt with the indented lines after it, and with the variables that were set before."""
     lines = text.splitlines()
     variables = ""
     words: FrozenSet[str] = frozenset()
@@ -90,10 +90,10 @@ def examples(text: str) -> Iterator[Example]:
             variables += f"{command}; "
         else:
             words |= set(command.split())
-            yield Example(variables + command, written_behind(lines[number + 1 :]), words, variables)
+            yield Example(variables + command, written_after(lines[number + 1 :]), words, variables)
 
 
-def written_behind(lines: List[str]) -> str:
+def written_after(lines: List[str]) -> str:
     """The indented lines up to the next prompt."""
     written = takewhile(lambda line: line.startswith(INDENT) and not line.startswith(PROMPT), lines)
     return "".join(f"{line[len(INDENT) :]}\n" for line in written)

@@ -139,7 +139,7 @@ def problems_of_exchange(program: Path, exchange: Exchange) -> List[str]:
             wanted = turn.gets.encode()
             got = read_as_many(process.stdout.fileno(), len(wanted))
             if got != wanted:
-                problems.append(f"behind {turn.sends!r}: wanted {wanted!r}, got {got!r}")
+                problems.append(f"after {turn.sends!r}: wanted {wanted!r}, got {got!r}")
         stdout, stderr = process.communicate(timeout=SECONDS)
         last = Case(exchange.name, stdout=exchange.ends)
         problems += differences(last, Ending(stdout, stderr, process.returncode, None))

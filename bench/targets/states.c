@@ -45,7 +45,7 @@ static struct port1_entry entries[PAIR_ENTRIES];   /* of any content */
 
 static struct port1_line sound;                    /* a decoder that only the library wrote */
 static uint8_t room[TAKEN + 4], *taken = room;     /* octets to take, at any address */
-static uint8_t traffic[TRAFFIC];                   /* frames, flags and idle times behind one another */
+static uint8_t traffic[TRAFFIC];                   /* frames, flags and idle times one after the other */
 static uint32_t place;                             /* of the traffic that comes next */
 static uint32_t counts[16][STATUSES], reports[STATUSES];
 
@@ -164,7 +164,7 @@ static void make_state(void) {
 /* The octets, or no pointer where there are none. */
 static uint8_t *given(uint8_t *octets, uint64_t count) { return count > 0 || below(2) == 0 ? octets : NULL; }
 
-/* Where bits of so many octets are to begin: mostly there, and sometimes behind them. */
+/* Where bits of so many octets are to begin: mostly there, and sometimes after them. */
 static uint64_t place_in(uint64_t count) { return below((uint32_t)(8 * count + 9)); }
 
 static uint32_t init(void) {

@@ -127,7 +127,7 @@ def far_gap(commands: Commands) -> float:
 
 
 def holes_of(kind: Kind, commands: Commands, bus: Bus) -> Iterator[Hole]:
-    """The longest gap of a kind, and the times before its first and behind its last command, where they are told."""
+    """The longest gap of a kind, and the times before its first and after its last command, where they are told."""
     usual, limit = usual_gap(commands), far_gap(commands)
     if usual == 0 or commands.first is None or commands.last is None or commands.longest is None:
         return

@@ -6,7 +6,7 @@
 Filters begin with NAME, `port1` unless given: port1.station, port1.control, port1.type, port1.name, port1.data and
 port1.standing, which is `control`, `untyped`, `unknown`, `length`, or the name of the frame. Each named bit has a
 filter too: port1.bit.NAME, in lower case, with a _ for whatever is no letter and no digit. Bits with one name share
-their filter; where two names would come to the same, the later one in the dictionary has a number behind it, _2 on.
+their filter; where two names would come to the same, the later one in the dictionary has a number after it, _2 on.
 
 The columns Source and Destination say `controller`, `station` with its address, or `all stations` for address 255. A
 frame goes the way that the capture says; where it says nothing, a type of 128 or more goes from the station to the

@@ -6,7 +6,7 @@ The listing, of one line or of two, is best made without a dictionary and withou
 entry of version 2 with the length that most of its frames have; of lengths that come equally often it is the longest.
 A type below 128 is marked as answered where the type 128 above it was seen. Comments say from how many frames an entry
 was made, which stations they name, how many frames have which length where they differ, and how soon answers began.
-An answer is what `port1` takes for one: the next thing behind the command, idle line aside.
+An answer is what `port1` takes for one: the next thing after the command, idle line aside.
 
 Only frames that came through undamaged can be counted, and only types that were on the line in this recording. A
 listing without any typed frame is a fault.
@@ -134,7 +134,7 @@ def remarks(frame_type: int, survey: Survey) -> Iterator[str]:
 def window_lines(seen: Seen) -> Iterator[str]:
     """What helps to choose a window for a command that is answered."""
     if seen.replies == 0:
-        yield "# No answer came as the next thing behind its command."
+        yield "# No answer came as the next thing after its command."
         return
     answers = "the one answer" if seen.replies == 1 else f"all {seen.replies} answers"
     longest = counted(seen.longest, "bit")
@@ -155,7 +155,7 @@ def entry_lines(frame_type: int, survey: Survey) -> Iterator[str]:
 
 
 def dictionary(survey: Survey) -> Iterator[str]:
-    """The lines of the draft: each command with its answer behind it."""
+    """The lines of the draft: each command with its answer after it."""
     yield HEAD
     if survey.untyped:
         untyped = counted(survey.untyped, "frame")

@@ -198,8 +198,8 @@ def find_start(capture: Capture, before: int, cut: int, overlap: int) -> Optiona
     """Where a part begins that is to be cut from the one before it at this octet, and its seam; none where
     it would begin no later than that one.
 
-    The seam has something besides idle lines, of two lines on each. Such a piece stands behind a flag, so that all
-    that is listed behind it is the same as in the whole capture; and the last of them is the last on the bus, so
+    The seam has something besides idle lines, of two lines on each. Such a piece stands after a flag, so that all
+    that is listed after it is the same as in the whole capture; and the last of them is the last on the bus, so
     that the same command waits, or none.
     """
     while (start := cut - overlap) > before:
@@ -391,7 +391,7 @@ def parser_of_words() -> argparse.ArgumentParser:
 
 
 def request_of_words() -> Request:
-    """Reads the command line; what stands behind the capture is handed on."""
+    """Reads the command line; what stands after the capture is handed on."""
     parser = parser_of_words()
     asked = parser.parse_args()
     if asked.join and asked.capture:

@@ -49,7 +49,7 @@ name = "state"
 length = 20
 """
 
-# Octets behind the type of each command, and of its answer.
+# Octets after the type of each command, and of its answer.
 LENGTHS = {0: (2, 6), 1: (0, 20)}
 
 
@@ -64,7 +64,7 @@ def check_of(octets: Sequence[int]) -> int:
 
 
 def body_of(octets: Sequence[int]) -> str:
-    """The bits of a frame between its flags: the lowest of each octet first, a 0 put behind five ones."""
+    """The bits of a frame between its flags: the lowest of each octet first, a 0 put after five ones."""
     check = check_of(octets)
     bits = "".join(f"{octet:08b}"[::-1] for octet in [*octets, check & 0xFF, check >> 8])
     return bits.replace("11111", "111110")
@@ -76,12 +76,12 @@ def damaged(bits: str, generator: random.Random) -> str:
     return bits[:place] + ("1" if bits[place] == "0" else "0") + bits[place + 1 :]
 
 
-# A frame that a station sends right behind an answer.
+# A frame that a station sends right after an answer.
 OTHER = body_of([3, 0x83, 129, *range(20)])
 
 
 class Stretch(NamedTuple):
-    """Bits that are sent one behind the other, the first taken at a time in seconds, with a rate.
+    """Bits that are sent one after the other, the first taken at a time in seconds, with a rate.
 
     From some bit on another station may send, whose clock goes on a little later.
     """
@@ -169,7 +169,7 @@ class Bus:
         self.fill(generator.randrange(900, 1100))
 
     def answer(self, body: str, delay: float) -> None:
-        """An answer, and sometimes another frame at once behind it, from the same station or from another."""
+        """An answer, and sometimes another frame at once after it, from the same station or from another."""
         first = FLAG + body + FLAG
         behind, later = self.generator.choice([("", 0), ("", 0), (OTHER + FLAG, 0), (FLAG + OTHER + FLAG, 0.8)])
         self.answers.append(Answer(self.count + delay, first + behind, len(first), later * self.generator.random()))

@@ -31,7 +31,7 @@ ESCAPES = re.compile(
 
 
 class Row(NamedTuple):
-    """What is typed behind a prompt, what must appear then, and what must not; in these shells."""
+    """What is typed after a prompt, what must appear then, and what must not; in these shells."""
 
     typed: str
     appears: Sequence[str]

@@ -50,7 +50,7 @@ def section(title: str) -> str:
 
 
 def steps_of(text: str) -> Iterator[Step]:
-    """The indented lines of a text: each behind a `$` with what follows it, each other alone."""
+    """The indented lines of a text: each after a `$` with what follows it, each other alone."""
     text = re.sub(r"^```.*?^```$", "", text, flags=re.MULTILINE | re.DOTALL)
     for block in re.findall(r"(?:^ {4}.*\n)+", text, flags=re.MULTILINE):
         lines = [line[4:] for line in re.sub(r"\\\n *", "", block).splitlines()]
@@ -63,7 +63,7 @@ def steps_of(text: str) -> Iterator[Step]:
 
 
 def write_scripts(text: str, folder: Path) -> None:
-    """Puts each script that a text shows behind its name into a folder."""
+    """Puts each script that a text shows after its name into a folder."""
     for name, script in re.findall(r"`([\w-]+\.sh)`:\n\n```sh\n(.*?)^```$", text, flags=re.MULTILINE | re.DOTALL):
         (folder / name).write_text(script, encoding="ascii")
 

@@ -74,7 +74,7 @@ class Line:
         self.bits = ["1"] * (ROUND * ROUNDS)
 
     def send(self, first: int, bits: str) -> int:
-        """Sends a frame whose first bit has a place, with a flag on each side. Returns the place behind its bits."""
+        """Sends a frame whose first bit has a place, with a flag on each side. Returns the place after its bits."""
         framed = FLAG + bits + FLAG
         self.bits[first - len(FLAG) : first + len(bits) + len(FLAG)] = framed
         return first + len(bits)

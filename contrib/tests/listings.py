@@ -301,7 +301,7 @@ def sentences_of(summary: str) -> List[str]:
 
 
 def table_of(summary: str) -> Dict[Tuple[int, int], List[str]]:
-    """The cells of the table behind the name, by station and type."""
+    """The cells of the table after the name, by station and type."""
     body = summary.partition("from s\n")[2].split("\n\n")[0]
     rows = [line.split() for line in body.splitlines()]
     return {(int(row[0]), int(row[1])): row[3:] for row in rows}
@@ -702,7 +702,7 @@ def draft_of_example(_: Path) -> List[str]:
 
 
 def big_listing(count: int) -> Iterator[bytes]:
-    """Exchanges with five stations on two lines, an idle time behind each answer, and damage now and then."""
+    """Exchanges with five stations on two lines, an idle time after each answer, and damage now and then."""
     generator = random.Random(16)
     for number in range(count // 4):
         listing = Listing()

@@ -53,7 +53,7 @@ RUNS = [
     Run("a form feed", ["flip-bits", "0"], b"01\f10", b"", "flip-bits: octet 2 is no bit\n", 2),
     Run("an octet above 127", ["flip-bits", "0"], b"01\xb2", b"", "flip-bits: octet 2 is no bit\n", 2),
     Run(
-        "a place behind the end",
+        "a place after the end",
         ["flip-bits", "8"],
         b"01111110",
         b"01111110",

@@ -35,7 +35,7 @@ RUNS: List[Run] = []
 
 
 def dirty_line(generator: random.Random, count: int) -> str:
-    """Commands, replies, flags, idle lines and random bits, one behind the other."""
+    """Commands, replies, flags, idle lines and random bits, one after the other."""
     call, reply = plain(CALL)[8:], plain(REPLY)[8:]
     notice = "111110111110000001100100000101101011011100" + "01111110"
     texts = ["01111110"]

@@ -3,7 +3,7 @@
  *
  *     watch [--two] TYPE,LENGTH.. TYPE,LENGTH,WINDOW..
  *
- * The words are a dictionary: a type with the number of octets behind it, and for a command that is to be answered the
+ * The words are a dictionary: a type with the number of octets after it, and for a command that is to be answered the
  * window in bits, or 0 for no limit. With --two the capture is of two lines, with the octets 0 to 3. Other octets than
  * bits are skipped. */
 #include "port1.h"

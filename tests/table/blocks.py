@@ -54,10 +54,10 @@ LINES = [
     Case(name="longer and longer stretches", words=BITS, stdin=spread(MANY), stdout=lines_of(len(MANY))),
 ]
 
-# The smaller block is full behind some 850 bits, the larger behind some 16300.
+# The smaller block is full after some 850 bits, the larger after some 16300.
 BAD = [
     Case(
-        name=f"a bad octet behind {place} bits",
+        name=f"a bad octet after {place} bits",
         words=BITS,
         stdin=(MANY[:place] + "2" + MANY[place:rest]).encode(),
         stdout=lines_of(place),

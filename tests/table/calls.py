@@ -220,11 +220,11 @@ IN_ORDER = [
         ],
     ),
     Counted(
-        bad_octet("a fault behind a line", "list", 15, IDLE_LINE),
+        bad_octet("a fault after a line", "list", 15, IDLE_LINE),
         calls=["read 16", "write 10"],
     ),
     Counted(
-        bad_octet("a fault behind a line, by the next read", "list", 15, IDLE_LINE),
+        bad_octet("a fault after a line, by the next read", "list", 15, IDLE_LINE),
         piece=15,
         calls=["read 15", "write 10", "read 1"],
     ),
@@ -296,7 +296,7 @@ IN_ORDER = [
     ),
     Counted(
         Case(
-            "a bad line behind a good one",
+            "a bad line after a good one",
             ["encode"],
             b"flag\nx\n",
             "01111110\n",
@@ -310,7 +310,7 @@ IN_ORDER = [
 
 
 def call_places(count: int) -> List[Tuple[int, int]]:
-    """Where so many calls begin and end, one behind the other: each has 41 bits, and a flag eight."""
+    """Where so many calls begin and end, one after the other: each has 41 bits, and a flag eight."""
     return [(8 + 49 * number, 8 + 49 * number + 41) for number in range(count)]
 
 
@@ -392,7 +392,7 @@ def cut_short() -> Iterator[Counted]:
 
 
 def many_spaces() -> Iterator[Counted]:
-    """Behind each bit stand 5000 spaces, which change no place."""
+    """After each bit stand 5000 spaces, which change no place."""
     wide = b"".join(bytes([bit]) + b" " * 5000 for bit in ANSWERED)
     for piece in [4097, None]:
         case = replace(LIST, name=f"many spaces, by reads of {piece or 'any size'}", stdin=wide)
@@ -419,7 +419,7 @@ def bad_marks() -> Iterator[Counted]:
 
 
 def long_lines() -> Iterator[Counted]:
-    """Lines of no good form behind a good one: such a line is refused at the latest by its end."""
+    """Lines of no good form after a good one: such a line is refused at the latest by its end."""
     for count in [600, 601, 602]:
         for end in [b"", b"\n", b"\r", b"\r\n"]:
             case = Case(
@@ -435,8 +435,8 @@ def long_lines() -> Iterator[Counted]:
 
 
 def judged_early() -> Iterator[Counted]:
-    """With 600 octets, or a CR behind them, a good end may still come; with one octet more, or with one
-    behind that CR, none can, and no further read comes."""
+    """With 600 octets, or a CR after them, a good end may still come; with one octet more, or with one
+    after that CR, none can, and no further read comes."""
     for count, end, is_judged in [
         (600, b"", False),
         (600, b"\r", False),

@@ -78,7 +78,7 @@ class Turn:
 
 @dataclass(frozen=True)
 class Exchange:
-    """A run over a pipe: turn by turn, and what comes behind the end of input."""
+    """A run over a pipe: turn by turn, and what comes after the end of input."""
 
     name: str
     words: Sequence[str]

@@ -39,7 +39,7 @@ def report(
     spoilt: int = 0,
     late: int = 0,
 ) -> str:
-    """The counts, and the lines of stations and of the last frames behind them."""
+    """The counts, and the lines of stations and of the last frames after them."""
     counts = f"""\
 frames {frames}
 damaged {damaged}
@@ -319,7 +319,7 @@ DEPTHS = [
 # A fault leaves nothing of the report.
 FAULTS = [
     Case(
-        name="an octet that is no bit behind a frame",
+        name="an octet that is no bit after a frame",
         words=BY_CALLS,
         stdin=text(FLAG, CALL.replace(" ", ""), FLAG, "x"),
         stderr=fault("capture: octet 57 is no bit"),
@@ -346,7 +346,7 @@ FAULTS = [
         status=2,
     ),
     Case(
-        name="a packed capture with an octet behind its end",
+        name="a packed capture with an octet after its end",
         words=["check"],
         stdin=PACKED + b"\0",
         stderr=fault("capture: octets after the end"),

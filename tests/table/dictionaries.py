@@ -152,12 +152,12 @@ LAST_FAULTS: Dict[str, str] = {
     # In two entries.
     document(COMMAND, COMMAND, wrong({"bits": "1"}, SECOND)): TYPE_1_TWICE,
     document(wrong({"bits": "1"}, SECOND), COMMAND, COMMAND): COLUMNS[5].text(1),
-    # A type for the second time, behind a command without its answer's entry.
+    # A type for the second time, after a command without its answer's entry.
     document(SECOND, COMMAND, COMMAND): TYPE_1_TWICE,
     document(SECOND, wrong({"bits": "1"})): COLUMNS[5].text(2),
 }
 
-# Faults of the document, with all that could be told behind them.
+# Faults of the document, with all that could be told after them.
 DOCUMENT_FAULTS: Dict[str, str] = {
     "": "version is not 1 or 2",
     "version = ": "not TOML",

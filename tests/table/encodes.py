@@ -33,13 +33,13 @@ ENCODES = [
     ],
     # Where a flag or a frame stands before it, its closing flag opens the next.
     Case(
-        name="a frame behind a flag",
+        name="a frame after a flag",
         words=ENCODE,
         stdin=b"flag\nframe 108300",
         stdout=line(FLAG) + line(CALL, FLAG),
     ),
     Case(
-        name="a frame behind a frame",
+        name="a frame after a frame",
         words=ENCODE,
         stdin=b"frame 108300\n\nframe 1083FE\n",
         stdout=line(FLAG, CALL, FLAG) + line(TYPE_254, FLAG),
@@ -126,7 +126,7 @@ ENCODES = [
         status=2,
     ),
     Case(
-        name="a space behind a word",
+        name="a space after a word",
         words=ENCODE,
         stdin=b"flag \n",
         stderr=fault("line 1: bad line"),

@@ -54,7 +54,7 @@ MISSING_AND_SPOILT_LINES = """\
 57 98 spoilt station 16 type 0
 """
 
-# A call and a reply that begins eight, sixteen and twenty-four bits behind it.
+# A call and a reply that begins eight, sixteen and twenty-four bits after it.
 AT_ONCE = text(FLAG, CALL, FLAG, REPLY, FLAG)
 
 IN_TIME = text(FLAG, CALL, FLAG, FLAG, REPLY, FLAG)
@@ -143,8 +143,8 @@ def chosen(lines: str, *numbers: int) -> str:
     return "".join(every[number - 1] for number in numbers)
 
 
-def idle_behind_call(name: str, dictionary: str, frame: str, lines: str) -> Case:
-    """A call, an idle line and a frame, which gives these lines behind those of the others."""
+def idle_after_call(name: str, dictionary: str, frame: str, lines: str) -> Case:
+    """A call, an idle line and a frame, which gives these lines after those of the others."""
     return Case(
         name=name,
         words=["list", "--bits", "--dict", dictionary],
@@ -262,13 +262,13 @@ PIECES = [
         stdout="8 16 abort\n",
     ),
     Case(
-        name="fifteen ones behind a piece",
+        name="fifteen ones after a piece",
         words=BY_CALLS,
         stdin=text(FLAG, "00001000", IDLE),
         stdout="8 16 abort\n16 31 idle\n",
     ),
     Case(
-        name="an idle line behind a call",
+        name="an idle line after a call",
         words=BY_CALLS,
         stdin=text(FLAG, CALL, FLAG, IDLE),
         stdout=f"{CALL_LINE}57 72 idle\n8 49 pending station 16 type 0\n",
@@ -310,7 +310,7 @@ PIECES = [
         stdin=text(FLAG, "00001"),
         stdout="8 13 open\n",
     ),
-    idle_behind_call(
+    idle_after_call(
         "what is encoded",
         CALLS,
         TYPE_254,
@@ -322,7 +322,7 @@ PIECES = [
     ),
     *[
         Case(
-            name=f"an answer {distance} bits behind its command, with a window of sixteen in {version}",
+            name=f"an answer {distance} bits after its command, with a window of sixteen in {version}",
             words=["list", "--bits", "--dict", dictionary],
             stdin=capture,
             stdout=stdout,
@@ -335,7 +335,7 @@ PIECES = [
         ]
     ],
     Case(
-        name="a window of twenty-four bits, and an answer behind so many",
+        name="a window of twenty-four bits, and an answer after so many",
         words=["list", "--bits", "--dict", WITHIN.replace("16", "24")],
         stdin=LATE,
         stdout=LATE_LINES.replace("late", "answered"),
@@ -346,7 +346,7 @@ PIECES = [
         stdin=LATE,
         stdout=LATE_LINES,
     ),
-    idle_behind_call(
+    idle_after_call(
         "an idle line within a window",
         WITHIN.replace("16", "31"),
         REPLY,
@@ -582,7 +582,7 @@ FILTERS = [
         stdin=ALL_HEADS,
     ),
     Case(
-        name="a fault behind lines that are left out",
+        name="a fault after lines that are left out",
         words=[*BITS, "--kind", "abort"],
         stdin=text(IDLE, "2"),
         stderr=fault("capture: octet 15 is no bit"),
@@ -599,7 +599,7 @@ TEXT_FAULTS = [
         status=2,
     ),
     Case(
-        name="an octet that is no bit behind a line",
+        name="an octet that is no bit after a line",
         words=BY_CALLS,
         stdin=text(FLAG, CALL.replace(" ", ""), FLAG, "0x"),
         stdout=CALL_LINE,
@@ -650,7 +650,7 @@ PACKED_CAPTURES = [
         status=2,
     ),
     Case(
-        name="packed, with an octet behind its end",
+        name="packed, with an octet after its end",
         words=["list", "--dict", CALLS],
         stdin=PACKED + b"\0",
         stdout=CALL_LINE,

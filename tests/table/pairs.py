@@ -48,7 +48,7 @@ NOTICED = FLAG + NOTICE.replace(" ", "") + FLAG
 
 REST = "1" * 57
 
-# A call on the first line, and behind it the reply on the second.
+# A call on the first line, and after it the reply on the second.
 CALL_AND_REPLY = (CALLED + REST, REST + REPLIED)
 
 CALL_AND_REPLY_LINES = """\
@@ -204,7 +204,7 @@ PIECES = [
 """,
     ),
     listed(
-        "a long piece on the second line, behind a call",
+        "a long piece on the second line, after a call",
         (CALLED + "1" * 7, FLAG + LONG + FLAG),
         """\
 1 8 49 frame 108300fde5 station 16 type 0 call
@@ -213,7 +213,7 @@ PIECES = [
 """,
     ),
     listed(
-        "an abort on the second line, behind a call",
+        "an abort on the second line, after a call",
         (CALLED + "1" * 12, "1" * 50 + FLAG + "0000" + "1" * 7),
         """\
 2 0 15 idle
@@ -246,7 +246,7 @@ PIECES = [
     ),
     *[
         listed(
-            f"a reply sixteen bits behind its call, with a window of {window} in {version}",
+            f"a reply sixteen bits after its call, with a window of {window} in {version}",
             CALL_AND_REPLY,
             CALL_AND_REPLY_LINES.replace("answered", outcome),
             dictionary.replace("16", window),
@@ -373,7 +373,7 @@ FILTERS = [
         stdin=marks(*CALL_AND_REPLY),
     ),
     Case(
-        name="a fault behind lines that are left out",
+        name="a fault after lines that are left out",
         words=[*TWO, "--kind", "abort"],
         stdin=marks(IDLE, IDLE) + b"4",
         stderr=fault("capture: octet 15 is no bit"),
@@ -391,7 +391,7 @@ TEXT_FAULTS = [
     ),
     *[
         Case(
-            name=f"{octet!r} behind marks and spaces",
+            name=f"{octet!r} after marks and spaces",
             words=BY_CALLS,
             stdin=b"0123 \t" + octet,
             stderr=fault("capture: octet 6 is no bit"),
@@ -400,7 +400,7 @@ TEXT_FAULTS = [
         for octet in [b"4", b"9", b"/", b"x", b",", b"\v", b"\0", b"\xb2"]
     ],
     Case(
-        name="an octet that is no mark, behind a line",
+        name="an octet that is no mark, after a line",
         words=BY_CALLS,
         stdin=marks(*CALL_AND_REPLY) + b" 4",
         stdout=CALL_AND_REPLY_LINES,
@@ -469,7 +469,7 @@ PACKED_CAPTURES = [
         status=2,
     ),
     Case(
-        name="packed, with an octet behind its end",
+        name="packed, with an octet after its end",
         words=PACKED_BY_CALLS,
         stdin=PACKED_CALL + b"\0",
         stdout=CALL_LINES,
@@ -625,7 +625,7 @@ CHECKED = [
         stdout=report("last 2 8 49 108300fde5", frames=1, idles=1),
     ),
     Case(
-        name="check: an octet that is no mark, behind lines",
+        name="check: an octet that is no mark, after lines",
         words=CHECK_BY_CALLS,
         stdin=marks(*CALL_AND_REPLY) + b"4",
         stderr=fault("capture: octet 114 is no bit"),
@@ -642,7 +642,7 @@ CHECKED = [
         Case(f"check: {name}", ["check", *words], stdin, stderr=fault(f"capture: {why}"), status=2)
         for name, words, stdin, why in [
             ("packed, without its last octet", ["--two"], PACKED_CALL[:-1], "short body"),
-            ("packed, with an octet behind its end", ["--two"], PACKED_CALL + b"\0", "octets after the end"),
+            ("packed, with an octet after its end", ["--two"], PACKED_CALL + b"\0", "octets after the end"),
             ("packed, with a spare bit that is 1", ["--two"], PACKED_IDLE[:-1] + b"\xbf", "spare bits are not 0"),
             ("packed, of two lines taken for one", [], PACKED_IDLE, "wrong magic"),
             ("packed, of one line taken for two", ["--two"], PACKED, "wrong magic"),

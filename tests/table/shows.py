@@ -102,7 +102,7 @@ SHOWS = [
         f"frame {LONGEST.hex()} good\ncontrol 0\n",
     ),
     Case(
-        name="behind two dashes",
+        name="after two dashes",
         words=["show", "--", "1013ccb8"],
         stdout="frame 1013ccb8 good\ncontrol 19\n",
     ),
@@ -110,7 +110,7 @@ SHOWS = [
     refused("no digits", "", "bad hex"),
     refused("a letter that is no digit", "108300fdeg", "bad hex"),
     refused("spaces between digits", "10 83 00 fd e5", "bad hex"),
-    refused("a letter behind many digits", "10" * 1000 + "1G", "bad hex"),
+    refused("a letter after many digits", "10" * 1000 + "1G", "bad hex"),
     refused("one octet", "10", "frame is not 4 to 258 octets"),
     refused("a thousand octets", "10" * 1000, "frame is not 4 to 258 octets"),
     refused("three octets", "108345", "frame is not 4 to 258 octets"),

@@ -18,7 +18,7 @@ HELP_WORDS = [
     *[(command, [command, "--help"]) for command in ["list", "check", "show", "encode"]],
     *[(command, [command, "-h"]) for command in ["list", "check", "show", "encode"]],
     *[(command, ["help", command]) for command in ["list", "check", "show", "encode"]],
-    # Help that is asked for comes before what is missing and what is wrong behind it.
+    # Help that is asked for comes before what is missing and what is wrong after it.
     ("show", ["show", "--help", "--nonsense"]),
     ("list", ["list", "--bits", "--dict", "", "--help"]),
 ]
@@ -198,7 +198,7 @@ VALUES = [
     ),
 ]
 
-# Judged behind all other words, and before the dictionary.
+# Judged after all other words, and before the dictionary.
 UNKNOWN_KINDS = [
     *[
         refusal(["list", "--bits", "--kind", kind], fault("unknown kind"))

@@ -52,10 +52,10 @@ OK, BAD_LENGTH, PLACE_LIMIT, BAD_STATE, BAD_ARGUMENT, NO_ROOM = range(6)
 SHORTEST_LONGEST, LONGEST = 3, 256
 SHORTEST_SENT = 2
 
-# The place that no bit has, and none behind it.
+# The place that no bit has, and none after it.
 PLACES = 1 << 60
 
-# Octets that hold the bits of the longest frame behind those of an octet that is not full.
+# Octets that hold the bits of the longest frame after those of an octet that is not full.
 ROOM = (2492 + 7) // 8 + 1
 
 Octets = Union[bytes, bytearray, memoryview]
@@ -231,7 +231,7 @@ class LineDecoder:
         """Takes the bits of these octets, or the first so many, and gives the reports that they decide.
 
         All bits are taken when this returns, whether the reports are asked for or not. Where the places end,
-        PlaceLimit comes behind the reports.
+        PlaceLimit comes after the reports.
         """
         held = held_octets(octets)
         end = 8 * len(held) if bits is None else bits
@@ -360,7 +360,7 @@ class LineEncoder:
         return int(self._at.value)
 
     def _sent(self, call: Any, *given: Union[bytes, ctypes.c_uint64]) -> bytes:
-        """Calls, and drains the buffer: the bits behind the full octets go to its front."""
+        """Calls, and drains the buffer: the bits after the full octets go to its front."""
         bits, room = ctypes.c_uint64(0), ctypes.c_uint64(ROOM)
         named: Tuple[Any, ...] = (self._octets, room, ctypes.byref(self._at), ctypes.byref(bits))
         status = call(ctypes.byref(self._sender), *given, *named)

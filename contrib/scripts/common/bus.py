@@ -100,7 +100,7 @@ class Commands:
             self.gaps.add(length)
             if self.longest is None or length > self.longest.length:
                 self.longest = gap_between(self.last, now)
-        # The command itself is not within the gap behind it.
+        # The command itself is not within the gap after it.
         self.last = Moment(now.place, now.damage, now.frames + 1)
 
     def judge(self, verdict: Row, before: Optional[Row]) -> None:

@@ -64,7 +64,7 @@ def position_of(name: str, names: Sequence[str]) -> int:
     return found[0]
 
 
-# Samples, one behind the other.
+# Samples, one after the other.
 
 
 def whole_samples(pieces: Iterable[bytes], width: int) -> Iterator["np.ndarray"]:
@@ -200,7 +200,7 @@ def ticks_of(scale: str) -> Optional[int]:
 
 
 def code_of(name: str, signals: Signals) -> bytes:
-    """The code of a signal; a name may leave out the bits in brackets behind it."""
+    """The code of a signal; a name may leave out the bits in brackets after it."""
     names = [known for known, codes in signals.codes.items() for _ in codes]
     codes = [code for codes in signals.codes.values() for code in codes]
     if " ".join(name.split()) not in names:
@@ -225,7 +225,7 @@ def actions_of(codes: Sequence[bytes]) -> Dict[bytes, Tuple[int, int]]:
 
 
 class DumpReader:
-    """Reads the words of a dump behind its definitions."""
+    """Reads the words of a dump after its definitions."""
 
     def __init__(self, actions: Dict[bytes, Tuple[int, int]], channels: int):
         self.actions = actions

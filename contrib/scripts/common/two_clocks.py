@@ -72,7 +72,7 @@ class SteadyLine:
         return begins[far]
 
     def with_places_between(self, times: "np.ndarray", held: int) -> Tuple["np.ndarray", "np.ndarray"]:
-        """The times of edges and of the places that are missing between them and behind them, and which are edges."""
+        """The times of edges and of the places that are missing between them and after them, and which are edges."""
         begins = np.concatenate(([self.last], times))
         distances = np.diff(begins)
         missing = np.where(distances > FAR * self.period, np.rint(distances / self.period) - 1, 0).astype(np.int64)
@@ -233,13 +233,13 @@ class Placed:
         return marks
 
     def rest(self, end: int) -> "np.ndarray":
-        """The marks of all places that are left. Where the second line goes on behind them, it is cut off."""
+        """The marks of all places that are left. Where the second line goes on after them, it is cut off."""
         if self.last and self.last[0].distance != FLAG and self.count - self.last[0].index <= ABORT:
             if end - self.last_edge > IDLE * self.period:
                 text = "the second clock stops within a frame, or an edge of it is missing"
                 self.doubts.add(text, np.array([self.last_edge]))
         past = self.base + len(self.bits)
         if len(self.zeros) > 0 and self.zeros[-1] > past + MOST_DRIFT:
-            self.doubts.add("the second line goes on behind the end of the first, and is cut off", np.array([end]))
+            self.doubts.add("the second line goes on after the end of the first, and is cut off", np.array([end]))
         self.zeros = self.zeros[self.zeros < past]
         return self.taken(past)

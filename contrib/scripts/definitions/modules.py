@@ -103,7 +103,7 @@ class Module:
                 self.cases.add(token.text)
 
     def read_definition(self, items: List[List[Token]], at: int, given: Tuple[str, ...]) -> int:
-        """A name with its type, and the clauses that follow; the place of the item behind them."""
+        """A name with its type, and the clauses that follow; the place of the item after them."""
         head = items[at]
         words = [token.text for token in head]
         skip = sum(word in ("abbrev", "unfoldable", "pub") for word in words[:2])
@@ -180,7 +180,7 @@ class Modules:
         if ".declared." in front:
             return Case(f"{front}.{last}") if front.endswith(".TheVariants") else None
         module = self.module(front)
-        if module is None:  # perhaps a case behind the name of its type
+        if module is None:  # perhaps a case after the name of its type
             module = self.module(front.rpartition(".")[0])
             if module is None or front.rpartition(".")[2] not in module.types or path != front:
                 return None

@@ -235,7 +235,7 @@ class Writer:
         return []
 
     def match_list(self, pattern: Tree, of: str, line: int, tests: List[str], lines: List[str], scope: Scope) -> None:
-        """Items, and what stands behind them."""
+        """Items, and what stands after them."""
         items: List[Tree] = []
         rest: Tree = pattern
         while isinstance(rest, Operator) and rest.sign == "∷":

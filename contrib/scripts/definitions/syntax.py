@@ -7,7 +7,7 @@ from definitions.tokens import Token
 
 
 class Name(NamedTuple):
-    """A name, perhaps behind others: a module's, a type's, or of a value with fields."""
+    """A name, perhaps after others: a module's, a type's, or of a value with fields."""
 
     parts: Tuple[str, ...]
     line: int

@@ -69,7 +69,7 @@ def filter_map(change: Callable[[Any], Case], xs: Items) -> Items:
 
 
 def flat_map(change: Callable[[Any], Items], xs: Items) -> Items:
-    """The lists that the items become, one behind the other."""
+    """The lists that the items become, one after the other."""
     return items_of([y for x in xs for y in change(x)])
 
 

@@ -10,7 +10,7 @@ CONTROL = 0x83
 ANSWER = 128
 ALL_STATIONS = 255
 
-# Address, control and type stand before the data of a frame, the two octets of the check behind it.
+# Address, control and type stand before the data of a frame, the two octets of the check after it.
 BEFORE_DATA = 3
 CHECK = 2
 

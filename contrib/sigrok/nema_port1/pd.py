@@ -10,7 +10,7 @@ from .library import line_decoder
 
 TXC, TXD, RXC, RXD = range(4)
 
-# Annotation classes of a line, behind each other; the second line's come after the first's.
+# Annotation classes of a line, one after the other; the second line's come after the first's.
 FRAME, DAMAGE, IDLE = range(3)
 CLASSES = 3
 REPLY_TIME = 2 * CLASSES

@@ -138,7 +138,7 @@ function remarks(type, types) {
 /** What helps to choose a window for a command that is answered. */
 function windowLines({ replies, longest }) {
   if (replies === 0) {
-    return ["# No answer came as the next thing behind its command."];
+    return ["# No answer came as the next thing after its command."];
   }
   const answers = replies === 1 ? "the one answer" : `all ${replies} answers`;
   const time = counted(longest, "bit");

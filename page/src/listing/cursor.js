@@ -52,7 +52,7 @@ export class Cursor {
     return word;
   }
 
-  /** Whether a word comes next, which is then behind. */
+  /** Whether a word comes next, which is then passed. */
   skip(word) {
     for (let at = 0; at < word.length; at++) {
       if (this.octets[this.at + at] !== word.charCodeAt(at)) return false;

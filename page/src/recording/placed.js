@@ -229,7 +229,7 @@ export class Placed {
     }
     const past = this.base + this.bits.length;
     if (this.zeros.length > 0 && this.zeros.at(-1) > past + MOST_DRIFT) {
-      this.doubts.add("the second line goes on behind the end of the first, and is cut off", end);
+      this.doubts.add("the second line goes on after the end of the first, and is cut off", end);
     }
     this.zeros = this.zeros.filter((place) => place < past);
     return this.taken(past);
