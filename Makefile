@@ -2,6 +2,7 @@
 #
 #     make                              proves and builds program and library, with `rt`, where anything has changed
 #     make check                        tests the program, the libraries' use of memory, the scripts and the page
+#     make version                      writes the program's version into header, man page, Python module and docs/C.md
 #     make page                         builds the page, page/out/port1.html: the analyser as one file for a browser
 #     make install PREFIX=$HOME/.local  all of the following
 #     make install-program              the program, its man page and completions, and what install-scripts does
@@ -90,6 +91,9 @@ check: $(PROGRAM)
 page:
 	page/build
 
+version:
+	packages/version
+
 install: install-program install-library
 
 install-program: $(PROGRAM) install-scripts
@@ -156,4 +160,4 @@ uninstall:
 	for folder in $(FOLDERS); do rmdir "$(DESTDIR)$$folder" 2> /dev/null || true; done
 	test -z "$(DESTDIR)" || { cd "$(DESTDIR)" 2> /dev/null && rmdir -p ".$(PREFIX)" 2> /dev/null; } || true
 
-.PHONY: all check page install install-program install-scripts install-library dist uninstall
+.PHONY: all check page version install install-program install-scripts install-library dist uninstall

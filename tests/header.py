@@ -11,6 +11,8 @@ from dataclasses import dataclass
 from pathlib import Path
 from typing import Dict, Iterator, List, NamedTuple, Optional, Tuple
 
+from version import version_of
+
 TOP = Path(__file__).resolve().parent.parent
 
 # Octets of the numbers of Rattle, and what the header has for them. A number of octets has 64 bits on every target.
@@ -204,13 +206,8 @@ def problems_of_function(name: str, sources: Sources, header: Header) -> List[st
     return problems + [part for each, other in names for part in unlike("parameter", each, other)]
 
 
-def version_of_program(top: Path) -> str:
-    text = (top / "crates/bus_tool/src/arguments.rt").read_text(encoding="utf-8")
-    return "".join(re.findall(r'\.version\("(.*?)"\)', text))
-
-
 def problems_of_version(top: Path, header: Header) -> List[str]:
-    version = version_of_program(top)
+    version = version_of(top)
     parts = [header.defined.get(f"PORT1_VERSION_{part}") for part in ("MAJOR", "MINOR", "PATCH")]
     problems = unlike("PORT1_VERSION", f'"{version}"', header.defined.get("PORT1_VERSION"))
     return problems + unlike("its parts", version.split("."), parts)

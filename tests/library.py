@@ -21,7 +21,8 @@ from pathlib import Path
 from typing import Callable, Dict, Iterator, List, NamedTuple, Sequence, Tuple, TypeVar, Union
 
 from built import problems_of_build
-from header import Layout, Sources, results_of_header, version_of_program
+from header import Layout, Sources, results_of_header
+from version import version_of
 
 TOP = Path(__file__).resolve().parent.parent
 
@@ -451,7 +452,7 @@ def problems_of_calls(bench: Bench, compiler: Compiler) -> List[str]:
 
 
 def problems_of_version(bench: Bench) -> List[str]:
-    wanted, got = f"port1 {version_of_program(bench.top)}\n", bench.run([bench.program, "--version"]).decode()
+    wanted, got = f"port1 {version_of(bench.top)}\n", bench.run([bench.program, "--version"]).decode()
     return [] if got == wanted else [f"wanted {wanted!r}, got {got!r}"]
 
 

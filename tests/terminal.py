@@ -6,6 +6,8 @@ import subprocess
 from pathlib import Path
 from typing import Iterator, List, Tuple
 
+from version import version_of
+
 SECONDS = 20
 
 PROMPT = "port1: reading from the terminal; end with Ctrl-D, or see port1 --help\n"
@@ -18,7 +20,7 @@ ROWS: List[Tuple[List[str], str, str, str]] = [
     (["list", "--bits", "--kind", "abort"], BITS, "", PROMPT),
     (["encode"], "flag\nidle", "01111110\n111111111111111\n", PROMPT),
     (["list", "--bits", "--kind", "x"], "", "", "port1: unknown kind\n"),
-    (["--version"], "", "port1 1.0.0\n", ""),
+    (["--version"], "", f"port1 {version_of()}\n", ""),
     (["show", "108300fde5"], "", "frame 108300fde5 good\nstation 16 type 0 unknown\n", ""),
 ]
 

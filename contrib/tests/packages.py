@@ -32,8 +32,6 @@ foreach(target port1 shared)
 endforeach()
 """
 
-# The versions that a project may ask for, and whether there is one that suits it.
-VERSIONS = {"": True, "1": True, "1.0": True, "1.0.0 EXACT": True, "1.1": False, "2": False, "0.9": False}
 
 
 def make(target: str, words: Sequence[Word]) -> None:
@@ -122,7 +120,8 @@ def by_cmake(folder: Path) -> List[str]:
     for tool in ("cmake", "c++"):
         needs(tool)
     prefix, work = moved(folder), folder / "work"
-    said = configured(work, prefix, "1.0")
+    (asked,) = re.findall(r"^find_package\(port1 (.*) REQUIRED\)$", (TOP / "docs" / "C.md").read_text("utf-8"), re.M)
+    said = configured(work, prefix, asked)
     built = subprocess.run(["cmake", "--build", work / "out"], capture_output=True, text=True, timeout=SECONDS)
     if built.returncode:
         return [said, built.stdout + built.stderr]
@@ -136,13 +135,22 @@ def by_cmake(folder: Path) -> List[str]:
     return problems
 
 
+def versions_to_ask_for() -> Dict[str, bool]:
+    """The versions that a project may ask for, and whether that of the program suits it."""
+    shown = told([os.environ["PORT1"], "--version"]).split()[1]
+    first, second, _ = map(int, shown.split("."))
+    suiting = ["", f"{first}", f"{first}.{second}", f"{shown} EXACT", *(f"{first}.{older}" for older in range(second))]
+    others = [f"{first}.{second + 1}", f"{first + 1}", f"{first - 1}.9", f"{first}.{second}.99 EXACT"]
+    return {**{version: True for version in suiting}, **{version: False for version in others}}
+
+
 def versions_by_cmake(folder: Path) -> List[str]:
     """Which versions a project may ask for."""
     for tool in ("cmake", "c++"):
         needs(tool)
     prefix = moved(folder)
     problems = []
-    for number, (version, suits) in enumerate(VERSIONS.items()):
+    for number, (version, suits) in enumerate(versions_to_ask_for().items()):
         said = configured(folder / f"work-{number}", prefix, version)
         problems += unlike(f"version {version!r}", suits, "Generating done" in said)
     return problems

@@ -1,5 +1,5 @@
-"""What `make dist` packs, that the same commit gives the same octets, and what is refused; and that every place which
-tells the version tells the same one."""
+"""What `make dist` packs, that the same commit gives the same octets, and what is refused; and that what is installed
+tells the version of the sources."""
 
 import atexit
 import hashlib
@@ -203,35 +203,22 @@ def files_of(package: Path) -> Dict[str, Entry]:
 # ---- the version
 
 
-def places_of_version(folder: Path) -> Dict[str, str]:
-    """The version, by where it is told."""
-    installing.made("install", [f"PREFIX={folder}"], folder)
-    header = (TOP / "include" / "port1.h").read_text(encoding="ascii")
-    numbers = [re.findall(rf"#define PORT1_VERSION_{part} (\d+)", header) for part in ("MAJOR", "MINOR", "PATCH")]
-    patterns = {
-        "include/port1.h": r'#define PORT1_VERSION "(.*)"',
-        "docs/port1.1": r"^This page is that of (.*)\.$",
-        "docs/C.md": r'`PORT1_VERSION` is `"(.*)"`',
-        "contrib/python/port1/__init__.py": r'^__version__ = "(.*)"',
-        "CHANGELOG.md": r"^## (\d\S*)",
-    }
-    found = {name: re.findall(pattern, (TOP / name).read_text("utf-8"), re.M)[:1] for name, pattern in patterns.items()}
-    installed = {
-        "lib/pkgconfig/port1.pc": r"^Version: (.*)",
-        "lib/cmake/port1/port1ConfigVersion.cmake": r'PACKAGE_VERSION "(.*)"',
-    }
-    found.update({name: re.findall(pattern, (folder / name).read_text(), re.M) for name, pattern in installed.items()})
-    texts = {name: " and ".join(versions) for name, versions in found.items()}
-    texts["the numbers of the header"] = ".".join(number for part in numbers for number in part)
-    return {**texts, "the program": told([os.environ["PORT1"], "--version"]).strip().replace("port1 ", "", 1)}
-
-
 def one_version(folder: Path) -> List[str]:
-    """Every place that tells a version has that of crates/bus_tool/src/arguments.rt."""
+    """What is installed has the version of crates/bus_tool/src/arguments.rt, and so has the program, and each file that
+    packages/version knows."""
     needs("make")
     wanted = version()
-    problems = [] if re.fullmatch(r"\d+\.\d+\.\d+", wanted) else [f"the version is {wanted!r}"]
-    return problems + [part for name, got in places_of_version(folder).items() for part in unlike(name, wanted, got)]
+    installing.made("install", [f"PREFIX={folder}"], folder)
+    installed = {
+        "lib/pkgconfig/port1.pc": r"^Version: (.*)",
+        "lib/cmake/port1/port1Config.cmake": r"^# The C library of port1, (\S+): ",
+        "lib/cmake/port1/port1ConfigVersion.cmake": r'^set\(PACKAGE_VERSION "(.*)"',
+    }
+    texts = {name: (folder / name).read_text(encoding="utf-8") for name in installed}
+    found = {name: re.findall(form, texts[name], re.MULTILINE) for name, form in installed.items()}
+    problems = [part for name, got in found.items() for part in unlike(name, [wanted], got)]
+    problems += unlike("the program", f"port1 {wanted}\n", told([os.environ["PORT1"], "--version"]))
+    return problems + unlike("packages/version --check", "", told([TOP / "packages" / "version", "--check"]))
 
 
 # ---- what is in the packages

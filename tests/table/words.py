@@ -3,6 +3,8 @@
 from pathlib import Path
 from typing import Sequence, Union
 
+from version import version_of
+
 from .captures import CALLS, LAST_ORIGIN
 from .case import Case, fault
 
@@ -37,7 +39,7 @@ HELPS = [
         name=f"version: {word}",
         words=[word],
         stdin=UNREAD,
-        stdout="port1 1.0.0\n",
+        stdout=f"port1 {version_of()}\n",
         leaves_input=True,
     )
     for word in ["--version", "-V"]
