@@ -39,13 +39,17 @@ PLACES = [
 # What `make version` does not write.
 BY_HAND = {"CHANGELOG.md"}
 
-OTHER = "71.82.93"
 
 
 def version_of(top: Path = TOP) -> str:
     """That of the sources of the program."""
     (version,) = re.findall(r'\.version\("(.*?)"\)', (top / SOURCE).read_text(encoding="utf-8"))
     return str(version)
+
+
+def other_of(version: str) -> str:
+    """A version that begins like this one in each of its numbers."""
+    return ".".join(f"{number}9" for number in version.split("."))
 
 
 def part_of(version: str, place: Place) -> str:
@@ -91,7 +95,7 @@ def called(*words: object) -> Tuple[int, str]:
 def problems_of_other(folder: Path, place: Place) -> List[str]:
     """Another version in one place is told, and written over where it is not to be written by hand."""
     top = copied(folder)
-    set_in(top, place, OTHER)
+    set_in(top, place, other_of(version_of()))
     status, said = called("--check", top)
     problems = [] if status == 1 and said.startswith(f"{place.file}: ") else [f"status {status}: {said!r}"]
     problems += [] if len(said.splitlines()) == 1 else [f"it tells of more than one place: {said!r}"]
@@ -103,15 +107,15 @@ def problems_of_other(folder: Path, place: Place) -> List[str]:
 
 def problems_of_raised(folder: Path) -> List[str]:
     """Where the version of the program is raised, all that is not written by hand is written."""
-    top = copied(folder)
+    top, other = copied(folder), other_of(version_of())
     source = top / SOURCE
     text = source.read_text(encoding="utf-8")
-    source.write_text(text.replace(f'.version("{version_of()}")', f'.version("{OTHER}")'), encoding="utf-8")
+    source.write_text(text.replace(f'.version("{version_of()}")', f'.version("{other}")'), encoding="utf-8")
     for place in PLACES:
         if place.file in BY_HAND:
-            set_in(top, place, OTHER)
+            set_in(top, place, other)
     status, said = called(top)
-    return [*unlike(top, OTHER), *([] if (status, said) == (0, "") else [f"status {status}: {said!r}"])]
+    return [*unlike(top, other), *([] if (status, said) == (0, "") else [f"status {status}: {said!r}"])]
 
 
 def problems_of_program(program: Path) -> List[str]:
