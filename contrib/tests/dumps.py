@@ -4,7 +4,7 @@ import random
 from pathlib import Path
 from typing import List
 
-from tests.case import CALL, Run, lines, needs, plain, ran, random_bits, written_by
+from tests.case import CALL, Run, lines, needs, needs_module, plain, ran, random_bits, written_by
 
 # Definitions as IEEE 1364 has them, other kinds of signals among them, the data before the clock.
 DEFINITIONS = """$date today $end
@@ -215,6 +215,7 @@ def plain_dump(bits: str) -> bytes:
 
 def vcd_through_sigrok(folder: Path) -> List[str]:
     """The real sigrok-cli makes a session of a dump, and writes it as a dump of its own."""
+    needs_module("numpy")
     needs("sigrok-cli")
     bits = random_bits(random.Random(2), 20_000)
     dumped, session = folder / "tap.vcd", folder / "tap.sr"
