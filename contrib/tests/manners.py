@@ -1,6 +1,7 @@
 """How every script takes wrong calls, asks for help, and input and output that fail."""
 
 import os
+import re
 import subprocess
 import tempfile
 from pathlib import Path
@@ -65,9 +66,58 @@ def called(name: str, words: List[Word], **options) -> "subprocess.CompletedProc
     return subprocess.run(words, stdout=subprocess.PIPE, stderr=subprocess.PIPE, timeout=SECONDS, **options)
 
 
+# What is tested, and the modules whose tests run it: every script, and what else is run or linked from here.
+MODULES: Dict[str, List[str]] = {
+    "bus-summary": ["listings"],
+    "by-definition": ["definitions"],
+    "check-dictionary": ["dictionaries"],
+    "dictionary-to-lua": ["wireshark"],
+    "draft-dictionary": ["listings"],
+    "flip-bits": ["packing"],
+    "list-in-parts": ["parts"],
+    "list-to-jsonl": ["listings"],
+    "list-to-page": ["reports"],
+    "list-to-pcap": ["wireshark"],
+    "pack-bits": ["packing"],
+    "recording-to-bits": ["recordings"],
+    "unpack-bits": ["packing"],
+    "vcd-to-bits": ["dumps"],
+    "mcu/build": ["targets"],
+    "python": ["packages"],
+    "sigrok": ["sigrok"],
+}
+
+# What the tests of the other modules share.
+SHARED = {"__init__", "cabinet", "case", "failing_bus"}
+
+
 def every_script_is_tested(_: Path) -> List[str]:
-    """A new script needs its words in the tables above."""
-    return [f"{name} is in no table" for name in scripts() if name not in CALLS and name not in FILES]
+    """A new script needs its words in the tables above, and a module with tests that run it."""
+    problems = [f"{name} is in no table" for name in scripts() if name not in CALLS and name not in FILES]
+    problems += [f"{name} has no module" for name in scripts() if name not in MODULES]
+    for name, modules in MODULES.items():
+        for module in modules:
+            path = CONTRIB / "tests" / f"{module}.py"
+            text = path.read_text(encoding="utf-8") if path.is_file() else ""
+            words = [f'"{name}"', '"' + name.replace("/", '" / "') + '"']
+            runs = any(word in text for word in words)
+            problems += [] if runs and "TESTS" in text else [f"{name} is not run in {path.name}"]
+    return problems + [f"{name} is not there" for name in MODULES if not (CONTRIB / name).exists()]
+
+
+def every_module_is_run(_: Path) -> List[str]:
+    """Each module of this folder is in a group of self-test, and each function there that is a test is in its TESTS."""
+    problems = []
+    groups = (CONTRIB / "self-test").read_text(encoding="utf-8").partition("GROUPS = [")[2].partition("\n]\n")[0]
+    for path in sorted((CONTRIB / "tests").glob("*.py")):
+        text = path.read_text(encoding="utf-8")
+        listed = re.findall(r"\w+", text.partition("\nTESTS")[2])
+        written = re.findall(r"^def (\w+)\((?:folder|_): Path\) -> List\[str\]:", text, re.MULTILINE)
+        called = {name for name in written if re.search(rf"\b{name}\((?!folder: Path|_: Path)", text)}
+        if path.stem not in SHARED:
+            problems += [] if re.search(rf"\b{path.stem}\b", groups) else [f"{path.name} is in no group of self-test"]
+            problems += [f"{path.name}: {name} is not run" for name in written if name not in listed and name not in called]
+    return problems
 
 
 def help_for_each(_: Path) -> List[str]:
@@ -153,6 +203,7 @@ def nobody_reads(_: Path) -> List[str]:
 
 TESTS = [
     every_script_is_tested,
+    every_module_is_run,
     help_for_each,
     wrong_calls,
     folders_as_input,
