@@ -113,6 +113,32 @@ def problems_of_files(prefix: Path) -> List[str]:
     return [f"{place}: not {source}" for place, source, octets in rows if (prefix / place).read_bytes() != octets]
 
 
+def problems_of_modes(prefix: Path) -> List[str]:
+    """Whether program and scripts may be run, and everything may be read and nothing else be run, by everyone."""
+    problems = []
+    for path in prefix.rglob("*"):
+        if path.is_symlink():
+            continue
+        is_run = path.is_dir() or path == prefix / "bin" / "port1" or path.read_bytes().startswith(b"#!")
+        mode = oct(path.stat().st_mode & 0o7777)
+        problems += [] if mode == ("0o755" if is_run else "0o644") else [f"{path.relative_to(prefix)}: mode {mode}"]
+    return problems
+
+
+def problems_of_library(prefix: Path) -> List[str]:
+    """Whether the library is in place in both forms, and port1.pc tells where, wherever that is."""
+    libraries = prefix / "lib"
+    rows = {"libport1_c.a": b"no library\n", "libport1.so.2": b"no library\n", "libport1.so": b"no library\n"}
+    problems = [f"lib/{name}: another" for name, octets in rows.items() if (libraries / name).read_bytes() != octets]
+    text = (libraries / "pkgconfig" / "port1.pc").read_text(encoding="ascii")
+    told = dict(re.findall(r"^(\w+)=\$\{pcfiledir\}/(.*)$", text, re.MULTILINE))
+    wanted = {"prefix": prefix, "libdir": libraries, "includedir": prefix / "include"}
+    for name, place in wanted.items():
+        found = (libraries / "pkgconfig" / told.get(name, "nowhere")).resolve()
+        problems += [] if found == place.resolve() else [f"port1.pc: {name} is {found}"]
+    return problems
+
+
 def files_of_contrib(folder: Path) -> List[str]:
     """The files and links of a contrib, but for what tests them."""
     found = [path.relative_to(folder) for path in folder.rglob("*") if not path.is_dir()]
@@ -139,6 +165,7 @@ def in_a_home(folder: Path) -> List[str]:
         made("install", [f"PREFIX={prefix}"], work)
     problems = problems_of_scripts(prefix / "bin", elsewhere) + problems_of_use(prefix, elsewhere)
     problems += problems_of_links(prefix) + problems_of_files(prefix)
+    problems += problems_of_modes(prefix) + problems_of_library(prefix)
     installed = files_of_contrib(prefix / "share" / "port1" / "contrib")
     problems += [] if installed == files_of_contrib(CONTRIB) else [f"of contrib there are {installed}"]
     made("uninstall", [f"PREFIX={prefix}"], work)

@@ -67,16 +67,19 @@ OPTIONS = [
 
 def parted(folder: Path, capture: bytes, options: Sequence[str], parts: int, overlap: int) -> List[str]:
     """Whether a listing in parts is the listing of one run, with the status and faults."""
+    return as_one_run(folder, capture, options, ["--overlap", str(overlap), "--parts", str(parts), "--jobs", "4"])
+
+
+def as_one_run(folder: Path, capture: bytes, options: Sequence[str], cut: Sequence[str]) -> List[str]:
+    """The same, where these words say how it is cut."""
     path = folder / "capture.ts2"
     path.write_bytes(capture)
-    one = listed(capture, options)
-    words = ["list-in-parts", "--overlap", str(overlap), "--parts", str(parts), "--jobs", "4", str(path), *options]
-    many = ran(words)
+    one, many = listed(capture, options), ran(["list-in-parts", *cut, str(path), *options])
     if (one.stdout, one.stderr, one.returncode) == (many.stdout, many.stderr, many.returncode):
         return []
     kept = Path(tempfile.mkdtemp(prefix="list-in-parts-")) / "capture.ts2"
     kept.write_bytes(capture)
-    return [f"{parts} parts, overlap {overlap}, {options[-2:]}: not as one run; {kept}; {many.stderr.decode()}"]
+    return [f"{' '.join(cut)}, {options[-2:]}: not as one run; {kept}; {many.stderr.decode()}"]
 
 
 def parts_of_dirty_lines(folder: Path) -> List[str]:
@@ -106,6 +109,19 @@ def parts_up_to_the_end(folder: Path) -> List[str]:
             problems += [] if said == 1 else [f"{said} lines of the listing are {kind}"]
             for parts in (33, 100, 999):
                 problems += parted(folder, capture, options, parts, 3)
+    return problems
+
+
+def parts_by_jobs(folder: Path) -> List[str]:
+    """Each number of jobs up to 32 and the parts that go with it, on captures of so few octets that from some jobs on
+    the last cuts are at the end, at which a command is pending, or a piece open."""
+    generator = random.Random(10)
+    call = plain(CALL)
+    problems = []
+    for jobs in range(1, 33):
+        line = call + "01111110" + generator.choice([call, call[:48]])
+        bits = line + "1" * generator.choice([0, -len(line) % 8])
+        problems += as_one_run(folder, packed(bits), ["--dict", DICTIONARY], ["--jobs", str(jobs), "--overlap", "1"])
     return problems
 
 
@@ -334,6 +350,7 @@ def parts_that_are_ended(folder: Path) -> List[str]:
 TESTS = [
     parts_of_dirty_lines,
     parts_up_to_the_end,
+    parts_by_jobs,
     parts_of_traffic,
     parts_with_faults,
     parts_of_two_lines,
