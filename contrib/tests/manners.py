@@ -116,7 +116,8 @@ def every_module_is_run(_: Path) -> List[str]:
         called = {name for name in written if re.search(rf"\b{name}\((?!folder: Path|_: Path)", text)}
         if path.stem not in SHARED:
             problems += [] if re.search(rf"\b{path.stem}\b", groups) else [f"{path.name} is in no group of self-test"]
-            problems += [f"{path.name}: {name} is not run" for name in written if name not in listed and name not in called]
+            left = [name for name in written if name not in listed and name not in called]
+            problems += [f"{path.name}: {name} is not run" for name in left]
     return problems
 
 
