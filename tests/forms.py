@@ -1,4 +1,4 @@
-"""Looks at the form of the documents: how wide their prose is, and the counts of lines that one of them has."""
+"""Looks at the form of documents and sources: how wide their lines are, and the counts of lines that a document has."""
 
 import re
 from pathlib import Path
@@ -8,8 +8,11 @@ TOP = Path(__file__).resolve().parent.parent
 
 CRATES = TOP / "crates"
 
-# The columns of a line of prose, at most.
+# The columns of a line of prose or of a source, at most.
 MOST_COLUMNS = 120
+
+# An import of one name can't be broken.
+ONE_IMPORT = re.compile(r"(ghost )?use [^ ,]+\{[^ ,]+\};?")
 
 # Where a link goes, which does not count.
 TARGET = re.compile(r"(?<=\])\([^)\s]*\)")
@@ -49,6 +52,25 @@ def problems_of_width(document: str) -> List[str]:
     ]
 
 
+def sources(crate: Path) -> List[Path]:
+    """The sources, definitions and proofs of a crate."""
+    return [
+        path
+        for folder in ("src", "specs", "proofs")
+        for ending in ("rt", "antt")
+        for path in sorted((crate / folder).rglob(f"*.{ending}"))
+    ]
+
+
+def problems_of_source(crate: Path) -> List[str]:
+    return [
+        f"{path.relative_to(crate)}, line {number} has {len(line)} columns: break it at {MOST_COLUMNS}"
+        for path in sources(crate)
+        for number, line in enumerate(path.read_text(encoding="utf-8").splitlines(), 1)
+        if len(line) > MOST_COLUMNS and not ONE_IMPORT.fullmatch(line)
+    ]
+
+
 def lines_of_definitions() -> Dict[str, int]:
     """How many lines each file of definitions has that a reader of the contracts needs."""
     files = [path for path in sorted(CRATES.glob("*/specs/*.antt")) if path.name not in LISTS]
@@ -76,4 +98,6 @@ def problems_of_counts() -> List[str]:
 def results_of_forms() -> Iterator[Tuple[str, List[str]]]:
     for document in documents():
         yield f"{document}: the width of its prose", problems_of_width(document)
+    for crate in sorted(path for path in CRATES.iterdir() if path.is_dir()):
+        yield f"crates/{crate.name}: the width of its lines", problems_of_source(crate)
     yield f"{COUNTED}: the lines of the definitions", problems_of_counts()

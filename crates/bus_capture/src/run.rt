@@ -70,7 +70,8 @@ impl<T: Tap> CaptureRun<T> {
             self.new.teller.summary ≡ summary_of (before ++ T.tap.heard self.old.analyser) }
         ensures few { (most : ℕ) → IsFew most self.old.teller.summary → IsFew (most + 2) self.new.teller.summary }
         ensures told { (start : Option (List ℕ)) (text : List ℕ) →
-            Pages start (W.contents w.old) self.old.teller.page.text self.old.teller.page.written text → MatchResult result
+            Pages start (W.contents w.old) self.old.teller.page.text self.old.teller.page.written text →
+            MatchResult result
             (λ _. Pages start (W.contents w.new) self.new.teller.page.text self.new.teller.page.written
             (text ++ printed self.old.teller.printer (T.tap.watch.dictionary self.old.analyser)
             (T.tap.heard self.old.analyser)))

@@ -157,7 +157,8 @@ entry_refused v n before ds d f taken h =
                         | inr (answered, is_answered, h4) ↦
                             let marked = need_ok _ (BadAnswered n) answered is_answered in
                             let p4 = below_more P 3 p3 (t, answered, typed, marked) in
-                            elim (then_err (need (window_in v answered (get (codes "window") d)) (BadWindow n)) _ f h4) [
+                            let found = window_in v answered (get (codes "window") d) in
+                            elim (then_err (need found (BadWindow n)) _ f h4) [
                               | inl a ↦ let (none, is) = need_err (window_in v answered (get (codes "window") d)) (BadWindow n) f a in
                                   (4, subst (IsEntryRow v ds n d 4) is (window_row v n t answered ds d marked none), p4)
                               | inr (window, is_window, h5) ↦

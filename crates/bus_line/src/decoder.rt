@@ -127,9 +127,9 @@ impl<C: Check> LineDecoder<C> {
         )
     }
 
-    /// Takes bits of these octets, the least significant of each first, from bit `at` on and before bit `end`: up to the
-    /// first that decides a report, or all. Returns how many it took, and the report that the last of these decides,
-    /// if there is one. If that is a frame, [`LineDecoder::octets`] lends its octets.
+    /// Takes bits of these octets, the least significant of each first, from bit `at` on and before bit `end`: up to
+    /// the first that decides a report, or all. Returns how many it took, and the report that the last of these
+    /// decides, if there is one. If that is a frame, [`LineDecoder::octets`] lends its octets.
     ///
     /// It stops in front of a bit whose place would be 2^60, and refuses as [`PlaceLimit`], with nothing changed, where
     /// that is the first. `end` is at most eight times the number of octets.

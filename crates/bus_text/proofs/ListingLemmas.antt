@@ -18,7 +18,8 @@ text-append f xs ys = ap (flat_map (λ l. l.text)) (filter-append (is_left f) xs
 -- the text of one line, if the filter leaves it
 pub text-one : (f : Filter) (l : Line) → text_of f (l ∷ []) ≡ (if is_left f l then l.text else [])
 unfolding text_of
-text-one f l = elim (is_left f l) as (λ b. flat_map (λ (l : Line). l.text) (if b then l ∷ [] else []) ≡ (if b then l.text else [])) [
+text-one f l = elim (is_left f l) as (λ b.
+    flat_map (λ (l : Line). l.text) (if b then l ∷ [] else []) ≡ (if b then l.text else [])) [
   | true ↦ append-nil l.text
   | false ↦ refl
 ]

@@ -1,5 +1,5 @@
 -- What is seen of lists that were worked out by hand, computed from the definitions alone. Types and names are made up.
-use Rattle.std.proofs.Common.{◌≡◌, ℕ, Bool, true, false, List, [], ◌∷◌, Option, Some, None, codes, refl, zip}
+use Rattle.std.proofs.Common.{◌≡◌, ℕ, Bool, true, false, List, [], ◌∷◌, ◌++◌, Option, Some, None, codes, refl, zip}
 use Rattle.bus_bits.specs.Octet.{number, octets}
 use Rattle.bus_bits.specs.Capture.{text_bits}
 use Rattle.bus_fcs.specs.Division.{add, step, divided, remainder}
@@ -44,25 +44,25 @@ abbrev verdict_on_call : Outcome → ℕ → ℕ → Option Verdict
 verdict_on_call outcome first past = Some (record { outcome = outcome; span = record { first = first; past = past }; station = 16; ftype = 0 })
 
 -- a call and its reply
-call_and_reply : seen calls (of_line (placed 0 3 (text_bits (codes "01111110 00001000 11000001 00000000 101111101 10100111 01111110 00001000 11000001 00000001 10101111 100000110 01111110"))))
+call_and_reply : seen calls (of_line (placed 0 3 (text_bits (codes "01111110 00001000 11000001 00000000 101111101 10100111 01111110 00001000 11000001 00000001 " ++ codes "10101111 100000110 01111110"))))
     ≡ told (call_at 8 49) (Some (Known 16 0)) None false ∷ told (reply_at 57 98) (Some (Known 16 128)) (verdict_on_call Answered 8 49) false ∷ []
 unfolding is_good remainder divided step add ends_inverted octets number
 call_and_reply = refl
 
 -- a reply that begins as many bits behind the call as its window has
-reply_in_time : seen (calls_within (Some 16)) (of_line (placed 0 3 (text_bits (codes "01111110 00001000 11000001 00000000 101111101 10100111 01111110 01111110 00001000 11000001 00000001 10101111 100000110 01111110"))))
+reply_in_time : seen (calls_within (Some 16)) (of_line (placed 0 3 (text_bits (codes "01111110 00001000 11000001 00000000 101111101 10100111 01111110 01111110 00001000 11000001 " ++ codes "00000001 10101111 100000110 01111110"))))
     ≡ told (call_at 8 49) (Some (Known 16 0)) None false ∷ told (reply_at 65 106) (Some (Known 16 128)) (verdict_on_call Answered 8 49) false ∷ []
 unfolding is_good remainder divided step add ends_inverted octets number
 reply_in_time = refl
 
 -- and eight bits more: it is late, and no stray
-late_reply : seen (calls_within (Some 16)) (of_line (placed 0 3 (text_bits (codes "01111110 00001000 11000001 00000000 101111101 10100111 01111110 01111110 01111110 00001000 11000001 00000001 10101111 100000110 01111110"))))
+late_reply : seen (calls_within (Some 16)) (of_line (placed 0 3 (text_bits (codes "01111110 00001000 11000001 00000000 101111101 10100111 01111110 01111110 01111110 00001000 " ++ codes "11000001 00000001 10101111 100000110 01111110"))))
     ≡ told (call_at 8 49) (Some (Known 16 0)) None false ∷ told (reply_at 73 114) (Some (Known 16 128)) (verdict_on_call Late 8 49) false ∷ []
 unfolding is_good remainder divided step add ends_inverted octets number
 late_reply = refl
 
 -- the same without a window
-whenever_it_comes : seen calls (of_line (placed 0 3 (text_bits (codes "01111110 00001000 11000001 00000000 101111101 10100111 01111110 01111110 01111110 00001000 11000001 00000001 10101111 100000110 01111110"))))
+whenever_it_comes : seen calls (of_line (placed 0 3 (text_bits (codes "01111110 00001000 11000001 00000000 101111101 10100111 01111110 01111110 01111110 00001000 " ++ codes "11000001 00000001 10101111 100000110 01111110"))))
     ≡ told (call_at 8 49) (Some (Known 16 0)) None false ∷ told (reply_at 73 114) (Some (Known 16 128)) (verdict_on_call Answered 8 49) false ∷ []
 unfolding is_good remainder divided step add ends_inverted octets number
 whenever_it_comes = refl
@@ -74,7 +74,7 @@ unfolding is_good remainder divided step add ends_inverted octets number
 moved_on = refl
 
 -- a call in place of the reply, and then a damaged piece
-missing_and_spoilt : seen calls (of_line (placed 0 3 (text_bits (codes "01111110 00001000 11000001 00000000 101111101 10100111 01111110 00001000 11000001 00000000 101111101 10100111 01111110 000000000000000000000000 01111110"))))
+missing_and_spoilt : seen calls (of_line (placed 0 3 (text_bits (codes "01111110 00001000 11000001 00000000 101111101 10100111 01111110 00001000 11000001 00000000 " ++ codes "101111101 10100111 01111110 000000000000000000000000 01111110"))))
     ≡ told (call_at 8 49) (Some (Known 16 0)) None false
     ∷ told (call_at 57 98) (Some (Known 16 0)) (verdict_on_call Missing 8 49) false
     ∷ told (record { kind = Damaged Short; first = 106; past = 130 }) None (verdict_on_call Spoilt 57 98) false ∷ []
@@ -88,7 +88,7 @@ unfolding is_good remainder divided step add ends_inverted octets number
 stray_reply = refl
 
 -- an idle decides nothing; a frame of a type that the dictionary lacks is no reply
-idle_and_unknown : seen calls (of_line (placed 0 3 (text_bits (codes "01111110 00001000 11000001 00000000 101111101 10100111 01111110 111111111111111 01111110 00001000 11000001 011111011 00110000 110111110 01111110"))))
+idle_and_unknown : seen calls (of_line (placed 0 3 (text_bits (codes "01111110 00001000 11000001 00000000 101111101 10100111 01111110 111111111111111 01111110 " ++ codes "00001000 11000001 011111011 00110000 110111110 01111110"))))
     ≡ told (call_at 8 49) (Some (Known 16 0)) None false
     ∷ told (record { kind = Idle; first = 57; past = 72 }) None None false
     ∷ told (record { kind = Frame (16 ∷ 131 ∷ 254 ∷ 12 ∷ 251 ∷ []); first = 80; past = 122 }) (Some (Unknown 16 254)) (verdict_on_call Missing 8 49) true ∷ []
@@ -132,14 +132,14 @@ abbrev both : List ℕ → List ℕ → List (Bool × Bool)
 both first second = zip (text_bits first) (text_bits second)
 
 -- two lines: the call on the first, its reply on the second behind it
-answered_on_second : seen calls (merged 0 3 (both (codes "01111110 00001000 11000001 00000000 101111101 10100111 01111110 111111111111111111111111111111111111111111111111111111111") (codes "111111111111111111111111111111111111111111111111111111111 01111110 00001000 11000001 00000001 10101111 100000110 01111110")))
+answered_on_second : seen calls (merged 0 3 (both (codes "01111110 00001000 11000001 00000000 101111101 10100111 01111110 " ++ codes "111111111111111111111111111111111111111111111111111111111") (codes "111111111111111111111111111111111111111111111111111111111 01111110 00001000 11000001 " ++ codes "00000001 10101111 100000110 01111110")))
     ≡ told_on Second (idle_from 0 15) None None false ∷ told_on First (call_at 8 49) (Some (Known 16 0)) None false ∷ told_on First (idle_from 57 72) None None false
     ∷ told_on Second (reply_at 65 106) (Some (Known 16 128)) (verdict_on_call Answered 8 49) false ∷ []
 unfolding is_good remainder divided step add ends_inverted octets number
 answered_on_second = refl
 
 -- the reply on the first line answers nothing
-unanswered_on_first : seen calls (merged 0 3 (both (codes "01111110 00001000 11000001 00000000 101111101 10100111 01111110 00001000 11000001 00000001 10101111 100000110 01111110") (codes "1111111111111111111111111111111111111111111111111111111111111111111111111111111111111111111111111111111111")))
+unanswered_on_first : seen calls (merged 0 3 (both (codes "01111110 00001000 11000001 00000000 101111101 10100111 01111110 00001000 11000001 00000001 " ++ codes "10101111 100000110 01111110") (codes "1111111111111111111111111111111111111111111111111111111111111111111111111111111111111111111111111111111111" ++ codes "")))
     ≡ told_on Second (idle_from 0 15) None None false ∷ told_on First (call_at 8 49) (Some (Known 16 0)) None false
     ∷ told_on First (reply_at 57 98) (Some (Known 16 128)) (verdict_on_call Missing 8 49) true ∷ []
 unfolding is_good remainder divided step add ends_inverted octets number

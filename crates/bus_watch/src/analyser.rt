@@ -138,9 +138,10 @@ impl<C: Check> Analyser<C> {
         Ok(taken)
     }
 
-    /// Takes bits of these octets, the least significant of each first, from bit `at` on and before bit `end`: up to the
-    /// first that decides a report, or all. Returns how many it took. What is seen at the last of these, if it decides a
-    /// report, is then answered by [`Analyser::finding`], and [`Analyser::octets`] lends the octets of a frame.
+    /// Takes bits of these octets, the least significant of each first, from bit `at` on and before bit `end`: up to
+    /// the first that decides a report, or all. Returns how many it took. What is seen at the last of these, if it
+    /// decides a report, is then returned by [`Analyser::finding`], and [`Analyser::octets`] lends the octets of a
+    /// frame.
     ///
     /// `at` is before `end`, which is at most eight times the number of octets. It stops in front of a bit whose place
     /// would be 2^60, and refuses as [`PlaceLimit`], with nothing changed, where that is the first.

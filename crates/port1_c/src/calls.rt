@@ -24,7 +24,8 @@ pub extern "C" fn port1_line_init(line: &mut Port1Line, longest: u64, origin: u6
     ensures status { result ≤ 2 }
     ensures sound { result ≡ 0 → Sound line.new }
     ensures stands { result ≡ 0 → Stands line.new [] }
-    ensures given { result ≡ 0 → (line.new.words.longest ≡ longest) × (line.new.words.origin ≡ origin) × (line.new.words.place ≡ origin) }
+    ensures given { result ≡ 0 → (line.new.words.longest ≡ longest) × (line.new.words.origin ≡ origin)
+        × (line.new.words.place ≡ origin) }
     ensures kept { result ≢ 0 → line.new ≡ line.old }
 {
     match LineWords::new(longest as usize, origin) {

@@ -33,7 +33,8 @@ impl Port1Line {
         ensures count { IfOk result (λ t. (1 ≤ t.count) × (t.count ≤ end - at)) }
         ensures all { IfOk result (λ t. t.report.kind ≡ 0 → t.count < end - at → self.new.words.place ≡ 2 ^ 60) }
         ensures coded { IfOk result (λ t. IsCoded t.report) }
-        ensures tells { IfOk result (λ t. Tells (held self.old) (bits_from octets.now at t.count) t.report (held self.new)) }
+        ensures tells { IfOk result (λ t. Tells (held self.old) (bits_from octets.now at t.count) t.report
+            (held self.new)) }
         ensures before { IfOk result (λ t. DecideNothing (held self.old) (bits_from octets.now at (t.count - 1))) }
         ensures sound { Sound self.new }
     {

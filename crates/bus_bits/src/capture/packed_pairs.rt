@@ -79,8 +79,8 @@ impl PackedPairs {
         16 * min(count as u64 / 16, self.left / 64) as usize
     }
 
-    /// Takes sixteens of octets of which all pairs are wanted, and parts them: the first line's bits are then those of one
-    /// block and the second line's those of another, each in octets whose lowest bit is the first.
+    /// Takes sixteens of octets of which all pairs are wanted, and parts them: the first line's bits are then those of
+    /// one block and the second line's those of another, each in octets whose lowest bit is the first.
     #[inline(always)]
     pub fn take_all(&mut self, octets: &[u8], first: &mut [u8], second: &mut [u8])
         requires wanted { 4 * length octets.now ≤ self.old }

@@ -143,8 +143,8 @@ impl LineWords {
         }
     }
 
-    /// Takes bits that decide nothing, 56 at a time where 64 are left: those of an open piece without six ones in a row,
-    /// and time fill (ISO/IEC 13239, interframe time fill). Returns where the next bit is.
+    /// Takes bits that decide nothing, 56 at a time where 64 are left: those of an open piece without six ones in a
+    /// row, and time fill (ISO/IEC 13239, interframe time fill). Returns where the next bit is.
     #[inline(always)]
     fn pass_quiet<C: Check>(
         &mut self,

@@ -278,7 +278,8 @@ impl LineWords {
         requires few { count ≤ 48 }
         requires room { self.old.assembled + count ≤ self.old.place - self.old.origin }
         ensures tracks { (b bits : List Bool) → IsWord word b bits → count ≤ length bits →
-            IsCalm b bits (count - 1) → LagsBy C.folded C.COST (state self.old check.old cells.old) b (take count bits) →
+            IsCalm b bits (count - 1) →
+            LagsBy C.folded C.COST (state self.old check.old cells.old) b (take count bits) →
             Tracks C.folded C.COST (state self.new check.new cells.new) (b ++ take count bits) (current b) }
         ensures longest { self.new.longest ≡ self.old.longest }
         ensures origin { self.new.origin ≡ self.old.origin }
@@ -306,7 +307,8 @@ impl LineWords {
         requires few { count ≤ 8 }
         requires room { self.old.assembled + count ≤ self.old.place - self.old.origin }
         ensures tracks { (b bits : List Bool) → IsWord word b bits → count ≤ length bits →
-            IsCalm b bits (count - 1) → LagsBy C.folded C.COST (state self.old check.old cells.old) b (take count bits) →
+            IsCalm b bits (count - 1) →
+            LagsBy C.folded C.COST (state self.old check.old cells.old) b (take count bits) →
             Tracks C.folded C.COST (state self.new check.new cells.new) (b ++ take count bits) (current b) }
         ensures longest { self.new.longest ≡ self.old.longest }
         ensures origin { self.new.origin ≡ self.old.origin }

@@ -7,8 +7,9 @@ use crate::{ToolFault, encode_frames};
 const THREE: &[u8] = b"frame 108300\nidle\nframe 1083fe\n";
 
 /// What the lines give in all: a flag, the octets and their check with inserted 0s, and a flag.
-const THREE_TEXT: &str =
-    "011111100000100011000001000000001011111011010011101111110\n111111111111111\n0111111000001000110000010111110110011000011011111001111110\n";
+const THREE_TEXT: &str = "011111100000100011000001000000001011111011010011101111110\n\
+    111111111111111\n\
+    0111111000001000110000010111110110011000011011111001111110\n";
 
 #[test]
 fn endless_reader(rt: HostRuntime) {
