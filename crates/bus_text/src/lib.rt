@@ -2,6 +2,7 @@
 //! and the pages on which they are written.
 #![tactic(auto)]
 
+mod dictionary;
 mod digits;
 mod fault;
 mod filter;
@@ -20,6 +21,7 @@ mod show;
 mod summary;
 mod text;
 
+pub use dictionary::read_dictionary;
 pub use digits::{is_hex, octets_of};
 pub use fault::ToolFault;
 pub use kind::Kind;
@@ -28,6 +30,6 @@ pub use page::Page;
 pub use printer::Printer;
 pub use put::{ShortWrite, put_text};
 pub use report::{put_kept, put_summary, put_tally};
-pub use show::{read_dictionary, show_frame};
+pub use show::show_frame;
 pub use summary::Summary;
 pub use text::Text;

@@ -1,32 +1,18 @@
 //! Shows one frame that is typed in hexadecimal.
 
 ghost use Rattle.std.specs.Prelude.{option_map};
-ghost use Rattle.bus_text.specs.Show.{Reads, Shows};
+ghost use Rattle.bus_text.specs.Show.{Shows};
 
 mod names;
 mod put;
 mod typed;
 
+use crate::dictionary::read_dictionary;
 use crate::fault::ToolFault;
-use bus_dictionary::{DictFault, Dictionary};
 use put::put_frame;
 use std::alloc::Global;
 use std::io::Write;
 use typed::typed_frame;
-
-/// The dictionary of a text. Without a text it is empty, and takes no memory.
-pub fn read_dictionary(alloc: Global, text: Option<&str>) -> Result<Dictionary, ToolFault>
-    ensures { Reads (option_map (λ s. s.now) text.entry) result }
-{
-    let Some(text) = text else {
-        return Ok(Dictionary::empty(alloc));
-    };
-    match Dictionary::read(alloc, text) {
-        Ok(dictionary) => Ok(dictionary),
-        Err(DictFault::Memory) => Err(ToolFault::Memory),
-        Err(fault) => Err(ToolFault::Dictionary(fault)),
-    }
-}
 
 /// Writes what one frame is. `hex` has its octets, the two of the check among them, in hexadecimal digits
 /// of either case. Written are the octets and whether the check is good, what the head says by the
