@@ -17,12 +17,20 @@ ONE_IMPORT = re.compile(r"(ghost )?use [^ ,]+\{[^ ,]+\};?")
 # Where a link goes, which does not count.
 TARGET = re.compile(r"(?<=\])\([^)\s]*\)")
 
-# The document with a table of the definitions, its rows, and the line with their sum.
+# The document with two tables of the definitions, their rows, and the line with their sum.
 COUNTED = "docs/ARCHITECTURE.md"
 
 ROW = re.compile(r"^\| `(\w+/specs/\w+\.antt)` \| (\d+) \|", re.MULTILINE)
 
 SUM = re.compile(r"^Together (\d+) lines\.$", re.MULTILINE)
+
+# The document that tells which files a change touches, and the table there.
+GUIDE = "CONTRIBUTING.md"
+
+CHANGES = re.compile(r"^\| Change \|.*\n\|[-|]+\n((?:\|.*\n)+)", re.MULTILINE)
+
+# Of the first of its tables the line with the sum.
+CORE_SUM = re.compile(r"^These six have (\d+) lines\.", re.MULTILINE)
 
 # Files of specs that define nothing of their own: they list others.
 LISTS = {"Lib.antt", "Internal.antt"}
@@ -89,15 +97,42 @@ def problems_of_counts() -> List[str]:
         for name, lines in told.items()
         if there.get(name, lines) != lines
     ]
+    core = sum(there.get(name, 0) for name, _ in ROW.findall(text)[:6])
+    if CORE_SUM.findall(text) != [str(core)]:
+        problems.append(f"the first six files have {core} lines: write `These six have {core} lines.`")
     sums = SUM.findall(text)
     if sums != [str(sum(there.values()))]:
         problems.append(f"all files have {sum(there.values())} lines: write `Together {sum(there.values())} lines.`")
     return problems
 
 
+def folder_of(path: Path) -> Path:
+    """Where the names after a path stand: of a path in a crate, the folder `src` or `specs`, and else its own folder."""
+    if CRATES in path.parents:
+        return CRATES.joinpath(*path.relative_to(CRATES).parts[:2])
+    return path.parent
+
+
+def problems_of_changes() -> List[str]:
+    """The files that the table of changes names and that are not there."""
+    problems = []
+    for row in "".join(CHANGES.findall((TOP / GUIDE).read_text(encoding="utf-8"))).splitlines():
+        cells = row.strip("| ").split(" | ")
+        for group in "; ".join(cells[1:]).split("; "):
+            folder = TOP
+            for name in re.findall(r"`([\w/-]+(?:\.\w+)*)`", group):
+                found = [path for path in (folder / name, CRATES / name, TOP / name) if path.exists()]
+                if found and "/" in name:
+                    folder = folder_of(found[0])
+                elif not found:
+                    problems.append(f"{cells[0]}: there is no {name}")
+    return problems
+
+
 def results_of_forms() -> Iterator[Tuple[str, List[str]]]:
     for document in documents():
         yield f"{document}: the width of its prose", problems_of_width(document)
+    yield f"{GUIDE}: the files that a change touches", problems_of_changes()
     for crate in sorted(path for path in CRATES.iterdir() if path.is_dir()):
         yield f"crates/{crate.name}: the width of its lines", problems_of_source(crate)
     yield f"{COUNTED}: the lines of the definitions", problems_of_counts()
