@@ -36,14 +36,14 @@ pub fn check_capture<R: Read, W: Write>(
         (λ all. ChecksKnown o.now (W.contents w.old) (W.contents w.new) all result) }
 {
     if o.two {
-        check_lines::<PairAnalyser<OctetCheck>, R, W>(alloc, o, r, w)
+        check_with::<PairAnalyser<OctetCheck>, R, W>(alloc, o, r, w)
     } else {
-        check_lines::<Analyser<OctetCheck>, R, W>(alloc, o, r, w)
+        check_with::<Analyser<OctetCheck>, R, W>(alloc, o, r, w)
     }
 }
 
 /// Checks a capture of one line or of two.
-fn check_lines<T: Follow, R: Read, W: Write>(
+fn check_with<T: Follow, R: Read, W: Write>(
     alloc: Global,
     o: &Options<'_>,
     r: &mut R,

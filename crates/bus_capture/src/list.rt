@@ -46,14 +46,14 @@ pub fn list_capture<R: Read, W: Write>(
         (λ all. ListsKnown o.now (W.contents w.old) (W.contents w.new) all result) }
 {
     if o.two {
-        list_lines::<PairAnalyser<OctetCheck>, R, W>(alloc, o, r, w)
+        list_with::<PairAnalyser<OctetCheck>, R, W>(alloc, o, r, w)
     } else {
-        list_lines::<Analyser<OctetCheck>, R, W>(alloc, o, r, w)
+        list_with::<Analyser<OctetCheck>, R, W>(alloc, o, r, w)
     }
 }
 
 /// Lists a capture of one line or of two.
-fn list_lines<T: Follow, R: Read, W: Write>(
+fn list_with<T: Follow, R: Read, W: Write>(
     alloc: Global,
     o: &Options<'_>,
     r: &mut R,

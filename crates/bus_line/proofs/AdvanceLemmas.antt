@@ -15,7 +15,7 @@ use Rattle.bus_line.specs.Internal.Tracks.{padded, HasTaken, Tracks}
 use Rattle.bus_line.specs.Mark.{MayDecide}
 use Rattle.bus_line.specs.After.{After}
 use Rattle.bus_line.proofs.RunEndLemmas.{ones-are}
-use Rattle.bus_line.specs.Internal.Late.{IsCalm, IsWord, IsStop}
+use Rattle.bus_line.specs.Internal.Settled.{IsCalm, IsWord, IsStop}
 use Rattle.bus_line.specs.Internal.Flags.{StopsAt}
 use Rattle.bus_line.proofs.DueMoreLemmas.{placed-more}
 use Rattle.bus_line.proofs.DecideLemmas.{nothing-due}

@@ -15,7 +15,7 @@ use Rattle.bus_line.specs.After.{After}
 use Rattle.bus_line.specs.Internal.Run.{ones_at_end}
 use Rattle.bus_line.specs.Internal.LineState.{LineState}
 use Rattle.bus_line.specs.Internal.Tracks.{Holds, Counts, Tracks, padded, settled_data}
-use Rattle.bus_line.specs.Internal.Late.{IsCalm}
+use Rattle.bus_line.specs.Internal.Settled.{IsCalm}
 use Rattle.bus_line.proofs.DueMoreLemmas.{placed-more}
 use Rattle.bus_line.proofs.DueStreamLemmas.{at-flag, ones_after-last}
 use Rattle.bus_line.proofs.StepLemmas.{counts-kept, early-settled, data-start, holds-of}

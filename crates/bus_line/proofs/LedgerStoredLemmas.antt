@@ -96,14 +96,14 @@ pub stored_from-is : (longest : ℕ) (b : List Bool) (p : ℕ) → current b ≡
 stored_from-is longest b p e =
     let fits = flag-fits b p (last_mark-flag b (length b) p e).flag in
     let n : length b ≡ (length b - 8) + 8 = omega arith in
-    let late = λ (i : ℕ) (l : length b - 8 ≤ i). late-kept i (omega (arith, l)) in
+    let late = λ (i : ℕ) (l : length b - 8 ≤ i). settled-kept i (omega (arith, l)) in
     ap (λ k. count_by (kept longest b p) (places k)) n
     ∙ (count-up (kept longest b p) (length b - 8) 8 late
     ∙ (stored-ranked longest b p (length b - 8) e (omega arith)
     ∙ ap (λ k. min (longest + 2) (k / 8)) (rank-data b p (length b - 8) e (omega arith))))
   where
-    late-kept : (i : ℕ) → length b ≤ i + 8 → kept longest b p i ≡ false
-    late-kept i l = rw (is_settled-late b i l) (and-none (nat_le (p + 8) i))
+    settled-kept : (i : ℕ) → length b ≤ i + 8 → kept longest b p i ≡ false
+    settled-kept i l = rw (is_settled-late b i l) (and-none (nat_le (p + 8) i))
       where
         and-none : (x : Bool) → (x && false) ≡ false
         and-none true = refl

@@ -13,8 +13,8 @@ pub mod SpellingRawLemmas
 pub mod LedgerRankLemmas
 pub mod WordLemmas
 pub mod WordsLemmas
-pub mod LateLemmas
-pub mod LateKeptLemmas
+pub mod SettledDataLemmas
+pub mod SettledKeptLemmas
 pub mod TracksHoldLemmas
 pub mod StepLemmas
 pub mod TracksAppendLemmas

@@ -10,7 +10,7 @@ use Rattle.bus_line.specs.Report.{Report, moved}
 use Rattle.bus_line.specs.Due.{due_at, placed}
 use Rattle.bus_line.specs.After.{After, TakesTo}
 use Rattle.bus_line.specs.Internal.LineState.{LineState}
-use Rattle.bus_line.specs.Internal.Late.{IsWord, IsStop}
+use Rattle.bus_line.specs.Internal.Settled.{IsWord, IsStop}
 use Rattle.bus_line.specs.Internal.Flags.{FlagsAhead, IsPast, StopsAt}
 use Rattle.bus_line.proofs.WordLemmas.{word-part}
 use Rattle.bus_line.proofs.AdvanceLemmas.{is_calm, is_last, stops-behind-all, stops-behind}

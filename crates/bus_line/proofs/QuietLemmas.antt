@@ -18,8 +18,8 @@ use Rattle.bus_line.specs.Words.{first_in, IsWithin, state}
 use Rattle.bus_line.specs.declared.line_words.LineWords.{LineWords}
 use Rattle.bus_line.specs.Internal.Flags.{PassesFlags}
 use Rattle.bus_line.specs.Internal.Quiet.{AreFlags, PassesOnes}
-use Rattle.bus_line.specs.Internal.Late.{IsCalm, IsStop, IsWord, late_data}
-use Rattle.bus_line.proofs.LateLemmas.{six, six-ones, six-shr}
+use Rattle.bus_line.specs.Internal.Settled.{IsCalm, IsStop, IsWord, data_in_word}
+use Rattle.bus_line.proofs.SettledDataLemmas.{six, six-ones, six-shr}
 use Rattle.bus_line.specs.Internal.LineState.{LineState}
 use Rattle.bus_line.specs.Internal.Tracks.{padded, HasTaken}
 use Rattle.bus_line.proofs.WordLemmas.{padded-length, word-made}
@@ -75,12 +75,12 @@ word-front history bits l =
     ap (bit_or history) s ∙ (or_shifted_r y 16 history (omega (arith, l)) ∙ omega (arith, l))
 
 -- the data that it settles do not hang on these
-pub late-front : (w k : ℕ) → k ≤ 56 → late_data (w % 2 ^ 64) k ≡ late_data w k
-late-front w zero l = refl
-late-front w (suc k) l =
+pub settled-front : (w k : ℕ) → k ≤ 56 → data_in_word (w % 2 ^ 64) k ≡ data_in_word w k
+settled-front w zero l = refl
+settled-front w (suc k) l =
     let five : w % 2 ^ 64 / 2 ^ (3 + k) % 64 ≡ w / 2 ^ (3 + k) % 64 = field (3 + k) 6 (omega (arith, l)) in
     let bit : w % 2 ^ 64 / 2 ^ (8 + k) % 2 ≡ w / 2 ^ (8 + k) % 2 = field (8 + k) 1 (omega (arith, l)) in
-    ap (λ (z : List Bool). z ++ (if w % 2 ^ 64 / 2 ^ (3 + k) % 64 == 31 then [] else (w % 2 ^ 64 / 2 ^ (8 + k) % 2 == 1) ∷ [])) (late-front w k (omega (arith, l))) ∙ rw (five, bit) refl
+    ap (λ (z : List Bool). z ++ (if w % 2 ^ 64 / 2 ^ (3 + k) % 64 == 31 then [] else (w % 2 ^ 64 / 2 ^ (8 + k) % 2 == 1) ∷ [])) (settled-front w k (omega (arith, l))) ∙ rw (five, bit) refl
   where
     field : (j n : ℕ) → j + n ≤ 64 → w % 2 ^ 64 / 2 ^ j % 2 ^ n ≡ w / 2 ^ j % 2 ^ n
     field j n m =

@@ -15,7 +15,7 @@ use Rattle.bus_line.specs.Internal.LineState.{LineState}
 use Rattle.bus_line.specs.Internal.LineView.{settles_from}
 use Rattle.bus_line.specs.Internal.Tracks.{first_of, settled_data, Holds, Counts, Tracks}
 use Rattle.bus_line.specs.After.{After}
-use Rattle.bus_line.specs.Internal.Late.{IsCalm, IsWord, LagsBy, late_data, octets_more}
+use Rattle.bus_line.specs.Internal.Settled.{IsCalm, IsWord, LagsBy, data_in_word, octets_more}
 use Rattle.bus_line.proofs.LedgerSettledLemmas.{assembled-more, stored-more}
 use Rattle.bus_line.proofs.LedgerRankLemmas.{stores-now}
 use Rattle.bus_line.proofs.WordLemmas.{word-inserted, word-bit, word-next}
@@ -131,8 +131,8 @@ counts-none cost origin n d b bits h e k (suc i) l m =
     (none-settled (b ++ take i bits) (get_or bits i false) origin (ap (first_of origin) (mark-calm b bits n i h (omega (arith, l)) (omega (arith, m))) ∙ e))
     (counts-none cost origin n d b bits h e k i (omega (arith, l)) (omega (arith, m))))
 
-late-shifted : (w skip i : ℕ) → skip ≤ i → late_at (w / 2 ^ skip) (i - skip) ≡ late_at w i
-late-shifted w skip i l =
+settled-shifted : (w skip i : ℕ) → skip ≤ i → late_at (w / 2 ^ skip) (i - skip) ≡ late_at w i
+settled-shifted w skip i l =
     let a : skip + (3 + (i - skip)) ≡ 3 + i = omega (arith, l) in
     let c : skip + (8 + (i - skip)) ≡ 8 + i = omega (arith, l) in
     ap (λ (x : ℕ). if x % 64 == 31 then [] else (w / 2 ^ skip / 2 ^ (8 + (i - skip)) % 2 == 1) ∷ []) (shr-shr w skip (3 + (i - skip)) ∙ ap (λ (j : ℕ). w / 2 ^ j) a)
@@ -140,7 +140,7 @@ late-shifted w skip i l =
 
 -- and else those that come late enough settle what the word shows
 settles-calm : (longest p w n skip : ℕ) (b bits : List Bool) → current b ≡ FlagAt p → IsCalm b bits n → IsWord w b bits → skip ≡ p + 16 - length b → (i : ℕ) → i ≤ n + 1 → i ≤ length bits
-    → Settles longest p b (b ++ take i bits) (late_data (w / 2 ^ skip) (i - skip))
+    → Settles longest p b (b ++ take i bits) (data_in_word (w / 2 ^ skip) (i - skip))
 settles-calm longest p w n skip b bits f c h s zero l m =
     let z : 0 - skip ≡ 0 = omega arith in
     rw z (settles-none longest p b (b ++ []) (append-nil b))
@@ -156,16 +156,16 @@ settles-calm longest p w n skip b bits f c h s (suc i) l m =
           let early : length (b ++ take i bits) < p + 16 = omega (arith, k, s, y) in
           let one = settles-nothing longest p u x (early-settled u x p flag early) (data-early u x p early) in
           let a : i - skip ≡ suc i - skip = omega (arith, y) in
-          let g : late_data (w / 2 ^ skip) (i - skip) ++ [] ≡ late_data (w / 2 ^ skip) (suc i - skip) = append-nil (late_data (w / 2 ^ skip) (i - skip)) ∙ ap (late_data (w / 2 ^ skip)) a in
-          subst (Settles longest p b (b ++ take (suc i) bits)) g (subst (λ (z : List Bool). Settles longest p b z (late_data (w / 2 ^ skip) (i - skip) ++ [])) (sym e)
-          (settles-both longest p b u (u ++ x ∷ []) (late_data (w / 2 ^ skip) (i - skip)) [] before one))
+          let g : data_in_word (w / 2 ^ skip) (i - skip) ++ [] ≡ data_in_word (w / 2 ^ skip) (suc i - skip) = append-nil (data_in_word (w / 2 ^ skip) (i - skip)) ∙ ap (data_in_word (w / 2 ^ skip)) a in
+          subst (Settles longest p b (b ++ take (suc i) bits)) g (subst (λ (z : List Bool). Settles longest p b z (data_in_word (w / 2 ^ skip) (i - skip) ++ [])) (sym e)
+          (settles-both longest p b u (u ++ x ∷ []) (data_in_word (w / 2 ^ skip) (i - skip)) [] before one))
       | inr y ↦
           let one = settles-late longest p w i b bits x h (omega (arith, m)) flag (omega (arith, s, y)) in
           let a : suc (i - skip) ≡ suc i - skip = omega (arith, y) in
-          let g : late_data (w / 2 ^ skip) (i - skip) ++ late_at w i ≡ late_data (w / 2 ^ skip) (suc i - skip) =
-          ap (λ (z : List Bool). late_data (w / 2 ^ skip) (i - skip) ++ z) (sym (late-shifted w skip i y)) ∙ ap (late_data (w / 2 ^ skip)) a in
-          subst (Settles longest p b (b ++ take (suc i) bits)) g (subst (λ (z : List Bool). Settles longest p b z (late_data (w / 2 ^ skip) (i - skip) ++ late_at w i)) (sym e)
-          (settles-both longest p b u (u ++ x ∷ []) (late_data (w / 2 ^ skip) (i - skip)) (late_at w i) before one))
+          let g : data_in_word (w / 2 ^ skip) (i - skip) ++ late_at w i ≡ data_in_word (w / 2 ^ skip) (suc i - skip) =
+          ap (λ (z : List Bool). data_in_word (w / 2 ^ skip) (i - skip) ++ z) (sym (settled-shifted w skip i y)) ∙ ap (data_in_word (w / 2 ^ skip)) a in
+          subst (Settles longest p b (b ++ take (suc i) bits)) g (subst (λ (z : List Bool). Settles longest p b z (data_in_word (w / 2 ^ skip) (i - skip) ++ late_at w i)) (sym e)
+          (settles-both longest p b u (u ++ x ∷ []) (data_in_word (w / 2 ^ skip) (i - skip)) (late_at w i) before one))
     ]
 
 -- ---- what the decoder tracks behind them
@@ -235,13 +235,13 @@ word-unsettled folded cost at w t (Some first) d b bits h l c lags f s p =
     let z = settles-calm d.longest q.0 w (t - 1) skip b bits q.1 c h refl t (omega arith) l in
     let e : t - skip ≡ 0 = omega (arith, lags.has_taken.place, length-front t b bits l, q.2, s, p) in
     let none : settled_data b q.0 ++ [] ≡ settled_data b q.0 = append-nil (settled_data b q.0) in
-    tracks-settled folded cost q.0 d d b (take t bits) [] lags q.1 (subst (Settles d.longest q.0 b (b ++ take t bits)) (ap (late_data (w / 2 ^ skip)) e) z) refl refl refl refl refl
+    tracks-settled folded cost q.0 d d b (take t bits) [] lags q.1 (subst (Settles d.longest q.0 b (b ++ take t bits)) (ap (data_in_word (w / 2 ^ skip)) e) z) refl refl refl refl refl
     (subst (Holds folded d) (sym none) (holds-of folded d b q.0 (current b) q.1 lags.piece)) (spent-none d.spent cost d.longest (length (settled_data b q.0)))
 
 -- from there on data are appended
 pub word-settled : {C : Type 0} (folded : C → List ℕ → Type 0) (cost first w t late count data_bits : ℕ) (d e : LineState C) (b bits : List Bool) → IsWord w b bits → t ≤ length bits → IsCalm b bits (t - 1) → LagsBy folded cost d b (take t bits)
     → d.first ≡ Some first → first + 8 < d.place → late ≡ min (d.place - (first + 8)) t
-    → bits_of count data_bits ≡ late_data (w / 2 ^ (t - late)) late
+    → bits_of count data_bits ≡ data_in_word (w / 2 ^ (t - late)) late
     → ((bits : List Bool) → Holds folded d bits → Holds folded e (bits ++ bits_of count data_bits))
     → ((bits : List Bool) → Holds folded d bits → e.spent ≡ record d.spent { assembled = d.spent.assembled + count; stored = d.spent.stored + octets_more d.longest (length bits) count; folded = d.spent.folded + cost * octets_more d.longest (length bits) count })
     → e ≡ record d { gathered = e.gathered; rest = e.rest; octets = e.octets; check = e.check; spent = e.spent }
@@ -253,7 +253,7 @@ word-settled folded cost first w t late count data_bits d e b bits h l c lags f 
     let n = length-front t b bits l in
     let a : t - late ≡ s.0 + 16 - length b = omega (arith, lags.has_taken.place, n, s.2, far, m) in
     let k : late ≡ t - (s.0 + 16 - length b) = omega (arith, lags.has_taken.place, n, s.2, far, m) in
-    let v : bits_of count data_bits ≡ late_data (w / 2 ^ skip) (t - skip) = value ∙ (ap (λ (j : ℕ). late_data (w / 2 ^ j) late) a ∙ ap (late_data (w / 2 ^ skip)) k) in
+    let v : bits_of count data_bits ≡ data_in_word (w / 2 ^ skip) (t - skip) = value ∙ (ap (λ (j : ℕ). data_in_word (w / 2 ^ j) late) a ∙ ap (data_in_word (w / 2 ^ skip)) k) in
     let z = settles-calm d.longest s.0 w (t - 1) skip b bits s.1 c h refl t (omega arith) l in
     let size : length (bits_of count data_bits) ≡ count = length-bits count data_bits in
     tracks-settled folded cost s.0 d e b (take t bits) (bits_of count data_bits) lags s.1 (subst (Settles d.longest s.0 b (b ++ take t bits)) (sym v) z)

@@ -12,7 +12,7 @@ use Rattle.bus_bits.specs.declared.spent.Spent.{Spent}
 use Rattle.bus_bits.proofs.OctetLemmas.{number-append, number-bits, number-lt, length-bits, octets-push, octets-append}
 use Rattle.bus_line.specs.Internal.LineState.{LineState}
 use Rattle.bus_line.specs.Internal.Tracks.{Holds}
-use Rattle.bus_line.specs.Internal.Late.{octets_more, octets_of, gain, Keeps}
+use Rattle.bus_line.specs.Internal.Settled.{octets_more, octets_of, gain, Keeps}
 use Rattle.bus_line.proofs.WholeLemmas.{octets-short}
 use Rattle.bus_line.proofs.WordLemmas.{number-drop, number-take}
 use Rattle.bus_line.proofs.TracksHoldLemmas.{whole, part, whole-is, part-is, whole-part, length-whole, length-part, octets-here, length-octets}

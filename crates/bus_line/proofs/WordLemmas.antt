@@ -11,7 +11,7 @@ use Rattle.bus_line.specs.Mark.{StandsAt}
 use Rattle.bus_line.specs.Internal.Run.{ones_at_end}
 use Rattle.bus_line.specs.Ledger.{is_inserted}
 use Rattle.bus_line.specs.Internal.Tracks.{padded}
-use Rattle.bus_line.specs.Internal.Late.{IsWord}
+use Rattle.bus_line.specs.Internal.Settled.{IsWord}
 use Rattle.bus_line.proofs.RunLemmas.{ones_after-more}
 use Rattle.bus_line.proofs.MarkLemmas.{window-append}
 use Rattle.bus_line.proofs.LedgerSettledLemmas.{inserted-true, inserted-is}

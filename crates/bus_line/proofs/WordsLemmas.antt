@@ -14,7 +14,7 @@ use Rattle.bus_line.specs.declared.line_words.LineWords.{LineWords}
 use Rattle.bus_line.specs.After.{After}
 use Rattle.bus_line.specs.Internal.LineView.{settles_from}
 use Rattle.bus_line.specs.Internal.Flags.{PassesFlags, ShowsFlag}
-use Rattle.bus_line.specs.Internal.Late.{IsWord, LagsBy, late_data}
+use Rattle.bus_line.specs.Internal.Settled.{IsWord, LagsBy, data_in_word}
 use Rattle.bus_line.proofs.SettleLemmas.{lags-word}
 use Rattle.bus_line.proofs.FlagLemmas.{flags-after, no-bits}
 use Rattle.bus_line.proofs.FlagRunLemmas.{mark-is, mark-told}
@@ -99,15 +99,15 @@ kept-put old new check before cells start e =
     rw (longest, origin, place, history, settles, assembled, gathered, rest) refl
 
 -- the only bit that a word shows is an inserted 0
-pub late-none : (w : ℕ) → w / 8 % 64 ≡ 31 → bits_of 0 0 ≡ late_data (w / 2 ^ (1 - 1)) 1
-late-none w e =
+pub settled-none : (w : ℕ) → w / 8 % 64 ≡ 31 → bits_of 0 0 ≡ data_in_word (w / 2 ^ (1 - 1)) 1
+settled-none w e =
     let f : w / 2 ^ (1 - 1) / 2 ^ (3 + 0) % 64 ≡ 31 = omega (arith, e) in
     no-bits 0 ∙ sym (rw f refl)
 
 -- or data
-pub late-one : (w : ℕ) → w / 8 % 64 ≢ 31 → bits_of 1 (w / 256 % 2) ≡ late_data (w / 2 ^ (1 - 1)) 1
+pub settled-one : (w : ℕ) → w / 8 % 64 ≢ 31 → bits_of 1 (w / 256 % 2) ≡ data_in_word (w / 2 ^ (1 - 1)) 1
 unfolding bits_of
-late-one w e = shows (w / 2 ^ (1 - 1) / 2 ^ (3 + 0) % 64 == 31) refl
+settled-one w e = shows (w / 2 ^ (1 - 1) / 2 ^ (3 + 0) % 64 == 31) refl
   where
     shows : (t : Bool) → (w / 2 ^ (1 - 1) / 2 ^ (3 + 0) % 64 == 31) ≡ t → (w / 256 % 2 % 2 == 1) ∷ [] ≡ (if t then [] else (w / 2 ^ (1 - 1) / 2 ^ (8 + 0) % 2 == 1) ∷ [])
     shows true q = absurd (e (omega (arith, eqb-true (w / 2 ^ (1 - 1) / 2 ^ (3 + 0) % 64) 31 q)))

@@ -2,7 +2,7 @@
 pub mod Run
 pub mod LineState
 pub mod LineView
-pub mod Late
+pub mod Settled
 pub mod Flags
 pub mod Quiet
 pub mod Look

@@ -3,7 +3,7 @@
 mod append;
 mod decide;
 mod flags;
-mod late;
+mod settled;
 mod look;
 mod marked;
 mod quiet;

@@ -22,7 +22,7 @@ use Rattle.bus_watch.specs.History.{KeptFrame, kept_frame, line_of, frame_at, fr
 use Rattle.bus_watch.specs.Ledger.{kind_steps, steps}
 use Rattle.bus_watch.specs.Internal.Counted.{one_more, counted, Counted}
 use Rattle.bus_watch.specs.Internal.JournalState.{JournalState, Keeps, is_damage}
-use Rattle.bus_watch.specs.declared.pair_kept.PairKept.{PairKept}
+use Rattle.bus_watch.specs.declared.pair.kept.PairKept.{PairKept}
 use Rattle.bus_watch.specs.declared.counts.Counts.{Counts}
 use Rattle.bus_watch.specs.declared.outcome.Outcome.{Outcome}
 use Rattle.bus_watch.specs.declared.outcome.Outcome.TheVariants.{Answered, Late, Missing, Spoilt}

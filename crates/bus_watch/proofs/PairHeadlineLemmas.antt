@@ -15,7 +15,7 @@ use Rattle.bus_watch.specs.Laws.{AnyCutOfPairs, SeenAreReports, MergedIsMerged, 
 use Rattle.bus_watch.specs.PairHeadline.{PairHeadline, StoppedAtPair, WholePairRun, all_seen_on_both}
 use Rattle.bus_watch.specs.Fed.{FedBy, RefusedByAt}
 use Rattle.bus_watch.specs.Sink.{told}
-use Rattle.bus_watch.specs.declared.pair_usage.PairUsage.{PairUsage}
+use Rattle.bus_watch.specs.declared.pair.usage.PairUsage.{PairUsage}
 use Rattle.bus_watch.proofs.FedLemmas.{same-seen}
 use Rattle.bus_watch.proofs.HeadlineLemmas.{runs-alike}
 

@@ -14,7 +14,7 @@ use Rattle.bus_watch.specs.declared.outcome.Outcome.TheVariants.{Answered, Late,
 use Rattle.bus_watch.specs.declared.counts.Counts.{Counts}
 use Rattle.bus_watch.specs.declared.verdict.Verdict.{Verdict}
 use Rattle.bus_watch.specs.declared.kept.Kept.{Kept}
-use Rattle.bus_watch.specs.declared.pair_kept.PairKept.{PairKept}
+use Rattle.bus_watch.specs.declared.pair.kept.PairKept.{PairKept}
 
 -- a frame: its line, where it stands, and its octets
 pub record KeptFrame : Type 0 where

@@ -5,7 +5,7 @@ use Rattle.bus_watch.specs.Seen.{SeenReport}
 use Rattle.bus_watch.specs.declared.logged_report.LoggedPiece.{LoggedPiece}
 use Rattle.bus_watch.specs.declared.logged_report.LoggedPiece.TheVariants.{Frame, Damaged, Overlong, Abort, Idle}
 use Rattle.bus_watch.specs.declared.logged_report.LoggedReport.{LoggedReport}
-use Rattle.bus_watch.specs.declared.pair_log.PairLogged.{PairLogged}
+use Rattle.bus_watch.specs.declared.pair.log.PairLogged.{PairLogged}
 
 abbrev pub logged_piece : LoggedPiece → Report
 logged_piece (Frame kept) =

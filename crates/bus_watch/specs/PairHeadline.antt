@@ -13,7 +13,7 @@ use Rattle.bus_watch.specs.Sink.{told}
 use Rattle.bus_watch.specs.Pairs.{PairState, IsAfterPairs, two_lines}
 use Rattle.bus_watch.specs.Laws.{joined, Runs}
 use Rattle.bus_watch.specs.declared.line.Line.TheVariants.{First, Second}
-use Rattle.bus_watch.specs.declared.pair_usage.PairUsage.{PairUsage}
+use Rattle.bus_watch.specs.declared.pair.usage.PairUsage.{PairUsage}
 
 -- what is seen of these pairs, the first of which has the place `origin`, by the dictionary d
 abbrev pub all_seen_on_both : List FrameType → ℕ → List (Bool × Bool) → List SeenReport

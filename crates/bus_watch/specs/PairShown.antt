@@ -4,7 +4,7 @@ use Rattle.std.specs.Option.{option_to_list}
 use Rattle.bus_watch.specs.Seen.{SeenReport}
 use Rattle.bus_watch.specs.Shown.{shown_on}
 use Rattle.bus_watch.specs.declared.seen.Seen.{Seen}
-use Rattle.bus_watch.specs.declared.pair_seen.PairSeen.{PairSeen}
+use Rattle.bus_watch.specs.declared.pair.seen.PairSeen.{PairSeen}
 use Rattle.bus_watch.specs.declared.line.Line.{Line}
 use Rattle.bus_watch.specs.declared.line.Line.TheVariants.{First, Second}
 

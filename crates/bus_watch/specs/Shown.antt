@@ -7,7 +7,7 @@ use Rattle.bus_line.specs.Due.{begun}
 use Rattle.bus_line.specs.Ledger.{octet_count}
 use Rattle.bus_watch.specs.History.{KeptFrame, kept_frame, kept_pair}
 use Rattle.bus_watch.specs.declared.line.Line.{Line}
-use Rattle.bus_watch.specs.declared.pair_kept.PairKept.{PairKept}
+use Rattle.bus_watch.specs.declared.pair.kept.PairKept.{PairKept}
 use Rattle.bus_watch.specs.Seen.{SeenReport}
 use Rattle.bus_watch.specs.declared.seen.Seen.{Seen}
 use Rattle.bus_watch.specs.declared.finding.Finding.{Finding}

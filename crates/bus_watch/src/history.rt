@@ -5,7 +5,7 @@ ghost use Rattle.circular_buffer.specs.Buffer.{keep_last};
 
 use crate::kept::Kept;
 use crate::line::Line;
-use crate::pair_kept::PairKept;
+use crate::pair::PairKept;
 use bus_bits::Span;
 use std::alloc::{AllocError, Global};
 use std::marker::Model;

@@ -3,13 +3,13 @@
 ghost use Rattle.std.specs.Prelude.{◌≡◌, ◌≢◌, ◌+◌, ◌≤◌, ◌<◌, ◌^◌, List, ℕ, Option, [], ◌∷◌, ◌++◌, IfOk, length, replicate, true, Some, None, slice_get, option_copied, option_map};
 
 mod keep;
-mod pair;
+mod verdict;
 
 use crate::counts::Counts;
 use crate::finding::Finding;
 use crate::history::History;
 use crate::line::Line;
-use crate::pair_kept::PairKept;
+use crate::pair::PairKept;
 use crate::pairing::{command, is_stray};
 use crate::pending::Pending;
 use bus_bits::{Span, Spent};

@@ -3,7 +3,7 @@
 ghost use Rattle.std.specs.Prelude.{◌≡◌, ◌+◌, ◌-◌, ◌*◌, ◌/◌, ◌≤◌, ◌<◌, ◌^◌, List, Bool, ◌++◌, length, ℕ, take};
 ghost use Rattle.bus_bits.specs.Octet.{bits_of, octets};
 
-use crate::decoder::late::Data;
+use crate::decoder::settled::Data;
 use crate::line_words::LineWords;
 use bus_bits::Spent;
 use bus_fcs::Check;
@@ -12,7 +12,7 @@ use std::cmp::min;
 impl LineWords {
     ghost use Rattle.bus_line.specs.Words.{IsWithin, state};
     ghost use Rattle.bus_line.specs.Internal.Tracks.{Holds};
-    ghost use Rattle.bus_line.specs.Internal.Late.{Keeps, octets_more, octets_of, gain};
+    ghost use Rattle.bus_line.specs.Internal.Settled.{Keeps, octets_more, octets_of, gain};
 
     /// Appends data bits to the piece. Its first bits empty the frame buffer.
     #[inline(always)]

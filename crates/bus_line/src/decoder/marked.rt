@@ -1,7 +1,7 @@
 //! Bits of which some are to be left out.
 
 ghost use Rattle.std.specs.Prelude.{◌≡◌, ◌≢◌, ◌≤◌, ◌<◌, ◌^◌, bit_and};
-ghost use Rattle.bus_line.specs.Internal.Late.{kept};
+ghost use Rattle.bus_line.specs.Internal.Settled.{kept};
 
 /// Bits, the first lowest, and marks on some of their 0s.
 #[derive(Clone, Copy)]

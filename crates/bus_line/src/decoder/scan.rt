@@ -5,7 +5,7 @@ ghost use Rattle.std.specs.Option.{option_map};
 ghost use Rattle.bus_bits.specs.Bits.{bits_from};
 ghost use Rattle.bus_bits.specs.Octet.{bits_of};
 
-use crate::decoder::late::late_data;
+use crate::decoder::settled::data_in_word;
 use crate::decoder::quiet::{flags_end, has_six, ones_end};
 use crate::line_words::{LineWords, NEVER, PLACES};
 use crate::place_limit::PlaceLimit;
@@ -227,7 +227,7 @@ impl LineWords {
         if has_six(behind) {
             return false;
         }
-        let settled = late_data(self.history | bits << 16, 56);
+        let settled = data_in_word(self.history | bits << 16, 56);
         self.place += 56;
         self.history = behind >> 48;
         self.append(check, cells, settled);

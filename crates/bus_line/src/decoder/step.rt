@@ -5,7 +5,7 @@ ghost use Rattle.std.specs.Option.{option_map, option_to_list};
 ghost use Rattle.bus_bits.specs.Octet.{bits_of};
 ghost use Rattle.bus_line.specs.Due.{current, due_at, placed};
 
-use crate::decoder::late::late_data;
+use crate::decoder::settled::data_in_word;
 use crate::decoder::stop::{calm_bits, is_calm};
 use crate::event::Event;
 use crate::line_words::{LineWords, PLACES};
@@ -20,7 +20,7 @@ impl LineWords {
     ghost use Rattle.bus_line.specs.Shown.{reported};
     ghost use Rattle.bus_line.specs.After.{After, Led, TakesTo};
     ghost use Rattle.bus_line.specs.Internal.Flags.{StopsAt};
-    ghost use Rattle.bus_line.specs.Internal.Late.{IsWord, IsCalm, LagsBy};
+    ghost use Rattle.bus_line.specs.Internal.Settled.{IsWord, IsCalm, LagsBy};
     ghost use Rattle.bus_line.specs.Report.{moved};
 
     /// Takes bits as [`LineDecoder::take`](crate::LineDecoder::take) does, with the octets of the piece and
@@ -291,7 +291,7 @@ impl LineWords {
             return;
         }
         let late = min(self.place - self.settles_at, count);
-        self.append(check, cells, late_data(word >> (count - late), late));
+        self.append(check, cells, data_in_word(word >> (count - late), late));
     }
 
     /// Settles up to eight bits as [`LineWords::settle`] does.
@@ -320,7 +320,7 @@ impl LineWords {
             return;
         }
         let late = min(self.place - self.settles_at, count);
-        self.append_short(check, cells, late_data(word >> (count - late), late));
+        self.append_short(check, cells, data_in_word(word >> (count - late), late));
     }
 
     /// Takes a bit as [`LineDecoder::push`](crate::LineDecoder::push) does, with the octets of the piece and

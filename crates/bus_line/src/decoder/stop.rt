@@ -1,7 +1,7 @@
 //! Where taking bits stops.
 
 ghost use Rattle.std.specs.Prelude.{◌≡◌, ◌≤◌, ◌<◌, true, false, ℕ};
-ghost use Rattle.bus_line.specs.Internal.Late.{IsStop};
+ghost use Rattle.bus_line.specs.Internal.Settled.{IsStop};
 
 /// How many of the new bits stand before the first that is behind just six ones or just fourteen:
 /// `count`, if there is no such bit among so many.

@@ -2,7 +2,7 @@
 use Rattle.std.specs.Vec.{vec_capacity}
 use Rattle.bus_watch.specs.LogState.{LogState}
 use Rattle.bus_watch.specs.LoggedReport.{logged_reports, logged_pairs}
-use Rattle.bus_watch.specs.declared.pair_log.PairLog.TheInside as PairLog
+use Rattle.bus_watch.specs.declared.pair.log.PairLog.TheInside as PairLog
 use Rattle.bus_watch.specs.declared.report_log.ReportLog.TheInside.{Inside}
 
 abbrev pub log_state : Inside → LogState

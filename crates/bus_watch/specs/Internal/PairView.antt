@@ -2,7 +2,7 @@
 use Rattle.std.specs.Prelude.{ℕ, ◌≤◌, Bool, List}
 use Rattle.bus_watch.specs.Internal.JournalState.{journal_state}
 use Rattle.bus_watch.specs.Pairs.{PairState, IsAfterPairs}
-use Rattle.bus_watch.specs.declared.pair_analyser.PairAnalyser.TheInside.{Inside}
+use Rattle.bus_watch.specs.declared.pair.analyser.PairAnalyser.TheInside.{Inside}
 
 abbrev pub pair_state : {C : Type 0} → Inside C → PairState C
 pair_state a = record {

@@ -1,6 +1,6 @@
 use Rattle.std.specs.Prelude.{◌==◌, bit_and}
 use Rattle.std.proofs.lemmas.Bool.{eqb-true, not-false}
-use Rattle.bus_line.proofs.LateLemmas.{six}
+use Rattle.bus_line.proofs.SettledDataLemmas.{six}
 use Rattle.bus_line.proofs.QuietLemmas.{no-six}
 use Rattle.bus_line.proofs.decoder.quiet.has_six.Goals as goal
 

@@ -3,7 +3,7 @@ use Rattle.bus_bits.specs.Octet.{bits_of}
 use Rattle.bus_bits.proofs.OctetLemmas.{length-bits}
 use Rattle.bus_line.specs.Words.{state}
 use Rattle.bus_line.specs.declared.line_words.LineWords.{LineWords}
-use Rattle.bus_line.specs.Internal.Late.{LagsBy}
+use Rattle.bus_line.specs.Internal.Settled.{LagsBy}
 use Rattle.bus_line.proofs.WordsLemmas.{shift-lags}
 use Rattle.bus_line.proofs.AdvanceLemmas.{calm-before-last, last-before, word-joined, is_calm, all-due, all-placed, all-after, is_last, last-tracks, last-answer, last-more, last-after, but_last, last_of}
 use Rattle.bus_line.proofs.line_words.LineWords.advance_to_stop_short.Goals as goal

@@ -1,6 +1,6 @@
 use Rattle.std.proofs.Common.{sym, subst, refl}
 use Rattle.bus_line.specs.Words.{state}
-use Rattle.bus_line.specs.Internal.Late.{Keeps}
+use Rattle.bus_line.specs.Internal.Settled.{Keeps}
 use Rattle.bus_line.proofs.TracksAppendLemmas.{none-yet, keeps-held, keeps-none}
 use Rattle.bus_line.proofs.line_words.LineWords.begin.Goals as goal
 

@@ -6,7 +6,7 @@ use Rattle.bus_bits.proofs.OctetLemmas.{length-bits, one_bit}
 use Rattle.bus_line.specs.Report.{moved}
 use Rattle.bus_line.specs.Due.{due_at}
 use Rattle.bus_line.specs.After.{After}
-use Rattle.bus_line.specs.Internal.Late.{IsStop}
+use Rattle.bus_line.specs.Internal.Settled.{IsStop}
 use Rattle.bus_line.specs.Words.{state}
 use Rattle.bus_line.specs.declared.line_words.LineWords.{LineWords}
 use Rattle.bus_line.proofs.AdvanceLemmas.{word-joined, is_calm, all-due, all-after, is_last, last-tracks, last-answer, last-after, but_last, last_of}

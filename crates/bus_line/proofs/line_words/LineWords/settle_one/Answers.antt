@@ -6,7 +6,7 @@ use Rattle.bus_line.specs.Internal.Tracks.{Holds}
 use Rattle.bus_line.proofs.StepLemmas.{settles-open}
 use Rattle.bus_line.proofs.FlagLemmas.{no-bits}
 use Rattle.bus_line.proofs.SettleLemmas.{spent-none, word-unsettled, word-settled}
-use Rattle.bus_line.proofs.WordsLemmas.{kept-state, late-none, late-one, settles-told}
+use Rattle.bus_line.proofs.WordsLemmas.{kept-state, settled-none, settled-one, settles-told}
 use Rattle.bus_line.proofs.line_words.LineWords.settle_one.Goals as goal
 
 pub returns-then-self-clause-tracks : goal.returns-then-self-clause-tracks
@@ -22,7 +22,7 @@ returns-then-word-eq31-clause-tracks g c = λ b bits w l h.
     let o = settles-open self.settles_at self.place (first_in self.settles_at) told c.requires.within.place_fits c.if-self.false in
     let late : 1 ≡ min (self.place - (o.0 + 8)) 1 = omega (arith, o.2) in
     word-settled _ _ o.0 c.args.word 1 1 0 0 d d b bits w l (λ i k. absurd (omega (arith, k))) h o.1 o.2 late
-    (late-none c.args.word (sym (and_mask (c.args.word / 8) 6) ∙ c.if-word-eq31.true))
+    (settled-none c.args.word (sym (and_mask (c.args.word / 8) 6) ∙ c.if-word-eq31.true))
     (λ got held. subst (Holds g.C.Check.folded d) (sym (ap (λ (z : List Bool). got ++ z) (no-bits 0) ∙ append-nil got)) held)
     (λ got held. spent-none d.spent g.C.Check.COST d.longest (length got)) refl
 
@@ -36,5 +36,5 @@ returns-clause-tracks g c = λ b bits w l h.
     let late : 1 ≡ min (self.place - (o.0 + 8)) 1 = omega (arith, o.2) in
     let bit = and_mask (c.args.word / 256) 1 in
     word-settled _ _ o.0 c.args.word 1 1 1 _ d e b bits w l (λ i k. absurd (omega (arith, k))) h o.1 o.2 late
-    (ap (bits_of 1) bit ∙ late-one c.args.word (λ q. c.if-word-eq31.false (and_mask (c.args.word / 8) 6 ∙ q)))
+    (ap (bits_of 1) bit ∙ settled-one c.args.word (λ q. c.if-word-eq31.false (and_mask (c.args.word / 8) 6 ∙ q)))
     c.append_one.ensures.holds c.append_one.ensures.spent (kept-state self c.append_one.new.self c.append_one.new.check c.args.check.now c.append_one.new.cells c.args.cells.now c.append_one.ensures.kept)

@@ -21,5 +21,5 @@ returns-clause-tracks g c = λ b bits w l k h.
     let o = settles-open self.settles_at self.place (first_in self.settles_at) told c.requires.within.place_fits c.if-self.false in
     let at : self.settles_at ≡ o.0 + 8 = told ∙ ap settles_from o.1 in
     let late : c.min-late.result ≡ min (self.place - (o.0 + 8)) c.args.count = c.min-late.ensures ∙ (least (self.place - self.settles_at) c.args.count ∙ omega (arith, at)) in
-    word-settled _ _ o.0 c.args.word c.args.count c.min-late.result c.late_data.result.count c.late_data.result.bits d e b bits w l k h o.1 o.2 late
-    c.late_data.ensures.value c.append_short.ensures.holds c.append_short.ensures.spent (kept-state self c.append_short.new.self c.append_short.new.check c.args.check.now c.append_short.new.cells c.args.cells.now c.append_short.ensures.kept)
+    word-settled _ _ o.0 c.args.word c.args.count c.min-late.result c.data_in_word.result.count c.data_in_word.result.bits d e b bits w l k h o.1 o.2 late
+    c.data_in_word.ensures.value c.append_short.ensures.holds c.append_short.ensures.spent (kept-state self c.append_short.new.self c.append_short.new.check c.args.check.now c.append_short.new.cells c.args.cells.now c.append_short.ensures.kept)

@@ -5,10 +5,10 @@ use Rattle.bus_bits.proofs.OctetLemmas.{length-bits}
 use Rattle.bus_line.specs.Words.{first_in, state}
 use Rattle.bus_line.specs.After.{After}
 use Rattle.bus_line.specs.Internal.LineView.{settles_from}
-use Rattle.bus_line.specs.Internal.Late.{late_data}
+use Rattle.bus_line.specs.Internal.Settled.{data_in_word}
 use Rattle.bus_line.specs.declared.line_words.LineWords.{LineWords}
 use Rattle.bus_line.proofs.AdvanceLemmas.{Calm, is_calm, all-after, all-placed}
-use Rattle.bus_line.proofs.QuietLemmas.{history-next, history-small, late-front, no-stop, word-behind, word-front, word-is, word_of}
+use Rattle.bus_line.proofs.QuietLemmas.{history-next, history-small, settled-front, no-stop, word-behind, word-front, word-is, word_of}
 use Rattle.bus_line.proofs.SettleLemmas.{word-settled}
 use Rattle.bus_line.proofs.StepLemmas.{settles-open}
 use Rattle.bus_line.proofs.WordsLemmas.{kept-state, settles-told, shift-lags}
@@ -24,7 +24,7 @@ returns-clause-tells g c = λ _.
     let w : ℕ = word_of old.history x in
     let behind : ℕ = bit_or (old.history / 256) (x * 256 % 18446744073709551616) in
     let mid : LineWords = record old { place = old.place + 56; history = behind / 2 ^ 48 } in
-    let settled = c.late_data-settled in
+    let settled = c.data_in_word-settled in
     let longest : new.longest ≡ old.longest = ap (λ (s : LineWords). s.longest) c.append.ensures.kept in
     let origin : new.origin ≡ old.origin = ap (λ (s : LineWords). s.origin) c.append.ensures.kept in
     let place : new.place ≡ old.place + 56 = ap (λ (s : LineWords). s.place) c.append.ensures.kept in
@@ -43,7 +43,7 @@ returns-clause-tells g c = λ _.
             let next = ap (λ (y : ℕ). record old { place = old.place + 56; history = y }) (history-next old.history x small) in
             let lags = shift-lags _ _ old mid c.args.check.now c.args.cells.now b (bits_of 56 x) w 56 next h word n in
             let shift : w ≡ w / 2 ^ (56 - 56) = omega arith in
-            let value = settled.ensures.value ∙ (ap (λ (y : ℕ). late_data y 56) (word-front old.history x small) ∙ (late-front w 56 (omega arith) ∙ ap (λ (y : ℕ). late_data y 56) shift)) in
+            let value = settled.ensures.value ∙ (ap (λ (y : ℕ). data_in_word y 56) (word-front old.history x small) ∙ (settled-front w 56 (omega arith) ∙ ap (λ (y : ℕ). data_in_word y 56) shift)) in
             all-after _ _ w 56 x 56 e b (calm b h) refl (λ q.
             word-settled _ _ began.0 w 56 56 settled.result.count settled.result.bits (state mid c.args.check.now c.args.cells.now) e b (bits_of 56 x) word n q lags began.1 began.2
             (omega (arith, at, c.requires.open)) value c.append.ensures.holds c.append.ensures.spent

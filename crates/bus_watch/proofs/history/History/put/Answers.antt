@@ -3,7 +3,7 @@ use Rattle.std.specs.Vec.{vec_capacity}
 use Rattle.bus_watch.specs.Internal.HistoryView.{from_oldest}
 use Rattle.bus_watch.specs.History.{KeptFrame, kept_pair}
 use Rattle.bus_watch.specs.Internal.HistoryState.{HistoryState}
-use Rattle.bus_watch.specs.declared.pair_kept.PairKept.{PairKept}
+use Rattle.bus_watch.specs.declared.pair.kept.PairKept.{PairKept}
 use Rattle.circular_buffer.specs.Buffer.{keep_last}
 use Rattle.bus_watch.proofs.HistoryLemmas.{IsNext, written-over}
 use Rattle.bus_watch.proofs.JournalStateLemmas.{keep-frame}

@@ -1,4 +1,4 @@
-use Rattle.bus_line.proofs.LateKeptLemmas.{lowest-out, sum-fits}
+use Rattle.bus_line.proofs.SettledKeptLemmas.{lowest-out, sum-fits}
 use Rattle.bus_line.proofs.decoder.marked.Marked.without_lowest.Goals as goal
 
 pub overflow_add-result : goal.overflow_add-result

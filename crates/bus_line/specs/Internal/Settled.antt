@@ -1,0 +1,56 @@
+-- Many bits at once: where they stop, and what they settle.
+use Rattle.std.specs.Prelude.{◌≡◌, ◌≢◌, ℕ, zero, suc, ◌+◌, ◌-◌, ◌*◌, ◌/◌, ◌%◌, ◌^◌, ◌<◌, ◌==◌, ◌⊎◌, Bool, List, [], ◌∷◌, ◌++◌, length, take, drop, min, if◌then◌else◌}
+use Rattle.bus_bits.specs.Octet.{number}
+use Rattle.bus_line.specs.Internal.Run.{ones_at_end}
+use Rattle.bus_line.specs.Due.{current}
+use Rattle.bus_line.specs.Internal.LineState.{LineState}
+use Rattle.bus_line.specs.Internal.Tracks.{HasTaken, HoldsFor, Counts, first_of, padded}
+
+-- none of the first `n` bits stands behind just six ones or just fourteen
+abbrev pub IsCalm : List Bool → List Bool → ℕ → Type 0
+IsCalm b bits n = (i : ℕ) → i < n → (ones_at_end (b ++ take i bits) ≢ 6) × (ones_at_end (b ++ take i bits) ≢ 14)
+
+-- sixteen bits before the new ones, and these, the oldest lowest
+abbrev pub IsWord : ℕ → List Bool → List Bool → Type 0
+IsWord w b bits = w ≡ number (drop (length b) (padded (b ++ bits)))
+
+-- the word shows just six ones, or fourteen, before the new bit `i`
+abbrev pub IsStop : ℕ → ℕ → Type 0
+IsStop w i = (w / 2 ^ (9 + i) % 128 ≡ 126) ⊎ (w / 2 ^ (1 + i) % 32768 ≡ 32766)
+
+-- of the first `k` bits behind the eight lowest those that are no 0 after five ones, the oldest first
+abbrev pub data_in_word : ℕ → ℕ → List Bool
+data_in_word word zero = []
+data_in_word word (suc k) =
+    data_in_word word k ++ (if word / 2 ^ (3 + k) % 64 == 31 then [] else (word / 2 ^ (8 + k) % 2 == 1) ∷ [])
+
+-- of the lowest `k` bits those that `marks` does not mark, the lowest first
+abbrev pub kept : ℕ → ℕ → ℕ → List Bool
+kept bits marks zero = []
+kept bits marks (suc k) = kept bits marks k ++ (if marks / 2 ^ k % 2 == 1 then [] else (bits / 2 ^ k % 2 == 1) ∷ [])
+
+-- more bits were taken, and not yet settled
+pub record LagsBy {C : Type 0} (folded : C → List ℕ → Type 0) (cost : ℕ) (d : LineState C)
+    (b bits : List Bool) : Type 0 where
+  pub has_taken : HasTaken d (b ++ bits)
+  pub first : d.first ≡ first_of d.origin (current b)
+  pub piece : HoldsFor folded d b (current b)
+  pub counts : Counts cost d b
+
+-- how many more of the first `limit` there are where `k` come behind `n`
+abbrev pub gain : ℕ → ℕ → ℕ → ℕ
+gain limit n k = min (n + k) limit - min n limit
+
+-- how many octets more of a piece of `n` data bits are stored, where `k` come behind them
+abbrev pub octets_more : ℕ → ℕ → ℕ → ℕ
+octets_more longest n k = min ((n + k) / 8) (longest + 2) - min (n / 8) (longest + 2)
+
+-- the lowest `k` octets of a number, the lowest first
+abbrev pub octets_of : ℕ → ℕ → List ℕ
+octets_of zero n = []
+octets_of (suc k) n = octets_of k n ++ (n / 2 ^ (8 * k) % 256) ∷ []
+
+-- the buffer has the first of these octets, and their check
+pub record Keeps {C : Type 0} (folded : C → List ℕ → Type 0) (d : LineState C) (os : List ℕ) : Type 0 where
+  pub held : d.octets ≡ take (d.longest + 2) os
+  pub checked : folded d.check (take (d.longest + 2) os)

@@ -1,0 +1,54 @@
+use Rattle.std.proofs.Common.{◌≡◌, ◌+◌, ◌-◌, ◌*◌, ◌^◌, ℕ, None, zip, refl, ◌∙◌, subst, arith}
+use Rattle.bus_bits.specs.Bits.{bits_from}
+use Rattle.bus_bits.proofs.OctetLemmas.{least}
+use Rattle.bus_watch.specs.Watch.{LeadsTold}
+use Rattle.bus_watch.specs.Pairs.{PairState, two_lines}
+use Rattle.bus_watch.specs.Internal.PairView.{pair_state}
+use Rattle.bus_watch.proofs.PairScanLemmas.{leads-further, leads-nowhere, length-zipped, zip-met}
+use Rattle.bus_watch.proofs.pair.analyser.PairAnalyser.scan.Goals as goal
+
+pub loop-at-init : goal.loop-at-init
+loop-at-init g c = record {
+  within = omega arith;
+  told = subst (λ (a : PairState g.row.C.Denot). LeadsTold (two_lines g.C.Check.folded g.C.Check.COST) a (zip (bits_from c.args.first.now 0 0) (bits_from c.args.second.now 0 0))
+      (record (pair_state c.self.inside) { found_first = None; found_second = None })
+      (λ ss. g.L.PairListener.hears a.journal.dictionary c.args.listener.now c.args.out.now ss c.args.listener.now c.args.out.now)) c.self.view_is
+      (leads-nowhere g.C.Check.folded g.C.Check.COST (pair_state c.self.inside) c.args.first.now c.args.second.now _
+      (g.met.L.PairListener.hears_none c.self.inside.journal.dictionary c.args.listener.now c.args.out.now));
+  room = g.met.L.PairListener.has_less c.args.listener.now (2 * c.args.count) (2 * (c.min-end.result - 0))
+      (omega (arith, c.min-end.ensures ∙ least c.args.count (2 ^ 60 - c.place-places.result))) c.requires.room;
+  none = (refl, refl);
+}
+
+pub scan_some-at-requires-clause-places : goal.scan_some-at-requires-clause-places
+scan_some-at-requires-clause-places g c = omega (
+  arith,
+  c.loop-at.invariant.told.sees.place,
+  length-zipped c.args.first.now c.args.second.now 0 c.loop-at.at,
+  c.place-places.ensures.value,
+  c.place-places.ensures.fits,
+  c.min-end.ensures ∙ least c.args.count (2 ^ 60 - c.place-places.result),
+  c.loop-at-test.true,
+)
+
+pub loop-at-preserved : goal.loop-at-preserved
+loop-at-preserved g c =
+    let scanned = c.scan_some-at in
+    let i = c.loop-at.at in
+    let n : ℕ = scanned.result - i in
+    let met : i + n ≡ scanned.result = omega (arith, scanned.ensures.within.0) in
+    let before = c.loop-at.invariant.told in
+    let last = scanned.ensures.told in
+    let dictionary = before.sees.dictionary in
+    record {
+      within = scanned.ensures.within.1;
+      told = subst (λ (k : ℕ). LeadsTold (two_lines g.C.Check.folded g.C.Check.COST) c.args.self.now (zip (bits_from c.args.first.now 0 k) (bits_from c.args.second.now 0 k)) scanned.new.self
+          (λ ss. g.L.PairListener.hears c.args.self.now.journal.dictionary c.args.listener.now c.args.out.now ss scanned.new.listener scanned.new.out)) met
+          (rw (zip-met c.args.first.now c.args.second.now i n)
+          (leads-further (two_lines g.C.Check.folded g.C.Check.COST) c.args.self.now c.loop-at.self scanned.new.self _ _ _ _ _ before last
+          (λ ss ts p q. g.met.L.PairListener.hears_more c.args.self.now.journal.dictionary c.args.listener.now c.loop-at.listener scanned.new.listener
+          c.args.out.now c.loop-at.out scanned.new.out ss ts p
+          (subst (λ d. g.L.PairListener.hears d c.loop-at.listener c.loop-at.out ts scanned.new.listener scanned.new.out) dictionary q))));
+      room = scanned.ensures.left;
+      none = (scanned.ensures.found.0 ∙ c.loop-at.invariant.none.0, scanned.ensures.found.1 ∙ c.loop-at.invariant.none.1);
+    }

@@ -1,0 +1,18 @@
+use Rattle.std.proofs.Common.{◌-◌, ◌≡◌, ◌*◌, ◌≤◌, None, zip}
+use Rattle.bus_bits.specs.Bits.{bits_from}
+use Rattle.bus_watch.specs.Pairs.{two_lines}
+use Rattle.bus_watch.specs.Watch.{LeadsTold}
+use Rattle.bus_watch.proofs.pair.analyser.PairAnalyser.scan.Given as goal
+
+-- the pairs so far were taken, and what is seen at them was told
+abbrev pub invariant-loop-at : goal.invariant-loop-at
+invariant-loop-at g l = record {
+  within : l.at ≤ l.end;
+  told : LeadsTold (two_lines g.C.Check.folded g.C.Check.COST) l.fn.self (zip (bits_from l.fn.first 0 l.at) (bits_from l.fn.second 0 l.at)) l.self
+      (λ ss. g.L.PairListener.hears l.fn.self.journal.dictionary l.fn.listener l.fn.out ss l.listener l.out);
+  room : g.L.PairListener.has_room l.listener (2 * (l.end - l.at));
+  none : (l.self.found_first ≡ None) × (l.self.found_second ≡ None);
+}
+
+abbrev pub decreases-loop-at : goal.decreases-loop-at
+decreases-loop-at g l = l.end - l.at

@@ -1,0 +1,374 @@
+//! The analyser of two lines: what is seen on both, up to 48 pairs of bits at a time, in fixed memory.
+
+ghost use Rattle.std.specs.Prelude.{◌≡◌, ◌+◌, ◌-◌, ◌*◌, ◌≤◌, ◌<◌, ◌^◌, ◌↔◌, ◌⊎◌, List, Bool, [], ◌∷◌, ◌++◌, IsErr, IfOk, OnErr, IsTrue, length, take, ℕ, Some, None, Err, slice_get, option_copied};
+ghost use Rattle.std.specs.Option.{option_map};
+ghost use Rattle.std.specs.Borrow.{sem};
+ghost use Rattle.std.specs.Io.BufRead.{Rests};
+ghost use Rattle.bus_bits.specs.Octet.{bits_of};
+ghost use Rattle.bus_dictionary.specs.Dictionary.{longest_of};
+ghost use Rattle.bus_line.specs.After.{After};
+ghost use Rattle.bus_line.specs.Mark.{MayDecideAt};
+ghost use Rattle.bus_watch.specs.Internal.Hears.{Hears, Reached};
+ghost use Rattle.bus_watch.specs.Internal.JournalState.{journal_state, HasRoom};
+ghost use Rattle.bus_watch.specs.PairShown.{shown_option_on};
+ghost use Rattle.bus_watch.specs.Shown.{found_on, begun_span, IsKeepable};
+
+mod scan;
+
+use crate::counts::Counts;
+use crate::feed::PLACES;
+use crate::finding::Finding;
+use crate::hear::{begun_span, hear};
+use crate::journal::Journal;
+use crate::laws::{pairs_grow, steps_are_bounded};
+use crate::line::Line;
+use crate::new_fault::NewFault;
+use crate::pair::ending::PairEnding;
+use crate::pair::kept::PairKept;
+use crate::pair::seen::PairSeen;
+use crate::seen::Seen;
+use bus_bits::Spent;
+use bus_dictionary::Dictionary;
+use bus_fcs::Check;
+use bus_line::laws::{reports_grow, settled_places};
+use bus_line::{LineDecoder, LineFault, PlaceLimit};
+use std::alloc::Global;
+use std::cmp::min;
+use std::marker::Model;
+
+/// Watches two lines that one clock recorded: on the first commands wait, on the second they are
+/// answered. It finds the frames of both and all other reports, pairs commands with answers, and keeps
+/// the last frames.
+///
+/// It takes memory once, for the history, when it is made.
+#[derive(Drop)]
+pub struct PairAnalyser<C: Check> {
+    first: LineDecoder<C>,
+    second: LineDecoder<C>,
+    journal: Journal,
+    /// What the last pair taken decided on the first line.
+    found_first: Option<Finding>,
+    /// What it decided on the second line.
+    found_second: Option<Finding>,
+}
+
+impl<C: Check> Model for PairAnalyser<C> {
+    ghost use Rattle.bus_watch.specs.Pairs.{PairState};
+
+    ghost Value = { PairState C };
+
+    ghost use Rattle.bus_watch.specs.Internal.PairView.{pair_state, IsWithin};
+
+    ghost view = { pair_state };
+
+    ghost invariant = { IsWithin C.folded C.COST };
+}
+
+/// A line takes all these bits, of which only the last may decide a report, and the journal that report;
+/// what it was found to be, if there is one.
+#[inline(always)]
+fn hear_all<C: Check>(
+    decoder: &mut LineDecoder<C>,
+    journal: &mut Journal,
+    line: Line,
+    bits: u64,
+    count: u32,
+) -> Option<Finding>
+    requires some { 1 ≤ count }
+    requires few { count ≤ 48 }
+    requires small { bits < 2 ^ count }
+    requires place { decoder.old.place + count ≤ 2 ^ 60 }
+    requires reached { Reached C.folded C.COST decoder.old }
+    requires calm { (b : List Bool) → After C.folded C.COST decoder.old b → (i : ℕ) → i + 1 < count →
+        MayDecideAt b (bits_of count bits) i → ⊥ }
+    requires room { HasRoom (journal_state journal.old) }
+    ensures { Hears C.folded C.COST (Some line) decoder.old (journal_state journal.old) (bits_of count bits)
+        (option_map (found_on (Some line) decoder.new.octets) result) decoder.new (journal_state journal.new) }
+{
+    let mut is_decided = false;
+    match hear(decoder, journal, &mut is_decided, Some(line), bits, count) {
+        Ok(_) if is_decided => Some(*journal.last()),
+        Ok(_) => None,
+        Err(PlaceLimit) => unreachable!(),
+    }
+}
+
+impl<C: Check> PairAnalyser<C> {
+    ghost use Rattle.bus_watch.specs.contracts.pair.analyser.PairAnalyser.{the_row};
+    ghost use Rattle.bus_watch.specs.Pairs.{IsAfterPairs, SeesPairs, TakesPairsTo, lines, seen_after_pairs, heard_pair, found_at, octets_on, seen_on};
+    ghost use Rattle.bus_watch.specs.Seen.{all_seen_at};
+    ghost use Rattle.bus_watch.specs.Shown.{kept_pair_option};
+    ghost use Rattle.bus_watch.specs.PairShown.{shown_pair};
+    ghost use Rattle.bus_watch.specs.History.{history, tally};
+    ghost use Rattle.bus_watch.specs.Ledger.{IsPairLedger, total};
+    ghost use Rattle.bus_watch.specs.Talk.{pending};
+    ghost use Rattle.bus_watch.specs.Heard.{firsts, seconds, bits_on, pairs_of};
+    ghost use Rattle.bus_line.specs.Ledger.{stored_open};
+
+    /// An analyser that took no pair of bits, whose first pair has the place `origin`.
+    ///
+    /// `depth` is how many frames the history keeps, 1 to 1024. `origin` is at most 2^60.
+    ///
+    /// # Errors
+    ///
+    /// `DepthRange` and `Origin` where these are out of range, `Memory` where memory was refused. The
+    /// dictionary is dropped then.
+    pub fn new(
+        alloc: Global,
+        dictionary: Dictionary,
+        depth: usize,
+        origin: u64,
+    ) -> Result<Self, NewFault>
+        ensures depth { (result ≡ Err NewFault.DepthRange) ↔ ((depth < 1) ⊎ (1024 < depth)) }
+        ensures origin { (result ≡ Err NewFault.Origin) ↔ ((1 ≤ depth) × (depth ≤ 1024) × (2 ^ 60 < origin)) }
+        ensures is_after { IfOk result (λ a. IsAfterPairs C.folded C.COST a []) }
+        ensures given { IfOk result
+            (λ a. (a.journal.dictionary ≡ dictionary) × (a.journal.depth ≡ depth) × (a.first.origin ≡ origin)
+            × (a.first.place ≡ origin)) }
+        ensures none { IfOk result (λ a. (a.found_first ≡ None) × (a.found_second ≡ None)) }
+    {
+        if depth < 1 || depth > 1024 {
+            return Err(NewFault::DepthRange);
+        }
+        let longest = dictionary.longest();
+        let first = match LineDecoder::new(longest, origin) {
+            Ok(decoder) => decoder,
+            Err(LineFault::Origin) => return Err(NewFault::Origin),
+            Err(LineFault::LongestRange) => unreachable!(),
+        };
+        let second = match LineDecoder::new(longest, origin) {
+            Ok(decoder) => decoder,
+            Err(_) => unreachable!(),
+        };
+        match Journal::new(alloc, dictionary, depth) {
+            Ok(journal) => Ok(PairAnalyser {
+                first,
+                second,
+                journal,
+                found_first: None,
+                found_second: None,
+            }),
+            Err(_) => Err(NewFault::Memory),
+        }
+    }
+
+    /// Takes up to `count` pairs of bits, the first lowest in both numbers: all of them, or those up to
+    /// the first that may decide a report on either line. Returns how many it took. What is seen at the
+    /// last of these is then answered by [`PairAnalyser::finding`], and [`PairAnalyser::octets`] lends
+    /// the octets of a frame.
+    ///
+    /// Refuses as [`PlaceLimit`], with nothing changed, where one of the `count` pairs would have the
+    /// place 2^60 or a later one.
+    pub fn take(&mut self, first: u64, second: u64, count: u32) -> Result<u32, PlaceLimit>
+        requires some { 1 ≤ count }
+        requires few { count ≤ 48 }
+        requires small { (first < 2 ^ count) × (second < 2 ^ count) }
+        ensures limit { IsErr result ↔ (2 ^ 60 < self.old.first.place + count) }
+        ensures within { IfOk result (λ n. (1 ≤ n) × (n ≤ count)) }
+        ensures stops { IfOk result (λ n. (ps : List (Bool × Bool)) → IsAfterPairs C.folded C.COST self.old ps →
+            TakesPairsTo (firsts ps) (seconds ps) (bits_of count first) (bits_of count second) n) }
+        ensures sees { IfOk result (λ n.
+            SeesPairs C.folded C.COST self.old (pairs_of n first second) (heard_pair self.new) self.new) }
+        ensures before { IfOk result (λ n. (ps : List (Bool × Bool)) → IsAfterPairs C.folded C.COST self.old ps →
+            seen_after_pairs self.old (ps ++ pairs_of (n - 1) first second) ≡ seen_after_pairs self.old ps) }
+        ensures unchanged { OnErr result (self.new ≡ self.old) }
+    {
+        if !self.has_room(count) {
+            return Err(PlaceLimit);
+        }
+        settled_places();
+        reports_grow();
+        let first_takes = self.first.would_take(first, count);
+        let second_takes = self.second.would_take(second, count);
+        let taken = min(first_takes, second_takes);
+        let past: u64 = 1 << taken;
+        self.found_first = hear_all(
+            &mut self.first,
+            &mut self.journal,
+            Line::First,
+            first % past,
+            taken,
+        );
+        self.found_second = hear_all(
+            &mut self.second,
+            &mut self.journal,
+            Line::Second,
+            second % past,
+            taken,
+        );
+        Ok(taken)
+    }
+
+    /// What is seen on a line at the last pair that was taken, if it decides a report there.
+    /// [`PairAnalyser::octets`] lends the octets of a frame.
+    pub fn finding(&self, line: Line) -> Option<&Finding>
+        ensures { option_copied result ≡ found_at self.now line }
+    {
+        match line {
+            Line::First => self.found_first.as_ref(),
+            Line::Second => self.found_second.as_ref(),
+        }
+    }
+
+    /// The octets of the frame that the last pair closed on a line: address, control, information and the
+    /// two octets of the frame check. After any other pair they are not those of a frame.
+    pub fn octets(&self, line: Line) -> &[u8]
+        ensures value { result.now ≡ octets_on self.now line }
+        ensures bound { length result.now ≤ longest_of self.now.journal.dictionary + 2 }
+        ensures longest { longest_of self.now.journal.dictionary ≤ 256 }
+    {
+        match line {
+            Line::First => self.first.octets(),
+            Line::Second => self.second.octets(),
+        }
+    }
+
+    /// What is seen on a line at the last pair, if anything, as it is handed out.
+    fn lent(&self, line: Line) -> Option<Seen<'_>>
+        ensures shown { shown_option_on line result ≡ seen_on self.now line }
+        ensures fits { IsKeepable result }
+    {
+        match self.finding(line) {
+            Some(finding) => Some(finding.with_octets(self.octets(line))),
+            None => None,
+        }
+    }
+
+    /// What is seen on both lines at the last pair, as it is handed out.
+    pub(crate) fn seen(&self) -> PairSeen<'_>
+        ensures shown { shown_pair result ≡ heard_pair self.now }
+        ensures first_fits { IsKeepable result.first }
+        ensures second_fits { IsKeepable result.second }
+    {
+        PairSeen {
+            first: self.lent(Line::First),
+            second: self.lent(Line::Second),
+        }
+    }
+
+    /// Takes a pair of bits, and returns what is seen at it on each line. Frames' octets are borrowed from
+    /// the analyser.
+    ///
+    /// Refuses as [`PlaceLimit`], with nothing changed, where the pair's place would be 2^60.
+    pub fn push(&mut self, first: bool, second: bool) -> Result<PairSeen<'_>, PlaceLimit>
+        ensures limit { IsErr result ↔ (2 ^ 60 ≤ self.old.first.place) }
+        ensures answer { IfOk result (λ o. (ps : List (Bool × Bool)) → IsAfterPairs C.folded C.COST self.old ps →
+            shown_pair o ≡ all_seen_at self.old.journal.dictionary
+            (lines self.old (ps ++ (first, second) ∷ [])) self.old.first.place) }
+        ensures fits { IfOk result (λ o. IsKeepable o.first × IsKeepable o.second) }
+        ensures* rests { sem 𝓛 (Rests (the_row C.row C.Check) self.entry (λ new.
+            IfOk result (λ o. SeesPairs C.folded C.COST self.old ((first, second) ∷ []) (shown_pair o) new)
+            × OnErr result (new ≡ self.old))) }
+    {
+        pairs_grow();
+        self.take(u64::from(first), u64::from(second), 1)?;
+        Ok(self.seen())
+    }
+
+    /// A frame of the history, of which the oldest has the number 0.
+    pub fn history(&self, i: usize) -> Option<&PairKept>
+        ensures lent { kept_pair_option result ≡ slice_get self.now.journal.history i }
+        ensures value { (ps : List (Bool × Bool)) → IsAfterPairs C.folded C.COST self.now ps →
+            kept_pair_option result ≡ slice_get (history self.now.journal.depth (lines self.now ps)) i }
+    {
+        self.journal.kept(i)
+    }
+
+    /// How many frames the history has: at most its depth, which is at most 1024.
+    pub fn history_len(&self) -> usize
+        ensures value { (ps : List (Bool × Bool)) → IsAfterPairs C.folded C.COST self.now ps →
+            result ≡ length (history self.now.journal.depth (lines self.now ps)) }
+        ensures depth { result ≤ self.now.journal.depth }
+        ensures bound { self.now.journal.depth ≤ 1024 }
+    {
+        self.journal.kept_len()
+    }
+
+    /// How many verdicts named a station.
+    pub fn tally(&self, station: u8) -> Counts
+        ensures { (ps : List (Bool × Bool)) → IsAfterPairs C.folded C.COST self.now ps →
+            result ≡ tally self.now.journal.dictionary (lines self.now ps) station }
+    {
+        self.journal.counts(station)
+    }
+
+    /// What has begun and is not decided yet.
+    pub fn ending(&self) -> PairEnding
+        ensures first { (ps : List (Bool × Bool)) → IsAfterPairs C.folded C.COST self.now ps →
+            result.first ≡ begun_span self.now.first.origin (firsts ps) }
+        ensures second { (ps : List (Bool × Bool)) → IsAfterPairs C.folded C.COST self.now ps →
+            result.second ≡ begun_span self.now.first.origin (seconds ps) }
+        ensures pending { (ps : List (Bool × Bool)) → IsAfterPairs C.folded C.COST self.now ps →
+            result.pending ≡ pending self.now.journal.dictionary (lines self.now ps) }
+    {
+        PairEnding {
+            first: begun_span(&self.first),
+            second: begun_span(&self.second),
+            pending: self.journal.pending(),
+        }
+    }
+
+    /// The dictionary that was handed in.
+    pub fn dictionary(&self) -> &Dictionary
+        ensures { result.now ≡ self.now.journal.dictionary }
+    {
+        self.journal.dictionary()
+    }
+
+    /// How many octets of a line's open piece are in its frame buffer: at most the dictionary's longest
+    /// frame and two, and 0 where no piece is open.
+    pub fn buffered(&self, line: Line) -> usize
+        ensures bound { result ≤ longest_of self.now.journal.dictionary + 2 }
+        ensures stored { (ps : List (Bool × Bool)) → IsAfterPairs C.folded C.COST self.now ps →
+            result ≡ stored_open (longest_of self.now.journal.dictionary) (bits_on line ps) }
+    {
+        match line {
+            Line::First => self.first.buffered(),
+            Line::Second => self.second.buffered(),
+        }
+    }
+
+    /// The steps so far: those of both lines' ledgers, added up, at most seventeen for each bit of either
+    /// line; in fact at most four, and at most three with a check that costs one.
+    pub fn spent(&self) -> Spent
+        ensures ledger { (ps : List (Bool × Bool)) → IsAfterPairs C.folded C.COST self.now ps →
+            IsPairLedger C.COST (longest_of self.now.journal.dictionary) ps result }
+        ensures seventeen { (ps : List (Bool × Bool)) → IsAfterPairs C.folded C.COST self.now ps →
+            total result ≤ 17 * (2 * length ps) }
+        ensures four { (ps : List (Bool × Bool)) → IsAfterPairs C.folded C.COST self.now ps →
+            total result ≤ 4 * (2 * length ps) }
+        ensures three { C.COST ≡ 1 → (ps : List (Bool × Bool)) → IsAfterPairs C.folded C.COST self.now ps →
+            (result.folded ≡ result.stored) × (total result ≤ 3 * (2 * length ps)) }
+    {
+        steps_are_bounded();
+        settled_places();
+        // Called for its bound: no more than 2^60 places, so that no sum overflows.
+        let _places = self.place();
+        let first = self.first.spent();
+        let second = self.second.spent();
+        let journal = self.journal.spent();
+        Spent {
+            shifted: first.shifted + second.shifted,
+            assembled: first.assembled + second.assembled,
+            folded: first.folded + second.folded,
+            stored: first.stored + second.stored,
+            copied: journal.copied,
+            handled: journal.handled,
+        }
+    }
+
+    /// Whether `count` pairs more have places below 2^60.
+    pub fn has_room(&self, count: u32) -> bool
+        ensures { IsTrue result ↔ (self.now.first.place + count ≤ 2 ^ 60) }
+    {
+        self.place() + u64::from(count) <= PLACES
+    }
+
+    /// The place of the next pair: the origin and the pairs so far.
+    pub(crate) fn place(&self) -> u64
+        ensures value { result ≡ self.now.first.place }
+        ensures fits { result ≤ 2 ^ 60 }
+    {
+        self.first.place()
+    }
+}

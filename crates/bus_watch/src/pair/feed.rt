@@ -1,0 +1,159 @@
+//! Many pairs of bits at once.
+
+ghost use Rattle.std.specs.Prelude.{◌≡◌, ◌+◌, ◌-◌, ◌≤◌, ◌<◌, ◌^◌, ◌↔◌, ℕ, IsErrOf, IfErr, OnOk, OnErr, length, take};
+ghost use Rattle.std.specs.Option.{option_to_list};
+ghost use Rattle.bus_bits.specs.Octet.{number};
+ghost use Rattle.bus_watch.specs.Fed.{FedBy, RefusedBy, RefusedByAt, ForSink, Offered};
+ghost use Rattle.bus_watch.specs.Heard.{firsts, seconds};
+ghost use Rattle.bus_watch.specs.PairShown.{shown_option_on, shown_pair};
+ghost use Rattle.bus_watch.specs.Pairs.{two_lines};
+ghost use Rattle.bus_watch.specs.Shown.{IsKeepable};
+ghost use Rattle.bus_watch.specs.Sink.{IsFull, IsWithinRoom};
+
+use crate::feed::{FedSome, PLACES};
+use crate::feed_fault::FeedFault;
+use crate::line::Line;
+use crate::pair::analyser::PairAnalyser;
+use crate::pair::seen::PairSeen;
+use crate::pair::sink::PairSink;
+use crate::seen::Seen;
+use bus_bits::PairWords;
+use bus_fcs::Check;
+use bus_line::{PlaceLimit, SinkRefused};
+use std::cmp::min;
+
+/// The first bits of these pairs in one number, and the second ones in another, the first pair's lowest.
+fn pair_words(pairs: &[(bool, bool)]) -> PairWords
+    requires { length pairs.now ≤ 64 }
+    ensures first { result.first ≡ number (firsts pairs.now) }
+    ensures second { result.second ≡ number (seconds pairs.now) }
+    ensures small { (result.first < 2 ^ length pairs.now) × (result.second < 2 ^ length pairs.now) }
+{
+    let mut first: u64 = 0;
+    let mut second: u64 = 0;
+    let mut place: u32 = 0;
+    for pair in pairs {
+        first |= u64::from(pair.0) << place;
+        second |= u64::from(pair.1) << place;
+        place += 1;
+    }
+    PairWords { first, second }
+}
+
+/// Offers a sink a report of a line, if there is one.
+fn offer<S: PairSink>(line: Line, seen: Option<Seen<'_>>, sink: &mut S) -> Result<(), SinkRefused>
+    requires count { S.refusals sink.old < 2 ^ 64 - 1 }
+    requires fits { IsKeepable seen }
+    ensures ok { OnOk result
+        (Offered S.taken S.refusals (option_to_list (shown_option_on line seen.entry)) 0 sink.old sink.new) }
+    ensures err { OnErr result
+        (Offered S.taken S.refusals (option_to_list (shown_option_on line seen.entry)) 1 sink.old sink.new) }
+    ensures room { S.room sink.new ≡ S.room sink.old }
+    ensures full { OnErr result (IsFull (S.room sink.new) (S.taken sink.new)) }
+    ensures still_full { OnOk result (IsFull (S.room sink.old) (S.taken sink.old) →
+        IsFull (S.room sink.new) (S.taken sink.new)) }
+    ensures within { OnOk result (IsWithinRoom (S.room sink.old) (S.taken sink.old) →
+        IsWithinRoom (S.room sink.new) (S.taken sink.new)) }
+{
+    match seen {
+        None => Ok(()),
+        Some(seen) => sink.take(line, &seen),
+    }
+}
+
+/// Offers a sink what is seen at a pair, the second line's report also where the first was refused.
+fn offer_both<S: PairSink>(seen: PairSeen<'_>, sink: &mut S) -> Result<(), SinkRefused>
+    requires count { S.refusals sink.old < 2 ^ 64 - 2 }
+    requires first_fits { IsKeepable seen.first }
+    requires second_fits { IsKeepable seen.second }
+    ensures ok { OnOk result (Offered S.taken S.refusals (shown_pair seen.entry) 0 sink.old sink.new) }
+    ensures err { OnErr result ((n : ℕ) × (0 < n) × (n ≤ 2)
+        × Offered S.taken S.refusals (shown_pair seen.entry) n sink.old sink.new) }
+    ensures room { S.room sink.new ≡ S.room sink.old }
+    ensures full { OnErr result (IsFull (S.room sink.new) (S.taken sink.new)) }
+    ensures within { OnOk result (IsWithinRoom (S.room sink.old) (S.taken sink.old) →
+        IsWithinRoom (S.room sink.new) (S.taken sink.new)) }
+{
+    match offer(Line::First, seen.first, sink) {
+        Ok(()) => offer(Line::Second, seen.second, sink),
+        Err(SinkRefused) => {
+            let _ = offer(Line::Second, seen.second, sink);
+            Err(SinkRefused)
+        }
+    }
+}
+
+impl<C: Check> PairAnalyser<C> {
+    /// Takes these pairs, and hands the sink what is seen at them, in order: at a place where both lines
+    /// report, the first line's report and then the second's, also where the first was refused.
+    ///
+    /// # Errors
+    ///
+    /// - `PlaceLimit`: some of the pairs would have places of 2^60 or more. Nothing was taken.
+    /// - `Sink`: the sink refused one report or both at a place. The pairs up to that one were taken;
+    ///   what was seen at them was handed over, but for what was refused.
+    pub fn feed<S: PairSink>(
+        &mut self,
+        pairs: &[(bool, bool)],
+        sink: &mut S,
+    ) -> Result<(), FeedFault>
+        requires { S.refusals sink.old < 2 ^ 64 - 2 }
+        ensures limit { IsErrOf result FeedFault.PlaceLimit ↔ (2 ^ 60 < self.old.first.place + length pairs.now) }
+        ensures unchanged { IsErrOf result FeedFault.PlaceLimit → (self.new ≡ self.old) × (sink.new ≡ sink.old) }
+        ensures fed { OnOk result
+            (FedBy (two_lines C.folded C.COST) S.taken self.old pairs.now self.new sink.old sink.new) }
+        ensures none_refused { OnOk result (S.refusals sink.new ≡ S.refusals sink.old) }
+        ensures refused { IfErr result (λ fault. ForSink fault (λ consumed.
+            (n : ℕ) × (n ≤ 2) × (S.refusals sink.new ≡ S.refusals sink.old + n)
+            × RefusedByAt (two_lines C.folded C.COST) S.taken n self.old pairs.now consumed self.new
+            sink.old sink.new)) }
+        ensures room { S.room sink.new ≡ S.room sink.old }
+        ensures full { IfErr result (λ fault. ForSink fault (λ consumed.
+            IsFull (S.room sink.new) (S.taken sink.new))) }
+        ensures within { OnOk result (IsWithinRoom (S.room sink.old) (S.taken sink.old) →
+            IsWithinRoom (S.room sink.new) (S.taken sink.new)) }
+    {
+        if pairs.len() as u64 > PLACES - self.place() {
+            return Err(FeedFault::PlaceLimit);
+        }
+        let mut consumed: usize = 0;
+        while consumed < pairs.len() {
+            let fed = self.feed_some(&pairs[consumed..], sink);
+            consumed += fed.count;
+            if fed.told.is_err() {
+                return Err(FeedFault::Sink { consumed });
+            }
+        }
+        Ok(())
+    }
+
+    /// Takes the first of these pairs, at most 48 and no more than those up to the first that may decide a
+    /// report, and hands the sink what is seen at the last of them.
+    fn feed_some<S: PairSink>(&mut self, pairs: &[(bool, bool)], sink: &mut S) -> FedSome
+        requires some { 0 < length pairs.now }
+        requires place { self.old.first.place + length pairs.now ≤ 2 ^ 60 }
+        requires refusals { S.refusals sink.old < 2 ^ 64 - 2 }
+        ensures within { (1 ≤ result.count) × (result.count ≤ length pairs.now) }
+        ensures fed { OnOk result.told (FedBy (two_lines C.folded C.COST) S.taken
+            self.old (take result.count pairs.now) self.new sink.old sink.new) }
+        ensures none_refused { OnOk result.told (S.refusals sink.new ≡ S.refusals sink.old) }
+        ensures refused { OnErr result.told ((n : ℕ) × (n ≤ 2) × (S.refusals sink.new ≡ S.refusals sink.old + n)
+            × RefusedBy (two_lines C.folded C.COST) S.taken n
+            self.old (take result.count pairs.now) self.new sink.old sink.new) }
+        ensures room { S.room sink.new ≡ S.room sink.old }
+        ensures full { OnErr result.told (IsFull (S.room sink.new) (S.taken sink.new)) }
+        ensures kept { OnOk result.told (IsWithinRoom (S.room sink.old) (S.taken sink.old) →
+            IsWithinRoom (S.room sink.new) (S.taken sink.new)) }
+    {
+        let most = min(pairs.len(), 48);
+        let words = pair_words(&pairs[..most]);
+        let count = match self.take(words.first, words.second, most as u32) {
+            Ok(count) => count,
+            Err(PlaceLimit) => unreachable!(),
+        };
+        FedSome {
+            count: count as usize,
+            told: offer_both(self.seen(), sink),
+        }
+    }
+}
