@@ -1,5 +1,6 @@
 -- Eight marks in one number, and the octets with their bits.
-use Rattle.std.proofs.Common.{◌≡◌, ℕ, zero, suc, ◌+◌, ◌-◌, ◌*◌, ◌/◌, ◌%◌, ◌^◌, ◌<◌, ◌==◌, ◌⊎◌, inl, inr, Bool, true, ◌&&◌, cond, nat_lt, List, [], ◌∷◌, length, map, bit_and, refl, sym, ap, ◌∙◌, subst, arith}
+use Rattle.std.proofs.Common.{◌≡◌, ℕ, zero, suc, ◌+◌, ◌-◌, ◌*◌, ◌/◌, ◌%◌, ◌^◌, ◌<◌, ◌==◌, ◌⊎◌, inl, inr, Bool, true}
+use Rattle.std.proofs.Common.{◌&&◌, cond, nat_lt, List, [], ◌∷◌, length, map, bit_and, refl, sym, ap, ◌∙◌, subst, arith}
 use Rattle.std.proofs.lemmas.Bool.{cases_order, and_parts, and_from, eqb-true}
 use Rattle.std.proofs.lemmas.Bool.Decides.{nat_tests}
 use Rattle.std.proofs.lemmas.List.{length-map}
@@ -91,11 +92,15 @@ unfolding agrees
 agrees-marks high is_mark h x l =
     let e = upto-all (agrees high is_mark) 256 h x l in
     elim (same (is_mark x)) [
-      | inl t ↦ (λ m. eqb-true (other high x) 0 (sym (ap (λ b. cond b (other high x == 0) (nat_lt 0 (other high x))) t) ∙ e), λ z. t)
-      | inr f ↦ let n : nat_lt 0 (other high x) ≡ true = sym (ap (λ b. cond b (other high x == 0) (nat_lt 0 (other high x))) f) ∙ e in (
-        λ m. let z : ⊥ = cc in absurd z,
-        λ z. let y : ⊥ = cc in absurd y,
+      | inl t ↦ (
+        λ m. eqb-true (other high x) 0 (sym (ap (λ b. cond b (other high x == 0) (nat_lt 0 (other high x))) t) ∙ e),
+        λ z. t,
       )
+      | inr f ↦ let n : nat_lt 0 (other high x) ≡ true =
+          sym (ap (λ b. cond b (other high x == 0) (nat_lt 0 (other high x))) f) ∙ e in (
+            λ m. let z : ⊥ = cc in absurd z,
+            λ z. let y : ⊥ = cc in absurd y,
+          )
     ]
 
 all-bits : upto (agrees 254 is_bit) 256 ≡ true
@@ -157,7 +162,8 @@ marks-lt : (bs : List ℕ) → All (λ b. b < 256) bs → All (λ b. b < 256) (m
 unfolding marks
 marks-lt [] h = λ k d l. absurd (omega arith)
 marks-lt (b ∷ bs) h =
-    All-cons (λ n. n < 256) (bit_xor b 48) (map (λ b. bit_xor b 48) bs) (xor_of_8 b 48 (All-head (λ n. n < 256) b bs h) (omega arith))
+    All-cons (λ n. n < 256) (bit_xor b 48) (map (λ b. bit_xor b 48) bs)
+    (xor_of_8 b 48 (All-head (λ n. n < 256) b bs h) (omega arith))
     (marks-lt bs (All-tail (λ n. n < 256) b bs h))
 
 -- a word of what is other in each octet is 0 exactly where all are marks
@@ -175,17 +181,23 @@ unfolding word
 marks_all high is_mark m [] s h = refl
 marks_all high is_mark m (b ∷ bs) s h =
     let both = and_parts (is_mark b) (list_all is_mark bs) h in
-    omega (arith, marks_all high is_mark m bs (All-tail (λ n. n < 256) b bs s) both.1, (m b (All-head (λ n. n < 256) b bs s)).0 both.0)
+    omega (
+      arith,
+      marks_all high is_mark m bs (All-tail (λ n. n < 256) b bs s) both.1,
+      (m b (All-head (λ n. n < 256) b bs s)).0 both.0,
+    )
 
 marks_bits : (bs : List ℕ) → list_all is_bit bs ≡ true → marks bs ≡ map (λ b. cond b 1 0) (map (λ y. y == 49) bs)
 unfolding marks
 marks_bits [] h = refl
 marks_bits (b ∷ bs) h =
     let both = and_parts (is_bit b) (list_all is_bit bs) h in
-    ap (λ n. n ∷ map (λ b. bit_xor b 48) bs) (mark_bit b both.0) ∙ ap (λ (z : List ℕ). cond (b == 49) 1 0 ∷ z) (marks_bits bs both.1)
+    ap (λ n. n ∷ map (λ b. bit_xor b 48) bs) (mark_bit b both.0)
+    ∙ ap (λ (z : List ℕ). cond (b == 49) 1 0 ∷ z) (marks_bits bs both.1)
 
 -- the lowest bits of marks of two lines are the first line's
-first_bits : (bs : List ℕ) → list_all is_pair bs ≡ true → word (map (λ b. bit_and b 1) (marks bs)) ≡ word (map (λ b. cond b 1 0) (map first_bit bs))
+first_bits : (bs : List ℕ) → list_all is_pair bs ≡ true →
+    word (map (λ b. bit_and b 1) (marks bs)) ≡ word (map (λ b. cond b 1 0) (map first_bit bs))
 unfolding marks word
 first_bits [] h = refl
 first_bits (b ∷ bs) h =
@@ -219,7 +231,8 @@ unfolding gathers
 gathered-is ys h =
     let l : number ys < 256 = let e : 2 ^ length ys ≡ 2 ^ 8 = ap (λ (n : ℕ). 2 ^ n) h in omega (arith, number-lt ys) in
     ap (λ (z : List Bool). gathered (word (map (λ b. cond b 1 0) z))) (sym (bits-number ys 8 h))
-    ∙ eqb-true (gathered (word (map (λ b. cond b 1 0) (bits_of 8 (number ys))))) (number ys) (upto-all gathers 256 all-gathers (number ys) l)
+    ∙ eqb-true (gathered (word (map (λ b. cond b 1 0) (bits_of 8 (number ys))))) (number ys)
+    (upto-all gathers 256 all-gathers (number ys) l)
 
 -- ---- eight octets
 
@@ -278,9 +291,12 @@ pub gathered-pairs : (bs : List ℕ) (n : ℕ) → IsWord bs n → list_all is_p
     ≡ map mark_pair bs
 gathered-pairs bs n h m =
     let x = bit_xor n 3472328296227680304 in
-    let f : bit_and x 72340172838076673 ≡ word (map (λ b. cond b 1 0) (map first_bit bs)) = anded 1 bs n h (omega arith) ∙ first_bits bs m in
-    let s : bit_and x 144680345676153346 ≡ word (map (λ b. cond b 1 0) (map second_bit bs)) * 2 = anded 2 bs n h (omega arith) ∙ second_bits bs m in
+    let f : bit_and x 72340172838076673 ≡ word (map (λ b. cond b 1 0) (map first_bit bs)) =
+    anded 1 bs n h (omega arith) ∙ first_bits bs m in
+    let s : bit_and x 144680345676153346 ≡ word (map (λ b. cond b 1 0) (map second_bit bs)) * 2 =
+    anded 2 bs n h (omega arith) ∙ second_bits bs m in
     let t : bit_and x 144680345676153346 / 2 ≡ word (map (λ b. cond b 1 0) (map second_bit bs)) = omega (arith, s) in
-    ap (λ (z : List Bool). zip z (bits_of 8 (gathered (bit_and x 144680345676153346 / 2)))) (gathered-line first_bit bs (bit_and x 72340172838076673) h.long f)
+    ap (λ (z : List Bool). zip z (bits_of 8 (gathered (bit_and x 144680345676153346 / 2))))
+    (gathered-line first_bit bs (bit_and x 72340172838076673) h.long f)
     ∙ ap (zip (map first_bit bs)) (gathered-line second_bit bs (bit_and x 144680345676153346 / 2) h.long t)
     ∙ zip-map bs

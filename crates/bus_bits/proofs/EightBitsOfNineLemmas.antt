@@ -1,13 +1,18 @@
 -- Eight marks in nine text octets, of which one is skipped.
-use Rattle.std.proofs.Common.{◌≡◌, ◌≢◌, ◌↔◌, ℕ, zero, suc, ◌+◌, ◌-◌, ◌*◌, ◌/◌, ◌%◌, ◌^◌, ◌<◌, ◌≤◌, ◌||◌, inl, inr, Bool, true, false, cond, List, [], ◌∷◌, ◌++◌, length, map, filter, take, drop, get_or, take_while, None, bit_and, bit_or, bit_xor, refl, sym, ap, ◌∙◌, subst, arith, append_assoc, length-append}
+use Rattle.std.proofs.Common.{◌≡◌, ◌≢◌, ◌↔◌, ℕ, zero, suc, ◌+◌, ◌-◌, ◌*◌, ◌/◌, ◌%◌, ◌^◌, ◌<◌, ◌≤◌, ◌||◌, inl, inr, Bool}
+use Rattle.std.proofs.Common.{true, false, cond, List, [], ◌∷◌, ◌++◌, length, map, filter, take, drop, get_or}
+use Rattle.std.proofs.Common.{take_while, None, bit_and, bit_or, bit_xor, refl, sym, ap, ◌∙◌, subst, arith}
+use Rattle.std.proofs.Common.{append_assoc, length-append}
 use Rattle.std.proofs.Math.Seq.{take-add}
 use Rattle.std.proofs.Math.Bool.{or-true}
 use Rattle.std.proofs.lemmas.Bool.{and_parts, and_from, cases_lt}
-use Rattle.std.proofs.lemmas.List.{append-nil, length-map, length-take, length-drop, take-append-drop, drop_more, drop-drop, take-take, get_or_past, drop-take}
+use Rattle.std.proofs.lemmas.List.{append-nil, length-map, length-take, length-drop, take-append-drop, drop_more}
+use Rattle.std.proofs.lemmas.List.{drop-drop, take-take, get_or_past, drop-take}
 use Rattle.std.proofs.lemmas.List.Elements.{All-head, All-tail, All-take, All-drop, All-append, All-get_or}
 use Rattle.std.proofs.lemmas.List.Sums.{take_while-cons}
 use Rattle.std.proofs.lemmas.Nat.{and_le_r, and_mask, or_comm, pow-add, pow_pos, shr_high, mod_low, one_shl, or_shifted}
-use Rattle.std.proofs.lemmas.Nat.Bits.{bit_at-zero, bit_at_cat_low, bit_at_cat_high, bit_at-trailing_zeros, and_high_mask, same_from_bits_below}
+use Rattle.std.proofs.lemmas.Nat.Bits.{bit_at-zero, bit_at_cat_low, bit_at_cat_high, bit_at-trailing_zeros}
+use Rattle.std.proofs.lemmas.Nat.Bits.{and_high_mask, same_from_bits_below}
 use Rattle.std.specs.Int.{w64, from_le_bytes, bit_at, trailing_zeros}
 use Rattle.std.specs.List.{All, list_all}
 use Rattle.bus_bits.specs.Internal.Marks.{HasMarks}
@@ -51,19 +56,23 @@ word-front-lt k xs h s =
     subst (λ (n : ℕ). word (take k xs) < 2 ^ (8 * n)) l (word-lt (take k xs) (All-take (λ b. b < 256) k xs s))
 
 -- the octets of one before a place, and those of the other from there on
-pub word-joined : (k : ℕ) (xs ys : List ℕ) → k ≤ 8 → length xs ≡ 8 → length ys ≡ 8 → All (λ b. b < 256) xs → All (λ b. b < 256) ys
-    → bit_or (bit_and (word xs) (2 ^ (8 * k) - 1)) (bit_and (word ys) (2 ^ 64 - 2 ^ (8 * k))) ≡ word (take k xs ++ drop k ys)
+pub word-joined : (k : ℕ) (xs ys : List ℕ) → k ≤ 8 → length xs ≡ 8 → length ys ≡ 8 → All (λ b. b < 256) xs →
+    All (λ b. b < 256) ys
+    → bit_or (bit_and (word xs) (2 ^ (8 * k) - 1)) (bit_and (word ys) (2 ^ 64 - 2 ^ (8 * k)))
+    ≡ word (take k xs ++ drop k ys)
 word-joined k xs ys l m n s t =
     let x : k ≤ length xs = omega (arith, l, m) in
     let y : k ≤ length ys = omega (arith, l, n) in
     let f = word-front-lt k xs x s in
     let low : bit_and (word xs) (2 ^ (8 * k) - 1) ≡ word (take k xs) =
-    and_mask (word xs) (8 * k) ∙ ap (λ (n : ℕ). n % 2 ^ (8 * k)) (word-split k xs x) ∙ mod_low (word (drop k xs)) (8 * k) (word (take k xs)) f in
+    and_mask (word xs) (8 * k) ∙ ap (λ (n : ℕ). n % 2 ^ (8 * k)) (word-split k xs x)
+    ∙ mod_low (word (drop k xs)) (8 * k) (word (take k xs)) f in
     let w : word ys < 2 ^ 64 = subst (λ (n : ℕ). word ys < 2 ^ (8 * n)) n (word-lt ys t) in
     let i : 8 * k ≤ 64 = omega (arith, l) in
     let high : bit_and (word ys) (2 ^ 64 - 2 ^ (8 * k)) ≡ word (drop k ys) * 2 ^ (8 * k) =
     and_high_mask 64 (8 * k) i (word ys) w ∙ ap (λ (n : ℕ). n / 2 ^ (8 * k) * 2 ^ (8 * k)) (word-split k ys y)
-    ∙ ap (λ (n : ℕ). n * 2 ^ (8 * k)) (shr_high (word (drop k ys)) (8 * k) (word (take k ys)) (word-front-lt k ys y t)) in
+    ∙ ap (λ (n : ℕ). n * 2 ^ (8 * k))
+    (shr_high (word (drop k ys)) (8 * k) (word (take k ys)) (word-front-lt k ys y t)) in
     let j : length (take k xs) ≡ k = omega (arith, length-take k xs, x) in
     ap (λ (n : ℕ). bit_or n (bit_and (word ys) (2 ^ 64 - 2 ^ (8 * k)))) low ∙ ap (bit_or (word (take k xs))) high
     ∙ or_comm (word (take k xs)) (word (drop k ys) * 2 ^ (8 * k))
@@ -81,23 +90,29 @@ small-all xs h i = elim (cases_lt i (length xs)) [
   | inr g ↦ omega (arith, get_or_past xs i 0 g)
 ]
 
-pub joined-small : (k : ℕ) (xs ys : List ℕ) → All (λ b. b < 256) xs → All (λ b. b < 256) ys → (i : ℕ) → get_or (take k xs ++ drop k ys) i 0 < 256
+pub joined-small : (k : ℕ) (xs ys : List ℕ) → All (λ b. b < 256) xs → All (λ b. b < 256) ys → (i : ℕ) →
+    get_or (take k xs ++ drop k ys) i 0 < 256
 joined-small k xs ys s t =
     small-all (take k xs ++ drop k ys)
-    (All-append (λ b. b < 256) (take k xs) (drop k ys) (All-take (λ b. b < 256) k xs s) (All-drop (λ b. b < 256) k ys t))
+    (All-append (λ b. b < 256) (take k xs) (drop k ys) (All-take (λ b. b < 256) k xs s)
+    (All-drop (λ b. b < 256) k ys t))
 
 -- and so the masks join them
-pub masks-join : (k n m : ℕ) (xs ys : List ℕ) → k < 8 → length xs ≡ 8 → length ys ≡ 8 → All (λ b. b < 256) xs → All (λ b. b < 256) ys
+pub masks-join : (k n m : ℕ) (xs ys : List ℕ) → k < 8 → length xs ≡ 8 → length ys ≡ 8 → All (λ b. b < 256) xs →
+    All (λ b. b < 256) ys
     → n ≡ from_le_bytes w64 xs → m ≡ from_le_bytes w64 ys
-    → bit_or (bit_and n (1 * 2 ^ (8 * k) % 18446744073709551616 - 1)) (bit_and m (18446744073709551615 - (1 * 2 ^ (8 * k) % 18446744073709551616 - 1)))
+    → bit_or (bit_and n (1 * 2 ^ (8 * k) % 18446744073709551616 - 1))
+    (bit_and m (18446744073709551615 - (1 * 2 ^ (8 * k) % 18446744073709551616 - 1)))
     ≡ from_le_bytes w64 (take k xs ++ drop k ys)
 masks-join k n m xs ys l long-x long-y s t is-x is-y =
     let e : 1 * 2 ^ (8 * k) % 18446744073709551616 ≡ 2 ^ (8 * k) = one_shl (8 * k) 64 (omega (arith, l)) in
     let low : 1 * 2 ^ (8 * k) % 18446744073709551616 - 1 ≡ 2 ^ (8 * k) - 1 = ap (λ (i : ℕ). i - 1) e in
-    let high : 18446744073709551615 - (1 * 2 ^ (8 * k) % 18446744073709551616 - 1) ≡ 2 ^ 64 - 2 ^ (8 * k) = omega (arith, e, pow_pos (8 * k)) in
+    let high : 18446744073709551615 - (1 * 2 ^ (8 * k) % 18446744073709551616 - 1) ≡ 2 ^ 64 - 2 ^ (8 * k) =
+    omega (arith, e, pow_pos (8 * k)) in
     let x : n ≡ word xs = is-x ∙ word-eight xs long-x in
     let y : m ≡ word ys = is-y ∙ word-eight ys long-y in
-    ap (λ (i : ℕ). bit_or (bit_and n i) (bit_and m (18446744073709551615 - (1 * 2 ^ (8 * k) % 18446744073709551616 - 1)))) low
+    ap (λ (i : ℕ).
+    bit_or (bit_and n i) (bit_and m (18446744073709551615 - (1 * 2 ^ (8 * k) % 18446744073709551616 - 1)))) low
     ∙ ap (λ (i : ℕ). bit_or (bit_and n (2 ^ (8 * k) - 1)) (bit_and m i)) high
     ∙ ap (λ (i : ℕ). bit_or (bit_and i (2 ^ (8 * k) - 1)) (bit_and m (2 ^ 64 - 2 ^ (8 * k)))) x
     ∙ ap (λ (i : ℕ). bit_or (bit_and (word xs) (2 ^ (8 * k) - 1)) (bit_and i (2 ^ 64 - 2 ^ (8 * k)))) y
@@ -117,7 +132,8 @@ module _ (high : ℕ) (is_mark : ℕ → Bool) (marks : HasMarks high is_mark) (
     refl,
     (elim (same (is_mark b)) [
       | inl m ↦ absurd (let e = bit_at_cat_low (word (map (other high) bs)) 8 (other high b) t h in
-          let z = ap (λ (n : ℕ). bit_at n t) ((marks b (All-head (λ n. n < 256) b bs s)).0 m) in omega (arith, one, e, z, bit_at-zero t))
+          let z = ap (λ (n : ℕ). bit_at n t) ((marks b (All-head (λ n. n < 256) b bs s)).0 m) in
+          omega (arith, one, e, z, bit_at-zero t))
       | inr f ↦ f
     ]),
   )
@@ -125,11 +141,13 @@ module _ (high : ℕ) (is_mark : ℕ → Bool) (marks : HasMarks high is_mark) (
       let small = All-head (λ n. n < 256) b bs s in
       let out : other high b < 256 = omega (arith, and_le_r (bit_xor b 48) high, few) in
       let up : (i : ℕ) → bit_at (word (map (other high) (b ∷ bs))) (i + 8) ≡ bit_at (word (map (other high) bs)) i =
-      λ i. bit_at_cat_high (word (map (other high) bs)) 8 (other high b) (i + 8) out (omega arith) ∙ ap (bit_at (word (map (other high) bs))) (omega arith) in
+      λ i. bit_at_cat_high (word (map (other high) bs)) 8 (other high b) (i + 8) out (omega arith)
+      ∙ ap (bit_at (word (map (other high) bs))) (omega arith) in
       let e : t ≡ (t - 8) + 8 = omega (arith, l) in
       let zero-here : other high b ≡ 0 =
       same_from_bits_below 8 (other high b) 0 out (omega arith)
-      (λ i j. sym (bit_at_cat_low (word (map (other high) bs)) 8 (other high b) i j) ∙ none i (omega (arith, j, l)) ∙ sym (bit_at-zero i)) in
+      (λ i j. sym (bit_at_cat_low (word (map (other high) bs)) 8 (other high b) i j) ∙ none i (omega (arith, j, l))
+      ∙ sym (bit_at-zero i)) in
       let mark = (marks b small).1 zero-here in
       let rest = first-other bs k (t - 8) (omega (arith, l)) (omega (arith, h)) (All-tail (λ n. n < 256) b bs s)
       (sym (up (t - 8)) ∙ sym (ap (bit_at (word (map (other high) (b ∷ bs)))) e) ∙ one)
@@ -137,14 +155,16 @@ module _ (high : ℕ) (is_mark : ℕ → Bool) (marks : HasMarks high is_mark) (
       (and_from (is_mark b) (list_all is_mark (take k bs)) mark rest.0, rest.1)
 
   -- nothing is other in eight octets exactly where all are marks
-  pub others-none : (bs : List ℕ) (n : ℕ) → length bs ≡ 8 → All (λ b. b < 256) bs → n ≡ from_le_bytes w64 (map (other high) bs)
+  pub others-none : (bs : List ℕ) (n : ℕ) → length bs ≡ 8 → All (λ b. b < 256) bs →
+      n ≡ from_le_bytes w64 (map (other high) bs)
       → (n ≡ 0) ↔ (list_all is_mark bs ≡ true)
   others-none bs n l s is =
       let e : n ≡ word (map (other high) bs) = is ∙ word-eight (map (other high) bs) (length-map bs (other high) ∙ l) in
       (λ z. all_marks high is_mark marks bs s (sym e ∙ z), λ m. e ∙ marks_all high is_mark marks bs s m)
 
   -- and where not, its lowest bit tells the place of the first that is no mark
-  pub others-place : (bs : List ℕ) (n : ℕ) → length bs ≡ 8 → All (λ b. b < 256) bs → n ≡ from_le_bytes w64 (map (other high) bs)
+  pub others-place : (bs : List ℕ) (n : ℕ) → length bs ≡ 8 → All (λ b. b < 256) bs →
+      n ≡ from_le_bytes w64 (map (other high) bs)
       → n ≢ 0 → n < 2 ^ 64
       → (trailing_zeros w64 n / 8 < 8) × (is_mark (get_or bs (trailing_zeros w64 n / 8) 0) ≡ false)
   others-place bs n l s is some low =
@@ -162,8 +182,11 @@ front_all : (p : ℕ → Bool) (xs : List ℕ) → take_while p xs ≡ xs → li
 front_all p [] h = refl
 front_all p (x ∷ xs) h = elim (same (p x)) [
   | inl t ↦ and_from (p x) (list_all p xs) t
-      (front_all p xs (ap (drop 1) (sym (ap (λ b. cond b (x ∷ take_while p xs) []) t) ∙ sym (take_while-cons p x xs) ∙ h)))
-  | inr f ↦ absurd (let e = ap length (sym (take_while-cons p x xs ∙ ap (λ b. cond b (x ∷ take_while p xs) []) f) ∙ h) in omega (arith, e))
+      (front_all p xs
+      (ap (drop 1) (sym (ap (λ b. cond b (x ∷ take_while p xs) []) t) ∙ sym (take_while-cons p x xs) ∙ h)))
+  | inr f ↦
+      absurd (let e = ap length (sym (take_while-cons p x xs ∙ ap (λ b. cond b (x ∷ take_while p xs) []) f) ∙ h) in
+      omega (arith, e))
 ]
 
 filter_le : (p : ℕ → Bool) (xs : List ℕ) → length (filter p xs) ≤ length xs
@@ -185,35 +208,46 @@ kept_all p [] h = refl
 kept_all p (x ∷ xs) h = elim (same (p x)) [
   | inl t ↦ and_from (p x) (list_all p xs) t
       (kept_all p xs (let e = ap (λ b. length (cond b (x ∷ filter p xs) (filter p xs))) t in omega (arith, e, h)))
-  | inr f ↦ absurd (let e = ap (λ b. length (cond b (x ∷ filter p xs) (filter p xs))) f in omega (arith, e, h, filter_le p xs))
+  | inr f ↦ absurd (let e = ap (λ b. length (cond b (x ∷ filter p xs) (filter p xs)))
+      f in omega (arith, e, h, filter_le p xs))
 ]
 
-first_mark : {A : Type 0} (value : ℕ → A) (b : Bool) (y : ℕ) (ys : List ℕ) → cond b (value y ∷ []) [] ++ map value ys ≡ map value (cond b (y ∷ ys) ys)
+first_mark : {A : Type 0} (value : ℕ → A) (b : Bool) (y : ℕ) (ys : List ℕ) →
+    cond b (value y ∷ []) [] ++ map value ys ≡ map value (cond b (y ∷ ys) ys)
 first_mark value true y ys = refl
 first_mark value false y ys = refl
 
 module _ (is_mark : ℕ → Bool) where
   -- text gives its marks
-  pub text-all : {A : Type 0} (value : ℕ → A) (xs ys : List ℕ) → fault_by is_mark xs ≡ None → list_all (is_read is_mark) ys ≡ true
+  pub text-all : {A : Type 0} (value : ℕ → A) (xs ys : List ℕ) → fault_by is_mark xs ≡ None →
+      list_all (is_read is_mark) ys ≡ true
       → (fault_by is_mark (xs ++ ys) ≡ None)
       × (map value (marks_by is_mark (xs ++ ys)) ≡ map value (marks_by is_mark xs) ++ map value (filter is_mark ys))
   text-all value xs [] f h =
-      let e : xs ++ [] ≡ xs = append-nil xs in
-      (ap (fault_by is_mark) e ∙ f, ap (λ (z : List ℕ). map value (marks_by is_mark z)) e ∙ sym (append-nil (map value (marks_by is_mark xs))))
+      let e : xs ++ [] ≡ xs = append-nil xs in (
+        ap (fault_by is_mark) e ∙ f,
+        ap (λ (z : List ℕ). map value (marks_by is_mark z)) e
+            ∙ sym (append-nil (map value (marks_by is_mark xs))),
+      )
   text-all {A} value xs (y ∷ ys) f h =
       let both = and_parts (is_read is_mark y) (list_all (is_read is_mark) ys) h in
       let one = values-more is_mark value xs y f both.0 in
       let more = text-all value (xs ++ y ∷ []) ys one.0 both.1 in
       let e : xs ++ y ∷ ys ≡ (xs ++ y ∷ []) ++ ys = sym (append_assoc xs (y ∷ []) ys) in (
         ap (fault_by is_mark) e ∙ more.0,
-        ap (λ (z : List ℕ). map value (marks_by is_mark z)) e ∙ more.1 ∙ ap (λ (z : List A). z ++ map value (filter is_mark ys)) one.1
-            ∙ append_assoc (map value (marks_by is_mark xs)) (cond (is_mark y) (value y ∷ []) []) (map value (filter is_mark ys))
-            ∙ ap (λ (z : List A). map value (marks_by is_mark xs) ++ z) (first_mark value (is_mark y) y (filter is_mark ys)),
+        ap (λ (z : List ℕ). map value (marks_by is_mark z)) e ∙ more.1
+            ∙ ap (λ (z : List A). z ++ map value (filter is_mark ys)) one.1
+            ∙ append_assoc (map value (marks_by is_mark xs)) (cond (is_mark y) (value y ∷ []) [])
+            (map value (filter is_mark ys))
+            ∙ ap (λ (z : List A). map value (marks_by is_mark xs) ++ z)
+            (first_mark value (is_mark y) y (filter is_mark ys)),
       )
 
   -- so octets of which these are the marks give what these give
-  pub text-given : {A : Type 0} (value : ℕ → A) (xs marks : List ℕ) (n : ℕ) (given : List A) → list_all (is_read is_mark) (take n xs) ≡ true
-      → filter is_mark (take n xs) ≡ marks → given ≡ map value marks → (before : List ℕ) → fault_by is_mark before ≡ None
+  pub text-given : {A : Type 0} (value : ℕ → A) (xs marks : List ℕ) (n : ℕ) (given : List A) →
+      list_all (is_read is_mark) (take n xs) ≡ true
+      → filter is_mark (take n xs) ≡ marks → given ≡ map value marks → (before : List ℕ) →
+      fault_by is_mark before ≡ None
       → (fault_by is_mark (before ++ take n xs) ≡ None)
       × (map value (marks_by is_mark (before ++ take n xs)) ≡ map value (marks_by is_mark before) ++ given)
   text-given {A} value xs marks n given t m g before f =
@@ -236,7 +270,8 @@ module _ (is_mark : ℕ → Bool) where
       let r = text-all (λ x. x) [] (take n xs) refl t in (
         l,
         r.0,
-        sym (length-map (marks_by is_mark (take n xs)) (λ x. x)) ∙ ap length r.1 ∙ length-map (filter is_mark (take n xs)) (λ x. x) ∙ k,
+        sym (length-map (marks_by is_mark (take n xs)) (λ x. x)) ∙ ap length r.1
+            ∙ length-map (filter is_mark (take n xs)) (λ x. x) ∙ k,
       )
 
   -- fewer than eight octets have not so many
@@ -251,11 +286,13 @@ module _ (is_mark : ℕ → Bool) where
   marks_text [] h = refl
   marks_text (y ∷ ys) h =
       let both = and_parts (is_mark y) (list_all is_mark ys) h in
-      and_from (is_read is_mark y) (list_all (is_read is_mark) ys) (ap (λ b. b || is_space y) both.0) (marks_text ys both.1)
+      and_from (is_read is_mark y) (list_all (is_read is_mark) ys) (ap (λ b. b || is_space y) both.0)
+      (marks_text ys both.1)
 
   pub marks-eight : (xs : List ℕ) → 8 ≤ length xs → list_all is_mark (take 8 xs) ≡ true → EightBy is_mark 8 xs
   marks-eight xs l m =
-      text-eight 8 xs l (marks_text (take 8 xs) m) (ap length (all_kept is_mark (take 8 xs) m) ∙ omega (arith, length-take 8 xs, l))
+      text-eight 8 xs l (marks_text (take 8 xs) m)
+      (ap length (all_kept is_mark (take 8 xs) m) ∙ omega (arith, length-take 8 xs, l))
 
 -- nine octets are eight and one of them
 nine-split : (k : ℕ) (xs : List ℕ) → k < 8 → 9 ≤ length xs
@@ -283,13 +320,15 @@ pub record IsNine (is_mark : ℕ → Bool) (xs marks : List ℕ) (k : ℕ) : Typ
 
 module _ (is_mark : ℕ → Bool) where
   -- what is skipped is no mark
-  pub skipped_between : (xs ys : List ℕ) (x : ℕ) → is_mark x ≡ false → filter is_mark (xs ++ x ∷ ys) ≡ filter is_mark (xs ++ ys)
+  pub skipped_between : (xs ys : List ℕ) (x : ℕ) → is_mark x ≡ false →
+      filter is_mark (xs ++ x ∷ ys) ≡ filter is_mark (xs ++ ys)
   skipped_between [] ys x f = ap (λ b. cond b (x ∷ filter is_mark ys) (filter is_mark ys)) f
   skipped_between (y ∷ xs) ys x f = ap (λ (z : List ℕ). cond (is_mark y) (y ∷ z) z) (skipped_between xs ys x f)
 
   text_between : (xs ys : List ℕ) (x : ℕ) → list_all (is_read is_mark) (xs ++ x ∷ ys) ≡ true → is_read is_mark x ≡ true
   text_between [] ys x h = (and_parts (is_read is_mark x) (list_all (is_read is_mark) ys) h).0
-  text_between (y ∷ xs) ys x h = text_between xs ys x (and_parts (is_read is_mark y) (list_all (is_read is_mark) (xs ++ x ∷ ys)) h).1
+  text_between (y ∷ xs) ys x h =
+      text_between xs ys x (and_parts (is_read is_mark y) (list_all (is_read is_mark) (xs ++ x ∷ ys)) h).1
 
   pub between_text : (xs ys : List ℕ) (x : ℕ) → is_read is_mark x ≡ true → list_all (is_read is_mark) (xs ++ ys) ≡ true
       → list_all (is_read is_mark) (xs ++ x ∷ ys) ≡ true
@@ -298,7 +337,8 @@ module _ (is_mark : ℕ → Bool) where
       let both = and_parts (is_read is_mark y) (list_all (is_read is_mark) (xs ++ ys)) h in
       and_from (is_read is_mark y) (list_all (is_read is_mark) (xs ++ x ∷ ys)) both.0 (between_text xs ys x t both.1)
 
-  nine-marks : (xs marks : List ℕ) (k : ℕ) → IsNine is_mark xs marks k → filter is_mark (take 9 xs) ≡ filter is_mark marks
+  nine-marks : (xs marks : List ℕ) (k : ℕ) → IsNine is_mark xs marks k →
+      filter is_mark (take 9 xs) ≡ filter is_mark marks
   nine-marks xs marks k h =
       ap (filter is_mark) (nine-split k xs h.place h.long)
       ∙ skipped_between (take k (take 8 xs)) (drop k (take 8 (drop 1 xs))) (get_or xs k 0) h.other
@@ -307,9 +347,20 @@ module _ (is_mark : ℕ → Bool) where
   pub nine-long : (xs marks : List ℕ) (k : ℕ) → IsNine is_mark xs marks k → length marks ≡ 8
   nine-long xs marks k h =
       ap length h.joined
-      ∙ omega (arith, length-append (take k (take 8 xs)) (drop k (take 8 (drop 1 xs))), length-take k (take 8 xs), length-take 8 xs, length-drop k (take 8 (drop 1 xs)), length-take 8 (drop 1 xs), length-drop 1 xs, h.place, h.long)
+      ∙ omega (
+        arith,
+        length-append (take k (take 8 xs)) (drop k (take 8 (drop 1 xs))),
+        length-take k (take 8 xs),
+        length-take 8 xs,
+        length-drop k (take 8 (drop 1 xs)),
+        length-take 8 (drop 1 xs),
+        length-drop 1 xs,
+        h.place,
+        h.long,
+      )
 
-  pub nine-small : (xs marks : List ℕ) (k : ℕ) → IsNine is_mark xs marks k → All (λ b. b < 256) xs → All (λ b. b < 256) marks
+  pub nine-small : (xs marks : List ℕ) (k : ℕ) → IsNine is_mark xs marks k → All (λ b. b < 256) xs →
+      All (λ b. b < 256) marks
   nine-small xs marks k h s =
       let small : ℕ → Type 0 = λ b. b < 256 in
       subst (All small) (sym h.joined)
@@ -327,7 +378,8 @@ module _ (is_mark : ℕ → Bool) where
         ap (λ b. b || is_space (get_or xs k 0)) (sym h.other) ∙ skipped,
       )
 
-  pub nine-text : (xs marks : List ℕ) (k : ℕ) → IsNine is_mark xs marks k → list_all is_mark marks ≡ true → is_space (get_or xs k 0) ≡ true
+  pub nine-text : (xs marks : List ℕ) (k : ℕ) → IsNine is_mark xs marks k → list_all is_mark marks ≡ true →
+      is_space (get_or xs k 0) ≡ true
       → (list_all (is_read is_mark) (take 9 xs) ≡ true) × (filter is_mark (take 9 xs) ≡ marks)
   nine-text xs marks k h m s = (
     ap (list_all (is_read is_mark)) (nine-split k xs h.place h.long)

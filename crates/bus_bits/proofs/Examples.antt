@@ -1,8 +1,11 @@
 -- The bits and faults of captures that were worked out by hand, computed from the definitions alone.
-use Rattle.std.proofs.Common.{◌≡◌, ℕ, List, Bool, true, false, [], ◌∷◌, ◌++◌, take, drop, ◌-◌, ◌^◌, Some, None, codes, refl}
+use Rattle.std.proofs.Common.{◌≡◌, ℕ, List, Bool, true, false, [], ◌∷◌, ◌++◌, take, drop, ◌-◌, ◌^◌, Some, None, codes}
+use Rattle.std.proofs.Common.{refl}
 use Rattle.bus_bits.specs.Octet.{bits_of, bits_of_octets}
-use Rattle.bus_bits.specs.Capture.{bad_mark, magic, too_many, pad_bits, trailing, place_limit, short_head, short_body, text_bits, text_capture, text_pair_capture, capped}
-use Rattle.bus_bits.specs.Packed.{packed_whole, packed_capture, packed_pair_whole, packed_pair_capture, wanted, in_pairs}
+use Rattle.bus_bits.specs.Capture.{bad_mark, magic, too_many, pad_bits, trailing, place_limit, short_head, short_body}
+use Rattle.bus_bits.specs.Capture.{text_bits, text_capture, text_pair_capture, capped}
+use Rattle.bus_bits.specs.Packed.{packed_whole, packed_capture, packed_pair_whole, packed_pair_capture, wanted}
+use Rattle.bus_bits.specs.Packed.{in_pairs}
 
 -- a head that counts 57 bits, and the whole octets behind it
 abbrev head : List ℕ
@@ -46,22 +49,26 @@ unfolding packed_whole packed_capture wanted bits_of_octets bits_of
 headless = refl
 
 -- a head that counts one bit more than may be
-many : packed_whole (codes "TS2BITS1" ++ 1 ∷ 0 ∷ 0 ∷ 0 ∷ 0 ∷ 0 ∷ 0 ∷ 16 ∷ []) ≡ record { bits = []; fault = Some too_many }
+many : packed_whole (codes "TS2BITS1" ++ 1 ∷ 0 ∷ 0 ∷ 0 ∷ 0 ∷ 0 ∷ 0 ∷ 16 ∷ [])
+    ≡ record { bits = []; fault = Some too_many }
 unfolding packed_whole packed_capture wanted bits_of_octets bits_of
 many = refl
 
 -- the last bit has no place, and its octet is bad
-padded_at_limit : capped (2 ^ 60 - 56) (packed_whole (head ++ body ++ 2 ∷ [])) ≡ record { bits = take 56 bits; fault = Some pad_bits }
+padded_at_limit : capped (2 ^ 60 - 56) (packed_whole (head ++ body ++ 2 ∷ []))
+    ≡ record { bits = take 56 bits; fault = Some pad_bits }
 unfolding packed_whole packed_capture wanted bits_of_octets bits_of
 padded_at_limit = refl
 
 -- the last bit has no place
-at_limit : capped (2 ^ 60 - 56) (packed_whole (head ++ body ++ 0 ∷ [])) ≡ record { bits = take 56 bits; fault = Some place_limit }
+at_limit : capped (2 ^ 60 - 56) (packed_whole (head ++ body ++ 0 ∷ []))
+    ≡ record { bits = take 56 bits; fault = Some place_limit }
 unfolding packed_whole packed_capture wanted bits_of_octets bits_of
 at_limit = refl
 
 -- a text with a bad octet
-bad : text_capture (codes "01111110 2") ≡ record { bits = false ∷ true ∷ true ∷ true ∷ true ∷ true ∷ true ∷ false ∷ []; fault = Some (bad_mark 9) }
+bad : text_capture (codes "01111110 2")
+    ≡ record { bits = false ∷ true ∷ true ∷ true ∷ true ∷ true ∷ true ∷ false ∷ []; fault = Some (bad_mark 9) }
 unfolding packed_whole packed_capture wanted bits_of_octets bits_of
 bad = refl
 
@@ -94,28 +101,33 @@ bad_pair_later = refl
 -- fifteen places at which both bits are 1
 abbrev fifteen : List (Bool × Bool)
 fifteen =
-    let p : List (Bool × Bool) = (true, true) ∷ (true, true) ∷ (true, true) ∷ (true, true) ∷ (true, true) ∷ [] in p ++ p ++ p
+    let p : List (Bool × Bool) = (true, true) ∷ (true, true) ∷ (true, true) ∷ (true, true) ∷ (true, true) ∷ [] in p ++ p
+    ++ p
 
 pairs_whole : packed_pair_whole (pair_head 15 ++ 255 ∷ 255 ∷ 255 ∷ 63 ∷ []) ≡ record { bits = fifteen; fault = None }
 unfolding packed_pair_whole packed_pair_capture wanted bits_of_octets bits_of in_pairs
 pairs_whole = refl
 
 -- the second bit of the sixteenth pair is 1
-pairs_padded : packed_pair_whole (pair_head 15 ++ 255 ∷ 255 ∷ 255 ∷ 191 ∷ []) ≡ record { bits = take 12 fifteen; fault = Some pad_bits }
+pairs_padded : packed_pair_whole (pair_head 15 ++ 255 ∷ 255 ∷ 255 ∷ 191 ∷ [])
+    ≡ record { bits = take 12 fifteen; fault = Some pad_bits }
 unfolding packed_pair_whole packed_pair_capture wanted bits_of_octets bits_of in_pairs
 pairs_padded = refl
 
 -- the first bit of the sixteenth pair is 1
-pairs_padded_first : packed_pair_whole (pair_head 15 ++ 255 ∷ 255 ∷ 255 ∷ 127 ∷ []) ≡ record { bits = take 12 fifteen; fault = Some pad_bits }
+pairs_padded_first : packed_pair_whole (pair_head 15 ++ 255 ∷ 255 ∷ 255 ∷ 127 ∷ [])
+    ≡ record { bits = take 12 fifteen; fault = Some pad_bits }
 unfolding packed_pair_whole packed_pair_capture wanted bits_of_octets bits_of in_pairs
 pairs_padded_first = refl
 
 -- one octet too few, and one too many
-pairs_short : packed_pair_whole (pair_head 15 ++ 255 ∷ 255 ∷ 255 ∷ []) ≡ record { bits = take 12 fifteen; fault = Some short_body }
+pairs_short : packed_pair_whole (pair_head 15 ++ 255 ∷ 255 ∷ 255 ∷ [])
+    ≡ record { bits = take 12 fifteen; fault = Some short_body }
 unfolding packed_pair_whole packed_pair_capture wanted bits_of_octets bits_of in_pairs
 pairs_short = refl
 
-pairs_followed : packed_pair_whole (pair_head 15 ++ 255 ∷ 255 ∷ 255 ∷ 63 ∷ 0 ∷ []) ≡ record { bits = fifteen; fault = Some trailing }
+pairs_followed : packed_pair_whole (pair_head 15 ++ 255 ∷ 255 ∷ 255 ∷ 63 ∷ 0 ∷ [])
+    ≡ record { bits = fifteen; fault = Some trailing }
 unfolding packed_pair_whole packed_pair_capture wanted bits_of_octets bits_of in_pairs
 pairs_followed = refl
 
@@ -133,11 +145,13 @@ pairs_headless : packed_pair_whole (take 15 (pair_head 15)) ≡ record { bits = 
 unfolding packed_pair_whole packed_pair_capture wanted bits_of_octets bits_of in_pairs
 pairs_headless = refl
 
-pairs_many : packed_pair_whole (codes "TS2BITS2" ++ 1 ∷ 0 ∷ 0 ∷ 0 ∷ 0 ∷ 0 ∷ 0 ∷ 16 ∷ []) ≡ record { bits = []; fault = Some too_many }
+pairs_many : packed_pair_whole (codes "TS2BITS2" ++ 1 ∷ 0 ∷ 0 ∷ 0 ∷ 0 ∷ 0 ∷ 0 ∷ 16 ∷ [])
+    ≡ record { bits = []; fault = Some too_many }
 unfolding packed_pair_whole packed_pair_capture wanted bits_of_octets bits_of in_pairs
 pairs_many = refl
 
 -- the last pair has no place
-pairs_at_limit : capped (2 ^ 60 - 14) (packed_pair_whole (pair_head 15 ++ 255 ∷ 255 ∷ 255 ∷ 63 ∷ [])) ≡ record { bits = take 14 fifteen; fault = Some place_limit }
+pairs_at_limit : capped (2 ^ 60 - 14) (packed_pair_whole (pair_head 15 ++ 255 ∷ 255 ∷ 255 ∷ 63 ∷ []))
+    ≡ record { bits = take 14 fifteen; fault = Some place_limit }
 unfolding packed_pair_whole packed_pair_capture wanted bits_of_octets bits_of in_pairs
 pairs_at_limit = refl

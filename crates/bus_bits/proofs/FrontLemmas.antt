@@ -14,7 +14,8 @@ pub record IsFront (xs ys : List ℕ) : Type 0 where
   pub small : All (λ b. b < 256) ys
   pub same : ys ≡ take 8 xs
 
-pub first_chunk_front : (xs ys : List ℕ) → ((i : ℕ) → Fits w8 (slice_index_or xs i 0)) → IsFirstChunk xs ys 8 → IsFront xs ys
+pub first_chunk_front : (xs ys : List ℕ) → ((i : ℕ) → Fits w8 (slice_index_or xs i 0)) → IsFirstChunk xs ys 8 →
+    IsFront xs ys
 first_chunk_front xs ys f h = record {
   long = ap length h.same ∙ omega (arith, length-take 8 xs, h.enough);
   small = subst (All (λ b. b < 256)) (sym h.same) (All-take (λ b. b < 256) 8 xs (all-small xs f));

@@ -1,5 +1,6 @@
 -- Octets, their bits and numbers.
-use Rattle.std.proofs.Common.{◌≡◌, ℕ, zero, suc, ◌+◌, ◌-◌, ◌*◌, ◌/◌, ◌%◌, ◌^◌, ◌<◌, ◌≤◌, ◌==◌, Bool, true, false, cond, List, [], ◌∷◌, ◌++◌, length, take, min, nat_cmp, refl, sym, ap, ◌∙◌, arith, length-append}
+use Rattle.std.proofs.Common.{◌≡◌, ℕ, zero, suc, ◌+◌, ◌-◌, ◌*◌, ◌/◌, ◌%◌, ◌^◌, ◌<◌, ◌≤◌, ◌==◌, Bool, true, false, cond}
+use Rattle.std.proofs.Common.{List, [], ◌∷◌, ◌++◌, length, take, min, nat_cmp, refl, sym, ap, ◌∙◌, arith, length-append}
 use Rattle.std.proofs.lemmas.List.{append-nil, flat_map_more}
 use Rattle.std.proofs.lemmas.List.Elements.{All-head, All-tail}
 use Rattle.std.proofs.lemmas.Grind.{flat_map-append}
@@ -73,7 +74,9 @@ bits-split zero k n =
 bits-split (suc j) k n =
     let c : suc j + k ≡ suc (j + k) = omega arith in
     let f : 1 + j ≡ suc j = omega arith in
-    ap (λ (i : ℕ). bits_of i n) c ∙ ap (λ (z : List Bool). (n % 2 == 1) ∷ z) (bits-split j k (n / 2) ∙ ap (λ (x : ℕ). bits_of j (n / 2) ++ bits_of k x) (shr-shr n 1 j ∙ ap (λ (i : ℕ). n / 2 ^ i) f))
+    ap (λ (i : ℕ). bits_of i n) c ∙ ap (λ (z : List Bool). (n % 2 == 1) ∷ z)
+    (bits-split j k (n / 2) ∙ ap (λ (x : ℕ). bits_of j (n / 2) ++ bits_of k x)
+    (shr-shr n 1 j ∙ ap (λ (i : ℕ). n / 2 ^ i) f))
 
 -- the first bits of a number
 pub bits-front : (t n x : ℕ) → t ≤ n → take t (bits_of n x) ≡ bits_of t x
@@ -81,12 +84,14 @@ bits-front t n x l =
     let e : n ≡ t + (n - t) = omega (arith, l) in
     let k = length-bits t x in
     ap (λ (i : ℕ). take t (bits_of i x)) e ∙ (ap (take t) (bits-split t (n - t) x)
-    ∙ (ap (λ (i : ℕ). take i (bits_of t x ++ bits_of (n - t) (x / 2 ^ t))) (sym k) ∙ take-append_seam (bits_of t x) (bits_of (n - t) (x / 2 ^ t))))
+    ∙ (ap (λ (i : ℕ). take i (bits_of t x ++ bits_of (n - t) (x / 2 ^ t))) (sym k)
+    ∙ take-append_seam (bits_of t x) (bits_of (n - t) (x / 2 ^ t))))
 
 -- a bit alone
 pub one_bit : (x n : ℕ) (bit : Bool) → x ≡ bool_byte bit → 1 ≤ n → n ≤ 1 → bits_of n x ≡ bit ∷ []
 unfolding bits_of
-one_bit x n bit e l h = let k : n ≡ 1 = omega (arith, l, h) in ap (λ (i : ℕ). bits_of i x) k ∙ (ap (bits_of 1) e ∙ each bit)
+one_bit x n bit e l h = let k : n ≡ 1 = omega (arith, l, h) in ap (λ (i : ℕ). bits_of i x) k
+    ∙ (ap (bits_of 1) e ∙ each bit)
   where
     each : (bit : Bool) → bits_of 1 (bool_byte bit) ≡ bit ∷ []
     each true = refl
@@ -100,7 +105,8 @@ bits-low (suc k) n =
     let s : suc k ≡ k + 1 = omega arith in
     let h : n % 2 ^ suc k / 2 ≡ n / 2 % 2 ^ k = ap (λ (j : ℕ). n % 2 ^ j / 2) s ∙ field_of n k 1 in
     let l : n % 2 ^ suc k % 2 ≡ n % 2 = ap (λ (j : ℕ). n % 2 ^ j % 2) s ∙ mod-mod-pow n k 1 in
-    ap (λ (x : ℕ). (x == 1) ∷ bits_of k (n % 2 ^ suc k / 2)) l ∙ ap (λ (z : List Bool). (n % 2 == 1) ∷ z) (ap (bits_of k) h ∙ bits-low k (n / 2))
+    ap (λ (x : ℕ). (x == 1) ∷ bits_of k (n % 2 ^ suc k / 2)) l
+    ∙ ap (λ (z : List Bool). (n % 2 == 1) ∷ z) (ap (bits_of k) h ∙ bits-low k (n / 2))
 
 pub bit_is : (n : ℕ) → cond (n % 2 == 1) 1 0 ≡ n % 2
 bit_is n = grind (arith, nat_tests)
@@ -149,7 +155,8 @@ bits_of_octets-append os ps = flat_map-append (bits_of 8) os ps
 pub length-bits_of_octets : (os : List ℕ) → length (bits_of_octets os) ≡ 8 * length os
 unfolding bits_of_octets
 length-bits_of_octets [] = refl
-length-bits_of_octets (o ∷ os) = omega (arith, length-append (bits_of 8 o) (flat_map (bits_of 8) os), length-bits 8 o, length-bits_of_octets os)
+length-bits_of_octets (o ∷ os) =
+    omega (arith, length-append (bits_of 8 o) (flat_map (bits_of 8) os), length-bits 8 o, length-bits_of_octets os)
 
 octets-none : octets [] ≡ []
 unfolding octets
@@ -192,7 +199,8 @@ octets-append (s ∷ t ∷ u ∷ v ∷ w ∷ x ∷ y ∷ []) e h = absurd (omega
 pub octets-push : (d b : List Bool) → length d % 8 ≡ 0 → length b ≡ 8 → octets (d ++ b) ≡ octets d ++ number b ∷ []
 octets-push d b h k =
     octets-append d b h
-    ∙ ap (λ (x : List ℕ). octets d ++ x) (ap octets (sym (append-nil b)) ∙ octets-cons b [] k ∙ ap (λ (x : List ℕ). number b ∷ x) octets-none)
+    ∙ ap (λ (x : List ℕ). octets d ++ x) (ap octets (sym (append-nil b)) ∙ octets-cons b [] k
+    ∙ ap (λ (x : List ℕ). number b ∷ x) octets-none)
 
 -- octets are those of their bits
 pub octets-of-bits : (os : List ℕ) → All (λ o. o < 256) os → octets (bits_of_octets os) ≡ os
@@ -200,7 +208,8 @@ unfolding octets bits_of_octets
 octets-of-bits [] h = refl
 octets-of-bits (o ∷ os) h =
     ap octets (bits_of_octets-cons o os) ∙ octets-cons (bits_of 8 o) (bits_of_octets os) (length-bits 8 o)
-    ∙ (let n : number (bits_of 8 o) ≡ o = number-bits 8 o (All-head (λ n. n < 256) o os h) in let r = octets-of-bits os (All-tail (λ n. n < 256) o os h) in cc)
+    ∙ (let n : number (bits_of 8 o) ≡ o = number-bits 8 o (All-head (λ n. n < 256) o os h) in let r =
+    octets-of-bits os (All-tail (λ n. n < 256) o os h) in cc)
 
 -- data of whole octets are the bits of these
 pub bits-of-octets : (d : List Bool) → length d % 8 ≡ 0 → bits_of_octets (octets d) ≡ d

@@ -1,5 +1,6 @@
 -- Pairs that are parted into octets of either line.
-use Rattle.std.proofs.Common.{◌≡◌, ℕ, ◌+◌, ◌-◌, ◌*◌, ◌/◌, ◌%◌, ◌^◌, ◌<◌, ◌≤◌, List, Bool, [], ◌∷◌, ◌++◌, length, take, drop, zip, append-nil, length-append, refl, sym, ap, ◌∙◌, arith}
+use Rattle.std.proofs.Common.{◌≡◌, ℕ, ◌+◌, ◌-◌, ◌*◌, ◌/◌, ◌%◌, ◌^◌, ◌<◌, ◌≤◌, List, Bool, [], ◌∷◌, ◌++◌, length, take}
+use Rattle.std.proofs.Common.{drop, zip, append-nil, length-append, refl, sym, ap, ◌∙◌, arith}
 use Rattle.std.specs.Prelude.{slice_index, slice_set}
 use Rattle.std.proofs.lemmas.List.{get_or-take, length-drop, length-set, length-take, take_more_set}
 use Rattle.std.proofs.lemmas.Nat.{shr-shr}
@@ -15,19 +16,23 @@ use Rattle.bus_bits.proofs.PairWordsLemmas.{zip-append}
 use Rattle.bus_bits.proofs.WordLemmas.{bits-octets}
 
 -- four octets of a number
-pub four-bits : (b : ℕ) → bits_of_octets (b % 256 ∷ b / 256 % 256 ∷ b / 65536 % 256 ∷ b / 16777216 % 256 ∷ []) ≡ bits_of 32 b
+pub four-bits : (b : ℕ) → bits_of_octets (b % 256 ∷ b / 256 % 256 ∷ b / 65536 % 256 ∷ b / 16777216 % 256 ∷ [])
+    ≡ bits_of 32 b
 unfolding bits_of_octets
 four-bits b =
     let second : b / 2 ^ 8 / 2 ^ 8 ≡ b / 65536 = shr-shr b 8 8 in
     let third : b / 65536 / 2 ^ 8 ≡ b / 16777216 = shr-shr b 16 8 in
     let low : (n : ℕ) → bits_of 8 (n % 256) ≡ bits_of 8 n = λ n. bits-low 8 n in
-    let one : bits_of_octets (b / 16777216 % 256 ∷ []) ≡ bits_of 8 (b / 16777216) = append-nil (bits_of 8 (b / 16777216 % 256)) ∙ low (b / 16777216) in
+    let one : bits_of_octets (b / 16777216 % 256 ∷ []) ≡ bits_of 8 (b / 16777216) =
+    append-nil (bits_of 8 (b / 16777216 % 256)) ∙ low (b / 16777216) in
     let two : bits_of_octets (b / 65536 % 256 ∷ b / 16777216 % 256 ∷ []) ≡ bits_of 16 (b / 65536) =
     ap (λ bits. bits ++ bits_of_octets (b / 16777216 % 256 ∷ [])) (low (b / 65536))
-    ∙ (ap (λ bits. bits_of 8 (b / 65536) ++ bits) (one ∙ ap (bits_of 8) (sym third)) ∙ sym (bits-split 8 8 (b / 65536))) in
+    ∙ (ap (λ bits. bits_of 8 (b / 65536) ++ bits) (one ∙ ap (bits_of 8) (sym third))
+    ∙ sym (bits-split 8 8 (b / 65536))) in
     let three : bits_of_octets (b / 256 % 256 ∷ b / 65536 % 256 ∷ b / 16777216 % 256 ∷ []) ≡ bits_of 24 (b / 256) =
     ap (λ bits. bits ++ bits_of_octets (b / 65536 % 256 ∷ b / 16777216 % 256 ∷ [])) (low (b / 256))
-    ∙ (ap (λ bits. bits_of 8 (b / 256) ++ bits) (two ∙ ap (bits_of 16) (sym second)) ∙ sym (bits-split 8 16 (b / 256))) in
+    ∙ (ap (λ bits. bits_of 8 (b / 256) ++ bits) (two ∙ ap (bits_of 16) (sym second))
+    ∙ sym (bits-split 8 16 (b / 256))) in
     ap (λ bits. bits ++ bits_of_octets (b / 256 % 256 ∷ b / 65536 % 256 ∷ b / 16777216 % 256 ∷ [])) (low b)
     ∙ (ap (λ bits. bits_of 8 b ++ bits) three ∙ sym (bits-split 8 24 b))
 
@@ -35,7 +40,8 @@ four-bits b =
 bits-front-octets : (os : List ℕ) (k : ℕ) → k ≤ length os → bits_from os 0 (8 * k) ≡ bits_of_octets (take k os)
 bits-front-octets os k l =
     let long : length (take k os) ≡ k = omega (arith, length-take k os, l) in
-    sym (bits-octets (take k os) os 0 0 (8 * k) refl (ap (λ (n : ℕ). 8 * n) (sym long)) (λ i below. get_or-take k os i 0 (omega (arith, below, long)) ∙ ap (slice_index os) (omega arith)))
+    sym (bits-octets (take k os) os 0 0 (8 * k) refl (ap (λ (n : ℕ). 8 * n) (sym long))
+    (λ i below. get_or-take k os i 0 (omega (arith, below, long)) ∙ ap (slice_index os) (omega arith)))
 
 -- and some that were written behind them
 pub bits-stored : (os written : List ℕ) (from k n : ℕ) → k ≡ length written → n ≡ from + k → n ≤ length os
@@ -43,7 +49,17 @@ pub bits-stored : (os written : List ℕ) (from k n : ℕ) → k ≡ length writ
 bits-stored os written from k n long e l =
     let behind = drop (n - from) (drop from os) in
     let same : length (put_mid from (n - from) os written) ≡ length os =
-    omega (arith, length-append (take from os) (written ++ behind), length-append written behind, length-take from os, length-drop (n - from) (drop from os), length-drop from os, long, e, l) in
+    omega (
+      arith,
+      length-append (take from os) (written ++ behind),
+      length-append written behind,
+      length-take from os,
+      length-drop (n - from) (drop from os),
+      length-drop from os,
+      long,
+      e,
+      l,
+    ) in
     bits-front-octets (put_mid from (n - from) os written) n (omega (arith, same, l))
     ∙ (ap bits_of_octets (take-put_mid from (n - from) os written n (omega (arith, e, long)) (omega (arith, e, l)))
     ∙ (bits_of_octets-append (take from os) written
@@ -59,33 +75,40 @@ pub pairs-parted : (os first second further others : List ℕ) (i j count : ℕ)
 pairs-parted os first second further others i j count ones twos before all parted one two =
     let here : 0 + 8 * i ≡ 8 * i = omega arith in
     let even : length (bits_from os 0 (8 * i)) % 2 ≡ 0 = omega (arith, length-from os 0 (8 * i)) in
-    let grown : in_pairs (bits_from os 0 (8 * j)) ≡ in_pairs (bits_from os 0 (8 * i)) ++ in_pairs (bits_from os (8 * i) count) =
+    let grown : in_pairs (bits_from os 0 (8 * j)) ≡ in_pairs (bits_from os 0 (8 * i))
+    ++ in_pairs (bits_from os (8 * i) count) =
     ap (λ (n : ℕ). in_pairs (bits_from os 0 n)) all
     ∙ (ap in_pairs (bits-more os 0 (8 * i) count ∙ ap (λ (k : ℕ). bits_from os 0 (8 * i) ++ bits_from os k count) here)
     ∙ pairs-append (bits_from os 0 (8 * i)) (bits_from os (8 * i) count) even) in
     grown
     ∙ (ap (λ ps. ps ++ in_pairs (bits_from os (8 * i) count)) before
     ∙ (ap (λ ps. zip (bits_from first 0 (4 * i)) (bits_from second 0 (4 * i)) ++ ps) parted
-    ∙ (sym (zip-append (bits_from first 0 (4 * i)) (bits_from second 0 (4 * i)) ones twos (length-from first 0 (4 * i) ∙ sym (length-from second 0 (4 * i))))
-    ∙ (ap (λ bits. zip bits (bits_from second 0 (4 * i) ++ twos)) (sym one) ∙ ap (zip (bits_from further 0 (4 * j))) (sym two)))))
+    ∙ (sym (zip-append (bits_from first 0 (4 * i)) (bits_from second 0 (4 * i)) ones twos
+    (length-from first 0 (4 * i) ∙ sym (length-from second 0 (4 * i))))
+    ∙ (ap (λ bits. zip bits (bits_from second 0 (4 * i) ++ twos)) (sym one)
+    ∙ ap (zip (bits_from further 0 (4 * j))) (sym two)))))
 
 -- sixteen octets in two numbers, each parted
 pub sixteen-parted : (os : List ℕ) (i low high a b c d : ℕ)
     → bits_of 64 low ≡ bits_from os (8 * i) 64 → bits_of 64 high ≡ bits_from os (8 * (i + 8)) 64
-    → in_pairs (bits_of 64 low) ≡ zip (bits_of 32 a) (bits_of 32 c) → in_pairs (bits_of 64 high) ≡ zip (bits_of 32 b) (bits_of 32 d)
+    → in_pairs (bits_of 64 low) ≡ zip (bits_of 32 a) (bits_of 32 c) →
+    in_pairs (bits_of 64 high) ≡ zip (bits_of 32 b) (bits_of 32 d)
     → in_pairs (bits_from os (8 * i) 128) ≡ zip (bits_of 32 a ++ bits_of 32 b) (bits_of 32 c ++ bits_of 32 d)
 sixteen-parted os i low high a b c d front behind one two =
     let here : 8 * i + 64 ≡ 8 * (i + 8) = omega arith in
     let even : length (bits_of 64 low) % 2 ≡ 0 = omega (arith, length-bits 64 low) in
     ap in_pairs (bits-more os (8 * i) 64 64 ∙ (ap (λ (k : ℕ). bits_from os (8 * i) 64 ++ bits_from os k 64) here
-    ∙ (ap (λ bits. bits ++ bits_from os (8 * (i + 8)) 64) (sym front) ∙ ap (λ bits. bits_of 64 low ++ bits) (sym behind))))
+    ∙ (ap (λ bits. bits ++ bits_from os (8 * (i + 8)) 64) (sym front)
+    ∙ ap (λ bits. bits_of 64 low ++ bits) (sym behind))))
     ∙ (pairs-append (bits_of 64 low) (bits_of 64 high) even
     ∙ (ap (λ ps. ps ++ in_pairs (bits_of 64 high)) one
     ∙ (ap (λ ps. zip (bits_of 32 a) (bits_of 32 c) ++ ps) two
-    ∙ sym (zip-append (bits_of 32 a) (bits_of 32 c) (bits_of 32 b) (bits_of 32 d) (length-bits 32 a ∙ sym (length-bits 32 c))))))
+    ∙ sym (zip-append (bits_of 32 a) (bits_of 32 c) (bits_of 32 b) (bits_of 32 d)
+    (length-bits 32 a ∙ sym (length-bits 32 c))))))
 
 -- an octet that was written behind those before it
-pub octet-stored : (os : List ℕ) (i o : ℕ) → i < length os → bits_from (slice_set os i o) 0 (8 * (i + 1)) ≡ bits_from os 0 (8 * i) ++ bits_of 8 o
+pub octet-stored : (os : List ℕ) (i o : ℕ) → i < length os →
+    bits_from (slice_set os i o) 0 (8 * (i + 1)) ≡ bits_from os 0 (8 * i) ++ bits_of 8 o
 octet-stored os i o l =
     bits-front-octets (slice_set os i o) (i + 1) (omega (arith, length-set os i o, l))
     ∙ (ap bits_of_octets (take_more_set os i o l)
@@ -99,4 +122,5 @@ pub pairs-stored : (first second : List ℕ) (i f s : ℕ) → i < length first 
 pairs-stored first second i f s l m =
     ap (λ bits. zip bits (bits_from (slice_set second i s) 0 (8 * (i + 1)))) (octet-stored first i f l)
     ∙ (ap (zip (bits_from first 0 (8 * i) ++ bits_of 8 f)) (octet-stored second i s m)
-    ∙ zip-append (bits_from first 0 (8 * i)) (bits_from second 0 (8 * i)) (bits_of 8 f) (bits_of 8 s) (length-from first 0 (8 * i) ∙ sym (length-from second 0 (8 * i))))
+    ∙ zip-append (bits_from first 0 (8 * i)) (bits_from second 0 (8 * i)) (bits_of 8 f) (bits_of 8 s)
+    (length-from first 0 (8 * i) ∙ sym (length-from second 0 (8 * i))))

@@ -1,5 +1,7 @@
 -- Pairs of bits in one number, parted into two.
-use Rattle.std.proofs.Common.{◌≡◌, ℕ, zero, suc, ◌+◌, ◌*◌, ◌/◌, ◌%◌, ◌^◌, ◌<◌, ◌≤◌, ◌==◌, inl, inr, Bool, true, false, nat_lt, cond, List, [], ◌∷◌, ◌++◌, length, bit_and, bit_or, refl, sym, ap, ◌∙◌, subst, arith}
+use Rattle.std.proofs.Common.{◌≡◌, ℕ, zero, suc, ◌+◌, ◌*◌, ◌/◌, ◌%◌, ◌^◌, ◌<◌, ◌≤◌, ◌==◌, inl, inr, Bool, true, false}
+use Rattle.std.proofs.Common.{nat_lt, cond, List, [], ◌∷◌, ◌++◌, length, bit_and, bit_or, refl, sym, ap, ◌∙◌, subst}
+use Rattle.std.proofs.Common.{arith}
 use Rattle.std.proofs.lemmas.Bool.Decides.{nat_tests}
 use Rattle.std.proofs.lemmas.Bool.{eqb-true}
 use Rattle.std.proofs.lemmas.Nat.Bits.{bit_at_and, bit_at_or, bit_at_lowest, bit_at-suc, bit_at_above, bit_at-lt}
@@ -30,25 +32,61 @@ shifted_at x b i =
     let e : b + i ≡ i + b = omega arith in ap (λ (n : ℕ). n % 2) (shr-shr x b i) ∙ ap (bit_at x) e
 
 -- bits are joined with those b places higher
-spread-more : (b c d m w x : ℕ) → b ≤ c → c ≤ d → w < 2 ^ 64 → x < 2 ^ 64 → IsStep b c d m → IsSpread b c w x → IsSpread c d w (bit_and (bit_or x (x / 2 ^ b)) m)
+spread-more : (b c d m w x : ℕ) → b ≤ c → c ≤ d → w < 2 ^ 64 → x < 2 ^ 64 → IsStep b c d m → IsSpread b c w x →
+    IsSpread c d w (bit_and (bit_or x (x / 2 ^ b)) m)
 spread-more b c d m w x l n fits below step h = record {
   kept = λ i k. elim (le_or_lt 64 i) [
-    | inl far ↦ omega (arith, bit_at_and (bit_or x (x / 2 ^ b)) m i, bit_at_or x (x / 2 ^ b) i, shifted_at x b i, bit_at_above x 64 i below far, bit_at_above x 64 (i + b) below (omega (arith, far)), bit_at_above w 64 (i + i % d) fits (omega (arith, far)))
+    | inl far ↦ omega (
+      arith,
+      bit_at_and (bit_or x (x / 2 ^ b)) m i,
+      bit_at_or x (x / 2 ^ b) i,
+      shifted_at x b i,
+      bit_at_above x 64 i below far,
+      bit_at_above x 64 (i + b) below (omega (arith, far)),
+      bit_at_above w 64 (i + i % d) fits (omega (arith, far)),
+    )
     | inr near ↦ let mask = step.inside i near k in
         elim (le_or_lt b (i % d)) [
           | inr under ↦ let s = step.low i under in
               let one = h.kept i (omega (arith, s.0, under)) in
               let e : i + i % c ≡ i + i % d = omega (arith, s.0) in
               let none = h.cleared (i + b) s.1 in
-              omega (arith, bit_at_and (bit_or x (x / 2 ^ b)) m i, bit_at_or x (x / 2 ^ b) i, shifted_at x b i, mask, one, none, ap (bit_at w) e, bit_at-lt w (i + i % d))
+              omega (
+                arith,
+                bit_at_and (bit_or x (x / 2 ^ b)) m i,
+                bit_at_or x (x / 2 ^ b) i,
+                shifted_at x b i,
+                mask,
+                one,
+                none,
+                ap (bit_at w) e,
+                bit_at-lt w (i + i % d),
+              )
           | inl over ↦ let s = step.high i over k in
               let none = h.cleared i s.0 in
               let one = h.kept (i + b) s.1 in
-              omega (arith, bit_at_and (bit_or x (x / 2 ^ b)) m i, bit_at_or x (x / 2 ^ b) i, shifted_at x b i, mask, one, none, ap (bit_at w) s.2, bit_at-lt w (i + i % d))
+              omega (
+                arith,
+                bit_at_and (bit_or x (x / 2 ^ b)) m i,
+                bit_at_or x (x / 2 ^ b) i,
+                shifted_at x b i,
+                mask,
+                one,
+                none,
+                ap (bit_at w) s.2,
+                bit_at-lt w (i + i % d),
+              )
         ]
   ];
   cleared = λ i k. elim (le_or_lt 64 i) [
-    | inl far ↦ omega (arith, bit_at_and (bit_or x (x / 2 ^ b)) m i, bit_at_or x (x / 2 ^ b) i, shifted_at x b i, bit_at_above x 64 i below far, bit_at_above x 64 (i + b) below (omega (arith, far)))
+    | inl far ↦ omega (
+      arith,
+      bit_at_and (bit_or x (x / 2 ^ b)) m i,
+      bit_at_or x (x / 2 ^ b) i,
+      shifted_at x b i,
+      bit_at_above x 64 i below far,
+      bit_at_above x 64 (i + b) below (omega (arith, far)),
+    )
     | inr near ↦ omega (arith, bit_at_and (bit_or x (x / 2 ^ b)) m i, step.outside i near k)
   ];
 }
@@ -63,13 +101,15 @@ mask_inside : (c d m : ℕ) → upto (masks c d m) 64 ≡ true → (i : ℕ) →
 unfolding masks
 mask_inside c d m h i l k =
     let t : nat_lt (i % d) c ≡ true = grind (arith, nat_tests) in
-    eqb-true (bit_at m i) (cond (nat_lt (i % d) c) 1 0) (upto-all (masks c d m) 64 h i l) ∙ ap (λ (b : Bool). cond b 1 0) t
+    eqb-true (bit_at m i) (cond (nat_lt (i % d) c) 1 0) (upto-all (masks c d m) 64 h i l)
+    ∙ ap (λ (b : Bool). cond b 1 0) t
 
 mask_outside : (c d m : ℕ) → upto (masks c d m) 64 ≡ true → (i : ℕ) → i < 64 → c ≤ i % d → bit_at m i ≡ 0
 unfolding masks
 mask_outside c d m h i l k =
     let t : nat_lt (i % d) c ≡ false = grind (arith, nat_tests) in
-    eqb-true (bit_at m i) (cond (nat_lt (i % d) c) 1 0) (upto-all (masks c d m) 64 h i l) ∙ ap (λ (b : Bool). cond b 1 0) t
+    eqb-true (bit_at m i) (cond (nat_lt (i % d) c) 1 0) (upto-all (masks c d m) 64 h i l)
+    ∙ ap (λ (b : Bool). cond b 1 0) t
 
 mask-1 : upto (masks 1 2 6148914691236517205) 64 ≡ true
 unfolding upto masks
@@ -138,9 +178,20 @@ step-32 = record {
 spread-ones : (w : ℕ) → w < 2 ^ 64 → IsSpread 1 2 w (bit_and w 6148914691236517205)
 spread-ones w fits = record {
   kept = λ i k. elim (le_or_lt 64 i) [
-    | inl far ↦ omega (arith, bit_at_and w 6148914691236517205 i, bit_at_above w 64 i fits far, bit_at_above w 64 (i + i % 2) fits (omega (arith, far)))
+    | inl far ↦ omega (
+      arith,
+      bit_at_and w 6148914691236517205 i,
+      bit_at_above w 64 i fits far,
+      bit_at_above w 64 (i + i % 2) fits (omega (arith, far)),
+    )
     | inr near ↦ let e : i + i % 2 ≡ i = omega (arith, k) in
-        omega (arith, bit_at_and w 6148914691236517205 i, mask_inside 1 2 6148914691236517205 mask-1 i near k, bit_at-lt w i, ap (bit_at w) e)
+        omega (
+          arith,
+          bit_at_and w 6148914691236517205 i,
+          mask_inside 1 2 6148914691236517205 mask-1 i near k,
+          bit_at-lt w i,
+          ap (bit_at w) e,
+        )
   ];
   cleared = λ i k. elim (le_or_lt 64 i) [
     | inl far ↦ omega (arith, bit_at_and w 6148914691236517205 i, bit_at_above w 64 i fits far)
@@ -165,16 +216,22 @@ pub even-bits : (w a b c d e f : ℕ) → IsEven w a b c d e f → (i : ℕ) →
 even-bits w a b c d e f h =
     let s1 = subst (IsSpread 1 2 w) (sym h.ones) (spread-ones w h.fits) in
     let s2 = subst (IsSpread 2 4 w) (sym h.twos)
-    (spread-more 1 2 4 3689348814741910323 w a (omega arith) (omega arith) h.fits (masked a w 6148914691236517205 h.ones (omega arith)) step-2 s1) in
+    (spread-more 1 2 4 3689348814741910323 w a (omega arith) (omega arith) h.fits
+    (masked a w 6148914691236517205 h.ones (omega arith)) step-2 s1) in
     let s4 = subst (IsSpread 4 8 w) (sym h.fours)
-    (spread-more 2 4 8 1085102592571150095 w b (omega arith) (omega arith) h.fits (masked b (bit_or a (a / 2 ^ 1)) 3689348814741910323 h.twos (omega arith)) step-4 s2) in
+    (spread-more 2 4 8 1085102592571150095 w b (omega arith) (omega arith) h.fits
+    (masked b (bit_or a (a / 2 ^ 1)) 3689348814741910323 h.twos (omega arith)) step-4 s2) in
     let s8 = subst (IsSpread 8 16 w) (sym h.eights)
-    (spread-more 4 8 16 71777214294589695 w c (omega arith) (omega arith) h.fits (masked c (bit_or b (b / 2 ^ 2)) 1085102592571150095 h.fours (omega arith)) step-8 s4) in
+    (spread-more 4 8 16 71777214294589695 w c (omega arith) (omega arith) h.fits
+    (masked c (bit_or b (b / 2 ^ 2)) 1085102592571150095 h.fours (omega arith)) step-8 s4) in
     let s16 = subst (IsSpread 16 32 w) (sym h.sixteens)
-    (spread-more 8 16 32 281470681808895 w d (omega arith) (omega arith) h.fits (masked d (bit_or c (c / 2 ^ 4)) 71777214294589695 h.eights (omega arith)) step-16 s8) in
+    (spread-more 8 16 32 281470681808895 w d (omega arith) (omega arith) h.fits
+    (masked d (bit_or c (c / 2 ^ 4)) 71777214294589695 h.eights (omega arith)) step-16 s8) in
     let s32 = subst (IsSpread 32 64 w) (sym h.all)
-    (spread-more 16 32 64 4294967295 w e (omega arith) (omega arith) h.fits (masked e (bit_or d (d / 2 ^ 8)) 281470681808895 h.sixteens (omega arith)) step-32 s16) in
-    λ i l. let k : i % 64 < 32 = omega (arith, l) in let j : i + i % 64 ≡ 2 * i = omega (arith, l) in s32.kept i k ∙ ap (bit_at w) j
+    (spread-more 16 32 64 4294967295 w e (omega arith) (omega arith) h.fits
+    (masked e (bit_or d (d / 2 ^ 8)) 281470681808895 h.sixteens (omega arith)) step-32 s16) in
+    λ i l. let k : i % 64 < 32 = omega (arith, l) in let j : i + i % 64 ≡ 2 * i =
+    omega (arith, l) in s32.kept i k ∙ ap (bit_at w) j
 
 -- ---- pairs of two numbers
 
@@ -182,7 +239,8 @@ pub half_at : (n i : ℕ) → bit_at (n / 2) i ≡ bit_at n (i + 1)
 half_at n i = let e : suc i ≡ i + 1 = omega arith in sym (bit_at-suc n i) ∙ ap (bit_at n) e
 
 -- the bits of w two by two, where f has those at even places, and s the others
-pub parted-bits : (k w f s : ℕ) → ((i : ℕ) → i < k → bit_at f i ≡ bit_at w (2 * i)) → ((i : ℕ) → i < k → bit_at s i ≡ bit_at w (2 * i + 1))
+pub parted-bits : (k w f s : ℕ) → ((i : ℕ) → i < k → bit_at f i ≡ bit_at w (2 * i)) →
+    ((i : ℕ) → i < k → bit_at s i ≡ bit_at w (2 * i + 1))
     → in_pairs (bits_of (2 * k) w) ≡ zip (bits_of k f) (bits_of k s)
 unfolding in_pairs bits_of
 parted-bits zero w f s h j = refl

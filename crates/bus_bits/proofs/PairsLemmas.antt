@@ -1,14 +1,19 @@
 -- Packed captures of pairs, one octet more and any cut.
-use Rattle.std.proofs.Common.{◌≡◌, ℕ, zero, suc, ◌+◌, ◌-◌, ◌*◌, ◌/◌, ◌%◌, ◌<◌, ◌≤◌, ◌==◌, min, inl, inr, Bool, true, false, List, [], ◌∷◌, ◌++◌, length, map, take, drop, codes, Some, None, refl, sym, ap, ◌∙◌, arith}
+use Rattle.std.proofs.Common.{◌≡◌, ℕ, zero, suc, ◌+◌, ◌-◌, ◌*◌, ◌/◌, ◌%◌, ◌<◌, ◌≤◌, ◌==◌, min, inl, inr, Bool, true}
+use Rattle.std.proofs.Common.{false, List, [], ◌∷◌, ◌++◌, length, map, take, drop, codes, Some, None, refl, sym, ap}
+use Rattle.std.proofs.Common.{◌∙◌, arith}
 use Rattle.std.proofs.lemmas.List.{length-take, length-drop, take_all, drop_all}
 use Rattle.std.specs.List.{list_any}
 use Rattle.bus_bits.specs.Octet.{bits_of, bits_of_octets}
 use Rattle.bus_bits.specs.Capture.{mark_pair, Capture, PairCapture, pad_bits, trailing, short_head, GrowsTo}
-use Rattle.bus_bits.specs.Packed.{head_bits, pair_head_fault, wanted, packed_body, in_pairs, pair_body, headed, packed_pair_capture, filled, packed_pair_whole, PackedAfter, PairsAfter}
+use Rattle.bus_bits.specs.Packed.{head_bits, pair_head_fault, wanted, packed_body, in_pairs, pair_body, headed}
+use Rattle.bus_bits.specs.Packed.{packed_pair_capture, filled, packed_pair_whole, PackedAfter, PairsAfter}
 use Rattle.bus_bits.proofs.CaptureLemmas.{le_or_lt, same}
 use Rattle.bus_bits.proofs.OctetLemmas.{length-bits, bits_of_eight}
 use Rattle.bus_bits.proofs.TextBitsLemmas.{both_ones}
-use Rattle.bus_bits.proofs.PackedLemmas.{pads, wanted-pads, wanted-bits, by_eights, packed-new, packed-trailing, packed-pad, packed-more, wholes-taken, body-grows, behind-short, behind-headed, behind-grows, behind-ends}
+use Rattle.bus_bits.proofs.PackedLemmas.{pads, wanted-pads, wanted-bits, by_eights, packed-new, packed-trailing}
+use Rattle.bus_bits.proofs.PackedLemmas.{packed-pad, packed-more, wholes-taken, body-grows, behind-short, behind-headed}
+use Rattle.bus_bits.proofs.PackedLemmas.{behind-grows, behind-ends}
 
 -- ---- bits two by two
 
@@ -37,7 +42,8 @@ digit_pair : (a b : ℕ) → b ≡ a / 2 → mark_pair (48 + a % 4) ≡ (a % 2 =
 digit_pair a b h =
     both_ones ((48 + a % 4 - 48) % 2) (a % 2) ((48 + a % 4 - 48) / 2) (b % 2) (omega arith) (omega (arith, h))
 
-pub four-marks : (o : ℕ) → in_pairs (bits_of 8 o) ≡ map (λ d. mark_pair (48 + d)) (o % 4 ∷ o / 4 % 4 ∷ o / 16 % 4 ∷ o / 64 % 4 ∷ [])
+pub four-marks : (o : ℕ) → in_pairs (bits_of 8 o)
+    ≡ map (λ d. mark_pair (48 + d)) (o % 4 ∷ o / 4 % 4 ∷ o / 16 % 4 ∷ o / 64 % 4 ∷ [])
 four-marks o =
     let a = digit_pair o (o / 2) refl in
     let b = digit_pair (o / 4) (o / 8) (omega arith) in
@@ -80,7 +86,12 @@ paired c = record { bits = in_pairs c.bits; fault = c.fault }
 -- they are even in number
 even-wanted : (n : ℕ) (d : List Bool) → length d % 8 ≡ 0 → length (wanted (2 * n) d).bits % 2 ≡ 0
 even-wanted n d h = elim (same (pads (2 * n) d)) [
-  | inl t ↦ omega (arith, ap (λ (c : Capture). length c.bits) (wanted-pads (2 * n) d t), length-take (2 * n / 8 * 8) d, h)
+  | inl t ↦ omega (
+    arith,
+    ap (λ (c : Capture). length c.bits) (wanted-pads (2 * n) d t),
+    length-take (2 * n / 8 * 8) d,
+    h,
+  )
   | inr f ↦ omega (arith, ap length (wanted-bits (2 * n) d f), length-take (2 * n) d, h)
 ]
 
@@ -130,12 +141,14 @@ pub unused_ones : (left used o : ℕ) (bits : List Bool) → used ≡ min left 4
 unused_ones left used o bits u e =
     let d = bits_of 8 o in
     ap (λ (x : List Bool). list_any (λ b. b) (take (8 - 2 * used) (drop (2 * used) x))) e
-    ∙ ap (list_any (λ b. b)) (take_all (8 - 2 * used) (drop (2 * used) d) (omega (arith, length-drop (2 * used) d, length-bits 8 o)))
+    ∙ ap (list_any (λ b. b))
+    (take_all (8 - 2 * used) (drop (2 * used) d) (omega (arith, length-drop (2 * used) d, length-bits 8 o)))
     ∙ ap (λ (k : ℕ). list_any (λ b. b) (drop (2 * k) d)) u
     ∙ ap (list_any (λ b. b)) (used-drop left d (length-bits 8 o))
 
 -- and gives these
-pub used_pairs : (left used o : ℕ) → used ≡ min left 4 → take used (in_pairs (bits_of 8 o)) ≡ in_pairs (take (2 * left) (bits_of 8 o))
+pub used_pairs : (left used o : ℕ) → used ≡ min left 4 →
+    take used (in_pairs (bits_of 8 o)) ≡ in_pairs (take (2 * left) (bits_of 8 o))
 used_pairs left used o u =
     let d = bits_of 8 o in
     pairs-take used d ∙ ap (λ (k : ℕ). in_pairs (take (2 * k) d)) u ∙ ap in_pairs (used-take left d (length-bits 8 o))
@@ -181,6 +194,7 @@ pairs-short_head = behind-short (codes "TS2BITS2") pair_body
 
 pub pairs-headed : (head xs : List ℕ) → length head ≡ 16
     → (packed_pair_capture (head ++ xs) ≡ headed (pair_head_fault head) (pair_body (head_bits head) xs))
-    × (packed_pair_whole (head ++ xs) ≡ filled (head_bits head) (headed (pair_head_fault head) (pair_body (head_bits head) xs)))
+    × (packed_pair_whole (head ++ xs) ≡ filled (head_bits head)
+    (headed (pair_head_fault head) (pair_body (head_bits head) xs)))
 unfolding packed_pair_capture packed_pair_whole
 pairs-headed = behind-headed (codes "TS2BITS2") pair_body letters-few

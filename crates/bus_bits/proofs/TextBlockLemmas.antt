@@ -1,5 +1,7 @@
 -- Bits of a text, packed into a block.
-use Rattle.std.proofs.Common.{◌≡◌, ℕ, zero, suc, ◌+◌, ◌-◌, ◌*◌, ◌/◌, ◌%◌, ◌^◌, ◌<◌, ◌≤◌, ◌==◌, Bool, true, false, cond, List, [], ◌∷◌, ◌++◌, length, take, drop, set, get_or, map, None, inl, inr, refl, sym, ap, ◌∙◌, subst, arith, append_assoc, append-nil, length-append}
+use Rattle.std.proofs.Common.{◌≡◌, ℕ, zero, suc, ◌+◌, ◌-◌, ◌*◌, ◌/◌, ◌%◌, ◌^◌, ◌<◌, ◌≤◌, ◌==◌, Bool, true, false, cond}
+use Rattle.std.proofs.Common.{List, [], ◌∷◌, ◌++◌, length, take, drop, set, get_or, map, None, inl, inr, refl, sym, ap}
+use Rattle.std.proofs.Common.{◌∙◌, subst, arith, append_assoc, append-nil, length-append}
 use Rattle.std.specs.Prelude.{bit_and, bit_or, slice_index}
 use Rattle.std.specs.Int.{w64, bit_at, to_le_bytes}
 use Rattle.std.specs.Int.Bits.{or_shifted_r}
@@ -7,7 +9,8 @@ use Rattle.std.specs.List.{list_all}
 use Rattle.std.proofs.lemmas.Bool.{and_from, cases_lt}
 use Rattle.std.proofs.lemmas.Grind.{common_steps}
 use Rattle.std.proofs.lemmas.Nat.{and_mask, mod_low, mul-add-lt, pow-add, shl_whole, shr-shr, shr_below, shr_high}
-use Rattle.std.proofs.lemmas.List.{get_or-drop, get_or-set_same, get_or-take, length-drop, length-take, take-append-le, take-map, take-set-le, take-take, take_all, take_more}
+use Rattle.std.proofs.lemmas.List.{get_or-drop, get_or-set_same, get_or-take, length-drop, length-take, take-append-le}
+use Rattle.std.proofs.lemmas.List.{take-map, take-set-le, take-take, take_all, take_more}
 use Rattle.std.proofs.Math.Seq.{take-append-add}
 use Rattle.bus_bits.specs.Bits.{bits_from}
 use Rattle.bus_bits.specs.Octet.{bits_of, bits_of_octets}
@@ -30,7 +33,8 @@ octets_of (suc k) n = octets_of k n ++ (n / 2 ^ (8 * k) % 256) ∷ []
 
 length-octets_of : (k n : ℕ) → length (octets_of k n) ≡ k
 length-octets_of zero n = refl
-length-octets_of (suc k) n = length-append (octets_of k n) (n / 2 ^ (8 * k) % 256 ∷ []) ∙ omega (arith, length-octets_of k n)
+length-octets_of (suc k) n = length-append (octets_of k n) (n / 2 ^ (8 * k) % 256 ∷ [])
+    ∙ omega (arith, length-octets_of k n)
 
 octets-fewer : (k m n : ℕ) → k ≤ m → take k (octets_of m n) ≡ octets_of k n
 octets-fewer k zero n h =
@@ -41,7 +45,8 @@ octets-fewer k (suc m) n h = elim (cases_lt m k) [
       let e : k ≡ suc m = omega (arith, l, h) in
       rw e (take_all (suc m) (octets_of (suc m) n) (omega (arith, length-octets_of (suc m) n)))
   | inr l ↦
-      take-append-le k (octets_of m n) (n / 2 ^ (8 * m) % 256 ∷ []) (omega (arith, length-octets_of m n, l)) ∙ octets-fewer k m n (omega (arith, l))
+      take-append-le k (octets_of m n) (n / 2 ^ (8 * m) % 256 ∷ []) (omega (arith, length-octets_of m n, l))
+      ∙ octets-fewer k m n (omega (arith, l))
 ]
 
 octets-bits : (k n : ℕ) → bits_of_octets (octets_of k n) ≡ bits_of (8 * k) n
@@ -57,38 +62,48 @@ octets-bits (suc k) n =
 le-octets : (n : ℕ) → to_le_bytes w64 n ≡ octets_of 8 n
 le-octets n =
     let first : n % 256 ≡ n / 2 ^ (8 * 0) % 256 = omega arith in
-    ap (λ (x : ℕ). x ∷ n / 256 % 256 ∷ n / 65536 % 256 ∷ n / 16777216 % 256 ∷ n / 4294967296 % 256 ∷ n / 1099511627776 % 256 ∷ n / 281474976710656 % 256 ∷ n / 72057594037927936 % 256 ∷ []) first
+    ap (λ (x : ℕ). x ∷ n / 256 % 256 ∷ n / 65536 % 256 ∷ n / 16777216 % 256 ∷ n / 4294967296 % 256
+    ∷ n / 1099511627776 % 256 ∷ n / 281474976710656 % 256 ∷ n / 72057594037927936 % 256 ∷ []) first
 
 -- the first octets of a number have its lowest bits
 le-bits : (k n : ℕ) → k ≤ 8 → bits_of_octets (take k (to_le_bytes w64 n)) ≡ bits_of (8 * k) n
-le-bits k n l = ap (λ (os : List ℕ). bits_of_octets (take k os)) (le-octets n) ∙ (ap bits_of_octets (octets-fewer k 8 n l) ∙ octets-bits k n)
+le-bits k n l = ap (λ (os : List ℕ). bits_of_octets (take k os)) (le-octets n)
+    ∙ (ap bits_of_octets (octets-fewer k 8 n l) ∙ octets-bits k n)
 
 -- ---- bits behind others
 
 -- what the machine joins
 pub joined-is : (rest bits held count : ℕ) → rest < 2 ^ held → bits < 2 ^ count → held + count ≤ 64
     → bit_or rest (bits * 2 ^ held % 2 ^ 64) ≡ bits * 2 ^ held + rest
-joined-is rest bits held count l h f = ap (bit_or rest) (shl_whole bits count held 64 h (omega (arith, f))) ∙ or_shifted_r bits held rest l
+joined-is rest bits held count l h f = ap (bit_or rest) (shl_whole bits count held 64 h (omega (arith, f)))
+    ∙ or_shifted_r bits held rest l
 
-joined-bits : (rest bits held count : ℕ) → rest < 2 ^ held → bits_of (held + count) (bits * 2 ^ held + rest) ≡ bits_of held rest ++ bits_of count bits
+joined-bits : (rest bits held count : ℕ) → rest < 2 ^ held →
+    bits_of (held + count) (bits * 2 ^ held + rest) ≡ bits_of held rest ++ bits_of count bits
 joined-bits rest bits held count l =
     bits-split held count (bits * 2 ^ held + rest)
     ∙ (ap (λ (x : ℕ). bits_of held (bits * 2 ^ held + rest) ++ bits_of count x) (shr_high bits held rest l)
-    ∙ ap (λ (z : List Bool). z ++ bits_of count bits) (sym (bits-low held (bits * 2 ^ held + rest)) ∙ ap (bits_of held) (mod_low bits held rest l)))
+    ∙ ap (λ (z : List Bool). z ++ bits_of count bits)
+    (sym (bits-low held (bits * 2 ^ held + rest)) ∙ ap (bits_of held) (mod_low bits held rest l)))
 
 -- what fills no octet is small
-pub rest-small : (rest bits held count joined : ℕ) → rest < 2 ^ held → bits < 2 ^ count → joined ≡ bits * 2 ^ held + rest
+pub rest-small : (rest bits held count joined : ℕ) → rest < 2 ^ held → bits < 2 ^ count →
+    joined ≡ bits * 2 ^ held + rest
     → joined / 2 ^ ((held + count) / 8 * 8) < 2 ^ ((held + count) % 8)
 rest-small rest bits held count joined l h e =
     let all : held + count ≡ (held + count) % 8 + (held + count) / 8 * 8 = omega arith in
     let sum : 2 ^ held * 2 ^ count ≡ 2 ^ (held + count) = sym (pow-add 2 held count) in
-    let below : joined < 2 ^ (held + count) = subst (λ (n : ℕ). n < 2 ^ (held + count)) (sym e) (subst (λ (n : ℕ). bits * 2 ^ held + rest < n) sum (mul-add-lt bits (2 ^ held) rest (2 ^ count) h l)) in
+    let below : joined < 2 ^ (held + count) =
+    subst (λ (n : ℕ). n < 2 ^ (held + count)) (sym e)
+    (subst (λ (n : ℕ). bits * 2 ^ held + rest < n) sum (mul-add-lt bits (2 ^ held) rest (2 ^ count) h l)) in
     shr_below joined ((held + count) % 8) ((held + count) / 8 * 8) (subst (λ (n : ℕ). joined < 2 ^ n) all below)
 
 -- a block to which all octets of the joined bits were stored has both
-pub put-bits : (block after : List ℕ) (at rest bits held count joined : ℕ) → take (at + 8) after ≡ take at block ++ to_le_bytes w64 joined → at ≤ length block
+pub put-bits : (block after : List ℕ) (at rest bits held count joined : ℕ) →
+    take (at + 8) after ≡ take at block ++ to_le_bytes w64 joined → at ≤ length block
     → rest < 2 ^ held → held + count ≤ 64 → joined ≡ bits * 2 ^ held + rest
-    → bits_of_octets (take (at + (held + count) / 8) after) ++ bits_of ((held + count) % 8) (joined / 2 ^ ((held + count) / 8 * 8))
+    → bits_of_octets (take (at + (held + count) / 8) after)
+    ++ bits_of ((held + count) % 8) (joined / 2 ^ ((held + count) / 8 * 8))
     ≡ (bits_of_octets (take at block) ++ bits_of held rest) ++ bits_of count bits
 put-bits block after at rest bits held count joined stored room l f e =
     let k : ℕ = (held + count) / 8 in
@@ -98,15 +113,24 @@ put-bits block after at rest bits held count joined stored room l f e =
     let long : length (take at block) ≡ at = omega (arith, length-take at block, room) in
     let front : take (at + k) after ≡ take at block ++ take k (to_le_bytes w64 joined) =
     sym (take-take (at + k) (at + 8) after (omega (arith, few)))
-    ∙ (ap (take (at + k)) stored ∙ (ap (λ (n : ℕ). take (n + k) (take at block ++ to_le_bytes w64 joined)) (sym long) ∙ take-append-add (take at block) (to_le_bytes w64 joined) k)) in
+    ∙ (ap (take (at + k)) stored
+    ∙ (ap (λ (n : ℕ). take (n + k) (take at block ++ to_le_bytes w64 joined)) (sym long)
+    ∙ take-append-add (take at block) (to_le_bytes w64 joined) k)) in
     let octets : bits_of_octets (take (at + k) after) ≡ bits_of_octets (take at block) ++ bits_of (8 * k) joined =
-    ap bits_of_octets front ∙ (bits_of_octets-append (take at block) (take k (to_le_bytes w64 joined)) ∙ ap (λ (z : List Bool). bits_of_octets (take at block) ++ z) (le-bits k joined few)) in
-    let both : bits_of (8 * k) joined ++ bits_of ((held + count) % 8) (joined / 2 ^ (8 * k)) ≡ bits_of held rest ++ bits_of count bits =
-    sym (bits-split (8 * k) ((held + count) % 8) joined) ∙ (ap (λ (n : ℕ). bits_of n joined) (sym all) ∙ (ap (bits_of (held + count)) e ∙ joined-bits rest bits held count l)) in
+    ap bits_of_octets front
+    ∙ (bits_of_octets-append (take at block) (take k (to_le_bytes w64 joined))
+    ∙ ap (λ (z : List Bool). bits_of_octets (take at block) ++ z) (le-bits k joined few)) in
+    let both : bits_of (8 * k) joined ++ bits_of ((held + count) % 8) (joined / 2 ^ (8 * k))
+    ≡ bits_of held rest ++ bits_of count bits =
+    sym (bits-split (8 * k) ((held + count) % 8) joined)
+    ∙ (ap (λ (n : ℕ). bits_of n joined) (sym all)
+    ∙ (ap (bits_of (held + count)) e ∙ joined-bits rest bits held count l)) in
     ap (λ (n : ℕ). bits_of_octets (take (at + k) after) ++ bits_of ((held + count) % 8) (joined / 2 ^ n)) turn
     ∙ (ap (λ (z : List Bool). z ++ bits_of ((held + count) % 8) (joined / 2 ^ (8 * k))) octets
-    ∙ (append_assoc (bits_of_octets (take at block)) (bits_of (8 * k) joined) (bits_of ((held + count) % 8) (joined / 2 ^ (8 * k)))
-    ∙ (ap (λ (z : List Bool). bits_of_octets (take at block) ++ z) both ∙ sym (append_assoc (bits_of_octets (take at block)) (bits_of held rest) (bits_of count bits)))))
+    ∙ (append_assoc (bits_of_octets (take at block)) (bits_of (8 * k) joined)
+    (bits_of ((held + count) % 8) (joined / 2 ^ (8 * k)))
+    ∙ (ap (λ (z : List Bool). bits_of_octets (take at block) ++ z) both
+    ∙ sym (append_assoc (bits_of_octets (take at block)) (bits_of held rest) (bits_of count bits)))))
 
 -- the octet that is not full is stored at the end
 pub bits-stored : (block : List ℕ) (p : Packing) → p.filled < length block → p.held < 8
@@ -119,11 +143,14 @@ bits-stored block p room few =
     let octets : bits_of_octets (take p.filled block) ≡ bits_from after 0 (8 * p.filled) =
     bits-octets (take p.filled block) after 0 0 (8 * p.filled) refl count
     (λ k l. ap (λ (os : List ℕ). get_or os k 0) (sym same) ∙ front-item after p.filled k (omega (arith, l, long))) in
-    let last : slice_index after p.filled / 2 ^ 0 ≡ p.rest = omega (arith, get_or-set_same block p.filled p.rest 0 room) in
+    let last : slice_index after p.filled / 2 ^ 0 ≡ p.rest =
+    omega (arith, get_or-set_same block p.filled p.rest 0 room) in
     let rest : bits_of p.held p.rest ≡ bits_from after (0 + 8 * p.filled) p.held =
-    ap (bits_of p.held) (sym last) ∙ bits-in after p.filled 0 (0 + 8 * p.filled) p.held (omega arith) (omega (arith, few)) in
+    ap (bits_of p.held) (sym last) ∙ bits-in after p.filled 0 (0 + 8 * p.filled) p.held (omega arith)
+    (omega (arith, few)) in
     ap (λ (z : List Bool). z ++ bits_of p.held p.rest) octets
-    ∙ (ap (λ (z : List Bool). bits_from after 0 (8 * p.filled) ++ z) rest ∙ sym (bits-more after 0 (8 * p.filled) p.held))
+    ∙ (ap (λ (z : List Bool). bits_from after 0 (8 * p.filled) ++ z) rest
+    ∙ sym (bits-more after 0 (8 * p.filled) p.held))
   where
     front-item : (os : List ℕ) (n k : ℕ) → k < n → get_or (take n os) k 0 ≡ slice_index os (0 + k)
     front-item os n k l = grind (arith, common_steps)
@@ -131,7 +158,8 @@ bits-stored block p room few =
 -- ---- what octets of a text give
 
 -- the first octets of which each is a bit
-pub front-marks : (k count n : ℕ) (xs : List ℕ) → count ≤ k → bits_of k n ≡ map is_bit xs → ((i : ℕ) → i < count → bit_at n i ≡ 1) → list_all is_bit (take count xs) ≡ true
+pub front-marks : (k count n : ℕ) (xs : List ℕ) → count ≤ k → bits_of k n ≡ map is_bit xs →
+    ((i : ℕ) → i < count → bit_at n i ≡ 1) → list_all is_bit (take count xs) ≡ true
 unfolding bits_of
 front-marks k zero n xs l is h = refl
 front-marks zero (suc count) n xs l is h = absurd (omega (arith, l))
@@ -140,24 +168,37 @@ front-marks (suc k) (suc count) n (x ∷ xs) l is h =
     let one : n % 2 ≡ 1 = omega (arith, h 0 (omega arith)) in
     let first : is_bit x ≡ true = sym (ap (λ (z : List Bool). get_or z 0 true) is) ∙ ap (λ (m : ℕ). m == 1) one in
     and_from (is_bit x) (list_all is_bit (take count xs)) first
-    (front-marks k count (n / 2) xs (omega (arith, l)) (ap (drop 1) is) (λ i m. ap (λ (j : ℕ). j % 2) (shr-shr n 1 i ∙ ap (λ (j : ℕ). n / 2 ^ j) (omega arith)) ∙ h (i + 1) (omega (arith, m))))
+    (front-marks k count (n / 2) xs (omega (arith, l)) (ap (drop 1) is)
+    (λ i m. ap (λ (j : ℕ). j % 2) (shr-shr n 1 i ∙ ap (λ (j : ℕ). n / 2 ^ j) (omega arith))
+    ∙ h (i + 1) (omega (arith, m))))
 
 -- more of the text is packed
-pub packed-more : (text block after : List ℕ) (p q : Packing) (n : ℕ) (bits : List Bool) → IsPacked text block p → q.taken ≡ p.taken + n
-    → n ≤ length (take (length text - p.taken) (drop p.taken text)) → q.filled < length after → q.held < 8 → q.rest < 2 ^ q.held
+pub packed-more : (text block after : List ℕ) (p q : Packing) (n : ℕ) (bits : List Bool) → IsPacked text block p →
+    q.taken ≡ p.taken + n
+    → n ≤ length (take (length text - p.taken) (drop p.taken text)) → q.filled < length after → q.held < 8 →
+    q.rest < 2 ^ q.held
     → packed_bits after q ≡ packed_bits block p ++ bits
     → ((ys : List ℕ) → text_fault ys ≡ None
     → (text_fault (ys ++ take n (take (length text - p.taken) (drop p.taken text))) ≡ None)
     × (text_bits (ys ++ take n (take (length text - p.taken) (drop p.taken text))) ≡ text_bits ys ++ bits))
     → IsPacked text after q
 packed-more text block after p q n bits h taken fits room few small are given = record {
-  enough = omega (arith, taken, fits, h.enough, length-take (length text - p.taken) (drop p.taken text), length-drop p.taken text);
+  enough = omega (
+    arith,
+    taken,
+    fits,
+    h.enough,
+    length-take (length text - p.taken) (drop p.taken text),
+    length-drop p.taken text,
+  );
   room = room;
   few = few;
   small = small;
   given = λ xs clean.
-      subst (λ (m : ℕ). (text_fault (xs ++ take m text) ≡ None) × (text_bits (xs ++ take m text) ≡ text_bits xs ++ packed_bits after q)) (sym taken)
-      (more-given text_bits text_fault xs text p.taken n (packed_bits block p) bits (packed_bits after q) are (h.given xs clean) given);
+      subst (λ (m : ℕ). (text_fault (xs ++ take m text) ≡ None)
+      × (text_bits (xs ++ take m text) ≡ text_bits xs ++ packed_bits after q)) (sym taken)
+      (more-given text_bits text_fault xs text p.taken n (packed_bits block p) bits (packed_bits after q) are
+      (h.given xs clean) given);
 }
 
 -- no more than sixteen bits are ones in a row from the lowest
@@ -168,7 +209,8 @@ ones-few n t small h = elim (cases_lt 16 t) [
 ]
 
 -- the bits of the first of some octets, where all of these are bits
-pub front-given : (os front : List ℕ) (k count ones : ℕ) (given : List Bool) → front ≡ take k os → count ≤ k → bits_of k ones ≡ map (λ x. x == 49) front
+pub front-given : (os front : List ℕ) (k count ones : ℕ) (given : List Bool) → front ≡ take k os → count ≤ k →
+    bits_of k ones ≡ map (λ x. x == 49) front
     → list_all is_bit (take count front) ≡ true → given ≡ bits_of count ones → (ys : List ℕ) → text_fault ys ≡ None
     → (text_fault (ys ++ take count os) ≡ None) × (text_bits (ys ++ take count os) ≡ text_bits ys ++ given)
 front-given os front k count ones given same l is all are ys clean =
@@ -176,8 +218,10 @@ front-given os front k count ones given same l is all are ys clean =
     let front-same : take count front ≡ take count os = ap (take count) same ∙ take-take count k os l in
     let marks : list_all is_bit (take count os) ≡ true = ap (list_all is_bit) (sym front-same) ∙ all in
     let bits : given ≡ map value (take count os) =
-    are ∙ (sym (bits-front count k ones l) ∙ (ap (take count) is ∙ (take-map value count front ∙ ap (map value) front-same))) in
-    text-given is_bit value os (take count os) count given (marks_text is_bit (take count os) marks) (all_kept is_bit (take count os) marks) bits ys clean
+    are ∙ (sym (bits-front count k ones l)
+    ∙ (ap (take count) is ∙ (take-map value count front ∙ ap (map value) front-same))) in
+    text-given is_bit value os (take count os) count given (marks_text is_bit (take count os) marks)
+    (all_kept is_bit (take count os) marks) bits ys clean
 
 unmarked : (n : ℕ) (xs : List ℕ) → bits_of 16 n ≡ map is_bit xs → bit_at n 0 ≡ 0 → is_bit (get_or xs 0 0) ≡ false
 unfolding bits_of
@@ -187,24 +231,30 @@ unmarked n (x ∷ xs) is h =
     sym (ap (λ (z : List Bool). get_or z 0 true) is) ∙ ap (λ (m : ℕ). m == 1) zero
 
 -- the octet at which no mark is 1 is no bit
-pub first-none : (text front : List ℕ) (at n : ℕ) → at < length text → front ≡ take 16 (take (length text - at) (drop at text)) → bits_of 16 n ≡ map is_bit front
+pub first-none : (text front : List ℕ) (at n : ℕ) → at < length text →
+    front ≡ take 16 (take (length text - at) (drop at text)) → bits_of 16 n ≡ map is_bit front
     → bit_at n 0 ≡ 0 → is_bit (slice_index text at) ≡ false
 first-none text front at n l same is none =
     let some : 0 < length text - at = omega (arith, l) in
     let place : at + 0 ≡ at = omega arith in
     let item : get_or front 0 0 ≡ slice_index text at =
     ap (λ (os : List ℕ). get_or os 0 0) same
-    ∙ (get_or-take 16 (take (length text - at) (drop at text)) 0 0 (omega arith) ∙ (get_or-take (length text - at) (drop at text) 0 0 some ∙ (get_or-drop at text 0 0 ∙ ap (slice_index text) place))) in
+    ∙ (get_or-take 16 (take (length text - at) (drop at text)) 0 0 (omega arith)
+    ∙ (get_or-take (length text - at) (drop at text) 0 0 some
+    ∙ (get_or-drop at text 0 0 ∙ ap (slice_index text) place))) in
     ap is_bit (sym item) ∙ unmarked n front is none
 
 -- two halves are the whole
-pub bits-halves : (block : List Bool) (n : ℕ) → (block ++ bits_of 32 (bit_and n 4294967295)) ++ bits_of 32 (n / 4294967296) ≡ block ++ bits_of 64 n
+pub bits-halves : (block : List Bool) (n : ℕ) → (block ++ bits_of 32 (bit_and n 4294967295))
+    ++ bits_of 32 (n / 4294967296) ≡ block ++ bits_of 64 n
 bits-halves block n =
     append_assoc block (bits_of 32 (bit_and n 4294967295)) (bits_of 32 (n / 4294967296))
-    ∙ ap (λ (z : List Bool). block ++ z) (ap (λ (m : ℕ). bits_of 32 m ++ bits_of 32 (n / 4294967296)) (and_mask n 32) ∙ (ap (λ (z : List Bool). z ++ bits_of 32 (n / 4294967296)) (bits-low 32 n) ∙ sym (bits-split 32 32 n)))
+    ∙ ap (λ (z : List Bool). block ++ z) (ap (λ (m : ℕ). bits_of 32 m ++ bits_of 32 (n / 4294967296)) (and_mask n 32)
+    ∙ (ap (λ (z : List Bool). z ++ bits_of 32 (n / 4294967296)) (bits-low 32 n) ∙ sym (bits-split 32 32 n)))
 
 -- one octet more that is skipped
-pub space-passed : (text block : List ℕ) (p : Packing) → p.taken < length text → is_space (slice_index text p.taken) ≡ true → IsPacked text block p
+pub space-passed : (text block : List ℕ) (p : Packing) → p.taken < length text →
+    is_space (slice_index text p.taken) ≡ true → IsPacked text block p
     → IsPacked text block (record p { taken = p.taken + 1 })
 space-passed text block p l s h = record {
   enough = omega (arith, l);
@@ -216,9 +266,12 @@ space-passed text block p l s h = record {
       let before = h.given xs clean in
       let more = text-more (xs ++ take p.taken text) x before.0 (text_space x s) in
       let next : (xs ++ take p.taken text) ++ x ∷ [] ≡ xs ++ take (p.taken + 1) text =
-      append_assoc xs (take p.taken text) (x ∷ []) ∙ ap (λ (z : List ℕ). xs ++ z) (sym (take_more text p.taken 0 l)) in (
+      append_assoc xs (take p.taken text) (x ∷ [])
+      ∙ ap (λ (z : List ℕ). xs ++ z) (sym (take_more text p.taken 0 l)) in (
         subst (λ (z : List ℕ). text_fault z ≡ None) next more.0,
-        ap text_bits (sym next) ∙ (more.1 ∙ (ap (λ (b : Bool). text_bits (xs ++ take p.taken text) ++ cond b ((x == 49) ∷ []) []) (space-no-bit x s)
+        ap text_bits (sym next)
+            ∙ (more.1
+            ∙ (ap (λ (b : Bool). text_bits (xs ++ take p.taken text) ++ cond b ((x == 49) ∷ []) []) (space-no-bit x s)
             ∙ (append-nil (text_bits (xs ++ take p.taken text)) ∙ before.1))),
       );
 }
@@ -228,11 +281,13 @@ unfolding bits_of_octets bits_of
 no-bits block = refl
 
 -- nothing is packed at first
-pub packed-none : (text block : List ℕ) → 1 ≤ length block → IsPacked text block (record { taken = 0; filled = 0; rest = 0; held = 0 })
+pub packed-none : (text block : List ℕ) → 1 ≤ length block →
+    IsPacked text block (record { taken = 0; filled = 0; rest = 0; held = 0 })
 packed-none text block l = record {
   enough = omega arith;
   room = omega (arith, l);
   few = omega arith;
   small = omega arith;
-  given = λ xs clean. none-given text_bits text_fault xs text (packed_bits block (record { taken = 0; filled = 0; rest = 0; held = 0 })) (no-bits block) clean;
+  given = λ xs clean. none-given text_bits text_fault xs text
+      (packed_bits block (record { taken = 0; filled = 0; rest = 0; held = 0 })) (no-bits block) clean;
 }

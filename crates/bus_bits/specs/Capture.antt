@@ -1,5 +1,7 @@
 -- The bits of a capture: those before the first fault, and the fault.
-use Rattle.std.specs.Prelude.{◌≡◌, ◌≤◌, ◌<◌, ◌⊎◌, ℕ, ◌+◌, ◌-◌, ◌/◌, ◌%◌, ◌^◌, ◌==◌, ◌||◌, Bool, false, List, ◌++◌, length, slice_index, map, filter, take, take_while, nat_lt, if◌then◌else◌, Option, Some, None}
+use Rattle.std.specs.Prelude.{◌≡◌, ◌≤◌, ◌<◌, ◌⊎◌, ℕ, ◌+◌, ◌-◌, ◌/◌, ◌%◌, ◌^◌, ◌==◌, ◌||◌, Bool, false, List, ◌++◌}
+use Rattle.std.specs.Prelude.{length, slice_index, map, filter, take, take_while, nat_lt, if◌then◌else◌, Option, Some}
+use Rattle.std.specs.Prelude.{None}
 
 -- why a capture can't be read on
 pub data CaptureFault : Type 0 where

@@ -1,9 +1,11 @@
 -- Packed captures: a head of sixteen octets, and the bits by eights, the least significant of an octet first.
-use Rattle.std.specs.Prelude.{◌≡◌, ℕ, ◌+◌, ◌-◌, ◌*◌, ◌/◌, ◌%◌, ◌^◌, ◌<◌, ◌==◌, Bool, List, [], ◌∷◌, ◌++◌, length, map, take, drop, codes, slice_range, nat_lt, if◌then◌else◌, Option, Some, None}
+use Rattle.std.specs.Prelude.{◌≡◌, ℕ, ◌+◌, ◌-◌, ◌*◌, ◌/◌, ◌%◌, ◌^◌, ◌<◌, ◌==◌, Bool, List, [], ◌∷◌, ◌++◌, length, map}
+use Rattle.std.specs.Prelude.{take, drop, codes, slice_range, nat_lt, if◌then◌else◌, Option, Some, None}
 use Rattle.std.specs.Int.{w64, from_le_bytes, next_multiple_of}
 use Rattle.std.specs.List.{list_any, starts_with}
 use Rattle.bus_bits.specs.Octet.{bits_of, bits_of_octets}
-use Rattle.bus_bits.specs.Capture.{CaptureOf, Capture, PairCapture, CaptureFault, magic, too_many, pad_bits, trailing, short_head, short_body, GrowsTo, mark_pair}
+use Rattle.bus_bits.specs.Capture.{CaptureOf, Capture, PairCapture, CaptureFault, magic, too_many, pad_bits, trailing}
+use Rattle.bus_bits.specs.Capture.{short_head, short_body, GrowsTo, mark_pair}
 use Rattle.bus_bits.specs.declared.capture.packed_head.HeadFault.{HeadFault}
 use Rattle.bus_bits.specs.declared.capture.packed_head.HeadFault.TheVariants.{Magic, TooMany}
 use Rattle.bus_bits.specs.declared.capture.packed_bits.PackedFault.{PackedFault}

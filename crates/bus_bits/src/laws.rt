@@ -1,7 +1,8 @@
 //! Laws over the definitions.
 
 ghost use Rattle.bus_bits.specs.Capture.{TextGrows, TextPairsGrow, CappedGrows, CappedPairsGrow};
-ghost use Rattle.bus_bits.specs.Packed.{PackedIsHeaded, PackedIsShort, PackedGrows, PackedEnds, PairsAreHeaded, PairsAreShort, OctetIsFourMarks, PackedPairsGrow, PackedPairsEnd};
+ghost use Rattle.bus_bits.specs.Packed.{PackedIsHeaded, PackedIsShort, PackedGrows, PackedEnds, PairsAreHeaded};
+ghost use Rattle.bus_bits.specs.Packed.{PairsAreShort, OctetIsFourMarks, PackedPairsGrow, PackedPairsEnd};
 ghost use Rattle.bus_bits.specs.Octet.{NumberOfBits, BitsOfNumber, BitsOfOctets, OctetsOfBits};
 
 /// An octet and its eight bits determine each other.

@@ -1,5 +1,6 @@
 -- The symbols of a capture that have a place, and how the following of them stops.
-use Rattle.std.proofs.Common.{◌≡◌, ℕ, ◌+◌, ◌-◌, ◌<◌, ◌≤◌, ◌^◌, if◌then◌else◌, List, ◌++◌, length, take, drop, Option, Some, refl, sym, ap, ◌∙◌, subst, arith, inl, inr, append_assoc}
+use Rattle.std.proofs.Common.{◌≡◌, ℕ, ◌+◌, ◌-◌, ◌<◌, ◌≤◌, ◌^◌, if◌then◌else◌, List, ◌++◌, length, take, drop, Option}
+use Rattle.std.proofs.Common.{Some, refl, sym, ap, ◌∙◌, subst, arith, inl, inr, append_assoc}
 use Rattle.std.proofs.lemmas.Bool.{cases_lt}
 use Rattle.std.proofs.lemmas.List.{take-append-drop}
 use Rattle.bus_bits.specs.Capture.{CaptureOf, CaptureFault, place_limit, capped, GrowsTo}
@@ -14,36 +15,46 @@ use Rattle.bus_capture.proofs.WatchingLemmas.{within-all}
 use Rattle.bus_bits.proofs.CaptureLemmas.{capped_all, lt_true}
 
 -- of more symbols than there are places
-pub placed-over : {X : Type 0} (origin : ℕ) (c : CaptureOf X) → 2 ^ 60 - origin < length c.bits → capped origin c ≡ record { bits = within origin c.bits; fault = Some place_limit }
-placed-over origin c h = ap (λ b. if b then record { bits = take (2 ^ 60 - origin) c.bits; fault = Some place_limit } else c) (lt_true (2 ^ 60 - origin) (length c.bits) h)
+pub placed-over : {X : Type 0} (origin : ℕ) (c : CaptureOf X) → 2 ^ 60 - origin < length c.bits →
+    capped origin c ≡ record { bits = within origin c.bits; fault = Some place_limit }
+placed-over origin c h =
+    ap (λ b. if b then record { bits = take (2 ^ 60 - origin) c.bits; fault = Some place_limit } else c)
+    (lt_true (2 ^ 60 - origin) (length c.bits) h)
 
-pub placed-bits : {X : Type 0} (origin : ℕ) (c : CaptureOf X) → origin ≤ 2 ^ 60 → (capped origin c).bits ≡ within origin c.bits
+pub placed-bits : {X : Type 0} (origin : ℕ) (c : CaptureOf X) → origin ≤ 2 ^ 60 →
+    (capped origin c).bits ≡ within origin c.bits
 placed-bits {X} origin c low = elim (cases_lt (2 ^ 60 - origin) (length c.bits)) [
   | inl h ↦ ap (λ (d : CaptureOf X). d.bits) (placed-over origin c h)
-  | inr h ↦ ap (λ (d : CaptureOf X). d.bits) (capped_all origin c h) ∙ sym (within-all origin c.bits (omega (arith, h, low)))
+  | inr h ↦ ap (λ (d : CaptureOf X). d.bits) (capped_all origin c h)
+      ∙ sym (within-all origin c.bits (omega (arith, h, low)))
 ]
 
 -- all octets give more than some of their first, places counted from an origin
 pub front-grown : {X : Type 0} (f : List ℕ → CaptureOf X) → ((xs ys : List ℕ) → GrowsTo (f xs) (f (xs ++ ys)))
     → ((origin : ℕ) (c d : CaptureOf X) → GrowsTo c d → GrowsTo (capped origin c) (capped origin d))
-    → (origin : ℕ) (xs os : List ℕ) (k : ℕ) → GrowsTo (capped origin (f (xs ++ take k os))) (capped origin (f (xs ++ os)))
+    → (origin : ℕ) (xs os : List ℕ) (k : ℕ) →
+    GrowsTo (capped origin (f (xs ++ take k os))) (capped origin (f (xs ++ os)))
 front-grown f law places origin xs os k =
     places origin (f (xs ++ take k os)) (f (xs ++ os))
     (subst (λ (ys : List ℕ). GrowsTo (f (xs ++ take k os)) (f ys))
-    (append_assoc xs (take k os) (drop k os) ∙ ap (λ (ys : List ℕ). xs ++ ys) (take-append-drop k os)) (law (xs ++ take k os) (drop k os)))
+    (append_assoc xs (take k os) (drop k os) ∙ ap (λ (ys : List ℕ). xs ++ ys) (take-append-drop k os))
+    (law (xs ++ take k os) (drop k os)))
 
 module _ {A X N B : Type 0} (t : TapView A X N B) where
   -- the symbols that were followed have a place
   pub followed-fits : TapLaws t → (start now : Option (List ℕ)) (w : CaptureRun A) (b : List X)
       → IsSound t w → Watches t start now w b → t.watch.origin w.analyser + length b ≤ 2 ^ 60
-  followed-fits law start now w b sound h = let p = law.placed w.analyser b h.is_after in let q = sound.places in omega (arith, p, q)
+  followed-fits law start now w b sound h = let p = law.placed w.analyser b h.is_after in let q =
+      sound.places in omega (arith, p, q)
 
   -- the following of a capture's symbols stopped
   pub halts-stops : (start now : Option (List ℕ)) (w : CaptureRun A) (c : CaptureOf X) (f : ToolFault)
-      → t.watch.origin w.analyser ≤ 2 ^ 60 → Halts t start now w c.bits f → StopsAt t start now w (capped (t.watch.origin w.analyser) c) f
+      → t.watch.origin w.analyser ≤ 2 ^ 60 → Halts t start now w c.bits f →
+      StopsAt t start now w (capped (t.watch.origin w.analyser) c) f
   halts-stops start now w c fault.PlaceLimit low h =
       let is = placed-over (t.watch.origin w.analyser) c h.0 in
-      subst (λ (d : CaptureOf X). Faulty t start now w d fault.PlaceLimit) (sym is) (record { cause = place_limit; found = refl; answered = refl; bits = h.1 })
+      subst (λ (d : CaptureOf X). Faulty t start now w d fault.PlaceLimit) (sym is)
+      (record { cause = place_limit; found = refl; answered = refl; bits = h.1 })
   halts-stops start now w c (fault.Write sent) low h = record {
     front = h.front;
     more = h.more;
@@ -54,7 +65,8 @@ module _ {A X N B : Type 0} (t : TapView A X N B) where
   halts-stops start now w c _ low h = absurd h
 
   -- a capture with a fault, all of whose symbols were followed
-  pub fault-in : TapLaws t → (start now : Option (List ℕ)) (w : CaptureRun A) (c : CaptureOf X) (b : List X) (cause : CaptureFault) (f : ToolFault)
+  pub fault-in : TapLaws t → (start now : Option (List ℕ)) (w : CaptureRun A) (c : CaptureOf X) (b : List X)
+      (cause : CaptureFault) (f : ToolFault)
       → IsSound t w → IsSameFault f cause → c.bits ≡ b → c.fault ≡ Some cause → Watches t start now w b
       → Faulty t start now w (capped (t.watch.origin w.analyser) c) f
   fault-in law start now w c b cause f sound answered is found h =
@@ -74,4 +86,5 @@ module _ {A X N B : Type 0} (t : TapView A X N B) where
     cut = h.cut;
     short = h.short;
   }
-  stops-more start now w c d f grows h = subst (λ (x : CaptureOf X). StopsAt t start now w x f) (sym (grows.2 h.cause h.found)) h
+  stops-more start now w c d f grows h =
+      subst (λ (x : CaptureOf X). StopsAt t start now w x f) (sym (grows.2 h.cause h.found)) h

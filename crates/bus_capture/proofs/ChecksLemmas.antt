@@ -1,5 +1,6 @@
 -- How the check of a capture ends.
-use Rattle.std.proofs.Common.{◌≡◌, ℕ, ◌<◌, Bool, List, [], ◌++◌, length, Option, None, Result, Ok, Err, MatchResult, refl, sym, ap, ◌∙◌, subst, arith, length-append}
+use Rattle.std.proofs.Common.{◌≡◌, ℕ, ◌<◌, Bool, List, [], ◌++◌, length, Option, None, Result, Ok, Err, MatchResult}
+use Rattle.std.proofs.Common.{refl, sym, ap, ◌∙◌, subst, arith, length-append}
 use Rattle.std.proofs.lemmas.List.{nil_from_length}
 use Rattle.std.specs.Io.KnownBytes.{Appends}
 use Rattle.bus_bits.specs.Capture.{CaptureOf}
@@ -26,44 +27,64 @@ use Rattle.bus_text.specs.declared.fault.ToolFault.TheVariants as fault
 use Rattle.bus_capture.proofs.ListsLemmas.{counts-are, heard-is, so-far-is, in-all-is}
 
 -- what was asked of a check, and is kept
-pub record IsChecked {A X N B : Type 0} (tap : TapView A X N B) (o : Options) (d : List FrameType) (w : CaptureRun A) : Type 0 where
+pub record IsChecked {A X N B : Type 0} (tap : TapView A X N B) (o : Options) (d : List FrameType) (w : CaptureRun A) :
+    Type 0 where
   pub printer : w.teller.printer ≡ None
   pub dictionary : (tap.watch.dictionary w.analyser) ≡ d
   pub depth : (tap.watch.depth w.analyser) ≡ o.depth
   pub origin : (tap.watch.origin w.analyser) ≡ o.origin
 
-pub checked : {A X N B : Type 0} (tap : TapView A X N B) (o : Options) (d : List FrameType) (w v : CaptureRun A) → w.teller.printer ≡ None → IsMade tap.watch d o.depth o.origin w.analyser → IsSame tap w v → IsChecked tap o d v
-checked tap o d w v p a s = record { printer = s.printer ∙ p; dictionary = s.dictionary ∙ a.dictionary; depth = s.depth ∙ a.depth; origin = s.origin ∙ a.origin }
+pub checked : {A X N B : Type 0} (tap : TapView A X N B) (o : Options) (d : List FrameType) (w v : CaptureRun A) →
+    w.teller.printer ≡ None → IsMade tap.watch d o.depth o.origin w.analyser → IsSame tap w v → IsChecked tap o d v
+checked tap o d w v p a s =
+    record {
+      printer = s.printer ∙ p;
+      dictionary = s.dictionary ∙ a.dictionary;
+      depth = s.depth ∙ a.depth;
+      origin = s.origin ∙ a.origin;
+    }
 
 -- a check has no lines
-pub no-lines : {A X N B : Type 0} (tap : TapView A X N B) (w : CaptureRun A) (b : List X) → w.teller.printer ≡ None → lines tap w b ≡ []
+pub no-lines : {A X N B : Type 0} (tap : TapView A X N B) (w : CaptureRun A) (b : List X) → w.teller.printer ≡ None →
+    lines tap w b ≡ []
 no-lines tap w b e = ap (λ p. printed p (tap.watch.dictionary w.analyser) (seen_by tap.watch w.analyser b)) e
 
 -- the report of bits, as the options tell of it
-report-is : {A X N B : Type 0} (tap : TapView A X N B) → TapLaws tap → (o : Options) (d : List FrameType) (w : CaptureRun A) (b : List X) → IsChecked tap o d w → w.teller.summary ≡ summary_of (seen_in tap.form o.origin d b) → reported tap w b ≡ report_of tap.form o d b
+report-is : {A X N B : Type 0} (tap : TapView A X N B) → TapLaws tap →
+    (o : Options) (d : List FrameType) (w : CaptureRun A) (b : List X) → IsChecked tap o d w →
+    w.teller.summary ≡ summary_of (seen_in tap.form o.origin d b) → reported tap w b ≡ report_of tap.form o d b
 report-is tap law o d w b h counts =
     let two = tap.form.is_two in
     let sum = summary_of (seen_in tap.form o.origin d b) in
     let here = heard_by tap.watch w.analyser b in
-    ap (λ (s : Summary). check_text two s (tally (tap.watch.dictionary w.analyser) here) (history (tap.watch.depth w.analyser) here)) counts
-    ∙ ap (λ hs. check_text two sum (tally (tap.watch.dictionary w.analyser) hs) (history (tap.watch.depth w.analyser) hs)) (heard-is tap law o d w.analyser b h.dictionary h.origin)
-    ∙ ap (λ (x : List FrameType). check_text two sum (tally x (heard_in tap.form o.origin d b)) (history (tap.watch.depth w.analyser) (heard_in tap.form o.origin d b))) h.dictionary
-    ∙ ap (λ (n : ℕ). check_text two sum (tally d (heard_in tap.form o.origin d b)) (history n (heard_in tap.form o.origin d b))) h.depth
+    ap (λ (s : Summary). check_text two s (tally (tap.watch.dictionary w.analyser) here)
+    (history (tap.watch.depth w.analyser) here)) counts
+    ∙ ap (λ hs. check_text two sum (tally (tap.watch.dictionary w.analyser) hs)
+    (history (tap.watch.depth w.analyser) hs)) (heard-is tap law o d w.analyser b h.dictionary h.origin)
+    ∙ ap (λ (x : List FrameType). check_text two sum (tally x (heard_in tap.form o.origin d b))
+    (history (tap.watch.depth w.analyser) (heard_in tap.form o.origin d b))) h.dictionary
+    ∙ ap (λ (n : ℕ). check_text two sum (tally d (heard_in tap.form o.origin d b))
+    (history n (heard_in tap.form o.origin d b))) h.depth
 
 -- the options can't be met
-pub checks-nothing : {X : Type 0} (form : Form X) (o : Options) (after start now : Option (List ℕ)) (f : ToolFault) → Refuses o f → Appends start now [] → ChecksBy form o after start now [] (Err f)
-checks-nothing form o after start now (fault.Dictionary x) why out = record { why = why; unread = refl; unwritten = out }
+pub checks-nothing : {X : Type 0} (form : Form X) (o : Options) (after start now : Option (List ℕ)) (f : ToolFault) →
+    Refuses o f → Appends start now [] → ChecksBy form o after start now [] (Err f)
+checks-nothing form o after start now (fault.Dictionary x) why out =
+    record { why = why; unread = refl; unwritten = out }
 checks-nothing form o after start now fault.Depth why out = record { why = why; unread = refl; unwritten = out }
 checks-nothing form o after start now fault.Origin why out = record { why = why; unread = refl; unwritten = out }
 checks-nothing form o after start now fault.Memory why out = record { why = why; unread = refl; unwritten = out }
 checks-nothing form o after start now _ why out = absurd why
 
 -- the end of a clean capture
-pub ends-checks : {A X N B : Type 0} (tap : TapView A X N B) (o : Options) (d : List FrameType) (text : Bool) (after start now later : Option (List ℕ)) (w : CaptureRun A) (xs : List ℕ) (r : Result Summary ToolFault)
+pub ends-checks : {A X N B : Type 0} (tap : TapView A X N B) (o : Options) (d : List FrameType) (text : Bool)
+    (after start now later : Option (List ℕ)) (w : CaptureRun A) (xs : List ℕ) (r : Result Summary ToolFault)
     → TapLaws tap → Begins o d → IsChecked tap o d w → text ≡ o.text → IsWhole tap text after start now w xs
     → MatchResult r
-    (λ s. Appends start later (lines tap w (whole_capture tap.form text (tap.watch.origin w.analyser) xs).bits ++ reported tap w (whole_capture tap.form text (tap.watch.origin w.analyser) xs).bits) × (s ≡ w.teller.summary))
-    (λ f. IsCutIn start later (lines tap w (whole_capture tap.form text (tap.watch.origin w.analyser) xs).bits ++ reported tap w (whole_capture tap.form text (tap.watch.origin w.analyser) xs).bits) f)
+    (λ s. Appends start later (lines tap w (whole_capture tap.form text (tap.watch.origin w.analyser) xs).bits
+    ++ reported tap w (whole_capture tap.form text (tap.watch.origin w.analyser) xs).bits) × (s ≡ w.teller.summary))
+    (λ f. IsCutIn start later (lines tap w (whole_capture tap.form text (tap.watch.origin w.analyser) xs).bits
+    ++ reported tap w (whole_capture tap.form text (tap.watch.origin w.analyser) xs).bits) f)
     → ChecksBy tap.form o after start later xs r
 ends-checks {A} {X} tap o d text after start now later w xs r law begins l e h ends = cases r ends
   where
@@ -77,7 +98,8 @@ ends-checks {A} {X} tap o d text after start now later w xs r law begins l e h e
     whole = record { at = h.at; clean = sym (ap (λ (c : CaptureOf X). c.fault) is) ∙ h.clean }
 
     counts : w.teller.summary ≡ summary_of (seen_in tap.form o.origin d (in_all tap.form o xs).bits)
-    counts = counts-are tap law o d w all.bits l.dictionary l.origin h.bits.counts ∙ ap (λ (c : CaptureOf X). summary_of (seen_in tap.form o.origin d c.bits)) is
+    counts = counts-are tap law o d w all.bits l.dictionary l.origin h.bits.counts
+        ∙ ap (λ (c : CaptureOf X). summary_of (seen_in tap.form o.origin d c.bits)) is
 
     texts : lines tap w all.bits ++ reported tap w all.bits ≡ report_of tap.form o d (in_all tap.form o xs).bits
     texts =
@@ -86,36 +108,54 @@ ends-checks {A} {X} tap o d text after start now later w xs r law begins l e h e
         ∙ report-is tap law o d w (in_all tap.form o xs).bits l counts
 
     cases : (r : Result Summary ToolFault)
-        → MatchResult r (λ s. Appends start later (lines tap w all.bits ++ reported tap w all.bits) × (s ≡ w.teller.summary)) (λ f. IsCutIn start later (lines tap w all.bits ++ reported tap w all.bits) f)
+        → MatchResult r (λ s. Appends start later (lines tap w all.bits ++ reported tap w all.bits)
+        × (s ≡ w.teller.summary)) (λ f. IsCutIn start later (lines tap w all.bits ++ reported tap w all.bits) f)
         → ChecksBy tap.form o after start later xs r
-    cases (Ok s) m = (d, begins, record { all = whole; out = subst (Appends start later) texts m.0; counts = m.1 ∙ counts })
-    cases (Err (fault.Write sent)) m = (d, begins, record { all = whole; cut = subst (λ (t : List ℕ). Cuts start later t sent) texts m })
+    cases (Ok s) m =
+        (d, begins, record { all = whole; out = subst (Appends start later) texts m.0; counts = m.1 ∙ counts })
+    cases (Err (fault.Write sent)) m =
+        (d, begins, record { all = whole; cut = subst (λ (t : List ℕ). Cuts start later t sent) texts m })
     cases (Err _) m = absurd m
 
 lt_none : (n : ℕ) → n < 0 → ⊥
 lt_none n h = omega (arith, h)
 
 -- no text was written
-none-out : (start now : Option (List ℕ)) (page : List ℕ) (written : ℕ) (text : List ℕ) → text ≡ [] → Pages start now page written text → Appends start now []
+none-out : (start now : Option (List ℕ)) (page : List ℕ) (written : ℕ) (text : List ℕ) → text ≡ [] →
+    Pages start now page written text → Appends start now []
 none-out start now page written text e p =
-    let none : p.sent ≡ [] = nil_from_length p.sent (omega (arith, length-append p.sent page, ap length (sym p.whole ∙ e))) in
+    let none : p.sent ≡ [] =
+    nil_from_length p.sent (omega (arith, length-append p.sent page, ap length (sym p.whole ∙ e))) in
     subst (Appends start now) none p.out
 
 -- a fault that ended the reading: without lines no writer is cut off
-pub stops-checks : {A X N B : Type 0} (tap : TapView A X N B) (o : Options) (d : List FrameType) (text : Bool) (after start now : Option (List ℕ)) (w : CaptureRun A) (xs : List ℕ) (f : ToolFault)
-    → Begins o d → IsChecked tap o d w → text ≡ o.text → Finishes tap text o.reads after start now w xs (Err f) → ChecksBy tap.form o after start now xs (Err f)
+pub stops-checks : {A X N B : Type 0} (tap : TapView A X N B) (o : Options) (d : List FrameType) (text : Bool)
+    (after start now : Option (List ℕ)) (w : CaptureRun A) (xs : List ℕ) (f : ToolFault)
+    → Begins o d → IsChecked tap o d w → text ≡ o.text → Finishes tap text o.reads after start now w xs (Err f) →
+    ChecksBy tap.form o after start now xs (Err f)
 stops-checks {A} {X} tap o d text after start now w xs f begins l e = cases f
   where
     out : Watches tap start now w (capture tap.form text (tap.watch.origin w.analyser) xs).bits → Appends start now []
-    out h = none-out start now w.teller.page.text w.teller.page.written (lines tap w (capture tap.form text (tap.watch.origin w.analyser) xs).bits) (no-lines tap w (capture tap.form text (tap.watch.origin w.analyser) xs).bits l.printer) h.page
+    out h = none-out start now w.teller.page.text w.teller.page.written
+        (lines tap w (capture tap.form text (tap.watch.origin w.analyser) xs).bits)
+        (no-lines tap w (capture tap.form text (tap.watch.origin w.analyser) xs).bits l.printer) h.page
 
     clean-is : IsClean tap text start now w xs → ChecksSoFar tap.form o start now xs
-    clean-is h = record { clean = sym (ap (λ (c : CaptureOf X). c.fault) (so-far-is tap.form o text (tap.watch.origin w.analyser) xs e l.origin)) ∙ h.clean; unwritten = out h.bits }
+    clean-is h =
+        record {
+          clean =
+              sym (ap (λ (c : CaptureOf X). c.fault)
+              (so-far-is tap.form o text (tap.watch.origin w.analyser) xs e l.origin))
+              ∙ h.clean;
+          unwritten = out h.bits;
+        }
 
-    cases : (f : ToolFault) → Finishes tap text o.reads after start now w xs (Err f) → ChecksBy tap.form o after start now xs (Err f)
+    cases : (f : ToolFault) → Finishes tap text o.reads after start now w xs (Err f) →
+        ChecksBy tap.form o after start now xs (Err f)
     cases fault.Read h = (d, begins, clean-is h)
     cases fault.ReadsLimit h = (d, begins, h.0, clean-is h.1)
-    cases (fault.Write sent) h = absurd (lt_none sent (subst (λ (t : List ℕ). sent < length t) (no-lines tap w h.front l.printer) h.short))
+    cases (fault.Write sent) h =
+        absurd (lt_none sent (subst (λ (t : List ℕ). sent < length t) (no-lines tap w h.front l.printer) h.short))
     cases (fault.Dictionary x) h = absurd h.answered
     cases fault.Depth h = absurd h.answered
     cases fault.Origin h = absurd h.answered
@@ -126,7 +166,8 @@ stops-checks {A} {X} tap o d text after start now w xs f begins l e = cases f
       record {
         cause = h.cause;
         answered = h.answered;
-        found = subst (λ (n : ℕ). HasFault tap.form o.text n after xs h.cause) l.origin (subst (λ (b : Bool). HasFault tap.form b (tap.watch.origin w.analyser) after xs h.cause) e h.found);
+        found = subst (λ (n : ℕ). HasFault tap.form o.text n after xs h.cause) l.origin
+            (subst (λ (b : Bool). HasFault tap.form b (tap.watch.origin w.analyser) after xs h.cause) e h.found);
         unwritten = out h.bits;
       },
     )

@@ -1,12 +1,14 @@
 -- Packed captures of one line or of two, behind their heads.
-use Rattle.std.proofs.Common.{◌≡◌, ℕ, true, false, nat_lt, if◌then◌else◌, Bool, List, [], ◌++◌, length, drop, Option, Some, None, Result, Ok, Err, MatchResult, refl, sym, ap, ◌∙◌, append_assoc}
+use Rattle.std.proofs.Common.{◌≡◌, ℕ, true, false, nat_lt, if◌then◌else◌, Bool, List, [], ◌++◌, length, drop, Option}
+use Rattle.std.proofs.Common.{Some, None, Result, Ok, Err, MatchResult, refl, sym, ap, ◌∙◌, append_assoc}
 use Rattle.bus_bits.specs.Capture.{CaptureOf, CaptureFault, short_head}
 use Rattle.bus_bits.specs.Packed.{capture_by, filled, head_bits, headed, packed_fault_of, whole_by}
 use Rattle.bus_bits.specs.declared.capture.packed_bits.PackedFault.{PackedFault}
 use Rattle.bus_capture.specs.Internal.Headed.{IsHeaded}
 
 -- the end of the input adds no symbol
-pub whole-bits : {A : Type 0} (fault : Option CaptureFault) (body : ℕ → List ℕ → CaptureOf A) (xs : List ℕ) → (whole_by (capture_by fault body xs) xs).bits ≡ (capture_by fault body xs).bits
+pub whole-bits : {A : Type 0} (fault : Option CaptureFault) (body : ℕ → List ℕ → CaptureOf A) (xs : List ℕ) →
+    (whole_by (capture_by fault body xs) xs).bits ≡ (capture_by fault body xs).bits
 whole-bits {A} fault body xs = elim (nat_lt (length xs) 16) as (λ b. (whole b).bits ≡ (part b).bits) [
   | true ↦ refl
   | false ↦ refl
@@ -18,30 +20,41 @@ whole-bits {A} fault body xs = elim (nat_lt (length xs) 16) as (λ b. (whole b).
     whole : Bool → CaptureOf A
     whole b = if b then record { bits = []; fault = Some short_head } else filled (head_bits xs) (part b)
 
-module _ {A : Type 0} (capture : List ℕ → CaptureOf A) (body : ℕ → List ℕ → CaptureOf A) (fault : List ℕ → Option CaptureFault) (After : ℕ → List ℕ → ℕ → Type 0)
-    (law : (head xs : List ℕ) → length head ≡ 16 → capture (head ++ xs) ≡ headed (fault head) (body (head_bits head) xs)) where
+module _ {A : Type 0} (capture : List ℕ → CaptureOf A) (body : ℕ → List ℕ → CaptureOf A)
+    (fault : List ℕ → Option CaptureFault) (After : ℕ → List ℕ → ℕ → Type 0)
+    (law : (head xs : List ℕ) → length head ≡ 16 → capture (head ++ xs)
+    ≡ headed (fault head) (body (head_bits head) xs)) where
   -- a good head and what follows it
-  headed-here : (left : ℕ) (xs : List ℕ) (h : IsHeaded fault After left xs) → capture xs ≡ body (head_bits h.head) h.body
-  headed-here left xs h = ap capture h.all ∙ law h.head h.body h.long ∙ ap (λ f. headed f (body (head_bits h.head) h.body)) h.good
+  headed-here : (left : ℕ) (xs : List ℕ) (h : IsHeaded fault After left xs) →
+      capture xs ≡ body (head_bits h.head) h.body
+  headed-here left xs h = ap capture h.all ∙ law h.head h.body h.long
+      ∙ ap (λ f. headed f (body (head_bits h.head) h.body)) h.good
 
   -- with some octets more
-  headed-more : (left : ℕ) (xs ys : List ℕ) (h : IsHeaded fault After left xs) → capture (xs ++ ys) ≡ body (head_bits h.head) (h.body ++ ys)
+  headed-more : (left : ℕ) (xs ys : List ℕ) (h : IsHeaded fault After left xs) →
+      capture (xs ++ ys) ≡ body (head_bits h.head) (h.body ++ ys)
   headed-more left xs ys h =
-      ap capture (ap (λ (zs : List ℕ). zs ++ ys) h.all ∙ append_assoc h.head h.body ys) ∙ law h.head (h.body ++ ys) h.long
+      ap capture (ap (λ (zs : List ℕ). zs ++ ys) h.all ∙ append_assoc h.head h.body ys)
+      ∙ law h.head (h.body ++ ys) h.long
       ∙ ap (λ f. headed f (body (head_bits h.head) (h.body ++ ys))) h.good
 
   -- it has no fault
-  pub head-clean : ((n : ℕ) (xs : List ℕ) (left : ℕ) → After n xs left → (body n xs).fault ≡ None) → (left : ℕ) (xs : List ℕ) → IsHeaded fault After left xs → (capture xs).fault ≡ None
-  head-clean clean left xs h = ap (λ (c : CaptureOf A). c.fault) (headed-here left xs h) ∙ clean (head_bits h.head) h.body left h.after
+  pub head-clean : ((n : ℕ) (xs : List ℕ) (left : ℕ) → After n xs left → (body n xs).fault ≡ None) →
+      (left : ℕ) (xs : List ℕ) → IsHeaded fault After left xs → (capture xs).fault ≡ None
+  head-clean clean left xs h = ap (λ (c : CaptureOf A). c.fault) (headed-here left xs h)
+      ∙ clean (head_bits h.head) h.body left h.after
 
   -- a head alone gives no symbols where no octets behind it give none
-  pub head-alone : (left : ℕ) (head : List ℕ) (h : IsHeaded fault After left head) → (body (head_bits h.head) h.body).bits ≡ [] → (capture head).bits ≡ []
+  pub head-alone : (left : ℕ) (head : List ℕ) (h : IsHeaded fault After left head) →
+      (body (head_bits h.head) h.body).bits ≡ [] → (capture head).bits ≡ []
   head-alone left head h none = ap (λ (c : CaptureOf A). c.bits) (headed-here left head h) ∙ none
 
   -- more octets were taken
   pub octets-read : (left later : ℕ) (xs ys : List ℕ) (bits : List A)
-      → ((n : ℕ) (zs : List ℕ) → After n zs left → After n (zs ++ ys) later × ((body n (zs ++ ys)).bits ≡ (body n zs).bits ++ bits))
-      → IsHeaded fault After left xs → IsHeaded fault After later (xs ++ ys) × ((capture (xs ++ ys)).bits ≡ (capture xs).bits ++ bits)
+      → ((n : ℕ) (zs : List ℕ) → After n zs left → After n (zs ++ ys) later
+      × ((body n (zs ++ ys)).bits ≡ (body n zs).bits ++ bits))
+      → IsHeaded fault After left xs → IsHeaded fault After later (xs ++ ys)
+      × ((capture (xs ++ ys)).bits ≡ (capture xs).bits ++ bits)
   octets-read left later xs ys bits given h =
       let is = given (head_bits h.head) h.body h.after in (
         record {
@@ -67,4 +80,5 @@ module _ {A : Type 0} (capture : List ℕ → CaptureOf A) (body : ℕ → List 
   octet-read items left later xs ys (Ok b) given h = octets-read left later xs ys (items b) given h
   octet-read items left later xs ys (Err f) given h =
       headed-more left xs ys h ∙ given (head_bits h.head) h.body h.after
-      ∙ ap (λ (c : CaptureOf A). record { bits = c.bits; fault = Some (packed_fault_of f) }) (sym (headed-here left xs h))
+      ∙ ap (λ (c : CaptureOf A). record { bits = c.bits; fault = Some (packed_fault_of f) })
+      (sym (headed-here left xs h))

@@ -1,5 +1,6 @@
 -- From what a call read to all that its reader had.
-use Rattle.std.proofs.Common.{◌≡◌, ℕ, ◌-◌, ◌^◌, Bool, true, false, List, [], ◌++◌, length, take, Option, Some, None, Result, Ok, Err, IfSome, refl, sym, ap, subst, ◌∙◌, append-nil, inl, inr}
+use Rattle.std.proofs.Common.{◌≡◌, ℕ, ◌-◌, ◌^◌, Bool, true, false, List, [], ◌++◌, length, take, Option, Some, None}
+use Rattle.std.proofs.Common.{Result, Ok, Err, IfSome, refl, sym, ap, subst, ◌∙◌, append-nil, inl, inr}
 use Rattle.std.specs.Io.KnownBytes.{Appends, Consumes, IsAtEnd}
 use Rattle.std.proofs.lemmas.Grind.{common_steps}
 use Rattle.std.proofs.Common.{arith}
@@ -12,8 +13,10 @@ use Rattle.bus_text.specs.Listing.{listing}
 use Rattle.bus_text.specs.Put.{Cuts}
 use Rattle.bus_capture.specs.Begins.{Begins}
 use Rattle.bus_capture.specs.Internal.Taps.{FormLaws}
-use Rattle.bus_capture.specs.Lists.{so_far, in_all, listing_of, ending_of, whole_listing, ListsSoFar, ListsToFault, ListsCut, ListsBy}
-use Rattle.bus_capture.specs.Known.{text_with, listing_in_all, IsItsFault, ListsIt, ListsKnownBy, ChecksIt, CutsIt, ChecksKnownBy}
+use Rattle.bus_capture.specs.Lists.{so_far, in_all, listing_of, ending_of, whole_listing, ListsSoFar, ListsToFault}
+use Rattle.bus_capture.specs.Lists.{ListsCut, ListsBy}
+use Rattle.bus_capture.specs.Known.{text_with, listing_in_all, IsItsFault, ListsIt, ListsKnownBy, ChecksIt, CutsIt}
+use Rattle.bus_capture.specs.Known.{ChecksKnownBy}
 use Rattle.bus_capture.specs.Checks.{ChecksToFault, ChecksSoFar, ChecksBy}
 use Rattle.bus_text.specs.declared.options.Options.{Options}
 use Rattle.bus_text.specs.declared.summary.Summary.{Summary}
@@ -28,27 +31,34 @@ use Rattle.bus_bits.proofs.CaptureLemmas.{grows-trans}
 grows-self : {X : Type 0} (c : CaptureOf X) → GrowsTo c c
 grows-self c = ([], sym (append-nil c.bits), λ f e. refl)
 
-unplaced-grows : {X : Type 0} (f : Form X) → FormLaws f → (text : Bool) (xs ys : List ℕ) → GrowsTo (unplaced f text xs) (unplaced f text (xs ++ ys))
+unplaced-grows : {X : Type 0} (f : Form X) → FormLaws f → (text : Bool) (xs ys : List ℕ) →
+    GrowsTo (unplaced f text xs) (unplaced f text (xs ++ ys))
 unplaced-grows f law true xs ys = law.text xs ys
 unplaced-grows f law false xs ys = law.packed xs ys
 
-unplaced-ends : {X : Type 0} (f : Form X) → FormLaws f → (text : Bool) (xs : List ℕ) → GrowsTo (unplaced f text xs) (unplaced_whole f text xs)
+unplaced-ends : {X : Type 0} (f : Form X) → FormLaws f → (text : Bool) (xs : List ℕ) →
+    GrowsTo (unplaced f text xs) (unplaced_whole f text xs)
 unplaced-ends f law true xs = grows-self (f.text xs)
 unplaced-ends f law false xs = law.ended xs
 
 -- what was read, and then all
-all-grows : {X : Type 0} (form : Form X) → FormLaws form → (o : Options) (all xs ys : List ℕ) → all ≡ xs ++ ys → GrowsTo (so_far form o xs) (in_all form o all)
+all-grows : {X : Type 0} (form : Form X) → FormLaws form → (o : Options) (all xs ys : List ℕ) → all ≡ xs ++ ys →
+    GrowsTo (so_far form o xs) (in_all form o all)
 all-grows form law o all xs ys e =
     subst (λ (z : List ℕ). GrowsTo (so_far form o xs) (in_all form o z)) (sym e)
     (grows-trans (so_far form o xs) (so_far form o (xs ++ ys)) (in_all form o (xs ++ ys))
-    (law.places o.origin (unplaced form o.text xs) (unplaced form o.text (xs ++ ys)) (unplaced-grows form law o.text xs ys))
-    (law.places o.origin (unplaced form o.text (xs ++ ys)) (unplaced_whole form o.text (xs ++ ys)) (unplaced-ends form law o.text (xs ++ ys))))
+    (law.places o.origin (unplaced form o.text xs) (unplaced form o.text (xs ++ ys))
+    (unplaced-grows form law o.text xs ys))
+    (law.places o.origin (unplaced form o.text (xs ++ ys)) (unplaced_whole form o.text (xs ++ ys))
+    (unplaced-ends form law o.text (xs ++ ys))))
 
-unplaced_bits : {X : Type 0} (f : Form X) → FormLaws f → (text : Bool) (xs : List ℕ) → (unplaced_whole f text xs).bits ≡ (unplaced f text xs).bits
+unplaced_bits : {X : Type 0} (f : Form X) → FormLaws f → (text : Bool) (xs : List ℕ) →
+    (unplaced_whole f text xs).bits ≡ (unplaced f text xs).bits
 unplaced_bits f law true xs = refl
 unplaced_bits f law false xs = law.same xs
 
-same_bits : {X : Type 0} (form : Form X) → FormLaws form → (o : Options) (d : List FrameType) (xs : List ℕ) → Begins o d → (in_all form o xs).bits ≡ (so_far form o xs).bits
+same_bits : {X : Type 0} (form : Form X) → FormLaws form → (o : Options) (d : List FrameType) (xs : List ℕ) →
+    Begins o d → (in_all form o xs).bits ≡ (so_far form o xs).bits
 same_bits form law o d xs begins =
     placed-bits o.origin (unplaced_whole form o.text xs) begins.places
     ∙ ap (take (2 ^ 60 - o.origin)) (unplaced_bits form law o.text xs)
@@ -65,68 +75,104 @@ record GoesOn {X : Type 0} (form : Form X) (o : Options) (d : List FrameType) (b
   more : List ℕ
   is : listing_of form o d c ≡ listing_of form o d b ++ more
 
-goes-on : {X : Type 0} (form : Form X) → FormLaws form → (o : Options) (d : List FrameType) (b rest c : List X) → c ≡ b ++ rest → GoesOn form o d b c
+goes-on : {X : Type 0} (form : Form X) → FormLaws form → (o : Options) (d : List FrameType) (b rest c : List X) →
+    c ≡ b ++ rest → GoesOn form o d b c
 goes-on form law o d b rest c e =
     let on = law.seen d (longest_of d) o.origin b rest in
     record {
       more = listing (printer_of o) d on.rest;
-      is = ap (listing_of form o d) e ∙ ap (listing (printer_of o) d) on.is ∙ listing-append (printer_of o) d (seen_in form o.origin d b) on.rest;
+      is = ap (listing_of form o d) e ∙ ap (listing (printer_of o) d) on.is
+          ∙ listing-append (printer_of o) d (seen_in form o.origin d b) on.rest;
     }
 
 -- the end comes behind it
-cut-with : {X : Type 0} (form : Form X) (o : Options) (d : List FrameType) (start now : Option (List ℕ)) (b : List X) (f : Option CaptureFault) (sent : ℕ) → Cuts start now (listing_of form o d b) sent → Cuts start now (text_with form o d b f) sent
-cut-with form o d start now b None sent cut = cuts-more start now (listing_of form o d b) (ending_of form o d b) sent cut
+cut-with : {X : Type 0} (form : Form X) (o : Options) (d : List FrameType) (start now : Option (List ℕ)) (b : List X)
+    (f : Option CaptureFault) (sent : ℕ) → Cuts start now (listing_of form o d b) sent →
+    Cuts start now (text_with form o d b f) sent
+cut-with form o d start now b None sent cut =
+    cuts-more start now (listing_of form o d b) (ending_of form o d b) sent cut
 cut-with form o d start now b (Some cause) sent cut = cut
 
-fault-known : {X : Type 0} (form : Form X) → FormLaws form → (o : Options) (d : List FrameType) (start now : Option (List ℕ)) (all xs ys : List ℕ) (f : ToolFault) → all ≡ xs ++ ys → Begins o d → ListsToFault form o d (Some ys) start now xs f
+fault-known : {X : Type 0} (form : Form X) → FormLaws form →
+    (o : Options) (d : List FrameType) (start now : Option (List ℕ)) (all xs ys : List ℕ) (f : ToolFault) →
+    all ≡ xs ++ ys → Begins o d → ListsToFault form o d (Some ys) start now xs f
     → IsItsFault form o all f × Appends start now (listing_in_all form o d all)
 fault-known {X} form law o d start now all xs ys f e begins h = elim h.found [
   | inl found ↦
       let same : in_all form o all ≡ so_far form o xs = (all-grows form law o all xs ys e).2 h.cause found in
       let is : (in_all form o all).fault ≡ Some h.cause = ap (λ (c : CaptureOf X). c.fault) same ∙ found in
-      let text : listing_in_all form o d all ≡ listing_of form o d (so_far form o xs).bits = ap (text_with form o d (in_all form o all).bits) is ∙ ap (λ (c : CaptureOf X). listing_of form o d c.bits) same in
+      let text : listing_in_all form o d all ≡ listing_of form o d (so_far form o xs).bits =
+      ap (text_with form o d (in_all form o all).bits) is
+      ∙ ap (λ (c : CaptureOf X). listing_of form o d c.bits) same in
       (record { cause = h.cause; answered = h.answered; found = is }, subst (Appends start now) (sym text) h.out)
   | inr end ↦
       let same : xs ≡ all = at-end all xs ys e end.0 in
-      let is : (in_all form o all).fault ≡ Some h.cause = subst (λ (z : List ℕ). (in_all form o z).fault ≡ Some h.cause) same end.1 in
+      let is : (in_all form o all).fault ≡ Some h.cause =
+      subst (λ (z : List ℕ). (in_all form o z).fault ≡ Some h.cause) same end.1 in
       let text : listing_in_all form o d all ≡ listing_of form o d (so_far form o xs).bits =
-      ap (text_with form o d (in_all form o all).bits) is ∙ ap (listing_of form o d) (same_bits form law o d all begins ∙ ap (λ (z : List ℕ). (so_far form o z).bits) (sym same)) in
+      ap (text_with form o d (in_all form o all).bits) is
+      ∙ ap (listing_of form o d) (same_bits form law o d all begins
+      ∙ ap (λ (z : List ℕ). (so_far form o z).bits) (sym same)) in
       (record { cause = h.cause; answered = h.answered; found = is }, subst (Appends start now) (sym text) h.out)
 ]
 
-cut-known : {X : Type 0} (form : Form X) → FormLaws form → (o : Options) (d : List FrameType) (start now : Option (List ℕ)) (all xs ys : List ℕ) (sent : ℕ) → all ≡ xs ++ ys → ListsCut form o d (Some ys) start now xs sent → Cuts start now (listing_in_all form o d all) sent
+cut-known : {X : Type 0} (form : Form X) → FormLaws form →
+    (o : Options) (d : List FrameType) (start now : Option (List ℕ)) (all xs ys : List ℕ) (sent : ℕ) → all ≡ xs ++ ys →
+    ListsCut form o d (Some ys) start now xs sent → Cuts start now (listing_in_all form o d all) sent
 cut-known form law o d start now all xs ys sent e h = elim h.said [
   | inl said ↦
       let grows = all-grows form law o all xs ys e in
       let on = goes-on form law o d (so_far form o xs).bits grows.0 (in_all form o all).bits grows.1 in
-      let cut = cuts-more start now (listing_of form o d (so_far form o xs).bits) on.more sent (subst (λ (t : List ℕ). Cuts start now t sent) said h.cut) in
-      cut-with form o d start now (in_all form o all).bits (in_all form o all).fault sent (subst (λ (t : List ℕ). Cuts start now t sent) (sym on.is) cut)
+      let cut = cuts-more start now (listing_of form o d (so_far form o xs).bits) on.more sent
+      (subst (λ (t : List ℕ). Cuts start now t sent) said h.cut) in
+      cut-with form o d start now (in_all form o all).bits (in_all form o all).fault sent
+      (subst (λ (t : List ℕ). Cuts start now t sent) (sym on.is) cut)
   | inr end ↦
       let same : xs ≡ all = at-end all xs ys e end.0 in
-      let text : listing_in_all form o d xs ≡ whole_listing form o d (in_all form o xs).bits = ap (text_with form o d (in_all form o xs).bits) end.1 in
-      subst (λ (z : List ℕ). Cuts start now (listing_in_all form o d z) sent) same (subst (λ (t : List ℕ). Cuts start now t sent) (end.2 ∙ sym text) h.cut)
+      let text : listing_in_all form o d xs ≡ whole_listing form o d (in_all form o xs).bits =
+      ap (text_with form o d (in_all form o xs).bits) end.1 in
+      subst (λ (z : List ℕ). Cuts start now (listing_in_all form o d z) sent) same
+      (subst (λ (t : List ℕ). Cuts start now t sent) (end.2 ∙ sym text) h.cut)
 ]
 
-lists-known : {X : Type 0} (form : Form X) → FormLaws form → (o : Options) (start now : Option (List ℕ)) (all xs ys : List ℕ) (r : Result Summary ToolFault) → all ≡ xs ++ ys → ListsBy form o (Some ys) start now xs r → ListsKnownBy form o start now all r
+lists-known : {X : Type 0} (form : Form X) → FormLaws form →
+    (o : Options) (start now : Option (List ℕ)) (all xs ys : List ℕ) (r : Result Summary ToolFault) → all ≡ xs ++ ys →
+    ListsBy form o (Some ys) start now xs r → ListsKnownBy form o start now all r
 lists-known form law o start now all xs ys (Ok s) e h =
     let it = h.2 in
     let d = h.0 in
     let same : xs ≡ all = at-end all xs ys e it.at in
-    let text : listing_in_all form o d xs ≡ whole_listing form o d (in_all form o xs).bits = ap (text_with form o d (in_all form o xs).bits) it.clean in
-    (d, h.1, subst (λ (z : List ℕ). ListsIt form o d start now z s) same (record { clean = it.clean; out = subst (Appends start now) (sym text) it.out; counts = it.counts }))
-lists-known form law o start now all xs ys (Err (fault.Dictionary x)) e h = record { why = h.why; unwritten = h.unwritten }
+    let text : listing_in_all form o d xs ≡ whole_listing form o d (in_all form o xs).bits =
+    ap (text_with form o d (in_all form o xs).bits) it.clean in (
+      d,
+      h.1,
+      subst (λ (z : List ℕ). ListsIt form o d start now z s) same
+          (record { clean = it.clean; out = subst (Appends start now) (sym text) it.out; counts = it.counts }),
+    )
+lists-known form law o start now all xs ys (Err (fault.Dictionary x)) e h =
+    record { why = h.why; unwritten = h.unwritten }
 lists-known form law o start now all xs ys (Err fault.Depth) e h = record { why = h.why; unwritten = h.unwritten }
 lists-known form law o start now all xs ys (Err fault.Origin) e h = record { why = h.why; unwritten = h.unwritten }
 lists-known form law o start now all xs ys (Err fault.Memory) e h = record { why = h.why; unwritten = h.unwritten }
-lists-known form law o start now all xs ys (Err fault.Read) e h =
-    (h.0, h.1, record { octets = length xs; front = subst (ListsSoFar form o h.0 start now) (sym (front_is all xs ys e)) h.2 })
-lists-known form law o start now all xs ys (Err fault.ReadsLimit) e h =
-    (h.0, h.1, record { octets = length xs; front = subst (ListsSoFar form o h.0 start now) (sym (front_is all xs ys e)) h.3 })
-lists-known form law o start now all xs ys (Err (fault.Write sent)) e h = (h.0, h.1, cut-known form law o h.0 start now all xs ys sent e h.2)
-lists-known form law o start now all xs ys (Err f) e h = let known = fault-known form law o h.0 start now all xs ys f e h.1 h.2 in (h.0, h.1, known.0, known.1)
+lists-known form law o start now all xs ys (Err fault.Read) e h = (
+  h.0,
+  h.1,
+  record { octets = length xs; front = subst (ListsSoFar form o h.0 start now) (sym (front_is all xs ys e)) h.2 },
+)
+lists-known form law o start now all xs ys (Err fault.ReadsLimit) e h = (
+  h.0,
+  h.1,
+  record { octets = length xs; front = subst (ListsSoFar form o h.0 start now) (sym (front_is all xs ys e)) h.3 },
+)
+lists-known form law o start now all xs ys (Err (fault.Write sent)) e h =
+    (h.0, h.1, cut-known form law o h.0 start now all xs ys sent e h.2)
+lists-known form law o start now all xs ys (Err f) e h = let known =
+    fault-known form law o h.0 start now all xs ys f e h.1 h.2 in (h.0, h.1, known.0, known.1)
 
 -- what a listing answered is what all octets of a reader that tells give
-pub known-lists : {X : Type 0} (form : Form X) → FormLaws form → (o : Options) (before after start now : Option (List ℕ)) (xs : List ℕ) (r : Result Summary ToolFault) → Consumes before after xs
+pub known-lists : {X : Type 0} (form : Form X) → FormLaws form →
+    (o : Options) (before after start now : Option (List ℕ)) (xs : List ℕ) (r : Result Summary ToolFault) →
+    Consumes before after xs
     → ListsBy form o after start now xs r → IfSome before (λ all. ListsKnownBy form o start now all r)
 known-lists form law o None after start now xs r p s = tt
 known-lists form law o (Some all) None start now xs r p s = absurd p
@@ -134,29 +180,59 @@ known-lists form law o (Some all) (Some ys) start now xs r p s = lists-known for
 
 -- ---- the check
 
-check-fault : {X : Type 0} (form : Form X) → FormLaws form → (o : Options) (d : List FrameType) (start now : Option (List ℕ)) (all xs ys : List ℕ) (f : ToolFault) → all ≡ xs ++ ys → ChecksToFault form o (Some ys) start now xs f → IsItsFault form o all f
+check-fault : {X : Type 0} (form : Form X) → FormLaws form →
+    (o : Options) (d : List FrameType) (start now : Option (List ℕ)) (all xs ys : List ℕ) (f : ToolFault) →
+    all ≡ xs ++ ys → ChecksToFault form o (Some ys) start now xs f → IsItsFault form o all f
 check-fault {X} form law o d start now all xs ys f e h = elim h.found [
-  | inl found ↦ record { cause = h.cause; answered = h.answered; found = ap (λ (c : CaptureOf X). c.fault) ((all-grows form law o all xs ys e).2 h.cause found) ∙ found }
-  | inr end ↦ record { cause = h.cause; answered = h.answered; found = subst (λ (z : List ℕ). (in_all form o z).fault ≡ Some h.cause) (at-end all xs ys e end.0) end.1 }
+  | inl found ↦ record {
+    cause = h.cause;
+    answered = h.answered;
+    found = ap (λ (c : CaptureOf X). c.fault) ((all-grows form law o all xs ys e).2 h.cause found) ∙ found;
+  }
+  | inr end ↦ record {
+    cause = h.cause;
+    answered = h.answered;
+    found = subst (λ (z : List ℕ). (in_all form o z).fault ≡ Some h.cause) (at-end all xs ys e end.0) end.1;
+  }
 ]
 
-checks-known : {X : Type 0} (form : Form X) → FormLaws form → (o : Options) (start now : Option (List ℕ)) (all xs ys : List ℕ) (r : Result Summary ToolFault) → all ≡ xs ++ ys → ChecksBy form o (Some ys) start now xs r → ChecksKnownBy form o start now all r
-checks-known form law o start now all xs ys (Ok s) e h =
-    (h.0, h.1, subst (λ (z : List ℕ). ChecksIt form o h.0 start now z s) (at-end all xs ys e h.2.all.at) (record { clean = h.2.all.clean; out = h.2.out; counts = h.2.counts }))
-checks-known form law o start now all xs ys (Err (fault.Dictionary x)) e h = record { why = h.why; unwritten = h.unwritten }
+checks-known : {X : Type 0} (form : Form X) → FormLaws form →
+    (o : Options) (start now : Option (List ℕ)) (all xs ys : List ℕ) (r : Result Summary ToolFault) → all ≡ xs ++ ys →
+    ChecksBy form o (Some ys) start now xs r → ChecksKnownBy form o start now all r
+checks-known form law o start now all xs ys (Ok s) e h = (
+  h.0,
+  h.1,
+  subst (λ (z : List ℕ). ChecksIt form o h.0 start now z s) (at-end all xs ys e h.2.all.at)
+      (record { clean = h.2.all.clean; out = h.2.out; counts = h.2.counts }),
+)
+checks-known form law o start now all xs ys (Err (fault.Dictionary x)) e h =
+    record { why = h.why; unwritten = h.unwritten }
 checks-known form law o start now all xs ys (Err fault.Depth) e h = record { why = h.why; unwritten = h.unwritten }
 checks-known form law o start now all xs ys (Err fault.Origin) e h = record { why = h.why; unwritten = h.unwritten }
 checks-known form law o start now all xs ys (Err fault.Memory) e h = record { why = h.why; unwritten = h.unwritten }
-checks-known form law o start now all xs ys (Err fault.Read) e h =
-    (h.0, h.1, record { octets = length xs; front = subst (ChecksSoFar form o start now) (sym (front_is all xs ys e)) h.2 })
-checks-known form law o start now all xs ys (Err fault.ReadsLimit) e h =
-    (h.0, h.1, record { octets = length xs; front = subst (ChecksSoFar form o start now) (sym (front_is all xs ys e)) h.3 })
-checks-known form law o start now all xs ys (Err (fault.Write sent)) e h =
-    (h.0, h.1, subst (λ (z : List ℕ). CutsIt form o h.0 start now z sent) (at-end all xs ys e h.2.all.at) (record { clean = h.2.all.clean; cut = h.2.cut }))
-checks-known form law o start now all xs ys (Err f) e h = (h.0, h.1, check-fault form law o h.0 start now all xs ys f e h.2, h.2.unwritten)
+checks-known form law o start now all xs ys (Err fault.Read) e h = (
+  h.0,
+  h.1,
+  record { octets = length xs; front = subst (ChecksSoFar form o start now) (sym (front_is all xs ys e)) h.2 },
+)
+checks-known form law o start now all xs ys (Err fault.ReadsLimit) e h = (
+  h.0,
+  h.1,
+  record { octets = length xs; front = subst (ChecksSoFar form o start now) (sym (front_is all xs ys e)) h.3 },
+)
+checks-known form law o start now all xs ys (Err (fault.Write sent)) e h = (
+  h.0,
+  h.1,
+  subst (λ (z : List ℕ). CutsIt form o h.0 start now z sent) (at-end all xs ys e h.2.all.at)
+      (record { clean = h.2.all.clean; cut = h.2.cut }),
+)
+checks-known form law o start now all xs ys (Err f) e h =
+    (h.0, h.1, check-fault form law o h.0 start now all xs ys f e h.2, h.2.unwritten)
 
 -- what a check answered is what all octets of a reader that tells give
-pub known-checks : {X : Type 0} (form : Form X) → FormLaws form → (o : Options) (before after start now : Option (List ℕ)) (xs : List ℕ) (r : Result Summary ToolFault) → Consumes before after xs
+pub known-checks : {X : Type 0} (form : Form X) → FormLaws form →
+    (o : Options) (before after start now : Option (List ℕ)) (xs : List ℕ) (r : Result Summary ToolFault) →
+    Consumes before after xs
     → ChecksBy form o after start now xs r → IfSome before (λ all. ChecksKnownBy form o start now all r)
 known-checks form law o None after start now xs r p s = tt
 known-checks form law o (Some all) None start now xs r p s = absurd p

@@ -1,5 +1,7 @@
 -- Captures of one line.
-use Rattle.std.proofs.Common.{◌≡◌, ℕ, ◌+◌, ◌*◌, ◌/◌, ◌<◌, ◌^◌, Bool, true, false, nat_lt, if◌then◌else◌, List, [], ◌++◌, ◌-◌, ◌≤◌, take, Option, Some, None, refl, sym, ap, ◌∙◌, subst, append_assoc, append-nil, arith}
+use Rattle.std.proofs.Common.{◌≡◌, ℕ, ◌+◌, ◌*◌, ◌/◌, ◌<◌, ◌^◌, Bool, true, false, nat_lt, if◌then◌else◌, List, [], ◌++◌}
+use Rattle.std.proofs.Common.{◌-◌, ◌≤◌, take, Option, Some, None, refl, sym, ap, ◌∙◌, subst, append_assoc, append-nil}
+use Rattle.std.proofs.Common.{arith}
 use Rattle.std.specs.Int.{next_multiple_of}
 use Rattle.std.specs.List.{list_any}
 use Rattle.std.proofs.lemmas.Grind.{common_steps}
@@ -34,7 +36,8 @@ no_body n = elim (list_any (λ (b : Bool). b) (unused n [])) as (λ b. (capture_
 ]
   where
     capture_of : Bool → Capture
-    capture_of b = if b then record { bits = take (n / 8 * 8) []; fault = Some pad_bits } else record { bits = take n []; fault = if nat_lt (next_multiple_of n 8) 0 then Some trailing else None }
+    capture_of b = if b then record { bits = take (n / 8 * 8) []; fault = Some pad_bits } else
+        record { bits = take n []; fault = if nat_lt (next_multiple_of n 8) 0 then Some trailing else None }
 
 -- the end of the input adds no bit
 pub same_bits : (xs : List ℕ) → (packed_whole xs).bits ≡ (packed_capture xs).bits
@@ -44,17 +47,23 @@ same_bits xs = whole-bits (head_fault xs) packed_body xs
 -- ---- bits of octets
 
 -- what stopped in some bits of octets, stops in all of them
-pub halts-from : {A N B : Type 0} (t : TapView A Bool N B) (start now : Option (List ℕ)) (w : CaptureRun A) (b : List Bool) (os : List ℕ) (at n all : ℕ) (f : ToolFault) → n ≤ all
+pub halts-from : {A N B : Type 0} (t : TapView A Bool N B) (start now : Option (List ℕ)) (w : CaptureRun A)
+    (b : List Bool) (os : List ℕ) (at n all : ℕ) (f : ToolFault) → n ≤ all
     → Halts t start now w (b ++ bits_from os at n) f → Halts t start now w (b ++ bits_from os at all) f
 halts-from t start now w b os at n all f l h =
     let e : all ≡ n + (all - n) = omega (arith, l) in
     let parts : (b ++ bits_from os at n) ++ bits_from os (at + n) (all - n) ≡ b ++ bits_from os at all =
-    append_assoc b (bits_from os at n) (bits_from os (at + n) (all - n)) ∙ ap (λ (z : List Bool). b ++ z) (sym (bits-more os at n (all - n)) ∙ ap (bits_from os at) (sym e)) in
-    subst (λ (z : List Bool). Halts t start now w z f) parts (halts-more t start now w (b ++ bits_from os at n) (bits_from os (at + n) (all - n)) f h)
+    append_assoc b (bits_from os at n) (bits_from os (at + n) (all - n))
+    ∙ ap (λ (z : List Bool). b ++ z) (sym (bits-more os at n (all - n)) ∙ ap (bits_from os at) (sym e)) in
+    subst (λ (z : List Bool). Halts t start now w z f) parts
+    (halts-more t start now w (b ++ bits_from os at n) (bits_from os (at + n) (all - n)) f h)
 
 -- some bits, and those behind them
-pub from-next : (b : List Bool) (os : List ℕ) (at n : ℕ) → (b ++ bits_from os 0 at) ++ bits_from os at n ≡ b ++ bits_from os 0 (at + n)
-from-next b os at n = let e : 0 + at ≡ at = omega arith in append_assoc b (bits_from os 0 at) (bits_from os at n) ∙ ap (λ (z : List Bool). b ++ z) (ap (λ (j : ℕ). bits_from os 0 at ++ bits_from os j n) (sym e) ∙ sym (bits-more os 0 at n))
+pub from-next : (b : List Bool) (os : List ℕ) (at n : ℕ) →
+    (b ++ bits_from os 0 at) ++ bits_from os at n ≡ b ++ bits_from os 0 (at + n)
+from-next b os at n = let e : 0 + at ≡ at = omega arith in append_assoc b (bits_from os 0 at) (bits_from os at n)
+    ∙ ap (λ (z : List Bool). b ++ z) (ap (λ (j : ℕ). bits_from os 0 at ++ bits_from os j n) (sym e)
+    ∙ sym (bits-more os 0 at n))
 
 -- none
 pub from-none : (b : List Bool) (os : List ℕ) → b ≡ b ++ bits_from os 0 0

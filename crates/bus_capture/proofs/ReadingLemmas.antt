@@ -1,5 +1,6 @@
 -- How the reading of a capture ends.
-use Rattle.std.proofs.Common.{◌≡◌, ℕ, ◌<◌, Bool, true, false, List, [], length, Option, Some, None, Result, Ok, Err, MatchResult, refl, sym, ap, ◌∙◌, subst, arith, append-nil, inl, inr}
+use Rattle.std.proofs.Common.{◌≡◌, ℕ, ◌<◌, Bool, true, false, List, [], length, Option, Some, None, Result, Ok, Err}
+use Rattle.std.proofs.Common.{MatchResult, refl, sym, ap, ◌∙◌, subst, arith, append-nil, inl, inr}
 use Rattle.std.specs.Io.KnownBytes.{IsAtEnd}
 use Rattle.bus_dictionary.specs.Entry.{FrameType}
 use Rattle.bus_text.specs.declared.printer.Printer.{Printer}
@@ -35,65 +36,86 @@ printed-nothing (Some p) d = listing-nothing p d
 seen-none : {A X N B : Type 0} (tap : TapView A X N B) → TapLaws tap → (a : A) → seen_by tap.watch a [] ≡ []
 seen-none tap law a =
     ap (seen (tap.watch.dictionary a))
-    (ap (λ hears. hears (tap.watch.origin a) (longest_of (tap.watch.dictionary a)) []) law.hears ∙ law.form.silent (tap.watch.origin a) (longest_of (tap.watch.dictionary a)))
+    (ap (λ hears. hears (tap.watch.origin a) (longest_of (tap.watch.dictionary a)) []) law.hears
+    ∙ law.form.silent (tap.watch.origin a) (longest_of (tap.watch.dictionary a)))
 
 -- nothing was followed yet
-pub watched-none : {A X N B : Type 0} (tap : TapView A X N B) → TapLaws tap → (start : Option (List ℕ)) (w : CaptureRun A)
-    → tap.watch.is_after w.analyser [] → w.teller.summary ≡ summary_of [] → Pages start start w.teller.page.text w.teller.page.written [] → Watches tap start start w []
+pub watched-none : {A X N B : Type 0} (tap : TapView A X N B) → TapLaws tap →
+    (start : Option (List ℕ)) (w : CaptureRun A)
+    → tap.watch.is_after w.analyser [] → w.teller.summary ≡ summary_of [] →
+    Pages start start w.teller.page.text w.teller.page.written [] → Watches tap start start w []
 watched-none tap law start w is_after counts page =
     let d = tap.watch.dictionary w.analyser in
     let none = seen-none tap law w.analyser in record {
       is_after = is_after;
       counts = counts ∙ ap summary_of (sym none);
-      page = subst (λ (t : List ℕ). Pages start start w.teller.page.text w.teller.page.written t) (sym (ap (printed w.teller.printer d) none ∙ printed-nothing w.teller.printer d)) page;
+      page = subst (λ (t : List ℕ). Pages start start w.teller.page.text w.teller.page.written t)
+          (sym (ap (printed w.teller.printer d) none ∙ printed-nothing w.teller.printer d)) page;
     }
 
 -- what is known of a text, of a packed capture
-pub follows-text : {A X N B : Type 0} (tap : TapView A X N B) (start now : Option (List ℕ)) (s : Source B) (text : TextCapture) (w : CaptureRun A) (xs : List ℕ)
+pub follows-text : {A X N B : Type 0} (tap : TapView A X N B) (start now : Option (List ℕ)) (s : Source B)
+    (text : TextCapture) (w : CaptureRun A) (xs : List ℕ)
     → s ≡ source.Text text → Follows tap start now s w xs → FollowsText tap start now text w xs
 follows-text tap start now s text w xs is h = subst (λ x. Follows tap start now x w xs) is h
 
-pub follows-packed : {A X N B : Type 0} (tap : TapView A X N B) (start now : Option (List ℕ)) (s : Source B) (p : PackedCapture B) (w : CaptureRun A) (xs : List ℕ)
+pub follows-packed : {A X N B : Type 0} (tap : TapView A X N B) (start now : Option (List ℕ)) (s : Source B)
+    (p : PackedCapture B) (w : CaptureRun A) (xs : List ℕ)
     → s ≡ source.Packed p → Follows tap start now s w xs → FollowsPacked tap start now p w xs
 follows-packed tap start now s p w xs is h = subst (λ x. Follows tap start now x w xs) is h
 
-pub text-follows : {A X N B : Type 0} (tap : TapView A X N B) (start now : Option (List ℕ)) (s : Source B) (text later : TextCapture) (w : CaptureRun A) (xs : List ℕ) (r : Result (Unit {0}) ToolFault)
-    → s ≡ source.Text text → MatchResult r (λ _. FollowsText tap start now later w xs) (λ f. Stops tap true start now w xs f)
+pub text-follows : {A X N B : Type 0} (tap : TapView A X N B) (start now : Option (List ℕ)) (s : Source B)
+    (text later : TextCapture) (w : CaptureRun A) (xs : List ℕ) (r : Result (Unit {0}) ToolFault)
+    → s ≡ source.Text text → MatchResult r (λ _. FollowsText tap start now later w xs)
+    (λ f. Stops tap true start now w xs f)
     → MatchResult r (λ _. Follows tap start now (source.Text later) w xs) (λ f. Stops tap (is_text s) start now w xs f)
 text-follows tap start now s text later w xs (Ok v) is h = h
-text-follows tap start now s text later w xs (Err f) is h = subst (λ (b : Bool). Stops tap b start now w xs f) (sym (ap is_text is)) h
+text-follows tap start now s text later w xs (Err f) is h =
+    subst (λ (b : Bool). Stops tap b start now w xs f) (sym (ap is_text is)) h
 
-pub packed-follows : {A X N B : Type 0} (tap : TapView A X N B) (start now : Option (List ℕ)) (s : Source B) (p q : PackedCapture B) (w : CaptureRun A) (xs : List ℕ) (r : Result (Unit {0}) ToolFault)
-    → s ≡ source.Packed p → MatchResult r (λ _. FollowsPacked tap start now q w xs) (λ f. Stops tap false start now w xs f)
+pub packed-follows : {A X N B : Type 0} (tap : TapView A X N B) (start now : Option (List ℕ)) (s : Source B)
+    (p q : PackedCapture B) (w : CaptureRun A) (xs : List ℕ) (r : Result (Unit {0}) ToolFault)
+    → s ≡ source.Packed p → MatchResult r (λ _. FollowsPacked tap start now q w xs)
+    (λ f. Stops tap false start now w xs f)
     → MatchResult r (λ _. Follows tap start now (source.Packed q) w xs) (λ f. Stops tap (is_text s) start now w xs f)
 packed-follows tap start now s p q w xs (Ok v) is h = h
-packed-follows tap start now s p q w xs (Err f) is h = subst (λ (b : Bool). Stops tap b start now w xs f) (sym (ap is_text is)) h
+packed-follows tap start now s p q w xs (Err f) is h =
+    subst (λ (b : Bool). Stops tap b start now w xs f) (sym (ap is_text is)) h
 
-pub read-by : {A X N B : Type 0} (tap : TapView A X N B) (start now : Option (List ℕ)) (s : Source B) (w : CaptureRun A) (xs : List ℕ) → Follows tap start now s w xs → IsReadBy tap s xs
+pub read-by : {A X N B : Type 0} (tap : TapView A X N B) (start now : Option (List ℕ)) (s : Source B) (w : CaptureRun A)
+    (xs : List ℕ) → Follows tap start now s w xs → IsReadBy tap s xs
 read-by tap start now (source.Text text) w xs h = h.clean
 read-by tap start now (source.Packed p) w xs h = h.read
 
-packed-clean : {A X N B : Type 0} (tap : TapView A X N B) → TapLaws tap → (head : List ℕ) (body : Option B) (xs : List ℕ) → IsRead tap head body xs → (tap.form.packed xs).fault ≡ None
+packed-clean : {A X N B : Type 0} (tap : TapView A X N B) → TapLaws tap →
+    (head : List ℕ) (body : Option B) (xs : List ℕ) → IsRead tap head body xs → (tap.form.packed xs).fault ≡ None
 packed-clean {A} {X} tap law head None xs h = ap (λ (c : CaptureOf X). c.fault) (law.form.short xs h.1).0
 packed-clean tap law head (Some body) xs h = law.clean body xs h
 
 -- what was read has no fault, and its bits were followed
-pub record IsUnplaced {A X N B : Type 0} (tap : TapView A X N B) (text : Bool) (start now : Option (List ℕ)) (w : CaptureRun A) (xs : List ℕ) : Type 0 where
+pub record IsUnplaced {A X N B : Type 0} (tap : TapView A X N B) (text : Bool) (start now : Option (List ℕ))
+    (w : CaptureRun A) (xs : List ℕ) : Type 0 where
   pub clean : (unplaced tap.form text xs).fault ≡ None
   pub bits : Watches tap start now w (unplaced tap.form text xs).bits
 
-pub follows-unplaced : {A X N B : Type 0} (tap : TapView A X N B) (start now : Option (List ℕ)) (s : Source B) (w : CaptureRun A) (xs : List ℕ)
+pub follows-unplaced : {A X N B : Type 0} (tap : TapView A X N B) (start now : Option (List ℕ)) (s : Source B)
+    (w : CaptureRun A) (xs : List ℕ)
     → TapLaws tap → Follows tap start now s w xs → IsUnplaced tap (is_text s) start now w xs
 follows-unplaced tap start now (source.Text text) w xs law h = record { clean = h.clean; bits = h.bits }
-follows-unplaced tap start now (source.Packed p) w xs law h = record { clean = packed-clean tap law p.head.items p.body xs h.read; bits = h.bits }
+follows-unplaced tap start now (source.Packed p) w xs law h =
+    record { clean = packed-clean tap law p.head.items p.body xs h.read; bits = h.bits }
 
 -- bits that were followed have a place, and so their capture is as it is
-pub all-placed : {A X N B : Type 0} (tap : TapView A X N B) → TapLaws tap → (start now : Option (List ℕ)) (w : CaptureRun A) (c : CaptureOf X) → IsSound tap w → Watches tap start now w c.bits → capped (tap.watch.origin w.analyser) c ≡ c
+pub all-placed : {A X N B : Type 0} (tap : TapView A X N B) → TapLaws tap →
+    (start now : Option (List ℕ)) (w : CaptureRun A) (c : CaptureOf X) → IsSound tap w →
+    Watches tap start now w c.bits →
+    capped (tap.watch.origin w.analyser) c ≡ c
 all-placed tap law start now w c sound h =
     let fits = followed-fits tap law start now w c.bits sound h in
     capped_all (tap.watch.origin w.analyser) c (omega (arith, fits))
 
-pub is-clean : {A X N B : Type 0} (tap : TapView A X N B) → TapLaws tap → (text : Bool) (start now : Option (List ℕ)) (w : CaptureRun A) (xs : List ℕ)
+pub is-clean : {A X N B : Type 0} (tap : TapView A X N B) → TapLaws tap →
+    (text : Bool) (start now : Option (List ℕ)) (w : CaptureRun A) (xs : List ℕ)
     → IsSound tap w → IsUnplaced tap text start now w xs → IsClean tap text start now w xs
 is-clean {A} {X} tap law text start now w xs sound h =
     let is = all-placed tap law start now w (unplaced tap.form text xs) sound h.bits in record {
@@ -102,11 +124,14 @@ is-clean {A} {X} tap law text start now w xs sound h =
     }
 
 -- a writer was cut off in the lines of all of these
-pub is-cut : {A X N B : Type 0} (tap : TapView A X N B) (start now : Option (List ℕ)) (w : CaptureRun A) (b : List X) (sent : ℕ) → Cuts start now (lines tap w b) sent → sent < length (lines tap w b) → IsCutOff tap start now w b sent
-is-cut tap start now w b sent cut short = record { front = b; more = []; all = sym (append-nil b); cut = cut; short = short }
+pub is-cut : {A X N B : Type 0} (tap : TapView A X N B) (start now : Option (List ℕ)) (w : CaptureRun A) (b : List X)
+    (sent : ℕ) → Cuts start now (lines tap w b) sent → sent < length (lines tap w b) → IsCutOff tap start now w b sent
+is-cut tap start now w b sent cut short =
+    record { front = b; more = []; all = sym (append-nil b); cut = cut; short = short }
 
 -- a fault ends the reading
-pub faulty-finishes : {A X N B : Type 0} (tap : TapView A X N B) (text : Bool) (reads : ℕ) (after start now : Option (List ℕ)) (w : CaptureRun A) (xs : List ℕ) (f : ToolFault)
+pub faulty-finishes : {A X N B : Type 0} (tap : TapView A X N B) (text : Bool) (reads : ℕ)
+    (after start now : Option (List ℕ)) (w : CaptureRun A) (xs : List ℕ) (f : ToolFault)
     → IsFaulty tap text after start now w xs f → Finishes tap text reads after start now w xs (Err f)
 faulty-finishes tap text reads after start now w xs fault.Read h = absurd h.answered
 faulty-finishes tap text reads after start now w xs fault.ReadsLimit h = absurd h.answered
@@ -114,18 +139,23 @@ faulty-finishes tap text reads after start now w xs (fault.Write sent) h = absur
 faulty-finishes tap text reads after start now w xs f h = h
 
 -- what stopped the taking of octets ends the reading
-pub stops-finishes : {A X N B : Type 0} (tap : TapView A X N B) (text : Bool) (reads : ℕ) (after start now : Option (List ℕ)) (w : CaptureRun A) (xs : List ℕ) (f : ToolFault)
+pub stops-finishes : {A X N B : Type 0} (tap : TapView A X N B) (text : Bool) (reads : ℕ)
+    (after start now : Option (List ℕ)) (w : CaptureRun A) (xs : List ℕ) (f : ToolFault)
     → Stops tap text start now w xs f → Finishes tap text reads after start now w xs (Err f)
 stops-finishes tap text reads after start now w xs (fault.Write sent) h = h
 stops-finishes tap text reads after start now w xs f h =
-    faulty-finishes tap text reads after start now w xs f (record { cause = h.cause; answered = h.answered; found = inl h.found; bits = h.bits })
+    faulty-finishes tap text reads after start now w xs f
+    (record { cause = h.cause; answered = h.answered; found = inl h.found; bits = h.bits })
 
 -- the end of the input ends it
-pub end-finishes : {A X N B : Type 0} (tap : TapView A X N B) → TapLaws tap → (text : Bool) (reads : ℕ) (after start now : Option (List ℕ)) (w : CaptureRun A) (xs : List ℕ) (r : Result (Unit {0}) ToolFault)
+pub end-finishes : {A X N B : Type 0} (tap : TapView A X N B) → TapLaws tap →
+    (text : Bool) (reads : ℕ) (after start now : Option (List ℕ)) (w : CaptureRun A) (xs : List ℕ)
+    (r : Result (Unit {0}) ToolFault)
     → IsSound tap w → IsAtEnd after → IsUnplaced tap text start now w xs
     → MatchResult r
     (λ _. unplaced_whole tap.form text xs ≡ record { bits = (unplaced tap.form text xs).bits; fault = None })
-    (λ f. (cause : CaptureFault) × IsSameFault f cause × (unplaced_whole tap.form text xs ≡ record { bits = (unplaced tap.form text xs).bits; fault = Some cause }))
+    (λ f. (cause : CaptureFault) × IsSameFault f cause
+    × (unplaced_whole tap.form text xs ≡ record { bits = (unplaced tap.form text xs).bits; fault = Some cause }))
     → Finishes tap text reads after start now w xs r
 end-finishes {A} {X} tap law text reads after start now w xs (Ok u) sound at h is =
     let bits = subst (λ (c : CaptureOf X). Watches tap start now w c.bits) (sym is) h.bits in

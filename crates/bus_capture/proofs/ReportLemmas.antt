@@ -1,5 +1,6 @@
 -- The report of a check, in parts.
-use Rattle.std.proofs.Common.{◌≡◌, Bool, ℕ, zero, suc, ◌+◌, ◌-◌, ◌≤◌, List, [], ◌∷◌, ◌++◌, take, drop, length, ◌<◌, inl, inr, slice_get, Option, Some, refl, sym, ap, ◌∙◌, subst, arith, append_assoc, append-nil}
+use Rattle.std.proofs.Common.{◌≡◌, Bool, ℕ, zero, suc, ◌+◌, ◌-◌, ◌≤◌, List, [], ◌∷◌, ◌++◌, take, drop, length, ◌<◌, inl}
+use Rattle.std.proofs.Common.{inr, slice_get, Option, Some, refl, sym, ap, ◌∙◌, subst, arith, append_assoc, append-nil}
 use Rattle.std.specs.List.{flat_map}
 use Rattle.std.proofs.lemmas.Grind.{flat_map-append}
 use Rattle.std.proofs.lemmas.List.{take_more, take-append-drop}
@@ -21,61 +22,81 @@ unfolding tallies_text
 tallies-more t n =
     let f = λ (station : ℕ). tally_text station (t station) in
     let one : n + 1 ≡ suc n = omega arith in
-    ap (λ m. flat_map f (places m)) one ∙ flat_map-append f (places n) (n ∷ []) ∙ ap (λ l. flat_map f (places n) ++ l) (append-nil (f n))
+    ap (λ m. flat_map f (places m)) one ∙ flat_map-append f (places n) (n ∷ [])
+    ∙ ap (λ l. flat_map f (places n) ++ l) (append-nil (f n))
 
 -- the lines of the first stations are a front of all
 tallies-front : (t : ℕ → Counts) (k d : ℕ) → (rest : List ℕ) × (tallies_text t (k + d) ≡ tallies_text t k ++ rest)
-tallies-front t k zero = ([], ap (tallies_text t) (let e : k + 0 ≡ k = omega arith in e) ∙ sym (append-nil (tallies_text t k)))
+tallies-front t k zero =
+    ([], ap (tallies_text t) (let e : k + 0 ≡ k = omega arith in e) ∙ sym (append-nil (tallies_text t k)))
 tallies-front t k (suc d) =
     let before = tallies-front t k d in
     let last = tally_text (k + d) (t (k + d)) in
-    let one : k + suc d ≡ (k + d) + 1 = omega arith in
-    (before.0 ++ last, ap (tallies_text t) one ∙ tallies-more t (k + d) ∙ ap (λ l. l ++ last) before.1 ∙ append_assoc (tallies_text t k) before.0 last)
+    let one : k + suc d ≡ (k + d) + 1 = omega arith in (
+      before.0 ++ last,
+      ap (tallies_text t) one ∙ tallies-more t (k + d) ∙ ap (λ l. l ++ last) before.1
+          ∙ append_assoc (tallies_text t k) before.0 last,
+    )
 
 -- the lines of one station more
-tallies-next : (text : List ℕ) (t : ℕ → Counts) (k : ℕ) (c : Counts) → c ≡ t k → (text ++ tallies_text t k) ++ tally_text k c ≡ text ++ tallies_text t (k + 1)
+tallies-next : (text : List ℕ) (t : ℕ → Counts) (k : ℕ) (c : Counts) → c ≡ t k →
+    (text ++ tallies_text t k) ++ tally_text k c ≡ text ++ tallies_text t (k + 1)
 tallies-next text t k c e =
     append_assoc text (tallies_text t k) (tally_text k c)
     ∙ ap (λ l. text ++ l) (ap (λ (c : Counts). tallies_text t k ++ tally_text k c) e ∙ sym (tallies-more t k))
 
-pub pages-tally : (start now : Option (List ℕ)) (page : List ℕ) (written : ℕ) (text : List ℕ) (t : ℕ → Counts) (k : ℕ) (c : Counts) → c ≡ t k
-    → Pages start now page written ((text ++ tallies_text t k) ++ tally_text k c) → Pages start now page written (text ++ tallies_text t (k + 1))
+pub pages-tally : (start now : Option (List ℕ)) (page : List ℕ) (written : ℕ) (text : List ℕ) (t : ℕ → Counts) (k : ℕ)
+    (c : Counts) → c ≡ t k
+    → Pages start now page written ((text ++ tallies_text t k) ++ tally_text k c) →
+    Pages start now page written (text ++ tallies_text t (k + 1))
 pages-tally start now page written text t k c e p = subst (Pages start now page written) (tallies-next text t k c e) p
 
 -- what is cut short at a station is a front of all lines
-pub cuts-tally : (start now : Option (List ℕ)) (text : List ℕ) (t : ℕ → Counts) (k n : ℕ) (c : Counts) (sent : ℕ) → c ≡ t k → k + 1 ≤ n
-    → Cuts start now ((text ++ tallies_text t k) ++ tally_text k c) sent → Cuts start now (text ++ tallies_text t n) sent
+pub cuts-tally : (start now : Option (List ℕ)) (text : List ℕ) (t : ℕ → Counts) (k n : ℕ) (c : Counts) (sent : ℕ) →
+    c ≡ t k → k + 1 ≤ n
+    → Cuts start now ((text ++ tallies_text t k) ++ tally_text k c) sent →
+    Cuts start now (text ++ tallies_text t n) sent
 cuts-tally start now text t k n c sent e le h =
     let front = tallies-front t (k + 1) (n - (k + 1)) in
     let all : (k + 1) + (n - (k + 1)) ≡ n = omega (arith, le) in
     let whole : (text ++ tallies_text t (k + 1)) ++ front.0 ≡ text ++ tallies_text t n =
     append_assoc text (tallies_text t (k + 1)) front.0 ∙ ap (λ l. text ++ l) (sym front.1 ∙ ap (tallies_text t) all) in
     subst (λ (l : List ℕ). Cuts start now l sent) whole
-    (cuts-more start now (text ++ tallies_text t (k + 1)) front.0 sent (subst (λ (l : List ℕ). Cuts start now l sent) (tallies-next text t k c e) h))
+    (cuts-more start now (text ++ tallies_text t (k + 1)) front.0 sent
+    (subst (λ (l : List ℕ). Cuts start now l sent) (tallies-next text t k c e) h))
 
 -- the line of one frame more
 history-next : (two : Bool) (text : List ℕ) (h : List KeptFrame) (i : ℕ) (f : KeptFrame) → slice_get h i ≡ Some f
     → (text ++ history_text two (take i h)) ++ kept_text two f ≡ text ++ history_text two (take (i + 1) h)
 history-next two text h i f e =
     let front : take (i + 1) h ≡ take i h ++ f ∷ [] =
-    take_more h i f (slice_get_within h i f e) ∙ ap (λ (x : KeptFrame). take i h ++ x ∷ []) (get_or_from_slice_get h i f f e) in
+    take_more h i f (slice_get_within h i f e)
+    ∙ ap (λ (x : KeptFrame). take i h ++ x ∷ []) (get_or_from_slice_get h i f f e) in
     let more : history_text two (take (i + 1) h) ≡ history_text two (take i h) ++ kept_text two f =
-    ap (history_text two) front ∙ flat_map-append (kept_text two) (take i h) (f ∷ []) ∙ ap (λ l. history_text two (take i h) ++ l) (append-nil (kept_text two f)) in
+    ap (history_text two) front ∙ flat_map-append (kept_text two) (take i h) (f ∷ [])
+    ∙ ap (λ l. history_text two (take i h) ++ l) (append-nil (kept_text two f)) in
     append_assoc text (history_text two (take i h)) (kept_text two f) ∙ ap (λ l. text ++ l) (sym more)
 
-pub pages-kept : (two : Bool) (start now : Option (List ℕ)) (page : List ℕ) (written : ℕ) (text : List ℕ) (h : List KeptFrame) (i : ℕ) (f : KeptFrame) → slice_get h i ≡ Some f
-    → Pages start now page written ((text ++ history_text two (take i h)) ++ kept_text two f) → Pages start now page written (text ++ history_text two (take (i + 1) h))
-pages-kept two start now page written text h i f e p = subst (Pages start now page written) (history-next two text h i f e) p
+pub pages-kept : (two : Bool) (start now : Option (List ℕ)) (page : List ℕ) (written : ℕ) (text : List ℕ)
+    (h : List KeptFrame) (i : ℕ) (f : KeptFrame) → slice_get h i ≡ Some f
+    → Pages start now page written ((text ++ history_text two (take i h)) ++ kept_text two f) →
+    Pages start now page written (text ++ history_text two (take (i + 1) h))
+pages-kept two start now page written text h i f e p =
+    subst (Pages start now page written) (history-next two text h i f e) p
 
-pub cuts-kept : (two : Bool) (start now : Option (List ℕ)) (text : List ℕ) (h : List KeptFrame) (i : ℕ) (f : KeptFrame) (sent : ℕ) → slice_get h i ≡ Some f
-    → Cuts start now ((text ++ history_text two (take i h)) ++ kept_text two f) sent → Cuts start now (text ++ history_text two h) sent
+pub cuts-kept : (two : Bool) (start now : Option (List ℕ)) (text : List ℕ) (h : List KeptFrame) (i : ℕ) (f : KeptFrame)
+    (sent : ℕ) → slice_get h i ≡ Some f
+    → Cuts start now ((text ++ history_text two (take i h)) ++ kept_text two f) sent →
+    Cuts start now (text ++ history_text two h) sent
 cuts-kept two start now text h i f sent e c =
     let rest = history_text two (drop (i + 1) h) in
     let whole : (text ++ history_text two (take (i + 1) h)) ++ rest ≡ text ++ history_text two h =
     append_assoc text (history_text two (take (i + 1) h)) rest
-    ∙ ap (λ l. text ++ l) (sym (flat_map-append (kept_text two) (take (i + 1) h) (drop (i + 1) h)) ∙ ap (history_text two) (take-append-drop (i + 1) h)) in
+    ∙ ap (λ l. text ++ l) (sym (flat_map-append (kept_text two) (take (i + 1) h) (drop (i + 1) h))
+    ∙ ap (history_text two) (take-append-drop (i + 1) h)) in
     subst (λ (l : List ℕ). Cuts start now l sent) whole
-    (cuts-more start now (text ++ history_text two (take (i + 1) h)) rest sent (subst (λ (l : List ℕ). Cuts start now l sent) (history-next two text h i f e) c))
+    (cuts-more start now (text ++ history_text two (take (i + 1) h)) rest sent
+    (subst (λ (l : List ℕ). Cuts start now l sent) (history-next two text h i f e) c))
 
 -- the three parts of a report, behind a text
 pub report-parts : (text s t h : List ℕ) → ((text ++ s) ++ t) ++ h ≡ text ++ ((s ++ t) ++ h)

@@ -1,5 +1,6 @@
 -- Packed captures, some octets more at a time.
-use Rattle.std.proofs.Common.{◌≡◌, ℕ, ◌-◌, ◌<◌, ◌≤◌, ◌^◌, false, List, [], ◌∷◌, ◌++◌, length, take, drop, get_or, Option, Some, Result, Ok, Err, MatchResult, refl, sym, ap, ◌∙◌, subst, append-nil, arith}
+use Rattle.std.proofs.Common.{◌≡◌, ℕ, ◌-◌, ◌<◌, ◌≤◌, ◌^◌, false, List, [], ◌∷◌, ◌++◌, length, take, drop, get_or}
+use Rattle.std.proofs.Common.{Option, Some, Result, Ok, Err, MatchResult, refl, sym, ap, ◌∙◌, subst, append-nil, arith}
 use Rattle.std.specs.Result.{IsErrAnd}
 use Rattle.std.proofs.lemmas.Grind.{common_steps}
 use Rattle.bus_bits.specs.Capture.{CaptureOf}
@@ -18,24 +19,31 @@ first-octet xs [] h = absurd (omega (arith, h))
 first-octet xs (o ∷ os) h = refl
 
 -- no octets were read
-pub none-read : {A X N B : Type 0} (t : TapView A X N B) (start now : Option (List ℕ)) (run : CaptureRun A) (body : B) (xs os : List ℕ) (n : ℕ) → n ≡ 0 → FollowsBody t start now body run (xs ++ take n os) → FollowsBody t start now body run xs
-none-read t start now run body xs os n e h = subst (FollowsBody t start now body run) (ap (λ (k : ℕ). xs ++ take k os) e ∙ append-nil xs) h
+pub none-read : {A X N B : Type 0} (t : TapView A X N B) (start now : Option (List ℕ)) (run : CaptureRun A) (body : B)
+    (xs os : List ℕ) (n : ℕ) → n ≡ 0 → FollowsBody t start now body run (xs ++ take n os) →
+    FollowsBody t start now body run xs
+none-read t start now run body xs os n e h =
+    subst (FollowsBody t start now body run) (ap (λ (k : ℕ). xs ++ take k os) e ∙ append-nil xs) h
 
 -- a head is filled from the front of some octets
 pub filled-head : (xs os : List ℕ) → (xs ++ take (16 - length xs) os) ++ drop (16 - length xs) os ≡ xs ++ os
 filled-head xs os = grind (arith, common_steps)
 
-pub filled-long : (xs os : List ℕ) → length xs < 16 → 16 - length xs ≤ length os → length (xs ++ take (16 - length xs) os) ≡ 16
+pub filled-long : (xs os : List ℕ) → length xs < 16 → 16 - length xs ≤ length os →
+    length (xs ++ take (16 - length xs) os) ≡ 16
 filled-long xs os short enough = grind (arith, common_steps)
 
 -- a head that was filled from some octets
-pub head-filled : (items xs os h : List ℕ) (n : ℕ) → items ≡ xs → n ≡ length items → length xs < 16 → 16 - n ≤ length os → h ≡ items ++ take (16 - n) os
+pub head-filled : (items xs os h : List ℕ) (n : ℕ) → items ≡ xs → n ≡ length items → length xs < 16 →
+    16 - n ≤ length os → h ≡ items ++ take (16 - n) os
     → (length h ≡ 16) × (h ++ drop (16 - n) os ≡ xs ++ os)
 head-filled items xs os h n e k short enough is =
     let m : n ≡ length xs = k ∙ ap length e in
-    let here : h ≡ xs ++ take (16 - length xs) os = is ∙ ap (λ (ys : List ℕ). ys ++ take (16 - n) os) e ∙ ap (λ (j : ℕ). xs ++ take (16 - j) os) m in (
+    let here : h ≡ xs ++ take (16 - length xs) os = is ∙ ap (λ (ys : List ℕ). ys ++ take (16 - n) os) e
+    ∙ ap (λ (j : ℕ). xs ++ take (16 - j) os) m in (
       ap length here ∙ filled-long xs os short (omega (arith, m, enough)),
-      ap (λ (ys : List ℕ). ys ++ drop (16 - n) os) here ∙ ap (λ (j : ℕ). (xs ++ take (16 - length xs) os) ++ drop (16 - j) os) m ∙ filled-head xs os,
+      ap (λ (ys : List ℕ). ys ++ drop (16 - n) os) here
+          ∙ ap (λ (j : ℕ). (xs ++ take (16 - length xs) os) ++ drop (16 - j) os) m ∙ filled-head xs os,
     )
 
 -- a slice to the end
@@ -43,34 +51,41 @@ pub slice-rest : (k : ℕ) (os : List ℕ) → take (length os - k) (drop k os) 
 slice-rest k os = grind (arith, common_steps)
 
 -- what was refused, where `map_err` answered an error
-pub err-mapped : {T E D : Type 0} (P : T → Type 0) (Q : E → Type 0) (Gives : E → D → Type 0) (r : Result T E) (m : Result T D) (d : D)
-    → m ≡ Err d → MatchResult r (λ x. m ≡ Ok x) (λ e. IsErrAnd m (Gives e)) → MatchResult r P Q → (e : E) × Gives e d × Q e
+pub err-mapped : {T E D : Type 0} (P : T → Type 0) (Q : E → Type 0) (Gives : E → D → Type 0) (r : Result T E)
+    (m : Result T D) (d : D)
+    → m ≡ Err d → MatchResult r (λ x. m ≡ Ok x) (λ e. IsErrAnd m (Gives e)) → MatchResult r P Q →
+    (e : E) × Gives e d × Q e
 err-mapped P Q Gives (Ok x) m d is made h = absurd (let never : ⊥ = cc in never)
 err-mapped P Q Gives (Err e) m d is made h = (e, subst (λ k. IsErrAnd k (Gives e)) is made, h)
 
 -- what was made, where it answered a value
-pub ok-mapped : {T E D : Type 0} (P : T → Type 0) (Q : E → Type 0) (Gives : E → D → Type 0) (r : Result T E) (m : Result T D) (y : T)
+pub ok-mapped : {T E D : Type 0} (P : T → Type 0) (Q : E → Type 0) (Gives : E → D → Type 0) (r : Result T E)
+    (m : Result T D) (y : T)
     → m ≡ Ok y → MatchResult r (λ x. m ≡ Ok x) (λ e. IsErrAnd m (Gives e)) → MatchResult r P Q → P y
 ok-mapped P Q Gives (Ok x) m y is made h = let same : x ≡ y = cc in subst P same h
 ok-mapped P Q Gives (Err e) m y is made h = absurd (subst (λ k. IsErrAnd k (Gives e)) is made)
 
 module _ {A X N B : Type 0} (t : TapView A X N B) where
   -- a fault of a capture that is answered stops
-  pub faulty-stops : (start now : Option (List ℕ)) (w : CaptureRun A) (c : CaptureOf X) (f : ToolFault) → Faulty t start now w c f → StopsAt t start now w c f
+  pub faulty-stops : (start now : Option (List ℕ)) (w : CaptureRun A) (c : CaptureOf X) (f : ToolFault) →
+      Faulty t start now w c f → StopsAt t start now w c f
   faulty-stops start now w c (fault.Write sent) h = absurd h.answered
   faulty-stops start now w c f h = h
 
   -- the symbols of octets were taken, or not
-  pub octets-taken : (start now : Option (List ℕ)) (w : CaptureRun A) (xs : List ℕ) (body : B) (b : List X) (r : Result (Unit {0}) ToolFault)
+  pub octets-taken : (start now : Option (List ℕ)) (w : CaptureRun A) (xs : List ℕ) (body : B) (b : List X)
+      (r : Result (Unit {0}) ToolFault)
       → t.watch.origin w.analyser ≤ 2 ^ 60 → t.is_body body xs → (t.form.packed xs).bits ≡ b
       → MatchResult r (λ _. Watches t start now w b) (λ f. Halts t start now w b f)
       → MatchResult r (λ _. FollowsBody t start now body w xs) (λ f. Stops t false start now w xs f)
-  octets-taken start now w xs body b (Ok u) low read is h = record { read = read; bits = subst (Watches t start now w) (sym is) h }
+  octets-taken start now w xs body b (Ok u) low read is h =
+      record { read = read; bits = subst (Watches t start now w) (sym is) h }
   octets-taken start now w xs body b (Err f) low read is h =
       halts-stops t start now w (t.form.packed xs) f low (subst (λ (x : List X). Halts t start now w x f) (sym is) h)
 
   -- a body that was followed is a capture that was followed
-  pub body-packed : (start now : Option (List ℕ)) (w : CaptureRun A) (p : PackedCapture B) (body : B) (ys zs : List ℕ) (r : Result (Unit {0}) ToolFault)
+  pub body-packed : (start now : Option (List ℕ)) (w : CaptureRun A) (p : PackedCapture B) (body : B) (ys zs : List ℕ)
+      (r : Result (Unit {0}) ToolFault)
       → p.body ≡ Some body → ys ≡ zs
       → MatchResult r (λ _. FollowsBody t start now body w ys) (λ f. Stops t false start now w ys f)
       → MatchResult r (λ _. FollowsPacked t start now p w zs) (λ f. Stops t false start now w zs f)
@@ -83,4 +98,5 @@ module _ {A X N B : Type 0} (t : TapView A X N B) where
   -- a body of a capture that was followed
   pub packed-body : (start now : Option (List ℕ)) (w : CaptureRun A) (p : PackedCapture B) (body : B) (xs : List ℕ)
       → p.body ≡ Some body → FollowsPacked t start now p w xs → FollowsBody t start now body w xs
-  packed-body start now w p body xs is h = record { read = subst (λ b. IsRead t p.head.items b xs) is h.read; bits = h.bits }
+  packed-body start now w p body xs is h =
+      record { read = subst (λ b. IsRead t p.head.items b xs) is h.read; bits = h.bits }

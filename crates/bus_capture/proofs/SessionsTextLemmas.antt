@@ -1,5 +1,6 @@
 -- Text captures, some octets more at a time.
-use Rattle.std.proofs.Common.{◌≡◌, ℕ, ◌+◌, ◌<◌, ◌≤◌, ◌^◌, List, ◌++◌, length, take, Option, None, sym, ap, ◌∙◌, subst, arith, append-nil, true, Result, Ok, Err, MatchResult}
+use Rattle.std.proofs.Common.{◌≡◌, ℕ, ◌+◌, ◌<◌, ◌≤◌, ◌^◌, List, ◌++◌, length, take, Option, None, sym, ap, ◌∙◌, subst}
+use Rattle.std.proofs.Common.{arith, append-nil, true, Result, Ok, Err, MatchResult}
 use Rattle.std.proofs.lemmas.Grind.{common_steps}
 use Rattle.bus_capture.specs.Internal.Taps.{TapView}
 use Rattle.bus_capture.specs.Internal.Watching.{Watches, Halts}
@@ -20,10 +21,12 @@ module _ {A X N B : Type 0} (t : TapView A X N B) where
       subst (FollowsOctets t start now w) (ap (λ (k : ℕ). xs ++ take k ys) e ∙ append-nil xs) h
 
   -- the symbols of a text were taken, or not
-  pub mark-taken : (start now : Option (List ℕ)) (w : CaptureRun A) (xs : List ℕ) (b : List X) (r : Result (Unit {0}) ToolFault)
+  pub mark-taken : (start now : Option (List ℕ)) (w : CaptureRun A) (xs : List ℕ) (b : List X)
+      (r : Result (Unit {0}) ToolFault)
       → t.watch.origin w.analyser ≤ 2 ^ 60 → (t.form.text xs).fault ≡ None → (t.form.text xs).bits ≡ b
       → MatchResult r (λ _. Watches t start now w b) (λ f. Halts t start now w b f)
       → MatchResult r (λ _. FollowsOctets t start now w xs) (λ f. Stops t true start now w xs f)
-  mark-taken start now w xs b (Ok u) low clean is h = record { clean = clean; bits = subst (Watches t start now w) (sym is) h }
+  mark-taken start now w xs b (Ok u) low clean is h =
+      record { clean = clean; bits = subst (Watches t start now w) (sym is) h }
   mark-taken start now w xs b (Err f) low clean is h =
       halts-stops t start now w (t.form.text xs) f low (subst (λ (x : List X). Halts t start now w x f) (sym is) h)

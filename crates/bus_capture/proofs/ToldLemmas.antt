@@ -1,5 +1,6 @@
 -- Symbols at which all that is seen was told.
-use Rattle.std.proofs.Common.{◌≡◌, ℕ, ◌+◌, ◌-◌, ◌*◌, ◌<◌, ◌≤◌, ◌^◌, Bool, List, [], ◌++◌, length, zip, Option, Some, None, refl, sym, ap, ◌∙◌, subst, arith, length-append, append-nil, append_assoc}
+use Rattle.std.proofs.Common.{◌≡◌, ℕ, ◌+◌, ◌-◌, ◌*◌, ◌<◌, ◌≤◌, ◌^◌, Bool, List, [], ◌++◌, length, zip, Option, Some}
+use Rattle.std.proofs.Common.{None, refl, sym, ap, ◌∙◌, subst, arith, length-append, append-nil, append_assoc}
 use Rattle.bus_bits.specs.Bits.{bits_from}
 use Rattle.bus_watch.specs.Watch.{LeadsTold, seen_by}
 use Rattle.bus_text.specs.Put.{Cuts}
@@ -15,36 +16,54 @@ use Rattle.bus_watch.proofs.PairScanLemmas.{length-zipped, zip-met}
 use Rattle.bus_capture.proofs.WatchingLemmas.{halted, halts-more, lines-more, watched, within-all}
 
 module _ {A X N B : Type 0} (t : TapView A X N B) (w v : CaptureRun A) (xs : List X) (before after : Option (List ℕ))
-    (all : LeadsTold t.watch w.analyser xs v.analyser (λ ss. Tells (t.watch.dictionary w.analyser) (record w.teller { cut = None }) before ss v.teller after)) where
+    (all : LeadsTold t.watch w.analyser xs v.analyser
+    (λ ss. Tells (t.watch.dictionary w.analyser) (record w.teller { cut = None }) before ss v.teller after)) where
   pub told-same : IsSame t w v
-  told-same = record { printer = all.told.printer; dictionary = all.sees.dictionary; depth = all.sees.depth; origin = all.sees.origin }
+  told-same =
+      record {
+        printer = all.told.printer;
+        dictionary = all.sees.dictionary;
+        depth = all.sees.depth;
+        origin = all.sees.origin;
+      }
 
   pub told-sound : t.watch.place w.analyser + length xs ≤ 2 ^ 60 → IsSound t w → IsSound t v
   told-sound room h =
       let place = t.watch.place w.analyser in
       record {
         places = omega (arith, all.sees.place, room);
-        counts = few-within (2 * place + length all.seen) (2 * t.watch.place v.analyser) v.teller.summary (omega (arith, all.sees.place, all.few)) (all.told.few (2 * place) h.counts);
+        counts = few-within (2 * place + length all.seen) (2 * t.watch.place v.analyser) v.teller.summary
+            (omega (arith, all.sees.place, all.few)) (all.told.few (2 * place) h.counts);
         octets = let o = h.octets in omega (arith, all.sees.place, all.few, all.told.octets, o);
       }
 
   -- the lines that were told
   out : (start : Option (List ℕ)) (b : List X) → Watches t start before w b
-      → IsOut start after v.teller.page v.teller.cut (lines t w b ++ printed w.teller.printer (t.watch.dictionary w.analyser) all.seen)
+      → IsOut start after v.teller.page v.teller.cut
+      (lines t w b ++ printed w.teller.printer (t.watch.dictionary w.analyser) all.seen)
   out start b h = all.told.out start (lines t w b) h.page
 
-  pub told-watched : v.teller.cut ≡ None → (start : Option (List ℕ)) (b : List X) → Watches t start before w b → Watches t start after v (b ++ xs)
+  pub told-watched : v.teller.cut ≡ None → (start : Option (List ℕ)) (b : List X) → Watches t start before w b →
+      Watches t start after v (b ++ xs)
   told-watched none start b h =
-      watched t start before after w v b xs all.seen all.told.printer h all.sees (all.told.counted (seen_by t.watch w.analyser b) h.counts none)
-      (subst (λ cut. IsOut start after v.teller.page cut (lines t w b ++ printed w.teller.printer (t.watch.dictionary w.analyser) all.seen)) none (out start b h))
+      watched t start before after w v b xs all.seen all.told.printer h all.sees
+      (all.told.counted (seen_by t.watch w.analyser b) h.counts none)
+      (subst (λ cut. IsOut start after v.teller.page cut
+      (lines t w b ++ printed w.teller.printer (t.watch.dictionary w.analyser) all.seen)) none (out start b h))
 
   -- the writer was cut off
-  pub told-cut : TapLaws t → (cut : ShortWrite) → v.teller.cut ≡ Some cut → t.watch.place w.analyser + length xs ≤ 2 ^ 60
-      → (start : Option (List ℕ)) (b : List X) → Watches t start before w b → Halts t start after v (b ++ xs) (fault.Write cut.sent)
+  pub told-cut : TapLaws t → (cut : ShortWrite) → v.teller.cut ≡ Some cut →
+      t.watch.place w.analyser + length xs ≤ 2 ^ 60
+      → (start : Option (List ℕ)) (b : List X) → Watches t start before w b →
+      Halts t start after v (b ++ xs) (fault.Write cut.sent)
   told-cut law cut some room start b h =
       let text = lines-more t w v b xs all.seen all.told.printer h.is_after all.sees in
-      let short = subst (λ o. IsOut start after v.teller.page o (lines t w b ++ printed w.teller.printer (t.watch.dictionary w.analyser) all.seen)) some (out start b h) in
-      let fits : t.watch.origin v.analyser + length (b ++ xs) ≤ 2 ^ 60 = omega (arith, all.sees.origin, law.placed w.analyser b h.is_after, room, length-append b xs) in
+      let short =
+      subst
+      (λ o. IsOut start after v.teller.page o
+      (lines t w b ++ printed w.teller.printer (t.watch.dictionary w.analyser) all.seen)) some (out start b h) in
+      let fits : t.watch.origin v.analyser + length (b ++ xs) ≤ 2 ^ 60 =
+      omega (arith, all.sees.origin, law.placed w.analyser b h.is_after, room, length-append b xs) in
       record {
         front = b ++ xs;
         more = [];
@@ -61,17 +80,22 @@ pairs-behind b os ys n count l =
     let all : count ≡ n + (count - n) = omega (arith, l) in
     ap (λ (k : ℕ). b ++ zip (bits_from os 0 k) (bits_from ys 0 k)) all
     ∙ (ap (λ ps. b ++ ps) (zip-met os ys n (count - n))
-    ∙ sym (append_assoc b (zip (bits_from os 0 n) (bits_from ys 0 n)) (zip (bits_from os n (count - n)) (bits_from ys n (count - n)))))
+    ∙ sym (append_assoc b (zip (bits_from os 0 n) (bits_from ys 0 n))
+    (zip (bits_from os n (count - n)) (bits_from ys n (count - n)))))
 
 -- what stopped in the first of them, stops in all
-pub halts-behind : {A N B : Type 0} (t : TapView A (Bool × Bool) N B) (start now : Option (List ℕ)) (w : CaptureRun A) (b : List (Bool × Bool)) (os ys : List ℕ) (n count : ℕ) (f : ToolFault)
-    → n ≤ count → Halts t start now w (b ++ zip (bits_from os 0 n) (bits_from ys 0 n)) f → Halts t start now w (b ++ zip (bits_from os 0 count) (bits_from ys 0 count)) f
+pub halts-behind : {A N B : Type 0} (t : TapView A (Bool × Bool) N B) (start now : Option (List ℕ)) (w : CaptureRun A)
+    (b : List (Bool × Bool)) (os ys : List ℕ) (n count : ℕ) (f : ToolFault)
+    → n ≤ count → Halts t start now w (b ++ zip (bits_from os 0 n) (bits_from ys 0 n)) f →
+    Halts t start now w (b ++ zip (bits_from os 0 count) (bits_from ys 0 count)) f
 halts-behind t start now w b os ys n count f l h =
     subst (λ ps. Halts t start now w ps f) (sym (pairs-behind b os ys n count l)) (halts-more t start now w _ _ f h)
 
 -- all that have a place were followed, and others have none
-pub limited : {A N B : Type 0} (t : TapView A (Bool × Bool) N B) → TapLaws t → (start now : Option (List ℕ)) (w : CaptureRun A) (b : List (Bool × Bool)) (os ys : List ℕ) (n count : ℕ)
-    → n < count → 2 ^ 60 ≤ t.watch.place w.analyser → IsSound t w → Watches t start now w (b ++ zip (bits_from os 0 n) (bits_from ys 0 n))
+pub limited : {A N B : Type 0} (t : TapView A (Bool × Bool) N B) → TapLaws t →
+    (start now : Option (List ℕ)) (w : CaptureRun A) (b : List (Bool × Bool)) (os ys : List ℕ) (n count : ℕ)
+    → n < count → 2 ^ 60 ≤ t.watch.place w.analyser → IsSound t w →
+    Watches t start now w (b ++ zip (bits_from os 0 n) (bits_from ys 0 n))
     → Halts t start now w (b ++ zip (bits_from os 0 count) (bits_from ys 0 count)) fault.PlaceLimit
 limited t law start now w b os ys n count more limit sound h =
     subst (λ ps. Halts t start now w ps fault.PlaceLimit) (sym (pairs-behind b os ys n count (omega (arith, more))))

@@ -1,5 +1,6 @@
 -- Captures of two lines.
-use Rattle.std.proofs.Common.{◌≡◌, ℕ, ◌+◌, ◌*◌, ◌/◌, ◌%◌, ◌^◌, Bool, List, [], ◌∷◌, ◌++◌, length, take, zip, Some, sym, ap, ◌∙◌, arith}
+use Rattle.std.proofs.Common.{◌≡◌, ℕ, ◌+◌, ◌*◌, ◌/◌, ◌%◌, ◌^◌, Bool, List, [], ◌∷◌, ◌++◌, length, take, zip, Some, sym}
+use Rattle.std.proofs.Common.{ap, ◌∙◌, arith}
 use Rattle.std.specs.Array.{IsFirstChunk}
 use Rattle.std.proofs.lemmas.List.{length-map}
 use mir.Val.{bool_byte}
@@ -24,7 +25,8 @@ one_pair x y a b e f =
     ∙ ap (zip (a ∷ [])) (one_bit y 1 b f (omega arith) (omega arith))
 
 -- as many pairs as each line has bits
-pub placed-pairs : (place origin : ℕ) (ps : List (Bool × Bool)) → place ≡ origin + length (firsts ps) → place ≡ origin + length ps
+pub placed-pairs : (place origin : ℕ) (ps : List (Bool × Bool)) → place ≡ origin + length (firsts ps) →
+    place ≡ origin + length ps
 placed-pairs place origin ps e = omega (arith, e, length-map ps (λ (p : Bool × Bool). p.0))
 
 -- no octets after a head give no pairs
@@ -38,5 +40,7 @@ unfolding packed_pair_whole packed_pair_capture
 same_pairs xs = whole-bits (pair_head_fault xs) pair_body xs
 
 -- a report counts the same whatever its line
-pub counted-on : (before : List SeenReport) (line : Line) (octets : List ℕ) (f : Finding) → summary_of (before ++ found octets f ∷ []) ≡ summary_of (before ++ found_on (Some line) octets f ∷ [])
-counted-on before line octets f = summary-more before (found octets f) ∙ sym (summary-more before (found_on (Some line) octets f))
+pub counted-on : (before : List SeenReport) (line : Line) (octets : List ℕ) (f : Finding) →
+    summary_of (before ++ found octets f ∷ []) ≡ summary_of (before ++ found_on (Some line) octets f ∷ [])
+counted-on before line octets f = summary-more before (found octets f)
+    ∙ sym (summary-more before (found_on (Some line) octets f))

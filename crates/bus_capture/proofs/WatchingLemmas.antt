@@ -1,5 +1,7 @@
 -- What is known of the symbols that are followed, some more at a time.
-use Rattle.std.proofs.Common.{◌≡◌, ℕ, zero, suc, ◌+◌, ◌-◌, ◌*◌, ◌<◌, ◌≤◌, ◌^◌, List, [], ◌∷◌, ◌++◌, length, take, drop, get_or, Option, Some, None, Result, Ok, Err, MatchResult, IfOk, refl, sym, ap, ◌∙◌, subst, arith, append_assoc, append-nil, length-append, true, false, inl, inr}
+use Rattle.std.proofs.Common.{◌≡◌, ℕ, zero, suc, ◌+◌, ◌-◌, ◌*◌, ◌<◌, ◌≤◌, ◌^◌, List, [], ◌∷◌, ◌++◌, length, take, drop}
+use Rattle.std.proofs.Common.{get_or, Option, Some, None, Result, Ok, Err, MatchResult, IfOk, refl, sym, ap, ◌∙◌, subst}
+use Rattle.std.proofs.Common.{arith, append_assoc, append-nil, length-append, true, false, inl, inr}
 use Rattle.std.proofs.lemmas.Bool.{cases_lt}
 use Rattle.std.proofs.lemmas.Grind.{common_steps}
 use Rattle.std.proofs.Math.Seq.{take-add, drop-append_seam}
@@ -15,7 +17,8 @@ use Rattle.bus_text.specs.Counting.{IsFew}
 use Rattle.bus_text.specs.Internal.Pages.{Pages}
 use Rattle.bus_text.specs.Put.{Cuts}
 use Rattle.bus_capture.specs.Internal.Taps.{TapView, TapLaws}
-use Rattle.bus_capture.specs.Internal.Watching.{IsSound, Watches, IsSame, Halts, printed, ended, lines, last_lines, heard_by, within}
+use Rattle.bus_capture.specs.Internal.Watching.{IsSound, Watches, IsSame, Halts, printed, ended, lines, last_lines}
+use Rattle.bus_capture.specs.Internal.Watching.{heard_by, within}
 use Rattle.bus_text.specs.declared.printer.Printer.{Printer}
 use Rattle.bus_capture.specs.declared.run.CaptureRun.{CaptureRun}
 use Rattle.bus_text.specs.declared.fault.ToolFault.{ToolFault}
@@ -29,7 +32,8 @@ pub within-all : {X : Type 0} (origin : ℕ) (b : List X) → origin + length b 
 within-all origin b h = take_all (2 ^ 60 - origin) b (omega (arith, h))
 
 -- some more, where the place has come to its end
-pub within-front : {X : Type 0} (origin : ℕ) (b more : List X) → origin + length b ≡ 2 ^ 60 → within origin (b ++ more) ≡ b
+pub within-front : {X : Type 0} (origin : ℕ) (b more : List X) → origin + length b ≡ 2 ^ 60 →
+    within origin (b ++ more) ≡ b
 within-front origin b more h =
     take-append-le (2 ^ 60 - origin) b more (omega (arith, h)) ∙ take_all (2 ^ 60 - origin) b (omega (arith, h))
 
@@ -42,10 +46,12 @@ take-split (suc n) (x ∷ xs) ys =
     ap (λ zs. x ∷ zs) (take-split n xs ys ∙ ap (λ (k : ℕ). take n xs ++ take k ys) fewer)
 
 -- an item of a list, behind those before it
-pub item-middle : {X : Type 0} (b xs : List X) (i : ℕ) (x d : X) → i < length xs → x ≡ get_or xs i d → ((b ++ take i xs) ++ x ∷ []) ++ drop (i + 1) xs ≡ b ++ xs
+pub item-middle : {X : Type 0} (b xs : List X) (i : ℕ) (x d : X) → i < length xs → x ≡ get_or xs i d →
+    ((b ++ take i xs) ++ x ∷ []) ++ drop (i + 1) xs ≡ b ++ xs
 item-middle b xs i x d h is = grind (arith, common_steps)
 
-pub item-next : {X : Type 0} (b xs : List X) (i : ℕ) (x d : X) → i < length xs → x ≡ get_or xs i d → (b ++ take i xs) ++ x ∷ [] ≡ b ++ take (i + 1) xs
+pub item-next : {X : Type 0} (b xs : List X) (i : ℕ) (x d : X) → i < length xs → x ≡ get_or xs i d →
+    (b ++ take i xs) ++ x ∷ [] ≡ b ++ take (i + 1) xs
 item-next b xs i x d h is = grind (arith, common_steps)
 
 drop-drop : {X : Type 0} (i n : ℕ) (xs : List X) → drop n (drop i xs) ≡ drop (i + n) xs
@@ -57,13 +63,16 @@ below place h = elim (cases_lt (2 ^ 60) place) [ inl u ↦ absurd (let e = h u i
 
 module _ {A X N B : Type 0} (t : TapView A X N B) where
   -- what is seen depends on dictionary and origin alone
-  pub seen-same : (a c : A) (b : List X) → t.watch.dictionary c ≡ t.watch.dictionary a → t.watch.origin c ≡ t.watch.origin a → seen_by t.watch c b ≡ seen_by t.watch a b
+  pub seen-same : (a c : A) (b : List X) → t.watch.dictionary c ≡ t.watch.dictionary a →
+      t.watch.origin c ≡ t.watch.origin a → seen_by t.watch c b ≡ seen_by t.watch a b
   seen-same a c b d o =
       ap (λ (x : List FrameType). seen x (t.watch.hears (t.watch.origin c) (longest_of x) b)) d
       ∙ ap (λ (n : ℕ). seen (t.watch.dictionary a) (t.watch.hears n (longest_of (t.watch.dictionary a)) b)) o
 
   -- and so with the lines
-  pub lines-same : (w v : CaptureRun A) (b : List X) → v.teller.printer ≡ w.teller.printer → t.watch.dictionary v.analyser ≡ t.watch.dictionary w.analyser → t.watch.origin v.analyser ≡ t.watch.origin w.analyser → lines t v b ≡ lines t w b
+  pub lines-same : (w v : CaptureRun A) (b : List X) → v.teller.printer ≡ w.teller.printer →
+      t.watch.dictionary v.analyser ≡ t.watch.dictionary w.analyser →
+      t.watch.origin v.analyser ≡ t.watch.origin w.analyser → lines t v b ≡ lines t w b
   lines-same w v b p d o =
       ap (λ x. printed x (t.watch.dictionary v.analyser) (seen_by t.watch v.analyser b)) p
       ∙ ap (λ (x : List FrameType). printed w.teller.printer x (seen_by t.watch v.analyser b)) d
@@ -76,7 +85,8 @@ module _ {A X N B : Type 0} (t : TapView A X N B) where
 
   -- the lines of more symbols
   pub lines-more : (w v : CaptureRun A) (b more : List X) (told : List SeenReport)
-      → v.teller.printer ≡ w.teller.printer → t.watch.is_after w.analyser b → Leads t.watch w.analyser more told v.analyser
+      → v.teller.printer ≡ w.teller.printer → t.watch.is_after w.analyser b →
+      Leads t.watch w.analyser more told v.analyser
       → lines t v (b ++ more) ≡ lines t w b ++ printed w.teller.printer (t.watch.dictionary w.analyser) told
   lines-more w v b more told p s e =
       ap (λ x. printed x (t.watch.dictionary v.analyser) (seen_by t.watch v.analyser (b ++ more))) p
@@ -88,31 +98,38 @@ module _ {A X N B : Type 0} (t : TapView A X N B) where
   pub watched : (start now later : Option (List ℕ)) (w v : CaptureRun A) (b more : List X) (told : List SeenReport)
       → v.teller.printer ≡ w.teller.printer → Watches t start now w b → Leads t.watch w.analyser more told v.analyser
       → v.teller.summary ≡ summary_of (seen_by t.watch w.analyser b ++ told)
-      → Pages start later v.teller.page.text v.teller.page.written (lines t w b ++ printed w.teller.printer (t.watch.dictionary w.analyser) told)
+      → Pages start later v.teller.page.text v.teller.page.written
+      (lines t w b ++ printed w.teller.printer (t.watch.dictionary w.analyser) told)
       → Watches t start later v (b ++ more)
   watched start now later w v b more told p h e counts page = record {
     is_after = e.is_after b h.is_after;
     counts = counts ∙ ap summary_of (sym (seen-more w.analyser v.analyser b more told h.is_after e));
-    page = subst (Pages start later v.teller.page.text v.teller.page.written) (sym (lines-more w v b more told p h.is_after e)) page;
+    page = subst (Pages start later v.teller.page.text v.teller.page.written)
+        (sym (lines-more w v b more told p h.is_after e)) page;
   }
 
   -- symbols at which nothing is seen were followed
   pub unheard : (start now : Option (List ℕ)) (w v : CaptureRun A) (b more : List X) (told : List SeenReport)
-      → v ≡ record w { analyser = v.analyser } → told ≡ [] → Watches t start now w b → Leads t.watch w.analyser more told v.analyser → Watches t start now v (b ++ more)
+      → v ≡ record w { analyser = v.analyser } → told ≡ [] → Watches t start now w b →
+      Leads t.watch w.analyser more told v.analyser → Watches t start now v (b ++ more)
   unheard start now w v b more told same none h e =
       let d = t.watch.dictionary w.analyser in
       let before = seen_by t.watch w.analyser b in
-      let seen : before ≡ before ++ told = sym (append-nil before) ∙ ap (λ (x : List SeenReport). before ++ x) (sym none) in
+      let seen : before ≡ before ++ told = sym (append-nil before)
+      ∙ ap (λ (x : List SeenReport). before ++ x) (sym none) in
       let text : lines t w b ≡ lines t w b ++ printed w.teller.printer d told =
-      sym (append-nil (lines t w b)) ∙ ap (λ (x : List ℕ). lines t w b ++ x) (sym (printed-none w.teller.printer d) ∙ ap (printed w.teller.printer d) (sym none)) in
+      sym (append-nil (lines t w b)) ∙ ap (λ (x : List ℕ). lines t w b ++ x)
+      (sym (printed-none w.teller.printer d) ∙ ap (printed w.teller.printer d) (sym none)) in
       let page : v.teller.page ≡ w.teller.page = ap (λ (r : CaptureRun A). r.teller.page) same in
       watched start now now w v b more told (ap (λ (r : CaptureRun A). r.teller.printer) same) h e
       (ap (λ (r : CaptureRun A). r.teller.summary) same ∙ (h.counts ∙ ap summary_of seen))
-      (subst (Pages start now v.teller.page.text v.teller.page.written) text (subst (λ (x : Page). Pages start now x.text x.written (lines t w b)) (sym page) h.page))
+      (subst (Pages start now v.teller.page.text v.teller.page.written) text
+      (subst (λ (x : Page). Pages start now x.text x.written (lines t w b)) (sym page) h.page))
 
   -- symbols that have no place stop the following
   pub halted : TapLaws t → (start now : Option (List ℕ)) (w v : CaptureRun A) (b more : List X)
-      → v ≡ w → 0 < length more → 2 ^ 60 ≤ t.watch.place w.analyser → IsSound t w → Watches t start now w b → Halts t start now v (b ++ more) fault.PlaceLimit
+      → v ≡ w → 0 < length more → 2 ^ 60 ≤ t.watch.place w.analyser → IsSound t w → Watches t start now w b →
+      Halts t start now v (b ++ more) fault.PlaceLimit
   halted law start now w v b more e some limit sound h =
       let origin = t.watch.origin w.analyser in
       let place : t.watch.place w.analyser ≡ origin + length b = law.placed w.analyser b h.is_after in
@@ -123,12 +140,16 @@ module _ {A X N B : Type 0} (t : TapView A X N B) where
       (over, subst (Watches t start now w) (sym (within-front origin b more end)) h)
 
   -- a writer was cut off before the lines of some symbols
-  pub cut-off : TapLaws t → (start now : Option (List ℕ)) (w v : CaptureRun A) (b more : List X) (told : List SeenReport) (sent : ℕ)
-      → v.teller.printer ≡ w.teller.printer → t.watch.place w.analyser + length more ≤ 2 ^ 60 → t.watch.is_after w.analyser b → Leads t.watch w.analyser more told v.analyser
-      → Cuts start now (lines t w b) sent → sent < length (lines t w b) → Halts t start now v (b ++ more) (fault.Write sent)
+  pub cut-off : TapLaws t → (start now : Option (List ℕ)) (w v : CaptureRun A) (b more : List X)
+      (told : List SeenReport) (sent : ℕ)
+      → v.teller.printer ≡ w.teller.printer → t.watch.place w.analyser + length more ≤ 2 ^ 60 →
+      t.watch.is_after w.analyser b → Leads t.watch w.analyser more told v.analyser
+      → Cuts start now (lines t w b) sent → sent < length (lines t w b) →
+      Halts t start now v (b ++ more) (fault.Write sent)
   cut-off law start now w v b more told sent p place s e cut short =
       let is_after : t.watch.place w.analyser ≡ t.watch.origin w.analyser + length b = law.placed w.analyser b s in
-      let fits : t.watch.origin v.analyser + length (b ++ more) ≤ 2 ^ 60 = omega (arith, e.origin, is_after, place, length-append b more) in
+      let fits : t.watch.origin v.analyser + length (b ++ more) ≤ 2 ^ 60 =
+      omega (arith, e.origin, is_after, place, length-append b more) in
       record {
         front = b;
         more = more;
@@ -151,34 +172,42 @@ module _ {A X N B : Type 0} (t : TapView A X N B) where
       record {
         front = h.front;
         more = h.more ++ take (n - length b) more;
-        all = take-split n b more ∙ ap (λ (x : List X). x ++ take (n - length b) more) h.all ∙ append_assoc h.front h.more (take (n - length b) more);
+        all = take-split n b more ∙ ap (λ (x : List X). x ++ take (n - length b) more) h.all
+            ∙ append_assoc h.front h.more (take (n - length b) more);
         cut = h.cut;
         short = h.short;
       }
   halts-more start now w b more _ h = absurd h
 
   -- the first symbols of a word, and the others
-  pub word-parts : TapLaws t → (b : List X) (n count : ℕ) (word : N) → n ≤ count → b ++ t.symbols count word ≡ (b ++ t.symbols n word) ++ drop n (t.symbols count word)
+  pub word-parts : TapLaws t → (b : List X) (n count : ℕ) (word : N) → n ≤ count →
+      b ++ t.symbols count word ≡ (b ++ t.symbols n word) ++ drop n (t.symbols count word)
   word-parts law b n count word le =
       let all = t.symbols count word in
-      ap (λ (z : List X). b ++ z) (sym (take-append-drop n all) ∙ ap (λ (z : List X). z ++ drop n all) (sym (law.front n count word le)))
+      ap (λ (z : List X). b ++ z) (sym (take-append-drop n all)
+      ∙ ap (λ (z : List X). z ++ drop n all) (sym (law.front n count word le)))
       ∙ sym (append_assoc b (t.symbols n word) (drop n all))
 
   -- what stopped in the first symbols of a word, stops in all of them
-  pub halts-word : TapLaws t → (start now : Option (List ℕ)) (w : CaptureRun A) (b : List X) (n count : ℕ) (word : N) (f : ToolFault)
+  pub halts-word : TapLaws t → (start now : Option (List ℕ)) (w : CaptureRun A) (b : List X) (n count : ℕ) (word : N)
+      (f : ToolFault)
       → n ≤ count → Halts t start now w (b ++ t.symbols n word) f → Halts t start now w (b ++ t.symbols count word) f
   halts-word law start now w b n count word f le h =
       subst (λ (z : List X). Halts t start now w z f) (sym (word-parts law b n count word le))
       (halts-more start now w (b ++ t.symbols n word) (drop n (t.symbols count word)) f h)
 
   -- the first symbol of a word was taken alone, or not
-  pub front-taken : TapLaws t → (start now : Option (List ℕ)) (w : CaptureRun A) (b : List X) (count : ℕ) (word front : N) (r : Result ℕ ToolFault)
+  pub front-taken : TapLaws t → (start now : Option (List ℕ)) (w : CaptureRun A) (b : List X) (count : ℕ)
+      (word front : N) (r : Result ℕ ToolFault)
       → 1 ≤ count → t.symbols 1 front ≡ t.symbols 1 word → IfOk r (λ n. (1 ≤ n) × (n ≤ 1))
-      → MatchResult r (λ n. Watches t start now w (b ++ t.symbols n front)) (λ f. Halts t start now w (b ++ t.symbols 1 front) f)
-      → MatchResult r (λ n. Watches t start now w (b ++ t.symbols n word)) (λ f. Halts t start now w (b ++ t.symbols count word) f)
+      → MatchResult r (λ n. Watches t start now w (b ++ t.symbols n front))
+      (λ f. Halts t start now w (b ++ t.symbols 1 front) f)
+      → MatchResult r (λ n. Watches t start now w (b ++ t.symbols n word))
+      (λ f. Halts t start now w (b ++ t.symbols count word) f)
   front-taken law start now w b count word front (Ok n) some is within h =
       let one : n ≡ 1 = omega (arith, within.0, within.1) in
-      subst (λ (z : List X). Watches t start now w (b ++ z)) (ap (λ (k : ℕ). t.symbols k front) one ∙ is ∙ ap (λ (k : ℕ). t.symbols k word) (sym one)) h
+      subst (λ (z : List X). Watches t start now w (b ++ z))
+      (ap (λ (k : ℕ). t.symbols k front) one ∙ is ∙ ap (λ (k : ℕ). t.symbols k word) (sym one)) h
   front-taken law start now w b count word front (Err f) some is within h =
       halts-word law start now w b 1 count word f some (subst (λ (z : List X). Halts t start now w (b ++ z) f) is h)
 
@@ -212,34 +241,43 @@ module _ {A X N B : Type 0} (t : TapView A X N B) where
   same-self w = record { printer = refl; dictionary = refl; depth = refl; origin = refl }
 
   -- some symbols more are sound where they add two to each count at most, and 2048 octets
-  pub sound-next : (w v : CaptureRun A) (n : ℕ) → 1 ≤ n → t.watch.place v.analyser ≡ t.watch.place w.analyser + n → t.watch.place w.analyser + n ≤ 2 ^ 60
+  pub sound-next : (w v : CaptureRun A) (n : ℕ) → 1 ≤ n → t.watch.place v.analyser ≡ t.watch.place w.analyser + n →
+      t.watch.place w.analyser + n ≤ 2 ^ 60
       → IsFew (2 * t.watch.place w.analyser + 2) v.teller.summary
       → v.teller.page.written + length v.teller.page.text ≤ w.teller.page.written + length w.teller.page.text + 2048
       → IsSound t w → IsSound t v
   sound-next w v n some e le few octets h = record {
     places = omega (arith, e, le);
-    counts = few-within (2 * t.watch.place w.analyser + 2) (2 * t.watch.place v.analyser) v.teller.summary (omega (arith, e, some)) few;
+    counts = few-within (2 * t.watch.place w.analyser + 2) (2 * t.watch.place v.analyser) v.teller.summary
+        (omega (arith, e, some)) few;
     octets = let o = h.octets in omega (arith, e, octets, o, some);
   }
 
   -- without a printer there are no lines of the end
   pub pages-unended : (start now : Option (List ℕ)) (w : CaptureRun A) (b : List X) (page later : Page)
       → w.teller.printer ≡ None → later ≡ page
-      → Pages start now page.text page.written (lines t w b) → Pages start now later.text later.written (lines t w b ++ last_lines t w b)
+      → Pages start now page.text page.written (lines t w b) →
+      Pages start now later.text later.written (lines t w b ++ last_lines t w b)
   pages-unended start now w b page later e l h =
       let waits = pending (t.watch.dictionary w.analyser) (heard_by t.watch w.analyser b) in
       subst (λ (x : Page). Pages start now x.text x.written (lines t w b ++ last_lines t w b)) (sym l)
-      (subst (λ (z : List ℕ). Pages start now page.text page.written z) (sym (ap (λ x. lines t w b ++ ended x (t.form.ending (t.watch.origin w.analyser) b waits)) e ∙ append-nil (lines t w b))) h)
+      (subst (λ (z : List ℕ). Pages start now page.text page.written z)
+      (sym (ap (λ x. lines t w b ++ ended x (t.form.ending (t.watch.origin w.analyser) b waits)) e
+      ∙ append-nil (lines t w b))) h)
 
   -- the lines of the end were put on the page
   pub pages-ended : (start now : Option (List ℕ)) (w : CaptureRun A) (b : List X) (p : Printer) (page put later : Page)
       → w.teller.printer ≡ Some p → later ≡ put
-      → put.text ≡ page.text ++ ending_text p (t.form.ending (t.watch.origin w.analyser) b (pending (t.watch.dictionary w.analyser) (heard_by t.watch w.analyser b)))
+      → put.text ≡ page.text ++ ending_text p
+      (t.form.ending (t.watch.origin w.analyser) b
+      (pending (t.watch.dictionary w.analyser) (heard_by t.watch w.analyser b)))
       → put.written ≡ page.written
-      → Pages start now page.text page.written (lines t w b) → Pages start now later.text later.written (lines t w b ++ last_lines t w b)
+      → Pages start now page.text page.written (lines t w b) →
+      Pages start now later.text later.written (lines t w b ++ last_lines t w b)
   pages-ended start now w b p page put later e l bytes written h =
       let waits = pending (t.watch.dictionary w.analyser) (heard_by t.watch w.analyser b) in
-      let last : put.text ≡ page.text ++ last_lines t w b = bytes ∙ ap (λ x. page.text ++ ended x (t.form.ending (t.watch.origin w.analyser) b waits)) (sym e) in
+      let last : put.text ≡ page.text ++ last_lines t w b =
+      bytes ∙ ap (λ x. page.text ++ ended x (t.form.ending (t.watch.origin w.analyser) b waits)) (sym e) in
       subst (λ (x : Page). Pages start now x.text x.written (lines t w b ++ last_lines t w b)) (sym l)
       (subst (λ (n : ℕ). Pages start now put.text n (lines t w b ++ last_lines t w b)) (sym written)
       (pages-more start now page.text put.text page.written (lines t w b) (last_lines t w b) last h))

@@ -1,7 +1,8 @@
 -- The captures of one line and of two, and what is seen of them.
 use Rattle.std.specs.Prelude.{◌≡◌, ◌⊎◌, ℕ, Bool, true, false, List, if◌then◌else◌, Option, Some}
 use Rattle.std.specs.Io.KnownBytes.{IsAtEnd}
-use Rattle.bus_bits.specs.Capture.{CaptureOf, text_capture, text_pair_capture, capped, CaptureFault, bad_mark, magic, too_many, pad_bits, trailing, place_limit, short_head, short_body}
+use Rattle.bus_bits.specs.Capture.{CaptureOf, text_capture, text_pair_capture, capped, CaptureFault, bad_mark, magic}
+use Rattle.bus_bits.specs.Capture.{too_many, pad_bits, trailing, place_limit, short_head, short_body}
 use Rattle.bus_bits.specs.Packed.{packed_capture, packed_whole, packed_pair_capture, packed_pair_whole}
 use Rattle.bus_dictionary.specs.Entry.{FrameType}
 use Rattle.bus_dictionary.specs.Dictionary.{longest_of}
@@ -12,7 +13,8 @@ use Rattle.bus_watch.specs.Shown.{begun_span}
 use Rattle.bus_watch.specs.declared.pending.Pending.{Pending}
 use Rattle.bus_text.specs.Listing.{Line, ending_lines, pair_ending_lines}
 use Rattle.bus_text.specs.declared.fault.ToolFault.{ToolFault}
-use Rattle.bus_text.specs.declared.fault.ToolFault.TheVariants.{BadMark, Magic, TooMany, PadBits, Trailing, PlaceLimit, ShortHead, ShortBody}
+use Rattle.bus_text.specs.declared.fault.ToolFault.TheVariants.{BadMark, Magic, TooMany, PadBits, Trailing, PlaceLimit}
+use Rattle.bus_text.specs.declared.fault.ToolFault.TheVariants.{ShortHead, ShortBody}
 
 -- in what captures of one line and of two differ; X is what they have at each place, a bit or a pair of bits
 pub record Form (X : Type 0) : Type 0 where

@@ -13,7 +13,8 @@ use Rattle.bus_capture.specs.Lists.{so_far, in_all, DoesNothing, by_lines}
 use Rattle.bus_text.specs.declared.options.Options.{Options}
 use Rattle.bus_text.specs.declared.summary.Summary.{Summary}
 use Rattle.bus_text.specs.declared.fault.ToolFault.{ToolFault}
-use Rattle.bus_text.specs.declared.fault.ToolFault.TheVariants.{Dictionary, Depth, Origin, Memory, Read, ReadsLimit, Write}
+use Rattle.bus_text.specs.declared.fault.ToolFault.TheVariants.{Dictionary, Depth, Origin, Memory, Read, ReadsLimit}
+use Rattle.bus_text.specs.declared.fault.ToolFault.TheVariants.{Write}
 
 module _ {X : Type 0} (f : Form X) where
   -- the report of bits: how often each thing is seen, the verdicts of each station, and the last frames

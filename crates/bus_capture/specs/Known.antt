@@ -12,7 +12,8 @@ use Rattle.bus_capture.specs.Checks.{report_of, ChecksSoFar}
 use Rattle.bus_text.specs.declared.options.Options.{Options}
 use Rattle.bus_text.specs.declared.summary.Summary.{Summary}
 use Rattle.bus_text.specs.declared.fault.ToolFault.{ToolFault}
-use Rattle.bus_text.specs.declared.fault.ToolFault.TheVariants.{Dictionary, Depth, Origin, Memory, Read, ReadsLimit, Write}
+use Rattle.bus_text.specs.declared.fault.ToolFault.TheVariants.{Dictionary, Depth, Origin, Memory, Read, ReadsLimit}
+use Rattle.bus_text.specs.declared.fault.ToolFault.TheVariants.{Write}
 
 -- the options can't be met, and nothing was written
 pub record WritesNothing (o : Options) (start now : Option (List ℕ)) (fault : ToolFault) : Type 0 where

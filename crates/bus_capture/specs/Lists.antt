@@ -1,10 +1,12 @@
 -- What a call that lists a capture did to its reader and its writer.
-use Rattle.std.specs.Prelude.{◌≡◌, ℕ, ◌≤◌, ◌⊎◌, Bool, true, false, List, [], ◌++◌, length, Option, None, Result, Ok, Err}
+use Rattle.std.specs.Prelude.{◌≡◌, ℕ, ◌≤◌, ◌⊎◌, Bool, true, false, List, [], ◌++◌, length, Option, None, Result, Ok}
+use Rattle.std.specs.Prelude.{Err}
 use Rattle.std.specs.Io.KnownBytes.{Appends, IsAtEnd}
 use Rattle.bus_bits.specs.Capture.{CaptureOf, CaptureFault}
 use Rattle.bus_dictionary.specs.Entry.{FrameType}
 use Rattle.bus_watch.specs.Talk.{pending}
-use Rattle.bus_capture.specs.Captures.{Form, one_line, two_lines, capture, whole_capture, heard_in, seen_in, IsSameFault, HasFault}
+use Rattle.bus_capture.specs.Captures.{Form, one_line, two_lines, capture, whole_capture, heard_in, seen_in}
+use Rattle.bus_capture.specs.Captures.{IsSameFault, HasFault}
 use Rattle.bus_text.specs.Given.{printer_of}
 use Rattle.bus_text.specs.Listing.{listing, ending_text}
 use Rattle.bus_text.specs.Summary.{summary_of}
@@ -13,7 +15,8 @@ use Rattle.bus_capture.specs.Begins.{Begins, Refuses}
 use Rattle.bus_text.specs.declared.options.Options.{Options}
 use Rattle.bus_text.specs.declared.summary.Summary.{Summary}
 use Rattle.bus_text.specs.declared.fault.ToolFault.{ToolFault}
-use Rattle.bus_text.specs.declared.fault.ToolFault.TheVariants.{Dictionary, Depth, Origin, Memory, Read, ReadsLimit, Write}
+use Rattle.bus_text.specs.declared.fault.ToolFault.TheVariants.{Dictionary, Depth, Origin, Memory, Read, ReadsLimit}
+use Rattle.bus_text.specs.declared.fault.ToolFault.TheVariants.{Write}
 
 module _ {X : Type 0} (f : Form X) where
   -- the bits of the octets so far, and their fault; and of octets that are the whole input

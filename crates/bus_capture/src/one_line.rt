@@ -1,6 +1,7 @@
 //! Captures of one line.
 
-ghost use Rattle.std.specs.Prelude.{◌≡◌, ◌+◌, ◌-◌, ◌*◌, ◌≤◌, ◌<◌, ◌^◌, ℕ, Bool, List, true, Option, ◌++◌, length, take, None, IfOk, MatchResult};
+ghost use Rattle.std.specs.Prelude.{◌≡◌, ◌+◌, ◌-◌, ◌*◌, ◌≤◌, ◌<◌, ◌^◌, ℕ, Bool, List, true, Option, ◌++◌, length, take};
+ghost use Rattle.std.specs.Prelude.{None, IfOk, MatchResult};
 ghost use Rattle.bus_bits.specs.Bits.{bits_from};
 ghost use Rattle.bus_capture.specs.Internal.OneLine.{one_tap};
 ghost use Rattle.bus_capture.specs.Internal.Sessions.{FollowsOctets, Stops};

@@ -1,6 +1,7 @@
 //! Takes the octets of a packed capture.
 
-ghost use Rattle.std.specs.Prelude.{◌≡◌, ◌+◌, ◌≤◌, ◌<◌, ℕ, List, [], ◌∷◌, ◌++◌, Option, MatchResult, Some, None, IfOk, length, take, false};
+ghost use Rattle.std.specs.Prelude.{◌≡◌, ◌+◌, ◌≤◌, ◌<◌, ℕ, List, [], ◌∷◌, ◌++◌, Option, MatchResult, Some, None, IfOk};
+ghost use Rattle.std.specs.Prelude.{length, take, false};
 ghost use Rattle.bus_bits.specs.Capture.{CaptureFault};
 ghost use Rattle.bus_bits.specs.Packed.{head_fault_of, packed_fault_of};
 ghost use Rattle.bus_capture.specs.Internal.Watching.{IsSound, IsSame};

@@ -2,7 +2,8 @@
 
 ghost use Rattle.std.specs.Io.KnownBytes.{Appends};
 ghost use Rattle.bus_capture.specs.Internal.Watching.{printed};
-ghost use Rattle.std.specs.Prelude.{◌≡◌, ◌+◌, ◌≤◌, ◌<◌, ◌^◌, ◌⊎◌, ℕ, List, [], ◌∷◌, ◌++◌, Option, MatchResult, IfOk, length};
+ghost use Rattle.std.specs.Prelude.{◌≡◌, ◌+◌, ◌≤◌, ◌<◌, ◌^◌, ◌⊎◌, ℕ, List, [], ◌∷◌, ◌++◌, Option, MatchResult, IfOk};
+ghost use Rattle.std.specs.Prelude.{length};
 ghost use Rattle.bus_watch.specs.Seen.{SeenReport};
 ghost use Rattle.bus_text.specs.Summary.{summary_of};
 ghost use Rattle.bus_text.specs.Put.{Cuts};
@@ -24,7 +25,8 @@ pub struct CaptureRun<T> {
 }
 
 impl<T: Tap> CaptureRun<T> {
-    ghost use Rattle.bus_capture.specs.Internal.Watching.{IsSound, Watches, IsSame, Halts, IsCutIn, lines, last_lines, reported};
+    ghost use Rattle.bus_capture.specs.Internal.Watching.{IsSound, Watches, IsSame, Halts, IsCutIn, lines, last_lines};
+    ghost use Rattle.bus_capture.specs.Internal.Watching.{reported};
 
     /// Takes symbols up to the first that may decide a report, and puts the lines of that on the page.
     /// Returns how many it took.

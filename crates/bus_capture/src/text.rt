@@ -1,6 +1,7 @@
 //! Takes the octets of a text capture.
 
-ghost use Rattle.std.specs.Prelude.{◌≡◌, ◌+◌, ◌≤◌, ◌<◌, ◌^◌, ℕ, List, [], ◌∷◌, ◌++◌, Option, MatchResult, OnOk, IfOk, length, take, true};
+ghost use Rattle.std.specs.Prelude.{◌≡◌, ◌+◌, ◌≤◌, ◌<◌, ◌^◌, ℕ, List, [], ◌∷◌, ◌++◌, Option, MatchResult, OnOk, IfOk};
+ghost use Rattle.std.specs.Prelude.{length, take, true};
 ghost use Rattle.bus_capture.specs.Internal.Watching.{IsSound, IsSame};
 ghost use Rattle.bus_capture.specs.Internal.Sessions.{FollowsOctets, FollowsText, Stops};
 

@@ -1,12 +1,15 @@
 -- What lines ask for, as more octets come.
-use Rattle.std.proofs.Common.{◌≡◌, ℕ, ◌+◌, ◌-◌, ◌<◌, ◌≤◌, ◌==◌, nat_lt, Bool, true, false, if◌then◌else◌, List, [], ◌∷◌, ◌++◌, length, take, Option, Some, None, refl, sym, ap, ◌∙◌, arith, append_assoc, add-zero, zero-add, length-append}
+use Rattle.std.proofs.Common.{◌≡◌, ℕ, ◌+◌, ◌-◌, ◌<◌, ◌≤◌, ◌==◌, nat_lt, Bool, true, false, if◌then◌else◌, List, [], ◌∷◌}
+use Rattle.std.proofs.Common.{◌++◌, length, take, Option, Some, None, refl, sym, ap, ◌∙◌, arith, append_assoc, add-zero}
+use Rattle.std.proofs.Common.{zero-add, length-append}
 use Rattle.std.proofs.lemmas.List.{append-nil}
 use Rattle.std.proofs.lemmas.Grind.{common_steps}
 use Rattle.std.proofs.lemmas.Bool.Decides.{nat_tests}
 use Rattle.std.specs.Io.BufRead.{strip_last, ends_with_byte}
 use Rattle.bus_line.specs.Line.{Call, gain}
 use Rattle.bus_encode.specs.Lines.{ended_lines, open_line, last_line}
-use Rattle.bus_encode.specs.Encode.{Asked, unless_fault, and_then, line_asked, line_call, line_number, asked_behind, open_asked, asked_so_far, asked_in_all, bits_text, text_behind, encode_text}
+use Rattle.bus_encode.specs.Encode.{Asked, unless_fault, and_then, line_asked, line_call, line_number, asked_behind}
+use Rattle.bus_encode.specs.Encode.{open_asked, asked_so_far, asked_in_all, bits_text, text_behind, encode_text}
 use Rattle.bus_text.specs.declared.fault.ToolFault.{ToolFault}
 use Rattle.bus_text.specs.declared.fault.ToolFault.TheVariants.{BadLine}
 use Rattle.bus_encode.proofs.LinesLemmas.{ended_behind, open_behind, ended-append, open-append, ended-by_lf, open-by_lf}
@@ -21,18 +24,22 @@ abbrev pub bad : ℕ → Asked
 bad before = record { calls = []; fault = Some (BadLine (line_number before)) }
 
 then_nothing_at : (f : Option ToolFault) (cs : List Call) → unless_fault f cs nothing ≡ record { calls = cs; fault = f }
-then_nothing_at None cs = ap (λ (l : List Call). let a : Asked = record { calls = l; fault = None } in a) (append-nil cs)
+then_nothing_at None cs = ap (λ (l : List Call). let a : Asked = record { calls = l; fault = None } in a)
+    (append-nil cs)
 then_nothing_at (Some e) cs = refl
 
 pub then-nothing : (a : Asked) → and_then a nothing ≡ a
 then-nothing a = then_nothing_at a.fault a.calls
 
 inner_assoc : (g : Option ToolFault) (cs bs : List Call) (c : Asked)
-    → unless_fault g (cs ++ bs) c ≡ record { calls = cs ++ (unless_fault g bs c).calls; fault = (unless_fault g bs c).fault }
-inner_assoc None cs bs c = ap (λ (l : List Call). let a : Asked = record { calls = l; fault = c.fault } in a) (append_assoc cs bs c.calls)
+    → unless_fault g (cs ++ bs) c
+    ≡ record { calls = cs ++ (unless_fault g bs c).calls; fault = (unless_fault g bs c).fault }
+inner_assoc None cs bs c = ap (λ (l : List Call). let a : Asked = record { calls = l; fault = c.fault } in a)
+    (append_assoc cs bs c.calls)
 inner_assoc (Some e) cs bs c = refl
 
-outer_assoc : (f : Option ToolFault) (cs : List Call) (b c : Asked) → and_then (unless_fault f cs b) c ≡ unless_fault f cs (and_then b c)
+outer_assoc : (f : Option ToolFault) (cs : List Call) (b c : Asked) →
+    and_then (unless_fault f cs b) c ≡ unless_fault f cs (and_then b c)
 outer_assoc None cs b c = inner_assoc b.fault cs b.calls c
 outer_assoc (Some e) cs b c = refl
 
@@ -54,11 +61,13 @@ then-clean a b h = ap (λ f. unless_fault f a.calls b) h
 -- behind a fault
 pub then-fault : (a b : Asked) (e : ToolFault) → a.fault ≡ Some e → and_then a b ≡ a
 then-fault a b e h =
-    ap (λ f. unless_fault f a.calls b) h ∙ ap (λ (f : Option ToolFault). let x : Asked = record { calls = a.calls; fault = f } in x) (sym h)
+    ap (λ f. unless_fault f a.calls b) h
+    ∙ ap (λ (f : Option ToolFault). let x : Asked = record { calls = a.calls; fault = f } in x) (sym h)
 
 -- ---- lines
 
-pub asked-append : (n : ℕ) (ls ms : List (List ℕ)) → asked_behind n (ls ++ ms) ≡ and_then (asked_behind n ls) (asked_behind (n + length ls) ms)
+pub asked-append : (n : ℕ) (ls ms : List (List ℕ)) → asked_behind n (ls ++ ms)
+    ≡ and_then (asked_behind n ls) (asked_behind (n + length ls) ms)
 unfolding asked_behind
 asked-append n [] ms = ap (λ k. asked_behind k ms) (sym (add-zero n))
 asked-append n (l ∷ ls) ms =
@@ -72,9 +81,11 @@ unfolding asked_behind
 asked-one n l = then-nothing (line_asked n l)
 
 -- one line more
-pub asked-push : (ls : List (List ℕ)) (l : List ℕ) → asked_behind 0 (ls ++ l ∷ []) ≡ and_then (asked_behind 0 ls) (line_asked (length ls) l)
+pub asked-push : (ls : List (List ℕ)) (l : List ℕ) → asked_behind 0 (ls ++ l ∷ [])
+    ≡ and_then (asked_behind 0 ls) (line_asked (length ls) l)
 asked-push ls l =
-    asked-append 0 ls (l ∷ []) ∙ ap (and_then (asked_behind 0 ls)) (asked-one (0 + length ls) l ∙ ap (λ k. line_asked k l) (zero-add (length ls)))
+    asked-append 0 ls (l ∷ []) ∙ ap (and_then (asked_behind 0 ls))
+    (asked-one (0 + length ls) l ∙ ap (λ k. line_asked k l) (zero-add (length ls)))
 
 -- ---- lines that are too long
 
@@ -118,29 +129,40 @@ unfolding line_call
 long-asked n l h = rw h refl
 
 open-long : (n : ℕ) (l : List ℕ) → is_long l ≡ true → open_asked n l ≡ bad n
-open-long n l h = ap (λ (b : Bool). let a : Asked = record { calls = []; fault = if b then Some (BadLine (line_number n)) else None } in a) h
+open-long n l h =
+    ap (λ (b : Bool). let a :
+    Asked = record { calls = []; fault = if b then Some (BadLine (line_number n)) else None } in
+    a) h
 
 open-short : (n : ℕ) (l : List ℕ) → is_long l ≡ false → open_asked n l ≡ nothing
-open-short n l h = ap (λ (b : Bool). let a : Asked = record { calls = []; fault = if b then Some (BadLine (line_number n)) else None } in a) h
+open-short n l h =
+    ap (λ (b : Bool). let a :
+    Asked = record { calls = []; fault = if b then Some (BadLine (line_number n)) else None } in
+    a) h
 
 -- what is asked for behind a line that stands open
 abbrev after_open : ℕ → List ℕ → List ℕ → Asked
-after_open n line ys = and_then (asked_behind n (ended_behind line ys)) (open_asked (n + length (ended_behind line ys)) (open_behind line ys))
+after_open n line ys = and_then (asked_behind n (ended_behind line ys))
+    (open_asked (n + length (ended_behind line ys)) (open_behind line ys))
 
 -- a line that is too long stays so, however it goes on
 long-stays : (n : ℕ) (line ys : List ℕ) → is_long line ≡ true → after_open n line ys ≡ bad n
 unfolding asked_behind ended_behind open_behind
 long-stays n line [] h = open-long (n + 0) line h ∙ ap bad (add-zero n)
 long-stays n line (x ∷ ys) h =
-    elim (x == 10) as (λ b. and_then (asked_behind n (if b then line ∷ ended_behind [] ys else ended_behind (line ++ x ∷ []) ys))
-    (open_asked (n + length (if b then line ∷ ended_behind [] ys else ended_behind (line ++ x ∷ []) ys)) (if b then open_behind [] ys else open_behind (line ++ x ∷ []) ys)) ≡ bad n) [
-      | true ↦ ap (λ (a : Asked). and_then (and_then a (asked_behind (n + 1) (ended_behind [] ys))) (open_asked (n + length (line ∷ ended_behind [] ys)) (open_behind [] ys))) (long-asked n line h)
+    elim (x == 10) as
+    (λ b. and_then (asked_behind n (if b then line ∷ ended_behind [] ys else ended_behind (line ++ x ∷ []) ys))
+    (open_asked (n + length (if b then line ∷ ended_behind [] ys else ended_behind (line ++ x ∷ []) ys))
+    (if b then open_behind [] ys else open_behind (line ++ x ∷ []) ys)) ≡ bad n) [
+      | true ↦ ap (λ (a : Asked). and_then (and_then a (asked_behind (n + 1) (ended_behind [] ys)))
+          (open_asked (n + length (line ∷ ended_behind [] ys)) (open_behind [] ys))) (long-asked n line h)
       | false ↦ long-stays n (line ++ x ∷ []) ys (long-more line x h)
     ]
 
 -- ---- more octets
 
-pub so_far-is : (xs : List ℕ) → asked_so_far xs ≡ and_then (asked_behind 0 (ended_lines xs)) (open_asked (length (ended_lines xs)) (open_line xs))
+pub so_far-is : (xs : List ℕ) → asked_so_far xs
+    ≡ and_then (asked_behind 0 (ended_lines xs)) (open_asked (length (ended_lines xs)) (open_line xs))
 unfolding asked_so_far
 so_far-is xs = refl
 
@@ -150,55 +172,70 @@ so_far-short xs h =
     let a = asked_behind 0 (ended_lines xs) in
     so_far-is xs ∙ (ap (and_then a) (open-short (length (ended_lines xs)) (open_line xs) h) ∙ then-nothing a)
 
-pub so_far-long : (xs : List ℕ) → is_long (open_line xs) ≡ true → asked_so_far xs ≡ and_then (asked_behind 0 (ended_lines xs)) (bad (length (ended_lines xs)))
-so_far-long xs h = so_far-is xs ∙ ap (and_then (asked_behind 0 (ended_lines xs))) (open-long (length (ended_lines xs)) (open_line xs) h)
+pub so_far-long : (xs : List ℕ) → is_long (open_line xs) ≡ true →
+    asked_so_far xs ≡ and_then (asked_behind 0 (ended_lines xs)) (bad (length (ended_lines xs)))
+so_far-long xs h = so_far-is xs ∙ ap (and_then (asked_behind 0 (ended_lines xs)))
+    (open-long (length (ended_lines xs)) (open_line xs) h)
 
 -- no fault so far is none in the lines that ended
 pub ended_clean : (xs : List ℕ) → (asked_so_far xs).fault ≡ None → (asked_behind 0 (ended_lines xs)).fault ≡ None
 ended_clean xs h =
-    first_clean (asked_behind 0 (ended_lines xs)) (open_asked (length (ended_lines xs)) (open_line xs)) (ap (λ (a : Asked). a.fault) (sym (so_far-is xs)) ∙ h)
+    first_clean (asked_behind 0 (ended_lines xs)) (open_asked (length (ended_lines xs)) (open_line xs))
+    (ap (λ (a : Asked). a.fault) (sym (so_far-is xs)) ∙ h)
 
 -- and then the calls are theirs
-pub ended_calls : (xs : List ℕ) → (asked_so_far xs).fault ≡ None → (asked_so_far xs).calls ≡ (asked_behind 0 (ended_lines xs)).calls
+pub ended_calls : (xs : List ℕ) → (asked_so_far xs).fault ≡ None →
+    (asked_so_far xs).calls ≡ (asked_behind 0 (ended_lines xs)).calls
 ended_calls xs h =
     let a = asked_behind 0 (ended_lines xs) in
     let o = open_asked (length (ended_lines xs)) (open_line xs) in
     ap (λ (x : Asked). x.calls) (so_far-is xs ∙ then-clean a o (ended_clean xs h)) ∙ append-nil a.calls
 
 -- LF behind an open line
-pub lf-asked : (xs : List ℕ) → asked_so_far (xs ++ 10 ∷ []) ≡ and_then (asked_behind 0 (ended_lines xs)) (line_asked (length (ended_lines xs)) (open_line xs))
+pub lf-asked : (xs : List ℕ) → asked_so_far (xs ++ 10 ∷ [])
+    ≡ and_then (asked_behind 0 (ended_lines xs)) (line_asked (length (ended_lines xs)) (open_line xs))
 lf-asked xs =
     let short : is_long (open_line (xs ++ 10 ∷ [])) ≡ false = ap is_long (open-by_lf xs) in
-    so_far-short (xs ++ 10 ∷ []) short ∙ (ap (asked_behind 0) (ended-by_lf xs) ∙ asked-push (ended_lines xs) (open_line xs))
+    so_far-short (xs ++ 10 ∷ []) short
+    ∙ (ap (asked_behind 0) (ended-by_lf xs) ∙ asked-push (ended_lines xs) (open_line xs))
 
-so_far-both : (xs ys : List ℕ) → asked_so_far (xs ++ ys) ≡ and_then (asked_behind 0 (ended_lines xs)) (after_open (length (ended_lines xs)) (open_line xs) ys)
+so_far-both : (xs ys : List ℕ) → asked_so_far (xs ++ ys)
+    ≡ and_then (asked_behind 0 (ended_lines xs)) (after_open (length (ended_lines xs)) (open_line xs) ys)
 so_far-both xs ys =
     let e = ended_lines xs in
     let f = ended_behind (open_line xs) ys in
     let o = open_behind (open_line xs) ys in
     so_far-is (xs ++ ys)
-    ∙ (ap (λ (l : List (List ℕ)). and_then (asked_behind 0 l) (open_asked (length l) (open_line (xs ++ ys)))) (ended-append xs ys)
+    ∙ (ap (λ (l : List (List ℕ)). and_then (asked_behind 0 l) (open_asked (length l) (open_line (xs ++ ys))))
+    (ended-append xs ys)
     ∙ (ap (λ (l : List ℕ). and_then (asked_behind 0 (e ++ f)) (open_asked (length (e ++ f)) l)) (open-append xs ys)
     ∙ (ap (λ (k : ℕ). and_then (asked_behind 0 (e ++ f)) (open_asked k o)) (length-append e f)
-    ∙ (ap (λ (a : Asked). and_then a (open_asked (length e + length f) o)) (asked-append 0 e f ∙ ap (λ (k : ℕ). and_then (asked_behind 0 e) (asked_behind k f)) (zero-add (length e)))
+    ∙ (ap (λ (a : Asked). and_then a (open_asked (length e + length f) o))
+    (asked-append 0 e f ∙ ap (λ (k : ℕ). and_then (asked_behind 0 e) (asked_behind k f)) (zero-add (length e)))
     ∙ then-assoc (asked_behind 0 e) (asked_behind (length e) f) (open_asked (length e + length f) o)))))
 
 -- more octets ask for more, and for nothing new behind a fault
 pub so_far-grows : (xs ys : List ℕ) → (c : Asked) × (asked_so_far (xs ++ ys) ≡ and_then (asked_so_far xs) c)
 so_far-grows xs ys = cases (is_long (open_line xs)) refl
   where
-    cases : (b : Bool) → is_long (open_line xs) ≡ b → (c : Asked) × (asked_so_far (xs ++ ys) ≡ and_then (asked_so_far xs) c)
+    cases : (b : Bool) → is_long (open_line xs) ≡ b → (c : Asked)
+        × (asked_so_far (xs ++ ys) ≡ and_then (asked_so_far xs) c)
     cases true h =
         let n = length (ended_lines xs) in
         let a = asked_behind 0 (ended_lines xs) in
         let same : asked_so_far (xs ++ ys) ≡ asked_so_far xs =
-        so_far-both xs ys ∙ (ap (and_then a) (long-stays n (open_line xs) ys h ∙ sym (open-long n (open_line xs) h)) ∙ sym (so_far-is xs)) in
+        so_far-both xs ys ∙ (ap (and_then a) (long-stays n (open_line xs) ys h ∙ sym (open-long n (open_line xs) h))
+        ∙ sym (so_far-is xs)) in
         (nothing, same ∙ sym (then-nothing (asked_so_far xs)))
     cases false h =
         let n = length (ended_lines xs) in
         let a = asked_behind 0 (ended_lines xs) in
-        let first : asked_so_far xs ≡ a = so_far-is xs ∙ (ap (and_then a) (open-short n (open_line xs) h) ∙ then-nothing a) in
-        (after_open n (open_line xs) ys, so_far-both xs ys ∙ ap (λ (z : Asked). and_then z (after_open n (open_line xs) ys)) (sym first))
+        let first : asked_so_far xs ≡ a = so_far-is xs
+        ∙ (ap (and_then a) (open-short n (open_line xs) h) ∙ then-nothing a) in (
+          after_open n (open_line xs) ys,
+          so_far-both xs ys
+              ∙ ap (λ (z : Asked). and_then z (after_open n (open_line xs) ys)) (sym first),
+        )
 
 last-asked : (n : ℕ) (l : List ℕ) → asked_behind n (last_line l) ≡ line_asked n l
 unfolding asked_behind line_call
@@ -206,12 +243,14 @@ last-asked n [] = refl
 last-asked n (x ∷ l) = then-nothing (line_asked n (x ∷ l))
 
 -- at the end of the input the open line is one
-pub in_all-is : (xs : List ℕ) → asked_in_all xs ≡ and_then (asked_behind 0 (ended_lines xs)) (line_asked (length (ended_lines xs)) (open_line xs))
+pub in_all-is : (xs : List ℕ) → asked_in_all xs
+    ≡ and_then (asked_behind 0 (ended_lines xs)) (line_asked (length (ended_lines xs)) (open_line xs))
 unfolding asked_in_all
 in_all-is xs =
     let e = ended_lines xs in
     asked-append 0 e (last_line (open_line xs))
-    ∙ ap (and_then (asked_behind 0 e)) (last-asked (0 + length e) (open_line xs) ∙ ap (λ (k : ℕ). line_asked k (open_line xs)) (zero-add (length e)))
+    ∙ ap (and_then (asked_behind 0 e)) (last-asked (0 + length e) (open_line xs)
+    ∙ ap (λ (k : ℕ). line_asked k (open_line xs)) (zero-add (length e)))
 
 -- and asks for more
 pub in_all-grows : (xs : List ℕ) → (c : Asked) × (asked_in_all xs ≡ and_then (asked_so_far xs) c)
@@ -222,37 +261,49 @@ in_all-grows xs = cases (is_long (open_line xs)) refl
         let n = length (ended_lines xs) in
         let a = asked_behind 0 (ended_lines xs) in
         let same : asked_in_all xs ≡ asked_so_far xs =
-        in_all-is xs ∙ (ap (and_then a) (long-asked n (open_line xs) h ∙ sym (open-long n (open_line xs) h)) ∙ sym (so_far-is xs)) in
+        in_all-is xs ∙ (ap (and_then a) (long-asked n (open_line xs) h ∙ sym (open-long n (open_line xs) h))
+        ∙ sym (so_far-is xs)) in
         (nothing, same ∙ sym (then-nothing (asked_so_far xs)))
     cases false h =
         let n = length (ended_lines xs) in
         let a = asked_behind 0 (ended_lines xs) in
-        let first : asked_so_far xs ≡ a = so_far-is xs ∙ (ap (and_then a) (open-short n (open_line xs) h) ∙ then-nothing a) in
-        (line_asked n (open_line xs), in_all-is xs ∙ ap (λ (z : Asked). and_then z (line_asked n (open_line xs))) (sym first))
+        let first : asked_so_far xs ≡ a = so_far-is xs
+        ∙ (ap (and_then a) (open-short n (open_line xs) h) ∙ then-nothing a) in (
+          line_asked n (open_line xs),
+          in_all-is xs
+              ∙ ap (λ (z : Asked). and_then z (line_asked n (open_line xs))) (sym first),
+        )
 
 -- octets that follow, and then the end
 pub all-grows : (xs ys : List ℕ) → (c : Asked) × (asked_in_all (xs ++ ys) ≡ and_then (asked_so_far xs) c)
 all-grows xs ys =
     let more = so_far-grows xs ys in
-    let whole = in_all-grows (xs ++ ys) in
-    (and_then more.0 whole.0, whole.1 ∙ (ap (λ (a : Asked). and_then a whole.0) more.1 ∙ then-assoc (asked_so_far xs) more.0 whole.0))
+    let whole = in_all-grows (xs ++ ys) in (
+      and_then more.0 whole.0,
+      whole.1
+          ∙ (ap (λ (a : Asked). and_then a whole.0) more.1 ∙ then-assoc (asked_so_far xs) more.0 whole.0),
+    )
 
 -- ---- text
 
-pub text-append : (before cs ds : List Call) → text_behind before (cs ++ ds) ≡ text_behind before cs ++ text_behind (before ++ cs) ds
+pub text-append : (before cs ds : List Call) → text_behind before (cs ++ ds)
+    ≡ text_behind before cs ++ text_behind (before ++ cs) ds
 unfolding text_behind
 text-append before [] ds = ap (λ (b : List Call). text_behind b ds) (sym (append-nil before))
 text-append before (c ∷ cs) ds =
     let g = bits_text (gain before c) in
     ap (λ (l : List ℕ). g ++ l) (text-append (before ++ c ∷ []) cs ds)
-    ∙ (ap (λ (b : List Call). g ++ (text_behind (before ++ c ∷ []) cs ++ text_behind b ds)) (append_assoc before (c ∷ []) cs)
+    ∙ (ap (λ (b : List Call). g ++ (text_behind (before ++ c ∷ []) cs ++ text_behind b ds))
+    (append_assoc before (c ∷ []) cs)
     ∙ sym (append_assoc g (text_behind (before ++ c ∷ []) cs) (text_behind (before ++ c ∷ cs) ds)))
 
 pub text-push : (cs : List Call) (c : Call) → encode_text (cs ++ c ∷ []) ≡ encode_text cs ++ bits_text (gain cs c)
 unfolding text_behind
-text-push cs c = text-append [] cs (c ∷ []) ∙ ap (λ (l : List ℕ). encode_text cs ++ l) (append-nil (bits_text (gain cs c)))
+text-push cs c = text-append [] cs (c ∷ [])
+    ∙ ap (λ (l : List ℕ). encode_text cs ++ l) (append-nil (bits_text (gain cs c)))
 
-then_text_at : (f : Option ToolFault) (cs : List Call) (c : Asked) → (rest : List ℕ) × (encode_text (unless_fault f cs c).calls ≡ encode_text cs ++ rest)
+then_text_at : (f : Option ToolFault) (cs : List Call) (c : Asked) →
+    (rest : List ℕ) × (encode_text (unless_fault f cs c).calls ≡ encode_text cs ++ rest)
 then_text_at None cs c = (text_behind cs c.calls, text-append [] cs c.calls)
 then_text_at (Some e) cs c = ([], sym (append-nil (encode_text cs)))
 

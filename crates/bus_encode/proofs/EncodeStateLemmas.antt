@@ -1,5 +1,7 @@
 -- The steps of a session.
-use Rattle.std.proofs.Common.{◌≡◌, ◌≢◌, ℕ, ◌+◌, ◌<◌, ◌≤◌, ◌==◌, true, false, List, [], ◌∷◌, ◌++◌, length, get_or, take, drop, Option, Some, None, Result, Ok, Err, IfSome, MatchResult, inl, inr, refl, sym, ap, subst, ◌∙◌, arith, length-append}
+use Rattle.std.proofs.Common.{◌≡◌, ◌≢◌, ℕ, ◌+◌, ◌<◌, ◌≤◌, ◌==◌, true, false, List, [], ◌∷◌, ◌++◌, length, get_or, take}
+use Rattle.std.proofs.Common.{drop, Option, Some, None, Result, Ok, Err, IfSome, MatchResult, inl, inr, refl, sym, ap}
+use Rattle.std.proofs.Common.{subst, ◌∙◌, arith, length-append}
 use Rattle.std.specs.Io.KnownBytes.{Appends, Consumes, Keeps, IsAtEnd}
 use Rattle.std.specs.Io.BufRead.{strip_last}
 use Rattle.std.specs.Path.{rsplit_once}
@@ -10,16 +12,20 @@ use Rattle.bus_line.specs.Line.{Call, gain}
 use Rattle.bus_line.specs.Internal.EncoderState.{EncoderState}
 use Rattle.bus_line.specs.Encoding.{AfterCalls}
 use Rattle.bus_encode.specs.Lines.{ended_lines, open_line}
-use Rattle.bus_encode.specs.Encode.{Asked, and_then, one_asked, line_asked, line_call, line_number, asked_behind, asked_so_far, asked_in_all, bits_text, text_behind, encode_text}
+use Rattle.bus_encode.specs.Encode.{Asked, and_then, one_asked, line_asked, line_call, line_number, asked_behind}
+use Rattle.bus_encode.specs.Encode.{asked_so_far, asked_in_all, bits_text, text_behind, encode_text}
 use Rattle.bus_encode.specs.Encodes.{Asks, Encodes, EncodesAll}
 use Rattle.bus_encode.specs.Internal.EncodeState.{Encoded, Takes, Halts, Ends, Finishes}
 use Rattle.bus_text.specs.declared.fault.ToolFault.{ToolFault}
 use Rattle.bus_text.specs.declared.fault.ToolFault.TheVariants.{Read, ReadsLimit, Write, BadLine, FrameLength}
 use Rattle.bus_text.proofs.KnownBytesLemmas.{appends_nothing, appends_both, appends_kept, part_out}
 use Rattle.bus_encode.proofs.LinesLemmas.{ended-by_lf, open-by_lf, ended-by_other, open-by_other}
-use Rattle.bus_encode.proofs.EncodeLemmas.{bad, is_long, long_is, short_is, then-nothing, then-clean, then-fault, then-text, so_far-short, so_far-long, ended_clean, ended_calls, lf-asked, asked-push, so_far-grows, in_all-is, all-grows, text-push}
+use Rattle.bus_encode.proofs.EncodeLemmas.{bad, is_long, long_is, short_is, then-nothing, then-clean, then-fault}
+use Rattle.bus_encode.proofs.EncodeLemmas.{then-text, so_far-short, so_far-long, ended_clean, ended_calls, lf-asked}
+use Rattle.bus_encode.proofs.EncodeLemmas.{asked-push, so_far-grows, in_all-is, all-grows, text-push}
 
-pub none_takes : (start : Option (List ℕ)) (line : List ℕ) (number : ℕ) (e : EncoderState) → line ≡ [] → number ≡ 1 → AfterCalls e [] → Takes start start line number e 0 []
+pub none_takes : (start : Option (List ℕ)) (line : List ℕ) (number : ℕ) (e : EncoderState) → line ≡ [] → number ≡ 1 →
+    AfterCalls e [] → Takes start start line number e 0 []
 unfolding asked_so_far asked_behind ended_lines open_line rsplit_once text_behind
 none_takes start line number e l n a = record {
   here = l;
@@ -30,143 +36,203 @@ none_takes start line number e l n a = record {
 
 -- ---- one call
 
-pub put_encoded : (start before now : Option (List ℕ)) (e f : EncoderState) (written size : ℕ) (calls : List Call) (call : Call) (bytes text : List ℕ) → Encoded start before e written calls
-    → AfterCalls f (calls ++ call ∷ []) → bytes ≡ bits_text (gain calls call) → text ≡ bytes → size ≡ length bytes → Appends before now text
+pub put_encoded : (start before now : Option (List ℕ)) (e f : EncoderState) (written size : ℕ) (calls : List Call)
+    (call : Call) (bytes text : List ℕ) → Encoded start before e written calls
+    → AfterCalls f (calls ++ call ∷ []) → bytes ≡ bits_text (gain calls call) → text ≡ bytes → size ≡ length bytes →
+    Appends before now text
     → Encoded start now f (written + size) (calls ++ call ∷ [])
 put_encoded start before now e f written size calls call bytes text d after is same n out =
     let more = text-push calls call in
     let here = subst (λ (l : List ℕ). Appends before now l) (same ∙ is) out in
     record {
       after = after;
-      out = subst (λ (l : List ℕ). Appends start now l) (sym more) (appends_both start before now (encode_text calls) (bits_text (gain calls call)) d.out here);
-      count = omega (arith, d.count, n, ap length is, ap length more, length-append (encode_text calls) (bits_text (gain calls call)));
+      out = subst (λ (l : List ℕ). Appends start now l) (sym more)
+          (appends_both start before now (encode_text calls) (bits_text (gain calls call)) d.out here);
+      count =
+          omega (
+            arith,
+            d.count,
+            n,
+            ap length is,
+            ap length more,
+            length-append (encode_text calls) (bits_text (gain calls call)),
+          );
     }
 
-pub put_halts : (start before now : Option (List ℕ)) (e : EncoderState) (written sent : ℕ) (calls : List Call) (call : Call) (bytes text : List ℕ) → Encoded start before e written calls
+pub put_halts : (start before now : Option (List ℕ)) (e : EncoderState) (written sent : ℕ) (calls : List Call)
+    (call : Call) (bytes text : List ℕ) → Encoded start before e written calls
     → bytes ≡ bits_text (gain calls call) → text ≡ bytes → sent < length text → Appends before now (take sent text)
-    → (written + sent ≤ length (encode_text (calls ++ call ∷ []))) × Appends start now (take (written + sent) (encode_text (calls ++ call ∷ [])))
+    → (written + sent ≤ length (encode_text (calls ++ call ∷ [])))
+    × Appends start now (take (written + sent) (encode_text (calls ++ call ∷ [])))
 put_halts start before now e written sent calls call bytes text d is same few out =
     let more = text-push calls call in
     let here = subst (λ (l : List ℕ). Appends before now (take sent l)) (same ∙ is) out in
     let short : sent ≤ length (bits_text (gain calls call)) = omega (arith, few, ap length same, ap length is) in
-    let whole : (encode_text calls ++ bits_text (gain calls call)) ++ [] ≡ encode_text (calls ++ call ∷ []) = append-nil (encode_text calls ++ bits_text (gain calls call)) ∙ sym more in (
+    let whole : (encode_text calls ++ bits_text (gain calls call)) ++ [] ≡ encode_text (calls ++ call ∷ []) =
+    append-nil (encode_text calls ++ bits_text (gain calls call)) ∙ sym more in (
       omega (arith, d.count, short, ap length more, length-append (encode_text calls) (bits_text (gain calls call))),
-      subst (λ (l : List ℕ). Appends start now (take (written + sent) l)) whole (part_out start before now (encode_text calls) (bits_text (gain calls call)) [] written sent d.out d.count short here),
+      subst (λ (l : List ℕ). Appends start now (take (written + sent) l)) whole
+          (part_out start before now (encode_text calls) (bits_text (gain calls call)) [] written sent d.out d.count
+          short
+          here),
     )
 
 -- ---- an octet that is not LF
 
-pub other_takes : (start now : Option (List ℕ)) (line new : List ℕ) (number x : ℕ) (e : EncoderState) (written : ℕ) (xs : List ℕ) → (x == 10) ≡ false → new ≡ line ++ x ∷ []
-    → length (strip_last 13 new) ≤ 600 → Takes start now line number e written xs → Takes start now new number e written (xs ++ x ∷ [])
+pub other_takes : (start now : Option (List ℕ)) (line new : List ℕ) (number x : ℕ) (e : EncoderState) (written : ℕ)
+    (xs : List ℕ) → (x == 10) ≡ false → new ≡ line ++ x ∷ []
+    → length (strip_last 13 new) ≤ 600 → Takes start now line number e written xs →
+    Takes start now new number e written (xs ++ x ∷ [])
 other_takes start now line new number x e written xs h is fits t =
     let ended = ended-by_other xs x h in
-    let here : new ≡ open_line (xs ++ x ∷ []) = is ∙ (ap (λ (l : List ℕ). l ++ x ∷ []) t.here ∙ sym (open-by_other xs x h)) in
+    let here : new ≡ open_line (xs ++ x ∷ []) =
+    is ∙ (ap (λ (l : List ℕ). l ++ x ∷ []) t.here ∙ sym (open-by_other xs x h)) in
     let short : is_long (open_line (xs ++ x ∷ [])) ≡ false = ap is_long (sym here) ∙ short_is new fits in
     record {
       here = here;
       lines = t.lines ∙ ap (λ (ls : List (List ℕ)). line_number (length ls)) (sym ended);
-      clean = ap (λ (a : Asked). a.fault) (so_far-short (xs ++ x ∷ []) short) ∙ (ap (λ (ls : List (List ℕ)). (asked_behind 0 ls).fault) ended ∙ ended_clean xs t.clean);
+      clean = ap (λ (a : Asked). a.fault) (so_far-short (xs ++ x ∷ []) short)
+          ∙ (ap (λ (ls : List (List ℕ)). (asked_behind 0 ls).fault) ended ∙ ended_clean xs t.clean);
       done = subst (λ (ls : List (List ℕ)). Encoded start now e written (asked_behind 0 ls).calls) (sym ended) t.done;
     }
 
-pub long_halts : (start now : Option (List ℕ)) (line : List ℕ) (number x : ℕ) (e : EncoderState) (written : ℕ) (xs : List ℕ) (fault : ToolFault) → (x == 10) ≡ false → fault ≡ BadLine number
-    → 600 < length (strip_last 13 (line ++ x ∷ [])) → Takes start now line number e written xs → Halts start now written (asked_so_far (xs ++ x ∷ [])) fault
+pub long_halts : (start now : Option (List ℕ)) (line : List ℕ) (number x : ℕ) (e : EncoderState) (written : ℕ)
+    (xs : List ℕ) (fault : ToolFault) → (x == 10) ≡ false → fault ≡ BadLine number
+    → 600 < length (strip_last 13 (line ++ x ∷ [])) → Takes start now line number e written xs →
+    Halts start now written (asked_so_far (xs ++ x ∷ [])) fault
 long_halts start now line number x e written xs fault h f long t =
     let a = asked_behind 0 (ended_lines xs) in
-    let here : line ++ x ∷ [] ≡ open_line (xs ++ x ∷ []) = ap (λ (l : List ℕ). l ++ x ∷ []) t.here ∙ sym (open-by_other xs x h) in
+    let here : line ++ x ∷ [] ≡ open_line (xs ++ x ∷ []) =
+    ap (λ (l : List ℕ). l ++ x ∷ []) t.here ∙ sym (open-by_other xs x h) in
     let is_so : is_long (open_line (xs ++ x ∷ [])) ≡ true = ap is_long (sym here) ∙ long_is (line ++ x ∷ []) long in
-    let is : asked_so_far (xs ++ x ∷ []) ≡ record { calls = a.calls ++ []; fault = Some (BadLine (line_number (length (ended_lines xs)))) } =
+    let is : asked_so_far (xs ++ x ∷ [])
+    ≡ record { calls = a.calls ++ []; fault = Some (BadLine (line_number (length (ended_lines xs)))) } =
     so_far-long (xs ++ x ∷ []) is_so
-    ∙ (ap (λ (ls : List (List ℕ)). and_then (asked_behind 0 ls) (bad (length ls))) (ended-by_other xs x h) ∙ then-clean a (bad (length (ended_lines xs))) (ended_clean xs t.clean)) in
+    ∙ (ap (λ (ls : List (List ℕ)). and_then (asked_behind 0 ls) (bad (length ls))) (ended-by_other xs x h)
+    ∙ then-clean a (bad (length (ended_lines xs))) (ended_clean xs t.clean)) in
     let text : a.calls ++ [] ≡ a.calls = append-nil a.calls in
     let out = subst (λ (cs : List Call). Appends start now (encode_text cs)) (sym text) t.done.out in
-    let count : written ≡ length (encode_text (a.calls ++ [])) = t.done.count ∙ ap (λ (cs : List Call). length (encode_text cs)) (sym text) in
-    let here_halts : Halts start now written (record { calls = a.calls ++ []; fault = Some (BadLine (line_number (length (ended_lines xs)))) }) (BadLine number) =
+    let count : written ≡ length (encode_text (a.calls ++ [])) =
+    t.done.count ∙ ap (λ (cs : List Call). length (encode_text cs)) (sym text) in
+    let here_halts :
+    Halts start now written
+    (record { calls = a.calls ++ []; fault = Some (BadLine (line_number (length (ended_lines xs)))) })
+    (BadLine number) =
     (ap (λ (n : ℕ). let o : Option ToolFault = Some (BadLine n) in o) (sym t.lines), out, count) in
-    subst (λ (z : ToolFault). Halts start now written (asked_so_far (xs ++ x ∷ [])) z) (sym f) (subst (λ (z : Asked). Halts start now written z (BadLine number)) (sym is) here_halts)
+    subst (λ (z : ToolFault). Halts start now written (asked_so_far (xs ++ x ∷ [])) z) (sym f)
+    (subst (λ (z : Asked). Halts start now written z (BadLine number)) (sym is) here_halts)
 
 pub not_lf : (x : ℕ) → x ≢ 10 → (x == 10) ≡ false
 not_lf x h = grind (arith, nat_tests)
 
-pub push_cases : (start now : Option (List ℕ)) (line new : List ℕ) (number same x : ℕ) (e : EncoderState) (written : ℕ) (xs : List ℕ) (r : Result (Unit {0}) ToolFault) → (x == 10) ≡ false
+pub push_cases : (start now : Option (List ℕ)) (line new : List ℕ) (number same x : ℕ) (e : EncoderState) (written : ℕ)
+    (xs : List ℕ) (r : Result (Unit {0}) ToolFault) → (x == 10) ≡ false
     → length (strip_last 13 new) ≤ 600 → Takes start now line number e written xs
-    → MatchResult r (λ _. (new ≡ line ++ x ∷ []) × (same ≡ number)) (λ fault. (fault ≡ BadLine number) × (600 < length (strip_last 13 (line ++ x ∷ []))))
-    → MatchResult r (λ _. Takes start now new same e written (xs ++ x ∷ [])) (λ fault. Halts start now written (asked_so_far (xs ++ x ∷ [])) fault)
+    → MatchResult r (λ _. (new ≡ line ++ x ∷ []) × (same ≡ number))
+    (λ fault. (fault ≡ BadLine number) × (600 < length (strip_last 13 (line ++ x ∷ []))))
+    → MatchResult r (λ _. Takes start now new same e written (xs ++ x ∷ []))
+    (λ fault. Halts start now written (asked_so_far (xs ++ x ∷ [])) fault)
 push_cases start now line new number same x e written xs (Ok u) h fits t pushed =
-    subst (λ (n : ℕ). Takes start now new n e written (xs ++ x ∷ [])) (sym pushed.1) (other_takes start now line new number x e written xs h pushed.0 fits t)
-push_cases start now line new number same x e written xs (Err fault) h fits t refused = long_halts start now line number x e written xs fault h refused.0 refused.1 t
+    subst (λ (n : ℕ). Takes start now new n e written (xs ++ x ∷ [])) (sym pushed.1)
+    (other_takes start now line new number x e written xs h pushed.0 fits t)
+push_cases start now line new number same x e written xs (Err fault) h fits t refused =
+    long_halts start now line number x e written xs fault h refused.0 refused.1 t
 
 -- ---- LF
 
 -- what the open line asks for
-pub one_is : (start now : Option (List ℕ)) (line : List ℕ) (number : ℕ) (e : EncoderState) (written : ℕ) (xs : List ℕ) → Takes start now line number e written xs
+pub one_is : (start now : Option (List ℕ)) (line : List ℕ) (number : ℕ) (e : EncoderState) (written : ℕ) (xs : List ℕ) →
+    Takes start now line number e written xs
     → one_asked (line_call number (strip_last 13 line)) ≡ line_asked (length (ended_lines xs)) (open_line xs)
 one_is start now line number e written xs t =
-    ap (λ (n : ℕ). one_asked (line_call n (strip_last 13 line))) t.lines ∙ ap (λ (l : List ℕ). one_asked (line_call (line_number (length (ended_lines xs))) (strip_last 13 l))) t.here
+    ap (λ (n : ℕ). one_asked (line_call n (strip_last 13 line))) t.lines
+    ∙ ap (λ (l : List ℕ). one_asked (line_call (line_number (length (ended_lines xs))) (strip_last 13 l))) t.here
 
 abbrev pub behind : List Call → Asked → Asked
 behind calls one = record { calls = calls ++ one.calls; fault = one.fault }
 
-lf_is : (xs : List ℕ) (one : Asked) → (asked_so_far xs).fault ≡ None → one ≡ line_asked (length (ended_lines xs)) (open_line xs)
+lf_is : (xs : List ℕ) (one : Asked) → (asked_so_far xs).fault ≡ None →
+    one ≡ line_asked (length (ended_lines xs)) (open_line xs)
     → asked_so_far (xs ++ 10 ∷ []) ≡ behind (asked_behind 0 (ended_lines xs)).calls one
 lf_is xs one clean is =
     let a = asked_behind 0 (ended_lines xs) in
-    lf-asked xs ∙ (then-clean a (line_asked (length (ended_lines xs)) (open_line xs)) (ended_clean xs clean) ∙ ap (behind a.calls) (sym is))
+    lf-asked xs ∙ (then-clean a (line_asked (length (ended_lines xs)) (open_line xs)) (ended_clean xs clean)
+    ∙ ap (behind a.calls) (sym is))
 
-push_is : (xs : List ℕ) (one : Asked) → (asked_so_far xs).fault ≡ None → one ≡ line_asked (length (ended_lines xs)) (open_line xs)
+push_is : (xs : List ℕ) (one : Asked) → (asked_so_far xs).fault ≡ None →
+    one ≡ line_asked (length (ended_lines xs)) (open_line xs)
     → asked_behind 0 (ended_lines (xs ++ 10 ∷ [])) ≡ behind (asked_behind 0 (ended_lines xs)).calls one
 push_is xs one clean is =
     let a = asked_behind 0 (ended_lines xs) in
     ap (asked_behind 0) (ended-by_lf xs)
-    ∙ (asked-push (ended_lines xs) (open_line xs) ∙ (then-clean a (line_asked (length (ended_lines xs)) (open_line xs)) (ended_clean xs clean) ∙ ap (behind a.calls) (sym is)))
+    ∙ (asked-push (ended_lines xs) (open_line xs)
+    ∙ (then-clean a (line_asked (length (ended_lines xs)) (open_line xs)) (ended_clean xs clean)
+    ∙ ap (behind a.calls) (sym is)))
 
-pub lf_takes : (start before now : Option (List ℕ)) (line new : List ℕ) (number next : ℕ) (e f : EncoderState) (written more : ℕ) (xs : List ℕ) → Takes start before line number e written xs
-    → Ends start now f more (asked_behind 0 (ended_lines xs)).calls (one_asked (line_call number (strip_last 13 line))) (Ok tt) → new ≡ [] → next ≡ number + 1
+pub lf_takes : (start before now : Option (List ℕ)) (line new : List ℕ) (number next : ℕ) (e f : EncoderState)
+    (written more : ℕ) (xs : List ℕ) → Takes start before line number e written xs
+    → Ends start now f more (asked_behind 0 (ended_lines xs)).calls (one_asked (line_call number (strip_last 13 line)))
+    (Ok tt) → new ≡ [] → next ≡ number + 1
     → Takes start now new next f more (xs ++ 10 ∷ [])
 lf_takes start before now line new number next e f written more xs t ends empty is =
     let one = one_asked (line_call number (strip_last 13 line)) in
     let same = one_is start before line number e written xs t in
-    let count : length (ended_lines (xs ++ 10 ∷ [])) ≡ length (ended_lines xs) + 1 = ap length (ended-by_lf xs) ∙ length-append (ended_lines xs) (open_line xs ∷ []) in
+    let count : length (ended_lines (xs ++ 10 ∷ [])) ≡ length (ended_lines xs) + 1 =
+    ap length (ended-by_lf xs) ∙ length-append (ended_lines xs) (open_line xs ∷ []) in
     record {
       here = empty ∙ sym (open-by_lf xs);
       lines = omega (arith, is, t.lines, count);
       clean = ap (λ (a : Asked). a.fault) (lf_is xs one t.clean same) ∙ ends.0;
-      done = subst (λ (cs : List Call). Encoded start now f more cs) (sym (ap (λ (a : Asked). a.calls) (push_is xs one t.clean same))) ends.1;
+      done = subst (λ (cs : List Call). Encoded start now f more cs)
+          (sym (ap (λ (a : Asked). a.calls) (push_is xs one t.clean same))) ends.1;
     }
 
-pub lf_halts : (start before now : Option (List ℕ)) (line : List ℕ) (number : ℕ) (e f : EncoderState) (written more : ℕ) (xs : List ℕ) (fault : ToolFault) → Takes start before line number e written xs
-    → Ends start now f more (asked_behind 0 (ended_lines xs)).calls (one_asked (line_call number (strip_last 13 line))) (Err fault)
+pub lf_halts : (start before now : Option (List ℕ)) (line : List ℕ) (number : ℕ) (e f : EncoderState) (written more : ℕ)
+    (xs : List ℕ) (fault : ToolFault) → Takes start before line number e written xs
+    → Ends start now f more (asked_behind 0 (ended_lines xs)).calls (one_asked (line_call number (strip_last 13 line)))
+    (Err fault)
     → Halts start now more (asked_so_far (xs ++ 10 ∷ [])) fault
 lf_halts start before now line number e f written more xs fault t ends =
     let one = one_asked (line_call number (strip_last 13 line)) in
-    subst (λ (a : Asked). Halts start now more a fault) (sym (lf_is xs one t.clean (one_is start before line number e written xs t))) ends
+    subst (λ (a : Asked). Halts start now more a fault)
+    (sym (lf_is xs one t.clean (one_is start before line number e written xs t))) ends
 
 -- ---- more octets
 
 -- a part of a text is one of more
-part_more : (start now : Option (List ℕ)) (sent : ℕ) (text rest whole : List ℕ) → whole ≡ text ++ rest → sent ≤ length text → Appends start now (take sent text)
+part_more : (start now : Option (List ℕ)) (sent : ℕ) (text rest whole : List ℕ) → whole ≡ text ++ rest →
+    sent ≤ length text → Appends start now (take sent text)
     → (sent ≤ length whole) × Appends start now (take sent whole)
 part_more start now sent text rest whole is few out =
-    let part : take sent whole ≡ take sent text = ap (take sent) is ∙ take-append-le sent text rest few in
-    (omega (arith, ap length is, few, length-append text rest), subst (λ (l : List ℕ). Appends start now l) (sym part) out)
+    let part : take sent whole ≡ take sent text = ap (take sent) is ∙ take-append-le sent text rest few in (
+      omega (arith, ap length is, few, length-append text rest),
+      subst (λ (l : List ℕ). Appends start now l) (sym part) out,
+    )
 
 -- what stopped, stops with more behind it
-pub halts-then : (start now : Option (List ℕ)) (written : ℕ) (a c : Asked) (e : ToolFault) → Halts start now written a e → Halts start now written (and_then a c) e
-halts-then start now written a c (BadLine n) h = subst (λ (z : Asked). Halts start now written z (BadLine n)) (sym (then-fault a c (BadLine n) h.0)) h
-halts-then start now written a c (FrameLength n) h = subst (λ (z : Asked). Halts start now written z (FrameLength n)) (sym (then-fault a c (FrameLength n) h.0)) h
+pub halts-then : (start now : Option (List ℕ)) (written : ℕ) (a c : Asked) (e : ToolFault) →
+    Halts start now written a e → Halts start now written (and_then a c) e
+halts-then start now written a c (BadLine n) h =
+    subst (λ (z : Asked). Halts start now written z (BadLine n)) (sym (then-fault a c (BadLine n) h.0)) h
+halts-then start now written a c (FrameLength n) h =
+    subst (λ (z : Asked). Halts start now written z (FrameLength n)) (sym (then-fault a c (FrameLength n) h.0)) h
 halts-then start now written a c (Write sent) h =
     let more = then-text a c in
     part_more start now sent (encode_text a.calls) more.0 (encode_text (and_then a c).calls) more.1 h.0 h.1
 halts-then start now written a c _ h = absurd h
 
 -- what stopped in the middle of some octets stops them all
-pub middle_halts : (start now : Option (List ℕ)) (written x i : ℕ) (xs ys : List ℕ) (e : ToolFault) → i < length ys → x ≡ get_or ys i 0
-    → Halts start now written (asked_so_far ((xs ++ take i ys) ++ x ∷ [])) e → Halts start now written (asked_so_far (xs ++ ys)) e
+pub middle_halts : (start now : Option (List ℕ)) (written x i : ℕ) (xs ys : List ℕ) (e : ToolFault) → i < length ys →
+    x ≡ get_or ys i 0
+    → Halts start now written (asked_so_far ((xs ++ take i ys) ++ x ∷ [])) e →
+    Halts start now written (asked_so_far (xs ++ ys)) e
 middle_halts start now written x i xs ys e h is s =
     let front = (xs ++ take i ys) ++ x ∷ [] in
     let whole : front ++ drop (i + 1) ys ≡ xs ++ ys = grind (arith, common_steps) in
     let more = so_far-grows front (drop (i + 1) ys) in
-    subst (λ (l : List ℕ). Halts start now written (asked_so_far l) e) whole (subst (λ (a : Asked). Halts start now written a e) (sym more.1) (halts-then start now written (asked_so_far front) more.0 e s))
+    subst (λ (l : List ℕ). Halts start now written (asked_so_far l) e) whole
+    (subst (λ (a : Asked). Halts start now written a e) (sym more.1)
+    (halts-then start now written (asked_so_far front) more.0 e s))
 
 -- all of them
 pub all_octets : (i : ℕ) (ys : List ℕ) → length ys ≤ i → take i ys ≡ ys
@@ -174,26 +240,34 @@ all_octets i ys h = grind (arith, common_steps)
 
 -- ---- the end of the reading
 
-pub halts_finishes : (reads : ℕ) (after start now : Option (List ℕ)) (written : ℕ) (xs : List ℕ) (a : Asked) (e : ToolFault) → Asks after xs a → Halts start now written a e
+pub halts_finishes : (reads : ℕ) (after start now : Option (List ℕ)) (written : ℕ) (xs : List ℕ) (a : Asked)
+    (e : ToolFault) → Asks after xs a → Halts start now written a e
     → Finishes reads after start now written xs (Err e)
 halts_finishes reads after start now written xs a Read asks h = absurd h
 halts_finishes reads after start now written xs a ReadsLimit asks h = absurd h
 halts_finishes reads after start now written xs a _ asks h = (a, asks, h)
 
-pub end_finishes : (reads : ℕ) (after start before now : Option (List ℕ)) (line : List ℕ) (number : ℕ) (e f : EncoderState) (written more : ℕ) (xs : List ℕ) (r : Result (Unit {0}) ToolFault)
+pub end_finishes : (reads : ℕ) (after start before now : Option (List ℕ)) (line : List ℕ) (number : ℕ)
+    (e f : EncoderState) (written more : ℕ) (xs : List ℕ) (r : Result (Unit {0}) ToolFault)
     → IsAtEnd after → Takes start before line number e written xs
-    → Ends start now f more (asked_behind 0 (ended_lines xs)).calls (one_asked (line_call number (strip_last 13 line))) r → Finishes reads after start now more xs r
+    → Ends start now f more (asked_behind 0 (ended_lines xs)).calls (one_asked (line_call number (strip_last 13 line)))
+    r → Finishes reads after start now more xs r
 end_finishes reads after start before now line number e f written more xs r at t ends = cases r ends
   where
     one : Asked
     one = one_asked (line_call number (strip_last 13 line))
 
-    is : asked_in_all xs ≡ behind (asked_behind 0 (ended_lines xs)).calls (one_asked (line_call number (strip_last 13 line)))
+    is : asked_in_all xs ≡ behind (asked_behind 0 (ended_lines xs)).calls
+        (one_asked (line_call number (strip_last 13 line)))
     is =
         let a = asked_behind 0 (ended_lines xs) in
-        in_all-is xs ∙ (then-clean a (line_asked (length (ended_lines xs)) (open_line xs)) (ended_clean xs t.clean) ∙ ap (behind a.calls) (sym (one_is start before line number e written xs t)))
+        in_all-is xs ∙ (then-clean a (line_asked (length (ended_lines xs)) (open_line xs)) (ended_clean xs t.clean)
+        ∙ ap (behind a.calls) (sym (one_is start before line number e written xs t)))
 
-    cases : (r : Result (Unit {0}) ToolFault) → Ends start now f more (asked_behind 0 (ended_lines xs)).calls (one_asked (line_call number (strip_last 13 line))) r → Finishes reads after start now more xs r
+    cases : (r : Result (Unit {0}) ToolFault) →
+        Ends start now f more (asked_behind 0 (ended_lines xs)).calls
+        (one_asked (line_call number (strip_last 13 line)))
+        r → Finishes reads after start now more xs r
     cases (Ok u) s =
         let calls = ap (λ (a : Asked). a.calls) is in (
           at,
@@ -202,11 +276,14 @@ end_finishes reads after start before now line number e f written more xs r at t
           s.1.count ∙ ap (λ (cs : List Call). length (encode_text cs)) (sym calls),
         )
     cases (Err fault) s =
-        halts_finishes reads after start now more xs (asked_in_all xs) fault (inr (at, refl)) (subst (λ (a : Asked). Halts start now more a fault) (sym is) s)
+        halts_finishes reads after start now more xs (asked_in_all xs) fault (inr (at, refl))
+        (subst (λ (a : Asked). Halts start now more a fault) (sym is) s)
 
 -- no fault in the octets so far
-pub clean_so_far : (start now : Option (List ℕ)) (line : List ℕ) (number : ℕ) (e : EncoderState) (written : ℕ) (xs : List ℕ) → Takes start now line number e written xs
-    → ((asked_so_far xs).fault ≡ None) × Appends start now (encode_text (asked_so_far xs).calls) × (written ≡ length (encode_text (asked_so_far xs).calls))
+pub clean_so_far : (start now : Option (List ℕ)) (line : List ℕ) (number : ℕ) (e : EncoderState) (written : ℕ)
+    (xs : List ℕ) → Takes start now line number e written xs
+    → ((asked_so_far xs).fault ≡ None) × Appends start now (encode_text (asked_so_far xs).calls)
+    × (written ≡ length (encode_text (asked_so_far xs).calls))
 clean_so_far start now line number e written xs t =
     let calls = ended_calls xs t.clean in (
       t.clean,
@@ -216,31 +293,41 @@ clean_so_far start now line number e written xs t =
 
 -- ---- the flush
 
-pub flushed : (reads : ℕ) (after start now then : Option (List ℕ)) (written : ℕ) (xs : List ℕ) (r : Result (Unit {0}) ToolFault) → Keeps now then → Finishes reads after start now written xs r → Encodes reads after start then xs r
+pub flushed : (reads : ℕ) (after start now then : Option (List ℕ)) (written : ℕ) (xs : List ℕ)
+    (r : Result (Unit {0}) ToolFault) → Keeps now then → Finishes reads after start now written xs r →
+    Encodes reads after start then xs r
 flushed reads after start now then written xs (Ok u) k f = (f.0, f.1, appends_kept start now then _ f.2 k)
 flushed reads after start now then written xs (Err Read) k f = (f.0, appends_kept start now then _ f.1 k)
 flushed reads after start now then written xs (Err ReadsLimit) k f = (f.0, f.1, appends_kept start now then _ f.2 k)
-flushed reads after start now then written xs (Err (BadLine n)) k f = (f.0, f.1, f.2.0, appends_kept start now then _ f.2.1 k)
-flushed reads after start now then written xs (Err (FrameLength n)) k f = (f.0, f.1, f.2.0, appends_kept start now then _ f.2.1 k)
-flushed reads after start now then written xs (Err (Write n)) k f = (f.0, f.1, f.2.0, appends_kept start now then _ f.2.1 k)
+flushed reads after start now then written xs (Err (BadLine n)) k f =
+    (f.0, f.1, f.2.0, appends_kept start now then _ f.2.1 k)
+flushed reads after start now then written xs (Err (FrameLength n)) k f =
+    (f.0, f.1, f.2.0, appends_kept start now then _ f.2.1 k)
+flushed reads after start now then written xs (Err (Write n)) k f =
+    (f.0, f.1, f.2.0, appends_kept start now then _ f.2.1 k)
 flushed reads after start now then written xs (Err _) k f = absurd f.2
 
 -- all of a text is its first part
-whole_part : (start now : Option (List ℕ)) (written : ℕ) (text : List ℕ) → written ≡ length text → Appends start now text → (written ≤ length text) × Appends start now (take written text)
+whole_part : (start now : Option (List ℕ)) (written : ℕ) (text : List ℕ) → written ≡ length text →
+    Appends start now text → (written ≤ length text) × Appends start now (take written text)
 whole_part start now written text n out =
     let all : take written text ≡ text = all_octets written text (omega (arith, n)) in
     (omega (arith, n), subst (λ (l : List ℕ). Appends start now l) (sym all) out)
 
-pub flush_fails : (reads : ℕ) (after start now then : Option (List ℕ)) (written : ℕ) (xs : List ℕ) (r : Result (Unit {0}) ToolFault) → ((n : ℕ) → r ≡ Err (Write n) → ⊥) → Keeps now then
+pub flush_fails : (reads : ℕ) (after start now then : Option (List ℕ)) (written : ℕ) (xs : List ℕ)
+    (r : Result (Unit {0}) ToolFault) → ((n : ℕ) → r ≡ Err (Write n) → ⊥) → Keeps now then
     → Finishes reads after start now written xs r → Encodes reads after start then xs (Err (Write written))
 flush_fails reads after start now then written xs (Ok u) uncut k f =
-    let p = whole_part start then written (encode_text (asked_in_all xs).calls) f.3 (appends_kept start now then _ f.2 k) in
+    let p = whole_part start then written (encode_text (asked_in_all xs).calls) f.3
+    (appends_kept start now then _ f.2 k) in
     (asked_in_all xs, inr (f.0, refl), p.0, p.1)
 flush_fails reads after start now then written xs (Err Read) uncut k f =
-    let p = whole_part start then written (encode_text (asked_so_far xs).calls) f.2 (appends_kept start now then _ f.1 k) in
+    let p = whole_part start then written (encode_text (asked_so_far xs).calls) f.2
+    (appends_kept start now then _ f.1 k) in
     (asked_so_far xs, inl refl, p.0, p.1)
 flush_fails reads after start now then written xs (Err ReadsLimit) uncut k f =
-    let p = whole_part start then written (encode_text (asked_so_far xs).calls) f.3 (appends_kept start now then _ f.2 k) in
+    let p = whole_part start then written (encode_text (asked_so_far xs).calls) f.3
+    (appends_kept start now then _ f.2 k) in
     (asked_so_far xs, inl refl, p.0, p.1)
 flush_fails reads after start now then written xs (Err (BadLine n)) uncut k f =
     let p = whole_part start then written (encode_text f.0.calls) f.2.2 (appends_kept start now then _ f.2.1 k) in
@@ -257,7 +344,8 @@ front_is : (all xs ys : List ℕ) → all ≡ xs ++ ys → take (length xs) all 
 front_is all xs ys e = grind (arith, common_steps)
 
 -- all octets ask for what those asked for that were read, and more
-asks_all : (all xs ys : List ℕ) (a : Asked) → all ≡ xs ++ ys → Asks (Some ys) xs a → (c : Asked) × (asked_in_all all ≡ and_then a c)
+asks_all : (all xs ys : List ℕ) (a : Asked) → all ≡ xs ++ ys → Asks (Some ys) xs a →
+    (c : Asked) × (asked_in_all all ≡ and_then a c)
 asks_all all xs ys a e (inl is) =
     let more = all-grows xs ys in
     (more.0, ap asked_in_all e ∙ (more.1 ∙ ap (λ (z : Asked). and_then z more.0) (sym is)))
@@ -269,41 +357,53 @@ asks_all all xs ys a e (inr is) =
     alone : (a : Asked) → and_then a (record { calls = []; fault = None }) ≡ a
     alone a = then-nothing a
 
-fault_at : (all xs ys : List ℕ) (start now : Option (List ℕ)) (a : Asked) (f : ToolFault) → all ≡ xs ++ ys → Asks (Some ys) xs a → a.fault ≡ Some f → Appends start now (encode_text a.calls)
+fault_at : (all xs ys : List ℕ) (start now : Option (List ℕ)) (a : Asked) (f : ToolFault) → all ≡ xs ++ ys →
+    Asks (Some ys) xs a → a.fault ≡ Some f → Appends start now (encode_text a.calls)
     → ((asked_in_all all).fault ≡ Some f) × Appends start now (encode_text (asked_in_all all).calls)
 fault_at all xs ys start now a f e asks h out =
     let more = asks_all all xs ys a e asks in
     let is : asked_in_all all ≡ a = more.1 ∙ then-fault a more.0 f h in
     (ap (λ (z : Asked). z.fault) is ∙ h, subst (λ (z : Asked). Appends start now (encode_text z.calls)) (sym is) out)
 
-short_at : (all xs ys : List ℕ) (start now : Option (List ℕ)) → all ≡ xs ++ ys → (asked_so_far xs).fault ≡ None → Appends start now (encode_text (asked_so_far xs).calls)
-    → (k : ℕ) × ((asked_so_far (take k all)).fault ≡ None) × Appends start now (encode_text (asked_so_far (take k all)).calls)
+short_at : (all xs ys : List ℕ) (start now : Option (List ℕ)) → all ≡ xs ++ ys → (asked_so_far xs).fault ≡ None →
+    Appends start now (encode_text (asked_so_far xs).calls)
+    → (k : ℕ) × ((asked_so_far (take k all)).fault ≡ None)
+    × Appends start now (encode_text (asked_so_far (take k all)).calls)
 short_at all xs ys start now e h out =
-    let P : List ℕ → Type 0 = λ l. ((asked_so_far l).fault ≡ None) × Appends start now (encode_text (asked_so_far l).calls) in
+    let P : List ℕ → Type 0 = λ l. ((asked_so_far l).fault ≡ None)
+    × Appends start now (encode_text (asked_so_far l).calls) in
     let at = subst P (sym (front_is all xs ys e)) (h, out) in
     (length xs, at.0, at.1)
 
-written_at : (all xs ys : List ℕ) (start now : Option (List ℕ)) (a : Asked) (written : ℕ) → all ≡ xs ++ ys → Asks (Some ys) xs a → written ≤ length (encode_text a.calls)
-    → Appends start now (take written (encode_text a.calls)) → (written ≤ length (encode_text (asked_in_all all).calls)) × Appends start now (take written (encode_text (asked_in_all all).calls))
+written_at : (all xs ys : List ℕ) (start now : Option (List ℕ)) (a : Asked) (written : ℕ) → all ≡ xs ++ ys →
+    Asks (Some ys) xs a → written ≤ length (encode_text a.calls)
+    → Appends start now (take written (encode_text a.calls)) → (written ≤ length (encode_text (asked_in_all all).calls))
+    × Appends start now (take written (encode_text (asked_in_all all).calls))
 written_at all xs ys start now a written e asks few out =
     let more = asks_all all xs ys a e asks in
     let text = then-text a more.0 in
-    part_more start now written (encode_text a.calls) text.0 (encode_text (asked_in_all all).calls) (ap (λ (z : Asked). encode_text z.calls) more.1 ∙ text.1) few out
+    part_more start now written (encode_text a.calls) text.0 (encode_text (asked_in_all all).calls)
+    (ap (λ (z : Asked). encode_text z.calls) more.1 ∙ text.1) few out
 
-encodes_at : (reads : ℕ) (all xs ys : List ℕ) (start now : Option (List ℕ)) (r : Result (Unit {0}) ToolFault) → all ≡ xs ++ ys → Encodes reads (Some ys) start now xs r → EncodesAll start now all r
+encodes_at : (reads : ℕ) (all xs ys : List ℕ) (start now : Option (List ℕ)) (r : Result (Unit {0}) ToolFault) →
+    all ≡ xs ++ ys → Encodes reads (Some ys) start now xs r → EncodesAll start now all r
 encodes_at reads all xs ys start now (Ok u) e s =
     let same : xs ≡ all = sym (append-nil xs) ∙ ap (λ (l : List ℕ). xs ++ l) (sym s.0) ∙ sym e in
-    let P : List ℕ → Type 0 = λ l. ((asked_in_all l).fault ≡ None) × Appends start now (encode_text (asked_in_all l).calls) in
+    let P : List ℕ → Type 0 = λ l. ((asked_in_all l).fault ≡ None)
+    × Appends start now (encode_text (asked_in_all l).calls) in
     subst P same (s.1, s.2)
 encodes_at reads all xs ys start now (Err (BadLine n)) e s = fault_at all xs ys start now s.0 (BadLine n) e s.1 s.2 s.3
-encodes_at reads all xs ys start now (Err (FrameLength n)) e s = fault_at all xs ys start now s.0 (FrameLength n) e s.1 s.2 s.3
+encodes_at reads all xs ys start now (Err (FrameLength n)) e s =
+    fault_at all xs ys start now s.0 (FrameLength n) e s.1 s.2 s.3
 encodes_at reads all xs ys start now (Err Read) e s = short_at all xs ys start now e s.0 s.1
 encodes_at reads all xs ys start now (Err ReadsLimit) e s = short_at all xs ys start now e s.1 s.2
-encodes_at reads all xs ys start now (Err (Write written)) e s = written_at all xs ys start now s.0 written e s.1 s.2 s.3
+encodes_at reads all xs ys start now (Err (Write written)) e s =
+    written_at all xs ys start now s.0 written e s.1 s.2 s.3
 encodes_at reads all xs ys start now (Err _) e s = absurd s
 
 -- what a call answered is what all octets of a reader that tells give
-pub known_encodes : (reads : ℕ) (before after start now : Option (List ℕ)) (xs : List ℕ) (r : Result (Unit {0}) ToolFault) → Consumes before after xs
+pub known_encodes : (reads : ℕ) (before after start now : Option (List ℕ)) (xs : List ℕ)
+    (r : Result (Unit {0}) ToolFault) → Consumes before after xs
     → Encodes reads after start now xs r → IfSome before (λ all. EncodesAll start now all r)
 known_encodes reads None after start now xs r p s = tt
 known_encodes reads (Some all) None start now xs r p s = absurd p

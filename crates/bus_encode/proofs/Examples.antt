@@ -12,8 +12,10 @@ use Rattle.bus_text.specs.declared.fault.ToolFault.TheVariants.{BadLine, FrameLe
 
 -- a frame, an idle and a frame
 encoded : encode_text (asked_in_all (codes "frame 108300\nidle\nframe 1083fe\n")).calls
-    ≡ codes "011111100000100011000001000000001011111011010011101111110\n111111111111111\n" ++ codes "0111111000001000110000010111110110011000011011111001111110\n"
-unfolding asked_in_all asked_behind ended_lines open_line rsplit_once line_call decode_pairs text_behind bits_text raw_bits bits_of_octets bits_of fcs remainder divided step add ends_inverted octets number
+    ≡ codes "011111100000100011000001000000001011111011010011101111110\n111111111111111\n"
+    ++ codes "0111111000001000110000010111110110011000011011111001111110\n"
+unfolding asked_in_all asked_behind ended_lines open_line rsplit_once line_call decode_pairs text_behind bits_text
+    raw_bits bits_of_octets bits_of fcs remainder divided step add ends_inverted octets number
 encoded = refl
 
 -- the line before one of another form stands

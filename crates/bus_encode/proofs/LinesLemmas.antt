@@ -1,9 +1,12 @@
 -- The lines of a text as more octets come, and by a walk over them.
-use Rattle.std.proofs.Common.{◌≡◌, ℕ, zero, suc, ◌+◌, ◌<◌, ◌≤◌, ◌==◌, Bool, true, false, if◌then◌else◌, List, [], ◌∷◌, ◌++◌, length, get_or, take, drop, map, Option, Some, None, IfSome, refl, sym, ap, ◌∙◌, arith}
+use Rattle.std.proofs.Common.{◌≡◌, ℕ, zero, suc, ◌+◌, ◌<◌, ◌≤◌, ◌==◌, Bool, true, false, if◌then◌else◌, List, [], ◌∷◌}
+use Rattle.std.proofs.Common.{◌++◌, length, get_or, take, drop, map, Option, Some, None, IfSome, refl, sym, ap, ◌∙◌}
+use Rattle.std.proofs.Common.{arith}
 use Rattle.std.specs.Prelude.{filter, slice_index}
 use Rattle.std.specs.Option.{option_map}
 use Rattle.std.specs.Path.{rfind_below, rsplit_once}
-use Rattle.std.proofs.lemmas.List.{append_assoc, append-nil, map-append, length_push, get_or_append_left, get_or_push, take_all, take-append-le, drop-append-le, drop_all}
+use Rattle.std.proofs.lemmas.List.{append_assoc, append-nil, map-append, length_push, get_or_append_left, get_or_push}
+use Rattle.std.proofs.lemmas.List.{take_all, take-append-le, drop-append-le, drop_all}
 use Rattle.std.proofs.lemmas.List.Elements.{filter-append}
 use Rattle.bus_line.specs.Due.{places}
 use Rattle.bus_encode.specs.Lines.{behind_last, open_line, ended_lines}
@@ -23,10 +26,11 @@ rfind-append c xs ys (suc n) h =
 
 rfind-within : (c : ℕ) (xs : List ℕ) (n : ℕ) → IfSome (rfind_below c xs n) (λ k. k < n)
 rfind-within c xs zero = tt
-rfind-within c xs (suc n) = elim (get_or xs n 0 == c) as (λ b. IfSome (if b then Some n else rfind_below c xs n) (λ k. k < suc n)) [
-  | true ↦ omega arith
-  | false ↦ wider (rfind_below c xs n) (rfind-within c xs n)
-]
+rfind-within c xs (suc n) =
+    elim (get_or xs n 0 == c) as (λ b. IfSome (if b then Some n else rfind_below c xs n) (λ k. k < suc n)) [
+      | true ↦ omega arith
+      | false ↦ wider (rfind_below c xs n) (rfind-within c xs n)
+    ]
   where
     wider : (r : Option ℕ) → IfSome r (λ k. k < n) → IfSome r (λ k. k < suc n)
     wider None h = tt
@@ -36,7 +40,8 @@ rfind-within c xs (suc n) = elim (get_or xs n 0 == c) as (λ b. IfSome (if b the
 abbrev behind_place : List ℕ → Option ℕ → List ℕ
 behind_place xs r = behind_last xs (option_map (λ i. (take i xs, drop (i + 1) xs)) r)
 
-behind-push : (xs : List ℕ) (x : ℕ) (r : Option ℕ) → IfSome r (λ k. k < length xs) → behind_place (xs ++ x ∷ []) r ≡ behind_place xs r ++ x ∷ []
+behind-push : (xs : List ℕ) (x : ℕ) (r : Option ℕ) → IfSome r (λ k. k < length xs) →
+    behind_place (xs ++ x ∷ []) r ≡ behind_place xs r ++ x ∷ []
 behind-push xs x None h = refl
 behind-push xs x (Some k) h = drop-append-le (k + 1) xs (x ∷ []) (omega arith)
 
@@ -44,11 +49,16 @@ open-push : (xs : List ℕ) (x : ℕ) → open_line (xs ++ x ∷ []) ≡ (if x =
 unfolding open_line rsplit_once
 open-push xs x =
     ap (λ n. behind_place (xs ++ x ∷ []) (rfind_below 10 (xs ++ x ∷ []) n)) (one-longer xs x)
-    ∙ (ap (λ y. behind_place (xs ++ x ∷ []) (if y == 10 then Some (length xs) else rfind_below 10 (xs ++ x ∷ []) (length xs))) (get_or_push xs x 0 (length xs) refl)
-    ∙ (ap (λ r. behind_place (xs ++ x ∷ []) (if x == 10 then Some (length xs) else r)) (rfind-append 10 xs (x ∷ []) (length xs) (omega arith))
+    ∙ (ap
+    (λ y. behind_place (xs ++ x ∷ [])
+    (if y == 10 then Some (length xs) else rfind_below 10 (xs ++ x ∷ []) (length xs)))
+    (get_or_push xs x 0 (length xs) refl)
+    ∙ (ap (λ r. behind_place (xs ++ x ∷ []) (if x == 10 then Some (length xs) else r))
+    (rfind-append 10 xs (x ∷ []) (length xs) (omega arith))
     ∙ cases (x == 10)))
   where
-    cases : (b : Bool) → behind_place (xs ++ x ∷ []) (if b then Some (length xs) else rfind_below 10 xs (length xs)) ≡ (if b then [] else behind_place xs (rfind_below 10 xs (length xs)) ++ x ∷ [])
+    cases : (b : Bool) → behind_place (xs ++ x ∷ []) (if b then Some (length xs) else rfind_below 10 xs (length xs))
+        ≡ (if b then [] else behind_place xs (rfind_below 10 xs (length xs)) ++ x ∷ [])
     cases true = drop_all (length xs + 1) (xs ++ x ∷ []) (omega (arith, length_push xs x))
     cases false = behind-push xs x (rfind_below 10 xs (length xs)) (rfind-within 10 xs (length xs))
 
@@ -56,13 +66,16 @@ open-push xs x =
 abbrev lines_below : List ℕ → ℕ → List (List ℕ)
 lines_below xs n = map (λ i. open_line (take i xs)) (filter (λ i. slice_index xs i == 10) (places n))
 
-lines-more : (xs : List ℕ) (n : ℕ) → lines_below xs (suc n) ≡ lines_below xs n ++ (if get_or xs n 0 == 10 then open_line (take n xs) ∷ [] else [])
+lines-more : (xs : List ℕ) (n : ℕ) → lines_below xs (suc n)
+    ≡ lines_below xs n ++ (if get_or xs n 0 == 10 then open_line (take n xs) ∷ [] else [])
 lines-more xs n =
     ap (map (λ i. open_line (take i xs))) (filter-append (λ i. slice_index xs i == 10) (places n) (n ∷ []))
-    ∙ (map-append (λ i. open_line (take i xs)) (filter (λ i. slice_index xs i == 10) (places n)) (filter (λ i. slice_index xs i == 10) (n ∷ []))
+    ∙ (map-append (λ i. open_line (take i xs)) (filter (λ i. slice_index xs i == 10) (places n))
+    (filter (λ i. slice_index xs i == 10) (n ∷ []))
     ∙ ap (λ ls. lines_below xs n ++ ls) (one (get_or xs n 0 == 10)))
   where
-    one : (b : Bool) → map (λ i. open_line (take i xs)) (if b then n ∷ [] else []) ≡ (if b then open_line (take n xs) ∷ [] else [])
+    one : (b : Bool) → map (λ i. open_line (take i xs)) (if b then n ∷ [] else [])
+        ≡ (if b then open_line (take n xs) ∷ [] else [])
     one true = refl
     one false = refl
 
@@ -78,15 +91,18 @@ lines-append xs ys (suc n) h =
     ∙ (ap (λ l. lines_below xs n ++ (if get_or xs n 0 == 10 then open_line l ∷ [] else [])) front
     ∙ sym (lines-more xs n))))
 
-ended-push : (xs : List ℕ) (x : ℕ) → ended_lines (xs ++ x ∷ []) ≡ ended_lines xs ++ (if x == 10 then open_line xs ∷ [] else [])
+ended-push : (xs : List ℕ) (x : ℕ) → ended_lines (xs ++ x ∷ [])
+    ≡ ended_lines xs ++ (if x == 10 then open_line xs ∷ [] else [])
 unfolding ended_lines
 ended-push xs x =
     let n = length xs in
     let front : take n (xs ++ x ∷ []) ≡ xs = take-append-le n xs (x ∷ []) (omega arith) ∙ take_all n xs (omega arith) in
     ap (lines_below (xs ++ x ∷ [])) (one-longer xs x)
     ∙ (lines-more (xs ++ x ∷ []) n
-    ∙ (ap (λ ls. ls ++ (if get_or (xs ++ x ∷ []) n 0 == 10 then open_line (take n (xs ++ x ∷ [])) ∷ [] else [])) (lines-append xs (x ∷ []) n (omega arith))
-    ∙ (ap (λ y. lines_below xs n ++ (if y == 10 then open_line (take n (xs ++ x ∷ [])) ∷ [] else [])) (get_or_push xs x 0 n refl)
+    ∙ (ap (λ ls. ls ++ (if get_or (xs ++ x ∷ []) n 0 == 10 then open_line (take n (xs ++ x ∷ [])) ∷ [] else []))
+    (lines-append xs (x ∷ []) n (omega arith))
+    ∙ (ap (λ y. lines_below xs n ++ (if y == 10 then open_line (take n (xs ++ x ∷ [])) ∷ [] else []))
+    (get_or_push xs x 0 n refl)
     ∙ ap (λ l. lines_below xs n ++ (if x == 10 then open_line l ∷ [] else [])) front)))
 
 -- LF ends the open line
@@ -98,7 +114,8 @@ open-by_lf xs = open-push xs 10
 
 -- another octet does not
 pub ended-by_other : (xs : List ℕ) (x : ℕ) → (x == 10) ≡ false → ended_lines (xs ++ x ∷ []) ≡ ended_lines xs
-ended-by_other xs x h = ended-push xs x ∙ (ap (λ (b : Bool). ended_lines xs ++ (if b then open_line xs ∷ [] else [])) h ∙ append-nil (ended_lines xs))
+ended-by_other xs x h = ended-push xs x
+    ∙ (ap (λ (b : Bool). ended_lines xs ++ (if b then open_line xs ∷ [] else [])) h ∙ append-nil (ended_lines xs))
 
 pub open-by_other : (xs : List ℕ) (x : ℕ) → (x == 10) ≡ false → open_line (xs ++ x ∷ []) ≡ open_line xs ++ x ∷ []
 open-by_other xs x h = open-push xs x ∙ ap (λ (b : Bool). if b then [] else open_line xs ++ x ∷ []) h
@@ -124,10 +141,13 @@ ended-append xs (y ∷ ys) =
     ∙ (ended-append (xs ++ y ∷ []) ys
     ∙ (ap (λ ls. ls ++ ended_behind (open_line (xs ++ y ∷ [])) ys) (ended-push xs y)
     ∙ (ap (λ l. (ended_lines xs ++ (if y == 10 then open_line xs ∷ [] else [])) ++ ended_behind l ys) (open-push xs y)
-    ∙ (append_assoc (ended_lines xs) (if y == 10 then open_line xs ∷ [] else []) (ended_behind (if y == 10 then [] else open_line xs ++ y ∷ []) ys)
+    ∙ (append_assoc (ended_lines xs) (if y == 10 then open_line xs ∷ [] else [])
+    (ended_behind (if y == 10 then [] else open_line xs ++ y ∷ []) ys)
     ∙ ap (λ ls. ended_lines xs ++ ls) (cases (y == 10))))))
   where
-    cases : (b : Bool) → (if b then open_line xs ∷ [] else []) ++ ended_behind (if b then [] else open_line xs ++ y ∷ []) ys ≡ (if b then open_line xs ∷ ended_behind [] ys else ended_behind (open_line xs ++ y ∷ []) ys)
+    cases : (b : Bool) → (if b then open_line xs ∷ [] else [])
+        ++ ended_behind (if b then [] else open_line xs ++ y ∷ []) ys
+        ≡ (if b then open_line xs ∷ ended_behind [] ys else ended_behind (open_line xs ++ y ∷ []) ys)
     cases true = refl
     cases false = refl
 
@@ -140,6 +160,7 @@ open-append xs (y ∷ ys) =
     ∙ (ap (λ l. open_behind l ys) (open-push xs y)
     ∙ cases (y == 10)))
   where
-    cases : (b : Bool) → open_behind (if b then [] else open_line xs ++ y ∷ []) ys ≡ (if b then open_behind [] ys else open_behind (open_line xs ++ y ∷ []) ys)
+    cases : (b : Bool) → open_behind (if b then [] else open_line xs ++ y ∷ []) ys
+        ≡ (if b then open_behind [] ys else open_behind (open_line xs ++ y ∷ []) ys)
     cases true = refl
     cases false = refl

@@ -1,5 +1,7 @@
 -- What one line asks for, and the bits of that.
-use Rattle.std.proofs.Common.{◌≡◌, ℕ, ◌/◌, ◌%◌, ◌≤◌, ◌<◌, ◌==◌, nat_lt, nat_le, Bool, true, false, List, [], ◌∷◌, ◌++◌, length, take, drop, codes, Option, Some, None, Result, Ok, Err, IsTrue, refl, ap, ◌∙◌, arith, length-take}
+use Rattle.std.proofs.Common.{◌≡◌, ℕ, ◌/◌, ◌%◌, ◌≤◌, ◌<◌, ◌==◌, nat_lt, nat_le, Bool, true, false, List, [], ◌∷◌, ◌++◌}
+use Rattle.std.proofs.Common.{length, take, drop, codes, Option, Some, None, Result, Ok, Err, IsTrue, refl, ap, ◌∙◌}
+use Rattle.std.proofs.Common.{arith, length-take}
 use Rattle.std.proofs.lemmas.Grind.{common_steps}
 use Rattle.std.proofs.lemmas.Bool.Decides.{nat_tests}
 use Rattle.std.specs.List.{AllPass, last_or}
@@ -19,7 +21,8 @@ use Rattle.bus_text.proofs.ShowLemmas.{even_digits}
 -- ---- frames
 
 -- no digits, an odd number of them, or another character
-pub no_frame : (n : ℕ) (s : List ℕ) → (1 ≤ length s → length s % 2 ≡ 0 → AllPass is_hex_digit s → ⊥) → decoded_frame n (decode_of s) ≡ Err (BadLine n)
+pub no_frame : (n : ℕ) (s : List ℕ) → (1 ≤ length s → length s % 2 ≡ 0 → AllPass is_hex_digit s → ⊥) →
+    decoded_frame n (decode_of s) ≡ Err (BadLine n)
 no_frame n s h = answered (decode_of s) refl
   where
     answered : (r : Result (List ℕ) FromHexError) → decode_of s ≡ r → decoded_frame n r ≡ Err (BadLine n)
@@ -30,14 +33,16 @@ no_frame n s h = answered (decode_of s) refl
         absurd (h (omega (arith, d.2)) d.0 d.1)
 
 -- digits that give octets, at least one
-frame_of : (n : ℕ) (s bytes : List ℕ) → decode_of s ≡ Ok bytes → 1 ≤ length bytes → decoded_frame n (decode_of s) ≡ sized_frame n bytes
+frame_of : (n : ℕ) (s bytes : List ℕ) → decode_of s ≡ Ok bytes → 1 ≤ length bytes →
+    decoded_frame n (decode_of s) ≡ sized_frame n bytes
 frame_of n s [] is some = absurd (none some)
   where
     none : (1 ≤ 0) → ⊥
     none h = omega (arith, h)
 frame_of n s (o ∷ os) is some = ap (decoded_frame n) is
 
-frame_fits : (n : ℕ) (bytes : List ℕ) → 2 ≤ length bytes → length bytes ≤ 256 → sized_frame n bytes ≡ Ok (Some (Frame bytes))
+frame_fits : (n : ℕ) (bytes : List ℕ) → 2 ≤ length bytes → length bytes ≤ 256 →
+    sized_frame n bytes ≡ Ok (Some (Frame bytes))
 frame_fits n bytes least most =
     let a : nat_le 2 (length bytes) ≡ true = grind (arith, least) in
     let b : nat_le (length bytes) 256 ≡ true = grind (arith, most) in
@@ -54,18 +59,21 @@ frame_long n bytes many =
     let b : nat_le (length bytes) 256 ≡ false = grind (arith, many) in
     rw (a, b) refl
 
-pub too_short : (n : ℕ) (s : List ℕ) → 1 ≤ length s → length s % 2 ≡ 0 → AllPass is_hex_digit s → length s / 2 < 2 → decoded_frame n (decode_of s) ≡ Err (FrameLength n)
+pub too_short : (n : ℕ) (s : List ℕ) → 1 ≤ length s → length s % 2 ≡ 0 → AllPass is_hex_digit s → length s / 2 < 2 →
+    decoded_frame n (decode_of s) ≡ Err (FrameLength n)
 too_short n s some even all few =
     let d = even_digits s even all in
     frame_of n s d.0 d.1 (omega (arith, d.2, some)) ∙ frame_short n d.0 (omega (arith, d.2, few))
 
-pub too_long : (n : ℕ) (s : List ℕ) → length s % 2 ≡ 0 → AllPass is_hex_digit s → 256 < length s / 2 → decoded_frame n (decode_of s) ≡ Err (FrameLength n)
+pub too_long : (n : ℕ) (s : List ℕ) → length s % 2 ≡ 0 → AllPass is_hex_digit s → 256 < length s / 2 →
+    decoded_frame n (decode_of s) ≡ Err (FrameLength n)
 too_long n s even all many =
     let d = even_digits s even all in
     frame_of n s d.0 d.1 (omega (arith, d.2, many)) ∙ frame_long n d.0 (omega (arith, d.2, many))
 
 -- octets that digits are
-pub framed : (n : ℕ) (s bytes : List ℕ) → decode_of s ≡ Ok bytes → 2 ≤ length s / 2 → length s / 2 ≤ 256 → (decoded_frame n (decode_of s) ≡ Ok (Some (Frame bytes))) × (2 ≤ length bytes) × (length bytes ≤ 256)
+pub framed : (n : ℕ) (s bytes : List ℕ) → decode_of s ≡ Ok bytes → 2 ≤ length s / 2 → length s / 2 ≤ 256 →
+    (decoded_frame n (decode_of s) ≡ Ok (Some (Frame bytes))) × (2 ≤ length bytes) × (length bytes ≤ 256)
 framed n s bytes is least most =
     let d = (decode_of-ok s bytes is).2 in
     let few : 2 ≤ length bytes = omega (arith, d, least) in
@@ -89,16 +97,19 @@ module _ (n : ℕ) (line : List ℕ) (few : length line ≤ 600) where
   unfolding line_call
   call-flag some flag = let a = within line few in rw (a, some, flag) refl
 
-  pub call-idle : (length line == 0) ≡ false → is_text (codes "flag") line ≡ false → is_text (codes "idle") line ≡ true → line_call n line ≡ Ok (Some Idle)
+  pub call-idle : (length line == 0) ≡ false → is_text (codes "flag") line ≡ false →
+      is_text (codes "idle") line ≡ true → line_call n line ≡ Ok (Some Idle)
   unfolding line_call
   call-idle some flag idle = let a = within line few in rw (a, some, flag, idle) refl
 
-  pub call-other : (length line == 0) ≡ false → is_text (codes "flag") line ≡ false → is_text (codes "idle") line ≡ false → is_text (codes "frame ") (take 6 line) ≡ false
+  pub call-other : (length line == 0) ≡ false → is_text (codes "flag") line ≡ false →
+      is_text (codes "idle") line ≡ false → is_text (codes "frame ") (take 6 line) ≡ false
       → line_call n line ≡ Err (BadLine n)
   unfolding line_call
   call-other some flag idle frame = let a = within line few in rw (a, some, flag, idle, frame) refl
 
-  pub call-frame : (length line == 0) ≡ false → is_text (codes "flag") line ≡ false → is_text (codes "idle") line ≡ false → is_text (codes "frame ") (take 6 line) ≡ true
+  pub call-frame : (length line == 0) ≡ false → is_text (codes "flag") line ≡ false →
+      is_text (codes "idle") line ≡ false → is_text (codes "frame ") (take 6 line) ≡ true
       → line_call n line ≡ decoded_frame n (decode_of (drop 6 line))
   unfolding line_call
   call-frame some flag idle frame = let a = within line few in rw (a, some, flag, idle, frame) refl
@@ -129,7 +140,8 @@ bits_taken sink = Some sink.bits.items
 abbrev pub bits_refused : CallBits → ℕ
 bits_refused sink = sink.refused
 
-never_refused : (call : Call) (written : ℕ) (old new : EncoderState) (before after : CallBits) → old.ended ≡ false → Fits call → before.bits.items ≡ [] → before.refused ≡ 0
+never_refused : (call : Call) (written : ℕ) (old new : EncoderState) (before after : CallBits) → old.ended ≡ false →
+    Fits call → before.bits.items ≡ [] → before.refused ≡ 0
     → Refused bits_taken bits_refused call written old new before after → ⊥
 never_refused call written old new before after going fits empty none r =
     let s = some_calls old going in
@@ -143,10 +155,12 @@ never_refused call written old new before after going fits empty none r =
     length_take b k = simp length-take (omega arith)
 
 -- there is room for the bits of a call
-pub never_fails : (call : Call) (old new : EncoderState) (before after : CallBits) (r : Result (Unit {0}) EncodeFault) (e : EncodeFault) → r ≡ Err e → old.ended ≡ false → Fits call
+pub never_fails : (call : Call) (old new : EncoderState) (before after : CallBits) (r : Result (Unit {0}) EncodeFault)
+    (e : EncodeFault) → r ≡ Err e → old.ended ≡ false → Fits call
     → before.bits.items ≡ [] → before.refused ≡ 0 → (r ≡ Err Ended → IsTrue old.ended) → (r ≡ Err LengthRange → ⊥)
     → ((written : ℕ) → r ≡ Err (Sink written) → Refused bits_taken bits_refused call written old new before after) → ⊥
-never_fails call old new before after r Ended is going fits empty none ended range refused = let t : old.ended ≡ true = ended is in cc
+never_fails call old new before after r Ended is going fits empty none ended range refused = let t : old.ended ≡ true =
+    ended is in cc
 never_fails call old new before after r LengthRange is going fits empty none ended range refused = range is
 never_fails call old new before after r (Sink written) is going fits empty none ended range refused =
     never_refused call written old new before after going fits empty none (refused written is)

@@ -1,6 +1,7 @@
 //! Encodes the lines that are read.
 
-ghost use Rattle.std.specs.Prelude.{◌≡◌, ◌↔◌, IsTrue, ◌+◌, ◌*◌, ◌^◌, ◌<◌, ◌≤◌, ℕ, List, Option, Some, None, Ok, Err, [], ◌∷◌, ◌++◌, length, MatchResult, false};
+ghost use Rattle.std.specs.Prelude.{◌≡◌, ◌↔◌, IsTrue, ◌+◌, ◌*◌, ◌^◌, ◌<◌, ◌≤◌, ℕ, List, Option, Some, None, Ok, Err};
+ghost use Rattle.std.specs.Prelude.{[], ◌∷◌, ◌++◌, length, MatchResult, false};
 ghost use Rattle.std.specs.Io.BufRead.{strip_last};
 ghost use Rattle.std.specs.Io.KnownBytes.{Consumes};
 ghost use Rattle.bus_line.specs.Line.{Call};

@@ -1,5 +1,6 @@
 -- There is room for the bits of a frame.
-use Rattle.std.proofs.Common.{◌≡◌, ◌<◌, ◌≤◌, ◌++◌, ◌⊎◌, ℕ, List, Bool, true, false, [], length, take, Option, Some, None, Result, Ok, Err, IsErrAnd, IsTrue, inl, inr, refl, arith, length-take}
+use Rattle.std.proofs.Common.{◌≡◌, ◌<◌, ◌≤◌, ◌++◌, ◌⊎◌, ℕ, List, Bool, true, false, [], length, take, Option, Some}
+use Rattle.std.proofs.Common.{None, Result, Ok, Err, IsErrAnd, IsTrue, inl, inr, refl, arith, length-take}
 use Rattle.std.proofs.lemmas.Bool.{cases_lt}
 use Rattle.bus_line.specs.Line.{Call, Frame, added, gain}
 use Rattle.bus_line.specs.Internal.EncoderState.{EncoderState}
@@ -15,8 +16,10 @@ abbrev pub bits_refused : FrameBits → ℕ
 bits_refused sink = sink.refused
 
 -- an empty sink has room for a call of at most 2492 bits
-never_refused : (call : Call) (written : ℕ) (old new : EncoderState) (before after : FrameBits) → AfterCalls old [] → length (added None call) ≤ 2492
-    → before.bits.items ≡ [] → before.refused ≡ 0 → Refused bits_taken bits_refused call written old new before after → ⊥
+never_refused : (call : Call) (written : ℕ) (old new : EncoderState) (before after : FrameBits) → AfterCalls old [] →
+    length (added None call) ≤ 2492
+    → before.bits.items ≡ [] → before.refused ≡ 0 → Refused bits_taken bits_refused call written old new before after →
+    ⊥
 never_refused call written old new before after start fits empty none r =
     let within = r.within [] start in
     let took : after.bits.items ≡ before.bits.items ++ take written (gain [] call) = let t = r.took [] start in cc in
@@ -28,17 +31,22 @@ never_refused call written old new before after start fits empty none r =
     length_take b k = simp length-take (omega arith)
 
 -- the only fault of a new encoder at an empty sink
-pub only_length : (octets : List ℕ) (old new : EncoderState) (before after : FrameBits) (r : Result (Unit {0}) EncodeFault) (e : EncodeFault) → r ≡ Err e → AfterCalls old []
-    → (length octets ≤ 256 → (last : Option Call) → length (added last (Frame octets)) ≤ 2492) → before.bits.items ≡ [] → before.refused ≡ 0
-    → (r ≡ Err Ended → IsTrue old.ended) → ((old.ended ≡ false) × ((length octets < 2) ⊎ (256 < length octets)) → r ≡ Err LengthRange)
-    → ((written : ℕ) → r ≡ Err (Sink written) → Refused bits_taken bits_refused (Frame octets) written old new before after) → e ≡ LengthRange
+pub only_length : (octets : List ℕ) (old new : EncoderState) (before after : FrameBits)
+    (r : Result (Unit {0}) EncodeFault) (e : EncodeFault) → r ≡ Err e → AfterCalls old []
+    → (length octets ≤ 256 → (last : Option Call) → length (added last (Frame octets)) ≤ 2492) →
+    before.bits.items ≡ [] → before.refused ≡ 0
+    → (r ≡ Err Ended → IsTrue old.ended) →
+    ((old.ended ≡ false) × ((length octets < 2) ⊎ (256 < length octets)) → r ≡ Err LengthRange)
+    → ((written : ℕ) → r ≡ Err (Sink written) →
+    Refused bits_taken bits_refused (Frame octets) written old new before after) → e ≡ LengthRange
 only_length octets old new before after r Ended is start fits empty none ended range refused =
     absurd (let t : old.ended ≡ true = ended is in let f = start.going in cc)
 only_length octets old new before after r LengthRange is start fits empty none ended range refused = refl
 only_length octets old new before after r (Sink written) is start fits empty none ended range refused =
     elim (cases_lt 256 (length octets)) [
       | inl many ↦ absurd (let e = range (start.going, inr many) in cc)
-      | inr few ↦ absurd (never_refused (Frame octets) written old new before after start (fits few None) empty none (refused written is))
+      | inr few ↦ absurd (never_refused (Frame octets) written old new before after start (fits few None) empty none
+          (refused written is))
     ]
 
 -- the fault of a result

@@ -1,6 +1,7 @@
 //! Bit by bit, as an interrupt or a loop hands them in.
 
-ghost use Rattle.std.specs.Prelude.{◌≡◌, ◌≤◌, ◌^◌, ◌↔◌, Bool, List, [], ◌∷◌, ◌++◌, IsErr, IfOk, OnOk, OnErr, length, Option, option_and_then};
+ghost use Rattle.std.specs.Prelude.{◌≡◌, ◌≤◌, ◌^◌, ◌↔◌, Bool, List, [], ◌∷◌, ◌++◌, IsErr, IfOk, OnOk, OnErr, length};
+ghost use Rattle.std.specs.Prelude.{Option, option_and_then};
 ghost use Rattle.std.specs.Option.{option_to_list};
 ghost use Rattle.bus_line.specs.After.{After, Led};
 ghost use Rattle.bus_line.specs.Due.{due_at};

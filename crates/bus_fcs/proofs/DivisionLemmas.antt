@@ -1,5 +1,6 @@
 -- The long division.
-use Rattle.std.proofs.Common.{◌≡◌, ℕ, zero, suc, ◌+◌, ◌-◌, ◌≤◌, Bool, true, false, List, [], ◌∷◌, ◌++◌, length, replicate, refl, sym, ap, ◌∙◌, arith, append_assoc, length-append}
+use Rattle.std.proofs.Common.{◌≡◌, ℕ, zero, suc, ◌+◌, ◌-◌, ◌≤◌, Bool, true, false, List, [], ◌∷◌, ◌++◌, length}
+use Rattle.std.proofs.Common.{replicate, refl, sym, ap, ◌∙◌, arith, append_assoc, length-append}
 use Rattle.std.proofs.lemmas.List.{append-nil, same_from_push}
 use Rattle.bus_fcs.specs.Division.{add, step, divided, remainder}
 use Rattle.bus_fcs.proofs.DivisionSumLemmas.{length-add, add_again, add_left_comm, add_assoc_of, add-append, add-parts}
@@ -7,7 +8,8 @@ use Rattle.bus_fcs.proofs.DivisionSumLemmas.{length-add, add_again, add_left_com
 -- what stands under the divisor's highest bit
 abbrev rest15 : List Bool
 rest15 =
-    false ∷ false ∷ false ∷ true ∷ false ∷ false ∷ false ∷ false ∷ false ∷ false ∷ true ∷ false ∷ false ∷ false ∷ false ∷ []
+    false ∷ false ∷ false ∷ true ∷ false ∷ false ∷ false ∷ false ∷ false ∷ false ∷ true ∷ false ∷ false ∷ false ∷ false
+    ∷ []
 
 abbrev pub rest : List Bool
 rest = rest15 ++ true ∷ []
@@ -36,7 +38,8 @@ step-add (true ∷ x) (false ∷ y) h =
     let k : length x ≡ length y = omega arith in sym (add_assoc_of rest x y k)
 step-add (true ∷ x) (true ∷ y) h =
     let k : length x ≡ length (add rest y) = omega (arith, length-add rest y) in
-    sym (add_assoc_of rest x (add rest y) k ∙ ap (λ (z : List Bool). add rest z) (add_left_comm x rest y) ∙ add_again rest (add x y))
+    sym (add_assoc_of rest x (add rest y) k ∙ ap (λ (z : List Bool). add rest z) (add_left_comm x rest y)
+    ∙ add_again rest (add x y))
 
 pub same_length_step : (x y : List Bool) → length x ≡ length y → length (step x) ≡ length (step y)
 same_length_step [] [] h = refl
@@ -44,7 +47,8 @@ same_length_step [] (b ∷ y) h = absurd (omega arith)
 same_length_step (a ∷ x) [] h = absurd (omega arith)
 same_length_step (a ∷ x) (b ∷ y) h = omega (arith, length-step a x, length-step b y)
 
-pub divided-add : (n : ℕ) (x y : List Bool) → length x ≡ length y → divided n (add x y) ≡ add (divided n x) (divided n y)
+pub divided-add : (n : ℕ) (x y : List Bool) → length x ≡ length y →
+    divided n (add x y) ≡ add (divided n x) (divided n y)
 unfolding divided
 divided-add zero x y h = refl
 divided-add (suc n) x y h =
@@ -137,7 +141,8 @@ length-step_false [] h = absurd (omega arith)
 length-step_false (b ∷ w) h = length-step b (w ++ false ∷ []) ∙ omega (arith, length-append w (false ∷ []))
 
 -- what a shift makes zero was zero
-pub divided_zero : (k : ℕ) (w : List Bool) → length w ≡ 16 → divided k (w ++ replicate k false) ≡ replicate 16 false → w ≡ replicate 16 false
+pub divided_zero : (k : ℕ) (w : List Bool) → length w ≡ 16 → divided k (w ++ replicate k false) ≡ replicate 16 false →
+    w ≡ replicate 16 false
 unfolding divided
 divided_zero zero w h e = sym (append-nil w) ∙ e
 divided_zero (suc k) w h e =

@@ -4,7 +4,8 @@ use Rattle.bus_bits.specs.Octet.{bits_of, bits_of_octets}
 use Rattle.bus_fcs.specs.Division.{add, step, divided, remainder}
 use Rattle.bus_fcs.specs.FrameCheck.{ends_inverted, Good, is_good, fcs}
 
-digits : fcs (bits_of_octets (0x31 ∷ 0x32 ∷ 0x33 ∷ 0x34 ∷ 0x35 ∷ 0x36 ∷ 0x37 ∷ 0x38 ∷ 0x39 ∷ [])) ≡ bits_of_octets (0x6e ∷ 0x90 ∷ [])
+digits : fcs (bits_of_octets (0x31 ∷ 0x32 ∷ 0x33 ∷ 0x34 ∷ 0x35 ∷ 0x36 ∷ 0x37 ∷ 0x38 ∷ 0x39 ∷ []))
+    ≡ bits_of_octets (0x6e ∷ 0x90 ∷ [])
 unfolding add step divided remainder fcs bits_of bits_of_octets
 digits = refl
 

@@ -1,5 +1,6 @@
 -- The register after many octets.
-use Rattle.std.proofs.Common.{◌≡◌, ℕ, ◌*◌, ◌%◌, ◌^◌, ◌≤◌, ◌<◌, List, [], ◌∷◌, ◌++◌, length, take, drop, append-nil, sym, ap, ◌∙◌, arith, append_assoc, bit_xor}
+use Rattle.std.proofs.Common.{◌≡◌, ℕ, ◌*◌, ◌%◌, ◌^◌, ◌≤◌, ◌<◌, List, [], ◌∷◌, ◌++◌, length, take, drop, append-nil, sym}
+use Rattle.std.proofs.Common.{ap, ◌∙◌, arith, append_assoc, bit_xor}
 use Rattle.std.specs.List.{All}
 use Rattle.std.specs.Int.{w64, from_le_bytes}
 use Rattle.std.specs.Int.Bits.{xor_zero_r}

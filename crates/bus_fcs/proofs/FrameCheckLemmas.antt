@@ -1,5 +1,7 @@
 -- Both ends inverted at once, and good data as a test.
-use Rattle.std.proofs.Common.{zero, suc, [], ◌∷◌, refl, ◌≡◌, ◌↔◌, ℕ, ◌+◌, ◌-◌, ◌≤◌, Bool, true, false, IsTrue, not, List, ◌++◌, length, map, take, drop, replicate, sym, ap, ◌∙◌, arith, append_assoc, length-append}
+use Rattle.std.proofs.Common.{zero, suc, [], ◌∷◌, refl, ◌≡◌, ◌↔◌, ℕ, ◌+◌, ◌-◌, ◌≤◌, Bool, true, false, IsTrue, not}
+use Rattle.std.proofs.Common.{List, ◌++◌, length, map, take, drop, replicate, sym, ap, ◌∙◌, arith, append_assoc}
+use Rattle.std.proofs.Common.{length-append}
 use Rattle.std.proofs.lemmas.List.{length-replicate, take-append-drop, drop-drop, length-take, length-drop}
 use Rattle.bus_fcs.specs.Division.{add, remainder}
 use Rattle.bus_fcs.specs.FrameCheck.{ends_inverted, Good, is_good}
@@ -25,15 +27,18 @@ ends_mask d h =
     ∙ ap (λ (z : List Bool). a ++ z) (take-append-drop m (drop 16 d)) ∙ take-append-drop 16 d in
     let front : length (replicate 16 true ++ replicate m false) ≡ length (a ++ b) =
     omega (arith, length-append (replicate 16 true) (replicate m false), length-replicate m false, length-append a b) in
-    let ones_a : add (replicate 16 true) a ≡ map not a = ap (λ (k : ℕ). add (replicate k true) a) (sym la) ∙ add_ones a in
-    let ones_c : add (replicate 16 true) c ≡ map not c = ap (λ (k : ℕ). add (replicate k true) c) (sym lc) ∙ add_ones c in
+    let ones_a : add (replicate 16 true) a ≡ map not a =
+    ap (λ (k : ℕ). add (replicate k true) a) (sym la) ∙ add_ones a in
+    let ones_c : add (replicate 16 true) c ≡ map not c =
+    ap (λ (k : ℕ). add (replicate k true) c) (sym lc) ∙ add_ones c in
     sym (ap (add (replicate 16 true ++ replicate m false ++ replicate 16 true)) (sym whole)
     ∙ add-parts (replicate 16 true ++ replicate m false) (replicate 16 true) (a ++ b) c front
     ∙ (let p = add-parts (replicate 16 true) (replicate m false) a b (sym la) in let z = add-zeros m b in cc))
 
 -- good data, by a sum
 pub good_sum : (d : List Bool) → 32 ≤ length d
-    → Good d ↔ (remainder (add (replicate 16 true ++ replicate (length d - 32) false ++ replicate 16 true) d) ≡ replicate 16 false)
+    → Good d ↔ (remainder (add (replicate 16 true ++ replicate (length d - 32) false ++ replicate 16 true) d)
+    ≡ replicate 16 false)
 unfolding Good
 good_sum d h = let e = ap remainder (ends_mask d h) in ((λ g. sym e ∙ g), (λ g. e ∙ g))
 

@@ -1,14 +1,18 @@
 -- The laws of the frame check.
-use Rattle.std.proofs.Common.{◌+◌, take, drop, ◌≡◌, ◌↔◌, ℕ, ◌-◌, ◌≤◌, Bool, true, false, not, List, ◌++◌, length, map, replicate, refl, sym, ap, ◌∙◌, arith, append_assoc, length-append}
+use Rattle.std.proofs.Common.{◌+◌, take, drop, ◌≡◌, ◌↔◌, ℕ, ◌-◌, ◌≤◌, Bool, true, false, not, List, ◌++◌, length, map}
+use Rattle.std.proofs.Common.{replicate, refl, sym, ap, ◌∙◌, arith, append_assoc, length-append}
 use Rattle.std.proofs.lemmas.List.{length-replicate, length-map}
 use Rattle.bus_fcs.specs.Division.{add, divided, remainder}
 use Rattle.bus_fcs.specs.FrameCheck.{Good, fcs}
 use Rattle.bus_fcs.specs.Internal.Register.{register}
-use Rattle.bus_fcs.proofs.DivisionSumLemmas.{length-add, add_again, add_left_comm, add_assoc_of, add-append, add-parts, add-zeros, add_more_zeros, add_to_zeros, add_ones, not-not, add_self, same_from_add}
+use Rattle.bus_fcs.proofs.DivisionSumLemmas.{length-add, add_again, add_left_comm, add_assoc_of, add-append, add-parts}
+use Rattle.bus_fcs.proofs.DivisionSumLemmas.{add-zeros, add_more_zeros, add_to_zeros, add_ones, not-not, add_self}
+use Rattle.bus_fcs.proofs.DivisionSumLemmas.{same_from_add}
 use Rattle.std.proofs.lemmas.List.{take-append-drop, drop-drop, length-take, length-drop}
 use Rattle.bus_fcs.specs.Laws.{FcsIsOnly, BurstIsSeen}
 use Rattle.bus_fcs.proofs.FrameCheckLemmas.{good_sum}
-use Rattle.bus_fcs.proofs.DivisionLemmas.{remainder_add, remainder-append, remainder-zeros, remainder_own, length-remainder, divided_zero}
+use Rattle.bus_fcs.proofs.DivisionLemmas.{remainder_add, remainder-append, remainder-zeros, remainder_own}
+use Rattle.bus_fcs.proofs.DivisionLemmas.{length-remainder, divided_zero}
 
 abbrev zeros : ℕ → List Bool
 zeros n = replicate n false
@@ -36,9 +40,15 @@ pub fcs-register : (c : List Bool) → fcs c ≡ map not (register c)
 unfolding fcs register
 fcs-register c =
     let k : length (ones ++ zeros (length c)) ≡ length (c ++ zeros 16) =
-    omega (arith, length-append ones (zeros (length c)), length-append c (zeros 16), length-replicate (length c) false) in
+    omega (
+      arith,
+      length-append ones (zeros (length c)),
+      length-append c (zeros 16),
+      length-replicate (length c) false,
+    ) in
     ap (map not)
-    (sym (remainder_add (ones ++ zeros (length c)) (c ++ zeros 16) k) ∙ ap remainder (add_more_zeros ones (length c) (c ++ zeros 16)))
+    (sym (remainder_add (ones ++ zeros (length c)) (c ++ zeros 16) k)
+    ∙ ap remainder (add_more_zeros ones (length c) (c ++ zeros 16)))
 
 -- `c`, with its first sixteen bits inverted
 abbrev turned : List Bool → List Bool
@@ -92,27 +102,33 @@ sum_of_good d e l h p' q' =
     let k : length (add m d) ≡ length (add m e) = length-add m d ∙ h ∙ sym (length-add m e) in
     let s : add (add m d) (add m e) ≡ add d e =
     add_left_comm (add m d) m e ∙ ap (λ (z : List Bool). add m z) (add_assoc_of m d e h) ∙ add_again m (add d e) in
-    ap remainder (sym s) ∙ remainder_add (add m d) (add m e) k ∙ (let z : add (zeros 16) (zeros 16) ≡ zeros 16 = add-zeros 16 (zeros 16) in cc)
+    ap remainder (sym s) ∙ remainder_add (add m d) (add m e) k
+    ∙ (let z : add (zeros 16) (zeros 16) ≡ zeros 16 = add-zeros 16 (zeros 16) in cc)
 
 burst : (u w x v : List Bool) → length w ≡ 16 → length x ≡ 16 → 32 ≤ length (u ++ w ++ v) → Good (u ++ w ++ v)
     → Good (u ++ x ++ v) → w ≡ x
 burst u w x v h k n p q =
     let l : length (u ++ w) ≡ length (u ++ x) = omega (arith, length-append u w, length-append u x) in
-    let s : length (u ++ w ++ v) ≡ length (u ++ x ++ v) = omega (arith, length-append (u ++ w) v, length-append (u ++ x) v) in
+    let s : length (u ++ w ++ v) ≡ length (u ++ x ++ v) =
+    omega (arith, length-append (u ++ w) v, length-append (u ++ x) v) in
     let e : add (u ++ w ++ v) (u ++ x ++ v) ≡ zeros (length u) ++ add w x ++ zeros (length v) =
     add-parts (u ++ w) v (u ++ x) v l
     ∙ (let a = add-parts u w u x refl in let b = add_self u in let d = add_self v in cc) in
     let t : length (add w x) ≡ 16 = length-add w x ∙ k in
-    let r : remainder (zeros (length u) ++ add w x ++ zeros (length v)) ≡ divided (length v) (add w x ++ zeros (length v)) =
-    ap remainder (append_assoc (zeros (length u)) (add w x) (zeros (length v))) ∙ remainder-zeros (length u) (add w x ++ zeros (length v))
+    let r : remainder (zeros (length u) ++ add w x ++ zeros (length v))
+    ≡ divided (length v) (add w x ++ zeros (length v)) =
+    ap remainder (append_assoc (zeros (length u)) (add w x) (zeros (length v)))
+    ∙ remainder-zeros (length u) (add w x ++ zeros (length v))
     ∙ remainder-append (add w x) (zeros (length v))
     ∙ (let i = remainder_own (add w x) t in let j = length-replicate (length v) false in cc) in
     let z : add w x ≡ zeros 16 =
-    divided_zero (length v) (add w x) t (sym r ∙ sym (ap remainder e) ∙ sum_of_good (u ++ w ++ v) (u ++ x ++ v) n s p q) in
+    divided_zero (length v) (add w x) t (sym r ∙ sym (ap remainder e)
+    ∙ sum_of_good (u ++ w ++ v) (u ++ x ++ v) n s p q) in
     same_from_add w x (h ∙ sym k) (z ∙ ap zeros (sym k))
 
 -- three parts of a list
-parts : (i : ℕ) (d : List Bool) → i + 16 ≤ length d → (take i d ++ take 16 (drop i d) ++ drop (i + 16) d ≡ d) × (length (take 16 (drop i d)) ≡ 16)
+parts : (i : ℕ) (d : List Bool) → i + 16 ≤ length d → (take i d ++ take 16 (drop i d) ++ drop (i + 16) d ≡ d)
+    × (length (take 16 (drop i d)) ≡ 16)
 parts i d h =
     let e : drop 16 (drop i d) ≡ drop (i + 16) d = drop-drop 16 i d in (
       append_assoc (take i d) (take 16 (drop i d)) (drop (i + 16) d)
@@ -127,7 +143,8 @@ burst_seen d e i n s l front back differ p q =
     let y = parts i e (omega arith) in
     let w = take 16 (drop i d) in
     let z = take 16 (drop i e) in
-    let a : e ≡ take i d ++ z ++ drop (i + 16) d = sym y.0 ∙ ap (λ (u : List Bool). u ++ z ++ drop (i + 16) e) (sym front)
+    let a : e ≡ take i d ++ z ++ drop (i + 16) d =
+    sym y.0 ∙ ap (λ (u : List Bool). u ++ z ++ drop (i + 16) e) (sym front)
     ∙ ap (λ (u : List Bool). take i d ++ z ++ u) (sym back) in
     let b : w ≡ z = burst (take i d) w z (drop (i + 16) d) x.1 y.1 (rw x.0 n) (rw x.0 p) (rw (← a) q) in
     differ (sym x.0 ∙ ap (λ (u : List Bool). take i d ++ u ++ drop (i + 16) d) b ∙ sym a)

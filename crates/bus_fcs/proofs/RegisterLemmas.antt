@@ -1,16 +1,22 @@
 -- The reflected register.
-use Rattle.std.proofs.Common.{◌≡◌, ◌↔◌, ℕ, zero, suc, ◌+◌, ◌-◌, ◌*◌, ◌/◌, ◌%◌, ◌^◌, ◌<◌, ◌≤◌, Bool, true, false, cond, not, List, [], ◌∷◌, ◌++◌, length, map, take, drop, replicate, refl, sym, ap, subst, ◌∙◌, arith, append_assoc, length-append, bit_xor, inl, inr, ◌⊎◌}
-use Rattle.std.proofs.lemmas.List.{append-nil, length-replicate, length-map, take-append-drop, length-take, length-drop, replicate-append-replicate}
+use Rattle.std.proofs.Common.{◌≡◌, ◌↔◌, ℕ, zero, suc, ◌+◌, ◌-◌, ◌*◌, ◌/◌, ◌%◌, ◌^◌, ◌<◌, ◌≤◌, Bool, true, false, cond}
+use Rattle.std.proofs.Common.{not, List, [], ◌∷◌, ◌++◌, length, map, take, drop, replicate, refl, sym, ap, subst, ◌∙◌}
+use Rattle.std.proofs.Common.{arith, append_assoc, length-append, bit_xor, inl, inr, ◌⊎◌}
+use Rattle.std.proofs.lemmas.List.{append-nil, length-replicate, length-map, take-append-drop, length-take, length-drop}
+use Rattle.std.proofs.lemmas.List.{replicate-append-replicate}
 use Rattle.std.proofs.Math.Nat.{pow-suc, mul_assoc, add-zero}
 use Rattle.std.proofs.lemmas.Nat.{pow_pos, mod_below, mod_low, mod-pow-add, shl-shr, shr_split}
 use Rattle.std.specs.Int.Bits.{xor_block, xor_comm, xor_assoc, xor_self, xor_zero_r, xor_shr, xor_mod, xor_shifted}
-use Rattle.bus_bits.proofs.OctetLemmas.{number-push, same_number, length-bits, number-bits, number-append, length-bits_of_octets, bits_of_octets-push}
+use Rattle.bus_bits.proofs.OctetLemmas.{number-push, same_number, length-bits, number-bits, number-append}
+use Rattle.bus_bits.proofs.OctetLemmas.{length-bits_of_octets, bits_of_octets-push}
 use Rattle.bus_fcs.specs.Division.{plus, add, step, divided, remainder}
 use Rattle.bus_fcs.specs.FrameCheck.{Good, fcs}
 use Rattle.bus_bits.specs.Octet.{bits_of, bits_of_octets, number}
 use Rattle.bus_fcs.specs.Internal.Register.{crc_step_of, crc_steps, register, IsStateAfter}
-use Rattle.bus_fcs.proofs.DivisionSumLemmas.{length-add, add_again, add_left_comm, add_comm, add-append, add-parts, add-zeros, add_more_zeros, add_to_zeros, add_ones, add_self, same_from_add}
-use Rattle.bus_fcs.proofs.DivisionLemmas.{remainder_add, remainder-append, remainder-zeros, remainder_own, divided-add, divided_zero, step_false, length-step_false, length-divided, rest}
+use Rattle.bus_fcs.proofs.DivisionSumLemmas.{length-add, add_again, add_left_comm, add_comm, add-append, add-parts}
+use Rattle.bus_fcs.proofs.DivisionSumLemmas.{add-zeros, add_more_zeros, add_to_zeros, add_ones, add_self, same_from_add}
+use Rattle.bus_fcs.proofs.DivisionLemmas.{remainder_add, remainder-append, remainder-zeros, remainder_own, divided-add}
+use Rattle.bus_fcs.proofs.DivisionLemmas.{divided_zero, step_false, length-step_false, length-divided, rest}
 use Rattle.bus_fcs.proofs.LawsLemmas.{length-register, good-register, fcs-register}
 
 abbrev zeros : ℕ → List Bool
@@ -22,7 +28,8 @@ ones = replicate 16 true
 -- ---- the register, as bits
 
 -- up to sixteen more bits are added to the register, and then it is shifted past them
-pub register-append : (d o : List Bool) → length o ≤ 16 → register (d ++ o) ≡ divided (length o) (add o (register d) ++ zeros (length o))
+pub register-append : (d o : List Bool) → length o ≤ 16 →
+    register (d ++ o) ≡ divided (length o) (add o (register d) ++ zeros (length o))
 unfolding register
 register-append d o h =
     let k = length d in
@@ -38,7 +45,8 @@ register-append d o h =
     replicate-append-replicate 16 r false ∙ (let n : 16 + r ≡ r + 16 = omega arith in ap zeros n)
     ∙ sym (replicate-append-replicate r 16 false) in
     let tail : add o (zeros r ++ zeros 16) ≡ o ++ zeros 16 =
-    add-append o (zeros r) (zeros 16) (omega (arith, length-replicate r false)) ∙ ap (λ (z : List Bool). z ++ zeros 16) (add_to_zeros o) in
+    add-append o (zeros r) (zeros 16) (omega (arith, length-replicate r false))
+    ∙ ap (λ (z : List Bool). z ++ zeros 16) (add_to_zeros o) in
     let whole : add a (f ++ zeros r) ≡ (d ++ o) ++ zeros 16 =
     ap (add a) (append_assoc d (zeros 16) (zeros r) ∙ ap (λ (z : List Bool). d ++ z) swap)
     ∙ add-parts (zeros k) o d (zeros r ++ zeros 16) fit
@@ -48,11 +56,14 @@ register-append d o h =
     ap (add ones) (sym whole) ∙ add_left_comm ones a (f ++ zeros r)
     ∙ ap (add a) (add-append ones f (zeros r) (omega arith)) ∙ add-append a e (zeros r) (omega arith) in
     let more : List Bool = o ++ zeros (16 - r) in
-    let long_more : length more ≡ 16 = omega (arith, length-append o (zeros (16 - r)), length-replicate (16 - r) false) in
+    let long_more : length more ≡ 16 =
+    omega (arith, length-append o (zeros (16 - r)), length-replicate (16 - r) false) in
     let same : length (zeros k ++ more) ≡ length e = omega (arith, length-append (zeros k) more) in
     let sum : remainder (add a e) ≡ add o (remainder e) =
-    ap remainder (sym (add_more_zeros a (16 - r) e) ∙ ap (λ (z : List Bool). add z e) (append_assoc (zeros k) o (zeros (16 - r))))
-    ∙ remainder_add (zeros k ++ more) e same ∙ ap (λ (z : List Bool). add z (remainder e)) (remainder-zeros k more ∙ remainder_own more long_more)
+    ap remainder (sym (add_more_zeros a (16 - r) e)
+    ∙ ap (λ (z : List Bool). add z e) (append_assoc (zeros k) o (zeros (16 - r))))
+    ∙ remainder_add (zeros k ++ more) e same
+    ∙ ap (λ (z : List Bool). add z (remainder e)) (remainder-zeros k more ∙ remainder_own more long_more)
     ∙ add_more_zeros o (16 - r) (remainder e) in
     ap remainder shift ∙ remainder-append (add a e) (zeros r)
     ∙ (let n : length (zeros r) ≡ r = length-replicate r false in cc)
@@ -63,17 +74,22 @@ register-append d o h =
 abbrev pub residue : List Bool
 residue = divided 16 (ones ++ zeros 16)
 
-same_from_shift : (x y : List Bool) → length x ≡ 16 → length y ≡ 16 → divided 16 (x ++ zeros 16) ≡ divided 16 (y ++ zeros 16) → x ≡ y
+same_from_shift : (x y : List Bool) → length x ≡ 16 → length y ≡ 16 →
+    divided 16 (x ++ zeros 16) ≡ divided 16 (y ++ zeros 16) → x ≡ y
 same_from_shift x y h k e =
     let s : length x ≡ length y = h ∙ sym k in
-    let l : length (x ++ zeros 16) ≡ length (y ++ zeros 16) = omega (arith, length-append x (zeros 16), length-append y (zeros 16)) in
+    let l : length (x ++ zeros 16) ≡ length (y ++ zeros 16) =
+    omega (arith, length-append x (zeros 16), length-append y (zeros 16)) in
     let n : length (add x y) ≡ 16 = length-add x y ∙ k in
     let p : add x y ++ zeros 16 ≡ add (x ++ zeros 16) (y ++ zeros 16) =
-    ap (λ (z : List Bool). add x y ++ z) (sym (add-zeros 16 (zeros 16))) ∙ sym (add-parts x (zeros 16) y (zeros 16) s) in
-    let d : length (divided 16 (y ++ zeros 16)) ≡ 16 = length-divided 16 (y ++ zeros 16) ∙ omega (arith, length-append y (zeros 16)) in
+    ap (λ (z : List Bool). add x y ++ z) (sym (add-zeros 16 (zeros 16)))
+    ∙ sym (add-parts x (zeros 16) y (zeros 16) s) in
+    let d : length (divided 16 (y ++ zeros 16)) ≡ 16 =
+    length-divided 16 (y ++ zeros 16) ∙ omega (arith, length-append y (zeros 16)) in
     let z : divided 16 (add x y ++ zeros 16) ≡ zeros 16 =
     ap (divided 16) p ∙ divided-add 16 (x ++ zeros 16) (y ++ zeros 16) l
-    ∙ ap (λ (q : List Bool). add q (divided 16 (y ++ zeros 16))) e ∙ add_self (divided 16 (y ++ zeros 16)) ∙ ap zeros d in
+    ∙ ap (λ (q : List Bool). add q (divided 16 (y ++ zeros 16))) e ∙ add_self (divided 16 (y ++ zeros 16))
+    ∙ ap zeros d in
     same_from_add x y s (divided_zero 16 (add x y) n z ∙ ap zeros (sym k))
 
 -- with a tail of sixteen bits
@@ -82,14 +98,17 @@ residue_at c t h k =
     let g = good-register c t h k in
     let s : add t (map not t) ≡ ones =
     ap (add t) (sym (add_ones t)) ∙ add_left_comm t (replicate (length t) true) t
-    ∙ ap (add (replicate (length t) true)) (add_self t) ∙ ap (λ (n : ℕ). add (replicate n true) (zeros n)) k ∙ add_to_zeros ones in
+    ∙ ap (add (replicate (length t) true)) (add_self t) ∙ ap (λ (n : ℕ). add (replicate n true) (zeros n)) k
+    ∙ add_to_zeros ones in
     let r : register (c ++ t) ≡ divided 16 (add t (register c) ++ zeros 16) =
     register-append c t (omega arith) ∙ ap (λ (n : ℕ). divided n (add t (register c) ++ zeros n)) k in (
-      (λ x. r ∙ (let y = g.0 x in let z : add t (register c) ≡ ones = cc in ap (λ (q : List Bool). divided 16 (q ++ zeros 16)) z)),
+      (λ x. r ∙ (let y = g.0 x in let z : add t (register c) ≡ ones =
+          cc in ap (λ (q : List Bool). divided 16 (q ++ zeros 16)) z)),
       (λ x. g.1 (
           let y : add t (register c) ≡ ones =
           same_from_shift (add t (register c)) ones (length-add t (register c) ∙ length-register c) refl (sym r ∙ x) in
-          sym (add_again t (register c)) ∙ ap (add t) y ∙ add_comm t ones k ∙ ap (λ (n : ℕ). add (replicate n true) t) (sym k) ∙ add_ones t)),
+          sym (add_again t (register c)) ∙ ap (add t) y ∙ add_comm t ones k
+          ∙ ap (λ (n : ℕ). add (replicate n true) t) (sym k) ∙ add_ones t)),
     )
 
 pub good-residue : (d : List Bool) → 32 ≤ length d → Good d ↔ (register d ≡ residue)
@@ -140,7 +159,8 @@ unfolding number step add
 number_turn [] h = absurd (omega arith)
 number_turn (false ∷ w) h = number-push w ∙ sym (turn_even (number w))
 number_turn (true ∷ w) h =
-    number-add rest (w ++ false ∷ []) (omega (arith, length-append w (false ∷ []))) ∙ ap (bit_xor 0x8408) (number-push w)
+    number-add rest (w ++ false ∷ []) (omega (arith, length-append w (false ∷ [])))
+    ∙ ap (bit_xor 0x8408) (number-push w)
     ∙ xor_comm 0x8408 (number w) ∙ sym (turn_odd (number w))
 
 pub number_turns : (n : ℕ) (w : List Bool) → length w ≡ 16 → number (divided n (w ++ zeros n)) ≡ crc_steps n (number w)
@@ -153,7 +173,8 @@ number_turns (suc n) w h =
 -- ---- octets
 
 -- one octet more
-pub state_more : (s o : ℕ) (os : List ℕ) → o < 256 → IsStateAfter s os → IsStateAfter (crc_steps 8 (bit_xor s o)) (os ++ o ∷ [])
+pub state_more : (s o : ℕ) (os : List ℕ) → o < 256 → IsStateAfter s os →
+    IsStateAfter (crc_steps 8 (bit_xor s o)) (os ++ o ∷ [])
 unfolding IsStateAfter
 state_more s o os h e =
     let d = bits_of_octets os in
@@ -165,7 +186,8 @@ state_more s o os h e =
     let a : number (add b (register d)) ≡ bit_xor s o =
     number-add b (register d) (omega (arith, length-register d)) ∙ (let i : number b ≡ o = number-bits 8 o h in cc)
     ∙ xor_comm o s in
-    sym (ap number r ∙ number_turns 8 (add b (register d)) (length-add b (register d) ∙ length-register d) ∙ ap (crc_steps 8) a)
+    sym (ap number r ∙ number_turns 8 (add b (register d)) (length-add b (register d) ∙ length-register d)
+    ∙ ap (crc_steps 8) a)
 
 pub state_none : IsStateAfter 0xffff []
 unfolding IsStateAfter register remainder divided step add number bits_of_octets
@@ -183,7 +205,9 @@ unfolding IsStateAfter
 state_good s os e h =
     let d = bits_of_octets os in
     let g = good-residue d (omega (arith, length-bits_of_octets os)) in (
-      (λ p. g.1 (same_number (register d) residue (length-register d ∙ sym length_residue) (sym e ∙ p ∙ sym residue_number))),
+      (λ p.
+          g.1 (same_number (register d) residue (length-register d ∙ sym length_residue)
+          (sym e ∙ p ∙ sym residue_number))),
       (λ p. e ∙ ap number (g.0 p) ∙ residue_number),
     )
 
@@ -206,9 +230,11 @@ state_trailer s lo hi os e a b n =
     let p : number (bits_of 8 lo ++ bits_of 8 hi) ≡ lo + hi * 256 =
     number-append (bits_of 8 lo) (bits_of 8 hi)
     ∙ (let x = number-bits 8 lo a in let y = number-bits 8 hi b in cc) in
-    let q : number (map not w) + number w + 1 ≡ 65536 = number-not w ∙ ap (λ (k : ℕ). 2 ^ k) (length-register (bits_of_octets os)) in
+    let q : number (map not w) + number w + 1 ≡ 65536 =
+    number-not w ∙ ap (λ (k : ℕ). 2 ^ k) (length-register (bits_of_octets os)) in
     let r : number (bits_of 8 lo ++ bits_of 8 hi) ≡ number (map not w) = omega arith in
-    let d : length (bits_of 8 lo ++ bits_of 8 hi) ≡ length (map not w) = m ∙ sym (length-map w not ∙ length-register (bits_of_octets os)) in
+    let d : length (bits_of 8 lo ++ bits_of 8 hi) ≡ length (map not w) =
+    m ∙ sym (length-map w not ∙ length-register (bits_of_octets os)) in
     ap (λ (z : List Bool). bits_of 8 lo ++ z) (append-nil (bits_of 8 hi))
     ∙ same_number (bits_of 8 lo ++ bits_of 8 hi) (map not w) d r ∙ sym (fcs-register (bits_of_octets os))
 
@@ -237,8 +263,13 @@ crc_step-xor a b =
     let h : bit_xor a b / 2 ≡ bit_xor (a / 2) (b / 2) = xor_shr a b 1 in
     let l : bit_xor a b % 2 ≡ bit_xor (a % 2) (b % 2) = xor_mod a b 1 in
     elim (bit_cases a) [
-      | inl p ↦ elim (bit_cases b) [ inl q ↦ rw (l, h, p, q) refl | inr q ↦ rw (l, h, p, q) (xor_assoc (a / 2) (b / 2) 0x8408) ]
-      | inr p ↦ elim (bit_cases b) [ inl q ↦ rw (l, h, p, q) (xor_right (a / 2) (b / 2) 0x8408) | inr q ↦ rw (l, h, p, q) (xor_both (a / 2) (b / 2) 0x8408) ]
+      | inl p ↦ elim (bit_cases b)
+          [ inl q ↦ rw (l, h, p, q) refl | inr q ↦ rw (l, h, p, q) (xor_assoc (a / 2) (b / 2) 0x8408) ]
+      | inr p ↦ elim (bit_cases b) [
+        | inl q ↦ rw (l, h, p, q) (xor_right (a / 2) (b / 2) 0x8408)
+        | inr q ↦ rw (l, h, p, q)
+            (xor_both (a / 2) (b / 2) 0x8408)
+      ]
     ]
 
 pub crc_steps-xor : (n a b : ℕ) → crc_steps n (bit_xor a b) ≡ bit_xor (crc_steps n a) (crc_steps n b)
@@ -285,7 +316,8 @@ turns_octet s o h =
 pub turns_more : (n s : ℕ) → crc_steps (n + 1) s ≡ crc_step_of (crc_steps n s)
 unfolding crc_steps
 turns_more zero s = refl
-turns_more (suc n) s = let e : suc n + 1 ≡ suc (n + 1) = omega arith in ap (λ (k : ℕ). crc_steps k s) e ∙ turns_more n (crc_step_of s)
+turns_more (suc n) s = let e : suc n + 1 ≡ suc (n + 1) =
+    omega arith in ap (λ (k : ℕ). crc_steps k s) e ∙ turns_more n (crc_step_of s)
 
 pub turns_none : (s : ℕ) → crc_steps 0 s ≡ s
 unfolding crc_steps

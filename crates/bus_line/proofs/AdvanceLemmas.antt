@@ -1,5 +1,7 @@
 -- Bits taken at once: what they decide.
-use Rattle.std.proofs.Common.{◌≡◌, ◌≢◌, ℕ, zero, suc, ◌+◌, ◌-◌, ◌*◌, ◌%◌, ◌^◌, ◌≤◌, ◌<◌, Bool, false, List, [], ◌∷◌, ◌++◌, length, take, drop, get_or, Option, None, refl, sym, ap, ◌∙◌, subst, arith, inl, inr}
+use Rattle.std.proofs.Common.{◌≡◌, ◌≢◌, ℕ, zero, suc, ◌+◌, ◌-◌, ◌*◌, ◌%◌, ◌^◌, ◌≤◌, ◌<◌, Bool, false, List, [], ◌∷◌}
+use Rattle.std.proofs.Common.{◌++◌, length, take, drop, get_or, Option, None, refl, sym, ap, ◌∙◌, subst, arith, inl}
+use Rattle.std.proofs.Common.{inr}
 use Rattle.std.specs.Prelude.{bit_or}
 use Rattle.std.specs.Option.{option_map, option_to_list}
 use Rattle.std.specs.Int.Bits.{or_shifted_r}
@@ -25,17 +27,21 @@ use Rattle.bus_line.proofs.SettleLemmas.{next-bit, length-front, mark-calm, calm
 -- ---- the word
 
 -- what the machine joins is the word
-pub word-joined : {C : Type 0} (d : LineState C) (n x : ℕ) (b : List Bool) → HasTaken d b → n ≤ 48 → x < 2 ^ n → IsWord (bit_or d.history (x * 65536 % 18446744073709551616)) b (bits_of n x)
+pub word-joined : {C : Type 0} (d : LineState C) (n x : ℕ) (b : List Bool) → HasTaken d b → n ≤ 48 → x < 2 ^ n →
+    IsWord (bit_or d.history (x * 65536 % 18446744073709551616)) b (bits_of n x)
 word-joined d n x b h f l =
-    let k : length (drop (length b) (padded b)) ≡ 16 = length-drop (length b) (padded b) ∙ omega (arith, padded-length b) in
+    let k : length (drop (length b) (padded b)) ≡ 16 =
+    length-drop (length b) (padded b) ∙ omega (arith, padded-length b) in
     let o : number (drop (length b) (padded b)) < 65536 = rw k at (number-lt (drop (length b) (padded b))) in
     let low : d.history < 65536 = omega (arith, h.history, o) in
     let s : x * 65536 % 18446744073709551616 ≡ x * 2 ^ 16 = shl_whole x n 16 64 l (omega (arith, f)) in
-    let e : bit_or d.history (x * 65536 % 18446744073709551616) ≡ d.history + x * 65536 = ap (bit_or d.history) s ∙ (or_shifted_r x 16 d.history low ∙ omega arith) in
+    let e : bit_or d.history (x * 65536 % 18446744073709551616) ≡ d.history + x * 65536 =
+    ap (bit_or d.history) s ∙ (or_shifted_r x 16 d.history low ∙ omega arith) in
     e ∙ word-made d.history x b (bits_of n x) h.history (sym (number-bits n x l))
 
 -- before the first stop all is calm
-pub calm-before : (w n : ℕ) (b bits : List Bool) → IsWord w b bits → n ≤ length bits → ((i : ℕ) → i < n → IsStop w i → ⊥) → IsCalm b bits n
+pub calm-before : (w n : ℕ) (b bits : List Bool) → IsWord w b bits → n ≤ length bits →
+    ((i : ℕ) → i < n → IsStop w i → ⊥) → IsCalm b bits n
 calm-before w n b bits h l calm = λ i k.
     let six = word-just 6 9 w i b bits refl h (omega (arith, l, k)) in
     let more = word-just 14 1 w i b bits refl h (omega (arith, l, k)) in
@@ -43,7 +49,8 @@ calm-before w n b bits h l calm = λ i k.
 
 -- ---- calm bits decide nothing
 
-pub calm-placed : (origin longest n : ℕ) (b bits : List Bool) → IsCalm b bits n → (i : ℕ) → i ≤ n → i ≤ length bits → placed origin longest (b ++ take i bits) ≡ placed origin longest b
+pub calm-placed : (origin longest n : ℕ) (b bits : List Bool) → IsCalm b bits n → (i : ℕ) → i ≤ n → i ≤ length bits →
+    placed origin longest (b ++ take i bits) ≡ placed origin longest b
 calm-placed origin longest n b bits h zero l m = ap (placed origin longest) (append-nil b)
 calm-placed origin longest n b bits h (suc i) l m =
     let u = b ++ take i bits in
@@ -51,49 +58,68 @@ calm-placed origin longest n b bits h (suc i) l m =
     let c = h i (omega (arith, l)) in
     let d = nothing-due longest u x c.0 c.1 in
     ap (placed origin longest) (next-bit i b bits (omega (arith, m)))
-    ∙ (placed-more origin longest u x None (sym (ap (option_map (moved origin)) d)) ∙ (append-nil (placed origin longest u) ∙ calm-placed origin longest n b bits h i (omega (arith, l)) (omega (arith, m))))
+    ∙ (placed-more origin longest u x None (sym (ap (option_map (moved origin)) d))
+    ∙ (append-nil (placed origin longest u) ∙ calm-placed origin longest n b bits h i (omega (arith, l))
+    (omega (arith, m))))
 
 -- the last of them too
-pub calm-due : (longest n : ℕ) (b bits : List Bool) → IsCalm b bits n → 1 ≤ n → n ≤ length bits → due_at longest (b ++ take n bits) (length b + n - 1) ≡ None
+pub calm-due : (longest n : ℕ) (b bits : List Bool) → IsCalm b bits n → 1 ≤ n → n ≤ length bits →
+    due_at longest (b ++ take n bits) (length b + n - 1) ≡ None
 calm-due longest zero b bits h s m = absurd (omega (arith, s))
 calm-due longest (suc i) b bits h s m =
     let u = b ++ take i bits in
     let x = get_or bits i false in
     let c = h i (omega arith) in
-    let k : length b + suc i - 1 ≡ length (b ++ take i bits) = omega (arith, length-front i b bits (omega (arith, m))) in
+    let k : length b + suc i - 1 ≡ length (b ++ take i bits) =
+    omega (arith, length-front i b bits (omega (arith, m))) in
     rw (k, next-bit i b bits (omega (arith, m))) (nothing-due longest u x c.0 c.1)
 
 -- what is settled with the mark before them is so with theirs
-pub calm-after : {C : Type 0} (folded : C → List ℕ → Type 0) (cost n : ℕ) (d : LineState C) (b bits : List Bool) → IsCalm b bits n → n ≤ length bits → Tracks folded cost d (b ++ take n bits) (current b) → After folded cost d (b ++ take n bits)
-calm-after folded cost n d b bits h l t = subst (Tracks folded cost d (b ++ take n bits)) (sym (mark-calm b bits n n h (omega arith) l)) t
+pub calm-after : {C : Type 0} (folded : C → List ℕ → Type 0) (cost n : ℕ) (d : LineState C) (b bits : List Bool) →
+    IsCalm b bits n → n ≤ length bits → Tracks folded cost d (b ++ take n bits) (current b) →
+    After folded cost d (b ++ take n bits)
+calm-after folded cost n d b bits h l t =
+    subst (Tracks folded cost d (b ++ take n bits)) (sym (mark-calm b bits n n h (omega arith) l)) t
 
 -- ---- the bit behind calm bits
 
-last-list : (n : ℕ) (b bits : List Bool) → n < length bits → b ++ take (n + 1) bits ≡ (b ++ take n bits) ++ get_or bits n false ∷ []
+last-list : (n : ℕ) (b bits : List Bool) → n < length bits →
+    b ++ take (n + 1) bits ≡ (b ++ take n bits) ++ get_or bits n false ∷ []
 last-list n b bits l = let s : n + 1 ≡ suc n = omega arith in rw s (next-bit n b bits l)
 
 -- is still to be decided
-pub tracks-last : {C : Type 0} (folded : C → List ℕ → Type 0) (cost n : ℕ) (d : LineState C) (b bits : List Bool) → IsCalm b bits n → n < length bits → Tracks folded cost d (b ++ take (n + 1) bits) (current b)
+pub tracks-last : {C : Type 0} (folded : C → List ℕ → Type 0) (cost n : ℕ) (d : LineState C) (b bits : List Bool) →
+    IsCalm b bits n → n < length bits → Tracks folded cost d (b ++ take (n + 1) bits) (current b)
     → Tracks folded cost d ((b ++ take n bits) ++ get_or bits n false ∷ []) (current (b ++ take n bits))
 tracks-last folded cost n d b bits h l t =
     rw (← last-list n b bits l, mark-calm b bits n n h (omega arith) (omega (arith, l))) t
 
 -- what it decides
-pub last-due : (longest n : ℕ) (b bits : List Bool) → n < length bits → due_at longest ((b ++ take n bits) ++ get_or bits n false ∷ []) (length (b ++ take n bits)) ≡ due_at longest (b ++ take (n + 1) bits) (length b + (n + 1) - 1)
+pub last-due : (longest n : ℕ) (b bits : List Bool) → n < length bits →
+    due_at longest ((b ++ take n bits) ++ get_or bits n false ∷ []) (length (b ++ take n bits))
+    ≡ due_at longest (b ++ take (n + 1) bits) (length b + (n + 1) - 1)
 last-due longest n b bits l =
-    let k : length (b ++ take n bits) ≡ length b + (n + 1) - 1 = omega (arith, length-front n b bits (omega (arith, l))) in
+    let k : length (b ++ take n bits) ≡ length b + (n + 1) - 1 =
+    omega (arith, length-front n b bits (omega (arith, l))) in
     rw (← last-list n b bits l, k) refl
 
 -- is all that they and it add
-pub last-placed : (origin longest n : ℕ) (b bits : List Bool) (o : Option Report) → IsCalm b bits n → n < length bits → o ≡ option_map (moved origin) (due_at longest (b ++ take (n + 1) bits) (length b + (n + 1) - 1))
+pub last-placed : (origin longest n : ℕ) (b bits : List Bool) (o : Option Report) → IsCalm b bits n → n < length bits →
+    o ≡ option_map (moved origin) (due_at longest (b ++ take (n + 1) bits) (length b + (n + 1) - 1))
     → placed origin longest (b ++ take (n + 1) bits) ≡ placed origin longest b ++ option_to_list o
 last-placed origin longest n b bits o h l e =
     let u = b ++ take n bits in
     let x = get_or bits n false in
     let due = rw (← last-due longest n b bits l) at e in
-    rw (last-list n b bits l, placed-more origin longest u x o due, calm-placed origin longest n b bits h n (omega arith) (omega (arith, l))) refl
+    rw (
+      last-list n b bits l,
+      placed-more origin longest u x o due,
+      calm-placed origin longest n b bits h n (omega arith) (omega (arith, l)),
+    ) refl
 
-pub after-last : {C : Type 0} (folded : C → List ℕ → Type 0) (cost n : ℕ) (d : LineState C) (b bits : List Bool) → n < length bits → After folded cost d ((b ++ take n bits) ++ get_or bits n false ∷ []) → After folded cost d (b ++ take (n + 1) bits)
+pub after-last : {C : Type 0} (folded : C → List ℕ → Type 0) (cost n : ℕ) (d : LineState C) (b bits : List Bool) →
+    n < length bits → After folded cost d ((b ++ take n bits) ++ get_or bits n false ∷ []) →
+    After folded cost d (b ++ take (n + 1) bits)
 after-last folded cost n d b bits l h = rw (last-list n b bits l) h
 
 -- ---- all together
@@ -103,28 +129,42 @@ pub record Calm (w n x : ℕ) (b : List Bool) : Type 0 where
   pub word : IsWord w b (bits_of n x)
   pub calm : IsCalm b (bits_of n x) n
 
-pub is_calm : (w n m x : ℕ) (b : List Bool) → IsWord w b (bits_of n x) → m ≡ n → ((i : ℕ) → i < m → IsStop w i → ⊥) → Calm w n x b
+pub is_calm : (w n m x : ℕ) (b : List Bool) → IsWord w b (bits_of n x) → m ≡ n → ((i : ℕ) → i < m → IsStop w i → ⊥) →
+    Calm w n x b
 is_calm w n m x b h e calm =
     let k = length-bits n x in
-    record { word = h; calm = calm-before w n b (bits_of n x) h (omega (arith, k)) (λ i l. calm i (omega (arith, e, l))) }
+    record {
+      word = h;
+      calm = calm-before w n b (bits_of n x) h (omega (arith, k))
+          (λ i l. calm i (omega (arith, e, l)));
+    }
 
-pub all-due : (longest origin w n x : ℕ) (b : List Bool) → Calm w n x b → 1 ≤ n → None ≡ option_map (moved origin) (due_at longest (b ++ bits_of n x) (length b + n - 1))
+pub all-due : (longest origin w n x : ℕ) (b : List Bool) → Calm w n x b → 1 ≤ n →
+    None ≡ option_map (moved origin) (due_at longest (b ++ bits_of n x) (length b + n - 1))
 all-due longest origin w n x b h s =
     let k = length-bits n x in
     rw (← bits-front n n x (omega arith), calm-due longest n b (bits_of n x) h.calm s (omega (arith, k))) refl
 
-pub all-placed : (longest origin w n x : ℕ) (b : List Bool) → Calm w n x b → placed origin longest (b ++ bits_of n x) ≡ placed origin longest b ++ []
+pub all-placed : (longest origin w n x : ℕ) (b : List Bool) → Calm w n x b →
+    placed origin longest (b ++ bits_of n x) ≡ placed origin longest b ++ []
 all-placed longest origin w n x b h =
     let k = length-bits n x in
-    rw (← bits-front n n x (omega arith), calm-placed origin longest n b (bits_of n x) h.calm n (omega arith) (omega (arith, k))) (sym (append-nil (placed origin longest b)))
+    rw (
+      ← bits-front n n x (omega arith),
+      calm-placed origin longest n b (bits_of n x) h.calm n (omega arith) (omega (arith, k)),
+    )
+    (sym (append-nil (placed origin longest b)))
 
-pub all-after : {C : Type 0} (folded : C → List ℕ → Type 0) (cost w n x t : ℕ) (e : LineState C) (b : List Bool) → Calm w n x b → t ≡ n
-    → (IsCalm b (bits_of n x) (t - 1) → Tracks folded cost e (b ++ take t (bits_of n x)) (current b)) → After folded cost e (b ++ bits_of n x)
+pub all-after : {C : Type 0} (folded : C → List ℕ → Type 0) (cost w n x t : ℕ) (e : LineState C) (b : List Bool) →
+    Calm w n x b → t ≡ n
+    → (IsCalm b (bits_of n x) (t - 1) → Tracks folded cost e (b ++ take t (bits_of n x)) (current b)) →
+    After folded cost e (b ++ bits_of n x)
 all-after folded cost w n x t e b h s tracks =
     let k = length-bits n x in
     let r = tracks (calm-less b (bits_of n x) n (t - 1) (omega (arith, s)) h.calm) in
     subst (λ (z : List Bool). After folded cost e (b ++ z)) (bits-front n n x (omega arith))
-    (calm-after folded cost n e b (bits_of n x) h.calm (omega (arith, k)) (subst (λ (j : ℕ). Tracks folded cost e (b ++ take j (bits_of n x)) (current b)) s r))
+    (calm-after folded cost n e b (bits_of n x) h.calm (omega (arith, k))
+    (subst (λ (j : ℕ). Tracks folded cost e (b ++ take j (bits_of n x)) (current b)) s r))
 
 -- a run of calm bits that a stop ends
 pub record Last (w n m x : ℕ) (b : List Bool) : Type 0 where
@@ -133,11 +173,17 @@ pub record Last (w n m x : ℕ) (b : List Bool) : Type 0 where
   pub within : m < length (bits_of n x)
   pub front : take (m + 1) (bits_of n x) ≡ bits_of (m + 1) x
 
-pub is_last : (w n m x : ℕ) (b : List Bool) → IsWord w b (bits_of n x) → m ≤ n → m ≢ n → ((i : ℕ) → i < m → IsStop w i → ⊥) → Last w n m x b
+pub is_last : (w n m x : ℕ) (b : List Bool) → IsWord w b (bits_of n x) → m ≤ n → m ≢ n →
+    ((i : ℕ) → i < m → IsStop w i → ⊥) → Last w n m x b
 is_last w n m x b h l e calm =
     let k = length-bits n x in
     let s : m < n = elim (cases_lt m n) [ inl y ↦ y | inr y ↦ absurd (e (omega (arith, l, y))) ] in
-    record { word = h; calm = calm-before w m b (bits_of n x) h (omega (arith, k, s)) calm; within = omega (arith, k, s); front = bits-front (m + 1) n x (omega (arith, s)) }
+    record {
+      word = h;
+      calm = calm-before w m b (bits_of n x) h (omega (arith, k, s)) calm;
+      within = omega (arith, k, s);
+      front = bits-front (m + 1) n x (omega (arith, s));
+    }
 
 -- the list before its last bit, and that
 abbrev pub but_last : List Bool → ℕ → ℕ → ℕ → List Bool
@@ -146,37 +192,47 @@ but_last b n m x = b ++ take m (bits_of n x)
 abbrev pub last_of : ℕ → ℕ → ℕ → Bool
 last_of n m x = get_or (bits_of n x) m false
 
-pub last-tracks : {C : Type 0} (folded : C → List ℕ → Type 0) (cost w n m x t : ℕ) (e : LineState C) (b : List Bool) → Last w n m x b → t ≡ m + 1
-    → (IsCalm b (bits_of n x) (t - 1) → Tracks folded cost e (b ++ take t (bits_of n x)) (current b)) → Tracks folded cost e (but_last b n m x ++ last_of n m x ∷ []) (current (but_last b n m x))
+pub last-tracks : {C : Type 0} (folded : C → List ℕ → Type 0) (cost w n m x t : ℕ) (e : LineState C) (b : List Bool) →
+    Last w n m x b → t ≡ m + 1
+    → (IsCalm b (bits_of n x) (t - 1) → Tracks folded cost e (b ++ take t (bits_of n x)) (current b)) →
+    Tracks folded cost e (but_last b n m x ++ last_of n m x ∷ []) (current (but_last b n m x))
 last-tracks folded cost w n m x t e b h s tracks =
     let r = tracks (calm-less b (bits_of n x) m (t - 1) (omega (arith, s)) h.calm) in
-    tracks-last folded cost m e b (bits_of n x) h.calm h.within (subst (λ (j : ℕ). Tracks folded cost e (b ++ take j (bits_of n x)) (current b)) s r)
+    tracks-last folded cost m e b (bits_of n x) h.calm h.within
+    (subst (λ (j : ℕ). Tracks folded cost e (b ++ take j (bits_of n x)) (current b)) s r)
 
-pub last-answer : (longest origin l o w n m x : ℕ) (b : List Bool) (r : Option Report) → Last w n m x b → l ≡ longest → o ≡ origin
+pub last-answer : (longest origin l o w n m x : ℕ) (b : List Bool) (r : Option Report) → Last w n m x b → l ≡ longest →
+    o ≡ origin
     → r ≡ option_map (moved o) (due_at l (but_last b n m x ++ last_of n m x ∷ []) (length (but_last b n m x)))
     → r ≡ option_map (moved origin) (due_at longest (b ++ bits_of (m + 1) x) (length b + (m + 1) - 1))
 last-answer longest origin l o w n m x b r h p q e =
     rw (← h.front, ← last-due longest m b (bits_of n x) h.within, ← p, ← q) e
 
-pub last-more : (longest origin w n m x : ℕ) (b : List Bool) (r : Option Report) → Last w n m x b → r ≡ option_map (moved origin) (due_at longest (b ++ bits_of (m + 1) x) (length b + (m + 1) - 1))
+pub last-more : (longest origin w n m x : ℕ) (b : List Bool) (r : Option Report) → Last w n m x b →
+    r ≡ option_map (moved origin) (due_at longest (b ++ bits_of (m + 1) x) (length b + (m + 1) - 1))
     → placed origin longest (b ++ bits_of (m + 1) x) ≡ placed origin longest b ++ option_to_list r
 last-more longest origin w n m x b r h e =
     rw (← h.front) (last-placed origin longest m b (bits_of n x) r h.calm h.within (rw (← h.front) at e))
 
-pub last-after : {C : Type 0} (folded : C → List ℕ → Type 0) (cost w n m x : ℕ) (e : LineState C) (b : List Bool) → Last w n m x b → After folded cost e (but_last b n m x ++ last_of n m x ∷ []) → After folded cost e (b ++ bits_of (m + 1) x)
+pub last-after : {C : Type 0} (folded : C → List ℕ → Type 0) (cost w n m x : ℕ) (e : LineState C) (b : List Bool) →
+    Last w n m x b → After folded cost e (but_last b n m x ++ last_of n m x ∷ []) →
+    After folded cost e (b ++ bits_of (m + 1) x)
 last-after folded cost w n m x e b h k = rw (← h.front) (after-last folded cost m e b (bits_of n x) h.within k)
 
 -- nothing is due at calm bits
-pub calm-before-last : (longest origin w n i x : ℕ) (b : List Bool) → Calm w n x b → i ≤ n → placed origin longest (b ++ bits_of i x) ≡ placed origin longest b
+pub calm-before-last : (longest origin w n i x : ℕ) (b : List Bool) → Calm w n x b → i ≤ n →
+    placed origin longest (b ++ bits_of i x) ≡ placed origin longest b
 calm-before-last longest origin w n i x b h l =
     let k = length-bits n x in
     rw (← bits-front i n x l) (calm-placed origin longest n b (bits_of n x) h.calm i l (omega (arith, l, k)))
 
-pub last-before : (longest origin w n m x : ℕ) (b : List Bool) → Last w n m x b → placed origin longest (b ++ bits_of (m + 1 - 1) x) ≡ placed origin longest b
+pub last-before : (longest origin w n m x : ℕ) (b : List Bool) → Last w n m x b →
+    placed origin longest (b ++ bits_of (m + 1 - 1) x) ≡ placed origin longest b
 last-before longest origin w n m x b h =
     let k = length-bits n x in
     let e : m + 1 - 1 ≡ m = omega arith in
-    rw (e, ← bits-front m n x (omega (arith, h.within, k))) (calm-placed origin longest m b (bits_of n x) h.calm m (omega arith) (omega (arith, h.within)))
+    rw (e, ← bits-front m n x (omega (arith, h.within, k)))
+    (calm-placed origin longest m b (bits_of n x) h.calm m (omega arith) (omega (arith, h.within)))
 
 -- ---- how many are taken
 

@@ -1,5 +1,6 @@
 -- What a piece between two flags is, by what a decoder holds.
-use Rattle.std.proofs.Common.{◌≡◌, ◌≢◌, ℕ, suc, ◌+◌, ◌-◌, ◌*◌, ◌/◌, ◌%◌, ◌≤◌, ◌<◌, ◌==◌, Bool, true, false, List, [], ◌∷◌, ◌++◌, length, take, get_or, refl, sym, ap, ◌∙◌, subst, arith, if◌then◌else◌}
+use Rattle.std.proofs.Common.{◌≡◌, ◌≢◌, ℕ, suc, ◌+◌, ◌-◌, ◌*◌, ◌/◌, ◌%◌, ◌≤◌, ◌<◌, ◌==◌, Bool, true, false, List, []}
+use Rattle.std.proofs.Common.{◌∷◌, ◌++◌, length, take, get_or, refl, sym, ap, ◌∙◌, subst, arith, if◌then◌else◌}
 use Rattle.std.specs.List.{slice_range}
 use Rattle.std.specs.Prelude.{nat_lt, IsTrue, ◌↔◌}
 use Rattle.std.proofs.Math.Seq.{take-add}
@@ -37,11 +38,13 @@ flag-zero b p f =
     let x : get_or b (p + 7) false ≡ false = stands-bit b p flag 7 f (omega arith) in
     let n : p + 8 ≡ (p + 7) + 1 = omega arith in
     let e : take (p + 8) b ≡ take (p + 7) b ++ false ∷ [] =
-    ap (λ k. take k b) n ∙ (take_next b (p + 7) false (omega (arith, flag-fits b p f)) ∙ ap (λ y. take (p + 7) b ++ y ∷ []) x) in
+    ap (λ k. take k b) n
+    ∙ (take_next b (p + 7) false (omega (arith, flag-fits b p f)) ∙ ap (λ y. take (p + 7) b ++ y ∷ []) x) in
     ap ones_at_end e ∙ ones_after-more 0 (take (p + 7) b) false
 
 -- the ones at the end of a piece are those at the end of the bits up to there
-piece-ones : (b : List Bool) (p m : ℕ) → IsFlag b p → p + 8 ≤ m → ones_at_end (take m b) ≡ ones_at_end (slice_range b (p + 8) m)
+piece-ones : (b : List Bool) (p m : ℕ) → IsFlag b p → p + 8 ≤ m →
+    ones_at_end (take m b) ≡ ones_at_end (slice_range b (p + 8) m)
 piece-ones b p m f h =
     let raw = slice_range b (p + 8) m in
     let n : m ≡ (p + 8) + (m - (p + 8)) = omega arith in
@@ -55,16 +58,19 @@ pub record IsClosed {C : Type 0} (folded : C → List ℕ → Type 0) (d : LineS
   pub fewer : 5 ≤ ones_at_end raw → d.history / 8 % 32 ≡ 31
   pub holds : Holds folded d (data_so_far raw)
 
-pub is_closed : {C : Type 0} (folded : C → List ℕ → Type 0) (cost : ℕ) (d : LineState C) (b : List Bool) (bit : Bool) (p : ℕ) → Tracks folded cost d (b ++ bit ∷ []) (current b) → current b ≡ FlagAt p → p + 15 < length b
+pub is_closed : {C : Type 0} (folded : C → List ℕ → Type 0) (cost : ℕ) (d : LineState C) (b : List Bool) (bit : Bool)
+    (p : ℕ) → Tracks folded cost d (b ++ bit ∷ []) (current b) → current b ≡ FlagAt p → p + 15 < length b
     → IsClosed folded d (slice_range (b ++ bit ∷ []) (p + 8) (length b - 7))
 is_closed folded cost d b bit p h last some =
     let m = length b - 7 in
-    let same : slice_range (b ++ bit ∷ []) (p + 8) m ≡ slice_range b (p + 8) m = range-append b (bit ∷ []) (p + 8) m (omega arith) in
+    let same : slice_range (b ++ bit ∷ []) (p + 8) m ≡ slice_range b (p + 8) m =
+    range-append b (bit ∷ []) (p + 8) m (omega arith) in
     let n : length (b ++ bit ∷ []) - 8 ≡ m = omega (arith, length_push b bit) in
     let w = history-five d.history b bit (omega arith) h.has_taken.history in
     let e : ones_at_end (take m b) ≡ ones_at_end (slice_range (b ++ bit ∷ []) (p + 8) m) =
     piece-ones b p m (last_mark-flag b (length b) p last).flag (omega arith) ∙ ap ones_at_end (sym same) in
-    let held : Holds folded d (settled_data (b ++ bit ∷ []) p) = subst (HoldsFor folded d (b ++ bit ∷ [])) last h.piece in
+    let held : Holds folded d (settled_data (b ++ bit ∷ []) p) =
+    subst (HoldsFor folded d (b ++ bit ∷ [])) last h.piece in
     record {
       low = subst (IsLow 0) (sym same) (low-from (slice_range b (p + 8) m) (current-low b p m last (omega arith)));
       five = λ k. omega (arith, e, w.0 k);
@@ -73,15 +79,18 @@ is_closed folded cost d b bit p h last some =
     }
 
 -- five ones before the flag
-pub class-five : {C : Type 0} (folded : C → List ℕ → Type 0) (longest : ℕ) (d : LineState C) (raw : List Bool) → IsClosed folded d raw → d.history / 8 % 32 ≡ 31 → class_of longest raw ≡ Damaged Unstuffed
+pub class-five : {C : Type 0} (folded : C → List ℕ → Type 0) (longest : ℕ) (d : LineState C) (raw : List Bool) →
+    IsClosed folded d raw → d.history / 8 % 32 ≡ 31 → class_of longest raw ≡ Damaged Unstuffed
 class-five folded longest d raw c w =
     let t : (ones_at_end raw == 5) ≡ true = grind (arith, nat_tests, c.five w, low-ones 0 raw c.low) in
     ap (class_of_read longest) (low-unspelled raw c.low) ∙ rw t refl
 
 -- no five: the data are read
-pub class-read : {C : Type 0} (folded : C → List ℕ → Type 0) (longest : ℕ) (d : LineState C) (raw : List Bool) → IsClosed folded d raw → d.history / 8 % 32 ≢ 31 → class_of longest raw ≡ class_of_data longest (data_so_far raw)
+pub class-read : {C : Type 0} (folded : C → List ℕ → Type 0) (longest : ℕ) (d : LineState C) (raw : List Bool) →
+    IsClosed folded d raw → d.history / 8 % 32 ≢ 31 → class_of longest raw ≡ class_of_data longest (data_so_far raw)
 class-read folded longest d raw c w =
-    let f : (ones_at_end raw == 5) ≡ false = false_from_ne_true _ (λ t. w (c.fewer (omega (arith, eqb-true (ones_at_end raw) 5 t)))) in
+    let f : (ones_at_end raw == 5) ≡ false =
+    false_from_ne_true _ (λ t. w (c.fewer (omega (arith, eqb-true (ones_at_end raw) 5 t)))) in
     ap (class_of_read longest) (low-unspelled raw c.low) ∙ rw f refl
 
 -- the first case that fits
@@ -90,13 +99,15 @@ data-over longest d h =
     let t : nat_lt (8 * (longest + 2)) (length d) ≡ true = grind (arith, nat_tests) in
     rw t refl
 
-pub data-short : (longest : ℕ) (d : List Bool) → length d ≤ 8 * (longest + 2) → length d < 32 → class_of_data longest d ≡ Damaged Short
+pub data-short : (longest : ℕ) (d : List Bool) → length d ≤ 8 * (longest + 2) → length d < 32 →
+    class_of_data longest d ≡ Damaged Short
 data-short longest d most h =
     let f : nat_lt (8 * (longest + 2)) (length d) ≡ false = grind (arith, nat_tests) in
     let t : nat_lt (length d) 32 ≡ true = grind (arith, nat_tests) in
     rw (f, t) refl
 
-pub data-unaligned : (longest : ℕ) (d : List Bool) → length d ≤ 8 * (longest + 2) → 32 ≤ length d → length d % 8 ≢ 0 → class_of_data longest d ≡ Damaged Unaligned
+pub data-unaligned : (longest : ℕ) (d : List Bool) → length d ≤ 8 * (longest + 2) → 32 ≤ length d → length d % 8 ≢ 0 →
+    class_of_data longest d ≡ Damaged Unaligned
 data-unaligned longest d most least h =
     let f : nat_lt (8 * (longest + 2)) (length d) ≡ false = grind (arith, nat_tests) in
     let g : nat_lt (length d) 32 ≡ false = grind (arith, nat_tests) in
@@ -104,18 +115,27 @@ data-unaligned longest d most least h =
     rw (f, g, t) refl
 
 -- all octets of the data are held
-pub all-held : {C : Type 0} (folded : C → List ℕ → Type 0) (d : LineState C) (bits : List Bool) → Holds folded d bits → 32 ≤ length bits → length bits ≤ 8 * (d.longest + 2)
+pub all-held : {C : Type 0} (folded : C → List ℕ → Type 0) (d : LineState C) (bits : List Bool) → Holds folded d bits →
+    32 ≤ length bits → length bits ≤ 8 * (d.longest + 2)
     → (d.octets ≡ octets bits) × folded d.check (octets bits) × (4 ≤ length (octets bits))
 all-held folded d bits h least most =
     let n : length (octets bits) ≡ length bits / 8 = length-octets (length bits / 8) bits refl in
-    let whole : take (d.longest + 2) (octets bits) ≡ octets bits = take_all (d.longest + 2) (octets bits) (omega (arith, n)) in
-    (h.held (omega arith) ∙ whole, subst (λ (os : List ℕ). folded d.check os) whole (h.checked (omega arith)), omega (arith, n))
+    let whole : take (d.longest + 2) (octets bits) ≡ octets bits =
+    take_all (d.longest + 2) (octets bits) (omega (arith, n)) in (
+      h.held (omega arith) ∙ whole,
+      subst (λ (os : List ℕ). folded d.check os) whole (h.checked (omega arith)),
+      omega (arith, n),
+    )
 
 -- data that were checked
-pub class-checked : {C : Type 0} (folded : C → List ℕ → Type 0) (d : LineState C) (bits : List Bool) (good : Bool) → Holds folded d bits → 32 ≤ length bits → length bits ≤ 8 * (d.longest + 2) → length bits % 8 ≡ 0
-    → ((os : List ℕ) → folded d.check os → 4 ≤ length os → (IsTrue good ↔ Good (bits_of_octets os))) → class_of_data d.longest bits ≡ (if good then Frame d.octets else Damaged Fcs)
+pub class-checked : {C : Type 0} (folded : C → List ℕ → Type 0) (d : LineState C) (bits : List Bool) (good : Bool) →
+    Holds folded d bits → 32 ≤ length bits → length bits ≤ 8 * (d.longest + 2) → length bits % 8 ≡ 0
+    → ((os : List ℕ) → folded d.check os → 4 ≤ length os → (IsTrue good ↔ Good (bits_of_octets os))) →
+    class_of_data d.longest bits ≡ (if good then Frame d.octets else Damaged Fcs)
 class-checked folded d bits good h least most whole test =
     let held = all-held folded d bits h least most in
-    let same : good ≡ is_good (bits_of_octets (octets bits)) = same_test good (bits_of_octets (octets bits)) (test (octets bits) held.1 held.2) in
+    let same : good ≡ is_good (bits_of_octets (octets bits)) =
+    same_test good (bits_of_octets (octets bits)) (test (octets bits) held.1 held.2) in
     data-checked d.longest bits most least whole
-    ∙ (ap (λ (t : Bool). if t then Frame (octets bits) else Damaged Fcs) (sym same) ∙ ap (λ (os : List ℕ). if good then Frame os else Damaged Fcs) (sym held.0))
+    ∙ (ap (λ (t : Bool). if t then Frame (octets bits) else Damaged Fcs) (sym same)
+    ∙ ap (λ (os : List ℕ). if good then Frame os else Damaged Fcs) (sym held.0))

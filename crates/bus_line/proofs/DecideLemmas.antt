@@ -1,5 +1,6 @@
 -- What the bit after six ones or fourteen decides.
-use Rattle.std.proofs.Common.{◌≡◌, ◌≢◌, ℕ, suc, ◌+◌, ◌-◌, ◌≤◌, Bool, true, false, List, [], ◌∷◌, ◌++◌, length, Some, None, refl, sym, ap, ◌∙◌, subst, arith}
+use Rattle.std.proofs.Common.{◌≡◌, ◌≢◌, ℕ, suc, ◌+◌, ◌-◌, ◌≤◌, Bool, true, false, List, [], ◌∷◌, ◌++◌, length, Some}
+use Rattle.std.proofs.Common.{None, refl, sym, ap, ◌∙◌, subst, arith}
 use Rattle.std.specs.List.{slice_range}
 use Rattle.std.specs.Prelude.{drop}
 use Rattle.std.proofs.lemmas.List.{length_push}
@@ -16,19 +17,24 @@ use Rattle.bus_line.proofs.StepStreamLemmas.{Decides}
 use Rattle.bus_line.proofs.DueStreamLemmas.{at-flag, at-abort, at-idle, at-other}
 use Rattle.bus_line.proofs.StepLemmas.{data-start}
 
-decides-nothing : (longest : ℕ) (b : List Bool) (bit : Bool) → ones_at_end b ≢ 6 → ones_at_end b ≢ 14 → Decides longest b bit None (current b)
+decides-nothing : (longest : ℕ) (b : List Bool) (bit : Bool) → ones_at_end b ≢ 6 → ones_at_end b ≢ 14 →
+    Decides longest b bit None (current b)
 decides-nothing longest b bit six fourteen = at-other longest b bit (λ e k l. six k) (λ e. (six, fourteen))
 
 -- a bit after another run decides nothing, and leaves the last mark
-pub nothing-due : (longest : ℕ) (b : List Bool) (bit : Bool) → ones_at_end b ≢ 6 → ones_at_end b ≢ 14 → due_at longest (b ++ bit ∷ []) (length b) ≡ None
+pub nothing-due : (longest : ℕ) (b : List Bool) (bit : Bool) → ones_at_end b ≢ 6 → ones_at_end b ≢ 14 →
+    due_at longest (b ++ bit ∷ []) (length b) ≡ None
 nothing-due longest b bit six fourteen = (decides-nothing longest b bit six fourteen).answers
 
-pub mark-kept : (b : List Bool) (bit : Bool) → ones_at_end b ≢ 6 → ones_at_end b ≢ 14 → current (b ++ bit ∷ []) ≡ current b
+pub mark-kept : (b : List Bool) (bit : Bool) → ones_at_end b ≢ 6 → ones_at_end b ≢ 14 →
+    current (b ++ bit ∷ []) ≡ current b
 mark-kept b bit six fourteen = (decides-nothing 3 b bit six fourteen).leaves
 
 -- what the bit decides, by what was found
 pub closing : (longest : ℕ) (b : List Bool) (bit : Bool) → IsFound bit (ones_at_end b) (length b) Closing
-    → Decides longest b bit (piece_report (λ p. class_of longest (slice_range (b ++ bit ∷ []) (p + 8) (length b - 7))) (current b) (length b - 7)) (FlagAt (length b - 7))
+    → Decides longest b bit
+    (piece_report (λ p. class_of longest (slice_range (b ++ bit ∷ []) (p + 8) (length b - 7))) (current b)
+    (length b - 7)) (FlagAt (length b - 7))
 closing longest b true f = absurd (cc (f.0))
 closing longest b false f = at-flag longest b f.1 f.2
 
@@ -42,7 +48,8 @@ pub fifteen : (longest : ℕ) (b : List Bool) (bit : Bool) → IsFound bit (ones
 fifteen longest b false f = absurd (cc (f.0))
 fifteen longest b true f = at-idle longest b f.1
 
-pub other : (longest : ℕ) (b : List Bool) (bit : Bool) → IsFound bit (ones_at_end b) (length b) Other → Decides longest b bit None (current b)
+pub other : (longest : ℕ) (b : List Bool) (bit : Bool) → IsFound bit (ones_at_end b) (length b) Other →
+    Decides longest b bit None (current b)
 other longest b bit f = at-other longest b bit f.0 f.1
 
 none_number : number [] ≡ 0
@@ -50,25 +57,46 @@ unfolding number
 none_number = refl
 
 -- a flag has come: nothing of its piece is there yet
-pub tracks-flag : {C : Type 0} (folded : C → List ℕ → Type 0) (cost : ℕ) (d : LineState C) (c : List Bool) (mark : Mark) (p : ℕ) → Tracks folded cost d c mark → p + 8 ≡ length c
+pub tracks-flag : {C : Type 0} (folded : C → List ℕ → Type 0) (cost : ℕ) (d : LineState C) (c : List Bool) (mark : Mark)
+    (p : ℕ) → Tracks folded cost d c mark → p + 8 ≡ length c
     → Tracks folded cost (record d { first = Some d.place; gathered = 0; rest = 0 }) c (FlagAt p)
 tracks-flag folded cost d c mark p h e =
     let none : settled_data c p ≡ [] = data-start c p (omega (arith, e)) in
     record {
       has_taken = record { place = h.has_taken.place; history = h.has_taken.history };
       first = ap Some (h.has_taken.place ∙ ap (λ n. d.origin + n) (sym e));
-      piece = rw none (record { count = refl; rest = sym none_number; held = λ m. absurd (omega (arith, m)); checked = λ m. absurd (omega (arith, m)) });
-      counts = record { settled = h.counts.settled; filled = h.counts.filled; paid = h.counts.paid; copied = h.counts.copied; handled = h.counts.handled };
+      piece =
+          rw none
+          (record {
+            count = refl;
+            rest = sym none_number;
+            held = λ m. absurd (omega (arith, m));
+            checked = λ m. absurd (omega (arith, m));
+          });
+      counts = record {
+        settled = h.counts.settled;
+        filled = h.counts.filled;
+        paid = h.counts.paid;
+        copied = h.counts.copied;
+        handled = h.counts.handled;
+      };
     }
 
 -- an abort has come: no piece is open
-pub tracks-abort : {C : Type 0} (folded : C → List ℕ → Type 0) (cost : ℕ) (d : LineState C) (c : List Bool) (mark : Mark) (a : ℕ) → Tracks folded cost d c mark
+pub tracks-abort : {C : Type 0} (folded : C → List ℕ → Type 0) (cost : ℕ) (d : LineState C) (c : List Bool)
+    (mark : Mark) (a : ℕ) → Tracks folded cost d c mark
     → Tracks folded cost (record d { first = None }) c (AbortAt a)
 tracks-abort folded cost d c mark a h = record {
   has_taken = record { place = h.has_taken.place; history = h.has_taken.history };
   first = refl;
   piece = tt;
-  counts = record { settled = h.counts.settled; filled = h.counts.filled; paid = h.counts.paid; copied = h.counts.copied; handled = h.counts.handled };
+  counts = record {
+    settled = h.counts.settled;
+    filled = h.counts.filled;
+    paid = h.counts.paid;
+    copied = h.counts.copied;
+    handled = h.counts.handled;
+  };
 }
 
 -- no run is longer than the list
@@ -81,8 +109,10 @@ pub ones_within : (b : List Bool) → ones_at_end b ≤ length b
 ones_within b = omega (arith, run-within 0 b)
 
 -- what was found in the history, by the bits
-pub found-here : {C : Type 0} (e d : LineState C) → e ≡ d → (b : List Bool) (bit : Bool) → HasTaken d (b ++ bit ∷ []) → (f : Found)
-    → ((b : List Bool) (bit : Bool) → e.history ≡ number (drop (length (b ++ bit ∷ [])) (padded (b ++ bit ∷ []))) → e.place - 1 - e.origin ≡ length b → IsFound bit (ones_at_end b) (e.place - 1 - e.origin) f)
+pub found-here : {C : Type 0} (e d : LineState C) → e ≡ d → (b : List Bool) (bit : Bool) → HasTaken d (b ++ bit ∷ []) →
+    (f : Found)
+    → ((b : List Bool) (bit : Bool) → e.history ≡ number (drop (length (b ++ bit ∷ [])) (padded (b ++ bit ∷ []))) →
+    e.place - 1 - e.origin ≡ length b → IsFound bit (ones_at_end b) (e.place - 1 - e.origin) f)
     → IsFound bit (ones_at_end b) (length b) f
 found-here e d same b bit s f found =
     let here : HasTaken e (b ++ bit ∷ []) = subst (λ x. HasTaken x (b ++ bit ∷ [])) (sym same) s in

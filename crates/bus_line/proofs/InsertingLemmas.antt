@@ -1,5 +1,7 @@
 -- Bits on their way out, and the raw bits of data that go on.
-use Rattle.std.proofs.Common.{◌≡◌, ℕ, suc, ◌+◌, ◌*◌, ◌≤◌, ◌<◌, Bool, true, false, List, [], ◌∷◌, ◌++◌, length, take, drop, Option, Some, None, refl, sym, ap, ◌∙◌, subst, inl, inr, arith, nat_lt, get_or, Result, Ok, Err, OnErr, if◌then◌else◌}
+use Rattle.std.proofs.Common.{◌≡◌, ℕ, suc, ◌+◌, ◌*◌, ◌≤◌, ◌<◌, Bool, true, false, List, [], ◌∷◌, ◌++◌, length, take}
+use Rattle.std.proofs.Common.{drop, Option, Some, None, refl, sym, ap, ◌∙◌, subst, inl, inr, arith, nat_lt, get_or}
+use Rattle.std.proofs.Common.{Result, Ok, Err, OnErr, if◌then◌else◌}
 use Rattle.std.proofs.lemmas.List.{append_assoc, append-nil, length-append, take-append-le}
 use Rattle.std.proofs.lemmas.Bool.{cases_lt}
 use Rattle.std.proofs.lemmas.Bool.Decides.{nat_tests}
@@ -24,13 +26,15 @@ told-more (Some zs) xs ys = ap Some (append_assoc zs xs ys)
 
 take-both : (xs ys : List Bool) (k : ℕ) → take (length xs + k) (xs ++ ys) ≡ xs ++ take k ys
 take-both [] ys k = ap (λ n. take n ys) (omega arith)
-take-both (x ∷ xs) ys k = let e : length (x ∷ xs) + k ≡ suc (length xs + k) = omega arith in rw e (ap (λ l. x ∷ l) (take-both xs ys k))
+take-both (x ∷ xs) ys k = let e : length (x ∷ xs) + k ≡ suc (length xs + k) =
+    omega arith in rw e (ap (λ l. x ∷ l) (take-both xs ys k))
 
 module _ {S : Type 0} (taken : S → Option (List Bool)) (refusals : S → ℕ) where
   pub sent-nil : (a : StuffingWriter) (s : S) → Sent taken refusals [] a a s s
   sent-nil a s = record { took = told-nil (taken s); kept = refl; written = omega arith }
 
-  pub sent-more : (xs ys : List Bool) (a b c : StuffingWriter) (s t u : S) → Sent taken refusals xs a b s t → Sent taken refusals ys b c t u → Sent taken refusals (xs ++ ys) a c s u
+  pub sent-more : (xs ys : List Bool) (a b c : StuffingWriter) (s t u : S) → Sent taken refusals xs a b s t →
+      Sent taken refusals ys b c t u → Sent taken refusals (xs ++ ys) a c s u
   sent-more xs ys a b c s t u p q = record {
     took = q.took ∙ (ap (λ z. told z ys) p.took ∙ told-more (taken s) xs ys);
     kept = q.kept ∙ p.kept;
@@ -38,17 +42,21 @@ module _ {S : Type 0} (taken : S → Option (List Bool)) (refusals : S → ℕ) 
   }
 
   -- the bits in front went out, and then the sink refused one
-  pub cut-behind : (xs ys : List Bool) (a b c : StuffingWriter) (s t u : S) → Sent taken refusals xs a b s t → Cut taken refusals ys b c t u → Cut taken refusals (xs ++ ys) a c s u
+  pub cut-behind : (xs ys : List Bool) (a b c : StuffingWriter) (s t u : S) → Sent taken refusals xs a b s t →
+      Cut taken refusals ys b c t u → Cut taken refusals (xs ++ ys) a c s u
   cut-behind xs ys a b c s t u p q = record {
     count = length xs + q.count;
     within = omega (arith, length-append xs ys, q.within);
-    took = q.took ∙ (ap (λ z. told z (take q.count ys)) p.took ∙ (told-more (taken s) xs (take q.count ys) ∙ ap (told (taken s)) (sym (take-both xs ys q.count))));
+    took =
+        q.took ∙ (ap (λ z. told z (take q.count ys)) p.took
+        ∙ (told-more (taken s) xs (take q.count ys) ∙ ap (told (taken s)) (sym (take-both xs ys q.count))));
     failed = q.failed ∙ ap (λ n. n + 1) p.kept;
     written = omega (arith, p.written, q.written);
   }
 
   -- more bits would have come behind the one that was refused
-  pub cut-before : (xs ys : List Bool) (a b : StuffingWriter) (s t : S) → Cut taken refusals xs a b s t → Cut taken refusals (xs ++ ys) a b s t
+  pub cut-before : (xs ys : List Bool) (a b : StuffingWriter) (s t : S) → Cut taken refusals xs a b s t →
+      Cut taken refusals (xs ++ ys) a b s t
   cut-before xs ys a b s t q = record {
     count = q.count;
     within = omega (arith, length-append xs ys, q.within);
@@ -61,14 +69,16 @@ module _ {S : Type 0} (taken : S → Option (List Bool)) (refusals : S → ℕ) 
 
 -- a 1, which is the fifth in a row or not
 one-append : (t : Bool) (e xs ys xs' ys' : List Bool) (j k : ℕ) → xs' ≡ xs ++ raw_after j e → ys' ≡ ys ++ raw_after k e
-    → (if t then true ∷ xs' else true ∷ false ∷ ys') ≡ (if t then true ∷ xs else true ∷ false ∷ ys) ++ raw_after (if t then j else k) e
+    → (if t then true ∷ xs' else true ∷ false ∷ ys') ≡ (if t then true ∷ xs else true ∷ false ∷ ys)
+    ++ raw_after (if t then j else k) e
 one-append true e xs ys xs' ys' j k p q = ap (λ r. true ∷ r) p
 one-append false e xs ys xs' ys' j k p q = ap (λ r. true ∷ false ∷ r) q
 
 pub raw-append : (k : ℕ) (d e : List Bool) → raw_after k (d ++ e) ≡ raw_after k d ++ raw_after (run_after k d) e
 raw-append k [] e = refl
 raw-append k (false ∷ d) e = ap (λ r. false ∷ r) (raw-append 0 d e)
-raw-append k (true ∷ d) e = one-append (nat_lt k 4) e _ _ _ _ (run_after (suc k) d) (run_after 0 d) (raw-append (suc k) d e) (raw-append 0 d e)
+raw-append k (true ∷ d) e = one-append (nat_lt k 4) e _ _ _ _ (run_after (suc k) d) (run_after 0 d)
+    (raw-append (suc k) d e) (raw-append 0 d e)
 
 pub run-append : (k : ℕ) (d e : List Bool) → run_after k (d ++ e) ≡ run_after (run_after k d) e
 run-append k [] e = refl
@@ -116,25 +126,43 @@ pub on_err : {T E P : Type 0} (r : Result T E) → P → OnErr r P
 on_err (Ok v) p = tt
 on_err (Err e) p = p
 
-pub next-of : {X : Type 0} (xs : List X) (i : ℕ) (d : X) → i < length xs → xs ≡ (take i xs ++ get_or xs i d ∷ []) ++ drop (i + 1) xs
-next-of xs i d h = split_at xs i d (get_or xs i d) h refl ∙ sym (append_assoc (take i xs) (get_or xs i d ∷ []) (drop (i + 1) xs))
+pub next-of : {X : Type 0} (xs : List X) (i : ℕ) (d : X) → i < length xs →
+    xs ≡ (take i xs ++ get_or xs i d ∷ []) ++ drop (i + 1) xs
+next-of xs i d h = split_at xs i d (get_or xs i d) h refl
+    ∙ sym (append_assoc (take i xs) (get_or xs i d ∷ []) (drop (i + 1) xs))
 
 module _ {S : Type 0} (taken : S → Option (List Bool)) (refusals : S → ℕ) where
   -- data d, and behind it e
-  pub data-sent : (k : ℕ) (d e : List Bool) (a b c : StuffingWriter) (s t u : S) → Sent taken refusals (raw_after k d) a b s t → b.run ≡ run_after k d → Sent taken refusals (raw_after b.run e) b c t u → Sent taken refusals (raw_after k (d ++ e)) a c s u
-  data-sent k d e a b c s t u p r q = subst (λ z. Sent taken refusals z a c s u) (sym (raw-append k d e)) (sent-more taken refusals _ _ a b c s t u p (subst (λ n. Sent taken refusals (raw_after n e) b c t u) r q))
+  pub data-sent : (k : ℕ) (d e : List Bool) (a b c : StuffingWriter) (s t u : S) →
+      Sent taken refusals (raw_after k d) a b s t → b.run ≡ run_after k d →
+      Sent taken refusals (raw_after b.run e) b c t u → Sent taken refusals (raw_after k (d ++ e)) a c s u
+  data-sent k d e a b c s t u p r q =
+      subst (λ z. Sent taken refusals z a c s u) (sym (raw-append k d e))
+      (sent-more taken refusals _ _ a b c s t u p (subst (λ n. Sent taken refusals (raw_after n e) b c t u) r q))
 
-  pub data-cut-before : (k : ℕ) (d e : List Bool) (a b : StuffingWriter) (s t : S) → Cut taken refusals (raw_after k d) a b s t → Cut taken refusals (raw_after k (d ++ e)) a b s t
-  data-cut-before k d e a b s t q = subst (λ z. Cut taken refusals z a b s t) (sym (raw-append k d e)) (cut-before taken refusals _ _ a b s t q)
+  pub data-cut-before : (k : ℕ) (d e : List Bool) (a b : StuffingWriter) (s t : S) →
+      Cut taken refusals (raw_after k d) a b s t → Cut taken refusals (raw_after k (d ++ e)) a b s t
+  data-cut-before k d e a b s t q =
+      subst (λ z. Cut taken refusals z a b s t) (sym (raw-append k d e)) (cut-before taken refusals _ _ a b s t q)
 
-  pub data-cut-behind : (k : ℕ) (d e : List Bool) (a b c : StuffingWriter) (s t u : S) → Sent taken refusals (raw_after k d) a b s t → b.run ≡ run_after k d → Cut taken refusals (raw_after b.run e) b c t u → Cut taken refusals (raw_after k (d ++ e)) a c s u
-  data-cut-behind k d e a b c s t u p r q = subst (λ z. Cut taken refusals z a c s u) (sym (raw-append k d e)) (cut-behind taken refusals _ _ a b c s t u p (subst (λ n. Cut taken refusals (raw_after n e) b c t u) r q))
+  pub data-cut-behind : (k : ℕ) (d e : List Bool) (a b c : StuffingWriter) (s t u : S) →
+      Sent taken refusals (raw_after k d) a b s t → b.run ≡ run_after k d →
+      Cut taken refusals (raw_after b.run e) b c t u → Cut taken refusals (raw_after k (d ++ e)) a c s u
+  data-cut-behind k d e a b c s t u p r q =
+      subst (λ z. Cut taken refusals z a c s u) (sym (raw-append k d e))
+      (cut-behind taken refusals _ _ a b c s t u p (subst (λ n. Cut taken refusals (raw_after n e) b c t u) r q))
 
-  pub data-cut : (k : ℕ) (d e f : List Bool) (a b c : StuffingWriter) (s t u : S) → Sent taken refusals (raw_after k d) a b s t → b.run ≡ run_after k d → Cut taken refusals (raw_after b.run e) b c t u → Cut taken refusals (raw_after k ((d ++ e) ++ f)) a c s u
+  pub data-cut : (k : ℕ) (d e f : List Bool) (a b c : StuffingWriter) (s t u : S) →
+      Sent taken refusals (raw_after k d) a b s t → b.run ≡ run_after k d →
+      Cut taken refusals (raw_after b.run e) b c t u → Cut taken refusals (raw_after k ((d ++ e) ++ f)) a c s u
   data-cut k d e f a b c s t u p r q = data-cut-before k (d ++ e) f a c s u (data-cut-behind k d e a b c s t u p r q)
 
-pub octets-next : (os : List ℕ) (i : ℕ) → i < length os → bits_of_octets (take (i + 1) os) ≡ bits_of_octets (take i os) ++ bits_of 8 (get_or os i 0)
+pub octets-next : (os : List ℕ) (i : ℕ) → i < length os →
+    bits_of_octets (take (i + 1) os) ≡ bits_of_octets (take i os) ++ bits_of 8 (get_or os i 0)
 octets-next os i h = ap bits_of_octets (take_next os i 0 h) ∙ bits_of_octets-push (take i os) (get_or os i 0)
 
-pub octets-split : (os : List ℕ) (i : ℕ) → i < length os → bits_of_octets os ≡ (bits_of_octets (take i os) ++ bits_of 8 (get_or os i 0)) ++ bits_of_octets (drop (i + 1) os)
-octets-split os i h = ap bits_of_octets (next-of os i 0 h) ∙ (bits_of_octets-append (take i os ++ get_or os i 0 ∷ []) (drop (i + 1) os) ∙ ap (λ z. z ++ bits_of_octets (drop (i + 1) os)) (bits_of_octets-push (take i os) (get_or os i 0)))
+pub octets-split : (os : List ℕ) (i : ℕ) → i < length os →
+    bits_of_octets os ≡ (bits_of_octets (take i os) ++ bits_of 8 (get_or os i 0)) ++ bits_of_octets (drop (i + 1) os)
+octets-split os i h = ap bits_of_octets (next-of os i 0 h)
+    ∙ (bits_of_octets-append (take i os ++ get_or os i 0 ∷ []) (drop (i + 1) os)
+    ∙ ap (λ z. z ++ bits_of_octets (drop (i + 1) os)) (bits_of_octets-push (take i os) (get_or os i 0)))

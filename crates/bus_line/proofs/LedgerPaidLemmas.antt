@@ -1,5 +1,7 @@
 -- The octets of all frames were stored.
-use Rattle.std.proofs.Common.{◌≡◌, ℕ, zero, suc, ◌+◌, ◌-◌, ◌*◌, ◌/◌, ◌%◌, ◌≤◌, ◌<◌, ◌==◌, Bool, true, false, not, ◌&&◌, List, [], ◌∷◌, ◌++◌, length, take, get_or, Option, Some, None, refl, sym, ap, ◌∙◌, subst, arith, inl, inr, ◌⊎◌, if◌then◌else◌}
+use Rattle.std.proofs.Common.{◌≡◌, ℕ, zero, suc, ◌+◌, ◌-◌, ◌*◌, ◌/◌, ◌%◌, ◌≤◌, ◌<◌, ◌==◌, Bool, true, false, not, ◌&&◌}
+use Rattle.std.proofs.Common.{List, [], ◌∷◌, ◌++◌, length, take, get_or, Option, Some, None, refl, sym, ap, ◌∙◌, subst}
+use Rattle.std.proofs.Common.{arith, inl, inr, ◌⊎◌, if◌then◌else◌}
 use Rattle.std.specs.List.{slice_range, count_by, sum_by}
 use Rattle.std.specs.Option.{option_to_list}
 use Rattle.std.specs.Prelude.{nat_le, nat_lt}
@@ -10,7 +12,8 @@ use Rattle.bus_bits.specs.Octet.{octets}
 use Rattle.bus_line.specs.Spelling.{unspelled}
 use Rattle.bus_line.specs.Internal.Run.{ones_at_end, data_so_far}
 use Rattle.bus_line.specs.Report.{Report, Kind, Frame, Damaged, Overlong, Abort, class_of_data}
-use Rattle.bus_line.specs.Due.{Mark, NoMark, FlagAt, AbortAt, current, class_of, class_of_read, piece_report, due_at, reports, places}
+use Rattle.bus_line.specs.Due.{Mark, NoMark, FlagAt, AbortAt, current, class_of, class_of_read, piece_report, due_at}
+use Rattle.bus_line.specs.Due.{reports, places}
 use Rattle.bus_line.specs.Ledger.{is_inserted, is_stored, stored, stored_from, kind_octets, octet_count, copied}
 use Rattle.bus_line.specs.Internal.Look.{IsFound}
 use Rattle.bus_line.specs.declared.decoder.look.Found.{Found}
@@ -46,22 +49,28 @@ find : (bit : Bool) (run count : ℕ) → (f : Found) × IsFound bit run count f
 find true run count =
     elim (cases_eq run 6) [
       | inl e ↦ (Seven, (refl, e))
-      | inr n ↦ elim (cases_eq run 14) [ inl e ↦ (Fifteen, (refl, e)) | inr k ↦ (Other, ((λ e. absurd (cc)), λ e. (n, k))) ]
+      | inr n ↦ elim (cases_eq run 14)
+          [ inl e ↦ (Fifteen, (refl, e)) | inr k ↦ (Other, ((λ e. absurd (cc)), λ e. (n, k))) ]
     ]
 find false run count =
     elim (cases_eq run 6) [
-      | inl e ↦ elim (cases_lt 6 count) [ inl l ↦ (Closing, (refl, e, l)) | inr l ↦ (Other, ((λ u v w. omega (arith, l, w)), λ e. absurd (cc))) ]
+      | inl e ↦ elim (cases_lt 6 count)
+          [ inl l ↦ (Closing, (refl, e, l)) | inr l ↦ (Other, ((λ u v w. omega (arith, l, w)), λ e. absurd (cc))) ]
       | inr n ↦ (Other, ((λ u v w. n v), λ e. absurd (cc)))
     ]
 
 -- one bit more for the octets of the frames
-copied-more : (longest : ℕ) (b : List Bool) (bit : Bool) (due : Option Report) → due_at longest (b ++ bit ∷ []) (length b) ≡ due → copied longest (b ++ bit ∷ []) ≡ copied longest b + sum_by octet_count (option_to_list due)
+copied-more : (longest : ℕ) (b : List Bool) (bit : Bool) (due : Option Report) →
+    due_at longest (b ++ bit ∷ []) (length b) ≡ due → copied longest (b ++ bit ∷ [])
+    ≡ copied longest b + sum_by octet_count (option_to_list due)
 copied-more longest b bit due e =
     ap (sum_by octet_count) (reports-more longest b bit ∙ ap (λ o. reports longest b ++ option_to_list o) e)
     ∙ sum_by-append octet_count (reports longest b) (option_to_list due)
 
 -- and for those stored of a flag's piece
-kept-more : (longest : ℕ) (b : List Bool) (bit : Bool) (p : ℕ) → stored_from longest (b ++ bit ∷ []) (p + 8) ≡ stored_from longest b (p + 8) + one_if (nat_le (p + 8) (length b - 8) && is_stored longest (b ++ bit ∷ []) (length b - 8))
+kept-more : (longest : ℕ) (b : List Bool) (bit : Bool) (p : ℕ) →
+    stored_from longest (b ++ bit ∷ []) (p + 8) ≡ stored_from longest b (p + 8)
+    + one_if (nat_le (p + 8) (length b - 8) && is_stored longest (b ++ bit ∷ []) (length b - 8))
 kept-more longest b bit p =
     let c = b ++ bit ∷ [] in
     let n : length c ≡ suc (length b) = omega (arith, length_push b bit) in
@@ -82,13 +91,21 @@ one-below : (x y : Bool) → one_if (x && y) ≤ one_if y
 one-below true y = omega arith
 one-below false y = omega arith
 
-open-more : (longest : ℕ) (b : List Bool) (bit : Bool) (mark : Mark) → open_stored longest (b ++ bit ∷ []) mark ≤ open_stored longest b mark + one_if (is_stored longest (b ++ bit ∷ []) (length b - 8))
+open-more : (longest : ℕ) (b : List Bool) (bit : Bool) (mark : Mark) →
+    open_stored longest (b ++ bit ∷ []) mark ≤ open_stored longest b mark
+    + one_if (is_stored longest (b ++ bit ∷ []) (length b - 8))
 open-more longest b bit NoMark = omega arith
 open-more longest b bit (AbortAt a) = omega arith
-open-more longest b bit (FlagAt p) = omega (arith, kept-more longest b bit p, one-below (nat_le (p + 8) (length b - 8)) (is_stored longest (b ++ bit ∷ []) (length b - 8)))
+open-more longest b bit (FlagAt p) =
+    omega (
+      arith,
+      kept-more longest b bit p,
+      one-below (nat_le (p + 8) (length b - 8)) (is_stored longest (b ++ bit ∷ []) (length b - 8)),
+    )
 
 -- a bit that changes no mark and closes no frame
-paid-kept : (longest : ℕ) (b : List Bool) (bit : Bool) → IsPaid longest b → current (b ++ bit ∷ []) ≡ current b → copied longest (b ++ bit ∷ []) ≡ copied longest b → IsPaid longest (b ++ bit ∷ [])
+paid-kept : (longest : ℕ) (b : List Bool) (bit : Bool) → IsPaid longest b → current (b ++ bit ∷ []) ≡ current b →
+    copied longest (b ++ bit ∷ []) ≡ copied longest b → IsPaid longest (b ++ bit ∷ [])
 paid-kept longest b bit h m k =
     let c = b ++ bit ∷ [] in
     let o = ap (open_stored longest c) m in
@@ -99,18 +116,26 @@ no-octets NoMark m = refl
 no-octets (AbortAt a) m = refl
 no-octets (FlagAt p) m = choice (nat_lt (p + 8) m)
   where
-    choice : (t : Bool) → sum_by octet_count (option_to_list (if t then Some (record { kind = Abort; first = p + 8; past = m }) else None)) ≡ 0
+    choice : (t : Bool) →
+        sum_by octet_count
+        (option_to_list (if t then Some (record { kind = Abort; first = p + 8; past = m }) else None))
+        ≡ 0
     choice true = refl
     choice false = refl
 
 -- an abort hands on no octets, and opens no piece
-paid-abort : (longest : ℕ) (b : List Bool) (bit : Bool) (a : ℕ) → IsPaid longest b → current (b ++ bit ∷ []) ≡ AbortAt a → copied longest (b ++ bit ∷ []) ≡ copied longest b → IsPaid longest (b ++ bit ∷ [])
+paid-abort : (longest : ℕ) (b : List Bool) (bit : Bool) (a : ℕ) → IsPaid longest b →
+    current (b ++ bit ∷ []) ≡ AbortAt a → copied longest (b ++ bit ∷ []) ≡ copied longest b →
+    IsPaid longest (b ++ bit ∷ [])
 paid-abort longest b bit a h m k =
     let o = ap (open_stored longest (b ++ bit ∷ [])) m in
     omega (arith, h, k, o, stored-more longest b bit)
 
 -- the octets of data that are a frame
-data-octets : (over short whole good : Bool) (fs : List ℕ) → let kind = if over then Overlong else (if short then Damaged Short else (if not whole then Damaged Unaligned else (if not good then Damaged Fcs else Frame fs))) in
+data-octets : (over short whole good : Bool) (fs : List ℕ) → let kind =
+    if over then Overlong else
+    (if short then Damaged Short else
+    (if not whole then Damaged Unaligned else (if not good then Damaged Fcs else Frame fs))) in
     (kind_octets kind ≡ 0) ⊎ ((over ≡ false) × (whole ≡ true) × (kind_octets kind ≡ length fs))
 data-octets true short whole good fs = inl refl
 data-octets false true whole good fs = inl refl
@@ -120,13 +145,15 @@ data-octets false false true true fs = inr (refl, refl, refl)
 
 -- a closing flag hands on no more octets than were stored for its piece
 closed-octets : (longest : ℕ) (b : List Bool) (bit : Bool) (p : ℕ) → current b ≡ FlagAt p → p + 15 < length b
-    → kind_octets (class_of longest (slice_range (b ++ bit ∷ []) (p + 8) (length b - 7))) ≤ stored_from longest b (p + 8) + one_if (is_stored longest (b ++ bit ∷ []) (length b - 8))
+    → kind_octets (class_of longest (slice_range (b ++ bit ∷ []) (p + 8) (length b - 7)))
+    ≤ stored_from longest b (p + 8) + one_if (is_stored longest (b ++ bit ∷ []) (length b - 8))
 closed-octets longest b bit p e l =
     let c = b ++ bit ∷ [] in
     let m = length b - 7 in
     let raw = slice_range c (p + 8) m in
     let same : raw ≡ slice_range b (p + 8) m = range-append b (bit ∷ []) (p + 8) m (omega arith) in
-    let low : IsLow 0 raw = subst (IsLow 0) (sym same) (low-from (slice_range b (p + 8) m) (current-low b p m e (omega arith))) in
+    let low : IsLow 0 raw =
+    subst (IsLow 0) (sym same) (low-from (slice_range b (p + 8) m) (current-low b p m e (omega arith))) in
     let n : length c - 8 ≡ m = omega (arith, length_push b bit) in
     let bits : settled_data c p ≡ data_so_far raw = ap (λ k. data_so_far (slice_range c (p + 8) k)) n in
     let k = spelled-octets longest raw low in
@@ -144,12 +171,17 @@ closed-octets longest b bit p e l =
                 let settled = data-settled b bit p e (omega arith) t in
                 let now : is_stored longest c (length b - 8) ≡ true =
                 stores-now longest b bit p e (omega arith)
-                ∙ and_from _ _ settled (and_from _ _ (eq-eqb ((length (settled_data b p) + 1) % 8) 0 (omega (arith, f.1, d, g))) (le-leb (length (settled_data b p) + 1) (8 * (longest + 2)) (omega (arith, f.0, d, g)))) in
+                ∙ and_from _ _ settled
+                (and_from _ _ (eq-eqb ((length (settled_data b p) + 1) % 8) 0 (omega (arith, f.1, d, g)))
+                (le-leb (length (settled_data b p) + 1) (8 * (longest + 2)) (omega (arith, f.0, d, g)))) in
                 omega (arith, f.2, f.0, f.1, s, d, g, ap one_if now)
           ]
     ]
   where
-    spelled-octets : (longest : ℕ) (raw : List Bool) → IsLow 0 raw → (kind_octets (class_of longest raw) ≡ 0) ⊎ ((length (data_so_far raw) ≤ 8 * (longest + 2)) × (length (data_so_far raw) % 8 ≡ 0) × (kind_octets (class_of longest raw) ≡ length (data_so_far raw) / 8))
+    spelled-octets : (longest : ℕ) (raw : List Bool) → IsLow 0 raw →
+        (kind_octets (class_of longest raw) ≡ 0) ⊎
+        ((length (data_so_far raw) ≤ 8 * (longest + 2)) × (length (data_so_far raw) % 8 ≡ 0)
+        × (kind_octets (class_of longest raw) ≡ length (data_so_far raw) / 8))
     spelled-octets longest raw low =
         let d = data_so_far raw in
         elim (cases_Bool (ones_at_end raw == 5)) [
@@ -158,8 +190,10 @@ closed-octets longest b bit p e l =
               inl (ap (λ o. kind_octets (class_of_read longest o)) u)
           | inr t ↦
               let u : unspelled raw ≡ Some d = low-unspelled raw low ∙ rw t refl in
-              let read : kind_octets (class_of longest raw) ≡ kind_octets (class_of_data longest d) = ap (λ o. kind_octets (class_of_read longest o)) u in
-              elim (data-octets (nat_lt (8 * (longest + 2)) (length d)) (nat_lt (length d) 32) (length d % 8 == 0) (is_good d) (octets d)) [
+              let read : kind_octets (class_of longest raw) ≡ kind_octets (class_of_data longest d) =
+              ap (λ o. kind_octets (class_of_read longest o)) u in
+              elim (data-octets (nat_lt (8 * (longest + 2)) (length d)) (nat_lt (length d) 32) (length d % 8 == 0)
+              (is_good d) (octets d)) [
                 | inl none ↦ inl (read ∙ none)
                 | inr f ↦
                     let most : length d ≤ 8 * (longest + 2) = let g = f.0 in grind (arith, nat_tests) in
@@ -168,33 +202,46 @@ closed-octets longest b bit p e l =
         ]
 
 piece-octets : (longest : ℕ) (b : List Bool) (bit : Bool) (mark : Mark) → current b ≡ mark
-    → sum_by octet_count (option_to_list (piece_report (λ p. class_of longest (slice_range (b ++ bit ∷ []) (p + 8) (length b - 7))) mark (length b - 7))) ≤ open_stored longest b mark + one_if (is_stored longest (b ++ bit ∷ []) (length b - 8))
+    → sum_by octet_count
+    (option_to_list (piece_report (λ p. class_of longest (slice_range (b ++ bit ∷ []) (p + 8) (length b - 7))) mark
+    (length b - 7))) ≤ open_stored longest b mark + one_if (is_stored longest (b ++ bit ∷ []) (length b - 8))
 piece-octets longest b bit NoMark e = omega arith
 piece-octets longest b bit (AbortAt a) e = omega arith
 piece-octets longest b bit (FlagAt p) e =
     let kind = class_of longest (slice_range (b ++ bit ∷ []) (p + 8) (length b - 7)) in
-    choice kind (nat_lt (p + 8) (length b - 7)) (λ t. closed-octets longest b bit p e (omega (arith, ltb-true (p + 8) (length b - 7) t)))
+    choice kind (nat_lt (p + 8) (length b - 7))
+    (λ t. closed-octets longest b bit p e (omega (arith, ltb-true (p + 8) (length b - 7) t)))
   where
-    choice : (kind : Kind) (t : Bool) → (t ≡ true → kind_octets kind ≤ stored_from longest b (p + 8) + one_if (is_stored longest (b ++ bit ∷ []) (length b - 8)))
-        → sum_by octet_count (option_to_list (if t then Some (record { kind = kind; first = p + 8; past = length b - 7 }) else None)) ≤ stored_from longest b (p + 8) + one_if (is_stored longest (b ++ bit ∷ []) (length b - 8))
+    choice : (kind : Kind) (t : Bool) →
+        (t ≡ true → kind_octets kind ≤ stored_from longest b (p + 8)
+        + one_if (is_stored longest (b ++ bit ∷ []) (length b - 8)))
+        → sum_by octet_count
+        (option_to_list (if t then Some (record { kind = kind; first = p + 8; past = length b - 7 }) else None))
+        ≤ stored_from longest b (p + 8) + one_if (is_stored longest (b ++ bit ∷ []) (length b - 8))
     choice kind true h = omega (arith, h refl)
     choice kind false h = omega arith
 
-paid-flag : (longest : ℕ) (b : List Bool) (bit : Bool) (due : Option Report) → IsPaid longest b → 6 < length b → current (b ++ bit ∷ []) ≡ FlagAt (length b - 7)
-    → copied longest (b ++ bit ∷ []) ≡ copied longest b + sum_by octet_count (option_to_list (piece_report (λ p. class_of longest (slice_range (b ++ bit ∷ []) (p + 8) (length b - 7))) (current b) (length b - 7))) → IsPaid longest (b ++ bit ∷ [])
+paid-flag : (longest : ℕ) (b : List Bool) (bit : Bool) (due : Option Report) → IsPaid longest b → 6 < length b →
+    current (b ++ bit ∷ []) ≡ FlagAt (length b - 7)
+    → copied longest (b ++ bit ∷ []) ≡ copied longest b
+    + sum_by octet_count
+    (option_to_list (piece_report (λ p. class_of longest (slice_range (b ++ bit ∷ []) (p + 8) (length b - 7)))
+    (current b) (length b - 7))) → IsPaid longest (b ++ bit ∷ [])
 paid-flag longest b bit due h l m k =
     let c = b ++ bit ∷ [] in
     let o = ap (open_stored longest c) m in
     let none = none-behind longest c (length b - 7) (omega (arith, length_push b bit)) in
     omega (arith, h, k, o, none, piece-octets longest b bit (current b) refl, stored-more longest b bit)
 
-paid-step : (longest : ℕ) (b : List Bool) (bit : Bool) (f : Found) → IsFound bit (ones_at_end b) (length b) f → IsPaid longest b → IsPaid longest (b ++ bit ∷ [])
+paid-step : (longest : ℕ) (b : List Bool) (bit : Bool) (f : Found) → IsFound bit (ones_at_end b) (length b) f →
+    IsPaid longest b → IsPaid longest (b ++ bit ∷ [])
 paid-step longest b bit Closing f h =
     let d = closing longest b bit f in
     paid-flag longest b bit None h f.2 d.leaves (copied-more longest b bit _ d.answers)
 paid-step longest b bit Seven f h =
     let d = seven longest b bit f in
-    paid-abort longest b bit (length b - 6) h d.leaves (copied-more longest b bit _ d.answers ∙ omega (arith, no-octets (current b) (length b - 6)))
+    paid-abort longest b bit (length b - 6) h d.leaves
+    (copied-more longest b bit _ d.answers ∙ omega (arith, no-octets (current b) (length b - 6)))
 paid-step longest b bit Fifteen f h =
     let d = fifteen longest b bit f in
     paid-kept longest b bit h d.leaves (copied-more longest b bit _ d.answers ∙ omega arith)
@@ -210,10 +257,12 @@ paid-front longest b (suc n) h =
     let e : suc n ≡ n + 1 = omega arith in
     let front = take n b in
     let f = find x (ones_at_end front) (length front) in
-    subst (IsPaid longest) (sym (ap (λ k. take k b) e ∙ take_next b n false (omega arith))) (paid-step longest front x f.0 f.1 ih)
+    subst (IsPaid longest) (sym (ap (λ k. take k b) e ∙ take_next b n false (omega arith)))
+    (paid-step longest front x f.0 f.1 ih)
 
 -- the octets of all frames are among those that were stored
 pub frames-paid : (longest : ℕ) (b : List Bool) → copied longest b ≤ stored longest b
 frames-paid longest b =
-    let h = subst (IsPaid longest) (take_all (length b) b (omega arith)) (paid-front longest b (length b) (omega arith)) in
+    let h = subst (IsPaid longest) (take_all (length b) b (omega arith))
+    (paid-front longest b (length b) (omega arith)) in
     omega (arith, h)

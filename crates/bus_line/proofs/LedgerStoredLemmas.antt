@@ -1,5 +1,6 @@
 -- How many octets are stored for the open piece.
-use Rattle.std.proofs.Common.{◌≡◌, ◌≢◌, ℕ, zero, suc, ◌+◌, ◌-◌, ◌*◌, ◌/◌, ◌%◌, ◌≤◌, ◌<◌, ◌==◌, min, Bool, true, false, ◌&&◌, List, length, refl, sym, ap, ◌∙◌, arith, inl, inr}
+use Rattle.std.proofs.Common.{◌≡◌, ◌≢◌, ℕ, zero, suc, ◌+◌, ◌-◌, ◌*◌, ◌/◌, ◌%◌, ◌≤◌, ◌<◌, ◌==◌, min, Bool, true, false}
+use Rattle.std.proofs.Common.{◌&&◌, List, length, refl, sym, ap, ◌∙◌, arith, inl, inr}
 use Rattle.std.specs.List.{count_by, slice_range}
 use Rattle.std.specs.Prelude.{nat_le}
 use Rattle.std.proofs.lemmas.Bool.{cases_Bool, leb-true, and_left, lt-leb}
@@ -20,7 +21,8 @@ abbrev pub kept : ℕ → List Bool → ℕ → ℕ → Bool
 kept longest b p j = nat_le (p + 8) j && is_stored longest b j
 
 -- one more settled place stores an octet where it is the eighth of one that fits
-one-stored : (limit rank : ℕ) → min limit ((rank + 1) / 8) ≡ min limit (rank / 8) + one_if (((rank + 1) % 8 == 0) && nat_le (rank + 1) (8 * limit))
+one-stored : (limit rank : ℕ) → min limit ((rank + 1) / 8)
+    ≡ min limit (rank / 8) + one_if (((rank + 1) % 8 == 0) && nat_le (rank + 1) (8 * limit))
 one-stored limit rank =
     elim (cases_Bool ((rank + 1) % 8 == 0)) [
       | inl t ↦
@@ -42,9 +44,11 @@ one-stored limit rank =
 here : (b : List Bool) (p i : ℕ) → current b ≡ FlagAt p → p ≤ i → i < length b → last_mark b (suc i) ≡ FlagAt p
 here b p i e l h =
     let r = last_mark-flag b (length b) p e in
-    last_mark-is b (suc i) p (record { flag = r.flag; below = omega arith; greatest = λ q u k. omega (arith, r.greatest q u k) })
+    last_mark-is b (suc i) p
+    (record { flag = r.flag; below = omega arith; greatest = λ q u k. omega (arith, r.greatest q u k) })
 
-stored-ranked : (longest : ℕ) (b : List Bool) (p m : ℕ) → current b ≡ FlagAt p → m ≤ length b → count_by (kept longest b p) (places m) ≡ min (longest + 2) (count_by (ranked b p) (places m) / 8)
+stored-ranked : (longest : ℕ) (b : List Bool) (p m : ℕ) → current b ≡ FlagAt p → m ≤ length b →
+    count_by (kept longest b p) (places m) ≡ min (longest + 2) (count_by (ranked b p) (places m) / 8)
 stored-ranked longest b p zero e h = omega arith
 stored-ranked longest b p (suc m) e h =
     let ih = stored-ranked longest b p m e (omega arith) in
@@ -62,7 +66,8 @@ stored-ranked longest b p (suc m) e h =
           let f = here b p m e (omega (arith, l)) h in
           let n : count_by (ranked b p) (places (suc m)) ≡ rank + 1 = omega (arith, r, ap one_if t) in
           let u : kept longest b p m ≡ (((rank + 1) % 8 == 0) && nat_le (rank + 1) (8 * (longest + 2))) =
-          both (nat_le (p + 8) m) (is_settled b m) _ a d ∙ ap (λ k. (k % 8 == 0) && nat_le k (8 * (longest + 2))) (ap (λ k. rank_under b k m) f ∙ n) in
+          both (nat_le (p + 8) m) (is_settled b m) _ a d
+          ∙ ap (λ k. (k % 8 == 0) && nat_le k (8 * (longest + 2))) (ap (λ k. rank_under b k m) f ∙ n) in
           s ∙ (rw (ih, u) (sym (ap (λ k. min (longest + 2) (k / 8)) n ∙ one-stored (longest + 2) rank)))
     ]
   where
@@ -85,14 +90,16 @@ stored-ranked longest b p (suc m) e h =
         unranked-by true false z k = refl
         unranked-by false y z k = refl
 
-count-up : (f : ℕ → Bool) (m n : ℕ) → ((i : ℕ) → m ≤ i → f i ≡ false) → count_by f (places (m + n)) ≡ count_by f (places m)
+count-up : (f : ℕ → Bool) (m n : ℕ) → ((i : ℕ) → m ≤ i → f i ≡ false) →
+    count_by f (places (m + n)) ≡ count_by f (places m)
 count-up f m zero h = let e : m + 0 ≡ m = omega arith in ap (λ k. count_by f (places k)) e
 count-up f m (suc n) h =
     let e : m + suc n ≡ suc (m + n) = omega arith in
     rw e (omega (arith, count-more f (m + n), count-up f m n h, ap one_if (h (m + n) (omega arith))))
 
 -- the octets stored for the open piece are as many as its settled data have, up to the buffer's room
-pub stored_from-is : (longest : ℕ) (b : List Bool) (p : ℕ) → current b ≡ FlagAt p → stored_from longest b (p + 8) ≡ min (longest + 2) (length (data_so_far (slice_range b (p + 8) (length b - 8))) / 8)
+pub stored_from-is : (longest : ℕ) (b : List Bool) (p : ℕ) → current b ≡ FlagAt p →
+    stored_from longest b (p + 8) ≡ min (longest + 2) (length (data_so_far (slice_range b (p + 8) (length b - 8))) / 8)
 stored_from-is longest b p e =
     let fits = flag-fits b p (last_mark-flag b (length b) p e).flag in
     let n : length b ≡ (length b - 8) + 8 = omega arith in
@@ -111,4 +118,5 @@ stored_from-is longest b p e =
 
 -- and none where nothing stands behind the flag
 pub none-behind : (longest : ℕ) (b : List Bool) (p : ℕ) → length b ≤ p + 8 → stored_from longest b (p + 8) ≡ 0
-none-behind longest b p h = count-none (kept longest b p) (length b) (λ i l. and_left _ _ (lt-leb (p + 8) i (omega (arith, h, l))))
+none-behind longest b p h =
+    count-none (kept longest b p) (length b) (λ i l. and_left _ _ (lt-leb (p + 8) i (omega (arith, h, l))))

@@ -1,5 +1,6 @@
 -- The last mark, and which marks end at one place.
-use Rattle.std.proofs.Common.{◌≡◌, ℕ, zero, suc, ◌+◌, ◌≤◌, ◌<◌, Bool, true, false, List, [], ◌∷◌, get_or, sym, ap, subst, inl, inr, arith}
+use Rattle.std.proofs.Common.{◌≡◌, ℕ, zero, suc, ◌+◌, ◌≤◌, ◌<◌, Bool, true, false, List, [], ◌∷◌, get_or, sym, ap}
+use Rattle.std.proofs.Common.{subst, inl, inr, arith}
 use Rattle.std.proofs.lemmas.Bool.{cases_Bool, cases_lt, false_from_ne_true, both_ways}
 use Rattle.bus_line.specs.Spelling.{ones}
 use Rattle.bus_line.specs.Mark.{flag, StartsRun, IsFlag, IsAbort, IsIdle, IsMark}
@@ -35,7 +36,8 @@ last_mark-flag b (suc n) p h =
               greatest = λ q l m.
                   elim (cases_lt n q) [
                     | inl u ↦ omega arith
-                    | inr u ↦ let v : q ≡ n = omega (arith, r.greatest q l m) in absurd (mark-none b n f g (subst (IsMark b) v m))
+                    | inr u ↦ let v : q ≡ n =
+                        omega (arith, r.greatest q l m) in absurd (mark-none b n f g (subst (IsMark b) v m))
                   ];
             }
       ]
@@ -46,9 +48,13 @@ last_mark-is b zero p r = absurd (omega (arith, r.below))
 last_mark-is b (suc n) p r =
     elim (cases_lt p n) [
       | inl l ↦
-          let f : is_flag b n ≡ false = false_from_ne_true _ (λ t. absurd (omega (arith, r.greatest n l (inl (flag-true b n t))))) in
-          let g : is_abort b n ≡ false = false_from_ne_true _ (λ t. absurd (omega (arith, r.greatest n l (inr (abort-true b n t))))) in
-          rw (f, g) (last_mark-is b n p (record { flag = r.flag; below = l; greatest = λ q k m. omega (arith, r.greatest q k m) }))
+          let f : is_flag b n ≡ false =
+          false_from_ne_true _ (λ t. absurd (omega (arith, r.greatest n l (inl (flag-true b n t))))) in
+          let g : is_abort b n ≡ false =
+          false_from_ne_true _ (λ t. absurd (omega (arith, r.greatest n l (inr (abort-true b n t))))) in
+          rw (f, g)
+          (last_mark-is b n p
+          (record { flag = r.flag; below = l; greatest = λ q k m. omega (arith, r.greatest q k m) }))
       | inr l ↦
           let e : p ≡ n = omega (arith, r.below) in
           let t : is_flag b n ≡ true = flag-is b n (subst (IsFlag b) e r.flag) in

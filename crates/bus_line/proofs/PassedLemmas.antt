@@ -1,5 +1,7 @@
 -- Bits behind flags that follow a flag.
-use Rattle.std.proofs.Common.{◌≡◌, ◌≢◌, ℕ, ◌+◌, ◌-◌, ◌*◌, ◌/◌, ◌^◌, ◌≤◌, ◌<◌, Bool, List, [], ◌++◌, length, drop, Option, None, inl, inr, sym, ap, ◌∙◌, subst, arith, refl, append-nil, append_assoc, length-append}
+use Rattle.std.proofs.Common.{◌≡◌, ◌≢◌, ℕ, ◌+◌, ◌-◌, ◌*◌, ◌/◌, ◌^◌, ◌≤◌, ◌<◌, Bool, List, [], ◌++◌, length, drop}
+use Rattle.std.proofs.Common.{Option, None, inl, inr, sym, ap, ◌∙◌, subst, arith, refl, append-nil, append_assoc}
+use Rattle.std.proofs.Common.{length-append}
 use Rattle.std.specs.Option.{option_map}
 use Rattle.std.proofs.lemmas.Bool.{cases_lt}
 use Rattle.std.proofs.lemmas.Nat.{shr_below}
@@ -14,7 +16,8 @@ use Rattle.bus_line.specs.Internal.Settled.{IsWord, IsStop}
 use Rattle.bus_line.specs.Internal.Flags.{FlagsAhead, IsPast, StopsAt}
 use Rattle.bus_line.proofs.WordLemmas.{word-part}
 use Rattle.bus_line.proofs.AdvanceLemmas.{is_calm, is_last, stops-behind-all, stops-behind}
-use Rattle.bus_line.proofs.FlagRunLemmas.{flags-length, bits-behind, flags-placed, flags-due, flags-before, takes-flags, takes-behind}
+use Rattle.bus_line.proofs.FlagRunLemmas.{flags-length, bits-behind, flags-placed, flags-due, flags-before, takes-flags}
+use Rattle.bus_line.proofs.FlagRunLemmas.{takes-behind}
 
 -- the bits behind them are a number of as many bits
 pub below : (n x k : ℕ) → 8 * k ≤ n → x < 2 ^ n → x / 2 ^ (8 * k) < 2 ^ (n - 8 * k)
@@ -40,29 +43,37 @@ module _ {b : List Bool} {n x k rest left : ℕ} (past : IsPast b n x k rest lef
   size-behind : length (b ++ flags k) ≡ length b + 8 * k
   size-behind = omega (arith, length-append b (flags k), flags-length k)
 
-  pub stops-on : (t j : ℕ) → j ≡ 8 * k + t → StopsAt (b ++ flags k) (bits_of left rest) t → 1 ≤ t → TakesTo b (bits_of n x) j
+  pub stops-on : (t j : ℕ) → j ≡ 8 * k + t → StopsAt (b ++ flags k) (bits_of left rest) t → 1 ≤ t →
+      TakesTo b (bits_of n x) j
   stops-on t j e stops some =
-      let behind : drop (8 * k) (bits_of n x) ≡ bits_of left rest = bits-behind (8 * k) n x within ∙ rw (past.bits, past.count) refl in
+      let behind : drop (8 * k) (bits_of n x) ≡ bits_of left rest =
+      bits-behind (8 * k) n x within ∙ rw (past.bits, past.count) refl in
       rw e (takes-behind b (bits_of n x) k t ahead (rw behind stops) some)
 
-  pub answer-on : (longest origin l o t j : ℕ) (r : Option Report) → j ≡ 8 * k + t → l ≡ longest → o ≡ origin → r ≡ option_map (moved o) (due_at l ((b ++ flags k) ++ bits_of t rest) (length (b ++ flags k) + t - 1))
+  pub answer-on : (longest origin l o t j : ℕ) (r : Option Report) → j ≡ 8 * k + t → l ≡ longest → o ≡ origin →
+      r ≡ option_map (moved o) (due_at l ((b ++ flags k) ++ bits_of t rest) (length (b ++ flags k) + t - 1))
       → r ≡ option_map (moved origin) (due_at longest (b ++ bits_of j x) (length b + j - 1))
   answer-on longest origin l o t j r e same from is =
       let m : length (b ++ flags k) + t - 1 ≡ length b + j - 1 = omega (arith, size-behind, e) in
-      let list : (b ++ flags k) ++ bits_of t rest ≡ b ++ bits_of j x = sym (list-behind t) ∙ ap (λ (i : ℕ). b ++ bits_of i x) (sym e) in
+      let list : (b ++ flags k) ++ bits_of t rest ≡ b ++ bits_of j x =
+      sym (list-behind t) ∙ ap (λ (i : ℕ). b ++ bits_of i x) (sym e) in
       is ∙ rw (same, from, m, list) refl
 
-  pub more-on : (longest origin l o t j : ℕ) (rs : List Report) → j ≡ 8 * k + t → l ≡ longest → o ≡ origin → placed o l ((b ++ flags k) ++ bits_of t rest) ≡ placed o l (b ++ flags k) ++ rs
+  pub more-on : (longest origin l o t j : ℕ) (rs : List Report) → j ≡ 8 * k + t → l ≡ longest → o ≡ origin →
+      placed o l ((b ++ flags k) ++ bits_of t rest) ≡ placed o l (b ++ flags k) ++ rs
       → placed origin longest (b ++ bits_of j x) ≡ placed origin longest b ++ rs
   more-on longest origin l o t j rs e same from is =
       rw (e, list-behind t, ← flags-placed origin longest b k ahead.behind) (rw (same, from) at is)
 
-  pub before-on : (longest origin l o t j : ℕ) → j ≡ 8 * k + t → l ≡ longest → o ≡ origin → 1 ≤ t → placed o l ((b ++ flags k) ++ bits_of (t - 1) rest) ≡ placed o l (b ++ flags k)
+  pub before-on : (longest origin l o t j : ℕ) → j ≡ 8 * k + t → l ≡ longest → o ≡ origin → 1 ≤ t →
+      placed o l ((b ++ flags k) ++ bits_of (t - 1) rest) ≡ placed o l (b ++ flags k)
       → placed origin longest (b ++ bits_of (j - 1) x) ≡ placed origin longest b
   before-on longest origin l o t j e same from some is =
-      more-on longest origin l o (t - 1) (j - 1) [] (omega (arith, e, some)) same from (is ∙ sym (append-nil (placed o l (b ++ flags k)))) ∙ append-nil (placed origin longest b)
+      more-on longest origin l o (t - 1) (j - 1) [] (omega (arith, e, some)) same from
+      (is ∙ sym (append-nil (placed o l (b ++ flags k)))) ∙ append-nil (placed origin longest b)
 
-  pub after-on : {C : Type 0} (folded : C → List ℕ → Type 0) (cost t j : ℕ) (d : LineState C) → j ≡ 8 * k + t → After folded cost d ((b ++ flags k) ++ bits_of t rest) → After folded cost d (b ++ bits_of j x)
+  pub after-on : {C : Type 0} (folded : C → List ℕ → Type 0) (cost t j : ℕ) (d : LineState C) → j ≡ 8 * k + t →
+      After folded cost d ((b ++ flags k) ++ bits_of t rest) → After folded cost d (b ++ bits_of j x)
   after-on folded cost t j d e h = rw (e, list-behind t) h
 
   -- ---- where the flags are all
@@ -74,7 +85,8 @@ module _ {b : List Bool} {n x k rest left : ℕ} (past : IsPast b n x k rest lef
     pub stops-all : TakesTo b (bits_of n x) n
     stops-all = subst (TakesTo b (bits_of n x)) all (takes-flags b (bits_of n x) k ahead (all ∙ sym (length-bits n x)))
 
-    pub answer-all : (longest origin : ℕ) → None ≡ option_map (moved origin) (due_at longest (b ++ bits_of n x) (length b + n - 1))
+    pub answer-all : (longest origin : ℕ) →
+        None ≡ option_map (moved origin) (due_at longest (b ++ bits_of n x) (length b + n - 1))
     answer-all longest origin =
         let l : 0 < k = omega (arith, all, some) in
         rw (are-flags, ← all, flags-due longest b k l (ahead.behind l)) refl
@@ -86,9 +98,11 @@ module _ {b : List Bool} {n x k rest left : ℕ} (past : IsPast b n x k rest lef
     pub before-all : (longest origin : ℕ) → placed origin longest (b ++ bits_of (n - 1) x) ≡ placed origin longest b
     before-all longest origin =
         let l : 0 < k = omega (arith, all, some) in
-        rw (← bits-front (n - 1) n x (omega arith), are-flags, ← all) (flags-before origin longest b k l (ahead.behind l))
+        rw (← bits-front (n - 1) n x (omega arith), are-flags, ← all)
+        (flags-before origin longest b k l (ahead.behind l))
 
-    pub after-all : {C : Type 0} (folded : C → List ℕ → Type 0) (cost : ℕ) (e : LineState C) → After folded cost e (b ++ flags k) → After folded cost e (b ++ bits_of n x)
+    pub after-all : {C : Type 0} (folded : C → List ℕ → Type 0) (cost : ℕ) (e : LineState C) →
+        After folded cost e (b ++ flags k) → After folded cost e (b ++ bits_of n x)
     after-all folded cost e h = rw are-flags h
 
   -- ---- how many would be taken
@@ -99,16 +113,22 @@ module _ {b : List Bool} {n x k rest left : ℕ} (past : IsPast b n x k rest lef
       word-part w (8 * k) b (bits_of n x) h
       ∙ rw (← size-behind, e, list-behind left) refl
 
-  pub would-all : (w m : ℕ) → IsWord w b (bits_of n x) → m ≡ left → ((i : ℕ) → i < m → IsStop (w / 2 ^ (8 * k)) i → ⊥) → TakesTo b (bits_of n x) n
+  pub would-all : (w m : ℕ) → IsWord w b (bits_of n x) → m ≡ left → ((i : ℕ) → i < m → IsStop (w / 2 ^ (8 * k)) i → ⊥) →
+      TakesTo b (bits_of n x) n
   would-all w m word e calm = elim (cases_lt 0 left) [
-    | inl u ↦ stops-on left n (omega (arith, within, past.count)) (stops-behind-all (w / 2 ^ (8 * k)) left rest (b ++ flags k) (is_calm (w / 2 ^ (8 * k)) left m rest (b ++ flags k) (word-behind w word) e calm)) u
+    | inl u ↦ stops-on left n (omega (arith, within, past.count))
+        (stops-behind-all (w / 2 ^ (8 * k)) left rest (b ++ flags k)
+        (is_calm (w / 2 ^ (8 * k)) left m rest (b ++ flags k) (word-behind w word) e calm)) u
     | inr u ↦
         let s : 8 * k ≡ n = omega (arith, within, past.count, u) in
         subst (TakesTo b (bits_of n x)) s (takes-flags b (bits_of n x) k ahead (s ∙ sym (length-bits n x)))
   ]
 
-  pub would-stop : (w m : ℕ) → IsWord w b (bits_of n x) → m ≤ left → m ≢ left → ((i : ℕ) → i < m → IsStop (w / 2 ^ (8 * k)) i → ⊥) → (m < left → IsStop (w / 2 ^ (8 * k)) m)
+  pub would-stop : (w m : ℕ) → IsWord w b (bits_of n x) → m ≤ left → m ≢ left →
+      ((i : ℕ) → i < m → IsStop (w / 2 ^ (8 * k)) i → ⊥) → (m < left → IsStop (w / 2 ^ (8 * k)) m)
       → TakesTo b (bits_of n x) (8 * k + m + 1)
   would-stop w m word l e calm stop =
       let last = is_last (w / 2 ^ (8 * k)) left m rest (b ++ flags k) (word-behind w word) l e calm in
-      stops-on (m + 1) (8 * k + m + 1) (omega arith) (stops-behind (w / 2 ^ (8 * k)) left m rest (b ++ flags k) last (stop (omega (arith, last.within, length-bits left rest)))) (omega arith)
+      stops-on (m + 1) (8 * k + m + 1) (omega arith)
+      (stops-behind (w / 2 ^ (8 * k)) left m rest (b ++ flags k) last
+      (stop (omega (arith, last.within, length-bits left rest)))) (omega arith)

@@ -1,5 +1,7 @@
 -- Bits that decide nothing, 56 at a time.
-use Rattle.std.proofs.Common.{◌≡◌, ◌≢◌, ℕ, zero, suc, ◌+◌, ◌-◌, ◌*◌, ◌/◌, ◌%◌, ◌^◌, ◌≤◌, ◌<◌, ◌==◌, Bool, true, List, [], ◌∷◌, ◌++◌, length, drop, replicate, None, refl, sym, ap, ◌∙◌, subst, arith, inl, inr, if◌then◌else◌}
+use Rattle.std.proofs.Common.{◌≡◌, ◌≢◌, ℕ, zero, suc, ◌+◌, ◌-◌, ◌*◌, ◌/◌, ◌%◌, ◌^◌, ◌≤◌, ◌<◌, ◌==◌, Bool, true, List}
+use Rattle.std.proofs.Common.{[], ◌∷◌, ◌++◌, length, drop, replicate, None, refl, sym, ap, ◌∙◌, subst, arith, inl, inr}
+use Rattle.std.proofs.Common.{if◌then◌else◌}
 use Rattle.std.specs.Prelude.{bit_and, bit_or}
 use Rattle.std.specs.Int.{bit_at}
 use Rattle.std.specs.Int.Bits.{or_shifted_r}
@@ -34,23 +36,29 @@ use Rattle.bus_line.proofs.TellLemmas.{tells-none, tells-more}
 -- the machine's test finds none
 pub no-six : (w : ℕ) → bit_and (six w) 288230376151711740 ≡ 0 → (i : ℕ) → i < 56 → w / 2 ^ (2 + i) % 64 ≢ 63
 no-six w e i l m =
-    let mask : bit_at 288230376151711740 (2 + i) ≡ 1 = bit_at_mask_inside 2 58 (2 + i) (omega arith) (omega (arith, l)) in
-    let none : bit_at (bit_and (six w) 288230376151711740) (2 + i) ≡ 0 = ap (λ (x : ℕ). bit_at x (2 + i)) e ∙ bit_at-zero (2 + i) in
+    let mask : bit_at 288230376151711740 (2 + i) ≡ 1 =
+    bit_at_mask_inside 2 58 (2 + i) (omega arith) (omega (arith, l)) in
+    let none : bit_at (bit_and (six w) 288230376151711740) (2 + i) ≡ 0 =
+    ap (λ (x : ℕ). bit_at x (2 + i)) e ∙ bit_at-zero (2 + i) in
     let both = bit_at_and (six w) 288230376151711740 (2 + i) in
     let low : bit_at (six w) (2 + i) ≡ six (w / 2 ^ (2 + i)) % 2 = ap (λ (x : ℕ). x % 2) (six-shr w (2 + i)) in
     let one = (six-ones (w / 2 ^ (2 + i))).1 m in
     omega (arith, mask, none, both, low, one)
 
 -- so no bit is behind just six ones or just fourteen
-pub no-stop : (w behind : ℕ) → behind ≡ w / 256 → ((i : ℕ) → i < 56 → behind / 2 ^ (2 + i) % 64 ≢ 63) → (i : ℕ) → i < 56 → IsStop w i → ⊥
+pub no-stop : (w behind : ℕ) → behind ≡ w / 256 → ((i : ℕ) → i < 56 → behind / 2 ^ (2 + i) % 64 ≢ 63) → (i : ℕ) →
+    i < 56 → IsStop w i → ⊥
 no-stop w behind e none i l s =
-    let at : behind / 2 ^ (2 + i) ≡ w / 2 ^ (10 + i) = ap (λ (x : ℕ). x / 2 ^ (2 + i)) e ∙ (shr-shr w 8 (2 + i) ∙ ap (λ (j : ℕ). w / 2 ^ j) (omega arith)) in
+    let at : behind / 2 ^ (2 + i) ≡ w / 2 ^ (10 + i) =
+    ap (λ (x : ℕ). x / 2 ^ (2 + i)) e ∙ (shr-shr w 8 (2 + i) ∙ ap (λ (j : ℕ). w / 2 ^ j) (omega arith)) in
     elim s [
       | inl six ↦
-          let far : w / 2 ^ (10 + i) ≡ w / 2 ^ (9 + i) / 2 = ap (λ (j : ℕ). w / 2 ^ j) (omega arith) ∙ sym (shr-shr w (9 + i) 1) in
+          let far : w / 2 ^ (10 + i) ≡ w / 2 ^ (9 + i) / 2 =
+          ap (λ (j : ℕ). w / 2 ^ j) (omega arith) ∙ sym (shr-shr w (9 + i) 1) in
           none i l (omega (arith, at, far, six))
       | inr more ↦
-          let far : w / 2 ^ (10 + i) ≡ w / 2 ^ (1 + i) / 512 = ap (λ (j : ℕ). w / 2 ^ j) (omega arith) ∙ sym (shr-shr w (1 + i) 9) in
+          let far : w / 2 ^ (10 + i) ≡ w / 2 ^ (1 + i) / 512 =
+          ap (λ (j : ℕ). w / 2 ^ j) (omega arith) ∙ sym (shr-shr w (1 + i) 9) in
           none i l (omega (arith, at, far, more))
     ]
 
@@ -61,14 +69,16 @@ abbrev pub word_of : ℕ → ℕ → ℕ
 word_of history bits = history + bits % 2 ^ 56 * 65536
 
 -- the machine's, but for the eight lowest bits
-pub word-behind : (history bits : ℕ) → history < 65536 → bit_or (history / 256) (bits * 256 % 18446744073709551616) ≡ word_of history bits / 256
+pub word-behind : (history bits : ℕ) → history < 65536 → bit_or (history / 256) (bits * 256 % 18446744073709551616)
+    ≡ word_of history bits / 256
 word-behind history bits l =
     let y : ℕ = bits % 2 ^ 56 in
     let s : bits * 256 % 18446744073709551616 ≡ y * 2 ^ 8 = omega arith in
     ap (bit_or (history / 256)) s ∙ (or_shifted_r y 8 (history / 256) (omega (arith, l)) ∙ omega (arith, l))
 
 -- and but for the eight highest
-pub word-front : (history bits : ℕ) → history < 65536 → bit_or history (bits * 65536 % 18446744073709551616) ≡ word_of history bits % 2 ^ 64
+pub word-front : (history bits : ℕ) → history < 65536 → bit_or history (bits * 65536 % 18446744073709551616)
+    ≡ word_of history bits % 2 ^ 64
 word-front history bits l =
     let y : ℕ = bits % 2 ^ 48 in
     let s : bits * 65536 % 18446744073709551616 ≡ y * 2 ^ 16 = omega arith in
@@ -80,21 +90,27 @@ settled-front w zero l = refl
 settled-front w (suc k) l =
     let five : w % 2 ^ 64 / 2 ^ (3 + k) % 64 ≡ w / 2 ^ (3 + k) % 64 = field (3 + k) 6 (omega (arith, l)) in
     let bit : w % 2 ^ 64 / 2 ^ (8 + k) % 2 ≡ w / 2 ^ (8 + k) % 2 = field (8 + k) 1 (omega (arith, l)) in
-    ap (λ (z : List Bool). z ++ (if w % 2 ^ 64 / 2 ^ (3 + k) % 64 == 31 then [] else (w % 2 ^ 64 / 2 ^ (8 + k) % 2 == 1) ∷ [])) (settled-front w k (omega (arith, l))) ∙ rw (five, bit) refl
+    ap (λ (z : List Bool).
+    z ++ (if w % 2 ^ 64 / 2 ^ (3 + k) % 64 == 31 then [] else (w % 2 ^ 64 / 2 ^ (8 + k) % 2 == 1) ∷ []))
+    (settled-front w k (omega (arith, l))) ∙ rw (five, bit) refl
   where
     field : (j n : ℕ) → j + n ≤ 64 → w % 2 ^ 64 / 2 ^ j % 2 ^ n ≡ w / 2 ^ j % 2 ^ n
     field j n m =
         let e : 64 ≡ (64 - j) + j = omega (arith, m) in
         let f : 64 - j ≡ (64 - j - n) + n = omega (arith, m) in
-        ap (λ (x : ℕ). w % 2 ^ x / 2 ^ j % 2 ^ n) e ∙ (ap (λ (x : ℕ). x % 2 ^ n) (field_of w (64 - j) j) ∙ (ap (λ (x : ℕ). w / 2 ^ j % 2 ^ x % 2 ^ n) f ∙ mod-mod-pow (w / 2 ^ j) (64 - j - n) n))
+        ap (λ (x : ℕ). w % 2 ^ x / 2 ^ j % 2 ^ n) e
+        ∙ (ap (λ (x : ℕ). x % 2 ^ n) (field_of w (64 - j) j)
+        ∙ (ap (λ (x : ℕ). w / 2 ^ j % 2 ^ x % 2 ^ n) f ∙ mod-mod-pow (w / 2 ^ j) (64 - j - n) n))
 
 -- ---- 56 bits more of these octets
 
-from-more : (os : List ℕ) (from at : ℕ) → from ≤ at → bits_from os from (at + 56 - from) ≡ bits_from os from (at - from) ++ bits_from os at 56
+from-more : (os : List ℕ) (from at : ℕ) → from ≤ at → bits_from os from (at + 56 - from)
+    ≡ bits_from os from (at - from) ++ bits_from os at 56
 from-more os from at l =
     let n : at + 56 - from ≡ (at - from) + 56 = omega (arith, l) in
     let i : from + (at - from) ≡ at = omega (arith, l) in
-    ap (bits_from os from) n ∙ (bits-more os from (at - from) 56 ∙ ap (λ (j : ℕ). bits_from os from (at - from) ++ bits_from os j 56) i)
+    ap (bits_from os from) n
+    ∙ (bits-more os from (at - from) 56 ∙ ap (λ (j : ℕ). bits_from os from (at - from) ++ bits_from os j 56) i)
 
 no-bits-from : (os : List ℕ) (at : ℕ) → bits_from os at (at - at) ≡ []
 unfolding bits_from
@@ -106,19 +122,24 @@ ones-none os at = let z : 0 ≡ at - at = omega arith in no-bits-from os at ∙ 
 
 ones-shown : (x : ℕ) → x * 256 % 18446744073709551616 ≡ 18446744073709551360 → bits_of 56 x ≡ replicate 56 true
 unfolding bits_of
-ones-shown x e = let low : x % 2 ^ 56 ≡ 72057594037927935 = omega (arith, e) in sym (bits-low 56 x) ∙ ap (bits_of 56) low
+ones-shown x e = let low : x % 2 ^ 56 ≡ 72057594037927935 =
+    omega (arith, e) in sym (bits-low 56 x) ∙ ap (bits_of 56) low
 
-pub ones-more : (os : List ℕ) (from at x : ℕ) → from ≤ at → bits_from os from (at - from) ≡ replicate (at - from) true → bits_of 56 x ≡ bits_from os at 56 → x * 256 % 18446744073709551616 ≡ 18446744073709551360
+pub ones-more : (os : List ℕ) (from at x : ℕ) → from ≤ at → bits_from os from (at - from) ≡ replicate (at - from) true →
+    bits_of 56 x ≡ bits_from os at 56 → x * 256 % 18446744073709551616 ≡ 18446744073709551360
     → bits_from os from (at + 56 - from) ≡ replicate (at + 56 - from) true
 ones-more os from at x l before next e =
     let n : (at - from) + 56 ≡ at + 56 - from = omega (arith, l) in
     from-more os from at l
-    ∙ (ap (λ (z : List Bool). z ++ bits_from os at 56) before ∙ (ap (λ (z : List Bool). replicate (at - from) true ++ z) (sym next ∙ ones-shown x e) ∙ (replicate-append-replicate (at - from) 56 true ∙ ap (λ (j : ℕ). replicate j true) n)))
+    ∙ (ap (λ (z : List Bool). z ++ bits_from os at 56) before
+    ∙ (ap (λ (z : List Bool). replicate (at - from) true ++ z) (sym next ∙ ones-shown x e)
+    ∙ (replicate-append-replicate (at - from) 56 true ∙ ap (λ (j : ℕ). replicate j true) n)))
 
 -- flags
 flags-shown : (x : ℕ) → x * 256 % 18446744073709551616 ≡ 9114861777597660672 → bits_of 56 x ≡ flags 7
 unfolding bits_of
-flags-shown x e = let low : x % 2 ^ 56 ≡ 35604928818740862 = omega (arith, e) in sym (bits-low 56 x) ∙ ap (bits_of 56) low
+flags-shown x e = let low : x % 2 ^ 56 ≡ 35604928818740862 =
+    omega (arith, e) in sym (bits-low 56 x) ∙ ap (bits_of 56) low
 
 flags-append : (k j : ℕ) → flags k ++ flags j ≡ flags (k + j)
 flags-append k zero = let e : k ≡ k + 0 = omega arith in append-nil (flags k) ∙ ap flags e
@@ -127,65 +148,86 @@ flags-append k (suc j) =
     sym (append_assoc (flags k) (flags j) flag) ∙ (ap (λ (z : List Bool). z ++ flag) (flags-append k j) ∙ ap flags e)
 
 pub flags-none : (os : List ℕ) (at : ℕ) → AreFlags os at at
-flags-none os at = let z : 0 ≡ (at - at) / 8 = omega arith in record { whole = omega arith; are = no-bits-from os at ∙ ap flags z }
+flags-none os at = let z : 0 ≡ (at - at) / 8 =
+    omega arith in record { whole = omega arith; are = no-bits-from os at ∙ ap flags z }
 
-pub flags-more : (os : List ℕ) (from at x : ℕ) → from ≤ at → AreFlags os from at → bits_of 56 x ≡ bits_from os at 56 → x * 256 % 18446744073709551616 ≡ 9114861777597660672 → AreFlags os from (at + 56)
+pub flags-more : (os : List ℕ) (from at x : ℕ) → from ≤ at → AreFlags os from at → bits_of 56 x ≡ bits_from os at 56 →
+    x * 256 % 18446744073709551616 ≡ 9114861777597660672 → AreFlags os from (at + 56)
 flags-more os from at x l before next e =
     let k : ℕ = (at - from) / 8 in
     let n : k + 7 ≡ (at + 56 - from) / 8 = omega (arith, before.whole, l) in
     record {
       whole = omega (arith, before.whole, l);
       are = from-more os from at l
-          ∙ (ap (λ (z : List Bool). z ++ bits_from os at 56) before.are ∙ (ap (λ (z : List Bool). flags k ++ z) (sym next ∙ flags-shown x e) ∙ (flags-append k 7 ∙ ap flags n)));
+          ∙ (ap (λ (z : List Bool). z ++ bits_from os at 56) before.are
+          ∙ (ap (λ (z : List Bool). flags k ++ z) (sym next ∙ flags-shown x e) ∙ (flags-append k 7 ∙ ap flags n)));
     }
 
 -- ---- time fill
 
 -- where no piece is open, one behind sixteen of them decides nothing
 module _ {C : Type 0} (folded : C → List ℕ → Type 0) (cost : ℕ) (check : C) (cells : List ℕ) where
-  one-more : (w : LineWords) → w.history ≡ 65535 → w.settles_at ≡ 2 ^ 62 → w.place + 1 ≤ 2 ^ 60 → Tells folded cost (state w check cells) (true ∷ []) None (state (record w { place = w.place + 1 }) check cells)
+  one-more : (w : LineWords) → w.history ≡ 65535 → w.settles_at ≡ 2 ^ 62 → w.place + 1 ≤ 2 ^ 60 →
+      Tells folded cost (state w check cells) (true ∷ []) None (state (record w { place = w.place + 1 }) check cells)
   unfolding number
   one-more w ones idle room =
       let d = state w check cells in
       let next : LineWords = record w { place = w.place + 1 } in
       let e = state next check cells in
-      let word : (b : List Bool) → After folded cost d b → IsWord 131071 b (true ∷ []) = λ b h. word-made 65535 1 b (true ∷ []) (sym ones ∙ h.has_taken.history) refl in
-      let none : (i : ℕ) → i < 1 → IsStop 131071 i → ⊥ = λ i l s. let z : i ≡ 0 = omega (arith, l) in elim (subst (IsStop 131071) z s) [ inl x ↦ omega (arith, x) | inr x ↦ omega (arith, x) ] in
-      let calm : (b : List Bool) → After folded cost d b → IsCalm b (true ∷ []) 1 = λ b h. calm-before 131071 1 b (true ∷ []) (word b h) (omega arith) none in
-      let same : next ≡ record w { place = w.place + 1; history = 131071 / 2 ^ 1 % 65536 } = ap (λ (x : ℕ). record w { place = w.place + 1; history = x }) (ones ∙ omega arith) in
+      let word : (b : List Bool) → After folded cost d b → IsWord 131071 b (true ∷ []) =
+      λ b h. word-made 65535 1 b (true ∷ []) (sym ones ∙ h.has_taken.history) refl in
+      let none : (i : ℕ) → i < 1 → IsStop 131071 i → ⊥ = λ i l s. let z : i ≡ 0 =
+      omega (arith, l) in elim (subst (IsStop 131071) z s) [ inl x ↦ omega (arith, x) | inr x ↦ omega (arith, x) ] in
+      let calm : (b : List Bool) → After folded cost d b → IsCalm b (true ∷ []) 1 =
+      λ b h. calm-before 131071 1 b (true ∷ []) (word b h) (omega arith) none in
+      let same : next ≡ record w { place = w.place + 1; history = 131071 / 2 ^ 1 % 65536 } =
+      ap (λ (x : ℕ). record w { place = w.place + 1; history = x }) (ones ∙ omega arith) in
       let closed : first_in w.settles_at ≡ None = ap first_in idle in
       record {
         leads = record {
           after = λ b h.
-              let lags = shift-lags folded cost w next check cells b (true ∷ []) 131071 1 same h (word b h) (omega arith) in
+              let lags = shift-lags folded cost w next check cells b (true ∷ []) 131071 1 same h (word b h)
+              (omega arith) in
               let few : IsCalm b (true ∷ []) 0 = λ i l. absurd (omega (arith, l)) in
-              let tracks = word-unsettled folded cost (2 ^ 62) 131071 1 None e b (true ∷ []) (word b h) (omega arith) few lags closed refl (omega (arith, room)) in
+              let tracks = word-unsettled folded cost (2 ^ 62) 131071 1 None e b (true ∷ []) (word b h) (omega arith)
+              few lags closed refl (omega (arith, room)) in
               calm-after folded cost 1 e b (true ∷ []) (calm b h) (omega arith) tracks;
           longest = refl;
           origin = refl;
           place = refl;
         };
-        says = λ b h. calm-placed w.origin w.longest 1 b (true ∷ []) (calm b h) 1 (omega arith) (omega arith) ∙ sym (append-nil (placed w.origin w.longest b));
+        says = λ b h. calm-placed w.origin w.longest 1 b (true ∷ []) (calm b h) 1 (omega arith) (omega arith)
+            ∙ sym (append-nil (placed w.origin w.longest b));
       }
 
-  pub ones-tell : (n : ℕ) (w : LineWords) → (0 < n → w.history ≡ 65535) → w.settles_at ≡ 2 ^ 62 → w.place + n ≤ 2 ^ 60 → Tells folded cost (state w check cells) (replicate n true) None (state (record w { place = w.place + n }) check cells)
+  pub ones-tell : (n : ℕ) (w : LineWords) → (0 < n → w.history ≡ 65535) → w.settles_at ≡ 2 ^ 62 → w.place + n ≤ 2 ^ 60 →
+      Tells folded cost (state w check cells) (replicate n true) None
+      (state (record w { place = w.place + n }) check cells)
   ones-tell zero w ones idle room =
       let e : w.place ≡ w.place + 0 = omega arith in
-      subst (λ (p : ℕ). Tells folded cost (state w check cells) [] None (state (record w { place = p }) check cells)) e (tells-none folded cost (state w check cells))
+      subst (λ (p : ℕ). Tells folded cost (state w check cells) [] None (state (record w { place = p }) check cells)) e
+      (tells-none folded cost (state w check cells))
   ones-tell (suc n) w ones idle room =
       let next : LineWords = record w { place = w.place + 1 } in
       let e : w.place + 1 + n ≡ w.place + suc n = omega arith in
       let rest = ones-tell n next (λ _. ones (omega arith)) idle (omega (arith, room)) in
-      subst (λ (p : ℕ). Tells folded cost (state w check cells) (replicate (suc n) true) None (state (record w { place = p }) check cells)) e
+      subst (λ (p : ℕ). Tells folded cost (state w check cells) (replicate (suc n) true) None
+      (state (record w { place = p }) check cells)) e
       (tells-more folded cost (one-more w (ones (omega arith)) idle (omega (arith, room))) rest)
 
-  pub passed-ones : (old new : LineWords) (n : ℕ) → PassesOnes old n new → old.settles_at ≡ 2 ^ 62 → old.place + n ≤ 2 ^ 60 → Tells folded cost (state old check cells) (replicate n true) None (state new check cells)
-  passed-ones old new n p idle room = subst (λ (w : LineWords). Tells folded cost (state old check cells) (replicate n true) None (state w check cells)) (sym p.new_is) (ones-tell n old p.behind idle room)
+  pub passed-ones : (old new : LineWords) (n : ℕ) → PassesOnes old n new → old.settles_at ≡ 2 ^ 62 →
+      old.place + n ≤ 2 ^ 60 → Tells folded cost (state old check cells) (replicate n true) None (state new check cells)
+  passed-ones old new n p idle room =
+      subst (λ (w : LineWords). Tells folded cost (state old check cells) (replicate n true) None (state w check cells))
+      (sym p.new_is) (ones-tell n old p.behind idle room)
 
   -- flags behind a flag
-  pub passed-flags : (old new : LineWords) (k : ℕ) → PassesFlags old k new → IsWithin old → old.settles_at ≡ old.place + 8 → new.place ≤ 2 ^ 60 → Tells folded cost (state old check cells) (flags k) None (state new check cells)
+  pub passed-flags : (old new : LineWords) (k : ℕ) → PassesFlags old k new → IsWithin old →
+      old.settles_at ≡ old.place + 8 → new.place ≤ 2 ^ 60 →
+      Tells folded cost (state old check cells) (flags k) None (state new check cells)
   passed-flags old new k p within flag fits =
-      let ends : (b : List Bool) → After folded cost (state old check cells) b → EndsInFlag b = λ b h. (shows-flag folded cost old check cells b within h).ends flag in
+      let ends : (b : List Bool) → After folded cost (state old check cells) b → EndsInFlag b =
+      λ b h. (shows-flag folded cost old check cells b within h).ends flag in
       record {
         leads = record {
           after = λ b h. flags-passed folded cost old new check cells b k p (λ _. ends b h) fits h;
@@ -193,7 +235,8 @@ module _ {C : Type 0} (folded : C → List ℕ → Type 0) (cost : ℕ) (check :
           origin = kept-origin k p;
           place = moved-place k p ∙ ap (λ (n : ℕ). old.place + n) (sym (flags-length k));
         };
-        says = λ b h. flags-placed old.origin old.longest b k (λ _. ends b h) ∙ sym (append-nil (placed old.origin old.longest b));
+        says = λ b h. flags-placed old.origin old.longest b k (λ _. ends b h)
+            ∙ sym (append-nil (placed old.origin old.longest b));
       }
     where
       kept-longest : (k : ℕ) → PassesFlags old k new → new.longest ≡ old.longest
@@ -211,17 +254,21 @@ module _ {C : Type 0} (folded : C → List ℕ → Type 0) (cost : ℕ) (check :
 -- ---- data
 
 -- the word of the new bits
-pub word-is : (h x : ℕ) (b : List Bool) → h ≡ number (drop (length b) (padded b)) → IsWord (word_of h x) b (bits_of 56 x)
+pub word-is : (h x : ℕ) (b : List Bool) → h ≡ number (drop (length b) (padded b)) →
+    IsWord (word_of h x) b (bits_of 56 x)
 word-is h x b e =
-    let n : x % 2 ^ 56 ≡ number (bits_of 56 x) = sym (number-bits 56 (x % 2 ^ 56) (omega arith)) ∙ ap number (bits-low 56 x) in
+    let n : x % 2 ^ 56 ≡ number (bits_of 56 x) = sym (number-bits 56 (x % 2 ^ 56) (omega arith))
+    ∙ ap number (bits-low 56 x) in
     word-made h (x % 2 ^ 56) b (bits_of 56 x) e n
 
 pub history-small : {C : Type 0} (d : LineState C) (b : List Bool) → HasTaken d b → d.history < 65536
 history-small d b h =
-    let k : length (drop (length b) (padded b)) ≡ 16 = length-drop (length b) (padded b) ∙ omega (arith, padded-length b) in
+    let k : length (drop (length b) (padded b)) ≡ 16 =
+    length-drop (length b) (padded b) ∙ omega (arith, padded-length b) in
     let o : number (drop (length b) (padded b)) < 65536 = rw k at (number-lt (drop (length b) (padded b))) in
     omega (arith, h.history, o)
 
 -- the sixteen newest
-pub history-next : (h x : ℕ) → h < 65536 → bit_or (h / 256) (x * 256 % 18446744073709551616) / 2 ^ 48 ≡ word_of h x / 2 ^ 56 % 65536
+pub history-next : (h x : ℕ) → h < 65536 → bit_or (h / 256) (x * 256 % 18446744073709551616) / 2 ^ 48
+    ≡ word_of h x / 2 ^ 56 % 65536
 history-next h x l = ap (λ (y : ℕ). y / 2 ^ 48) (word-behind h x l) ∙ omega (arith, l)

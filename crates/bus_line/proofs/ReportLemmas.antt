@@ -1,8 +1,10 @@
 -- The reports of a list: all, no others, in order, and no other list is.
-use Rattle.std.proofs.Common.{◌≡◌, ℕ, zero, suc, ◌+◌, ◌<◌, ◌↔◌, Bool, List, [], ◌∷◌, ◌++◌, length, get_or, Option, Some, None, refl, sym, ap, ◌∙◌, subst, ◌⊎◌, inl, inr, arith}
+use Rattle.std.proofs.Common.{◌≡◌, ℕ, zero, suc, ◌+◌, ◌<◌, ◌↔◌, Bool, List, [], ◌∷◌, ◌++◌, length, get_or, Option, Some}
+use Rattle.std.proofs.Common.{None, refl, sym, ap, ◌∙◌, subst, ◌⊎◌, inl, inr, arith}
 use Rattle.std.specs.List.{filter_map, cons_option, Contains, AllPairs, All}
 use Rattle.std.proofs.lemmas.List.{append-nil}
-use Rattle.std.proofs.lemmas.List.Elements.{filter_map-append, Contains-append_left, Contains-append_right, Contains-append_cases, Contains-get_or, All-contains}
+use Rattle.std.proofs.lemmas.List.Elements.{filter_map-append, Contains-append_left, Contains-append_right}
+use Rattle.std.proofs.lemmas.List.Elements.{Contains-append_cases, Contains-get_or, All-contains}
 use Rattle.std.proofs.lemmas.List.Quantifiers.{all_pairs_push}
 use Rattle.std.proofs.lemmas.Bool.{cases_lt}
 use Rattle.bus_line.specs.Report.{Report, due, IsReport, closed, aborted, idle, AreReports}
@@ -25,33 +27,41 @@ option-is (Some x) y h = ap Some (one-is x y h)
 option-has : {Y : Type 0} (o : Option Y) (y : Y) → o ≡ Some y → Contains (cons_option o []) y
 option-has o y h = rw h (0, omega arith, refl)
 
-places-more : {Y : Type 0} (f : ℕ → Option Y) (n : ℕ) → filter_map f (places (suc n)) ≡ filter_map f (places n) ++ cons_option (f n) []
+places-more : {Y : Type 0} (f : ℕ → Option Y) (n : ℕ) →
+    filter_map f (places (suc n)) ≡ filter_map f (places n) ++ cons_option (f n) []
 places-more f n = filter_map-append f (places n) (n ∷ [])
 
-pub places-has : {Y : Type 0} (f : ℕ → Option Y) (n i : ℕ) (y : Y) → i < n → f i ≡ Some y → Contains (filter_map f (places n)) y
+pub places-has : {Y : Type 0} (f : ℕ → Option Y) (n i : ℕ) (y : Y) → i < n → f i ≡ Some y →
+    Contains (filter_map f (places n)) y
 places-has f zero i y l h = absurd (omega arith)
 places-has f (suc n) i y l h =
     rw (places-more f n) (elim (cases_lt i n) [
       | inl u ↦ Contains-append_left (filter_map f (places n)) _ y (places-has f n i y u h)
-      | inr u ↦ let e : i ≡ n = omega arith in Contains-append_right (filter_map f (places n)) _ y (option-has (f n) y (ap f (sym e) ∙ h))
+      | inr u ↦ let e : i ≡ n = omega arith in Contains-append_right (filter_map f (places n)) _ y
+          (option-has (f n) y (ap f (sym e) ∙ h))
     ])
 
-pub places-from : {Y : Type 0} (f : ℕ → Option Y) (n : ℕ) (y : Y) → Contains (filter_map f (places n)) y → (i : ℕ) × (i < n) × (f i ≡ Some y)
+pub places-from : {Y : Type 0} (f : ℕ → Option Y) (n : ℕ) (y : Y) → Contains (filter_map f (places n)) y →
+    (i : ℕ) × (i < n) × (f i ≡ Some y)
 places-from f zero y h = absurd (omega (arith, h.1))
 places-from f (suc n) y h =
-    elim (Contains-append_cases (filter_map f (places n)) (cons_option (f n) []) y (subst (λ xs. Contains xs y) (places-more f n) h)) [
+    elim (Contains-append_cases (filter_map f (places n)) (cons_option (f n) []) y
+    (subst (λ xs. Contains xs y) (places-more f n) h)) [
       | inl u ↦ let s = places-from f n y u in (s.0, omega (arith, s.1), s.2)
       | inr u ↦ (n, omega arith, option-is (f n) y u)
     ]
 
-rising-option : (f : ℕ → Option Report) (n : ℕ) → ((i : ℕ) (r : Report) → f i ≡ Some r → due r ≡ i) → AllPairs (λ r s. due r < due s) (filter_map f (places n)) → (o : Option Report) → f n ≡ o → AllPairs (λ r s. due r < due s) (filter_map f (places n) ++ cons_option o [])
+rising-option : (f : ℕ → Option Report) (n : ℕ) → ((i : ℕ) (r : Report) → f i ≡ Some r → due r ≡ i) →
+    AllPairs (λ r s. due r < due s) (filter_map f (places n)) → (o : Option Report) → f n ≡ o →
+    AllPairs (λ r s. due r < due s) (filter_map f (places n) ++ cons_option o [])
 rising-option f n h up None e = rw (append-nil (filter_map f (places n))) up
 rising-option f n h up (Some s) e =
     all_pairs_push (λ r s. due r < due s) (filter_map f (places n)) s up (λ k d l.
     let w = places-from f n _ (Contains-get_or (filter_map f (places n)) k d l) in
     omega (arith, w.1, h w.0 _ w.2, h n s e))
 
-pub places-rising : (f : ℕ → Option Report) (n : ℕ) → ((i : ℕ) (r : Report) → f i ≡ Some r → due r ≡ i) → AllPairs (λ r s. due r < due s) (filter_map f (places n))
+pub places-rising : (f : ℕ → Option Report) (n : ℕ) → ((i : ℕ) (r : Report) → f i ≡ Some r → due r ≡ i) →
+    AllPairs (λ r s. due r < due s) (filter_map f (places n))
 places-rising f zero h = λ i j d l m. absurd (omega arith)
 places-rising f (suc n) h = rw (places-more f n) (rising-option f n h (places-rising f n h) (f n) refl)
 
@@ -68,14 +78,16 @@ cons-cases x xs y h = elim (Contains-append_cases (x ∷ []) xs y h) [ inl u ↦
 abbrev Before : Report → Report → Type 0
 Before r s = due r < due s
 
-tail-within : (x y : Report) (xs ys : List Report) → x ≡ y → All (Before x) xs → ((r : Report) → Contains (x ∷ xs) r → Contains (y ∷ ys) r) → (r : Report) → Contains xs r → Contains ys r
+tail-within : (x y : Report) (xs ys : List Report) → x ≡ y → All (Before x) xs →
+    ((r : Report) → Contains (x ∷ xs) r → Contains (y ∷ ys) r) → (r : Report) → Contains xs r → Contains ys r
 tail-within x y xs ys e up h r c =
     elim (cons-cases y ys r (h r (Contains-append_right (x ∷ []) xs r c))) [
       | inl u ↦ absurd (let k : x ≡ r = e ∙ u in omega (arith, All-contains (Before x) xs r up c, ap due k))
       | inr u ↦ u
     ]
 
-pub same-rising : (xs ys : List Report) → AllPairs Before xs → AllPairs Before ys → ((r : Report) → Contains xs r → Contains ys r) → ((r : Report) → Contains ys r → Contains xs r) → xs ≡ ys
+pub same-rising : (xs ys : List Report) → AllPairs Before xs → AllPairs Before ys →
+    ((r : Report) → Contains xs r → Contains ys r) → ((r : Report) → Contains ys r → Contains xs r) → xs ≡ ys
 same-rising [] [] h k f g = refl
 same-rising [] (y ∷ ys) h k f g = absurd (omega (arith, (g y (0, omega arith, refl)).1))
 same-rising (x ∷ xs) [] h k f g = absurd (omega (arith, (f x (0, omega arith, refl)).1))
@@ -84,18 +96,28 @@ same-rising (x ∷ xs) (y ∷ ys) h k f g =
       | inl u ↦ sym u
       | inr u ↦ elim (cons-cases x xs y (g y (0, omega arith, refl))) [
         | inl v ↦ v
-        | inr v ↦ absurd (omega (arith, All-contains (Before y) ys x (pairs-head Before y ys k) u, All-contains (Before x) xs y (pairs-head Before x xs h) v))
+        | inr v ↦
+            absurd (omega (
+              arith,
+              All-contains (Before y) ys x (pairs-head Before y ys k) u,
+              All-contains (Before x) xs y (pairs-head Before x xs h) v,
+            ))
       ]
     ] in
-    let t = same-rising xs ys (pairs-tail Before x xs h) (pairs-tail Before y ys k) (tail-within x y xs ys e (pairs-head Before x xs h) f) (tail-within y x ys xs (sym e) (pairs-head Before y ys k) g) in
+    let t = same-rising xs ys (pairs-tail Before x xs h) (pairs-tail Before y ys k)
+    (tail-within x y xs ys e (pairs-head Before x xs h) f)
+    (tail-within y x ys xs (sym e) (pairs-head Before y ys k) g) in
     cc
 
 -- one bit decides at most one report
-pub due-once : (longest : ℕ) (b : List Bool) (r s : Report) → IsReport longest b r → IsReport longest b s → due r ≡ due s → r ≡ s
-due-once longest b r s h k e = let x = due_at-is longest b r h in let y = due_at-is longest b s k in let z = ap (due_at longest b) e in cc
+pub due-once : (longest : ℕ) (b : List Bool) (r s : Report) → IsReport longest b r → IsReport longest b s →
+    due r ≡ due s → r ≡ s
+due-once longest b r s h k e = let x = due_at-is longest b r h in let y = due_at-is longest b s k in let z =
+    ap (due_at longest b) e in cc
 
 pub due-within : (longest : ℕ) (b : List Bool) (r : Report) → IsReport longest b r → due r < length b
-due-within longest b _ (closed p m kind h f c) = omega (arith, class-due longest _ kind (p + 8) m c, stands-within b m flag f (omega arith))
+due-within longest b _ (closed p m kind h f c) =
+    omega (arith, class-due longest _ kind (p + 8) m c, stands-within b m flag f (omega arith))
 due-within longest b _ (aborted p m h f) = omega (arith, stands-within b m (ones 7) f.0 (omega arith))
 due-within longest b _ (idle a f) = omega (arith, stands-within b a (ones 15) f.0 (omega arith))
 
@@ -111,10 +133,12 @@ reports-are longest b = record {
 pub reports-only : (longest : ℕ) (b : List Bool) (rs : List Report) → AreReports longest b rs → rs ≡ reports longest b
 reports-only longest b rs h =
     let k = reports-are longest b in
-    same-rising rs (reports longest b) h.rising k.rising (λ r c. (k.all r).0 ((h.all r).1 c)) (λ r c. (h.all r).0 ((k.all r).1 c))
+    same-rising rs (reports longest b) h.rising k.rising (λ r c. (k.all r).0 ((h.all r).1 c))
+    (λ r c. (h.all r).0 ((k.all r).1 c))
 
 -- the report that is due at a place is computed
-pub due-it : (longest : ℕ) (b : List Bool) (i : ℕ) (r : Report) → (IsReport longest b r × (due r ≡ i)) ↔ (due_at longest b i ≡ Some r)
+pub due-it : (longest : ℕ) (b : List Bool) (i : ℕ) (r : Report) →
+    (IsReport longest b r × (due r ≡ i)) ↔ (due_at longest b i ≡ Some r)
 due-it longest b i r = (
   λ h. ap (due_at longest b) (sym h.1) ∙ due_at-is longest b r h.0,
   λ e. due_at-report longest b i r e,
@@ -125,7 +149,8 @@ mark-within : (b : List Bool) (q : ℕ) → IsMark b q → q < length b
 mark-within b q (inl h) = omega (arith, stands-within b q flag h (omega arith))
 mark-within b q (inr h) = omega (arith, stands-within b q (ones 7) h.0 (omega arith))
 
-pub begun_by-Some : (mark : Mark) (n first : ℕ) → begun_by mark n ≡ Some first → (p : ℕ) × (mark ≡ FlagAt p) × (p + 8 < n) × (p + 8 ≡ first)
+pub begun_by-Some : (mark : Mark) (n first : ℕ) → begun_by mark n ≡ Some first →
+    (p : ℕ) × (mark ≡ FlagAt p) × (p + 8 < n) × (p + 8 ≡ first)
 begun_by-Some NoMark n first h = absurd (cc)
 begun_by-Some (AbortAt a) n first h = absurd (cc)
 begun_by-Some (FlagAt p) n first h = let x = cond_some _ _ _ h in (p, refl, ltb-true (p + 8) n x.0, x.1)

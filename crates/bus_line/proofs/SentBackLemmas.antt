@@ -1,5 +1,7 @@
 -- What was sent is read back.
-use Rattle.std.proofs.Common.{◌≡◌, ◌≢◌, ℕ, zero, suc, ◌+◌, ◌-◌, ◌≤◌, ◌<◌, Bool, true, false, List, [], ◌∷◌, ◌++◌, length, take, drop, Option, Some, None, refl, sym, ap, ◌∙◌, subst, arith, nat_lt, if◌then◌else◌}
+use Rattle.std.proofs.Common.{◌≡◌, ◌≢◌, ℕ, zero, suc, ◌+◌, ◌-◌, ◌≤◌, ◌<◌, Bool, true, false, List, [], ◌∷◌, ◌++◌}
+use Rattle.std.proofs.Common.{length, take, drop, Option, Some, None, refl, sym, ap, ◌∙◌, subst, arith, nat_lt}
+use Rattle.std.proofs.Common.{if◌then◌else◌}
 use Rattle.std.specs.List.{slice_range, All}
 use Rattle.std.specs.Option.{option_to_list}
 use Rattle.std.proofs.lemmas.List.{append_assoc, append-nil, length-append, length_push, drop_at, take_at}
@@ -27,19 +29,28 @@ record Quiet (longest : ℕ) (b c : List Bool) (k : ℕ) : Type 0 where
   run : ones_at_end (b ++ c) ≡ k
 
 quiet-nil : (longest : ℕ) (b : List Bool) (k : ℕ) → ones_at_end b ≡ k → Quiet longest b [] k
-quiet-nil longest b k r = let e = append-nil b in record { none = ap (reports longest) e; mark = ap current e; run = ap ones_at_end e ∙ r }
+quiet-nil longest b k r = let e =
+    append-nil b in record { none = ap (reports longest) e; mark = ap current e; run = ap ones_at_end e ∙ r }
 
-quiet-more : (longest : ℕ) (b c d : List Bool) (j k : ℕ) → Quiet longest b c j → Quiet longest (b ++ c) d k → Quiet longest b (c ++ d) k
+quiet-more : (longest : ℕ) (b c d : List Bool) (j k : ℕ) → Quiet longest b c j → Quiet longest (b ++ c) d k →
+    Quiet longest b (c ++ d) k
 quiet-more longest b c d j k p q =
     let a = append_assoc b c d in
-    record { none = ap (reports longest) (sym a) ∙ (q.none ∙ p.none); mark = ap current (sym a) ∙ (q.mark ∙ p.mark); run = ap ones_at_end (sym a) ∙ q.run }
+    record {
+      none = ap (reports longest) (sym a) ∙ (q.none ∙ p.none);
+      mark = ap current (sym a) ∙ (q.mark ∙ p.mark);
+      run = ap ones_at_end (sym a) ∙ q.run;
+    }
 
 -- a bit that decides nothing
-quiet-bit : (longest : ℕ) (b : List Bool) (x : Bool) → (x ≡ false → ones_at_end b ≢ 6) → (x ≡ true → (ones_at_end b ≢ 6) × (ones_at_end b ≢ 14)) → Quiet longest b (x ∷ []) (if x then suc (ones_at_end b) else 0)
+quiet-bit : (longest : ℕ) (b : List Bool) (x : Bool) → (x ≡ false → ones_at_end b ≢ 6) →
+    (x ≡ true → (ones_at_end b ≢ 6) × (ones_at_end b ≢ 14)) →
+    Quiet longest b (x ∷ []) (if x then suc (ones_at_end b) else 0)
 quiet-bit longest b x f t =
     let o = at-other longest b x (λ e h l. f e h) t in
     record {
-      none = reports-more longest b x ∙ (ap (λ y. reports longest b ++ option_to_list y) o.answers ∙ append-nil (reports longest b));
+      none = reports-more longest b x
+          ∙ (ap (λ y. reports longest b ++ option_to_list y) o.answers ∙ append-nil (reports longest b));
       mark = o.leaves;
       run = ones_after-more 0 b x;
     }
@@ -60,13 +71,16 @@ quiet-low longest b (false ∷ w) h =
     subst (λ n. Quiet longest b (false ∷ w) (ones_after n w)) o (quiet-more longest b (false ∷ []) w _ _ q r)
 
 -- more ones, none of them the seventh or the fifteenth
-quiet-ones : (longest : ℕ) (b : List Bool) (j k : ℕ) → ones_at_end b ≡ j → ((i : ℕ) → i < k → (j + i ≢ 6) × (j + i ≢ 14)) → Quiet longest b (ones k) (j + k)
+quiet-ones : (longest : ℕ) (b : List Bool) (j k : ℕ) → ones_at_end b ≡ j →
+    ((i : ℕ) → i < k → (j + i ≢ 6) × (j + i ≢ 14)) → Quiet longest b (ones k) (j + k)
 quiet-ones longest b j zero r h = quiet-nil longest b (j + zero) (r ∙ omega arith)
 quiet-ones longest b j (suc k) r h =
     let z = h 0 (omega arith) in
-    let q = quiet-bit longest b true (λ e i. absurd (cc)) (λ e. (λ i. z.0 (omega (arith, i, r)), λ i. z.1 (omega (arith, i, r)))) in
+    let q = quiet-bit longest b true (λ e i. absurd (cc))
+    (λ e. (λ i. z.0 (omega (arith, i, r)), λ i. z.1 (omega (arith, i, r)))) in
     let n : suc j + k ≡ j + suc k = omega arith in
-    let s = quiet-ones longest (b ++ true ∷ []) (suc j) k (q.run ∙ ap suc r) (λ i l. let y = h (suc i) (omega arith) in (λ e. y.0 (omega (arith, e)), λ e. y.1 (omega (arith, e)))) in
+    let s = quiet-ones longest (b ++ true ∷ []) (suc j) k (q.run ∙ ap suc r)
+    (λ i l. let y = h (suc i) (omega arith) in (λ e. y.0 (omega (arith, e)), λ e. y.1 (omega (arith, e)))) in
     subst (Quiet longest b (ones (suc k))) n (quiet-more longest b (true ∷ []) (ones k) _ _ q s)
 
 -- the last mark has no piece that a mark at the end would end
@@ -80,21 +94,26 @@ record EndsFlag (b : List Bool) : Type 0 where
   room : 8 ≤ length b
 
 piece_report-shut : (kind : ℕ → Kind) (p m : ℕ) → m ≤ p + 8 → piece_report kind (FlagAt p) m ≡ None
-piece_report-shut kind p m h = let t : nat_lt (p + 8) m ≡ false = grind (arith, nat_tests) in cond-false (nat_lt (p + 8) m) _ _ t
+piece_report-shut kind p m h = let t : nat_lt (p + 8) m ≡ false =
+    grind (arith, nat_tests) in cond-false (nat_lt (p + 8) m) _ _ t
 
 flag-shut : (b : List Bool) → EndsFlag b → IsShut b
-flag-shut b e kind = ap (λ x. piece_report kind x (length b)) e.mark ∙ piece_report-shut kind (length b - 8) (length b) (omega (arith, e.room))
+flag-shut b e kind = ap (λ x. piece_report kind x (length b)) e.mark
+    ∙ piece_report-shut kind (length b - 8) (length b) (omega (arith, e.room))
 
 -- a flag behind any bits but six ones
 record FlagAdded (longest : ℕ) (b : List Bool) : Type 0 where
-  adds : reports longest (b ++ flag) ≡ reports longest b ++ option_to_list (piece_report (λ p. class_of longest (slice_range (b ++ flag) (p + 8) (length b))) (current b) (length b))
+  adds : reports longest (b ++ flag) ≡ reports longest b
+      ++ option_to_list (piece_report (λ p. class_of longest (slice_range (b ++ flag) (p + 8) (length b))) (current b)
+      (length b))
   ends : EndsFlag (b ++ flag)
   place : current (b ++ flag) ≡ FlagAt (length b)
 
 flag-added : (longest : ℕ) (b : List Bool) → ones_at_end b ≢ 6 → ones_at_end b ≢ 14 → FlagAdded longest b
 flag-added longest b h g =
     let q = quiet-bit longest b false (λ e. h) (λ e. absurd (cc)) in
-    let s = quiet-ones longest (b ++ false ∷ []) 0 6 q.run (λ i l. (λ e. omega (arith, e, l), λ e. omega (arith, e, l))) in
+    let s = quiet-ones longest (b ++ false ∷ []) 0 6 q.run
+    (λ i l. (λ e. omega (arith, e, l), λ e. omega (arith, e, l))) in
     let w = quiet-more longest b (false ∷ []) (ones 6) _ _ q s in
     let c = b ++ false ∷ ones 6 in
     let six : ones_at_end (b ++ false ∷ ones 6) ≡ 6 = w.run ∙ omega arith in
@@ -112,10 +131,16 @@ flag-added longest b h g =
           ∙ (ap (λ x. x ++ option_to_list (due_at longest (c ++ false ∷ []) (length c))) w.none
           ∙ ap (λ x. reports longest b ++ option_to_list x)
           (f.answers
-          ∙ (ap (λ x. piece_report (λ p. class_of longest (slice_range x (p + 8) (length c - 7))) (current c) (length c - 7)) whole
+          ∙ (ap (λ x. piece_report (λ p. class_of longest (slice_range x (p + 8) (length c - 7))) (current c)
+          (length c - 7)) whole
           ∙ (ap (λ k. piece_report (λ p. class_of longest (slice_range (b ++ flag) (p + 8) k)) (current c) k) m
-          ∙ ap (λ x. piece_report (λ p. class_of longest (slice_range (b ++ flag) (p + 8) (length b))) x (length b)) w.mark)))));
-      ends = record { run = ap ones_at_end (sym whole) ∙ ones_after-more 0 c false; mark = place ∙ ap FlagAt at; room = omega (arith, all) };
+          ∙ ap (λ x. piece_report (λ p. class_of longest (slice_range (b ++ flag) (p + 8) (length b))) x (length b))
+          w.mark)))));
+      ends = record {
+        run = ap ones_at_end (sym whole) ∙ ones_after-more 0 c false;
+        mark = place ∙ ap FlagAt at;
+        room = omega (arith, all);
+      };
       place = place;
     }
 
@@ -128,14 +153,17 @@ range-mid : (b r t : List Bool) → slice_range ((b ++ r) ++ t) (length b) (leng
 range-mid b r t =
     let e : (length b + length r) - length b ≡ length r = omega arith in
     ap (λ x. slice_range x (length b) (length b + length r)) (append_assoc b r t)
-    ∙ (ap (λ n. take n (drop (length b) (b ++ (r ++ t)))) e ∙ (ap (take (length r)) (drop_at b (r ++ t) (length b) refl) ∙ take_at r t (length r) refl))
+    ∙ (ap (λ n. take n (drop (length b) (b ++ (r ++ t)))) e
+    ∙ (ap (take (length r)) (drop_at b (r ++ t) (length b) refl) ∙ take_at r t (length r) refl))
 
 -- raw bits of data and a flag, behind a flag
 record ContentAdded (longest : ℕ) (b d r : List Bool) : Type 0 where
-  adds : reports longest (b ++ (r ++ flag)) ≡ reports longest b ++ record { kind = class_of_data longest d; first = length b; past = length b + length r } ∷ []
+  adds : reports longest (b ++ (r ++ flag)) ≡ reports longest b
+      ++ record { kind = class_of_data longest d; first = length b; past = length b + length r } ∷ []
   ends : EndsFlag (b ++ (r ++ flag))
 
-content-added : (longest : ℕ) (b d r : List Bool) → EndsFlag b → IsSpelledBy d r → 0 < length r → ContentAdded longest b d r
+content-added : (longest : ℕ) (b d r : List Bool) → EndsFlag b → IsSpelledBy d r → 0 < length r →
+    ContentAdded longest b d r
 content-added longest b d r e s some =
     let low : IsLow (ones_at_end b) r = subst (λ n. IsLow n r) (sym e.run) (spelled-low d r s) in
     let q = quiet-low longest b r low in
@@ -148,14 +176,19 @@ content-added longest b d r e s some =
     let read : kind (length b - 8) ≡ class_of_data longest d =
     ap (λ i. class_of longest (slice_range ((b ++ r) ++ flag) i (length b + length r))) first
     ∙ (ap (class_of longest) (range-mid b r flag) ∙ ap (class_of_read longest) (unspelled-is d r s)) in
-    let report : piece_report (λ p. class_of longest (slice_range ((b ++ r) ++ flag) (p + 8) (length (b ++ r)))) (current (b ++ r)) (length (b ++ r)) ≡ Some (record { kind = class_of_data longest d; first = length b; past = length b + length r }) =
+    let report : piece_report (λ p. class_of longest (slice_range ((b ++ r) ++ flag) (p + 8) (length (b ++ r))))
+    (current (b ++ r)) (length (b ++ r))
+    ≡ Some (record { kind = class_of_data longest d; first = length b; past = length b + length r }) =
     ap (λ k. piece_report (λ p. class_of longest (slice_range ((b ++ r) ++ flag) (p + 8) k)) (current (b ++ r)) k) n
     ∙ (ap (λ x. piece_report kind x (length b + length r)) (q.mark ∙ e.mark)
     ∙ (piece_report-is kind (length b - 8) (length b + length r) (omega (arith, first, some))
     ∙ (ap (λ (i : ℕ). Some (record { kind = kind (length b - 8); first = i; past = length b + length r })) first
     ∙ ap (λ (k : Kind). Some (record { kind = k; first = length b; past = length b + length r })) read))) in
     record {
-      adds = ap (reports longest) (sym whole) ∙ (f.adds ∙ (ap (λ x. reports longest (b ++ r) ++ option_to_list x) report ∙ ap (λ x. x ++ record { kind = class_of_data longest d; first = length b; past = length b + length r } ∷ []) q.none));
+      adds = ap (reports longest) (sym whole)
+          ∙ (f.adds ∙ (ap (λ x. reports longest (b ++ r) ++ option_to_list x) report
+          ∙ ap (λ x. x ++ record { kind = class_of_data longest d; first = length b; past = length b + length r } ∷ [])
+          q.none));
       ends = subst EndsFlag whole f.ends;
     }
 
@@ -168,12 +201,18 @@ record FrameAdded (longest : ℕ) (b : List Bool) (os : List ℕ) : Type 0 where
   adds : reports longest (b ++ (raw_bits os ++ flag)) ≡ reports longest b ++ frame_at (length b) os ∷ []
   ends : EndsFlag (b ++ (raw_bits os ++ flag))
 
-frame-added : (longest : ℕ) (b : List Bool) (os : List ℕ) → EndsFlag b → CanBeRead longest (Frame os) → FrameAdded longest b os
+frame-added : (longest : ℕ) (b : List Bool) (os : List ℕ) → EndsFlag b → CanBeRead longest (Frame os) →
+    FrameAdded longest b os
 frame-added longest b os e h =
     let s = raw-spelled os in
-    let c = content-added longest b (data_sent os) (raw_bits os) e s (spelled-some (data_sent os) (raw_bits os) s (omega (arith, length-sent os))) in
+    let c = content-added longest b (data_sent os) (raw_bits os) e s
+    (spelled-some (data_sent os) (raw_bits os) s (omega (arith, length-sent os))) in
     record {
-      adds = c.adds ∙ ap (λ (k : Kind). reports longest b ++ record { kind = k; first = length b; past = length b + length (raw_bits os) } ∷ []) (class-sent longest os h);
+      adds =
+          c.adds
+          ∙ ap (λ (k : Kind). reports longest b
+          ++ record { kind = k; first = length b; past = length b + length (raw_bits os) } ∷ [])
+          (class-sent longest os h);
       ends = c.ends;
     }
 
@@ -200,11 +239,14 @@ idle-added longest b z shut =
     let m : length (b ++ ones 6) - 6 ≡ length b = omega (arith, n) in
     let a = at-abort longest c six in
     let none : piece_report (λ i. Kind.Abort) (current c) (length c - 6) ≡ None =
-    ap (piece_report (λ i. Kind.Abort) (current c)) m ∙ (ap (λ x. piece_report (λ i. Kind.Abort) x (length b)) p.mark ∙ shut (λ i. Kind.Abort)) in
+    ap (piece_report (λ i. Kind.Abort) (current c)) m
+    ∙ (ap (λ x. piece_report (λ i. Kind.Abort) x (length b)) p.mark ∙ shut (λ i. Kind.Abort)) in
     let d = c ++ true ∷ [] in
     let seven : ones_at_end (c ++ true ∷ []) ≡ 7 = ones_after-more 0 c true ∙ ap suc six in
     let same : reports longest d ≡ reports longest b =
-    reports-more longest c true ∙ (ap (λ x. reports longest c ++ option_to_list x) (a.answers ∙ none) ∙ (append-nil (reports longest c) ∙ p.none)) in
+    reports-more longest c true
+    ∙ (ap (λ x. reports longest c ++ option_to_list x) (a.answers ∙ none)
+    ∙ (append-nil (reports longest c) ∙ p.none)) in
     let q = quiet-ones longest d 7 7 seven (λ i l. (λ e. omega (arith, e, l), λ e. omega (arith, e, l))) in
     let f = d ++ ones 7 in
     let fourteen : ones_at_end (d ++ ones 7) ≡ 14 = q.run ∙ omega arith in
@@ -235,8 +277,12 @@ record IdleGoesOn (longest : ℕ) (b : List Bool) : Type 0 where
 
 idle-goes_on : (longest : ℕ) (b : List Bool) → EndsIdle b → IdleGoesOn longest b
 idle-goes_on longest b e =
-    let q = quiet-ones longest b (ones_at_end b) 15 refl (λ i l. (λ x. omega (arith, x, e.run), λ x. omega (arith, x, e.run))) in
-    record { adds = q.none; ends = record { run = omega (arith, q.run, e.run); abort = e.abort; mark = q.mark ∙ e.mark } }
+    let q = quiet-ones longest b (ones_at_end b) 15 refl
+    (λ i l. (λ x. omega (arith, x, e.run), λ x. omega (arith, x, e.run))) in
+    record {
+      adds = q.none;
+      ends = record { run = omega (arith, q.run, e.run); abort = e.abort; mark = q.mark ∙ e.mark };
+    }
 
 -- ---- calls
 
@@ -252,19 +298,24 @@ record Added (longest : ℕ) (b : List Bool) (before : Option Call) (call : Call
   ends : EndsWith (Some call) (b ++ added before call)
 
 -- a flag, where no piece has begun
-lone-flag : (longest : ℕ) (b : List Bool) → ones_at_end b ≢ 6 → ones_at_end b ≢ 14 → IsShut b → (reports longest (b ++ flag) ≡ reports longest b ++ []) × EndsFlag (b ++ flag)
+lone-flag : (longest : ℕ) (b : List Bool) → ones_at_end b ≢ 6 → ones_at_end b ≢ 14 → IsShut b →
+    (reports longest (b ++ flag) ≡ reports longest b ++ []) × EndsFlag (b ++ flag)
 lone-flag longest b h g shut =
     let f = flag-added longest b h g in
     (f.adds ∙ ap (λ x. reports longest b ++ option_to_list x) (shut _), f.ends)
 
 -- a flag and a frame, where no piece has begun
-flag-frame : (longest : ℕ) (b : List Bool) (os : List ℕ) → ones_at_end b ≢ 6 → ones_at_end b ≢ 14 → IsShut b → CanBeRead longest (Frame os)
-    → (reports longest (b ++ (flag ++ (raw_bits os ++ flag))) ≡ reports longest b ++ frame_at (length b + 8) os ∷ []) × EndsFlag (b ++ (flag ++ (raw_bits os ++ flag)))
+flag-frame : (longest : ℕ) (b : List Bool) (os : List ℕ) → ones_at_end b ≢ 6 → ones_at_end b ≢ 14 → IsShut b →
+    CanBeRead longest (Frame os)
+    → (reports longest (b ++ (flag ++ (raw_bits os ++ flag))) ≡ reports longest b ++ frame_at (length b + 8) os ∷ [])
+    × EndsFlag (b ++ (flag ++ (raw_bits os ++ flag)))
 flag-frame longest b os h g shut r =
     let l = lone-flag longest b h g shut in
     let f = frame-added longest (b ++ flag) os l.1 r in
     let e = append_assoc b flag (raw_bits os ++ flag) in (
-      ap (reports longest) (sym e) ∙ (f.adds ∙ (ap (λ x. x ++ frame_at (length (b ++ flag)) os ∷ []) (l.0 ∙ append-nil (reports longest b)) ∙ ap (λ (n : ℕ). reports longest b ++ frame_at n os ∷ []) (length-append b flag))),
+      ap (reports longest) (sym e)
+          ∙ (f.adds ∙ (ap (λ x. x ++ frame_at (length (b ++ flag)) os ∷ []) (l.0 ∙ append-nil (reports longest b))
+          ∙ ap (λ (n : ℕ). reports longest b ++ frame_at n os ∷ []) (length-append b flag))),
       subst EndsFlag e f.ends,
     )
 
@@ -274,21 +325,41 @@ start-run b e = ap ones_at_end e
 start-shut : (b : List Bool) → b ≡ [] → IsShut b
 start-shut b e kind = ap (λ x. piece_report kind (current x) (length x)) e
 
-step : (longest : ℕ) (before : Option Call) (call : Call) (b : List Bool) → EndsWith before b → CanBeRead longest call → Added longest b before call
-step longest None Flag b e r = let z = start-run b e in let f = lone-flag longest b (λ i. omega (arith, i, z)) (λ i. omega (arith, i, z)) (start-shut b e) in record { adds = f.0; ends = f.1 }
-step longest (Some Flag) Flag b e r = let f = lone-flag longest b (λ i. omega (arith, i, e.run)) (λ i. omega (arith, i, e.run)) (flag-shut b e) in record { adds = f.0; ends = f.1 }
-step longest (Some Idle) Flag b e r = let f = lone-flag longest b (λ i. omega (arith, i, e.run)) (λ i. omega (arith, i, e.run)) (idle-shut b e) in record { adds = f.0; ends = f.1 }
-step longest (Some (Frame ps)) Flag b e r = let f = lone-flag longest b (λ i. omega (arith, i, e.run)) (λ i. omega (arith, i, e.run)) (flag-shut b e) in record { adds = f.0; ends = f.1 }
-step longest None Idle b e r = let f = idle-added longest b (start-run b e) (start-shut b e) in record { adds = f.adds; ends = f.ends }
-step longest (Some Flag) Idle b e r = let f = idle-added longest b e.run (flag-shut b e) in record { adds = f.adds; ends = f.ends }
-step longest (Some Idle) Idle b e r = let f = idle-goes_on longest b e in record { adds = f.adds ∙ sym (append-nil (reports longest b)); ends = f.ends }
-step longest (Some (Frame ps)) Idle b e r = let f = idle-added longest b e.run (flag-shut b e) in record { adds = f.adds; ends = f.ends }
-step longest None (Frame os) b e r = let z = start-run b e in let f = flag-frame longest b os (λ i. omega (arith, i, z)) (λ i. omega (arith, i, z)) (start-shut b e) r in record { adds = f.0; ends = f.1 }
-step longest (Some Flag) (Frame os) b e r = let f = frame-added longest b os e r in record { adds = f.adds; ends = f.ends }
-step longest (Some Idle) (Frame os) b e r = let f = flag-frame longest b os (λ i. omega (arith, i, e.run)) (λ i. omega (arith, i, e.run)) (idle-shut b e) r in record { adds = f.0; ends = f.1 }
-step longest (Some (Frame ps)) (Frame os) b e r = let f = frame-added longest b os e r in record { adds = f.adds; ends = f.ends }
+step : (longest : ℕ) (before : Option Call) (call : Call) (b : List Bool) → EndsWith before b → CanBeRead longest call →
+    Added longest b before call
+step longest None Flag b e r = let z = start-run b e in let f =
+    lone-flag longest b (λ i. omega (arith, i, z)) (λ i. omega (arith, i, z))
+    (start-shut b e) in record { adds = f.0; ends = f.1 }
+step longest (Some Flag) Flag b e r = let f =
+    lone-flag longest b (λ i. omega (arith, i, e.run)) (λ i. omega (arith, i, e.run))
+    (flag-shut b e) in record { adds = f.0; ends = f.1 }
+step longest (Some Idle) Flag b e r = let f =
+    lone-flag longest b (λ i. omega (arith, i, e.run)) (λ i. omega (arith, i, e.run))
+    (idle-shut b e) in record { adds = f.0; ends = f.1 }
+step longest (Some (Frame ps)) Flag b e r = let f =
+    lone-flag longest b (λ i. omega (arith, i, e.run)) (λ i. omega (arith, i, e.run))
+    (flag-shut b e) in record { adds = f.0; ends = f.1 }
+step longest None Idle b e r = let f =
+    idle-added longest b (start-run b e) (start-shut b e) in record { adds = f.adds; ends = f.ends }
+step longest (Some Flag) Idle b e r = let f =
+    idle-added longest b e.run (flag-shut b e) in record { adds = f.adds; ends = f.ends }
+step longest (Some Idle) Idle b e r = let f =
+    idle-goes_on longest b e in record { adds = f.adds ∙ sym (append-nil (reports longest b)); ends = f.ends }
+step longest (Some (Frame ps)) Idle b e r = let f =
+    idle-added longest b e.run (flag-shut b e) in record { adds = f.adds; ends = f.ends }
+step longest None (Frame os) b e r = let z = start-run b e in let f =
+    flag-frame longest b os (λ i. omega (arith, i, z)) (λ i. omega (arith, i, z)) (start-shut b e)
+    r in record { adds = f.0; ends = f.1 }
+step longest (Some Flag) (Frame os) b e r = let f =
+    frame-added longest b os e r in record { adds = f.adds; ends = f.ends }
+step longest (Some Idle) (Frame os) b e r = let f =
+    flag-frame longest b os (λ i. omega (arith, i, e.run)) (λ i. omega (arith, i, e.run)) (idle-shut b e)
+    r in record { adds = f.0; ends = f.1 }
+step longest (Some (Frame ps)) (Frame os) b e r = let f =
+    frame-added longest b os e r in record { adds = f.adds; ends = f.ends }
 
-back : (longest : ℕ) (before : Option Call) (calls : List Call) (b : List Bool) → EndsWith before b → All (CanBeRead longest) calls
+back : (longest : ℕ) (before : Option Call) (calls : List Call) (b : List Bool) → EndsWith before b →
+    All (CanBeRead longest) calls
     → reports longest (b ++ line_behind before calls) ≡ reports longest b ++ read_behind (length b) before calls
 back longest before [] b e r = ap (reports longest) (append-nil b) ∙ sym (append-nil (reports longest b))
 back longest before (call ∷ calls) b e r =
@@ -298,8 +369,10 @@ back longest before (call ∷ calls) b e r =
     ap (reports longest) (sym (append_assoc b c (line_behind (Some call) calls)))
     ∙ (h
     ∙ (ap (λ x. x ++ read_behind (length (b ++ c)) (Some call) calls) s.adds
-    ∙ (append_assoc (reports longest b) (read_of (length b) before call) (read_behind (length (b ++ c)) (Some call) calls)
-    ∙ ap (λ (n : ℕ). reports longest b ++ (read_of (length b) before call ++ read_behind n (Some call) calls)) (length-append b c))))
+    ∙ (append_assoc (reports longest b) (read_of (length b) before call)
+    (read_behind (length (b ++ c)) (Some call) calls)
+    ∙ ap (λ (n : ℕ). reports longest b ++ (read_of (length b) before call ++ read_behind n (Some call) calls))
+    (length-append b c))))
 
 pub line-is-read-back : LineIsReadBack
 line-is-read-back longest calls r = back longest None calls [] refl r

@@ -1,12 +1,15 @@
 -- What is left of bits without the inserted 0s.
-use Rattle.std.proofs.Common.{◌≡◌, ◌≢◌, ℕ, zero, suc, ◌+◌, ◌-◌, ◌*◌, ◌/◌, ◌%◌, ◌^◌, ◌<◌, ◌≤◌, ◌==◌, Bool, List, [], ◌∷◌, ◌++◌, refl, sym, ap, ◌∙◌, subst, arith, nat_eq, not, inl, inr}
+use Rattle.std.proofs.Common.{◌≡◌, ◌≢◌, ℕ, zero, suc, ◌+◌, ◌-◌, ◌*◌, ◌/◌, ◌%◌, ◌^◌, ◌<◌, ◌≤◌, ◌==◌, Bool, List, [], ◌∷◌}
+use Rattle.std.proofs.Common.{◌++◌, refl, sym, ap, ◌∙◌, subst, arith, nat_eq, not, inl, inr}
 use Rattle.std.specs.Prelude.{bit_and, false, ◌↔◌}
 use mir.Val.{bool_byte}
 use Rattle.std.specs.Int.Bits.{and_self, and_zero_r}
 use Rattle.std.specs.Int.{bit_at, w64, trailing_zeros}
-use Rattle.std.proofs.lemmas.Nat.{shr-shr, and_le_l, and_mask, and_shr, and_block, mod_below, mod-pow-add, mul-add-lt, pow-add, pow_below, pow_pos, one_shl, shr_below, shr_high, shr_split}
+use Rattle.std.proofs.lemmas.Nat.{shr-shr, and_le_l, and_mask, and_shr, and_block, mod_below, mod-pow-add, mul-add-lt}
+use Rattle.std.proofs.lemmas.Nat.{pow-add, pow_below, pow_pos, one_shl, shr_below, shr_high, shr_split}
 use Rattle.std.proofs.lemmas.Grind.{and-not_self}
-use Rattle.std.proofs.lemmas.Nat.Bits.{bit_at-zero, bit_at_and, bit_at_not, bit_at_ones, bit_at_above, bit_at_cat_low, bit_at_cat_high, bit_at-pow_other, bit_at-lt, bit_at-trailing_zeros}
+use Rattle.std.proofs.lemmas.Nat.Bits.{bit_at-zero, bit_at_and, bit_at_not, bit_at_ones, bit_at_above, bit_at_cat_low}
+use Rattle.std.proofs.lemmas.Nat.Bits.{bit_at_cat_high, bit_at-pow_other, bit_at-lt, bit_at-trailing_zeros}
 use Rattle.std.proofs.lemmas.List.{append-nil}
 use Rattle.std.proofs.lemmas.Bool.{cases_lt, eq-eqb, ne_eqb}
 use Rattle.std.proofs.Math.Nat.{pow-suc, mul_assoc, add-zero, mod-eq_of_lt, mod_self}
@@ -21,7 +24,9 @@ unfolding bits_of
 bits-back zero n = let e : n ≡ n / 1 = omega arith in ap (λ (x : ℕ). (x % 2 == 1) ∷ []) e
 bits-back (suc k) n =
     let f : 1 + k ≡ suc k = omega arith in
-    ap (λ (z : List Bool). (n % 2 == 1) ∷ z) (bits-back k (n / 2) ∙ ap (λ (x : ℕ). bits_of k (n / 2) ++ (x % 2 == 1) ∷ []) (shr-shr n 1 k ∙ ap (λ (j : ℕ). n / 2 ^ j) f))
+    ap (λ (z : List Bool). (n % 2 == 1) ∷ z)
+    (bits-back k (n / 2) ∙ ap (λ (x : ℕ). bits_of k (n / 2) ++ (x % 2 == 1) ∷ [])
+    (shr-shr n 1 k ∙ ap (λ (j : ℕ). n / 2 ^ j) f))
 
 -- ---- which bits are kept
 
@@ -33,18 +38,24 @@ kept-in : (x s k : ℕ) → bit_at s k ≢ 1 → kept x s (suc k) ≡ kept x s k
 kept-in x s k h = let f = ne_eqb _ _ h in rw f refl
 
 -- one bit more of each
-kept-both : (x y s t k i : ℕ) → bit_at y k ≡ bit_at x i → bit_at t k ≡ bit_at s i → kept y t k ≡ kept x s i → kept y t (suc k) ≡ kept x s (suc i)
+kept-both : (x y s t k i : ℕ) → bit_at y k ≡ bit_at x i → bit_at t k ≡ bit_at s i → kept y t k ≡ kept x s i →
+    kept y t (suc k) ≡ kept x s (suc i)
 kept-both x y s t k i a b e =
     elim (cases_lt (bit_at s i) 1) [
-      | inl l ↦ kept-in y t k (λ o. omega (arith, l, b, o)) ∙ (ap (λ (n : ℕ). kept y t k ++ (n == 1) ∷ []) a ∙ (ap (λ (z : List Bool). z ++ (bit_at x i == 1) ∷ []) e ∙ sym (kept-in x s i (λ o. omega (arith, l, o)))))
-      | inr g ↦ kept-out y t k (let l = bit_at-lt s i in omega (arith, g, b, l)) ∙ (e ∙ sym (kept-out x s i (let l = bit_at-lt s i in omega (arith, g, l))))
+      | inl l ↦ kept-in y t k (λ o. omega (arith, l, b, o))
+          ∙ (ap (λ (n : ℕ). kept y t k ++ (n == 1) ∷ []) a
+          ∙ (ap (λ (z : List Bool). z ++ (bit_at x i == 1) ∷ []) e ∙ sym (kept-in x s i (λ o. omega (arith, l, o)))))
+      | inr g ↦ kept-out y t k (let l = bit_at-lt s i in omega (arith, g, b, l))
+          ∙ (e ∙ sym (kept-out x s i (let l = bit_at-lt s i in omega (arith, g, l))))
     ]
 
 -- only the bits count
-kept-same : (x y s t k : ℕ) → ((i : ℕ) → i < k → bit_at y i ≡ bit_at x i) → ((i : ℕ) → i < k → bit_at t i ≡ bit_at s i) → kept y t k ≡ kept x s k
+kept-same : (x y s t k : ℕ) → ((i : ℕ) → i < k → bit_at y i ≡ bit_at x i) →
+    ((i : ℕ) → i < k → bit_at t i ≡ bit_at s i) → kept y t k ≡ kept x s k
 kept-same x y s t zero a b = refl
 kept-same x y s t (suc k) a b =
-    kept-both x y s t k k (a k (omega arith)) (b k (omega arith)) (kept-same x y s t k (λ i l. a i (omega (arith, l))) (λ i l. b i (omega (arith, l))))
+    kept-both x y s t k k (a k (omega arith)) (b k (omega arith))
+    (kept-same x y s t k (λ i l. a i (omega (arith, l))) (λ i l. b i (omega (arith, l))))
 
 -- without the bit at place `j`, those above it one place lower
 abbrev Without : ℕ → ℕ → ℕ → ℕ → Type 0
@@ -54,17 +65,21 @@ less : (j k x y : ℕ) → Without j (suc k) x y → Without j k x y
 less j k x y h i l = h i (omega (arith, l))
 
 -- a marked bit can be taken out
-kept-last : (x y s t j k : ℕ) → j ≡ k → bit_at s j ≡ 1 → Without j k x y → Without j k s t → kept y t k ≡ kept x s (suc k)
+kept-last : (x y s t j k : ℕ) → j ≡ k → bit_at s j ≡ 1 → Without j k x y → Without j k s t →
+    kept y t k ≡ kept x s (suc k)
 kept-last x y s t j k e h a b =
-    kept-same x y s t k (λ i l. (a i l).0 (omega (arith, e, l))) (λ i l. (b i l).0 (omega (arith, e, l))) ∙ sym (kept-out x s k (ap (bit_at s) (sym e) ∙ h))
+    kept-same x y s t k (λ i l. (a i l).0 (omega (arith, e, l))) (λ i l. (b i l).0 (omega (arith, e, l)))
+    ∙ sym (kept-out x s k (ap (bit_at s) (sym e) ∙ h))
 
-kept-without : (x y s t j k : ℕ) → j ≤ k → bit_at s j ≡ 1 → Without j k x y → Without j k s t → kept y t k ≡ kept x s (suc k)
+kept-without : (x y s t j k : ℕ) → j ≤ k → bit_at s j ≡ 1 → Without j k x y → Without j k s t →
+    kept y t k ≡ kept x s (suc k)
 kept-without x y s t j zero l h a b = kept-last x y s t j zero (omega (arith, l)) h a b
 kept-without x y s t j (suc k) l h a b =
     elim (cases_lt j (suc k)) [
       | inl m ↦
           let n : j ≤ k = omega (arith, m) in
-          kept-both x y s t k (suc k) ((a k (omega arith)).1 n) ((b k (omega arith)).1 n) (kept-without x y s t j k n h (less j k x y a) (less j k s t b))
+          kept-both x y s t k (suc k) ((a k (omega arith)).1 n) ((b k (omega arith)).1 n)
+          (kept-without x y s t j k n h (less j k x y a) (less j k s t b))
       | inr m ↦ kept-last x y s t j (suc k) (omega (arith, l, m)) h a b
     ]
 
@@ -95,11 +110,13 @@ kept-others x y s (suc k) h =
 settled-inserted : (w k : ℕ) → w / 2 ^ (3 + k) % 64 ≡ 31 → data_in_word w (suc k) ≡ data_in_word w k
 settled-inserted w k h = let t = eq-eqb _ _ h in rw t (append-nil (data_in_word w k))
 
-settled-bit : (w k : ℕ) → w / 2 ^ (3 + k) % 64 ≢ 31 → data_in_word w (suc k) ≡ data_in_word w k ++ (w / 2 ^ (8 + k) % 2 == 1) ∷ []
+settled-bit : (w k : ℕ) → w / 2 ^ (3 + k) % 64 ≢ 31 →
+    data_in_word w (suc k) ≡ data_in_word w k ++ (w / 2 ^ (8 + k) % 2 == 1) ∷ []
 settled-bit w k h = let f = ne_eqb _ _ h in rw f refl
 
 -- the inserted 0s marked, the data of the word are kept
-settled-kept : (w x s k : ℕ) → ((i : ℕ) → i < k → bit_at s i ≡ 1 ↔ w / 2 ^ (3 + i) % 64 ≡ 31) → ((i : ℕ) → i < k → bit_at x i ≡ bit_at w (8 + i)) → kept x s k ≡ data_in_word w k
+settled-kept : (w x s k : ℕ) → ((i : ℕ) → i < k → bit_at s i ≡ 1 ↔ w / 2 ^ (3 + i) % 64 ≡ 31) →
+    ((i : ℕ) → i < k → bit_at x i ≡ bit_at w (8 + i)) → kept x s k ≡ data_in_word w k
 settled-kept w x s zero h e = refl
 settled-kept w x s (suc k) h e =
     let here = h k (omega arith) in
@@ -107,12 +124,15 @@ settled-kept w x s (suc k) h e =
     elim (cases_lt (bit_at s k) 1) [
       | inl l ↦
           kept-in x s k (λ o. omega (arith, l, o)) ∙ (ap (λ (n : ℕ). kept x s k ++ (n == 1) ∷ []) (e k (omega arith))
-          ∙ (ap (λ (z : List Bool). z ++ (bit_at w (8 + k) == 1) ∷ []) rest ∙ sym (settled-bit w k (λ m. omega (arith, l, here.1 m)))))
-      | inr g ↦ let y = bit_at-lt s k in let o : bit_at s k ≡ 1 = omega (arith, g, y) in kept-out x s k o ∙ (rest ∙ sym (settled-inserted w k (here.0 o)))
+          ∙ (ap (λ (z : List Bool). z ++ (bit_at w (8 + k) == 1) ∷ []) rest
+          ∙ sym (settled-bit w k (λ m. omega (arith, l, here.1 m)))))
+      | inr g ↦ let y = bit_at-lt s k in let o : bit_at s k ≡ 1 =
+          omega (arith, g, y) in kept-out x s k o ∙ (rest ∙ sym (settled-inserted w k (here.0 o)))
     ]
 
 pub settled-word : (w s n : ℕ) → n ≤ 56 → ((i : ℕ) → i < 56 → bit_at s i ≡ 1 ↔ w / 2 ^ (3 + i) % 64 ≡ 31)
-    → (kept (w / 256) (bit_and s (1 * 2 ^ n % 18446744073709551616 - 1)) n ≡ data_in_word w n) × (bit_and s (1 * 2 ^ n % 18446744073709551616 - 1) < 2 ^ n)
+    → (kept (w / 256) (bit_and s (1 * 2 ^ n % 18446744073709551616 - 1)) n ≡ data_in_word w n)
+    × (bit_and s (1 * 2 ^ n % 18446744073709551616 - 1) < 2 ^ n)
 settled-word w s n f h =
     let m : ℕ = bit_and s (1 * 2 ^ n % 18446744073709551616 - 1) in
     let k : 1 * 2 ^ n % 18446744073709551616 - 1 ≡ 2 ^ n - 1 = ap (λ (x : ℕ). x - 1) (one_shl n 64 (omega arith)) in
@@ -120,7 +140,9 @@ settled-word w s n f h =
     let p = pow_pos n in (
       settled-kept w (w / 256) m n
           (λ i l.
-          let a : bit_at m i ≡ bit_at s i = bit_at_and s (1 * 2 ^ n % 18446744073709551616 - 1) i ∙ (let o = ap (λ (x : ℕ). bit_at x i) k ∙ bit_at_ones n i l in let b = bit_at-lt s i in omega (arith, o, b)) in
+          let a : bit_at m i ≡ bit_at s i = bit_at_and s (1 * 2 ^ n % 18446744073709551616 - 1) i
+          ∙ (let o = ap (λ (x : ℕ). bit_at x i) k ∙ bit_at_ones n i l in let b =
+          bit_at-lt s i in omega (arith, o, b)) in
           let g = h i (omega (arith, f, l)) in
           ((λ x. g.0 (sym a ∙ x)), λ x. a ∙ g.1 x))
           (λ i l. ap (λ (x : ℕ). x % 2) (shr-shr w 8 i)),

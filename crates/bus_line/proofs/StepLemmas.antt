@@ -1,5 +1,6 @@
 -- One bit more of what a decoder tracks.
-use Rattle.std.proofs.Common.{◌≡◌, ℕ, ◌+◌, ◌-◌, ◌*◌, ◌^◌, ◌≤◌, ◌<◌, ◌==◌, Bool, true, false, not, ◌&&◌, List, [], ◌∷◌, ◌++◌, length, take, drop, get_or, Option, Some, None, refl, sym, ap, ◌∙◌, subst, arith}
+use Rattle.std.proofs.Common.{◌≡◌, ℕ, ◌+◌, ◌-◌, ◌*◌, ◌^◌, ◌≤◌, ◌<◌, ◌==◌, Bool, true, false, not, ◌&&◌, List, [], ◌∷◌}
+use Rattle.std.proofs.Common.{◌++◌, length, take, drop, get_or, Option, Some, None, refl, sym, ap, ◌∙◌, subst, arith}
 use Rattle.std.specs.List.{slice_range}
 use Rattle.std.proofs.Math.Nat.{mul-zero}
 use Rattle.std.specs.Prelude.{nat_le}
@@ -20,7 +21,8 @@ use Rattle.bus_line.proofs.LedgerSettledLemmas.{assembled-more, stored-more}
 use Rattle.bus_line.proofs.SpellingRawLemmas.{settles-now, inserted-raw, current-low}
 
 -- the flag of a place behind it
-pub first-Some : (origin first : ℕ) (mark : Mark) → first_of origin mark ≡ Some first → (p : ℕ) × (mark ≡ FlagAt p) × (origin + (p + 8) ≡ first)
+pub first-Some : (origin first : ℕ) (mark : Mark) → first_of origin mark ≡ Some first →
+    (p : ℕ) × (mark ≡ FlagAt p) × (origin + (p + 8) ≡ first)
 first-Some origin first NoMark h = absurd (cc)
 first-Some origin first (AbortAt a) h = absurd (cc)
 first-Some origin first (FlagAt p) h = (p, refl, cc)
@@ -31,7 +33,8 @@ none-belongs origin i NoMark h = refl
 none-belongs origin i (AbortAt a) h = refl
 none-belongs origin i (FlagAt p) h = absurd (cc)
 
-pub none-holds : {C : Type 0} (folded : C → List ℕ → Type 0) (d : LineState C) (b : List Bool) (origin : ℕ) (mark : Mark) → first_of origin mark ≡ None → HoldsFor folded d b mark
+pub none-holds : {C : Type 0} (folded : C → List ℕ → Type 0) (d : LineState C) (b : List Bool) (origin : ℕ)
+    (mark : Mark) → first_of origin mark ≡ None → HoldsFor folded d b mark
 none-holds folded d b origin NoMark h = tt
 none-holds folded d b origin (AbortAt a) h = tt
 none-holds folded d b origin (FlagAt p) h = absurd (cc)
@@ -41,43 +44,64 @@ and-false true y z h = rw h refl
 and-false false y z h = refl
 
 -- a bit whose place belongs to no flag settles nothing
-pub none-settled : (b : List Bool) (bit : Bool) (origin : ℕ) → first_of origin (current b) ≡ None → is_settled (b ++ bit ∷ []) (length b - 8) ≡ false
-none-settled b bit origin h = settles-now b bit ∙ and-false (nat_le 8 (length b)) (belongs (current b) (length b - 8)) _ (none-belongs origin (length b - 8) (current b) h)
+pub none-settled : (b : List Bool) (bit : Bool) (origin : ℕ) → first_of origin (current b) ≡ None →
+    is_settled (b ++ bit ∷ []) (length b - 8) ≡ false
+none-settled b bit origin h = settles-now b bit
+    ∙ and-false (nat_le 8 (length b)) (belongs (current b) (length b - 8)) _
+    (none-belongs origin (length b - 8) (current b) h)
 
 -- a bit that comes too early behind its flag does not either
-pub early-settled : (b : List Bool) (bit : Bool) (p : ℕ) → current b ≡ FlagAt p → length b < p + 16 → is_settled (b ++ bit ∷ []) (length b - 8) ≡ false
+pub early-settled : (b : List Bool) (bit : Bool) (p : ℕ) → current b ≡ FlagAt p → length b < p + 16 →
+    is_settled (b ++ bit ∷ []) (length b - 8) ≡ false
 early-settled b bit p h l =
-    let early : nat_le (p + 8) (length b - 8) ≡ false = false_from_ne_true _ (λ t. absurd (omega (arith, leb-true (p + 8) (length b - 8) t, last_mark-flag-behind b p h))) in
-    settles-now b bit ∙ and-false (nat_le 8 (length b)) (belongs (current b) (length b - 8)) _ (ap (λ m. belongs m (length b - 8)) h ∙ early)
+    let early : nat_le (p + 8) (length b - 8) ≡ false =
+    false_from_ne_true _
+    (λ t. absurd (omega (arith, leb-true (p + 8) (length b - 8) t, last_mark-flag-behind b p h))) in
+    settles-now b bit ∙ and-false (nat_le 8 (length b)) (belongs (current b) (length b - 8)) _
+    (ap (λ m. belongs m (length b - 8)) h ∙ early)
   where
     last_mark-flag-behind : (b : List Bool) (p : ℕ) → current b ≡ FlagAt p → p + 8 ≤ length b
     last_mark-flag-behind b p h = flag-fits b p (last_mark-flag b (length b) p h).flag
 
-pub inserted-settled : (b : List Bool) (bit : Bool) → is_inserted b (length b - 8) ≡ true → is_settled (b ++ bit ∷ []) (length b - 8) ≡ false
-inserted-settled b bit h = settles-now b bit ∙ last-false (nat_le 8 (length b)) (belongs (current b) (length b - 8)) (is_inserted b (length b - 8)) h
+pub inserted-settled : (b : List Bool) (bit : Bool) → is_inserted b (length b - 8) ≡ true →
+    is_settled (b ++ bit ∷ []) (length b - 8) ≡ false
+inserted-settled b bit h = settles-now b bit
+    ∙ last-false (nat_le 8 (length b)) (belongs (current b) (length b - 8)) (is_inserted b (length b - 8)) h
   where
     last-false : (x y z : Bool) → z ≡ true → (x && (y && not z)) ≡ false
     last-false true true z h = rw h refl
     last-false true false z h = refl
     last-false false y z h = refl
 
-pub data-settled : (b : List Bool) (bit : Bool) (p : ℕ) → current b ≡ FlagAt p → p + 16 ≤ length b → is_inserted b (length b - 8) ≡ false → is_settled (b ++ bit ∷ []) (length b - 8) ≡ true
+pub data-settled : (b : List Bool) (bit : Bool) (p : ℕ) → current b ≡ FlagAt p → p + 16 ≤ length b →
+    is_inserted b (length b - 8) ≡ false → is_settled (b ++ bit ∷ []) (length b - 8) ≡ true
 data-settled b bit p h l f =
     settles-now b bit
-    ∙ and_from _ _ (le-leb 8 (length b) (omega arith)) (and_from _ _ (ap (λ m. belongs m (length b - 8)) h ∙ le-leb (p + 8) (length b - 8) (omega arith)) (rw f refl))
+    ∙ and_from _ _ (le-leb 8 (length b) (omega arith))
+    (and_from _ _ (ap (λ m. belongs m (length b - 8)) h ∙ le-leb (p + 8) (length b - 8) (omega arith)) (rw f refl))
 
 -- what the ledger counts, where nothing settles
 pub stored-false : (longest : ℕ) (c : List Bool) (i : ℕ) → is_settled c i ≡ false → is_stored longest c i ≡ false
 stored-false longest c i h = rw h refl
 
-pub counts-kept : {C : Type 0} (cost : ℕ) (d : LineState C) (b : List Bool) (bit : Bool) → is_settled (b ++ bit ∷ []) (length b - 8) ≡ false → Counts cost d b → Counts cost d (b ++ bit ∷ [])
+pub counts-kept : {C : Type 0} (cost : ℕ) (d : LineState C) (b : List Bool) (bit : Bool) →
+    is_settled (b ++ bit ∷ []) (length b - 8) ≡ false → Counts cost d b → Counts cost d (b ++ bit ∷ [])
 counts-kept cost d b bit f k =
     let a : assembled (b ++ bit ∷ []) ≡ assembled b = assembled-more b bit ∙ rw f (omega arith) in
-    let s : stored d.longest (b ++ bit ∷ []) ≡ stored d.longest b = stored-more d.longest b bit ∙ rw (stored-false d.longest (b ++ bit ∷ []) (length b - 8) f) (omega arith) in
-    record { settled = k.settled ∙ sym a; filled = k.filled ∙ sym s; paid = k.paid ∙ ap (λ n. cost * n) (sym s); copied = k.copied; handled = k.handled }
+    let s : stored d.longest (b ++ bit ∷ []) ≡ stored d.longest b =
+    stored-more d.longest b bit ∙ rw (stored-false d.longest (b ++ bit ∷ []) (length b - 8) f) (omega arith) in
+    record {
+      settled = k.settled ∙ sym a;
+      filled = k.filled ∙ sym s;
+      paid = k.paid ∙ ap (λ n. cost * n) (sym s);
+      copied = k.copied;
+      handled = k.handled;
+    }
 
 -- the raw bits behind the flag, one more
-raw-more : (b : List Bool) (bit : Bool) (p : ℕ) → p + 16 ≤ length b → slice_range (b ++ bit ∷ []) (p + 8) (length (b ++ bit ∷ []) - 8) ≡ slice_range b (p + 8) (length b - 8) ++ get_or b (length b - 8) false ∷ []
+raw-more : (b : List Bool) (bit : Bool) (p : ℕ) → p + 16 ≤ length b →
+    slice_range (b ++ bit ∷ []) (p + 8) (length (b ++ bit ∷ []) - 8)
+    ≡ slice_range b (p + 8) (length b - 8) ++ get_or b (length b - 8) false ∷ []
 raw-more b bit p h =
     let e : length (b ++ bit ∷ []) - 8 ≡ (length b - 8) + 1 = omega (arith, length_push b bit) in
     rw e (range-more b bit (p + 8) (length b - 8) (omega arith) (omega arith))
@@ -85,56 +109,75 @@ raw-more b bit p h =
 raw-none : (b : List Bool) (p : ℕ) → length b ≤ p + 16 → slice_range b (p + 8) (length b - 8) ≡ []
 raw-none b p h = let e : (length b - 8) - (p + 8) ≡ 0 = omega arith in ap (λ n. take n (drop (p + 8) b)) e
 
-pub data-early : (b : List Bool) (bit : Bool) (p : ℕ) → length b < p + 16 → settled_data (b ++ bit ∷ []) p ≡ settled_data b p
-data-early b bit p h = ap data_so_far (raw-none (b ++ bit ∷ []) p (omega (arith, length_push b bit)) ∙ sym (raw-none b p (omega arith)))
+pub data-early : (b : List Bool) (bit : Bool) (p : ℕ) → length b < p + 16 →
+    settled_data (b ++ bit ∷ []) p ≡ settled_data b p
+data-early b bit p h =
+    ap data_so_far (raw-none (b ++ bit ∷ []) p (omega (arith, length_push b bit)) ∙ sym (raw-none b p (omega arith)))
 
 pub data-start : (b : List Bool) (p : ℕ) → length b ≤ p + 16 → settled_data b p ≡ []
 data-start b p h = ap data_so_far (raw-none b p h)
 
-kept-data : (r : List Bool) (x : Bool) → (not x && (ones_at_end r == 5)) ≡ true → data_so_far (r ++ x ∷ []) ≡ data_so_far r
+kept-data : (r : List Bool) (x : Bool) → (not x && (ones_at_end r == 5)) ≡ true →
+    data_so_far (r ++ x ∷ []) ≡ data_so_far r
 kept-data r true h = absurd (cc)
 kept-data r false h = data_after-more 0 r false ∙ rw h refl
 
-more-data : (r : List Bool) (x : Bool) → (not x && (ones_at_end r == 5)) ≡ false → data_so_far (r ++ x ∷ []) ≡ data_so_far r ++ x ∷ []
+more-data : (r : List Bool) (x : Bool) → (not x && (ones_at_end r == 5)) ≡ false →
+    data_so_far (r ++ x ∷ []) ≡ data_so_far r ++ x ∷ []
 more-data r true h = data_after-more 0 r true
 more-data r false h = data_after-more 0 r false ∙ rw h refl
 
 -- the bit that is eight before the newest is an inserted 0 by the raw bits too
 inserted-here : (b : List Bool) (p : ℕ) → current b ≡ FlagAt p → p + 16 ≤ length b
-    → is_inserted b (length b - 8) ≡ (not (get_or b (length b - 8) false) && (ones_at_end (slice_range b (p + 8) (length b - 8)) == 5))
-inserted-here b p h l = inserted-raw b p (length b - 8) (last_mark-flag b (length b) p h).flag (omega arith) (omega arith) (current-low b p (length b - 8) h (omega arith))
+    → is_inserted b (length b - 8)
+    ≡ (not (get_or b (length b - 8) false) && (ones_at_end (slice_range b (p + 8) (length b - 8)) == 5))
+inserted-here b p h l = inserted-raw b p (length b - 8) (last_mark-flag b (length b) p h).flag (omega arith)
+    (omega arith) (current-low b p (length b - 8) h (omega arith))
 
-pub data-inserted : (b : List Bool) (bit : Bool) (p : ℕ) → current b ≡ FlagAt p → p + 16 ≤ length b → is_inserted b (length b - 8) ≡ true → settled_data (b ++ bit ∷ []) p ≡ settled_data b p
+pub data-inserted : (b : List Bool) (bit : Bool) (p : ℕ) → current b ≡ FlagAt p → p + 16 ≤ length b →
+    is_inserted b (length b - 8) ≡ true → settled_data (b ++ bit ∷ []) p ≡ settled_data b p
 data-inserted b bit p h l t =
-    ap data_so_far (raw-more b bit p l) ∙ kept-data (slice_range b (p + 8) (length b - 8)) (get_or b (length b - 8) false) (sym (inserted-here b p h l) ∙ t)
+    ap data_so_far (raw-more b bit p l) ∙ kept-data (slice_range b (p + 8) (length b - 8))
+    (get_or b (length b - 8) false) (sym (inserted-here b p h l) ∙ t)
 
-pub data-more : (b : List Bool) (bit : Bool) (p : ℕ) → current b ≡ FlagAt p → p + 16 ≤ length b → is_inserted b (length b - 8) ≡ false
+pub data-more : (b : List Bool) (bit : Bool) (p : ℕ) → current b ≡ FlagAt p → p + 16 ≤ length b →
+    is_inserted b (length b - 8) ≡ false
     → settled_data (b ++ bit ∷ []) p ≡ settled_data b p ++ get_or b (length b - 8) false ∷ []
 data-more b bit p h l f =
-    ap data_so_far (raw-more b bit p l) ∙ more-data (slice_range b (p + 8) (length b - 8)) (get_or b (length b - 8) false) (sym (inserted-here b p h l) ∙ f)
+    ap data_so_far (raw-more b bit p l) ∙ more-data (slice_range b (p + 8) (length b - 8))
+    (get_or b (length b - 8) false) (sym (inserted-here b p h l) ∙ f)
 
-pub holds-of : {C : Type 0} (folded : C → List ℕ → Type 0) (d : LineState C) (b : List Bool) (p : ℕ) (mark : Mark) → mark ≡ FlagAt p → HoldsFor folded d b mark → Holds folded d (settled_data b p)
+pub holds-of : {C : Type 0} (folded : C → List ℕ → Type 0) (d : LineState C) (b : List Bool) (p : ℕ) (mark : Mark) →
+    mark ≡ FlagAt p → HoldsFor folded d b mark → Holds folded d (settled_data b p)
 holds-of folded d b p mark h k = subst (HoldsFor folded d b) h k
 
-pub holds-for : {C : Type 0} (folded : C → List ℕ → Type 0) (d : LineState C) (b : List Bool) (p : ℕ) (mark : Mark) → mark ≡ FlagAt p → Holds folded d (settled_data b p) → HoldsFor folded d b mark
+pub holds-for : {C : Type 0} (folded : C → List ℕ → Type 0) (d : LineState C) (b : List Bool) (p : ℕ) (mark : Mark) →
+    mark ≡ FlagAt p → Holds folded d (settled_data b p) → HoldsFor folded d b mark
 holds-for folded d b p mark h k = subst (HoldsFor folded d b) (sym h) k
 
 -- from there on a piece is open
-pub settles-open : (at place : ℕ) (first : Option ℕ) → at ≡ settles_from first → place ≤ 2 ^ 60 → at < place → (f : ℕ) × (first ≡ Some f) × (f + 8 < place)
+pub settles-open : (at place : ℕ) (first : Option ℕ) → at ≡ settles_from first → place ≤ 2 ^ 60 → at < place →
+    (f : ℕ) × (first ≡ Some f) × (f + 8 < place)
 settles-open at place None s p l = absurd (omega (arith, s, p, l))
 settles-open at place (Some f) s p l = (f, refl, omega (arith, s, l))
 
-pub moved-holds : {C : Type 0} (folded : C → List ℕ → Type 0) (d : LineState C) (b : List Bool) (place history : ℕ) (spent : Spent) (mark : Mark) → HoldsFor folded d b mark → HoldsFor folded (record d { place = place; history = history; spent = spent }) b mark
+pub moved-holds : {C : Type 0} (folded : C → List ℕ → Type 0) (d : LineState C) (b : List Bool) (place history : ℕ)
+    (spent : Spent) (mark : Mark) → HoldsFor folded d b mark →
+    HoldsFor folded (record d { place = place; history = history; spent = spent }) b mark
 moved-holds folded d b place history spent NoMark h = h
 moved-holds folded d b place history spent (AbortAt a) h = h
-moved-holds folded d b place history spent (FlagAt p) h = record { count = h.count; rest = h.rest; held = h.held; checked = h.checked }
+moved-holds folded d b place history spent (FlagAt p) h =
+    record { count = h.count; rest = h.rest; held = h.held; checked = h.checked }
 
 none_history : number (drop (length {A = Bool} []) (padded [])) ≡ 0
 unfolding number
 none_history = refl
 
 -- before the first bit
-pub fresh-tracks : {C : Type 0} (folded : C → List ℕ → Type 0) (cost shifted : ℕ) (d : LineState C) → d.place ≡ d.origin → d.history ≡ 0 → d.first ≡ None → d.spent ≡ record { shifted = shifted; assembled = 0; folded = 0; stored = 0; copied = 0; handled = 0 } → Tracks folded cost d [] NoMark
+pub fresh-tracks : {C : Type 0} (folded : C → List ℕ → Type 0) (cost shifted : ℕ) (d : LineState C) →
+    d.place ≡ d.origin → d.history ≡ 0 → d.first ≡ None →
+    d.spent ≡ record { shifted = shifted; assembled = 0; folded = 0; stored = 0; copied = 0; handled = 0 } →
+    Tracks folded cost d [] NoMark
 fresh-tracks folded cost shifted d p w f s = record {
   has_taken = record { place = omega (arith, p); history = w ∙ sym none_history };
   first = f;
@@ -148,5 +191,6 @@ fresh-tracks folded cost shifted d p w f s = record {
   };
 }
 
-pub stands-same : {C : Type 0} (d e : LineState C) (b : List Bool) → e.place ≡ d.place → e.origin ≡ d.origin → e.history ≡ d.history → HasTaken d b → HasTaken e b
+pub stands-same : {C : Type 0} (d e : LineState C) (b : List Bool) → e.place ≡ d.place → e.origin ≡ d.origin →
+    e.history ≡ d.history → HasTaken d b → HasTaken e b
 stands-same d e b p o w h = record { place = p ∙ (h.place ∙ ap (λ n. n + length b) (sym o)); history = w ∙ h.history }

@@ -1,5 +1,6 @@
 -- Bits that decide nothing, and bits behind them.
-use Rattle.std.proofs.Common.{◌≡◌, ℕ, ◌+◌, ◌-◌, ◌≤◌, ◌++◌, List, [], ◌∷◌, map, Bool, false, Option, None, Some, ap, refl, sym, subst, ◌∙◌, length, length-append, arith}
+use Rattle.std.proofs.Common.{◌≡◌, ℕ, ◌+◌, ◌-◌, ◌≤◌, ◌++◌, List, [], ◌∷◌, map, Bool, false, Option, None, Some, ap}
+use Rattle.std.proofs.Common.{refl, sym, subst, ◌∙◌, length, length-append, arith}
 use Rattle.std.specs.Option.{is_some, option_map, option_to_list}
 use Rattle.std.proofs.lemmas.Bool.{true≢false}
 use Rattle.std.proofs.lemmas.List.{append-nil, append_assoc, append_cancel_left, map-append}
@@ -12,7 +13,8 @@ use Rattle.bus_line.specs.After.{After, DecideNothing, Tells}
 use Rattle.bus_line.proofs.DueMoreLemmas.{placed-more, reports-append}
 
 -- no bits
-pub tells-none : {C : Type 0} (folded : C → List ℕ → Type 0) (cost : ℕ) (d : LineState C) → Tells folded cost d [] None d
+pub tells-none : {C : Type 0} (folded : C → List ℕ → Type 0) (cost : ℕ) (d : LineState C) →
+    Tells folded cost d [] None d
 tells-none folded cost d = record {
   leads = record {
     after = λ b h. subst (After folded cost d) (sym (append-nil b)) h;
@@ -23,19 +25,23 @@ tells-none folded cost d = record {
   says = λ b h. ap (placed d.origin d.longest) (append-nil b) ∙ sym (append-nil (placed d.origin d.longest b));
 }
 
-module _ {C : Type 0} (folded : C → List ℕ → Type 0) (cost : ℕ) {a c : LineState C} {xs : List Bool} (p : Tells folded cost a xs None c) where
+module _ {C : Type 0} (folded : C → List ℕ → Type 0) (cost : ℕ) {a c : LineState C} {xs : List Bool}
+    (p : Tells folded cost a xs None c) where
   silent : (b : List Bool) → After folded cost a b → placed a.origin a.longest (b ++ xs) ≡ placed a.origin a.longest b
   silent b h = p.says b h ∙ append-nil (placed a.origin a.longest b)
 
   -- what stands behind them, by the first decoder's place and longest frame
-  behind : (ys : List Bool) (rs : List Report) (b : List Bool) → placed c.origin c.longest ((b ++ xs) ++ ys) ≡ placed c.origin c.longest (b ++ xs) ++ rs → placed a.origin a.longest (b ++ (xs ++ ys)) ≡ placed a.origin a.longest (b ++ xs) ++ rs
+  behind : (ys : List Bool) (rs : List Report) (b : List Bool) →
+      placed c.origin c.longest ((b ++ xs) ++ ys) ≡ placed c.origin c.longest (b ++ xs) ++ rs →
+      placed a.origin a.longest (b ++ (xs ++ ys)) ≡ placed a.origin a.longest (b ++ xs) ++ rs
   behind ys rs b e =
       ap (placed a.origin a.longest) (sym (append_assoc b xs ys))
       ∙ subst (λ (s : ℕ). placed s a.longest ((b ++ xs) ++ ys) ≡ placed s a.longest (b ++ xs) ++ rs) p.leads.origin
       (subst (λ (s : ℕ). placed c.origin s ((b ++ xs) ++ ys) ≡ placed c.origin s (b ++ xs) ++ rs) p.leads.longest e)
 
   -- bits that decide a report, or nothing
-  pub tells-more : {e : LineState C} {ys : List Bool} {r : Option Report} → Tells folded cost c ys r e → Tells folded cost a (xs ++ ys) r e
+  pub tells-more : {e : LineState C} {ys : List Bool} {r : Option Report} → Tells folded cost c ys r e →
+      Tells folded cost a (xs ++ ys) r e
   tells-more {e} {ys} {r} q = record {
     leads = record {
       after = λ b h. subst (After folded cost e) (append_assoc b xs ys) (q.leads.after (b ++ xs) (p.leads.after b h));
@@ -43,13 +49,15 @@ module _ {C : Type 0} (folded : C → List ℕ → Type 0) (cost : ℕ) {a c : L
       origin = q.leads.origin ∙ p.leads.origin;
       place = omega (arith, length-append xs ys, p.leads.place, q.leads.place);
     };
-    says = λ b h. behind ys (option_to_list r) b (q.says (b ++ xs) (p.leads.after b h)) ∙ ap (λ (z : List Report). z ++ option_to_list r) (silent b h);
+    says = λ b h. behind ys (option_to_list r) b (q.says (b ++ xs) (p.leads.after b h))
+        ∙ ap (λ (z : List Report). z ++ option_to_list r) (silent b h);
   }
 
   -- more bits that decide nothing
   pub decide-more : {ys : List Bool} → DecideNothing folded cost c ys → DecideNothing folded cost a (xs ++ ys)
   decide-more {ys} q = λ b h.
-      behind ys [] b (q (b ++ xs) (p.leads.after b h) ∙ sym (append-nil (placed c.origin c.longest (b ++ xs)))) ∙ (append-nil (placed a.origin a.longest (b ++ xs)) ∙ silent b h)
+      behind ys [] b (q (b ++ xs) (p.leads.after b h) ∙ sym (append-nil (placed c.origin c.longest (b ++ xs))))
+      ∙ (append-nil (placed a.origin a.longest (b ++ xs)) ∙ silent b h)
 
 -- what is not there
 pub is-none : {A : Type 0} (o : Option A) → is_some o ≡ false → o ≡ None
@@ -57,46 +65,64 @@ is-none None e = refl
 is-none (Some x) e = absurd (true≢false e)
 
 -- bits of octets from bit `from` on and before bit `at`, and bits behind them
-module _ {C : Type 0} (folded : C → List ℕ → Type 0) (cost : ℕ) (os : List ℕ) (from at : ℕ) (l : from ≤ at) {a c : LineState C} (p : Tells folded cost a (bits_from os from (at - from)) None c) where
+module _ {C : Type 0} (folded : C → List ℕ → Type 0) (cost : ℕ) (os : List ℕ) (from at : ℕ) (l : from ≤ at)
+    {a c : LineState C} (p : Tells folded cost a (bits_from os from (at - from)) None c) where
   joined : (n m : ℕ) → m ≡ at - from + n → bits_from os from (at - from) ++ bits_from os at n ≡ bits_from os from m
   joined n m e =
       let i : at ≡ from + (at - from) = omega (arith, l) in
-      ap (λ (j : ℕ). bits_from os from (at - from) ++ bits_from os j n) i ∙ (sym (bits-more os from (at - from) n) ∙ ap (bits_from os from) (sym e))
+      ap (λ (j : ℕ). bits_from os from (at - from) ++ bits_from os j n) i
+      ∙ (sym (bits-more os from (at - from) n) ∙ ap (bits_from os from) (sym e))
 
-  pub tells-on : {e : LineState C} {r : Option Report} (n m : ℕ) → m ≡ at - from + n → Tells folded cost c (bits_from os at n) r e → Tells folded cost a (bits_from os from m) r e
-  tells-on {e} {r} n m q t = subst (λ (z : List Bool). Tells folded cost a z r e) (joined n m q) (tells-more folded cost p t)
+  pub tells-on : {e : LineState C} {r : Option Report} (n m : ℕ) → m ≡ at - from + n →
+      Tells folded cost c (bits_from os at n) r e → Tells folded cost a (bits_from os from m) r e
+  tells-on {e} {r} n m q t = subst (λ (z : List Bool). Tells folded cost a z r e) (joined n m q)
+      (tells-more folded cost p t)
 
-  pub decide-on : (n m : ℕ) → m ≡ at - from + n → DecideNothing folded cost c (bits_from os at n) → DecideNothing folded cost a (bits_from os from m)
+  pub decide-on : (n m : ℕ) → m ≡ at - from + n → DecideNothing folded cost c (bits_from os at n) →
+      DecideNothing folded cost a (bits_from os from m)
   decide-on n m q t = subst (DecideNothing folded cost a) (joined n m q) (decide-more folded cost p t)
 
   pub place-on : c.place ≡ a.place + (at - from)
   place-on = p.leads.place ∙ ap (λ (n : ℕ). a.place + n) (length-from os from (at - from))
 
 -- a front of bits that decide nothing decides nothing
-placed-front : (origin longest : ℕ) (b c : List Bool) → placed origin longest (b ++ c) ≡ placed origin longest b ++ map (moved origin) (reports-append longest b c).0
-placed-front origin longest b c = ap (map (moved origin)) (reports-append longest b c).1 ∙ map-append (moved origin) (reports longest b) (reports-append longest b c).0
+placed-front : (origin longest : ℕ) (b c : List Bool) →
+    placed origin longest (b ++ c) ≡ placed origin longest b ++ map (moved origin) (reports-append longest b c).0
+placed-front origin longest b c = ap (map (moved origin)) (reports-append longest b c).1
+    ∙ map-append (moved origin) (reports longest b) (reports-append longest b c).0
 
-none-before : (origin longest : ℕ) (b xs ys : List Bool) → placed origin longest ((b ++ xs) ++ ys) ≡ placed origin longest b → placed origin longest (b ++ xs) ≡ placed origin longest b
+none-before : (origin longest : ℕ) (b xs ys : List Bool) →
+    placed origin longest ((b ++ xs) ++ ys) ≡ placed origin longest b →
+    placed origin longest (b ++ xs) ≡ placed origin longest b
 none-before origin longest b xs ys e =
     let first = map (moved origin) (reports-append longest b xs).0 in
     let more = map (moved origin) (reports-append longest (b ++ xs) ys).0 in
     let one = placed-front origin longest b xs in
     let both : placed origin longest b ++ (first ++ more) ≡ placed origin longest b ++ [] =
-    sym (append_assoc (placed origin longest b) first more) ∙ (ap (λ (z : List Report). z ++ more) (sym one) ∙ (sym (placed-front origin longest (b ++ xs) ys) ∙ (e ∙ sym (append-nil (placed origin longest b))))) in
-    let none : length first + length more ≡ 0 = sym (length-append first more) ∙ ap length (append_cancel_left (placed origin longest b) (first ++ more) [] both) in
-    one ∙ (ap (λ (z : List Report). placed origin longest b ++ z) (no-items first (omega (arith, none))) ∙ append-nil (placed origin longest b))
+    sym (append_assoc (placed origin longest b) first more)
+    ∙ (ap (λ (z : List Report). z ++ more) (sym one)
+    ∙ (sym (placed-front origin longest (b ++ xs) ys) ∙ (e ∙ sym (append-nil (placed origin longest b))))) in
+    let none : length first + length more ≡ 0 = sym (length-append first more)
+    ∙ ap length (append_cancel_left (placed origin longest b) (first ++ more) [] both) in
+    one ∙ (ap (λ (z : List Report). placed origin longest b ++ z) (no-items first (omega (arith, none)))
+    ∙ append-nil (placed origin longest b))
   where
     no-items : (rs : List Report) → length rs ≡ 0 → rs ≡ []
     no-items [] e = refl
     no-items (r ∷ rs) e = absurd (omega (arith, e))
 
-pub tells-front : {C : Type 0} (folded : C → List ℕ → Type 0) (cost : ℕ) (os : List ℕ) (from n m : ℕ) {a c : LineState C} → m ≤ n → Tells folded cost a (bits_from os from n) None c → DecideNothing folded cost a (bits_from os from m)
+pub tells-front : {C : Type 0} (folded : C → List ℕ → Type 0) (cost : ℕ) (os : List ℕ) (from n m : ℕ)
+    {a c : LineState C} → m ≤ n → Tells folded cost a (bits_from os from n) None c →
+    DecideNothing folded cost a (bits_from os from m)
 tells-front folded cost os from n m {a} l p = λ b h.
     let xs = bits_from os from m in
     let ys = bits_from os (from + m) (n - m) in
     let e : n ≡ m + (n - m) = omega (arith, l) in
-    let all : (b ++ xs) ++ ys ≡ b ++ bits_from os from n = append_assoc b xs ys ∙ ap (λ (z : List Bool). b ++ z) (sym (bits-more os from m (n - m)) ∙ ap (bits_from os from) (sym e)) in
-    none-before a.origin a.longest b xs ys (ap (placed a.origin a.longest) all ∙ (p.says b h ∙ append-nil (placed a.origin a.longest b)))
+    let all : (b ++ xs) ++ ys ≡ b ++ bits_from os from n =
+    append_assoc b xs ys ∙ ap (λ (z : List Bool). b ++ z)
+    (sym (bits-more os from m (n - m)) ∙ ap (bits_from os from) (sym e)) in
+    none-before a.origin a.longest b xs ys
+    (ap (placed a.origin a.longest) all ∙ (p.says b h ∙ append-nil (placed a.origin a.longest b)))
 
 -- what the last bit decides
 same-option : {A : Type 0} (o p : Option A) → option_to_list o ≡ option_to_list p → o ≡ p
@@ -105,25 +131,36 @@ same-option None (Some y) e = absurd (omega (arith, ap length e))
 same-option (Some x) None e = absurd (omega (arith, ap length e))
 same-option (Some x) (Some y) e = cc
 
-last-bit : (os : List ℕ) (at n : ℕ) → 1 ≤ n → bits_from os at n ≡ bits_from os at (n - 1) ++ bit_at os (at + (n - 1)) ∷ []
+last-bit : (os : List ℕ) (at n : ℕ) → 1 ≤ n → bits_from os at n
+    ≡ bits_from os at (n - 1) ++ bit_at os (at + (n - 1)) ∷ []
 unfolding bits_from
 last-bit os at n l = let e : n ≡ n - 1 + 1 = omega (arith, l) in ap (bits_from os at) e ∙ bits-more os at (n - 1) 1
 
-pub tells-due : {C : Type 0} (folded : C → List ℕ → Type 0) (cost : ℕ) (os : List ℕ) (at n : ℕ) {a c : LineState C} {r : Option Report} → 1 ≤ n → Tells folded cost a (bits_from os at n) r c → DecideNothing folded cost a (bits_from os at (n - 1))
-    → (b : List Bool) → After folded cost a b → r ≡ option_map (moved a.origin) (due_at a.longest (b ++ bits_from os at n) (length b + n - 1))
+pub tells-due : {C : Type 0} (folded : C → List ℕ → Type 0) (cost : ℕ) (os : List ℕ) (at n : ℕ) {a c : LineState C}
+    {r : Option Report} → 1 ≤ n → Tells folded cost a (bits_from os at n) r c →
+    DecideNothing folded cost a (bits_from os at (n - 1))
+    → (b : List Bool) → After folded cost a b →
+    r ≡ option_map (moved a.origin) (due_at a.longest (b ++ bits_from os at n) (length b + n - 1))
 tells-due folded cost os at n {a} {c} {r} l p before b h =
     let front = bits_from os at (n - 1) in
     let x = bit_at os (at + (n - 1)) in
-    let all : (b ++ front) ++ x ∷ [] ≡ b ++ bits_from os at n = append_assoc b front (x ∷ []) ∙ ap (λ (z : List Bool). b ++ z) (sym (last-bit os at n l)) in
+    let all : (b ++ front) ++ x ∷ [] ≡ b ++ bits_from os at n =
+    append_assoc b front (x ∷ []) ∙ ap (λ (z : List Bool). b ++ z) (sym (last-bit os at n l)) in
     let o = option_map (moved a.origin) (due_at a.longest ((b ++ front) ++ x ∷ []) (length (b ++ front))) in
     let same : placed a.origin a.longest b ++ option_to_list r ≡ placed a.origin a.longest b ++ option_to_list o =
     sym (p.says b h)
-    ∙ (ap (placed a.origin a.longest) (sym all) ∙ (placed-more a.origin a.longest (b ++ front) x o refl ∙ ap (λ (z : List Report). z ++ option_to_list o) (before b h))) in
-    let place : length (b ++ front) ≡ length b + n - 1 = omega (arith, length-append b front, length-from os at (n - 1), l) in
+    ∙ (ap (placed a.origin a.longest) (sym all)
+    ∙ (placed-more a.origin a.longest (b ++ front) x o refl
+    ∙ ap (λ (z : List Report). z ++ option_to_list o) (before b h))) in
+    let place : length (b ++ front) ≡ length b + n - 1 =
+    omega (arith, length-append b front, length-from os at (n - 1), l) in
     same-option r o (append_cancel_left (placed a.origin a.longest b) (option_to_list r) (option_to_list o) same)
-    ∙ ap (option_map (moved a.origin)) (ap (λ (z : List Bool). due_at a.longest z (length (b ++ front))) all ∙ ap (due_at a.longest (b ++ bits_from os at n)) place)
+    ∙ ap (option_map (moved a.origin)) (ap (λ (z : List Bool). due_at a.longest z (length (b ++ front))) all
+    ∙ ap (due_at a.longest (b ++ bits_from os at n)) place)
 
 -- no bits of octets
-pub tells-from : {C : Type 0} (folded : C → List ℕ → Type 0) (cost : ℕ) (os : List ℕ) (from n : ℕ) (d : LineState C) → n ≡ 0 → Tells folded cost d (bits_from os from n) None d
+pub tells-from : {C : Type 0} (folded : C → List ℕ → Type 0) (cost : ℕ) (os : List ℕ) (from n : ℕ) (d : LineState C) →
+    n ≡ 0 → Tells folded cost d (bits_from os from n) None d
 unfolding bits_from
-tells-from folded cost os from n d e = subst (λ (m : ℕ). Tells folded cost d (bits_from os from m) None d) (sym e) (tells-none folded cost d)
+tells-from folded cost os from n d e =
+    subst (λ (m : ℕ). Tells folded cost d (bits_from os from m) None d) (sym e) (tells-none folded cost d)

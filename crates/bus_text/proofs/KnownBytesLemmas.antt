@@ -1,5 +1,6 @@
 -- How what a writer holds grows, in parts.
-use Rattle.std.proofs.Common.{◌≡◌, ℕ, ◌+◌, ◌-◌, ◌<◌, ◌≤◌, List, [], ◌++◌, length, take, drop, refl, sym, ◌∙◌, ap, subst, append_assoc, length-append, length-take, arith, Option, Some, None}
+use Rattle.std.proofs.Common.{◌≡◌, ℕ, ◌+◌, ◌-◌, ◌<◌, ◌≤◌, List, [], ◌++◌, length, take, drop, refl, sym, ◌∙◌, ap, subst}
+use Rattle.std.proofs.Common.{append_assoc, length-append, length-take, arith, Option, Some, None}
 use Rattle.std.specs.Io.KnownBytes.{Appends, Keeps, Consumes}
 use Rattle.std.proofs.lemmas.Grind.{common_steps}
 use Rattle.std.proofs.Math.Seq.{take-add, take-append-add}
@@ -25,11 +26,13 @@ appends_kept (Some x) (Some y) (Some z) bs p q = q ∙ p
 pub take_both : (xs : List ℕ) (i n : ℕ) → take (i + n) xs ≡ take i xs ++ take n (drop i xs)
 take_both xs i n = take-add i n xs
 
-pub appends_more : (a b c : Option (List ℕ)) (xs : List ℕ) (i n : ℕ) → Appends a b (take i xs) → Appends b c (take n (drop i xs)) → Appends a c (take (i + n) xs)
+pub appends_more : (a b c : Option (List ℕ)) (xs : List ℕ) (i n : ℕ) → Appends a b (take i xs) →
+    Appends b c (take n (drop i xs)) → Appends a c (take (i + n) xs)
 appends_more a b c xs i n p q = subst (Appends a c) (sym (take_both xs i n)) (appends_both a b c _ _ p q)
 
 -- the same, where the second write was handed the rest as a slice has it
-pub appends_rest : (a b c : Option (List ℕ)) (xs : List ℕ) (i n : ℕ) → Appends a b (take i xs) → Appends b c (take n (take (length xs - i) (drop i xs))) → Appends a c (take (i + n) xs)
+pub appends_rest : (a b c : Option (List ℕ)) (xs : List ℕ) (i n : ℕ) → Appends a b (take i xs) →
+    Appends b c (take n (take (length xs - i) (drop i xs))) → Appends a c (take (i + n) xs)
 appends_rest a b c xs i n p q =
     let rest : take (length xs - i) (drop i xs) ≡ drop i xs = grind (arith, common_steps) in
     appends_more a b c xs i n p (subst (λ (ys : List ℕ). Appends b c (take n ys)) rest q)
@@ -38,14 +41,16 @@ pub consumes_nothing : (a : Option (List ℕ)) → Consumes a a []
 consumes_nothing None = tt
 consumes_nothing (Some x) = refl
 
-pub consumes_both : (a b c : Option (List ℕ)) (bs cs : List ℕ) → Consumes a b bs → Consumes b c cs → Consumes a c (bs ++ cs)
+pub consumes_both : (a b c : Option (List ℕ)) (bs cs : List ℕ) → Consumes a b bs → Consumes b c cs →
+    Consumes a c (bs ++ cs)
 consumes_both None b c bs cs p q = tt
 consumes_both (Some x) None c bs cs p q = absurd p
 consumes_both (Some x) (Some y) None bs cs p q = absurd q
 consumes_both (Some x) (Some y) (Some z) bs cs p q = p ∙ ap (λ l. bs ++ l) q ∙ sym (append_assoc bs cs z)
 
 -- a read that gave nothing
-pub consumes_end : (a b c : Option (List ℕ)) (bs cs : List ℕ) → cs ≡ [] → Consumes a b bs → Consumes b c cs → Consumes a c bs
+pub consumes_end : (a b c : Option (List ℕ)) (bs cs : List ℕ) → cs ≡ [] → Consumes a b bs → Consumes b c cs →
+    Consumes a c bs
 consumes_end a b c bs cs e p q =
     let whole : bs ++ cs ≡ bs = ap (λ l. bs ++ l) e ∙ append-nil bs in
     subst (λ (l : List ℕ). Consumes a c l) whole (consumes_both a b c bs cs p q)
@@ -57,13 +62,16 @@ consumes_kept (Some x) (Some y) None bs p q = absurd q
 consumes_kept (Some x) (Some y) (Some z) bs p q = p ∙ ap (λ l. bs ++ l) (sym q)
 
 -- a front went out, and then the first part of what follows it
-pub part_out : (start before now : Option (List ℕ)) (front rest more : List ℕ) (n sent : ℕ) → Appends start before front → n ≡ length front
-    → sent ≤ length rest → Appends before now (take sent rest) → Appends start now (take (n + sent) ((front ++ rest) ++ more))
+pub part_out : (start before now : Option (List ℕ)) (front rest more : List ℕ) (n sent : ℕ) →
+    Appends start before front → n ≡ length front
+    → sent ≤ length rest → Appends before now (take sent rest) →
+    Appends start now (take (n + sent) ((front ++ rest) ++ more))
 part_out start before now front rest more n sent out e short part =
     let text : take (n + sent) ((front ++ rest) ++ more) ≡ front ++ take sent rest =
     rw (e, append_assoc, take-append-add) (ap (λ l. front ++ l) (take-append-le sent rest more short)) in
     subst (Appends start now) (sym text) (appends_both start before now _ _ out part)
 
 -- each read gave an octet at least
-pub longer : (xs buf : List ℕ) (count turn : ℕ) → turn ≤ length xs → 0 < count → count ≤ length buf → turn + 1 ≤ length (xs ++ take count buf)
+pub longer : (xs buf : List ℕ) (count turn : ℕ) → turn ≤ length xs → 0 < count → count ≤ length buf →
+    turn + 1 ≤ length (xs ++ take count buf)
 longer xs buf count turn h some fits = simp (length-append, length-take) (omega arith)

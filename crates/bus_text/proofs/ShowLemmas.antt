@@ -1,5 +1,7 @@
 -- The parts of what is shown of a frame.
-use Rattle.std.proofs.Common.{◌≡◌, ℕ, ◌-◌, ◌*◌, ◌/◌, ◌%◌, ◌≤◌, ◌<◌, true, false, List, [], ◌∷◌, ◌++◌, length, take, drop, nat_le, Option, Some, append_assoc, zero, suc, get_or, codes, Result, Ok, Err, refl, sym, ap, ◌∙◌, subst, arith, length-append}
+use Rattle.std.proofs.Common.{◌≡◌, ℕ, ◌-◌, ◌*◌, ◌/◌, ◌%◌, ◌≤◌, ◌<◌, true, false, List, [], ◌∷◌, ◌++◌, length, take}
+use Rattle.std.proofs.Common.{drop, nat_le, Option, Some, append_assoc, zero, suc, get_or, codes, Result, Ok, Err, refl}
+use Rattle.std.proofs.Common.{sym, ap, ◌∙◌, subst, arith, length-append}
 use Rattle.std.proofs.lemmas.Grind.{common_steps, flat_map-append}
 use Rattle.std.proofs.lemmas.List.{append-nil, take-append-le}
 use Rattle.std.specs.Io.KnownBytes.{Appends}
@@ -15,7 +17,8 @@ use Rattle.bus_dictionary.specs.declared.standing.Standing.{Standing}
 use Rattle.bus_dictionary.specs.declared.standing.Standing.TheVariants.{Known}
 use Rattle.bus_text.specs.declared.put.ShortWrite.{ShortWrite}
 use Rattle.bus_text.specs.Internal.Pages.{Puts}
-use Rattle.bus_text.specs.Show.{typed_frame, if_frame, if_decoded, name_text, frame_text, names_text, shown_text, Reads, Shows}
+use Rattle.bus_text.specs.Show.{typed_frame, if_frame, if_decoded, name_text, frame_text, names_text, shown_text, Reads}
+use Rattle.bus_text.specs.Show.{Shows}
 use Rattle.bus_text.specs.HeadText.{head_text}
 use Rattle.bus_text.specs.declared.fault.ToolFault.{ToolFault}
 use Rattle.bus_text.specs.declared.fault.ToolFault.TheVariants.{Memory, Dictionary, Hex, FrameSize}
@@ -58,23 +61,27 @@ frame_long bytes many =
     rw (a, b) refl
 
 -- digits of even number give octets, half as many
-pub even_digits : (s : List ℕ) → length s % 2 ≡ 0 → AllPass is_hex_digit s → (bytes : List ℕ) × (decode_of s ≡ Ok bytes) × (length s ≡ 2 * length bytes)
+pub even_digits : (s : List ℕ) → length s % 2 ≡ 0 → AllPass is_hex_digit s → (bytes : List ℕ) × (decode_of s ≡ Ok bytes)
+    × (length s ≡ 2 * length bytes)
 even_digits s even all =
     let d = decode_of-digits s even all in
     (d.0, d.1, (decode_of-ok s d.0 d.1).2)
 
-pub too_short : (s : List ℕ) → 1 ≤ length s → length s % 2 ≡ 0 → AllPass is_hex_digit s → length s / 2 < 4 → typed_frame s ≡ Err FrameSize
+pub too_short : (s : List ℕ) → 1 ≤ length s → length s % 2 ≡ 0 → AllPass is_hex_digit s → length s / 2 < 4 →
+    typed_frame s ≡ Err FrameSize
 too_short s some even all few =
     let d = even_digits s even all in
     hex_frame s d.0 d.1 (omega (arith, d.2, some)) ∙ frame_short d.0 (omega (arith, d.2, few))
 
-pub too_long : (s : List ℕ) → length s % 2 ≡ 0 → AllPass is_hex_digit s → 258 < length s / 2 → typed_frame s ≡ Err FrameSize
+pub too_long : (s : List ℕ) → length s % 2 ≡ 0 → AllPass is_hex_digit s → 258 < length s / 2 →
+    typed_frame s ≡ Err FrameSize
 too_long s even all many =
     let d = even_digits s even all in
     hex_frame s d.0 d.1 (omega (arith, d.2, many)) ∙ frame_long d.0 (omega (arith, d.2, many))
 
 -- octets that digits are
-pub sized_frame : (s bytes : List ℕ) → decode_of s ≡ Ok bytes → 4 ≤ length s / 2 → length s / 2 ≤ 258 → (typed_frame s ≡ Ok bytes) × (4 ≤ length bytes) × (length bytes ≤ 258)
+pub sized_frame : (s bytes : List ℕ) → decode_of s ≡ Ok bytes → 4 ≤ length s / 2 → length s / 2 ≤ 258 →
+    (typed_frame s ≡ Ok bytes) × (4 ≤ length bytes) × (length bytes ≤ 258)
 sized_frame s bytes is least most =
     let d = (decode_of-ok s bytes is).2 in
     let few : 4 ≤ length bytes = omega (arith, d, least) in
@@ -82,7 +89,8 @@ sized_frame s bytes is least most =
     (hex_frame s bytes is (omega (arith, few)) ∙ frame_fits bytes few many, few, many)
 
 -- a front of what was to be written went out, and so a front of more
-pub cut_more : (start now : Option (List ℕ)) (front more : List ℕ) (cut : ShortWrite) → Puts start now front (Err cut) → Puts start now (front ++ more) (Err cut)
+pub cut_more : (start now : Option (List ℕ)) (front more : List ℕ) (cut : ShortWrite) → Puts start now front (Err cut) →
+    Puts start now (front ++ more) (Err cut)
 cut_more start now front more cut p = (
   subst (λ (l : List ℕ). Appends start now l) (sym (take-append-le cut.sent front more p.1)) p.0,
   omega (arith, p.1, length-append front more),
@@ -90,14 +98,16 @@ cut_more start now front more cut p = (
 
 -- the text up to one name, that name, and the others
 pub names_text_at : (before : List ℕ) (done rest : List NamedBit) (b : NamedBit)
-    → before ++ flat_map name_text (done ++ b ∷ rest) ≡ ((before ++ flat_map name_text done) ++ name_text b) ++ flat_map name_text rest
+    → before ++ flat_map name_text (done ++ b ∷ rest) ≡ ((before ++ flat_map name_text done) ++ name_text b)
+    ++ flat_map name_text rest
 names_text_at before done rest b =
     ap (λ (l : List ℕ). before ++ l) (flat_map-append name_text done (b ∷ rest))
     ∙ (sym (append_assoc before (flat_map name_text done) (name_text b ++ flat_map name_text rest))
     ∙ sym (append_assoc (before ++ flat_map name_text done) (name_text b) (flat_map name_text rest)))
 
 -- the place of each is at least how many stand before it
-place_least : (bits : List NamedBit) → AllPairs (λ a b. a.at < b.at) bits → (i : ℕ) (d : NamedBit) → i < length bits → i ≤ (get_or bits i d).at
+place_least : (bits : List NamedBit) → AllPairs (λ a b. a.at < b.at) bits → (i : ℕ) (d : NamedBit) → i < length bits →
+    i ≤ (get_or bits i d).at
 place_least bits rising zero d h = omega arith
 place_least bits rising (suc i) d h =
     let before = place_least bits rising i d (omega (arith, h)) in
@@ -111,31 +121,38 @@ names_few size (b ∷ bits) r =
     omega (arith, last, r.within (length bits) b (omega arith))
 
 -- a frame that is known has as many octets after its type as its entry says
-pub known_size : (octets : List ℕ) (d : List FrameType) (st ftype : ℕ) (e : FrameType) → Means (Known st ftype) octets d → Some e ≡ entry_at ftype d
+pub known_size : (octets : List ℕ) (d : List FrameType) (st ftype : ℕ) (e : FrameType) →
+    Means (Known st ftype) octets d → Some e ≡ entry_at ftype d
     → length (take (length octets - 2 - 3) (drop 3 octets)) ≡ e.size
 known_size octets d st ftype e (x, there, long) is =
     let same : x.size ≡ e.size = let some = sym there ∙ sym is in cc in
-    let rest : length (take (length octets - 2 - 3) (drop 3 octets)) ≡ length octets - 2 - 3 = grind (arith, common_steps, long) in
+    let rest : length (take (length octets - 2 - 3) (drop 3 octets)) ≡ length octets - 2 - 3 =
+    grind (arith, common_steps, long) in
     omega (arith, long, same, rest)
 
 -- a dictionary that is not read
-pub unread_shows : (text : Option (List ℕ)) (hex octets : List ℕ) (now : Option (List ℕ)) (fault : ToolFault) → typed_frame hex ≡ Ok octets
+pub unread_shows : (text : Option (List ℕ)) (hex octets : List ℕ) (now : Option (List ℕ)) (fault : ToolFault) →
+    typed_frame hex ≡ Ok octets
     → Reads text (Err fault) → Shows text hex now now (Err fault)
 unread_shows text hex octets now Memory typed r = (octets, typed, r, appends_nothing now)
 unread_shows text hex octets now (Dictionary fault) typed r = (octets, typed, r, appends_nothing now)
 unread_shows text hex octets now _ typed r = absurd r
 
 -- the two lines that each frame has, and the others
-pub shown_front : (octets : List ℕ) (d : List FrameType) → shown_text octets d ≡ (frame_text octets ++ (head_text (standing octets d) d ++ codes "\n")) ++ names_text (standing octets d) octets d
+pub shown_front : (octets : List ℕ) (d : List FrameType) →
+    shown_text octets d ≡ (frame_text octets ++ (head_text (standing octets d) d ++ codes "\n"))
+    ++ names_text (standing octets d) octets d
 unfolding shown_text
 shown_front octets d = refl
 
-pub no_names : (s : Standing) (octets : List ℕ) (d : List FrameType) → ((station ftype : ℕ) → s ≡ Known station ftype → ⊥) → names_text s octets d ≡ []
+pub no_names : (s : Standing) (octets : List ℕ) (d : List FrameType) →
+    ((station ftype : ℕ) → s ≡ Known station ftype → ⊥) → names_text s octets d ≡ []
 no_names (Known station ftype) octets d other = absurd (other station ftype refl)
 no_names _ octets d other = refl
 
 -- where no names follow
-pub shown_alone : (octets : List ℕ) (d : List FrameType) → names_text (standing octets d) octets d ≡ [] → frame_text octets ++ (head_text (standing octets d) d ++ codes "\n") ≡ shown_text octets d
+pub shown_alone : (octets : List ℕ) (d : List FrameType) → names_text (standing octets d) octets d ≡ [] →
+    frame_text octets ++ (head_text (standing octets d) d ++ codes "\n") ≡ shown_text octets d
 shown_alone octets d none =
     let front = frame_text octets ++ (head_text (standing octets d) d ++ codes "\n") in
     sym (shown_front octets d ∙ (ap (λ (l : List ℕ). front ++ l) none ∙ append-nil front))

@@ -13,7 +13,8 @@ use Rattle.bus_line.specs.Shown.{kind_with}
 use Rattle.bus_line.specs.declared.event.EventKind.{EventKind}
 use Rattle.bus_line.specs.declared.event.EventKind.TheVariants as event
 
-count-last : {X : Type 0} (p : X → Bool) (xs : List X) (x : X) → count_by p (xs ++ x ∷ []) ≡ counted (p x) (count_by p xs)
+count-last : {X : Type 0} (p : X → Bool) (xs : List X) (x : X) →
+    count_by p (xs ++ x ∷ []) ≡ counted (p x) (count_by p xs)
 count-last p xs x =
     let n = count_by p xs in
     sum_by-append (λ x. cond (p x) 1 0) xs (x ∷ [])
@@ -23,7 +24,8 @@ count-last p xs x =
     ])
 
 -- a summary of one report more
-pub summary-more : (before : List SeenReport) (s : SeenReport) → summary_of (before ++ s ∷ []) ≡ with_seen s (summary_of before)
+pub summary-more : (before : List SeenReport) (s : SeenReport) →
+    summary_of (before ++ s ∷ []) ≡ with_seen s (summary_of before)
 summary-more before s =
     rw (
       count-last (λ (s : SeenReport). is_frame s.report.kind) before s,
@@ -39,7 +41,8 @@ summary-more before s =
     ) refl
 
 -- what is counted of a frame doesn't depend on its octets
-pub kind-alone : (octets : List ℕ) (kind : EventKind) (s : Summary) → with_kind (kind_with [] kind) s ≡ with_kind (kind_with octets kind) s
+pub kind-alone : (octets : List ℕ) (kind : EventKind) (s : Summary) →
+    with_kind (kind_with [] kind) s ≡ with_kind (kind_with octets kind) s
 kind-alone octets event.Frame s = refl
 kind-alone octets (event.Damaged cause) s = refl
 kind-alone octets event.Overlong s = refl

@@ -3,7 +3,8 @@ use Rattle.std.specs.Prelude.{ℕ, List, [], ◌++◌, decimal, codes, Option, S
 use Rattle.bus_dictionary.specs.Entry.{FrameType}
 use Rattle.bus_dictionary.specs.Dictionary.{entry_at}
 use Rattle.bus_dictionary.specs.declared.standing.Standing.{Standing}
-use Rattle.bus_dictionary.specs.declared.standing.Standing.TheVariants.{OtherControl, Untyped, Unknown, WrongLength, Known}
+use Rattle.bus_dictionary.specs.declared.standing.Standing.TheVariants.{OtherControl, Untyped, Unknown, WrongLength}
+use Rattle.bus_dictionary.specs.declared.standing.Standing.TheVariants.{Known}
 
 abbrev pub name_of : Option FrameType → List ℕ
 name_of None = []

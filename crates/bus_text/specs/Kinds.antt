@@ -2,7 +2,8 @@
 use Rattle.std.specs.Prelude.{Bool, true, false, List, [], ◌∷◌, ℕ, ◌==◌, codes, find, Option}
 use Rattle.std.specs.Cmp.Lexicographic.{pointwise}
 use Rattle.bus_text.specs.declared.kind.Kind.{Kind}
-use Rattle.bus_text.specs.declared.kind.Kind.TheVariants.{Frame, Damaged, Overlong, Abort, Idle, Stray, Answered, Missing, Spoilt, Late, Begun, Pending}
+use Rattle.bus_text.specs.declared.kind.Kind.TheVariants.{Frame, Damaged, Overlong, Abort, Idle, Stray, Answered}
+use Rattle.bus_text.specs.declared.kind.Kind.TheVariants.{Missing, Spoilt, Late, Begun, Pending}
 
 abbrev pub kind_word : Kind → List ℕ
 kind_word Frame = codes "frame"

@@ -7,7 +7,9 @@ ghost use Rattle.bus_watch.specs.Shown.{found_on};
 ghost use Rattle.bus_watch.specs.Seen.{type_of};
 ghost use Rattle.bus_text.specs.Given.{printer_of};
 ghost use Rattle.bus_text.specs.Kinds.{kind_word};
-ghost use Rattle.bus_text.specs.Listing.{report_kind, report_line, outcome_kind, frame_line, verdict_line, begun_line, begun_lines, pending_lines, strays_at, head_part, text_of, listing, passes, station_of, line_of_commands, ending_text, ending_lines, pair_ending_lines};
+ghost use Rattle.bus_text.specs.Listing.{report_kind, report_line, outcome_kind, frame_line, verdict_line, begun_line};
+ghost use Rattle.bus_text.specs.Listing.{begun_lines, pending_lines, strays_at, head_part, text_of, listing, passes};
+ghost use Rattle.bus_text.specs.Listing.{station_of, line_of_commands, ending_text, ending_lines, pair_ending_lines};
 
 use crate::filter::Filter;
 use crate::head::push_head;

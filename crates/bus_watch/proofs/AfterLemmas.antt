@@ -1,5 +1,6 @@
 -- More bits lead an analyser on.
-use Rattle.std.proofs.Common.{◌≡◌, ℕ, ◌-◌, Bool, List, [], ◌∷◌, ◌++◌, length, take, Option, Some, None, sym, ap, ◌∙◌, subst, append-nil}
+use Rattle.std.proofs.Common.{◌≡◌, ℕ, ◌-◌, Bool, List, [], ◌∷◌, ◌++◌, length, take, Option, Some, None, sym, ap, ◌∙◌}
+use Rattle.std.proofs.Common.{subst, append-nil}
 use Rattle.std.specs.Option.{option_to_list}
 use Rattle.std.proofs.lemmas.List.{map-append}
 use Rattle.bus_bits.specs.Octet.{bits_of}
@@ -22,19 +23,26 @@ use Rattle.bus_watch.proofs.AnalyserViewLemmas.{octets-moved, steps-moved, heard
 
 -- what the decoder's contract says of bits
 abbrev pub GrowsBy : {C : Type 0} → (C → List ℕ → Type 0) → ℕ → LineState C → List Bool → Option Report → Type 0
-GrowsBy folded cost d bits o = (b : List Bool) → After folded cost d b → placed d.origin d.longest (b ++ bits) ≡ placed d.origin d.longest b ++ option_to_list o
+GrowsBy folded cost d bits o = (b : List Bool) → After folded cost d b →
+    placed d.origin d.longest (b ++ bits) ≡ placed d.origin d.longest b ++ option_to_list o
 
 abbrev pub IsCalmFor : {C : Type 0} → (C → List ℕ → Type 0) → ℕ → LineState C → List Bool → Type 0
-IsCalmFor folded cost d bits = (b : List Bool) → After folded cost d b → placed d.origin d.longest (b ++ bits) ≡ placed d.origin d.longest b
+IsCalmFor folded cost d bits = (b : List Bool) → After folded cost d b →
+    placed d.origin d.longest (b ++ bits) ≡ placed d.origin d.longest b
 
 -- all bits but the last decide nothing
-pub calm-but-last : {C : Type 0} (folded : C → List ℕ → Type 0) (cost n x : ℕ) (d : LineState C) → length (bits_of n x) ≡ n → take (n - 1) (bits_of n x) ≡ bits_of (n - 1) x
-    → IsCalmFor folded cost d (bits_of (n - 1) x) → IsCalmFor folded cost d (take (length (bits_of n x) - 1) (bits_of n x))
-calm-but-last folded cost n x d l f calm = subst (IsCalmFor folded cost d) (sym (ap (λ k. take (k - 1) (bits_of n x)) l ∙ f)) calm
+pub calm-but-last : {C : Type 0} (folded : C → List ℕ → Type 0) (cost n x : ℕ) (d : LineState C) →
+    length (bits_of n x) ≡ n → take (n - 1) (bits_of n x) ≡ bits_of (n - 1) x
+    → IsCalmFor folded cost d (bits_of (n - 1) x) →
+    IsCalmFor folded cost d (take (length (bits_of n x) - 1) (bits_of n x))
+calm-but-last folded cost n x d l f calm =
+    subst (IsCalmFor folded cost d) (sym (ap (λ k. take (k - 1) (bits_of n x)) l ∙ f)) calm
 
 -- bits that decide nothing
-pub hears-none : {C : Type 0} (folded : C → List ℕ → Type 0) (cost : ℕ) (on : Option Line) (old new : LineState C) (j k : JournalState) (bits : List Bool)
-    → Led folded cost old bits new → GrowsBy folded cost old bits None → IsCalmFor folded cost old (take (length bits - 1) bits) → k ≡ j
+pub hears-none : {C : Type 0} (folded : C → List ℕ → Type 0) (cost : ℕ) (on : Option Line) (old new : LineState C)
+    (j k : JournalState) (bits : List Bool)
+    → Led folded cost old bits new → GrowsBy folded cost old bits None →
+    IsCalmFor folded cost old (take (length bits - 1) bits) → k ≡ j
     → Hears folded cost on old j bits None new k
 hears-none folded cost on old new j k bits led grows calm same = record {
   report = None;
@@ -48,8 +56,10 @@ hears-none folded cost on old new j k bits led grows calm same = record {
 }
 
 -- bits the last of which decides a report; what is seen of it was kept
-pub hears-some : {C : Type 0} (folded : C → List ℕ → Type 0) (cost : ℕ) (on : Option Line) (old new : LineState C) (j k : JournalState) (bits : List Bool) (report : Report) (told : Option SeenReport)
-    → Led folded cost old bits new → GrowsBy folded cost old bits (Some report) → IsCalmFor folded cost old (take (length bits - 1) bits)
+pub hears-some : {C : Type 0} (folded : C → List ℕ → Type 0) (cost : ℕ) (on : Option Line) (old new : LineState C)
+    (j k : JournalState) (bits : List Bool) (report : Report) (told : Option SeenReport)
+    → Led folded cost old bits new → GrowsBy folded cost old bits (Some report) →
+    IsCalmFor folded cost old (take (length bits - 1) bits)
     → ((hs : List Heard) → Keeps j hs → Keeps k (hs ++ heard_on on report ∷ []))
     → ((hs : List Heard) → Keeps j hs → told ≡ Some (seen_of j.dictionary hs (heard_on on report)))
     → k.dictionary ≡ j.dictionary → k.depth ≡ j.depth
@@ -60,20 +70,28 @@ hears-some folded cost on old new j k bits report told led grows calm keeps says
   calm = calm;
   grows = grows;
   keeps = keeps;
-  seen = λ hs h. seen-more j.dictionary hs (heard_on on report) ∙ ap (λ o. seen j.dictionary hs ++ option_to_list o) (sym (says hs h));
+  seen = λ hs h. seen-more j.dictionary hs (heard_on on report)
+      ∙ ap (λ o. seen j.dictionary hs ++ option_to_list o) (sym (says hs h));
   dictionary = dictionary;
   depth = depth;
 }
 
 -- bits that were heard lead an analyser of one line on
-pub sees-heard : {C : Type 0} (folded : C → List ℕ → Type 0) (cost : ℕ) (old new : AnalyserState C) (bits : List Bool) (told : Option SeenReport)
-    → Hears folded cost None old.decoder old.journal bits told new.decoder new.journal → Sees folded cost old bits (option_to_list told) new
+pub sees-heard : {C : Type 0} (folded : C → List ℕ → Type 0) (cost : ℕ) (old new : AnalyserState C) (bits : List Bool)
+    (told : Option SeenReport)
+    → Hears folded cost None old.decoder old.journal bits told new.decoder new.journal →
+    Sees folded cost old bits (option_to_list told) new
 sees-heard folded cost old new bits told h =
     let same : (bs : List Bool) → line new bs ≡ line old bs = λ bs.
-    ap (λ o. of_line (placed o (longest_of new.journal.dictionary) bs)) h.led.origin ∙ ap (λ d. of_line (placed old.decoder.origin (longest_of d) bs)) h.dictionary in
-    let grown : (b : List Bool) → IsAfter folded cost old b → line old (b ++ bits) ≡ line old b ++ heard_option None h.report = λ b t.
-    let e : placed old.decoder.origin (longest_of old.journal.dictionary) (b ++ bits) ≡ placed old.decoder.origin (longest_of old.journal.dictionary) b ++ option_to_list h.report = rw (← t.longest) (h.grows b t.decoder) in
-    ap of_line e ∙ map-append (heard_on None) (placed old.decoder.origin (longest_of old.journal.dictionary) b) (option_to_list h.report) in
+    ap (λ o. of_line (placed o (longest_of new.journal.dictionary) bs)) h.led.origin
+    ∙ ap (λ d. of_line (placed old.decoder.origin (longest_of d) bs)) h.dictionary in
+    let grown : (b : List Bool) → IsAfter folded cost old b →
+    line old (b ++ bits) ≡ line old b ++ heard_option None h.report = λ b t.
+    let e : placed old.decoder.origin (longest_of old.journal.dictionary) (b ++ bits)
+    ≡ placed old.decoder.origin (longest_of old.journal.dictionary) b ++ option_to_list h.report =
+    rw (← t.longest) (h.grows b t.decoder) in
+    ap of_line e ∙ map-append (heard_on None) (placed old.decoder.origin (longest_of old.journal.dictionary) b)
+    (option_to_list h.report) in
     record {
       is_after = λ b t. record {
         decoder = h.led.after b t.decoder;
@@ -88,7 +106,8 @@ sees-heard folded cost old new bits told h =
     }
 
 -- the steps of the decoder, and those of the journal
-pub ledger-is : {C : Type 0} (folded : C → List ℕ → Type 0) (cost : ℕ) (a : AnalyserState C) (b : List Bool) (d j : Spent) → IsAfter folded cost a b
+pub ledger-is : {C : Type 0} (folded : C → List ℕ → Type 0) (cost : ℕ) (a : AnalyserState C) (b : List Bool)
+    (d j : Spent) → IsAfter folded cost a b
     → IsLineLedger cost a.decoder.longest b d → j.copied ≡ a.journal.copied → j.handled ≡ a.journal.handled
     → IsLedger cost (longest_of a.journal.dictionary) b (record d { copied = j.copied; handled = j.handled })
 ledger-is folded cost a b d j s l copied handled =
@@ -98,13 +117,16 @@ ledger-is folded cost a b d j s l copied handled =
       settled = l.settled;
       filled = rw (← s.longest) l.filled;
       paid = rw (← s.longest) l.paid;
-      kept = copied ∙ s.journal.copied ∙ heard-octets None rs ∙ octets-moved a.decoder.origin (reports (longest_of a.journal.dictionary) b);
-      reported = handled ∙ s.journal.handled ∙ heard-steps None rs ∙ steps-moved a.decoder.origin (reports (longest_of a.journal.dictionary) b);
+      kept = copied ∙ s.journal.copied ∙ heard-octets None rs
+          ∙ octets-moved a.decoder.origin (reports (longest_of a.journal.dictionary) b);
+      reported = handled ∙ s.journal.handled ∙ heard-steps None rs
+          ∙ steps-moved a.decoder.origin (reports (longest_of a.journal.dictionary) b);
     }
 
 -- where nothing is reported, nothing is seen
 pub seen-before : {C : Type 0} (folded : C → List ℕ → Type 0) (cost : ℕ) (a : AnalyserState C) (bits : List Bool)
-    → IsCalmFor folded cost a.decoder bits → (b : List Bool) → IsAfter folded cost a b → seen_after a (b ++ bits) ≡ seen_after a b
+    → IsCalmFor folded cost a.decoder bits → (b : List Bool) → IsAfter folded cost a b →
+    seen_after a (b ++ bits) ≡ seen_after a b
 seen-before folded cost a bits calm b s =
     let same : line a (b ++ bits) ≡ line a b = ap of_line (rw (← s.longest) (calm b s.decoder)) in
     ap (seen a.journal.dictionary) same

@@ -1,5 +1,6 @@
 -- The counters have room, and frames are whole.
-use Rattle.std.proofs.Common.{◌≡◌, ℕ, zero, suc, ◌+◌, ◌*◌, ◌<◌, ◌≤◌, ◌^◌, Bool, List, [], ◌∷◌, length, Option, Some, None, refl, sym, ap, ◌∙◌, arith, get_or, map, not}
+use Rattle.std.proofs.Common.{◌≡◌, ℕ, zero, suc, ◌+◌, ◌*◌, ◌<◌, ◌≤◌, ◌^◌, Bool, List, [], ◌∷◌, length, Option, Some}
+use Rattle.std.proofs.Common.{None, refl, sym, ap, ◌∙◌, arith, get_or, map, not}
 use Rattle.std.specs.List.{filter_map, cons_option, sum_by}
 use Rattle.std.specs.Option.{option_map}
 use Rattle.std.proofs.lemmas.List.{length-map, length-append}
@@ -43,10 +44,23 @@ neighbours-length (x ∷ []) = omega arith
 neighbours-length (x ∷ y ∷ xs) = omega (arith, neighbours-length (y ∷ xs))
 
 pub line-length : (origin longest : ℕ) (b : List Bool) → length (placed origin longest b) ≤ length b
-line-length origin longest b = omega (arith, length-map (reports longest b) (moved origin), filter_map-length (due_at longest b) (places (length b)), length-places (length b))
+line-length origin longest b =
+    omega (
+      arith,
+      length-map (reports longest b) (moved origin),
+      filter_map-length (due_at longest b) (places (length b)),
+      length-places (length b),
+    )
 
 verdicts-length : (d : List FrameType) (rs : List Heard) → length (verdicts d rs) ≤ length rs
-verdicts-length d rs = omega (arith, filter_map-length (λ pair. verdict_on d pair.0 pair.1) (neighbours (talk rs)), neighbours-length (talk rs), length-filter (λ (h : Heard). not (is_idle h.report.kind)) rs, count_by-le-length (λ (h : Heard). not (is_idle h.report.kind)) rs)
+verdicts-length d rs =
+    omega (
+      arith,
+      filter_map-length (λ pair. verdict_on d pair.0 pair.1) (neighbours (talk rs)),
+      neighbours-length (talk rs),
+      length-filter (λ (h : Heard). not (is_idle h.report.kind)) rs,
+      count_by-le-length (λ (h : Heard). not (is_idle h.report.kind)) rs,
+    )
 
 steps-six : (kind : Kind) → kind_steps kind ≤ 6
 steps-six (Frame octets) = omega arith
@@ -56,7 +70,8 @@ steps-six Kind.Abort = omega arith
 steps-six Kind.Idle = omega arith
 
 steps-within : (hs : List Heard) → handled_of hs ≤ 6 * length hs
-steps-within hs = omega (arith, sum_by-le (λ (h : Heard). steps h.report) 6 hs (λ i d l. steps-six (get_or hs i d).report.kind))
+steps-within hs =
+    omega (arith, sum_by-le (λ (h : Heard). steps h.report) 6 hs (λ i d l. steps-six (get_or hs i d).report.kind))
 
 pub octets-moved : (origin : ℕ) (rs : List Report) → sum_by octet_count (map (moved origin) rs) ≡ sum_by octet_count rs
 octets-moved origin [] = refl
@@ -71,18 +86,26 @@ steps-moved origin (r ∷ rs) =
     ∙ (ap (λ n. sum_by steps (r ∷ []) + n) (steps-moved origin rs) ∙ sym (sum_by-append steps (r ∷ []) rs))
 
 -- no station has more verdicts than there are reports
-tally-within : (d : List FrameType) (hs : List Heard) (station : ℕ) (c : Counts) → c ≡ tally d hs station → length hs ≤ 2 ^ 61 + 1
+tally-within : (d : List FrameType) (hs : List Heard) (station : ℕ) (c : Counts) → c ≡ tally d hs station →
+    length hs ≤ 2 ^ 61 + 1
     → (c.answered + 1 < 2 ^ 64) × (c.missing + 1 < 2 ^ 64) × (c.spoilt + 1 < 2 ^ 64) × (c.late + 1 < 2 ^ 64)
 tally-within d hs station c e l =
     let v = verdicts-length d hs in
-    let most : (o : Outcome) → verdicts_of o station (verdicts d hs) ≤ length (verdicts d hs) = λ o. count_by-le-length _ (verdicts d hs) in
-    rw e (omega (arith, v, most Answered, l), omega (arith, v, most Missing, l), omega (arith, v, most Spoilt, l), omega (arith, v, most Late, l))
+    let most : (o : Outcome) → verdicts_of o station (verdicts d hs) ≤ length (verdicts d hs) =
+    λ o. count_by-le-length _ (verdicts d hs) in
+    rw e (
+      omega (arith, v, most Answered, l),
+      omega (arith, v, most Missing, l),
+      omega (arith, v, most Spoilt, l),
+      omega (arith, v, most Late, l),
+    )
 
 same-Some : {X : Type 0} (x y : X) → Some x ≡ Some y → x ≡ y
 same-Some x y e = cc
 
 -- after no more reports than two lines have, all counters have room for one more
-pub room-of : (j : JournalState) (hs : List Heard) → Keeps j hs → copied_of hs ≤ 2 ^ 62 → length hs ≤ 2 ^ 61 + 1 → HasRoom j
+pub room-of : (j : JournalState) (hs : List Heard) → Keeps j hs → copied_of hs ≤ 2 ^ 62 → length hs ≤ 2 ^ 61 + 1 →
+    HasRoom j
 room-of j hs k octets l = record {
   copied = omega (arith, k.copied, octets);
   handled = omega (arith, k.handled, steps-within hs, l);
@@ -103,23 +126,34 @@ heard-steps on (r ∷ rs) =
     ∙ (ap (λ n. handled (r ∷ []) + n) (heard-steps on rs) ∙ sym (sum_by-append steps (r ∷ []) rs))
 
 -- after at most 2^60 bits all counters have room
-pub room : {C : Type 0} (folded : C → List ℕ → Type 0) (cost : ℕ) (a : AnalyserState C) (b : List Bool) → FramesStored → StoredPaid → AssembledWithin
+pub room : {C : Type 0} (folded : C → List ℕ → Type 0) (cost : ℕ) (a : AnalyserState C) (b : List Bool) → FramesStored →
+    StoredPaid → AssembledWithin
     → IsAfter folded cost a b → length b ≤ 2 ^ 60 → HasRoom a.journal
 room folded cost a b frames paid within s l =
     let longest = longest_of a.journal.dictionary in
     let rs = placed a.decoder.origin longest b in
     room-of a.journal (line a b) s.journal
-    (omega (arith, heard-octets None rs, octets-moved a.decoder.origin (reports longest b), frames longest b, paid longest b, within b, l))
+    (omega (
+      arith,
+      heard-octets None rs,
+      octets-moved a.decoder.origin (reports longest b),
+      frames longest b,
+      paid longest b,
+      within b,
+      l,
+    ))
     (omega (arith, length-map rs (heard_on None), line-length a.decoder.origin longest b, l))
 
 -- a frame that is due has its head and its check
-map-Some : {X Y : Type 0} (f : X → Y) (o : Option X) (y : Y) → Some y ≡ option_map f o → (x : X) × (o ≡ Some x) × (f x ≡ y)
+map-Some : {X Y : Type 0} (f : X → Y) (o : Option X) (y : Y) → Some y ≡ option_map f o →
+    (x : X) × (o ≡ Some x) × (f x ≡ y)
 map-Some f None y e = absurd (cc)
 map-Some f (Some x) y e = (x, refl, cc)
 
 whole-kind : (longest : ℕ) (b : List Bool) (i : ℕ) (octets : List ℕ) (kind : EventKind) → DueIsIt → FrameIsSpelled
     → (r : Report) → due_at longest b i ≡ Some r → r.kind ≡ kind_with octets kind → IsWhole kind octets
-whole-kind longest b i octets event.Frame due spelled r e k = (spelled longest b r octets ((due longest b i r).1 e).0 k).2
+whole-kind longest b i octets event.Frame due spelled r e k =
+    (spelled longest b r octets ((due longest b i r).1 e).0 k).2
 whole-kind longest b i octets (event.Damaged cause) due spelled r e k = tt
 whole-kind longest b i octets event.Overlong due spelled r e k = tt
 whole-kind longest b i octets event.Abort due spelled r e k = tt

@@ -1,5 +1,6 @@
 -- What is seen behind a cut.
-use Rattle.std.proofs.Common.{◌≡◌, ℕ, ◌+◌, Bool, true, false, List, [], ◌∷◌, ◌++◌, length, map, Option, None, option_map, refl, sym, ap, ◌∙◌, append_assoc, arith}
+use Rattle.std.proofs.Common.{◌≡◌, ℕ, ◌+◌, Bool, true, false, List, [], ◌∷◌, ◌++◌, length, map, Option, None}
+use Rattle.std.proofs.Common.{option_map, refl, sym, ap, ◌∙◌, append_assoc, arith}
 use Rattle.std.proofs.lemmas.List.{append-nil, map-append}
 use Rattle.bus_line.specs.Mark.{flag}
 use Rattle.bus_line.specs.Report.{Report, moved}
@@ -22,7 +23,8 @@ abbrev behind : List FrameType → List Heard → List Heard → List SeenReport
 behind d before [] = []
 behind d before (h ∷ hs) = seen_of d before h ∷ behind d (before ++ h ∷ []) hs
 
-seen-behind : (d : List FrameType) (before hs : List Heard) → seen d (before ++ hs) ≡ seen d before ++ behind d before hs
+seen-behind : (d : List FrameType) (before hs : List Heard) →
+    seen d (before ++ hs) ≡ seen d before ++ behind d before hs
 seen-behind d before [] = ap (seen d) (append-nil before) ∙ sym (append-nil (seen d before))
 seen-behind d before (h ∷ hs) =
     ap (seen d) (sym (append_assoc before (h ∷ []) hs))
@@ -41,7 +43,8 @@ with_verdict d h v = record {
 }
 
 -- only the command that waits counts of the reports before
-decided-alike : (d : List FrameType) (a c : List Heard) (h : Heard) → pending d a ≡ pending d c → decided d a h ≡ decided d c h
+decided-alike : (d : List FrameType) (a c : List Heard) (h : Heard) → pending d a ≡ pending d c →
+    decided d a h ≡ decided d c h
 decided-alike d a c h e = step (is_idle h.report.kind) refl
   where
     step : (b : Bool) → is_idle h.report.kind ≡ b → decided d a h ≡ decided d c h
@@ -49,7 +52,8 @@ decided-alike d a c h e = step (is_idle h.report.kind) refl
     step false i =
         decided-talk d a h i ∙ ap (option_map (verdict d (begins d h))) e ∙ sym (decided-talk d c h i)
 
-pending-alike : (d : List FrameType) (a c : List Heard) (h : Heard) → pending d a ≡ pending d c → pending d (a ++ h ∷ []) ≡ pending d (c ++ h ∷ [])
+pending-alike : (d : List FrameType) (a c : List Heard) (h : Heard) → pending d a ≡ pending d c →
+    pending d (a ++ h ∷ []) ≡ pending d (c ++ h ∷ [])
 pending-alike d a c h e = step (is_idle h.report.kind) refl
   where
     step : (b : Bool) → is_idle h.report.kind ≡ b → pending d (a ++ h ∷ []) ≡ pending d (c ++ h ∷ [])
@@ -67,7 +71,8 @@ loses-nothing d before hs e =
     seen-behind d before hs
     ∙ ap (λ (ss : List SeenReport). seen d before ++ ss) (behind-alike d before [] hs e ∙ sym (seen-behind d [] hs))
 
-behind-append : (d : List FrameType) (before xs ys : List Heard) → behind d before (xs ++ ys) ≡ behind d before xs ++ behind d (before ++ xs) ys
+behind-append : (d : List FrameType) (before xs ys : List Heard) →
+    behind d before (xs ++ ys) ≡ behind d before xs ++ behind d (before ++ xs) ys
 behind-append d before [] ys = ap (λ (a : List Heard). behind d a ys) (sym (append-nil before))
 behind-append d before (x ∷ xs) ys =
     ap (λ (ss : List SeenReport). seen_of d before x ∷ ss)
@@ -90,7 +95,8 @@ behind-idles d a c (h ∷ hs) e =
     (ap (with_verdict d h) (decided-idle d a h i.0 ∙ sym (decided-idle d c h i.0)))
     (behind-idles d (a ++ h ∷ []) (c ++ h ∷ []) hs i.1)
 
-pending-idles : (d : List FrameType) (before hs : List Heard) → talk hs ≡ [] → pending d (before ++ hs) ≡ pending d before
+pending-idles : (d : List FrameType) (before hs : List Heard) → talk hs ≡ [] →
+    pending d (before ++ hs) ≡ pending d before
 pending-idles d before [] e = ap (pending d) (append-nil before)
 pending-idles d before (h ∷ hs) e =
     let i = idle-first h hs e in
@@ -100,19 +106,23 @@ pending-idles d before (h ∷ hs) e =
 
 pub loses-verdict : CutLosesVerdict
 loses-verdict d before idles rest h t i =
-    let same = behind-alike d (idles ++ h ∷ []) ((before ++ idles) ++ h ∷ []) rest (pending-talk d idles h i ∙ sym (pending-talk d (before ++ idles) h i)) in
+    let same = behind-alike d (idles ++ h ∷ []) ((before ++ idles) ++ h ∷ []) rest
+    (pending-talk d idles h i ∙ sym (pending-talk d (before ++ idles) h i)) in
     let none : pending d idles ≡ None = pending-idles d [] idles t in
     record {
       others = behind d ((before ++ idles) ++ h ∷ []) rest;
       whole = seen-behind d before (idles ++ h ∷ rest)
           ∙ ap (λ (ss : List SeenReport). seen d before ++ ss)
           (behind-append d before idles (h ∷ rest)
-          ∙ ap (λ (ss : List SeenReport). ss ++ behind d (before ++ idles) (h ∷ rest)) (behind-idles d before [] idles t ∙ sym (seen-behind d [] idles)));
+          ∙ ap (λ (ss : List SeenReport). ss ++ behind d (before ++ idles) (h ∷ rest))
+          (behind-idles d before [] idles t ∙ sym (seen-behind d [] idles)));
       alone = seen-behind d [] (idles ++ h ∷ rest)
           ∙ behind-append d [] idles (h ∷ rest)
-          ∙ ap (λ (ss : List SeenReport). ss ++ seen_of d idles h ∷ behind d (idles ++ h ∷ []) rest) (sym (seen-behind d [] idles))
+          ∙ ap (λ (ss : List SeenReport). ss ++ seen_of d idles h ∷ behind d (idles ++ h ∷ []) rest)
+          (sym (seen-behind d [] idles))
           ∙ ap (λ (ss : List SeenReport). seen d idles ++ seen_of d idles h ∷ ss) same;
-      verdict = decided-talk d (before ++ idles) h i ∙ ap (option_map (verdict d (begins d h))) (pending-idles d before idles t);
+      verdict = decided-talk d (before ++ idles) h i
+          ∙ ap (option_map (verdict d (begins d h))) (pending-idles d before idles t);
       none = decided-talk d idles h i ∙ ap (option_map (verdict d (begins d h))) none;
     }
 
@@ -129,10 +139,13 @@ placed-cut : CutAtFlag → (longest origin : ℕ) (u t : List Bool) →
 placed-cut cut longest origin u t =
     ap (λ (rs : List Report). of_line (map (moved origin) rs)) (cut longest u t)
     ∙ ap of_line (map-append (moved origin) (reports longest (u ++ flag)) (placed (length u) longest (flag ++ t)))
-    ∙ map-append (heard_on None) (placed origin longest (u ++ flag)) (map (moved origin) (placed (length u) longest (flag ++ t)))
-    ∙ ap (λ (rs : List Report). of_line (placed origin longest (u ++ flag)) ++ of_line rs) (moved-twice origin (length u) (reports longest (flag ++ t)))
+    ∙ map-append (heard_on None) (placed origin longest (u ++ flag))
+    (map (moved origin) (placed (length u) longest (flag ++ t)))
+    ∙ ap (λ (rs : List Report). of_line (placed origin longest (u ++ flag)) ++ of_line rs)
+    (moved-twice origin (length u) (reports longest (flag ++ t)))
 
 pub flag-loses-nothing : CutAtFlag → FlagLosesNothing
 flag-loses-nothing cut d longest origin u t e =
     ap (seen d) (placed-cut cut longest origin u t)
-    ∙ loses-nothing d (of_line (placed origin longest (u ++ flag))) (of_line (placed (origin + length u) longest (flag ++ t))) e
+    ∙ loses-nothing d (of_line (placed origin longest (u ++ flag)))
+    (of_line (placed (origin + length u) longest (flag ++ t))) e

@@ -1,5 +1,6 @@
 -- When a run fails.
-use Rattle.std.proofs.Common.{◌≡◌, ℕ, ◌+◌, ◌-◌, ◌≤◌, ◌<◌, ◌^◌, ◌↔◌, ◌⊎◌, Bool, List, [], ◌∷◌, ◌++◌, length, take, drop, Result, Ok, Err, Some, None, Option, refl, sym, ap, ◌∙◌, inl, inr, arith, length-append}
+use Rattle.std.proofs.Common.{◌≡◌, ℕ, ◌+◌, ◌-◌, ◌≤◌, ◌<◌, ◌^◌, ◌↔◌, ◌⊎◌, Bool, List, [], ◌∷◌, ◌++◌, length, take, drop}
+use Rattle.std.proofs.Common.{Result, Ok, Err, Some, None, Option, refl, sym, ap, ◌∙◌, inl, inr, arith, length-append}
 use Rattle.std.proofs.lemmas.Bool.{cases_lt}
 use Rattle.std.proofs.lemmas.List.{length-map, take-append-drop}
 use Rattle.bus_line.specs.Report.{moved}
@@ -20,7 +21,8 @@ use Rattle.bus_watch.specs.declared.run_fault.RunFault.TheVariants.{Feed}
 
 -- what was made could be made
 pub made : {A : Type 0} (r : Result A NewFault) (a : A) (depth origin : ℕ) → r ≡ Ok a
-    → (r ≡ Err DepthRange) ↔ ((depth < 1) ⊎ (1024 < depth)) → (r ≡ Err Origin) ↔ ((1 ≤ depth) × (depth ≤ 1024) × (2 ^ 60 < origin)) → CanBeMade depth origin
+    → (r ≡ Err DepthRange) ↔ ((depth < 1) ⊎ (1024 < depth)) →
+    (r ≡ Err Origin) ↔ ((1 ≤ depth) × (depth ≤ 1024) × (2 ^ 60 < origin)) → CanBeMade depth origin
 made r a depth origin is d o =
     elim (cases_lt depth 1) [
       | inl l ↦ absurd (let e = d.1 (inl l) in cc)
@@ -34,8 +36,10 @@ made r a depth origin is d o =
     ]
 
 -- a fault of `feed`
-pub feed-fails : {A : Type 0} (r : Result A FeedFault) (fault : FeedFault) (depth origin count : ℕ) (Stopped : ℕ → Type 0) → r ≡ Err fault
-    → CanBeMade depth origin → (r ≡ Err PlaceLimit) ↔ (2 ^ 60 < origin + count) → ForSink fault Stopped → Fails depth origin count Stopped (Feed fault)
+pub feed-fails : {A : Type 0} (r : Result A FeedFault) (fault : FeedFault) (depth origin count : ℕ)
+    (Stopped : ℕ → Type 0) → r ≡ Err fault
+    → CanBeMade depth origin → (r ≡ Err PlaceLimit) ↔ (2 ^ 60 < origin + count) → ForSink fault Stopped →
+    Fails depth origin count Stopped (Feed fault)
 feed-fails r PlaceLimit depth origin count Stopped is can limit stopped = (can, limit.0 is)
 feed-fails r (Sink consumed) depth origin count Stopped is can limit stopped =
     elim (cases_lt (2 ^ 60) (origin + count)) [
@@ -47,26 +51,47 @@ feed-fails r (Sink consumed) depth origin count Stopped is can limit stopped =
 seen-length : SeenAreReports → (d : List FrameType) (hs : List Heard) → length (seen d hs) ≡ length hs
 seen-length are d hs = sym (length-map (seen d hs) heard_in) ∙ ap length (are d hs)
 
-all_seen-length : SeenAreReports → (d : List FrameType) (origin : ℕ) (b : List Bool) → length (all_seen d origin b) ≡ length (reports (longest_of d) b)
+all_seen-length : SeenAreReports → (d : List FrameType) (origin : ℕ) (b : List Bool) →
+    length (all_seen d origin b) ≡ length (reports (longest_of d) b)
 all_seen-length are d origin b =
-    seen-length are d (of_line (placed origin (longest_of d) b)) ∙ length-map (placed origin (longest_of d) b) (heard_on None) ∙ length-map (reports (longest_of d) b) (moved origin)
+    seen-length are d (of_line (placed origin (longest_of d) b))
+    ∙ length-map (placed origin (longest_of d) b) (heard_on None)
+    ∙ length-map (reports (longest_of d) b) (moved origin)
 
 -- at the first bits no more is seen than at all
-pub seen-within : SeenAreReports → ReportsGrow → (d : List FrameType) (origin n : ℕ) (b : List Bool) → length (all_seen d origin (take n b)) ≤ length (all_seen d origin b)
+pub seen-within : SeenAreReports → ReportsGrow → (d : List FrameType) (origin n : ℕ) (b : List Bool) →
+    length (all_seen d origin (take n b)) ≤ length (all_seen d origin b)
 seen-within are grow d origin n b =
     let g = grow (longest_of d) (take n b) (drop n b) in
-    let e : reports (longest_of d) b ≡ reports (longest_of d) (take n b) ++ g.0 = ap (reports (longest_of d)) (sym (take-append-drop n b)) ∙ g.1 in
-    omega (arith, all_seen-length are d origin b, all_seen-length are d origin (take n b), ap length e, length-append (reports (longest_of d) (take n b)) g.0)
+    let e : reports (longest_of d) b ≡ reports (longest_of d) (take n b) ++ g.0 =
+    ap (reports (longest_of d)) (sym (take-append-drop n b)) ∙ g.1 in
+    omega (
+      arith,
+      all_seen-length are d origin b,
+      all_seen-length are d origin (take n b),
+      ap length e,
+      length-append (reports (longest_of d) (take n b)) g.0,
+    )
 
 -- a full log lacks one report at least
-pub log-lacks : {S : Type 0} (taken : S → Option (List SeenReport)) → SeenAreReports → ReportsGrow → (d : List FrameType) (origin room : ℕ) (b : List Bool) (s t : S) (consumed : ℕ) (rs : List SeenReport)
-    → taken s ≡ Some [] → taken t ≡ Some rs → length rs ≡ room → StoppedAt taken d origin b s t consumed → room < length (all_seen d origin b)
+pub log-lacks : {S : Type 0} (taken : S → Option (List SeenReport)) → SeenAreReports → ReportsGrow →
+    (d : List FrameType) (origin room : ℕ) (b : List Bool) (s t : S) (consumed : ℕ) (rs : List SeenReport)
+    → taken s ≡ Some [] → taken t ≡ Some rs → length rs ≡ room → StoppedAt taken d origin b s t consumed →
+    room < length (all_seen d origin b)
 log-lacks taken are grow d origin room b s t consumed rs start end full h =
     let took : Some rs ≡ Some (all_seen d origin (take (consumed - 1) b)) = sym end ∙ (h.took ∙ rw start refl) in
     let same : rs ≡ all_seen d origin (take (consumed - 1) b) = cc in
-    omega (arith, full, ap length same, ap length h.refused, length-append (all_seen d origin (take (consumed - 1) b)) (h.lost ∷ []), seen-within are grow d origin consumed b)
+    omega (
+      arith,
+      full,
+      ap length same,
+      ap length h.refused,
+      length-append (all_seen d origin (take (consumed - 1) b)) (h.lost ∷ []),
+      seen-within are grow d origin consumed b,
+    )
 
 -- what follows from two facts of a sink's fault
-pub for-sink : (fault : FeedFault) {P Q R : ℕ → Type 0} → ((n : ℕ) → P n → Q n → R n) → ForSink fault P → ForSink fault Q → ForSink fault R
+pub for-sink : (fault : FeedFault) {P Q R : ℕ → Type 0} → ((n : ℕ) → P n → Q n → R n) → ForSink fault P →
+    ForSink fault Q → ForSink fault R
 for-sink PlaceLimit f p q = tt
 for-sink (Sink consumed) f p q = f consumed p q

@@ -1,5 +1,7 @@
 -- What a whole run comes to.
-use Rattle.std.proofs.Common.{◌≡◌, ℕ, ◌+◌, ◌-◌, ◌*◌, ◌≤◌, ◌<◌, Bool, List, [], ◌∷◌, ◌++◌, length, map, take, drop, get_or, Bor, Option, refl, sym, ap, ◌∙◌, subst, append-nil, arith, length-append, length-take}
+use Rattle.std.proofs.Common.{◌≡◌, ℕ, ◌+◌, ◌-◌, ◌*◌, ◌≤◌, ◌<◌, Bool, List, [], ◌∷◌, ◌++◌, length, map, take, drop}
+use Rattle.std.proofs.Common.{get_or, Bor, Option, refl, sym, ap, ◌∙◌, subst, append-nil, arith, length-append}
+use Rattle.std.proofs.Common.{length-take}
 use Rattle.std.proofs.lemmas.List.{take_more, flat_map_more, take-take, take-append-drop}
 use Rattle.std.proofs.lemmas.Grind.{flat_map-append}
 use Rattle.bus_line.specs.Due.{placed, reports}
@@ -25,16 +27,23 @@ pub record IsAlike {A X : Type 0} (w : Watch A X) (a e : A) : Type 0 where
   pub depth : w.depth e ≡ w.depth a
   pub origin : w.origin e ≡ w.origin a
 
-pub runs-alike : {A X : Type 0} (w : Watch A X) (start end : A) (pieces : List (List X)) (tolds : List (List SeenReport)) → Runs w start pieces tolds end → IsAlike w start end
+pub runs-alike : {A X : Type 0} (w : Watch A X) (start end : A) (pieces : List (List X))
+    (tolds : List (List SeenReport)) → Runs w start pieces tolds end → IsAlike w start end
 runs-alike w start _ _ _ (ended a) = record { dictionary = refl; depth = refl; origin = refl }
 runs-alike w start end _ _ (called a c e xs told pieces tolds h r) =
     let rest = runs-alike w c e pieces tolds r in
-    record { dictionary = rest.dictionary ∙ h.dictionary; depth = rest.depth ∙ h.depth; origin = rest.origin ∙ h.origin }
+    record {
+      dictionary = rest.dictionary ∙ h.dictionary;
+      depth = rest.depth ∙ h.depth;
+      origin = rest.origin ∙ h.origin;
+    }
 
 -- what the getters answer that a usage is made of
-pub record Answers {C : Type 0} (folded : C → List ℕ → Type 0) (cost : ℕ) (e : AnalyserState C) (u : Usage) : Type 0 where
+pub record Answers {C : Type 0} (folded : C → List ℕ → Type 0) (cost : ℕ) (e : AnalyserState C) (u : Usage) :
+    Type 0 where
   pub room : u.buffered ≤ longest_of e.journal.dictionary + 2
-  pub buffered : (b : List Bool) → IsAfter folded cost e b → u.buffered ≡ stored_open (longest_of e.journal.dictionary) b
+  pub buffered : (b : List Bool) → IsAfter folded cost e b →
+      u.buffered ≡ stored_open (longest_of e.journal.dictionary) b
   pub kept : (b : List Bool) → IsAfter folded cost e b → u.history_len ≡ length (history e.journal.depth (line e b))
   pub deep : u.history_len ≤ e.journal.depth
   pub ledger : (b : List Bool) → IsAfter folded cost e b → IsLedger cost (longest_of e.journal.dictionary) b u.spent
@@ -42,7 +51,8 @@ pub record Answers {C : Type 0} (folded : C → List ℕ → Type 0) (cost : ℕ
   pub four : (b : List Bool) → IsAfter folded cost e b → total u.spent ≤ 4 * length b
   pub three : cost ≡ 1 → (b : List Bool) → IsAfter folded cost e b → total u.spent ≤ 3 * length b
 
-pub whole-run : {C : Type 0} (folded : C → List ℕ → Type 0) (cost : ℕ) (e : AnalyserState C) (u : Usage) → AnyCut folded cost → ReportsAre → SeenAreReports → Answers folded cost e u → WholeRun folded cost e u
+pub whole-run : {C : Type 0} (folded : C → List ℕ → Type 0) (cost : ℕ) (e : AnalyserState C) (u : Usage) →
+    AnyCut folded cost → ReportsAre → SeenAreReports → Answers folded cost e u → WholeRun folded cost e u
 whole-run folded cost e u cut are in-order h = λ start pieces tolds s r.
     let alike = runs-alike (one_line folded cost) start e pieces tolds r in
     let both = cut start e pieces tolds s r in
@@ -52,7 +62,12 @@ whole-run folded cost e u cut are in-order h = λ start pieces tolds s r.
     rw (← alike.dictionary, ← alike.depth, ← alike.origin)
     (record {
       told = all_told;
-      framing = (reports (longest_of e.journal.dictionary) b, are (longest_of e.journal.dictionary) b, ap (map heard_in) all_told ∙ in-order e.journal.dictionary (of_line (placed e.decoder.origin (longest_of e.journal.dictionary) b)));
+      framing = (
+        reports (longest_of e.journal.dictionary) b,
+        are (longest_of e.journal.dictionary) b,
+        ap (map heard_in) all_told ∙ in-order e.journal.dictionary
+            (of_line (placed e.decoder.origin (longest_of e.journal.dictionary) b)),
+      );
       buffer_bound = h.room;
       buffered = h.buffered _ is_after;
       history = is_after.journal.history;
@@ -65,28 +80,43 @@ whole-run folded cost e u cut are in-order h = λ start pieces tolds s r.
     })
 
 -- one piece more
-pub pieces-more : (ps : List (Bor (List Bool))) (i : ℕ) (d : Bor (List Bool)) → i < length ps → bits_in (take (i + 1) ps) ≡ bits_in (take i ps) ++ (get_or ps i d).now
-pieces-more ps i d l = ap bits_in (take_more ps i d l) ∙ sym (flat_map_more (λ (p : Bor (List Bool)). p.now) [] (take i ps) (get_or ps i d))
+pub pieces-more : (ps : List (Bor (List Bool))) (i : ℕ) (d : Bor (List Bool)) → i < length ps →
+    bits_in (take (i + 1) ps) ≡ bits_in (take i ps) ++ (get_or ps i d).now
+pieces-more ps i d l = ap bits_in (take_more ps i d l)
+    ∙ sym (flat_map_more (λ (p : Bor (List Bool)). p.now) [] (take i ps) (get_or ps i d))
 
 -- the first pieces and the others
-pub pieces-split : (ps : List (Bor (List Bool))) (i : ℕ) → length (bits_in ps) ≡ length (bits_in (take i ps)) + length (bits_in (drop i ps))
+pub pieces-split : (ps : List (Bor (List Bool))) (i : ℕ) →
+    length (bits_in ps) ≡ length (bits_in (take i ps)) + length (bits_in (drop i ps))
 pieces-split ps i =
     ap (λ (qs : List (Bor (List Bool))). length (bits_in qs)) (sym (take-append-drop i ps))
-    ∙ (ap length (flat_map-append (λ (p : Bor (List Bool)). p.now) (take i ps) (drop i ps)) ∙ length-append (bits_in (take i ps)) (bits_in (drop i ps)))
+    ∙ (ap length (flat_map-append (λ (p : Bor (List Bool)). p.now) (take i ps) (drop i ps))
+    ∙ length-append (bits_in (take i ps)) (bits_in (drop i ps)))
 
 -- and one of them
-pub pieces-one : (ps : List (Bor (List Bool))) (i : ℕ) (d : Bor (List Bool)) → i < length ps → length (bits_in (take i ps)) + length (get_or ps i d).now ≤ length (bits_in ps)
-pieces-one ps i d l = omega (arith, pieces-split ps (i + 1), ap length (pieces-more ps i d l), length-append (bits_in (take i ps)) (get_or ps i d).now)
+pub pieces-one : (ps : List (Bor (List Bool))) (i : ℕ) (d : Bor (List Bool)) → i < length ps →
+    length (bits_in (take i ps)) + length (get_or ps i d).now ≤ length (bits_in ps)
+pieces-one ps i d l =
+    omega (
+      arith,
+      pieces-split ps (i + 1),
+      ap length (pieces-more ps i d l),
+      length-append (bits_in (take i ps)) (get_or ps i d).now,
+    )
 
 -- all bits, at one piece
-pub pieces-at : (ps : List (Bor (List Bool))) (i : ℕ) (d : Bor (List Bool)) → i < length ps → bits_in ps ≡ (bits_in (take i ps) ++ (get_or ps i d).now) ++ bits_in (drop (i + 1) ps)
+pub pieces-at : (ps : List (Bor (List Bool))) (i : ℕ) (d : Bor (List Bool)) → i < length ps →
+    bits_in ps ≡ (bits_in (take i ps) ++ (get_or ps i d).now) ++ bits_in (drop (i + 1) ps)
 pieces-at ps i d l =
     ap bits_in (sym (take-append-drop (i + 1) ps))
-    ∙ (flat_map-append (λ (p : Bor (List Bool)). p.now) (take (i + 1) ps) (drop (i + 1) ps) ∙ ap (λ bs. bs ++ bits_in (drop (i + 1) ps)) (pieces-more ps i d l))
+    ∙ (flat_map-append (λ (p : Bor (List Bool)). p.now) (take (i + 1) ps) (drop (i + 1) ps)
+    ∙ ap (λ bs. bs ++ bits_in (drop (i + 1) ps)) (pieces-more ps i d l))
 
 -- what was fed to a new analyser is a whole run
-pub fed-headline : {C S : Type 0} (folded : C → List ℕ → Type 0) (cost : ℕ) (taken : S → Option (List SeenReport)) (a e : AnalyserState C) (b : List Bool) (s t : S) (u : Usage)
-    → IsAfter folded cost a [] → (f : Fed folded cost taken a b e s t) → WholeRun folded cost e u → Headline cost a.journal.dictionary a.journal.depth a.decoder.origin b f.seen e.journal.history u
+pub fed-headline : {C S : Type 0} (folded : C → List ℕ → Type 0) (cost : ℕ) (taken : S → Option (List SeenReport))
+    (a e : AnalyserState C) (b : List Bool) (s t : S) (u : Usage)
+    → IsAfter folded cost a [] → (f : Fed folded cost taken a b e s t) → WholeRun folded cost e u →
+    Headline cost a.journal.dictionary a.journal.depth a.decoder.origin b f.seen e.journal.history u
 fed-headline folded cost taken a e b s t u new f whole =
     let d = a.journal.dictionary in
     let depth = a.journal.depth in
@@ -96,13 +126,17 @@ fed-headline folded cost taken a e b s t u new f whole =
     (subst (λ y. Headline cost d depth origin (b ++ []) y e.journal.history u) (append-nil f.seen) h)
 
 -- what a new analyser saw of all it was fed
-pub fed-seen : {C S : Type 0} (folded : C → List ℕ → Type 0) (cost : ℕ) (taken : S → Option (List SeenReport)) (a e : AnalyserState C) (b : List Bool) (s t : S)
-    → IsAfter folded cost a [] → (f : Fed folded cost taken a b e s t) → f.seen ≡ all_seen a.journal.dictionary a.decoder.origin b
+pub fed-seen : {C S : Type 0} (folded : C → List ℕ → Type 0) (cost : ℕ) (taken : S → Option (List SeenReport))
+    (a e : AnalyserState C) (b : List Bool) (s t : S)
+    → IsAfter folded cost a [] → (f : Fed folded cost taken a b e s t) →
+    f.seen ≡ all_seen a.journal.dictionary a.decoder.origin b
 fed-seen folded cost taken a e b s t new f = sym (f.sees.seen [] new)
 
 -- where a sink refused a report of what a new analyser was fed
-pub stopped : {C S : Type 0} (folded : C → List ℕ → Type 0) (cost : ℕ) (taken : S → Option (List SeenReport)) (a e : AnalyserState C) (b : List Bool) (s t : S) (consumed : ℕ)
-    → IsAfter folded cost a [] → RefusedAt folded cost taken a b consumed e s t → StoppedAt taken a.journal.dictionary a.decoder.origin b s t consumed
+pub stopped : {C S : Type 0} (folded : C → List ℕ → Type 0) (cost : ℕ) (taken : S → Option (List SeenReport))
+    (a e : AnalyserState C) (b : List Bool) (s t : S) (consumed : ℕ)
+    → IsAfter folded cost a [] → RefusedAt folded cost taken a b consumed e s t →
+    StoppedAt taken a.journal.dictionary a.decoder.origin b s t consumed
 stopped folded cost taken a e b s t consumed new at =
     let r = at.refused in
     let d = a.journal.dictionary in
@@ -110,7 +144,8 @@ stopped folded cost taken a e b s t consumed new at =
     let n : length (take consumed b) - 1 ≡ consumed - 1 = omega (arith, at.within, length-take consumed b) in
     let front : take (length (take consumed b) - 1) (take consumed b) ≡ take (consumed - 1) b =
     ap (λ k. take k (take consumed b)) n ∙ take-take (consumed - 1) consumed b (omega arith) in
-    let before : all_seen d origin (take (consumed - 1) b) ≡ r.seen = ap (all_seen d origin) (sym front) ∙ r.front [] new in
+    let before : all_seen d origin (take (consumed - 1) b) ≡ r.seen =
+    ap (all_seen d origin) (sym front) ∙ r.front [] new in
     record {
       some = at.some;
       within = at.within;

@@ -1,8 +1,11 @@
 -- One report more: the tally, the history and the steps of a journal.
-use Rattle.std.proofs.Common.{◌≡◌, ℕ, ◌+◌, ◌<◌, ◌-◌, ◌==◌, ◌&&◌, Bool, true, false, if◌then◌else◌, List, [], ◌∷◌, ◌++◌, length, drop, Option, Some, None, inl, inr, refl, sym, ap, ◌∙◌, arith, subst, slice_get, map, replicate}
+use Rattle.std.proofs.Common.{◌≡◌, ℕ, ◌+◌, ◌<◌, ◌-◌, ◌==◌, ◌&&◌, Bool, true, false, if◌then◌else◌, List, [], ◌∷◌, ◌++◌}
+use Rattle.std.proofs.Common.{length, drop, Option, Some, None, inl, inr, refl, sym, ap, ◌∙◌, arith, subst, slice_get}
+use Rattle.std.proofs.Common.{map, replicate}
 use Rattle.std.specs.List.{cons_option, All}
 use Rattle.std.specs.Option.{option_map, option_to_list}
-use Rattle.std.proofs.lemmas.List.{length-append, length-drop, drop-append-le, drop-drop, drop-map, map-append, length-map, append-nil, length-replicate, get_or-replicate}
+use Rattle.std.proofs.lemmas.List.{length-append, length-drop, drop-append-le, drop-drop, drop-map, map-append}
+use Rattle.std.proofs.lemmas.List.{length-map, append-nil, length-replicate, get_or-replicate}
 use Rattle.std.proofs.lemmas.Option.{slice_get-get_or, slice_get-map, slice_get_cases}
 use Rattle.std.proofs.lemmas.List.Elements.{filter_map-append, All-nil, All-cons, All-drop}
 use Rattle.std.proofs.lemmas.List.Sums.{sum_by_push}
@@ -18,7 +21,8 @@ use Rattle.bus_dictionary.specs.Entry.{FrameType}
 use Rattle.bus_dictionary.specs.Standing.{standing}
 use Rattle.bus_watch.specs.Talk.{is_idle, standing_of, command_on, waits, verdict, verdicts, pending}
 use Rattle.bus_watch.specs.Seen.{decided}
-use Rattle.bus_watch.specs.History.{KeptFrame, kept_frame, line_of, frame_at, frame_of, frames, history, tally, verdicts_of, is_outcome, kept_pair}
+use Rattle.bus_watch.specs.History.{KeptFrame, kept_frame, line_of, frame_at, frame_of, frames, history, tally}
+use Rattle.bus_watch.specs.History.{verdicts_of, is_outcome, kept_pair}
 use Rattle.bus_watch.specs.Ledger.{kind_steps, steps}
 use Rattle.bus_watch.specs.Internal.Counted.{one_more, counted, Counted}
 use Rattle.bus_watch.specs.Internal.JournalState.{JournalState, Keeps, is_damage}
@@ -38,18 +42,29 @@ tally-of vs station = record {
   late = verdicts_of Late station vs;
 }
 
-same-counts : (a b : Counts) → a.answered ≡ b.answered → a.missing ≡ b.missing → a.spoilt ≡ b.spoilt → a.late ≡ b.late → a ≡ b
+same-counts : (a b : Counts) → a.answered ≡ b.answered → a.missing ≡ b.missing → a.spoilt ≡ b.spoilt → a.late ≡ b.late →
+    a ≡ b
 same-counts a b e f g h = one b.answered b.missing b.spoilt b.late e f g h
   where
-    one : (x y z w : ℕ) → a.answered ≡ x → a.missing ≡ y → a.spoilt ≡ z → a.late ≡ w → a ≡ record { answered = x; missing = y; spoilt = z; late = w }
+    one : (x y z w : ℕ) → a.answered ≡ x → a.missing ≡ y → a.spoilt ≡ z → a.late ≡ w →
+        a ≡ record { answered = x; missing = y; spoilt = z; late = w }
     one x y z w e f g h = rw (← e, ← f, ← g, ← h) refl
 
 abbrev added : Outcome → Bool → Counts → Counts
-added o b c = record { answered = c.answered + (if is_outcome Answered o && b then 1 else 0); missing = c.missing + (if is_outcome Missing o && b then 1 else 0); spoilt = c.spoilt + (if is_outcome Spoilt o && b then 1 else 0); late = c.late + (if is_outcome Late o && b then 1 else 0) }
+added o b c =
+    record {
+      answered = c.answered + (if is_outcome Answered o && b then 1 else 0);
+      missing = c.missing + (if is_outcome Missing o && b then 1 else 0);
+      spoilt =
+          c.spoilt + (if is_outcome Spoilt o && b then 1 else 0);
+      late = c.late + (if is_outcome Late o && b then 1 else 0);
+    }
 
-count-one : (vs : List Verdict) (v : Verdict) (station : ℕ) → tally-of (vs ++ v ∷ []) station ≡ counted station (Some v) (tally-of vs station)
+count-one : (vs : List Verdict) (v : Verdict) (station : ℕ) →
+    tally-of (vs ++ v ∷ []) station ≡ counted station (Some v) (tally-of vs station)
 count-one vs v station =
-    same-counts _ _ (sum_by_push _ vs v) (sum_by_push _ vs v) (sum_by_push _ vs v) (sum_by_push _ vs v) ∙ one v.outcome (v.station == station) (tally-of vs station)
+    same-counts _ _ (sum_by_push _ vs v) (sum_by_push _ vs v) (sum_by_push _ vs v) (sum_by_push _ vs v)
+    ∙ one v.outcome (v.station == station) (tally-of vs station)
   where
     one : (o : Outcome) (b : Bool) (c : Counts)
         → added o b c ≡ (if b then one_more o c else c)
@@ -62,29 +77,38 @@ count-one vs v station =
     one Spoilt false c = same-counts _ _ (omega arith) (omega arith) (omega arith) (omega arith)
     one Late false c = same-counts _ _ (omega arith) (omega arith) (omega arith) (omega arith)
 
-tally-option : (vs : List Verdict) (o : Option Verdict) (station : ℕ) → tally-of (vs ++ option_to_list o) station ≡ counted station o (tally-of vs station)
+tally-option : (vs : List Verdict) (o : Option Verdict) (station : ℕ) →
+    tally-of (vs ++ option_to_list o) station ≡ counted station o (tally-of vs station)
 tally-option vs None station = ap (λ xs. tally-of xs station) (append-nil vs)
 tally-option vs (Some v) station = count-one vs v station
 
-pub tally-more : (d : List FrameType) (rs : List Heard) (r : Heard) (station : ℕ) → tally d (rs ++ r ∷ []) station ≡ counted station (decided d rs r) (tally d rs station)
-tally-more d rs r station = ap (λ vs. tally-of vs station) (verdicts-more d rs r) ∙ tally-option (verdicts d rs) (decided d rs r) station
+pub tally-more : (d : List FrameType) (rs : List Heard) (r : Heard) (station : ℕ) →
+    tally d (rs ++ r ∷ []) station ≡ counted station (decided d rs r) (tally d rs station)
+tally-more d rs r station = ap (λ vs. tally-of vs station) (verdicts-more d rs r)
+    ∙ tally-option (verdicts d rs) (decided d rs r) station
 
 -- to keep the last of what was kept, and one more, is to keep the last of all
-keep_last-more : {X : Type 0} (n : ℕ) (xs : List X) (x : X) → keep_last n (keep_last n xs ++ x ∷ []) ≡ keep_last n (xs ++ x ∷ [])
+keep_last-more : {X : Type 0} (n : ℕ) (xs : List X) (x : X) →
+    keep_last n (keep_last n xs ++ x ∷ []) ≡ keep_last n (xs ++ x ∷ [])
 keep_last-more {X} n xs x =
     let m : ℕ = length xs - n in
     let front : drop m xs ++ x ∷ [] ≡ drop m (xs ++ x ∷ []) = sym (drop-append-le m xs (x ∷ []) (omega arith)) in
-    let count : m + (length (drop m xs ++ x ∷ []) - n) ≡ length (xs ++ x ∷ []) - n = omega (arith, length-append (drop m xs) (x ∷ []), length-append xs (x ∷ []), length-drop m xs) in
-    ap (λ l. drop (length (drop m xs ++ x ∷ []) - n) l) front ∙ drop-drop (length (drop m xs ++ x ∷ []) - n) m (xs ++ x ∷ []) ∙ ap (λ k. drop k (xs ++ x ∷ [])) count
+    let count : m + (length (drop m xs ++ x ∷ []) - n) ≡ length (xs ++ x ∷ []) - n =
+    omega (arith, length-append (drop m xs) (x ∷ []), length-append xs (x ∷ []), length-drop m xs) in
+    ap (λ l. drop (length (drop m xs ++ x ∷ []) - n) l) front
+    ∙ drop-drop (length (drop m xs ++ x ∷ []) - n) m (xs ++ x ∷ []) ∙ ap (λ k. drop k (xs ++ x ∷ [])) count
 
 pub keep_last-map : {X Y : Type 0} (f : X → Y) (n : ℕ) (xs : List X) → map f (keep_last n xs) ≡ keep_last n (map f xs)
 keep_last-map f n xs = sym (drop-map f (length xs - n) xs) ∙ ap (λ k. drop (k - n) (map f xs)) (sym (length-map xs f))
 
-pub keep-frame : (n : ℕ) (ks : List PairKept) (k : PairKept) (f : KeptFrame) → kept_pair k ≡ f → map kept_pair (keep_last n (ks ++ k ∷ [])) ≡ keep_last n (map kept_pair ks ++ f ∷ [])
-keep-frame n ks k f e = keep_last-map kept_pair n (ks ++ k ∷ []) ∙ ap (keep_last n) (map-append kept_pair ks (k ∷ []) ∙ ap (λ g. map kept_pair ks ++ g ∷ []) e)
+pub keep-frame : (n : ℕ) (ks : List PairKept) (k : PairKept) (f : KeptFrame) → kept_pair k ≡ f →
+    map kept_pair (keep_last n (ks ++ k ∷ [])) ≡ keep_last n (map kept_pair ks ++ f ∷ [])
+keep-frame n ks k f e = keep_last-map kept_pair n (ks ++ k ∷ [])
+    ∙ ap (keep_last n) (map-append kept_pair ks (k ∷ []) ∙ ap (λ g. map kept_pair ks ++ g ∷ []) e)
 
 pub slice_get-replicate : {X : Type 0} (n : ℕ) (x : X) (i : ℕ) → i < n → slice_get (replicate n x) i ≡ Some x
-slice_get-replicate n x i l = slice_get-get_or (replicate n x) i x (omega (arith, length-replicate n x)) ∙ ap Some (get_or-replicate n i x x l)
+slice_get-replicate n x i l = slice_get-get_or (replicate n x) i x (omega (arith, length-replicate n x))
+    ∙ ap Some (get_or-replicate n i x x l)
 
 frames-more : (rs : List Heard) (r : Heard) → frames (rs ++ r ∷ []) ≡ frames rs ++ cons_option (frame_of r) []
 frames-more rs r = filter_map-append frame_of rs (r ∷ [])
@@ -94,17 +118,20 @@ abbrev keeping : ℕ → List KeptFrame → Option KeptFrame → List KeptFrame
 keeping depth kept None = kept
 keeping depth kept (Some f) = keep_last depth (kept ++ f ∷ [])
 
-history-more : (depth : ℕ) (rs : List Heard) (r : Heard) → history depth (rs ++ r ∷ []) ≡ keeping depth (history depth rs) (frame_of r)
+history-more : (depth : ℕ) (rs : List Heard) (r : Heard) →
+    history depth (rs ++ r ∷ []) ≡ keeping depth (history depth rs) (frame_of r)
 history-more depth rs r = ap (keep_last depth) (frames-more rs r) ∙ one (frame_of r)
   where
     one : (o : Option KeptFrame) → keep_last depth (frames rs ++ cons_option o []) ≡ keeping depth (history depth rs) o
     one None = ap (keep_last depth) (append-nil (frames rs))
     one (Some f) = sym (keep_last-more depth (frames rs) f)
 
-pending-more : (d : List FrameType) (rs : List Heard) (r : Heard) → (if is_idle r.report.kind then pending d rs else waits d r) ≡ pending d (rs ++ r ∷ [])
+pending-more : (d : List FrameType) (rs : List Heard) (r : Heard) →
+    (if is_idle r.report.kind then pending d rs else waits d r) ≡ pending d (rs ++ r ∷ [])
 pending-more d rs r = step (is_idle r.report.kind) refl
   where
-    step : (b : Bool) → is_idle r.report.kind ≡ b → (if is_idle r.report.kind then pending d rs else waits d r) ≡ pending d (rs ++ r ∷ [])
+    step : (b : Bool) → is_idle r.report.kind ≡ b → (if is_idle r.report.kind then pending d rs else waits d r)
+        ≡ pending d (rs ++ r ∷ [])
     step true e = rw e (sym (pending-idle d rs r e))
     step false e = rw e (sym (pending-talk d rs r e))
 
@@ -118,13 +145,21 @@ pub record Takes (old new : JournalState) (r : Heard) (verdict : Option Verdict)
   pub copied : new.copied ≡ old.copied + octet_count r.report
   pub handled : new.handled ≡ old.handled + steps r.report
 
-pub keeps-more : (old new : JournalState) (rs : List Heard) (r : Heard) → Keeps old rs → Takes old new r (decided old.dictionary rs r) → Keeps new (rs ++ r ∷ [])
+pub keeps-more : (old new : JournalState) (rs : List Heard) (r : Heard) → Keeps old rs →
+    Takes old new r (decided old.dictionary rs r) → Keeps new (rs ++ r ∷ [])
 keeps-more old new rs r k t = record {
-  history = t.history ∙ ap (λ h. keeping old.depth h (frame_of r)) k.history ∙ sym (history-more old.depth rs r) ∙ ap (λ n. history n (rs ++ r ∷ [])) (sym t.depth);
-  waiting = t.waiting ∙ ap (λ w. if is_idle r.report.kind then w else waits old.dictionary r) k.waiting ∙ pending-more old.dictionary rs r ∙ ap (λ d. pending d (rs ++ r ∷ [])) (sym t.dictionary);
-  tally = λ station l. t.tally station _ (k.tally station l) ∙ ap Some (sym (tally-more old.dictionary rs r station) ∙ ap (λ d. tally d (rs ++ r ∷ []) station) (sym t.dictionary));
-  copied = t.copied ∙ (ap (λ n. n + octet_count r.report) k.copied ∙ sym (sum_by_push (λ (h : Heard). octet_count h.report) rs r));
-  handled = t.handled ∙ (ap (λ n. n + steps r.report) k.handled ∙ sym (sum_by_push (λ (h : Heard). steps h.report) rs r));
+  history = t.history ∙ ap (λ h. keeping old.depth h (frame_of r)) k.history ∙ sym (history-more old.depth rs r)
+      ∙ ap (λ n. history n (rs ++ r ∷ [])) (sym t.depth);
+  waiting = t.waiting ∙ ap (λ w. if is_idle r.report.kind then w else waits old.dictionary r) k.waiting
+      ∙ pending-more old.dictionary rs r ∙ ap (λ d. pending d (rs ++ r ∷ [])) (sym t.dictionary);
+  tally = λ station l. t.tally station _ (k.tally station l)
+      ∙ ap Some (sym (tally-more old.dictionary rs r station)
+      ∙ ap (λ d. tally d (rs ++ r ∷ []) station) (sym t.dictionary));
+  copied =
+      t.copied ∙ (ap (λ n. n + octet_count r.report) k.copied
+      ∙ sym (sum_by_push (λ (h : Heard). octet_count h.report) rs r));
+  handled =
+      t.handled ∙ (ap (λ n. n + steps r.report) k.handled ∙ sym (sum_by_push (λ (h : Heard). steps h.report) rs r));
 }
 
 -- neither the history nor the command that waits hears of this kind
@@ -136,9 +171,12 @@ pub record IsQuiet (d : List FrameType) (kind : Kind) : Type 0 where
 
 pub damage-quiet : (d : List FrameType) (kind : Kind) → is_damage kind ≡ true → (is_idle kind ≡ false) × IsQuiet d kind
 damage-quiet d (Frame octets) h = absurd (cc)
-damage-quiet d (Damaged cause) h = (refl, record { no_frame = λ line span. refl; no_standing = refl; no_octets = refl; three = refl })
-damage-quiet d Overlong h = (refl, record { no_frame = λ line span. refl; no_standing = refl; no_octets = refl; three = refl })
-damage-quiet d Abort h = (refl, record { no_frame = λ line span. refl; no_standing = refl; no_octets = refl; three = refl })
+damage-quiet d (Damaged cause) h =
+    (refl, record { no_frame = λ line span. refl; no_standing = refl; no_octets = refl; three = refl })
+damage-quiet d Overlong h =
+    (refl, record { no_frame = λ line span. refl; no_standing = refl; no_octets = refl; three = refl })
+damage-quiet d Abort h =
+    (refl, record { no_frame = λ line span. refl; no_standing = refl; no_octets = refl; three = refl })
 damage-quiet d Idle h = absurd (cc)
 
 pub idle-quiet : (d : List FrameType) (kind : Kind) → is_idle kind ≡ true → IsQuiet d kind
@@ -149,12 +187,15 @@ idle-quiet d Overlong h = absurd (cc)
 idle-quiet d Abort h = absurd (cc)
 
 -- what a piece that is no frame changes
-pub keeps-damage : (old new : JournalState) (rs : List Heard) (r : Heard) → Keeps old rs → is_damage r.report.kind ≡ true
-    → new ≡ record old { waiting = None; tally = new.tally; handled = new.handled } → new.handled ≡ old.handled + 3 → Counted (option_map (verdict old.dictionary None) old.waiting) old.tally new.tally → Keeps new (rs ++ r ∷ [])
+pub keeps-damage : (old new : JournalState) (rs : List Heard) (r : Heard) → Keeps old rs →
+    is_damage r.report.kind ≡ true
+    → new ≡ record old { waiting = None; tally = new.tally; handled = new.handled } → new.handled ≡ old.handled + 3 →
+    Counted (option_map (verdict old.dictionary None) old.waiting) old.tally new.tally → Keeps new (rs ++ r ∷ [])
 keeps-damage old new rs r k h e n t =
     let q = damage-quiet old.dictionary r.report.kind h in
     let j : JournalState = record old { waiting = None; tally = new.tally; handled = new.handled } in
-    let judged : option_map (verdict old.dictionary None) old.waiting ≡ decided old.dictionary rs r = rw (decided-talk old.dictionary rs r q.0, q.1.no_standing, k.waiting) refl in
+    let judged : option_map (verdict old.dictionary None) old.waiting ≡ decided old.dictionary rs r =
+    rw (decided-talk old.dictionary rs r q.0, q.1.no_standing, k.waiting) refl in
     subst (λ j. Keeps j (rs ++ r ∷ [])) (sym e) (keeps-more old j rs r k (record {
       dictionary = refl;
       depth = refl;
@@ -182,15 +223,38 @@ keeps-idle old new rs r k h e n =
     }))
 
 -- what a frame changes
-pub keeps-frame : (old new : JournalState) (rs : List Heard) (line : Option Line) (span : Span) (octets : List ℕ) → Keeps old rs
-    → new ≡ record old { history = keep_last old.depth (old.history ++ record { line = line_of line; span = span; octets = octets } ∷ []); waiting = command_on line old.dictionary span (standing octets old.dictionary); tally = new.tally; copied = new.copied; handled = new.handled }
+pub keeps-frame : (old new : JournalState) (rs : List Heard) (line : Option Line) (span : Span) (octets : List ℕ) →
+    Keeps old rs
+    → new
+    ≡ record old {
+      history = keep_last old.depth
+          (old.history ++ record { line = line_of line; span = span; octets = octets } ∷ []);
+      waiting =
+          command_on line old.dictionary span (standing octets old.dictionary);
+      tally = new.tally;
+      copied =
+          new.copied;
+      handled = new.handled;
+    }
     → new.copied ≡ old.copied + length octets → new.handled ≡ old.handled + 6
-    → Counted (option_map (verdict old.dictionary (Some (line, span.first, standing octets old.dictionary))) old.waiting) old.tally new.tally
+    → Counted (option_map (verdict old.dictionary (Some (line, span.first, standing octets old.dictionary)))
+    old.waiting) old.tally new.tally
     → Keeps new (rs ++ heard_on line (record { kind = Frame octets; first = span.first; past = span.past }) ∷ [])
 keeps-frame old new rs line span octets k e n m t =
     let r : Heard = heard_on line (record { kind = Frame octets; first = span.first; past = span.past }) in
-    let judged : option_map (verdict old.dictionary (Some (line, span.first, standing octets old.dictionary))) old.waiting ≡ decided old.dictionary rs r = rw (decided-talk old.dictionary rs r refl, k.waiting) refl in
-    let j : JournalState = record old { history = keep_last old.depth (old.history ++ record { line = line_of line; span = span; octets = octets } ∷ []); waiting = command_on line old.dictionary span (standing octets old.dictionary); tally = new.tally; copied = new.copied; handled = new.handled } in
+    let judged : option_map (verdict old.dictionary (Some (line, span.first, standing octets old.dictionary)))
+    old.waiting ≡ decided old.dictionary rs r = rw (decided-talk old.dictionary rs r refl, k.waiting) refl in
+    let j : JournalState =
+    record old {
+      history = keep_last old.depth
+          (old.history ++ record { line = line_of line; span = span; octets = octets } ∷ []);
+      waiting =
+          command_on line old.dictionary span (standing octets old.dictionary);
+      tally = new.tally;
+      copied =
+          new.copied;
+      handled = new.handled;
+    } in
     subst (λ j. Keeps j (rs ++ r ∷ [])) (sym e) (keeps-more old j rs r k (record {
       dictionary = refl;
       depth = refl;
@@ -205,7 +269,8 @@ keeps-frame old new rs line span octets k e n m t =
 abbrev IsFirst : KeptFrame → Type 0
 IsFirst f = f.line ≡ First
 
-one-first : (span : Span) (fs : List KeptFrame) → All IsFirst fs → (k : Kind) → All IsFirst (cons_option (frame_at First span k) fs)
+one-first : (span : Span) (fs : List KeptFrame) → All IsFirst fs → (k : Kind) →
+    All IsFirst (cons_option (frame_at First span k) fs)
 one-first span fs h (Frame octets) = All-cons IsFirst (record { line = First; span = span; octets = octets }) fs refl h
 one-first span fs h (Damaged cause) = h
 one-first span fs h Overlong = h
@@ -226,12 +291,17 @@ all-at P xs i x h e = elim ((slice_get_cases xs i).1) [
 ]
 
 -- what is kept of the only line
-pub history-at : (items : List PairKept) (depth : ℕ) (rs : List Report) (i : ℕ) (k : PairKept) → map kept_pair items ≡ history depth (of_line rs) → slice_get items i ≡ Some k
+pub history-at : (items : List PairKept) (depth : ℕ) (rs : List Report) (i : ℕ) (k : PairKept) →
+    map kept_pair items ≡ history depth (of_line rs) → slice_get items i ≡ Some k
     → Some (kept_frame k.kept) ≡ slice_get (map kept_pair items) i
 history-at items depth rs i k e g =
-    let at : slice_get (map kept_pair items) i ≡ Some (kept_pair k) = slice_get-map kept_pair items i ∙ ap (option_map kept_pair) g in
-    let here : slice_get (history depth (of_line rs)) i ≡ Some (kept_pair k) = ap (λ (l : List KeptFrame). slice_get l i) (sym e) ∙ at in
-    let first : k.line ≡ First = all-at IsFirst (history depth (of_line rs)) i (kept_pair k) (All-drop IsFirst (length (frames (of_line rs)) - depth) (frames (of_line rs)) (frames-first rs)) here in
+    let at : slice_get (map kept_pair items) i ≡ Some (kept_pair k) =
+    slice_get-map kept_pair items i ∙ ap (option_map kept_pair) g in
+    let here : slice_get (history depth (of_line rs)) i ≡ Some (kept_pair k) =
+    ap (λ (l : List KeptFrame). slice_get l i) (sym e) ∙ at in
+    let first : k.line ≡ First =
+    all-at IsFirst (history depth (of_line rs)) i (kept_pair k)
+    (All-drop IsFirst (length (frames (of_line rs)) - depth) (frames (of_line rs)) (frames-first rs)) here in
     sym (at ∙ ap (λ (l : Line). Some (kept_pair (record { line = l; kept = k.kept }))) first)
 
 pub history-none : (items : List PairKept) (i : ℕ) → slice_get items i ≡ None → None ≡ slice_get (map kept_pair items) i

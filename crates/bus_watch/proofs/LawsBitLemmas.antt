@@ -1,5 +1,7 @@
 -- What one bit more costs.
-use Rattle.std.proofs.Common.{◌≡◌, ℕ, ◌+◌, ◌-◌, ◌*◌, ◌≤◌, Bool, true, false, List, [], ◌∷◌, ◌++◌, length, Option, Some, None, refl, sym, ap, subst, ◌∙◌, arith, if◌then◌else◌, length-append, slice_range, length-take, drop}
+use Rattle.std.proofs.Common.{◌≡◌, ℕ, ◌+◌, ◌-◌, ◌*◌, ◌≤◌, Bool, true, false, List, [], ◌∷◌, ◌++◌, length, Option, Some}
+use Rattle.std.proofs.Common.{None, refl, sym, ap, subst, ◌∙◌, arith, if◌then◌else◌, length-append, slice_range}
+use Rattle.std.proofs.Common.{length-take, drop}
 use Rattle.std.specs.List.{sum_by}
 use Rattle.std.proofs.lemmas.List.{map-append}
 use Rattle.std.specs.Option.{option_to_list}
@@ -41,7 +43,8 @@ bit-costs more settles stores cost longest b bit before after h s t =
     let grown = more longest b bit in
     let copies = ap (sum_by octet_count) grown ∙ sum_by-append octet_count (reports longest b) (option_to_list o) in
     let handles = ap (sum_by steps) grown ∙ sum_by-append steps (reports longest b) (option_to_list o) in
-    let pays : cost * stored longest (b ++ bit ∷ []) ≤ cost * stored longest b + 8 = rw (stores longest b bit) (cost-one cost (stored longest b) x h) in
+    let pays : cost * stored longest (b ++ bit ∷ []) ≤ cost * stored longest b + 8 =
+    rw (stores longest b bit) (cost-one cost (stored longest b) x h) in
     omega (
       arith,
       s.bits,
@@ -69,8 +72,10 @@ bit-costs more settles stores cost longest b bit before after h s t =
 
 spelled-longer : (x y : List Bool) → IsSpelledBy x y → length x ≤ length y
 spelled-longer _ _ (ends k l) = omega arith
-spelled-longer _ _ (short k d r h s) = omega (arith, length-append (ones k) (false ∷ d), length-append (ones k) (false ∷ r), spelled-longer d r s)
-spelled-longer _ _ (five d r s) = omega (arith, length-append (ones 5) d, length-append (ones 5) (false ∷ r), spelled-longer d r s)
+spelled-longer _ _ (short k d r h s) =
+    omega (arith, length-append (ones k) (false ∷ d), length-append (ones k) (false ∷ r), spelled-longer d r s)
+spelled-longer _ _ (five d r s) =
+    omega (arith, length-append (ones 5) d, length-append (ones 5) (false ∷ r), spelled-longer d r s)
 
 eight-each : (os : List ℕ) → length (bits_of_octets os) ≡ 8 * length os
 unfolding bits_of_octets bits_of
@@ -83,8 +88,10 @@ frame-due kind first past os e = rw e refl
 -- of two lines
 pub pair-costs : BitCosts → PairCosts
 pair-costs one cost longest ps p before after h s t =
-    let first = one cost longest (firsts ps) p.0 s.first t.first h s.first_is (subst (λ b. IsLedger cost longest b t.first) (map-append (λ (q : Bool × Bool). q.0) ps (p ∷ [])) t.first_is) in
-    let second = one cost longest (seconds ps) p.1 s.second t.second h s.second_is (subst (λ b. IsLedger cost longest b t.second) (map-append (λ (q : Bool × Bool). q.1) ps (p ∷ [])) t.second_is) in
+    let first = one cost longest (firsts ps) p.0 s.first t.first h s.first_is
+    (subst (λ b. IsLedger cost longest b t.first) (map-append (λ (q : Bool × Bool). q.0) ps (p ∷ [])) t.first_is) in
+    let second = one cost longest (seconds ps) p.1 s.second t.second h s.second_is
+    (subst (λ b. IsLedger cost longest b t.second) (map-append (λ (q : Bool × Bool). q.1) ps (p ∷ [])) t.second_is) in
     omega (arith, first, second, ap total s.sum, ap total t.sum)
 
 pub closed-paid : DueIsIt → FrameIsSpelled → ClosedPaid
@@ -94,7 +101,8 @@ closed-paid it spelled longest b bit r os e k =
     let f = spelled longest all r os is.0 k in
     let raw = slice_range all r.first r.past in
     let size : length raw ≤ r.past - r.first = omega (arith, length-take (r.past - r.first) (drop r.first all)) in
-    let long : 8 * length os ≤ r.past - r.first = omega (arith, spelled-longer (bits_of_octets os) raw f.0, eight-each os, size) in (
+    let long : 8 * length os ≤ r.past - r.first =
+    omega (arith, spelled-longer (bits_of_octets os) raw f.0, eight-each os, size) in (
       omega (arith, ap (λ o. sum_by octet_count (option_to_list o)) e, ap kind_octets k),
       long,
       omega (arith, long, f.2),

@@ -1,5 +1,6 @@
 -- What is seen, as laws say it.
-use Rattle.std.proofs.Common.{◌≡◌, ℕ, suc, ◌+◌, ◌<◌, ◌==◌, Bool, true, false, List, [], ◌∷◌, ◌++◌, length, Option, Some, None, refl, sym, ap, ◌∙◌, arith, map, get_or, subst, append_assoc, append-nil}
+use Rattle.std.proofs.Common.{◌≡◌, ℕ, suc, ◌+◌, ◌<◌, ◌==◌, Bool, true, false, List, [], ◌∷◌, ◌++◌, length, Option, Some}
+use Rattle.std.proofs.Common.{None, refl, sym, ap, ◌∙◌, arith, map, get_or, subst, append_assoc, append-nil}
 use Rattle.std.specs.List.{filter_map, cons_option, find, All}
 use Rattle.std.specs.Option.{option_or, option_map, option_to_list}
 use Rattle.std.proofs.lemmas.List.{map-append, append_cancel_left}
@@ -23,32 +24,39 @@ use Rattle.bus_watch.proofs.SeenLemmas.{seen-more}
 use Rattle.bus_line.proofs.DueMoreLemmas.{map-option}
 
 -- what holds of no reports, and stays with one more, holds of all
-from-front : (P : List Heard → Type 0) → ((rs : List Heard) (r : Heard) → P rs → P (rs ++ r ∷ [])) → (before after : List Heard) → P before → P (before ++ after)
+from-front : (P : List Heard → Type 0) → ((rs : List Heard) (r : Heard) → P rs → P (rs ++ r ∷ [])) →
+    (before after : List Heard) → P before → P (before ++ after)
 from-front P step before [] h = subst P (sym (append-nil before)) h
-from-front P step before (r ∷ after) h = subst P (append_assoc before (r ∷ []) after) (from-front P step (before ++ r ∷ []) after (step before r h))
+from-front P step before (r ∷ after) h =
+    subst P (append_assoc before (r ∷ []) after) (from-front P step (before ++ r ∷ []) after (step before r h))
 
-pub one-by-one : (P : List Heard → Type 0) → P [] → ((rs : List Heard) (r : Heard) → P rs → P (rs ++ r ∷ [])) → (rs : List Heard) → P rs
+pub one-by-one : (P : List Heard → Type 0) → P [] → ((rs : List Heard) (r : Heard) → P rs → P (rs ++ r ∷ [])) →
+    (rs : List Heard) → P rs
 one-by-one P none step rs = from-front P step [] rs none
 
 pub seen-reports : (d : List FrameType) (rs : List Heard) → map heard_in (seen d rs) ≡ rs
 seen-reports d rs =
     one-by-one (λ rs. map heard_in (seen d rs) ≡ rs) refl
-    (λ rs r h. ap (map heard_in) (seen-more d rs r) ∙ (map-append heard_in (seen d rs) (seen_of d rs r ∷ []) ∙ ap (λ xs. xs ++ r ∷ []) h))
+    (λ rs r h. ap (map heard_in) (seen-more d rs r)
+    ∙ (map-append heard_in (seen d rs) (seen_of d rs r ∷ []) ∙ ap (λ xs. xs ++ r ∷ []) h))
     rs
 
 verdict-option : (o : Option Verdict) → cons_option o [] ≡ option_to_list o
 verdict-option None = refl
 verdict-option (Some v) = refl
 
-pub seen-decides : (d : List FrameType) (rs : List Heard) → filter_map (λ (s : SeenReport). s.verdict) (seen d rs) ≡ verdicts d rs
+pub seen-decides : (d : List FrameType) (rs : List Heard) →
+    filter_map (λ (s : SeenReport). s.verdict) (seen d rs) ≡ verdicts d rs
 seen-decides d rs =
     one-by-one (λ rs. filter_map (λ (s : SeenReport). s.verdict) (seen d rs) ≡ verdicts d rs) refl
     (λ rs r h. ap (filter_map (λ (s : SeenReport). s.verdict)) (seen-more d rs r)
     ∙ (filter_map-append (λ (s : SeenReport). s.verdict) (seen d rs) (seen_of d rs r ∷ [])
-    ∙ (ap (λ vs. vs ++ cons_option (decided d rs r) []) h ∙ (ap (λ vs. verdicts d rs ++ vs) (verdict-option (decided d rs r)) ∙ sym (verdicts-more d rs r)))))
+    ∙ (ap (λ vs. vs ++ cons_option (decided d rs r) []) h
+    ∙ (ap (λ vs. verdicts d rs ++ vs) (verdict-option (decided d rs r)) ∙ sym (verdicts-more d rs r)))))
     rs
 
-pub due-moved : (origin : ℕ) (kind : Kind) (first past : ℕ) → due_by kind (origin + first) (origin + past) ≡ origin + due_by kind first past
+pub due-moved : (origin : ℕ) (kind : Kind) (first past : ℕ) →
+    due_by kind (origin + first) (origin + past) ≡ origin + due_by kind first past
 due-moved origin (Frame octets) first past = omega arith
 due-moved origin (Damaged cause) first past = omega arith
 due-moved origin Overlong first past = omega arith
@@ -56,50 +64,74 @@ due-moved origin Abort first past = omega arith
 due-moved origin Idle first past = omega arith
 
 -- nothing is due where all reports are due before
-find-none : (place : ℕ) (ss : List SeenReport) → All (λ (h : Heard). due h.report < place) (map heard_in ss) → find (λ (s : SeenReport). due s.report == place) ss ≡ None
+find-none : (place : ℕ) (ss : List SeenReport) → All (λ (h : Heard). due h.report < place) (map heard_in ss) →
+    find (λ (s : SeenReport). due s.report == place) ss ≡ None
 find-none place [] h = refl
 find-none place (s ∷ ss) h =
-    let apart : (due s.report == place) ≡ false = ne_eqb (due s.report) place (λ e. omega (arith, e, h 0 (heard_in s) (omega arith))) in
+    let apart : (due s.report == place) ≡ false =
+    ne_eqb (due s.report) place (λ e. omega (arith, e, h 0 (heard_in s) (omega arith))) in
     rw apart (find-none place ss (λ i d l. h (suc i) d (omega (arith, l))))
 
-line-due : (longest origin : ℕ) (b : List Bool) → DueBelow → All (λ r. due r < origin + length b) (placed origin longest b)
+line-due : (longest origin : ℕ) (b : List Bool) → DueBelow →
+    All (λ r. due r < origin + length b) (placed origin longest b)
 line-due longest origin b below =
     All-map (λ r. due r < origin + length b) (moved origin) (reports longest b) (λ i d l.
     let r = get_or (reports longest b) i d in
-    omega (arith, below longest b r (Contains-get_or (reports longest b) i d l), due-moved origin r.kind r.first r.past))
+    omega (
+      arith,
+      below longest b r (Contains-get_or (reports longest b) i d l),
+      due-moved origin r.kind r.first r.past,
+    ))
 
-line-heard : (longest origin : ℕ) (b : List Bool) → DueBelow → All (λ (h : Heard). due h.report < origin + length b) (of_line (placed origin longest b))
-line-heard longest origin b below = All-map (λ (h : Heard). due h.report < origin + length b) (heard_on None) (placed origin longest b) (line-due longest origin b below)
+line-heard : (longest origin : ℕ) (b : List Bool) → DueBelow →
+    All (λ (h : Heard). due h.report < origin + length b) (of_line (placed origin longest b))
+line-heard longest origin b below =
+    All-map (λ (h : Heard). due h.report < origin + length b) (heard_on None) (placed origin longest b)
+    (line-due longest origin b below)
 
-at-none : (d : List FrameType) (rs : List Heard) (place : ℕ) → All (λ (h : Heard). due h.report < place) rs → seen_at d rs place ≡ None
-at-none d rs place h = find-none place (seen d rs) (subst (All (λ (h : Heard). due h.report < place)) (sym (seen-reports d rs)) h)
+at-none : (d : List FrameType) (rs : List Heard) (place : ℕ) → All (λ (h : Heard). due h.report < place) rs →
+    seen_at d rs place ≡ None
+at-none d rs place h =
+    find-none place (seen d rs) (subst (All (λ (h : Heard). due h.report < place)) (sym (seen-reports d rs)) h)
 
-at-last : (d : List FrameType) (rs : List Heard) (r : Heard) (place : ℕ) → All (λ (h : Heard). due h.report < place) rs → due r.report ≡ place → seen_at d (rs ++ r ∷ []) place ≡ Some (seen_of d rs r)
+at-last : (d : List FrameType) (rs : List Heard) (r : Heard) (place : ℕ) →
+    All (λ (h : Heard). due h.report < place) rs → due r.report ≡ place →
+    seen_at d (rs ++ r ∷ []) place ≡ Some (seen_of d rs r)
 at-last d rs r place h e =
     let p : SeenReport → Bool = λ s. due s.report == place in
     let yes : (due r.report == place) ≡ true = eq-eqb (due r.report) place e in
-    ap (find p) (seen-more d rs r) ∙ (find-append p (seen d rs) (seen_of d rs r ∷ []) ∙ (ap (λ o. option_or o (find p (seen_of d rs r ∷ []))) (at-none d rs place h) ∙ rw yes refl))
+    ap (find p) (seen-more d rs r)
+    ∙ (find-append p (seen d rs) (seen_of d rs r ∷ [])
+    ∙ (ap (λ o. option_or o (find p (seen_of d rs r ∷ []))) (at-none d rs place h) ∙ rw yes refl))
 
-grows-by : (d : List FrameType) (longest origin : ℕ) (b longer : List Bool) → DueIsIt → DueBelow → (o : Option Report) → due_at longest longer (length b) ≡ o
+grows-by : (d : List FrameType) (longest origin : ℕ) (b longer : List Bool) → DueIsIt → DueBelow → (o : Option Report) →
+    due_at longest longer (length b) ≡ o
     → placed origin longest longer ≡ placed origin longest b ++ option_to_list (option_map (moved origin) o)
-    → seen d (of_line (placed origin longest longer)) ≡ seen d (of_line (placed origin longest b)) ++ option_to_list (seen_at d (of_line (placed origin longest longer)) (origin + length b))
+    → seen d (of_line (placed origin longest longer)) ≡ seen d (of_line (placed origin longest b))
+    ++ option_to_list (seen_at d (of_line (placed origin longest longer)) (origin + length b))
 grows-by d longest origin b longer it below None e grown =
     let hs = of_line (placed origin longest b) in
-    let same : of_line (placed origin longest longer) ≡ hs = ap of_line (grown ∙ append-nil (placed origin longest b)) in
+    let same : of_line (placed origin longest longer) ≡ hs =
+    ap of_line (grown ∙ append-nil (placed origin longest b)) in
     rw (same, at-none d hs (origin + length b) (line-heard longest origin b below)) (sym (append-nil (seen d hs)))
 grows-by d longest origin b longer it below (Some r) e grown =
     let rs = placed origin longest b in
     let h : Heard = heard_on None (moved origin r) in
     let is : due r ≡ length b = ((it longest longer (length b) r).1 e).1 in
-    let at : due (moved origin r) ≡ origin + length b = due-moved origin r.kind r.first r.past ∙ ap (λ n. origin + n) is in
-    let more : of_line (placed origin longest longer) ≡ of_line rs ++ h ∷ [] = ap of_line grown ∙ map-append (heard_on None) rs (moved origin r ∷ []) in
-    rw (more, at-last d (of_line rs) h (origin + length b) (line-heard longest origin b below) at) (seen-more d (of_line rs) h)
+    let at : due (moved origin r) ≡ origin + length b =
+    due-moved origin r.kind r.first r.past ∙ ap (λ n. origin + n) is in
+    let more : of_line (placed origin longest longer) ≡ of_line rs ++ h ∷ [] =
+    ap of_line grown ∙ map-append (heard_on None) rs (moved origin r ∷ []) in
+    rw (more, at-last d (of_line rs) h (origin + length b) (line-heard longest origin b below) at)
+    (seen-more d (of_line rs) h)
 
 pub seen-grows : OneMore → DueIsIt → DueBelow → SeenGrows
 seen-grows more it below = λ d longest origin b bit.
     let o = due_at longest (b ++ bit ∷ []) (length b) in
     grows-by d longest origin b (b ++ bit ∷ []) it below o refl
-    (ap (map (moved origin)) (more longest b bit) ∙ (map-append (moved origin) (reports longest b) (option_to_list o) ∙ ap (λ rs. placed origin longest b ++ rs) (map-option (moved origin) o)))
+    (ap (map (moved origin)) (more longest b bit)
+    ∙ (map-append (moved origin) (reports longest b) (option_to_list o)
+    ∙ ap (λ rs. placed origin longest b ++ rs) (map-option (moved origin) o)))
 
 same-told : (o p : Option SeenReport) → option_to_list o ≡ option_to_list p → o ≡ p
 same-told None None e = refl
@@ -108,11 +140,14 @@ same-told (Some s) None e = absurd (omega (arith, ap length e))
 same-told (Some s) (Some t) e = cc
 
 -- what a bit adds is what is seen at its place
-pub answer-is : {C : Type 0} (folded : C → List ℕ → Type 0) (cost : ℕ) (a : AnalyserState C) (b : List Bool) (bit : Bool) (o : Option SeenReport) → SeenGrows → IsAfter folded cost a b
-    → seen_after a (b ++ bit ∷ []) ≡ seen_after a b ++ option_to_list o → o ≡ seen_at a.journal.dictionary (line a (b ++ bit ∷ [])) a.decoder.place
+pub answer-is : {C : Type 0} (folded : C → List ℕ → Type 0) (cost : ℕ) (a : AnalyserState C) (b : List Bool)
+    (bit : Bool) (o : Option SeenReport) → SeenGrows → IsAfter folded cost a b
+    → seen_after a (b ++ bit ∷ []) ≡ seen_after a b ++ option_to_list o →
+    o ≡ seen_at a.journal.dictionary (line a (b ++ bit ∷ [])) a.decoder.place
 answer-is folded cost a b bit o grows s e =
     let d = a.journal.dictionary in
     let rs = line a (b ++ bit ∷ []) in
     let at : o ≡ seen_at d rs (a.decoder.origin + length b) =
-    same-told o (seen_at d rs (a.decoder.origin + length b)) (append_cancel_left (seen_after a b) _ _ (sym e ∙ grows d (longest_of d) a.decoder.origin b bit)) in
+    same-told o (seen_at d rs (a.decoder.origin + length b))
+    (append_cancel_left (seen_after a b) _ _ (sym e ∙ grows d (longest_of d) a.decoder.origin b bit)) in
     at ∙ ap (seen_at d rs) (sym s.decoder.has_taken.place)

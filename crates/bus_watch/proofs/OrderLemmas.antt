@@ -1,5 +1,6 @@
 -- The order of the merged reports of two lines.
-use Rattle.std.proofs.Common.{◌≡◌, ℕ, zero, suc, ◌<◌, ◌⊎◌, Bool, List, [], ◌∷◌, ◌++◌, length, map, Option, Some, None, inl, inr, refl, sym, ap, ◌∙◌, subst, append-nil, arith, get_or}
+use Rattle.std.proofs.Common.{◌≡◌, ℕ, zero, suc, ◌<◌, ◌⊎◌, Bool, List, [], ◌∷◌, ◌++◌, length, map, Option, Some, None}
+use Rattle.std.proofs.Common.{inl, inr, refl, sym, ap, ◌∙◌, subst, append-nil, arith, get_or}
 use Rattle.std.specs.List.{flat_map, All, AllPairs}
 use Rattle.std.specs.Option.{option_map, option_to_list}
 use Rattle.std.proofs.lemmas.List.Elements.{All-append, All-nil, All-cons}
@@ -17,19 +18,24 @@ use Rattle.bus_watch.proofs.PairLemmas.{heard-due, both-due, below}
 
 -- two lists in order, of which each report of the one comes before each of the other
 before-append : (xs ys : List Heard) → AllPairs ComesBefore xs → AllPairs ComesBefore ys
-    → ((i j : ℕ) (d : Heard) → i < length xs → j < length ys → ComesBefore (get_or xs i d) (get_or ys j d)) → AllPairs ComesBefore (xs ++ ys)
+    → ((i j : ℕ) (d : Heard) → i < length xs → j < length ys → ComesBefore (get_or xs i d) (get_or ys j d)) →
+    AllPairs ComesBefore (xs ++ ys)
 before-append [] ys p q r = q
 before-append (x ∷ xs) ys p q r =
-    let rest = before-append xs ys (λ i j d l m. p (suc i) (suc j) d (omega (arith, l)) (omega (arith, m))) q (λ i j d l m. r (suc i) j d (omega (arith, l)) m) in
+    let rest = before-append xs ys (λ i j d l m. p (suc i) (suc j) d (omega (arith, l)) (omega (arith, m))) q
+    (λ i j d l m. r (suc i) j d (omega (arith, l)) m) in
     AllPairs-cons ComesBefore x (xs ++ ys)
-    (All-append (ComesBefore x) xs ys (λ i d l. p 0 (suc i) d (omega arith) (omega (arith, l))) (λ j d l. r 0 j d (omega arith) l))
+    (All-append (ComesBefore x) xs ys (λ i d l. p 0 (suc i) d (omega arith) (omega (arith, l)))
+    (λ j d l. r 0 j d (omega arith) l))
     rest
 
 -- what is heard on a line
-heard-line : (on : Line) (origin longest : ℕ) (b : List Bool) (i : ℕ) → All (λ (h : Heard). h.line ≡ Some on) (heard_at on origin longest b i)
+heard-line : (on : Line) (origin longest : ℕ) (b : List Bool) (i : ℕ) →
+    All (λ (h : Heard). h.line ≡ Some on) (heard_at on origin longest b i)
 heard-line on origin longest b i = one (due_at longest b i)
   where
-    one : (o : Option Report) → All (λ (h : Heard). h.line ≡ Some on) (map (heard_on (Some on)) (option_to_list (option_map (moved origin) o)))
+    one : (o : Option Report) → All (λ (h : Heard). h.line ≡ Some on)
+        (map (heard_on (Some on)) (option_to_list (option_map (moved origin) o)))
     one None = All-nil _
     one (Some r) = All-cons (λ (h : Heard). h.line ≡ Some on) (heard_on (Some on) (moved origin r)) [] refl (All-nil _)
 
@@ -37,20 +43,30 @@ heard-line on origin longest b i = one (due_at longest b i)
 alone : (on : Line) (origin longest : ℕ) (b : List Bool) (i : ℕ) → AllPairs ComesBefore (heard_at on origin longest b i)
 alone on origin longest b i = one (due_at longest b i)
   where
-    one : (o : Option Report) → AllPairs ComesBefore (map (heard_on (Some on)) (option_to_list (option_map (moved origin) o)))
+    one : (o : Option Report) →
+        AllPairs ComesBefore (map (heard_on (Some on)) (option_to_list (option_map (moved origin) o)))
     one None = λ i j d l m. absurd (omega (arith, m))
     one (Some r) = λ i j d l m. absurd (omega (arith, l, m))
 
-both-rise : DueIsIt → (origin longest : ℕ) (b c : List Bool) (i : ℕ) → AllPairs ComesBefore (heard_at First origin longest b i ++ heard_at Second origin longest c i)
+both-rise : DueIsIt → (origin longest : ℕ) (b c : List Bool) (i : ℕ) →
+    AllPairs ComesBefore (heard_at First origin longest b i ++ heard_at Second origin longest c i)
 both-rise it origin longest b c i =
-    before-append (heard_at First origin longest b i) (heard_at Second origin longest c i) (alone First origin longest b i) (alone Second origin longest c i)
-    (λ k m d l n. inr (heard-due it First origin longest b i k d l ∙ sym (heard-due it Second origin longest c i m d n), heard-line First origin longest b i k d l, heard-line Second origin longest c i m d n))
+    before-append (heard_at First origin longest b i) (heard_at Second origin longest c i)
+    (alone First origin longest b i) (alone Second origin longest c i)
+    (λ k m d l n. inr (
+      heard-due it First origin longest b i k d l ∙ sym (heard-due it Second origin longest c i m d n),
+      heard-line First origin longest b i k d l,
+      heard-line Second origin longest c i m d n,
+    ))
 
-all-rise : DueIsIt → (origin longest : ℕ) (b c : List Bool) (n : ℕ) → AllPairs ComesBefore (flat_map (λ i. heard_at First origin longest b i ++ heard_at Second origin longest c i) (places n))
+all-rise : DueIsIt → (origin longest : ℕ) (b c : List Bool) (n : ℕ) →
+    AllPairs ComesBefore
+    (flat_map (λ i. heard_at First origin longest b i ++ heard_at Second origin longest c i) (places n))
 all-rise it origin longest b c zero = λ i j d l m. absurd (omega (arith, m))
 all-rise it origin longest b c (suc n) =
     let f : ℕ → List Heard = λ i. heard_at First origin longest b i ++ heard_at Second origin longest c i in
-    subst (AllPairs ComesBefore) (sym (flat_map-append f (places n) (n ∷ []) ∙ ap (λ ys. flat_map f (places n) ++ ys) (append-nil (f n))))
+    subst (AllPairs ComesBefore)
+    (sym (flat_map-append f (places n) (n ∷ []) ∙ ap (λ ys. flat_map f (places n) ++ ys) (append-nil (f n))))
     (before-append (flat_map f (places n)) (f n) (all-rise it origin longest b c n) (both-rise it origin longest b c n)
     (λ i j d l m. inl (omega (arith, below it origin longest b c n i d l, both-due it origin longest b c n j d m))))
 
@@ -58,13 +74,17 @@ all-rise it origin longest b c (suc n) =
 abbrev IsOfOne : Heard → Type 0
 IsOfOne h = (h.line ≡ Some First) ⊎ (h.line ≡ Some Second)
 
-all-of-one : (origin longest : ℕ) (b c : List Bool) (n : ℕ) → All IsOfOne (flat_map (λ i. heard_at First origin longest b i ++ heard_at Second origin longest c i) (places n))
+all-of-one : (origin longest : ℕ) (b c : List Bool) (n : ℕ) →
+    All IsOfOne (flat_map (λ i. heard_at First origin longest b i ++ heard_at Second origin longest c i) (places n))
 all-of-one origin longest b c zero = All-nil _
 all-of-one origin longest b c (suc n) =
     let f : ℕ → List Heard = λ i. heard_at First origin longest b i ++ heard_at Second origin longest c i in
-    subst (All IsOfOne) (sym (flat_map-append f (places n) (n ∷ []) ∙ ap (λ ys. flat_map f (places n) ++ ys) (append-nil (f n))))
+    subst (All IsOfOne)
+    (sym (flat_map-append f (places n) (n ∷ []) ∙ ap (λ ys. flat_map f (places n) ++ ys) (append-nil (f n))))
     (All-append IsOfOne (flat_map f (places n)) (f n) (all-of-one origin longest b c n)
-    (All-append IsOfOne (heard_at First origin longest b n) (heard_at Second origin longest c n) (λ i d l. inl (heard-line First origin longest b n i d l)) (λ i d l. inr (heard-line Second origin longest c n i d l))))
+    (All-append IsOfOne (heard_at First origin longest b n) (heard_at Second origin longest c n)
+    (λ i d l. inl (heard-line First origin longest b n i d l))
+    (λ i d l. inr (heard-line Second origin longest c n i d l))))
 
 pub merged-is-merged : DueIsIt → MergedIsMerged
 merged-is-merged it = λ longest origin ps. record {

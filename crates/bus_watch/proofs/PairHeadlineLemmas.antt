@@ -1,5 +1,6 @@
 -- What a whole run over two lines comes to.
-use Rattle.std.proofs.Common.{◌≡◌, ℕ, ◌+◌, ◌-◌, ◌*◌, ◌≤◌, Bool, List, [], ◌∷◌, ◌++◌, length, map, take, Option, sym, ap, ◌∙◌, subst, append-nil, arith, length-take}
+use Rattle.std.proofs.Common.{◌≡◌, ℕ, ◌+◌, ◌-◌, ◌*◌, ◌≤◌, Bool, List, [], ◌∷◌, ◌++◌, length, map, take, Option, sym, ap}
+use Rattle.std.proofs.Common.{◌∙◌, subst, append-nil, arith, length-take}
 use Rattle.std.proofs.lemmas.List.{take-take}
 use Rattle.bus_line.specs.Due.{reports}
 use Rattle.bus_line.specs.Laws.{ReportsAre}
@@ -20,19 +21,26 @@ use Rattle.bus_watch.proofs.FedLemmas.{same-seen}
 use Rattle.bus_watch.proofs.HeadlineLemmas.{runs-alike}
 
 -- what the getters answer that a usage is made of
-pub record Answers {C : Type 0} (folded : C → List ℕ → Type 0) (cost : ℕ) (e : PairState C) (u : PairUsage) : Type 0 where
+pub record Answers {C : Type 0} (folded : C → List ℕ → Type 0) (cost : ℕ) (e : PairState C) (u : PairUsage) :
+    Type 0 where
   pub first_room : u.first_buffered ≤ longest_of e.journal.dictionary + 2
   pub second_room : u.second_buffered ≤ longest_of e.journal.dictionary + 2
-  pub first_buffered : (ps : List (Bool × Bool)) → IsAfterPairs folded cost e ps → u.first_buffered ≡ stored_open (longest_of e.journal.dictionary) (firsts ps)
-  pub second_buffered : (ps : List (Bool × Bool)) → IsAfterPairs folded cost e ps → u.second_buffered ≡ stored_open (longest_of e.journal.dictionary) (seconds ps)
-  pub kept : (ps : List (Bool × Bool)) → IsAfterPairs folded cost e ps → u.history_len ≡ length (history e.journal.depth (lines e ps))
+  pub first_buffered : (ps : List (Bool × Bool)) → IsAfterPairs folded cost e ps →
+      u.first_buffered ≡ stored_open (longest_of e.journal.dictionary) (firsts ps)
+  pub second_buffered : (ps : List (Bool × Bool)) → IsAfterPairs folded cost e ps →
+      u.second_buffered ≡ stored_open (longest_of e.journal.dictionary) (seconds ps)
+  pub kept : (ps : List (Bool × Bool)) → IsAfterPairs folded cost e ps →
+      u.history_len ≡ length (history e.journal.depth (lines e ps))
   pub deep : u.history_len ≤ e.journal.depth
-  pub ledger : (ps : List (Bool × Bool)) → IsAfterPairs folded cost e ps → IsPairLedger cost (longest_of e.journal.dictionary) ps u.spent
+  pub ledger : (ps : List (Bool × Bool)) → IsAfterPairs folded cost e ps →
+      IsPairLedger cost (longest_of e.journal.dictionary) ps u.spent
   pub seventeen : (ps : List (Bool × Bool)) → IsAfterPairs folded cost e ps → total u.spent ≤ 17 * (2 * length ps)
   pub four : (ps : List (Bool × Bool)) → IsAfterPairs folded cost e ps → total u.spent ≤ 4 * (2 * length ps)
   pub three : cost ≡ 1 → (ps : List (Bool × Bool)) → IsAfterPairs folded cost e ps → total u.spent ≤ 3 * (2 * length ps)
 
-pub whole-pair-run : {C : Type 0} (folded : C → List ℕ → Type 0) (cost : ℕ) (e : PairState C) (u : PairUsage) → AnyCutOfPairs folded cost → ReportsAre → SeenAreReports → MergedIsMerged → Answers folded cost e u → WholePairRun folded cost e u
+pub whole-pair-run : {C : Type 0} (folded : C → List ℕ → Type 0) (cost : ℕ) (e : PairState C) (u : PairUsage) →
+    AnyCutOfPairs folded cost → ReportsAre → SeenAreReports → MergedIsMerged → Answers folded cost e u →
+    WholePairRun folded cost e u
 whole-pair-run folded cost e u cut are in-order sides h = λ start pieces tolds s r.
     let alike = runs-alike (two_lines folded cost) start e pieces tolds r in
     let both = cut start e pieces tolds s r in
@@ -46,8 +54,10 @@ whole-pair-run folded cost e u cut are in-order sides h = λ start pieces tolds 
     rw (← alike.dictionary, ← alike.depth, ← alike.origin)
     (record {
       told = all_told;
-      first_framing = (reports longest (firsts ps), are longest (firsts ps), ap (of_side First) all_heard ∙ merges.first);
-      second_framing = (reports longest (seconds ps), are longest (seconds ps), ap (of_side Second) all_heard ∙ merges.second);
+      first_framing =
+          (reports longest (firsts ps), are longest (firsts ps), ap (of_side First) all_heard ∙ merges.first);
+      second_framing =
+          (reports longest (seconds ps), are longest (seconds ps), ap (of_side Second) all_heard ∙ merges.second);
       first_bound = h.first_room;
       second_bound = h.second_room;
       first_buffered = h.first_buffered _ is_after;
@@ -62,8 +72,10 @@ whole-pair-run folded cost e u cut are in-order sides h = λ start pieces tolds 
     })
 
 -- what was fed to a new analyser is a whole run
-pub fed-pair-headline : {C S : Type 0} (folded : C → List ℕ → Type 0) (cost : ℕ) (taken : S → Option (List SeenReport)) (a e : PairState C) (ps : List (Bool × Bool)) (s t : S) (u : PairUsage)
-    → IsAfterPairs folded cost a [] → (f : FedBy (two_lines folded cost) taken a ps e s t) → WholePairRun folded cost e u
+pub fed-pair-headline : {C S : Type 0} (folded : C → List ℕ → Type 0) (cost : ℕ) (taken : S → Option (List SeenReport))
+    (a e : PairState C) (ps : List (Bool × Bool)) (s t : S) (u : PairUsage)
+    → IsAfterPairs folded cost a [] → (f : FedBy (two_lines folded cost) taken a ps e s t) →
+    WholePairRun folded cost e u
     → PairHeadline cost a.journal.dictionary a.journal.depth a.first.origin ps f.seen e.journal.history u
 fed-pair-headline folded cost taken a e ps s t u new f whole =
     let d = a.journal.dictionary in
@@ -74,7 +86,8 @@ fed-pair-headline folded cost taken a e ps s t u new f whole =
     (subst (λ y. PairHeadline cost d depth origin (ps ++ []) y e.journal.history u) (append-nil f.seen) h)
 
 -- where a sink refused reports of what a new analyser was fed
-pub stopped-at-pair : {C S : Type 0} (folded : C → List ℕ → Type 0) (cost : ℕ) (taken : S → Option (List SeenReport)) (a e : PairState C) (ps : List (Bool × Bool)) (s t : S) (n consumed : ℕ)
+pub stopped-at-pair : {C S : Type 0} (folded : C → List ℕ → Type 0) (cost : ℕ) (taken : S → Option (List SeenReport))
+    (a e : PairState C) (ps : List (Bool × Bool)) (s t : S) (n consumed : ℕ)
     → IsAfterPairs folded cost a [] → RefusedByAt (two_lines folded cost) taken n a ps consumed e s t
     → StoppedAtPair taken n a.journal.dictionary a.first.origin ps s t consumed
 stopped-at-pair folded cost taken a e ps s t n consumed new at =
@@ -84,7 +97,8 @@ stopped-at-pair folded cost taken a e ps s t n consumed new at =
     let count : length (take consumed ps) - 1 ≡ consumed - 1 = omega (arith, at.within, length-take consumed ps) in
     let front : take (length (take consumed ps) - 1) (take consumed ps) ≡ take (consumed - 1) ps =
     ap (λ k. take k (take consumed ps)) count ∙ take-take (consumed - 1) consumed ps (omega arith) in
-    let before : all_seen_on_both d origin (take (consumed - 1) ps) ≡ r.seen = ap (all_seen_on_both d origin) (sym front) ∙ r.front [] new in
+    let before : all_seen_on_both d origin (take (consumed - 1) ps) ≡ r.seen =
+    ap (all_seen_on_both d origin) (sym front) ∙ r.front [] new in
     record {
       some = at.some;
       within = at.within;

@@ -10,7 +10,8 @@ use Rattle.bus_watch.proofs.JournalStateLemmas.{damage-quiet}
 use Rattle.bus_watch.proofs.TalkLemmas.{pending-talk}
 
 -- none waits behind damage
-pub waiting-damage : (d : List FrameType) (hs : List Heard) (r : Heard) → is_damage r.report.kind ≡ true → None ≡ pending d (hs ++ r ∷ [])
+pub waiting-damage : (d : List FrameType) (hs : List Heard) (r : Heard) → is_damage r.report.kind ≡ true →
+    None ≡ pending d (hs ++ r ∷ [])
 waiting-damage d hs r h =
     let q = damage-quiet d r.report.kind h in
     sym (pending-talk d hs r q.0 ∙ ap (λ s. option_and_then (command_on r.line d (span_of r.report)) s) q.1.no_standing)

@@ -12,17 +12,23 @@ use Rattle.bus_watch.specs.Seen.{seen_of, seen_number, seen}
 use Rattle.bus_line.proofs.DueMoreLemmas.{filter_map-places}
 
 -- the reports before keep their numbers
-before-same : (d : List FrameType) (rs : List Heard) (r : Heard) (i : ℕ) → i < length rs → seen_number d (rs ++ r ∷ []) i ≡ seen_number d rs i
-before-same d rs r i l = rw (slice_get-append_left rs (r ∷ []) i l, take-append-le i rs (r ∷ []) (omega (arith, l))) refl
+before-same : (d : List FrameType) (rs : List Heard) (r : Heard) (i : ℕ) → i < length rs →
+    seen_number d (rs ++ r ∷ []) i ≡ seen_number d rs i
+before-same d rs r i l = rw (slice_get-append_left rs (r ∷ []) i l, take-append-le i rs (r ∷ []) (omega (arith, l)))
+    refl
 
-new-number : (d : List FrameType) (rs : List Heard) (r : Heard) → seen_number d (rs ++ r ∷ []) (length rs) ≡ Some (seen_of d rs r)
-new-number d rs r = rw (slice_get-append_right rs (r ∷ []) (length rs) 0 (omega arith), take-append_seam rs (r ∷ [])) refl
+new-number : (d : List FrameType) (rs : List Heard) (r : Heard) →
+    seen_number d (rs ++ r ∷ []) (length rs) ≡ Some (seen_of d rs r)
+new-number d rs r = rw (slice_get-append_right rs (r ∷ []) (length rs) 0 (omega arith), take-append_seam rs (r ∷ []))
+    refl
 
-pub seen-more : (d : List FrameType) (rs : List Heard) (r : Heard) → seen d (rs ++ r ∷ []) ≡ seen d rs ++ seen_of d rs r ∷ []
+pub seen-more : (d : List FrameType) (rs : List Heard) (r : Heard) →
+    seen d (rs ++ r ∷ []) ≡ seen d rs ++ seen_of d rs r ∷ []
 seen-more d rs r =
     let f = seen_number d (rs ++ r ∷ []) in
     let l : length (rs ++ r ∷ []) ≡ suc (length rs) = omega (arith, length_push rs r) in
     rw l
     (filter_map-append f (places (length rs)) (length rs ∷ [])
-    ∙ (ap (λ xs. xs ++ filter_map f (length rs ∷ [])) (filter_map-places f (seen_number d rs) (length rs) (before-same d rs r))
+    ∙ (ap (λ xs. xs ++ filter_map f (length rs ∷ []))
+    (filter_map-places f (seen_number d rs) (length rs) (before-same d rs r))
     ∙ ap (λ o. seen d rs ++ cons_option o []) (new-number d rs r)))

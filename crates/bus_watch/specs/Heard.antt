@@ -1,5 +1,6 @@
 -- Reports with the line that each was heard on: of one line, or merged from two.
-use Rattle.std.specs.Prelude.{ℕ, Bool, true, false, List, ◌++◌, length, map, filter, zip, Option, Some, None, option_map}
+use Rattle.std.specs.Prelude.{ℕ, Bool, true, false, List, ◌++◌, length, map, filter, zip, Option, Some, None}
+use Rattle.std.specs.Prelude.{option_map}
 use Rattle.std.specs.List.{flat_map}
 use Rattle.std.specs.Option.{option_to_list}
 use Rattle.bus_bits.specs.Octet.{bits_of}

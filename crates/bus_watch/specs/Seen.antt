@@ -1,5 +1,6 @@
 -- What is seen: each report, and what follows from it and the reports before it.
-use Rattle.std.specs.Prelude.{ℕ, ◌==◌, not, ◌&&◌, nat_le, Bool, true, false, List, length, take, find, filter, filter_map, slice_get, Option, Some, None, option_map, option_and_then, if◌then◌else◌}
+use Rattle.std.specs.Prelude.{ℕ, ◌==◌, not, ◌&&◌, nat_le, Bool, true, false, List, length, take, find, filter}
+use Rattle.std.specs.Prelude.{filter_map, slice_get, Option, Some, None, option_map, option_and_then, if◌then◌else◌}
 use Rattle.std.specs.List.{last_or}
 use Rattle.bus_line.specs.Report.{Report, due}
 use Rattle.bus_line.specs.Due.{places}

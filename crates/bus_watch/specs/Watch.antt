@@ -30,7 +30,8 @@ pub record Leads {A X : Type 0} (w : Watch A X) (old : A) (xs : List X) (told : 
   pub place : w.place new ≡ w.place old + length xs
 
 -- these lead from old to new, and what is seen at them was told, at most two reports at each
-pub record LeadsTold {A X : Type 0} (w : Watch A X) (old : A) (xs : List X) (new : A) (is_told : List SeenReport → Type 0)
+pub record LeadsTold {A X : Type 0} (w : Watch A X) (old : A) (xs : List X) (new : A)
+    (is_told : List SeenReport → Type 0)
     : Type 0 where
   pub seen : List SeenReport
   pub sees : Leads w old xs seen new

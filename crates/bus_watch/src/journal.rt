@@ -1,6 +1,7 @@
 //! What is kept of the reports so far.
 
-ghost use Rattle.std.specs.Prelude.{◌≡◌, ◌≢◌, ◌+◌, ◌≤◌, ◌<◌, ◌^◌, List, ℕ, Option, [], ◌∷◌, ◌++◌, IfOk, length, replicate, true, Some, None, slice_get, option_copied, option_map};
+ghost use Rattle.std.specs.Prelude.{◌≡◌, ◌≢◌, ◌+◌, ◌≤◌, ◌<◌, ◌^◌, List, ℕ, Option, [], ◌∷◌, ◌++◌, IfOk, length};
+ghost use Rattle.std.specs.Prelude.{replicate, true, Some, None, slice_get, option_copied, option_map};
 
 mod keep;
 mod verdict;

@@ -1,7 +1,9 @@
 //! Laws over the definitions.
 
 ghost use Rattle.bus_watch.specs.Cut.{CutLosesNothing, CutLosesVerdict, FlagLosesNothing};
-ghost use Rattle.bus_watch.specs.Laws.{SeenGrows, SeenAreReports, SeenDecides, StepsWithinFour, StepsWithinThree, BitCosts, PairCosts, ClosedPaid, AnyCut, AnyCutOfPairs, PairsGrow, MergedIsMerged};
+ghost use Rattle.bus_watch.specs.Laws.{SeenGrows, SeenAreReports, SeenDecides, StepsWithinFour, StepsWithinThree};
+ghost use Rattle.bus_watch.specs.Laws.{BitCosts, PairCosts, ClosedPaid, AnyCut, AnyCutOfPairs, PairsGrow};
+ghost use Rattle.bus_watch.specs.Laws.{MergedIsMerged};
 
 use bus_fcs::Check;
 use bus_line::laws::{

@@ -52,7 +52,10 @@ pub use line::Line;
 pub use logged_report::{LoggedPiece, LoggedReport};
 pub use new_fault::NewFault;
 pub use outcome::Outcome;
-pub use pair::{PairAnalyser, PairEnding, PairKept, PairListener, PairLog, PairLogged, PairRun, PairSeen, PairSink, PairUsage, run_pairs};
+pub use pair::{
+    PairAnalyser, PairEnding, PairKept, PairListener, PairLog, PairLogged, PairRun, PairSeen,
+    PairSink, PairUsage, run_pairs,
+};
 pub use pairing::Pairing;
 pub use pending::Pending;
 pub use report_log::ReportLog;

@@ -1,7 +1,8 @@
 //! Whole runs: all bits from first to last.
 
 ghost use Rattle.std.specs.Prelude.{◌≡◌, ◌+◌, ◌-◌, ◌<◌, ◌≤◌, ◌^◌, List, IfOk, IfErr, OnOk, length};
-ghost use Rattle.bus_watch.specs.Headline.{Headline, Fails, StoppedAt, CanBeMade, UnlessStopped, all_seen, bits_in, kept_frames};
+ghost use Rattle.bus_watch.specs.Headline.{Headline, Fails, StoppedAt, CanBeMade, UnlessStopped, all_seen, bits_in};
+ghost use Rattle.bus_watch.specs.Headline.{kept_frames};
 ghost use Rattle.bus_watch.specs.Seen.{SeenReport};
 ghost use Rattle.bus_watch.specs.Sink.{told};
 ghost use Rattle.bus_watch.specs.After.{IsAfter};

@@ -1,5 +1,6 @@
 -- The bits of a frame in a sink with room for them.
-use Rattle.std.proofs.Common.{◌≡◌, ℕ, ◌≤◌, Bool, true, List, [], ◌++◌, length, take, Option, None, Some, Result, Err, IsTrue, ap, ◌∙◌, arith, length-take}
+use Rattle.std.proofs.Common.{◌≡◌, ℕ, ◌≤◌, Bool, true, List, [], ◌++◌, length, take, Option, None, Some, Result, Err}
+use Rattle.std.proofs.Common.{IsTrue, ap, ◌∙◌, arith, length-take}
 use Rattle.bus_line.specs.Line.{Frame, added, gain, raw_bits}
 use Rattle.bus_line.specs.Mark.{flag}
 use Rattle.bus_line.specs.Internal.EncoderState.{EncoderState}
@@ -20,28 +21,44 @@ none-yet : (sink : CallBits) → sink.count ≡ 0 → bits_from sink.octets 0 si
 unfolding bits_from
 none-yet sink e = ap (λ (n : ℕ). bits_from sink.octets 0 n) e
 
-module _ (octets : List ℕ) (old new : EncoderState) (before after : CallBits) (first : AfterCalls old []) (empty : before.count ≡ 0) where
+module _ (octets : List ℕ) (old new : EncoderState) (before after : CallBits) (first : AfterCalls old [])
+    (empty : before.count ≡ 0) where
   -- a frame that was written
-  pub frame-taken : Encoded taken refusals (Frame octets) old new before after → bits_from after.octets 0 after.count ≡ flag ++ (raw_bits octets ++ flag)
+  pub frame-taken : Encoded taken refusals (Frame octets) old new before after →
+      bits_from after.octets 0 after.count ≡ flag ++ (raw_bits octets ++ flag)
   frame-taken e =
       let t = e.took [] first in
-      let b : bits_from after.octets 0 after.count ≡ bits_from before.octets 0 before.count ++ gain [] (Frame octets) = cc in
+      let b : bits_from after.octets 0 after.count ≡ bits_from before.octets 0 before.count ++ gain [] (Frame octets) =
+      cc in
       b ∙ ap (λ bits. bits ++ gain [] (Frame octets)) (none-yet before empty)
 
-  never-refused : (written : ℕ) → before.refused ≡ 0 → length (added None (Frame octets)) ≤ 2492 → Refused taken refusals (Frame octets) written old new before after → ⊥
+  never-refused : (written : ℕ) → before.refused ≡ 0 → length (added None (Frame octets)) ≤ 2492 →
+      Refused taken refusals (Frame octets) written old new before after → ⊥
   never-refused written none fits r =
       let within = r.within [] first in
       let t = r.took [] first in
-      let b : bits_from after.octets 0 after.count ≡ bits_from before.octets 0 before.count ++ take written (gain [] (Frame octets)) = cc in
+      let b : bits_from after.octets 0 after.count ≡ bits_from before.octets 0 before.count
+      ++ take written (gain [] (Frame octets)) = cc in
       let full : after.count ≡ 2496 = after.full (omega (arith, r.failed)) in
       let count : length (bits_from after.octets 0 after.count) ≡ length (take written (gain [] (Frame octets))) =
       ap length (b ∙ ap (λ bits. bits ++ take written (gain [] (Frame octets))) (none-yet before empty)) in
-      omega (arith, full, count, within, fits, length-from after.octets 0 after.count, length-take written (gain [] (Frame octets)))
+      omega (
+        arith,
+        full,
+        count,
+        within,
+        fits,
+        length-from after.octets 0 after.count,
+        length-take written (gain [] (Frame octets)),
+      )
 
   -- there is room for it
-  pub never-fails : (r : Result (Unit {0}) EncodeFault) (e : EncodeFault) → r ≡ Err e → before.refused ≡ 0 → length (added None (Frame octets)) ≤ 2492
+  pub never-fails : (r : Result (Unit {0}) EncodeFault) (e : EncodeFault) → r ≡ Err e → before.refused ≡ 0 →
+      length (added None (Frame octets)) ≤ 2492
       → (r ≡ Err Ended → IsTrue old.ended) → (r ≡ Err LengthRange → ⊥)
-      → ((written : ℕ) → r ≡ Err (Sink written) → Refused taken refusals (Frame octets) written old new before after) → ⊥
-  never-fails r Ended is none fits ended range refused = let t : old.ended ≡ true = ended is in let f = first.going in cc
+      → ((written : ℕ) → r ≡ Err (Sink written) → Refused taken refusals (Frame octets) written old new before after) →
+      ⊥
+  never-fails r Ended is none fits ended range refused = let t : old.ended ≡ true = ended is in let f =
+      first.going in cc
   never-fails r LengthRange is none fits ended range refused = range is
   never-fails r (Sink written) is none fits ended range refused = never-refused written none fits (refused written is)

@@ -1,5 +1,6 @@
 -- Bits of one octet.
-use Rattle.std.proofs.Common.{◌≡◌, ℕ, zero, suc, ◌+◌, ◌-◌, ◌*◌, ◌/◌, ◌%◌, ◌^◌, ◌≤◌, ◌==◌, List, Bool, [], ◌∷◌, ◌++◌, take, drop, length, refl, ap, sym, ◌∙◌, arith, w8}
+use Rattle.std.proofs.Common.{◌≡◌, ℕ, zero, suc, ◌+◌, ◌-◌, ◌*◌, ◌/◌, ◌%◌, ◌^◌, ◌≤◌, ◌==◌, List, Bool, [], ◌∷◌, ◌++◌}
+use Rattle.std.proofs.Common.{take, drop, length, refl, ap, sym, ◌∙◌, arith, w8}
 use Rattle.std.specs.Prelude.{slice_index}
 use Rattle.std.proofs.Math.Seq.{drop-append_seam}
 use mathlib.Core.List.{reverse_aux}
@@ -22,7 +23,9 @@ first-bits o n l = let e : o ≡ o / 2 ^ 0 = omega arith in ap (bits_of n) e ∙
 behind : (at k m x : ℕ) → m ≡ at + k → drop at (bits_of m x) ≡ bits_of k (x / 2 ^ at)
 behind at k m x e =
     ap (λ (i : ℕ). drop at (bits_of i x)) e
-    ∙ (ap (drop at) (bits-split at k x) ∙ (ap (λ (i : ℕ). drop i (bits_of at x ++ bits_of k (x / 2 ^ at))) (sym (length-bits at x)) ∙ drop-append_seam (bits_of at x) (bits_of k (x / 2 ^ at))))
+    ∙ (ap (drop at) (bits-split at k x)
+    ∙ (ap (λ (i : ℕ). drop i (bits_of at x ++ bits_of k (x / 2 ^ at))) (sym (length-bits at x))
+    ∙ drop-append_seam (bits_of at x) (bits_of k (x / 2 ^ at))))
 
 -- the reversed bits of a number before those of another
 reversed : (k j m n a : ℕ) → m ≡ k + j → bits_of m (reverse_bits_onto k n a) ≡ reverse_aux (bits_of k n) (bits_of j a)
@@ -43,17 +46,24 @@ reversed-octet o at n l =
     let k = 8 - at in
     let e : 8 ≡ at + k = omega (arith, l) in
     sym (octet-alone r at n l)
-    ∙ (sym (bits-front n k (r / 2 ^ at) (omega (arith, l))) ∙ (ap (take n) (sym (behind at k 8 r e)) ∙ ap (λ (d : List Bool). take n (drop at d)) (reversed 8 0 8 o 0 refl)))
+    ∙ (sym (bits-front n k (r / 2 ^ at) (omega (arith, l)))
+    ∙ (ap (take n) (sym (behind at k 8 r e)) ∙ ap (λ (d : List Bool). take n (drop at d)) (reversed 8 0 8 o 0 refl)))
 
 -- the bits of an octet, from its first on
-pub first-of-octets : (os : List ℕ) (at n m : ℕ) → at ≡ 0 → n ≡ m → n ≤ 8 → bits_of n (slice_index os 0) ≡ bits_from os at m
+pub first-of-octets : (os : List ℕ) (at n m : ℕ) → at ≡ 0 → n ≡ m → n ≤ 8 →
+    bits_of n (slice_index os 0) ≡ bits_from os at m
 first-of-octets os at n m z e l =
     let o : slice_index os 0 ≡ slice_index os 0 / 2 ^ 0 = omega arith in
-    ap (bits_of n) o ∙ (bits-in os 0 0 0 n refl (omega (arith, l)) ∙ (ap (λ (i : ℕ). bits_from os i n) (sym z) ∙ ap (bits_from os at) e))
+    ap (bits_of n) o
+    ∙ (bits-in os 0 0 0 n refl (omega (arith, l))
+    ∙ (ap (λ (i : ℕ). bits_from os i n) (sym z) ∙ ap (bits_from os at) e))
 
-pub first-of-reversed : (o r at n m : ℕ) → r ≡ reverse_bits w8 o → at ≡ 0 → n ≡ m → n ≤ 8 → bits_of n r ≡ high_first o at m
+pub first-of-reversed : (o r at n m : ℕ) → r ≡ reverse_bits w8 o → at ≡ 0 → n ≡ m → n ≤ 8 →
+    bits_of n r ≡ high_first o at m
 first-of-reversed o r at n m i z e l =
-    first-bits r n l ∙ (ap (λ (x : ℕ). bits_from (x ∷ []) 0 n) i ∙ (reversed-octet o 0 n (omega (arith, l)) ∙ (ap (λ (k : ℕ). high_first o k n) (sym z) ∙ ap (high_first o at) e)))
+    first-bits r n l
+    ∙ (ap (λ (x : ℕ). bits_from (x ∷ []) 0 n) i
+    ∙ (reversed-octet o 0 n (omega (arith, l)) ∙ (ap (λ (k : ℕ). high_first o k n) (sym z) ∙ ap (high_first o at) e)))
 
 pub bits-of-reversed : (o r at n : ℕ) → r ≡ reverse_bits w8 o → at + n ≤ 8 → bits_from (r ∷ []) at n ≡ high_first o at n
 bits-of-reversed o r at n i l = ap (λ (x : ℕ). bits_from (x ∷ []) at n) i ∙ reversed-octet o at n l

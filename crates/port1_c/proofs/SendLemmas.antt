@@ -1,5 +1,7 @@
 -- What a sender puts into the octets.
-use Rattle.std.proofs.Common.{◌≡◌, ◌≢◌, ℕ, zero, suc, ◌+◌, ◌-◌, ◌*◌, ◌≤◌, ◌<◌, replicate, Bool, true, false, List, [], ◌∷◌, ◌++◌, length, drop, Option, None, Some, refl, sym, ap, subst, ◌∙◌, arith, length-append}
+use Rattle.std.proofs.Common.{◌≡◌, ◌≢◌, ℕ, zero, suc, ◌+◌, ◌-◌, ◌*◌, ◌≤◌, ◌<◌, replicate, Bool, true, false, List, []}
+use Rattle.std.proofs.Common.{◌∷◌, ◌++◌, length, drop, Option, None, Some, refl, sym, ap, subst, ◌∙◌, arith}
+use Rattle.std.proofs.Common.{length-append}
 use Rattle.std.specs.Bool.{if◌then◌else◌}
 use Rattle.std.specs.List.{last_or}
 use Rattle.std.proofs.Math.Seq.{drop-append_seam}
@@ -16,21 +18,26 @@ last-push o [] call = refl
 last-push o (c ∷ calls) call = last-push (Some c) calls call
 
 -- a sender says of the last call whether it ends with a flag
-pub follows-on : (s : Port1Sender) (calls : List Call) (call : Call) → s.behind_flag ≡ (if ends_with_flag (Some call) then 1 else 0) → Follows s (calls ++ call ∷ [])
-follows-on s calls call e = e ∙ ap (λ (o : Option Call). if ends_with_flag o then 1 else 0) (sym (last-push None calls call))
+pub follows-on : (s : Port1Sender) (calls : List Call) (call : Call) →
+    s.behind_flag ≡ (if ends_with_flag (Some call) then 1 else 0) → Follows s (calls ++ call ∷ [])
+follows-on s calls call e =
+    e ∙ ap (λ (o : Option Call). if ends_with_flag o then 1 else 0) (sym (last-push None calls call))
 
-pub flag-gains : (s : Port1Sender) (old new : List ℕ) (at : ℕ) → Puts old at (bits_from (126 ∷ []) 0 8) new → Gains s old at Flag new
+pub flag-gains : (s : Port1Sender) (old new : List ℕ) (at : ℕ) → Puts old at (bits_from (126 ∷ []) 0 8) new →
+    Gains s old at Flag new
 unfolding bits_from
 flag-gains s old new at p calls f = p
 
-pub idle-gains : (s : Port1Sender) (old new : List ℕ) (at : ℕ) → Puts old at (bits_from (255 ∷ 127 ∷ []) 0 15) new → Gains s old at Idle new
+pub idle-gains : (s : Port1Sender) (old new : List ℕ) (at : ℕ) → Puts old at (bits_from (255 ∷ 127 ∷ []) 0 15) new →
+    Gains s old at Idle new
 unfolding bits_from
 idle-gains s old new at p calls f = p
 
 module _ (o octets : List ℕ) (count : ℕ) (framed : bits_from octets 0 count ≡ flag ++ (raw_bits o ++ flag)) where
   pub has-flag : 8 ≤ count
   has-flag =
-      let l : length (bits_from octets 0 count) ≡ length flag + length (raw_bits o ++ flag) = ap length framed ∙ length-append flag (raw_bits o ++ flag) in
+      let l : length (bits_from octets 0 count) ≡ length flag + length (raw_bits o ++ flag) =
+      ap length framed ∙ length-append flag (raw_bits o ++ flag) in
       omega (arith, l, length-from octets 0 count)
 
   behind : bits_from octets 8 (count - 8) ≡ raw_bits o ++ flag
@@ -42,30 +49,39 @@ module _ (o octets : List ℕ) (count : ℕ) (framed : bits_from octets 0 count 
       ∙ ap (drop 8) (sym (bits-more octets 0 8 (count - 8)) ∙ ap (bits_from octets 0) (sym n) ∙ framed)
 
   -- the bits of a frame, with the flag that opens it where no flag opens it yet
-  with-opening : (b : Bool) (first : ℕ) → first ≡ (if b then 8 else 0) → bits_from octets first (count - first) ≡ (if b then [] else flag) ++ (raw_bits o ++ flag)
+  with-opening : (b : Bool) (first : ℕ) → first ≡ (if b then 8 else 0) →
+      bits_from octets first (count - first) ≡ (if b then [] else flag) ++ (raw_bits o ++ flag)
   with-opening true first e = ap (λ (k : ℕ). bits_from octets k (count - k)) e ∙ behind
-  with-opening false first e = let n : count - first ≡ count = omega (arith, e) in ap (bits_from octets first) n ∙ ap (λ (k : ℕ). bits_from octets k count) e ∙ framed
+  with-opening false first e = let n : count - first ≡ count =
+      omega (arith, e) in ap (bits_from octets first) n ∙ ap (λ (k : ℕ). bits_from octets k count) e ∙ framed
 
-  first-is : (b : Bool) (state first : ℕ) → state ≡ (if b then 1 else 0) → (state ≡ 1 → first ≡ 8) → (state ≢ 1 → first ≡ 0) → first ≡ (if b then 8 else 0)
+  first-is : (b : Bool) (state first : ℕ) → state ≡ (if b then 1 else 0) → (state ≡ 1 → first ≡ 8) →
+      (state ≢ 1 → first ≡ 0) → first ≡ (if b then 8 else 0)
   first-is true state first e one other = one e
   first-is false state first e one other = other (λ f. omega (arith, e, f))
 
-  pub frame-bits : (s : Port1Sender) (calls : List Call) (first : ℕ) → Follows s calls → (s.behind_flag ≡ 1 → first ≡ 8) → (s.behind_flag ≢ 1 → first ≡ 0)
+  pub frame-bits : (s : Port1Sender) (calls : List Call) (first : ℕ) → Follows s calls →
+      (s.behind_flag ≡ 1 → first ≡ 8) → (s.behind_flag ≢ 1 → first ≡ 0)
       → bits_from octets first (count - first) ≡ gain calls (Frame o)
   frame-bits s calls first f one other =
       let b = ends_with_flag (last_or None calls) in
       with-opening b first (first-is b s.behind_flag first f one other)
 
-  pub frame-count : (s : Port1Sender) (calls : List Call) (first : ℕ) → Follows s calls → (s.behind_flag ≡ 1 → first ≡ 8) → (s.behind_flag ≢ 1 → first ≡ 0)
+  pub frame-count : (s : Port1Sender) (calls : List Call) (first : ℕ) → Follows s calls →
+      (s.behind_flag ≡ 1 → first ≡ 8) → (s.behind_flag ≢ 1 → first ≡ 0)
       → count - first ≡ length (gain calls (Frame o))
-  frame-count s calls first f one other = sym (length-from octets first (count - first)) ∙ ap length (frame-bits s calls first f one other)
+  frame-count s calls first f one other = sym (length-from octets first (count - first))
+      ∙ ap length (frame-bits s calls first f one other)
 
-  pub frame-gains : (s : Port1Sender) (old new : List ℕ) (at first : ℕ) → (s.behind_flag ≡ 1 → first ≡ 8) → (s.behind_flag ≢ 1 → first ≡ 0)
+  pub frame-gains : (s : Port1Sender) (old new : List ℕ) (at first : ℕ) → (s.behind_flag ≡ 1 → first ≡ 8) →
+      (s.behind_flag ≢ 1 → first ≡ 0)
       → Puts old at (bits_from octets first (count - first)) new → Gains s old at (Frame o) new
-  frame-gains s old new at first one other p calls f = subst (λ (bits : List Bool). Puts old at bits new) (frame-bits s calls first f one other) p
+  frame-gains s old new at first one other p calls f =
+      subst (λ (bits : List Bool). Puts old at bits new) (frame-bits s calls first f one other) p
 
 -- octets of ones have the bits of idles
-ones-are-idles : (k : ℕ) → k < 8 → (before : Option Call) → bits_from (replicate 14 255) 0 (15 * k) ≡ line_behind before (idles k)
+ones-are-idles : (k : ℕ) → k < 8 → (before : Option Call) →
+    bits_from (replicate 14 255) 0 (15 * k) ≡ line_behind before (idles k)
 unfolding bits_from
 ones-are-idles zero l before = refl
 ones-are-idles (suc zero) l before = refl
@@ -77,9 +93,11 @@ ones-are-idles (suc (suc (suc (suc (suc (suc zero)))))) l before = refl
 ones-are-idles (suc (suc (suc (suc (suc (suc (suc zero))))))) l before = refl
 ones-are-idles (suc (suc (suc (suc (suc (suc (suc (suc k)))))))) l before = absurd (omega (arith, l))
 
-pub idles-gain : (s : Port1Sender) (old new : List ℕ) (at k n : ℕ) → k < 8 → n ≡ 15 * k → Puts old at (bits_from (replicate 14 255) 0 n) new → GainsAll s old at (idles k) new
+pub idles-gain : (s : Port1Sender) (old new : List ℕ) (at k n : ℕ) → k < 8 → n ≡ 15 * k →
+    Puts old at (bits_from (replicate 14 255) 0 n) new → GainsAll s old at (idles k) new
 idles-gain s old new at k n l e p calls f =
-    subst (λ (bits : List Bool). Puts old at bits new) (ap (bits_from (replicate 14 255) 0) e ∙ ones-are-idles k l (last_or None calls)) p
+    subst (λ (bits : List Bool). Puts old at bits new)
+    (ap (bits_from (replicate 14 255) 0) e ∙ ones-are-idles k l (last_or None calls)) p
 
 last-row : (n : ℕ) → last_or (Some Idle) (idles n) ≡ Some Idle
 last-row zero = refl
@@ -90,6 +108,8 @@ last-idles o [] n = last-row n
 last-idles o (c ∷ calls) n = last-idles (Some c) calls n
 
 -- behind idles no flag may open a frame
-pub follows-idles : (s : Port1Sender) (calls : List Call) (k : ℕ) → 0 < k → s.behind_flag ≡ 0 → Follows s (calls ++ idles k)
+pub follows-idles : (s : Port1Sender) (calls : List Call) (k : ℕ) → 0 < k → s.behind_flag ≡ 0 →
+    Follows s (calls ++ idles k)
 follows-idles s calls zero l e = absurd (omega (arith, l))
-follows-idles s calls (suc n) l e = e ∙ ap (λ (o : Option Call). if ends_with_flag o then 1 else 0) (sym (last-idles None calls n))
+follows-idles s calls (suc n) l e =
+    e ∙ ap (λ (o : Option Call). if ends_with_flag o then 1 else 0) (sym (last-idles None calls n))

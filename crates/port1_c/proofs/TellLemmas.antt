@@ -1,5 +1,6 @@
 -- Bits that decide nothing, and bits behind them that decide a report.
-use Rattle.std.proofs.Common.{◌≡◌, ◌≤◌, ◌<◌, ◌-◌, ℕ, List, [], ◌∷◌, Bool, Option, None, ap, refl, subst, sym, ◌∙◌, arith}
+use Rattle.std.proofs.Common.{◌≡◌, ◌≤◌, ◌<◌, ◌-◌, ℕ, List, [], ◌∷◌, Bool, Option, None, ap, refl, subst, sym, ◌∙◌}
+use Rattle.std.proofs.Common.{arith}
 use Rattle.bus_fcs.specs.declared.octet_check.OctetCheck.{OctetCheck}
 use Rattle.bus_fcs.specs.Folded.{HasFolded}
 use Rattle.bus_line.specs.After as line
@@ -19,12 +20,16 @@ pub told-none : (r : Port1Report) (octets : List ℕ) → r.kind ≡ 0 → told 
 told-none r octets e = rw e refl
 
 -- a report of kind 0 is none
-pub tells-none : (a c : State) (bits : List Bool) (r : Port1Report) → r.kind ≡ 0 → Tells a bits r c → line.Tells HasFolded 1 a bits None c
+pub tells-none : (a c : State) (bits : List Bool) (r : Port1Report) → r.kind ≡ 0 → Tells a bits r c →
+    line.Tells HasFolded 1 a bits None c
 tells-none a c bits r e p = subst (λ (o : Option Report). line.Tells HasFolded 1 a bits o c) (told-none r c.octets e) p
 
 -- no bits
-pub tells-no-bits : (os : List ℕ) (at n : ℕ) (d : State) (r : Port1Report) → n ≡ 0 → r.kind ≡ 0 → Tells d (bits_from os at n) r d
-tells-no-bits os at n d r e k = subst (λ (o : Option Report). line.Tells HasFolded 1 d (bits_from os at n) o d) (sym (told-none r d.octets k)) (lines.tells-from HasFolded 1 os at n d e)
+pub tells-no-bits : (os : List ℕ) (at n : ℕ) (d : State) (r : Port1Report) → n ≡ 0 → r.kind ≡ 0 →
+    Tells d (bits_from os at n) r d
+tells-no-bits os at n d r e k =
+    subst (λ (o : Option Report). line.Tells HasFolded 1 d (bits_from os at n) o d) (sym (told-none r d.octets k))
+    (lines.tells-from HasFolded 1 os at n d e)
 
 pub tells-first : (o : ℕ) (d : State) → line.Tells HasFolded 1 d (bits_of 0 o) None d
 unfolding bits_of
@@ -35,14 +40,18 @@ module _ (o at past : ℕ) (m : past ≤ 8) {a c : State} (p : line.Tells HasFol
   from-first : at ≤ past → line.Tells HasFolded 1 a (bits_from (o ∷ []) 0 (at - 0)) None c
   from-first l =
       let e : at ≡ at - 0 = omega arith in
-      subst (λ (x : List Bool). line.Tells HasFolded 1 a x None c) (first-bits o at (omega (arith, l, m)) ∙ ap (bits_from (o ∷ []) 0) e) p
+      subst (λ (x : List Bool). line.Tells HasFolded 1 a x None c)
+      (first-bits o at (omega (arith, l, m)) ∙ ap (bits_from (o ∷ []) 0) e) p
 
-  pub tells-octet : {e : State} (r : Port1Report) → at ≤ past → Tells c (bits_from (o ∷ []) at (past - at)) r e → Tells a (bits_of past o) r e
+  pub tells-octet : {e : State} (r : Port1Report) → at ≤ past → Tells c (bits_from (o ∷ []) at (past - at)) r e →
+      Tells a (bits_of past o) r e
   tells-octet {e} r l q =
       subst (λ (x : List Bool). Tells a x r e) (sym (first-bits o past m))
       (lines.tells-on HasFolded 1 (o ∷ []) 0 at (omega arith) (from-first l) (past - at) past (omega (arith, l)) q)
 
-  pub decide-octet : at < past → DecideNothing c (bits_from (o ∷ []) at (past - at - 1)) → DecideNothing a (bits_of (past - 1) o)
+  pub decide-octet : at < past → DecideNothing c (bits_from (o ∷ []) at (past - at - 1)) →
+      DecideNothing a (bits_of (past - 1) o)
   decide-octet l q =
       subst (λ (x : List Bool). DecideNothing a x) (sym (first-bits o (past - 1) (omega (arith, m))))
-      (lines.decide-on HasFolded 1 (o ∷ []) 0 at (omega arith) (from-first (omega (arith, l))) (past - at - 1) (past - 1) (omega (arith, l)) q)
+      (lines.decide-on HasFolded 1 (o ∷ []) 0 at (omega arith) (from-first (omega (arith, l))) (past - at - 1)
+      (past - 1) (omega (arith, l)) q)

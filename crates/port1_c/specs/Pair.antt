@@ -1,5 +1,6 @@
 -- What a C caller's memory says of commands and answers.
-use Rattle.std.specs.Prelude.{◌≡◌, ◌≤◌, ℕ, ◌+◌, ◌==◌, not, List, [], ◌∷◌, length, replicate, Option, Some, None, if◌then◌else◌}
+use Rattle.std.specs.Prelude.{◌≡◌, ◌≤◌, ℕ, ◌+◌, ◌==◌, not, List, [], ◌∷◌, length, replicate, Option, Some, None}
+use Rattle.std.specs.Prelude.{if◌then◌else◌}
 use Rattle.std.specs.List.{cons_option}
 use Rattle.bus_dictionary.specs.Entry.{FrameType}
 use Rattle.bus_dictionary.specs.declared.rules.Rule.{Rule}
@@ -69,7 +70,11 @@ line_in n = if n == 0 then None else (if n == 1 then Some First else Some Second
 -- the report that the memory tells on a line, a frame having these octets
 abbrev pub heard_in : ℕ → Port1Report → List ℕ → Heard
 heard_in line r octets =
-    record { line = line_in line; report = record { kind = kind_in r.kind r.cause octets; first = r.first; past = r.past } }
+    record {
+      line = line_in line;
+      report =
+          record { kind = kind_in r.kind r.cause octets; first = r.first; past = r.past };
+    }
 
 -- a report that there can be: of a kind, with a cause where it is damage, and four octets or more where it is a frame
 pub record IsReport (r : Port1Report) (octets : List ℕ) : Type 0 where

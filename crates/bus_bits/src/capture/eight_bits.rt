@@ -1,6 +1,7 @@
 //! Eight octets of a text capture in one number.
 
-ghost use Rattle.std.specs.Prelude.{◌≡◌, ℕ, Bool, ◌<◌, ◌≤◌, ◌*◌, ◌/◌, ◌%◌, ◌==◌, ◌||◌, ◌++◌, ◌⊎◌, ◌↔◌, IsSome, map, filter, take, drop, zip, bit_and, bit_xor, true};
+ghost use Rattle.std.specs.Prelude.{◌≡◌, ℕ, Bool, ◌<◌, ◌≤◌, ◌*◌, ◌/◌, ◌%◌, ◌==◌, ◌||◌, ◌++◌, ◌⊎◌, ◌↔◌, IsSome, map};
+ghost use Rattle.std.specs.Prelude.{filter, take, drop, zip, bit_and, bit_xor, true};
 ghost use Rattle.std.specs.Int.{w64, from_le_bytes};
 ghost use Rattle.std.specs.List.{list_all};
 ghost use Rattle.std.specs.Option.{ForSome};

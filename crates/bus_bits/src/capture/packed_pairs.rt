@@ -1,6 +1,7 @@
 //! The pairs of a packed capture of two lines, after its head.
 
-ghost use Rattle.std.specs.Prelude.{◌≡◌, ℕ, ◌+◌, ◌*◌, ◌%◌, List, [], ◌∷◌, ◌++◌, Some, None, MatchResult, OnErr, ◌≤◌, ◌<◌, ◌⊎◌, length, zip};
+ghost use Rattle.std.specs.Prelude.{◌≡◌, ℕ, ◌+◌, ◌*◌, ◌%◌, List, [], ◌∷◌, ◌++◌, Some, None, MatchResult, OnErr, ◌≤◌};
+ghost use Rattle.std.specs.Prelude.{◌<◌, ◌⊎◌, length, zip};
 ghost use Rattle.bus_bits.specs.Bits.{bits_from};
 ghost use Rattle.bus_bits.specs.Octet.{bits_of};
 ghost use Rattle.bus_bits.specs.Packed.{PairsAfter, pair_body, packed_fault_of, filled, in_pairs};

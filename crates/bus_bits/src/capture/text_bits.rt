@@ -1,6 +1,7 @@
 //! The bits of a text capture.
 
-ghost use Rattle.std.specs.Prelude.{◌≡◌, ℕ, List, [], ◌∷◌, ◌++◌, ◌≤◌, ◌⊎◌, length, take, MatchResult, Some, None, IsSome, ◌↔◌};
+ghost use Rattle.std.specs.Prelude.{◌≡◌, ℕ, List, [], ◌∷◌, ◌++◌, ◌≤◌, ◌⊎◌, length, take, MatchResult, Some, None};
+ghost use Rattle.std.specs.Prelude.{IsSome, ◌↔◌};
 ghost use Rattle.std.specs.Option.{ForSome, option_to_list};
 ghost use Rattle.bus_bits.specs.Octet.{bits_of};
 ghost use Rattle.bus_bits.specs.Capture.{EightIn, text_bits, text_fault, bad_mark, is_space};

@@ -1,6 +1,7 @@
 //! Text captures packed into blocks of octets, the first bit the lowest of the first octet.
 
-ghost use Rattle.std.specs.Prelude.{◌≡◌, ◌+◌, ◌*◌, ◌≤◌, ◌<◌, ◌^◌, ◌⊎◌, ℕ, List, false, ◌++◌, length, slice_index, take, None};
+ghost use Rattle.std.specs.Prelude.{◌≡◌, ◌+◌, ◌*◌, ◌≤◌, ◌<◌, ◌^◌, ◌⊎◌, ℕ, List, false, ◌++◌, length, slice_index, take};
+ghost use Rattle.std.specs.Prelude.{None};
 ghost use Rattle.bus_bits.specs.Bits.{bits_from};
 ghost use Rattle.bus_bits.specs.Octet.{bits_of};
 ghost use Rattle.bus_bits.specs.Capture.{TextEnds, is_bit, is_space, text_bits, text_fault};

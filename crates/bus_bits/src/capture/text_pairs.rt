@@ -1,6 +1,7 @@
 //! The pairs of a text capture of two lines.
 
-ghost use Rattle.std.specs.Prelude.{◌≡◌, ℕ, ◌*◌, List, [], ◌∷◌, ◌++◌, ◌≤◌, ◌<◌, ◌⊎◌, ◌↔◌, length, take, drop, zip, MatchResult, Some, None, IsSome};
+ghost use Rattle.std.specs.Prelude.{◌≡◌, ℕ, ◌*◌, List, [], ◌∷◌, ◌++◌, ◌≤◌, ◌<◌, ◌⊎◌, ◌↔◌, length, take, drop, zip};
+ghost use Rattle.std.specs.Prelude.{MatchResult, Some, None, IsSome};
 ghost use Rattle.std.specs.Option.{ForSome, option_to_list};
 ghost use Rattle.bus_bits.specs.Bits.{bits_from};
 ghost use Rattle.bus_bits.specs.Octet.{bits_of};

@@ -1,5 +1,6 @@
 -- The laws of a listener that tells: reports behind reports, and room for fewer.
-use Rattle.std.proofs.Common.{◌≡◌, ℕ, ◌+◌, ◌≤◌, List, [], ◌++◌, length, Option, Some, None, refl, sym, ap, ◌∙◌, subst, arith, append-nil, append_assoc, length-append}
+use Rattle.std.proofs.Common.{◌≡◌, ℕ, ◌+◌, ◌≤◌, List, [], ◌++◌, length, Option, Some, None, refl, sym, ap, ◌∙◌, subst}
+use Rattle.std.proofs.Common.{arith, append-nil, append_assoc, length-append}
 use Rattle.bus_dictionary.specs.Entry.{FrameType}
 use Rattle.bus_watch.specs.Seen.{SeenReport}
 use Rattle.bus_text.specs.Counting.{IsFew}
@@ -29,7 +30,8 @@ few-within n m s le h = record {
 }
 
 -- the lines of more are the lines, and more
-pub printed-append : (p : Option Printer) (d : List FrameType) (xs ys : List SeenReport) → printed p d (xs ++ ys) ≡ printed p d xs ++ printed p d ys
+pub printed-append : (p : Option Printer) (d : List FrameType) (xs ys : List SeenReport) →
+    printed p d (xs ++ ys) ≡ printed p d xs ++ printed p d ys
 printed-append None d xs ys = refl
 printed-append (Some p) d xs ys = listing-append p d xs ys
 
@@ -42,7 +44,8 @@ printed-none (Some p) d = refl
 pub tells-none : (d : List FrameType) (t : Teller) (w : Option (List ℕ)) → Tells d t w [] t w
 tells-none d t w = record {
   printer = refl;
-  out = λ start text h. subst (IsOut start w t.page t.cut) (sym (append-nil text) ∙ ap (λ ys. text ++ ys) (sym (printed-none t.printer d))) h;
+  out = λ start text h. subst (IsOut start w t.page t.cut)
+      (sym (append-nil text) ∙ ap (λ ys. text ++ ys) (sym (printed-none t.printer d))) h;
   stays = λ sent h. h;
   counted = λ all is none. is ∙ ap summary_of (sym (append-nil all));
   few = λ most h. few-within most (most + 0) t.summary (omega arith) h;
@@ -50,7 +53,8 @@ tells-none d t w = record {
 }
 
 -- whether the writer was cut off
-module _ (d : List FrameType) (k l m : Teller) (u v w : Option (List ℕ)) (ss ts : List SeenReport) (p : Tells d k u ss l v) (q : Tells d l v ts m w) where
+module _ (d : List FrameType) (k l m : Teller) (u v w : Option (List ℕ)) (ss ts : List SeenReport)
+    (p : Tells d k u ss l v) (q : Tells d l v ts m w) where
   not-yet : (o : Option ShortWrite) → l.cut ≡ o → m.cut ≡ None → l.cut ≡ None
   not-yet None e none = e
   not-yet (Some sent) e none = absurd (let still = q.stays sent e in cc)
@@ -62,11 +66,14 @@ module _ (d : List FrameType) (k l m : Teller) (u v w : Option (List ℕ)) (ss t
         let last = q.out start (text ++ printed k.printer d ss) (p.out start text h) in
         let more : (text ++ printed k.printer d ss) ++ printed l.printer d ts ≡ text ++ printed k.printer d (ss ++ ts) =
         append_assoc text (printed k.printer d ss) (printed l.printer d ts)
-        ∙ ap (λ ys. text ++ ys) (ap (λ x. printed k.printer d ss ++ printed x d ts) p.printer ∙ sym (printed-append k.printer d ss ts)) in
+        ∙ ap (λ ys. text ++ ys) (ap (λ x. printed k.printer d ss ++ printed x d ts) p.printer
+        ∙ sym (printed-append k.printer d ss ts)) in
         subst (IsOut start w m.page m.cut) more last;
     stays = λ sent h. q.stays sent (p.stays sent h);
-    counted = λ all is none. q.counted (all ++ ss) (p.counted all is (not-yet l.cut refl none)) none ∙ ap summary_of (append_assoc all ss ts);
-    few = λ most h. few-within (most + length ss + length ts) (most + length (ss ++ ts)) m.summary (omega (arith, length-append ss ts)) (q.few (most + length ss) (p.few most h));
+    counted = λ all is none. q.counted (all ++ ss) (p.counted all is (not-yet l.cut refl none)) none
+        ∙ ap summary_of (append_assoc all ss ts);
+    few = λ most h. few-within (most + length ss + length ts) (most + length (ss ++ ts)) m.summary
+        (omega (arith, length-append ss ts)) (q.few (most + length ss) (p.few most h));
     octets = omega (arith, length-append ss ts, p.octets, q.octets);
   }
 

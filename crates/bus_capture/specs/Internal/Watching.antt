@@ -62,7 +62,8 @@ module _ {A X N B : Type 0} (t : TapView A X N B) where
   -- the report of these bits
   abbrev pub reported : CaptureRun A → List X → List ℕ
   reported run b =
-      check_text t.form.is_two run.teller.summary (tally (t.watch.dictionary run.analyser) (heard_by t.watch run.analyser b))
+      check_text t.form.is_two run.teller.summary
+      (tally (t.watch.dictionary run.analyser) (heard_by t.watch run.analyser b))
       (history (t.watch.depth run.analyser) (heard_by t.watch run.analyser b))
 
   -- these bits were followed

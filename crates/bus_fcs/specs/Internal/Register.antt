@@ -1,5 +1,6 @@
 -- The remainder as a reflected register of sixteen bits.
-use Rattle.std.specs.Prelude.{◌≡◌, ℕ, zero, suc, ◌/◌, ◌%◌, ◌==◌, true, false, cond, List, ◌++◌, Bool, replicate, bit_xor}
+use Rattle.std.specs.Prelude.{◌≡◌, ℕ, zero, suc, ◌/◌, ◌%◌, ◌==◌, true, false, cond, List, ◌++◌, Bool, replicate}
+use Rattle.std.specs.Prelude.{bit_xor}
 use Rattle.bus_bits.specs.Octet.{bits_of_octets, number}
 use Rattle.bus_fcs.specs.Division.{add, remainder}
 

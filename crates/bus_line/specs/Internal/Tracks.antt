@@ -1,5 +1,6 @@
 -- What a decoder holds of the bits that it took.
-use Rattle.std.specs.Prelude.{◌≡◌, ℕ, ◌+◌, ◌-◌, ◌*◌, ◌/◌, ◌≤◌, Bool, false, List, ◌++◌, length, take, drop, replicate, slice_range, Option, Some, None}
+use Rattle.std.specs.Prelude.{◌≡◌, ℕ, ◌+◌, ◌-◌, ◌*◌, ◌/◌, ◌≤◌, Bool, false, List, ◌++◌, length, take, drop, replicate}
+use Rattle.std.specs.Prelude.{slice_range, Option, Some, None}
 use Rattle.bus_bits.specs.Octet.{number, octets}
 use Rattle.bus_line.specs.Internal.Run.{data_so_far}
 use Rattle.bus_line.specs.Due.{Mark, NoMark, FlagAt, AbortAt}

@@ -1,6 +1,7 @@
 //! What a bit after six ones or fourteen decides.
 
-ghost use Rattle.std.specs.Prelude.{◌≡◌, ◌+◌, ◌*◌, ◌-◌, ◌%◌, ◌≤◌, ◌<◌, List, Bool, [], ◌∷◌, ◌++◌, length, ℕ, Some, None, Option, slice_range};
+ghost use Rattle.std.specs.Prelude.{◌≡◌, ◌+◌, ◌*◌, ◌-◌, ◌%◌, ◌≤◌, ◌<◌, List, Bool, [], ◌∷◌, ◌++◌, length, ℕ, Some};
+ghost use Rattle.std.specs.Prelude.{None, Option, slice_range};
 ghost use Rattle.std.specs.Option.{option_map};
 ghost use Rattle.bus_line.specs.Due.{FlagAt, Mark, current, due_at, class_of, piece_report};
 ghost use Rattle.bus_line.specs.Report.{Abort};

@@ -1,6 +1,7 @@
 //! Bits that decide nothing, 56 at a time.
 
-ghost use Rattle.std.specs.Prelude.{◌≡◌, ◌≢◌, ◌+◌, ◌-◌, ◌*◌, ◌/◌, ◌%◌, ◌≤◌, ◌<◌, ◌^◌, false, true, length, ℕ, replicate};
+ghost use Rattle.std.specs.Prelude.{◌≡◌, ◌≢◌, ◌+◌, ◌-◌, ◌*◌, ◌/◌, ◌%◌, ◌≤◌, ◌<◌, ◌^◌, false, true, length, ℕ};
+ghost use Rattle.std.specs.Prelude.{replicate};
 ghost use Rattle.bus_bits.specs.Bits.{bits_from};
 ghost use Rattle.bus_line.specs.Internal.Quiet.{AreFlags};
 

@@ -1,12 +1,13 @@
 //! Many bits at once, from octets.
 
-ghost use Rattle.std.specs.Prelude.{◌≡◌, ◌≢◌, ◌+◌, ◌-◌, ◌*◌, ◌/◌, ◌≤◌, ◌<◌, ◌^◌, ◌↔◌, List, Bool, false, true, IsErr, IfOk, OnErr, None, length, ℕ, replicate};
+ghost use Rattle.std.specs.Prelude.{◌≡◌, ◌≢◌, ◌+◌, ◌-◌, ◌*◌, ◌/◌, ◌≤◌, ◌<◌, ◌^◌, ◌↔◌, List, Bool, false, true, IsErr};
+ghost use Rattle.std.specs.Prelude.{IfOk, OnErr, None, length, ℕ, replicate};
 ghost use Rattle.std.specs.Option.{option_map};
 ghost use Rattle.bus_bits.specs.Bits.{bits_from};
 ghost use Rattle.bus_bits.specs.Octet.{bits_of};
 
-use crate::decoder::settled::data_in_word;
 use crate::decoder::quiet::{flags_end, has_six, ones_end};
+use crate::decoder::settled::data_in_word;
 use crate::line_words::{LineWords, NEVER, PLACES};
 use crate::place_limit::PlaceLimit;
 use crate::scanned::Scanned;

@@ -1,6 +1,7 @@
 //! Several bits more.
 
-ghost use Rattle.std.specs.Prelude.{◌≡◌, ◌+◌, ◌-◌, ◌/◌, ◌%◌, ◌≤◌, ◌<◌, ◌^◌, ◌↔◌, List, Bool, [], ◌∷◌, ◌++◌, IsErr, IfOk, OnErr, ℕ, length, take};
+ghost use Rattle.std.specs.Prelude.{◌≡◌, ◌+◌, ◌-◌, ◌/◌, ◌%◌, ◌≤◌, ◌<◌, ◌^◌, ◌↔◌, List, Bool, [], ◌∷◌, ◌++◌, IsErr};
+ghost use Rattle.std.specs.Prelude.{IfOk, OnErr, ℕ, length, take};
 ghost use Rattle.std.specs.Option.{option_map, option_to_list};
 ghost use Rattle.bus_bits.specs.Octet.{bits_of};
 ghost use Rattle.bus_line.specs.Due.{current, due_at, placed};

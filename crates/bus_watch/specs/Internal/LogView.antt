@@ -10,4 +10,5 @@ log_state l = record { reports = logged_reports l.reports.items; room = vec_capa
 
 -- and those of a log of two lines
 abbrev pub pair_log_state : PairLog.Inside → LogState
-pair_log_state l = record { reports = logged_pairs l.reports.items; room = vec_capacity l.reports; refusals = l.refusals }
+pair_log_state l =
+    record { reports = logged_pairs l.reports.items; room = vec_capacity l.reports; refusals = l.refusals }

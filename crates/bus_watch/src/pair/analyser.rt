@@ -1,6 +1,7 @@
 //! The analyser of two lines: what is seen on both, up to 48 pairs of bits at a time, in fixed memory.
 
-ghost use Rattle.std.specs.Prelude.{◌≡◌, ◌+◌, ◌-◌, ◌*◌, ◌≤◌, ◌<◌, ◌^◌, ◌↔◌, ◌⊎◌, List, Bool, [], ◌∷◌, ◌++◌, IsErr, IfOk, OnErr, IsTrue, length, take, ℕ, Some, None, Err, slice_get, option_copied};
+ghost use Rattle.std.specs.Prelude.{◌≡◌, ◌+◌, ◌-◌, ◌*◌, ◌≤◌, ◌<◌, ◌^◌, ◌↔◌, ◌⊎◌, List, Bool, [], ◌∷◌, ◌++◌, IsErr};
+ghost use Rattle.std.specs.Prelude.{IfOk, OnErr, IsTrue, length, take, ℕ, Some, None, Err, slice_get, option_copied};
 ghost use Rattle.std.specs.Option.{option_map};
 ghost use Rattle.std.specs.Borrow.{sem};
 ghost use Rattle.std.specs.Io.BufRead.{Rests};
@@ -95,7 +96,8 @@ fn hear_all<C: Check>(
 
 impl<C: Check> PairAnalyser<C> {
     ghost use Rattle.bus_watch.specs.contracts.pair.analyser.PairAnalyser.{the_row};
-    ghost use Rattle.bus_watch.specs.Pairs.{IsAfterPairs, SeesPairs, TakesPairsTo, lines, seen_after_pairs, heard_pair, found_at, octets_on, seen_on};
+    ghost use Rattle.bus_watch.specs.Pairs.{IsAfterPairs, SeesPairs, TakesPairsTo, lines, seen_after_pairs, heard_pair};
+    ghost use Rattle.bus_watch.specs.Pairs.{found_at, octets_on, seen_on};
     ghost use Rattle.bus_watch.specs.Seen.{all_seen_at};
     ghost use Rattle.bus_watch.specs.Shown.{kept_pair_option};
     ghost use Rattle.bus_watch.specs.PairShown.{shown_pair};

@@ -1,6 +1,7 @@
 //! A sink of two lines that keeps what it takes.
 
-ghost use Rattle.std.specs.Prelude.{◌≡◌, ◌+◌, ◌-◌, ◌<◌, ◌≤◌, ◌^◌, ◌↔◌, [], ◌∷◌, ◌++◌, length, IfOk, IsErr, OnOk, OnErr, Some};
+ghost use Rattle.std.specs.Prelude.{◌≡◌, ◌+◌, ◌-◌, ◌<◌, ◌≤◌, ◌^◌, ◌↔◌, [], ◌∷◌, ◌++◌, length, IfOk, IsErr, OnOk, OnErr};
+ghost use Rattle.std.specs.Prelude.{Some};
 ghost use Rattle.bus_line.specs.Ledger.{octet_count};
 ghost use Rattle.bus_watch.specs.LoggedReport.{logged_pairs};
 ghost use Rattle.bus_watch.specs.Shown.{shown_on};

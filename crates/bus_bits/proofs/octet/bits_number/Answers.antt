@@ -1,4 +1,5 @@
-use Rattle.std.proofs.Common.{◌≡◌, ◌+◌, ◌*◌, ◌%◌, ◌<◌, ◌^◌, Bool, true, false, [], ◌∷◌, length, take, get_or, refl, sym, ap, ◌∙◌, arith}
+use Rattle.std.proofs.Common.{◌≡◌, ◌+◌, ◌*◌, ◌%◌, ◌<◌, ◌^◌, Bool, true, false, [], ◌∷◌, length, take, get_or, refl, sym}
+use Rattle.std.proofs.Common.{ap, ◌∙◌, arith}
 use Rattle.std.specs.Prelude.{bit_or}
 use mir.Val.{bool_byte}
 use Rattle.std.specs.Int.Bits.{or_shifted_r}
@@ -31,9 +32,11 @@ loop-bit-preserved c =
     let f = c.from.result in
     let byte : f ≡ bool_byte x = c.from.ensures in
     let one : f < 2 ^ 1 = rw byte (byte_small x) in
-    let k : length (take i xs) ≡ p = omega (arith, length-take i xs, c.loop-bit-test.true, c.loop-bit.invariant.place) in
+    let k : length (take i xs) ≡ p =
+    omega (arith, length-take i xs, c.loop-bit-test.true, c.loop-bit.invariant.place) in
     let low : n < 2 ^ p = rw (c.loop-bit.invariant.value, ← k) (number-lt (take i xs)) in
-    let same : f * 2 ^ p % 2 ^ 64 ≡ f * 2 ^ p = shl_whole f 1 p 64 one (omega (arith, c.requires, c.loop-bit-test.true, c.loop-bit.invariant.place)) in
+    let same : f * 2 ^ p % 2 ^ 64 ≡ f * 2 ^ p =
+    shl_whole f 1 p 64 one (omega (arith, c.requires, c.loop-bit-test.true, c.loop-bit.invariant.place)) in
     let put : bit_or n (f * 2 ^ p) ≡ n + f * 2 ^ p = or_shifted_r f p n low ∙ omega arith in
     let next : number (take (i + 1) xs) ≡ number (take i xs) + number (x ∷ []) * 2 ^ length (take i xs) =
     ap number (take_more xs i false c.loop-bit-test.true) ∙ number-append (take i xs) (x ∷ []) in

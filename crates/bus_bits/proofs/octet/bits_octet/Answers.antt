@@ -8,7 +8,8 @@ byte_is true = refl
 byte_is false = refl
 
 weighed : (s t u v w x y z : Bool)
-    → bool_byte s + 2 * bool_byte t + 4 * bool_byte u + 8 * bool_byte v + 16 * bool_byte w + 32 * bool_byte x + 64 * bool_byte y
+    → bool_byte s + 2 * bool_byte t + 4 * bool_byte u + 8 * bool_byte v + 16 * bool_byte w + 32 * bool_byte x
+    + 64 * bool_byte y
     + 128 * bool_byte z
     ≡ number (s ∷ t ∷ u ∷ v ∷ w ∷ x ∷ y ∷ z ∷ [])
 unfolding number

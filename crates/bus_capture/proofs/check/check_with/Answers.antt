@@ -10,10 +10,12 @@ use Rattle.bus_capture.proofs.check.check_with.Goals as goal
 pub returns-in_err-reader : goal.returns-in_err-reader
 returns-in_err-reader g c =
     let p = err_from_is_err_and c.from_residual.result c.from_residual.ensures.1 in
-    let checks = checks-nothing g.T.Tap.tap.form c.args.o.now _ (g.W.Write.contents c.args.w.now) (g.W.Write.contents c.args.w.now) c.in_err-reader.field-0.0 c.in_err-reader.ensures.made (appends_nothing _) in
+    let checks = checks-nothing g.T.Tap.tap.form c.args.o.now _ (g.W.Write.contents c.args.w.now)
+    (g.W.Write.contents c.args.w.now) c.in_err-reader.field-0.0 c.in_err-reader.ensures.made (appends_nothing _) in
     rw (p.1, p.2) (record {
       checked = ([], consumes_nothing _, checks);
-      known = known-checks g.T.Tap.tap.form c.laws.ensures.form c.args.o.now _ _ _ _ [] (Err c.in_err-reader.field-0.0) (consumes_nothing (g.R.Read.remaining c.args.r.now)) checks;
+      known = known-checks g.T.Tap.tap.form c.laws.ensures.form c.args.o.now _ _ _ _ [] (Err c.in_err-reader.field-0.0)
+          (consumes_nothing (g.R.Read.remaining c.args.r.now)) checks;
     })
 
 pub returns : goal.returns
@@ -25,11 +27,16 @@ returns g c =
     let given = c.in_ok-reader.ensures.given in
     let read = c.in_ok-take_input.ensures.read in
     let asked = checked g.T.Tap.tap o made.0 c.in_ok-reader.reader.run w given.1 made.2 c.take_input.ensures.same in
-    let checks = ends-checks g.T.Tap.tap o made.0 (is_text c.in_ok-reader.reader.source) (g.R.Read.remaining c.take_input.new.r) start _ _ w read.0 c.report.result c.laws.ensures made.1 asked given.0 read.2
-    (c.report.ensures start (whole_capture g.T.Tap.tap.form (is_text c.in_ok-reader.reader.source) (g.T.Tap.tap.watch.origin w.analyser) read.0).bits read.2.bits) in
+    let checks = ends-checks g.T.Tap.tap o made.0 (is_text c.in_ok-reader.reader.source)
+    (g.R.Read.remaining c.take_input.new.r) start _ _ w read.0 c.report.result c.laws.ensures made.1 asked given.0
+    read.2
+    (c.report.ensures start
+    (whole_capture g.T.Tap.tap.form (is_text c.in_ok-reader.reader.source) (g.T.Tap.tap.watch.origin w.analyser)
+    read.0).bits read.2.bits) in
     record {
       checked = (read.0, read.1, checks);
-      known = known-checks g.T.Tap.tap.form c.laws.ensures.form o (g.R.Read.remaining c.args.r.now) (g.R.Read.remaining c.take_input.new.r) start _ read.0 c.report.result read.1 checks;
+      known = known-checks g.T.Tap.tap.form c.laws.ensures.form o (g.R.Read.remaining c.args.r.now)
+          (g.R.Read.remaining c.take_input.new.r) start _ read.0 c.report.result read.1 checks;
     }
 
 pub returns-in_err-take_input : goal.returns-in_err-take_input
@@ -42,8 +49,11 @@ returns-in_err-take_input g c =
     let given = c.in_ok-reader.ensures.given in
     let read = c.in_err-take_input.ensures.read in
     let asked = checked g.T.Tap.tap o made.0 c.in_ok-reader.reader.run w given.1 made.2 c.take_input.ensures.same in
-    let checks = stops-checks g.T.Tap.tap o made.0 (is_text c.in_ok-reader.reader.source) (g.R.Read.remaining c.take_input.new.r) start _ w read.0 c.in_err-take_input.field-0.0 made.1 asked given.0 read.2 in
+    let checks = stops-checks g.T.Tap.tap o made.0 (is_text c.in_ok-reader.reader.source)
+    (g.R.Read.remaining c.take_input.new.r) start _ w read.0 c.in_err-take_input.field-0.0 made.1 asked given.0
+    read.2 in
     rw (p.1, p.2) (record {
       checked = (read.0, read.1, checks);
-      known = known-checks g.T.Tap.tap.form c.laws.ensures.form o (g.R.Read.remaining c.args.r.now) (g.R.Read.remaining c.take_input.new.r) start _ read.0 (Err c.in_err-take_input.field-0.0) read.1 checks;
+      known = known-checks g.T.Tap.tap.form c.laws.ensures.form o (g.R.Read.remaining c.args.r.now)
+          (g.R.Read.remaining c.take_input.new.r) start _ read.0 (Err c.in_err-take_input.field-0.0) read.1 checks;
     })

@@ -14,7 +14,8 @@ loop-at-init g c =
       within = omega arith;
       sound = c.requires.sound;
       same = same-self tap c.args.run.now;
-      followed = λ start b h. subst (Watches tap start (g.W.Write.contents c.args.w.now) c.args.run.now) (from-none b c.args.octets.now) h;
+      followed = λ start b h. subst (Watches tap start (g.W.Write.contents c.args.w.now) c.args.run.now)
+          (from-none b c.args.octets.now) h;
     }
 
 pub returns-in_err-at-clause-taken : goal.returns-in_err-at-clause-taken
@@ -26,7 +27,8 @@ returns-in_err-at-clause-taken g c =
     let at = c.loop-at.at in
     let all : at + (c.args.end - at) ≡ c.args.end = omega (arith, c.loop-at.invariant.within) in
     let whole = from-next b os at (c.args.end - at) ∙ ap (λ (n : ℕ). b ++ bits_from os 0 n) all in
-    subst (λ (z : List Bool). Halts tap start (g.W.Write.contents c.take_some.new.w) c.take_some.new.run z c.in_err-at.field-0.0) whole
+    subst (λ (z : List Bool). Halts tap start (g.W.Write.contents c.take_some.new.w) c.take_some.new.run z
+    c.in_err-at.field-0.0) whole
     (c.in_err-at.ensures.taken start (b ++ bits_from os 0 at) (c.loop-at.invariant.followed start b h)))
 
 pub loop-at-preserved : goal.loop-at-preserved
@@ -38,7 +40,8 @@ loop-at-preserved g c =
     record {
       within = c.in_ok-at.ensures.within.1;
       sound = c.take_some.ensures.sound;
-      same = same-both tap c.args.run.now c.loop-at.run c.take_some.new.run c.loop-at.invariant.same c.take_some.ensures.same;
+      same = same-both tap c.args.run.now c.loop-at.run c.take_some.new.run c.loop-at.invariant.same
+          c.take_some.ensures.same;
       followed = λ start b h.
           subst (Watches tap start (g.W.Write.contents c.take_some.new.w) c.take_some.new.run) (from-next b os at n)
           (c.in_ok-at.ensures.taken start (b ++ bits_from os 0 at) (c.loop-at.invariant.followed start b h));
@@ -48,4 +51,5 @@ pub returns-clause-taken : goal.returns-clause-taken
 returns-clause-taken g c = λ start b h.
     let os = c.args.octets.now in
     let end : c.loop-at.at ≡ c.args.end = omega (arith, c.loop-at.invariant.within, c.loop-at-test.false) in
-    subst (λ (n : ℕ). Watches (one_tap g.C.Check.folded g.C.Check.COST) start (g.W.Write.contents c.loop-at.w) c.loop-at.run (b ++ bits_from os 0 n)) end (c.loop-at.invariant.followed start b h)
+    subst (λ (n : ℕ). Watches (one_tap g.C.Check.folded g.C.Check.COST) start (g.W.Write.contents c.loop-at.w)
+    c.loop-at.run (b ++ bits_from os 0 n)) end (c.loop-at.invariant.followed start b h)

@@ -15,10 +15,13 @@ returns-in_err-take_bits-clause-taken g c =
     let b = (tap.form.text xs).bits in
     let given = packed.ensures.given xs f.clean in
     let fits = followed-fits tap c.laws.ensures start _ c.args.run.now b c.requires.sound f.bits in
-    let low : tap.watch.origin c.take_bits.new.run.analyser ≤ 2 ^ 60 = omega (arith, fits, c.take_bits.ensures.same.origin) in (
+    let low : tap.watch.origin c.take_bits.new.run.analyser ≤ 2 ^ 60 =
+    omega (arith, fits, c.take_bits.ensures.same.origin) in (
       packed.result.taken,
       packed.ensures.enough,
-      mark-taken tap start _ c.take_bits.new.run (xs ++ take packed.result.taken c.args.text.now) (b ++ bits_from packed.new.block 0 packed.result.count) (Err c.in_err-take_bits.field-0.0) low given.0 given.1 (c.in_err-take_bits.ensures.taken start b f.bits),
+      mark-taken tap start _ c.take_bits.new.run (xs ++ take packed.result.taken c.args.text.now)
+          (b ++ bits_from packed.new.block 0 packed.result.count) (Err c.in_err-take_bits.field-0.0) low given.0 given.1
+          (c.in_err-take_bits.ensures.taken start b f.bits),
     ))
 
 pub returns-clause-taken : goal.returns-clause-taken
@@ -28,5 +31,8 @@ returns-clause-taken g c = λ start xs f.
     let b = (tap.form.text xs).bits in
     let given = packed.ensures.given xs f.clean in
     let fits = followed-fits tap c.laws.ensures start _ c.args.run.now b c.requires.sound f.bits in
-    let low : tap.watch.origin c.take_bits.new.run.analyser ≤ 2 ^ 60 = omega (arith, fits, c.take_bits.ensures.same.origin) in
-    mark-taken tap start _ c.take_bits.new.run (xs ++ take packed.result.taken c.args.text.now) (b ++ bits_from packed.new.block 0 packed.result.count) (Ok tt) low given.0 given.1 (c.in_ok-take_bits.ensures.taken start b f.bits)
+    let low : tap.watch.origin c.take_bits.new.run.analyser ≤ 2 ^ 60 =
+    omega (arith, fits, c.take_bits.ensures.same.origin) in
+    mark-taken tap start _ c.take_bits.new.run (xs ++ take packed.result.taken c.args.text.now)
+    (b ++ bits_from packed.new.block 0 packed.result.count) (Ok tt) low given.0 given.1
+    (c.in_ok-take_bits.ensures.taken start b f.bits)

@@ -22,10 +22,13 @@ returns-in_err-take_bits-clause-taken g c =
     let bits = given.1 ∙ ap (λ (z : List Bool). text_bits xs ++ z) same in
     let fewest = c.in-Some.ensures.fewest eight refl in
     let fits = followed-fits tap c.laws.ensures start _ c.args.run.now b c.requires f.bits in
-    let low : tap.watch.origin c.take_bits.new.run.analyser ≤ 2 ^ 60 = omega (arith, fits, c.take_bits.ensures.same.origin) in (
+    let low : tap.watch.origin c.take_bits.new.run.analyser ≤ 2 ^ 60 =
+    omega (arith, fits, c.take_bits.ensures.same.origin) in (
       eight.taken,
       fewest.0.0,
-      mark-taken tap start _ c.take_bits.new.run (xs ++ take eight.taken c.args.text.now) (b ++ bits_from (eight.octet ∷ []) 0 8) (Err c.in_err-take_bits.field-0.0) low given.0 bits (c.in_err-take_bits.ensures.taken start b f.bits),
+      mark-taken tap start _ c.take_bits.new.run (xs ++ take eight.taken c.args.text.now)
+          (b ++ bits_from (eight.octet ∷ []) 0 8) (Err c.in_err-take_bits.field-0.0) low given.0 bits
+          (c.in_err-take_bits.ensures.taken start b f.bits),
     ))
 
 pub returns-clause-taken : goal.returns-clause-taken
@@ -38,8 +41,10 @@ returns-clause-taken g c = λ start xs f.
     let same : bits_of 8 eight.octet ≡ bits_from (eight.octet ∷ []) 0 8 = ap (bits_of 8) (omega arith) ∙ bit in
     let bits = given.1 ∙ ap (λ (z : List Bool). text_bits xs ++ z) same in
     let fits = followed-fits tap c.laws.ensures start _ c.args.run.now b c.requires f.bits in
-    let low : tap.watch.origin c.take_bits.new.run.analyser ≤ 2 ^ 60 = omega (arith, fits, c.take_bits.ensures.same.origin) in
-    mark-taken tap start _ c.take_bits.new.run (xs ++ take eight.taken c.args.text.now) (b ++ bits_from (eight.octet ∷ []) 0 8) (Ok tt) low given.0 bits (c.in_ok-take_bits.ensures.taken start b f.bits)
+    let low : tap.watch.origin c.take_bits.new.run.analyser ≤ 2 ^ 60 =
+    omega (arith, fits, c.take_bits.ensures.same.origin) in
+    mark-taken tap start _ c.take_bits.new.run (xs ++ take eight.taken c.args.text.now)
+    (b ++ bits_from (eight.octet ∷ []) 0 8) (Ok tt) low given.0 bits (c.in_ok-take_bits.ensures.taken start b f.bits)
 
 pub returns-clause-enough : goal.returns-clause-enough
 returns-clause-enough g c = let fewest = c.in-Some.ensures.fewest c.in-Some.eight refl in fewest.0.0

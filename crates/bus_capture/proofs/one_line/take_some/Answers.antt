@@ -33,10 +33,13 @@ returns-in_err-tell-clause-taken g c =
     let n = c.in-Ok.taken in
     let x = bits_from os c.args.at n in
     let told = tap.heard c.scan.new.self in
-    let sees = subst (λ (a : AnalyserState g.row.C.Denot). Leads tap.watch c.args.run.now.analyser x told a) (sym c.in_err-tell.ensures.analyser) c.in-Ok.ensures.sees in
+    let sees = subst (λ (a : AnalyserState g.row.C.Denot). Leads tap.watch c.args.run.now.analyser x told a)
+    (sym c.in_err-tell.ensures.analyser) c.in-Ok.ensures.sees in
     let cut = c.in_err-tell.ensures.told start (lines tap c.args.run.now b) h.page in
-    halts-from tap start (g.W.Write.contents c.tell.new.w) c.tell.new.self b os c.args.at n (c.args.end - c.args.at) (fault.Write c.in_err-tell.field-0.0.sent) c.in-Ok.ensures.within.1
-    (cut-off tap c.laws.ensures start (g.W.Write.contents c.tell.new.w) c.args.run.now c.tell.new.self b x told c.in_err-tell.field-0.0.sent c.in_err-tell.ensures.printer
+    halts-from tap start (g.W.Write.contents c.tell.new.w) c.tell.new.self b os c.args.at n (c.args.end - c.args.at)
+    (fault.Write c.in_err-tell.field-0.0.sent) c.in-Ok.ensures.within.1
+    (cut-off tap c.laws.ensures start (g.W.Write.contents c.tell.new.w) c.args.run.now c.tell.new.self b x told
+    c.in_err-tell.field-0.0.sent c.in_err-tell.ensures.printer
     (omega (arith, c.in-Ok.ensures.fits, length-from os c.args.at n)) h.is_after sees cut.0 cut.1))
 
 pub returns-in_err-tell-clause-sound : goal.returns-in_err-tell-clause-sound
@@ -44,8 +47,10 @@ returns-in_err-tell-clause-sound g c =
     let tap = one_tap g.C.Check.folded g.C.Check.COST in
     let n = c.in-Ok.taken in
     let place = c.args.run.now.analyser.decoder.place in
-    let next = ap (λ (a : AnalyserState g.row.C.Denot). a.decoder.place) c.in_err-tell.ensures.analyser ∙ (c.in-Ok.ensures.sees.place ∙ ap (λ (k : ℕ). place + k) (length-from c.args.octets.now c.args.at n)) in
-    sound-next tap c.args.run.now _ n c.in-Ok.ensures.within.0 next c.in-Ok.ensures.fits (c.in_err-tell.ensures.few (2 * place) c.requires.sound.counts) c.in_err-tell.ensures.octets c.requires.sound
+    let next = ap (λ (a : AnalyserState g.row.C.Denot). a.decoder.place) c.in_err-tell.ensures.analyser
+    ∙ (c.in-Ok.ensures.sees.place ∙ ap (λ (k : ℕ). place + k) (length-from c.args.octets.now c.args.at n)) in
+    sound-next tap c.args.run.now _ n c.in-Ok.ensures.within.0 next c.in-Ok.ensures.fits
+    (c.in_err-tell.ensures.few (2 * place) c.requires.sound.counts) c.in_err-tell.ensures.octets c.requires.sound
 
 pub returns-in_ok-tell-clause-taken : goal.returns-in_ok-tell-clause-taken
 returns-in_ok-tell-clause-taken g c =
@@ -54,26 +59,32 @@ returns-in_ok-tell-clause-taken g c =
     let x = bits_from c.args.octets.now c.args.at c.in-Ok.taken in
     let told = tap.heard c.scan.new.self in
     let here = c.in-Ok.ensures.sees in
-    let sees = subst (λ (a : AnalyserState g.row.C.Denot). Leads tap.watch c.args.run.now.analyser x told a) (sym c.in_ok-tell.ensures.analyser) here in
+    let sees = subst (λ (a : AnalyserState g.row.C.Denot). Leads tap.watch c.args.run.now.analyser x told a)
+    (sym c.in_ok-tell.ensures.analyser) here in
     let page = c.in_ok-tell.ensures.told start (lines tap c.args.run.now b) h.page in
     watched tap start _ _ c.args.run.now c.tell.new.self b x told c.in_ok-tell.ensures.printer h sees
     (c.in_ok-tell.ensures.counted (seen_by tap.watch c.args.run.now.analyser b) h.counts)
-    (subst (λ (d : List FrameType). Pages start (g.W.Write.contents c.tell.new.w) c.tell.new.self.teller.page.text c.tell.new.self.teller.page.written (lines tap c.args.run.now b ++ printed c.args.run.now.teller.printer d told)) here.dictionary page)
+    (subst (λ (d : List FrameType). Pages start (g.W.Write.contents c.tell.new.w) c.tell.new.self.teller.page.text
+    c.tell.new.self.teller.page.written (lines tap c.args.run.now b ++ printed c.args.run.now.teller.printer d told))
+    here.dictionary page)
 
 pub returns-in_ok-tell-clause-sound : goal.returns-in_ok-tell-clause-sound
 returns-in_ok-tell-clause-sound g c =
     let tap = one_tap g.C.Check.folded g.C.Check.COST in
     let n = c.in-Ok.taken in
     let place = c.args.run.now.analyser.decoder.place in
-    let next = ap (λ (a : AnalyserState g.row.C.Denot). a.decoder.place) c.in_ok-tell.ensures.analyser ∙ (c.in-Ok.ensures.sees.place ∙ ap (λ (k : ℕ). place + k) (length-from c.args.octets.now c.args.at n)) in
-    sound-next tap c.args.run.now _ n c.in-Ok.ensures.within.0 next c.in-Ok.ensures.fits (c.in_ok-tell.ensures.few (2 * place) c.requires.sound.counts) c.in_ok-tell.ensures.octets c.requires.sound
+    let next = ap (λ (a : AnalyserState g.row.C.Denot). a.decoder.place) c.in_ok-tell.ensures.analyser
+    ∙ (c.in-Ok.ensures.sees.place ∙ ap (λ (k : ℕ). place + k) (length-from c.args.octets.now c.args.at n)) in
+    sound-next tap c.args.run.now _ n c.in-Ok.ensures.within.0 next c.in-Ok.ensures.fits
+    (c.in_ok-tell.ensures.few (2 * place) c.requires.sound.counts) c.in_ok-tell.ensures.octets c.requires.sound
 
 pub returns-else-is_decided-clause-taken : goal.returns-else-is_decided-clause-taken
 returns-else-is_decided-clause-taken g c =
     λ start b h.
     let tap = one_tap g.C.Check.folded g.C.Check.COST in
     let x = bits_from c.args.octets.now c.args.at c.in-Ok.taken in
-    unheard tap start _ c.args.run.now _ b x (tap.heard c.scan.new.self) refl (c.is_decided.ensures.0 c.if-is_decided.false) h c.in-Ok.ensures.sees
+    unheard tap start _ c.args.run.now _ b x (tap.heard c.scan.new.self) refl
+    (c.is_decided.ensures.0 c.if-is_decided.false) h c.in-Ok.ensures.sees
 
 pub returns-else-is_decided-clause-sound : goal.returns-else-is_decided-clause-sound
 returns-else-is_decided-clause-sound g c =
@@ -81,4 +92,6 @@ returns-else-is_decided-clause-sound g c =
     let n = c.in-Ok.taken in
     let place = c.args.run.now.analyser.decoder.place in
     let next = c.in-Ok.ensures.sees.place ∙ ap (λ (k : ℕ). place + k) (length-from c.args.octets.now c.args.at n) in
-    sound-next tap c.args.run.now _ n c.in-Ok.ensures.within.0 next c.in-Ok.ensures.fits (few-within (2 * place) (2 * place + 2) c.args.run.now.teller.summary (omega arith) c.requires.sound.counts) (omega arith) c.requires.sound
+    sound-next tap c.args.run.now _ n c.in-Ok.ensures.within.0 next c.in-Ok.ensures.fits
+    (few-within (2 * place) (2 * place + 2) c.args.run.now.teller.summary (omega arith) c.requires.sound.counts)
+    (omega arith) c.requires.sound

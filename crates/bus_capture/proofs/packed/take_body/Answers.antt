@@ -18,18 +18,22 @@ returns-in_err-taken-clause-taken g c =
     let stops = c.in_err-taken.ensures.taken start (xs ++ take i os) (c.loop-taken.invariant.front start xs f) in
     let n = stops.0 in
     let origin = tap.watch.origin c.take_some.new.run.analyser in
-    stops-more tap start _ c.take_some.new.run (capped origin (tap.form.packed (xs ++ take (i + n) os))) (capped origin (tap.form.packed (xs ++ os))) c.in_err-taken.field-0.0
+    stops-more tap start _ c.take_some.new.run (capped origin (tap.form.packed (xs ++ take (i + n) os)))
+    (capped origin (tap.form.packed (xs ++ os))) c.in_err-taken.field-0.0
     (front-grown tap.form.packed c.laws.ensures.form.packed c.laws.ensures.form.places origin xs os (i + n))
-    (subst (λ (ys : List ℕ). Stops tap false start (g.W.Write.contents c.take_some.new.w) c.take_some.new.run ys c.in_err-taken.field-0.0) (octets-next xs os i n) stops.1))
+    (subst (λ (ys : List ℕ). Stops tap false start (g.W.Write.contents c.take_some.new.w) c.take_some.new.run ys
+    c.in_err-taken.field-0.0) (octets-next xs os i n) stops.1))
 
 pub loop-taken-preserved : goal.loop-taken-preserved
 loop-taken-preserved g c = record {
   sound = c.take_some.ensures.sound;
-  same = same-both g.T.Tap.tap c.args.run.now c.loop-taken.run c.take_some.new.run c.loop-taken.invariant.same c.take_some.ensures.same;
+  same = same-both g.T.Tap.tap c.args.run.now c.loop-taken.run c.take_some.new.run c.loop-taken.invariant.same
+      c.take_some.ensures.same;
   front = λ start xs f.
       let os = c.args.octets.now in
       let i = c.loop-taken.taken in
-      subst (FollowsBody g.T.Tap.tap start (g.W.Write.contents c.take_some.new.w) c.take_some.new.body c.take_some.new.run)
+      subst (FollowsBody g.T.Tap.tap start (g.W.Write.contents c.take_some.new.w) c.take_some.new.body
+      c.take_some.new.run)
       (octets-next xs os i c.in_ok-taken.field-0)
       (c.in_ok-taken.ensures.taken start (xs ++ take i os) (c.loop-taken.invariant.front start xs f));
 }
@@ -37,5 +41,6 @@ loop-taken-preserved g c = record {
 pub returns-clause-taken : goal.returns-clause-taken
 returns-clause-taken g c =
     λ start xs f.
-    subst (λ (os : List ℕ). FollowsBody g.T.Tap.tap start (g.W.Write.contents c.loop-taken.w) c.loop-taken.body c.loop-taken.run (xs ++ os))
+    subst (λ (os : List ℕ). FollowsBody g.T.Tap.tap start (g.W.Write.contents c.loop-taken.w) c.loop-taken.body
+    c.loop-taken.run (xs ++ os))
     (take_all c.loop-taken.taken c.args.octets.now (omega arith)) (c.loop-taken.invariant.front start xs f)

@@ -7,7 +7,8 @@ abbrev pub invariant-loop-taken : goal.invariant-loop-taken
 invariant-loop-taken g l = record {
   sound : IsSound g.T.Tap.tap l.run;
   same : IsSame g.T.Tap.tap l.initial.run l.run;
-  front : (start : Option (List ℕ)) (xs : List ℕ) → FollowsBody g.T.Tap.tap start (g.W.Write.contents l.initial.w) l.initial.body l.initial.run xs
+  front : (start : Option (List ℕ)) (xs : List ℕ) →
+      FollowsBody g.T.Tap.tap start (g.W.Write.contents l.initial.w) l.initial.body l.initial.run xs
       → FollowsBody g.T.Tap.tap start (g.W.Write.contents l.w) l.body l.run (xs ++ take l.taken l.octets);
 }
 

@@ -10,9 +10,11 @@ returns-in_err-take_octet-clause-taken g c =
     rw (p.1, p.2) (λ start xs f.
     let tap = g.T.Tap.tap in
     let many = c.take_packed.new in
-    let here = none-read tap start (g.W.Write.contents many.w) many.run many.body xs c.args.octets.now c.in_ok-taken.taken (omega (arith, c.if-taken-gt0.false)) (c.in_ok-taken.ensures.taken start xs f) in (
+    let here = none-read tap start (g.W.Write.contents many.w) many.run many.body xs c.args.octets.now
+    c.in_ok-taken.taken (omega (arith, c.if-taken-gt0.false)) (c.in_ok-taken.ensures.taken start xs f) in (
       1,
-      subst (λ (ys : List ℕ). Stops tap false start (g.W.Write.contents c.take_octet.new.w) c.take_octet.new.run ys c.in_err-take_octet.field-0.0)
+      subst (λ (ys : List ℕ). Stops tap false start (g.W.Write.contents c.take_octet.new.w) c.take_octet.new.run ys
+          c.in_err-take_octet.field-0.0)
           (first-octet xs c.args.octets.now c.requires.some) (c.in_err-take_octet.ensures.taken start xs here),
     ))
 
@@ -20,6 +22,8 @@ pub returns-clause-taken : goal.returns-clause-taken
 returns-clause-taken g c = λ start xs f.
     let tap = g.T.Tap.tap in
     let many = c.take_packed.new in
-    let here = none-read tap start (g.W.Write.contents many.w) many.run many.body xs c.args.octets.now c.in_ok-taken.taken (omega (arith, c.if-taken-gt0.false)) (c.in_ok-taken.ensures.taken start xs f) in
-    subst (FollowsBody tap start (g.W.Write.contents c.take_octet.new.w) c.take_octet.new.body c.take_octet.new.run) (first-octet xs c.args.octets.now c.requires.some)
+    let here = none-read tap start (g.W.Write.contents many.w) many.run many.body xs c.args.octets.now
+    c.in_ok-taken.taken (omega (arith, c.if-taken-gt0.false)) (c.in_ok-taken.ensures.taken start xs f) in
+    subst (FollowsBody tap start (g.W.Write.contents c.take_octet.new.w) c.take_octet.new.body c.take_octet.new.run)
+    (first-octet xs c.args.octets.now c.requires.some)
     (c.in_ok-take_octet.ensures.taken start xs here)

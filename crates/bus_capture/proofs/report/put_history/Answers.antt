@@ -17,23 +17,29 @@ returns-in_err-put_last-clause-put g c =
     let i = c.loop-i.i in
     let here = frame-at h i (omega (arith, c.loop-i-test.true, c.history_len-i-end.ensures.value b is_after)) in
     cuts-kept two start (g.W.Write.contents c.put_last.new.w) text h i here.0 c.in_err-put_last.field-0.0.sent here.1
-    (c.in_err-put_last.ensures.put start (text ++ history_text two (take i h)) b here.0 is_after here.1 (c.loop-i.invariant.put start text b is_after p)))
+    (c.in_err-put_last.ensures.put start (text ++ history_text two (take i h)) b here.0 is_after here.1
+    (c.loop-i.invariant.put start text b is_after p)))
 
 pub loop-i-preserved : goal.loop-i-preserved
 loop-i-preserved g c = record {
   few = omega (arith, c.loop-i.invariant.few, c.in_ok-put_last.ensures.few);
   within = omega (arith, c.loop-i-test.true);
   put = λ start text b is_after p.
-      let h = history (g.T.Tap.tap.watch.depth c.args.analyser.now) (heard_by g.T.Tap.tap.watch c.args.analyser.now b) in
+      let h = history (g.T.Tap.tap.watch.depth c.args.analyser.now)
+      (heard_by g.T.Tap.tap.watch c.args.analyser.now b) in
       let two = g.T.Tap.tap.form.is_two in
       let i = c.loop-i.i in
       let here = frame-at h i (omega (arith, c.loop-i-test.true, c.history_len-i-end.ensures.value b is_after)) in
-      pages-kept two start (g.W.Write.contents c.put_last.new.w) c.put_last.new.page.text c.put_last.new.page.written text h i here.0 here.1
-      (c.in_ok-put_last.ensures.put start (text ++ history_text two (take i h)) b here.0 is_after here.1 (c.loop-i.invariant.put start text b is_after p));
+      pages-kept two start (g.W.Write.contents c.put_last.new.w) c.put_last.new.page.text c.put_last.new.page.written
+      text h i here.0 here.1
+      (c.in_ok-put_last.ensures.put start (text ++ history_text two (take i h)) b here.0 is_after here.1
+      (c.loop-i.invariant.put start text b is_after p));
 }
 
 pub returns-clause-put : goal.returns-clause-put
 returns-clause-put g c = λ start text b is_after p.
     let h = history (g.T.Tap.tap.watch.depth c.args.analyser.now) (heard_by g.T.Tap.tap.watch c.args.analyser.now b) in
-    let whole : take c.loop-i.i h ≡ h = take_all c.loop-i.i h (omega (arith, c.loop-i-test.false, c.history_len-i-end.ensures.value b is_after)) in
-    subst (λ (l : List KeptFrame). Pages start (g.W.Write.contents c.loop-i.w) c.loop-i.page.text c.loop-i.page.written (text ++ history_text g.T.Tap.tap.form.is_two l)) whole (c.loop-i.invariant.put start text b is_after p)
+    let whole : take c.loop-i.i h ≡ h =
+    take_all c.loop-i.i h (omega (arith, c.loop-i-test.false, c.history_len-i-end.ensures.value b is_after)) in
+    subst (λ (l : List KeptFrame). Pages start (g.W.Write.contents c.loop-i.w) c.loop-i.page.text c.loop-i.page.written
+    (text ++ history_text g.T.Tap.tap.form.is_two l)) whole (c.loop-i.invariant.put start text b is_after p)

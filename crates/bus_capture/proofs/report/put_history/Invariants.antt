@@ -10,6 +10,10 @@ abbrev pub invariant-loop-i : goal.invariant-loop-i
 invariant-loop-i g l = record {
   few : l.page.written + length l.page.text ≤ l.fn.page.written + length l.fn.page.text + 572 * l.i;
   within : l.i ≤ l.i-end;
-  put : (start : Option (List ℕ)) (text : List ℕ) (b : List g.row.T-Symbol.Denot) → g.T.Tap.tap.watch.is_after l.analyser b → Pages start (g.W.Write.contents l.fn.w) l.fn.page.text l.fn.page.written text
-      → Pages start (g.W.Write.contents l.w) l.page.text l.page.written (text ++ history_text g.T.Tap.tap.form.is_two (take l.i (history (g.T.Tap.tap.watch.depth l.analyser) (heard_by g.T.Tap.tap.watch l.analyser b))));
+  put : (start : Option (List ℕ)) (text : List ℕ) (b : List g.row.T-Symbol.Denot) →
+      g.T.Tap.tap.watch.is_after l.analyser b →
+      Pages start (g.W.Write.contents l.fn.w) l.fn.page.text l.fn.page.written text
+      → Pages start (g.W.Write.contents l.w) l.page.text l.page.written
+      (text ++ history_text g.T.Tap.tap.form.is_two
+      (take l.i (history (g.T.Tap.tap.watch.depth l.analyser) (heard_by g.T.Tap.tap.watch l.analyser b))));
 }

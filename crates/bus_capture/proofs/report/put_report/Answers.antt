@@ -16,7 +16,8 @@ returns-in_err-put_summary-clause-put g c =
     let a = c.args.analyser.now in
     let s = summary_text c.args.summary.now in
     let t = tallies_text (tally (g.T.Tap.tap.watch.dictionary a) (heard_by g.T.Tap.tap.watch a b)) 256 in
-    let h = history_text g.T.Tap.tap.form.is_two (history (g.T.Tap.tap.watch.depth a) (heard_by g.T.Tap.tap.watch a b)) in
+    let h = history_text g.T.Tap.tap.form.is_two
+    (history (g.T.Tap.tap.watch.depth a) (heard_by g.T.Tap.tap.watch a b)) in
     let cut = c.in_err-put_summary.ensures.put start text p in
     let sent = c.in_err-put_summary.field-0.0.sent in
     let now = g.W.Write.contents c.put_summary.new.w in
@@ -25,26 +26,32 @@ returns-in_err-put_summary-clause-put g c =
 
 pub returns-in_err-put_tallies-clause-put : goal.returns-in_err-put_tallies-clause-put
 returns-in_err-put_tallies-clause-put g c =
-    let p = err_from_is_err_and c.from_residual-in_err-put_tallies.result c.from_residual-in_err-put_tallies.ensures.1 in
+    let p = err_from_is_err_and c.from_residual-in_err-put_tallies.result
+    c.from_residual-in_err-put_tallies.ensures.1 in
     rw (p.1, p.2) (λ start text b is_after p.
     let a = c.args.analyser.now in
     let s = summary_text c.args.summary.now in
     let t = tallies_text (tally (g.T.Tap.tap.watch.dictionary a) (heard_by g.T.Tap.tap.watch a b)) 256 in
-    let h = history_text g.T.Tap.tap.form.is_two (history (g.T.Tap.tap.watch.depth a) (heard_by g.T.Tap.tap.watch a b)) in
+    let h = history_text g.T.Tap.tap.form.is_two
+    (history (g.T.Tap.tap.watch.depth a) (heard_by g.T.Tap.tap.watch a b)) in
     let first = c.in_ok-put_summary.ensures.put start text p in
     let sent = c.in_err-put_tallies.field-0.0.sent in
     let now = g.W.Write.contents c.put_tallies.new.w in
     subst (λ (l : List ℕ). Cuts start now l sent) (report-parts text s t h)
-    (cuts-more start now ((text ++ s) ++ t) h sent (c.in_err-put_tallies.ensures.put start (text ++ s) b is_after first)))
+    (cuts-more start now ((text ++ s) ++ t) h sent
+    (c.in_err-put_tallies.ensures.put start (text ++ s) b is_after first)))
 
 pub returns-clause-put : goal.returns-clause-put
 returns-clause-put g c = λ start text b is_after p.
     let a = c.args.analyser.now in
     let s = summary_text c.args.summary.now in
     let t = tallies_text (tally (g.T.Tap.tap.watch.dictionary a) (heard_by g.T.Tap.tap.watch a b)) 256 in
-    let h = history_text g.T.Tap.tap.form.is_two (history (g.T.Tap.tap.watch.depth a) (heard_by g.T.Tap.tap.watch a b)) in
+    let h = history_text g.T.Tap.tap.form.is_two
+    (history (g.T.Tap.tap.watch.depth a) (heard_by g.T.Tap.tap.watch a b)) in
     let now = g.W.Write.contents c.put_history.new.w in
     let first = c.in_ok-put_summary.ensures.put start text p in
     let second = c.in_ok-put_tallies.ensures.put start (text ++ s) b is_after first in
-    subst (λ (l : List ℕ). MatchResult c.put_history.result (λ _. Pages start now c.put_history.new.page.text c.put_history.new.page.written l) (λ cut. Cuts start now l cut.sent)) (report-parts text s t h)
+    subst (λ (l : List ℕ). MatchResult c.put_history.result
+    (λ _. Pages start now c.put_history.new.page.text c.put_history.new.page.written l)
+    (λ cut. Cuts start now l cut.sent)) (report-parts text s t h)
     (c.put_history.ensures.put start ((text ++ s) ++ t) b is_after second)

@@ -9,6 +9,10 @@ use Rattle.bus_capture.proofs.report.put_tallies.Given as goal
 abbrev pub invariant-loop-station : goal.invariant-loop-station
 invariant-loop-station g l = record {
   few : l.page.written + length l.page.text ≤ l.fn.page.written + length l.fn.page.text + 140 * l.station;
-  put : (start : Option (List ℕ)) (text : List ℕ) (b : List g.row.T-Symbol.Denot) → g.T.Tap.tap.watch.is_after l.analyser b → Pages start (g.W.Write.contents l.fn.w) l.fn.page.text l.fn.page.written text
-      → Pages start (g.W.Write.contents l.w) l.page.text l.page.written (text ++ tallies_text (tally (g.T.Tap.tap.watch.dictionary l.analyser) (heard_by g.T.Tap.tap.watch l.analyser b)) l.station);
+  put : (start : Option (List ℕ)) (text : List ℕ) (b : List g.row.T-Symbol.Denot) →
+      g.T.Tap.tap.watch.is_after l.analyser b →
+      Pages start (g.W.Write.contents l.fn.w) l.fn.page.text l.fn.page.written text
+      → Pages start (g.W.Write.contents l.w) l.page.text l.page.written
+      (text ++ tallies_text
+      (tally (g.T.Tap.tap.watch.dictionary l.analyser) (heard_by g.T.Tap.tap.watch l.analyser b)) l.station);
 }

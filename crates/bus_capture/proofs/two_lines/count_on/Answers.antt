@@ -11,5 +11,6 @@ returns-in-Some-clause-counted g c = λ before e.
     let a = c.args.analyser.now in
     let line = c.args.line in
     let os = octets_on a line in
-    subst (λ o. c.count.new.self ≡ summary_of (before ++ option_to_list (option_map (found_on (Some line) os) o))) c.in-Some.ensures
+    subst (λ o. c.count.new.self ≡ summary_of (before ++ option_to_list (option_map (found_on (Some line) os) o)))
+    c.in-Some.ensures
     (c.count.ensures.counted before os e ∙ counted-on before line os c.in-Some.finding.now)

@@ -11,5 +11,6 @@ returns-in_default-clause-bytes g c =
     let a = c.args.analyser.now in
     let line = c.args.line in
     let text = c.args.page.now.text in
-    subst (λ o. text ≡ text ++ listing c.args.printer.now a.journal.dictionary (option_to_list (option_map (found_on (Some line) (octets_on a line)) o))) c.in_default.ensures
+    subst (λ o. text ≡ text ++ listing c.args.printer.now a.journal.dictionary
+    (option_to_list (option_map (found_on (Some line) (octets_on a line)) o))) c.in_default.ensures
     (sym (ap (λ (t : List ℕ). text ++ t) (listing-nothing c.args.printer.now a.journal.dictionary) ∙ append-nil text))

@@ -17,9 +17,12 @@ returns-in-Some-clause-taken g c = λ start b h.
     let os = c.args.first.now in
     let ys = c.args.second.now in
     rw (c.from.ensures)
-    (halts-behind tap start (g.W.Write.contents c.scan-taken.new.out) _ b os ys n c.args.count (fault.Write c.in-Some.cut.sent) (omega (arith, c.scan-taken.ensures.taken))
-    (told-cut tap c.args.run.now _ (zip (bits_from os 0 n) (bits_from ys 0 n)) (g.W.Write.contents c.args.w.now) (g.W.Write.contents c.scan-taken.new.out) c.scan-taken.ensures.told
-    c.laws.ensures c.in-Some.cut c.in-Some.is (omega (arith, length-zipped os ys 0 n, c.scan-taken.ensures.taken, c.requires.sound.places)) start b h))
+    (halts-behind tap start (g.W.Write.contents c.scan-taken.new.out) _ b os ys n c.args.count
+    (fault.Write c.in-Some.cut.sent) (omega (arith, c.scan-taken.ensures.taken))
+    (told-cut tap c.args.run.now _ (zip (bits_from os 0 n) (bits_from ys 0 n)) (g.W.Write.contents c.args.w.now)
+    (g.W.Write.contents c.scan-taken.new.out) c.scan-taken.ensures.told
+    c.laws.ensures c.in-Some.cut c.in-Some.is
+    (omega (arith, length-zipped os ys 0 n, c.scan-taken.ensures.taken, c.requires.sound.places)) start b h))
 
 pub returns-in-Some-clause-sound : goal.returns-in-Some-clause-sound
 returns-in-Some-clause-sound g c =
@@ -27,7 +30,8 @@ returns-in-Some-clause-sound g c =
     let n = c.scan-taken.result in
     let os = c.args.first.now in
     let ys = c.args.second.now in
-    told-sound tap c.args.run.now _ (zip (bits_from os 0 n) (bits_from ys 0 n)) (g.W.Write.contents c.args.w.now) (g.W.Write.contents c.scan-taken.new.out) c.scan-taken.ensures.told
+    told-sound tap c.args.run.now _ (zip (bits_from os 0 n) (bits_from ys 0 n)) (g.W.Write.contents c.args.w.now)
+    (g.W.Write.contents c.scan-taken.new.out) c.scan-taken.ensures.told
     (omega (arith, length-zipped os ys 0 n, c.scan-taken.ensures.taken, c.requires.sound.places)) c.requires.sound
 
 pub returns-then-taken-count-clause-sound : goal.returns-then-taken-count-clause-sound
@@ -36,7 +40,8 @@ returns-then-taken-count-clause-sound g c =
     let n = c.scan-taken.result in
     let os = c.args.first.now in
     let ys = c.args.second.now in
-    told-sound tap c.args.run.now _ (zip (bits_from os 0 n) (bits_from ys 0 n)) (g.W.Write.contents c.args.w.now) (g.W.Write.contents c.scan-taken.new.out) c.scan-taken.ensures.told
+    told-sound tap c.args.run.now _ (zip (bits_from os 0 n) (bits_from ys 0 n)) (g.W.Write.contents c.args.w.now)
+    (g.W.Write.contents c.scan-taken.new.out) c.scan-taken.ensures.told
     (omega (arith, length-zipped os ys 0 n, c.scan-taken.ensures.taken, c.requires.sound.places)) c.requires.sound
 
 pub returns-then-taken-count-clause-taken : goal.returns-then-taken-count-clause-taken
@@ -47,11 +52,16 @@ returns-then-taken-count-clause-taken g c = λ start b h.
     let ys = c.args.second.now in
     let ps = zip (bits_from os 0 n) (bits_from ys 0 n) in
     let told = c.scan-taken.ensures.told in
-    let room : tap.watch.place c.args.run.now.analyser + length ps ≤ 2 ^ 60 = omega (arith, length-zipped os ys 0 n, c.scan-taken.ensures.taken, c.requires.sound.places) in
-    let sound = told-sound tap c.args.run.now _ ps (g.W.Write.contents c.args.w.now) (g.W.Write.contents c.scan-taken.new.out) told room c.requires.sound in
-    let followed = told-watched tap c.args.run.now _ ps (g.W.Write.contents c.args.w.now) (g.W.Write.contents c.scan-taken.new.out) told (none-cut _ c.in_default.not-Some) start b h in
-    limited tap c.laws.ensures start (g.W.Write.contents c.scan-taken.new.out) _ b os ys n c.args.count c.if-taken-count.true
-    (omega (arith, told.sees.place, length-zipped os ys 0 n, c.scan-taken.ensures.taken, c.if-taken-count.true)) sound followed
+    let room : tap.watch.place c.args.run.now.analyser + length ps ≤ 2 ^ 60 =
+    omega (arith, length-zipped os ys 0 n, c.scan-taken.ensures.taken, c.requires.sound.places) in
+    let sound = told-sound tap c.args.run.now _ ps (g.W.Write.contents c.args.w.now)
+    (g.W.Write.contents c.scan-taken.new.out) told room c.requires.sound in
+    let followed = told-watched tap c.args.run.now _ ps (g.W.Write.contents c.args.w.now)
+    (g.W.Write.contents c.scan-taken.new.out) told (none-cut _ c.in_default.not-Some) start b h in
+    limited tap c.laws.ensures start (g.W.Write.contents c.scan-taken.new.out) _ b os ys n c.args.count
+    c.if-taken-count.true
+    (omega (arith, told.sees.place, length-zipped os ys 0 n, c.scan-taken.ensures.taken, c.if-taken-count.true)) sound
+    followed
 
 pub returns-clause-taken : goal.returns-clause-taken
 returns-clause-taken g c = λ start b h.
@@ -60,9 +70,12 @@ returns-clause-taken g c = λ start b h.
     let os = c.args.first.now in
     let ys = c.args.second.now in
     let all : n ≡ c.args.count = omega (arith, c.scan-taken.ensures.taken, c.if-taken-count.false) in
-    let now : CaptureRun (PairState g.row.C.Denot) = record { analyser = c.scan-taken.new.self; teller = c.scan-taken.new.listener } in
-    subst (λ (k : ℕ). Watches tap start (g.W.Write.contents c.scan-taken.new.out) now (b ++ zip (bits_from os 0 k) (bits_from ys 0 k))) all
-    (told-watched tap c.args.run.now now (zip (bits_from os 0 n) (bits_from ys 0 n)) (g.W.Write.contents c.args.w.now) (g.W.Write.contents c.scan-taken.new.out) c.scan-taken.ensures.told
+    let now : CaptureRun (PairState g.row.C.Denot) =
+    record { analyser = c.scan-taken.new.self; teller = c.scan-taken.new.listener } in
+    subst (λ (k : ℕ). Watches tap start (g.W.Write.contents c.scan-taken.new.out) now
+    (b ++ zip (bits_from os 0 k) (bits_from ys 0 k))) all
+    (told-watched tap c.args.run.now now (zip (bits_from os 0 n) (bits_from ys 0 n)) (g.W.Write.contents c.args.w.now)
+    (g.W.Write.contents c.scan-taken.new.out) c.scan-taken.ensures.told
     (none-cut _ c.in_default.not-Some) start b h)
 
 pub returns-clause-sound : goal.returns-clause-sound
@@ -71,5 +84,6 @@ returns-clause-sound g c =
     let n = c.scan-taken.result in
     let os = c.args.first.now in
     let ys = c.args.second.now in
-    told-sound tap c.args.run.now _ (zip (bits_from os 0 n) (bits_from ys 0 n)) (g.W.Write.contents c.args.w.now) (g.W.Write.contents c.scan-taken.new.out) c.scan-taken.ensures.told
+    told-sound tap c.args.run.now _ (zip (bits_from os 0 n) (bits_from ys 0 n)) (g.W.Write.contents c.args.w.now)
+    (g.W.Write.contents c.scan-taken.new.out) c.scan-taken.ensures.told
     (omega (arith, length-zipped os ys 0 n, c.scan-taken.ensures.taken, c.requires.sound.places)) c.requires.sound

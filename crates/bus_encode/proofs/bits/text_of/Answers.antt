@@ -5,4 +5,5 @@ use Rattle.bus_encode.proofs.bits.text_of.Goals as goal
 
 pub returns : goal.returns
 unfolding bits_text
-returns c = c.push-2.ensures.items ∙ ap (λ (l : List ℕ). l ++ 10 ∷ []) (c.loop-bit.invariant ∙ ap (map bit_char) (all_bits c.loop-bit.bit-index c.args.bits.now c.loop-bit-test.false))
+returns c = c.push-2.ensures.items ∙ ap (λ (l : List ℕ). l ++ 10 ∷ [])
+    (c.loop-bit.invariant ∙ ap (map bit_char) (all_bits c.loop-bit.bit-index c.args.bits.now c.loop-bit-test.false))

@@ -1,4 +1,5 @@
-use Rattle.std.proofs.Common.{◌≡◌, ◌+◌, ◌^◌, ◌++◌, inl, inr, List, Bool, ℕ, [], ◌∷◌, take, get_or, false, sym, ap, ◌∙◌, subst, arith}
+use Rattle.std.proofs.Common.{◌≡◌, ◌+◌, ◌^◌, ◌++◌, inl, inr, List, Bool, ℕ, [], ◌∷◌, take, get_or, false, sym, ap, ◌∙◌}
+use Rattle.std.proofs.Common.{subst, arith}
 use Rattle.std.proofs.lemmas.Bool.{cases_lt}
 use Rattle.std.specs.Option.{option_map, option_to_list}
 use Rattle.std.proofs.lemmas.List.{take_all}
@@ -14,7 +15,14 @@ use Rattle.bus_examples.proofs.frames.count_frames.Goals as goal
 pub overflow_add-count : goal.overflow_add-count
 overflow_add-count g c =
     let one = at_most_one [] c.in_ok-taken.taken.event in
-    omega (arith, one, c.frames_in-count.ensures [], c.loop-bit.invariant.few, c.loop-bit-test.true, c.loop-bit.auto.bit-index-end)
+    omega (
+      arith,
+      one,
+      c.frames_in-count.ensures [],
+      c.loop-bit.invariant.few,
+      c.loop-bit-test.true,
+      c.loop-bit.auto.bit-index-end,
+    )
 
 pub loop-bit-preserved : goal.loop-bit-preserved
 loop-bit-preserved g c =
@@ -25,18 +33,23 @@ loop-bit-preserved g c =
     let taken = c.in_ok-taken.taken in
     let told = c.in_ok-taken.ensures in
     let inv = c.loop-bit.invariant in
-    let one : bits_of taken.count c.from.result ≡ bit ∷ [] = one_bit c.from.result taken.count bit c.from.ensures told.within.0 told.within.1 in
-    let next : take (i + 1) bits ≡ take i bits ++ bits_of taken.count c.from.result = next_bit bits i c.loop-bit-test.true ∙ ap (λ (x : List Bool). take i bits ++ x) (sym one) in
+    let one : bits_of taken.count c.from.result ≡ bit ∷ [] =
+    one_bit c.from.result taken.count bit c.from.ensures told.within.0 told.within.1 in
+    let next : take (i + 1) bits ≡ take i bits ++ bits_of taken.count c.from.result =
+    next_bit bits i c.loop-bit-test.true ∙ ap (λ (x : List Bool). take i bits ++ x) (sym one) in
     let counted = c.frames_in-count.ensures c.take.new.self.octets in
     let more = told.more (take i bits) inv.after in
     let all : frame_count (placed 0 256 (take (i + 1) bits)) ≡ c.loop-bit.count + c.frames_in-count.result =
     ap (λ (x : List Bool). frame_count (placed 0 256 x)) next
     ∙ ap frame_count (rw (inv.origin, inv.longest) at more)
-    ∙ count-append (placed 0 256 (take i bits)) (option_to_list (option_map (reported c.take.new.self.octets) taken.event))
-    ∙ ap (λ (n : ℕ). n + frame_count (option_to_list (option_map (reported c.take.new.self.octets) taken.event))) (sym inv.count)
+    ∙ count-append (placed 0 256 (take i bits))
+    (option_to_list (option_map (reported c.take.new.self.octets) taken.event))
+    ∙ ap (λ (n : ℕ). n + frame_count (option_to_list (option_map (reported c.take.new.self.octets) taken.event)))
+    (sym inv.count)
     ∙ ap (λ (n : ℕ). c.loop-bit.count + n) (sym counted) in
     record {
-      after = subst (After g.C.Check.folded g.C.Check.COST c.take.new.self) (sym next) (told.leads.after (take i bits) inv.after);
+      after = subst (After g.C.Check.folded g.C.Check.COST c.take.new.self) (sym next)
+          (told.leads.after (take i bits) inv.after);
       origin = told.leads.origin ∙ inv.origin;
       longest = told.leads.longest ∙ inv.longest;
       count = sym all;
@@ -50,4 +63,5 @@ loop-bit-preserved g c =
 
 pub returns-clause-count : goal.returns-clause-count
 returns-clause-count g c =
-    c.loop-bit.invariant.count ∙ ap (λ (x : List Bool). frame_count (placed 0 256 x)) (take_all c.loop-bit.bit-index c.args.bits.now c.loop-bit-test.false)
+    c.loop-bit.invariant.count ∙ ap (λ (x : List Bool). frame_count (placed 0 256 x))
+    (take_all c.loop-bit.bit-index c.args.bits.now c.loop-bit-test.false)

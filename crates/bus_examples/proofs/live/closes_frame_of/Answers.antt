@@ -4,7 +4,8 @@ use Rattle.bus_examples.specs.Live.{closes_for}
 use Rattle.bus_examples.proofs.live.closes_frame_of.Goals as goal
 
 -- wherever the first bit stands
-moved_is_same : (station origin : ℕ) (r : Option Report) → closes_for station (option_map (moved origin) r) ≡ closes_for station r
+moved_is_same : (station origin : ℕ) (r : Option Report) →
+    closes_for station (option_map (moved origin) r) ≡ closes_for station r
 moved_is_same station origin None = refl
 moved_is_same station origin (Some r) = refl
 

@@ -16,7 +16,8 @@ letters_of_sixteen-requires-2 c = record {
 
 pub returns-clause-digits : goal.returns-clause-digits
 returns-clause-digits c =
-    rw (c.letters_of_sixteen.ensures) (rw (c.letters_of_sixteen-2.ensures) (sixteen_woven c.args.octets.now c.told-octets))
+    rw (c.letters_of_sixteen.ensures)
+    (rw (c.letters_of_sixteen-2.ensures) (sixteen_woven c.args.octets.now c.told-octets))
 
 pub returns-clause-half : goal.returns-clause-half
 returns-clause-half c = rw (c.letters_of_sixteen.ensures) refl

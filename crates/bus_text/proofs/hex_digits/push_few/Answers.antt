@@ -21,7 +21,8 @@ returns-in-Some-Some-clause-bytes g c =
     (omega (arith, c.push_octets.ensures.len, c.requires.few, enough)) in
     c.push_octets-in-Some-Some.ensures.bytes
     ∙ ap (λ text. text ++ c.digits_of_eights.result.1) kept
-    ∙ ap (λ digits. take (length c.args.text.now + 2 * (length octets - 8)) (c.args.text.now ++ hex_of (take 8 octets)) ++ digits) back
+    ∙ ap (λ digits. take (length c.args.text.now + 2 * (length octets - 8)) (c.args.text.now ++ hex_of (take 8 octets))
+    ++ digits) back
     ∙ hex_again c.args.text.now (length octets - 8) (take 8 octets) octets
     (take-take (length octets - 8) 8 octets (omega (arith, c.requires.few)))
     (omega (arith, length-take-le 8 octets enough, c.requires.few))

@@ -1,4 +1,5 @@
-use Rattle.std.proofs.Common.{rules, arith, ◌≡◌, ◌∙◌, ap, ◌+◌, ◌-◌, ◌*◌, ◌++◌, ◌≤◌, ◌/◌, length, [], get_or, take, drop, append_assoc}
+use Rattle.std.proofs.Common.{rules, arith, ◌≡◌, ◌∙◌, ap, ◌+◌, ◌-◌, ◌*◌, ◌++◌, ◌≤◌, ◌/◌, length, [], get_or, take, drop}
+use Rattle.std.proofs.Common.{append_assoc}
 use Rattle.std.proofs.lemmas.List.{take-take, length-take-le}
 use Rattle.bus_text.specs.Listing.{hex_of}
 use Rattle.bus_text.proofs.HexLemmas.{hex_again, hex_chunk}
@@ -16,7 +17,8 @@ loop-chunk-preserved g c =
           ∙ append_assoc c.args.text.now (hex_of (take (16 * index) octets)) (hex_of chunk)
           ∙ ap (λ digits. c.args.text.now ++ digits)
           (ap (λ chunks. hex_of (take (16 * index) octets) ++ hex_of (get_or chunks index [])) c.as_chunks.ensures.front
-          ∙ hex_chunk 16 index octets (length octets / 16) (omega (arith, c.loop-chunk-test.true, c.as_chunks.ensures.front_len)));
+          ∙ hex_chunk 16 index octets (length octets / 16)
+          (omega (arith, c.loop-chunk-test.true, c.as_chunks.ensures.front_len)));
       len = omega (arith, c.push_sixteen.ensures.len, c.loop-chunk.invariant.len);
     }
 
@@ -38,7 +40,8 @@ returns-in-Some-clause-bytes g c =
     (omega (arith, c.loop-chunk.invariant.len, index, c.as_chunks.ensures.back_len, enough)) in
     c.push_sixteen-in-Some.ensures.bytes
     ∙ ap (λ before. before ++ hex_of c.in-Some.chunk.now) back
-    ∙ ap (λ os. take (length text + 2 * (length octets - 16)) (text ++ hex_of (take (16 * count) octets)) ++ hex_of os) last
+    ∙ ap (λ os. take (length text + 2 * (length octets - 16)) (text ++ hex_of (take (16 * count) octets)) ++ hex_of os)
+    last
     ∙ hex_again text (length octets - 16) (take (16 * count) octets) octets
     (take-take (length octets - 16) (16 * count) octets (omega arith))
     (omega (arith, length-take-le (16 * count) octets (omega arith)))

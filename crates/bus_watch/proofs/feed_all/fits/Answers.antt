@@ -6,7 +6,8 @@ pub returns-then-count-left : goal.returns-then-count-left
 returns-then-count-left c = (
   λ no. absurd (cc),
   λ few. absurd (
-      let one = pieces-one c.args.pieces.now c.loop-piece.piece-index (record { ref_ptr = (0, 0); now = [] }) c.loop-piece-test.true in
+      let one = pieces-one c.args.pieces.now c.loop-piece.piece-index (record { ref_ptr = (0, 0); now = [] })
+      c.loop-piece-test.true in
       omega (arith, few, c.loop-piece.invariant, c.if-count-left.true, one)
       ),
 )

@@ -12,12 +12,17 @@ pub returns-clause-fails : goal.returns-clause-fails
 returns-clause-fails c =
     let given = c.in-Ok.ensures.given in
     let can = made c.new.result c.in-Ok.analyser 1 c.args.origin c.in-Ok.is c.new.ensures.depth c.new.ensures.origin in
-    let limit : (c.feed.result ≡ Err PlaceLimit) ↔ (2 ^ 60 < c.args.origin + length c.args.bits.now) = rw (← given.3) c.feed.ensures.limit in
-    let start : Some c.in-Ok-new.log.reports ≡ Some [] = ap (λ (log : LogState). Some log.reports) c.in-Ok-new.ensures in
-    let room : c.feed.new.sink.room ≡ c.args.room = same-number _ _ c.feed.ensures.room ∙ ap (λ (log : LogState). log.room) c.in-Ok-new.ensures in
+    let limit : (c.feed.result ≡ Err PlaceLimit) ↔ (2 ^ 60 < c.args.origin + length c.args.bits.now) =
+    rw (← given.3) c.feed.ensures.limit in
+    let start : Some c.in-Ok-new.log.reports ≡ Some [] =
+    ap (λ (log : LogState). Some log.reports) c.in-Ok-new.ensures in
+    let room : c.feed.new.sink.room ≡ c.args.room = same-number _ _ c.feed.ensures.room
+    ∙ ap (λ (log : LogState). log.room) c.in-Ok-new.ensures in
     feed-fails c.feed.result c.in-Err-feed.fault 1 c.args.origin (length c.args.bits.now) _ c.in-Err-feed.is can limit
     (for-sink c.in-Err-feed.fault
     (λ consumed at full. rw (← given.0, ← given.2)
-    (log-lacks (λ log. Some log.reports) c.seen_grows.ensures.reports c.reports_grow.ensures.grow _ _ c.args.room c.args.bits.now c.in-Ok-new.log c.feed.new.sink consumed c.feed.new.sink.reports start refl (full ∙ room)
-    (stopped _ _ (λ log. Some log.reports) c.in-Ok.analyser c.feed.new.self c.args.bits.now c.in-Ok-new.log c.feed.new.sink consumed c.in-Ok.ensures.is_after at)))
+    (log-lacks (λ log. Some log.reports) c.seen_grows.ensures.reports c.reports_grow.ensures.grow _ _ c.args.room
+    c.args.bits.now c.in-Ok-new.log c.feed.new.sink consumed c.feed.new.sink.reports start refl (full ∙ room)
+    (stopped _ _ (λ log. Some log.reports) c.in-Ok.analyser c.feed.new.self c.args.bits.now c.in-Ok-new.log
+    c.feed.new.sink consumed c.in-Ok.ensures.is_after at)))
     c.in-Err-feed.ensures.refused c.in-Err-feed.ensures.full)

@@ -5,10 +5,17 @@ use Rattle.port1_c.proofs.call_bits.frame_bits.Goals as goal
 pub unreachable-requires : goal.unreachable-requires
 unreachable-requires c =
     let r = c.frame.ensures in
-    never-fails c.args.octets.now c.new.result c.frame.new.self c.new-bits.result c.frame.new.sink c.new.ensures c.new-bits.ensures.0 c.frame.result c.in-Err.field-0 c.in-Err.is
+    never-fails c.args.octets.now c.new.result c.frame.new.self c.new-bits.result c.frame.new.sink c.new.ensures
+    c.new-bits.ensures.0 c.frame.result c.in-Err.field-0 c.in-Err.is
     c.new-bits.ensures.1 (r.bound c.requires.most None) r.ended.0
-    (λ h. elim (r.range.0 h).1 [ inl few ↦ absurd (omega (arith, few, c.requires.least)) | inr many ↦ absurd (omega (arith, many, c.requires.most)) ])
+    (λ h.
+    elim (r.range.0 h).1 [
+      | inl few ↦ absurd (omega (arith, few, c.requires.least))
+      | inr many ↦
+          absurd (omega (arith, many, c.requires.most))
+    ])
     r.refused
 
 pub returns : goal.returns
-returns c = frame-taken c.args.octets.now c.new.result c.frame.new.self c.new-bits.result c.frame.new.sink c.new.ensures c.new-bits.ensures.0 c.in-Ok.ensures.encoded
+returns c = frame-taken c.args.octets.now c.new.result c.frame.new.self c.new-bits.result c.frame.new.sink c.new.ensures
+    c.new-bits.ensures.0 c.in-Ok.ensures.encoded

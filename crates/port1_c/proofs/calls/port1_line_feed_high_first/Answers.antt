@@ -6,38 +6,46 @@ use Rattle.port1_c.proofs.OctetLemmas.{bits-of-reversed, first-of-reversed, leng
 use Rattle.port1_c.proofs.TakenLemmas.{taken-goes, taken-last, taken-stands, taken-told}
 use Rattle.port1_c.proofs.calls.port1_line_feed_high_first.Goals as goal
 
-first-taken : (c : goal.After-feed_octet) → bits_of c.feed_octet.new.at c.reverse_bits.result ≡ high_first c.args.octet c.args.at.now (c.feed_octet.new.at - c.args.at.now)
+first-taken : (c : goal.After-feed_octet) → bits_of c.feed_octet.new.at c.reverse_bits.result
+    ≡ high_first c.args.octet c.args.at.now (c.feed_octet.new.at - c.args.at.now)
 first-taken c =
     let at = c.args.at.now in
     let new = c.feed_octet.new.at in
-    first-of-reversed c.args.octet c.reverse_bits.result at new (new - at) c.reverse_bits.ensures c.if-at-eq0.true (omega (arith, c.if-at-eq0.true)) c.feed_octet.ensures.bound
+    first-of-reversed c.args.octet c.reverse_bits.result at new (new - at) c.reverse_bits.ensures c.if-at-eq0.true
+    (omega (arith, c.if-at-eq0.true)) c.feed_octet.ensures.bound
 
 pub returns-then-at-eq0-clause-goes : goal.returns-then-at-eq0-clause-goes
 returns-then-at-eq0-clause-goes c = λ h.
     let n = c.feed_octet.new.at - c.args.at.now in
-    taken-goes c.args.line.now c.feed_octet.new.line _ _ (first-taken c) c.feed_octet.new.report (c.feed_octet.ensures.tells h) n
+    taken-goes c.args.line.now c.feed_octet.new.line _ _ (first-taken c) c.feed_octet.new.report
+    (c.feed_octet.ensures.tells h) n
     (length-high-first c.args.octet c.args.at.now n (omega (arith, c.if-at-eq0.true, c.feed_octet.ensures.bound)))
 
 pub returns-then-at-eq0-clause-stands : goal.returns-then-at-eq0-clause-stands
 returns-then-at-eq0-clause-stands c = λ h.
-    taken-stands c.args.line.now c.feed_octet.new.line _ _ (first-taken c) c.feed_octet.new.report (c.feed_octet.ensures.tells h)
+    taken-stands c.args.line.now c.feed_octet.new.line _ _ (first-taken c) c.feed_octet.new.report
+    (c.feed_octet.ensures.tells h)
 
 pub returns-then-at-eq0-clause-told : goal.returns-then-at-eq0-clause-told
 returns-then-at-eq0-clause-told c = λ h.
-    taken-told c.args.line.now c.feed_octet.new.line _ _ (first-taken c) c.feed_octet.new.report (c.feed_octet.ensures.tells h)
+    taken-told c.args.line.now c.feed_octet.new.line _ _ (first-taken c) c.feed_octet.new.report
+    (c.feed_octet.ensures.tells h)
 
 pub returns-then-at-eq0-clause-last : goal.returns-then-at-eq0-clause-last
 returns-then-at-eq0-clause-last c = λ h k.
     let at = c.args.at.now in
     let new = c.feed_octet.new.at in
     taken-last c.args.line.now _ _
-    (first-of-reversed c.args.octet c.reverse_bits.result at (new - 1) (new - at - 1) c.reverse_bits.ensures c.if-at-eq0.true (omega (arith, c.if-at-eq0.true)) (omega (arith, c.feed_octet.ensures.bound)))
+    (first-of-reversed c.args.octet c.reverse_bits.result at (new - 1) (new - at - 1) c.reverse_bits.ensures
+    c.if-at-eq0.true (omega (arith, c.if-at-eq0.true)) (omega (arith, c.feed_octet.ensures.bound)))
     (c.feed_octet.ensures.before h k)
 
-taken : (c : goal.After-feed) → bits_from (c.reverse_bits-2.result ∷ []) c.args.at.now (c.feed.new.at - c.args.at.now) ≡ high_first c.args.octet c.args.at.now (c.feed.new.at - c.args.at.now)
+taken : (c : goal.After-feed) → bits_from (c.reverse_bits-2.result ∷ []) c.args.at.now (c.feed.new.at - c.args.at.now)
+    ≡ high_first c.args.octet c.args.at.now (c.feed.new.at - c.args.at.now)
 taken c =
     let at = c.args.at.now in
-    bits-of-reversed c.args.octet c.reverse_bits-2.result at (c.feed.new.at - at) c.reverse_bits-2.ensures (omega (arith, c.feed.ensures.bound))
+    bits-of-reversed c.args.octet c.reverse_bits-2.result at (c.feed.new.at - at) c.reverse_bits-2.ensures
+    (omega (arith, c.feed.ensures.bound))
 
 pub returns-clause-goes : goal.returns-clause-goes
 returns-clause-goes c = λ h.
@@ -58,5 +66,6 @@ returns-clause-last c = λ h k.
     let at = c.args.at.now in
     let n = c.feed.new.at - at - 1 in
     taken-last c.args.line.now _ _
-    (bits-of-reversed c.args.octet c.reverse_bits-2.result at n c.reverse_bits-2.ensures (omega (arith, c.feed.ensures.bound)))
+    (bits-of-reversed c.args.octet c.reverse_bits-2.result at n c.reverse_bits-2.ensures
+    (omega (arith, c.feed.ensures.bound)))
     (c.feed.ensures.before h k)

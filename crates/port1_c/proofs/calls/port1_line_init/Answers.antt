@@ -11,4 +11,5 @@ returns-in-Ok-clause-stands c = λ _.
     let octets = replicate 272 0 in
     let origin = c.args.origin in
     subst (λ (w : LineWords). Stands (record { words = w; octets = octets }) []) (sym c.in-Ok.ensures.value)
-    (fresh-tracks HasFolded 1 (origin - origin) (state (fresh_words c.args.longest origin) (record { state = 0 }) octets) refl refl refl refl)
+    (fresh-tracks HasFolded 1 (origin - origin)
+    (state (fresh_words c.args.longest origin) (record { state = 0 }) octets) refl refl refl refl)

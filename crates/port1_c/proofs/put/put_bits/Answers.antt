@@ -9,10 +9,12 @@ loop-i-init c = puts-none c.args.octets.now c.args.at c.args.source.now c.args.f
 
 pub loop-i-preserved : goal.loop-i-preserved
 loop-i-preserved c =
-    puts-more c.args.octets.now c.loop-i.octets c.set_bit.new.octets c.args.source.now c.args.at c.args.first c.loop-i.i c.loop-i.invariant
+    puts-more c.args.octets.now c.loop-i.octets c.set_bit.new.octets c.args.source.now c.args.at c.args.first c.loop-i.i
+    c.loop-i.invariant
     c.set_bit.ensures.long (c.set_bit.ensures.set ∙ c.get_bit.ensures) c.set_bit.ensures.kept
 
 pub returns : goal.returns
 returns c =
     let e : c.loop-i.i ≡ c.args.end - c.args.first = omega (arith, c.loop-i.auto.i-end, c.loop-i-test.false) in
-    subst (λ (n : ℕ). Puts c.args.octets.now c.args.at (bits_from c.args.source.now c.args.first n) c.loop-i.octets) e c.loop-i.invariant
+    subst (λ (n : ℕ). Puts c.args.octets.now c.args.at (bits_from c.args.source.now c.args.first n) c.loop-i.octets) e
+    c.loop-i.invariant

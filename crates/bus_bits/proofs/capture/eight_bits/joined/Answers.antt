@@ -11,5 +11,6 @@ returns c =
     let k = c.args.place in
     let s = All-from_get_or (λ b. b < 256) xs 0 (λ i l. c.fits-front i) in
     let t = All-from_get_or (λ b. b < 256) ys 0 (λ i l. c.fits-back i) in
-    c.to_le_bytes.ensures ∙ le_bytes_8 (take k xs ++ drop k ys) _ (joined-long k xs ys c.requires c.told-front c.told-back) (joined-small k xs ys s t)
+    c.to_le_bytes.ensures ∙ le_bytes_8 (take k xs ++ drop k ys) _
+    (joined-long k xs ys c.requires c.told-front c.told-back) (joined-small k xs ys s t)
     (masks-join k _ _ xs ys c.requires c.told-front c.told-back s t c.from_le_bytes.ensures c.from_le_bytes-2.ensures)

@@ -19,14 +19,24 @@ loop-at-preserved c =
     let stored : 8 * (i / 2) + 64 ≡ 4 * (i + 16) = omega (arith, c.loop-at.invariant.sixteens) in
     let before : 8 * (i / 2) ≡ 4 * i = omega (arith, c.loop-at.invariant.sixteens) in
     record {
-      within = omega (arith, c.loop-at.invariant.within, c.loop-at.invariant.sixteens, c.loop-at-test.true, c.requires.sixteens);
+      within = omega (
+        arith,
+        c.loop-at.invariant.within,
+        c.loop-at.invariant.sixteens,
+        c.loop-at-test.true,
+        c.requires.sixteens,
+      );
       sixteens = omega (arith, c.loop-at.invariant.sixteens);
-      pairs = pairs-parted os c.loop-at.first c.loop-at.second c.store_eight.new.octets c.store_eight-in-loop-at.new.octets i (i + 16) 128
-          (bits_of 32 (slice_index one 0) ++ bits_of 32 (slice_index one 1)) (bits_of 32 (slice_index two 0) ++ bits_of 32 (slice_index two 1))
+      pairs = pairs-parted os c.loop-at.first c.loop-at.second c.store_eight.new.octets
+          c.store_eight-in-loop-at.new.octets i (i + 16) 128
+          (bits_of 32 (slice_index one 0) ++ bits_of 32 (slice_index one 1))
+          (bits_of 32 (slice_index two 0) ++ bits_of 32 (slice_index two 1))
           c.loop-at.invariant.pairs (omega arith)
-          (sixteen-parted os i c.eight_at.result c.eight_at-in-loop-at.result (slice_index one 0) (slice_index one 1) (slice_index two 0) (slice_index two 1)
+          (sixteen-parted os i c.eight_at.result c.eight_at-in-loop-at.result (slice_index one 0) (slice_index one 1)
+          (slice_index two 0) (slice_index two 1)
           c.eight_at.ensures c.eight_at-in-loop-at.ensures c.parted-words.ensures.low c.parted-words.ensures.high)
-          (rw (← stored, ← before) c.store_eight.ensures.bits) (rw (← stored, ← before) c.store_eight-in-loop-at.ensures.bits);
+          (rw (← stored, ← before) c.store_eight.ensures.bits)
+          (rw (← stored, ← before) c.store_eight-in-loop-at.ensures.bits);
       first = c.store_eight.ensures.len ∙ c.loop-at.invariant.first;
       second = c.store_eight-in-loop-at.ensures.len ∙ c.loop-at.invariant.second;
     }
@@ -36,4 +46,5 @@ returns-clause-pairs c =
     let os = c.args.octets.now in
     let end : c.loop-at.at ≡ length os = omega (arith, c.loop-at.invariant.within, c.loop-at-test.false) in
     ap in_pairs (bits-whole os)
-    ∙ subst (λ (n : ℕ). in_pairs (bits_from os 0 (8 * n)) ≡ zip (bits_from c.loop-at.first 0 (4 * n)) (bits_from c.loop-at.second 0 (4 * n))) end c.loop-at.invariant.pairs
+    ∙ subst (λ (n : ℕ). in_pairs (bits_from os 0 (8 * n))
+    ≡ zip (bits_from c.loop-at.first 0 (4 * n)) (bits_from c.loop-at.second 0 (4 * n))) end c.loop-at.invariant.pairs

@@ -8,7 +8,8 @@ abbrev pub invariant-loop-at : goal.invariant-loop-at
 invariant-loop-at l = record {
   within : l.at ≤ length l.octets;
   sixteens : l.at % 16 ≡ 0;
-  pairs : in_pairs (bits_from l.octets 0 (8 * l.at)) ≡ zip (bits_from l.first 0 (4 * l.at)) (bits_from l.second 0 (4 * l.at));
+  pairs : in_pairs (bits_from l.octets 0 (8 * l.at))
+      ≡ zip (bits_from l.first 0 (4 * l.at)) (bits_from l.second 0 (4 * l.at));
   first : length l.first ≡ length l.fn.first;
   second : length l.second ≡ length l.fn.second;
 }

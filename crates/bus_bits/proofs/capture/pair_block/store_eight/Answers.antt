@@ -10,12 +10,16 @@ returns-clause-bits c =
     let low = slice_index c.args.words 0 in
     let high = slice_index c.args.words 1 in
     let from = c.args.from in
-    let written : c.copy_from_slice.new.self ≡ low % 256 ∷ low / 256 % 256 ∷ low / 65536 % 256 ∷ low / 16777216 % 256 ∷ high % 256 ∷ high / 256 % 256 ∷ high / 65536 % 256 ∷ high / 16777216 % 256 ∷ [] =
+    let written : c.copy_from_slice.new.self ≡ low % 256 ∷ low / 256 % 256 ∷ low / 65536 % 256 ∷ low / 16777216 % 256
+    ∷ high % 256 ∷ high / 256 % 256 ∷ high / 65536 % 256 ∷ high / 16777216 % 256 ∷ [] =
     rw (c.copy_from_slice.ensures.after, c.to_le_bytes.ensures, c.to_le_bytes-2.ensures) refl in
     let all : 8 * (from + 8) ≡ 8 * from + 64 = omega arith in
     let last = bits_of_octets (high % 256 ∷ high / 256 % 256 ∷ high / 65536 % 256 ∷ high / 16777216 % 256 ∷ []) in
-    let halves = bits_of_octets-append (low % 256 ∷ low / 256 % 256 ∷ low / 65536 % 256 ∷ low / 16777216 % 256 ∷ []) (high % 256 ∷ high / 256 % 256 ∷ high / 65536 % 256 ∷ high / 16777216 % 256 ∷ []) in
+    let halves = bits_of_octets-append (low % 256 ∷ low / 256 % 256 ∷ low / 65536 % 256 ∷ low / 16777216 % 256 ∷ [])
+    (high % 256 ∷ high / 256 % 256 ∷ high / 65536 % 256 ∷ high / 16777216 % 256 ∷ []) in
     ap (bits_from _ 0) (sym all)
-    ∙ (bits-stored c.args.octets.now c.copy_from_slice.new.self from 8 (from + 8) (sym (ap length written)) refl c.requires
+    ∙ (bits-stored c.args.octets.now c.copy_from_slice.new.self from 8 (from + 8) (sym (ap length written)) refl
+    c.requires
     ∙ ap (λ bits. bits_from c.args.octets.now 0 (8 * from) ++ bits)
-    (ap bits_of_octets written ∙ (halves ∙ (ap (λ bits. bits ++ last) (four-bits low) ∙ ap (λ bits. bits_of 32 low ++ bits) (four-bits high)))))
+    (ap bits_of_octets written
+    ∙ (halves ∙ (ap (λ bits. bits ++ last) (four-bits low) ∙ ap (λ bits. bits_of 32 low ++ bits) (four-bits high)))))

@@ -7,8 +7,10 @@ pub returns : goal.returns
 returns c = λ j two.
     let word = get_or c.args.words j 0 in
     let within : j < length c.args.words = omega (arith, two, c.fits-words.0) in
-    let ones = get_or-zip2 bit_and c.args.words (6148914691236517205 ∷ 6148914691236517205 ∷ []) j 0 0 0 within two ∙ ap (bit_and word) (get_or-replicate 2 j 6148914691236517205 0 two) in
-    even-bits word (bit_and word 6148914691236517205) (get_or c.closer-twos.result j 0) (get_or c.closer-fours.result j 0)
+    let ones = get_or-zip2 bit_and c.args.words (6148914691236517205 ∷ 6148914691236517205 ∷ []) j 0 0 0 within two
+    ∙ ap (bit_and word) (get_or-replicate 2 j 6148914691236517205 0 two) in
+    even-bits word (bit_and word 6148914691236517205) (get_or c.closer-twos.result j 0)
+    (get_or c.closer-fours.result j 0)
     (get_or c.closer-eights.result j 0) (get_or c.closer-sixteens.result j 0) (get_or c.closer.result j 0) (record {
       fits = Each1-get_or (λ n. n < 2 ^ 64) c.args.words j 0 within (below_from_Fits w64 c.args.words c.fits-words.1);
       ones = refl;

@@ -1,4 +1,5 @@
-use Rattle.std.proofs.Common.{◌≡◌, ◌-◌, ◌*◌, ◌%◌, ◌<◌, ◌≤◌, ◌^◌, ℕ, List, length, take, drop, inr, refl, sym, ap, slice_index, ◌∙◌, arith}
+use Rattle.std.proofs.Common.{◌≡◌, ◌-◌, ◌*◌, ◌%◌, ◌<◌, ◌≤◌, ◌^◌, ℕ, List, length, take, drop, inr, refl, sym, ap}
+use Rattle.std.proofs.Common.{slice_index, ◌∙◌, arith}
 use Rattle.std.specs.Int.{bit_at, trailing_ones, w64}
 use Rattle.std.proofs.lemmas.List.{length-take, length-drop}
 use Rattle.std.proofs.lemmas.Nat.{and_mask, one_shl}
@@ -20,16 +21,24 @@ returns-then-marks-eq65535-clause-packed c =
     let marks = c.marks_of_sixteen-marks in
     let put = c.put_bits in
     let chunk = c.in-Some.ensures.cases in
-    packed-more text c.args.block.now put.new.block p put.result 16 (bits_of 16 marks.result.ones) c.requires.packed put.ensures.taken chunk.enough
-    (omega (arith, put.ensures.count, put.ensures.held, c.requires.packed.few, c.requires.room, put.ensures.len)) put.ensures.held put.ensures.rest put.ensures.bits
-    (front-given os front 16 16 marks.result.ones (bits_of 16 marks.result.ones) chunk.same (omega arith) marks.ensures.ones
-    (all-front front 16 marks.result.bits (ap length chunk.same ∙ omega (arith, length-take 16 os, chunk.enough)) c.if-marks-eq65535.true marks.ensures.bits) refl)
+    packed-more text c.args.block.now put.new.block p put.result 16 (bits_of 16 marks.result.ones) c.requires.packed
+    put.ensures.taken chunk.enough
+    (omega (arith, put.ensures.count, put.ensures.held, c.requires.packed.few, c.requires.room, put.ensures.len))
+    put.ensures.held put.ensures.rest put.ensures.bits
+    (front-given os front 16 16 marks.result.ones (bits_of 16 marks.result.ones) chunk.same (omega arith)
+    marks.ensures.ones
+    (all-front front 16 marks.result.bits (ap length chunk.same ∙ omega (arith, length-take 16 os, chunk.enough))
+    c.if-marks-eq65535.true marks.ensures.bits) refl)
 
 pub put_bits-requires-2-clause-few : goal.put_bits-requires-2-clause-few
 put_bits-requires-2-clause-few c =
     let marks = c.marks_of_sixteen-marks in
     let ones = bit_at-trailing_ones w64 marks.result.bits (omega (arith, marks.ensures.few.1)) in
-    omega (arith, c.trailing_ones-count.ensures, ones-few marks.result.bits (trailing_ones w64 marks.result.bits) marks.ensures.few.1 ones.2)
+    omega (
+      arith,
+      c.trailing_ones-count.ensures,
+      ones-few marks.result.bits (trailing_ones w64 marks.result.bits) marks.ensures.few.1 ones.2,
+    )
 
 pub returns-clause-packed : goal.returns-clause-packed
 returns-clause-packed c =
@@ -42,20 +51,32 @@ returns-clause-packed c =
     let put = c.put_bits-2 in
     let chunk = c.in-Some.ensures.cases in
     let ones = bit_at-trailing_ones w64 marks.result.bits (omega (arith, marks.ensures.few.1)) in
-    let each : (i : ℕ) → i < count → bit_at marks.result.bits i ≡ 1 = λ i l. ones.2 i (omega (arith, l, c.trailing_ones-count.ensures)) in
+    let each : (i : ℕ) → i < count → bit_at marks.result.bits i ≡ 1 =
+    λ i l. ones.2 i (omega (arith, l, c.trailing_ones-count.ensures)) in
     let few : count ≤ 16 = ones-few marks.result.bits count marks.ensures.few.1 each in
     let mask : bit_and marks.result.ones (1 * 2 ^ count % 2 ^ 64 - 1) ≡ marks.result.ones % 2 ^ count =
-    ap (λ (n : ℕ). bit_and marks.result.ones (n - 1)) (one_shl count 64 (omega (arith, few))) ∙ and_mask marks.result.ones count in
-    packed-more text c.args.block.now put.new.block p put.result count _ c.requires.packed put.ensures.taken (omega (arith, few, chunk.enough))
-    (omega (arith, put.ensures.count, put.ensures.held, c.requires.packed.few, c.requires.room, put.ensures.len, few)) put.ensures.held put.ensures.rest put.ensures.bits
-    (front-given os front 16 count marks.result.ones _ chunk.same few marks.ensures.ones (front-marks 16 count marks.result.bits front few marks.ensures.bits each)
+    ap (λ (n : ℕ). bit_and marks.result.ones (n - 1)) (one_shl count 64 (omega (arith, few)))
+    ∙ and_mask marks.result.ones count in
+    packed-more text c.args.block.now put.new.block p put.result count _ c.requires.packed put.ensures.taken
+    (omega (arith, few, chunk.enough))
+    (omega (arith, put.ensures.count, put.ensures.held, c.requires.packed.few, c.requires.room, put.ensures.len, few))
+    put.ensures.held put.ensures.rest put.ensures.bits
+    (front-given os front 16 count marks.result.ones _ chunk.same few marks.ensures.ones
+    (front-marks 16 count marks.result.bits front few marks.ensures.bits each)
     (ap (bits_of count) mask ∙ bits-low count marks.result.ones))
 
 pub returns-clause-room : goal.returns-clause-room
 returns-clause-room c =
     let marks = c.marks_of_sixteen-marks in
     let ones = bit_at-trailing_ones w64 marks.result.bits (omega (arith, marks.ensures.few.1)) in
-    omega (arith, c.trailing_ones-count.ensures, ones-few marks.result.bits (trailing_ones w64 marks.result.bits) marks.ensures.few.1 ones.2, c.put_bits-2.ensures.count, c.put_bits-2.ensures.held, c.requires.packed.few)
+    omega (
+      arith,
+      c.trailing_ones-count.ensures,
+      ones-few marks.result.bits (trailing_ones w64 marks.result.bits) marks.ensures.few.1 ones.2,
+      c.put_bits-2.ensures.count,
+      c.put_bits-2.ensures.held,
+      c.requires.packed.few,
+    )
 
 pub returns-clause-most : goal.returns-clause-most
 returns-clause-most c = λ none.
@@ -64,7 +85,10 @@ returns-clause-most c = λ none.
     let marks = c.marks_of_sixteen-marks in
     let chunk = c.in-Some.ensures.cases in
     let ones = bit_at-trailing_ones w64 marks.result.bits (omega (arith, marks.ensures.few.1)) in
-    let count : trailing_ones w64 marks.result.bits ≡ 0 = omega (arith, none, c.put_bits-2.ensures.taken, c.trailing_ones-count.ensures) in
-    let some : p.taken < length text = omega (arith, chunk.enough, length-take (length text - p.taken) (drop p.taken text), length-drop p.taken text) in
+    let count : trailing_ones w64 marks.result.bits ≡ 0 =
+    omega (arith, none, c.put_bits-2.ensures.taken, c.trailing_ones-count.ensures) in
+    let some : p.taken < length text =
+    omega (arith, chunk.enough, length-take (length text - p.taken) (drop p.taken text), length-drop p.taken text) in
     inr (ap (λ n. is_bit (slice_index text n)) none
-    ∙ first-none text c.in-Some.front.now p.taken marks.result.bits some chunk.same marks.ensures.bits (ap (bit_at marks.result.bits) (sym count) ∙ ones.1))
+    ∙ first-none text c.in-Some.front.now p.taken marks.result.bits some chunk.same marks.ensures.bits
+    (ap (bit_at marks.result.bits) (sym count) ∙ ones.1))

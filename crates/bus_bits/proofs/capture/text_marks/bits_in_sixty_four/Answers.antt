@@ -12,5 +12,8 @@ pub returns : goal.returns
 returns c =
     let text = c.args.text in
     let shared = zip2 bit_and text (replicate 64 254) in
-    let long : length shared ≡ 64 = ap length (zip2_splat bit_and text 64 254 c.requires.long) ∙ (length-map text (λ (x : ℕ). bit_and x 254) ∙ c.requires.long) in
-    ap (bits_of 64) (bitmask_splat w8 eqb shared 64 48 long (omega arith) ∙ ap mask_l (bits-shared text 64 c.requires.long c.requires.octets)) ∙ bits-mask (map is_bit text) 64 (length-map text is_bit ∙ c.requires.long)
+    let long : length shared ≡ 64 = ap length (zip2_splat bit_and text 64 254 c.requires.long)
+    ∙ (length-map text (λ (x : ℕ). bit_and x 254) ∙ c.requires.long) in
+    ap (bits_of 64) (bitmask_splat w8 eqb shared 64 48 long (omega arith)
+    ∙ ap mask_l (bits-shared text 64 c.requires.long c.requires.octets))
+    ∙ bits-mask (map is_bit text) 64 (length-map text is_bit ∙ c.requires.long)

@@ -12,13 +12,15 @@ bits_in_sixteen-requires c = record { long = c.told-octets; octets = all-octets 
 pub returns-clause-ones : goal.returns-clause-ones
 returns-clause-ones c =
     let os = c.args.octets.now in
-    ap (bits_of 16) (bitmask_splat w8 eqb os 16 49 c.told-octets (omega arith)) ∙ bits-mask (map (λ (x : ℕ). eqb x 49) os) 16 (length-map os (λ (x : ℕ). eqb x 49) ∙ c.told-octets)
+    ap (bits_of 16) (bitmask_splat w8 eqb os 16 49 c.told-octets (omega arith))
+    ∙ bits-mask (map (λ (x : ℕ). eqb x 49) os) 16 (length-map os (λ (x : ℕ). eqb x 49) ∙ c.told-octets)
 
 pub returns-clause-few : goal.returns-clause-few
 returns-clause-few c =
     let os = c.args.octets.now in
     let marks : List Bool = map (λ (x : ℕ). eqb x 49) os in (
       subst (λ (n : ℕ). n < 2 ^ 16) (sym (bitmask_splat w8 eqb os 16 49 c.told-octets (omega arith)))
-          (subst (λ (n : ℕ). mask_l marks < 2 ^ n) (length-map os (λ (x : ℕ). eqb x 49) ∙ c.told-octets) (mask_l-lt marks)),
+          (subst (λ (n : ℕ). mask_l marks < 2 ^ n) (length-map os (λ (x : ℕ). eqb x 49) ∙ c.told-octets)
+          (mask_l-lt marks)),
       c.bits_in_sixteen.ensures.few,
     )

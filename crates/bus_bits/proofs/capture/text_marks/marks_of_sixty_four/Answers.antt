@@ -11,4 +11,5 @@ bits_in_sixty_four-requires c = record { long = c.told-octets; octets = all-octe
 pub returns-clause-ones : goal.returns-clause-ones
 returns-clause-ones c =
     let os = c.args.octets.now in
-    ap (bits_of 64) (bitmask_splat w8 eqb os 64 49 c.told-octets (omega arith)) ∙ bits-mask (map (λ (x : ℕ). eqb x 49) os) 64 (length-map os (λ (x : ℕ). eqb x 49) ∙ c.told-octets)
+    ap (bits_of 64) (bitmask_splat w8 eqb os 64 49 c.told-octets (omega arith))
+    ∙ bits-mask (map (λ (x : ℕ). eqb x 49) os) 64 (length-map os (λ (x : ℕ). eqb x 49) ∙ c.told-octets)

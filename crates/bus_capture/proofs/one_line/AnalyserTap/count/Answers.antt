@@ -8,7 +8,9 @@ use Rattle.bus_capture.proofs.one_line.AnalyserTap.count.Goals as goal
 pub returns-in-Some-clause-counted : goal.returns-in-Some-clause-counted
 returns-in-Some-clause-counted g c = λ before e.
     let os = c.args.self.now.decoder.octets in
-    subst (λ o. c.count.new.self ≡ summary_of (before ++ option_to_list (option_map (found os) o))) c.in-Some.ensures (c.count.ensures.counted before os e)
+    subst (λ o. c.count.new.self ≡ summary_of (before ++ option_to_list (option_map (found os) o))) c.in-Some.ensures
+    (c.count.ensures.counted before os e)
 
 pub returns-in-Some-clause-few : goal.returns-in-Some-clause-few
-returns-in-Some-clause-few g c = λ most few. few-within (most + 1) (most + 2) c.count.new.self (omega arith) (c.count.ensures.few most few)
+returns-in-Some-clause-few g c =
+    λ most few. few-within (most + 1) (most + 2) c.count.new.self (omega arith) (c.count.ensures.few most few)

@@ -25,12 +25,14 @@ returns g c =
         short = head.short;
         places = grow.capped;
         silent = λ origin longest. refl;
-        seen = λ d longest origin. seen-on one_line d longest origin (λ b bit. option_to_list (seen_at d (of_line (placed origin longest (b ++ bit ∷ []))) (origin + length b)))
+        seen = λ d longest origin. seen-on one_line d longest origin
+            (λ b bit. option_to_list (seen_at d (of_line (placed origin longest (b ++ bit ∷ []))) (origin + length b)))
             (c.seen_grows.ensures.grows d longest origin);
       };
       hears = refl;
       placed = λ a b h. h.decoder.has_taken.place;
       long = length-bits;
       front = λ n count word le. sym (bits-front n count word le);
-      clean = head-clean packed_capture packed_body head_fault PackedAfter (λ head zs long. (c.packed_is_head_and_body.ensures.headed head zs long).0) (λ n xs left h. h.clean);
+      clean = head-clean packed_capture packed_body head_fault PackedAfter
+          (λ head zs long. (c.packed_is_head_and_body.ensures.headed head zs long).0) (λ n xs left h. h.clean);
     }

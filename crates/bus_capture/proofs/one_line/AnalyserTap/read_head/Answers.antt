@@ -15,5 +15,9 @@ returns g c =
       long = c.told-head;
       good = c.in_ok-read.ensures.0;
       after = subst (λ n. PackedAfter n [] c.new.result) c.in_ok-read.ensures.1 c.new.ensures;
-    } in
-    (read, head-alone packed_capture packed_body head_fault PackedAfter (λ head zs long. (c.packed_is_head_and_body.ensures.headed head zs long).0) c.new.result head read (no_body (head_bits head)))
+    } in (
+      read,
+      head-alone packed_capture packed_body head_fault PackedAfter
+          (λ head zs long. (c.packed_is_head_and_body.ensures.headed head zs long).0) c.new.result head read
+          (no_body (head_bits head)),
+    )

@@ -4,4 +4,7 @@ use Rattle.bus_capture.proofs.OneLineLemmas.{one-fits}
 use Rattle.bus_capture.proofs.one_line.AnalyserTap.word_of.Goals as goal
 
 pub returns : goal.returns
-returns g c = (one-fits c.from.result c.args.symbol c.from.ensures, one_bit c.from.result 1 c.args.symbol c.from.ensures (omega arith) (omega arith))
+returns g c = (
+  one-fits c.from.result c.args.symbol c.from.ensures,
+  one_bit c.from.result 1 c.args.symbol c.from.ensures (omega arith) (omega arith),
+)

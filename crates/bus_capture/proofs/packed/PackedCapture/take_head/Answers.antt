@@ -1,4 +1,5 @@
-use Rattle.std.proofs.Common.{ℕ, ◌-◌, ◌<◌, ◌≡◌, List, [], ◌++◌, length, take, drop, Some, Ok, Err, refl, sym, ap, ◌∙◌, subst, arith, length-append}
+use Rattle.std.proofs.Common.{ℕ, ◌-◌, ◌<◌, ◌≡◌, List, [], ◌++◌, length, take, drop, Some, Ok, Err, refl, sym, ap, ◌∙◌}
+use Rattle.std.proofs.Common.{subst, arith, length-append}
 use Rattle.std.proofs.lemmas.Result.{err_from_is_err_and}
 use Rattle.bus_bits.specs.declared.capture.packed_head.HeadFault.{HeadFault}
 use Rattle.bus_bits.specs.Capture.{CaptureOf}
@@ -8,7 +9,8 @@ use Rattle.bus_text.specs.declared.fault.ToolFault.{ToolFault}
 use Rattle.bus_capture.specs.Internal.Sessions.{IsRead, FollowsBody}
 use Rattle.bus_capture.specs.Captures.{IsSameFault}
 use Rattle.bus_capture.proofs.CapturesLemmas.{fault-in}
-use Rattle.bus_capture.proofs.SessionsPackedLemmas.{faulty-stops, body-packed, err-mapped, ok-mapped, head-filled, slice-rest}
+use Rattle.bus_capture.proofs.SessionsPackedLemmas.{faulty-stops, body-packed, err-mapped, ok-mapped, head-filled}
+use Rattle.bus_capture.proofs.SessionsPackedLemmas.{slice-rest}
 use Rattle.bus_capture.proofs.packed.PackedCapture.take_head.Goals as goal
 
 pub returns-then-octets-missing-clause-taken : goal.returns-then-octets-missing-clause-taken
@@ -18,10 +20,12 @@ returns-then-octets-missing-clause-taken g c = λ start xs f.
     let items = c.gather.new.self.head.items in
     let law = c.laws.ensures.form in
     let read = subst (λ b. IsRead tap c.args.self.now.head.items b xs) c.requires.none f.read in
-    let short : length (xs ++ os) < 16 = omega (arith, c.if-octets-missing.true, c.len-missing.ensures.value, ap length read.0, length-append xs os) in
+    let short : length (xs ++ os) < 16 =
+    omega (arith, c.if-octets-missing.true, c.len-missing.ensures.value, ap length read.0, length-append xs os) in
     let all : items ≡ xs ++ os = c.gather.ensures.items ∙ ap (λ (ys : List ℕ). ys ++ os) read.0 in
     let bits : (tap.form.packed xs).bits ≡ (tap.form.packed (xs ++ os)).bits =
-    ap (λ (d : CaptureOf g.row.T-Symbol.Denot). d.bits) ((law.short xs read.1).0 ∙ sym (law.short (xs ++ os) short).0) in
+    ap (λ (d : CaptureOf g.row.T-Symbol.Denot). d.bits)
+    ((law.short xs read.1).0 ∙ sym (law.short (xs ++ os) short).0) in
     record {
       read = subst (λ b. IsRead tap items b (xs ++ os)) (sym (c.gather.ensures.body ∙ c.requires.none)) (all, short);
       bits = subst (Watches tap start (g.W.Write.contents c.args.w.now) c.args.run.now) bits f.bits;
@@ -33,17 +37,23 @@ returns-in_err-body-clause-taken g c =
     rw (p.1, p.2) (λ start xs f.
     let tap = g.T.Tap.tap in
     let fault = c.in_err-body.field-0.0 in
-    let refused = err-mapped _ _ (λ (e : HeadFault) (t : ToolFault). IsSameFault t (head_fault_of e)) c.read_head.result (Err fault) fault refl c.in_err-body.ensures.cases c.read_head.ensures in
+    let refused = err-mapped _ _ (λ (e : HeadFault) (t : ToolFault). IsSameFault t (head_fault_of e)) c.read_head.result
+    (Err fault) fault refl c.in_err-body.ensures.cases c.read_head.ensures in
     let read = subst (λ b. IsRead tap c.args.self.now.head.items b xs) c.requires.none f.read in
     let h = c.head.result in
     let os = c.args.octets.now in
     let n = c.len-missing.result in
-    let filled = head-filled c.args.self.now.head.items xs os h n read.0 c.len-missing.ensures.value read.1 (omega arith) (c.head.ensures ∙ c.gather-2.ensures.items) in
+    let filled = head-filled c.args.self.now.head.items xs os h n read.0 c.len-missing.ensures.value read.1
+    (omega arith) (c.head.ensures ∙ c.gather-2.ensures.items) in
     let is = ap tap.form.packed (sym filled.1) ∙ refused.2 (drop (16 - n) os) in
-    let none = subst (λ (d : CaptureOf g.row.T-Symbol.Denot). Watches tap start (g.W.Write.contents c.args.w.now) c.args.run.now d.bits) (c.laws.ensures.form.short xs read.1).0 f.bits in
+    let none =
+    subst (λ (d : CaptureOf g.row.T-Symbol.Denot).
+    Watches tap start (g.W.Write.contents c.args.w.now) c.args.run.now d.bits) (c.laws.ensures.form.short xs read.1).0
+    f.bits in
     faulty-stops tap start _ c.args.run.now _ fault
     (fault-in tap c.laws.ensures start _ c.args.run.now (tap.form.packed (xs ++ os)) [] (head_fault_of refused.0) fault
-    c.requires.sound refused.1 (ap (λ (d : CaptureOf g.row.T-Symbol.Denot). d.bits) is) (ap (λ (d : CaptureOf g.row.T-Symbol.Denot). d.fault) is) none))
+    c.requires.sound refused.1 (ap (λ (d : CaptureOf g.row.T-Symbol.Denot). d.bits) is)
+    (ap (λ (d : CaptureOf g.row.T-Symbol.Denot). d.fault) is) none))
 
 pub returns-clause-taken : goal.returns-clause-taken
 returns-clause-taken g c =
@@ -53,12 +63,20 @@ returns-clause-taken g c =
     let h = c.head.result in
     let os = c.args.octets.now in
     let n = c.len-missing.result in
-    let filled = head-filled c.args.self.now.head.items xs os h n read.0 c.len-missing.ensures.value read.1 (omega arith) (c.head.ensures ∙ c.gather-2.ensures.items) in
-    let none = subst (λ (d : CaptureOf g.row.T-Symbol.Denot). Watches tap start (g.W.Write.contents c.args.w.now) c.args.run.now d.bits) (c.laws.ensures.form.short xs read.1).0 f.bits in
-    let made = ok-mapped _ _ (λ (e : HeadFault) (t : ToolFault). IsSameFault t (head_fault_of e)) c.read_head.result (Ok c.in_ok-body.body) c.in_ok-body.body refl c.in_ok-body.ensures.cases c.read_head.ensures in
+    let filled = head-filled c.args.self.now.head.items xs os h n read.0 c.len-missing.ensures.value read.1
+    (omega arith) (c.head.ensures ∙ c.gather-2.ensures.items) in
+    let none =
+    subst (λ (d : CaptureOf g.row.T-Symbol.Denot).
+    Watches tap start (g.W.Write.contents c.args.w.now) c.args.run.now d.bits) (c.laws.ensures.form.short xs read.1).0
+    f.bits in
+    let made = ok-mapped _ _ (λ (e : HeadFault) (t : ToolFault). IsSameFault t (head_fault_of e)) c.read_head.result
+    (Ok c.in_ok-body.body) c.in_ok-body.body refl c.in_ok-body.ensures.cases c.read_head.ensures in
     let body : FollowsBody tap start (g.W.Write.contents c.args.w.now) c.in_ok-body.body c.args.run.now h = record {
       read = made.0;
       bits = subst (Watches tap start (g.W.Write.contents c.args.w.now) c.args.run.now) (sym made.1) none;
     } in
-    body-packed tap start _ c.take_body-ending.new.run (record { head = c.gather-2.new.self.head; body = Some c.take_body-ending.new.body }) c.take_body-ending.new.body
-    (h ++ take (length os - (16 - n)) (drop (16 - n) os)) (xs ++ os) c.take_body-ending.result refl (ap (λ (ys : List ℕ). h ++ ys) (slice-rest (16 - n) os) ∙ filled.1) (c.take_body-ending.ensures.taken start h body)
+    body-packed tap start _ c.take_body-ending.new.run
+    (record { head = c.gather-2.new.self.head; body = Some c.take_body-ending.new.body }) c.take_body-ending.new.body
+    (h ++ take (length os - (16 - n)) (drop (16 - n) os)) (xs ++ os) c.take_body-ending.result refl
+    (ap (λ (ys : List ℕ). h ++ ys) (slice-rest (16 - n) os) ∙ filled.1)
+    (c.take_body-ending.ensures.taken start h body)

@@ -15,12 +15,14 @@ returns-in-Ok-eq0-clause-read g c =
     let self = c.loop-turn.self in
     let law = c.laws.ensures in
     let after = g.R.Read.remaining c.read.new.self in
-    let ends = end-finishes g.T.Tap.tap law (is_text self.source) c.args.reads after start now self.run before.0 c.finish.result c.loop-turn.invariant.sound (search rules)
+    let ends = end-finishes g.T.Tap.tap law (is_text self.source) c.args.reads after start now self.run before.0
+    c.finish.result c.loop-turn.invariant.sound (search rules)
     (follows-unplaced g.T.Tap.tap start now self.source self.run before.0 law before.2)
     (c.finish.ensures before.0 (read-by g.T.Tap.tap start now self.source self.run before.0 before.2)) in (
       before.0,
       consumes_end _ _ after before.0 _ (search rules) before.1 c.in-Ok-eq0.ensures.bytes.0,
-      subst (λ (b : Bool). Finishes g.T.Tap.tap b c.args.reads after start now self.run before.0 c.finish.result) c.loop-turn.invariant.text ends,
+      subst (λ (b : Bool). Finishes g.T.Tap.tap b c.args.reads after start now self.run before.0 c.finish.result)
+          c.loop-turn.invariant.text ends,
     )
 
 pub returns-in-Err-clause-read : goal.returns-in-Err-clause-read
@@ -44,18 +46,22 @@ returns-in_err-take_read-clause-read g c =
     let start = g.W.Write.contents c.args.w.now in
     let now = g.W.Write.contents c.take_read.new.w in
     let xs = before.0 ++ take c.in-Ok.count c.read.new.buf in
-    let stops = subst (λ (b : Bool). Stops g.T.Tap.tap b start now c.take_read.new.self.run xs c.in_err-take_read.field-0.0) c.loop-turn.invariant.text (c.in_err-take_read.ensures.taken start before.0 before.2) in
+    let stops =
+    subst (λ (b : Bool). Stops g.T.Tap.tap b start now c.take_read.new.self.run xs c.in_err-take_read.field-0.0)
+    c.loop-turn.invariant.text (c.in_err-take_read.ensures.taken start before.0 before.2) in
     rw (p.1, p.2) (
       xs,
       consumes_both _ _ _ before.0 _ before.1 c.in-Ok.ensures.bytes.0,
-      stops-finishes g.T.Tap.tap (is_text c.args.self.now.source) c.args.reads (g.R.Read.remaining c.read.new.self) start now c.take_read.new.self.run xs c.in_err-take_read.field-0.0 stops,
+      stops-finishes g.T.Tap.tap (is_text c.args.self.now.source) c.args.reads (g.R.Read.remaining c.read.new.self)
+          start now c.take_read.new.self.run xs c.in_err-take_read.field-0.0 stops,
     )
 
 pub loop-turn-preserved : goal.loop-turn-preserved
 loop-turn-preserved g c =
     let before = c.loop-turn.invariant.taken in record {
       sound = c.take_read.ensures.sound;
-      same = same-both g.T.Tap.tap c.args.self.now.run c.loop-turn.self.run c.take_read.new.self.run c.loop-turn.invariant.same c.take_read.ensures.same;
+      same = same-both g.T.Tap.tap c.args.self.now.run c.loop-turn.self.run c.take_read.new.self.run
+          c.loop-turn.invariant.same c.take_read.ensures.same;
       text = c.take_read.ensures.text ∙ c.loop-turn.invariant.text;
       few = let f = c.in_ok-take_read.ensures.few in let i = c.loop-turn.invariant.few in search rules;
       taken = (
@@ -77,5 +83,8 @@ returns-clause-read g c =
     (follows-unplaced g.T.Tap.tap start now self.source self.run before.0 law before.2) in (
       before.0,
       before.1,
-      (omega (arith, before.3, c.loop-turn-test.false), subst (λ (b : Bool). IsClean g.T.Tap.tap b start now self.run before.0) c.loop-turn.invariant.text clean),
+      (
+        omega (arith, before.3, c.loop-turn-test.false),
+        subst (λ (b : Bool). IsClean g.T.Tap.tap b start now self.run before.0) c.loop-turn.invariant.text clean,
+      ),
     )

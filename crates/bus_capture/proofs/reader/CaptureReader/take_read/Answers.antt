@@ -15,8 +15,17 @@ returns-in_err-write_out-clause-taken g c =
     let ys = xs ++ c.args.octets.now in
     let taken = c.in_ok-take.ensures.taken start xs f in
     let law = c.laws.ensures in
-    let clean = is-clean g.T.Tap.tap law (is_text c.take.new.self.source) start _ c.take.new.self.run ys c.take.ensures.sound
+    let clean = is-clean g.T.Tap.tap law (is_text c.take.new.self.source) start _ c.take.new.self.run ys
+    c.take.ensures.sound
     (follows-unplaced g.T.Tap.tap start _ c.take.new.self.source c.take.new.self.run ys law taken) in
-    let here = subst (λ (b : Bool). IsClean g.T.Tap.tap b start (g.W.Write.contents c.take.new.w) c.take.new.self.run ys) c.take.ensures.text clean in
-    let bits = (capture g.T.Tap.tap.form (is_text c.args.self.now.source) (g.T.Tap.tap.watch.origin c.take.new.self.run.analyser) ys).bits in
-    is-cut g.T.Tap.tap start _ (record c.take.new.self.run { teller = record c.take.new.self.run.teller { page = c.write_out.new.self } }) bits _ (c.in_err-write_out.ensures.turned start (lines g.T.Tap.tap c.take.new.self.run bits) here.bits.page) (cut-short start _ _ _ (lines g.T.Tap.tap c.take.new.self.run bits) _ here.bits.page c.in_err-write_out.ensures.short))
+    let here =
+    subst (λ (b : Bool). IsClean g.T.Tap.tap b start (g.W.Write.contents c.take.new.w) c.take.new.self.run ys)
+    c.take.ensures.text clean in
+    let bits =
+    (capture g.T.Tap.tap.form (is_text c.args.self.now.source) (g.T.Tap.tap.watch.origin c.take.new.self.run.analyser)
+    ys).bits in
+    is-cut g.T.Tap.tap start _
+    (record c.take.new.self.run { teller = record c.take.new.self.run.teller { page = c.write_out.new.self } }) bits _
+    (c.in_err-write_out.ensures.turned start (lines g.T.Tap.tap c.take.new.self.run bits) here.bits.page)
+    (cut-short start _ _ _ (lines g.T.Tap.tap c.take.new.self.run bits) _ here.bits.page
+    c.in_err-write_out.ensures.short))

@@ -13,10 +13,14 @@ returns g c =
     let w = c.args.self in
     let text = lines tap w b ++ last_lines tap w b in
     let turned = c.in_ok-make_room.ensures.turned start (lines tap w b) h.page in
-    let page : Pages start (g.W.Write.contents c.make_room.new.w) c.match-printer.page.text c.match-printer.page.written text =
+    let page : Pages start (g.W.Write.contents c.make_room.new.w) c.match-printer.page.text c.match-printer.page.written
+    text =
     elim c.match-printer.branch [
-      | in-Some x ↦ pages-ended tap start _ w b x.in-Some.printer c.make_room.new.self x.put_ending.new.page c.match-printer.page x.in-Some.is x.page-is (x.put_ending.ensures.bytes b h.is_after) x.put_ending.ensures.written turned
-      | in_default x ↦ pages-unended tap start _ w b c.make_room.new.self c.match-printer.page x.in_default.is x.page-is turned
+      | in-Some x ↦ pages-ended tap start _ w b x.in-Some.printer c.make_room.new.self x.put_ending.new.page
+          c.match-printer.page x.in-Some.is x.page-is (x.put_ending.ensures.bytes b h.is_after)
+          x.put_ending.ensures.written turned
+      | in_default x ↦ pages-unended tap start _ w b c.make_room.new.self c.match-printer.page x.in_default.is x.page-is
+          turned
     ] in
     (c.in_ok-close.ensures.closed start text page, refl)
 
@@ -28,9 +32,13 @@ returns-in_err-close g c =
     let w = c.args.self in
     let text = lines tap w b ++ last_lines tap w b in
     let turned = c.in_ok-make_room.ensures.turned start (lines tap w b) h.page in
-    let page : Pages start (g.W.Write.contents c.make_room.new.w) c.match-printer.page.text c.match-printer.page.written text =
+    let page : Pages start (g.W.Write.contents c.make_room.new.w) c.match-printer.page.text c.match-printer.page.written
+    text =
     elim c.match-printer.branch [
-      | in-Some x ↦ pages-ended tap start _ w b x.in-Some.printer c.make_room.new.self x.put_ending.new.page c.match-printer.page x.in-Some.is x.page-is (x.put_ending.ensures.bytes b h.is_after) x.put_ending.ensures.written turned
-      | in_default x ↦ pages-unended tap start _ w b c.make_room.new.self c.match-printer.page x.in_default.is x.page-is turned
+      | in-Some x ↦ pages-ended tap start _ w b x.in-Some.printer c.make_room.new.self x.put_ending.new.page
+          c.match-printer.page x.in-Some.is x.page-is (x.put_ending.ensures.bytes b h.is_after)
+          x.put_ending.ensures.written turned
+      | in_default x ↦ pages-unended tap start _ w b c.make_room.new.self c.match-printer.page x.in_default.is x.page-is
+          turned
     ] in
     c.in_err-close.ensures.closed start text page)

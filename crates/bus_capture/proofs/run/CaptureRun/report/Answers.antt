@@ -6,16 +6,21 @@ use Rattle.bus_capture.proofs.run.CaptureRun.report.Goals as goal
 pub returns-in_err-put_report : goal.returns-in_err-put_report
 returns-in_err-put_report g c =
     let p = err_from_is_err_and c.from_residual.result c.from_residual.ensures.1 in
-    rw (p.1, p.2) (λ start b h. c.in_err-put_report.ensures.put start (lines g.T.Tap.tap c.args.self b) b h.is_after h.page)
+    rw (p.1, p.2) (λ start b h. c.in_err-put_report.ensures.put start (lines g.T.Tap.tap c.args.self b) b h.is_after
+    h.page)
 
 pub returns : goal.returns
 returns g c = λ start b h.
-    let tap = g.T.Tap.tap in
-    (c.in_ok-close.ensures.closed start (lines tap c.args.self b ++ reported tap c.args.self b) (c.in_ok-put_report.ensures.put start (lines tap c.args.self b) b h.is_after h.page), refl)
+    let tap = g.T.Tap.tap in (
+      c.in_ok-close.ensures.closed start (lines tap c.args.self b ++ reported tap c.args.self b)
+          (c.in_ok-put_report.ensures.put start (lines tap c.args.self b) b h.is_after h.page),
+      refl,
+    )
 
 pub returns-in_err-close : goal.returns-in_err-close
 returns-in_err-close g c =
     let p = err_from_is_err_and c.from_residual-in_err-close.result c.from_residual-in_err-close.ensures.1 in
     rw (p.1, p.2) (λ start b h.
     let tap = g.T.Tap.tap in
-    c.in_err-close.ensures.closed start (lines tap c.args.self b ++ reported tap c.args.self b) (c.in_ok-put_report.ensures.put start (lines tap c.args.self b) b h.is_after h.page))
+    c.in_err-close.ensures.closed start (lines tap c.args.self b ++ reported tap c.args.self b)
+    (c.in_ok-put_report.ensures.put start (lines tap c.args.self b) b h.is_after h.page))

@@ -7,7 +7,9 @@ pub returns-in_err-take_some-clause-taken : goal.returns-in_err-take_some-clause
 returns-in_err-take_some-clause-taken g c =
     let p = err_from_is_err_and c.from_residual.result c.from_residual.ensures.1 in
     rw (p.1, p.2) (λ start b h.
-    subst (λ (z : List g.row.T-Symbol.Denot). Halts g.T.Tap.tap start (g.W.Write.contents c.take_some.new.w) c.take_some.new.self (b ++ z) c.in_err-take_some.field-0.0) c.word_of.ensures.1
+    subst (λ (z : List g.row.T-Symbol.Denot).
+    Halts g.T.Tap.tap start (g.W.Write.contents c.take_some.new.w) c.take_some.new.self (b ++ z)
+    c.in_err-take_some.field-0.0) c.word_of.ensures.1
     (c.in_err-take_some.ensures.taken start b h))
 
 pub returns-clause-taken : goal.returns-clause-taken
@@ -15,5 +17,7 @@ returns-clause-taken g c = λ start b h.
     let n = c.in_ok-take_some.field-0 in
     let within = c.in_ok-take_some.ensures.within in
     let one : n ≡ 1 = omega (arith, within.0, within.1) in
-    subst (λ (z : List g.row.T-Symbol.Denot). Watches g.T.Tap.tap start (g.W.Write.contents c.take_some.new.w) c.take_some.new.self (b ++ z)) (ap (λ (k : ℕ). g.T.Tap.tap.symbols k c.word_of.result) one ∙ c.word_of.ensures.1)
+    subst (λ (z : List g.row.T-Symbol.Denot).
+    Watches g.T.Tap.tap start (g.W.Write.contents c.take_some.new.w) c.take_some.new.self (b ++ z))
+    (ap (λ (k : ℕ). g.T.Tap.tap.symbols k c.word_of.result) one ∙ c.word_of.ensures.1)
     (c.in_ok-take_some.ensures.taken start b h)

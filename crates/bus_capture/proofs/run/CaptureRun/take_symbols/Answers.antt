@@ -12,15 +12,20 @@ returns-in_err-take_symbol-clause-taken g c =
     let all = c.args.symbols.now in
     let i = c.loop-symbol.symbol-index in
     let x = c.symbol-item.result in
-    let halts = c.in_err-take_symbol.ensures.taken start (b ++ take i all) (c.loop-symbol.invariant.followed start b h) in
-    subst (λ (z : List g.row.T-Symbol.Denot). Halts g.T.Tap.tap start (g.W.Write.contents c.take_symbol.new.w) c.take_symbol.new.self z c.in_err-take_symbol.field-0.0)
+    let halts = c.in_err-take_symbol.ensures.taken start (b ++ take i all)
+    (c.loop-symbol.invariant.followed start b h) in
+    subst (λ (z : List g.row.T-Symbol.Denot).
+    Halts g.T.Tap.tap start (g.W.Write.contents c.take_symbol.new.w) c.take_symbol.new.self z
+    c.in_err-take_symbol.field-0.0)
     (item-middle b all i x x c.loop-symbol-test.true c.symbol-item.is)
-    (halts-more g.T.Tap.tap start _ c.take_symbol.new.self ((b ++ take i all) ++ x ∷ []) (drop (i + 1) all) c.in_err-take_symbol.field-0.0 halts))
+    (halts-more g.T.Tap.tap start _ c.take_symbol.new.self ((b ++ take i all) ++ x ∷ []) (drop (i + 1) all)
+    c.in_err-take_symbol.field-0.0 halts))
 
 pub loop-symbol-preserved : goal.loop-symbol-preserved
 loop-symbol-preserved g c = record {
   sound = c.take_symbol.ensures.sound;
-  same = same-both g.T.Tap.tap c.args.self.now c.loop-symbol.self c.take_symbol.new.self c.loop-symbol.invariant.same c.take_symbol.ensures.same;
+  same = same-both g.T.Tap.tap c.args.self.now c.loop-symbol.self c.take_symbol.new.self c.loop-symbol.invariant.same
+      c.take_symbol.ensures.same;
   followed = λ start b h.
       let all = c.args.symbols.now in
       let i = c.loop-symbol.symbol-index in
@@ -33,5 +38,7 @@ loop-symbol-preserved g c = record {
 pub returns-clause-taken : goal.returns-clause-taken
 returns-clause-taken g c =
     λ start b h.
-    subst (λ (x : List g.row.T-Symbol.Denot). Watches g.T.Tap.tap start (g.W.Write.contents c.loop-symbol.w) c.loop-symbol.self (b ++ x)) (take_all c.loop-symbol.symbol-index c.args.symbols.now (omega arith))
+    subst (λ (x : List g.row.T-Symbol.Denot).
+    Watches g.T.Tap.tap start (g.W.Write.contents c.loop-symbol.w) c.loop-symbol.self (b ++ x))
+    (take_all c.loop-symbol.symbol-index c.args.symbols.now (omega arith))
     (c.loop-symbol.invariant.followed start b h)

@@ -6,6 +6,7 @@ abbrev pub invariant-loop-symbol : goal.invariant-loop-symbol
 invariant-loop-symbol g l = record {
   sound : IsSound g.T.Tap.tap l.self;
   same : IsSame g.T.Tap.tap l.initial.self l.self;
-  followed : (start : Option (List ℕ)) (b : List g.row.T-Symbol.Denot) → Watches g.T.Tap.tap start (g.W.Write.contents l.initial.w) l.initial.self b
+  followed : (start : Option (List ℕ)) (b : List g.row.T-Symbol.Denot) →
+      Watches g.T.Tap.tap start (g.W.Write.contents l.initial.w) l.initial.self b
       → Watches g.T.Tap.tap start (g.W.Write.contents l.w) l.self (b ++ take l.symbol-index l.symbols);
 }

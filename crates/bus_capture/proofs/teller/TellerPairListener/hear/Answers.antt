@@ -1,4 +1,5 @@
-use Rattle.std.proofs.Common.{◌≡◌, ◌+◌, ◌++◌, ◌∷◌, [], ℕ, Some, None, length, refl, sym, ap, ◌∙◌, subst, arith, length-append}
+use Rattle.std.proofs.Common.{◌≡◌, ◌+◌, ◌++◌, ◌∷◌, [], ℕ, Some, None, length, refl, sym, ap, ◌∙◌, subst, arith}
+use Rattle.std.proofs.Common.{length-append}
 use Rattle.bus_text.proofs.PagesLemmas.{cut-short, cuts-more, pages-more}
 use Rattle.bus_text.specs.Internal.Pages.{Pages}
 use Rattle.bus_text.specs.Listing.{listing}
@@ -15,8 +16,10 @@ returns-in_default-clause-left g c = λ more room.
 
 pub returns-in-Err-clause-left : goal.returns-in-Err-clause-left
 returns-in-Err-clause-left g c = λ more room.
-    let same = c.in-Err.ensures.kept in
-    ((room.0.0 + 1, c.count.ensures.few room.0.0 room.0.1, omega (arith, room.0.2)), omega (arith, room.1, ap (λ page. page.written + length page.text) same))
+    let same = c.in-Err.ensures.kept in (
+      (room.0.0 + 1, c.count.ensures.few room.0.0 room.0.1, omega (arith, room.0.2)),
+      omega (arith, room.1, ap (λ page. page.written + length page.text) same),
+    )
 
 pub returns-clause-left : goal.returns-clause-left
 returns-clause-left g c = λ more room. (
@@ -31,10 +34,15 @@ returns-in-Err-clause-heard g c =
     record {
       printer = refl;
       out = λ start text h.
-          let before = subst (λ cut. IsOut start (g.W.Write.contents c.args.w.now) c.args.self.now.page cut text) none h in
-          let more = printed c.args.self.now.printer c.args.dictionary.now (found_on (Some c.args.line) c.args.octets.now c.args.finding.now ∷ []) in
-          let short = cut-short start (g.W.Write.contents c.args.w.now) c.args.self.now.page.text c.args.self.now.page.written text c.in-Err.cut.sent before c.in-Err.ensures.short in
-          (cuts-more start _ text more c.in-Err.cut.sent (c.in-Err.ensures.turned start text before), omega (arith, short, length-append text more));
+          let before = subst (λ cut. IsOut start (g.W.Write.contents c.args.w.now) c.args.self.now.page cut text) none
+          h in
+          let more = printed c.args.self.now.printer c.args.dictionary.now
+          (found_on (Some c.args.line) c.args.octets.now c.args.finding.now ∷ []) in
+          let short = cut-short start (g.W.Write.contents c.args.w.now) c.args.self.now.page.text
+          c.args.self.now.page.written text c.in-Err.cut.sent before c.in-Err.ensures.short in (
+            cuts-more start _ text more c.in-Err.cut.sent (c.in-Err.ensures.turned start text before),
+            omega (arith, short, length-append text more),
+          );
       stays = λ sent cut. absurd (cc);
       counted = λ all is whole. absurd (cc);
       few = λ most few. c.count.ensures.few most few;
@@ -48,14 +56,20 @@ returns-clause-heard g c =
     record {
       printer = refl;
       out = λ start text h.
-          let before = subst (λ cut. IsOut start (g.W.Write.contents c.args.w.now) c.args.self.now.page cut text) none h in
+          let before = subst (λ cut. IsOut start (g.W.Write.contents c.args.w.now) c.args.self.now.page cut text) none
+          h in
           let turned = c.in_default-make_room.ensures.turned start text before in
           let lines = listing c.in-Some.printer c.args.dictionary.now (seen ∷ []) in
-          let put = pages-more start (g.W.Write.contents c.make_room.new.w) c.make_room.new.self.text c.put.new.page.text c.make_room.new.self.written text lines c.put.ensures.bytes turned in
-          subst (λ cut. IsOut start (g.W.Write.contents c.make_room.new.w) c.put.new.page cut (text ++ printed c.args.self.now.printer c.args.dictionary.now (seen ∷ []))) (sym none)
-          (rw (c.in-Some.is) (subst (λ (n : ℕ). Pages start (g.W.Write.contents c.make_room.new.w) c.put.new.page.text n (text ++ lines)) (sym c.put.ensures.written) put));
+          let put = pages-more start (g.W.Write.contents c.make_room.new.w) c.make_room.new.self.text
+          c.put.new.page.text c.make_room.new.self.written text lines c.put.ensures.bytes turned in
+          subst (λ cut. IsOut start (g.W.Write.contents c.make_room.new.w) c.put.new.page cut
+          (text ++ printed c.args.self.now.printer c.args.dictionary.now (seen ∷ []))) (sym none)
+          (rw (c.in-Some.is)
+          (subst (λ (n : ℕ). Pages start (g.W.Write.contents c.make_room.new.w) c.put.new.page.text n (text ++ lines))
+          (sym c.put.ensures.written) put));
       stays = λ sent cut. cut;
-      counted = λ all is whole. c.count.ensures.counted all c.args.octets.now is ∙ counted-on all c.args.line c.args.octets.now c.args.finding.now;
+      counted = λ all is whole. c.count.ensures.counted all c.args.octets.now is
+          ∙ counted-on all c.args.line c.args.octets.now c.args.finding.now;
       few = λ most few. c.count.ensures.few most few;
       octets = omega (arith, c.put.ensures.len, c.put.ensures.written, c.in_default-make_room.ensures.sum);
     }

@@ -1,4 +1,5 @@
-use Rattle.std.proofs.Common.{◌+◌, ◌≡◌, ℕ, List, ◌++◌, length, take, get_or, refl, sym, true, subst, arith, append-nil, length-append}
+use Rattle.std.proofs.Common.{◌+◌, ◌≡◌, ℕ, List, ◌++◌, length, take, get_or, refl, sym, true, subst, arith, append-nil}
+use Rattle.std.proofs.Common.{length-append}
 use Rattle.std.proofs.lemmas.Result.{err_from_is_err_and}
 use Rattle.std.proofs.lemmas.List.{take_all}
 use Rattle.bus_bits.specs.Capture.{capped}
@@ -13,7 +14,8 @@ pub loop-taken-init : goal.loop-taken-init
 loop-taken-init g c = record {
   sound = c.requires.sound;
   same = same-self g.T.Tap.tap c.args.run.now;
-  front = λ start xs t. subst (FollowsOctets g.T.Tap.tap start (g.W.Write.contents c.args.w.now) c.args.run.now) (sym (append-nil xs)) (record { clean = t.clean; bits = t.bits });
+  front = λ start xs t. subst (FollowsOctets g.T.Tap.tap start (g.W.Write.contents c.args.w.now) c.args.run.now)
+      (sym (append-nil xs)) (record { clean = t.clean; bits = t.bits });
 }
 
 pub take_text-requires : goal.take_text-requires
@@ -29,17 +31,22 @@ returns-in_err-many-clause-taken g c =
     let stops = c.in_err-many.ensures.taken start (xs ++ take i os) (c.loop-taken.invariant.front start xs t) in
     let n = stops.0 in
     let origin = tap.watch.origin c.take_text.new.run.analyser in
-    stops-more tap start _ c.take_text.new.run (capped origin (tap.form.text (xs ++ take (i + n) os))) (capped origin (tap.form.text (xs ++ os))) c.in_err-many.field-0.0
+    stops-more tap start _ c.take_text.new.run (capped origin (tap.form.text (xs ++ take (i + n) os)))
+    (capped origin (tap.form.text (xs ++ os))) c.in_err-many.field-0.0
     (front-grown tap.form.text c.laws.ensures.form.text c.laws.ensures.form.places origin xs os (i + n))
-    (subst (λ (ys : List ℕ). Stops tap true start (g.W.Write.contents c.take_text.new.w) c.take_text.new.run ys c.in_err-many.field-0.0) (octets-next xs os i n) stops.2))
+    (subst (λ (ys : List ℕ). Stops tap true start (g.W.Write.contents c.take_text.new.w) c.take_text.new.run ys
+    c.in_err-many.field-0.0) (octets-next xs os i n) stops.2))
 
 pub returns-in_err-many-clause-same : goal.returns-in_err-many-clause-same
-returns-in_err-many-clause-same g c = same-both g.T.Tap.tap c.args.run.now c.loop-taken.run c.take_text.new.run c.loop-taken.invariant.same c.take_text.ensures.same
+returns-in_err-many-clause-same g c =
+    same-both g.T.Tap.tap c.args.run.now c.loop-taken.run c.take_text.new.run c.loop-taken.invariant.same
+    c.take_text.ensures.same
 
 pub loop-taken-preserved-then-many-gt0 : goal.loop-taken-preserved-then-many-gt0
 loop-taken-preserved-then-many-gt0 g c = record {
   sound = c.take_text.ensures.sound;
-  same = same-both g.T.Tap.tap c.args.run.now c.loop-taken.run c.take_text.new.run c.loop-taken.invariant.same c.take_text.ensures.same;
+  same = same-both g.T.Tap.tap c.args.run.now c.loop-taken.run c.take_text.new.run c.loop-taken.invariant.same
+      c.take_text.ensures.same;
   front = λ start xs t.
       let os = c.args.octets.now in
       let i = c.loop-taken.taken in
@@ -60,31 +67,39 @@ returns-in_err-take_one-clause-taken g c =
     let i = c.loop-taken.taken in
     let x = get_or os i 0 in
     let front = xs ++ take i os in
-    let at : c.args.self.now.at + i ≡ length front = omega (arith, t.at, octets-before xs os i c.loop-taken-test.true) in
-    let here = none-taken tap start _ _ front _ c.in_ok-many.many (omega (arith, c.if-many-gt0.false)) (c.in_ok-many.ensures.taken start front (c.loop-taken.invariant.front start xs t)) in
+    let at : c.args.self.now.at + i ≡ length front =
+    omega (arith, t.at, octets-before xs os i c.loop-taken-test.true) in
+    let here = none-taken tap start _ _ front _ c.in_ok-many.many (omega (arith, c.if-many-gt0.false))
+    (c.in_ok-many.ensures.taken start front (c.loop-taken.invariant.front start xs t)) in
     let stops = c.in_err-take_one.ensures.taken start front at here in
     let origin = tap.watch.origin c.take_one.new.run.analyser in
-    stops-more tap start _ c.take_one.new.run (capped origin (tap.form.text (xs ++ take (i + 1) os))) (capped origin (tap.form.text (xs ++ os))) c.in_err-take_one.field-0.0
+    stops-more tap start _ c.take_one.new.run (capped origin (tap.form.text (xs ++ take (i + 1) os)))
+    (capped origin (tap.form.text (xs ++ os))) c.in_err-take_one.field-0.0
     (front-grown tap.form.text c.laws.ensures.form.text c.laws.ensures.form.places origin xs os (i + 1))
-    (subst (λ (ys : List ℕ). Stops tap true start (g.W.Write.contents c.take_one.new.w) c.take_one.new.run ys c.in_err-take_one.field-0.0) (item-next xs os i x 0 c.loop-taken-test.true refl) stops))
+    (subst (λ (ys : List ℕ). Stops tap true start (g.W.Write.contents c.take_one.new.w) c.take_one.new.run ys
+    c.in_err-take_one.field-0.0) (item-next xs os i x 0 c.loop-taken-test.true refl) stops))
 
 pub returns-in_err-take_one-clause-same : goal.returns-in_err-take_one-clause-same
 returns-in_err-take_one-clause-same g c =
     same-both g.T.Tap.tap c.args.run.now c.take_text.new.run c.take_one.new.run
-    (same-both g.T.Tap.tap c.args.run.now c.loop-taken.run c.take_text.new.run c.loop-taken.invariant.same c.take_text.ensures.same) c.take_one.ensures.same
+    (same-both g.T.Tap.tap c.args.run.now c.loop-taken.run c.take_text.new.run c.loop-taken.invariant.same
+    c.take_text.ensures.same) c.take_one.ensures.same
 
 pub loop-taken-preserved : goal.loop-taken-preserved
 loop-taken-preserved g c = record {
   sound = c.take_one.ensures.sound;
   same = same-both g.T.Tap.tap c.args.run.now c.take_text.new.run c.take_one.new.run
-      (same-both g.T.Tap.tap c.args.run.now c.loop-taken.run c.take_text.new.run c.loop-taken.invariant.same c.take_text.ensures.same) c.take_one.ensures.same;
+      (same-both g.T.Tap.tap c.args.run.now c.loop-taken.run c.take_text.new.run c.loop-taken.invariant.same
+      c.take_text.ensures.same) c.take_one.ensures.same;
   front = λ start xs t.
       let tap = g.T.Tap.tap in
       let os = c.args.octets.now in
       let i = c.loop-taken.taken in
       let front = xs ++ take i os in
-      let at : c.args.self.now.at + i ≡ length front = omega (arith, t.at, octets-before xs os i c.loop-taken-test.true) in
-      let here = none-taken tap start _ _ front _ c.in_ok-many.many (omega (arith, c.if-many-gt0.false)) (c.in_ok-many.ensures.taken start front (c.loop-taken.invariant.front start xs t)) in
+      let at : c.args.self.now.at + i ≡ length front =
+      omega (arith, t.at, octets-before xs os i c.loop-taken-test.true) in
+      let here = none-taken tap start _ _ front _ c.in_ok-many.many (omega (arith, c.if-many-gt0.false))
+      (c.in_ok-many.ensures.taken start front (c.loop-taken.invariant.front start xs t)) in
       subst (FollowsOctets tap start (g.W.Write.contents c.take_one.new.w) c.take_one.new.run)
       (item-next xs os i (get_or os i 0) 0 c.loop-taken-test.true refl)
       (c.in_ok-take_one.ensures.taken start front at here);
@@ -94,7 +109,9 @@ pub returns-clause-taken : goal.returns-clause-taken
 returns-clause-taken g c =
     λ start xs t.
     let all = take_all c.loop-taken.taken c.args.octets.now (omega arith) in
-    let f = subst (λ (os : List ℕ). FollowsOctets g.T.Tap.tap start (g.W.Write.contents c.loop-taken.w) c.loop-taken.run (xs ++ os)) all (c.loop-taken.invariant.front start xs t) in
+    let f =
+    subst (λ (os : List ℕ). FollowsOctets g.T.Tap.tap start (g.W.Write.contents c.loop-taken.w) c.loop-taken.run
+    (xs ++ os)) all (c.loop-taken.invariant.front start xs t) in
     record {
       at = omega (arith, t.at, length-append xs c.args.octets.now);
       clean = f.clean;

@@ -13,7 +13,14 @@ use Rattle.bus_capture.proofs.two_lines.PairAnalyserFollow.take_packed.Goals as 
 pub take_all-requires-clause-sixteens : goal.take_all-requires-clause-sixteens
 take_all-requires-clause-sixteens g c =
     let count = c.whole-count.result in
-    omega (arith, length-take count c.args.octets.now, least (length c.args.octets.now) 512, c.min.ensures, c.whole-count.ensures.within, c.whole-count.ensures.sixteens)
+    omega (
+      arith,
+      length-take count c.args.octets.now,
+      least (length c.args.octets.now) 512,
+      c.min.ensures,
+      c.whole-count.ensures.within,
+      c.whole-count.ensures.sixteens,
+    )
 
 pub returns-in_err-take_pairs-clause-taken : goal.returns-in_err-take_pairs-clause-taken
 returns-in_err-take_pairs-clause-taken g c =
@@ -23,13 +30,17 @@ returns-in_err-take_pairs-clause-taken g c =
     let count = c.whole-count.result in
     let whole = take count c.args.octets.now in
     let b = (tap.form.packed xs).bits in
-    let ps = zip (bits_from c.take_all.new.first 0 (4 * length whole)) (bits_from c.take_all.new.second 0 (4 * length whole)) in
-    let read = octets-read packed_pair_capture pair_body pair_head_fault PairsAfter (λ head zs wide. (c.pairs_are_head_and_body.ensures.headed head zs wide).0)
+    let ps = zip (bits_from c.take_all.new.first 0 (4 * length whole))
+    (bits_from c.take_all.new.second 0 (4 * length whole)) in
+    let read = octets-read packed_pair_capture pair_body pair_head_fault PairsAfter
+    (λ head zs wide. (c.pairs_are_head_and_body.ensures.headed head zs wide).0)
     c.args.body.now c.take_all.new.self xs whole ps c.take_all.ensures.given f.read in
     let fits = followed-fits tap c.laws.ensures start _ c.args.run.now b c.requires f.bits in
-    let low : tap.watch.origin c.take_pairs.new.run.analyser ≤ 2 ^ 60 = omega (arith, fits, c.take_pairs.ensures.same.origin) in (
+    let low : tap.watch.origin c.take_pairs.new.run.analyser ≤ 2 ^ 60 =
+    omega (arith, fits, c.take_pairs.ensures.same.origin) in (
       count,
-      octets-taken tap start _ c.take_pairs.new.run (xs ++ whole) c.take_all.new.self (b ++ ps) (Err c.in_err-take_pairs.field-0.0) low read.0 read.1 (c.in_err-take_pairs.ensures.taken start b f.bits),
+      octets-taken tap start _ c.take_pairs.new.run (xs ++ whole) c.take_all.new.self (b ++ ps)
+          (Err c.in_err-take_pairs.field-0.0) low read.0 read.1 (c.in_err-take_pairs.ensures.taken start b f.bits),
     ))
 
 pub returns-clause-taken : goal.returns-clause-taken
@@ -38,9 +49,13 @@ returns-clause-taken g c = λ start xs f.
     let count = c.whole-count.result in
     let whole = take count c.args.octets.now in
     let b = (tap.form.packed xs).bits in
-    let ps = zip (bits_from c.take_all.new.first 0 (4 * length whole)) (bits_from c.take_all.new.second 0 (4 * length whole)) in
-    let read = octets-read packed_pair_capture pair_body pair_head_fault PairsAfter (λ head zs wide. (c.pairs_are_head_and_body.ensures.headed head zs wide).0)
+    let ps = zip (bits_from c.take_all.new.first 0 (4 * length whole))
+    (bits_from c.take_all.new.second 0 (4 * length whole)) in
+    let read = octets-read packed_pair_capture pair_body pair_head_fault PairsAfter
+    (λ head zs wide. (c.pairs_are_head_and_body.ensures.headed head zs wide).0)
     c.args.body.now c.take_all.new.self xs whole ps c.take_all.ensures.given f.read in
     let fits = followed-fits tap c.laws.ensures start _ c.args.run.now b c.requires f.bits in
-    let low : tap.watch.origin c.take_pairs.new.run.analyser ≤ 2 ^ 60 = omega (arith, fits, c.take_pairs.ensures.same.origin) in
-    octets-taken tap start _ c.take_pairs.new.run (xs ++ whole) c.take_all.new.self (b ++ ps) (Ok tt) low read.0 read.1 (c.in_ok-take_pairs.ensures.taken start b f.bits)
+    let low : tap.watch.origin c.take_pairs.new.run.analyser ≤ 2 ^ 60 =
+    omega (arith, fits, c.take_pairs.ensures.same.origin) in
+    octets-taken tap start _ c.take_pairs.new.run (xs ++ whole) c.take_all.new.self (b ++ ps) (Ok tt) low read.0 read.1
+    (c.in_ok-take_pairs.ensures.taken start b f.bits)

@@ -15,11 +15,14 @@ returns-in_err-take_pairs-clause-taken g c =
     let b = (tap.form.text xs).bits in
     let given = c.part-next.ensures.given xs f.clean in
     let fits = followed-fits tap c.laws.ensures start _ c.args.run.now b c.requires f.bits in
-    let low : tap.watch.origin c.take_pairs.new.run.analyser ≤ 2 ^ 60 = omega (arith, fits, c.take_pairs.ensures.same.origin) in
-    let all = b ++ zip (bits_from c.part-next.new.first 0 (8 * next.filled)) (bits_from c.part-next.new.second 0 (8 * next.filled)) in (
+    let low : tap.watch.origin c.take_pairs.new.run.analyser ≤ 2 ^ 60 =
+    omega (arith, fits, c.take_pairs.ensures.same.origin) in
+    let all = b ++ zip (bits_from c.part-next.new.first 0 (8 * next.filled))
+    (bits_from c.part-next.new.second 0 (8 * next.filled)) in (
       next.taken,
       c.part-next.ensures.enough,
-      mark-taken tap start _ c.take_pairs.new.run (xs ++ take next.taken c.args.octets.now) all (Err c.in_err-take_pairs.field-0.0) low given.0 given.1 (c.in_err-take_pairs.ensures.taken start b f.bits),
+      mark-taken tap start _ c.take_pairs.new.run (xs ++ take next.taken c.args.octets.now) all
+          (Err c.in_err-take_pairs.field-0.0) low given.0 given.1 (c.in_err-take_pairs.ensures.taken start b f.bits),
     ))
 
 pub returns-clause-taken : goal.returns-clause-taken
@@ -29,6 +32,9 @@ returns-clause-taken g c = λ start xs f.
     let b = (tap.form.text xs).bits in
     let given = c.part-next.ensures.given xs f.clean in
     let fits = followed-fits tap c.laws.ensures start _ c.args.run.now b c.requires f.bits in
-    let low : tap.watch.origin c.take_pairs.new.run.analyser ≤ 2 ^ 60 = omega (arith, fits, c.take_pairs.ensures.same.origin) in
-    let all = b ++ zip (bits_from c.part-next.new.first 0 (8 * next.filled)) (bits_from c.part-next.new.second 0 (8 * next.filled)) in
-    mark-taken tap start _ c.take_pairs.new.run (xs ++ take next.taken c.args.octets.now) all (Ok tt) low given.0 given.1 (c.in_ok-take_pairs.ensures.taken start b f.bits)
+    let low : tap.watch.origin c.take_pairs.new.run.analyser ≤ 2 ^ 60 =
+    omega (arith, fits, c.take_pairs.ensures.same.origin) in
+    let all = b ++ zip (bits_from c.part-next.new.first 0 (8 * next.filled))
+    (bits_from c.part-next.new.second 0 (8 * next.filled)) in
+    mark-taken tap start _ c.take_pairs.new.run (xs ++ take next.taken c.args.octets.now) all (Ok tt) low given.0
+    given.1 (c.in_ok-take_pairs.ensures.taken start b f.bits)

@@ -23,12 +23,14 @@ returns g c =
         short = head.short;
         places = grow.capped;
         silent = λ origin longest. refl;
-        seen = λ d longest origin. seen-on two_lines d longest origin (λ ps p. all_seen_at d (merged origin longest (ps ++ p ∷ [])) (origin + length ps))
+        seen = λ d longest origin. seen-on two_lines d longest origin
+            (λ ps p. all_seen_at d (merged origin longest (ps ++ p ∷ [])) (origin + length ps))
             (c.pairs_grow.ensures.grows d longest origin);
       };
       hears = refl;
       placed = λ a b h. placed-pairs a.first.place a.first.origin b h.first.has_taken.place;
       long = λ n word. length-pairs n word.first word.second;
       front = λ n count word le. sym (pairs-front n count word.first word.second le);
-      clean = head-clean packed_pair_capture pair_body pair_head_fault PairsAfter (λ head zs long. (c.pairs_are_head_and_body.ensures.headed head zs long).0) (λ n xs left h. h.clean);
+      clean = head-clean packed_pair_capture pair_body pair_head_fault PairsAfter
+          (λ head zs long. (c.pairs_are_head_and_body.ensures.headed head zs long).0) (λ n xs left h. h.clean);
     }

@@ -15,5 +15,9 @@ returns g c =
       long = c.told-head;
       good = c.in_ok-read.ensures.0;
       after = subst (λ n. PairsAfter n [] c.new.result) c.in_ok-read.ensures.1 c.new.ensures;
-    } in
-    (read, head-alone packed_pair_capture pair_body pair_head_fault PairsAfter (λ head zs long. (c.pairs_are_head_and_body.ensures.headed head zs long).0) c.new.result head read (no_pair_body (head_bits head)))
+    } in (
+      read,
+      head-alone packed_pair_capture pair_body pair_head_fault PairsAfter
+          (λ head zs long. (c.pairs_are_head_and_body.ensures.headed head zs long).0) c.new.result head read
+          (no_pair_body (head_bits head)),
+    )

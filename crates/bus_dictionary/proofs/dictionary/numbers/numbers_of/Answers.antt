@@ -19,5 +19,6 @@ loop-number-preserved c =
     let from = c.from.ensures in
     record {
       number = omega arith;
-      numbers = step c.loop-number.numbers c.args.entries.now c.loop-number.number c.from.result read.result some number read.is typed (omega arith) before.numbers;
+      numbers = step c.loop-number.numbers c.args.entries.now c.loop-number.number c.from.result read.result some number
+          read.is typed (omega arith) before.numbers;
     }

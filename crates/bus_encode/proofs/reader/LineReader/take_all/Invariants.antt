@@ -6,8 +6,10 @@ use Rattle.bus_encode.proofs.reader.LineReader.take_all.Given as goal
 abbrev pub invariant-loop-octet : goal.invariant-loop-octet
 invariant-loop-octet g l = record {
   taken : (start : Option (List ℕ)) (xs : List ℕ)
-      → Takes start (g.W.Write.contents l.initial.w) l.initial.self.line.octets.items l.initial.self.line.number l.initial.self.encoder l.initial.self.written xs
-      → Takes start (g.W.Write.contents l.w) l.self.line.octets.items l.self.line.number l.self.encoder l.self.written (xs ++ take l.octet-index l.octets);
+      → Takes start (g.W.Write.contents l.initial.w) l.initial.self.line.octets.items l.initial.self.line.number
+      l.initial.self.encoder l.initial.self.written xs
+      → Takes start (g.W.Write.contents l.w) l.self.line.octets.items l.self.line.number l.self.encoder l.self.written
+      (xs ++ take l.octet-index l.octets);
   few : l.self.written ≤ l.initial.self.written + 2493 * l.octet-index;
   lines : l.self.line.number ≤ l.initial.self.line.number + l.octet-index;
 }

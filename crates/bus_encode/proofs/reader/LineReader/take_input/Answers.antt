@@ -19,9 +19,13 @@ returns-in-Ok-eq0 g c =
     let start = g.W.Write.contents c.args.w.now in
     let self = c.loop-turn.self in (
       before.0,
-      consumes_end _ _ (g.R.Read.remaining c.read.new.self) before.0 _ (search rules) before.1 c.in-Ok-eq0.ensures.bytes.0,
-      end_finishes c.args.reads (g.R.Read.remaining c.read.new.self) start (g.W.Write.contents c.loop-turn.w) (g.W.Write.contents c.end_line.new.w) self.line.octets.items self.line.number self.encoder c.end_line.new.self.encoder self.written
-          c.end_line.new.self.written before.0 c.end_line.result (search rules) before.2 (c.end_line.ensures.ended start (asked_behind 0 (ended_lines before.0)).calls before.2.done),
+      consumes_end _ _ (g.R.Read.remaining c.read.new.self) before.0 _ (search rules) before.1
+          c.in-Ok-eq0.ensures.bytes.0,
+      end_finishes c.args.reads (g.R.Read.remaining c.read.new.self) start (g.W.Write.contents c.loop-turn.w)
+          (g.W.Write.contents c.end_line.new.w) self.line.octets.items self.line.number self.encoder
+          c.end_line.new.self.encoder self.written
+          c.end_line.new.self.written before.0 c.end_line.result (search rules) before.2
+          (c.end_line.ensures.ended start (asked_behind 0 (ended_lines before.0)).calls before.2.done),
     )
 
 pub returns-in-Err : goal.returns-in-Err
@@ -38,7 +42,9 @@ returns-in_err-take_all g c =
     rw (p.1, p.2) (
       xs,
       consumes_both _ _ _ before.0 _ before.1 c.in-Ok.ensures.bytes.0,
-      halts_finishes c.args.reads (g.R.Read.remaining c.read.new.self) start (g.W.Write.contents c.take_all.new.w) c.take_all.new.self.written xs (asked_so_far xs) c.in_err-take_all.field-0.0 (inl refl) (c.in_err-take_all.ensures.taken start before.0 before.2),
+      halts_finishes c.args.reads (g.R.Read.remaining c.read.new.self) start (g.W.Write.contents c.take_all.new.w)
+          c.take_all.new.self.written xs (asked_so_far xs) c.in_err-take_all.field-0.0 (inl refl)
+          (c.in_err-take_all.ensures.taken start before.0 before.2),
     )
 
 pub loop-turn-preserved : goal.loop-turn-preserved

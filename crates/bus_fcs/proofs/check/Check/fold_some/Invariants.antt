@@ -4,6 +4,7 @@ use Rattle.bus_fcs.proofs.check.Check.fold_some.Given as goal
 -- the octets so far are folded, and counted
 abbrev pub invariant-loop-octet : goal.invariant-loop-octet
 invariant-loop-octet g l = record {
-  folded : (before : List ℕ) → g.Self.Check.folded l.initial.self before → g.Self.Check.folded l.self (before ++ take l.octet-index l.octet-items);
+  folded : (before : List ℕ) → g.Self.Check.folded l.initial.self before →
+      g.Self.Check.folded l.self (before ++ take l.octet-index l.octet-items);
   spent : l.spent ≡ record l.initial.spent { folded = l.initial.spent.folded + g.Self.Check.COST * l.octet-index };
 }

@@ -17,4 +17,5 @@ returns-clause-most c = λ l.
     let x = c.args.bits in
     let found : c.min.result ≡ min (first_other x) c.args.count = c.min.ensures ∙ least (first_other x) c.args.count in
     let small : bit_xor x six_flags < 2 ^ 64 = xor_lt 64 x six_flags c.ranges.bits.fits (omega arith) in
-    none-behind x (c.min.result / 8) small (omega (arith, found)) (omega (arith, found, l)) (omega (arith, l, c.requires))
+    none-behind x (c.min.result / 8) small (omega (arith, found)) (omega (arith, found, l))
+    (omega (arith, l, c.requires))

@@ -13,5 +13,6 @@ pub loop-at-preserved : goal.loop-at-preserved
 loop-at-preserved c = record {
   begun = omega (arith, c.loop-at.invariant.begun);
   within = omega (arith, c.loop-at-test.true);
-  flags = flags-more c.args.octets.now c.args.from c.loop-at.at c.seven_octets_at.result c.loop-at.invariant.begun c.loop-at.invariant.flags c.seven_octets_at.ensures c.if-seven_octets_at-ne-SEVEN_FLAGS.false;
+  flags = flags-more c.args.octets.now c.args.from c.loop-at.at c.seven_octets_at.result c.loop-at.invariant.begun
+      c.loop-at.invariant.flags c.seven_octets_at.ensures c.if-seven_octets_at-ne-SEVEN_FLAGS.false;
 }

@@ -13,5 +13,6 @@ pub loop-at-preserved : goal.loop-at-preserved
 loop-at-preserved c = record {
   begun = omega (arith, c.loop-at.invariant.begun);
   within = omega (arith, c.loop-at-test.true);
-  ones = ones-more c.args.octets.now c.args.from c.loop-at.at c.seven_octets_at.result c.loop-at.invariant.begun c.loop-at.invariant.ones c.seven_octets_at.ensures c.if-seven_octets_at.false;
+  ones = ones-more c.args.octets.now c.args.from c.loop-at.at c.seven_octets_at.result c.loop-at.invariant.begun
+      c.loop-at.invariant.ones c.seven_octets_at.ensures c.if-seven_octets_at.false;
 }

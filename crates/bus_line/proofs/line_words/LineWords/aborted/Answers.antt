@@ -9,4 +9,5 @@ returns c = λ octets mark end e past.
     let i = c.requires.within in
     let first = c.first_or_never-first.ensures in
     ap (λ (k : ℕ). Some (record { kind = Abort; first = k; past = c.args.past })) first
-    ∙ aborts w.origin w.settles_at c.args.past end w.place mark e past c.requires.past i.place_fits i.settles_late (omega (arith, first, c.if-first-past.false))
+    ∙ aborts w.origin w.settles_at c.args.past end w.place mark e past c.requires.past i.place_fits i.settles_late
+    (omega (arith, first, c.if-first-past.false))

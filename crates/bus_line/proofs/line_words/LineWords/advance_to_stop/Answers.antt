@@ -5,7 +5,9 @@ use Rattle.bus_line.specs.Words.{state}
 use Rattle.bus_line.specs.declared.line_words.LineWords.{LineWords}
 use Rattle.bus_line.specs.Internal.Settled.{LagsBy}
 use Rattle.bus_line.proofs.WordsLemmas.{shift-lags}
-use Rattle.bus_line.proofs.AdvanceLemmas.{calm-before-last, last-before, stops-behind-all, stops-behind, word-joined, is_calm, all-due, all-placed, all-after, is_last, last-tracks, last-answer, last-more, last-after, but_last, last_of}
+use Rattle.bus_line.proofs.AdvanceLemmas.{calm-before-last, last-before, stops-behind-all, stops-behind, word-joined}
+use Rattle.bus_line.proofs.AdvanceLemmas.{is_calm, all-due, all-placed, all-after, is_last, last-tracks, last-answer}
+use Rattle.bus_line.proofs.AdvanceLemmas.{last-more, last-after, but_last, last_of}
 use Rattle.bus_line.proofs.line_words.LineWords.advance_to_stop.Goals as goal
 
 pub returns-then-calm-count-clause-answer : goal.returns-then-calm-count-clause-answer
@@ -13,7 +15,8 @@ returns-then-calm-count-clause-answer g c = λ b h.
     let d = c.args.self.now in
     let n = c.args.count in
     let x = c.args.bits in
-    let word = word-joined (state c.args.self.now c.args.check.now c.args.cells.now) n x b h.has_taken c.requires.few c.requires.small in
+    let word = word-joined (state c.args.self.now c.args.check.now c.args.cells.now) n x b h.has_taken c.requires.few
+    c.requires.small in
     let calm = is_calm _ n c.calm_bits-calm.result x b word c.if-calm-count.true c.calm_bits-calm.ensures.calm in
     all-due d.longest d.origin _ n x b calm c.requires.some
 
@@ -22,7 +25,8 @@ returns-then-calm-count-clause-more g c = λ b h.
     let d = c.args.self.now in
     let n = c.args.count in
     let x = c.args.bits in
-    let word = word-joined (state c.args.self.now c.args.check.now c.args.cells.now) n x b h.has_taken c.requires.few c.requires.small in
+    let word = word-joined (state c.args.self.now c.args.check.now c.args.cells.now) n x b h.has_taken c.requires.few
+    c.requires.small in
     let calm = is_calm _ n c.calm_bits-calm.result x b word c.if-calm-count.true c.calm_bits-calm.ensures.calm in
     all-placed d.longest d.origin _ n x b calm
 
@@ -31,28 +35,46 @@ returns-then-calm-count-clause-after g c = λ b h.
     let d = c.args.self.now in
     let n = c.args.count in
     let x = c.args.bits in
-    let word = word-joined (state c.args.self.now c.args.check.now c.args.cells.now) n x b h.has_taken c.requires.few c.requires.small in
+    let word = word-joined (state c.args.self.now c.args.check.now c.args.cells.now) n x b h.has_taken c.requires.few
+    c.requires.small in
     let calm = is_calm _ n c.calm_bits-calm.result x b word c.if-calm-count.true c.calm_bits-calm.ensures.calm in
     let t = c.from-then-calm-count.result in
     let k : t ≤ length (bits_of n x) = omega (arith, c.from-then-calm-count.ensures, length-bits n x) in
     let y : c.from.result ≤ length (bits_of n x) = omega (arith, c.from.ensures, length-bits n x) in
-    let lags = subst (λ (j : ℕ). LagsBy g.C.Check.folded g.C.Check.COST (state c.shift.new.self c.args.check.now c.args.cells.now) b (take j (bits_of n x))) (c.from.ensures ∙ sym c.from-then-calm-count.ensures) (shift-lags _ _ c.args.self.now c.shift.new.self c.args.check.now c.args.cells.now b (bits_of n x) _ _ c.shift.ensures.value h word y) in
-    all-after _ _ _ n x t (state c.settle.new.self c.settle.new.check c.settle.new.cells) b calm c.from-then-calm-count.ensures (λ q. c.settle.ensures.tracks b (bits_of n x) word k q lags)
+    let lags =
+    subst (λ (j : ℕ). LagsBy g.C.Check.folded g.C.Check.COST
+    (state c.shift.new.self c.args.check.now c.args.cells.now) b (take j (bits_of n x)))
+    (c.from.ensures ∙ sym c.from-then-calm-count.ensures)
+    (shift-lags _ _ c.args.self.now c.shift.new.self c.args.check.now c.args.cells.now b (bits_of n x) _ _
+    c.shift.ensures.value h word y) in
+    all-after _ _ _ n x t (state c.settle.new.self c.settle.new.check c.settle.new.cells) b calm
+    c.from-then-calm-count.ensures (λ q. c.settle.ensures.tracks b (bits_of n x) word k q lags)
 
 pub returns-clause-answer : goal.returns-clause-answer
 returns-clause-answer g c = λ b h.
     let d = c.args.self.now in
     let n = c.args.count in
     let x = c.args.bits in
-    let word = word-joined (state c.args.self.now c.args.check.now c.args.cells.now) n x b h.has_taken c.requires.few c.requires.small in
+    let word = word-joined (state c.args.self.now c.args.check.now c.args.cells.now) n x b h.has_taken c.requires.few
+    c.requires.small in
     let m = c.calm_bits-calm.result in
-    let last = is_last _ n m x b word c.calm_bits-calm.ensures.within c.if-calm-count.false c.calm_bits-calm.ensures.calm in
+    let last = is_last _ n m x b word c.calm_bits-calm.ensures.within c.if-calm-count.false
+    c.calm_bits-calm.ensures.calm in
     let t = c.from-3.result in
     let k : t ≤ length (bits_of n x) = omega (arith, c.from-3.ensures, last.within) in
     let y : c.from-2.result ≤ length (bits_of n x) = omega (arith, c.from-2.ensures, last.within) in
-    let lags = subst (λ (j : ℕ). LagsBy g.C.Check.folded g.C.Check.COST (state c.shift-2.new.self c.args.check.now c.args.cells.now) b (take j (bits_of n x))) (c.from-2.ensures ∙ sym c.from-3.ensures) (shift-lags _ _ c.args.self.now c.shift-2.new.self c.args.check.now c.args.cells.now b (bits_of n x) _ _ c.shift-2.ensures.value h word y) in
-    let tracks = last-tracks _ _ _ n m x t (state c.settle-2.new.self c.settle-2.new.check c.settle-2.new.cells) b last c.from-3.ensures (λ q. c.settle-2.ensures.tracks b (bits_of n x) word k q lags) in
-    let answer = last-answer d.longest d.origin c.settle-2.new.self.longest c.settle-2.new.self.origin _ n m x b _ last (c.settle-2.ensures.longest ∙ ap (λ (s : LineWords). s.longest) c.shift-2.ensures.value) (c.settle-2.ensures.origin ∙ ap (λ (s : LineWords). s.origin) c.shift-2.ensures.value) (c.decide.ensures.answer c.settle-2.new.cells (but_last b n m x) (last_of n m x) tracks) in
+    let lags =
+    subst (λ (j : ℕ). LagsBy g.C.Check.folded g.C.Check.COST
+    (state c.shift-2.new.self c.args.check.now c.args.cells.now) b (take j (bits_of n x)))
+    (c.from-2.ensures ∙ sym c.from-3.ensures)
+    (shift-lags _ _ c.args.self.now c.shift-2.new.self c.args.check.now c.args.cells.now b (bits_of n x) _ _
+    c.shift-2.ensures.value h word y) in
+    let tracks = last-tracks _ _ _ n m x t (state c.settle-2.new.self c.settle-2.new.check c.settle-2.new.cells) b last
+    c.from-3.ensures (λ q. c.settle-2.ensures.tracks b (bits_of n x) word k q lags) in
+    let answer = last-answer d.longest d.origin c.settle-2.new.self.longest c.settle-2.new.self.origin _ n m x b _ last
+    (c.settle-2.ensures.longest ∙ ap (λ (s : LineWords). s.longest) c.shift-2.ensures.value)
+    (c.settle-2.ensures.origin ∙ ap (λ (s : LineWords). s.origin) c.shift-2.ensures.value)
+    (c.decide.ensures.answer c.settle-2.new.cells (but_last b n m x) (last_of n m x) tracks) in
     answer
 
 pub returns-clause-more : goal.returns-clause-more
@@ -60,15 +82,26 @@ returns-clause-more g c = λ b h.
     let d = c.args.self.now in
     let n = c.args.count in
     let x = c.args.bits in
-    let word = word-joined (state c.args.self.now c.args.check.now c.args.cells.now) n x b h.has_taken c.requires.few c.requires.small in
+    let word = word-joined (state c.args.self.now c.args.check.now c.args.cells.now) n x b h.has_taken c.requires.few
+    c.requires.small in
     let m = c.calm_bits-calm.result in
-    let last = is_last _ n m x b word c.calm_bits-calm.ensures.within c.if-calm-count.false c.calm_bits-calm.ensures.calm in
+    let last = is_last _ n m x b word c.calm_bits-calm.ensures.within c.if-calm-count.false
+    c.calm_bits-calm.ensures.calm in
     let t = c.from-3.result in
     let k : t ≤ length (bits_of n x) = omega (arith, c.from-3.ensures, last.within) in
     let y : c.from-2.result ≤ length (bits_of n x) = omega (arith, c.from-2.ensures, last.within) in
-    let lags = subst (λ (j : ℕ). LagsBy g.C.Check.folded g.C.Check.COST (state c.shift-2.new.self c.args.check.now c.args.cells.now) b (take j (bits_of n x))) (c.from-2.ensures ∙ sym c.from-3.ensures) (shift-lags _ _ c.args.self.now c.shift-2.new.self c.args.check.now c.args.cells.now b (bits_of n x) _ _ c.shift-2.ensures.value h word y) in
-    let tracks = last-tracks _ _ _ n m x t (state c.settle-2.new.self c.settle-2.new.check c.settle-2.new.cells) b last c.from-3.ensures (λ q. c.settle-2.ensures.tracks b (bits_of n x) word k q lags) in
-    let answer = last-answer d.longest d.origin c.settle-2.new.self.longest c.settle-2.new.self.origin _ n m x b _ last (c.settle-2.ensures.longest ∙ ap (λ (s : LineWords). s.longest) c.shift-2.ensures.value) (c.settle-2.ensures.origin ∙ ap (λ (s : LineWords). s.origin) c.shift-2.ensures.value) (c.decide.ensures.answer c.settle-2.new.cells (but_last b n m x) (last_of n m x) tracks) in
+    let lags =
+    subst (λ (j : ℕ). LagsBy g.C.Check.folded g.C.Check.COST
+    (state c.shift-2.new.self c.args.check.now c.args.cells.now) b (take j (bits_of n x)))
+    (c.from-2.ensures ∙ sym c.from-3.ensures)
+    (shift-lags _ _ c.args.self.now c.shift-2.new.self c.args.check.now c.args.cells.now b (bits_of n x) _ _
+    c.shift-2.ensures.value h word y) in
+    let tracks = last-tracks _ _ _ n m x t (state c.settle-2.new.self c.settle-2.new.check c.settle-2.new.cells) b last
+    c.from-3.ensures (λ q. c.settle-2.ensures.tracks b (bits_of n x) word k q lags) in
+    let answer = last-answer d.longest d.origin c.settle-2.new.self.longest c.settle-2.new.self.origin _ n m x b _ last
+    (c.settle-2.ensures.longest ∙ ap (λ (s : LineWords). s.longest) c.shift-2.ensures.value)
+    (c.settle-2.ensures.origin ∙ ap (λ (s : LineWords). s.origin) c.shift-2.ensures.value)
+    (c.decide.ensures.answer c.settle-2.new.cells (but_last b n m x) (last_of n m x) tracks) in
     last-more d.longest d.origin _ n m x b _ last answer
 
 pub returns-clause-after : goal.returns-clause-after
@@ -76,30 +109,43 @@ returns-clause-after g c = λ b h.
     let d = c.args.self.now in
     let n = c.args.count in
     let x = c.args.bits in
-    let word = word-joined (state c.args.self.now c.args.check.now c.args.cells.now) n x b h.has_taken c.requires.few c.requires.small in
+    let word = word-joined (state c.args.self.now c.args.check.now c.args.cells.now) n x b h.has_taken c.requires.few
+    c.requires.small in
     let m = c.calm_bits-calm.result in
-    let last = is_last _ n m x b word c.calm_bits-calm.ensures.within c.if-calm-count.false c.calm_bits-calm.ensures.calm in
+    let last = is_last _ n m x b word c.calm_bits-calm.ensures.within c.if-calm-count.false
+    c.calm_bits-calm.ensures.calm in
     let t = c.from-3.result in
     let k : t ≤ length (bits_of n x) = omega (arith, c.from-3.ensures, last.within) in
     let y : c.from-2.result ≤ length (bits_of n x) = omega (arith, c.from-2.ensures, last.within) in
-    let lags = subst (λ (j : ℕ). LagsBy g.C.Check.folded g.C.Check.COST (state c.shift-2.new.self c.args.check.now c.args.cells.now) b (take j (bits_of n x))) (c.from-2.ensures ∙ sym c.from-3.ensures) (shift-lags _ _ c.args.self.now c.shift-2.new.self c.args.check.now c.args.cells.now b (bits_of n x) _ _ c.shift-2.ensures.value h word y) in
-    let tracks = last-tracks _ _ _ n m x t (state c.settle-2.new.self c.settle-2.new.check c.settle-2.new.cells) b last c.from-3.ensures (λ q. c.settle-2.ensures.tracks b (bits_of n x) word k q lags) in
-    last-after _ _ _ n m x (state c.decide.new.self c.settle-2.new.check c.settle-2.new.cells) b last (c.decide.ensures.after c.settle-2.new.cells (but_last b n m x) (last_of n m x) tracks)
+    let lags =
+    subst (λ (j : ℕ). LagsBy g.C.Check.folded g.C.Check.COST
+    (state c.shift-2.new.self c.args.check.now c.args.cells.now) b (take j (bits_of n x)))
+    (c.from-2.ensures ∙ sym c.from-3.ensures)
+    (shift-lags _ _ c.args.self.now c.shift-2.new.self c.args.check.now c.args.cells.now b (bits_of n x) _ _
+    c.shift-2.ensures.value h word y) in
+    let tracks = last-tracks _ _ _ n m x t (state c.settle-2.new.self c.settle-2.new.check c.settle-2.new.cells) b last
+    c.from-3.ensures (λ q. c.settle-2.ensures.tracks b (bits_of n x) word k q lags) in
+    last-after _ _ _ n m x (state c.decide.new.self c.settle-2.new.check c.settle-2.new.cells) b last
+    (c.decide.ensures.after c.settle-2.new.cells (but_last b n m x) (last_of n m x) tracks)
 
 pub returns-then-calm-count-clause-stops : goal.returns-then-calm-count-clause-stops
 returns-then-calm-count-clause-stops g c = λ b h.
     let n = c.args.count in
     let x = c.args.bits in
-    let word = word-joined (state c.args.self.now c.args.check.now c.args.cells.now) n x b h.has_taken c.requires.few c.requires.small in
-    stops-behind-all _ n x b (is_calm _ n c.calm_bits-calm.result x b word c.if-calm-count.true c.calm_bits-calm.ensures.calm)
+    let word = word-joined (state c.args.self.now c.args.check.now c.args.cells.now) n x b h.has_taken c.requires.few
+    c.requires.small in
+    stops-behind-all _ n x b
+    (is_calm _ n c.calm_bits-calm.result x b word c.if-calm-count.true c.calm_bits-calm.ensures.calm)
 
 pub returns-clause-stops : goal.returns-clause-stops
 returns-clause-stops g c = λ b h.
     let n = c.args.count in
     let x = c.args.bits in
-    let word = word-joined (state c.args.self.now c.args.check.now c.args.cells.now) n x b h.has_taken c.requires.few c.requires.small in
+    let word = word-joined (state c.args.self.now c.args.check.now c.args.cells.now) n x b h.has_taken c.requires.few
+    c.requires.small in
     let m = c.calm_bits-calm.result in
-    let last = is_last _ n m x b word c.calm_bits-calm.ensures.within c.if-calm-count.false c.calm_bits-calm.ensures.calm in
+    let last = is_last _ n m x b word c.calm_bits-calm.ensures.within c.if-calm-count.false
+    c.calm_bits-calm.ensures.calm in
     let k = length-bits n x in
     stops-behind _ n m x b last (c.calm_bits-calm.ensures.stop (omega (arith, last.within, k)))
 
@@ -108,14 +154,18 @@ returns-then-calm-count-clause-before g c = λ b h.
     let d = c.args.self.now in
     let n = c.args.count in
     let x = c.args.bits in
-    let word = word-joined (state c.args.self.now c.args.check.now c.args.cells.now) n x b h.has_taken c.requires.few c.requires.small in
-    calm-before-last d.longest d.origin _ n (n - 1) x b (is_calm _ n c.calm_bits-calm.result x b word c.if-calm-count.true c.calm_bits-calm.ensures.calm) (omega arith)
+    let word = word-joined (state c.args.self.now c.args.check.now c.args.cells.now) n x b h.has_taken c.requires.few
+    c.requires.small in
+    calm-before-last d.longest d.origin _ n (n - 1) x b
+    (is_calm _ n c.calm_bits-calm.result x b word c.if-calm-count.true c.calm_bits-calm.ensures.calm) (omega arith)
 
 pub returns-clause-before : goal.returns-clause-before
 returns-clause-before g c = λ b h.
     let d = c.args.self.now in
     let n = c.args.count in
     let x = c.args.bits in
-    let word = word-joined (state c.args.self.now c.args.check.now c.args.cells.now) n x b h.has_taken c.requires.few c.requires.small in
+    let word = word-joined (state c.args.self.now c.args.check.now c.args.cells.now) n x b h.has_taken c.requires.few
+    c.requires.small in
     let m = c.calm_bits-calm.result in
-    last-before d.longest d.origin _ n m x b (is_last _ n m x b word c.calm_bits-calm.ensures.within c.if-calm-count.false c.calm_bits-calm.ensures.calm)
+    last-before d.longest d.origin _ n m x b
+    (is_last _ n m x b word c.calm_bits-calm.ensures.within c.if-calm-count.false c.calm_bits-calm.ensures.calm)

@@ -13,11 +13,20 @@ returns-clause-holds g c = λ bits h.
     let e = state c.put_all.new.self c.put_all.new.check c.put_all.new.cells in
     let n = c.args.more.count in
     let b = c.begin.new.self in
-    append-holds _ d a e n c.args.more.bits (joined w.rest (w.gathered % 8) c.args.more.bits) ((w.gathered % 8 + n) / 8) _ bits h c.requires.few c.requires.small refl refl
+    append-holds _ d a e n c.args.more.bits (joined w.rest (w.gathered % 8) c.args.more.bits) ((w.gathered % 8 + n) / 8)
+    _ bits h c.requires.few c.requires.small refl refl
     (ap (λ (s : LineWords). s.gathered) c.begin.ensures.kept)
     (ap (λ (s : LineWords). s.longest) c.begin.ensures.kept)
     (c.begin.ensures.keeps c.args.cells.now bits h)
-    c.put_all.ensures.keeps (kept-put (record b { assembled = b.assembled + n; gathered = b.gathered + n; rest = joined w.rest (w.gathered % 8) c.args.more.bits / 2 ^ (8 * ((w.gathered % 8 + n) / 8)) }) c.put_all.new.self c.put_all.new.check c.begin.new.check c.put_all.new.cells c.args.cells.now c.put_all.ensures.kept)
+    c.put_all.ensures.keeps
+    (kept-put
+    (record b {
+      assembled = b.assembled + n;
+      gathered = b.gathered + n;
+      rest = joined w.rest (w.gathered % 8) c.args.more.bits / 2 ^ (8 * ((w.gathered % 8 + n) / 8));
+    })
+    c.put_all.new.self c.put_all.new.check c.begin.new.check c.put_all.new.cells c.args.cells.now
+    c.put_all.ensures.kept)
 
 pub returns-clause-spent : goal.returns-clause-spent
 returns-clause-spent g c = λ bits h.
@@ -30,4 +39,10 @@ returns-clause-spent g c = λ bits h.
     (ap (λ (s : LineWords). s.longest) c.begin.ensures.kept)
     (c.begin.ensures.keeps c.args.cells.now bits h)
     c.put_all.ensures.spent
-    (ap (λ (s : LineWords). record d.spent { shifted = s.place - s.origin; assembled = s.assembled + n; folded = s.folded; stored = s.stored }) c.begin.ensures.kept)
+    (ap (λ (s : LineWords).
+    record d.spent {
+      shifted = s.place - s.origin;
+      assembled = s.assembled + n;
+      folded = s.folded;
+      stored = s.stored;
+    }) c.begin.ensures.kept)

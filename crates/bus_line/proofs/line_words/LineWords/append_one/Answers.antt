@@ -15,7 +15,8 @@ returns-then-held-lt7-clause-holds g c = λ bits h.
     let spent = record a.spent { assembled = a.spent.assembled + 1 } in
     let e = record a { gathered = a.gathered + 1; rest = j; spent = spent } in
     let whole : j / 2 ^ (8 * 0) ≡ j = omega arith in
-    append-holds _ d a e 1 c.args.bit j 0 spent bits h (omega arith) (omega (arith, c.requires.bit)) refl (omega (arith, c.if-held-lt7.true))
+    append-holds _ d a e 1 c.args.bit j 0 spent bits h (omega arith) (omega (arith, c.requires.bit)) refl
+    (omega (arith, c.if-held-lt7.true))
     (ap (λ (s : LineWords). s.gathered) c.begin.ensures.kept)
     (ap (λ (s : LineWords). s.longest) c.begin.ensures.kept)
     (c.begin.ensures.keeps c.args.cells.now bits h)
@@ -30,12 +31,14 @@ returns-clause-holds g c = λ bits h.
     let e = state c.put_one.new.self c.put_one.new.check c.put_one.new.cells in
     let j = joined w.rest (w.gathered % 8) c.args.bit in
     let b = c.begin.new.self in
-    append-holds _ d a e 1 c.args.bit j 1 _ bits h (omega arith) (omega (arith, c.requires.bit)) refl (omega (arith, c.if-held-lt7.false))
+    append-holds _ d a e 1 c.args.bit j 1 _ bits h (omega arith) (omega (arith, c.requires.bit)) refl
+    (omega (arith, c.if-held-lt7.false))
     (ap (λ (s : LineWords). s.gathered) c.begin.ensures.kept)
     (ap (λ (s : LineWords). s.longest) c.begin.ensures.kept)
     (c.begin.ensures.keeps c.args.cells.now bits h)
     c.put_one.ensures.keeps
-    (kept-put (record b { assembled = b.assembled + 1; gathered = b.gathered + 1; rest = j / 2 ^ 8 }) c.put_one.new.self c.put_one.new.check c.begin.new.check c.put_one.new.cells c.args.cells.now c.put_one.ensures.kept)
+    (kept-put (record b { assembled = b.assembled + 1; gathered = b.gathered + 1; rest = j / 2 ^ 8 }) c.put_one.new.self
+    c.put_one.new.check c.begin.new.check c.put_one.new.cells c.args.cells.now c.put_one.ensures.kept)
 
 pub returns-clause-spent : goal.returns-clause-spent
 returns-clause-spent g c = λ bits h.
@@ -47,4 +50,10 @@ returns-clause-spent g c = λ bits h.
     (ap (λ (s : LineWords). s.longest) c.begin.ensures.kept)
     (c.begin.ensures.keeps c.args.cells.now bits h)
     c.put_one.ensures.spent
-    (ap (λ (s : LineWords). record d.spent { shifted = s.place - s.origin; assembled = s.assembled + 1; folded = s.folded; stored = s.stored }) c.begin.ensures.kept)
+    (ap (λ (s : LineWords).
+    record d.spent {
+      shifted = s.place - s.origin;
+      assembled = s.assembled + 1;
+      folded = s.folded;
+      stored = s.stored;
+    }) c.begin.ensures.kept)

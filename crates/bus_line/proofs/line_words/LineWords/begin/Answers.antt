@@ -12,4 +12,5 @@ returns-then-self-ge8-clause-keeps g c = λ cells bits h.
 pub returns-clause-keeps : goal.returns-clause-keeps
 returns-clause-keeps g c = λ cells bits h.
     let d = state c.args.self.now c.args.check.now cells in
-    subst (Keeps g.C.Check.folded _) (sym (none-yet _ d bits h c.if-self-ge8.false)) (keeps-none _ _ refl c.fresh.ensures)
+    subst (Keeps g.C.Check.folded _) (sym (none-yet _ d bits h c.if-self-ge8.false))
+    (keeps-none _ _ refl c.fresh.ensures)

@@ -3,7 +3,8 @@ use Rattle.std.proofs.lemmas.Nat.{and_mask}
 use Rattle.bus_line.specs.Report.{Frame, Damaged}
 use Rattle.bus_line.specs.declared.cause.Cause.TheVariants.{Fcs}
 use Rattle.bus_line.specs.Words.{state}
-use Rattle.bus_line.proofs.ClassLemmas.{is_closed, class-five, class-read, data-over, data-short, data-unaligned, class-checked}
+use Rattle.bus_line.proofs.ClassLemmas.{is_closed, class-five, class-read, data-over, data-short, data-unaligned}
+use Rattle.bus_line.proofs.ClassLemmas.{class-checked}
 use Rattle.bus_line.proofs.line_words.LineWords.class.Goals as goal
 
 pub returns-then-self-eq31 : goal.returns-then-self-eq31
@@ -24,14 +25,16 @@ returns-then-self-lt32 g c = λ cells b bit p h last some.
     let d = state c.args.self.now c.args.check.now cells in
     let closed = is_closed _ _ d b bit p h last some in
     sym (class-read _ d.longest _ _ closed (λ e. c.if-self-eq31.false (and_mask (d.history / 8) 5 ∙ e))
-    ∙ data-short d.longest _ (omega (arith, closed.holds.count, c.if-self.false)) (omega (arith, closed.holds.count, c.if-self-lt32.true)))
+    ∙ data-short d.longest _ (omega (arith, closed.holds.count, c.if-self.false))
+    (omega (arith, closed.holds.count, c.if-self-lt32.true)))
 
 pub returns-then-self-ne0 : goal.returns-then-self-ne0
 returns-then-self-ne0 g c = λ cells b bit p h last some.
     let d = state c.args.self.now c.args.check.now cells in
     let closed = is_closed _ _ d b bit p h last some in
     sym (class-read _ d.longest _ _ closed (λ e. c.if-self-eq31.false (and_mask (d.history / 8) 5 ∙ e))
-    ∙ data-unaligned d.longest _ (omega (arith, closed.holds.count, c.if-self.false)) (omega (arith, closed.holds.count, c.if-self-lt32.false))
+    ∙ data-unaligned d.longest _ (omega (arith, closed.holds.count, c.if-self.false))
+    (omega (arith, closed.holds.count, c.if-self-lt32.false))
     (λ e. c.if-self-ne0.true (omega (arith, closed.holds.count, e))))
 
 pub returns-then-not-is_good : goal.returns-then-not-is_good
@@ -39,7 +42,9 @@ returns-then-not-is_good g c = λ cells b bit p h last some.
     let d = state c.args.self.now c.args.check.now cells in
     let closed = is_closed _ _ d b bit p h last some in
     sym (class-read _ d.longest _ _ closed (λ e. c.if-self-eq31.false (and_mask (d.history / 8) 5 ∙ e))
-    ∙ (class-checked _ d _ c.is_good.result closed.holds (omega (arith, closed.holds.count, c.if-self-lt32.false)) (omega (arith, closed.holds.count, c.if-self.false)) (omega (arith, closed.holds.count, c.if-self-ne0.false)) c.is_good.ensures
+    ∙ (class-checked _ d _ c.is_good.result closed.holds (omega (arith, closed.holds.count, c.if-self-lt32.false))
+    (omega (arith, closed.holds.count, c.if-self.false)) (omega (arith, closed.holds.count, c.if-self-ne0.false))
+    c.is_good.ensures
     ∙ ap (λ (t : Bool). if t then Frame d.octets else Damaged Fcs) c.if-not-is_good.true))
 
 pub returns : goal.returns
@@ -47,5 +52,7 @@ returns g c = λ cells b bit p h last some.
     let d = state c.args.self.now c.args.check.now cells in
     let closed = is_closed _ _ d b bit p h last some in
     sym (class-read _ d.longest _ _ closed (λ e. c.if-self-eq31.false (and_mask (d.history / 8) 5 ∙ e))
-    ∙ (class-checked _ d _ c.is_good.result closed.holds (omega (arith, closed.holds.count, c.if-self-lt32.false)) (omega (arith, closed.holds.count, c.if-self.false)) (omega (arith, closed.holds.count, c.if-self-ne0.false)) c.is_good.ensures
+    ∙ (class-checked _ d _ c.is_good.result closed.holds (omega (arith, closed.holds.count, c.if-self-lt32.false))
+    (omega (arith, closed.holds.count, c.if-self.false)) (omega (arith, closed.holds.count, c.if-self-ne0.false))
+    c.is_good.ensures
     ∙ ap (λ (t : Bool). if t then Frame d.octets else Damaged Fcs) c.if-not-is_good.false))

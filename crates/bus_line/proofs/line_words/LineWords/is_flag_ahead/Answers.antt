@@ -16,4 +16,5 @@ returns-then-bits-eq126-clause-none c = λ e b h count.
 pub returns-else-bits-eq126-clause-none : goal.returns-else-bits-eq126-clause-none
 returns-else-bits-eq126-clause-none c = λ e b h count.
     let x = c.args.bits in
-    none-by-octet b count x (λ same. both_ways (nat_eq (bit_and x 255) 126) e (eq-eqb (bit_and x 255) 126 (and_mask x 8 ∙ same)))
+    none-by-octet b count x
+    (λ same. both_ways (nat_eq (bit_and x 255) 126) e (eq-eqb (bit_and x 255) 126 (and_mask x 8 ∙ same)))

@@ -14,7 +14,9 @@ pub returns-clause-past : goal.returns-clause-past
 returns-clause-past c = λ b h.
     let found = c.flags_in-flags in
     record {
-      ahead = some-ahead b c.args.count c.args.bits found.result (c.is_flag_ahead.ensures.some c.if-not-is_flag_ahead.false b h) found.ensures.within found.ensures.are found.ensures.most;
+      ahead = some-ahead b c.args.count c.args.bits found.result
+          (c.is_flag_ahead.ensures.some c.if-not-is_flag_ahead.false b h) found.ensures.within found.ensures.are
+          found.ensures.most;
       bits = refl;
       count = refl;
     }

@@ -9,6 +9,9 @@ returns-clause-keeps g c = λ os h.
     let w = c.args.self.now in
     let d = state w c.args.check.now c.args.cells.now in
     let octet = c.args.joined % 256 in
-    let held : length d.octets ≡ w.len = length-take w.len c.args.cells.now ∙ omega (arith, c.told-cells, c.requires.within.room, c.requires.within.longest_most) in
-    keeps-more _ d _ 1 1 c.args.joined (octet ∷ []) os h (omega (arith, held, c.if-from-self.false, c.from.ensures)) (omega arith) refl refl
-    (take_more_set c.args.cells.now w.len octet (omega (arith, c.told-cells, c.requires.within.room, c.requires.within.longest_most))) c.fold.ensures.folded
+    let held : length d.octets ≡ w.len = length-take w.len c.args.cells.now
+    ∙ omega (arith, c.told-cells, c.requires.within.room, c.requires.within.longest_most) in
+    keeps-more _ d _ 1 1 c.args.joined (octet ∷ []) os h (omega (arith, held, c.if-from-self.false, c.from.ensures))
+    (omega arith) refl refl
+    (take_more_set c.args.cells.now w.len octet
+    (omega (arith, c.told-cells, c.requires.within.room, c.requires.within.longest_most))) c.fold.ensures.folded

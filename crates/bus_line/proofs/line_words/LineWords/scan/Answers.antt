@@ -6,6 +6,15 @@ use Rattle.bus_line.proofs.line_words.LineWords.scan.Goals as goal
 pub returns-clause-all : goal.returns-clause-all
 returns-clause-all g c none fewer =
     let room = 1152921504606846976 - c.args.self.now.place in
-    let count : c.min-count.result ≡ min (c.args.end - c.args.at) room = c.min-count.ensures ∙ least (c.args.end - c.args.at) room in
+    let count : c.min-count.result ≡ min (c.args.end - c.args.at) room =
+    c.min-count.ensures ∙ least (c.args.end - c.args.at) room in
     let scanned = c.scan_all in
-    omega (arith, count, fewer, c.requires.within.place_fits, scanned.ensures.all none, scanned.ensures.tells.leads.place, length-from c.args.octets.now c.args.at scanned.result.count)
+    omega (
+      arith,
+      count,
+      fewer,
+      c.requires.within.place_fits,
+      scanned.ensures.all none,
+      scanned.ensures.tells.leads.place,
+      length-from c.args.octets.now c.args.at scanned.result.count,
+    )

@@ -8,7 +8,8 @@ use Rattle.bus_line.specs.Internal.LineView.{settles_from}
 use Rattle.bus_line.specs.Internal.Settled.{data_in_word}
 use Rattle.bus_line.specs.declared.line_words.LineWords.{LineWords}
 use Rattle.bus_line.proofs.AdvanceLemmas.{Calm, is_calm, all-after, all-placed}
-use Rattle.bus_line.proofs.QuietLemmas.{history-next, history-small, settled-front, no-stop, word-behind, word-front, word-is, word_of}
+use Rattle.bus_line.proofs.QuietLemmas.{history-next, history-small, settled-front, no-stop, word-behind, word-front}
+use Rattle.bus_line.proofs.QuietLemmas.{word-is, word_of}
 use Rattle.bus_line.proofs.SettleLemmas.{word-settled}
 use Rattle.bus_line.proofs.StepLemmas.{settles-open}
 use Rattle.bus_line.proofs.WordsLemmas.{kept-state, settles-told, shift-lags}
@@ -29,25 +30,32 @@ returns-clause-tells g c = λ _.
     let origin : new.origin ≡ old.origin = ap (λ (s : LineWords). s.origin) c.append.ensures.kept in
     let place : new.place ≡ old.place + 56 = ap (λ (s : LineWords). s.place) c.append.ensures.kept in
     let told = settles-told old.settles_at c.requires.within.settles_late in
-    let began = settles-open old.settles_at mid.place (first_in old.settles_at) told c.requires.room (omega (arith, c.requires.open)) in
+    let began = settles-open old.settles_at mid.place (first_in old.settles_at) told c.requires.room
+    (omega (arith, c.requires.open)) in
     let at : old.settles_at ≡ began.0 + 8 = told ∙ ap settles_from began.1 in
     let calm : (b : List Bool) → After g.C.Check.folded g.C.Check.COST d b → Calm w 56 x b = λ b h.
     let small = history-small d b h.has_taken in
-    is_calm w 56 56 x b (word-is old.history x b h.has_taken.history) refl (no-stop w behind (word-behind old.history x small) (c.has_six.ensures c.if-has_six.false)) in
+    is_calm w 56 56 x b (word-is old.history x b h.has_taken.history) refl
+    (no-stop w behind (word-behind old.history x small) (c.has_six.ensures c.if-has_six.false)) in
     record {
       leads = record {
         after = λ b h.
             let small = history-small d b h.has_taken in
             let word = word-is old.history x b h.has_taken.history in
             let n : 56 ≤ length (bits_of 56 x) = omega (arith, length-bits 56 x) in
-            let next = ap (λ (y : ℕ). record old { place = old.place + 56; history = y }) (history-next old.history x small) in
+            let next = ap (λ (y : ℕ). record old { place = old.place + 56; history = y })
+            (history-next old.history x small) in
             let lags = shift-lags _ _ old mid c.args.check.now c.args.cells.now b (bits_of 56 x) w 56 next h word n in
             let shift : w ≡ w / 2 ^ (56 - 56) = omega arith in
-            let value = settled.ensures.value ∙ (ap (λ (y : ℕ). data_in_word y 56) (word-front old.history x small) ∙ (settled-front w 56 (omega arith) ∙ ap (λ (y : ℕ). data_in_word y 56) shift)) in
+            let value = settled.ensures.value
+            ∙ (ap (λ (y : ℕ). data_in_word y 56) (word-front old.history x small)
+            ∙ (settled-front w 56 (omega arith) ∙ ap (λ (y : ℕ). data_in_word y 56) shift)) in
             all-after _ _ w 56 x 56 e b (calm b h) refl (λ q.
-            word-settled _ _ began.0 w 56 56 settled.result.count settled.result.bits (state mid c.args.check.now c.args.cells.now) e b (bits_of 56 x) word n q lags began.1 began.2
+            word-settled _ _ began.0 w 56 56 settled.result.count settled.result.bits
+            (state mid c.args.check.now c.args.cells.now) e b (bits_of 56 x) word n q lags began.1 began.2
             (omega (arith, at, c.requires.open)) value c.append.ensures.holds c.append.ensures.spent
-            (kept-state mid new c.append.new.check c.args.check.now c.append.new.cells c.args.cells.now c.append.ensures.kept));
+            (kept-state mid new c.append.new.check c.args.check.now c.append.new.cells c.args.cells.now
+            c.append.ensures.kept));
         longest = longest;
         origin = origin;
         place = place ∙ omega (arith, length-bits 56 x);

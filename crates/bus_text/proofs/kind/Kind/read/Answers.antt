@@ -4,7 +4,8 @@ use Rattle.std.proofs.lemmas.Iterator.Search.{find_from_yields_List}
 use Rattle.std.specs.Cmp.Lexicographic.{pointwise}
 use Rattle.bus_text.specs.Kinds.{kind_word, all_kinds, kind_named}
 use Rattle.bus_text.specs.declared.kind.Kind.{Kind}
-use Rattle.bus_text.specs.declared.kind.Kind.TheVariants.{Frame, Damaged, Overlong, Abort, Idle, Stray, Answered, Missing, Spoilt, Late, Begun, Pending}
+use Rattle.bus_text.specs.declared.kind.Kind.TheVariants.{Frame, Damaged, Overlong, Abort, Idle, Stray, Answered}
+use Rattle.bus_text.specs.declared.kind.Kind.TheVariants.{Missing, Spoilt, Late, Begun, Pending}
 use Rattle.bus_text.proofs.kind.Kind.read.Goals as goal
 
 -- the word of a kind names it
@@ -26,7 +27,8 @@ named-word Pending = refl
 pub returns-clause-named : goal.returns-clause-named
 returns-clause-named c =
     c.copied.ensures
-    ∙ find_from_yields_List (λ k. pointwise (λ x y. x == y) (kind_word k) c.args.word.now) _ _ c.find.result c.find.ensures.ran (YieldsList-from_slice all_kinds cc) (λ x b q k. search (rules, tests))
+    ∙ find_from_yields_List (λ k. pointwise (λ x y. x == y) (kind_word k) c.args.word.now) _ _ c.find.result
+    c.find.ensures.ran (YieldsList-from_slice all_kinds cc) (λ x b q k. search (rules, tests))
 
 pub returns-clause-none : goal.returns-clause-none
 returns-clause-none c none kind e =

@@ -11,5 +11,7 @@ returns-clause-bytes c =
     let second = begun_lines (Some Second) c.args.ending.now.second in
     let waits = pending_lines (Some First) c.args.ending.now.pending in
     let page = c.put_begun.new.page.text in
-    let both = put-both f first second c.args.page.now.text page c.put_begun-2.new.page.text c.put_begun.ensures.bytes c.put_begun-2.ensures.bytes in
-    put-both f (first ++ second) waits c.args.page.now.text c.put_begun-2.new.page.text c.put_pending.new.page.text both c.put_pending.ensures.bytes
+    let both = put-both f first second c.args.page.now.text page c.put_begun-2.new.page.text c.put_begun.ensures.bytes
+    c.put_begun-2.ensures.bytes in
+    put-both f (first ++ second) waits c.args.page.now.text c.put_begun-2.new.page.text c.put_pending.new.page.text both
+    c.put_pending.ensures.bytes

@@ -7,7 +7,9 @@ use Rattle.bus_text.proofs.printer.Printer.put_report.Goals as goal
 
 pub returns-then-not-leaves-clause-bytes : goal.returns-then-not-leaves-clause-bytes
 returns-then-not-leaves-clause-bytes c =
-    put-dropped c.args.self.now.filter (report_line c.args.self.now.heads c.args.dictionary.now (found_on c.args.line c.args.octets.now c.args.finding.now)) c.args.page.now.text
+    put-dropped c.args.self.now.filter
+    (report_line c.args.self.now.heads c.args.dictionary.now
+    (found_on c.args.line c.args.octets.now c.args.finding.now)) c.args.page.now.text
     (sym (c.leaves.ensures c.args.octets.now) ∙ c.if-not-leaves.true)
 
 pub returns-clause-bytes : goal.returns-clause-bytes
@@ -18,9 +20,14 @@ returns-clause-bytes c =
     let head = head_part c.args.self.now.heads c.args.dictionary.now c.args.finding.now.standing in
     let end : c.push.new.self ≡ c.put_head.new.page.text ++ codes "\n" = search rules in
     let line = line_number c.args.line in
-    let told : c.push_front.new.text ≡ page ++ (line ++ front) = c.push_front.ensures.bytes ∙ ap (λ t. t ++ front) c.push_line_number.ensures.bytes ∙ append_assoc page line front in
+    let told : c.push_front.new.text ≡ page ++ (line ++ front) =
+    c.push_front.ensures.bytes ∙ ap (λ t. t ++ front) c.push_line_number.ensures.bytes
+    ∙ append_assoc page line front in
     let named : c.put_head.new.page.text ≡ c.push_front.new.text ++ head = c.put_head.ensures.bytes in
     let all : c.push.new.self ≡ page ++ (((line ++ front) ++ head) ++ codes "\n") =
-    end ∙ ap (λ t. t ++ codes "\n") (named ∙ ap (λ t. t ++ head) told ∙ append_assoc page (line ++ front) head) ∙ append_assoc page ((line ++ front) ++ head) (codes "\n") in
-    put-left c.args.self.now.filter (report_line c.args.self.now.heads c.args.dictionary.now (found_on c.args.line c.args.octets.now c.args.finding.now)) page c.push.new.self
+    end ∙ ap (λ t. t ++ codes "\n") (named ∙ ap (λ t. t ++ head) told ∙ append_assoc page (line ++ front) head)
+    ∙ append_assoc page ((line ++ front) ++ head) (codes "\n") in
+    put-left c.args.self.now.filter
+    (report_line c.args.self.now.heads c.args.dictionary.now
+    (found_on c.args.line c.args.octets.now c.args.finding.now)) page c.push.new.self
     (sym (c.leaves.ensures c.args.octets.now) ∙ c.if-not-leaves.false) all

@@ -6,4 +6,5 @@ use Rattle.bus_text.proofs.printer.Printer.put_verdict.Goals as goal
 
 pub returns-in_default-clause-bytes : goal.returns-in_default-clause-bytes
 returns-in_default-clause-bytes c =
-    put-none c.args.self.now.filter _ c.args.page.now.text (ap (λ v. option_to_list (option_map (verdict_line c.args.line) v)) c.in_default.is)
+    put-none c.args.self.now.filter _ c.args.page.now.text
+    (ap (λ v. option_to_list (option_map (verdict_line c.args.line) v)) c.in_default.is)

@@ -13,5 +13,7 @@ invariant-loop-name g l =
     × ((done : List NamedBit)
     × (done ++ l.name-iterator ≡ l.fn.names)
     × (l.written ≤ l.sent + 640 * length done)
-    × ((start : Option (List ℕ)) (before : List ℕ) → Appends start (g.W.Write.contents l.initial.w) before → l.sent ≡ length before
-    → Appends start (g.W.Write.contents l.w) (before ++ flat_map name_text done) × (l.written ≡ length (before ++ flat_map name_text done))))
+    × ((start : Option (List ℕ)) (before : List ℕ) → Appends start (g.W.Write.contents l.initial.w) before →
+    l.sent ≡ length before
+    → Appends start (g.W.Write.contents l.w) (before ++ flat_map name_text done)
+    × (l.written ≡ length (before ++ flat_map name_text done))))

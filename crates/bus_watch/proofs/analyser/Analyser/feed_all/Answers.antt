@@ -1,4 +1,5 @@
-use Rattle.std.proofs.Common.{◌≤◌, ◌^◌, ◌+◌, ◌-◌, Err, List, [], Bool, Bor, length, take, drop, get_or, refl, sym, ap, ◌∙◌, subst, arith, length-append}
+use Rattle.std.proofs.Common.{◌≤◌, ◌^◌, ◌+◌, ◌-◌, Err, List, [], Bool, Bor, length, take, drop, get_or, refl, sym, ap}
+use Rattle.std.proofs.Common.{◌∙◌, subst, arith, length-append}
 use Rattle.bus_watch.specs.Fed.{Fed, RefusedAt, ForSink}
 use Rattle.bus_watch.specs.Headline.{bits_in}
 use Rattle.bus_watch.specs.After.{one_line}
@@ -24,10 +25,19 @@ loop-piece-preserved g c =
     let more = pieces-more c.args.pieces.now c.loop-piece.piece-index none c.loop-piece-test.true in
     record {
       fed =
-          subst (λ bits. Fed g.C.Check.folded g.C.Check.COST g.S.ReportSink.taken c.args.self.now bits c.feed.new.self c.args.sink.now c.feed.new.sink)
+          subst (λ bits. Fed g.C.Check.folded g.C.Check.COST g.S.ReportSink.taken c.args.self.now bits c.feed.new.self
+          c.args.sink.now c.feed.new.sink)
           (sym more)
-          (fed-more (one_line g.C.Check.folded g.C.Check.COST) g.S.ReportSink.taken _ _ _ _ _ _ _ _ c.loop-piece.invariant.fed c.in-Ok.ensures.fed);
-      count = omega (arith, c.loop-piece.invariant.count, ap length more, length-append (bits_in (take c.loop-piece.piece-index c.args.pieces.now)) (get_or c.args.pieces.now c.loop-piece.piece-index none).now);
+          (fed-more (one_line g.C.Check.folded g.C.Check.COST) g.S.ReportSink.taken _ _ _ _ _ _ _ _
+          c.loop-piece.invariant.fed c.in-Ok.ensures.fed);
+      count =
+          omega (
+            arith,
+            c.loop-piece.invariant.count,
+            ap length more,
+            length-append (bits_in (take c.loop-piece.piece-index c.args.pieces.now))
+                (get_or c.args.pieces.now c.loop-piece.piece-index none).now,
+          );
       refusals = c.in-Ok.ensures.none_refused ∙ c.loop-piece.invariant.refusals;
       room = c.in-Ok.ensures.room ∙ c.loop-piece.invariant.room;
       within = λ w. c.in-Ok.ensures.within (c.loop-piece.invariant.within w);
@@ -36,10 +46,20 @@ loop-piece-preserved g c =
 pub returns-in-Err-Sink-clause-refused : goal.returns-in-Err-Sink-clause-refused
 returns-in-Err-Sink-clause-refused g c =
     let i = c.loop-piece.piece-index in
-    let refused = subst (λ fault. ForSink fault (λ consumed. RefusedAt g.C.Check.folded g.C.Check.COST g.S.ReportSink.taken c.loop-piece.self (get_or c.args.pieces.now i none).now consumed c.feed.new.self c.loop-piece.sink c.feed.new.sink)) c.in-Err-Sink.field-0-is c.in-Err-Sink.ensures.refused in
-    let all = refused_at-after g.C.Check.folded g.C.Check.COST g.S.ReportSink.taken _ _ _ _ _ (bits_in (drop (i + 1) c.args.pieces.now)) (bits_in c.args.pieces.now) c.loop-piece.before c.in-Err-Sink.consumed _ _ _
-    (pieces-at c.args.pieces.now i none c.loop-piece-test.true) c.loop-piece.invariant.count c.loop-piece.invariant.fed refused in
-    subst (λ consumed. RefusedAt g.C.Check.folded g.C.Check.COST g.S.ReportSink.taken c.args.self.now (bits_in c.args.pieces.now) (c.loop-piece.before + consumed) c.feed.new.self c.args.sink.now c.feed.new.sink) (sym c.in-Err-Sink.consumed-is) all
+    let refused =
+    subst
+    (λ fault.
+    ForSink fault (λ consumed. RefusedAt g.C.Check.folded g.C.Check.COST g.S.ReportSink.taken c.loop-piece.self
+    (get_or c.args.pieces.now i none).now consumed c.feed.new.self c.loop-piece.sink c.feed.new.sink))
+    c.in-Err-Sink.field-0-is c.in-Err-Sink.ensures.refused in
+    let all = refused_at-after g.C.Check.folded g.C.Check.COST g.S.ReportSink.taken _ _ _ _ _
+    (bits_in (drop (i + 1) c.args.pieces.now)) (bits_in c.args.pieces.now) c.loop-piece.before c.in-Err-Sink.consumed
+    _ _ _
+    (pieces-at c.args.pieces.now i none c.loop-piece-test.true) c.loop-piece.invariant.count c.loop-piece.invariant.fed
+    refused in
+    subst (λ consumed. RefusedAt g.C.Check.folded g.C.Check.COST g.S.ReportSink.taken c.args.self.now
+    (bits_in c.args.pieces.now) (c.loop-piece.before + consumed) c.feed.new.self c.args.sink.now c.feed.new.sink)
+    (sym c.in-Err-Sink.consumed-is) all
 
 pub unreachable-requires : goal.unreachable-requires
 unreachable-requires g c =

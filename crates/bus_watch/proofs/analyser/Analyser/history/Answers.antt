@@ -12,17 +12,23 @@ returns-in-Some-clause-lent g c =
     let j = c.self.inside.journal in
     let items = j.history.items in
     let at = sym (subst (λ r. option_copied r ≡ slice_get items c.args.i) c.in-Some.is c.kept.ensures) in
-    rw (c.frame.ensures) (subst (λ (a : AnalyserState g.row.C.Denot). Some (kept_frame c.in-Some.kept.now.kept) ≡ slice_get a.journal.history c.args.i) c.self.view_is
-    (history-at items j.history.capacity (placed d.origin (longest_of j.dictionary) c.self.invariant.bits) c.args.i c.in-Some.kept.now c.self.invariant.reached.journal.history at))
+    rw (c.frame.ensures)
+    (subst (λ (a : AnalyserState g.row.C.Denot). Some (kept_frame c.in-Some.kept.now.kept)
+    ≡ slice_get a.journal.history c.args.i) c.self.view_is
+    (history-at items j.history.capacity (placed d.origin (longest_of j.dictionary) c.self.invariant.bits) c.args.i
+    c.in-Some.kept.now c.self.invariant.reached.journal.history at))
 
 pub returns-in-None-clause-lent : goal.returns-in-None-clause-lent
 returns-in-None-clause-lent g c =
     let items = c.self.inside.journal.history.items in
     let at = sym (subst (λ r. option_copied r ≡ slice_get items c.args.i) c.in-None.is c.kept.ensures) in
-    subst (λ (a : AnalyserState g.row.C.Denot). None ≡ slice_get a.journal.history c.args.i) c.self.view_is (history-none items c.args.i at)
+    subst (λ (a : AnalyserState g.row.C.Denot). None ≡ slice_get a.journal.history c.args.i) c.self.view_is
+    (history-none items c.args.i at)
 
 pub returns-in-Some-clause-value : goal.returns-in-Some-clause-value
-returns-in-Some-clause-value g c = λ b s. returns-in-Some-clause-lent g c ∙ ap (λ (l : List KeptFrame). slice_get l c.args.i) s.journal.history
+returns-in-Some-clause-value g c = λ b s. returns-in-Some-clause-lent g c
+    ∙ ap (λ (l : List KeptFrame). slice_get l c.args.i) s.journal.history
 
 pub returns-in-None-clause-value : goal.returns-in-None-clause-value
-returns-in-None-clause-value g c = λ b s. returns-in-None-clause-lent g c ∙ ap (λ (l : List KeptFrame). slice_get l c.args.i) s.journal.history
+returns-in-None-clause-value g c = λ b s. returns-in-None-clause-lent g c
+    ∙ ap (λ (l : List KeptFrame). slice_get l c.args.i) s.journal.history

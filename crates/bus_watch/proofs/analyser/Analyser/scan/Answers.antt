@@ -13,14 +13,20 @@ use Rattle.bus_watch.proofs.analyser.Analyser.scan.Goals as goal
 
 pub hear_octets-requires-clause-room : goal.hear_octets-requires-clause-room
 hear_octets-requires-clause-room g c = λ place.
-    room g.C.Check.folded g.C.Check.COST _ c.self.invariant.bits c.settled_places.ensures.frames c.settled_places.ensures.paid c.settled_places.ensures.within c.self.invariant.reached
+    room g.C.Check.folded g.C.Check.COST _ c.self.invariant.bits c.settled_places.ensures.frames
+    c.settled_places.ensures.paid c.settled_places.ensures.within c.self.invariant.reached
     (omega (arith, place, c.self.invariant.reached.decoder.has_taken.place))
 
 pub invariant_of-self-2 : goal.invariant_of-self-2
 invariant_of-self-2 g c =
     let x = bits_from c.args.octets.now c.args.at c.in_ok-taken.taken in
     let h = c.in_ok-taken.ensures.hears in
-    let new : AnalyserState g.row.C.Denot = record { decoder = c.hear_octets.new.decoder; journal = journal_state c.hear_octets.new.journal; finding = fresh c.hear_octets.new.has_decided c.hear_octets.new.journal.last } in
+    let new : AnalyserState g.row.C.Denot =
+    record {
+      decoder = c.hear_octets.new.decoder;
+      journal = journal_state c.hear_octets.new.journal;
+      finding = fresh c.hear_octets.new.has_decided c.hear_octets.new.journal.last;
+    } in
     let sees = sees-heard g.C.Check.folded g.C.Check.COST (analyser_state c.self.inside) new x _ h in
     record {
       depth = omega (arith, c.self.invariant.depth, h.depth);
@@ -35,8 +41,14 @@ returns-clause-all g c = c.in_ok-taken.ensures.all
 pub returns-clause-sees : goal.returns-clause-sees
 returns-clause-sees g c =
     let x = bits_from c.args.octets.now c.args.at c.in_ok-taken.taken in
-    let told = told_on None c.hear_octets.new.decoder.octets c.hear_octets.new.has_decided c.hear_octets.new.journal.last in
-    let new : AnalyserState g.row.C.Denot = record { decoder = c.hear_octets.new.decoder; journal = journal_state c.hear_octets.new.journal; finding = fresh c.hear_octets.new.has_decided c.hear_octets.new.journal.last } in
+    let told = told_on None c.hear_octets.new.decoder.octets c.hear_octets.new.has_decided
+    c.hear_octets.new.journal.last in
+    let new : AnalyserState g.row.C.Denot =
+    record {
+      decoder = c.hear_octets.new.decoder;
+      journal = journal_state c.hear_octets.new.journal;
+      finding = fresh c.hear_octets.new.has_decided c.hear_octets.new.journal.last;
+    } in
     subst (λ a. Sees g.C.Check.folded g.C.Check.COST a x (option_to_list told) new) c.self.view_is
     (sees-heard g.C.Check.folded g.C.Check.COST (analyser_state c.self.inside) new x told c.in_ok-taken.ensures.hears)
 
@@ -46,6 +58,8 @@ returns-clause-before g c =
     let os = c.args.octets.now in
     let x = bits_from os c.args.at (n - 1) in
     let d = c.self.inside.decoder in
-    let calm = subst (IsCalmFor g.C.Check.folded g.C.Check.COST d) (front-from os c.args.at n) c.in_ok-taken.ensures.hears.calm in
-    subst (λ a. (b : List Bool) → IsAfter g.C.Check.folded g.C.Check.COST a b → seen_after a (b ++ x) ≡ seen_after a b) c.self.view_is
+    let calm = subst (IsCalmFor g.C.Check.folded g.C.Check.COST d) (front-from os c.args.at n)
+    c.in_ok-taken.ensures.hears.calm in
+    subst (λ a. (b : List Bool) → IsAfter g.C.Check.folded g.C.Check.COST a b → seen_after a (b ++ x) ≡ seen_after a b)
+    c.self.view_is
     (seen-before g.C.Check.folded g.C.Check.COST (analyser_state c.self.inside) x calm)

@@ -14,14 +14,20 @@ use Rattle.bus_watch.proofs.analyser.Analyser.take.Goals as goal
 
 pub hear-requires-clause-room : goal.hear-requires-clause-room
 hear-requires-clause-room g c = λ place.
-    room g.C.Check.folded g.C.Check.COST _ c.self.invariant.bits c.settled_places.ensures.frames c.settled_places.ensures.paid c.settled_places.ensures.within c.self.invariant.reached
+    room g.C.Check.folded g.C.Check.COST _ c.self.invariant.bits c.settled_places.ensures.frames
+    c.settled_places.ensures.paid c.settled_places.ensures.within c.self.invariant.reached
     (omega (arith, place, c.self.invariant.reached.decoder.has_taken.place))
 
 pub invariant_of-self-2 : goal.invariant_of-self-2
 invariant_of-self-2 g c =
     let x = bits_of c.in_ok-taken.taken c.args.bits in
     let h = c.in_ok-taken.ensures.hears in
-    let new : AnalyserState g.row.C.Denot = record { decoder = c.hear.new.decoder; journal = journal_state c.hear.new.journal; finding = fresh c.hear.new.is_decided c.hear.new.journal.last } in
+    let new : AnalyserState g.row.C.Denot =
+    record {
+      decoder = c.hear.new.decoder;
+      journal = journal_state c.hear.new.journal;
+      finding = fresh c.hear.new.is_decided c.hear.new.journal.last;
+    } in
     let sees = sees-heard g.C.Check.folded g.C.Check.COST (analyser_state c.self.inside) new x _ h in
     record {
       depth = omega (arith, c.self.invariant.depth, h.depth);
@@ -34,7 +40,12 @@ pub returns-clause-sees : goal.returns-clause-sees
 returns-clause-sees g c =
     let x = bits_of c.in_ok-taken.taken c.args.bits in
     let told = told_on None c.hear.new.decoder.octets c.hear.new.is_decided c.hear.new.journal.last in
-    let new : AnalyserState g.row.C.Denot = record { decoder = c.hear.new.decoder; journal = journal_state c.hear.new.journal; finding = fresh c.hear.new.is_decided c.hear.new.journal.last } in
+    let new : AnalyserState g.row.C.Denot =
+    record {
+      decoder = c.hear.new.decoder;
+      journal = journal_state c.hear.new.journal;
+      finding = fresh c.hear.new.is_decided c.hear.new.journal.last;
+    } in
     subst (λ a. Sees g.C.Check.folded g.C.Check.COST a x (option_to_list told) new) c.self.view_is
     (sees-heard g.C.Check.folded g.C.Check.COST (analyser_state c.self.inside) new x told c.in_ok-taken.ensures.hears)
 
@@ -44,12 +55,15 @@ returns-clause-before g c =
     let x = bits_of (n - 1) c.args.bits in
     let d = c.self.inside.decoder in
     let all = bits_of n c.args.bits in
-    let front : take (length all - 1) all ≡ x = ap (λ k. take (k - 1) all) (length-bits n c.args.bits) ∙ bits-front (n - 1) n c.args.bits (omega arith) in
+    let front : take (length all - 1) all ≡ x = ap (λ k. take (k - 1) all) (length-bits n c.args.bits)
+    ∙ bits-front (n - 1) n c.args.bits (omega arith) in
     let calm = subst (IsCalmFor g.C.Check.folded g.C.Check.COST d) front c.in_ok-taken.ensures.hears.calm in
-    subst (λ a. (b : List Bool) → IsAfter g.C.Check.folded g.C.Check.COST a b → seen_after a (b ++ x) ≡ seen_after a b) c.self.view_is
+    subst (λ a. (b : List Bool) → IsAfter g.C.Check.folded g.C.Check.COST a b → seen_after a (b ++ x) ≡ seen_after a b)
+    c.self.view_is
     (seen-before g.C.Check.folded g.C.Check.COST (analyser_state c.self.inside) x calm)
 
 pub returns-clause-stops : goal.returns-clause-stops
 returns-clause-stops g c =
-    subst (λ a. (b : List Bool) → IsAfter g.C.Check.folded g.C.Check.COST a b → TakesTo b (bits_of c.args.count c.args.bits) c.in_ok-taken.taken) c.self.view_is
+    subst (λ a. (b : List Bool) → IsAfter g.C.Check.folded g.C.Check.COST a b →
+    TakesTo b (bits_of c.args.count c.args.bits) c.in_ok-taken.taken) c.self.view_is
     (λ b s. c.in_ok-taken.ensures.stops b s.decoder)

@@ -1,4 +1,5 @@
-use Rattle.std.proofs.Common.{◌≡◌, ◌+◌, ◌<◌, ◌^◌, subst, Bool, false, [], ◌∷◌, ◌++◌, length, take, get_or, refl, sym, ap, ◌∙◌, arith}
+use Rattle.std.proofs.Common.{◌≡◌, ◌+◌, ◌<◌, ◌^◌, subst, Bool, false, [], ◌∷◌, ◌++◌, length, take, get_or, refl, sym}
+use Rattle.std.proofs.Common.{ap, ◌∙◌, arith}
 use Rattle.std.proofs.lemmas.List.{take_more, length-take, length-map}
 use Rattle.bus_bits.specs.Octet.{number}
 use Rattle.bus_bits.proofs.OctetLemmas.{number-lt}
@@ -20,8 +21,12 @@ loop-pair-preserved c =
     let count : length front ≡ i = omega (arith, length-take i ps, c.loop-pair-test.true) in
     let few : c.loop-pair.place < 64 = omega (arith, c.requires, c.loop-pair-test.true, c.loop-pair.invariant.place) in
     let more : take (i + 1) ps ≡ front ++ x ∷ [] = take_more ps i (false, false) c.loop-pair-test.true in
-    let first = word-more (firsts front) x.0 c.loop-pair.first c.loop-pair.place c.from.result c.loop-pair.invariant.first (length-map front (λ (q : Bool × Bool). q.0) ∙ count ∙ sym c.loop-pair.invariant.place) few c.from.ensures in
-    let second = word-more (seconds front) x.1 c.loop-pair.second c.loop-pair.place c.from-in-loop-pair.result c.loop-pair.invariant.second (length-map front (λ (q : Bool × Bool). q.1) ∙ count ∙ sym c.loop-pair.invariant.place) few c.from-in-loop-pair.ensures in
+    let first = word-more (firsts front) x.0 c.loop-pair.first c.loop-pair.place c.from.result
+    c.loop-pair.invariant.first (length-map front (λ (q : Bool × Bool). q.0) ∙ count
+    ∙ sym c.loop-pair.invariant.place) few c.from.ensures in
+    let second = word-more (seconds front) x.1 c.loop-pair.second c.loop-pair.place c.from-in-loop-pair.result
+    c.loop-pair.invariant.second (length-map front (λ (q : Bool × Bool). q.1) ∙ count
+    ∙ sym c.loop-pair.invariant.place) few c.from-in-loop-pair.ensures in
     record {
       first = first ∙ ap number (sym (ap firsts more ∙ firsts-more front x));
       second = second ∙ ap number (sym (ap seconds more ∙ seconds-more front x));
@@ -32,7 +37,12 @@ pub returns-clause-small : goal.returns-clause-small
 returns-clause-small c =
     let ps = c.args.pairs.now in
     let front = take c.loop-pair.pair-index ps in
-    let count : length front ≡ length ps = omega (arith, length-take c.loop-pair.pair-index ps, c.loop-pair-test.false) in (
-      rw (c.loop-pair.invariant.first) (subst (λ n. number (firsts front) < 2 ^ n) (length-map front (λ (q : Bool × Bool). q.0) ∙ count) (number-lt (firsts front))),
-      rw (c.loop-pair.invariant.second) (subst (λ n. number (seconds front) < 2 ^ n) (length-map front (λ (q : Bool × Bool). q.1) ∙ count) (number-lt (seconds front))),
+    let count : length front ≡ length ps =
+    omega (arith, length-take c.loop-pair.pair-index ps, c.loop-pair-test.false) in (
+      rw (c.loop-pair.invariant.first)
+          (subst (λ n. number (firsts front) < 2 ^ n) (length-map front (λ (q : Bool × Bool). q.0) ∙ count)
+          (number-lt (firsts front))),
+      rw (c.loop-pair.invariant.second)
+          (subst (λ n. number (seconds front) < 2 ^ n) (length-map front (λ (q : Bool × Bool). q.1) ∙ count)
+          (number-lt (seconds front))),
     )

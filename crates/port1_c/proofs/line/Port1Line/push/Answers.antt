@@ -23,5 +23,6 @@ returns-in-Ok-Some-clause-tells c =
     (subst (λ (k : OctetCheck). Tells (state old.words k old.octets) bits report new) here (record {
       leads = leads;
       says = λ b h. c.in-Ok-Some.ensures.more b h
-          ∙ ap (λ (o : Option Report). placed old.words.origin old.words.longest b ++ option_to_list o) (ap (option_map (reported new.octets)) c.in-Ok-Some.field-0-is ∙ sym (c.of_event.ensures.tells new.octets));
+          ∙ ap (λ (o : Option Report). placed old.words.origin old.words.longest b ++ option_to_list o)
+          (ap (option_map (reported new.octets)) c.in-Ok-Some.field-0-is ∙ sym (c.of_event.ensures.tells new.octets));
     }))

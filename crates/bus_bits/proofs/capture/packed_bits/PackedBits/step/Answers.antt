@@ -1,4 +1,5 @@
-use Rattle.std.proofs.Common.{◌≡◌, ℕ, ◌<◌, ◌-◌, ◌∷◌, [], ◌++◌, List, Bool, true, false, take, drop, arith, sym, ap, ◌∙◌, subst}
+use Rattle.std.proofs.Common.{◌≡◌, ℕ, ◌<◌, ◌-◌, ◌∷◌, [], ◌++◌, List, Bool, true, false, take, drop, arith, sym, ap, ◌∙◌}
+use Rattle.std.proofs.Common.{subst}
 use Rattle.std.proofs.lemmas.List.{length-drop, take_all}
 use Rattle.std.specs.List.{list_any}
 use Rattle.bus_bits.specs.Octet.{bits_of}
@@ -18,7 +19,8 @@ unused_ones : (left o : ℕ) (bits : List Bool) → bits ≡ bits_of 8 o
     → list_any (λ b. b) (take (8 - left) (drop left bits)) ≡ list_any (λ b. b) (drop left (bits_of 8 o))
 unused_ones left o bits b =
     ap (λ (x : List Bool). list_any (λ b. b) (take (8 - left) (drop left x))) b
-    ∙ ap (list_any (λ b. b)) (take_all (8 - left) (drop left (bits_of 8 o)) (omega (arith, length-drop left (bits_of 8 o), length-bits 8 o)))
+    ∙ ap (list_any (λ b. b))
+    (take_all (8 - left) (drop left (bits_of 8 o)) (omega (arith, length-drop left (bits_of 8 o), length-bits 8 o)))
 
 pub returns-then-has_one-clause-given : goal.returns-then-has_one-clause-given
 returns-then-has_one-clause-given c =
@@ -26,7 +28,8 @@ returns-then-has_one-clause-given c =
     let left = c.args.self.now in
     let y : list_any (λ b. b) (drop left (bits_of 8 c.args.octet)) ≡ true =
     sym (unused_ones left c.args.octet c.octet_bits-bits.result c.octet_bits-bits.ensures)
-    ∙ sym (subst (λ (k : ℕ). c.has_one.result ≡ list_any (λ b. b) (take (8 - k) (drop k c.octet_bits-bits.result))) c.self.view_is c.has_one.ensures) ∙ c.if-has_one.true in
+    ∙ sym (subst (λ (k : ℕ). c.has_one.result ≡ list_any (λ b. b) (take (8 - k) (drop k c.octet_bits-bits.result)))
+    c.self.view_is c.has_one.ensures) ∙ c.if-has_one.true in
     let p : 0 < left = let z = c.if-self-eq0.false in omega arith in
     packed-pad n xs c.args.octet left h p y
 
@@ -37,14 +40,16 @@ returns-clause-given c =
     let o = c.args.octet in
     let y : list_any (λ b. b) (drop left (bits_of 8 o)) ≡ false =
     sym (unused_ones left o c.octet_bits-bits.result c.octet_bits-bits.ensures)
-    ∙ sym (subst (λ (k : ℕ). c.has_one.result ≡ list_any (λ b. b) (take (8 - k) (drop k c.octet_bits-bits.result))) c.self.view_is c.has_one.ensures) ∙ c.if-has_one.false in
+    ∙ sym (subst (λ (k : ℕ). c.has_one.result ≡ list_any (λ b. b) (take (8 - k) (drop k c.octet_bits-bits.result)))
+    c.self.view_is c.has_one.ensures) ∙ c.if-has_one.false in
     let p : 0 < left = let z = c.if-self-eq0.false in omega arith in
     let r = packed-more n xs o left h p y in
     let few = c.if-self-ge8.false in
     let v : c.self.inside.left ≡ left = c.self.view_is in
     let s : left - 8 ≡ 0 = omega arith in
     let g : c.gathered.result.items ≡ take left (bits_of 8 o) =
-    c.gathered.ensures ∙ ap (take c.self.inside.left) c.octet_bits-bits.ensures ∙ ap (λ (k : ℕ). take k (bits_of 8 o)) v in
+    c.gathered.ensures ∙ ap (take c.self.inside.left) c.octet_bits-bits.ensures
+    ∙ ap (λ (k : ℕ). take k (bits_of 8 o)) v in
     let P : ℕ → Type 0 = λ k. PackedAfter n (xs ++ o ∷ []) k in (
       subst P s r.0,
       r.1 ∙ ap (λ (x : List Bool). (packed_body n xs).bits ++ x) (sym g),

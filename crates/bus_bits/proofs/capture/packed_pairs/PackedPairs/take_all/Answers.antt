@@ -7,5 +7,7 @@ pub returns-clause-given : goal.returns-clause-given
 returns-clause-given c = λ n xs h.
     let os = c.args.octets.now in
     let all = pairs-taken n xs os c.args.self.now h c.requires.wanted in
-    let left : c.args.self.now - 4 * length os ≡ c.self.inside.left - 4 * length os = omega (arith, c.self.view_is) in
-    (subst (λ (k : ℕ). PairsAfter n (xs ++ os) k) left all.0, all.1 ∙ ap (λ (ps : List (Bool × Bool)). (pair_body n xs).bits ++ ps) c.part.ensures.pairs)
+    let left : c.args.self.now - 4 * length os ≡ c.self.inside.left - 4 * length os = omega (arith, c.self.view_is) in (
+      subst (λ (k : ℕ). PairsAfter n (xs ++ os) k) left all.0,
+      all.1 ∙ ap (λ (ps : List (Bool × Bool)). (pair_body n xs).bits ++ ps) c.part.ensures.pairs,
+    )

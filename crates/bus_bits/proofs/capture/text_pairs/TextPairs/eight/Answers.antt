@@ -15,7 +15,8 @@ returns-in_err-eight-clause-some c = (
 )
 
 pub gathered_pairs-first-requires : goal.gathered_pairs-first-requires
-gathered_pairs-first-requires c = (c.eight_marks.ensures.marks is_pair pair-marks c.in_ok-eight.eight c.in_ok-eight.was).2
+gathered_pairs-first-requires c =
+    (c.eight_marks.ensures.marks is_pair pair-marks c.in_ok-eight.eight c.in_ok-eight.was).2
 
 pub returns-clause-given : goal.returns-clause-given
 returns-clause-given c =
@@ -28,7 +29,8 @@ returns-clause-given c =
     let second : c.gathered_pairs-first.result.1 ≡ e.second = cc in
     let r = text-given is_pair mark_pair os eight.marks eight.taken _ m.0 m.1 c.gathered_pairs-first.ensures xs f in (
       ap (λ (n : ℕ). text_pairs_fault (xs ++ take n os)) (sym taken) ∙ r.0,
-      ap (λ (n : ℕ). text_pairs (xs ++ take n os)) (sym taken) ∙ r.1 ∙ ap (λ (k : ℕ). text_pairs xs ++ zip (bits_of 8 k) (bits_of 8 c.gathered_pairs-first.result.1)) first
+      ap (λ (n : ℕ). text_pairs (xs ++ take n os)) (sym taken) ∙ r.1
+          ∙ ap (λ (k : ℕ). text_pairs xs ++ zip (bits_of 8 k) (bits_of 8 c.gathered_pairs-first.result.1)) first
           ∙ ap (λ (k : ℕ). text_pairs xs ++ zip (bits_of 8 e.first) (bits_of 8 k)) second,
     )
 

@@ -30,8 +30,11 @@ loop-filled-preserved c =
     record {
       enough = omega (arith, fewest.0.0, before.enough, length-take (length os - i) (drop i os), length-drop i os);
       within = omega (arith, length-set first at eight.first, c.loop-filled-test.true);
-      given = λ xs clean. more-given text_pairs text_pairs_fault xs os i eight.taken (zip (bits_from first 0 (8 * at)) (bits_from second 0 (8 * at))) (zip (bits_of 8 eight.first) (bits_of 8 eight.second)) _
-          (pairs-stored first second at eight.first eight.second c.loop-filled-test.true (omega (arith, c.loop-filled-test.true, before.first, before.second, c.requires.same)))
+      given = λ xs clean. more-given text_pairs text_pairs_fault xs os i eight.taken
+          (zip (bits_from first 0 (8 * at)) (bits_from second 0 (8 * at)))
+          (zip (bits_of 8 eight.first) (bits_of 8 eight.second)) _
+          (pairs-stored first second at eight.first eight.second c.loop-filled-test.true
+          (omega (arith, c.loop-filled-test.true, before.first, before.second, c.requires.same)))
           (before.given xs clean) (c.in-Some.ensures.given eight refl);
       first = length-set first at eight.first ∙ before.first;
       second = length-set second at eight.second ∙ before.second;

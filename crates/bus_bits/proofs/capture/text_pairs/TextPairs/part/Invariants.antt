@@ -10,7 +10,8 @@ invariant-loop-filled l = record {
   within : l.filled ≤ length l.first;
   given : (xs : List ℕ) → text_pairs_fault xs ≡ None
       → (text_pairs_fault (xs ++ take l.taken l.text) ≡ None)
-      × (text_pairs (xs ++ take l.taken l.text) ≡ text_pairs xs ++ zip (bits_from l.first 0 (8 * l.filled)) (bits_from l.second 0 (8 * l.filled)));
+      × (text_pairs (xs ++ take l.taken l.text) ≡ text_pairs xs
+      ++ zip (bits_from l.first 0 (8 * l.filled)) (bits_from l.second 0 (8 * l.filled)));
   first : length l.first ≡ length l.fn.first;
   second : length l.second ≡ length l.fn.second;
 }

@@ -1,6 +1,7 @@
 use Rattle.std.proofs.Common.{◌≡◌, ◌||◌, ◌∷◌, [], ◌++◌, true, false, cond, Bool, ap, ◌∙◌}
 use Rattle.bus_bits.specs.Capture.{is_space, mark_pair, text_pairs}
-use Rattle.bus_bits.proofs.TextBitsLemmas.{pairs-more, pairs-stop, mark_is_pair, mark_by_quarter, mark_pair_is, pair_space}
+use Rattle.bus_bits.proofs.TextBitsLemmas.{pairs-more, pairs-stop, mark_is_pair, mark_by_quarter, mark_pair_is}
+use Rattle.bus_bits.proofs.TextBitsLemmas.{pair_space}
 use Rattle.bus_bits.proofs.capture.text_pairs.TextPairs.step.Goals as goal
 
 pub returns-then-octet-clause-given : goal.returns-then-octet-clause-given

@@ -8,10 +8,12 @@ use Rattle.bus_watch.proofs.pair.analyser.PairAnalyser.feed.Given as goal
 abbrev pub invariant-loop-consumed : goal.invariant-loop-consumed
 invariant-loop-consumed g l = record {
   within : l.consumed ≤ length l.fn.pairs;
-  fed : FedBy (two_lines g.C.Check.folded g.C.Check.COST) g.S.PairSink.taken l.fn.self (take l.consumed l.fn.pairs) l.self l.fn.sink l.sink;
+  fed : FedBy (two_lines g.C.Check.folded g.C.Check.COST) g.S.PairSink.taken l.fn.self (take l.consumed l.fn.pairs)
+      l.self l.fn.sink l.sink;
   refusals : g.S.PairSink.refusals l.sink ≡ g.S.PairSink.refusals l.fn.sink;
   room : g.S.PairSink.room l.sink ≡ g.S.PairSink.room l.fn.sink;
-  kept : IsWithinRoom (g.S.PairSink.room l.fn.sink) (g.S.PairSink.taken l.fn.sink) → IsWithinRoom (g.S.PairSink.room l.sink) (g.S.PairSink.taken l.sink);
+  kept : IsWithinRoom (g.S.PairSink.room l.fn.sink) (g.S.PairSink.taken l.fn.sink) →
+      IsWithinRoom (g.S.PairSink.room l.sink) (g.S.PairSink.taken l.sink);
 }
 
 abbrev pub decreases-loop-consumed : goal.decreases-loop-consumed

@@ -11,14 +11,20 @@ returns g c =
     let n = c.in_ok-take.field-0 in
     let within = c.in_ok-take.ensures.within in
     let one : pairs_of n c.from.result c.from-2.result ≡ (c.args.first, c.args.second) ∷ [] =
-    one_pair n c.from.result c.from-2.result c.args.first c.args.second c.from.ensures c.from-2.ensures within.0 within.1 in
-    let sees : SeesPairs g.C.Check.folded g.C.Check.COST c.args.self.now ((c.args.first, c.args.second) ∷ []) (shown_pair c.seen.result) c.take.new.self =
-    subst (λ (x : List (Bool × Bool)). SeesPairs g.C.Check.folded g.C.Check.COST c.args.self.now x (shown_pair c.seen.result) c.take.new.self) one
-    (subst (λ (told : List SeenReport). SeesPairs g.C.Check.folded g.C.Check.COST c.args.self.now (pairs_of n c.from.result c.from-2.result) told c.take.new.self) (sym c.seen.ensures.shown) c.in_ok-take.ensures.sees) in (
+    one_pair n c.from.result c.from-2.result c.args.first c.args.second c.from.ensures c.from-2.ensures within.0
+    within.1 in
+    let sees : SeesPairs g.C.Check.folded g.C.Check.COST c.args.self.now ((c.args.first, c.args.second) ∷ [])
+    (shown_pair c.seen.result) c.take.new.self =
+    subst (λ (x : List (Bool × Bool)). SeesPairs g.C.Check.folded g.C.Check.COST c.args.self.now x
+    (shown_pair c.seen.result) c.take.new.self) one
+    (subst (λ (told : List SeenReport). SeesPairs g.C.Check.folded g.C.Check.COST c.args.self.now
+    (pairs_of n c.from.result c.from-2.result) told c.take.new.self) (sym c.seen.ensures.shown)
+    c.in_ok-take.ensures.sees) in (
       (refl, (λ e. tt), (sees, tt)),
       record {
         limit = ((λ e. absurd (cc)), (λ h. absurd (let e = c.in_ok-take.ensures.limit.1 (omega (arith, h)) in cc)));
-        answer = λ ps t. answer-pair g.C.Check.folded g.C.Check.COST c.args.self.now ps (c.args.first, c.args.second) (shown_pair c.seen.result) c.pairs_grow.ensures.grows t (sees.seen ps t);
+        answer = λ ps t. answer-pair g.C.Check.folded g.C.Check.COST c.args.self.now ps (c.args.first, c.args.second)
+            (shown_pair c.seen.result) c.pairs_grow.ensures.grows t (sees.seen ps t);
         fits = (c.seen.ensures.first_fits, c.seen.ensures.second_fits);
         rests = tt;
       },

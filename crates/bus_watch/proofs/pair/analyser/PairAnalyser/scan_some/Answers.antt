@@ -1,4 +1,5 @@
-use Rattle.std.proofs.Common.{◌≡◌, ◌+◌, ◌-◌, ◌*◌, ◌++◌, ◌∷◌, [], ℕ, List, Bool, length, zip, Option, Some, None, true, refl, sym, ap, ◌∙◌, subst, append-nil, arith}
+use Rattle.std.proofs.Common.{◌≡◌, ◌+◌, ◌-◌, ◌*◌, ◌++◌, ◌∷◌, [], ℕ, List, Bool, length, zip, Option, Some, None, true}
+use Rattle.std.proofs.Common.{refl, sym, ap, ◌∙◌, subst, append-nil, arith}
 use Rattle.std.specs.Option.{option_to_list, option_map}
 use Rattle.std.proofs.lemmas.List.{length-map}
 use Rattle.bus_bits.specs.Bits.{bits_from}
@@ -25,8 +26,15 @@ pub follow-requires-clause-reaches : goal.follow-requires-clause-reaches
 follow-requires-clause-reaches g c =
     let ps = c.self.invariant.pairs in
     let reached = c.self.invariant.reached in
-    pairs-reach g.C.Check.folded g.C.Check.COST (pair_state c.self.inside) ps c.settled_places.ensures.frames c.settled_places.ensures.paid c.settled_places.ensures.within reached
-    (omega (arith, ap (λ (a : PairState g.row.C.Denot). a.first.place) c.self.view_is, c.requires.places, reached.first.has_taken.place, length-map ps (λ (q : Bool × Bool). q.0)))
+    pairs-reach g.C.Check.folded g.C.Check.COST (pair_state c.self.inside) ps c.settled_places.ensures.frames
+    c.settled_places.ensures.paid c.settled_places.ensures.within reached
+    (omega (
+      arith,
+      ap (λ (a : PairState g.row.C.Denot). a.first.place) c.self.view_is,
+      c.requires.places,
+      reached.first.has_taken.place,
+      length-map ps (λ (q : Bool × Bool). q.0),
+    ))
 
 pub take-requires-clause-whole : goal.take-requires-clause-whole
 take-requires-clause-whole g c =
@@ -35,14 +43,18 @@ take-requires-clause-whole g c =
     let n = c.in-Ok.scanned.count in
     let longer = b ++ bits_from c.args.second.now c.args.from n in
     let due = option_map (moved d.origin) (due_at d.longest longer (length b + n - 1)) in
-    whole d.longest d.origin longer (length b + n - 1) c.octets-octets.result.now c.in-Some.event c.reports_are.ensures.due c.frame_is_spelled.ensures
+    whole d.longest d.origin longer (length b + n - 1) c.octets-octets.result.now c.in-Some.event
+    c.reports_are.ensures.due c.frame_is_spelled.ensures
     (subst (λ os. Some (reported os c.in-Some.event) ≡ due) (sym c.octets-octets.ensures.value)
-    (subst (λ o. option_map (reported c.scan.new.self.octets) o ≡ due) c.in-Some.is (c.in-Ok.ensures.answer b c.self.invariant.reached.second)))
+    (subst (λ o. option_map (reported c.scan.new.self.octets) o ≡ due) c.in-Some.is
+    (c.in-Ok.ensures.answer b c.self.invariant.reached.second)))
 
 pub take-requires-clause-room : goal.take-requires-clause-room
 take-requires-clause-room g c =
     let n = c.in-Ok.scanned.count in
-    reaches-room g.C.Check.folded g.C.Check.COST c.follow.new.decoder (journal_state c.follow.new.journal) c.settled_places.ensures.frames c.settled_places.ensures.paid c.settled_places.ensures.within c.follow.ensures.reaches
+    reaches-room g.C.Check.folded g.C.Check.COST c.follow.new.decoder (journal_state c.follow.new.journal)
+    c.settled_places.ensures.frames c.settled_places.ensures.paid c.settled_places.ensures.within
+    c.follow.ensures.reaches
     (omega (
       arith,
       c.follow.ensures.hears.led.place,
@@ -58,7 +70,9 @@ tell-requires-clause-room g c =
     let most : ℕ = 2 * (c.args.end - c.args.from) in
     let left : ℕ = most - n in
     g.met.L.PairListener.has_less c.follow.new.listener left 1 (omega (arith, c.requires.some, c.in-Ok.ensures.count))
-    (c.follow.ensures.left left (g.met.L.PairListener.has_less c.args.listener.now most (c.args.from + n - c.args.from + left) (omega (arith, c.in-Ok.ensures.count)) c.requires.room))
+    (c.follow.ensures.left left
+    (g.met.L.PairListener.has_less c.args.listener.now most (c.args.from + n - c.args.from + left)
+    (omega (arith, c.in-Ok.ensures.count)) c.requires.room))
 
 pub returns-in-Some-clause-left : goal.returns-in-Some-clause-left
 returns-in-Some-clause-left g c =
@@ -68,14 +82,18 @@ returns-in-Some-clause-left g c =
     let more : ℕ = 2 * (c.args.end - (c.args.from + n)) in
     c.tell.ensures.left more
     (g.met.L.PairListener.has_less c.follow.new.listener left (1 + more) (omega (arith, c.in-Ok.ensures.count))
-    (c.follow.ensures.left left (g.met.L.PairListener.has_less c.args.listener.now most (c.args.from + n - c.args.from + left) (omega (arith, c.in-Ok.ensures.count)) c.requires.room)))
+    (c.follow.ensures.left left
+    (g.met.L.PairListener.has_less c.args.listener.now most (c.args.from + n - c.args.from + left)
+    (omega (arith, c.in-Ok.ensures.count)) c.requires.room)))
 
 pub returns-in_default-clause-left : goal.returns-in_default-clause-left
 returns-in_default-clause-left g c =
     let n = c.in-Ok.scanned.count in
     let most : ℕ = 2 * (c.args.end - c.args.from) in
     let more : ℕ = 2 * (c.args.end - (c.args.from + n)) in
-    c.follow.ensures.left more (g.met.L.PairListener.has_less c.args.listener.now most (c.args.from + n - c.args.from + more) (omega (arith, c.in-Ok.ensures.count)) c.requires.room)
+    c.follow.ensures.left more
+    (g.met.L.PairListener.has_less c.args.listener.now most (c.args.from + n - c.args.from + more)
+    (omega (arith, c.in-Ok.ensures.count)) c.requires.room)
 
 -- ---- the second line's report at the last bit
 
@@ -97,8 +115,10 @@ pairs-taken g c =
     zip (bits_from c.args.first.now c.args.from n) (bits_from c.args.second.now c.args.from n)
 
 -- the journal takes it
-leads-on : (g : Over) (c : goal.After-tell g) (told : List SeenReport → Type 0) → told (c.follow.ensures.hears.seen_now ++ option_to_list (last-seen g c))
-    → LeadsTold (two_lines g.C.Check.folded g.C.Check.COST) (pair_state c.self.inside) (pairs-taken g c) (with-report g c) told
+leads-on : (g : Over) (c : goal.After-tell g) (told : List SeenReport → Type 0) →
+    told (c.follow.ensures.hears.seen_now ++ option_to_list (last-seen g c))
+    → LeadsTold (two_lines g.C.Check.folded g.C.Check.COST) (pair_state c.self.inside) (pairs-taken g c)
+    (with-report g c) told
 leads-on g c told t =
     let n = c.in-Ok.scanned.count in
     let all : c.args.from + n - c.args.from ≡ n = omega arith in
@@ -109,13 +129,25 @@ leads-on g c told t =
     let old = journal_state c.follow.new.journal in
     let new = journal_state c.take.new.self in
     let tells = c.in-Ok.ensures.tells in
-    let grows = subst (λ o. GrowsBy g.C.Check.folded g.C.Check.COST d x (option_map (reported os) o)) c.in-Some.is tells.says in
-    let calm = subst (IsCalmFor g.C.Check.folded g.C.Check.COST d) (sym (front-from c.args.second.now c.args.from n)) c.in-Ok.ensures.before in
-    let keeps = subst (λ (y : List ℕ). (hs : List Heard) → Keeps old hs → Keeps new (hs ++ heard_on (Some Second) (reported y e) ∷ [])) c.octets-octets.ensures.value c.take.ensures.keeps in
-    let says = subst (λ (y : List ℕ). (hs : List Heard) → Keeps old hs → found_on (Some Second) y c.take.new.self.last ≡ seen_of old.dictionary hs (heard_on (Some Second) (reported y e))) c.octets-octets.ensures.value c.take.ensures.says in
-    let heard = hears-some g.C.Check.folded g.C.Check.COST (Some Second) d c.scan.new.self old new x (reported os e) (last-seen g c) tells.leads grows calm keeps (λ hs k. ap Some (says hs k)) c.take.ensures.given.0 c.take.ensures.given.1 in
-    leads-scanned g.C.Check.folded g.C.Check.COST (pair_state c.self.inside) (with-report g c) old c.args.first.now c.args.second.now c.args.from (c.args.from + n - c.args.from) (last-seen g c) _ told
-    c.reports_grow.ensures.stays c.reports_grow.ensures.more c.reports_grow.ensures.grow (omega (arith, c.in-Ok.ensures.count)) c.follow.ensures.hears (rw all heard) t
+    let grows = subst (λ o. GrowsBy g.C.Check.folded g.C.Check.COST d x (option_map (reported os) o)) c.in-Some.is
+    tells.says in
+    let calm = subst (IsCalmFor g.C.Check.folded g.C.Check.COST d) (sym (front-from c.args.second.now c.args.from n))
+    c.in-Ok.ensures.before in
+    let keeps =
+    subst (λ (y : List ℕ). (hs : List Heard) → Keeps old hs →
+    Keeps new (hs ++ heard_on (Some Second) (reported y e) ∷ [])) c.octets-octets.ensures.value
+    c.take.ensures.keeps in
+    let says =
+    subst (λ (y : List ℕ). (hs : List Heard) → Keeps old hs →
+    found_on (Some Second) y c.take.new.self.last ≡ seen_of old.dictionary hs (heard_on (Some Second) (reported y e)))
+    c.octets-octets.ensures.value c.take.ensures.says in
+    let heard = hears-some g.C.Check.folded g.C.Check.COST (Some Second) d c.scan.new.self old new x (reported os e)
+    (last-seen g c) tells.leads grows calm keeps (λ hs k. ap Some (says hs k)) c.take.ensures.given.0
+    c.take.ensures.given.1 in
+    leads-scanned g.C.Check.folded g.C.Check.COST (pair_state c.self.inside) (with-report g c) old c.args.first.now
+    c.args.second.now c.args.from (c.args.from + n - c.args.from) (last-seen g c) _ told
+    c.reports_grow.ensures.stays c.reports_grow.ensures.more c.reports_grow.ensures.grow
+    (omega (arith, c.in-Ok.ensures.count)) c.follow.ensures.hears (rw all heard) t
 
 pub invariant_of-self : goal.invariant_of-self
 invariant_of-self g c = record {
@@ -130,11 +162,15 @@ returns-in-Some-clause-told g c =
     let follows = c.follow.ensures.hears in
     let last = last-seen g c in
     let dictionary = c.dictionary.ensures ∙ (c.take.ensures.given.0 ∙ follows.dictionary) in
-    let told : g.L.PairListener.hears c.self.inside.journal.dictionary c.follow.new.listener c.follow.new.out (option_to_list last) c.tell.new.listener c.tell.new.out =
+    let told : g.L.PairListener.hears c.self.inside.journal.dictionary c.follow.new.listener c.follow.new.out
+    (option_to_list last) c.tell.new.listener c.tell.new.out =
     rw (← dictionary, ← c.last.ensures, ← c.octets-octets.ensures.value) c.tell.ensures.heard in
-    subst (λ (a : PairState g.row.C.Denot). LeadsTold (two_lines g.C.Check.folded g.C.Check.COST) a (pairs-taken g c) (with-report g c)
-    (λ ss. g.L.PairListener.hears a.journal.dictionary c.args.listener.now c.args.out.now ss c.tell.new.listener c.tell.new.out)) c.self.view_is
-    (leads-on g c _ (g.met.L.PairListener.hears_more c.self.inside.journal.dictionary c.args.listener.now c.follow.new.listener c.tell.new.listener
+    subst (λ (a : PairState g.row.C.Denot). LeadsTold (two_lines g.C.Check.folded g.C.Check.COST) a (pairs-taken g c)
+    (with-report g c)
+    (λ ss. g.L.PairListener.hears a.journal.dictionary c.args.listener.now c.args.out.now ss c.tell.new.listener
+    c.tell.new.out)) c.self.view_is
+    (leads-on g c _ (g.met.L.PairListener.hears_more c.self.inside.journal.dictionary c.args.listener.now
+    c.follow.new.listener c.tell.new.listener
     c.args.out.now c.follow.new.out c.tell.new.out follows.seen_now (option_to_list last) follows.told told))
 
 -- ---- no report of the second line
@@ -154,7 +190,8 @@ pairs-passed g c =
     zip (bits_from c.args.first.now c.args.from n) (bits_from c.args.second.now c.args.from n)
 
 passes-on : (g : Over) (c : goal.In_default g) (told : List SeenReport → Type 0) → told c.follow.ensures.hears.seen_now
-    → LeadsTold (two_lines g.C.Check.folded g.C.Check.COST) (pair_state c.self.inside) (pairs-passed g c) (without-report g c) told
+    → LeadsTold (two_lines g.C.Check.folded g.C.Check.COST) (pair_state c.self.inside) (pairs-passed g c)
+    (without-report g c) told
 passes-on g c told t =
     let n = c.in-Ok.scanned.count in
     let all : c.args.from + n - c.args.from ≡ n = omega arith in
@@ -162,11 +199,17 @@ passes-on g c told t =
     let d = c.self.inside.second in
     let journal = journal_state c.follow.new.journal in
     let tells = c.in-Ok.ensures.tells in
-    let grows = subst (λ o. GrowsBy g.C.Check.folded g.C.Check.COST d x (option_map (reported c.scan.new.self.octets) o)) c.in_default.is tells.says in
-    let calm = subst (IsCalmFor g.C.Check.folded g.C.Check.COST d) (sym (front-from c.args.second.now c.args.from n)) c.in-Ok.ensures.before in
-    let heard = hears-none g.C.Check.folded g.C.Check.COST (Some Second) d c.scan.new.self journal journal x tells.leads grows calm refl in
-    leads-scanned g.C.Check.folded g.C.Check.COST (pair_state c.self.inside) (without-report g c) journal c.args.first.now c.args.second.now c.args.from (c.args.from + n - c.args.from) None _ told
-    c.reports_grow.ensures.stays c.reports_grow.ensures.more c.reports_grow.ensures.grow (omega (arith, c.in-Ok.ensures.count)) c.follow.ensures.hears (rw all heard)
+    let grows =
+    subst (λ o. GrowsBy g.C.Check.folded g.C.Check.COST d x (option_map (reported c.scan.new.self.octets) o))
+    c.in_default.is tells.says in
+    let calm = subst (IsCalmFor g.C.Check.folded g.C.Check.COST d) (sym (front-from c.args.second.now c.args.from n))
+    c.in-Ok.ensures.before in
+    let heard = hears-none g.C.Check.folded g.C.Check.COST (Some Second) d c.scan.new.self journal journal x tells.leads
+    grows calm refl in
+    leads-scanned g.C.Check.folded g.C.Check.COST (pair_state c.self.inside) (without-report g c) journal
+    c.args.first.now c.args.second.now c.args.from (c.args.from + n - c.args.from) None _ told
+    c.reports_grow.ensures.stays c.reports_grow.ensures.more c.reports_grow.ensures.grow
+    (omega (arith, c.in-Ok.ensures.count)) c.follow.ensures.hears (rw all heard)
     (subst told (sym (append-nil c.follow.ensures.hears.seen_now)) t)
 
 pub invariant_of-self-in_default : goal.invariant_of-self-in_default
@@ -178,6 +221,8 @@ invariant_of-self-in_default g c = record {
 
 pub returns-in_default-clause-told : goal.returns-in_default-clause-told
 returns-in_default-clause-told g c =
-    subst (λ (a : PairState g.row.C.Denot). LeadsTold (two_lines g.C.Check.folded g.C.Check.COST) a (pairs-passed g c) (without-report g c)
-    (λ ss. g.L.PairListener.hears a.journal.dictionary c.args.listener.now c.args.out.now ss c.follow.new.listener c.follow.new.out)) c.self.view_is
+    subst (λ (a : PairState g.row.C.Denot). LeadsTold (two_lines g.C.Check.folded g.C.Check.COST) a (pairs-passed g c)
+    (without-report g c)
+    (λ ss. g.L.PairListener.hears a.journal.dictionary c.args.listener.now c.args.out.now ss c.follow.new.listener
+    c.follow.new.out)) c.self.view_is
     (passes-on g c _ c.follow.ensures.hears.told)

@@ -12,31 +12,47 @@ use Rattle.bus_watch.proofs.pair.analyser.PairAnalyser.take.Goals as goal
 pub hear_all-self-inside-requires-clause-calm : goal.hear_all-self-inside-requires-clause-calm
 hear_all-self-inside-requires-clause-calm g c = λ b h i l m.
     let n = c.min-taken.result in
-    let e : n ≡ min c.would_take-first_takes.result c.would_take-second_takes.result = c.min-taken.ensures ∙ least c.would_take-first_takes.result c.would_take-second_takes.result in
+    let e : n ≡ min c.would_take-first_takes.result c.would_take-second_takes.result =
+    c.min-taken.ensures ∙ least c.would_take-first_takes.result c.would_take-second_takes.result in
     (c.would_take-first_takes.ensures.stops b h).before i (omega (arith, l, e))
-    (decides-front b i n c.args.count c.args.first (omega (arith, e, c.would_take-first_takes.ensures.within, c.requires.few)) (omega (arith, e, c.would_take-first_takes.ensures.within)) (omega (arith, l)) m)
+    (decides-front b i n c.args.count c.args.first
+    (omega (arith, e, c.would_take-first_takes.ensures.within, c.requires.few))
+    (omega (arith, e, c.would_take-first_takes.ensures.within)) (omega (arith, l)) m)
 
 pub hear_all-self-inside-requires-clause-room : goal.hear_all-self-inside-requires-clause-room
 hear_all-self-inside-requires-clause-room g c =
     let ps = c.self.invariant.pairs in
     let place = c.has_room.ensures.0 c.if-not-has_room.false in
-    room-first g.C.Check.folded g.C.Check.COST (pair_state c.self.inside) ps c.settled_places.ensures.frames c.settled_places.ensures.paid c.settled_places.ensures.within c.self.invariant.reached
-    (omega (arith, place, ap (λ (a : PairState g.row.C.Denot). a.first.place) c.self.view_is, c.self.invariant.reached.first.has_taken.place, length-map ps (λ (q : Bool × Bool). q.0)))
+    room-first g.C.Check.folded g.C.Check.COST (pair_state c.self.inside) ps c.settled_places.ensures.frames
+    c.settled_places.ensures.paid c.settled_places.ensures.within c.self.invariant.reached
+    (omega (
+      arith,
+      place,
+      ap (λ (a : PairState g.row.C.Denot). a.first.place) c.self.view_is,
+      c.self.invariant.reached.first.has_taken.place,
+      length-map ps (λ (q : Bool × Bool). q.0),
+    ))
 
 pub hear_all-self-inside-requires-2-clause-calm : goal.hear_all-self-inside-requires-2-clause-calm
 hear_all-self-inside-requires-2-clause-calm g c = λ b h i l m.
     let n = c.min-taken.result in
-    let e : n ≡ min c.would_take-first_takes.result c.would_take-second_takes.result = c.min-taken.ensures ∙ least c.would_take-first_takes.result c.would_take-second_takes.result in
+    let e : n ≡ min c.would_take-first_takes.result c.would_take-second_takes.result =
+    c.min-taken.ensures ∙ least c.would_take-first_takes.result c.would_take-second_takes.result in
     (c.would_take-second_takes.ensures.stops b h).before i (omega (arith, l, e))
-    (decides-front b i n c.args.count c.args.second (omega (arith, e, c.would_take-second_takes.ensures.within, c.requires.few)) (omega (arith, e, c.would_take-second_takes.ensures.within)) (omega (arith, l)) m)
+    (decides-front b i n c.args.count c.args.second
+    (omega (arith, e, c.would_take-second_takes.ensures.within, c.requires.few))
+    (omega (arith, e, c.would_take-second_takes.ensures.within)) (omega (arith, l)) m)
 
 pub hear_all-self-inside-requires-2-clause-room : goal.hear_all-self-inside-requires-2-clause-room
 hear_all-self-inside-requires-2-clause-room g c =
     let ps = c.self.invariant.pairs in
     let n = c.min-taken.result in
-    let e : n ≡ min c.would_take-first_takes.result c.would_take-second_takes.result = c.min-taken.ensures ∙ least c.would_take-first_takes.result c.would_take-second_takes.result in
+    let e : n ≡ min c.would_take-first_takes.result c.would_take-second_takes.result =
+    c.min-taken.ensures ∙ least c.would_take-first_takes.result c.would_take-second_takes.result in
     let place = c.has_room.ensures.0 c.if-not-has_room.false in
-    room-second g.C.Check.folded g.C.Check.COST (pair_state c.self.inside) c.hear_all-self-inside.new.decoder (journal_state c.hear_all-self-inside.new.journal) _ _ ps c.settled_places.ensures.frames c.settled_places.ensures.paid c.settled_places.ensures.within
+    room-second g.C.Check.folded g.C.Check.COST (pair_state c.self.inside) c.hear_all-self-inside.new.decoder
+    (journal_state c.hear_all-self-inside.new.journal) _ _ ps c.settled_places.ensures.frames
+    c.settled_places.ensures.paid c.settled_places.ensures.within
     c.hear_all-self-inside.ensures c.self.invariant.reached
     (omega (
       arith,
@@ -57,20 +73,35 @@ returns-clause-stops g c =
     let x = bits_of c.args.count c.args.first in
     let y = bits_of c.args.count c.args.second in
     let e : n ≡ min n1 n2 = c.min-taken.ensures ∙ least n1 n2 in
-    subst (λ a. (ps : List (Bool × Bool)) → IsAfterPairs g.C.Check.folded g.C.Check.COST a ps → TakesPairsTo (firsts ps) (seconds ps) x y n) c.self.view_is
+    subst (λ a. (ps : List (Bool × Bool)) → IsAfterPairs g.C.Check.folded g.C.Check.COST a ps →
+    TakesPairsTo (firsts ps) (seconds ps) x y n) c.self.view_is
     (λ ps t. subst (TakesPairsTo (firsts ps) (seconds ps) x y) (sym e)
-    (takes-least (firsts ps) (seconds ps) x y n1 n2 (length-bits c.args.count c.args.first ∙ sym (length-bits c.args.count c.args.second))
-    (c.would_take-first_takes.ensures.stops (firsts ps) t.first) (c.would_take-second_takes.ensures.stops (seconds ps) t.second)))
+    (takes-least (firsts ps) (seconds ps) x y n1 n2
+    (length-bits c.args.count c.args.first ∙ sym (length-bits c.args.count c.args.second))
+    (c.would_take-first_takes.ensures.stops (firsts ps) t.first)
+    (c.would_take-second_takes.ensures.stops (seconds ps) t.second)))
 
 pub invariant_of-self : goal.invariant_of-self
 invariant_of-self g c =
     let n = c.min-taken.result in
-    let e : n ≡ min c.would_take-first_takes.result c.would_take-second_takes.result = c.min-taken.ensures ∙ least c.would_take-first_takes.result c.would_take-second_takes.result in
+    let e : n ≡ min c.would_take-first_takes.result c.would_take-second_takes.result =
+    c.min-taken.ensures ∙ least c.would_take-first_takes.result c.would_take-second_takes.result in
     let h1 = c.hear_all-self-inside.ensures in
     let h2 = c.hear_all-self-inside-2.ensures in
-    let new : PairState g.row.C.Denot = record { first = c.hear_all-self-inside.new.decoder; second = c.hear_all-self-inside-2.new.decoder; journal = journal_state c.hear_all-self-inside-2.new.journal; found_first = c.hear_all-self-inside.result; found_second = c.hear_all-self-inside-2.result } in
-    let sees = sees-words g.C.Check.folded g.C.Check.COST n c.args.first c.args.second (pair_state c.self.inside) new (journal_state c.hear_all-self-inside.new.journal) _ _ c.reports_grow.ensures.stays c.reports_grow.ensures.more c.reports_grow.ensures.grow
-    (omega (arith, e, c.would_take-first_takes.ensures.within, c.would_take-second_takes.ensures.within)) (omega (arith, e, c.would_take-first_takes.ensures.within, c.requires.few)) h1 h2 in
+    let new : PairState g.row.C.Denot =
+    record {
+      first = c.hear_all-self-inside.new.decoder;
+      second = c.hear_all-self-inside-2.new.decoder;
+      journal = journal_state c.hear_all-self-inside-2.new.journal;
+      found_first =
+          c.hear_all-self-inside.result;
+      found_second = c.hear_all-self-inside-2.result;
+    } in
+    let sees = sees-words g.C.Check.folded g.C.Check.COST n c.args.first c.args.second (pair_state c.self.inside) new
+    (journal_state c.hear_all-self-inside.new.journal) _ _ c.reports_grow.ensures.stays c.reports_grow.ensures.more
+    c.reports_grow.ensures.grow
+    (omega (arith, e, c.would_take-first_takes.ensures.within, c.would_take-second_takes.ensures.within))
+    (omega (arith, e, c.would_take-first_takes.ensures.within, c.requires.few)) h1 h2 in
     record {
       depth = omega (arith, c.self.invariant.depth, h1.depth, h2.depth);
       pairs = c.self.invariant.pairs ++ pairs_of n c.args.first c.args.second;
@@ -80,17 +111,45 @@ invariant_of-self g c =
 pub returns-clause-sees : goal.returns-clause-sees
 returns-clause-sees g c =
     let n = c.min-taken.result in
-    let e : n ≡ min c.would_take-first_takes.result c.would_take-second_takes.result = c.min-taken.ensures ∙ least c.would_take-first_takes.result c.would_take-second_takes.result in
-    let new : PairState g.row.C.Denot = record { first = c.hear_all-self-inside.new.decoder; second = c.hear_all-self-inside-2.new.decoder; journal = journal_state c.hear_all-self-inside-2.new.journal; found_first = c.hear_all-self-inside.result; found_second = c.hear_all-self-inside-2.result } in
-    subst (λ a. SeesPairs g.C.Check.folded g.C.Check.COST a (pairs_of n c.args.first c.args.second) (heard_pair new) new) c.self.view_is
-    (sees-words g.C.Check.folded g.C.Check.COST n c.args.first c.args.second (pair_state c.self.inside) new (journal_state c.hear_all-self-inside.new.journal) _ _ c.reports_grow.ensures.stays c.reports_grow.ensures.more c.reports_grow.ensures.grow
-    (omega (arith, e, c.would_take-first_takes.ensures.within, c.would_take-second_takes.ensures.within)) (omega (arith, e, c.would_take-first_takes.ensures.within, c.requires.few)) c.hear_all-self-inside.ensures c.hear_all-self-inside-2.ensures)
+    let e : n ≡ min c.would_take-first_takes.result c.would_take-second_takes.result =
+    c.min-taken.ensures ∙ least c.would_take-first_takes.result c.would_take-second_takes.result in
+    let new : PairState g.row.C.Denot =
+    record {
+      first = c.hear_all-self-inside.new.decoder;
+      second = c.hear_all-self-inside-2.new.decoder;
+      journal = journal_state c.hear_all-self-inside-2.new.journal;
+      found_first =
+          c.hear_all-self-inside.result;
+      found_second = c.hear_all-self-inside-2.result;
+    } in
+    subst (λ a. SeesPairs g.C.Check.folded g.C.Check.COST a (pairs_of n c.args.first c.args.second) (heard_pair new)
+    new) c.self.view_is
+    (sees-words g.C.Check.folded g.C.Check.COST n c.args.first c.args.second (pair_state c.self.inside) new
+    (journal_state c.hear_all-self-inside.new.journal) _ _ c.reports_grow.ensures.stays c.reports_grow.ensures.more
+    c.reports_grow.ensures.grow
+    (omega (arith, e, c.would_take-first_takes.ensures.within, c.would_take-second_takes.ensures.within))
+    (omega (arith, e, c.would_take-first_takes.ensures.within, c.requires.few)) c.hear_all-self-inside.ensures
+    c.hear_all-self-inside-2.ensures)
 
 pub returns-clause-before : goal.returns-clause-before
 returns-clause-before g c =
     let n = c.min-taken.result in
-    let e : n ≡ min c.would_take-first_takes.result c.would_take-second_takes.result = c.min-taken.ensures ∙ least c.would_take-first_takes.result c.would_take-second_takes.result in
-    let new : PairState g.row.C.Denot = record { first = c.hear_all-self-inside.new.decoder; second = c.hear_all-self-inside-2.new.decoder; journal = journal_state c.hear_all-self-inside-2.new.journal; found_first = c.hear_all-self-inside.result; found_second = c.hear_all-self-inside-2.result } in
-    subst (λ a. (ps : List (Bool × Bool)) → IsAfterPairs g.C.Check.folded g.C.Check.COST a ps → seen_after_pairs a (ps ++ pairs_of (n - 1) c.args.first c.args.second) ≡ seen_after_pairs a ps) c.self.view_is
-    (words-before g.C.Check.folded g.C.Check.COST n c.args.first c.args.second (pair_state c.self.inside) new (journal_state c.hear_all-self-inside.new.journal) _ _ c.reports_grow.ensures.stays c.reports_grow.ensures.more c.reports_grow.ensures.grow
-    (omega (arith, e, c.would_take-first_takes.ensures.within, c.would_take-second_takes.ensures.within)) (omega (arith, e, c.would_take-first_takes.ensures.within, c.requires.few)) c.hear_all-self-inside.ensures c.hear_all-self-inside-2.ensures)
+    let e : n ≡ min c.would_take-first_takes.result c.would_take-second_takes.result =
+    c.min-taken.ensures ∙ least c.would_take-first_takes.result c.would_take-second_takes.result in
+    let new : PairState g.row.C.Denot =
+    record {
+      first = c.hear_all-self-inside.new.decoder;
+      second = c.hear_all-self-inside-2.new.decoder;
+      journal = journal_state c.hear_all-self-inside-2.new.journal;
+      found_first =
+          c.hear_all-self-inside.result;
+      found_second = c.hear_all-self-inside-2.result;
+    } in
+    subst (λ a. (ps : List (Bool × Bool)) → IsAfterPairs g.C.Check.folded g.C.Check.COST a ps →
+    seen_after_pairs a (ps ++ pairs_of (n - 1) c.args.first c.args.second) ≡ seen_after_pairs a ps) c.self.view_is
+    (words-before g.C.Check.folded g.C.Check.COST n c.args.first c.args.second (pair_state c.self.inside) new
+    (journal_state c.hear_all-self-inside.new.journal) _ _ c.reports_grow.ensures.stays c.reports_grow.ensures.more
+    c.reports_grow.ensures.grow
+    (omega (arith, e, c.would_take-first_takes.ensures.within, c.would_take-second_takes.ensures.within))
+    (omega (arith, e, c.would_take-first_takes.ensures.within, c.requires.few)) c.hear_all-self-inside.ensures
+    c.hear_all-self-inside-2.ensures)

@@ -2,15 +2,23 @@ use Rattle.bus_watch.proofs.PairHeadlineLemmas.{whole-pair-run}
 use Rattle.bus_watch.proofs.pair.analyser.PairAnalyser.usage.Goals as goal
 
 pub returns-clause-headline : goal.returns-clause-headline
-returns-clause-headline g c = whole-pair-run g.C.Check.folded g.C.Check.COST c.args.self.now (record { first_buffered = c.buffered.result; second_buffered = c.buffered-2.result; history_len = c.history_len.result; spent = c.spent.result }) c.any_cut_of_pairs.ensures c.reports_are.ensures.are c.seen_grows.ensures.reports c.pairs_grow.ensures.merged (record {
-  first_room = c.buffered.ensures.bound;
-  second_room = c.buffered-2.ensures.bound;
-  first_buffered = c.buffered.ensures.stored;
-  second_buffered = c.buffered-2.ensures.stored;
-  kept = c.history_len.ensures.value;
-  deep = c.history_len.ensures.depth;
-  ledger = c.spent.ensures.ledger;
-  seventeen = c.spent.ensures.seventeen;
-  four = c.spent.ensures.four;
-  three = λ one ps s. (c.spent.ensures.three one ps s).1;
-})
+returns-clause-headline g c =
+    whole-pair-run g.C.Check.folded g.C.Check.COST c.args.self.now
+    (record {
+      first_buffered = c.buffered.result;
+      second_buffered = c.buffered-2.result;
+      history_len = c.history_len.result;
+      spent = c.spent.result;
+    }) c.any_cut_of_pairs.ensures c.reports_are.ensures.are
+    c.seen_grows.ensures.reports c.pairs_grow.ensures.merged (record {
+      first_room = c.buffered.ensures.bound;
+      second_room = c.buffered-2.ensures.bound;
+      first_buffered = c.buffered.ensures.stored;
+      second_buffered = c.buffered-2.ensures.stored;
+      kept = c.history_len.ensures.value;
+      deep = c.history_len.ensures.depth;
+      ledger = c.spent.ensures.ledger;
+      seventeen = c.spent.ensures.seventeen;
+      four = c.spent.ensures.four;
+      three = λ one ps s. (c.spent.ensures.three one ps s).1;
+    })

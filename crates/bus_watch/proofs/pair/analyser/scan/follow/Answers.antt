@@ -12,7 +12,9 @@ pub loop-at-init : goal.loop-at-init
 loop-at-init g c = record {
   some = omega arith;
   within = c.requires.some;
-  hears = rw (bits-none c.args.octets.now c.args.from) (hears-nothing g.C.Check.folded g.C.Check.COST (Some First) c.args.decoder.now (journal_state c.args.journal.now) _
+  hears = rw (bits-none c.args.octets.now c.args.from)
+      (hears-nothing g.C.Check.folded g.C.Check.COST (Some First) c.args.decoder.now (journal_state c.args.journal.now)
+      _
       (g.met.L.PairListener.hears_none c.args.journal.now.dictionary c.args.listener.now c.args.out.now));
   left = λ more room. room;
   reaches = c.requires.reaches;
@@ -21,7 +23,8 @@ loop-at-init g c = record {
 pub hear_octets-heard-requires-clause-room : goal.hear_octets-heard-requires-clause-room
 hear_octets-heard-requires-clause-room g c = λ below.
     reaches-room g.C.Check.folded g.C.Check.COST c.loop-at.decoder (journal_state c.loop-at.journal)
-    c.settled_places.ensures.frames c.settled_places.ensures.paid c.settled_places.ensures.within c.loop-at.invariant.reaches (omega (arith, below))
+    c.settled_places.ensures.frames c.settled_places.ensures.paid c.settled_places.ensures.within
+    c.loop-at.invariant.reaches (omega (arith, below))
 
 pub unreachable-requires : goal.unreachable-requires
 unreachable-requires g c =
@@ -37,7 +40,12 @@ unreachable-requires g c =
     )
 
 pub tell-requires-clause-room : goal.tell-requires-clause-room
-tell-requires-clause-room g c = g.met.L.PairListener.has_less c.loop-at.listener (c.args.past - c.loop-at.at + 0) 1 (omega (arith, c.loop-at-test.true)) (c.loop-at.invariant.left 0 (g.met.L.PairListener.has_less c.args.listener.now (c.args.past - c.args.from) (c.args.past - c.args.from + 0) (omega arith) c.requires.room))
+tell-requires-clause-room g c =
+    g.met.L.PairListener.has_less c.loop-at.listener (c.args.past - c.loop-at.at + 0) 1
+    (omega (arith, c.loop-at-test.true))
+    (c.loop-at.invariant.left 0
+    (g.met.L.PairListener.has_less c.args.listener.now (c.args.past - c.args.from) (c.args.past - c.args.from + 0)
+    (omega arith) c.requires.room))
 
 pub loop-at-preserved : goal.loop-at-preserved
 loop-at-preserved g c =
@@ -45,25 +53,35 @@ loop-at-preserved g c =
     let i = c.loop-at.at in
     let before = c.loop-at.invariant in
     let heard = c.in-Ok.ensures.hears in
-    let last = told_on (Some First) c.hear_octets-heard.new.decoder.octets c.hear_octets-heard.new.has_decided c.hear_octets-heard.new.journal.last in
+    let last = told_on (Some First) c.hear_octets-heard.new.decoder.octets c.hear_octets-heard.new.has_decided
+    c.hear_octets-heard.new.journal.last in
     let dictionary = c.dictionary.ensures ∙ (heard.dictionary ∙ before.hears.dictionary) in
-    let told : g.L.PairListener.hears c.args.journal.now.dictionary c.loop-at.listener c.loop-at.out (option_to_list last) c.tell.new.listener c.tell.new.out =
+    let told : g.L.PairListener.hears c.args.journal.now.dictionary c.loop-at.listener c.loop-at.out
+    (option_to_list last) c.tell.new.listener c.tell.new.out =
     rw (← dictionary, ← c.fresh.ensures, ← c.octets.ensures.value) c.tell.ensures.heard in
     record {
       some = omega (arith, before.some);
       within = omega (arith, c.in-Ok.ensures.within.1, c.loop-at-test.true);
       hears = rw (bits-met c.args.octets.now c.args.from i n before.some)
-          (hears-more g.C.Check.folded g.C.Check.COST (Some First) c.args.decoder.now c.loop-at.decoder c.hear_octets-heard.new.decoder
-          (journal_state c.args.journal.now) (journal_state c.loop-at.journal) (journal_state c.hear_octets-heard.new.journal)
-          (bits_from c.args.octets.now c.args.from (i - c.args.from)) (bits_from c.args.octets.now i n) last _ _ (omega (arith, length-from c.args.octets.now i n, c.in-Ok.ensures.within.0)) before.hears heard
-          (g.met.L.PairListener.hears_more c.args.journal.now.dictionary c.args.listener.now c.loop-at.listener c.tell.new.listener
-          c.args.out.now c.loop-at.out c.tell.new.out before.hears.seen_now (option_to_list last) before.hears.told told));
+          (hears-more g.C.Check.folded g.C.Check.COST (Some First) c.args.decoder.now c.loop-at.decoder
+          c.hear_octets-heard.new.decoder
+          (journal_state c.args.journal.now) (journal_state c.loop-at.journal)
+          (journal_state c.hear_octets-heard.new.journal)
+          (bits_from c.args.octets.now c.args.from (i - c.args.from)) (bits_from c.args.octets.now i n) last _ _
+          (omega (arith, length-from c.args.octets.now i n, c.in-Ok.ensures.within.0)) before.hears heard
+          (g.met.L.PairListener.hears_more c.args.journal.now.dictionary c.args.listener.now c.loop-at.listener
+          c.tell.new.listener
+          c.args.out.now c.loop-at.out c.tell.new.out before.hears.seen_now (option_to_list last) before.hears.told
+          told));
       left = λ more room.
           let left : ℕ = c.args.past - (i + n) + more in
           c.tell.ensures.left left
-          (g.met.L.PairListener.has_less c.loop-at.listener (c.args.past - i + more) (1 + left) (omega (arith, c.in-Ok.ensures.within, c.loop-at-test.true)) (before.left more room));
-      reaches = reaches-more g.C.Check.folded g.C.Check.COST (Some First) c.loop-at.decoder c.hear_octets-heard.new.decoder
-          (journal_state c.loop-at.journal) (journal_state c.hear_octets-heard.new.journal) (bits_from c.args.octets.now i n) last before.reaches heard;
+          (g.met.L.PairListener.has_less c.loop-at.listener (c.args.past - i + more) (1 + left)
+          (omega (arith, c.in-Ok.ensures.within, c.loop-at-test.true)) (before.left more room));
+      reaches = reaches-more g.C.Check.folded g.C.Check.COST (Some First) c.loop-at.decoder
+          c.hear_octets-heard.new.decoder
+          (journal_state c.loop-at.journal) (journal_state c.hear_octets-heard.new.journal)
+          (bits_from c.args.octets.now i n) last before.reaches heard;
     }
 
 pub returns-clause-hears : goal.returns-clause-hears
