@@ -440,6 +440,30 @@ def doubts(_: Path) -> List[str]:
     return problems
 
 
+def slow_answer(flags: int) -> "Recorded":
+    """An answer of so many flags, by a clock that is off by a hundredth: it drifts as it goes on."""
+    made = Cabinet(8, 10_000, True, 4_000_000, jitter=0)
+    bus = cabinet.Bus(made)
+    bus.send("1" * 5000)
+    bus.answers.append(cabinet.Answer(100, cabinet.FLAG * flags))
+    return cabinet.recorded_from(made, bus)
+
+
+def cut_off_is_told(_: Path) -> List[str]:
+    """An answer whose last bits have no place of the first line any more: the listing ends there, and that is told."""
+    needs_module("numpy")
+    problems = []
+    for flags, is_cut in [(610, False), (620, True)]:
+        recorded = slow_answer(flags)
+        got = ran([SCRIPT, *CHANNELS, "--samplerate=4000000"], recorded.samples.tobytes())
+        text = f"{WARNING}the second line goes on after the end of the first, and is cut off (at "
+        if (text in got.stderr.decode()) != is_cut:
+            problems.append(f"{flags} flags: {got.stderr.decode()}")
+        if len(plain(got.stdout.decode())) != len(recorded.first[1]):
+            problems.append(f"{flags} flags: {len(plain(got.stdout.decode()))} places")
+    return problems
+
+
 def drift_is_told(_: Path) -> List[str]:
     """A stretch of 28000 bits by a clock that is off by a thousandth lies 28 places off at its end."""
     needs_module("numpy")
@@ -542,6 +566,7 @@ TESTS = [
     many_cabinets,
     glitches,
     doubts,
+    cut_off_is_told,
     drift_is_told,
     falling_edges,
     gaps_of_the_first_clock,
