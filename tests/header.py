@@ -151,6 +151,14 @@ def c_name(name: str) -> str:
     return re.sub(r"(?<=[a-z0-9])(?=[A-Z])", "_", name).lower()
 
 
+def parts_of(pattern: str, text: str) -> Tuple[str, ...]:
+    """The groups of a text that has to match as a whole."""
+    found = re.fullmatch(pattern, text)
+    if found is None:
+        raise ValueError(f"the header has {text!r}, which is no declaration")
+    return found.groups()
+
+
 class Header:
     """What the header declares, in the order in which it does."""
 
@@ -167,7 +175,7 @@ class Header:
         """Names and types, with the count of an array in the type."""
         found = []
         for statement in body.split(";")[:-1]:
-            kind, names = re.fullmatch(r"((?:struct )?\w+) (.*)", " ".join(statement.split())).groups()
+            kind, names = parts_of(r"((?:struct )?\w+) (.*)", " ".join(statement.split()))
             for name in names.split(", "):
                 bare, _, count = name.partition("[")
                 found.append((bare, f"{kind}[{count}" if count else kind))
@@ -177,7 +185,7 @@ class Header:
     def parameters(answer: str, text: str) -> List[Parameter]:
         found = [Parameter(answer, None)]
         for parameter in " ".join(text.split()).split(", "):
-            kind, name = re.fullmatch(r"(.*?)(\w+)", parameter).groups()
+            kind, name = parts_of(r"(.*?)(\w+)", parameter)
             found.append(Parameter(kind.rstrip(" "), name))
         return found
 

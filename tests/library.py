@@ -222,7 +222,7 @@ def problems_of_other_layout(bench: Bench, row: Tuple[str, str, str]) -> List[st
     (folder / "empty.c").write_text('#include "port1.h"\n', encoding="ascii")
 
     def problems_of(compiler: Compiler) -> List[str]:
-        words = [*compiler.words, "-fsyntax-only", f"-I{folder}", folder / "empty.c"]
+        words: List[Word] = [*compiler.words, "-fsyntax-only", f"-I{folder}", folder / "empty.c"]
         ran = subprocess.run(words, capture_output=True, text=True, timeout=SECONDS)
         told = rf"port1_assert_\w*{name}" if compiler.words[-1] == "-std=c99" else f"port1.h: .*port1_{name}"
         is_told = ran.returncode != 0 and re.search(told, ran.stderr)
@@ -407,7 +407,9 @@ def results_of_watch(bench: Bench, programs: Sequence[Path]) -> Iterator[Result]
 
 def problems_of_refusals(bench: Bench, programs: Sequence[Path]) -> List[str]:
     problems = []
-    for words in [[bench.program, "encode"], *[[program] for program in programs]]:
+    calls: List[List[Word]] = [[bench.program, "encode"]]
+    calls += [[program] for program in programs]
+    for words in calls:
         for line in WRONG_LINES:
             ran = subprocess.run(words, input=f"{line}\n".encode(), capture_output=True, timeout=SECONDS)
             problems += [] if ran.returncode == 2 else [f"{words[0]} takes {line!r}: status {ran.returncode}"]

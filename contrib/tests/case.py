@@ -92,11 +92,11 @@ ONE_CALL = packed(plain(CALL))
 
 
 def ran(words: Sequence[str], stdin: bytes = b"", **options) -> subprocess.CompletedProcess:
-    command = [CONTRIB / words[0], *words[1:]]
+    command: List[Word] = [CONTRIB / words[0], *words[1:]]
     return subprocess.run(command, input=stdin, capture_output=True, timeout=SECONDS, **options)
 
 
-def written_by(words: Sequence[str]) -> bytes:
+def written_by(words: Sequence[Word]) -> bytes:
     """What a program writes that reads nothing and has to succeed."""
     return subprocess.run(words, stdin=subprocess.DEVNULL, capture_output=True, check=True, timeout=SECONDS).stdout
 

@@ -96,9 +96,9 @@ def by_pkg_config(folder: Path) -> List[str]:
     problems = []
     for name, turned in rows.items():
         command = f'eval "cc -std=c99 -o \\"\\$1\\" \\"\\$2\\" $(pkg-config --cflags --libs port1{turned})"'
-        words = ["sh", "-c", command, "sh", folder / name, examples / "list.c"]
+        words: List[Word] = ["sh", "-c", command, "sh", folder / name, examples / "list.c"]
         settings = {"PKG_CONFIG_PATH": str(prefix / "lib" / "pkgconfig"), "LD_LIBRARY_PATH": str(prefix / "lib")}
-        problems += unlike(f"{name}: cc", "", told(words, **settings))
+        problems += unlike(f"{name}: cc", "", told(words, b"", **settings))
         problems += unlike(name, ONE_FRAME, told([folder / name], ONE_CALL, **settings))
         needed = told(["readelf", "-d", folder / name])
         problems += unlike(f"{name} needs it", name == "shared", "[libport1.so.2]" in needed)
