@@ -40,7 +40,6 @@ PLACES = [
 BY_HAND = {"CHANGELOG.md"}
 
 
-
 def version_of(top: Path = TOP) -> str:
     """That of the sources of the program."""
     (version,) = re.findall(r'\.version\("(.*?)"\)', (top / SOURCE).read_text(encoding="utf-8"))
