@@ -14,7 +14,7 @@ use Rattle.bus_line.specs.Report.{Report, moved}
 use Rattle.bus_line.specs.Due.{current, due_at, placed}
 use Rattle.bus_line.specs.Internal.LineState.{LineState}
 use Rattle.bus_line.specs.Internal.Tracks.{padded, HasTaken, Tracks}
-use Rattle.bus_line.specs.Mark.{MayDecide}
+use Rattle.bus_line.specs.Decides.{MayDecide}
 use Rattle.bus_line.specs.After.{After}
 use Rattle.bus_line.proofs.RunEndLemmas.{ones-are}
 use Rattle.bus_line.specs.Internal.Settled.{IsCalm, IsWord, IsStop}

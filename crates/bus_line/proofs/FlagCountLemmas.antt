@@ -9,7 +9,8 @@ use Rattle.std.proofs.lemmas.Nat.{shr-shr, div-add-mod'}
 use Rattle.std.proofs.lemmas.Nat.Bits.{bit_at_lowest, bit_at-suc, bit_at-zero, bit_at-lt, bit_at_xor, bit_at_cat_low}
 use Rattle.std.proofs.lemmas.Nat.Bits.{bit_at-trailing_zeros}
 use Rattle.bus_bits.specs.Octet.{bits_of}
-use Rattle.bus_line.specs.Mark.{flag, flags}
+use Rattle.bus_line.specs.Mark.{flag}
+use Rattle.bus_line.specs.Decides.{flags}
 use Rattle.bus_line.proofs.FlagLemmas.{no-bits, flags-more, flag-octet}
 
 -- six flags in one word

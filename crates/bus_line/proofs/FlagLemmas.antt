@@ -10,7 +10,8 @@ use Rattle.bus_bits.specs.Octet.{number, bits_of}
 use Rattle.bus_bits.proofs.OctetLemmas.{bits-low, bits-split, number-bits}
 use Rattle.bus_bits.proofs.CaptureLemmas.{le_false}
 use Rattle.bus_line.specs.Spelling.{ones}
-use Rattle.bus_line.specs.Mark.{flag, flags, EndsInFlag}
+use Rattle.bus_line.specs.Mark.{flag}
+use Rattle.bus_line.specs.Decides.{flags, EndsInFlag}
 use Rattle.bus_line.specs.Report.{Kind, moved}
 use Rattle.bus_line.specs.Due.{Mark, FlagAt, current, due_at, placed, piece_report, class_of}
 use Rattle.bus_line.specs.After.{After}

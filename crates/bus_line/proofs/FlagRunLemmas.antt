@@ -8,7 +8,8 @@ use Rattle.std.proofs.lemmas.Bool.{cases_lt}
 use Rattle.std.proofs.Math.Seq.{take-append-add}
 use Rattle.bus_bits.specs.Octet.{bits_of}
 use Rattle.bus_bits.proofs.OctetLemmas.{length-bits, bits-split, bits-front}
-use Rattle.bus_line.specs.Mark.{flag, flags, EndsInFlag, MayDecide, MayDecideAt}
+use Rattle.bus_line.specs.Mark.{flag}
+use Rattle.bus_line.specs.Decides.{flags, EndsInFlag, MayDecide, MayDecideAt}
 use Rattle.bus_line.specs.Due.{current, due_at, placed}
 use Rattle.bus_line.specs.After.{After, TakesTo}
 use Rattle.bus_line.specs.Internal.Run.{ones_at_end}

@@ -7,7 +7,7 @@ use Rattle.std.proofs.lemmas.Bool.{cases_lt}
 use Rattle.std.proofs.lemmas.Nat.{shr_below}
 use Rattle.bus_bits.specs.Octet.{bits_of}
 use Rattle.bus_bits.proofs.OctetLemmas.{length-bits, bits-split, bits-front}
-use Rattle.bus_line.specs.Mark.{flags}
+use Rattle.bus_line.specs.Decides.{flags}
 use Rattle.bus_line.specs.Report.{Report, moved}
 use Rattle.bus_line.specs.Due.{due_at, placed}
 use Rattle.bus_line.specs.After.{After, TakesTo}

@@ -13,7 +13,8 @@ use Rattle.bus_bits.proofs.BitLemmas.{bits-more}
 use Rattle.std.proofs.lemmas.Nat.Bits.{bit_at_and, bit_at-zero, bit_at_mask_inside}
 use Rattle.bus_bits.specs.Octet.{bits_of, number}
 use Rattle.bus_bits.proofs.OctetLemmas.{bits-low, number-bits, number-lt}
-use Rattle.bus_line.specs.Mark.{flag, flags, EndsInFlag}
+use Rattle.bus_line.specs.Mark.{flag}
+use Rattle.bus_line.specs.Decides.{flags, EndsInFlag}
 use Rattle.bus_line.specs.Due.{placed}
 use Rattle.bus_line.specs.After.{After, Tells}
 use Rattle.bus_line.specs.Words.{first_in, IsWithin, state}

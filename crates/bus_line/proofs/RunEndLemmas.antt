@@ -1,7 +1,7 @@
 -- Where the ones at the end of a list stand.
 use Rattle.std.proofs.Common.{◌≡◌, ◌↔◌, ℕ, Bool, List}
 use Rattle.bus_line.specs.Internal.Run.{ones_at_end}
-use Rattle.bus_line.specs.Mark.{EndsInOnes}
+use Rattle.bus_line.specs.Decides.{EndsInOnes}
 use Rattle.bus_line.proofs.DueStreamLemmas.{run-end, run-stands}
 
 pub ones-are : (b : List Bool) (count : ℕ) → (ones_at_end b ≡ count) ↔ EndsInOnes b count

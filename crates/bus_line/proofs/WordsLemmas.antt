@@ -6,7 +6,7 @@ use Rattle.std.proofs.lemmas.Bool.{eqb-true}
 use Rattle.std.specs.Prelude.{nat_lt}
 use Rattle.bus_bits.specs.Octet.{bits_of}
 use Rattle.bus_bits.proofs.CaptureLemmas.{lt_true}
-use Rattle.bus_line.specs.Mark.{flags, EndsInFlag}
+use Rattle.bus_line.specs.Decides.{flags, EndsInFlag}
 use Rattle.std.specs.Option.{option_map}
 use Rattle.bus_line.specs.Report.{Abort, moved}
 use Rattle.bus_line.specs.Due.{Mark, NoMark, FlagAt, AbortAt, piece_report}

@@ -2,7 +2,7 @@
 use Rattle.std.specs.Prelude.{◌≡◌, ℕ, ◌+◌, ◌-◌, ◌<◌, ◌≤◌, Bool, List, [], ◌∷◌, ◌++◌, length, Option, Some}
 use Rattle.std.specs.Option.{option_to_list}
 use Rattle.bus_bits.specs.Octet.{octets}
-use Rattle.bus_line.specs.Mark.{MayDecideAt}
+use Rattle.bus_line.specs.Decides.{MayDecideAt}
 use Rattle.bus_line.specs.Due.{current, placed}
 use Rattle.bus_line.specs.Report.{Report}
 use Rattle.bus_line.specs.Internal.LineState.{LineState}

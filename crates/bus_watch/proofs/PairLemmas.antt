@@ -15,7 +15,7 @@ use Rattle.bus_bits.specs.Octet.{bits_of}
 use Rattle.bus_bits.specs.declared.spent.Spent.{Spent}
 use Rattle.bus_bits.proofs.OctetLemmas.{length-bits, bits-front, bits-low, one_bit}
 use Rattle.bus_line.specs.Report.{Report, due, moved}
-use Rattle.bus_line.specs.Mark.{AreFlags, MayDecide, MayDecideAt}
+use Rattle.bus_line.specs.Decides.{AreFlags, MayDecide, MayDecideAt}
 use Rattle.bus_line.specs.Due.{reports, placed, places, due_at}
 use Rattle.bus_line.specs.Laws.{OneMore, ReportsGrow, DueStays, DueIsIt, FramesStored, StoredPaid, AssembledWithin}
 use Rattle.bus_line.specs.Ledger.{octet_count, copied, stored, IsLedger as IsLineLedger}

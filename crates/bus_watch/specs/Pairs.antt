@@ -1,7 +1,7 @@
 -- The lists of pairs of bits after which an analyser of two lines may stand, and what more pairs do.
 use Rattle.std.specs.Prelude.{◌≡◌, ℕ, ◌+◌, ◌-◌, ◌<◌, ◌⊎◌, Bool, List, ◌++◌, length, Option, Some, option_map}
 use Rattle.std.specs.Option.{option_to_list}
-use Rattle.bus_line.specs.Mark.{MayDecideAt}
+use Rattle.bus_line.specs.Decides.{MayDecideAt}
 use Rattle.bus_line.specs.Internal.LineState.{LineState}
 use Rattle.bus_line.specs.After.{After}
 use Rattle.bus_dictionary.specs.Dictionary.{longest_of}

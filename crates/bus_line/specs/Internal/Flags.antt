@@ -2,7 +2,8 @@
 use Rattle.std.specs.Prelude.{◌≡◌, ℕ, ◌+◌, ◌-◌, ◌*◌, ◌/◌, ◌^◌, ◌<◌, ◌≤◌, Bool, List, ◌++◌, length, take, drop}
 use Rattle.bus_bits.specs.Octet.{bits_of}
 use Rattle.bus_line.specs.declared.line_words.LineWords.{LineWords}
-use Rattle.bus_line.specs.Mark.{flag, flags, EndsInFlag, MayDecide}
+use Rattle.bus_line.specs.Mark.{flag}
+use Rattle.bus_line.specs.Decides.{flags, EndsInFlag, MayDecide}
 
 -- these bits begin with `k` flags and no more, and they follow a flag: none where b ends in no flag
 pub record FlagsAhead (b bits : List Bool) (k : ℕ) : Type 0 where

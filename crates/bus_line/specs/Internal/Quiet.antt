@@ -2,7 +2,7 @@
 use Rattle.std.specs.Prelude.{◌≡◌, ℕ, ◌+◌, ◌-◌, ◌*◌, ◌/◌, ◌<◌, List}
 use Rattle.bus_bits.specs.Bits.{bits_from}
 use Rattle.bus_line.specs.declared.line_words.LineWords.{LineWords}
-use Rattle.bus_line.specs.Mark.{flags}
+use Rattle.bus_line.specs.Decides.{flags}
 
 -- so many ones more, behind sixteen, lead from old to new
 pub record PassesOnes (old : LineWords) (count : ℕ) (new : LineWords) : Type 0 where

@@ -2,7 +2,8 @@
 
 ghost use Rattle.std.specs.Prelude.{◌≡◌, ◌≢◌, ◌+◌, ◌-◌, ◌*◌, ◌/◌, ◌≤◌, ◌<◌, ◌^◌, List, Bool, true, false, ◌++◌, ℕ};
 ghost use Rattle.bus_bits.specs.Octet.{bits_of};
-ghost use Rattle.bus_line.specs.Mark.{flag, flags, EndsInFlag};
+ghost use Rattle.bus_line.specs.Mark.{flag};
+ghost use Rattle.bus_line.specs.Decides.{flags, EndsInFlag};
 ghost use Rattle.bus_line.specs.Internal.Flags.{FlagsAhead, IsPast};
 
 use crate::line_words::LineWords;

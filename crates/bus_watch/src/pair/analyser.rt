@@ -8,7 +8,7 @@ ghost use Rattle.std.specs.Io.BufRead.{Rests};
 ghost use Rattle.bus_bits.specs.Octet.{bits_of};
 ghost use Rattle.bus_dictionary.specs.Dictionary.{longest_of};
 ghost use Rattle.bus_line.specs.After.{After};
-ghost use Rattle.bus_line.specs.Mark.{MayDecideAt};
+ghost use Rattle.bus_line.specs.Decides.{MayDecideAt};
 ghost use Rattle.bus_watch.specs.Internal.Hears.{Hears, Reached};
 ghost use Rattle.bus_watch.specs.Internal.JournalState.{journal_state, HasRoom};
 ghost use Rattle.bus_watch.specs.PairShown.{shown_option_on};

@@ -1,5 +1,5 @@
 use Rattle.std.proofs.Common.{◌≡◌, ◌+◌, ◌-◌, ◌*◌, ◌++◌, arith}
-use Rattle.bus_line.specs.Mark.{flags}
+use Rattle.bus_line.specs.Decides.{flags}
 use Rattle.bus_line.specs.Words.{state}
 use Rattle.bus_line.proofs.WordsLemmas.{flags-passed, shows-flag}
 use Rattle.bus_line.proofs.PassedLemmas.{stops-on, answer-on, more-on, before-on, after-on, stops-all, answer-all}
