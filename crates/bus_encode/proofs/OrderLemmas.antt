@@ -11,8 +11,8 @@ use Rattle.hex.proofs.HexLemmas.{decode_of-ok}
 use Rattle.bus_line.specs.Line.{Call, Flag, Idle, Frame, added, gain}
 use Rattle.bus_line.specs.Internal.EncoderState.{EncoderState}
 use Rattle.bus_line.specs.Encoding.{AfterCalls, Refused}
-use Rattle.bus_line.specs.declared.encode_fault.EncodeFault.{EncodeFault}
-use Rattle.bus_line.specs.declared.encode_fault.EncodeFault.TheVariants.{Ended, LengthRange, Sink}
+use Rattle.bus_line.specs.declared.fault.EncodeFault.{EncodeFault}
+use Rattle.bus_line.specs.declared.fault.EncodeFault.TheVariants.{Ended, LengthRange, Sink}
 use Rattle.bus_encode.specs.Encode.{sized_frame, decoded_frame, line_call, is_text}
 use Rattle.bus_text.specs.declared.fault.ToolFault.TheVariants.{BadLine, FrameLength}
 use Rattle.bus_encode.specs.declared.bits.CallBits.{CallBits}

@@ -5,8 +5,8 @@ use Rattle.std.proofs.lemmas.Bool.{cases_lt}
 use Rattle.bus_line.specs.Line.{Call, Frame, added, gain}
 use Rattle.bus_line.specs.Internal.EncoderState.{EncoderState}
 use Rattle.bus_line.specs.Encoding.{AfterCalls, Refused}
-use Rattle.bus_line.specs.declared.encode_fault.EncodeFault.{EncodeFault}
-use Rattle.bus_line.specs.declared.encode_fault.EncodeFault.TheVariants.{Ended, LengthRange, Sink}
+use Rattle.bus_line.specs.declared.fault.EncodeFault.{EncodeFault}
+use Rattle.bus_line.specs.declared.fault.EncodeFault.TheVariants.{Ended, LengthRange, Sink}
 use Rattle.bus_examples.specs.declared.sending.FrameBits.{FrameBits}
 
 abbrev pub bits_taken : FrameBits → Option (List Bool)

@@ -1,6 +1,6 @@
 -- Why a line was not watched to its end.
-use Rattle.bus_watch.specs.declared.run_fault.RunFault.{RunFault}
-use Rattle.bus_watch.specs.declared.run_fault.RunFault.TheVariants as run
+use Rattle.bus_watch.specs.declared.fault.RunFault.{RunFault}
+use Rattle.bus_watch.specs.declared.fault.RunFault.TheVariants as run
 use Rattle.bus_examples.specs.declared.watching.WatchFault.{WatchFault}
 use Rattle.bus_examples.specs.declared.watching.WatchFault.TheVariants.{New, Feed}
 

@@ -23,7 +23,7 @@ ghost use Rattle.bus_bits.specs.Octet.{bits_of};
 
 use crate::decoder::stop::calm_bits;
 use crate::event::Event;
-use crate::line_fault::LineFault;
+use crate::fault::LineFault;
 use crate::line_words::{LineWords, NEVER, PLACES};
 use crate::piece::Piece;
 use crate::place_limit::PlaceLimit;

@@ -6,7 +6,7 @@ ghost use Rattle.bus_line.specs.Due.{begun, current};
 ghost use Rattle.bus_line.specs.Internal.Tracks.{first_of};
 ghost use Rattle.bus_line.specs.Words.{first_in, fresh_words, IsWithin};
 
-use crate::line_fault::LineFault;
+use crate::fault::LineFault;
 
 /// The first place that no bit can have.
 pub(crate) const PLACES: u64 = 1 << 60;

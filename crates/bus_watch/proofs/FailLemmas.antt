@@ -13,11 +13,11 @@ use Rattle.bus_watch.specs.Seen.{SeenReport, heard_in, seen}
 use Rattle.bus_watch.specs.Laws.{SeenAreReports}
 use Rattle.bus_watch.specs.Fed.{ForSink}
 use Rattle.bus_watch.specs.Headline.{Fails, StoppedAt, CanBeMade, all_seen}
-use Rattle.bus_watch.specs.declared.new_fault.NewFault.{NewFault}
-use Rattle.bus_watch.specs.declared.new_fault.NewFault.TheVariants.{DepthRange, Origin}
-use Rattle.bus_watch.specs.declared.feed_fault.FeedFault.{FeedFault}
-use Rattle.bus_watch.specs.declared.feed_fault.FeedFault.TheVariants.{PlaceLimit, Sink}
-use Rattle.bus_watch.specs.declared.run_fault.RunFault.TheVariants.{Feed}
+use Rattle.bus_watch.specs.declared.fault.NewFault.{NewFault}
+use Rattle.bus_watch.specs.declared.fault.NewFault.TheVariants.{DepthRange, Origin}
+use Rattle.bus_watch.specs.declared.fault.FeedFault.{FeedFault}
+use Rattle.bus_watch.specs.declared.fault.FeedFault.TheVariants.{PlaceLimit, Sink}
+use Rattle.bus_watch.specs.declared.fault.RunFault.TheVariants.{Feed}
 
 -- what was made could be made
 pub made : {A : Type 0} (r : Result A NewFault) (a : A) (depth origin : ℕ) → r ≡ Ok a

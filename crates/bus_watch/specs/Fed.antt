@@ -4,8 +4,8 @@ use Rattle.bus_watch.specs.Seen.{SeenReport}
 use Rattle.bus_watch.specs.Sink.{told}
 use Rattle.bus_watch.specs.Watch.{Watch, Leads, seen_by}
 use Rattle.bus_watch.specs.After.{AnalyserState, IsAfter, Sees, seen_after, one_line}
-use Rattle.bus_watch.specs.declared.feed_fault.FeedFault.{FeedFault}
-use Rattle.bus_watch.specs.declared.feed_fault.FeedFault.TheVariants.{PlaceLimit, Sink}
+use Rattle.bus_watch.specs.declared.fault.FeedFault.{FeedFault}
+use Rattle.bus_watch.specs.declared.fault.FeedFault.TheVariants.{PlaceLimit, Sink}
 
 -- these led from old to new, and the sink took what is seen at them
 pub record FedBy {A X S : Type 0} (w : Watch A X) (taken : S → Option (List SeenReport)) (old : A) (xs : List X)

@@ -16,10 +16,10 @@ use Rattle.bus_watch.specs.Sink.{told}
 use Rattle.bus_watch.specs.After.{AnalyserState, IsAfter, one_line}
 use Rattle.bus_watch.specs.Laws.{joined, Runs}
 use Rattle.bus_watch.specs.declared.usage.Usage.{Usage}
-use Rattle.bus_watch.specs.declared.new_fault.NewFault.TheVariants.{DepthRange, Origin, Memory}
-use Rattle.bus_watch.specs.declared.feed_fault.FeedFault.TheVariants.{PlaceLimit, Sink}
-use Rattle.bus_watch.specs.declared.run_fault.RunFault.{RunFault}
-use Rattle.bus_watch.specs.declared.run_fault.RunFault.TheVariants.{New, Feed}
+use Rattle.bus_watch.specs.declared.fault.NewFault.TheVariants.{DepthRange, Origin, Memory}
+use Rattle.bus_watch.specs.declared.fault.FeedFault.TheVariants.{PlaceLimit, Sink}
+use Rattle.bus_watch.specs.declared.fault.RunFault.{RunFault}
+use Rattle.bus_watch.specs.declared.fault.RunFault.TheVariants.{New, Feed}
 
 -- what is seen of the bits b, the first of which has the place `origin`, by the dictionary d
 abbrev pub all_seen : List FrameType → ℕ → List Bool → List SeenReport

@@ -14,13 +14,13 @@ ghost use Rattle.bus_dictionary.specs.Dictionary.{longest_of};
 
 use crate::counts::Counts;
 use crate::ending::Ending;
+use crate::fault::NewFault;
 use crate::feed::PLACES;
 use crate::finding::Finding;
 use crate::hear::{begun_span, hear, hear_octets};
 use crate::journal::Journal;
 use crate::kept::Kept;
 use crate::laws::{seen_grows, steps_are_bounded};
-use crate::new_fault::NewFault;
 use crate::seen::Seen;
 use bus_bits::Spent;
 use bus_dictionary::Dictionary;

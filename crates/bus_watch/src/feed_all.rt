@@ -6,8 +6,8 @@ ghost use Rattle.bus_watch.specs.Sink.{IsFull, IsWithinRoom};
 ghost use Rattle.bus_watch.specs.Headline.{bits_in};
 
 use crate::analyser::Analyser;
+use crate::fault::FeedFault;
 use crate::feed::PLACES;
-use crate::feed_fault::FeedFault;
 use crate::report_sink::ReportSink;
 use bus_fcs::Check;
 

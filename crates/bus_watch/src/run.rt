@@ -8,12 +8,10 @@ ghost use Rattle.bus_watch.specs.Sink.{told};
 ghost use Rattle.bus_watch.specs.After.{IsAfter};
 
 use crate::analyser::Analyser;
-use crate::feed_fault::FeedFault;
+use crate::fault::{FeedFault, NewFault, RunFault};
 use crate::laws::seen_grows;
-use crate::new_fault::NewFault;
 use crate::report_log::ReportLog;
 use crate::report_sink::ReportSink;
-use crate::run_fault::RunFault;
 use crate::usage::Usage;
 use bus_dictionary::Dictionary;
 use bus_fcs::{Check, OctetCheck};

@@ -5,8 +5,8 @@ use Rattle.bus_line.specs.Line.{Frame, added, gain, raw_bits}
 use Rattle.bus_line.specs.Mark.{flag}
 use Rattle.bus_line.specs.Internal.EncoderState.{EncoderState}
 use Rattle.bus_line.specs.Encoding.{AfterCalls, Encoded, Refused}
-use Rattle.bus_line.specs.declared.encode_fault.EncodeFault.{EncodeFault}
-use Rattle.bus_line.specs.declared.encode_fault.EncodeFault.TheVariants.{Ended, LengthRange, Sink}
+use Rattle.bus_line.specs.declared.fault.EncodeFault.{EncodeFault}
+use Rattle.bus_line.specs.declared.fault.EncodeFault.TheVariants.{Ended, LengthRange, Sink}
 use Rattle.bus_bits.specs.Bits.{bits_from}
 use Rattle.port1_c.specs.declared.call_bits.CallBits.{CallBits}
 use Rattle.bus_bits.proofs.BitLemmas.{length-from}

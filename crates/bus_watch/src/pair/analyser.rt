@@ -17,13 +17,13 @@ ghost use Rattle.bus_watch.specs.Shown.{found_on, begun_span, IsKeepable};
 mod scan;
 
 use crate::counts::Counts;
+use crate::fault::NewFault;
 use crate::feed::PLACES;
 use crate::finding::Finding;
 use crate::hear::{begun_span, hear};
 use crate::journal::Journal;
 use crate::laws::{pairs_grow, steps_are_bounded};
 use crate::line::Line;
-use crate::new_fault::NewFault;
 use crate::pair::ending::PairEnding;
 use crate::pair::kept::PairKept;
 use crate::pair::seen::PairSeen;

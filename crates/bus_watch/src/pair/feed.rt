@@ -10,8 +10,8 @@ ghost use Rattle.bus_watch.specs.Pairs.{two_lines};
 ghost use Rattle.bus_watch.specs.Shown.{IsKeepable};
 ghost use Rattle.bus_watch.specs.Sink.{IsFull, IsWithinRoom};
 
+use crate::fault::FeedFault;
 use crate::feed::{FedSome, PLACES};
-use crate::feed_fault::FeedFault;
 use crate::line::Line;
 use crate::pair::analyser::PairAnalyser;
 use crate::pair::seen::PairSeen;

@@ -7,10 +7,10 @@ ghost use Rattle.bus_watch.specs.Pairs.{IsAfterPairs};
 ghost use Rattle.bus_watch.specs.Seen.{SeenReport};
 ghost use Rattle.bus_watch.specs.Sink.{told};
 
+use crate::fault::RunFault;
 use crate::pair::analyser::PairAnalyser;
 use crate::pair::sink::PairSink;
 use crate::pair::usage::PairUsage;
-use crate::run_fault::RunFault;
 use bus_dictionary::Dictionary;
 use bus_fcs::Check;
 use std::alloc::Global;

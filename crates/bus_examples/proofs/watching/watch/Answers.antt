@@ -2,7 +2,7 @@ use Rattle.std.proofs.Common.{◌≡◌, ◌<◌, ◌≤◌, ◌^◌, ◌+◌, �
 use Rattle.std.proofs.lemmas.Bool.{cases_lt}
 use Rattle.bus_watch.specs.LogState.{LogState}
 use Rattle.bus_watch.specs.Headline.{all_seen}
-use Rattle.bus_watch.specs.declared.feed_fault.FeedFault.TheVariants.{PlaceLimit}
+use Rattle.bus_watch.specs.declared.fault.FeedFault.TheVariants.{PlaceLimit}
 use Rattle.bus_watch.proofs.HeadlineLemmas.{fed-seen, stopped}
 use Rattle.bus_watch.proofs.FailLemmas.{made, feed-fails, for-sink, log-lacks}
 use Rattle.bus_examples.specs.declared.watching.WatchFault.TheVariants.{Feed}

@@ -1,6 +1,6 @@
 use Rattle.std.proofs.Common.{◌≡◌, ◌<◌, ◌^◌, ◌+◌, ◌↔◌, ℕ, length, Err, Some, [], refl, ap, ◌∙◌}
 use Rattle.bus_watch.specs.LogState.{LogState}
-use Rattle.bus_watch.specs.declared.feed_fault.FeedFault.TheVariants.{PlaceLimit}
+use Rattle.bus_watch.specs.declared.fault.FeedFault.TheVariants.{PlaceLimit}
 use Rattle.bus_watch.proofs.HeadlineLemmas.{stopped}
 use Rattle.bus_watch.proofs.FailLemmas.{made, feed-fails, for-sink, log-lacks}
 use Rattle.bus_watch.proofs.run.reports_of.Goals as goal

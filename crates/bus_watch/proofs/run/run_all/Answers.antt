@@ -1,5 +1,5 @@
 use Rattle.std.proofs.Common.{◌≡◌, ◌<◌, ◌^◌, ◌+◌, ◌↔◌, [], length, Err}
-use Rattle.bus_watch.specs.declared.feed_fault.FeedFault.TheVariants.{PlaceLimit}
+use Rattle.bus_watch.specs.declared.fault.FeedFault.TheVariants.{PlaceLimit}
 use Rattle.bus_watch.specs.Headline.{bits_in}
 use Rattle.bus_watch.proofs.HeadlineLemmas.{fed-headline, stopped}
 use Rattle.bus_watch.proofs.FailLemmas.{made, feed-fails, for-sink}

@@ -1,5 +1,5 @@
 use Rattle.std.proofs.Common.{◌≡◌, ◌<◌, ◌^◌, ◌+◌, ◌↔◌, [], length, Err}
-use Rattle.bus_watch.specs.declared.feed_fault.FeedFault.TheVariants.{PlaceLimit}
+use Rattle.bus_watch.specs.declared.fault.FeedFault.TheVariants.{PlaceLimit}
 use Rattle.bus_watch.proofs.PairHeadlineLemmas.{fed-pair-headline, stopped-at-pair}
 use Rattle.bus_watch.proofs.FailLemmas.{made, feed-fails, for-sink}
 use Rattle.bus_watch.proofs.pair.run.run_pairs.Goals as goal
