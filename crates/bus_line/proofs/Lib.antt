@@ -4,11 +4,13 @@ pub mod MarkLemmas
 pub mod MarkLastLemmas
 pub mod DueLemmas
 pub mod DueMoreLemmas
+pub mod RisingLemmas
 pub mod ReportLemmas
 pub mod WholeLemmas
 pub mod StepStreamLemmas
 pub mod DueStreamLemmas
 pub mod LedgerSettledLemmas
+pub mod LedgerOctetLemmas
 pub mod SpellingRawLemmas
 pub mod LedgerRankLemmas
 pub mod WordLemmas

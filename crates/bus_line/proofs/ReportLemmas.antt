@@ -1,10 +1,10 @@
 -- The reports of a list: all, no others, in order, and no other list is.
-use Rattle.std.proofs.Common.{◌≡◌, ℕ, zero, suc, ◌+◌, ◌<◌, ◌↔◌, Bool, List, [], ◌∷◌, ◌++◌, length, get_or, Option, Some}
-use Rattle.std.proofs.Common.{None, refl, sym, ap, ◌∙◌, subst, ◌⊎◌, inl, inr, arith}
-use Rattle.std.specs.List.{filter_map, cons_option, Contains, AllPairs, All}
+use Rattle.std.proofs.Common.{◌≡◌, ℕ, zero, suc, ◌+◌, ◌<◌, ◌↔◌, Bool, List, [], ◌∷◌, ◌++◌, length, Option, Some, None}
+use Rattle.std.proofs.Common.{refl, sym, ap, ◌∙◌, subst, inl, inr, arith}
+use Rattle.std.specs.List.{filter_map, cons_option, Contains, AllPairs}
 use Rattle.std.proofs.lemmas.List.{append-nil}
 use Rattle.std.proofs.lemmas.List.Elements.{filter_map-append, Contains-append_left, Contains-append_right}
-use Rattle.std.proofs.lemmas.List.Elements.{Contains-append_cases, Contains-get_or, All-contains}
+use Rattle.std.proofs.lemmas.List.Elements.{Contains-append_cases, Contains-get_or}
 use Rattle.std.proofs.lemmas.List.Quantifiers.{all_pairs_push}
 use Rattle.std.proofs.lemmas.Bool.{cases_lt}
 use Rattle.bus_line.specs.Report.{Report, due, IsReport, closed, aborted, idle, AreReports}
@@ -16,9 +16,7 @@ use Rattle.std.proofs.lemmas.Bool.{cond-true, ltb-true, lt-ltb}
 use Rattle.bus_line.specs.Due.{Mark, NoMark, FlagAt, AbortAt, last_mark, due_at, places, reports, begun_by, begun}
 use Rattle.bus_line.proofs.MarkLastLemmas.{IsLastFlag, last_mark-flag, last_mark-is}
 use Rattle.bus_line.proofs.DueLemmas.{class-due, due_at-is, due_at-report}
-
-one-is : {Y : Type 0} (x y : Y) → Contains (x ∷ []) y → x ≡ y
-one-is x y h = let e : h.0 ≡ 0 = omega (arith, h.1) in subst (λ k. get_or (x ∷ []) k y ≡ y) e h.2
+use Rattle.bus_line.proofs.RisingLemmas.{one-is, same-rising}
 
 option-is : {Y : Type 0} (o : Option Y) (y : Y) → Contains (cons_option o []) y → o ≡ Some y
 option-is None y h = absurd (omega (arith, h.1))
@@ -65,50 +63,6 @@ pub places-rising : (f : ℕ → Option Report) (n : ℕ) → ((i : ℕ) (r : Re
 places-rising f zero h = λ i j d l m. absurd (omega arith)
 places-rising f (suc n) h = rw (places-more f n) (rising-option f n h (places-rising f n h) (f n) refl)
 
--- lists that rise and have the same elements are one
-pairs-tail : {Y : Type 0} (R : Y → Y → Type 0) (x : Y) (xs : List Y) → AllPairs R (x ∷ xs) → AllPairs R xs
-pairs-tail R x xs h = λ i j d l m. h (suc i) (suc j) d (omega arith) (omega arith)
-
-pairs-head : {Y : Type 0} (R : Y → Y → Type 0) (x : Y) (xs : List Y) → AllPairs R (x ∷ xs) → All (R x) xs
-pairs-head R x xs h = λ k d l. h 0 (suc k) d (omega arith) (omega arith)
-
-cons-cases : {Y : Type 0} (x : Y) (xs : List Y) (y : Y) → Contains (x ∷ xs) y → (x ≡ y) ⊎ Contains xs y
-cons-cases x xs y h = elim (Contains-append_cases (x ∷ []) xs y h) [ inl u ↦ inl (one-is x y u) | inr u ↦ inr u ]
-
-abbrev Before : Report → Report → Type 0
-Before r s = due r < due s
-
-tail-within : (x y : Report) (xs ys : List Report) → x ≡ y → All (Before x) xs →
-    ((r : Report) → Contains (x ∷ xs) r → Contains (y ∷ ys) r) → (r : Report) → Contains xs r → Contains ys r
-tail-within x y xs ys e up h r c =
-    elim (cons-cases y ys r (h r (Contains-append_right (x ∷ []) xs r c))) [
-      | inl u ↦ absurd (let k : x ≡ r = e ∙ u in omega (arith, All-contains (Before x) xs r up c, ap due k))
-      | inr u ↦ u
-    ]
-
-pub same-rising : (xs ys : List Report) → AllPairs Before xs → AllPairs Before ys →
-    ((r : Report) → Contains xs r → Contains ys r) → ((r : Report) → Contains ys r → Contains xs r) → xs ≡ ys
-same-rising [] [] h k f g = refl
-same-rising [] (y ∷ ys) h k f g = absurd (omega (arith, (g y (0, omega arith, refl)).1))
-same-rising (x ∷ xs) [] h k f g = absurd (omega (arith, (f x (0, omega arith, refl)).1))
-same-rising (x ∷ xs) (y ∷ ys) h k f g =
-    let e : x ≡ y = elim (cons-cases y ys x (f x (0, omega arith, refl))) [
-      | inl u ↦ sym u
-      | inr u ↦ elim (cons-cases x xs y (g y (0, omega arith, refl))) [
-        | inl v ↦ v
-        | inr v ↦
-            absurd (omega (
-              arith,
-              All-contains (Before y) ys x (pairs-head Before y ys k) u,
-              All-contains (Before x) xs y (pairs-head Before x xs h) v,
-            ))
-      ]
-    ] in
-    let t = same-rising xs ys (pairs-tail Before x xs h) (pairs-tail Before y ys k)
-    (tail-within x y xs ys e (pairs-head Before x xs h) f)
-    (tail-within y x ys xs (sym e) (pairs-head Before y ys k) g) in
-    cc
-
 -- one bit decides at most one report
 pub due-once : (longest : ℕ) (b : List Bool) (r s : Report) → IsReport longest b r → IsReport longest b s →
     due r ≡ due s → r ≡ s
@@ -133,7 +87,7 @@ reports-are longest b = record {
 pub reports-only : (longest : ℕ) (b : List Bool) (rs : List Report) → AreReports longest b rs → rs ≡ reports longest b
 reports-only longest b rs h =
     let k = reports-are longest b in
-    same-rising rs (reports longest b) h.rising k.rising (λ r c. (k.all r).0 ((h.all r).1 c))
+    same-rising due rs (reports longest b) h.rising k.rising (λ r c. (k.all r).0 ((h.all r).1 c))
     (λ r c. (h.all r).0 ((k.all r).1 c))
 
 -- the report that is due at a place is computed
