@@ -15,7 +15,7 @@ use Rattle.bus_line.specs.Due.{current, due_at, placed}
 use Rattle.bus_line.specs.Internal.LineState.{LineState}
 use Rattle.bus_line.specs.Internal.Tracks.{padded, HasTaken, Tracks}
 use Rattle.bus_line.specs.Decides.{MayDecide}
-use Rattle.bus_line.specs.After.{After}
+use Rattle.bus_line.specs.After.{Advances, After, DecideNothing}
 use Rattle.bus_line.proofs.RunEndLemmas.{ones-are}
 use Rattle.bus_line.specs.Internal.Settled.{IsCalm, IsWord, IsStop}
 use Rattle.bus_line.specs.Internal.Flags.{StopsAt}
@@ -61,18 +61,6 @@ calm-placed origin longest n b bits h (suc i) l m =
     ∙ (placed-more origin longest u x None (sym (ap (option_map (moved origin)) d))
     ∙ (append-nil (placed origin longest u) ∙ calm-placed origin longest n b bits h i (omega (arith, l))
     (omega (arith, m))))
-
--- the last of them too
-pub calm-due : (longest n : ℕ) (b bits : List Bool) → IsCalm b bits n → 1 ≤ n → n ≤ length bits →
-    due_at longest (b ++ take n bits) (length b + n - 1) ≡ None
-calm-due longest zero b bits h s m = absurd (omega (arith, s))
-calm-due longest (suc i) b bits h s m =
-    let u = b ++ take i bits in
-    let x = get_or bits i false in
-    let c = h i (omega arith) in
-    let k : length b + suc i - 1 ≡ length (b ++ take i bits) =
-    omega (arith, length-front i b bits (omega (arith, m))) in
-    rw (k, next-bit i b bits (omega (arith, m))) (nothing-due longest u x c.0 c.1)
 
 -- what is settled with the mark before them is so with theirs
 pub calm-after : {C : Type 0} (folded : C → List ℕ → Type 0) (cost n : ℕ) (d : LineState C) (b bits : List Bool) →
@@ -138,12 +126,6 @@ is_calm w n m x b h e calm =
       calm = calm-before w n b (bits_of n x) h (omega (arith, k))
           (λ i l. calm i (omega (arith, e, l)));
     }
-
-pub all-due : (longest origin w n x : ℕ) (b : List Bool) → Calm w n x b → 1 ≤ n →
-    None ≡ option_map (moved origin) (due_at longest (b ++ bits_of n x) (length b + n - 1))
-all-due longest origin w n x b h s =
-    let k = length-bits n x in
-    rw (← bits-front n n x (omega arith), calm-due longest n b (bits_of n x) h.calm s (omega (arith, k))) refl
 
 pub all-placed : (longest origin w n x : ℕ) (b : List Bool) → Calm w n x b →
     placed origin longest (b ++ bits_of n x) ≡ placed origin longest b ++ []
@@ -233,6 +215,71 @@ last-before longest origin w n m x b h =
     let e : m + 1 - 1 ≡ m = omega arith in
     rw (e, ← bits-front m n x (omega (arith, h.within, k)))
     (calm-placed origin longest m b (bits_of n x) h.calm m (omega arith) (omega (arith, h.within)))
+
+-- ---- what bits taken at once do
+
+-- the lowest bits of x lead from old to new behind the bits b, and the last of them decides this report, if it is one
+pub record Behind {C : Type 0} (folded : C → List ℕ → Type 0) (cost : ℕ) (old : LineState C) (b : List Bool) (n x : ℕ)
+    (report : Option Report) (new : LineState C) : Type 0 where
+  pub after : After folded cost new (b ++ bits_of n x)
+  pub says : placed old.origin old.longest (b ++ bits_of n x)
+      ≡ placed old.origin old.longest b ++ option_to_list report
+  pub before : placed old.origin old.longest (b ++ bits_of (n - 1) x) ≡ placed old.origin old.longest b
+
+front-bits : (n x : ℕ) → take (length (bits_of n x) - 1) (bits_of n x) ≡ bits_of (n - 1) x
+front-bits n x =
+    ap (λ (k : ℕ). take (k - 1) (bits_of n x)) (length-bits n x) ∙ bits-front (n - 1) n x (omega arith)
+
+pub front-decides-nothing : {C : Type 0} (folded : C → List ℕ → Type 0) (cost n x : ℕ) (d : LineState C)
+    → DecideNothing folded cost d (take (length (bits_of n x) - 1) (bits_of n x))
+    → DecideNothing folded cost d (bits_of (n - 1) x)
+front-decides-nothing folded cost n x d before = subst (DecideNothing folded cost d) (front-bits n x) before
+
+-- behind any bits
+pub advances-behind : {C : Type 0} (folded : C → List ℕ → Type 0) (cost n x : ℕ) (old new : LineState C)
+    (report : Option Report) → new.longest ≡ old.longest → new.origin ≡ old.origin → new.place ≡ old.place + n
+    → ((b : List Bool) → After folded cost old b → Behind folded cost old b n x report new)
+    → Advances folded cost old (bits_of n x) report new
+advances-behind folded cost n x old new report longest origin place behind = record {
+  tells = record {
+    leads = record {
+      after = λ b stands. (behind b stands).after;
+      longest = longest;
+      origin = origin;
+      place = place ∙ ap (λ (count : ℕ). old.place + count) (sym (length-bits n x));
+    };
+    says = λ b stands. (behind b stands).says;
+  };
+  before = λ b stands.
+      subst (λ (z : List Bool). placed old.origin old.longest (b ++ z) ≡ placed old.origin old.longest b)
+      (sym (front-bits n x)) (behind b stands).before;
+}
+
+-- calm bits, once they are settled
+pub behind-calm : {C : Type 0} (folded : C → List ℕ → Type 0) (cost w n x t : ℕ) (old new : LineState C)
+    (b : List Bool) → Calm w n x b → t ≡ n
+    → (IsCalm b (bits_of n x) (t - 1) → Tracks folded cost new (b ++ take t (bits_of n x)) (current b))
+    → Behind folded cost old b n x None new
+behind-calm folded cost w n x t old new b calm all tracks = record {
+  after = all-after folded cost w n x t new b calm all tracks;
+  says = all-placed old.longest old.origin w n x b calm;
+  before = calm-before-last old.longest old.origin w n (n - 1) x b calm (omega arith);
+}
+
+-- calm bits and the one behind them, once that is decided
+pub behind-last : {C : Type 0} (folded : C → List ℕ → Type 0) (cost w n m x : ℕ) (old settled new : LineState C)
+    (b : List Bool) (report : Option Report) → Last w n m x b
+    → settled.longest ≡ old.longest → settled.origin ≡ old.origin
+    → report ≡ option_map (moved settled.origin)
+    (due_at settled.longest (but_last b n m x ++ last_of n m x ∷ []) (length (but_last b n m x)))
+    → After folded cost new (but_last b n m x ++ last_of n m x ∷ [])
+    → Behind folded cost old b (m + 1) x report new
+behind-last folded cost w n m x old settled new b report last longest origin answer after = record {
+  after = last-after folded cost w n m x new b last after;
+  says = last-more old.longest old.origin w n m x b report last
+      (last-answer old.longest old.origin settled.longest settled.origin w n m x b report last longest origin answer);
+  before = last-before old.longest old.origin w n m x b last;
+}
 
 -- ---- how many are taken
 

@@ -10,7 +10,7 @@ use Rattle.bus_bits.specs.Octet.{bits_of}
 use Rattle.bus_bits.proofs.OctetLemmas.{length-bits, bits-split, bits-front}
 use Rattle.bus_line.specs.Mark.{flag}
 use Rattle.bus_line.specs.Decides.{flags, EndsInFlag, MayDecide, MayDecideAt}
-use Rattle.bus_line.specs.Due.{current, due_at, placed}
+use Rattle.bus_line.specs.Due.{current, placed}
 use Rattle.bus_line.specs.After.{After, TakesTo}
 use Rattle.bus_line.specs.Internal.Run.{ones_at_end}
 use Rattle.bus_line.specs.Internal.LineState.{LineState}
@@ -20,7 +20,7 @@ use Rattle.bus_line.specs.Internal.Flags.{FlagsAhead, StopsAt}
 use Rattle.bus_line.proofs.MarkLastLemmas.{last_mark-flag}
 use Rattle.bus_line.proofs.RunEndLemmas.{ones-are}
 use Rattle.bus_line.proofs.StepLemmas.{first-Some}
-use Rattle.bus_line.proofs.FlagLemmas.{flag-octet, flag-last, flag-due, flag-placed, flag-adds, flags-end, run-in-flag}
+use Rattle.bus_line.proofs.FlagLemmas.{flag-octet, flag-last, flag-placed, flag-adds, flags-end, run-in-flag}
 
 -- ---- the bits of flags
 
@@ -153,15 +153,6 @@ flags-placed origin longest b (suc k) ends =
     let h = ends (omega arith) in
     ap (placed origin longest) (sym (append_assoc b (flags k) flag))
     ∙ (flag-adds origin longest (b ++ flags k) (flags-end b k h) ∙ flags-placed origin longest b k (λ s. h))
-
-pub flags-due : (longest : ℕ) (b : List Bool) (k : ℕ) → 0 < k → EndsInFlag b →
-    due_at longest (b ++ flags k) (length b + 8 * k - 1) ≡ None
-flags-due longest b zero some h = absurd (omega (arith, some))
-flags-due longest b (suc k) some h =
-    let n : length b + 8 * suc k - 1 ≡ length (b ++ flags k) + 7 =
-    omega (arith, length-append b (flags k), flags-length k) in
-    ap (λ (z : List Bool). due_at longest z (length b + 8 * suc k - 1)) (sym (append_assoc b (flags k) flag))
-    ∙ (ap (due_at longest ((b ++ flags k) ++ flag)) n ∙ flag-due longest (b ++ flags k) (flags-end b k h))
 
 -- nor do all their bits but the last
 pub flags-before : (origin longest : ℕ) (b : List Bool) (k : ℕ) → 0 < k → EndsInFlag b →

@@ -1,22 +1,20 @@
 -- Bits behind flags that follow a flag.
-use Rattle.std.proofs.Common.{◌≡◌, ◌≢◌, ℕ, ◌+◌, ◌-◌, ◌*◌, ◌/◌, ◌^◌, ◌≤◌, ◌<◌, Bool, List, [], ◌++◌, length, drop}
-use Rattle.std.proofs.Common.{Option, None, inl, inr, sym, ap, ◌∙◌, subst, arith, refl, append-nil, append_assoc}
-use Rattle.std.proofs.Common.{length-append}
-use Rattle.std.specs.Option.{option_map}
+use Rattle.std.proofs.Common.{◌≡◌, ◌≢◌, ℕ, ◌+◌, ◌-◌, ◌*◌, ◌/◌, ◌^◌, ◌≤◌, ◌<◌, Bool, List, [], ◌++◌, length, drop, inl}
+use Rattle.std.proofs.Common.{inr, sym, ap, ◌∙◌, subst, arith, refl, append-nil, append_assoc, length-append}
 use Rattle.std.proofs.lemmas.Bool.{cases_lt}
 use Rattle.std.proofs.lemmas.Nat.{shr_below}
 use Rattle.bus_bits.specs.Octet.{bits_of}
 use Rattle.bus_bits.proofs.OctetLemmas.{length-bits, bits-split, bits-front}
 use Rattle.bus_line.specs.Decides.{flags}
-use Rattle.bus_line.specs.Report.{Report, moved}
-use Rattle.bus_line.specs.Due.{due_at, placed}
+use Rattle.bus_line.specs.Report.{Report}
+use Rattle.bus_line.specs.Due.{placed}
 use Rattle.bus_line.specs.After.{After, TakesTo}
 use Rattle.bus_line.specs.Internal.LineState.{LineState}
 use Rattle.bus_line.specs.Internal.Settled.{IsWord, IsStop}
 use Rattle.bus_line.specs.Internal.Flags.{FlagsAhead, IsPast, StopsAt}
 use Rattle.bus_line.proofs.WordLemmas.{word-part}
 use Rattle.bus_line.proofs.AdvanceLemmas.{is_calm, is_last, stops-behind-all, stops-behind}
-use Rattle.bus_line.proofs.FlagRunLemmas.{flags-length, bits-behind, flags-placed, flags-due, flags-before, takes-flags}
+use Rattle.bus_line.proofs.FlagRunLemmas.{flags-length, bits-behind, flags-placed, flags-before, takes-flags}
 use Rattle.bus_line.proofs.FlagRunLemmas.{takes-behind}
 
 -- the bits behind them are a number of as many bits
@@ -50,15 +48,6 @@ module _ {b : List Bool} {n x k rest left : ℕ} (past : IsPast b n x k rest lef
       bits-behind (8 * k) n x within ∙ rw (past.bits, past.count) refl in
       rw e (takes-behind b (bits_of n x) k t ahead (rw behind stops) some)
 
-  pub answer-on : (longest origin l o t j : ℕ) (r : Option Report) → j ≡ 8 * k + t → l ≡ longest → o ≡ origin →
-      r ≡ option_map (moved o) (due_at l ((b ++ flags k) ++ bits_of t rest) (length (b ++ flags k) + t - 1))
-      → r ≡ option_map (moved origin) (due_at longest (b ++ bits_of j x) (length b + j - 1))
-  answer-on longest origin l o t j r e same from is =
-      let m : length (b ++ flags k) + t - 1 ≡ length b + j - 1 = omega (arith, size-behind, e) in
-      let list : (b ++ flags k) ++ bits_of t rest ≡ b ++ bits_of j x =
-      sym (list-behind t) ∙ ap (λ (i : ℕ). b ++ bits_of i x) (sym e) in
-      is ∙ rw (same, from, m, list) refl
-
   pub more-on : (longest origin l o t j : ℕ) (rs : List Report) → j ≡ 8 * k + t → l ≡ longest → o ≡ origin →
       placed o l ((b ++ flags k) ++ bits_of t rest) ≡ placed o l (b ++ flags k) ++ rs
       → placed origin longest (b ++ bits_of j x) ≡ placed origin longest b ++ rs
@@ -84,12 +73,6 @@ module _ {b : List Bool} {n x k rest left : ℕ} (past : IsPast b n x k rest lef
 
     pub stops-all : TakesTo b (bits_of n x) n
     stops-all = subst (TakesTo b (bits_of n x)) all (takes-flags b (bits_of n x) k ahead (all ∙ sym (length-bits n x)))
-
-    pub answer-all : (longest origin : ℕ) →
-        None ≡ option_map (moved origin) (due_at longest (b ++ bits_of n x) (length b + n - 1))
-    answer-all longest origin =
-        let l : 0 < k = omega (arith, all, some) in
-        rw (are-flags, ← all, flags-due longest b k l (ahead.behind l)) refl
 
     pub more-all : (longest origin : ℕ) → placed origin longest (b ++ bits_of n x) ≡ placed origin longest b ++ []
     more-all longest origin =

@@ -1,15 +1,16 @@
 -- Bits that decide nothing, and bits behind them.
-use Rattle.std.proofs.Common.{◌≡◌, ℕ, ◌+◌, ◌-◌, ◌≤◌, ◌++◌, List, [], ◌∷◌, map, Bool, false, Option, None, Some, ap}
-use Rattle.std.proofs.Common.{refl, sym, subst, ◌∙◌, length, length-append, arith}
+use Rattle.std.proofs.Common.{◌≡◌, ℕ, ◌+◌, ◌-◌, ◌≤◌, ◌++◌, List, [], ◌∷◌, map, Bool, false, Option, None, Some, inl}
+use Rattle.std.proofs.Common.{inr, ap, refl, sym, subst, ◌∙◌, length, length-append, take, drop, get_or, arith}
 use Rattle.std.specs.Option.{is_some, option_map, option_to_list}
-use Rattle.std.proofs.lemmas.Bool.{true≢false}
-use Rattle.std.proofs.lemmas.List.{append-nil, append_assoc, append_cancel_left, map-append}
-use Rattle.bus_bits.specs.Bits.{bit_at, bits_from}
-use Rattle.bus_bits.proofs.BitLemmas.{bits-more, length-from}
+use Rattle.std.proofs.lemmas.Bool.{cases_lt, true≢false}
+use Rattle.std.proofs.lemmas.List.{append-nil, append_assoc, append_cancel_left, length-take, map-append}
+use Rattle.std.proofs.lemmas.List.{take-append-drop, take_all, take_more}
+use Rattle.bus_bits.specs.Bits.{bits_from}
+use Rattle.bus_bits.proofs.BitLemmas.{bits-more, front-from, length-from}
 use Rattle.bus_line.specs.Report.{Report, moved}
 use Rattle.bus_line.specs.Due.{due_at, placed, reports}
 use Rattle.bus_line.specs.Internal.LineState.{LineState}
-use Rattle.bus_line.specs.After.{After, DecideNothing, Tells}
+use Rattle.bus_line.specs.After.{Advances, After, DecideNothing, Tells}
 use Rattle.bus_line.proofs.DueMoreLemmas.{placed-more, reports-append}
 
 -- no bits
@@ -111,18 +112,38 @@ none-before origin longest b xs ys e =
     no-items [] e = refl
     no-items (r ∷ rs) e = absurd (omega (arith, e))
 
-pub tells-front : {C : Type 0} (folded : C → List ℕ → Type 0) (cost : ℕ) (os : List ℕ) (from n m : ℕ)
-    {a c : LineState C} → m ≤ n → Tells folded cost a (bits_from os from n) None c →
-    DecideNothing folded cost a (bits_from os from m)
-tells-front folded cost os from n m {a} l p = λ b h.
-    let xs = bits_from os from m in
-    let ys = bits_from os (from + m) (n - m) in
-    let e : n ≡ m + (n - m) = omega (arith, l) in
-    let all : (b ++ xs) ++ ys ≡ b ++ bits_from os from n =
-    append_assoc b xs ys ∙ ap (λ (z : List Bool). b ++ z)
-    (sym (bits-more os from m (n - m)) ∙ ap (bits_from os from) (sym e)) in
-    none-before a.origin a.longest b xs ys
-    (ap (placed a.origin a.longest) all ∙ (p.says b h ∙ append-nil (placed a.origin a.longest b)))
+-- bits that decide nothing, as bits of which the last decides nothing
+pub advances-quiet : {C : Type 0} (folded : C → List ℕ → Type 0) (cost : ℕ) {a c : LineState C} {bits : List Bool}
+    → Tells folded cost a bits None c → Advances folded cost a bits None c
+advances-quiet folded cost {a} {c} {bits} quiet = record {
+  tells = quiet;
+  before = λ b stands.
+      let front = take (length bits - 1) bits in
+      let last = drop (length bits - 1) bits in
+      let all : (b ++ front) ++ last ≡ b ++ bits =
+      append_assoc b front last ∙ ap (λ (z : List Bool). b ++ z) (take-append-drop (length bits - 1) bits) in
+      none-before a.origin a.longest b front last
+      (ap (placed a.origin a.longest) all ∙ silent folded cost quiet b stands);
+}
+
+-- bits behind those, of which the last may decide a report
+pub advances-on : {C : Type 0} (folded : C → List ℕ → Type 0) (cost : ℕ) (os : List ℕ) (from at : ℕ) → from ≤ at
+    → {a c e : LineState C} {r : Option Report} → Tells folded cost a (bits_from os from (at - from)) None c
+    → (n m : ℕ) → m ≡ at - from + n
+    → Advances folded cost c (bits_from os at n) r e → Advances folded cost a (bits_from os from m) r e
+advances-on folded cost os from at begun {a} {c} quiet n m count advances = record {
+  tells = tells-on folded cost os from at begun quiet n m count advances.tells;
+  before = elim (cases_lt 0 n) [
+    | inl some ↦
+        let behind = subst (DecideNothing folded cost c) (front-from os at n) advances.before in
+        subst (DecideNothing folded cost a) (sym (front-from os from m))
+        (decide-on folded cost os from at begun quiet (n - 1) (m - 1) (omega (arith, count, some)) behind)
+    | inr none ↦
+        let all : at - from ≡ m = omega (arith, count, none) in
+        subst (λ (k : ℕ). DecideNothing folded cost a (take (length (bits_from os from k) - 1) (bits_from os from k)))
+        all (advances-quiet folded cost quiet).before
+  ];
+}
 
 -- what the last bit decides
 same-option : {A : Type 0} (o p : Option A) → option_to_list o ≡ option_to_list p → o ≡ p
@@ -131,32 +152,47 @@ same-option None (Some y) e = absurd (omega (arith, ap length e))
 same-option (Some x) None e = absurd (omega (arith, ap length e))
 same-option (Some x) (Some y) e = cc
 
-last-bit : (os : List ℕ) (at n : ℕ) → 1 ≤ n → bits_from os at n
-    ≡ bits_from os at (n - 1) ++ bit_at os (at + (n - 1)) ∷ []
-unfolding bits_from
-last-bit os at n l = let e : n ≡ n - 1 + 1 = omega (arith, l) in ap (bits_from os at) e ∙ bits-more os at (n - 1) 1
+last-bit : (bits : List Bool) → 1 ≤ length bits
+    → bits ≡ take (length bits - 1) bits ++ get_or bits (length bits - 1) false ∷ []
+last-bit bits some =
+    let before = length bits - 1 in
+    let all : before + 1 ≡ length bits = omega (arith, some) in
+    sym (ap (λ (n : ℕ). take n bits) all ∙ take_all (length bits) bits (omega arith))
+    ∙ take_more bits before false (omega (arith, some))
 
-pub tells-due : {C : Type 0} (folded : C → List ℕ → Type 0) (cost : ℕ) (os : List ℕ) (at n : ℕ) {a c : LineState C}
-    {r : Option Report} → 1 ≤ n → Tells folded cost a (bits_from os at n) r c →
-    DecideNothing folded cost a (bits_from os at (n - 1))
-    → (b : List Bool) → After folded cost a b →
-    r ≡ option_map (moved a.origin) (due_at a.longest (b ++ bits_from os at n) (length b + n - 1))
-tells-due folded cost os at n {a} {c} {r} l p before b h =
-    let front = bits_from os at (n - 1) in
-    let x = bit_at os (at + (n - 1)) in
-    let all : (b ++ front) ++ x ∷ [] ≡ b ++ bits_from os at n =
-    append_assoc b front (x ∷ []) ∙ ap (λ (z : List Bool). b ++ z) (sym (last-bit os at n l)) in
-    let o = option_map (moved a.origin) (due_at a.longest ((b ++ front) ++ x ∷ []) (length (b ++ front))) in
-    let same : placed a.origin a.longest b ++ option_to_list r ≡ placed a.origin a.longest b ++ option_to_list o =
-    sym (p.says b h)
-    ∙ (ap (placed a.origin a.longest) (sym all)
-    ∙ (placed-more a.origin a.longest (b ++ front) x o refl
-    ∙ ap (λ (z : List Report). z ++ option_to_list o) (before b h))) in
-    let place : length (b ++ front) ≡ length b + n - 1 =
-    omega (arith, length-append b front, length-from os at (n - 1), l) in
-    same-option r o (append_cancel_left (placed a.origin a.longest b) (option_to_list r) (option_to_list o) same)
+-- of a bit alone
+pub bit-due : {C : Type 0} (folded : C → List ℕ → Type 0) (cost : ℕ) {a c : LineState C} {bit : Bool}
+    {r : Option Report} → Tells folded cost a (bit ∷ []) r c
+    → (b : List Bool) → After folded cost a b
+    → r ≡ option_map (moved a.origin) (due_at a.longest (b ++ bit ∷ []) (length b))
+bit-due folded cost {a} {c} {bit} {r} told b stands =
+    let due = option_map (moved a.origin) (due_at a.longest (b ++ bit ∷ []) (length b)) in
+    let before = placed a.origin a.longest b in
+    same-option r due (append_cancel_left before (option_to_list r) (option_to_list due)
+    (sym (told.says b stands) ∙ placed-more a.origin a.longest b bit due refl))
+
+-- of several
+pub last-due : {C : Type 0} (folded : C → List ℕ → Type 0) (cost : ℕ) {a c : LineState C} {bits : List Bool}
+    {r : Option Report} → 1 ≤ length bits → Advances folded cost a bits r c
+    → (b : List Bool) → After folded cost a b
+    → r ≡ option_map (moved a.origin) (due_at a.longest (b ++ bits) (length b + length bits - 1))
+last-due folded cost {a} {c} {bits} {r} some advances b stands =
+    let front = take (length bits - 1) bits in
+    let last = get_or bits (length bits - 1) false in
+    let before = placed a.origin a.longest b in
+    let all : (b ++ front) ++ last ∷ [] ≡ b ++ bits =
+    append_assoc b front (last ∷ []) ∙ ap (λ (z : List Bool). b ++ z) (sym (last-bit bits some)) in
+    let due = option_map (moved a.origin) (due_at a.longest ((b ++ front) ++ last ∷ []) (length (b ++ front))) in
+    let same : before ++ option_to_list r ≡ before ++ option_to_list due =
+    sym (advances.tells.says b stands)
+    ∙ ap (placed a.origin a.longest) (sym all)
+    ∙ placed-more a.origin a.longest (b ++ front) last due refl
+    ∙ ap (λ (z : List Report). z ++ option_to_list due) (advances.before b stands) in
+    let place : length (b ++ front) ≡ length b + length bits - 1 =
+    omega (arith, length-append b front, length-take (length bits - 1) bits, some) in
+    same-option r due (append_cancel_left before (option_to_list r) (option_to_list due) same)
     ∙ ap (option_map (moved a.origin)) (ap (λ (z : List Bool). due_at a.longest z (length (b ++ front))) all
-    ∙ ap (due_at a.longest (b ++ bits_from os at n)) place)
+    ∙ ap (due_at a.longest (b ++ bits)) place)
 
 -- no bits of octets
 pub tells-from : {C : Type 0} (folded : C → List ℕ → Type 0) (cost : ℕ) (os : List ℕ) (from n : ℕ) (d : LineState C) →

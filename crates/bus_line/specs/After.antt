@@ -1,5 +1,5 @@
 -- The lists of bits after which a decoder may stand.
-use Rattle.std.specs.Prelude.{◌≡◌, ℕ, ◌+◌, ◌-◌, ◌<◌, ◌≤◌, Bool, List, [], ◌∷◌, ◌++◌, length, Option, Some}
+use Rattle.std.specs.Prelude.{◌≡◌, ℕ, ◌+◌, ◌-◌, ◌<◌, ◌≤◌, Bool, List, [], ◌∷◌, ◌++◌, length, take, Option, Some}
 use Rattle.std.specs.Option.{option_to_list}
 use Rattle.bus_bits.specs.Octet.{octets}
 use Rattle.bus_line.specs.Decides.{MayDecideAt}
@@ -47,6 +47,12 @@ pub record Tells {C : Type 0} (folded : C → List ℕ → Type 0) (cost : ℕ) 
 abbrev pub DecideNothing : {C : Type 0} → (C → List ℕ → Type 0) → ℕ → LineState C → List Bool → Type 0
 DecideNothing folded cost d bits =
     (b : List Bool) → After folded cost d b → placed d.origin d.longest (b ++ bits) ≡ placed d.origin d.longest b
+
+-- these bits lead from old to new; the last of them decides this report, if it is one, and no other decides a report
+pub record Advances {C : Type 0} (folded : C → List ℕ → Type 0) (cost : ℕ) (old : LineState C) (bits : List Bool)
+    (report : Option Report) (new : LineState C) : Type 0 where
+  pub tells : Tells folded cost old bits report new
+  pub before : DecideNothing folded cost old (take (length bits - 1) bits)
 
 -- a frame has no more octets than the longest and its check
 abbrev pub FitsFrame : ℕ → Option Piece → Type 0

@@ -64,7 +64,7 @@ impl<C: Check> Model for LineDecoder<C> {
 impl<C: Check> LineDecoder<C> {
     ghost use Rattle.bus_line.specs.contracts.decoder.LineDecoder.{the_row};
     ghost use Rattle.bus_line.specs.Internal.LineState.{LineState};
-    ghost use Rattle.bus_line.specs.After.{After, DecideNothing, Pushed, Led, TakesTo, Tells, ShowsHeld, FitsFrame};
+    ghost use Rattle.bus_line.specs.After.{Advances, After, Pushed, TakesTo, ShowsHeld, FitsFrame};
     ghost use Rattle.bus_line.specs.Shown.{shown, reported};
     ghost use Rattle.bus_line.specs.Report.{moved};
 
@@ -109,14 +109,8 @@ impl<C: Check> LineDecoder<C> {
             option_map (reported self.new.octets) t.event
             ≡ option_map (moved self.old.origin)
             (due_at self.old.longest (b ++ bits_of t.count bits) (length b + t.count - 1))) }
-        ensures more { IfOk result (λ t. (b : List Bool) → After C.folded C.COST self.old b →
-            placed self.old.origin self.old.longest (b ++ bits_of t.count bits)
-            ≡ placed self.old.origin self.old.longest b
-            ++ option_to_list (option_map (reported self.new.octets) t.event)) }
-        ensures before { IfOk result (λ t. (b : List Bool) → After C.folded C.COST self.old b →
-            placed self.old.origin self.old.longest (b ++ bits_of (t.count - 1) bits)
-            ≡ placed self.old.origin self.old.longest b) }
-        ensures leads { IfOk result (λ t. Led C.folded C.COST self.old (bits_of t.count bits) self.new) }
+        ensures advances { IfOk result (λ t. Advances C.folded C.COST self.old (bits_of t.count bits)
+            (option_map (reported self.new.octets) t.event) self.new) }
         ensures unchanged { OnErr result (self.new ≡ self.old) }
     {
         if self.words.place + u64::from(count) > PLACES {
@@ -146,10 +140,8 @@ impl<C: Check> LineDecoder<C> {
             option_map (reported self.new.octets) s.event
             ≡ option_map (moved self.old.origin)
             (due_at self.old.longest (b ++ bits_from octets.now at s.count) (length b + s.count - 1))) }
-        ensures tells { IfOk result (λ s. Tells C.folded C.COST self.old (bits_from octets.now at s.count)
+        ensures advances { IfOk result (λ s. Advances C.folded C.COST self.old (bits_from octets.now at s.count)
             (option_map (reported self.new.octets) s.event) self.new) }
-        ensures before { IfOk result (λ s.
-            DecideNothing C.folded C.COST self.old (bits_from octets.now at (s.count - 1))) }
         ensures unchanged { OnErr result (self.new ≡ self.old) }
     {
         // The `?` parts the two cases for the proof.

@@ -9,7 +9,7 @@ use Rattle.bus_line.specs.Report.{Report}
 use Rattle.bus_line.specs.Due.{reports, placed}
 use Rattle.bus_line.specs.Ledger.{IsLedger as IsLineLedger}
 use Rattle.bus_line.specs.Internal.LineState.{LineState}
-use Rattle.bus_line.specs.After.{After, Led}
+use Rattle.bus_line.specs.After.{Advances, DecideNothing}
 use Rattle.bus_dictionary.specs.Dictionary.{longest_of}
 use Rattle.bus_watch.specs.Heard.{Heard, heard_on, of_line}
 use Rattle.bus_watch.specs.Seen.{SeenReport, seen_of, seen}
@@ -21,36 +21,15 @@ use Rattle.bus_watch.specs.Ledger.{IsLedger}
 use Rattle.bus_watch.proofs.SeenLemmas.{seen-more}
 use Rattle.bus_watch.proofs.AnalyserViewLemmas.{octets-moved, steps-moved, heard-octets, heard-steps}
 
--- what the decoder's contract says of bits
-abbrev pub GrowsBy : {C : Type 0} → (C → List ℕ → Type 0) → ℕ → LineState C → List Bool → Option Report → Type 0
-GrowsBy folded cost d bits o = (b : List Bool) → After folded cost d b →
-    placed d.origin d.longest (b ++ bits) ≡ placed d.origin d.longest b ++ option_to_list o
-
-abbrev pub IsCalmFor : {C : Type 0} → (C → List ℕ → Type 0) → ℕ → LineState C → List Bool → Type 0
-IsCalmFor folded cost d bits = (b : List Bool) → After folded cost d b →
-    placed d.origin d.longest (b ++ bits) ≡ placed d.origin d.longest b
-
--- all bits but the last decide nothing
-pub calm-but-last : {C : Type 0} (folded : C → List ℕ → Type 0) (cost n x : ℕ) (d : LineState C) →
-    length (bits_of n x) ≡ n → take (n - 1) (bits_of n x) ≡ bits_of (n - 1) x
-    → IsCalmFor folded cost d (bits_of (n - 1) x) →
-    IsCalmFor folded cost d (take (length (bits_of n x) - 1) (bits_of n x))
-calm-but-last folded cost n x d l f calm =
-    subst (IsCalmFor folded cost d) (sym (ap (λ k. take (k - 1) (bits_of n x)) l ∙ f)) calm
-
 -- bits that decide nothing
 pub hears-none : {C : Type 0} (folded : C → List ℕ → Type 0) (cost : ℕ) (on : Option Line) (old new : LineState C)
     (j k : JournalState) (bits : List Bool)
-    → Led folded cost old bits new → GrowsBy folded cost old bits None →
-    IsCalmFor folded cost old (take (length bits - 1) bits) → k ≡ j
-    → Hears folded cost on old j bits None new k
-hears-none folded cost on old new j k bits led grows calm same = record {
+    → Advances folded cost old bits None new → k ≡ j → Hears folded cost on old j bits None new k
+hears-none folded cost on old new j k bits advances same = record {
   report = None;
-  led = led;
-  calm = calm;
-  grows = grows;
-  keeps = λ hs h. subst (Keeps k) (sym (append-nil hs)) (subst (λ i. Keeps i hs) (sym same) h);
-  seen = λ hs h. ap (seen j.dictionary) (append-nil hs) ∙ sym (append-nil (seen j.dictionary hs));
+  advances = advances;
+  keeps = λ hs kept. subst (Keeps k) (sym (append-nil hs)) (subst (λ i. Keeps i hs) (sym same) kept);
+  seen = λ hs kept. ap (seen j.dictionary) (append-nil hs) ∙ sym (append-nil (seen j.dictionary hs));
   dictionary = ap (λ (i : JournalState). i.dictionary) same;
   depth = ap (λ (i : JournalState). i.depth) same;
 }
@@ -58,20 +37,18 @@ hears-none folded cost on old new j k bits led grows calm same = record {
 -- bits the last of which decides a report; what is seen of it was kept
 pub hears-some : {C : Type 0} (folded : C → List ℕ → Type 0) (cost : ℕ) (on : Option Line) (old new : LineState C)
     (j k : JournalState) (bits : List Bool) (report : Report) (told : Option SeenReport)
-    → Led folded cost old bits new → GrowsBy folded cost old bits (Some report) →
-    IsCalmFor folded cost old (take (length bits - 1) bits)
+    → Advances folded cost old bits (Some report) new
     → ((hs : List Heard) → Keeps j hs → Keeps k (hs ++ heard_on on report ∷ []))
     → ((hs : List Heard) → Keeps j hs → told ≡ Some (seen_of j.dictionary hs (heard_on on report)))
     → k.dictionary ≡ j.dictionary → k.depth ≡ j.depth
     → Hears folded cost on old j bits told new k
-hears-some folded cost on old new j k bits report told led grows calm keeps says dictionary depth = record {
+hears-some folded cost on old new j k bits report told advances keeps says dictionary depth = record {
   report = Some report;
-  led = led;
-  calm = calm;
-  grows = grows;
+  advances = advances;
   keeps = keeps;
-  seen = λ hs h. seen-more j.dictionary hs (heard_on on report)
-      ∙ ap (λ o. seen j.dictionary hs ++ option_to_list o) (sym (says hs h));
+  seen = λ hs kept.
+      seen-more j.dictionary hs (heard_on on report)
+      ∙ ap (λ o. seen j.dictionary hs ++ option_to_list o) (sym (says hs kept));
   dictionary = dictionary;
   depth = depth;
 }
@@ -82,27 +59,27 @@ pub sees-heard : {C : Type 0} (folded : C → List ℕ → Type 0) (cost : ℕ) 
     → Hears folded cost None old.decoder old.journal bits told new.decoder new.journal →
     Sees folded cost old bits (option_to_list told) new
 sees-heard folded cost old new bits told h =
+    let led = h.advances.tells.leads in
     let same : (bs : List Bool) → line new bs ≡ line old bs = λ bs.
-    ap (λ o. of_line (placed o (longest_of new.journal.dictionary) bs)) h.led.origin
+    ap (λ o. of_line (placed o (longest_of new.journal.dictionary) bs)) led.origin
     ∙ ap (λ d. of_line (placed old.decoder.origin (longest_of d) bs)) h.dictionary in
     let grown : (b : List Bool) → IsAfter folded cost old b →
     line old (b ++ bits) ≡ line old b ++ heard_option None h.report = λ b t.
-    let e : placed old.decoder.origin (longest_of old.journal.dictionary) (b ++ bits)
-    ≡ placed old.decoder.origin (longest_of old.journal.dictionary) b ++ option_to_list h.report =
-    rw (← t.longest) (h.grows b t.decoder) in
-    ap of_line e ∙ map-append (heard_on None) (placed old.decoder.origin (longest_of old.journal.dictionary) b)
-    (option_to_list h.report) in
+    let before = placed old.decoder.origin (longest_of old.journal.dictionary) b in
+    let more : placed old.decoder.origin (longest_of old.journal.dictionary) (b ++ bits)
+    ≡ before ++ option_to_list h.report = rw (← t.longest) (h.advances.tells.says b t.decoder) in
+    ap of_line more ∙ map-append (heard_on None) before (option_to_list h.report) in
     record {
       is_after = λ b t. record {
-        decoder = h.led.after b t.decoder;
-        longest = h.led.longest ∙ t.longest ∙ ap longest_of (sym h.dictionary);
+        decoder = led.after b t.decoder;
+        longest = led.longest ∙ t.longest ∙ ap longest_of (sym h.dictionary);
         journal = subst (Keeps new.journal) (sym (same (b ++ bits) ∙ grown b t)) (h.keeps (line old b) t.journal);
       };
       seen = λ b t. ap (seen old.journal.dictionary) (grown b t) ∙ h.seen (line old b) t.journal;
       dictionary = h.dictionary;
       depth = h.depth;
-      origin = h.led.origin;
-      place = h.led.place;
+      origin = led.origin;
+      place = led.place;
     }
 
 -- the steps of the decoder, and those of the journal
@@ -125,8 +102,8 @@ ledger-is folded cost a b d j s l copied handled =
 
 -- where nothing is reported, nothing is seen
 pub seen-before : {C : Type 0} (folded : C → List ℕ → Type 0) (cost : ℕ) (a : AnalyserState C) (bits : List Bool)
-    → IsCalmFor folded cost a.decoder bits → (b : List Bool) → IsAfter folded cost a b →
-    seen_after a (b ++ bits) ≡ seen_after a b
+    → DecideNothing folded cost a.decoder bits
+    → (b : List Bool) → IsAfter folded cost a b → seen_after a (b ++ bits) ≡ seen_after a b
 seen-before folded cost a bits calm b s =
     let same : line a (b ++ bits) ≡ line a b = ap of_line (rw (← s.longest) (calm b s.decoder)) in
     ap (seen a.journal.dictionary) same

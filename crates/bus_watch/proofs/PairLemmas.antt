@@ -20,7 +20,7 @@ use Rattle.bus_line.specs.Due.{reports, placed, places, due_at}
 use Rattle.bus_line.specs.Laws.{OneMore, ReportsGrow, DueStays, DueIsIt, FramesStored, StoredPaid, AssembledWithin}
 use Rattle.bus_line.specs.Ledger.{octet_count, copied, stored, IsLedger as IsLineLedger}
 use Rattle.bus_line.specs.Internal.LineState.{LineState}
-use Rattle.bus_line.specs.After.{After, TakesTo}
+use Rattle.bus_line.specs.After.{After, Led, TakesTo}
 use Rattle.bus_dictionary.specs.Entry.{FrameType}
 use Rattle.bus_dictionary.specs.Dictionary.{longest_of}
 use Rattle.bus_watch.specs.Heard.{Heard, heard_on, firsts, seconds, pairs_of, heard_at, merged}
@@ -110,27 +110,35 @@ module _ {C : Type 0} (folded : C → List ℕ → Type 0) (cost : ℕ) (old new
   abbrev longest : ℕ
   longest = longest_of old.journal.dictionary
 
-  first-calm : (ps : List (Bool × Bool)) → IsAfterPairs folded cost old ps →
-      placed old.first.origin longest (firsts ps ++ firsts all-but) ≡ placed old.first.origin longest (firsts ps)
+  first-led : Led folded cost old.first (firsts xs) new.first
+  first-led = h1.advances.tells.leads
+
+  second-led : Led folded cost old.second (seconds xs) new.second
+  second-led = h2.advances.tells.leads
+
+  -- what is reported on a line after these bits
+  abbrev placed-after : List Bool → List Report
+  placed-after b = placed old.first.origin longest b
+
+  first-calm : (ps : List (Bool × Bool)) → IsAfterPairs folded cost old ps
+      → placed-after (firsts ps ++ firsts all-but) ≡ placed-after (firsts ps)
   first-calm ps t =
-      subst (λ b. placed old.first.origin longest (firsts ps ++ b) ≡ placed old.first.origin longest (firsts ps))
-      first-front (rw (← t.longest) (h1.calm (firsts ps) t.first))
+      subst (λ b. placed-after (firsts ps ++ b) ≡ placed-after (firsts ps)) first-front
+      (rw (← t.longest) (h1.advances.before (firsts ps) t.first))
 
-  second-calm : (ps : List (Bool × Bool)) → IsAfterPairs folded cost old ps →
-      placed old.first.origin longest (seconds ps ++ seconds all-but) ≡ placed old.first.origin longest (seconds ps)
+  second-calm : (ps : List (Bool × Bool)) → IsAfterPairs folded cost old ps
+      → placed-after (seconds ps ++ seconds all-but) ≡ placed-after (seconds ps)
   second-calm ps t =
-      subst (λ b. placed old.first.origin longest (seconds ps ++ b) ≡ placed old.first.origin longest (seconds ps))
-      second-front (rw (← t.longest_second, ← t.origin) (h2.calm (seconds ps) t.second))
+      subst (λ b. placed-after (seconds ps ++ b) ≡ placed-after (seconds ps)) second-front
+      (rw (← t.longest_second, ← t.origin) (h2.advances.before (seconds ps) t.second))
 
-  first-grows : (ps : List (Bool × Bool)) → IsAfterPairs folded cost old ps →
-      placed old.first.origin longest (firsts ps ++ firsts xs) ≡ placed old.first.origin longest (firsts ps)
-      ++ option_to_list h1.report
-  first-grows ps t = rw (← t.longest) (h1.grows (firsts ps) t.first)
+  first-grows : (ps : List (Bool × Bool)) → IsAfterPairs folded cost old ps
+      → placed-after (firsts ps ++ firsts xs) ≡ placed-after (firsts ps) ++ option_to_list h1.report
+  first-grows ps t = rw (← t.longest) (h1.advances.tells.says (firsts ps) t.first)
 
-  second-grows : (ps : List (Bool × Bool)) → IsAfterPairs folded cost old ps →
-      placed old.first.origin longest (seconds ps ++ seconds xs) ≡ placed old.first.origin longest (seconds ps)
-      ++ option_to_list h2.report
-  second-grows ps t = rw (← t.longest_second, ← t.origin) (h2.grows (seconds ps) t.second)
+  second-grows : (ps : List (Bool × Bool)) → IsAfterPairs folded cost old ps
+      → placed-after (seconds ps ++ seconds xs) ≡ placed-after (seconds ps) ++ option_to_list h2.report
+  second-grows ps t = rw (← t.longest_second, ← t.origin) (h2.advances.tells.says (seconds ps) t.second)
 
   -- all but the last add nothing
   lines-before : (ps : List (Bool × Bool)) → IsAfterPairs folded cost old ps → lines old (ps ++ all-but) ≡ lines old ps
@@ -159,17 +167,18 @@ module _ {C : Type 0} (folded : C → List ℕ → Type 0) (cost : ℕ) (old new
   sees-pairs =
       let d = h2.dictionary ∙ h1.dictionary in
       let same : (ps : List (Bool × Bool)) → lines new ps ≡ lines old ps = λ ps.
-      ap (λ o. merged o (longest_of new.journal.dictionary) ps) h1.led.origin
+      ap (λ o. merged o (longest_of new.journal.dictionary) ps) first-led.origin
       ∙ ap (λ es. merged old.first.origin (longest_of es) ps) d in
       let half : List (Bool × Bool) → List Heard = λ ps. lines old ps ++ heard_option (Some First) h1.report in
       record {
         is_after = λ ps t. record {
-          first = subst (After folded cost new.first) (sym (firsts-append ps xs)) (h1.led.after (firsts ps) t.first);
-          second = subst (After folded cost new.second) (sym (seconds-append ps xs))
-              (h2.led.after (seconds ps) t.second);
-          origin = h2.led.origin ∙ t.origin ∙ sym h1.led.origin;
-          longest = h1.led.longest ∙ t.longest ∙ ap longest_of (sym d);
-          longest_second = h2.led.longest ∙ t.longest_second ∙ ap longest_of (sym d);
+          first = subst (After folded cost new.first) (sym (firsts-append ps xs)) (first-led.after (firsts ps) t.first);
+          second =
+              subst (After folded cost new.second) (sym (seconds-append ps xs))
+              (second-led.after (seconds ps) t.second);
+          origin = second-led.origin ∙ t.origin ∙ sym first-led.origin;
+          longest = first-led.longest ∙ t.longest ∙ ap longest_of (sym d);
+          longest_second = second-led.longest ∙ t.longest_second ∙ ap longest_of (sym d);
           journal = subst (Keeps new.journal) (sym (same (ps ++ xs) ∙ lines-more ps t))
               (h2.keeps (half ps) (h1.keeps (lines old ps) t.journal));
         };
@@ -185,8 +194,8 @@ module _ {C : Type 0} (folded : C → List ℕ → Type 0) (cost : ℕ) (old new
             ∙ append_assoc (seen e (lines old ps)) (option_to_list s) (option_to_list t)));
         dictionary = d;
         depth = h2.depth ∙ h1.depth;
-        origin = h1.led.origin;
-        place = h1.led.place ∙ ap (λ n. old.first.place + n) (length-map xs (λ (q : Bool × Bool). q.0));
+        origin = first-led.origin;
+        place = first-led.place ∙ ap (λ n. old.first.place + n) (length-map xs (λ (q : Bool × Bool). q.0));
       }
 
 -- the octets of a line
@@ -258,7 +267,7 @@ room-second folded cost a d j bits s ps frames paid within h t l =
     let b = firsts ps in
     let new : List Heard = heard_option (Some First) h.report in
     let e : placed o longest (b ++ bits) ≡ placed o longest b ++ option_to_list h.report =
-    rw (← t.longest) (h.grows b t.first) in
+    rw (← t.longest) (h.advances.tells.says b t.first) in
     let grown : of_one First o longest (b ++ bits) ≡ of_one First o longest b ++ new =
     ap (map (heard_on (Some First))) e ∙ map-append (heard_on (Some First)) (placed o longest b)
     (option_to_list h.report) in

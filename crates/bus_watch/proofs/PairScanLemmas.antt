@@ -80,6 +80,7 @@ module _ {C : Type 0} (folded : C → List ℕ → Type 0) (cost : ℕ) (on : Op
       → HearsMany folded cost on a i (xs ++ ys) c k further
   hears-more a b c i j k xs ys s told further some p q t =
       let rs = option_to_list q.report in
+      let on-led = q.advances.tells.leads in
       let all : map (heard_on on) (p.reports ++ rs) ≡ map (heard_on on) p.reports ++ heard_option on q.report =
       map-append (heard_on on) p.reports rs in
       let whole : (hs : List Heard) → hs ++ map (heard_on on) (p.reports ++ rs)
@@ -89,15 +90,15 @@ module _ {C : Type 0} (folded : C → List ℕ → Type 0) (cost : ℕ) (on : Op
         reports = p.reports ++ rs;
         seen_now = p.seen_now ++ option_to_list s;
         led = record {
-          after = λ bs h. subst (After folded cost c) (append_assoc bs xs ys)
-              (q.led.after (bs ++ xs) (p.led.after bs h));
-          longest = q.led.longest ∙ p.led.longest;
-          origin = q.led.origin ∙ p.led.origin;
-          place = omega (arith, p.led.place, q.led.place, length-append xs ys);
+          after = λ bs h.
+              subst (After folded cost c) (append_assoc bs xs ys) (on-led.after (bs ++ xs) (p.led.after bs h));
+          longest = on-led.longest ∙ p.led.longest;
+          origin = on-led.origin ∙ p.led.origin;
+          place = omega (arith, p.led.place, on-led.place, length-append xs ys);
         };
         grows = λ bs h.
             let last : placed a.origin a.longest ((bs ++ xs) ++ ys) ≡ placed a.origin a.longest (bs ++ xs) ++ rs =
-            rw (← p.led.origin, ← p.led.longest) (q.grows (bs ++ xs) (p.led.after bs h)) in
+            rw (← p.led.origin, ← p.led.longest) (q.advances.tells.says (bs ++ xs) (p.led.after bs h)) in
             ap (placed a.origin a.longest) (sym (append_assoc bs xs ys))
             ∙ (last ∙ (ap (λ more. more ++ rs) (p.grows bs h)
             ∙ append_assoc (placed a.origin a.longest bs) p.reports rs));
@@ -132,12 +133,13 @@ module _ {C : Type 0} (folded : C → List ℕ → Type 0) (cost : ℕ) (on : Op
       Reaches folded cost d j → Hears folded cost on d j xs s e k → Reaches folded cost e k
   reaches-more d e j k xs s r h =
       let rs = option_to_list h.report in
+      let led = h.advances.tells.leads in
       let grown : placed e.origin e.longest (r.bits ++ xs) ≡ placed d.origin d.longest r.bits ++ rs =
-      ap (λ o. placed o e.longest (r.bits ++ xs)) h.led.origin
-      ∙ (ap (λ n. placed d.origin n (r.bits ++ xs)) h.led.longest ∙ h.grows r.bits r.after) in
+      ap (λ o. placed o e.longest (r.bits ++ xs)) led.origin
+      ∙ (ap (λ n. placed d.origin n (r.bits ++ xs)) led.longest ∙ h.advances.tells.says r.bits r.after) in
       record {
         bits = r.bits ++ xs;
-        after = h.led.after r.bits r.after;
+        after = led.after r.bits r.after;
         heard = r.heard ++ heard_option on h.report;
         keeps = h.keeps r.heard r.keeps;
         copied = omega (
@@ -344,11 +346,12 @@ module _ {C : Type 0} (folded : C → List ℕ → Type 0) (cost : ℕ) (old new
       let o = old.first.origin in
       let calm : placed o longest (seconds ps ++ seconds all-but) ≡ placed o longest (seconds ps) =
       subst (λ b. placed o longest (seconds ps ++ b) ≡ placed o longest (seconds ps)) second-front
-      (rw (← s.longest_second, ← s.origin) (h2.calm (seconds ps) s.second)) in
+      (rw (← s.longest_second, ← s.origin) (h2.advances.before (seconds ps) s.second)) in
       let one : placed o longest (firsts ps ++ firsts zs) ≡ placed o longest (firsts ps) ++ h1.reports =
       rw (← s.longest) (h1.grows (firsts ps) s.first) in
-      let two : placed o longest (seconds ps ++ seconds zs) ≡ placed o longest (seconds ps)
-      ++ option_to_list h2.report = rw (← s.longest_second, ← s.origin) (h2.grows (seconds ps) s.second) in
+      let two : placed o longest (seconds ps ++ seconds zs)
+      ≡ placed o longest (seconds ps) ++ option_to_list h2.report =
+      rw (← s.longest_second, ← s.origin) (h2.advances.tells.says (seconds ps) s.second) in
       ap (λ (ys : List (Bool × Bool)). lines old (ps ++ ys)) whole
       ∙ (merged-led stays more grow o longest ps all-but last-one h1.reports h2.report
       (subst (λ (ys : List (Bool × Bool)). placed o longest (firsts ps ++ firsts ys)
@@ -360,17 +363,19 @@ module _ {C : Type 0} (folded : C → List ℕ → Type 0) (cost : ℕ) (old new
   pub sees-scanned : SeesPairs folded cost old zs (h1.seen_now ++ option_to_list t) new
   sees-scanned =
       let d = h2.dictionary ∙ h1.dictionary in
+      let second-led = h2.advances.tells.leads in
       let same : (ps : List (Bool × Bool)) → lines new ps ≡ lines old ps = λ ps.
       ap (λ o. merged o (longest_of new.journal.dictionary) ps) h1.led.origin
       ∙ ap (λ es. merged old.first.origin (longest_of es) ps) d in
       record {
         is_after = λ ps s. record {
           first = subst (After folded cost new.first) (sym (firsts-append ps zs)) (h1.led.after (firsts ps) s.first);
-          second = subst (After folded cost new.second) (sym (seconds-append ps zs))
-              (h2.led.after (seconds ps) s.second);
-          origin = h2.led.origin ∙ s.origin ∙ sym h1.led.origin;
+          second =
+              subst (After folded cost new.second) (sym (seconds-append ps zs))
+              (second-led.after (seconds ps) s.second);
+          origin = second-led.origin ∙ s.origin ∙ sym h1.led.origin;
           longest = h1.led.longest ∙ s.longest ∙ ap longest_of (sym d);
-          longest_second = h2.led.longest ∙ s.longest_second ∙ ap longest_of (sym d);
+          longest_second = second-led.longest ∙ s.longest_second ∙ ap longest_of (sym d);
           journal = subst (Keeps new.journal) (sym (same (ps ++ zs) ∙ lines-more ps s))
               (h2.keeps (lines old ps ++ first-lines) (h1.keeps (lines old ps) s.journal));
         };

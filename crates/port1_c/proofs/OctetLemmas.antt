@@ -8,7 +8,7 @@ use Rattle.std.specs.Int.{reverse_bits, reverse_bits_onto}
 use Rattle.bus_bits.specs.Octet.{bits_of}
 use Rattle.bus_bits.specs.Bits.{bits_from}
 use Rattle.bus_bits.proofs.OctetLemmas.{bits-front, bits-split, length-bits}
-use Rattle.bus_bits.proofs.BitLemmas.{bits-in, length-from}
+use Rattle.bus_bits.proofs.BitLemmas.{bits-in, front-from, length-from}
 use Rattle.port1_c.specs.Bits.{high_first}
 
 -- an octet alone, from any of its bits on
@@ -70,3 +70,10 @@ bits-of-reversed o r at n i l = ap (λ (x : ℕ). bits_from (x ∷ []) at n) i �
 
 pub length-high-first : (o at n : ℕ) → at + n ≤ 8 → length (high_first o at n) ≡ n
 length-high-first o at n l = ap length (sym (reversed-octet o at n l)) ∙ length-from (reverse_bits w8 o ∷ []) at n
+
+-- all of its bits but the last
+pub front-high-first : (o at n : ℕ) → at + n ≤ 8
+    → take (length (high_first o at n) - 1) (high_first o at n) ≡ high_first o at (n - 1)
+front-high-first o at n within =
+    rw (← reversed-octet o at n within)
+    (front-from (reverse_bits w8 o ∷ []) at n ∙ reversed-octet o at (n - 1) (omega (arith, within)))

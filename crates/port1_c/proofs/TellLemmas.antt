@@ -10,7 +10,7 @@ use Rattle.bus_line.proofs.TellLemmas as lines
 use Rattle.bus_bits.specs.Bits.{bits_from}
 use Rattle.bus_bits.specs.Octet.{bits_of}
 use Rattle.port1_c.specs.declared.report.Port1Report.{Port1Report}
-use Rattle.port1_c.specs.Line.{DecideNothing, Tells, told}
+use Rattle.port1_c.specs.Line.{Advances, Tells, told}
 use Rattle.port1_c.proofs.OctetLemmas.{first-bits}
 
 abbrev pub State : Type 0
@@ -25,11 +25,11 @@ pub tells-none : (a c : State) (bits : List Bool) (r : Port1Report) → r.kind �
 tells-none a c bits r e p = subst (λ (o : Option Report). line.Tells HasFolded 1 a bits o c) (told-none r c.octets e) p
 
 -- no bits
-pub tells-no-bits : (os : List ℕ) (at n : ℕ) (d : State) (r : Port1Report) → n ≡ 0 → r.kind ≡ 0 →
-    Tells d (bits_from os at n) r d
-tells-no-bits os at n d r e k =
-    subst (λ (o : Option Report). line.Tells HasFolded 1 d (bits_from os at n) o d) (sym (told-none r d.octets k))
-    (lines.tells-from HasFolded 1 os at n d e)
+pub advances-no-bits : (os : List ℕ) (at n : ℕ) (d : State) (r : Port1Report) → n ≡ 0 → r.kind ≡ 0
+    → Advances d (bits_from os at n) r d
+advances-no-bits os at n d r none kind =
+    subst (λ (o : Option Report). line.Advances HasFolded 1 d (bits_from os at n) o d) (sym (told-none r d.octets kind))
+    (lines.advances-quiet HasFolded 1 (lines.tells-from HasFolded 1 os at n d none))
 
 pub tells-first : (o : ℕ) (d : State) → line.Tells HasFolded 1 d (bits_of 0 o) None d
 unfolding bits_of
@@ -43,15 +43,9 @@ module _ (o at past : ℕ) (m : past ≤ 8) {a c : State} (p : line.Tells HasFol
       subst (λ (x : List Bool). line.Tells HasFolded 1 a x None c)
       (first-bits o at (omega (arith, l, m)) ∙ ap (bits_from (o ∷ []) 0) e) p
 
-  pub tells-octet : {e : State} (r : Port1Report) → at ≤ past → Tells c (bits_from (o ∷ []) at (past - at)) r e →
-      Tells a (bits_of past o) r e
-  tells-octet {e} r l q =
-      subst (λ (x : List Bool). Tells a x r e) (sym (first-bits o past m))
-      (lines.tells-on HasFolded 1 (o ∷ []) 0 at (omega arith) (from-first l) (past - at) past (omega (arith, l)) q)
-
-  pub decide-octet : at < past → DecideNothing c (bits_from (o ∷ []) at (past - at - 1)) →
-      DecideNothing a (bits_of (past - 1) o)
-  decide-octet l q =
-      subst (λ (x : List Bool). DecideNothing a x) (sym (first-bits o (past - 1) (omega (arith, m))))
-      (lines.decide-on HasFolded 1 (o ∷ []) 0 at (omega arith) (from-first (omega (arith, l))) (past - at - 1)
-      (past - 1) (omega (arith, l)) q)
+  pub advances-octet : {e : State} (r : Port1Report) → at ≤ past
+      → Advances c (bits_from (o ∷ []) at (past - at)) r e → Advances a (bits_of past o) r e
+  advances-octet {e} r begun advances =
+      subst (λ (bits : List Bool). Advances a bits r e) (sym (first-bits o past m))
+      (lines.advances-on HasFolded 1 (o ∷ []) 0 at (omega arith) (from-first begun)
+      (past - at) past (omega (arith, begun)) advances)

@@ -80,6 +80,6 @@ pub record Goes (old : Port1Line) (count : ℕ) (new : Port1Line) : Type 0 where
 abbrev pub Tells : LineState OctetCheck → List Bool → Port1Report → LineState OctetCheck → Type 0
 Tells old bits r new = line.Tells HasFolded 1 old bits (told r new.octets) new
 
--- these bits decide no report
-abbrev pub DecideNothing : LineState OctetCheck → List Bool → Type 0
-DecideNothing d bits = line.DecideNothing HasFolded 1 d bits
+-- these bits lead from old to new; the last of them decides this report, if it is one, and no other decides a report
+abbrev pub Advances : LineState OctetCheck → List Bool → Port1Report → LineState OctetCheck → Type 0
+Advances old bits r new = line.Advances HasFolded 1 old bits (told r new.octets) new

@@ -3,7 +3,7 @@
 ghost use Rattle.std.specs.Prelude.{◌≡◌, ◌≢◌, ◌-◌, ◌*◌, ◌≤◌, ◌<◌, ◌^◌, ◌↔◌, ◌⊎◌, IsTrue, length};
 ghost use Rattle.bus_bits.specs.Bits.{bits_from};
 ghost use Rattle.bus_bits.specs.Octet.{bits_of};
-ghost use Rattle.port1_c.specs.Line.{DecideNothing, IsCoded, Sound, Tells, held};
+ghost use Rattle.port1_c.specs.Line.{Advances, IsCoded, Sound, held};
 
 use crate::line::Port1Line;
 use crate::report::{NONE, Port1Report};
@@ -40,10 +40,8 @@ pub(crate) fn feed(
     ensures all { result ≡ 0 → report.new.kind ≡ 0 → at.new ≡ end }
     ensures limit { result ≡ 2 → (report.new.kind ≡ 0) × (at.new < end) × (line.new.words.place ≡ 2 ^ 60) }
     ensures coded { result < 3 → IsCoded report.new }
-    ensures tells { result < 3 →
-        Tells (held line.old) (bits_from octets.now at.old (at.new - at.old)) report.new (held line.new) }
-    ensures before { result < 3 → report.new.kind ≢ 0 →
-        DecideNothing (held line.old) (bits_from octets.now at.old (at.new - at.old - 1)) }
+    ensures advances { result < 3 →
+        Advances (held line.old) (bits_from octets.now at.old (at.new - at.old)) report.new (held line.new) }
     ensures sound { result < 3 → Sound line.new }
 {
     if !line.words.are_sound() {
@@ -91,8 +89,7 @@ pub(crate) fn feed_octet(
     ensures all { result ≡ 0 → report.new.kind ≡ 0 → at.new ≡ 8 }
     ensures limit { result ≡ 2 → (report.new.kind ≡ 0) × (at.new < 8) × (line.new.words.place ≡ 2 ^ 60) }
     ensures coded { result < 3 → IsCoded report.new }
-    ensures tells { result < 3 → Tells (held line.old) (bits_of at.new octet) report.new (held line.new) }
-    ensures before { result < 3 → report.new.kind ≢ 0 → DecideNothing (held line.old) (bits_of (at.new - 1) octet) }
+    ensures advances { result < 3 → Advances (held line.old) (bits_of at.new octet) report.new (held line.new) }
     ensures sound { result < 3 → Sound line.new }
 {
     if !line.words.are_sound() {

@@ -3,7 +3,7 @@
 ghost use Rattle.std.specs.Prelude.{◌≡◌, ◌+◌, ◌-◌, ◌*◌, ◌≤◌, ◌<◌, ◌^◌, ◌↔◌, IsErr, IfOk, OnErr, ◌∷◌, [], length};
 ghost use Rattle.bus_bits.specs.Bits.{bits_from};
 ghost use Rattle.bus_bits.specs.Octet.{bits_of};
-ghost use Rattle.port1_c.specs.Line.{DecideNothing, IsCoded, Sound, Tells, held};
+ghost use Rattle.port1_c.specs.Line.{Advances, IsCoded, Sound, Tells, held};
 
 use crate::bits::Told;
 use crate::report::Port1Report;
@@ -33,9 +33,8 @@ impl Port1Line {
         ensures count { IfOk result (λ t. (1 ≤ t.count) × (t.count ≤ end - at)) }
         ensures all { IfOk result (λ t. t.report.kind ≡ 0 → t.count < end - at → self.new.words.place ≡ 2 ^ 60) }
         ensures coded { IfOk result (λ t. IsCoded t.report) }
-        ensures tells { IfOk result (λ t. Tells (held self.old) (bits_from octets.now at t.count) t.report
-            (held self.new)) }
-        ensures before { IfOk result (λ t. DecideNothing (held self.old) (bits_from octets.now at (t.count - 1))) }
+        ensures advances { IfOk result (λ t.
+            Advances (held self.old) (bits_from octets.now at t.count) t.report (held self.new)) }
         ensures sound { Sound self.new }
     {
         let mut check = OctetCheck::with_register(self.words.register);
@@ -65,8 +64,7 @@ impl Port1Line {
         ensures kept { OnErr result (self.new ≡ self.old) }
         ensures count { IfOk result (λ t. (1 ≤ t.count) × (t.count ≤ count)) }
         ensures coded { IfOk result (λ t. IsCoded t.report) }
-        ensures tells { IfOk result (λ t. Tells (held self.old) (bits_of t.count bits) t.report (held self.new)) }
-        ensures before { IfOk result (λ t. DecideNothing (held self.old) (bits_of (t.count - 1) bits)) }
+        ensures advances { IfOk result (λ t. Advances (held self.old) (bits_of t.count bits) t.report (held self.new)) }
         ensures sound { Sound self.new }
     {
         let mut check = OctetCheck::with_register(self.words.register);

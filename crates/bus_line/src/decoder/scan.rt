@@ -18,7 +18,7 @@ use std::cmp::min;
 impl LineWords {
     ghost use Rattle.bus_line.specs.Words.{IsWithin, state};
     ghost use Rattle.bus_line.specs.Shown.{reported};
-    ghost use Rattle.bus_line.specs.After.{DecideNothing, Tells};
+    ghost use Rattle.bus_line.specs.After.{Advances, Tells};
     ghost use Rattle.bus_line.specs.Internal.Flags.{PassesFlags};
     ghost use Rattle.bus_line.specs.Internal.Quiet.{PassesOnes, AreFlags};
 
@@ -41,12 +41,10 @@ impl LineWords {
         ensures limit { IsErr result ↔ (2 ^ 60 ≤ self.old.place) }
         ensures count { IfOk result (λ s. (1 ≤ s.count) × (s.count ≤ end - at)) }
         ensures all { IfOk result (λ s. s.event ≡ None → s.count < end - at → self.new.place ≡ 2 ^ 60) }
-        ensures tells { IfOk result (λ s. Tells C.folded C.COST (state self.old check.old cells.old)
+        ensures advances { IfOk result (λ s. Advances C.folded C.COST (state self.old check.old cells.old)
             (bits_from octets.now at s.count)
             (option_map (reported (state self.new check.new cells.new).octets) s.event)
             (state self.new check.new cells.new)) }
-        ensures before { IfOk result (λ s. DecideNothing C.folded C.COST (state self.old check.old cells.old)
-            (bits_from octets.now at (s.count - 1))) }
         ensures unchanged { OnErr result ((self.new ≡ self.old) × (check.new ≡ check.old)
             × (cells.new ≡ cells.old)) }
         ensures within { IsWithin self.new }
@@ -77,12 +75,10 @@ impl LineWords {
         ensures count { result.count ≤ end - from }
         ensures some { from < end → 1 ≤ result.count }
         ensures all { result.event ≡ None → result.count ≡ end - from }
-        ensures tells { Tells C.folded C.COST (state self.old check.old cells.old)
+        ensures advances { Advances C.folded C.COST (state self.old check.old cells.old)
             (bits_from octets.now from result.count)
             (option_map (reported (state self.new check.new cells.new).octets) result.event)
             (state self.new check.new cells.new) }
-        ensures before { DecideNothing C.folded C.COST (state self.old check.old cells.old)
-            (bits_from octets.now from (result.count - 1)) }
         ensures within { IsWithin self.new }
         ensures cells { length cells.new ≡ 272 }
     {
@@ -119,12 +115,10 @@ impl LineWords {
         requires enough { end ≤ 8 * length octets.now }
         requires room { self.old.place + (end - from) ≤ 2 ^ 60 }
         ensures count { (1 ≤ result.count) × (result.count ≤ end - from) }
-        ensures tells { Tells C.folded C.COST (state self.old check.old cells.old)
+        ensures advances { Advances C.folded C.COST (state self.old check.old cells.old)
             (bits_from octets.now from result.count)
             (option_map (reported (state self.new check.new cells.new).octets) result.event)
             (state self.new check.new cells.new) }
-        ensures before { DecideNothing C.folded C.COST (state self.old check.old cells.old)
-            (bits_from octets.now from (result.count - 1)) }
         ensures within { IsWithin self.new }
         ensures cells { length cells.new ≡ 272 }
     {

@@ -2,9 +2,9 @@
 
 ghost use Rattle.std.specs.Prelude.{◌≡◌, ◌+◌, ◌-◌, ◌/◌, ◌%◌, ◌≤◌, ◌<◌, ◌^◌, ◌↔◌, List, Bool, [], ◌∷◌, ◌++◌, IsErr};
 ghost use Rattle.std.specs.Prelude.{IfOk, OnErr, ℕ, length, take};
-ghost use Rattle.std.specs.Option.{option_map, option_to_list};
+ghost use Rattle.std.specs.Option.{option_map};
 ghost use Rattle.bus_bits.specs.Octet.{bits_of};
-ghost use Rattle.bus_line.specs.Due.{current, due_at, placed};
+ghost use Rattle.bus_line.specs.Due.{current, due_at};
 
 use crate::decoder::settled::data_in_word;
 use crate::decoder::stop::{calm_bits, is_calm};
@@ -19,7 +19,7 @@ impl LineWords {
     ghost use Rattle.bus_line.specs.Words.{IsWithin, state};
     ghost use Rattle.bus_line.specs.Internal.Tracks.{Tracks};
     ghost use Rattle.bus_line.specs.Shown.{reported};
-    ghost use Rattle.bus_line.specs.After.{After, Led, TakesTo};
+    ghost use Rattle.bus_line.specs.After.{Advances, After, TakesTo, Tells};
     ghost use Rattle.bus_line.specs.Internal.Flags.{StopsAt};
     ghost use Rattle.bus_line.specs.Internal.Settled.{IsWord, IsCalm, LagsBy};
     ghost use Rattle.bus_line.specs.Report.{moved};
@@ -43,17 +43,9 @@ impl LineWords {
         requires small { bits < 2 ^ count }
         ensures limit { IsErr result ↔ (2 ^ 60 < self.old.place + count) }
         ensures count { IfOk result (λ t. (1 ≤ t.count) × (t.count ≤ count)) }
-        ensures more { IfOk result (λ t. (b : List Bool) →
-            After C.folded C.COST (state self.old check.old cells.old) b →
-            placed self.old.origin self.old.longest (b ++ bits_of t.count bits)
-            ≡ placed self.old.origin self.old.longest b
-            ++ option_to_list (option_map (reported (state self.new check.new cells.new).octets) t.event)) }
-        ensures before { IfOk result (λ t. (b : List Bool) →
-            After C.folded C.COST (state self.old check.old cells.old) b →
-            placed self.old.origin self.old.longest (b ++ bits_of (t.count - 1) bits)
-            ≡ placed self.old.origin self.old.longest b) }
-        ensures leads { IfOk result (λ t. Led C.folded C.COST (state self.old check.old cells.old)
-            (bits_of t.count bits) (state self.new check.new cells.new)) }
+        ensures advances { IfOk result (λ t. Advances C.folded C.COST (state self.old check.old cells.old)
+            (bits_of t.count bits) (option_map (reported (state self.new check.new cells.new).octets) t.event)
+            (state self.new check.new cells.new)) }
         ensures unchanged { OnErr result ((self.new ≡ self.old) × (check.new ≡ check.old)
             × (cells.new ≡ cells.old)) }
         ensures within { IsWithin self.new }
@@ -81,17 +73,9 @@ impl LineWords {
         requires small { bits < 2 ^ count }
         ensures limit { IsErr result ↔ (2 ^ 60 < self.old.place + count) }
         ensures count { IfOk result (λ t. (1 ≤ t.count) × (t.count ≤ count)) }
-        ensures more { IfOk result (λ t. (b : List Bool) →
-            After C.folded C.COST (state self.old check.old cells.old) b →
-            placed self.old.origin self.old.longest (b ++ bits_of t.count bits)
-            ≡ placed self.old.origin self.old.longest b
-            ++ option_to_list (option_map (reported (state self.new check.new cells.new).octets) t.event)) }
-        ensures before { IfOk result (λ t. (b : List Bool) →
-            After C.folded C.COST (state self.old check.old cells.old) b →
-            placed self.old.origin self.old.longest (b ++ bits_of (t.count - 1) bits)
-            ≡ placed self.old.origin self.old.longest b) }
-        ensures leads { IfOk result (λ t. Led C.folded C.COST (state self.old check.old cells.old)
-            (bits_of t.count bits) (state self.new check.new cells.new)) }
+        ensures advances { IfOk result (λ t. Advances C.folded C.COST (state self.old check.old cells.old)
+            (bits_of t.count bits) (option_map (reported (state self.new check.new cells.new).octets) t.event)
+            (state self.new check.new cells.new)) }
         ensures unchanged { OnErr result ((self.new ≡ self.old) × (check.new ≡ check.old)
             × (cells.new ≡ cells.old)) }
         ensures within { IsWithin self.new }
@@ -122,22 +106,9 @@ impl LineWords {
         ensures count { result.count ≤ count }
         ensures stops { (b : List Bool) → After C.folded C.COST (state self.old check.old cells.old) b →
             TakesTo b (bits_of count bits) result.count }
-        ensures answer { (b : List Bool) → After C.folded C.COST (state self.old check.old cells.old) b →
-            option_map (reported (state self.new check.new cells.new).octets) result.event
-            ≡ option_map (moved self.old.origin)
-            (due_at self.old.longest (b ++ bits_of result.count bits) (length b + result.count - 1)) }
-        ensures more { (b : List Bool) → After C.folded C.COST (state self.old check.old cells.old) b →
-            placed self.old.origin self.old.longest (b ++ bits_of result.count bits)
-            ≡ placed self.old.origin self.old.longest b
-            ++ option_to_list (option_map (reported (state self.new check.new cells.new).octets) result.event) }
-        ensures before { (b : List Bool) → After C.folded C.COST (state self.old check.old cells.old) b →
-            placed self.old.origin self.old.longest (b ++ bits_of (result.count - 1) bits)
-            ≡ placed self.old.origin self.old.longest b }
-        ensures after { (b : List Bool) → After C.folded C.COST (state self.old check.old cells.old) b →
-            After C.folded C.COST (state self.new check.new cells.new) (b ++ bits_of result.count bits) }
-        ensures longest { self.new.longest ≡ self.old.longest }
-        ensures origin { self.new.origin ≡ self.old.origin }
-        ensures place { self.new.place ≡ self.old.place + result.count }
+        ensures advances { Advances C.folded C.COST (state self.old check.old cells.old) (bits_of result.count bits)
+            (option_map (reported (state self.new check.new cells.new).octets) result.event)
+            (state self.new check.new cells.new) }
         ensures within { IsWithin self.new }
         ensures cells { length cells.new ≡ 272 }
     {
@@ -171,22 +142,9 @@ impl LineWords {
         ensures count { result.count ≤ count }
         ensures stops { (b : List Bool) → After C.folded C.COST (state self.old check.old cells.old) b →
             StopsAt b (bits_of count bits) result.count }
-        ensures answer { (b : List Bool) → After C.folded C.COST (state self.old check.old cells.old) b →
-            option_map (reported (state self.new check.new cells.new).octets) result.event
-            ≡ option_map (moved self.old.origin)
-            (due_at self.old.longest (b ++ bits_of result.count bits) (length b + result.count - 1)) }
-        ensures more { (b : List Bool) → After C.folded C.COST (state self.old check.old cells.old) b →
-            placed self.old.origin self.old.longest (b ++ bits_of result.count bits)
-            ≡ placed self.old.origin self.old.longest b
-            ++ option_to_list (option_map (reported (state self.new check.new cells.new).octets) result.event) }
-        ensures before { (b : List Bool) → After C.folded C.COST (state self.old check.old cells.old) b →
-            placed self.old.origin self.old.longest (b ++ bits_of (result.count - 1) bits)
-            ≡ placed self.old.origin self.old.longest b }
-        ensures after { (b : List Bool) → After C.folded C.COST (state self.old check.old cells.old) b →
-            After C.folded C.COST (state self.new check.new cells.new) (b ++ bits_of result.count bits) }
-        ensures longest { self.new.longest ≡ self.old.longest }
-        ensures origin { self.new.origin ≡ self.old.origin }
-        ensures place { self.new.place ≡ self.old.place + result.count }
+        ensures advances { Advances C.folded C.COST (state self.old check.old cells.old) (bits_of result.count bits)
+            (option_map (reported (state self.new check.new cells.new).octets) result.event)
+            (state self.new check.new cells.new) }
         ensures within { IsWithin self.new }
         ensures cells { length cells.new ≡ 272 }
     {
@@ -222,22 +180,9 @@ impl LineWords {
         requires room { self.old.place + count ≤ 2 ^ 60 }
         ensures some { 1 ≤ result.count }
         ensures count { result.count ≤ count }
-        ensures answer { (b : List Bool) → After C.folded C.COST (state self.old check.old cells.old) b →
-            option_map (reported (state self.new check.new cells.new).octets) result.event
-            ≡ option_map (moved self.old.origin)
-            (due_at self.old.longest (b ++ bits_of result.count bits) (length b + result.count - 1)) }
-        ensures more { (b : List Bool) → After C.folded C.COST (state self.old check.old cells.old) b →
-            placed self.old.origin self.old.longest (b ++ bits_of result.count bits)
-            ≡ placed self.old.origin self.old.longest b
-            ++ option_to_list (option_map (reported (state self.new check.new cells.new).octets) result.event) }
-        ensures before { (b : List Bool) → After C.folded C.COST (state self.old check.old cells.old) b →
-            placed self.old.origin self.old.longest (b ++ bits_of (result.count - 1) bits)
-            ≡ placed self.old.origin self.old.longest b }
-        ensures after { (b : List Bool) → After C.folded C.COST (state self.old check.old cells.old) b →
-            After C.folded C.COST (state self.new check.new cells.new) (b ++ bits_of result.count bits) }
-        ensures longest { self.new.longest ≡ self.old.longest }
-        ensures origin { self.new.origin ≡ self.old.origin }
-        ensures place { self.new.place ≡ self.old.place + result.count }
+        ensures advances { Advances C.folded C.COST (state self.old check.old cells.old) (bits_of result.count bits)
+            (option_map (reported (state self.new check.new cells.new).octets) result.event)
+            (state self.new check.new cells.new) }
         ensures within { IsWithin self.new }
         ensures cells { length cells.new ≡ 272 }
     {
@@ -341,12 +286,8 @@ impl LineWords {
             After C.folded C.COST (state self.old check.old cells.old) b →
             option_map (reported (state self.new check.new cells.new).octets) o
             ≡ option_map (moved self.old.origin) (due_at self.old.longest (b ++ bit ∷ []) (length b))) }
-        ensures more { IfOk result (λ o. (b : List Bool) →
-            After C.folded C.COST (state self.old check.old cells.old) b →
-            placed self.old.origin self.old.longest (b ++ bit ∷ [])
-            ≡ placed self.old.origin self.old.longest b
-            ++ option_to_list (option_map (reported (state self.new check.new cells.new).octets) o)) }
-        ensures leads { IfOk result (λ o. Led C.folded C.COST (state self.old check.old cells.old) (bit ∷ [])
+        ensures tells { IfOk result (λ o. Tells C.folded C.COST (state self.old check.old cells.old) (bit ∷ [])
+            (option_map (reported (state self.new check.new cells.new).octets) o)
             (state self.new check.new cells.new)) }
         ensures unchanged { OnErr result ((self.new ≡ self.old) × (check.new ≡ check.old)
             × (cells.new ≡ cells.old)) }

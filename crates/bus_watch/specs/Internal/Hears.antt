@@ -1,13 +1,13 @@
 -- Bits on one line, and what a journal makes of them.
-use Rattle.std.specs.Prelude.{◌≡◌, ℕ, ◌+◌, ◌-◌, ◌≤◌, ◌^◌, Bool, true, false, List, ◌++◌, length, take, map, Option}
-use Rattle.std.specs.Prelude.{Some, None, option_map}
+use Rattle.std.specs.Prelude.{◌≡◌, ℕ, ◌+◌, ◌≤◌, ◌^◌, Bool, true, false, List, ◌++◌, length, map, Option, Some, None}
+use Rattle.std.specs.Prelude.{option_map}
 use Rattle.std.specs.List.{sum_by}
 use Rattle.std.specs.Option.{option_to_list}
 use Rattle.bus_line.specs.Report.{Report}
 use Rattle.bus_line.specs.Due.{placed}
 use Rattle.bus_line.specs.Ledger.{octet_count}
 use Rattle.bus_line.specs.Internal.LineState.{LineState}
-use Rattle.bus_line.specs.After.{After, Led}
+use Rattle.bus_line.specs.After.{Advances, After, Led}
 use Rattle.bus_watch.specs.Heard.{Heard, heard_on}
 use Rattle.bus_watch.specs.Seen.{SeenReport, seen}
 use Rattle.bus_watch.specs.Shown.{found_on}
@@ -40,11 +40,7 @@ pub record Hears {C : Type 0} (folded : C → List ℕ → Type 0) (cost : ℕ) 
     (before : JournalState) (bits : List Bool) (told : Option SeenReport)
     (new : LineState C) (after : JournalState) : Type 0 where
   pub report : Option Report
-  pub led : Led folded cost old bits new
-  pub calm : (b : List Bool) → After folded cost old b
-      → placed old.origin old.longest (b ++ take (length bits - 1) bits) ≡ placed old.origin old.longest b
-  pub grows : (b : List Bool) → After folded cost old b
-      → placed old.origin old.longest (b ++ bits) ≡ placed old.origin old.longest b ++ option_to_list report
+  pub advances : Advances folded cost old bits report new
   pub keeps : (hs : List Heard) → Keeps before hs → Keeps after (hs ++ heard_option line report)
   pub seen : (hs : List Heard) → Keeps before hs
       → seen before.dictionary (hs ++ heard_option line report) ≡ seen before.dictionary hs ++ option_to_list told

@@ -38,7 +38,8 @@ loop-bit-preserved g c =
     let next : take (i + 1) bits ≡ take i bits ++ bits_of taken.count c.from.result =
     next_bit bits i c.loop-bit-test.true ∙ ap (λ (x : List Bool). take i bits ++ x) (sym one) in
     let counted = c.frames_in-count.ensures c.take.new.self.octets in
-    let more = told.more (take i bits) inv.after in
+    let tells = told.advances.tells in
+    let more = tells.says (take i bits) inv.after in
     let all : frame_count (placed 0 256 (take (i + 1) bits)) ≡ c.loop-bit.count + c.frames_in-count.result =
     ap (λ (x : List Bool). frame_count (placed 0 256 x)) next
     ∙ ap frame_count (rw (inv.origin, inv.longest) at more)
@@ -48,13 +49,14 @@ loop-bit-preserved g c =
     (sym inv.count)
     ∙ ap (λ (n : ℕ). c.loop-bit.count + n) (sym counted) in
     record {
-      after = subst (After g.C.Check.folded g.C.Check.COST c.take.new.self) (sym next)
-          (told.leads.after (take i bits) inv.after);
-      origin = told.leads.origin ∙ inv.origin;
-      longest = told.leads.longest ∙ inv.longest;
+      after =
+          subst (After g.C.Check.folded g.C.Check.COST c.take.new.self) (sym next)
+          (tells.leads.after (take i bits) inv.after);
+      origin = tells.leads.origin ∙ inv.origin;
+      longest = tells.leads.longest ∙ inv.longest;
       count = sym all;
       few = omega (arith, counted, at_most_one c.take.new.self.octets taken.event, inv.few);
-      place = told.leads.place ∙ rw (one) (ap (λ (n : ℕ). n + 1) inv.place);
+      place = tells.leads.place ∙ rw (one) (ap (λ (n : ℕ). n + 1) inv.place);
       room = elim (cases_lt (2 ^ 60) (old.place + 1)) [
         | inl far ↦ absurd (let e = told.limit.1 far in cc)
         | inr near ↦ omega (arith, near, inv.place)

@@ -4,6 +4,7 @@ use Rattle.std.specs.Option.{option_map}
 use Rattle.std.proofs.lemmas.Bool.{cases_lt}
 use Rattle.bus_bits.specs.Bits.{bits_from}
 use Rattle.bus_bits.proofs.BitLemmas.{front-from}
+use Rattle.bus_line.specs.After.{Advances}
 use Rattle.bus_line.specs.Report.{moved}
 use Rattle.bus_line.specs.Due.{due_at}
 use Rattle.bus_line.specs.Shown.{reported}
@@ -12,23 +13,22 @@ use Rattle.bus_watch.specs.Seen.{seen_of}
 use Rattle.bus_watch.specs.Shown.{found_on}
 use Rattle.bus_watch.specs.Internal.JournalState.{journal_state, Keeps}
 use Rattle.bus_watch.specs.Internal.Hears.{told_on}
-use Rattle.bus_watch.proofs.AfterLemmas.{GrowsBy, IsCalmFor, hears-none, hears-some}
+use Rattle.bus_watch.proofs.AfterLemmas.{hears-none, hears-some}
 use Rattle.bus_watch.proofs.AnalyserViewLemmas.{whole}
 use Rattle.bus_watch.proofs.hear.hear_octets.Goals as goal
 
 pub returns-in_default-clause-hears : goal.returns-in_default-clause-hears
 returns-in_default-clause-hears g c =
+    let folded = g.C.Check.folded in
+    let cost = g.C.Check.COST in
     let scanned = c.in_ok-scanned in
-    let x = bits_from c.args.octets.now c.args.at scanned.scanned.count in
-    let d = c.args.decoder.now in
-    let tells = scanned.ensures.tells in
-    let grows =
-    subst (λ o. GrowsBy g.C.Check.folded g.C.Check.COST d x (option_map (reported c.scan.new.self.octets) o))
-    c.in_default.is tells.says in
-    let calm = subst (IsCalmFor g.C.Check.folded g.C.Check.COST d)
-    (sym (front-from c.args.octets.now c.args.at scanned.scanned.count)) scanned.ensures.before in
-    hears-none g.C.Check.folded g.C.Check.COST c.args.line d c.scan.new.self (journal_state c.args.journal.now)
-    (journal_state c.args.journal.now) x tells.leads grows calm refl
+    let bits = bits_from c.args.octets.now c.args.at scanned.scanned.count in
+    let old = c.args.decoder.now in
+    let new = c.scan.new.self in
+    let journal = journal_state c.args.journal.now in
+    let advances = subst (λ o. Advances folded cost old bits (option_map (reported new.octets) o) new)
+    c.in_default.is scanned.ensures.advances in
+    hears-none folded cost c.args.line old new journal journal bits advances refl
 
 pub take-requires-clause-whole : goal.take-requires-clause-whole
 take-requires-clause-whole g c =
@@ -50,26 +50,26 @@ take-requires-clause-room g c =
 
 pub returns-clause-hears : goal.returns-clause-hears
 returns-clause-hears g c =
+    let folded = g.C.Check.folded in
+    let cost = g.C.Check.COST in
     let scanned = c.in_ok-scanned in
-    let x = bits_from c.args.octets.now c.args.at scanned.scanned.count in
-    let d = c.args.decoder.now in
-    let os = c.scan.new.self.octets in
-    let e = c.in-Some.event in
+    let bits = bits_from c.args.octets.now c.args.at scanned.scanned.count in
+    let old = c.args.decoder.now in
+    let new = c.scan.new.self in
+    let octets = new.octets in
+    let event = c.in-Some.event in
     let line = c.args.line in
-    let old = journal_state c.args.journal.now in
-    let new = journal_state c.take.new.self in
-    let tells = scanned.ensures.tells in
-    let grows = subst (λ o. GrowsBy g.C.Check.folded g.C.Check.COST d x (option_map (reported os) o)) c.in-Some.is
-    tells.says in
-    let calm = subst (IsCalmFor g.C.Check.folded g.C.Check.COST d)
-    (sym (front-from c.args.octets.now c.args.at scanned.scanned.count)) scanned.ensures.before in
-    let keeps =
-    subst (λ (y : List ℕ). (hs : List Heard) → Keeps old hs → Keeps new (hs ++ heard_on line (reported y e) ∷ []))
+    let before = journal_state c.args.journal.now in
+    let after = journal_state c.take.new.self in
+    let last = c.take.new.self.last in
+    let advances = subst (λ o. Advances folded cost old bits (option_map (reported octets) o) new)
+    c.in-Some.is scanned.ensures.advances in
+    let keeps = subst
+    (λ (os : List ℕ). (hs : List Heard) → Keeps before hs → Keeps after (hs ++ heard_on line (reported os event) ∷ []))
     c.octets.ensures.value c.take.ensures.keeps in
-    let says =
-    subst (λ (y : List ℕ). (hs : List Heard) → Keeps old hs →
-    found_on line y c.take.new.self.last ≡ seen_of old.dictionary hs (heard_on line (reported y e)))
+    let says = subst
+    (λ (os : List ℕ). (hs : List Heard) → Keeps before hs
+    → found_on line os last ≡ seen_of before.dictionary hs (heard_on line (reported os event)))
     c.octets.ensures.value c.take.ensures.says in
-    hears-some g.C.Check.folded g.C.Check.COST line d c.scan.new.self old new x (reported os e)
-    (told_on line os true c.take.new.self.last) tells.leads grows calm keeps (λ hs k. ap Some (says hs k))
-    c.take.ensures.given.0 c.take.ensures.given.1
+    hears-some folded cost line old new before after bits (reported octets event) (told_on line octets true last)
+    advances keeps (λ hs kept. ap Some (says hs kept)) c.take.ensures.given.0 c.take.ensures.given.1

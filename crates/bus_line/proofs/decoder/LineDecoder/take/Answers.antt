@@ -1,5 +1,7 @@
-use Rattle.std.proofs.Common.{◌+◌, sym, ap, ◌∙◌}
+use Rattle.std.proofs.Common.{◌≤◌, length, arith}
+use Rattle.bus_bits.specs.Octet.{bits_of}
 use Rattle.bus_bits.proofs.OctetLemmas.{length-bits}
+use Rattle.bus_line.proofs.TellLemmas.{last-due}
 use Rattle.bus_line.proofs.decoder.LineDecoder.take.Goals as goal
 
 pub invariant_of-self : goal.invariant_of-self
@@ -9,14 +11,11 @@ pub returns-clause-stops : goal.returns-clause-stops
 returns-clause-stops g c = rw (← c.self.view_is) c.advance.ensures.stops
 
 pub returns-clause-answer : goal.returns-clause-answer
-returns-clause-answer g c = rw (← c.self.view_is) c.advance.ensures.answer
+returns-clause-answer g c = rw (← c.self.view_is) (
+    let taken = c.advance in
+    let count = length-bits taken.result.count c.args.bits in
+    let some : 1 ≤ length (bits_of taken.result.count c.args.bits) = omega (arith, count, taken.ensures.some) in
+    rw count at (last-due _ _ some taken.ensures.advances))
 
-pub returns-clause-leads : goal.returns-clause-leads
-returns-clause-leads g c = rw (← c.self.view_is) (
-    let a = c.advance in
-    record {
-      after = a.ensures.after;
-      longest = a.ensures.longest;
-      origin = a.ensures.origin;
-      place = a.ensures.place ∙ ap (λ n. c.self.inside.words.place + n) (sym (length-bits a.result.count c.args.bits));
-    })
+pub returns-clause-advances : goal.returns-clause-advances
+returns-clause-advances g c = rw (← c.self.view_is) c.advance.ensures.advances

@@ -1,129 +1,83 @@
-use Rattle.std.proofs.Common.{◌≡◌, ◌+◌, ◌-◌, ◌*◌, ◌++◌, arith}
+use Rattle.std.proofs.Common.{◌≡◌, ◌+◌, ◌-◌, ◌*◌, ◌++◌, ◌∙◌, arith}
+use Rattle.bus_bits.proofs.OctetLemmas.{length-bits}
 use Rattle.bus_line.specs.Decides.{flags}
 use Rattle.bus_line.specs.Words.{state}
+use Rattle.bus_line.proofs.AdvanceLemmas.{advances-behind, front-decides-nothing}
 use Rattle.bus_line.proofs.WordsLemmas.{flags-passed, shows-flag}
-use Rattle.bus_line.proofs.PassedLemmas.{stops-on, answer-on, more-on, before-on, after-on, stops-all, answer-all}
-use Rattle.bus_line.proofs.PassedLemmas.{more-all, before-all, after-all}
+use Rattle.bus_line.proofs.PassedLemmas.{stops-on, more-on, before-on, after-on, stops-all, more-all, before-all}
+use Rattle.bus_line.proofs.PassedLemmas.{after-all}
 use Rattle.bus_line.proofs.line_words.LineWords.advance.Goals as goal
 
 pub returns-then-rest-eq0-clause-stops : goal.returns-then-rest-eq0-clause-stops
-returns-then-rest-eq0-clause-stops g c =
-    λ b h.
-    stops-all
-    (c.past_flags-rest.ensures.past b
-    (shows-flag _ _ c.args.self.now c.args.check.now c.args.cells.now b c.requires.within h))
-    (omega (arith, c.past_flags-rest.ensures.flags, c.past_flags-rest.ensures.count, c.if-rest-eq0.true))
-    c.requires.some
+returns-then-rest-eq0-clause-stops g c = λ b stands.
+    let passed = c.past_flags-rest in
+    let shown = shows-flag _ _ c.args.self.now c.args.check.now c.args.cells.now b c.requires.within stands in
+    let all : 8 * passed.result.flags ≡ c.args.count =
+    omega (arith, passed.ensures.flags, passed.ensures.count, c.if-rest-eq0.true) in
+    stops-all (passed.ensures.past b shown) all c.requires.some
 
-pub returns-then-rest-eq0-clause-answer : goal.returns-then-rest-eq0-clause-answer
-returns-then-rest-eq0-clause-answer g c =
-    λ b h.
-    answer-all
-    (c.past_flags-rest.ensures.past b
-    (shows-flag _ _ c.args.self.now c.args.check.now c.args.cells.now b c.requires.within h))
-    (omega (arith, c.past_flags-rest.ensures.flags, c.past_flags-rest.ensures.count, c.if-rest-eq0.true))
-    c.requires.some
-    c.args.self.now.longest c.args.self.now.origin
-
-pub returns-then-rest-eq0-clause-more : goal.returns-then-rest-eq0-clause-more
-returns-then-rest-eq0-clause-more g c =
-    λ b h.
-    more-all
-    (c.past_flags-rest.ensures.past b
-    (shows-flag _ _ c.args.self.now c.args.check.now c.args.cells.now b c.requires.within h))
-    (omega (arith, c.past_flags-rest.ensures.flags, c.past_flags-rest.ensures.count, c.if-rest-eq0.true))
-    c.requires.some
-    c.args.self.now.longest c.args.self.now.origin
-
-pub returns-then-rest-eq0-clause-before : goal.returns-then-rest-eq0-clause-before
-returns-then-rest-eq0-clause-before g c =
-    λ b h.
-    before-all
-    (c.past_flags-rest.ensures.past b
-    (shows-flag _ _ c.args.self.now c.args.check.now c.args.cells.now b c.requires.within h))
-    (omega (arith, c.past_flags-rest.ensures.flags, c.past_flags-rest.ensures.count, c.if-rest-eq0.true))
-    c.requires.some
-    c.args.self.now.longest c.args.self.now.origin
-
-pub returns-then-rest-eq0-clause-after : goal.returns-then-rest-eq0-clause-after
-returns-then-rest-eq0-clause-after g c =
-    λ b h.
-    after-all
-    (c.past_flags-rest.ensures.past b
-    (shows-flag _ _ c.args.self.now c.args.check.now c.args.cells.now b c.requires.within h))
-    (omega (arith, c.past_flags-rest.ensures.flags, c.past_flags-rest.ensures.count, c.if-rest-eq0.true))
-    c.requires.some
-    _ _ (state c.past_flags-rest.new.self c.args.check.now c.args.cells.now)
-    (flags-passed _ _ c.args.self.now c.past_flags-rest.new.self c.args.check.now c.args.cells.now b
-    c.past_flags-rest.result.flags c.past_flags-rest.ensures.passes
-    (c.past_flags-rest.ensures.past b
-    (shows-flag _ _ c.args.self.now c.args.check.now c.args.cells.now b c.requires.within h)).ahead.behind
-    c.past_flags-rest.ensures.within.place_fits h)
+pub returns-then-rest-eq0-clause-advances : goal.returns-then-rest-eq0-clause-advances
+returns-then-rest-eq0-clause-advances g c =
+    let old = c.args.self.now in
+    let check = c.args.check.now in
+    let cells = c.args.cells.now in
+    let passed = c.past_flags-rest in
+    let new = state passed.new.self check cells in
+    let all : 8 * passed.result.flags ≡ c.args.count =
+    omega (arith, passed.ensures.flags, passed.ensures.count, c.if-rest-eq0.true) in
+    advances-behind _ _ c.args.count c.args.bits (state old check cells) new _
+    passed.ensures.longest passed.ensures.origin (omega (arith, passed.ensures.place, all)) (λ b stands.
+    let past = passed.ensures.past b (shows-flag _ _ old check cells b c.requires.within stands) in
+    let behind = flags-passed _ _ old passed.new.self check cells b passed.result.flags
+    passed.ensures.passes past.ahead.behind passed.ensures.within.place_fits stands in
+    record {
+      after = after-all past all c.requires.some _ _ new behind;
+      says = more-all past all c.requires.some old.longest old.origin;
+      before = before-all past all c.requires.some old.longest old.origin;
+    })
 
 pub returns-clause-stops : goal.returns-clause-stops
-returns-clause-stops g c = λ b h.
-    let p = c.past_flags-rest in
-    let a = c.advance_to_stop-taken in
-    let behind = b ++ flags p.result.flags in
-    let past =
-    p.ensures.past b (shows-flag _ _ c.args.self.now c.args.check.now c.args.cells.now b c.requires.within h) in
-    let at = flags-passed _ _ c.args.self.now p.new.self c.args.check.now c.args.cells.now b p.result.flags
-    p.ensures.passes past.ahead.behind p.ensures.within.place_fits h in
-    let n : c.args.count - p.result.count + a.result.count ≡ 8 * p.result.flags + a.result.count =
-    omega (arith, p.ensures.flags, p.ensures.count) in
-    stops-on past a.result.count _ n (a.ensures.stops behind at) a.ensures.some
+returns-clause-stops g c = λ b stands.
+    let old = c.args.self.now in
+    let check = c.args.check.now in
+    let cells = c.args.cells.now in
+    let passed = c.past_flags-rest in
+    let taken = c.advance_to_stop-taken in
+    let count : c.args.count - passed.result.count + taken.result.count ≡ 8 * passed.result.flags + taken.result.count =
+    omega (arith, passed.ensures.flags, passed.ensures.count) in
+    let past = passed.ensures.past b (shows-flag _ _ old check cells b c.requires.within stands) in
+    let behind = flags-passed _ _ old passed.new.self check cells b passed.result.flags
+    passed.ensures.passes past.ahead.behind passed.ensures.within.place_fits stands in
+    let stops = taken.ensures.stops (b ++ flags passed.result.flags) behind in
+    stops-on past taken.result.count _ count stops taken.ensures.some
 
-pub returns-clause-answer : goal.returns-clause-answer
-returns-clause-answer g c = λ b h.
-    let p = c.past_flags-rest in
-    let a = c.advance_to_stop-taken in
-    let behind = b ++ flags p.result.flags in
-    let past =
-    p.ensures.past b (shows-flag _ _ c.args.self.now c.args.check.now c.args.cells.now b c.requires.within h) in
-    let at = flags-passed _ _ c.args.self.now p.new.self c.args.check.now c.args.cells.now b p.result.flags
-    p.ensures.passes past.ahead.behind p.ensures.within.place_fits h in
-    let n : c.args.count - p.result.count + a.result.count ≡ 8 * p.result.flags + a.result.count =
-    omega (arith, p.ensures.flags, p.ensures.count) in
-    answer-on past c.args.self.now.longest c.args.self.now.origin p.new.self.longest p.new.self.origin a.result.count _
-    _ n p.ensures.longest p.ensures.origin (a.ensures.answer behind at)
-
-pub returns-clause-more : goal.returns-clause-more
-returns-clause-more g c = λ b h.
-    let p = c.past_flags-rest in
-    let a = c.advance_to_stop-taken in
-    let behind = b ++ flags p.result.flags in
-    let past =
-    p.ensures.past b (shows-flag _ _ c.args.self.now c.args.check.now c.args.cells.now b c.requires.within h) in
-    let at = flags-passed _ _ c.args.self.now p.new.self c.args.check.now c.args.cells.now b p.result.flags
-    p.ensures.passes past.ahead.behind p.ensures.within.place_fits h in
-    let n : c.args.count - p.result.count + a.result.count ≡ 8 * p.result.flags + a.result.count =
-    omega (arith, p.ensures.flags, p.ensures.count) in
-    more-on past c.args.self.now.longest c.args.self.now.origin p.new.self.longest p.new.self.origin a.result.count _ _
-    n p.ensures.longest p.ensures.origin (a.ensures.more behind at)
-
-pub returns-clause-before : goal.returns-clause-before
-returns-clause-before g c = λ b h.
-    let p = c.past_flags-rest in
-    let a = c.advance_to_stop-taken in
-    let behind = b ++ flags p.result.flags in
-    let past =
-    p.ensures.past b (shows-flag _ _ c.args.self.now c.args.check.now c.args.cells.now b c.requires.within h) in
-    let at = flags-passed _ _ c.args.self.now p.new.self c.args.check.now c.args.cells.now b p.result.flags
-    p.ensures.passes past.ahead.behind p.ensures.within.place_fits h in
-    let n : c.args.count - p.result.count + a.result.count ≡ 8 * p.result.flags + a.result.count =
-    omega (arith, p.ensures.flags, p.ensures.count) in
-    before-on past c.args.self.now.longest c.args.self.now.origin p.new.self.longest p.new.self.origin a.result.count _
-    n p.ensures.longest p.ensures.origin a.ensures.some (a.ensures.before behind at)
-
-pub returns-clause-after : goal.returns-clause-after
-returns-clause-after g c = λ b h.
-    let p = c.past_flags-rest in
-    let a = c.advance_to_stop-taken in
-    let behind = b ++ flags p.result.flags in
-    let past =
-    p.ensures.past b (shows-flag _ _ c.args.self.now c.args.check.now c.args.cells.now b c.requires.within h) in
-    let at = flags-passed _ _ c.args.self.now p.new.self c.args.check.now c.args.cells.now b p.result.flags
-    p.ensures.passes past.ahead.behind p.ensures.within.place_fits h in
-    let n : c.args.count - p.result.count + a.result.count ≡ 8 * p.result.flags + a.result.count =
-    omega (arith, p.ensures.flags, p.ensures.count) in
-    after-on past _ _ a.result.count _ (state a.new.self a.new.check a.new.cells) n (a.ensures.after behind at)
+pub returns-clause-advances : goal.returns-clause-advances
+returns-clause-advances g c =
+    let old = c.args.self.now in
+    let check = c.args.check.now in
+    let cells = c.args.cells.now in
+    let passed = c.past_flags-rest in
+    let mid = state passed.new.self check cells in
+    let taken = c.advance_to_stop-taken in
+    let new = state taken.new.self taken.new.check taken.new.cells in
+    let more = taken.result.count in
+    let told = taken.ensures.advances.tells in
+    let count : c.args.count - passed.result.count + more ≡ 8 * passed.result.flags + more =
+    omega (arith, passed.ensures.flags, passed.ensures.count) in
+    let same-longest = passed.ensures.longest in
+    let same-origin = passed.ensures.origin in
+    advances-behind _ _ (c.args.count - passed.result.count + more) c.args.bits (state old check cells) new _
+    (told.leads.longest ∙ same-longest) (told.leads.origin ∙ same-origin)
+    (omega (arith, told.leads.place, length-bits more passed.result.bits, passed.ensures.place, count)) (λ b stands.
+    let past = passed.ensures.past b (shows-flag _ _ old check cells b c.requires.within stands) in
+    let behind = flags-passed _ _ old passed.new.self check cells b passed.result.flags
+    passed.ensures.passes past.ahead.behind passed.ensures.within.place_fits stands in
+    let before = front-decides-nothing _ _ more passed.result.bits mid taken.ensures.advances.before
+    (b ++ flags passed.result.flags) behind in
+    record {
+      after = after-on past _ _ more _ new count (told.leads.after (b ++ flags passed.result.flags) behind);
+      says = more-on past old.longest old.origin mid.longest mid.origin more _ _ count same-longest same-origin
+          (told.says (b ++ flags passed.result.flags) behind);
+      before = before-on past old.longest old.origin mid.longest mid.origin more _ count same-longest same-origin
+          taken.ensures.some before;
+    })

@@ -9,12 +9,6 @@ returns-clause-all g c none fewer =
     let count : c.min-count.result ≡ min (c.args.end - c.args.at) room =
     c.min-count.ensures ∙ least (c.args.end - c.args.at) room in
     let scanned = c.scan_all in
-    omega (
-      arith,
-      count,
-      fewer,
-      c.requires.within.place_fits,
-      scanned.ensures.all none,
-      scanned.ensures.tells.leads.place,
-      length-from c.args.octets.now c.args.at scanned.result.count,
-    )
+    let place = scanned.ensures.advances.tells.leads.place in
+    let taken = length-from c.args.octets.now c.args.at scanned.result.count in
+    omega (arith, count, fewer, c.requires.within.place_fits, scanned.ensures.all none, place, taken)

@@ -5,7 +5,7 @@ use Rattle.bus_line.specs.After.{Tells}
 use Rattle.bus_line.specs.Report.{Report}
 use Rattle.bus_line.specs.Shown.{reported}
 use Rattle.bus_line.specs.Words.{state}
-use Rattle.bus_line.proofs.TellLemmas.{decide-on, is-none, place-on, tells-from, tells-front, tells-on}
+use Rattle.bus_line.proofs.TellLemmas.{advances-on, advances-quiet, is-none, place-on, tells-from, tells-on}
 use Rattle.bus_line.proofs.line_words.LineWords.scan_all.Goals as goal
 
 pub loop-at-init : goal.loop-at-init
@@ -29,20 +29,14 @@ scan_some-scanned-requires-clause-room g c =
       place-on g.C.Check.folded g.C.Check.COST c.args.octets.now c.args.from c.loop-at.at now.begun now.tells,
     )
 
-pub returns-then-is_some-clause-tells : goal.returns-then-is_some-clause-tells
-returns-then-is_some-clause-tells g c =
+pub returns-then-is_some-clause-advances : goal.returns-then-is_some-clause-advances
+returns-then-is_some-clause-advances g c =
     let now = c.loop-at.invariant in
-    let n = c.scan_some-scanned.result.count in
-    tells-on g.C.Check.folded g.C.Check.COST c.args.octets.now c.args.from c.loop-at.at now.begun now.tells n
-    (c.loop-at.at + n - c.args.from) (omega (arith, now.begun)) c.scan_some-scanned.ensures.tells
-
-pub returns-then-is_some-clause-before : goal.returns-then-is_some-clause-before
-returns-then-is_some-clause-before g c =
-    let now = c.loop-at.invariant in
-    let n = c.scan_some-scanned.result.count in
-    decide-on g.C.Check.folded g.C.Check.COST c.args.octets.now c.args.from c.loop-at.at now.begun now.tells (n - 1)
-    (c.loop-at.at + n - c.args.from - 1) (omega (arith, now.begun, c.scan_some-scanned.ensures.count))
-    c.scan_some-scanned.ensures.before
+    let scanned = c.scan_some-scanned in
+    let n = scanned.result.count in
+    let count : c.loop-at.at + n - c.args.from ≡ c.loop-at.at - c.args.from + n = omega (arith, now.begun) in
+    advances-on g.C.Check.folded g.C.Check.COST c.args.octets.now c.args.from c.loop-at.at now.begun now.tells
+    n (c.loop-at.at + n - c.args.from) count scanned.ensures.advances
 
 pub loop-at-preserved : goal.loop-at-preserved
 loop-at-preserved g c =
@@ -54,28 +48,27 @@ loop-at-preserved g c =
     let none : scanned.result.event ≡ None =
     is-none scanned.result.event (sym c.is_some.ensures ∙ c.if-is_some.false) in
     let told = ap (option_map (reported new.octets)) none in
-    let tells =
-    subst (λ (r : Option Report). Tells g.C.Check.folded g.C.Check.COST old
-    (bits_from c.args.octets.now c.loop-at.at n) r new) told scanned.ensures.tells in
+    let bits = bits_from c.args.octets.now c.loop-at.at n in
+    let quiet = subst (λ (r : Option Report). Tells g.C.Check.folded g.C.Check.COST old bits r new)
+    told scanned.ensures.advances.tells in
+    let count : c.loop-at.at + n - c.args.from ≡ c.loop-at.at - c.args.from + n = omega (arith, now.begun) in
     record {
       begun = omega (arith, now.begun);
       ends = omega (arith, now.ends, scanned.ensures.count);
-      tells = tells-on g.C.Check.folded g.C.Check.COST c.args.octets.now c.args.from c.loop-at.at now.begun now.tells n
-          (c.loop-at.at + n - c.args.from) (omega (arith, now.begun)) tells;
+      tells = tells-on g.C.Check.folded g.C.Check.COST c.args.octets.now c.args.from c.loop-at.at now.begun now.tells
+          n (c.loop-at.at + n - c.args.from) count quiet;
       within = scanned.ensures.within;
       cells = scanned.ensures.cells;
     }
 
-pub returns-clause-tells : goal.returns-clause-tells
-returns-clause-tells g c =
+pub returns-clause-advances : goal.returns-clause-advances
+returns-clause-advances g c =
+    let folded = g.C.Check.folded in
+    let cost = g.C.Check.COST in
     let now = c.loop-at.invariant in
+    let old = state c.args.self.now c.args.check.now c.args.cells.now in
+    let new = state c.loop-at.self c.loop-at.check c.loop-at.cells in
     let end : c.loop-at.at ≡ c.args.end = omega (arith, now.ends, c.loop-at-test.false) in
-    subst (λ (n : ℕ). Tells g.C.Check.folded g.C.Check.COST (state c.args.self.now c.args.check.now c.args.cells.now)
-    (bits_from c.args.octets.now c.args.from (n - c.args.from)) None
-    (state c.loop-at.self c.loop-at.check c.loop-at.cells)) end now.tells
-
-pub returns-clause-before : goal.returns-clause-before
-returns-clause-before g c =
-    let now = c.loop-at.invariant in
-    tells-front g.C.Check.folded g.C.Check.COST c.args.octets.now c.args.from (c.loop-at.at - c.args.from)
-    (c.args.end - c.args.from - 1) (omega (arith, now.ends, c.loop-at-test.false)) now.tells
+    advances-quiet folded cost
+    (subst (λ (n : ℕ). Tells folded cost old (bits_from c.args.octets.now c.args.from (n - c.args.from)) None new)
+    end now.tells)

@@ -3,11 +3,12 @@ use Rattle.std.specs.Option.{option_to_list}
 use Rattle.bus_bits.specs.Bits.{bits_from}
 use Rattle.bus_bits.proofs.BitLemmas.{front-from}
 use Rattle.bus_dictionary.specs.Dictionary.{longest_of}
+use Rattle.bus_line.specs.After.{DecideNothing}
 use Rattle.bus_watch.specs.Internal.JournalState.{journal_state}
 use Rattle.bus_watch.specs.Internal.AnalyserView.{analyser_state}
 use Rattle.bus_watch.specs.Internal.Hears.{fresh, told_on}
 use Rattle.bus_watch.specs.After.{AnalyserState, IsAfter, Sees, seen_after}
-use Rattle.bus_watch.proofs.AfterLemmas.{IsCalmFor, sees-heard, seen-before}
+use Rattle.bus_watch.proofs.AfterLemmas.{sees-heard, seen-before}
 use Rattle.bus_watch.proofs.AnalyserViewLemmas.{room}
 use Rattle.bus_watch.proofs.analyser.Analyser.scan.Goals as goal
 
@@ -30,7 +31,7 @@ invariant_of-self-2 g c =
     let sees = sees-heard g.C.Check.folded g.C.Check.COST (analyser_state c.self.inside) new x _ h in
     record {
       depth = omega (arith, c.self.invariant.depth, h.depth);
-      longest = h.led.longest ∙ c.self.invariant.longest ∙ ap longest_of (sym h.dictionary);
+      longest = h.advances.tells.leads.longest ∙ c.self.invariant.longest ∙ ap longest_of (sym h.dictionary);
       bits = c.self.invariant.bits ++ x;
       reached = sees.is_after c.self.invariant.bits c.self.invariant.reached;
     }
@@ -58,8 +59,9 @@ returns-clause-before g c =
     let os = c.args.octets.now in
     let x = bits_from os c.args.at (n - 1) in
     let d = c.self.inside.decoder in
-    let calm = subst (IsCalmFor g.C.Check.folded g.C.Check.COST d) (front-from os c.args.at n)
-    c.in_ok-taken.ensures.hears.calm in
+    let hears = c.in_ok-taken.ensures.hears in
+    let before = subst (DecideNothing g.C.Check.folded g.C.Check.COST d) (front-from os c.args.at n)
+    hears.advances.before in
     subst (λ a. (b : List Bool) → IsAfter g.C.Check.folded g.C.Check.COST a b → seen_after a (b ++ x) ≡ seen_after a b)
     c.self.view_is
-    (seen-before g.C.Check.folded g.C.Check.COST (analyser_state c.self.inside) x calm)
+    (seen-before g.C.Check.folded g.C.Check.COST (analyser_state c.self.inside) x before)

@@ -2,13 +2,13 @@ use Rattle.std.proofs.Common.{◌≡◌, ◌-◌, ◌++◌, List, Bool, None, le
 use Rattle.std.specs.Option.{option_to_list}
 use Rattle.bus_bits.specs.Octet.{bits_of}
 use Rattle.bus_bits.proofs.OctetLemmas.{length-bits, bits-front}
-use Rattle.bus_line.specs.After.{TakesTo}
+use Rattle.bus_line.specs.After.{DecideNothing, TakesTo}
 use Rattle.bus_dictionary.specs.Dictionary.{longest_of}
 use Rattle.bus_watch.specs.Internal.JournalState.{journal_state}
 use Rattle.bus_watch.specs.Internal.AnalyserView.{analyser_state}
 use Rattle.bus_watch.specs.Internal.Hears.{fresh, told_on}
 use Rattle.bus_watch.specs.After.{AnalyserState, IsAfter, Sees, seen_after}
-use Rattle.bus_watch.proofs.AfterLemmas.{IsCalmFor, sees-heard, seen-before}
+use Rattle.bus_watch.proofs.AfterLemmas.{sees-heard, seen-before}
 use Rattle.bus_watch.proofs.AnalyserViewLemmas.{room}
 use Rattle.bus_watch.proofs.analyser.Analyser.take.Goals as goal
 
@@ -31,7 +31,7 @@ invariant_of-self-2 g c =
     let sees = sees-heard g.C.Check.folded g.C.Check.COST (analyser_state c.self.inside) new x _ h in
     record {
       depth = omega (arith, c.self.invariant.depth, h.depth);
-      longest = h.led.longest ∙ c.self.invariant.longest ∙ ap longest_of (sym h.dictionary);
+      longest = h.advances.tells.leads.longest ∙ c.self.invariant.longest ∙ ap longest_of (sym h.dictionary);
       bits = c.self.invariant.bits ++ x;
       reached = sees.is_after c.self.invariant.bits c.self.invariant.reached;
     }
@@ -57,10 +57,11 @@ returns-clause-before g c =
     let all = bits_of n c.args.bits in
     let front : take (length all - 1) all ≡ x = ap (λ k. take (k - 1) all) (length-bits n c.args.bits)
     ∙ bits-front (n - 1) n c.args.bits (omega arith) in
-    let calm = subst (IsCalmFor g.C.Check.folded g.C.Check.COST d) front c.in_ok-taken.ensures.hears.calm in
+    let hears = c.in_ok-taken.ensures.hears in
+    let before = subst (DecideNothing g.C.Check.folded g.C.Check.COST d) front hears.advances.before in
     subst (λ a. (b : List Bool) → IsAfter g.C.Check.folded g.C.Check.COST a b → seen_after a (b ++ x) ≡ seen_after a b)
     c.self.view_is
-    (seen-before g.C.Check.folded g.C.Check.COST (analyser_state c.self.inside) x calm)
+    (seen-before g.C.Check.folded g.C.Check.COST (analyser_state c.self.inside) x before)
 
 pub returns-clause-stops : goal.returns-clause-stops
 returns-clause-stops g c =

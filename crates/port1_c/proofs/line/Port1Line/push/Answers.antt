@@ -1,11 +1,12 @@
-use Rattle.std.proofs.Common.{◌++◌, ◌∷◌, [], ◌∙◌, ℕ, Option, sym, ap, subst}
-use Rattle.std.specs.Option.{option_map, option_to_list}
+use Rattle.std.proofs.Common.{◌≡◌, ◌∷◌, [], ◌∙◌, ℕ, Option, sym, ap, subst}
+use Rattle.std.specs.Option.{option_map}
 use Rattle.bus_fcs.specs.declared.octet_check.OctetCheck.{OctetCheck}
-use Rattle.bus_line.specs.Due.{placed}
+use Rattle.bus_fcs.specs.Folded.{HasFolded}
+use Rattle.bus_line.specs.After as line
 use Rattle.bus_line.specs.Report.{Report}
 use Rattle.bus_line.specs.Shown.{reported}
 use Rattle.bus_line.specs.Words.{state}
-use Rattle.port1_c.specs.Line.{Tells, held}
+use Rattle.port1_c.specs.Line.{Tells, held, told}
 use Rattle.port1_c.proofs.line.Port1Line.push.Goals as goal
 
 pub returns-in-Ok-Some-clause-tells : goal.returns-in-Ok-Some-clause-tells
@@ -16,13 +17,10 @@ returns-in-Ok-Some-clause-tells c =
     let words = c.push.new.self in
     let octets = c.push.new.cells in
     let new = state words c.push.new.check octets in
-    let leads = c.in-Ok-Some.ensures.leads in
     let register = ap (λ (r : ℕ). record { state = r }) c.register-self-in-Ok-Some.ensures in
-    let here = c.with_register-check.ensures in
+    let start = state old.words c.with_register-check.result old.octets in
+    let same : option_map (reported new.octets) c.in-Ok-Some.field-0 ≡ told report new.octets =
+    ap (option_map (reported new.octets)) c.in-Ok-Some.field-0-is ∙ sym (c.of_event.ensures.tells new.octets) in
     subst (λ (k : OctetCheck). Tells (held old) bits report (state words k octets)) (sym register)
-    (subst (λ (k : OctetCheck). Tells (state old.words k old.octets) bits report new) here (record {
-      leads = leads;
-      says = λ b h. c.in-Ok-Some.ensures.more b h
-          ∙ ap (λ (o : Option Report). placed old.words.origin old.words.longest b ++ option_to_list o)
-          (ap (option_map (reported new.octets)) c.in-Ok-Some.field-0-is ∙ sym (c.of_event.ensures.tells new.octets));
-    }))
+    (subst (λ (k : OctetCheck). Tells (state old.words k old.octets) bits report new) c.with_register-check.ensures
+    (subst (λ (o : Option Report). line.Tells HasFolded 1 start bits o new) same c.in-Ok-Some.ensures.tells))

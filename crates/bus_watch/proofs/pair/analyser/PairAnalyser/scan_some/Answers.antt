@@ -4,6 +4,7 @@ use Rattle.std.specs.Option.{option_to_list, option_map}
 use Rattle.std.proofs.lemmas.List.{length-map}
 use Rattle.bus_bits.specs.Bits.{bits_from}
 use Rattle.bus_bits.proofs.BitLemmas.{front-from, length-from}
+use Rattle.bus_line.specs.After.{Advances}
 use Rattle.bus_line.specs.Report.{moved}
 use Rattle.bus_line.specs.Due.{due_at}
 use Rattle.bus_line.specs.Shown.{reported}
@@ -16,7 +17,7 @@ use Rattle.bus_watch.specs.Internal.PairView.{pair_state}
 use Rattle.bus_watch.specs.Pairs.{PairState, two_lines}
 use Rattle.bus_watch.specs.Watch.{LeadsTold}
 use Rattle.bus_watch.specs.declared.line.Line.TheVariants.{Second}
-use Rattle.bus_watch.proofs.AfterLemmas.{GrowsBy, IsCalmFor, hears-none, hears-some}
+use Rattle.bus_watch.proofs.AfterLemmas.{hears-none, hears-some}
 use Rattle.bus_watch.proofs.AnalyserViewLemmas.{whole}
 use Rattle.bus_watch.proofs.PairScanLemmas.{leads-scanned, pairs-reach, reaches-room}
 use Rattle.bus_watch.proofs.pair.analyser.PairAnalyser.scan_some.Given.{Over}
@@ -120,32 +121,32 @@ leads-on : (g : Over) (c : goal.After-tell g) (told : List SeenReport → Type 0
     → LeadsTold (two_lines g.C.Check.folded g.C.Check.COST) (pair_state c.self.inside) (pairs-taken g c)
     (with-report g c) told
 leads-on g c told t =
+    let folded = g.C.Check.folded in
+    let cost = g.C.Check.COST in
     let n = c.in-Ok.scanned.count in
     let all : c.args.from + n - c.args.from ≡ n = omega arith in
-    let x = bits_from c.args.second.now c.args.from n in
-    let d = c.self.inside.second in
-    let os = c.scan.new.self.octets in
-    let e = c.in-Some.event in
-    let old = journal_state c.follow.new.journal in
-    let new = journal_state c.take.new.self in
-    let tells = c.in-Ok.ensures.tells in
-    let grows = subst (λ o. GrowsBy g.C.Check.folded g.C.Check.COST d x (option_map (reported os) o)) c.in-Some.is
-    tells.says in
-    let calm = subst (IsCalmFor g.C.Check.folded g.C.Check.COST d) (sym (front-from c.args.second.now c.args.from n))
-    c.in-Ok.ensures.before in
-    let keeps =
-    subst (λ (y : List ℕ). (hs : List Heard) → Keeps old hs →
-    Keeps new (hs ++ heard_on (Some Second) (reported y e) ∷ [])) c.octets-octets.ensures.value
-    c.take.ensures.keeps in
-    let says =
-    subst (λ (y : List ℕ). (hs : List Heard) → Keeps old hs →
-    found_on (Some Second) y c.take.new.self.last ≡ seen_of old.dictionary hs (heard_on (Some Second) (reported y e)))
+    let bits = bits_from c.args.second.now c.args.from n in
+    let old = c.self.inside.second in
+    let new = c.scan.new.self in
+    let octets = new.octets in
+    let event = c.in-Some.event in
+    let before = journal_state c.follow.new.journal in
+    let after = journal_state c.take.new.self in
+    let advances = subst (λ o. Advances folded cost old bits (option_map (reported octets) o) new)
+    c.in-Some.is c.in-Ok.ensures.advances in
+    let keeps = subst
+    (λ (os : List ℕ). (hs : List Heard) → Keeps before hs
+    → Keeps after (hs ++ heard_on (Some Second) (reported os event) ∷ []))
+    c.octets-octets.ensures.value c.take.ensures.keeps in
+    let says = subst
+    (λ (os : List ℕ). (hs : List Heard) → Keeps before hs
+    → found_on (Some Second) os c.take.new.self.last
+    ≡ seen_of before.dictionary hs (heard_on (Some Second) (reported os event)))
     c.octets-octets.ensures.value c.take.ensures.says in
-    let heard = hears-some g.C.Check.folded g.C.Check.COST (Some Second) d c.scan.new.self old new x (reported os e)
-    (last-seen g c) tells.leads grows calm keeps (λ hs k. ap Some (says hs k)) c.take.ensures.given.0
-    c.take.ensures.given.1 in
-    leads-scanned g.C.Check.folded g.C.Check.COST (pair_state c.self.inside) (with-report g c) old c.args.first.now
-    c.args.second.now c.args.from (c.args.from + n - c.args.from) (last-seen g c) _ told
+    let heard = hears-some folded cost (Some Second) old new before after bits (reported octets event) (last-seen g c)
+    advances keeps (λ hs kept. ap Some (says hs kept)) c.take.ensures.given.0 c.take.ensures.given.1 in
+    leads-scanned folded cost (pair_state c.self.inside) (with-report g c) before
+    c.args.first.now c.args.second.now c.args.from (c.args.from + n - c.args.from) (last-seen g c) _ told
     c.reports_grow.ensures.stays c.reports_grow.ensures.more c.reports_grow.ensures.grow
     (omega (arith, c.in-Ok.ensures.count)) c.follow.ensures.hears (rw all heard) t
 
@@ -193,20 +194,18 @@ passes-on : (g : Over) (c : goal.In_default g) (told : List SeenReport → Type 
     → LeadsTold (two_lines g.C.Check.folded g.C.Check.COST) (pair_state c.self.inside) (pairs-passed g c)
     (without-report g c) told
 passes-on g c told t =
+    let folded = g.C.Check.folded in
+    let cost = g.C.Check.COST in
     let n = c.in-Ok.scanned.count in
     let all : c.args.from + n - c.args.from ≡ n = omega arith in
-    let x = bits_from c.args.second.now c.args.from n in
-    let d = c.self.inside.second in
+    let bits = bits_from c.args.second.now c.args.from n in
+    let old = c.self.inside.second in
+    let new = c.scan.new.self in
     let journal = journal_state c.follow.new.journal in
-    let tells = c.in-Ok.ensures.tells in
-    let grows =
-    subst (λ o. GrowsBy g.C.Check.folded g.C.Check.COST d x (option_map (reported c.scan.new.self.octets) o))
-    c.in_default.is tells.says in
-    let calm = subst (IsCalmFor g.C.Check.folded g.C.Check.COST d) (sym (front-from c.args.second.now c.args.from n))
-    c.in-Ok.ensures.before in
-    let heard = hears-none g.C.Check.folded g.C.Check.COST (Some Second) d c.scan.new.self journal journal x tells.leads
-    grows calm refl in
-    leads-scanned g.C.Check.folded g.C.Check.COST (pair_state c.self.inside) (without-report g c) journal
+    let advances = subst (λ o. Advances folded cost old bits (option_map (reported new.octets) o) new)
+    c.in_default.is c.in-Ok.ensures.advances in
+    let heard = hears-none folded cost (Some Second) old new journal journal bits advances refl in
+    leads-scanned folded cost (pair_state c.self.inside) (without-report g c) journal
     c.args.first.now c.args.second.now c.args.from (c.args.from + n - c.args.from) None _ told
     c.reports_grow.ensures.stays c.reports_grow.ensures.more c.reports_grow.ensures.grow
     (omega (arith, c.in-Ok.ensures.count)) c.follow.ensures.hears (rw all heard)
