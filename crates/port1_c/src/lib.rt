@@ -29,3 +29,6 @@ pub use send::{
     port1_send_align, port1_send_flag, port1_send_frame, port1_send_idle, port1_sender_init,
 };
 pub use sender::Port1Sender;
+
+#[cfg(test)]
+mod tests;

@@ -1,0 +1,7 @@
+//! Calls of the library on worked bits. What is wanted is what the rules of the line and `include/port1.h` say.
+
+mod feeds;
+mod pairs;
+mod refusals;
+mod sends;
+mod worked;
