@@ -1,7 +1,8 @@
 //! Captures, octet by octet.
 
 use bus_bits::{
-    BadMark, EightBits, HeadFault, PackedBits, PackedFault, PackedHead, TextBits, TextBlock,
+    BadMark, EightBits, HeadFault, PackedBits, PackedFault, PackedHead, Spent, TextBits, TextBlock,
+    Word, bits_octet, octet_bits, word_at,
 };
 use std::process::Abort;
 
@@ -43,6 +44,118 @@ fn eight_bits_are_an_octet(rt: HostRuntime) {
     check_eight(&rt, b"001020110", None);
     check_eight(&rt, b"0010011", None);
     check_eight(&rt, b"00100112", None);
+}
+
+#[test]
+fn octets_are_eight_bits(rt: HostRuntime) {
+    assert_eq!(rt; TextBits::of_eight(b"00100110"), Some(0x64));
+    for text in [
+        b"00100112",
+        b"0010011 ",
+        b"0010011/",
+        b"0010011p",
+        b"0010011\xb0",
+        b"x0100110",
+    ] {
+        assert_eq!(rt; TextBits::of_eight(text), None);
+    }
+}
+
+/// An octet, and its bits, the least significant first.
+struct OctetRow {
+    octet: u8,
+    bits: [bool; 8],
+}
+
+const OCTETS: [OctetRow; 3] = [
+    OctetRow {
+        octet: 0x55,
+        bits: [true, false, true, false, true, false, true, false],
+    },
+    OctetRow {
+        octet: 0x33,
+        bits: [true, true, false, false, true, true, false, false],
+    },
+    OctetRow {
+        octet: 0x0f,
+        bits: [true, true, true, true, false, false, false, false],
+    },
+];
+
+#[test]
+fn octets_are_their_bits(rt: HostRuntime) {
+    for row in &OCTETS {
+        assert_eq!(rt; octet_bits(row.octet), row.bits);
+        assert_eq!(rt; bits_octet(&row.bits), row.octet);
+    }
+}
+
+/// The bits of octets from one on and before another, as a number.
+struct WordRow {
+    octets: &'static [u8],
+    at: usize,
+    end: usize,
+    word: Word,
+}
+
+const SEVEN: &[u8] = &[0x01, 0x02, 0x04, 0x08, 0x10, 0x20, 0x40];
+
+const WORDS: [WordRow; 4] = [
+    WordRow {
+        octets: SEVEN,
+        at: 0,
+        end: 56,
+        word: Word {
+            bits: 0x2010_0804_0201,
+            count: 48,
+        },
+    },
+    WordRow {
+        octets: SEVEN,
+        at: 8,
+        end: 56,
+        word: Word {
+            bits: 0x4020_1008_0402,
+            count: 48,
+        },
+    },
+    WordRow {
+        octets: SEVEN,
+        at: 53,
+        end: 55,
+        word: Word { bits: 2, count: 2 },
+    },
+    WordRow {
+        octets: &[0xb4],
+        at: 2,
+        end: 7,
+        word: Word {
+            bits: 0x0d,
+            count: 5,
+        },
+    },
+];
+
+#[test]
+fn words_are_cut_out(rt: HostRuntime) {
+    for row in &WORDS {
+        assert!(rt; row.at < row.end && row.end <= 8 * row.octets.len());
+        let Word { bits, count } = word_at(row.octets, row.at, row.end);
+        assert_eq!(rt; (bits, count), (row.word.bits, row.word.count));
+    }
+}
+
+#[test]
+fn steps_are_added(rt: HostRuntime) {
+    let spent = Spent {
+        shifted: 1,
+        assembled: 2,
+        folded: 4,
+        stored: 8,
+        copied: 16,
+        handled: 32,
+    };
+    assert_eq!(rt; spent.total(), 63);
 }
 
 /// A text in front of an octet that is no bit, and its bits in a block.
@@ -99,9 +212,9 @@ const PACKED: [PackRow; 8] = [
     },
 ];
 
-/// The first octets of a text of 128 octets, which end as the row's text does, and then octets that are no bits.
-fn before_others(rt: &impl Abort, text: &str) -> [u8; 128] {
-    let mut octets = [b'x'; 128];
+/// The first octets of a text of 128 octets, which end as the row's text does, and then others, which are no bits.
+fn before_others(rt: &impl Abort, text: &str, other: u8) -> [u8; 128] {
+    let mut octets = [other; 128];
     octets
         .get_mut(..text.len())
         .expect(rt, "a short text")
@@ -109,20 +222,26 @@ fn before_others(rt: &impl Abort, text: &str) -> [u8; 128] {
     octets
 }
 
+fn check_block(rt: &impl Abort, row: &PackRow, other: u8) {
+    let octets = before_others(rt, row.text, other);
+    let mut block = [0xff; 32];
+    let TextBlock { count, taken } = TextBits::pack(&octets, &mut block);
+    assert_eq!(rt; count, row.bits, "{}", row.text);
+    assert_eq!(rt; taken, row.text.len(), "{}", row.text);
+    assert_eq!(rt;
+        block.get(..row.block.len()),
+        Some(row.block),
+        "{}",
+        row.text
+    );
+}
+
 #[test]
 fn texts_are_packed(rt: HostRuntime) {
     for row in &PACKED {
-        let octets = before_others(&rt, row.text);
-        let mut block = [0xff; 32];
-        let TextBlock { count, taken } = TextBits::pack(&octets, &mut block);
-        assert_eq!(rt; count, row.bits, "{}", row.text);
-        assert_eq!(rt; taken, row.text.len(), "{}", row.text);
-        assert_eq!(rt;
-            block.get(..row.block.len()),
-            Some(row.block),
-            "{}",
-            row.text
-        );
+        for other in [b'x', b'2', b'/', 0x0b, 0x00, 0xb0] {
+            check_block(&rt, row, other);
+        }
     }
 }
 
@@ -163,4 +282,16 @@ fn packed_bits_are_given(rt: HostRuntime) {
     );
     assert_eq!(rt; packed.finish(), Ok(()));
     assert_eq!(rt; packed.step(0x00).err(), Some(PackedFault::Trailing));
+}
+
+#[test]
+fn whole_octets_are_taken(rt: HostRuntime) {
+    let mut packed = PackedBits::new(PackedHead { bits: 57 });
+    assert_eq!(rt; packed.whole(3), 3);
+    assert_eq!(rt; packed.whole(8), 7);
+    assert!(rt; packed.left() >= 56);
+    packed.take_all(&[0x7e, 0x10, 0x83, 0x00, 0x7d, 0xcb, 0xfd]);
+    assert_eq!(rt; packed.left(), 1);
+    assert_eq!(rt; packed.whole(1), 0);
+    assert_eq!(rt; packed.step(0x02).err(), Some(PackedFault::PadBits));
 }

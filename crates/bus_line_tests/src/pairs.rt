@@ -1,7 +1,8 @@
 //! Captures of two lines, octet by octet.
 
 use bus_bits::{
-    BadMark, EightPairs, HeadFault, PackedFault, PackedHead, PackedPairs, PairHead, TextPairs,
+    BadMark, EightPairs, HeadFault, PackedFault, PackedHead, PackedPairs, PairHead, PartedText,
+    TextPairs,
 };
 use std::process::Abort;
 
@@ -96,6 +97,80 @@ fn eight_pairs_are_two_octets(rt: HostRuntime) {
     check_eight(&rt, b"0123300", None);
 }
 
+/// A text of pairs, and what is parted of it into blocks of three octets.
+struct PartRow {
+    text: &'static str,
+    filled: usize,
+    taken: usize,
+    first: [u8; 3],
+    second: [u8; 3],
+}
+
+/// The marks 0 1 2 3 3 0 0 1 and 2 2 2 2 1 1 1 1, alone and in a row.
+const PARTED: [PartRow; 6] = [
+    PartRow {
+        text: "0123300",
+        filled: 0,
+        taken: 0,
+        first: [0; 3],
+        second: [0; 3],
+    },
+    PartRow {
+        text: "01233001",
+        filled: 1,
+        taken: 8,
+        first: [0x9a, 0, 0],
+        second: [0x1c, 0, 0],
+    },
+    PartRow {
+        text: "0123300122221111x",
+        filled: 2,
+        taken: 16,
+        first: [0x9a, 0xf0, 0],
+        second: [0x1c, 0x0f, 0],
+    },
+    // a space in each nine octets
+    PartRow {
+        text: "0123300 1\n22221111",
+        filled: 2,
+        taken: 18,
+        first: [0x9a, 0xf0, 0],
+        second: [0x1c, 0x0f, 0],
+    },
+    // two in a row
+    PartRow {
+        text: "01233001 \n22221111",
+        filled: 1,
+        taken: 8,
+        first: [0x9a, 0, 0],
+        second: [0x1c, 0, 0],
+    },
+    // more than the blocks have room for
+    PartRow {
+        text: "01233001222211110123300122221111",
+        filled: 3,
+        taken: 24,
+        first: [0x9a, 0xf0, 0x9a],
+        second: [0x1c, 0x0f, 0x1c],
+    },
+];
+
+#[test]
+fn texts_are_parted(rt: HostRuntime) {
+    for row in &PARTED {
+        let mut first = [0; 3];
+        let mut second = [0; 3];
+        let PartedText { filled, taken } = TextPairs::part(
+            row.text.as_bytes(),
+            &mut first,
+            &mut second,
+        );
+        assert_eq!(rt; (filled, taken), (row.filled, row.taken), "{}", row.text);
+        assert_eq!(rt; first, row.first, "{}", row.text);
+        assert_eq!(rt; second, row.second, "{}", row.text);
+    }
+}
+
 /// What sixteen octets are as the head of two lines.
 struct HeadRow {
     head: &'static [u8; 16],
@@ -152,6 +227,48 @@ fn packed_pairs_are_given(rt: HostRuntime) {
     );
     assert_eq!(rt; packed.finish(), Ok(()));
     assert_eq!(rt; packed.step(0).err(), Some(PackedFault::Trailing));
+}
+
+/// An octet of a packed capture of two lines, and its pairs.
+struct PairRow {
+    octet: u8,
+    pairs: [(bool, bool); 4],
+}
+
+const NEITHER: (bool, bool) = (false, false);
+
+const FIRST: (bool, bool) = (true, false);
+
+const SECOND: (bool, bool) = (false, true);
+
+const PAIRS: [PairRow; 4] = [
+    PairRow {
+        octet: 0x01,
+        pairs: [FIRST, NEITHER, NEITHER, NEITHER],
+    },
+    PairRow {
+        octet: 0x08,
+        pairs: [NEITHER, SECOND, NEITHER, NEITHER],
+    },
+    PairRow {
+        octet: 0x99,
+        pairs: [FIRST, SECOND, FIRST, SECOND],
+    },
+    PairRow {
+        octet: 0x46,
+        pairs: [SECOND, FIRST, NEITHER, FIRST],
+    },
+];
+
+#[test]
+fn octets_are_four_pairs(rt: HostRuntime) {
+    let mut packed = PackedPairs::new(PairHead { pairs: 17 });
+    for row in &PAIRS {
+        let pairs = packed.step(row.octet).expect(&rt, "four pairs");
+        assert_eq!(rt; pairs.as_slice(), &row.pairs[..]);
+    }
+    assert_eq!(rt; packed.left(), 1);
+    assert_eq!(rt; packed.finish(), Err(PackedFault::ShortBody));
 }
 
 #[test]

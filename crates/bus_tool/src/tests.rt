@@ -3,8 +3,8 @@
 mod encodes;
 mod listings;
 mod program;
-mod rows;
 mod shows;
 mod streams;
+mod summaries;
 mod texts;
 mod worked;

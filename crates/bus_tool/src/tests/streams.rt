@@ -1,5 +1,7 @@
 //! How many reads there are.
 
+ghost use Rattle.std.specs.Prelude.{◌≤◌};
+
 use crate::arguments::{READS, Request, read_arguments};
 use crate::fakes::{Counted, Pieces, Repeated};
 use crate::tests::listings::spaced;
@@ -9,53 +11,86 @@ use crate::tests::worked::{
 };
 use crate::{Options, ToolFault, encode_frames, run};
 
-/// How many reads are granted, how many are made, and whether the last of them answers the end.
+/// The octets of the input that is read.
+const OCTETS: usize = 5406;
+
+/// How many octets a read gives at most, how many reads are granted, how many are made, and whether the last of
+/// them answers the end.
 #[derive(Clone, Copy)]
 struct ReadsRow {
+    piece: usize,
     reads: u64,
     calls: u64,
     is_enough: bool,
 }
 
-/// Of an input of 5406 octets, one each read, behind which one answers the end.
-const GRANTED: [ReadsRow; 6] = [
+impl ReadsRow {
+    /// How many octets are read.
+    fn octets(&self) -> usize
+        ensures { result ≤ 5406 }
+    {
+        self.piece.saturating_mul(self.calls as usize).min(OCTETS)
+    }
+}
+
+/// Of an input of 5406 octets; a read after them answers the end.
+const GRANTED: [ReadsRow; 8] = [
     ReadsRow {
+        piece: 1,
         reads: 0,
         calls: 0,
         is_enough: false,
     },
     ReadsRow {
+        piece: 1,
         reads: 1,
         calls: 1,
         is_enough: false,
     },
     ReadsRow {
+        piece: 1,
         reads: 4097,
         calls: 4097,
         is_enough: false,
     },
     ReadsRow {
+        piece: 1,
         reads: 5406,
         calls: 5406,
         is_enough: false,
     },
     ReadsRow {
+        piece: 1,
         reads: 5407,
         calls: 5407,
         is_enough: true,
     },
     ReadsRow {
+        piece: 1,
         reads: u64::MAX,
         calls: 5407,
         is_enough: true,
     },
+    // 772 reads of seven octets, and one of two
+    ReadsRow {
+        piece: 7,
+        reads: 773,
+        calls: 773,
+        is_enough: false,
+    },
+    ReadsRow {
+        piece: 7,
+        reads: 774,
+        calls: 774,
+        is_enough: true,
+    },
 ];
 
-/// A reader of one octet each call.
-fn singly(rest: &[u8]) -> Pieces<'_> {
+/// A reader of so many octets each call.
+fn by_pieces(rest: &[u8], piece: usize) -> Pieces<'_> {
     Pieces {
         rest,
-        piece: 1,
+        piece,
         calls: 0,
         fails_at: 0,
     }
@@ -65,14 +100,14 @@ fn singly(rest: &[u8]) -> Pieces<'_> {
 fn reads_of_captures(rt: HostRuntime) {
     let capture = joined(rt.alloc(), &CALL_AND_REPLY).expect(&rt, "memory");
     let wide = spaced(rt.alloc(), capture.as_slice(), 50).expect(&rt, "memory");
-    assert_eq!(rt; wide.len(), 5406);
+    assert_eq!(rt; wide.len(), OCTETS);
     for row in GRANTED {
         for (checks, text) in [(false, CALL_AND_REPLY_TEXT), (true, CALL_AND_REPLY_REPORT)] {
             let options = Options {
                 reads: row.reads,
                 ..of_text(Some(CALLS))
             };
-            let mut reader = singly(wide.as_slice());
+            let mut reader = by_pieces(wide.as_slice(), row.piece);
             let mut out = Vec::new(rt.alloc());
             let ending = run_over(checks, rt.alloc(), &options, &mut reader, &mut out);
             let want = if row.is_enough {
@@ -82,7 +117,7 @@ fn reads_of_captures(rt: HostRuntime) {
             };
             assert_eq!(rt; ending, want, "{}", row.reads);
             assert_eq!(rt; reader.calls, row.calls);
-            if row.is_enough || row.reads == 5406 && !checks {
+            if row.is_enough || row.octets() == OCTETS && !checks {
                 assert_eq!(rt; out.as_slice(), text.as_bytes());
             } else if checks {
                 assert!(rt; out.is_empty());
@@ -97,9 +132,9 @@ fn reads_of_lines(rt: HostRuntime) {
     for _line in 0..901 {
         lines.extend_from_slice(b"flag\n\n").expect(&rt, "memory");
     }
-    assert_eq!(rt; lines.len(), 5406);
+    assert_eq!(rt; lines.len(), OCTETS);
     for row in GRANTED {
-        let mut reader = singly(lines.as_slice());
+        let mut reader = by_pieces(lines.as_slice(), row.piece);
         let mut writer = Counted::new();
         let ending = encode_frames(row.reads, &mut reader, &mut writer);
         let want = if row.is_enough {
@@ -109,11 +144,12 @@ fn reads_of_lines(rt: HostRuntime) {
         };
         assert_eq!(rt; ending, want, "{}", row.reads);
         assert_eq!(rt; reader.calls, row.calls);
-        // A line has five octets, and its text nine with the LF.
-        assert_eq!(rt; writer.octets, 9 * ((row.calls + 1) / 6));
+        // A line has five octets, with an empty one after it, and its text nine with the LF.
+        let texts = (row.octets() as u64 + 1) / 6;
+        assert_eq!(rt; writer.octets, 9 * texts);
         assert_eq!(rt;
             (writer.empty_writes, writer.flushes),
-            (0, u64::from(row.calls > 4))
+            (0, u64::from(texts > 0))
         );
     }
 }

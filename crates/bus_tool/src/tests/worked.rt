@@ -13,9 +13,6 @@ pub const CALL: &str = "00001000 11000001 00000000 101111101 10100111";
 /// `10 83 80 f5 61`: from station 16, of type 128.
 pub const REPLY: &str = "00001000 11000001 00000001 10101111 100000110";
 
-/// Twenty-four bits that are too few for a frame.
-pub const SHORT: &str = "00000000 00000000 00000000";
-
 /// A silent line.
 pub const IDLE: &str = "111111111111111";
 
@@ -35,17 +32,6 @@ pub const CALL_TEXT: &str = "8 49 frame 108300fde5 station 16 type 0 call\n";
 pub const ONE_CALL_TEXT: &str = "\
 8 49 frame 108300fde5 station 16 type 0 call
 8 49 pending station 16 type 0
-";
-
-/// Two calls, the first without an answer, and damage in place of the answer to the second.
-pub const MISSING_AND_SPOILT: [&str; 7] = [FLAG, CALL, FLAG, CALL, FLAG, SHORT, FLAG];
-
-pub const MISSING_AND_SPOILT_TEXT: &str = "\
-8 49 frame 108300fde5 station 16 type 0 call
-57 98 frame 108300fde5 station 16 type 0 call
-8 49 missing station 16 type 0
-106 130 damaged short
-57 98 spoilt station 16 type 0
 ";
 
 pub const CALL_AND_REPLY_REPORT: &str = "\
@@ -96,14 +82,6 @@ last 1 8 49 108300fde5
 last 2 65 106 108380f561
 ";
 
-/// What is counted in them.
-pub const TWO_LINES: Summary = Summary {
-    frames: 2,
-    idles: 2,
-    answered: 1,
-    ..NONE
-};
-
 /// A dictionary whose longest frame has three octets.
 pub const CALLS: &str = r#"version = 1
 [[frame]]
@@ -118,20 +96,6 @@ length = 0
 [[frame]]
 type = 9
 name = "notice"
-length = 0
-"#;
-
-/// The call and its reply, which is to begin within sixteen bits.
-pub const WITHIN: &str = r#"version = 2
-[[frame]]
-type = 0
-name = "call"
-length = 0
-answered = true
-window = 16
-[[frame]]
-type = 128
-name = "reply"
 length = 0
 "#;
 

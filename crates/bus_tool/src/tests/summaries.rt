@@ -1,0 +1,38 @@
+//! Which summaries are clean.
+
+use crate::Summary;
+use crate::tests::worked::NONE;
+
+/// Only these five make a line unclean.
+const UNCLEAN: [Summary; 5] = [
+    Summary { damaged: 1, ..NONE },
+    Summary {
+        overlong: 1,
+        ..NONE
+    },
+    Summary { missing: 1, ..NONE },
+    Summary { spoilt: 1, ..NONE },
+    Summary { late: 1, ..NONE },
+];
+
+const CLEAN: [Summary; 6] = [
+    NONE,
+    Summary { frames: 1, ..NONE },
+    Summary { aborts: 1, ..NONE },
+    Summary { idles: 1, ..NONE },
+    Summary { strays: 1, ..NONE },
+    Summary {
+        answered: 1,
+        ..NONE
+    },
+];
+
+#[test]
+fn clean(rt: HostRuntime) {
+    for summary in UNCLEAN {
+        assert!(rt; !summary.is_clean(), "{summary:?}");
+    }
+    for summary in CLEAN {
+        assert!(rt; summary.is_clean(), "{summary:?}");
+    }
+}
