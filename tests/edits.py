@@ -4,14 +4,24 @@ An edit may name a test that tells it from the right body, in a comment, which `
 
     # told-by: CRATE TEST
 
-TEST is the path of a test of that crate, as `line::scans::scans`.
+TEST is the path of a test of that crate, as `line::scans::scans`. Or it names a command whose output or status it
+changes:
+
+    # shown-by: port1 list --dict "$(cat examples/call-and-reply.toml)" < examples/one-call.ts2
+    # shown-by: port1 list --bits <<< 0111111000
+
+The input is a file or a folder of the repository, or a text, or it is empty. Words are quoted as for a shell, and one
+may be the text of a file, as above.
 """
 
 import re
+import shlex
 from pathlib import Path
-from typing import Dict, Iterator, List, NamedTuple, Set
+from typing import Dict, Iterator, List, NamedTuple, Optional, Set
 
 TOLD_BY = re.compile(r"^# told-by: (\w+) ([\w:]+)$", re.MULTILINE)
+
+SHOWN_BY = re.compile(r"^# shown-by: port1 (.*)$", re.MULTILINE)
 
 
 class Test(NamedTuple):
@@ -19,6 +29,14 @@ class Test(NamedTuple):
 
     crate: str
     path: str
+
+
+class Command(NamedTuple):
+    """The words of a command of the program, and its input: a path from the top of the repository, or a text."""
+
+    words: List[str]
+    path: Optional[Path] = None
+    text: str = ""
 
 
 class Change(NamedTuple):
@@ -65,6 +83,27 @@ def edit_of(path: Path) -> Edit:
 def tests_told(text: str) -> List[Test]:
     """The tests that an edit names."""
     return [Test(*match) for match in TOLD_BY.findall(text)]
+
+
+def word_of(word: str, top: Path) -> str:
+    """A word, or the text of the file that it names."""
+    match = re.fullmatch(r"\$\(cat (\S+)\)", word)
+    return (top / match[1]).read_text(encoding="utf-8").rstrip("\n") if match else word
+
+
+def command_of(line: str, top: Path) -> Command:
+    """The command of a line as `list --bits < FILE` or `list --bits <<< TEXT`."""
+    words = [word_of(word, top) for word in shlex.split(line)]
+    if len(words) > 1 and words[-2] == "<":
+        return Command(words[:-2], Path(words[-1]))
+    if len(words) > 1 and words[-2] == "<<<":
+        return Command(words[:-2], None, words[-1])
+    return Command(words)
+
+
+def commands_told(text: str, top: Path) -> List[Command]:
+    """The commands that an edit names."""
+    return [command_of(line, top) for line in SHOWN_BY.findall(text)]
 
 
 def test_of(file: str, name: str) -> Iterator[Test]:
