@@ -49,9 +49,8 @@ impl Journal {
     ghost use Rattle.bus_line.specs.Shown.{kind_with, reported};
     ghost use Rattle.bus_line.specs.Report.{Frame};
     ghost use Rattle.bus_watch.specs.Heard.{Heard, heard_on};
-    ghost use Rattle.bus_watch.specs.Internal.JournalState.{journal_state, Keeps, HasRoom, is_damage, IsWhole};
+    ghost use Rattle.bus_watch.specs.Internal.JournalState.{journal_state, Enters, HasRoom, IsWhole, Keeps, is_damage};
     ghost use Rattle.bus_watch.specs.Shown.{found_on};
-    ghost use Rattle.bus_watch.specs.Seen.{seen_of};
     ghost use Rattle.bus_watch.specs.Talk.{is_idle};
     ghost use Rattle.bus_dictionary.specs.Standing.{standing};
 
@@ -84,13 +83,8 @@ impl Journal {
         requires whole { IsWhole event.kind octets.now }
         requires fits { length octets.now ≤ 258 }
         requires room { HasRoom (journal_state self.old) }
-        ensures keeps { (hs : List Heard) → Keeps (journal_state self.old) hs →
-            Keeps (journal_state self.new) (hs ++ heard_on line (reported octets.now event) ∷ []) }
-        ensures says { (hs : List Heard) → Keeps (journal_state self.old) hs →
-            found_on line octets.now self.new.last
-            ≡ seen_of self.old.dictionary hs (heard_on line (reported octets.now event)) }
-        ensures given { (self.new.dictionary ≡ self.old.dictionary)
-            × (self.new.history.capacity ≡ self.old.history.capacity) }
+        ensures enters { Enters (journal_state self.old) (heard_on line (reported octets.now event))
+            (found_on line octets.now self.new.last) (journal_state self.new) }
     {
         match line {
             None => self.take_of_one(event, octets),
@@ -104,13 +98,8 @@ impl Journal {
         requires whole { IsWhole event.kind octets.now }
         requires fits { length octets.now ≤ 258 }
         requires room { HasRoom (journal_state self.old) }
-        ensures keeps { (hs : List Heard) → Keeps (journal_state self.old) hs →
-            Keeps (journal_state self.new) (hs ++ heard_on None (reported octets.now event) ∷ []) }
-        ensures says { (hs : List Heard) → Keeps (journal_state self.old) hs →
-            found_on None octets.now self.new.last
-            ≡ seen_of self.old.dictionary hs (heard_on None (reported octets.now event)) }
-        ensures given { (self.new.dictionary ≡ self.old.dictionary)
-            × (self.new.history.capacity ≡ self.old.history.capacity) }
+        ensures enters { Enters (journal_state self.old) (heard_on None (reported octets.now event))
+            (found_on None octets.now self.new.last) (journal_state self.new) }
     {
         self.enter(None, event, octets);
     }
@@ -121,13 +110,8 @@ impl Journal {
         requires whole { IsWhole event.kind octets.now }
         requires fits { length octets.now ≤ 258 }
         requires room { HasRoom (journal_state self.old) }
-        ensures keeps { (hs : List Heard) → Keeps (journal_state self.old) hs →
-            Keeps (journal_state self.new) (hs ++ heard_on (Some line) (reported octets.now event) ∷ []) }
-        ensures says { (hs : List Heard) → Keeps (journal_state self.old) hs →
-            found_on (Some line) octets.now self.new.last
-            ≡ seen_of self.old.dictionary hs (heard_on (Some line) (reported octets.now event)) }
-        ensures given { (self.new.dictionary ≡ self.old.dictionary)
-            × (self.new.history.capacity ≡ self.old.history.capacity) }
+        ensures enters { Enters (journal_state self.old) (heard_on (Some line) (reported octets.now event))
+            (found_on (Some line) octets.now self.new.last) (journal_state self.new) }
     {
         self.enter(Some(line), event, octets);
     }
@@ -138,13 +122,8 @@ impl Journal {
         requires whole { IsWhole event.kind octets.now }
         requires fits { length octets.now ≤ 258 }
         requires room { HasRoom (journal_state self.old) }
-        ensures keeps { (hs : List Heard) → Keeps (journal_state self.old) hs →
-            Keeps (journal_state self.new) (hs ++ heard_on line (reported octets.now event) ∷ []) }
-        ensures says { (hs : List Heard) → Keeps (journal_state self.old) hs →
-            found_on line octets.now self.new.last
-            ≡ seen_of self.old.dictionary hs (heard_on line (reported octets.now event)) }
-        ensures given { (self.new.dictionary ≡ self.old.dictionary)
-            × (self.new.history.capacity ≡ self.old.history.capacity) }
+        ensures enters { Enters (journal_state self.old) (heard_on line (reported octets.now event))
+            (found_on line octets.now self.new.last) (journal_state self.new) }
     {
         match event.kind {
             EventKind::Frame => self.frame(line, event.span, octets),
@@ -167,13 +146,9 @@ impl Journal {
         requires at_least { 4 ≤ length octets.now }
         requires at_most { length octets.now ≤ 258 }
         requires room { HasRoom (journal_state self.old) }
-        ensures keeps { (hs : List Heard) → Keeps (journal_state self.old) hs → Keeps (journal_state self.new)
-            (hs ++ heard_on line (record { kind = Frame octets.now; first = span.first; past = span.past }) ∷ []) }
-        ensures says { (hs : List Heard) → Keeps (journal_state self.old) hs →
-            found_on line octets.now self.new.last ≡ seen_of self.old.dictionary hs
-            (heard_on line (record { kind = Frame octets.now; first = span.first; past = span.past })) }
-        ensures given { (self.new.dictionary ≡ self.old.dictionary)
-            × (self.new.history.capacity ≡ self.old.history.capacity) }
+        ensures enters { Enters (journal_state self.old)
+            (heard_on line (record { kind = Frame octets.now; first = span.first; past = span.past }))
+            (found_on line octets.now self.new.last) (journal_state self.new) }
     {
         self.spent.tick_handled();
         let standing = self.standing(octets);
@@ -195,13 +170,9 @@ impl Journal {
     fn damage(&mut self, event: Event)
         requires damage { (octets : List ℕ) → is_damage (kind_with octets event.kind) ≡ true }
         requires room { HasRoom (journal_state self.old) }
-        ensures keeps { (line : Option Line) (octets : List ℕ) (hs : List Heard) → Keeps (journal_state self.old) hs →
-            Keeps (journal_state self.new) (hs ++ heard_on line (reported octets event) ∷ []) }
-        ensures says { (line : Option Line) (octets : List ℕ) (hs : List Heard) → Keeps (journal_state self.old) hs →
-            found_on line octets self.new.last
-            ≡ seen_of self.old.dictionary hs (heard_on line (reported octets event)) }
-        ensures given { (self.new.dictionary ≡ self.old.dictionary)
-            × (self.new.history.capacity ≡ self.old.history.capacity) }
+        ensures enters { (line : Option Line) (octets : List ℕ) →
+            Enters (journal_state self.old) (heard_on line (reported octets event))
+            (found_on line octets self.new.last) (journal_state self.new) }
     {
         self.spent.tick_handled();
         self.decide(None);
@@ -215,13 +186,9 @@ impl Journal {
     fn idle(&mut self, event: Event)
         requires idle { (octets : List ℕ) → is_idle (kind_with octets event.kind) ≡ true }
         requires room { HasRoom (journal_state self.old) }
-        ensures keeps { (line : Option Line) (octets : List ℕ) (hs : List Heard) → Keeps (journal_state self.old) hs →
-            Keeps (journal_state self.new) (hs ++ heard_on line (reported octets event) ∷ []) }
-        ensures says { (line : Option Line) (octets : List ℕ) (hs : List Heard) → Keeps (journal_state self.old) hs →
-            found_on line octets self.new.last
-            ≡ seen_of self.old.dictionary hs (heard_on line (reported octets event)) }
-        ensures given { (self.new.dictionary ≡ self.old.dictionary)
-            × (self.new.history.capacity ≡ self.old.history.capacity) }
+        ensures enters { (line : Option Line) (octets : List ℕ) →
+            Enters (journal_state self.old) (heard_on line (reported octets event))
+            (found_on line octets self.new.last) (journal_state self.new) }
     {
         self.spent.tick_handled();
         self.spent.tick_handled();

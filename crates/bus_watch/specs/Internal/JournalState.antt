@@ -1,11 +1,13 @@
 -- What contracts see of a journal, and the lists of reports after which it may stand.
-use Rattle.std.specs.Prelude.{◌≡◌, ℕ, ◌+◌, ◌<◌, ◌≤◌, ◌^◌, Bool, true, false, List, length, map, Option, Some, slice_get}
+use Rattle.std.specs.Prelude.{◌≡◌, ℕ, ◌+◌, ◌<◌, ◌≤◌, ◌^◌, Bool, true, false, List, [], ◌∷◌, ◌++◌, length, map}
+use Rattle.std.specs.Prelude.{Option, Some, slice_get}
 use Rattle.bus_line.specs.Report.{Kind, Frame, Idle}
 use Rattle.bus_watch.specs.Heard.{Heard}
 use Rattle.bus_line.specs.declared.event.EventKind.{EventKind}
 use Rattle.bus_line.specs.declared.event.EventKind.TheVariants as event
 use Rattle.bus_dictionary.specs.Entry.{FrameType}
 use Rattle.bus_watch.specs.Talk.{pending}
+use Rattle.bus_watch.specs.Seen.{SeenReport, seen_of}
 use Rattle.bus_watch.specs.History.{KeptFrame, history, tally, kept_pair}
 use Rattle.bus_watch.specs.Ledger.{handled_of, copied_of}
 use Rattle.bus_watch.specs.declared.counts.Counts.{Counts}
@@ -39,6 +41,13 @@ pub record Keeps (j : JournalState) (hs : List Heard) : Type 0 where
   pub tally : (station : ℕ) → station < 256 → slice_get j.tally station ≡ Some (tally j.dictionary hs station)
   pub copied : j.copied ≡ copied_of hs
   pub handled : j.handled ≡ handled_of hs
+
+-- the journal took one report more, and found this of it
+pub record Enters (old : JournalState) (report : Heard) (found : SeenReport) (new : JournalState) : Type 0 where
+  pub keeps : (hs : List Heard) → Keeps old hs → Keeps new (hs ++ report ∷ [])
+  pub says : (hs : List Heard) → Keeps old hs → found ≡ seen_of old.dictionary hs report
+  pub dictionary : new.dictionary ≡ old.dictionary
+  pub depth : new.depth ≡ old.depth
 
 -- a verdict more can be counted
 abbrev pub CanCount : List Counts → Type 0

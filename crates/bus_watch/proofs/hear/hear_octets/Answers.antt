@@ -1,17 +1,15 @@
-use Rattle.std.proofs.Common.{◌≡◌, ◌+◌, ◌-◌, ◌^◌, ◌++◌, ℕ, true, List, ◌∷◌, [], length, Some, inl, inr, refl, sym, ap}
+use Rattle.std.proofs.Common.{◌≡◌, ◌+◌, ◌-◌, ◌^◌, ◌++◌, ℕ, true, List, length, Some, inl, inr, refl, sym, ap}
 use Rattle.std.proofs.Common.{subst}
 use Rattle.std.specs.Option.{option_map}
 use Rattle.std.proofs.lemmas.Bool.{cases_lt}
 use Rattle.bus_bits.specs.Bits.{bits_from}
-use Rattle.bus_bits.proofs.BitLemmas.{front-from}
 use Rattle.bus_line.specs.After.{Advances}
 use Rattle.bus_line.specs.Report.{moved}
 use Rattle.bus_line.specs.Due.{due_at}
 use Rattle.bus_line.specs.Shown.{reported}
-use Rattle.bus_watch.specs.Heard.{Heard, heard_on}
-use Rattle.bus_watch.specs.Seen.{seen_of}
+use Rattle.bus_watch.specs.Heard.{heard_on}
 use Rattle.bus_watch.specs.Shown.{found_on}
-use Rattle.bus_watch.specs.Internal.JournalState.{journal_state, Keeps}
+use Rattle.bus_watch.specs.Internal.JournalState.{Enters, journal_state}
 use Rattle.bus_watch.specs.Internal.Hears.{told_on}
 use Rattle.bus_watch.proofs.AfterLemmas.{hears-none, hears-some}
 use Rattle.bus_watch.proofs.AnalyserViewLemmas.{whole}
@@ -64,12 +62,8 @@ returns-clause-hears g c =
     let last = c.take.new.self.last in
     let advances = subst (λ o. Advances folded cost old bits (option_map (reported octets) o) new)
     c.in-Some.is scanned.ensures.advances in
-    let keeps = subst
-    (λ (os : List ℕ). (hs : List Heard) → Keeps before hs → Keeps after (hs ++ heard_on line (reported os event) ∷ []))
-    c.octets.ensures.value c.take.ensures.keeps in
-    let says = subst
-    (λ (os : List ℕ). (hs : List Heard) → Keeps before hs
-    → found_on line os last ≡ seen_of before.dictionary hs (heard_on line (reported os event)))
-    c.octets.ensures.value c.take.ensures.says in
+    let enters = subst
+    (λ (os : List ℕ). Enters before (heard_on line (reported os event)) (found_on line os last) after)
+    c.octets.ensures.value c.take.ensures.enters in
     hears-some folded cost line old new before after bits (reported octets event) (told_on line octets true last)
-    advances keeps (λ hs kept. ap Some (says hs kept)) c.take.ensures.given.0 c.take.ensures.given.1
+    advances enters.keeps (λ hs kept. ap Some (enters.says hs kept)) enters.dictionary enters.depth

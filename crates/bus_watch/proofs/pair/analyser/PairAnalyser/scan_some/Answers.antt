@@ -1,18 +1,18 @@
-use Rattle.std.proofs.Common.{◌≡◌, ◌+◌, ◌-◌, ◌*◌, ◌++◌, ◌∷◌, [], ℕ, List, Bool, length, zip, Option, Some, None, true}
+use Rattle.std.proofs.Common.{◌≡◌, ◌+◌, ◌-◌, ◌*◌, ◌++◌, ℕ, List, Bool, length, zip, Option, Some, None, true}
 use Rattle.std.proofs.Common.{refl, sym, ap, ◌∙◌, subst, append-nil, arith}
 use Rattle.std.specs.Option.{option_to_list, option_map}
 use Rattle.std.proofs.lemmas.List.{length-map}
 use Rattle.bus_bits.specs.Bits.{bits_from}
-use Rattle.bus_bits.proofs.BitLemmas.{front-from, length-from}
+use Rattle.bus_bits.proofs.BitLemmas.{length-from}
 use Rattle.bus_line.specs.After.{Advances}
 use Rattle.bus_line.specs.Report.{moved}
 use Rattle.bus_line.specs.Due.{due_at}
 use Rattle.bus_line.specs.Shown.{reported}
-use Rattle.bus_watch.specs.Heard.{Heard, heard_on, seconds}
-use Rattle.bus_watch.specs.Seen.{seen_of, SeenReport}
+use Rattle.bus_watch.specs.Heard.{heard_on, seconds}
+use Rattle.bus_watch.specs.Seen.{SeenReport}
 use Rattle.bus_watch.specs.Shown.{found_on}
 use Rattle.bus_watch.specs.Internal.Hears.{told_on}
-use Rattle.bus_watch.specs.Internal.JournalState.{journal_state, Keeps}
+use Rattle.bus_watch.specs.Internal.JournalState.{Enters, journal_state}
 use Rattle.bus_watch.specs.Internal.PairView.{pair_state}
 use Rattle.bus_watch.specs.Pairs.{PairState, two_lines}
 use Rattle.bus_watch.specs.Watch.{LeadsTold}
@@ -134,17 +134,12 @@ leads-on g c told t =
     let after = journal_state c.take.new.self in
     let advances = subst (λ o. Advances folded cost old bits (option_map (reported octets) o) new)
     c.in-Some.is c.in-Ok.ensures.advances in
-    let keeps = subst
-    (λ (os : List ℕ). (hs : List Heard) → Keeps before hs
-    → Keeps after (hs ++ heard_on (Some Second) (reported os event) ∷ []))
-    c.octets-octets.ensures.value c.take.ensures.keeps in
-    let says = subst
-    (λ (os : List ℕ). (hs : List Heard) → Keeps before hs
-    → found_on (Some Second) os c.take.new.self.last
-    ≡ seen_of before.dictionary hs (heard_on (Some Second) (reported os event)))
-    c.octets-octets.ensures.value c.take.ensures.says in
+    let enters = subst
+    (λ (os : List ℕ). Enters before (heard_on (Some Second) (reported os event))
+    (found_on (Some Second) os c.take.new.self.last) after)
+    c.octets-octets.ensures.value c.take.ensures.enters in
     let heard = hears-some folded cost (Some Second) old new before after bits (reported octets event) (last-seen g c)
-    advances keeps (λ hs kept. ap Some (says hs kept)) c.take.ensures.given.0 c.take.ensures.given.1 in
+    advances enters.keeps (λ hs kept. ap Some (enters.says hs kept)) enters.dictionary enters.depth in
     leads-scanned folded cost (pair_state c.self.inside) (with-report g c) before
     c.args.first.now c.args.second.now c.args.from (c.args.from + n - c.args.from) (last-seen g c) _ told
     c.reports_grow.ensures.stays c.reports_grow.ensures.more c.reports_grow.ensures.grow
@@ -152,7 +147,7 @@ leads-on g c told t =
 
 pub invariant_of-self : goal.invariant_of-self
 invariant_of-self g c = record {
-  depth = omega (arith, c.self.invariant.depth, c.follow.ensures.hears.depth, c.take.ensures.given.1);
+  depth = omega (arith, c.self.invariant.depth, c.follow.ensures.hears.depth, c.take.ensures.enters.depth);
   pairs = c.self.invariant.pairs ++ pairs-taken g c;
   reached = (leads-on g c (λ ss. Unit {0}) tt).sees.is_after c.self.invariant.pairs c.self.invariant.reached;
 }
@@ -162,7 +157,7 @@ pub returns-in-Some-clause-told : goal.returns-in-Some-clause-told
 returns-in-Some-clause-told g c =
     let follows = c.follow.ensures.hears in
     let last = last-seen g c in
-    let dictionary = c.dictionary.ensures ∙ (c.take.ensures.given.0 ∙ follows.dictionary) in
+    let dictionary = c.dictionary.ensures ∙ (c.take.ensures.enters.dictionary ∙ follows.dictionary) in
     let told : g.L.PairListener.hears c.self.inside.journal.dictionary c.follow.new.listener c.follow.new.out
     (option_to_list last) c.tell.new.listener c.tell.new.out =
     rw (← dictionary, ← c.last.ensures, ← c.octets-octets.ensures.value) c.tell.ensures.heard in
