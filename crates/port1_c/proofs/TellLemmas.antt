@@ -1,5 +1,5 @@
 -- Bits that decide nothing, and bits behind them that decide a report.
-use Rattle.std.proofs.Common.{◌≡◌, ◌≤◌, ◌<◌, ◌-◌, ℕ, List, [], ◌∷◌, Bool, Option, None, ap, refl, subst, sym, ◌∙◌}
+use Rattle.std.proofs.Common.{◌≡◌, ◌≤◌, ◌-◌, ℕ, List, [], ◌∷◌, Bool, Option, None, ap, refl, subst, sym, ◌∙◌}
 use Rattle.std.proofs.Common.{arith}
 use Rattle.bus_fcs.specs.declared.octet_check.OctetCheck.{OctetCheck}
 use Rattle.bus_fcs.specs.Folded.{HasFolded}

@@ -4,6 +4,7 @@ ghost use Rattle.std.specs.Prelude.{◌≡◌, ◌≢◌, ◌-◌, ◌*◌, ◌�
 ghost use Rattle.bus_bits.specs.Bits.{bits_from};
 ghost use Rattle.bus_bits.specs.Octet.{bits_of};
 ghost use Rattle.port1_c.specs.Line.{Advances, IsCoded, Sound, held};
+ghost use Rattle.port1_c.specs.declared.status.TheConstants.{OK, PLACE_LIMIT, BAD_STATE};
 
 use crate::line::Port1Line;
 use crate::report::{NONE, Port1Report};
@@ -31,18 +32,18 @@ pub(crate) fn feed(
 ) -> u32
     requires some { at.old ≤ end }
     requires within { end ≤ 8 * length octets.now }
-    ensures status { (result ≡ 0) ⊎ (result ≡ 2) ⊎ (result ≡ 3) }
-    ensures state { Sound line.old → result ≢ 3 }
-    ensures refused { result < 3 → Sound line.old }
-    ensures kept { result ≡ 3 → (line.new ≡ line.old) × (at.new ≡ at.old) × (report.new ≡ report.old) }
+    ensures status { (result ≡ OK) ⊎ (result ≡ PLACE_LIMIT) ⊎ (result ≡ BAD_STATE) }
+    ensures state { Sound line.old → result ≢ BAD_STATE }
+    ensures refused { result < BAD_STATE → Sound line.old }
+    ensures kept { result ≡ BAD_STATE → (line.new ≡ line.old) × (at.new ≡ at.old) × (report.new ≡ report.old) }
     ensures bound { (at.old ≤ at.new) × (at.new ≤ end) }
-    ensures some { result < 3 → report.new.kind ≢ 0 → at.old < at.new }
-    ensures all { result ≡ 0 → report.new.kind ≡ 0 → at.new ≡ end }
-    ensures limit { result ≡ 2 → (report.new.kind ≡ 0) × (at.new < end) × (line.new.words.place ≡ 2 ^ 60) }
-    ensures coded { result < 3 → IsCoded report.new }
-    ensures advances { result < 3 →
+    ensures some { result < BAD_STATE → report.new.kind ≢ 0 → at.old < at.new }
+    ensures all { result ≡ OK → report.new.kind ≡ 0 → at.new ≡ end }
+    ensures limit { result ≡ PLACE_LIMIT → (report.new.kind ≡ 0) × (at.new < end) × (line.new.words.place ≡ 2 ^ 60) }
+    ensures coded { result < BAD_STATE → IsCoded report.new }
+    ensures advances { result < BAD_STATE →
         Advances (held line.old) (bits_from octets.now at.old (at.new - at.old)) report.new (held line.new) }
-    ensures sound { result < 3 → Sound line.new }
+    ensures sound { result < BAD_STATE → Sound line.new }
 {
     if !line.words.are_sound() {
         return BAD_STATE;
@@ -80,17 +81,17 @@ pub(crate) fn feed_octet(
     report: &mut Port1Report,
 ) -> u32
     requires start { at.old ≡ 0 }
-    ensures status { (result ≡ 0) ⊎ (result ≡ 2) ⊎ (result ≡ 3) }
-    ensures state { Sound line.old → result ≢ 3 }
-    ensures refused { result < 3 → Sound line.old }
-    ensures kept { result ≡ 3 → (line.new ≡ line.old) × (at.new ≡ at.old) × (report.new ≡ report.old) }
+    ensures status { (result ≡ OK) ⊎ (result ≡ PLACE_LIMIT) ⊎ (result ≡ BAD_STATE) }
+    ensures state { Sound line.old → result ≢ BAD_STATE }
+    ensures refused { result < BAD_STATE → Sound line.old }
+    ensures kept { result ≡ BAD_STATE → (line.new ≡ line.old) × (at.new ≡ at.old) × (report.new ≡ report.old) }
     ensures bound { at.new ≤ 8 }
-    ensures some { result < 3 → report.new.kind ≢ 0 → at.old < at.new }
-    ensures all { result ≡ 0 → report.new.kind ≡ 0 → at.new ≡ 8 }
-    ensures limit { result ≡ 2 → (report.new.kind ≡ 0) × (at.new < 8) × (line.new.words.place ≡ 2 ^ 60) }
-    ensures coded { result < 3 → IsCoded report.new }
-    ensures advances { result < 3 → Advances (held line.old) (bits_of at.new octet) report.new (held line.new) }
-    ensures sound { result < 3 → Sound line.new }
+    ensures some { result < BAD_STATE → report.new.kind ≢ 0 → at.old < at.new }
+    ensures all { result ≡ OK → report.new.kind ≡ 0 → at.new ≡ 8 }
+    ensures limit { result ≡ PLACE_LIMIT → (report.new.kind ≡ 0) × (at.new < 8) × (line.new.words.place ≡ 2 ^ 60) }
+    ensures coded { result < BAD_STATE → IsCoded report.new }
+    ensures advances { result < BAD_STATE → Advances (held line.old) (bits_of at.new octet) report.new (held line.new) }
+    ensures sound { result < BAD_STATE → Sound line.new }
 {
     if !line.words.are_sound() {
         return BAD_STATE;

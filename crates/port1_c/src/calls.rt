@@ -7,6 +7,7 @@ ghost use Rattle.bus_line.specs.Due.{begun};
 ghost use Rattle.bus_bits.specs.Bits.{bits_from};
 ghost use Rattle.port1_c.specs.Bits.{high_first};
 ghost use Rattle.port1_c.specs.Line.{Sound, Stands, bit_of, first_in, frame, Goes, IsCoded, reports_of, told};
+ghost use Rattle.port1_c.specs.declared.status.TheConstants.{OK, BAD_LENGTH, PLACE_LIMIT, BAD_STATE, BAD_ARGUMENT};
 
 use crate::bits;
 use crate::line::Port1Line;
@@ -20,14 +21,14 @@ use bus_line::{LineFault, LineWords};
 /// it is not OK, nothing has changed.
 #[unsafe(no_mangle)]
 pub extern "C" fn port1_line_init(line: &mut Port1Line, longest: u64, origin: u64) -> u32
-    ensures longest { (result ≡ 1) ↔ ((longest < 3) ⊎ (256 < longest)) }
-    ensures origin { (result ≡ 2) ↔ ((3 ≤ longest) × (longest ≤ 256) × (2 ^ 60 < origin)) }
-    ensures status { result ≤ 2 }
-    ensures sound { result ≡ 0 → Sound line.new }
-    ensures stands { result ≡ 0 → Stands line.new [] }
-    ensures given { result ≡ 0 → (line.new.words.longest ≡ longest) × (line.new.words.origin ≡ origin)
+    ensures longest { (result ≡ BAD_LENGTH) ↔ ((longest < 3) ⊎ (256 < longest)) }
+    ensures origin { (result ≡ PLACE_LIMIT) ↔ ((3 ≤ longest) × (longest ≤ 256) × (2 ^ 60 < origin)) }
+    ensures status { result ≤ PLACE_LIMIT }
+    ensures sound { result ≡ OK → Sound line.new }
+    ensures stands { result ≡ OK → Stands line.new [] }
+    ensures given { result ≡ OK → (line.new.words.longest ≡ longest) × (line.new.words.origin ≡ origin)
         × (line.new.words.place ≡ origin) }
-    ensures kept { result ≢ 0 → line.new ≡ line.old }
+    ensures kept { result ≢ OK → line.new ≡ line.old }
 {
     match LineWords::new(longest as usize, origin) {
         Ok(words) => {
@@ -46,16 +47,16 @@ pub extern "C" fn port1_line_init(line: &mut Port1Line, longest: u64, origin: u6
 /// where it is not OK, nothing has changed.
 #[unsafe(no_mangle)]
 pub extern "C" fn port1_line_push(line: &mut Port1Line, bit: u8, report: &mut Port1Report) -> u32
-    ensures status { (result ≡ 0) ⊎ (result ≡ 2) ⊎ (result ≡ 3) }
-    ensures limit { Sound line.old → (result ≡ 2 ↔ 2 ^ 60 ≤ line.old.words.place) }
-    ensures state { Sound line.old → result ≢ 3 }
-    ensures refused { result ≢ 3 → Sound line.old }
-    ensures kept { result ≢ 0 → (line.new ≡ line.old) × (report.new ≡ report.old) }
-    ensures sound { result ≡ 0 → Sound line.new }
-    ensures coded { result ≡ 0 → IsCoded report.new }
-    ensures goes { result ≡ 0 → Goes line.old 1 line.new }
-    ensures stands { result ≡ 0 → (b : List Bool) → Stands line.old b → Stands line.new (b ++ bit_of bit ∷ []) }
-    ensures told { result ≡ 0 → (b : List Bool) → Stands line.old b →
+    ensures status { (result ≡ OK) ⊎ (result ≡ PLACE_LIMIT) ⊎ (result ≡ BAD_STATE) }
+    ensures limit { Sound line.old → (result ≡ PLACE_LIMIT ↔ 2 ^ 60 ≤ line.old.words.place) }
+    ensures state { Sound line.old → result ≢ BAD_STATE }
+    ensures refused { result ≢ BAD_STATE → Sound line.old }
+    ensures kept { result ≢ OK → (line.new ≡ line.old) × (report.new ≡ report.old) }
+    ensures sound { result ≡ OK → Sound line.new }
+    ensures coded { result ≡ OK → IsCoded report.new }
+    ensures goes { result ≡ OK → Goes line.old 1 line.new }
+    ensures stands { result ≡ OK → (b : List Bool) → Stands line.old b → Stands line.new (b ++ bit_of bit ∷ []) }
+    ensures told { result ≡ OK → (b : List Bool) → Stands line.old b →
         reports_of line.new (b ++ bit_of bit ∷ []) ≡ reports_of line.old b
         ++ option_to_list (told report.new (frame line.new)) }
 {
@@ -93,24 +94,24 @@ pub extern "C" fn port1_line_feed(
     end: usize,
     report: &mut Port1Report,
 ) -> u32
-    ensures argument { (result ≡ 4) ↔ ((8 * length octets.now < end) ⊎ (end < at.old)) }
-    ensures status { (result ≡ 0) ⊎ (result ≡ 2) ⊎ (result ≡ 3) ⊎ (result ≡ 4) }
-    ensures state { Sound line.old → result ≢ 3 }
-    ensures refused { result < 3 → Sound line.old }
-    ensures kept { 3 ≤ result → (line.new ≡ line.old) × (at.new ≡ at.old) × (report.new ≡ report.old) }
-    ensures sound { result < 3 → Sound line.new }
-    ensures coded { result < 3 → IsCoded report.new }
-    ensures goes { result < 3 → Goes line.old (at.new - at.old) line.new }
-    ensures bound { result < 3 → (at.old ≤ at.new) × (at.new ≤ end) }
-    ensures some { result < 3 → report.new.kind ≢ 0 → at.old < at.new }
-    ensures all { result ≡ 0 → report.new.kind ≡ 0 → at.new ≡ end }
-    ensures limit { result ≡ 2 → (report.new.kind ≡ 0) × (at.new < end) × (line.new.words.place ≡ 2 ^ 60) }
-    ensures stands { result < 3 → (b : List Bool) → Stands line.old b →
+    ensures argument { (result ≡ BAD_ARGUMENT) ↔ ((8 * length octets.now < end) ⊎ (end < at.old)) }
+    ensures status { (result ≡ OK) ⊎ (result ≡ PLACE_LIMIT) ⊎ (result ≡ BAD_STATE) ⊎ (result ≡ BAD_ARGUMENT) }
+    ensures state { Sound line.old → result ≢ BAD_STATE }
+    ensures refused { result < BAD_STATE → Sound line.old }
+    ensures kept { BAD_STATE ≤ result → (line.new ≡ line.old) × (at.new ≡ at.old) × (report.new ≡ report.old) }
+    ensures sound { result < BAD_STATE → Sound line.new }
+    ensures coded { result < BAD_STATE → IsCoded report.new }
+    ensures goes { result < BAD_STATE → Goes line.old (at.new - at.old) line.new }
+    ensures bound { result < BAD_STATE → (at.old ≤ at.new) × (at.new ≤ end) }
+    ensures some { result < BAD_STATE → report.new.kind ≢ 0 → at.old < at.new }
+    ensures all { result ≡ OK → report.new.kind ≡ 0 → at.new ≡ end }
+    ensures limit { result ≡ PLACE_LIMIT → (report.new.kind ≡ 0) × (at.new < end) × (line.new.words.place ≡ 2 ^ 60) }
+    ensures stands { result < BAD_STATE → (b : List Bool) → Stands line.old b →
         Stands line.new (b ++ bits_from octets.now at.old (at.new - at.old)) }
-    ensures told { result < 3 → (b : List Bool) → Stands line.old b →
+    ensures told { result < BAD_STATE → (b : List Bool) → Stands line.old b →
         reports_of line.new (b ++ bits_from octets.now at.old (at.new - at.old)) ≡ reports_of line.old b
         ++ option_to_list (told report.new (frame line.new)) }
-    ensures last { result < 3 → report.new.kind ≢ 0 → (b : List Bool) → Stands line.old b →
+    ensures last { result < BAD_STATE → report.new.kind ≢ 0 → (b : List Bool) → Stands line.old b →
         reports_of line.old (b ++ bits_from octets.now at.old (at.new - at.old - 1)) ≡ reports_of line.old b }
 {
     if bits::are_octet(octets, *at, end) {
@@ -133,24 +134,24 @@ pub extern "C" fn port1_line_feed_high_first(
     at: &mut usize,
     report: &mut Port1Report,
 ) -> u32
-    ensures argument { (result ≡ 4) ↔ (8 < at.old) }
-    ensures status { (result ≡ 0) ⊎ (result ≡ 2) ⊎ (result ≡ 3) ⊎ (result ≡ 4) }
-    ensures state { Sound line.old → result ≢ 3 }
-    ensures refused { result < 3 → Sound line.old }
-    ensures kept { 3 ≤ result → (line.new ≡ line.old) × (at.new ≡ at.old) × (report.new ≡ report.old) }
-    ensures sound { result < 3 → Sound line.new }
-    ensures coded { result < 3 → IsCoded report.new }
-    ensures goes { result < 3 → Goes line.old (at.new - at.old) line.new }
-    ensures bound { result < 3 → (at.old ≤ at.new) × (at.new ≤ 8) }
-    ensures some { result < 3 → report.new.kind ≢ 0 → at.old < at.new }
-    ensures all { result ≡ 0 → report.new.kind ≡ 0 → at.new ≡ 8 }
-    ensures limit { result ≡ 2 → (report.new.kind ≡ 0) × (at.new < 8) × (line.new.words.place ≡ 2 ^ 60) }
-    ensures stands { result < 3 → (b : List Bool) → Stands line.old b →
+    ensures argument { (result ≡ BAD_ARGUMENT) ↔ (8 < at.old) }
+    ensures status { (result ≡ OK) ⊎ (result ≡ PLACE_LIMIT) ⊎ (result ≡ BAD_STATE) ⊎ (result ≡ BAD_ARGUMENT) }
+    ensures state { Sound line.old → result ≢ BAD_STATE }
+    ensures refused { result < BAD_STATE → Sound line.old }
+    ensures kept { BAD_STATE ≤ result → (line.new ≡ line.old) × (at.new ≡ at.old) × (report.new ≡ report.old) }
+    ensures sound { result < BAD_STATE → Sound line.new }
+    ensures coded { result < BAD_STATE → IsCoded report.new }
+    ensures goes { result < BAD_STATE → Goes line.old (at.new - at.old) line.new }
+    ensures bound { result < BAD_STATE → (at.old ≤ at.new) × (at.new ≤ 8) }
+    ensures some { result < BAD_STATE → report.new.kind ≢ 0 → at.old < at.new }
+    ensures all { result ≡ OK → report.new.kind ≡ 0 → at.new ≡ 8 }
+    ensures limit { result ≡ PLACE_LIMIT → (report.new.kind ≡ 0) × (at.new < 8) × (line.new.words.place ≡ 2 ^ 60) }
+    ensures stands { result < BAD_STATE → (b : List Bool) → Stands line.old b →
         Stands line.new (b ++ high_first octet at.old (at.new - at.old)) }
-    ensures told { result < 3 → (b : List Bool) → Stands line.old b →
+    ensures told { result < BAD_STATE → (b : List Bool) → Stands line.old b →
         reports_of line.new (b ++ high_first octet at.old (at.new - at.old)) ≡ reports_of line.old b
         ++ option_to_list (told report.new (frame line.new)) }
-    ensures last { result < 3 → report.new.kind ≢ 0 → (b : List Bool) → Stands line.old b →
+    ensures last { result < BAD_STATE → report.new.kind ≢ 0 → (b : List Bool) → Stands line.old b →
         reports_of line.old (b ++ high_first octet at.old (at.new - at.old - 1)) ≡ reports_of line.old b }
 {
     if *at == 0 {
@@ -168,13 +169,13 @@ pub extern "C" fn port1_line_feed_high_first(
 /// Returns OK, or BAD_STATE where the memory holds no decoder; nothing has changed then.
 #[unsafe(no_mangle)]
 pub extern "C" fn port1_line_open(line: &Port1Line, has_begun: &mut u8, first: &mut u64) -> u32
-    ensures status { (result ≡ 0) ⊎ (result ≡ 3) }
-    ensures state { Sound line.now → result ≢ 3 }
-    ensures refused { result ≢ 3 → Sound line.now }
-    ensures kept { result ≢ 0 → (has_begun.new ≡ has_begun.old) × (first.new ≡ first.old) }
-    ensures flag { result ≡ 0 → has_begun.new ≤ 1 }
-    ensures untouched { result ≡ 0 → has_begun.new ≡ 0 → first.new ≡ first.old }
-    ensures begun { result ≡ 0 → (b : List Bool) → Stands line.now b →
+    ensures status { (result ≡ OK) ⊎ (result ≡ BAD_STATE) }
+    ensures state { Sound line.now → result ≢ BAD_STATE }
+    ensures refused { result ≢ BAD_STATE → Sound line.now }
+    ensures kept { result ≢ OK → (has_begun.new ≡ has_begun.old) × (first.new ≡ first.old) }
+    ensures flag { result ≡ OK → has_begun.new ≤ 1 }
+    ensures untouched { result ≡ OK → has_begun.new ≡ 0 → first.new ≡ first.old }
+    ensures begun { result ≡ OK → (b : List Bool) → Stands line.now b →
         first_in has_begun.new first.new ≡ option_map (λ first. line.now.words.origin + first) (begun b) }
 {
     if !line.words.are_sound() {

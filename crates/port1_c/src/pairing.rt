@@ -4,6 +4,7 @@ ghost use Rattle.std.specs.Prelude.{◌≡◌, ◌≢◌, ◌<◌, ◌↔◌, �
 ghost use Rattle.bus_watch.specs.Heard.{Heard};
 ghost use Rattle.bus_watch.specs.Seen.{seen_of};
 ghost use Rattle.port1_c.specs.Pair.{IsCodedSeen, IsReport, Waits, entries_of, fresh, heard_in, line_in, seen_in};
+ghost use Rattle.port1_c.specs.declared.status.TheConstants.{OK, BAD_ARGUMENT};
 
 use crate::entry::{Port1Entry, Table};
 use crate::pair::Port1Pair;
@@ -28,7 +29,7 @@ fn line_of(number: u32) -> Option<Option<Line>>
 /// Makes a pairing of no reports, whatever the memory holds. Returns OK.
 #[unsafe(no_mangle)]
 pub extern "C" fn port1_pair_init(pair: &mut Port1Pair) -> u32
-    ensures status { result ≡ 0 }
+    ensures status { result ≡ OK }
     ensures value { pair.new ≡ fresh }
     ensures waits { (entries : List Port1Entry) → Waits pair.new entries [] }
 {
@@ -49,13 +50,13 @@ pub extern "C" fn port1_pair_take(
     octets: &[u8],
     seen: &mut Port1Seen,
 ) -> u32
-    ensures status { (result ≡ 0) ⊎ (result ≡ 4) }
-    ensures taken { result ≡ 0 ↔ (line < 3) × IsReport report.now octets.now }
-    ensures kept { result ≢ 0 → (pair.new ≡ pair.old) × (seen.new ≡ seen.old) }
-    ensures coded { result ≡ 0 → IsCodedSeen seen.new }
-    ensures waits { result ≡ 0 → (hs : List Heard) → Waits pair.old entries.now hs →
+    ensures status { (result ≡ OK) ⊎ (result ≡ BAD_ARGUMENT) }
+    ensures taken { result ≡ OK ↔ (line < 3) × IsReport report.now octets.now }
+    ensures kept { result ≢ OK → (pair.new ≡ pair.old) × (seen.new ≡ seen.old) }
+    ensures coded { result ≡ OK → IsCodedSeen seen.new }
+    ensures waits { result ≡ OK → (hs : List Heard) → Waits pair.old entries.now hs →
         Waits pair.new entries.now (hs ++ heard_in line report.now octets.now ∷ []) }
-    ensures says { result ≡ 0 → (hs : List Heard) → Waits pair.old entries.now hs →
+    ensures says { result ≡ OK → (hs : List Heard) → Waits pair.old entries.now hs →
         seen_in seen.new (heard_in line report.now octets.now)
         ≡ seen_of (entries_of 0 entries.now) hs (heard_in line report.now octets.now) }
 {

@@ -5,6 +5,7 @@ ghost use Rattle.bus_line.specs.Line.{Call, gain};
 ghost use Rattle.bus_bits.specs.Bits.{bits_from};
 ghost use Rattle.port1_c.specs.Bits.{Puts};
 ghost use Rattle.port1_c.specs.Send.{Follows, Gains, GainsAll, idles};
+ghost use Rattle.port1_c.specs.declared.status.TheConstants.{OK, BAD_LENGTH, BAD_STATE, BAD_ARGUMENT, NO_ROOM};
 
 use crate::call_bits::frame_bits;
 use crate::put::put_bits;
@@ -23,12 +24,12 @@ fn put(
     requires order { first ≤ end }
     requires within { end ≤ 8 * length source.now }
     requires begin { at.old ≤ 8 * length octets.old }
-    ensures status { (result ≡ 0) ⊎ (result ≡ 5) }
+    ensures status { (result ≡ OK) ⊎ (result ≡ NO_ROOM) }
     ensures told { bits.new ≡ end - first }
-    ensures room { result ≡ 5 ↔ ((8 * length octets.old < at.old + bits.new) ⊎ (2 ^ 64 ≤ at.old + bits.new)) }
-    ensures kept { result ≢ 0 → (octets.new ≡ octets.old) × (at.new ≡ at.old) }
-    ensures at { result ≡ 0 → at.new ≡ at.old + bits.new }
-    ensures puts { result ≡ 0 → Puts octets.old at.old (bits_from source.now first (end - first)) octets.new }
+    ensures room { result ≡ NO_ROOM ↔ ((8 * length octets.old < at.old + bits.new) ⊎ (2 ^ 64 ≤ at.old + bits.new)) }
+    ensures kept { result ≢ OK → (octets.new ≡ octets.old) × (at.new ≡ at.old) }
+    ensures at { result ≡ OK → at.new ≡ at.old + bits.new }
+    ensures puts { result ≡ OK → Puts octets.old at.old (bits_from source.now first (end - first)) octets.new }
 {
     *bits = end - first;
     if octets.len().saturating_mul(8) - *at < *bits {
@@ -51,7 +52,7 @@ fn first_bit(sender: &Port1Sender) -> usize
 /// Makes a sender that sent nothing yet. Returns OK.
 #[unsafe(no_mangle)]
 pub extern "C" fn port1_sender_init(sender: &mut Port1Sender) -> u32
-    ensures status { result ≡ 0 }
+    ensures status { result ≡ OK }
     ensures follows { Follows sender.new [] }
 {
     sender.behind_flag = 0;
@@ -69,18 +70,18 @@ pub extern "C" fn port1_send_flag(
     at: &mut usize,
     bits: &mut usize,
 ) -> u32
-    ensures status { (result ≡ 0) ⊎ (result ≡ 3) ⊎ (result ≡ 4) ⊎ (result ≡ 5) }
-    ensures argument { (result ≡ 4) ↔ (8 * length octets.old < at.old) }
-    ensures state { (result ≡ 3) ↔ ((at.old ≤ 8 * length octets.old) × (1 < sender.old.behind_flag)) }
-    ensures room { (result ≡ 0) ⊎ (result ≡ 5) → (result ≡ 5
+    ensures status { (result ≡ OK) ⊎ (result ≡ BAD_STATE) ⊎ (result ≡ BAD_ARGUMENT) ⊎ (result ≡ NO_ROOM) }
+    ensures argument { (result ≡ BAD_ARGUMENT) ↔ (8 * length octets.old < at.old) }
+    ensures state { (result ≡ BAD_STATE) ↔ ((at.old ≤ 8 * length octets.old) × (1 < sender.old.behind_flag)) }
+    ensures room { (result ≡ OK) ⊎ (result ≡ NO_ROOM) → (result ≡ NO_ROOM
         ↔ ((8 * length octets.old < at.old + bits.new) ⊎ (2 ^ 64 ≤ at.old + bits.new))) }
-    ensures kept { result ≢ 0 → (sender.new ≡ sender.old) × (octets.new ≡ octets.old) × (at.new ≡ at.old) }
-    ensures untold { (result ≡ 3) ⊎ (result ≡ 4) → bits.new ≡ bits.old }
-    ensures told { (result ≡ 0) ⊎ (result ≡ 5) → (calls : List Call) → Follows sender.old calls →
+    ensures kept { result ≢ OK → (sender.new ≡ sender.old) × (octets.new ≡ octets.old) × (at.new ≡ at.old) }
+    ensures untold { (result ≡ BAD_STATE) ⊎ (result ≡ BAD_ARGUMENT) → bits.new ≡ bits.old }
+    ensures told { (result ≡ OK) ⊎ (result ≡ NO_ROOM) → (calls : List Call) → Follows sender.old calls →
         bits.new ≡ length (gain calls Call.Flag) }
-    ensures at { result ≡ 0 → at.new ≡ at.old + bits.new }
-    ensures gains { result ≡ 0 → Gains sender.old octets.old at.old Call.Flag octets.new }
-    ensures follows { result ≡ 0 → (calls : List Call) → Follows sender.old calls →
+    ensures at { result ≡ OK → at.new ≡ at.old + bits.new }
+    ensures gains { result ≡ OK → Gains sender.old octets.old at.old Call.Flag octets.new }
+    ensures follows { result ≡ OK → (calls : List Call) → Follows sender.old calls →
         Follows sender.new (calls ++ Call.Flag ∷ []) }
 {
     if *at > octets.len().saturating_mul(8) {
@@ -105,18 +106,18 @@ pub extern "C" fn port1_send_idle(
     at: &mut usize,
     bits: &mut usize,
 ) -> u32
-    ensures status { (result ≡ 0) ⊎ (result ≡ 3) ⊎ (result ≡ 4) ⊎ (result ≡ 5) }
-    ensures argument { (result ≡ 4) ↔ (8 * length octets.old < at.old) }
-    ensures state { (result ≡ 3) ↔ ((at.old ≤ 8 * length octets.old) × (1 < sender.old.behind_flag)) }
-    ensures room { (result ≡ 0) ⊎ (result ≡ 5) → (result ≡ 5
+    ensures status { (result ≡ OK) ⊎ (result ≡ BAD_STATE) ⊎ (result ≡ BAD_ARGUMENT) ⊎ (result ≡ NO_ROOM) }
+    ensures argument { (result ≡ BAD_ARGUMENT) ↔ (8 * length octets.old < at.old) }
+    ensures state { (result ≡ BAD_STATE) ↔ ((at.old ≤ 8 * length octets.old) × (1 < sender.old.behind_flag)) }
+    ensures room { (result ≡ OK) ⊎ (result ≡ NO_ROOM) → (result ≡ NO_ROOM
         ↔ ((8 * length octets.old < at.old + bits.new) ⊎ (2 ^ 64 ≤ at.old + bits.new))) }
-    ensures kept { result ≢ 0 → (sender.new ≡ sender.old) × (octets.new ≡ octets.old) × (at.new ≡ at.old) }
-    ensures untold { (result ≡ 3) ⊎ (result ≡ 4) → bits.new ≡ bits.old }
-    ensures told { (result ≡ 0) ⊎ (result ≡ 5) → (calls : List Call) → Follows sender.old calls →
+    ensures kept { result ≢ OK → (sender.new ≡ sender.old) × (octets.new ≡ octets.old) × (at.new ≡ at.old) }
+    ensures untold { (result ≡ BAD_STATE) ⊎ (result ≡ BAD_ARGUMENT) → bits.new ≡ bits.old }
+    ensures told { (result ≡ OK) ⊎ (result ≡ NO_ROOM) → (calls : List Call) → Follows sender.old calls →
         bits.new ≡ length (gain calls Call.Idle) }
-    ensures at { result ≡ 0 → at.new ≡ at.old + bits.new }
-    ensures gains { result ≡ 0 → Gains sender.old octets.old at.old Call.Idle octets.new }
-    ensures follows { result ≡ 0 → (calls : List Call) → Follows sender.old calls →
+    ensures at { result ≡ OK → at.new ≡ at.old + bits.new }
+    ensures gains { result ≡ OK → Gains sender.old octets.old at.old Call.Idle octets.new }
+    ensures follows { result ≡ OK → (calls : List Call) → Follows sender.old calls →
         Follows sender.new (calls ++ Call.Idle ∷ []) }
 {
     if *at > octets.len().saturating_mul(8) {
@@ -142,18 +143,18 @@ pub extern "C" fn port1_send_align(
     at: &mut usize,
     bits: &mut usize,
 ) -> u32
-    ensures status { (result ≡ 0) ⊎ (result ≡ 3) ⊎ (result ≡ 4) ⊎ (result ≡ 5) }
-    ensures argument { (result ≡ 4) ↔ (8 * length octets.old < at.old) }
-    ensures state { (result ≡ 3) ↔ ((at.old ≤ 8 * length octets.old) × (1 < sender.old.behind_flag)) }
-    ensures room { (result ≡ 0) ⊎ (result ≡ 5) → (result ≡ 5
+    ensures status { (result ≡ OK) ⊎ (result ≡ BAD_STATE) ⊎ (result ≡ BAD_ARGUMENT) ⊎ (result ≡ NO_ROOM) }
+    ensures argument { (result ≡ BAD_ARGUMENT) ↔ (8 * length octets.old < at.old) }
+    ensures state { (result ≡ BAD_STATE) ↔ ((at.old ≤ 8 * length octets.old) × (1 < sender.old.behind_flag)) }
+    ensures room { (result ≡ OK) ⊎ (result ≡ NO_ROOM) → (result ≡ NO_ROOM
         ↔ ((8 * length octets.old < at.old + bits.new) ⊎ (2 ^ 64 ≤ at.old + bits.new))) }
-    ensures kept { result ≢ 0 → (sender.new ≡ sender.old) × (octets.new ≡ octets.old) × (at.new ≡ at.old) }
-    ensures untold { (result ≡ 3) ⊎ (result ≡ 4) → bits.new ≡ bits.old }
-    ensures told { (result ≡ 0) ⊎ (result ≡ 5) → bits.new ≡ 15 * (at.old % 8) }
-    ensures at { result ≡ 0 → at.new ≡ at.old + bits.new }
-    ensures aligned { result ≡ 0 → at.new % 8 ≡ 0 }
-    ensures gains { result ≡ 0 → GainsAll sender.old octets.old at.old (idles (at.old % 8)) octets.new }
-    ensures follows { result ≡ 0 → (calls : List Call) → Follows sender.old calls →
+    ensures kept { result ≢ OK → (sender.new ≡ sender.old) × (octets.new ≡ octets.old) × (at.new ≡ at.old) }
+    ensures untold { (result ≡ BAD_STATE) ⊎ (result ≡ BAD_ARGUMENT) → bits.new ≡ bits.old }
+    ensures told { (result ≡ OK) ⊎ (result ≡ NO_ROOM) → bits.new ≡ 15 * (at.old % 8) }
+    ensures at { result ≡ OK → at.new ≡ at.old + bits.new }
+    ensures aligned { result ≡ OK → at.new % 8 ≡ 0 }
+    ensures gains { result ≡ OK → GainsAll sender.old octets.old at.old (idles (at.old % 8)) octets.new }
+    ensures follows { result ≡ OK → (calls : List Call) → Follows sender.old calls →
         Follows sender.new (calls ++ idles (at.old % 8)) }
 {
     if *at > octets.len().saturating_mul(8) {
@@ -181,20 +182,21 @@ pub extern "C" fn port1_send_frame(
     at: &mut usize,
     bits: &mut usize,
 ) -> u32
-    ensures status { (result ≡ 0) ⊎ (result ≡ 1) ⊎ (result ≡ 3) ⊎ (result ≡ 4) ⊎ (result ≡ 5) }
-    ensures argument { (result ≡ 4) ↔ (8 * length octets.old < at.old) }
-    ensures state { (result ≡ 3) ↔ ((at.old ≤ 8 * length octets.old) × (1 < sender.old.behind_flag)) }
-    ensures range { (result ≡ 1) ↔ ((at.old ≤ 8 * length octets.old) × (sender.old.behind_flag ≤ 1)
+    ensures status { (result ≡ OK) ⊎ (result ≡ BAD_LENGTH) ⊎ (result ≡ BAD_STATE) ⊎ (result ≡ BAD_ARGUMENT)
+        ⊎ (result ≡ NO_ROOM) }
+    ensures argument { (result ≡ BAD_ARGUMENT) ↔ (8 * length octets.old < at.old) }
+    ensures state { (result ≡ BAD_STATE) ↔ ((at.old ≤ 8 * length octets.old) × (1 < sender.old.behind_flag)) }
+    ensures range { (result ≡ BAD_LENGTH) ↔ ((at.old ≤ 8 * length octets.old) × (sender.old.behind_flag ≤ 1)
         × ((length frame.now < 2) ⊎ (256 < length frame.now))) }
-    ensures room { (result ≡ 0) ⊎ (result ≡ 5) → (result ≡ 5
+    ensures room { (result ≡ OK) ⊎ (result ≡ NO_ROOM) → (result ≡ NO_ROOM
         ↔ ((8 * length octets.old < at.old + bits.new) ⊎ (2 ^ 64 ≤ at.old + bits.new))) }
-    ensures kept { result ≢ 0 → (sender.new ≡ sender.old) × (octets.new ≡ octets.old) × (at.new ≡ at.old) }
-    ensures untold { (result ≡ 1) ⊎ (result ≡ 3) ⊎ (result ≡ 4) → bits.new ≡ bits.old }
-    ensures told { (result ≡ 0) ⊎ (result ≡ 5) → (calls : List Call) → Follows sender.old calls →
+    ensures kept { result ≢ OK → (sender.new ≡ sender.old) × (octets.new ≡ octets.old) × (at.new ≡ at.old) }
+    ensures untold { (result ≡ BAD_LENGTH) ⊎ (result ≡ BAD_STATE) ⊎ (result ≡ BAD_ARGUMENT) → bits.new ≡ bits.old }
+    ensures told { (result ≡ OK) ⊎ (result ≡ NO_ROOM) → (calls : List Call) → Follows sender.old calls →
         bits.new ≡ length (gain calls (Call.Frame frame.now)) }
-    ensures at { result ≡ 0 → at.new ≡ at.old + bits.new }
-    ensures gains { result ≡ 0 → Gains sender.old octets.old at.old (Call.Frame frame.now) octets.new }
-    ensures follows { result ≡ 0 → (calls : List Call) → Follows sender.old calls →
+    ensures at { result ≡ OK → at.new ≡ at.old + bits.new }
+    ensures gains { result ≡ OK → Gains sender.old octets.old at.old (Call.Frame frame.now) octets.new }
+    ensures follows { result ≡ OK → (calls : List Call) → Follows sender.old calls →
         Follows sender.new (calls ++ (Call.Frame frame.now) ∷ []) }
 {
     if *at > octets.len().saturating_mul(8) {
