@@ -13,7 +13,8 @@
 #     make install-library TARGET=aarch64-unknown-linux-gnu    the same for another of contrib/mcu/build's targets
 #     make uninstall PREFIX=$HOME/.local
 #     make dist GATE=FILE TOOLCHAIN=FILE MAINTAINER='NAME <ADDRESS>'
-#                                       packs what was built last into dist: a tarball and Debian packages;
+#                                       packs what was built last into dist: a tarball and Debian packages, the
+#                                       library for 64-bit ARM too, where that TARGET was built;
 #                                       `packages/dist --help` says what these variables are
 #
 # PREFIX is /usr/local unless given. DESTDIR stands before it, for packages. The installing targets build only what

@@ -1,21 +1,32 @@
-"""The packages of `make dist` at work: what lintian says of them; the tarball, unpacked; and the Debian packages,
-installed, used and taken away again in a copy of this system."""
+"""The packages of `make dist` at work: what lintian says of them; the tarball, unpacked; the Debian packages,
+installed, used and taken away again in a copy of this system; and the library for 64-bit ARM under an emulator."""
 
 import os
+import random
 import re
 import subprocess
 from pathlib import Path
-from typing import List, NamedTuple
+from typing import Dict, Iterator, List, NamedTuple, Sequence, Tuple
 
 from tests import installing
-from tests.case import ONE_CALL, SECONDS, Run, Skipped, Test, Word, needs
-from tests.packages import ARCHIVE, ONE_FRAME, told, unlike
-from tests.releasing import packages, tarball, version
+from tests.case import ONE_CALL, SECONDS, TOP, Run, Skipped, Test, Word, needs, packed
+from tests.packages import ARCHIVE, ONE_FRAME, captures, orders, told, unlike
+from tests.releasing import LIBRARY_FOR_ARM, packages, tarball, version
 
 RUNS: List[Run] = []
 
 # The errors of lintian that stand: nobody has chosen a licence yet, so no package has a file of one.
 ERRORS_THAT_STAND = ["no-copyright-file"]
+
+ARCHIVE_FOR_ARM = TOP / LIBRARY_FOR_ARM
+
+# What Debian's cross compiler for 64-bit ARM is called, and where Debian has the C library that its programs need.
+COMPILER_FOR_ARM, SYSTEM_OF_ARM = "aarch64-linux-gnu-gcc", Path("/usr/aarch64-linux-gnu")
+
+# Runs such a program here.
+EMULATED = ["qemu-aarch64", "-L", str(SYSTEM_OF_ARM)]
+
+LOADER_OF_ARM = SYSTEM_OF_ARM / "lib" / "ld-linux-aarch64.so.1"
 
 # What dpkg and its triggers write, and nothing of a package.
 OF_DPKG = re.compile(r"\./(etc/ld\.so\.cache~?|(var/(cache|lib/apt|lib/dpkg|log)|run|tmp)(/.*)?)")
@@ -40,32 +51,44 @@ echo "== left"
 find . ! -type d -print -o ! -exec test -d '/{}' ';' -print
 """
 
-# The settings of a system may leave documents out, which are wanted here.
 USE = """cd /packages
 quietly() {
     "$@" > log 2>&1 < /dev/null || { cat log; exit 1; }
 }
 apt='apt-get -y --no-install-recommends -o APT::Sandbox::User=root -o Dpkg::Use-Pty=0'
-quietly $apt -o DPkg::Options::=--path-include='/usr/share/*' install ./port1.deb ./libport1-dev.deb
-PARTS
-quietly $apt purge port1 libport1-dev
-cd /
-rm -r /packages
 """
+
+# The settings of a system may leave documents out, which are wanted here.
+INSTALL = "quietly $apt -o DPkg::Options::=--path-include='/usr/share/*' install ./*_amd64.deb"
+
+PURGE = "quietly $apt purge port1 libport1-dev"
+
+# Here is no C library for 64-bit ARM that is a package of that architecture, and nothing is fetched.
+INSTALL_BOTH = """dpkg --add-architecture arm64
+quietly dpkg --force-depends --path-include='/usr/share/*' -i ./*.deb"""
+
+PURGE_BOTH = "quietly dpkg --purge libport1-dev:amd64 libport1-dev:arm64\ndpkg --remove-architecture arm64"
 
 
 class Use(NamedTuple):
-    """A command for the shell, what it writes, and what it needs."""
+    """A command for the shell, what it writes, and the programs and files that it needs."""
 
     command: str
     writes: str
     needs: str = ""
 
 
+EXAMPLE = "/usr/share/doc/libport1-dev/examples/c/list.c"
+
+
+def listed_by(archive: Path) -> str:
+    """What examples/c/list.c writes of one call: a stand-in for the library refuses all."""
+    return ONE_FRAME if archive.is_file() else "status 2\n"
+
+
 def uses() -> List[Use]:
-    """What is done with the installed packages. A stand-in for the library refuses all."""
-    example = "/usr/share/doc/libport1-dev/examples/c/list.c"
-    frame = ONE_FRAME if ARCHIVE.is_file() else "status 2\n"
+    """What is done with the installed packages."""
+    frame = listed_by(ARCHIVE)
     module = "from port1 import LineDecoder; print(*LineDecoder().feed(open('one.ts2', 'rb').read()[16:], 57))"
     rows = [
         Use("port1 --version", f"port1 {version()}\n"),
@@ -84,16 +107,27 @@ def uses() -> List[Use]:
         Use("bus-summary --help | sed -n 's/ .*//p;q'", "usage:\n"),
         Use("cd /usr/share/port1; contrib/list-in-parts examples/one-call.ts2", ONE_FRAME),
         Use("pkg-config --modversion port1", f"{version()}\n", "pkg-config"),
-        Use(f"cc -o list {example} $(pkg-config --cflags --libs port1); ./list < one.ts2", frame, "pkg-config"),
-        Use(f"cc -o list {example} -lport1; ./list < one.ts2; ldd list | grep -c /libport1.so.2", f"{frame}1\n"),
+        Use(f"cc -o list {EXAMPLE} $(pkg-config --cflags --libs port1); ./list < one.ts2", frame, "pkg-config"),
+        Use(f"cc -o list {EXAMPLE} -lport1; ldd list | grep -c /libport1.so.2; ./list < one.ts2", f"1\n{frame}"),
     ]
     loaded = Use(f'PYTHONPATH=/usr/share/port1/contrib/python python3 -B -c "{module}"', ONE_FRAME)
     return [*rows, loaded] if ARCHIVE.is_file() else rows
 
 
-def is_there(tool: str) -> bool:
-    """Whether a program or file is where Debian puts it."""
-    return not tool or os.path.exists(tool if tool.startswith("/") else f"/usr/bin/{tool}")
+def uses_of_both() -> List[Use]:
+    """What is done with the library installed for both processors."""
+    given = f"-o list {EXAMPLE} -lport1_c"
+    tools = f"{COMPILER_FOR_ARM} {EMULATED[0]} {LOADER_OF_ARM}"
+    return [
+        Use("dpkg --verify libport1-dev:amd64 libport1-dev:arm64", ""),
+        Use(f"cc {given}; ./list < one.ts2", listed_by(ARCHIVE)),
+        Use(f"{COMPILER_FOR_ARM} {given}; {' '.join(EMULATED)} ./list < one.ts2", listed_by(ARCHIVE_FOR_ARM), tools),
+    ]
+
+
+def is_there(tools: str) -> bool:
+    """Whether programs and files are where Debian puts them."""
+    return all(os.path.exists(tool if tool.startswith("/") else f"/usr/bin/{tool}") for tool in tools.split())
 
 
 def lintian(_: Path) -> List[str]:
@@ -132,18 +166,18 @@ def needs_a_copy(folder: Path) -> None:
             raise Skipped(f"no package {package}")
 
 
-def installed_and_taken_away(folder: Path) -> List[str]:
-    """apt-get installs the packages, all that they have is found and runs, and nothing is left when they are purged."""
+def problems_of_uses(folder: Path, names: Sequence[str], install: str, rows: Sequence[Use], purge: str) -> List[str]:
+    """What goes wrong where packages are installed, used and purged in a copy of this system, and what is left then."""
     place, given = folder / "copy", folder / "given"
     place.mkdir()
     given.mkdir()
-    made, rows = packages(), [row for row in uses() if is_there(row.needs)]
+    made, rows = packages(), [row for row in rows if is_there(row.needs)]
     needs_a_copy(place)
-    for name in ("port1", "libport1-dev"):
-        (given / f"{name}.deb").write_bytes(made[f"{name}_amd64.deb"].read_bytes())
+    for name in names:
+        (given / name).write_bytes(made[name].read_bytes())
     (given / "one.ts2").write_bytes(ONE_CALL)
-    parts = [f"echo '== use'\n({row.command}) 2>&1 || echo status $?\n" for row in rows]
-    (given / "use").write_text(USE.replace("PARTS", "".join(parts)))
+    parts = "".join(f"echo '== use'\n({row.command}) 2>&1 || echo status $?\n" for row in rows)
+    (given / "use").write_text("\n".join([USE, install, parts, purge, "cd /", "rm -r /packages\n"]))
     ran = in_a_copy(RUN, place, given)
     if ran.returncode:
         return [f"status {ran.returncode}: {ran.stdout[-2000:]}{ran.stderr[-2000:]}"]
@@ -155,4 +189,69 @@ def installed_and_taken_away(folder: Path) -> List[str]:
     return problems + [f"left: {line}" for line in left]
 
 
-TESTS: List[Test] = [lintian, tarball_at_work, installed_and_taken_away]
+def installed_and_taken_away(folder: Path) -> List[str]:
+    """apt-get installs the packages, all that they have is found and runs, and nothing is left when they are purged."""
+    names = ["port1_amd64.deb", "libport1-dev_amd64.deb"]
+    return problems_of_uses(folder, names, INSTALL, uses(), PURGE)
+
+
+def installed_for_both(folder: Path) -> List[str]:
+    """The packages of the library for x86-64 and for 64-bit ARM stand beside one another in one system, each compiler
+    finds its own, and nothing is left of either."""
+    names = ["libport1-dev_amd64.deb", "libport1-dev_arm64.deb"]
+    return problems_of_uses(folder, names, INSTALL_BOTH, uses_of_both(), PURGE_BOTH)
+
+
+# ---- the library for 64-bit ARM
+
+
+def given_to_examples() -> Iterator[Tuple[str, Sequence[str], bytes]]:
+    """An example, its words, and what it reads."""
+    for bits in captures().values():
+        yield "list", ["7"], packed(bits)
+        yield "list", ["4096"], packed(bits)
+        yield "live", [], packed(bits)[16:]
+        yield "watch", ["0,0,16", "128,0", "9,0"], bits.encode()
+    yield "watch", ["0,0,16", "128,0", "9,0"], (TOP / "examples" / "in-time-late-missing.bits").read_bytes()
+    for seed in range(4):
+        yield "send", [], orders(random.Random(seed), 500).encode()
+
+
+def built_with(package: Path, compiler: str, folder: Path) -> Dict[str, Path]:
+    """The examples of a package of the library, unpacked and linked by what its port1.pc says."""
+    root = folder / "root"
+    folder.mkdir()
+    said = told(["dpkg-deb", "-x", package, root])
+    (found,) = root.glob("usr/lib/*/pkgconfig")
+    given = told(["pkg-config", "--cflags", "--libs", "port1"], PKG_CONFIG_LIBDIR=str(found)).split()
+    programs = {}
+    for source in sorted((root / "usr/share/doc/libport1-dev/examples/c").glob("*.c")):
+        programs[source.stem] = folder / source.stem
+        said += told([compiler, "-std=c99", "-O2", "-o", folder / source.stem, source, *given])
+    if said:
+        raise OSError(said)
+    return programs
+
+
+def library_for_arm(folder: Path) -> List[str]:
+    """The examples of the package for 64-bit ARM, linked with it, write under the emulator what those of the package
+    for x86-64 write here."""
+    for tool in ("cc", "pkg-config", COMPILER_FOR_ARM, EMULATED[0]):
+        needs(tool)
+    if not LOADER_OF_ARM.exists():
+        raise Skipped(f"no {LOADER_OF_ARM}, which Debian has in the package libc6-arm64-cross")
+    if ARCHIVE.is_file() != ARCHIVE_FOR_ARM.is_file():
+        raise Skipped(f"of {ARCHIVE.relative_to(TOP)} and {LIBRARY_FOR_ARM} one alone is built")
+    here = built_with(packages()["libport1-dev_amd64.deb"], "cc", folder / "amd64")
+    there = built_with(packages()["libport1-dev_arm64.deb"], COMPILER_FOR_ARM, folder / "arm64")
+    problems = unlike("examples", sorted(here), sorted(there))
+    for name, words, stdin in given_to_examples():
+        wanted = subprocess.run([here[name], *words], input=stdin, capture_output=True, timeout=SECONDS)
+        got = subprocess.run([*EMULATED, there[name], *words], input=stdin, capture_output=True, timeout=SECONDS)
+        if (wanted.returncode, wanted.stdout) != (got.returncode, got.stdout):
+            problems.append(f"{name} {words}: wanted {wanted}, got {got}"[:2000])
+    shown = told([*EMULATED, there["list"]], ONE_CALL)
+    return problems + unlike("list", ONE_FRAME if ARCHIVE_FOR_ARM.is_file() else "", shown)
+
+
+TESTS: List[Test] = [lintian, tarball_at_work, installed_and_taken_away, installed_for_both, library_for_arm]

@@ -16,7 +16,7 @@ from typing import Callable, Dict, List, NamedTuple, Set, Tuple
 
 from tests import installing
 from tests.case import SECONDS, TOP, Run, Skipped, Test, Word, needs
-from tests.packages import ARCHIVE, told, unlike
+from tests.packages import told, unlike
 
 RUNS: List[Run] = []
 
@@ -111,7 +111,7 @@ def stand_in(archive: Path, compiler: str) -> None:
 
 def repository(folder: Path) -> Path:
     """A repository of one commit with the files of this one as they stand, proofs aside, with the program, with the
-    library, or a stand-in where it is not built, and with stand-ins for the page and the library for 64-bit ARM."""
+    libraries, or a stand-in for each that is not built, and with a stand-in for the page."""
     for tool in TOOLS:
         needs(tool)
     if not (TOP / ".git").exists():
@@ -126,12 +126,12 @@ def repository(folder: Path) -> Path:
     program = folder / "crates/port1/out/port1"
     program.parent.mkdir(parents=True, exist_ok=True)
     shutil.copy2(os.environ["PORT1"], program)
-    if ARCHIVE.is_file():
-        (folder / LIBRARY).parent.mkdir(parents=True, exist_ok=True)
-        shutil.copy2(ARCHIVE, folder / LIBRARY)
-    else:
-        stand_in(folder / LIBRARY, "cc")
-    stand_in(folder / LIBRARY_FOR_ARM, shutil.which("aarch64-linux-gnu-gcc") or "cc")
+    for name, compiler in [(LIBRARY, "cc"), (LIBRARY_FOR_ARM, shutil.which("aarch64-linux-gnu-gcc") or "cc")]:
+        if (TOP / name).is_file():
+            (folder / name).parent.mkdir(parents=True, exist_ok=True)
+            shutil.copy2(TOP / name, folder / name)
+        else:
+            stand_in(folder / name, compiler)
     for name, text in {PAGE: "<!DOCTYPE html>\n<title>a page</title>\n", **OF_NO_SOURCE}.items():
         (folder / name).parent.mkdir(parents=True, exist_ok=True)
         (folder / name).write_text(text)
@@ -235,12 +235,15 @@ def packages_by_name(_: Path) -> List[str]:
 
 
 def without_arm(folder: Path) -> List[str]:
-    """Without an archive for 64-bit ARM there is no package of it, and an older one does not stay."""
+    """Without an archive for 64-bit ARM there is no package of it, no word of it, and an older one does not stay."""
     made = repository(folder / "repository")
     make_dist(made)
     shutil.rmtree((made / LIBRARY_FOR_ARM).parent)
-    left = sorted(path.name for path in make_dist(made).glob("*.deb"))
-    return unlike("packages", [f"libport1-dev_{version()}_amd64.deb", f"port1_{version()}_amd64.deb"], left)
+    left = {path.name: path for path in sorted(make_dist(made).glob("*.deb"))}
+    names = [f"libport1-dev_{version()}_amd64.deb", f"port1_{version()}_amd64.deb"]
+    problems = unlike("packages", names, [*left])
+    told_of = entries(left[names[0]])["usr/share/doc/libport1-dev/PROVED-BY"].octets
+    return problems + unlike("what PROVED-BY tells of 64-bit ARM", False, b"ARM" in told_of)
 
 
 def contents_of_tarball(folder: Path) -> List[str]:
@@ -278,7 +281,8 @@ def contents_of_program(_: Path) -> List[str]:
 
 
 def contents_of_libraries(_: Path) -> List[str]:
-    """The packages of the library; that for 64-bit ARM has its archive, and no shared library."""
+    """The packages of the library; that for 64-bit ARM has its archive, and no shared library. What has one name in
+    both is the same in both, so that both can be installed at once."""
     rows: List[Tuple[str, str, str, Set[str]]] = [
         ("amd64", "x86_64-linux-gnu", LIBRARY, SHARED_FILES),
         ("arm64", "aarch64-linux-gnu", LIBRARY_FOR_ARM, set()),
@@ -290,7 +294,9 @@ def contents_of_libraries(_: Path) -> List[str]:
         problems += unlike(architecture, sorted(wanted), sorted(files))
         built = (scratch() / archive).read_bytes() == files[f"usr/lib/{libraries}/libport1_c.a"].octets
         problems += unlike(f"{architecture}: the archive is the one that was built", True, built)
-    return problems
+    first, second = (entries(packages()[f"libport1-dev_{architecture}.deb"]) for architecture, *_ in rows)
+    others = sorted(name for name in {*first} & {*second} if first[name] != second[name])
+    return problems + [f"{name}: not the same in both" for name in others]
 
 
 def everything(package: Path, seconds: int) -> List[str]:
@@ -367,7 +373,8 @@ def proved_by(_: Path) -> List[str]:
     built = ["crates/port1/out/port1", LIBRARY, LIBRARY_FOR_ARM]
     sums = [f"    {hashlib.sha256((top / name).read_bytes()).hexdigest()}  {name}\n" for name in built]
     gate = "".join(f"    {line}\n" for line in CLOSING.splitlines())
-    wanted = [f"port1 {version()}, commit {git(top, 'rev-parse', 'HEAD').strip()}\n", f"    {TOOLCHAIN}", gate, *sums]
+    commit, of_arm = git(top, "rev-parse", "HEAD").strip(), "That for 64-bit ARM is made by\ncontrib/mcu/build, "
+    wanted = [f"port1 {version()}, commit {commit}\n", f"    {TOOLCHAIN}", gate, of_arm, *sums]
     texts = {path.name: entries(path)[name].octets.decode() for path, name in rows}
     return [f"{name} does not have {part!r}" for name, text in texts.items() for part in wanted if part not in text]
 
