@@ -53,6 +53,7 @@ STATUSES = {
     'port1 check --bits --dict "$DICT" < examples/missing-and-spoilt.bits': 1,
     "diff before.txt after.txt": 1,
     "contrib/recording-to-bits clock dat < examples/one-call.vcd": 2,
+    "contrib/check-dictionary cab.toml": 1,
     "parallel --joblog jobs.log 'port1 list": 1,
 }
 
