@@ -240,8 +240,10 @@ def library_for_arm(folder: Path) -> List[str]:
         needs(tool)
     if not LOADER_OF_ARM.exists():
         raise Skipped(f"no {LOADER_OF_ARM}, which Debian has in the package libc6-arm64-cross")
-    if ARCHIVE.is_file() != ARCHIVE_FOR_ARM.is_file():
-        raise Skipped(f"of {ARCHIVE.relative_to(TOP)} and {LIBRARY_FOR_ARM} one alone is built")
+    if ARCHIVE.is_file() and not ARCHIVE_FOR_ARM.is_file():
+        raise Skipped(f"no {LIBRARY_FOR_ARM}; contrib/mcu/build builds it")
+    if ARCHIVE_FOR_ARM.is_file() and not ARCHIVE.is_file():
+        raise Skipped(f"no {ARCHIVE.relative_to(TOP)}; `make` builds it")
     here = built_with(packages()["libport1-dev_amd64.deb"], "cc", folder / "amd64")
     there = built_with(packages()["libport1-dev_arm64.deb"], COMPILER_FOR_ARM, folder / "arm64")
     problems = unlike("examples", sorted(here), sorted(there))
