@@ -75,6 +75,19 @@ length = 2
 bits = [ { at = 9, name = "flash" }, { at = 0, name = "call1" }, { at = 7, name = "ped" } ]
 """
 
+# The last type that is a command, and an answer of ten octets.
+LAST_TYPES = """version = 1
+[[frame]]
+type = 127
+name = "ask"
+length = 0
+answered = true
+[[frame]]
+type = 255
+name = "tell"
+length = 10
+"""
+
 # A flag, the call and a flag, 57 bits.
 PACKED = bytes.fromhex("5453324249545331 3900000000000000 7e1083007dcbfd00")
 

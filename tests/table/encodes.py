@@ -180,6 +180,13 @@ ENCODES = [
         status=2,
     ),
     Case(
+        name="a line of 600 octets, one of which is no digit",
+        words=ENCODE,
+        stdin=b"frame " + b"0" * 593 + b"x\n",
+        stderr=fault("line 1: bad line"),
+        status=2,
+    ),
+    Case(
         name="a line of 602 octets",
         words=ENCODE,
         stdin=b"frame " + b"00" * 298 + b"\n",

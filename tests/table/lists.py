@@ -8,6 +8,7 @@ from .captures import (
     FLAG,
     IDLE,
     LAST_ORIGIN,
+    LAST_TYPES,
     LONG,
     NOTICE,
     PACKED,
@@ -132,6 +133,9 @@ ALL_HEADS_PLAIN = """\
 237 279 frame 1083fe0cfb
 """
 
+# A frame of each of the last types, without its check.
+ASK, TELL = bytes.fromhex("10837f"), bytes.fromhex("1083ff 00010203040506070809")
+
 # Octets of the longest frame, and one more.
 LONGEST = bytes(range(256))
 TOO_LONG = LONGEST + b"\0"
@@ -206,6 +210,15 @@ PIECES = [
         words=["list", "--bits", "--dict", STATES],
         stdin=text(FLAG, TYPE_1, FLAG),
         stdout="8 48 frame 10830174f4 station 16 type 1 length\n",
+    ),
+    Case(
+        name="the last types, and an answer of ten octets",
+        words=["list", "--bits", "--dict", LAST_TYPES],
+        stdin=text(FLAG, sent(ASK), FLAG, sent(TELL), FLAG),
+        stdout=f"8 {8 + len(sent(ASK))} frame {ASK.hex()}{fcs(ASK).hex()} station 16 type 127 ask\n"
+        f"{16 + len(sent(ASK))} {16 + len(sent(ASK) + sent(TELL))} frame {TELL.hex()}{fcs(TELL).hex()}"
+        " station 16 type 255 tell\n"
+        f"8 {8 + len(sent(ASK))} answered station 16 type 127\n",
     ),
     Case(
         name="too few bits",
