@@ -75,13 +75,14 @@ length = 2
 bits = [ { at = 9, name = "flash" }, { at = 0, name = "call1" }, { at = 7, name = "ped" } ]
 """
 
-# The last type that is a command, and an answer of ten octets.
-LAST_TYPES = """version = 1
+# The last type that is a command, and its answer, of ten octets each.
+LAST_TYPES = """version = 2
 [[frame]]
 type = 127
 name = "ask"
-length = 0
+length = 10
 answered = true
+window = 16
 [[frame]]
 type = 255
 name = "tell"

@@ -134,7 +134,7 @@ ALL_HEADS_PLAIN = """\
 """
 
 # A frame of each of the last types, without its check.
-ASK, TELL = bytes.fromhex("10837f"), bytes.fromhex("1083ff 00010203040506070809")
+ASK, TELL = bytes.fromhex("10837f 00010203040506070809"), bytes.fromhex("1083ff 00010203040506070809")
 
 # Octets of the longest frame, and one more.
 LONGEST = bytes(range(256))
@@ -212,13 +212,13 @@ PIECES = [
         stdout="8 48 frame 10830174f4 station 16 type 1 length\n",
     ),
     Case(
-        name="the last types, and an answer of ten octets",
+        name="the last types, of ten octets, with a window",
         words=["list", "--bits", "--dict", LAST_TYPES],
-        stdin=text(FLAG, sent(ASK), FLAG, sent(TELL), FLAG),
+        stdin=text(FLAG, sent(ASK), FLAG, FLAG, FLAG, sent(TELL), FLAG),
         stdout=f"8 {8 + len(sent(ASK))} frame {ASK.hex()}{fcs(ASK).hex()} station 16 type 127 ask\n"
-        f"{16 + len(sent(ASK))} {16 + len(sent(ASK) + sent(TELL))} frame {TELL.hex()}{fcs(TELL).hex()}"
+        f"{32 + len(sent(ASK))} {32 + len(sent(ASK) + sent(TELL))} frame {TELL.hex()}{fcs(TELL).hex()}"
         " station 16 type 255 tell\n"
-        f"8 {8 + len(sent(ASK))} answered station 16 type 127\n",
+        f"8 {8 + len(sent(ASK))} late station 16 type 127\n",
     ),
     Case(
         name="too few bits",
