@@ -91,7 +91,7 @@ struct port1_line {
     uint64_t longest; /* the longest frame in octets, address through information */
     uint64_t origin;  /* the place of the first bit */
     uint64_t place;   /* the place of the next bit */
-    uint64_t settles_at, folded, stored, assembled, gathered, rest, history;
+    uint64_t settles_at, folded, stored, assembled, data_bits, partial, last_bits;
     uint32_t count;      /* of the octets that follow */
     uint16_t spare, check;
     uint8_t octets[272]; /* after PORT1_FRAME the first `count`: address, control, information and the two
@@ -272,9 +272,9 @@ PORT1_PLACE(line, settles_at, 24);
 PORT1_PLACE(line, folded, 32);
 PORT1_PLACE(line, stored, 40);
 PORT1_PLACE(line, assembled, 48);
-PORT1_PLACE(line, gathered, 56);
-PORT1_PLACE(line, rest, 64);
-PORT1_PLACE(line, history, 72);
+PORT1_PLACE(line, data_bits, 56);
+PORT1_PLACE(line, partial, 64);
+PORT1_PLACE(line, last_bits, 72);
 PORT1_PLACE(line, count, 80);
 PORT1_PLACE(line, spare, 84);
 PORT1_PLACE(line, check, 86);

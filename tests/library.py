@@ -49,7 +49,7 @@ class Compiler(NamedTuple):
         return " ".join(self.words)
 
 
-# The first two make what is run; the others are passed over where they are not installed.
+# The first two make what is run; the others are passed over where they, or their C libraries, are not installed.
 COMPILERS = [
     Compiler(["cc", "-std=c99"]),
     Compiler(["c++", "-x", "c++", "-std=c++11"]),
@@ -231,10 +231,18 @@ def problems_of_other_layout(bench: Bench, row: Tuple[str, str, str]) -> List[st
     return side_by_side(problems_of, installed())
 
 
+def has_c_library(compiler: Compiler) -> bool:
+    """Whether a compiler is there and finds a C library's headers, which one for other processors can come without."""
+    if shutil.which(compiler.words[0]) is None:
+        return False
+    words = [compiler.words[0], "-x", "c", "-fsyntax-only", "-"]
+    return subprocess.run(words, input=b"#include <stdio.h>\n", capture_output=True, timeout=SECONDS).returncode == 0
+
+
 @lru_cache()
 def installed() -> List[Compiler]:
-    """The compilers that are there; the first two must be."""
-    return [one for one in COMPILERS if one in MAKERS or shutil.which(one.words[0])]
+    """The compilers that can be tried here; the first two must be."""
+    return [one for one in COMPILERS if one in MAKERS or has_c_library(one)]
 
 
 def problems_of_compilers(bench: Bench, source: Path) -> List[str]:

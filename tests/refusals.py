@@ -1,20 +1,49 @@
-"""Runs the program with each of its requests for memory refused in turn."""
+"""Runs the program with each of its requests for memory refused in turn, and looks for the largest of them."""
 
 from dataclasses import replace
 from pathlib import Path
-from typing import List, Tuple
+from typing import List, NamedTuple, Tuple
 
 from runs import Ending, differences, run
 from table.case import Case, Refusals, fault
 
 
+class Requests(NamedTuple):
+    """How many requests a run made, and how many octets the largest asked for."""
+
+    count: int
+    largest: int
+
+
+def run_under(program: Path, case: Case, library: Path, number: int) -> Tuple[Ending, Requests]:
+    """Runs a row with the request of this number refused, and tells its requests."""
+    told = library.with_name("requests")
+    told.write_text("0 0")
+    variables = {"LD_PRELOAD": str(library), "REFUSED": str(number), "REQUESTS": str(told)}
+    ending = run(program, case, variables)
+    count, largest = map(int, told.read_text().split())
+    return ending, Requests(count, largest)
+
+
 def run_refused(program: Path, case: Case, library: Path, number: int) -> Tuple[Ending, int]:
     """Runs a row with the request of this number refused, and counts the requests."""
-    count = library.with_name("requests")
-    count.write_text("0")
-    variables = {"LD_PRELOAD": str(library), "REFUSED": str(number), "REQUESTS": str(count)}
-    ending = run(program, case, variables)
-    return ending, int(count.read_text())
+    ending, requests = run_under(program, case, library, number)
+    return ending, requests.count
+
+
+def problems_of_depth(program: Path, case: Case, library: Path) -> List[str]:
+    """A listing has no history to write: none of its requests is larger than those of a check of the least depth.
+
+    That those of a check of the greatest depth are larger shows that a history is seen among them.
+    """
+
+    def largest(words: List[str]) -> int:
+        asked = replace(case, words=[*words, *case.words[1:]])
+        return run_under(program, asked, library, 0)[1].largest
+
+    listed, least, most = largest(["list"]), largest(["check", "--depth", "1"]), largest(["check", "--depth", "1024"])
+    problems = [] if listed <= least else [f"list asks for {listed} octets at once, check --depth 1 for {least}"]
+    return problems if least < most else [*problems, f"check --depth 1024 asks for {most} octets at once, no more"]
 
 
 def without_memory(case: Case) -> Case:

@@ -1,6 +1,6 @@
 /* Loaded before a program, this refuses one of its requests for memory: that of the number in the
-   variable REFUSED, counted from 1, and none where it is 0. At the end the number of requests goes
-   to the file that the variable REQUESTS names. */
+   variable REFUSED, counted from 1, and none where it is 0. At the end the number of requests, and
+   the octets that the largest asked for, go to the file that the variable REQUESTS names. */
 
 #include <errno.h>
 #include <fcntl.h>
@@ -17,15 +17,18 @@ extern void *__libc_memalign(size_t alignment, size_t size);
 
 static unsigned long refused, requests;
 
+static size_t largest;
+
 __attribute__((constructor)) static void begin(void) {
     const char *number = getenv("REFUSED");
     refused = number ? strtoul(number, NULL, 10) : 0;
     requests = 0;
+    largest = 0;
 }
 
 __attribute__((destructor)) static void end(void) {
-    char text[32];
-    int length = snprintf(text, sizeof text, "%lu\n", requests);
+    char text[64];
+    int length = snprintf(text, sizeof text, "%lu %zu\n", requests, largest);
     const char *name = getenv("REQUESTS");
     int file = name ? open(name, O_WRONLY | O_CREAT | O_TRUNC, 0600) : -1;
     if (file < 0 || write(file, text, (size_t)length) != length)
@@ -33,7 +36,9 @@ __attribute__((destructor)) static void end(void) {
     close(file);
 }
 
-static int refuses(void) {
+static int refuses(size_t size) {
+    if (size > largest)
+        largest = size;
     if (++requests != refused)
         return 0;
     errno = ENOMEM;
@@ -41,23 +46,23 @@ static int refuses(void) {
 }
 
 void *malloc(size_t size) {
-    return refuses() ? NULL : __libc_malloc(size);
+    return refuses(size) ? NULL : __libc_malloc(size);
 }
 
 void *calloc(size_t count, size_t size) {
-    return refuses() ? NULL : __libc_calloc(count, size);
+    return refuses(count * size) ? NULL : __libc_calloc(count, size);
 }
 
 void *realloc(void *old, size_t size) {
-    return refuses() ? NULL : __libc_realloc(old, size);
+    return refuses(size) ? NULL : __libc_realloc(old, size);
 }
 
 void *aligned_alloc(size_t alignment, size_t size) {
-    return refuses() ? NULL : __libc_memalign(alignment, size);
+    return refuses(size) ? NULL : __libc_memalign(alignment, size);
 }
 
 int posix_memalign(void **given, size_t alignment, size_t size) {
-    if (refuses())
+    if (refuses(size))
         return ENOMEM;
     *given = __libc_memalign(alignment, size);
     return *given ? 0 : ENOMEM;

@@ -51,14 +51,14 @@ static uint64_t up_to(uint64_t most) {
     return end == 0 ? 0 : end == 1 ? most : most == UINT64_MAX ? draw() : draw() % (most + 1);
 }
 
-/* Numbers that a decoder may have; its history, register, bits of an octet and octets may be any. */
+/* Numbers that a decoder may have; its last bits, register, bits of an octet and octets may be any. */
 static void fill_consistent(struct port1_line *line) {
     line->longest = 3 + up_to(253);
     line->count = (uint32_t)up_to(line->longest + 2);
     line->place = draw() % 4 ? LIMIT - up_to(400) : up_to(draw() % 2 ? 100000 : LIMIT);
     line->origin = draw() % 3 ? 0 : line->place - up_to(line->place < 99 ? line->place : 99);
     line->assembled = up_to(line->place - line->origin);
-    line->gathered = up_to(line->assembled < 5000 ? line->assembled : 5000);
+    line->data_bits = up_to(line->assembled < 5000 ? line->assembled : 5000);
     line->stored = up_to(line->assembled);
     line->folded = up_to(8 * line->stored);
     line->settles_at = draw() % 2 ? NEVER : line->place + 8 - up_to(line->place < 3000 ? line->place : 3000);
@@ -71,7 +71,7 @@ static void fill_near(struct port1_line *line) {
     line->place = LIMIT - draw() % 400;
     line->origin = draw() % 3 ? 0 : line->place - draw() % 99;
     line->assembled = draw() % 5000;
-    line->gathered = draw() % 5000;
+    line->data_bits = draw() % 5000;
     line->stored = draw() % 700;
     line->folded = draw() % 5600;
     line->settles_at = draw() % 2 ? NEVER : line->place + 8 - draw() % 3000;
@@ -97,7 +97,7 @@ static int is_alive(const struct port1_line *line) {
     return line->longest >= 3 && line->longest <= 256 && line->count <= line->longest + 2 && line->place <= LIMIT
         && line->origin <= line->place && line->settles_at >= 8
         && (line->settles_at == NEVER || line->settles_at <= line->place + 8)
-        && line->gathered <= line->assembled && line->assembled <= line->place - line->origin
+        && line->data_bits <= line->assembled && line->assembled <= line->place - line->origin
         && line->stored <= line->assembled && line->folded <= 8 * line->stored;
 }
 

@@ -45,3 +45,11 @@ REFUSALS = [
     Refusals(found(WORDS, "help: --help"), needless=5),
     Refusals(found(WORDS, "help: list --help"), needless=6),
 ]
+
+# Listings whose largest requests are compared with those of checks.
+LISTED = [
+    found(LISTS, "a call without an answer, and one spoilt"),
+    found(LISTS, "packed, one call"),
+    found(PAIRS, "a call and its reply"),
+    found(PAIRS, "packed, idle lines"),
+]

@@ -1,4 +1,4 @@
--- Bits of octets, one behind the other.
+-- Bits of octets, one after the other.
 use Rattle.std.proofs.Common.{◌≡◌, ℕ, zero, suc, ◌+◌, ◌-◌, ◌*◌, ◌/◌, ◌%◌, ◌^◌, ◌≤◌, ◌==◌, List, ◌∷◌, ◌++◌, length, take}
 use Rattle.std.proofs.Common.{refl, ap, ◌∙◌, arith}
 use Rattle.std.proofs.lemmas.Nat.{shr-shr}
@@ -6,7 +6,7 @@ use Rattle.std.specs.Prelude.{slice_index}
 use Rattle.bus_bits.specs.Octet.{bits_of}
 use Rattle.bus_bits.specs.Bits.{bit_at, bits_from}
 
--- these, and those behind them
+-- these, and those after them
 pub bits-more : (os : List ℕ) (i m n : ℕ) → bits_from os i (m + n) ≡ bits_from os i m ++ bits_from os (i + m) n
 unfolding bits_from
 bits-more os i zero n =
@@ -40,7 +40,7 @@ bits-in os q k i (suc m) e l =
     ap (λ x. x ∷ bits_of m (slice_index os q / 2 ^ k / 2)) head ∙ ap (λ x. bit_at os i ∷ x) tail
 
 -- so many of them
-bits-taken : (os : List ℕ) (i n m : ℕ) → m ≤ n → take m (bits_from os i n) ≡ bits_from os i m
+pub bits-taken : (os : List ℕ) (i n m : ℕ) → m ≤ n → take m (bits_from os i n) ≡ bits_from os i m
 unfolding bits_from
 bits-taken os i n zero l = refl
 bits-taken os i zero (suc m) l = absurd (omega (arith, l))

@@ -7,7 +7,7 @@ use Rattle.bus_bits.specs.Capture.{text_bits, text_capture, text_pair_capture, c
 use Rattle.bus_bits.specs.Packed.{packed_whole, packed_capture, packed_pair_whole, packed_pair_capture, wanted}
 use Rattle.bus_bits.specs.Packed.{in_pairs}
 
--- a head that counts 57 bits, and the whole octets behind it
+-- a head that counts 57 bits, and the whole octets after it
 abbrev head : List ℕ
 head = codes "TS2BITS1" ++ (57 ∷ 0 ∷ 0 ∷ 0 ∷ 0 ∷ 0 ∷ 0 ∷ 0 ∷ [])
 

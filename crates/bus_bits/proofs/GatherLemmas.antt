@@ -1,11 +1,11 @@
--- Octets behind others, and the symbols that are gathered from them.
+-- Octets after others, and the symbols that are gathered from them.
 use Rattle.std.proofs.Common.{◌≡◌, ℕ, ◌+◌, ◌-◌, List, [], ◌++◌, length, take, drop, Option, None, sym, ap, ◌∙◌, subst}
 use Rattle.std.proofs.Common.{arith, append_assoc, append-nil}
 use Rattle.std.proofs.Math.Seq.{take-add}
 use Rattle.std.proofs.lemmas.List.{take_all, length-drop}
 use Rattle.bus_bits.specs.Capture.{CaptureFault}
 
--- some octets behind those before them
+-- some octets after those before them
 pub octets-next : (xs os : List ℕ) (i n : ℕ) → (xs ++ take i os) ++ take n (take (length os - i) (drop i os))
     ≡ xs ++ take (i + n) os
 octets-next xs os i n =

@@ -317,7 +317,7 @@ filled-few n c h l =
     ap (λ (g : Option CaptureFault). or_fault g (if nat_lt (length c.bits) n then Some short_body else None)) h
     ∙ ap (λ (b : Bool). if b then Some short_body else None) (lt_true (length c.bits) n l)
 
--- ---- any cut of what stands behind a head
+-- ---- any cut of what stands after a head
 
 slice_kept : (a b : ℕ) (xs ys : List ℕ) → a ≤ b → b ≤ length xs → slice_range (xs ++ ys) a b ≡ slice_range xs a b
 slice_kept a b xs ys h k =
@@ -356,7 +356,7 @@ filled_grows n c = (
       ∙ ap (λ (g : Option CaptureFault). record { bits = c.bits; fault = g }) (sym h),
 )
 
--- a head that begins with these letters, and the body behind it
+-- a head that begins with these letters, and the body after it
 module _ {A : Type 0} (letters : List ℕ) (body : ℕ → List ℕ → CaptureOf A) where
   abbrev pub behind : List ℕ → CaptureOf A
   behind xs = capture_by (head_fault_by letters xs) body xs

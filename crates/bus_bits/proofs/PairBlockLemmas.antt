@@ -43,7 +43,7 @@ bits-front-octets os k l =
     sym (bits-octets (take k os) os 0 0 (8 * k) refl (ap (λ (n : ℕ). 8 * n) (sym long))
     (λ i below. get_or-take k os i 0 (omega (arith, below, long)) ∙ ap (slice_index os) (omega arith)))
 
--- and some that were written behind them
+-- and some that were written after them
 pub bits-stored : (os written : List ℕ) (from k n : ℕ) → k ≡ length written → n ≡ from + k → n ≤ length os
     → bits_from (put_mid from (n - from) os written) 0 (8 * n) ≡ bits_from os 0 (8 * from) ++ bits_of_octets written
 bits-stored os written from k n long e l =
@@ -106,7 +106,7 @@ sixteen-parted os i low high a b c d front behind one two =
     ∙ sym (zip-append (bits_of 32 a) (bits_of 32 c) (bits_of 32 b) (bits_of 32 d)
     (length-bits 32 a ∙ sym (length-bits 32 c))))))
 
--- an octet that was written behind those before it
+-- an octet that was written after those before it
 pub octet-stored : (os : List ℕ) (i o : ℕ) → i < length os →
     bits_from (slice_set os i o) 0 (8 * (i + 1)) ≡ bits_from os 0 (8 * i) ++ bits_of 8 o
 octet-stored os i o l =

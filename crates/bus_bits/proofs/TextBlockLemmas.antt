@@ -70,7 +70,7 @@ le-bits : (k n : ℕ) → k ≤ 8 → bits_of_octets (take k (to_le_bytes w64 n)
 le-bits k n l = ap (λ (os : List ℕ). bits_of_octets (take k os)) (le-octets n)
     ∙ (ap bits_of_octets (octets-fewer k 8 n l) ∙ octets-bits k n)
 
--- ---- bits behind others
+-- ---- bits after others
 
 -- what the machine joins
 pub joined-is : (rest bits held count : ℕ) → rest < 2 ^ held → bits < 2 ^ count → held + count ≤ 64

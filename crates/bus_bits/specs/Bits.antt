@@ -1,4 +1,4 @@
--- Bits of octets, one behind the other (ISO/IEC 13239, order of bit transmission).
+-- Bits of octets, one after the other (ISO/IEC 13239, order of bit transmission).
 use Rattle.std.specs.Prelude.{◌==◌, ℕ, zero, suc, ◌+◌, ◌/◌, ◌%◌, ◌^◌, Bool, List, [], ◌∷◌, slice_index}
 
 -- bit i of octets, the lowest of each first

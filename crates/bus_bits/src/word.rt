@@ -41,7 +41,7 @@ pub fn seven_octets_at(octets: &[u8], at: usize) -> u64
     eight_at(octets, at / 8) >> (at % 8)
 }
 
-/// The bits of a number behind the lowest ones, so many.
+/// The bits of a number after the lowest ones, so many.
 #[inline(always)]
 fn cut(number: u64, behind: usize, count: usize) -> Word
     requires few { count ≤ 48 }

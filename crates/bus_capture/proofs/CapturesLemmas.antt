@@ -17,16 +17,16 @@ use Rattle.bus_bits.proofs.CaptureLemmas.{capped_all, lt_true}
 -- of more symbols than there are places
 pub placed-over : {X : Type 0} (origin : ℕ) (c : CaptureOf X) → 2 ^ 60 - origin < length c.bits →
     capped origin c ≡ record { bits = within origin c.bits; fault = Some place_limit }
-placed-over origin c h =
+placed-over origin c over =
     ap (λ b. if b then record { bits = take (2 ^ 60 - origin) c.bits; fault = Some place_limit } else c)
-    (lt_true (2 ^ 60 - origin) (length c.bits) h)
+    (lt_true (2 ^ 60 - origin) (length c.bits) over)
 
 pub placed-bits : {X : Type 0} (origin : ℕ) (c : CaptureOf X) → origin ≤ 2 ^ 60 →
     (capped origin c).bits ≡ within origin c.bits
 placed-bits {X} origin c low = elim (cases_lt (2 ^ 60 - origin) (length c.bits)) [
-  | inl h ↦ ap (λ (d : CaptureOf X). d.bits) (placed-over origin c h)
-  | inr h ↦ ap (λ (d : CaptureOf X). d.bits) (capped_all origin c h)
-      ∙ sym (within-all origin c.bits (omega (arith, h, low)))
+  | inl over ↦ ap (λ (d : CaptureOf X). d.bits) (placed-over origin c over)
+  | inr fits ↦ ap (λ (d : CaptureOf X). d.bits) (capped_all origin c fits)
+      ∙ sym (within-all origin c.bits (omega (arith, fits, low)))
 ]
 
 -- all octets give more than some of their first, places counted from an origin
@@ -44,47 +44,52 @@ module _ {A X N B : Type 0} (t : TapView A X N B) where
   -- the symbols that were followed have a place
   pub followed-fits : TapLaws t → (start now : Option (List ℕ)) (w : CaptureRun A) (b : List X)
       → IsSound t w → Watches t start now w b → t.watch.origin w.analyser + length b ≤ 2 ^ 60
-  followed-fits law start now w b sound h = let p = law.placed w.analyser b h.is_after in let q =
-      sound.places in omega (arith, p, q)
+  followed-fits law start now w b sound followed =
+      omega (arith, law.placed w.analyser b followed.is_after, sound.places)
 
   -- the following of a capture's symbols stopped
   pub halts-stops : (start now : Option (List ℕ)) (w : CaptureRun A) (c : CaptureOf X) (f : ToolFault)
       → t.watch.origin w.analyser ≤ 2 ^ 60 → Halts t start now w c.bits f →
       StopsAt t start now w (capped (t.watch.origin w.analyser) c) f
-  halts-stops start now w c fault.PlaceLimit low h =
-      let is = placed-over (t.watch.origin w.analyser) c h.0 in
+  halts-stops start now w c fault.PlaceLimit low stopped =
+      let is = placed-over (t.watch.origin w.analyser) c stopped.0 in
       subst (λ (d : CaptureOf X). Faulty t start now w d fault.PlaceLimit) (sym is)
-      (record { cause = place_limit; found = refl; answered = refl; bits = h.1 })
-  halts-stops start now w c (fault.Write sent) low h = record {
-    front = h.front;
-    more = h.more;
-    all = placed-bits (t.watch.origin w.analyser) c low ∙ h.all;
-    cut = h.cut;
-    short = h.short;
+      (record { cause = place_limit; found = refl; answered = refl; bits = stopped.1 })
+  halts-stops start now w c (fault.Write sent) low stopped = record {
+    front = stopped.front;
+    more = stopped.more;
+    all = placed-bits (t.watch.origin w.analyser) c low ∙ stopped.all;
+    cut = stopped.cut;
+    short = stopped.short;
   }
-  halts-stops start now w c _ low h = absurd h
+  halts-stops start now w c _ low stopped = absurd stopped
 
   -- a capture with a fault, all of whose symbols were followed
   pub fault-in : TapLaws t → (start now : Option (List ℕ)) (w : CaptureRun A) (c : CaptureOf X) (b : List X)
       (cause : CaptureFault) (f : ToolFault)
       → IsSound t w → IsSameFault f cause → c.bits ≡ b → c.fault ≡ Some cause → Watches t start now w b
       → Faulty t start now w (capped (t.watch.origin w.analyser) c) f
-  fault-in law start now w c b cause f sound answered is found h =
+  fault-in law start now w c b cause f sound answered is found followed =
       let origin = t.watch.origin w.analyser in
-      let fits : origin + length b ≤ 2 ^ 60 = followed-fits law start now w b sound h in
+      let fits : origin + length b ≤ 2 ^ 60 = followed-fits law start now w b sound followed in
       let short : length c.bits ≤ 2 ^ 60 - origin = omega (arith, fits, ap length is) in
       subst (λ (x : CaptureOf X). Faulty t start now w x f) (sym (capped_all origin c short))
-      (record { cause = cause; found = found; answered = answered; bits = subst (Watches t start now w) (sym is) h })
+      (record {
+        cause = cause;
+        found = found;
+        answered = answered;
+        bits = subst (Watches t start now w) (sym is) followed;
+      })
 
   -- what stopped, stops with more octets
   pub stops-more : (start now : Option (List ℕ)) (w : CaptureRun A) (c d : CaptureOf X) (f : ToolFault)
       → GrowsTo c d → StopsAt t start now w c f → StopsAt t start now w d f
-  stops-more start now w c d (fault.Write sent) grows h = record {
-    front = h.front;
-    more = h.more ++ grows.0;
-    all = grows.1 ∙ ap (λ (x : List X). x ++ grows.0) h.all ∙ append_assoc h.front h.more grows.0;
-    cut = h.cut;
-    short = h.short;
+  stops-more start now w c d (fault.Write sent) grows stopped = record {
+    front = stopped.front;
+    more = stopped.more ++ grows.0;
+    all = grows.1 ∙ ap (λ (x : List X). x ++ grows.0) stopped.all ∙ append_assoc stopped.front stopped.more grows.0;
+    cut = stopped.cut;
+    short = stopped.short;
   }
-  stops-more start now w c d f grows h =
-      subst (λ (x : CaptureOf X). StopsAt t start now w x f) (sym (grows.2 h.cause h.found)) h
+  stops-more start now w c d f grows stopped =
+      subst (λ (x : CaptureOf X). StopsAt t start now w x f) (sym (grows.2 stopped.cause stopped.found)) stopped

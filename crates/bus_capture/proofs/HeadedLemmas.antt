@@ -1,4 +1,4 @@
--- Packed captures of one line or of two, behind their heads.
+-- Packed captures of one line or of two, after their heads.
 use Rattle.std.proofs.Common.{◌≡◌, ℕ, true, false, nat_lt, if◌then◌else◌, Bool, List, [], ◌++◌, length, drop, Option}
 use Rattle.std.proofs.Common.{Some, None, Result, Ok, Err, MatchResult, refl, sym, ap, ◌∙◌, append_assoc}
 use Rattle.bus_bits.specs.Capture.{CaptureOf, CaptureFault, short_head}
@@ -25,29 +25,29 @@ module _ {A : Type 0} (capture : List ℕ → CaptureOf A) (body : ℕ → List 
     (law : (head xs : List ℕ) → length head ≡ 16 → capture (head ++ xs)
     ≡ headed (fault head) (body (head_bits head) xs)) where
   -- a good head and what follows it
-  headed-here : (left : ℕ) (xs : List ℕ) (h : IsHeaded fault After left xs) →
-      capture xs ≡ body (head_bits h.head) h.body
-  headed-here left xs h = ap capture h.all ∙ law h.head h.body h.long
-      ∙ ap (λ f. headed f (body (head_bits h.head) h.body)) h.good
+  headed-here : (left : ℕ) (xs : List ℕ) (parts : IsHeaded fault After left xs) →
+      capture xs ≡ body (head_bits parts.head) parts.body
+  headed-here left xs parts = ap capture parts.all ∙ law parts.head parts.body parts.long
+      ∙ ap (λ f. headed f (body (head_bits parts.head) parts.body)) parts.good
 
   -- with some octets more
-  headed-more : (left : ℕ) (xs ys : List ℕ) (h : IsHeaded fault After left xs) →
-      capture (xs ++ ys) ≡ body (head_bits h.head) (h.body ++ ys)
-  headed-more left xs ys h =
-      ap capture (ap (λ (zs : List ℕ). zs ++ ys) h.all ∙ append_assoc h.head h.body ys)
-      ∙ law h.head (h.body ++ ys) h.long
-      ∙ ap (λ f. headed f (body (head_bits h.head) (h.body ++ ys))) h.good
+  headed-more : (left : ℕ) (xs ys : List ℕ) (parts : IsHeaded fault After left xs) →
+      capture (xs ++ ys) ≡ body (head_bits parts.head) (parts.body ++ ys)
+  headed-more left xs ys parts =
+      ap capture (ap (λ (zs : List ℕ). zs ++ ys) parts.all ∙ append_assoc parts.head parts.body ys)
+      ∙ law parts.head (parts.body ++ ys) parts.long
+      ∙ ap (λ f. headed f (body (head_bits parts.head) (parts.body ++ ys))) parts.good
 
   -- it has no fault
   pub head-clean : ((n : ℕ) (xs : List ℕ) (left : ℕ) → After n xs left → (body n xs).fault ≡ None) →
       (left : ℕ) (xs : List ℕ) → IsHeaded fault After left xs → (capture xs).fault ≡ None
-  head-clean clean left xs h = ap (λ (c : CaptureOf A). c.fault) (headed-here left xs h)
-      ∙ clean (head_bits h.head) h.body left h.after
+  head-clean clean left xs parts = ap (λ (c : CaptureOf A). c.fault) (headed-here left xs parts)
+      ∙ clean (head_bits parts.head) parts.body left parts.after
 
-  -- a head alone gives no symbols where no octets behind it give none
-  pub head-alone : (left : ℕ) (head : List ℕ) (h : IsHeaded fault After left head) →
-      (body (head_bits h.head) h.body).bits ≡ [] → (capture head).bits ≡ []
-  head-alone left head h none = ap (λ (c : CaptureOf A). c.bits) (headed-here left head h) ∙ none
+  -- a head alone gives no symbols where no octets after it give none
+  pub head-alone : (left : ℕ) (head : List ℕ) (parts : IsHeaded fault After left head) →
+      (body (head_bits parts.head) parts.body).bits ≡ [] → (capture head).bits ≡ []
+  head-alone left head parts none = ap (λ (c : CaptureOf A). c.bits) (headed-here left head parts) ∙ none
 
   -- more octets were taken
   pub octets-read : (left later : ℕ) (xs ys : List ℕ) (bits : List A)
@@ -55,18 +55,18 @@ module _ {A : Type 0} (capture : List ℕ → CaptureOf A) (body : ℕ → List 
       × ((body n (zs ++ ys)).bits ≡ (body n zs).bits ++ bits))
       → IsHeaded fault After left xs → IsHeaded fault After later (xs ++ ys)
       × ((capture (xs ++ ys)).bits ≡ (capture xs).bits ++ bits)
-  octets-read left later xs ys bits given h =
-      let is = given (head_bits h.head) h.body h.after in (
+  octets-read left later xs ys bits given parts =
+      let is = given (head_bits parts.head) parts.body parts.after in (
         record {
-          head = h.head;
-          body = h.body ++ ys;
-          all = ap (λ (zs : List ℕ). zs ++ ys) h.all ∙ append_assoc h.head h.body ys;
-          long = h.long;
-          good = h.good;
+          head = parts.head;
+          body = parts.body ++ ys;
+          all = ap (λ (zs : List ℕ). zs ++ ys) parts.all ∙ append_assoc parts.head parts.body ys;
+          long = parts.long;
+          good = parts.good;
           after = is.0;
         },
-        ap (λ (c : CaptureOf A). c.bits) (headed-more left xs ys h) ∙ is.1
-            ∙ ap (λ (b : List A). b ++ bits) (sym (ap (λ (c : CaptureOf A). c.bits) (headed-here left xs h))),
+        ap (λ (c : CaptureOf A). c.bits) (headed-more left xs ys parts) ∙ is.1
+            ∙ ap (λ (b : List A). b ++ bits) (sym (ap (λ (c : CaptureOf A). c.bits) (headed-here left xs parts))),
       )
 
   -- or refused
@@ -77,8 +77,8 @@ module _ {A : Type 0} (capture : List ℕ → CaptureOf A) (body : ℕ → List 
       → IsHeaded fault After left xs → MatchResult r
       (λ b. IsHeaded fault After later (xs ++ ys) × ((capture (xs ++ ys)).bits ≡ (capture xs).bits ++ items b))
       (λ f. capture (xs ++ ys) ≡ record { bits = (capture xs).bits; fault = Some (packed_fault_of f) })
-  octet-read items left later xs ys (Ok b) given h = octets-read left later xs ys (items b) given h
-  octet-read items left later xs ys (Err f) given h =
-      headed-more left xs ys h ∙ given (head_bits h.head) h.body h.after
+  octet-read items left later xs ys (Ok b) given parts = octets-read left later xs ys (items b) given parts
+  octet-read items left later xs ys (Err f) given parts =
+      headed-more left xs ys parts ∙ given (head_bits parts.head) parts.body parts.after
       ∙ ap (λ (c : CaptureOf A). record { bits = c.bits; fault = Some (packed_fault_of f) })
-      (sym (headed-here left xs h))
+      (sym (headed-here left xs parts))

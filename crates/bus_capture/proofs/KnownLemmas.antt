@@ -7,7 +7,7 @@ use Rattle.std.proofs.Common.{arith}
 use Rattle.bus_bits.specs.Capture.{CaptureOf, CaptureFault, GrowsTo}
 use Rattle.bus_dictionary.specs.Entry.{FrameType}
 use Rattle.bus_dictionary.specs.Dictionary.{longest_of}
-use Rattle.bus_capture.specs.Captures.{Form, unplaced, unplaced_whole, seen_in}
+use Rattle.bus_capture.specs.Captures.{Form, unplaced, unplaced_whole, reports_seen}
 use Rattle.bus_text.specs.Given.{printer_of}
 use Rattle.bus_text.specs.Listing.{listing}
 use Rattle.bus_text.specs.Put.{Cuts}
@@ -29,7 +29,7 @@ use Rattle.bus_bits.proofs.CaptureLemmas.{grows-trans}
 
 -- as it grows
 grows-self : {X : Type 0} (c : CaptureOf X) → GrowsTo c c
-grows-self c = ([], sym (append-nil c.bits), λ f e. refl)
+grows-self c = ([], sym (append-nil c.bits), λ f is. refl)
 
 unplaced-grows : {X : Type 0} (f : Form X) → FormLaws f → (text : Bool) (xs ys : List ℕ) →
     GrowsTo (unplaced f text xs) (unplaced f text (xs ++ ys))
@@ -44,8 +44,8 @@ unplaced-ends f law false xs = law.ended xs
 -- what was read, and then all
 all-grows : {X : Type 0} (form : Form X) → FormLaws form → (o : Options) (all xs ys : List ℕ) → all ≡ xs ++ ys →
     GrowsTo (so_far form o xs) (in_all form o all)
-all-grows form law o all xs ys e =
-    subst (λ (z : List ℕ). GrowsTo (so_far form o xs) (in_all form o z)) (sym e)
+all-grows form law o all xs ys parts =
+    subst (λ (z : List ℕ). GrowsTo (so_far form o xs) (in_all form o z)) (sym parts)
     (grows-trans (so_far form o xs) (so_far form o (xs ++ ys)) (in_all form o (xs ++ ys))
     (law.places o.origin (unplaced form o.text xs) (unplaced form o.text (xs ++ ys))
     (unplaced-grows form law o.text xs ys))
@@ -65,10 +65,10 @@ same_bits form law o d xs begins =
     ∙ sym (placed-bits o.origin (unplaced form o.text xs) begins.places)
 
 front_is : (all xs ys : List ℕ) → all ≡ xs ++ ys → take (length xs) all ≡ xs
-front_is all xs ys e = grind (arith, common_steps)
+front_is all xs ys parts = grind (arith, common_steps)
 
 at-end : (all xs ys : List ℕ) → all ≡ xs ++ ys → IsAtEnd (Some ys) → xs ≡ all
-at-end all xs ys e at = sym (append-nil xs) ∙ ap (λ (l : List ℕ). xs ++ l) (sym at) ∙ sym e
+at-end all xs ys parts at = sym (append-nil xs) ∙ ap (λ (l : List ℕ). xs ++ l) (sym at) ∙ sym parts
 
 -- the listing of more bits
 record GoesOn {X : Type 0} (form : Form X) (o : Options) (d : List FrameType) (b c : List X) : Type 0 where
@@ -77,15 +77,15 @@ record GoesOn {X : Type 0} (form : Form X) (o : Options) (d : List FrameType) (b
 
 goes-on : {X : Type 0} (form : Form X) → FormLaws form → (o : Options) (d : List FrameType) (b rest c : List X) →
     c ≡ b ++ rest → GoesOn form o d b c
-goes-on form law o d b rest c e =
+goes-on form law o d b rest c parts =
     let on = law.seen d (longest_of d) o.origin b rest in
     record {
       more = listing (printer_of o) d on.rest;
-      is = ap (listing_of form o d) e ∙ ap (listing (printer_of o) d) on.is
-          ∙ listing-append (printer_of o) d (seen_in form o.origin d b) on.rest;
+      is = ap (listing_of form o d) parts ∙ ap (listing (printer_of o) d) on.is
+          ∙ listing-append (printer_of o) d (reports_seen form o.origin d b) on.rest;
     }
 
--- the end comes behind it
+-- the end comes after it
 cut-with : {X : Type 0} (form : Form X) (o : Options) (d : List FrameType) (start now : Option (List ℕ)) (b : List X)
     (f : Option CaptureFault) (sent : ℕ) → Cuts start now (listing_of form o d b) sent →
     Cuts start now (text_with form o d b f) sent
@@ -97,143 +97,172 @@ fault-known : {X : Type 0} (form : Form X) → FormLaws form →
     (o : Options) (d : List FrameType) (start now : Option (List ℕ)) (all xs ys : List ℕ) (f : ToolFault) →
     all ≡ xs ++ ys → Begins o d → ListsToFault form o d (Some ys) start now xs f
     → IsItsFault form o all f × Appends start now (listing_in_all form o d all)
-fault-known {X} form law o d start now all xs ys f e begins h = elim h.found [
+fault-known {X} form law o d start now all xs ys f parts begins stopped = elim stopped.found [
   | inl found ↦
-      let same : in_all form o all ≡ so_far form o xs = (all-grows form law o all xs ys e).2 h.cause found in
-      let is : (in_all form o all).fault ≡ Some h.cause = ap (λ (c : CaptureOf X). c.fault) same ∙ found in
+      let same : in_all form o all ≡ so_far form o xs = (all-grows form law o all xs ys parts).2 stopped.cause found in
+      let is : (in_all form o all).fault ≡ Some stopped.cause = ap (λ (c : CaptureOf X). c.fault) same ∙ found in
       let text : listing_in_all form o d all ≡ listing_of form o d (so_far form o xs).bits =
       ap (text_with form o d (in_all form o all).bits) is
-      ∙ ap (λ (c : CaptureOf X). listing_of form o d c.bits) same in
-      (record { cause = h.cause; answered = h.answered; found = is }, subst (Appends start now) (sym text) h.out)
+      ∙ ap (λ (c : CaptureOf X). listing_of form o d c.bits) same in (
+        record { cause = stopped.cause; answered = stopped.answered; found = is },
+        subst (Appends start now) (sym text) stopped.out,
+      )
   | inr end ↦
-      let same : xs ≡ all = at-end all xs ys e end.0 in
-      let is : (in_all form o all).fault ≡ Some h.cause =
-      subst (λ (z : List ℕ). (in_all form o z).fault ≡ Some h.cause) same end.1 in
+      let same : xs ≡ all = at-end all xs ys parts end.0 in
+      let is : (in_all form o all).fault ≡ Some stopped.cause =
+      subst (λ (z : List ℕ). (in_all form o z).fault ≡ Some stopped.cause) same end.1 in
       let text : listing_in_all form o d all ≡ listing_of form o d (so_far form o xs).bits =
       ap (text_with form o d (in_all form o all).bits) is
       ∙ ap (listing_of form o d) (same_bits form law o d all begins
-      ∙ ap (λ (z : List ℕ). (so_far form o z).bits) (sym same)) in
-      (record { cause = h.cause; answered = h.answered; found = is }, subst (Appends start now) (sym text) h.out)
+      ∙ ap (λ (z : List ℕ). (so_far form o z).bits) (sym same)) in (
+        record { cause = stopped.cause; answered = stopped.answered; found = is },
+        subst (Appends start now) (sym text) stopped.out,
+      )
 ]
 
 cut-known : {X : Type 0} (form : Form X) → FormLaws form →
     (o : Options) (d : List FrameType) (start now : Option (List ℕ)) (all xs ys : List ℕ) (sent : ℕ) → all ≡ xs ++ ys →
     ListsCut form o d (Some ys) start now xs sent → Cuts start now (listing_in_all form o d all) sent
-cut-known form law o d start now all xs ys sent e h = elim h.said [
+cut-known form law o d start now all xs ys sent parts stopped = elim stopped.said [
   | inl said ↦
-      let grows = all-grows form law o all xs ys e in
+      let grows = all-grows form law o all xs ys parts in
       let on = goes-on form law o d (so_far form o xs).bits grows.0 (in_all form o all).bits grows.1 in
       let cut = cuts-more start now (listing_of form o d (so_far form o xs).bits) on.more sent
-      (subst (λ (t : List ℕ). Cuts start now t sent) said h.cut) in
+      (subst (λ (t : List ℕ). Cuts start now t sent) said stopped.cut) in
       cut-with form o d start now (in_all form o all).bits (in_all form o all).fault sent
       (subst (λ (t : List ℕ). Cuts start now t sent) (sym on.is) cut)
   | inr end ↦
-      let same : xs ≡ all = at-end all xs ys e end.0 in
+      let same : xs ≡ all = at-end all xs ys parts end.0 in
       let text : listing_in_all form o d xs ≡ whole_listing form o d (in_all form o xs).bits =
       ap (text_with form o d (in_all form o xs).bits) end.1 in
       subst (λ (z : List ℕ). Cuts start now (listing_in_all form o d z) sent) same
-      (subst (λ (t : List ℕ). Cuts start now t sent) (end.2 ∙ sym text) h.cut)
+      (subst (λ (t : List ℕ). Cuts start now t sent) (end.2 ∙ sym text) stopped.cut)
 ]
 
 lists-known : {X : Type 0} (form : Form X) → FormLaws form →
     (o : Options) (start now : Option (List ℕ)) (all xs ys : List ℕ) (r : Result Summary ToolFault) → all ≡ xs ++ ys →
     ListsBy form o (Some ys) start now xs r → ListsKnownBy form o start now all r
-lists-known form law o start now all xs ys (Ok s) e h =
-    let it = h.2 in
-    let d = h.0 in
-    let same : xs ≡ all = at-end all xs ys e it.at in
+lists-known form law o start now all xs ys (Ok s) parts listed =
+    let it = listed.2 in
+    let d = listed.0 in
+    let same : xs ≡ all = at-end all xs ys parts it.at in
     let text : listing_in_all form o d xs ≡ whole_listing form o d (in_all form o xs).bits =
     ap (text_with form o d (in_all form o xs).bits) it.clean in (
       d,
-      h.1,
+      listed.1,
       subst (λ (z : List ℕ). ListsIt form o d start now z s) same
           (record { clean = it.clean; out = subst (Appends start now) (sym text) it.out; counts = it.counts }),
     )
-lists-known form law o start now all xs ys (Err (fault.Dictionary x)) e h =
-    record { why = h.why; unwritten = h.unwritten }
-lists-known form law o start now all xs ys (Err fault.Depth) e h = record { why = h.why; unwritten = h.unwritten }
-lists-known form law o start now all xs ys (Err fault.Origin) e h = record { why = h.why; unwritten = h.unwritten }
-lists-known form law o start now all xs ys (Err fault.Memory) e h = record { why = h.why; unwritten = h.unwritten }
-lists-known form law o start now all xs ys (Err fault.Read) e h = (
-  h.0,
-  h.1,
-  record { octets = length xs; front = subst (ListsSoFar form o h.0 start now) (sym (front_is all xs ys e)) h.2 },
+lists-known form law o start now all xs ys (Err (fault.Dictionary x)) parts listed =
+    record { why = listed.why; unwritten = listed.unwritten }
+lists-known form law o start now all xs ys (Err fault.Depth) parts listed =
+    record { why = listed.why; unwritten = listed.unwritten }
+lists-known form law o start now all xs ys (Err fault.Origin) parts listed =
+    record { why = listed.why; unwritten = listed.unwritten }
+lists-known form law o start now all xs ys (Err fault.Memory) parts listed =
+    record { why = listed.why; unwritten = listed.unwritten }
+lists-known form law o start now all xs ys (Err fault.Read) parts listed = (
+  listed.0,
+  listed.1,
+  record {
+    octets = length xs;
+    front = subst (ListsSoFar form o listed.0 start now) (sym (front_is all xs ys parts))
+        listed.2;
+  },
 )
-lists-known form law o start now all xs ys (Err fault.ReadsLimit) e h = (
-  h.0,
-  h.1,
-  record { octets = length xs; front = subst (ListsSoFar form o h.0 start now) (sym (front_is all xs ys e)) h.3 },
+lists-known form law o start now all xs ys (Err fault.ReadsLimit) parts listed = (
+  listed.0,
+  listed.1,
+  record {
+    octets = length xs;
+    front = subst (ListsSoFar form o listed.0 start now) (sym (front_is all xs ys parts))
+        listed.3;
+  },
 )
-lists-known form law o start now all xs ys (Err (fault.Write sent)) e h =
-    (h.0, h.1, cut-known form law o h.0 start now all xs ys sent e h.2)
-lists-known form law o start now all xs ys (Err f) e h = let known =
-    fault-known form law o h.0 start now all xs ys f e h.1 h.2 in (h.0, h.1, known.0, known.1)
+lists-known form law o start now all xs ys (Err (fault.Write sent)) parts listed =
+    (listed.0, listed.1, cut-known form law o listed.0 start now all xs ys sent parts listed.2)
+lists-known form law o start now all xs ys (Err f) parts listed =
+    let known = fault-known form law o listed.0 start now all xs ys f parts listed.1 listed.2 in
+    (listed.0, listed.1, known.0, known.1)
 
 -- what a listing answered is what all octets of a reader that tells give
 pub known-lists : {X : Type 0} (form : Form X) → FormLaws form →
     (o : Options) (before after start now : Option (List ℕ)) (xs : List ℕ) (r : Result Summary ToolFault) →
     Consumes before after xs
     → ListsBy form o after start now xs r → IfSome before (λ all. ListsKnownBy form o start now all r)
-known-lists form law o None after start now xs r p s = tt
-known-lists form law o (Some all) None start now xs r p s = absurd p
-known-lists form law o (Some all) (Some ys) start now xs r p s = lists-known form law o start now all xs ys r p s
+known-lists form law o None after start now xs r read listed = tt
+known-lists form law o (Some all) None start now xs r read listed = absurd read
+known-lists form law o (Some all) (Some ys) start now xs r read listed =
+    lists-known form law o start now all xs ys r read listed
 
 -- ---- the check
 
 check-fault : {X : Type 0} (form : Form X) → FormLaws form →
     (o : Options) (d : List FrameType) (start now : Option (List ℕ)) (all xs ys : List ℕ) (f : ToolFault) →
     all ≡ xs ++ ys → ChecksToFault form o (Some ys) start now xs f → IsItsFault form o all f
-check-fault {X} form law o d start now all xs ys f e h = elim h.found [
+check-fault {X} form law o d start now all xs ys f parts stopped = elim stopped.found [
   | inl found ↦ record {
-    cause = h.cause;
-    answered = h.answered;
-    found = ap (λ (c : CaptureOf X). c.fault) ((all-grows form law o all xs ys e).2 h.cause found) ∙ found;
+    cause = stopped.cause;
+    answered = stopped.answered;
+    found = ap (λ (c : CaptureOf X). c.fault) ((all-grows form law o all xs ys parts).2 stopped.cause found) ∙ found;
   }
   | inr end ↦ record {
-    cause = h.cause;
-    answered = h.answered;
-    found = subst (λ (z : List ℕ). (in_all form o z).fault ≡ Some h.cause) (at-end all xs ys e end.0) end.1;
+    cause = stopped.cause;
+    answered = stopped.answered;
+    found = subst (λ (z : List ℕ). (in_all form o z).fault ≡ Some stopped.cause) (at-end all xs ys parts end.0) end.1;
   }
 ]
 
 checks-known : {X : Type 0} (form : Form X) → FormLaws form →
     (o : Options) (start now : Option (List ℕ)) (all xs ys : List ℕ) (r : Result Summary ToolFault) → all ≡ xs ++ ys →
     ChecksBy form o (Some ys) start now xs r → ChecksKnownBy form o start now all r
-checks-known form law o start now all xs ys (Ok s) e h = (
-  h.0,
-  h.1,
-  subst (λ (z : List ℕ). ChecksIt form o h.0 start now z s) (at-end all xs ys e h.2.all.at)
-      (record { clean = h.2.all.clean; out = h.2.out; counts = h.2.counts }),
+checks-known form law o start now all xs ys (Ok s) parts checked = (
+  checked.0,
+  checked.1,
+  subst (λ (z : List ℕ). ChecksIt form o checked.0 start now z s) (at-end all xs ys parts checked.2.all.at)
+      (record { clean = checked.2.all.clean; out = checked.2.out; counts = checked.2.counts }),
 )
-checks-known form law o start now all xs ys (Err (fault.Dictionary x)) e h =
-    record { why = h.why; unwritten = h.unwritten }
-checks-known form law o start now all xs ys (Err fault.Depth) e h = record { why = h.why; unwritten = h.unwritten }
-checks-known form law o start now all xs ys (Err fault.Origin) e h = record { why = h.why; unwritten = h.unwritten }
-checks-known form law o start now all xs ys (Err fault.Memory) e h = record { why = h.why; unwritten = h.unwritten }
-checks-known form law o start now all xs ys (Err fault.Read) e h = (
-  h.0,
-  h.1,
-  record { octets = length xs; front = subst (ChecksSoFar form o start now) (sym (front_is all xs ys e)) h.2 },
+checks-known form law o start now all xs ys (Err (fault.Dictionary x)) parts checked =
+    record { why = checked.why; unwritten = checked.unwritten }
+checks-known form law o start now all xs ys (Err fault.Depth) parts checked =
+    record { why = checked.why; unwritten = checked.unwritten }
+checks-known form law o start now all xs ys (Err fault.Origin) parts checked =
+    record { why = checked.why; unwritten = checked.unwritten }
+checks-known form law o start now all xs ys (Err fault.Memory) parts checked =
+    record { why = checked.why; unwritten = checked.unwritten }
+checks-known form law o start now all xs ys (Err fault.Read) parts checked = (
+  checked.0,
+  checked.1,
+  record {
+    octets = length xs;
+    front = subst (ChecksSoFar form o start now) (sym (front_is all xs ys parts))
+        checked.2;
+  },
 )
-checks-known form law o start now all xs ys (Err fault.ReadsLimit) e h = (
-  h.0,
-  h.1,
-  record { octets = length xs; front = subst (ChecksSoFar form o start now) (sym (front_is all xs ys e)) h.3 },
+checks-known form law o start now all xs ys (Err fault.ReadsLimit) parts checked = (
+  checked.0,
+  checked.1,
+  record {
+    octets = length xs;
+    front = subst (ChecksSoFar form o start now) (sym (front_is all xs ys parts))
+        checked.3;
+  },
 )
-checks-known form law o start now all xs ys (Err (fault.Write sent)) e h = (
-  h.0,
-  h.1,
-  subst (λ (z : List ℕ). CutsIt form o h.0 start now z sent) (at-end all xs ys e h.2.all.at)
-      (record { clean = h.2.all.clean; cut = h.2.cut }),
+checks-known form law o start now all xs ys (Err (fault.Write sent)) parts checked = (
+  checked.0,
+  checked.1,
+  subst (λ (z : List ℕ). CutsIt form o checked.0 start now z sent) (at-end all xs ys parts checked.2.all.at)
+      (record { clean = checked.2.all.clean; cut = checked.2.cut }),
 )
-checks-known form law o start now all xs ys (Err f) e h =
-    (h.0, h.1, check-fault form law o h.0 start now all xs ys f e h.2, h.2.unwritten)
+checks-known form law o start now all xs ys (Err f) parts checked =
+    (checked.0, checked.1, check-fault form law o checked.0 start now all xs ys f parts checked.2, checked.2.unwritten)
 
 -- what a check answered is what all octets of a reader that tells give
 pub known-checks : {X : Type 0} (form : Form X) → FormLaws form →
     (o : Options) (before after start now : Option (List ℕ)) (xs : List ℕ) (r : Result Summary ToolFault) →
     Consumes before after xs
     → ChecksBy form o after start now xs r → IfSome before (λ all. ChecksKnownBy form o start now all r)
-known-checks form law o None after start now xs r p s = tt
-known-checks form law o (Some all) None start now xs r p s = absurd p
-known-checks form law o (Some all) (Some ys) start now xs r p s = checks-known form law o start now all xs ys r p s
+known-checks form law o None after start now xs r read checked = tt
+known-checks form law o (Some all) None start now xs r read checked = absurd read
+known-checks form law o (Some all) (Some ys) start now xs r read checked =
+    checks-known form law o start now all xs ys r read checked

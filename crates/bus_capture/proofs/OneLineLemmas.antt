@@ -1,14 +1,13 @@
 -- Captures of one line.
-use Rattle.std.proofs.Common.{◌≡◌, ℕ, ◌+◌, ◌*◌, ◌/◌, ◌<◌, ◌^◌, Bool, true, false, nat_lt, if◌then◌else◌, List, [], ◌++◌}
+use Rattle.std.proofs.Common.{◌≡◌, ℕ, ◌+◌, ◌*◌, ◌/◌, ◌<◌, Bool, true, false, nat_lt, if◌then◌else◌, List, [], ◌++◌}
 use Rattle.std.proofs.Common.{◌-◌, ◌≤◌, take, Option, Some, None, refl, sym, ap, ◌∙◌, subst, append_assoc, append-nil}
 use Rattle.std.proofs.Common.{arith}
 use Rattle.std.specs.Int.{next_multiple_of}
 use Rattle.std.specs.List.{list_any}
 use Rattle.std.proofs.lemmas.Grind.{common_steps}
-use Rattle.std.proofs.lemmas.Nat.{shr_below}
 use mir.Val.{bool_byte}
 use Rattle.bus_bits.specs.Bits.{bits_from}
-use Rattle.bus_bits.specs.Octet.{bits_of, bits_of_octets}
+use Rattle.bus_bits.specs.Octet.{bits_of_octets}
 use Rattle.bus_bits.proofs.BitLemmas.{bits-more}
 use Rattle.bus_bits.specs.Capture.{Capture, pad_bits, trailing}
 use Rattle.bus_bits.specs.Packed.{packed_capture, packed_whole, packed_body, wanted, unused, head_fault}
@@ -21,11 +20,11 @@ use Rattle.bus_capture.proofs.WatchingLemmas.{halts-more}
 
 -- a bit alone fits
 pub one-fits : (x : ℕ) (bit : Bool) → x ≡ bool_byte bit → x < 2
-one-fits x true e = omega (arith, e)
-one-fits x false e = omega (arith, e)
+one-fits x true is = omega (arith, is)
+one-fits x false is = omega (arith, is)
 
 take_none : (k : ℕ) (bits : List Bool) → bits ≡ [] → take k bits ≡ []
-take_none k bits e = grind (arith, common_steps)
+take_none k bits none = grind (arith, common_steps)
 
 -- no octets after a head give no bits
 pub no_body : (n : ℕ) → (packed_body n []).bits ≡ []
@@ -50,19 +49,19 @@ same_bits xs = whole-bits (head_fault xs) packed_body xs
 pub halts-from : {A N B : Type 0} (t : TapView A Bool N B) (start now : Option (List ℕ)) (w : CaptureRun A)
     (b : List Bool) (os : List ℕ) (at n all : ℕ) (f : ToolFault) → n ≤ all
     → Halts t start now w (b ++ bits_from os at n) f → Halts t start now w (b ++ bits_from os at all) f
-halts-from t start now w b os at n all f l h =
-    let e : all ≡ n + (all - n) = omega (arith, l) in
+halts-from t start now w b os at n all f within stopped =
+    let rest : all ≡ n + (all - n) = omega (arith, within) in
     let parts : (b ++ bits_from os at n) ++ bits_from os (at + n) (all - n) ≡ b ++ bits_from os at all =
     append_assoc b (bits_from os at n) (bits_from os (at + n) (all - n))
-    ∙ ap (λ (z : List Bool). b ++ z) (sym (bits-more os at n (all - n)) ∙ ap (bits_from os at) (sym e)) in
+    ∙ ap (λ (z : List Bool). b ++ z) (sym (bits-more os at n (all - n)) ∙ ap (bits_from os at) (sym rest)) in
     subst (λ (z : List Bool). Halts t start now w z f) parts
-    (halts-more t start now w (b ++ bits_from os at n) (bits_from os (at + n) (all - n)) f h)
+    (halts-more t start now w (b ++ bits_from os at n) (bits_from os (at + n) (all - n)) f stopped)
 
--- some bits, and those behind them
+-- some bits, and those after them
 pub from-next : (b : List Bool) (os : List ℕ) (at n : ℕ) →
     (b ++ bits_from os 0 at) ++ bits_from os at n ≡ b ++ bits_from os 0 (at + n)
-from-next b os at n = let e : 0 + at ≡ at = omega arith in append_assoc b (bits_from os 0 at) (bits_from os at n)
-    ∙ ap (λ (z : List Bool). b ++ z) (ap (λ (j : ℕ). bits_from os 0 at ++ bits_from os j n) (sym e)
+from-next b os at n = let here : 0 + at ≡ at = omega arith in append_assoc b (bits_from os 0 at) (bits_from os at n)
+    ∙ ap (λ (z : List Bool). b ++ z) (ap (λ (j : ℕ). bits_from os 0 at ++ bits_from os j n) (sym here)
     ∙ sym (bits-more os 0 at n))
 
 -- none

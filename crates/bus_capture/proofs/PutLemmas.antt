@@ -1,10 +1,18 @@
 -- The lines of nothing.
-use Rattle.std.proofs.Common.{◌≡◌, List, [], refl}
+use Rattle.std.proofs.Common.{◌≡◌, ℕ, List, [], refl}
 use Rattle.bus_dictionary.specs.Entry.{FrameType}
+use Rattle.bus_text.specs.Adds.{Prints}
 use Rattle.bus_text.specs.Listing.{text_of, listing}
+use Rattle.bus_text.specs.declared.page.Page.{Page}
 use Rattle.bus_text.specs.declared.printer.Printer.{Printer}
+use Rattle.bus_text.proofs.ListingLemmas.{nothing-put}
 
 -- where nothing is seen there are no lines
 pub listing-nothing : (p : Printer) (d : List FrameType) → listing p d [] ≡ []
 unfolding text_of
 listing-nothing p d = refl
+
+-- and none is put
+pub nothing-listed : (p : Printer) (d : List FrameType) (most : ℕ) (page : Page) →
+    Prints page (listing p d []) most page
+nothing-listed p d most page = rw (listing-nothing p d) (nothing-put most page)

@@ -11,7 +11,7 @@ use Rattle.bus_watch.specs.Watch.{seen_by}
 use Rattle.bus_capture.specs.Captures.{unplaced, unplaced_whole, IsSameFault}
 use Rattle.bus_capture.specs.Internal.Taps.{TapView, TapLaws}
 use Rattle.bus_text.specs.Summary.{summary_of}
-use Rattle.bus_text.specs.Internal.Pages.{Pages}
+use Rattle.bus_text.specs.Pages.{Pages}
 use Rattle.bus_text.specs.Put.{Cuts}
 use Rattle.bus_capture.specs.Internal.Watching.{IsSound, Watches, IsCutOff, lines, printed}
 use Rattle.bus_capture.specs.Internal.Sessions.{IsRead, IsReadBy, is_text, Follows, FollowsText, FollowsPacked, Stops}
@@ -57,40 +57,40 @@ watched-none tap law start w is_after counts page =
 pub follows-text : {A X N B : Type 0} (tap : TapView A X N B) (start now : Option (List ℕ)) (s : Source B)
     (text : TextCapture) (w : CaptureRun A) (xs : List ℕ)
     → s ≡ source.Text text → Follows tap start now s w xs → FollowsText tap start now text w xs
-follows-text tap start now s text w xs is h = subst (λ x. Follows tap start now x w xs) is h
+follows-text tap start now s text w xs is followed = subst (λ x. Follows tap start now x w xs) is followed
 
 pub follows-packed : {A X N B : Type 0} (tap : TapView A X N B) (start now : Option (List ℕ)) (s : Source B)
     (p : PackedCapture B) (w : CaptureRun A) (xs : List ℕ)
     → s ≡ source.Packed p → Follows tap start now s w xs → FollowsPacked tap start now p w xs
-follows-packed tap start now s p w xs is h = subst (λ x. Follows tap start now x w xs) is h
+follows-packed tap start now s p w xs is followed = subst (λ x. Follows tap start now x w xs) is followed
 
 pub text-follows : {A X N B : Type 0} (tap : TapView A X N B) (start now : Option (List ℕ)) (s : Source B)
     (text later : TextCapture) (w : CaptureRun A) (xs : List ℕ) (r : Result (Unit {0}) ToolFault)
     → s ≡ source.Text text → MatchResult r (λ _. FollowsText tap start now later w xs)
     (λ f. Stops tap true start now w xs f)
     → MatchResult r (λ _. Follows tap start now (source.Text later) w xs) (λ f. Stops tap (is_text s) start now w xs f)
-text-follows tap start now s text later w xs (Ok v) is h = h
-text-follows tap start now s text later w xs (Err f) is h =
-    subst (λ (b : Bool). Stops tap b start now w xs f) (sym (ap is_text is)) h
+text-follows tap start now s text later w xs (Ok v) is taken = taken
+text-follows tap start now s text later w xs (Err f) is taken =
+    subst (λ (b : Bool). Stops tap b start now w xs f) (sym (ap is_text is)) taken
 
 pub packed-follows : {A X N B : Type 0} (tap : TapView A X N B) (start now : Option (List ℕ)) (s : Source B)
     (p q : PackedCapture B) (w : CaptureRun A) (xs : List ℕ) (r : Result (Unit {0}) ToolFault)
     → s ≡ source.Packed p → MatchResult r (λ _. FollowsPacked tap start now q w xs)
     (λ f. Stops tap false start now w xs f)
     → MatchResult r (λ _. Follows tap start now (source.Packed q) w xs) (λ f. Stops tap (is_text s) start now w xs f)
-packed-follows tap start now s p q w xs (Ok v) is h = h
-packed-follows tap start now s p q w xs (Err f) is h =
-    subst (λ (b : Bool). Stops tap b start now w xs f) (sym (ap is_text is)) h
+packed-follows tap start now s p q w xs (Ok v) is taken = taken
+packed-follows tap start now s p q w xs (Err f) is taken =
+    subst (λ (b : Bool). Stops tap b start now w xs f) (sym (ap is_text is)) taken
 
 pub read-by : {A X N B : Type 0} (tap : TapView A X N B) (start now : Option (List ℕ)) (s : Source B) (w : CaptureRun A)
     (xs : List ℕ) → Follows tap start now s w xs → IsReadBy tap s xs
-read-by tap start now (source.Text text) w xs h = h.clean
-read-by tap start now (source.Packed p) w xs h = h.read
+read-by tap start now (source.Text text) w xs followed = followed.clean
+read-by tap start now (source.Packed p) w xs followed = followed.read
 
 packed-clean : {A X N B : Type 0} (tap : TapView A X N B) → TapLaws tap →
     (head : List ℕ) (body : Option B) (xs : List ℕ) → IsRead tap head body xs → (tap.form.packed xs).fault ≡ None
-packed-clean {A} {X} tap law head None xs h = ap (λ (c : CaptureOf X). c.fault) (law.form.short xs h.1).0
-packed-clean tap law head (Some body) xs h = law.clean body xs h
+packed-clean {A} {X} tap law head None xs read = ap (λ (c : CaptureOf X). c.fault) (law.form.short xs read.1).0
+packed-clean tap law head (Some body) xs read = law.clean body xs read
 
 -- what was read has no fault, and its bits were followed
 pub record IsUnplaced {A X N B : Type 0} (tap : TapView A X N B) (text : Bool) (start now : Option (List ℕ))
@@ -101,26 +101,27 @@ pub record IsUnplaced {A X N B : Type 0} (tap : TapView A X N B) (text : Bool) (
 pub follows-unplaced : {A X N B : Type 0} (tap : TapView A X N B) (start now : Option (List ℕ)) (s : Source B)
     (w : CaptureRun A) (xs : List ℕ)
     → TapLaws tap → Follows tap start now s w xs → IsUnplaced tap (is_text s) start now w xs
-follows-unplaced tap start now (source.Text text) w xs law h = record { clean = h.clean; bits = h.bits }
-follows-unplaced tap start now (source.Packed p) w xs law h =
-    record { clean = packed-clean tap law p.head.items p.body xs h.read; bits = h.bits }
+follows-unplaced tap start now (source.Text text) w xs law followed =
+    record { clean = followed.clean; bits = followed.bits }
+follows-unplaced tap start now (source.Packed p) w xs law followed =
+    record { clean = packed-clean tap law p.head.items p.body xs followed.read; bits = followed.bits }
 
 -- bits that were followed have a place, and so their capture is as it is
 pub all-placed : {A X N B : Type 0} (tap : TapView A X N B) → TapLaws tap →
     (start now : Option (List ℕ)) (w : CaptureRun A) (c : CaptureOf X) → IsSound tap w →
     Watches tap start now w c.bits →
     capped (tap.watch.origin w.analyser) c ≡ c
-all-placed tap law start now w c sound h =
-    let fits = followed-fits tap law start now w c.bits sound h in
+all-placed tap law start now w c sound followed =
+    let fits = followed-fits tap law start now w c.bits sound followed in
     capped_all (tap.watch.origin w.analyser) c (omega (arith, fits))
 
 pub is-clean : {A X N B : Type 0} (tap : TapView A X N B) → TapLaws tap →
     (text : Bool) (start now : Option (List ℕ)) (w : CaptureRun A) (xs : List ℕ)
     → IsSound tap w → IsUnplaced tap text start now w xs → IsClean tap text start now w xs
-is-clean {A} {X} tap law text start now w xs sound h =
-    let is = all-placed tap law start now w (unplaced tap.form text xs) sound h.bits in record {
-      clean = ap (λ (c : CaptureOf X). c.fault) is ∙ h.clean;
-      bits = subst (λ (c : CaptureOf X). Watches tap start now w c.bits) (sym is) h.bits;
+is-clean {A} {X} tap law text start now w xs sound followed =
+    let is = all-placed tap law start now w (unplaced tap.form text xs) sound followed.bits in record {
+      clean = ap (λ (c : CaptureOf X). c.fault) is ∙ followed.clean;
+      bits = subst (λ (c : CaptureOf X). Watches tap start now w c.bits) (sym is) followed.bits;
     }
 
 -- a writer was cut off in the lines of all of these
@@ -133,19 +134,19 @@ is-cut tap start now w b sent cut short =
 pub faulty-finishes : {A X N B : Type 0} (tap : TapView A X N B) (text : Bool) (reads : ℕ)
     (after start now : Option (List ℕ)) (w : CaptureRun A) (xs : List ℕ) (f : ToolFault)
     → IsFaulty tap text after start now w xs f → Finishes tap text reads after start now w xs (Err f)
-faulty-finishes tap text reads after start now w xs fault.Read h = absurd h.answered
-faulty-finishes tap text reads after start now w xs fault.ReadsLimit h = absurd h.answered
-faulty-finishes tap text reads after start now w xs (fault.Write sent) h = absurd h.answered
-faulty-finishes tap text reads after start now w xs f h = h
+faulty-finishes tap text reads after start now w xs fault.Read faulty = absurd faulty.answered
+faulty-finishes tap text reads after start now w xs fault.ReadsLimit faulty = absurd faulty.answered
+faulty-finishes tap text reads after start now w xs (fault.Write sent) faulty = absurd faulty.answered
+faulty-finishes tap text reads after start now w xs f faulty = faulty
 
 -- what stopped the taking of octets ends the reading
 pub stops-finishes : {A X N B : Type 0} (tap : TapView A X N B) (text : Bool) (reads : ℕ)
     (after start now : Option (List ℕ)) (w : CaptureRun A) (xs : List ℕ) (f : ToolFault)
     → Stops tap text start now w xs f → Finishes tap text reads after start now w xs (Err f)
-stops-finishes tap text reads after start now w xs (fault.Write sent) h = h
-stops-finishes tap text reads after start now w xs f h =
+stops-finishes tap text reads after start now w xs (fault.Write sent) stopped = stopped
+stops-finishes tap text reads after start now w xs f stopped =
     faulty-finishes tap text reads after start now w xs f
-    (record { cause = h.cause; answered = h.answered; found = inl h.found; bits = h.bits })
+    (record { cause = stopped.cause; answered = stopped.answered; found = inl stopped.found; bits = stopped.bits })
 
 -- the end of the input ends it
 pub end-finishes : {A X N B : Type 0} (tap : TapView A X N B) → TapLaws tap →
@@ -157,19 +158,19 @@ pub end-finishes : {A X N B : Type 0} (tap : TapView A X N B) → TapLaws tap �
     (λ f. (cause : CaptureFault) × IsSameFault f cause
     × (unplaced_whole tap.form text xs ≡ record { bits = (unplaced tap.form text xs).bits; fault = Some cause }))
     → Finishes tap text reads after start now w xs r
-end-finishes {A} {X} tap law text reads after start now w xs (Ok u) sound at h is =
-    let bits = subst (λ (c : CaptureOf X). Watches tap start now w c.bits) (sym is) h.bits in
+end-finishes {A} {X} tap law text reads after start now w xs (Ok u) sound at read is =
+    let bits = subst (λ (c : CaptureOf X). Watches tap start now w c.bits) (sym is) read.bits in
     let all = all-placed tap law start now w (unplaced_whole tap.form text xs) sound bits in record {
       at = at;
       clean = ap (λ (c : CaptureOf X). c.fault) (all ∙ is);
       bits = subst (λ (c : CaptureOf X). Watches tap start now w c.bits) (sym all) bits;
     }
-end-finishes {A} {X} tap law text reads after start now w xs (Err f) sound at h found =
-    let bits = subst (λ (c : CaptureOf X). Watches tap start now w c.bits) (sym found.2) h.bits in
+end-finishes {A} {X} tap law text reads after start now w xs (Err f) sound at read found =
+    let bits = subst (λ (c : CaptureOf X). Watches tap start now w c.bits) (sym found.2) read.bits in
     let all = all-placed tap law start now w (unplaced_whole tap.form text xs) sound bits in
     faulty-finishes tap text reads after start now w xs f (record {
       cause = found.0;
       answered = found.1;
       found = inr (at, ap (λ (c : CaptureOf X). c.fault) (all ∙ found.2));
-      bits = (is-clean tap law text start now w xs sound h).bits;
+      bits = (is-clean tap law text start now w xs sound read).bits;
     })

@@ -10,7 +10,7 @@ use Rattle.bus_watch.specs.History.{KeptFrame}
 use Rattle.bus_watch.specs.declared.counts.Counts.{Counts}
 use Rattle.bus_text.specs.CheckText.{tally_text, tallies_text, kept_text, history_text}
 use Rattle.bus_text.specs.Put.{Cuts}
-use Rattle.bus_text.specs.Internal.Pages.{Pages}
+use Rattle.bus_text.specs.Pages.{Pages}
 use Rattle.bus_text.proofs.PagesLemmas.{cuts-more}
 
 pub tallies-none : (t : ℕ → Counts) → tallies_text t 0 ≡ []
@@ -28,7 +28,7 @@ tallies-more t n =
 -- the lines of the first stations are a front of all
 tallies-front : (t : ℕ → Counts) (k d : ℕ) → (rest : List ℕ) × (tallies_text t (k + d) ≡ tallies_text t k ++ rest)
 tallies-front t k zero =
-    ([], ap (tallies_text t) (let e : k + 0 ≡ k = omega arith in e) ∙ sym (append-nil (tallies_text t k)))
+    ([], ap (tallies_text t) (let none : k + 0 ≡ k = omega arith in none) ∙ sym (append-nil (tallies_text t k)))
 tallies-front t k (suc d) =
     let before = tallies-front t k d in
     let last = tally_text (k + d) (t (k + d)) in
@@ -41,37 +41,38 @@ tallies-front t k (suc d) =
 -- the lines of one station more
 tallies-next : (text : List ℕ) (t : ℕ → Counts) (k : ℕ) (c : Counts) → c ≡ t k →
     (text ++ tallies_text t k) ++ tally_text k c ≡ text ++ tallies_text t (k + 1)
-tallies-next text t k c e =
+tallies-next text t k c same =
     append_assoc text (tallies_text t k) (tally_text k c)
-    ∙ ap (λ l. text ++ l) (ap (λ (c : Counts). tallies_text t k ++ tally_text k c) e ∙ sym (tallies-more t k))
+    ∙ ap (λ l. text ++ l) (ap (λ (c : Counts). tallies_text t k ++ tally_text k c) same ∙ sym (tallies-more t k))
 
 pub pages-tally : (start now : Option (List ℕ)) (page : List ℕ) (written : ℕ) (text : List ℕ) (t : ℕ → Counts) (k : ℕ)
     (c : Counts) → c ≡ t k
     → Pages start now page written ((text ++ tallies_text t k) ++ tally_text k c) →
     Pages start now page written (text ++ tallies_text t (k + 1))
-pages-tally start now page written text t k c e p = subst (Pages start now page written) (tallies-next text t k c e) p
+pages-tally start now page written text t k c same pages =
+    subst (Pages start now page written) (tallies-next text t k c same) pages
 
 -- what is cut short at a station is a front of all lines
 pub cuts-tally : (start now : Option (List ℕ)) (text : List ℕ) (t : ℕ → Counts) (k n : ℕ) (c : Counts) (sent : ℕ) →
     c ≡ t k → k + 1 ≤ n
     → Cuts start now ((text ++ tallies_text t k) ++ tally_text k c) sent →
     Cuts start now (text ++ tallies_text t n) sent
-cuts-tally start now text t k n c sent e le h =
+cuts-tally start now text t k n c sent same le cut =
     let front = tallies-front t (k + 1) (n - (k + 1)) in
     let all : (k + 1) + (n - (k + 1)) ≡ n = omega (arith, le) in
     let whole : (text ++ tallies_text t (k + 1)) ++ front.0 ≡ text ++ tallies_text t n =
     append_assoc text (tallies_text t (k + 1)) front.0 ∙ ap (λ l. text ++ l) (sym front.1 ∙ ap (tallies_text t) all) in
     subst (λ (l : List ℕ). Cuts start now l sent) whole
     (cuts-more start now (text ++ tallies_text t (k + 1)) front.0 sent
-    (subst (λ (l : List ℕ). Cuts start now l sent) (tallies-next text t k c e) h))
+    (subst (λ (l : List ℕ). Cuts start now l sent) (tallies-next text t k c same) cut))
 
 -- the line of one frame more
 history-next : (two : Bool) (text : List ℕ) (h : List KeptFrame) (i : ℕ) (f : KeptFrame) → slice_get h i ≡ Some f
     → (text ++ history_text two (take i h)) ++ kept_text two f ≡ text ++ history_text two (take (i + 1) h)
-history-next two text h i f e =
+history-next two text h i f here =
     let front : take (i + 1) h ≡ take i h ++ f ∷ [] =
-    take_more h i f (slice_get_within h i f e)
-    ∙ ap (λ (x : KeptFrame). take i h ++ x ∷ []) (get_or_from_slice_get h i f f e) in
+    take_more h i f (slice_get_within h i f here)
+    ∙ ap (λ (x : KeptFrame). take i h ++ x ∷ []) (get_or_from_slice_get h i f f here) in
     let more : history_text two (take (i + 1) h) ≡ history_text two (take i h) ++ kept_text two f =
     ap (history_text two) front ∙ flat_map-append (kept_text two) (take i h) (f ∷ [])
     ∙ ap (λ l. history_text two (take i h) ++ l) (append-nil (kept_text two f)) in
@@ -81,14 +82,14 @@ pub pages-kept : (two : Bool) (start now : Option (List ℕ)) (page : List ℕ) 
     (h : List KeptFrame) (i : ℕ) (f : KeptFrame) → slice_get h i ≡ Some f
     → Pages start now page written ((text ++ history_text two (take i h)) ++ kept_text two f) →
     Pages start now page written (text ++ history_text two (take (i + 1) h))
-pages-kept two start now page written text h i f e p =
-    subst (Pages start now page written) (history-next two text h i f e) p
+pages-kept two start now page written text h i f here pages =
+    subst (Pages start now page written) (history-next two text h i f here) pages
 
 pub cuts-kept : (two : Bool) (start now : Option (List ℕ)) (text : List ℕ) (h : List KeptFrame) (i : ℕ) (f : KeptFrame)
     (sent : ℕ) → slice_get h i ≡ Some f
     → Cuts start now ((text ++ history_text two (take i h)) ++ kept_text two f) sent →
     Cuts start now (text ++ history_text two h) sent
-cuts-kept two start now text h i f sent e c =
+cuts-kept two start now text h i f sent here cut =
     let rest = history_text two (drop (i + 1) h) in
     let whole : (text ++ history_text two (take (i + 1) h)) ++ rest ≡ text ++ history_text two h =
     append_assoc text (history_text two (take (i + 1) h)) rest
@@ -96,9 +97,9 @@ cuts-kept two start now text h i f sent e c =
     ∙ ap (history_text two) (take-append-drop (i + 1) h)) in
     subst (λ (l : List ℕ). Cuts start now l sent) whole
     (cuts-more start now (text ++ history_text two (take (i + 1) h)) rest sent
-    (subst (λ (l : List ℕ). Cuts start now l sent) (history-next two text h i f e) c))
+    (subst (λ (l : List ℕ). Cuts start now l sent) (history-next two text h i f here) cut))
 
--- the three parts of a report, behind a text
+-- the three parts of a report, after a text
 pub report-parts : (text s t h : List ℕ) → ((text ++ s) ++ t) ++ h ≡ text ++ ((s ++ t) ++ h)
 report-parts text s t h = ap (λ l. l ++ h) (append_assoc text s t) ∙ append_assoc text (s ++ t) h
 

@@ -11,14 +11,14 @@ use Rattle.bus_capture.proofs.CapturesLemmas.{halts-stops}
 
 -- how many octets stand before it
 pub octets-before : (xs os : List ℕ) (i : ℕ) → i < length os → length (xs ++ take i os) ≡ length xs + i
-octets-before xs os i h = grind (arith, common_steps)
+octets-before xs os i inside = grind (arith, common_steps)
 
 module _ {A X N B : Type 0} (t : TapView A X N B) where
   -- where no octets were taken
   pub none-taken : (start now : Option (List ℕ)) (w : CaptureRun A) (xs ys : List ℕ) (n : ℕ)
       → n ≡ 0 → FollowsOctets t start now w (xs ++ take n ys) → FollowsOctets t start now w xs
-  none-taken start now w xs ys n e h =
-      subst (FollowsOctets t start now w) (ap (λ (k : ℕ). xs ++ take k ys) e ∙ append-nil xs) h
+  none-taken start now w xs ys n none followed =
+      subst (FollowsOctets t start now w) (ap (λ (k : ℕ). xs ++ take k ys) none ∙ append-nil xs) followed
 
   -- the symbols of a text were taken, or not
   pub mark-taken : (start now : Option (List ℕ)) (w : CaptureRun A) (xs : List ℕ) (b : List X)
@@ -26,7 +26,7 @@ module _ {A X N B : Type 0} (t : TapView A X N B) where
       → t.watch.origin w.analyser ≤ 2 ^ 60 → (t.form.text xs).fault ≡ None → (t.form.text xs).bits ≡ b
       → MatchResult r (λ _. Watches t start now w b) (λ f. Halts t start now w b f)
       → MatchResult r (λ _. FollowsOctets t start now w xs) (λ f. Stops t true start now w xs f)
-  mark-taken start now w xs b (Ok u) low clean is h =
-      record { clean = clean; bits = subst (Watches t start now w) (sym is) h }
-  mark-taken start now w xs b (Err f) low clean is h =
-      halts-stops t start now w (t.form.text xs) f low (subst (λ (x : List X). Halts t start now w x f) (sym is) h)
+  mark-taken start now w xs b (Ok u) low clean is taken =
+      record { clean = clean; bits = subst (Watches t start now w) (sym is) taken }
+  mark-taken start now w xs b (Err f) low clean is taken =
+      halts-stops t start now w (t.form.text xs) f low (subst (λ (x : List X). Halts t start now w x f) (sym is) taken)

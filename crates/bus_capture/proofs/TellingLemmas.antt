@@ -5,9 +5,9 @@ use Rattle.bus_text.specs.declared.put.ShortWrite.{ShortWrite}
 
 -- the writer was not cut off
 pub not-cut : (o : Option ShortWrite) → false ≡ is_some o → o ≡ None
-not-cut None e = refl
-not-cut (Some cut) e = absurd (cc)
+not-cut None is = refl
+not-cut (Some cut) is = absurd (cc)
 
 pub none-cut : (o : Option ShortWrite) → ((cut : ShortWrite) → o ≡ Some cut → ⊥) → o ≡ None
-none-cut None h = refl
-none-cut (Some cut) h = absurd (h cut refl)
+none-cut None never = refl
+none-cut (Some cut) never = absurd (never cut refl)

@@ -28,42 +28,42 @@ module _ {A X N B : Type 0} (t : TapView A X N B) (w v : CaptureRun A) (xs : Lis
       }
 
   pub told-sound : t.watch.place w.analyser + length xs ≤ 2 ^ 60 → IsSound t w → IsSound t v
-  told-sound room h =
+  told-sound room sound =
       let place = t.watch.place w.analyser in
       record {
         places = omega (arith, all.sees.place, room);
         counts = few-within (2 * place + length all.seen) (2 * t.watch.place v.analyser) v.teller.summary
-            (omega (arith, all.sees.place, all.few)) (all.told.few (2 * place) h.counts);
-        octets = let o = h.octets in omega (arith, all.sees.place, all.few, all.told.octets, o);
+            (omega (arith, all.sees.place, all.few)) (all.told.few (2 * place) sound.counts);
+        octets = let before = sound.octets in omega (arith, all.sees.place, all.few, all.told.octets, before);
       }
 
   -- the lines that were told
   out : (start : Option (List ℕ)) (b : List X) → Watches t start before w b
       → IsOut start after v.teller.page v.teller.cut
       (lines t w b ++ printed w.teller.printer (t.watch.dictionary w.analyser) all.seen)
-  out start b h = all.told.out start (lines t w b) h.page
+  out start b followed = all.told.out start (lines t w b) followed.page
 
   pub told-watched : v.teller.cut ≡ None → (start : Option (List ℕ)) (b : List X) → Watches t start before w b →
       Watches t start after v (b ++ xs)
-  told-watched none start b h =
-      watched t start before after w v b xs all.seen all.told.printer h all.sees
-      (all.told.counted (seen_by t.watch w.analyser b) h.counts none)
+  told-watched none start b followed =
+      watched t start before after w v b xs all.seen all.told.printer followed all.sees
+      (all.told.counted (seen_by t.watch w.analyser b) followed.counts none)
       (subst (λ cut. IsOut start after v.teller.page cut
-      (lines t w b ++ printed w.teller.printer (t.watch.dictionary w.analyser) all.seen)) none (out start b h))
+      (lines t w b ++ printed w.teller.printer (t.watch.dictionary w.analyser) all.seen)) none (out start b followed))
 
   -- the writer was cut off
   pub told-cut : TapLaws t → (cut : ShortWrite) → v.teller.cut ≡ Some cut →
       t.watch.place w.analyser + length xs ≤ 2 ^ 60
       → (start : Option (List ℕ)) (b : List X) → Watches t start before w b →
       Halts t start after v (b ++ xs) (fault.Write cut.sent)
-  told-cut law cut some room start b h =
-      let text = lines-more t w v b xs all.seen all.told.printer h.is_after all.sees in
+  told-cut law cut some room start b followed =
+      let text = lines-more t w v b xs all.seen all.told.printer followed.is_after all.sees in
       let short =
       subst
       (λ o. IsOut start after v.teller.page o
-      (lines t w b ++ printed w.teller.printer (t.watch.dictionary w.analyser) all.seen)) some (out start b h) in
+      (lines t w b ++ printed w.teller.printer (t.watch.dictionary w.analyser) all.seen)) some (out start b followed) in
       let fits : t.watch.origin v.analyser + length (b ++ xs) ≤ 2 ^ 60 =
-      omega (arith, all.sees.origin, law.placed w.analyser b h.is_after, room, length-append b xs) in
+      omega (arith, all.sees.origin, law.placed w.analyser b followed.is_after, room, length-append b xs) in
       record {
         front = b ++ xs;
         more = [];
@@ -72,12 +72,12 @@ module _ {A X N B : Type 0} (t : TapView A X N B) (w v : CaptureRun A) (xs : Lis
         short = subst (λ (ys : List ℕ). cut.sent < length ys) (sym text) short.1;
       }
 
--- the first pairs of octets' bits, and those behind them
+-- the first pairs of octets' bits, and those after them
 pairs-behind : (b : List (Bool × Bool)) (os ys : List ℕ) (n count : ℕ) → n ≤ count
     → b ++ zip (bits_from os 0 count) (bits_from ys 0 count)
     ≡ (b ++ zip (bits_from os 0 n) (bits_from ys 0 n)) ++ zip (bits_from os n (count - n)) (bits_from ys n (count - n))
-pairs-behind b os ys n count l =
-    let all : count ≡ n + (count - n) = omega (arith, l) in
+pairs-behind b os ys n count within =
+    let all : count ≡ n + (count - n) = omega (arith, within) in
     ap (λ (k : ℕ). b ++ zip (bits_from os 0 k) (bits_from ys 0 k)) all
     ∙ (ap (λ ps. b ++ ps) (zip-met os ys n (count - n))
     ∙ sym (append_assoc b (zip (bits_from os 0 n) (bits_from ys 0 n))
@@ -88,8 +88,9 @@ pub halts-behind : {A N B : Type 0} (t : TapView A (Bool × Bool) N B) (start no
     (b : List (Bool × Bool)) (os ys : List ℕ) (n count : ℕ) (f : ToolFault)
     → n ≤ count → Halts t start now w (b ++ zip (bits_from os 0 n) (bits_from ys 0 n)) f →
     Halts t start now w (b ++ zip (bits_from os 0 count) (bits_from ys 0 count)) f
-halts-behind t start now w b os ys n count f l h =
-    subst (λ ps. Halts t start now w ps f) (sym (pairs-behind b os ys n count l)) (halts-more t start now w _ _ f h)
+halts-behind t start now w b os ys n count f within stopped =
+    subst (λ ps. Halts t start now w ps f) (sym (pairs-behind b os ys n count within))
+    (halts-more t start now w _ _ f stopped)
 
 -- all that have a place were followed, and others have none
 pub limited : {A N B : Type 0} (t : TapView A (Bool × Bool) N B) → TapLaws t →
@@ -97,6 +98,6 @@ pub limited : {A N B : Type 0} (t : TapView A (Bool × Bool) N B) → TapLaws t 
     → n < count → 2 ^ 60 ≤ t.watch.place w.analyser → IsSound t w →
     Watches t start now w (b ++ zip (bits_from os 0 n) (bits_from ys 0 n))
     → Halts t start now w (b ++ zip (bits_from os 0 count) (bits_from ys 0 count)) fault.PlaceLimit
-limited t law start now w b os ys n count more limit sound h =
+limited t law start now w b os ys n count more limit sound followed =
     subst (λ ps. Halts t start now w ps fault.PlaceLimit) (sym (pairs-behind b os ys n count (omega (arith, more))))
-    (halted t law start now w w _ _ refl (omega (arith, more, length-zipped os ys n (count - n))) limit sound h)
+    (halted t law start now w w _ _ refl (omega (arith, more, length-zipped os ys n (count - n))) limit sound followed)

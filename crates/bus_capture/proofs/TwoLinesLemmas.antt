@@ -1,13 +1,11 @@
 -- Captures of two lines.
-use Rattle.std.proofs.Common.{◌≡◌, ℕ, ◌+◌, ◌*◌, ◌/◌, ◌%◌, ◌^◌, Bool, List, [], ◌∷◌, ◌++◌, length, take, zip, Some, sym}
+use Rattle.std.proofs.Common.{◌≡◌, ℕ, ◌+◌, ◌*◌, Bool, List, [], ◌∷◌, ◌++◌, length, zip, Some, sym}
 use Rattle.std.proofs.Common.{ap, ◌∙◌, arith}
-use Rattle.std.specs.Array.{IsFirstChunk}
 use Rattle.std.proofs.lemmas.List.{length-map}
 use mir.Val.{bool_byte}
 use Rattle.bus_bits.specs.Octet.{bits_of}
 use Rattle.bus_bits.specs.Packed.{packed_pair_capture, packed_pair_whole, pair_body, in_pairs, pair_head_fault}
-use Rattle.bus_bits.proofs.OctetLemmas.{length-bits, bits-split, bits-low, one_bit}
-use Rattle.bus_bits.proofs.PairWordsLemmas.{zip-append}
+use Rattle.bus_bits.proofs.OctetLemmas.{one_bit}
 use Rattle.bus_watch.specs.Heard.{pairs_of, firsts}
 use Rattle.bus_watch.specs.Seen.{SeenReport}
 use Rattle.bus_watch.specs.Shown.{found, found_on}
@@ -20,14 +18,14 @@ use Rattle.bus_capture.proofs.OneLineLemmas.{no_body}
 
 -- a pair alone
 pub one_pair : (x y : ℕ) (a b : Bool) → x ≡ bool_byte a → y ≡ bool_byte b → pairs_of 1 x y ≡ (a, b) ∷ []
-one_pair x y a b e f =
-    ap (λ (c : List Bool). zip c (bits_of 1 y)) (one_bit x 1 a e (omega arith) (omega arith))
-    ∙ ap (zip (a ∷ [])) (one_bit y 1 b f (omega arith) (omega arith))
+one_pair x y a b first second =
+    ap (λ (c : List Bool). zip c (bits_of 1 y)) (one_bit x 1 a first (omega arith) (omega arith))
+    ∙ ap (zip (a ∷ [])) (one_bit y 1 b second (omega arith) (omega arith))
 
 -- as many pairs as each line has bits
 pub placed-pairs : (place origin : ℕ) (ps : List (Bool × Bool)) → place ≡ origin + length (firsts ps) →
     place ≡ origin + length ps
-placed-pairs place origin ps e = omega (arith, e, length-map ps (λ (p : Bool × Bool). p.0))
+placed-pairs place origin ps placed = omega (arith, placed, length-map ps (λ (p : Bool × Bool). p.0))
 
 -- no octets after a head give no pairs
 pub no_pair_body : (n : ℕ) → (pair_body n []).bits ≡ []

@@ -14,7 +14,7 @@ use Rattle.bus_watch.specs.Watch.{Leads, seen_by}
 use Rattle.bus_text.specs.Listing.{ending_text}
 use Rattle.bus_text.specs.Summary.{summary_of}
 use Rattle.bus_text.specs.Counting.{IsFew}
-use Rattle.bus_text.specs.Internal.Pages.{Pages}
+use Rattle.bus_text.specs.Pages.{Pages}
 use Rattle.bus_text.specs.Put.{Cuts}
 use Rattle.bus_capture.specs.Internal.Taps.{TapView, TapLaws}
 use Rattle.bus_capture.specs.Internal.Watching.{IsSound, Watches, IsSame, Halts, printed, ended, lines, last_lines}
@@ -29,15 +29,15 @@ use Rattle.bus_capture.specs.Internal.TellingLaws.{few-within, printed-append, p
 
 -- symbols that all have a place
 pub within-all : {X : Type 0} (origin : ℕ) (b : List X) → origin + length b ≤ 2 ^ 60 → within origin b ≡ b
-within-all origin b h = take_all (2 ^ 60 - origin) b (omega (arith, h))
+within-all origin b fits = take_all (2 ^ 60 - origin) b (omega (arith, fits))
 
 -- some more, where the place has come to its end
 pub within-front : {X : Type 0} (origin : ℕ) (b more : List X) → origin + length b ≡ 2 ^ 60 →
     within origin (b ++ more) ≡ b
-within-front origin b more h =
-    take-append-le (2 ^ 60 - origin) b more (omega (arith, h)) ∙ take_all (2 ^ 60 - origin) b (omega (arith, h))
+within-front origin b more full =
+    take-append-le (2 ^ 60 - origin) b more (omega (arith, full)) ∙ take_all (2 ^ 60 - origin) b (omega (arith, full))
 
--- the first of two lists, one behind the other
+-- the first of two lists, one after the other
 pub take-split : {X : Type 0} (n : ℕ) (xs ys : List X) → take n (xs ++ ys) ≡ take n xs ++ take (n - length xs) ys
 take-split zero xs ys = grind (arith, common_steps)
 take-split (suc n) [] ys = grind (arith, common_steps)
@@ -45,53 +45,57 @@ take-split (suc n) (x ∷ xs) ys =
     let fewer : n - length xs ≡ suc n - length (x ∷ xs) = omega arith in
     ap (λ zs. x ∷ zs) (take-split n xs ys ∙ ap (λ (k : ℕ). take n xs ++ take k ys) fewer)
 
--- an item of a list, behind those before it
+-- an item of a list, after those before it
 pub item-middle : {X : Type 0} (b xs : List X) (i : ℕ) (x d : X) → i < length xs → x ≡ get_or xs i d →
     ((b ++ take i xs) ++ x ∷ []) ++ drop (i + 1) xs ≡ b ++ xs
-item-middle b xs i x d h is = grind (arith, common_steps)
+item-middle b xs i x d inside is = grind (arith, common_steps)
 
 pub item-next : {X : Type 0} (b xs : List X) (i : ℕ) (x d : X) → i < length xs → x ≡ get_or xs i d →
     (b ++ take i xs) ++ x ∷ [] ≡ b ++ take (i + 1) xs
-item-next b xs i x d h is = grind (arith, common_steps)
+item-next b xs i x d inside is = grind (arith, common_steps)
 
 drop-drop : {X : Type 0} (i n : ℕ) (xs : List X) → drop n (drop i xs) ≡ drop (i + n) xs
 drop-drop i n xs = grind (arith, common_steps)
 
 -- the places of symbols that were taken
 pub below : (place : ℕ) → (2 ^ 60 < place → false ≡ true) → place ≤ 2 ^ 60
-below place h = elim (cases_lt (2 ^ 60) place) [ inl u ↦ absurd (let e = h u in cc) | inr u ↦ u ]
+below place never =
+    elim (cases_lt (2 ^ 60) place) [ inl over ↦ absurd (let wrong = never over in cc) | inr within ↦ within ]
 
 module _ {A X N B : Type 0} (t : TapView A X N B) where
   -- what is seen depends on dictionary and origin alone
   pub seen-same : (a c : A) (b : List X) → t.watch.dictionary c ≡ t.watch.dictionary a →
       t.watch.origin c ≡ t.watch.origin a → seen_by t.watch c b ≡ seen_by t.watch a b
-  seen-same a c b d o =
-      ap (λ (x : List FrameType). seen x (t.watch.hears (t.watch.origin c) (longest_of x) b)) d
-      ∙ ap (λ (n : ℕ). seen (t.watch.dictionary a) (t.watch.hears n (longest_of (t.watch.dictionary a)) b)) o
+  seen-same a c b dictionary origin =
+      ap (λ (x : List FrameType). seen x (t.watch.hears (t.watch.origin c) (longest_of x) b)) dictionary
+      ∙ ap (λ (n : ℕ). seen (t.watch.dictionary a) (t.watch.hears n (longest_of (t.watch.dictionary a)) b)) origin
 
   -- and so with the lines
   pub lines-same : (w v : CaptureRun A) (b : List X) → v.teller.printer ≡ w.teller.printer →
       t.watch.dictionary v.analyser ≡ t.watch.dictionary w.analyser →
       t.watch.origin v.analyser ≡ t.watch.origin w.analyser → lines t v b ≡ lines t w b
-  lines-same w v b p d o =
-      ap (λ x. printed x (t.watch.dictionary v.analyser) (seen_by t.watch v.analyser b)) p
-      ∙ ap (λ (x : List FrameType). printed w.teller.printer x (seen_by t.watch v.analyser b)) d
-      ∙ ap (printed w.teller.printer (t.watch.dictionary w.analyser)) (seen-same w.analyser v.analyser b d o)
+  lines-same w v b printer dictionary origin =
+      ap (λ x. printed x (t.watch.dictionary v.analyser) (seen_by t.watch v.analyser b)) printer
+      ∙ ap (λ (x : List FrameType). printed w.teller.printer x (seen_by t.watch v.analyser b)) dictionary
+      ∙ ap (printed w.teller.printer (t.watch.dictionary w.analyser))
+      (seen-same w.analyser v.analyser b dictionary origin)
 
   -- what is seen of more symbols
   pub seen-more : (a c : A) (b more : List X) (told : List SeenReport)
       → t.watch.is_after a b → Leads t.watch a more told c → seen_by t.watch c (b ++ more) ≡ seen_by t.watch a b ++ told
-  seen-more a c b more told s e = seen-same a c (b ++ more) e.dictionary e.origin ∙ e.seen b s
+  seen-more a c b more told after leads = seen-same a c (b ++ more) leads.dictionary leads.origin ∙ leads.seen b after
 
   -- the lines of more symbols
   pub lines-more : (w v : CaptureRun A) (b more : List X) (told : List SeenReport)
       → v.teller.printer ≡ w.teller.printer → t.watch.is_after w.analyser b →
       Leads t.watch w.analyser more told v.analyser
       → lines t v (b ++ more) ≡ lines t w b ++ printed w.teller.printer (t.watch.dictionary w.analyser) told
-  lines-more w v b more told p s e =
-      ap (λ x. printed x (t.watch.dictionary v.analyser) (seen_by t.watch v.analyser (b ++ more))) p
-      ∙ ap (λ (d : List FrameType). printed w.teller.printer d (seen_by t.watch v.analyser (b ++ more))) e.dictionary
-      ∙ ap (printed w.teller.printer (t.watch.dictionary w.analyser)) (seen-more w.analyser v.analyser b more told s e)
+  lines-more w v b more told printer after leads =
+      ap (λ x. printed x (t.watch.dictionary v.analyser) (seen_by t.watch v.analyser (b ++ more))) printer
+      ∙ ap (λ (d : List FrameType). printed w.teller.printer d (seen_by t.watch v.analyser (b ++ more)))
+      leads.dictionary
+      ∙ ap (printed w.teller.printer (t.watch.dictionary w.analyser))
+      (seen-more w.analyser v.analyser b more told after leads)
       ∙ printed-append w.teller.printer (t.watch.dictionary w.analyser) (seen_by t.watch w.analyser b) told
 
   -- symbols that tell this were followed
@@ -101,18 +105,18 @@ module _ {A X N B : Type 0} (t : TapView A X N B) where
       → Pages start later v.teller.page.text v.teller.page.written
       (lines t w b ++ printed w.teller.printer (t.watch.dictionary w.analyser) told)
       → Watches t start later v (b ++ more)
-  watched start now later w v b more told p h e counts page = record {
-    is_after = e.is_after b h.is_after;
-    counts = counts ∙ ap summary_of (sym (seen-more w.analyser v.analyser b more told h.is_after e));
+  watched start now later w v b more told printer followed leads counts page = record {
+    is_after = leads.is_after b followed.is_after;
+    counts = counts ∙ ap summary_of (sym (seen-more w.analyser v.analyser b more told followed.is_after leads));
     page = subst (Pages start later v.teller.page.text v.teller.page.written)
-        (sym (lines-more w v b more told p h.is_after e)) page;
+        (sym (lines-more w v b more told printer followed.is_after leads)) page;
   }
 
   -- symbols at which nothing is seen were followed
   pub unheard : (start now : Option (List ℕ)) (w v : CaptureRun A) (b more : List X) (told : List SeenReport)
       → v ≡ record w { analyser = v.analyser } → told ≡ [] → Watches t start now w b →
       Leads t.watch w.analyser more told v.analyser → Watches t start now v (b ++ more)
-  unheard start now w v b more told same none h e =
+  unheard start now w v b more told same none followed leads =
       let d = t.watch.dictionary w.analyser in
       let before = seen_by t.watch w.analyser b in
       let seen : before ≡ before ++ told = sym (append-nil before)
@@ -121,23 +125,23 @@ module _ {A X N B : Type 0} (t : TapView A X N B) where
       sym (append-nil (lines t w b)) ∙ ap (λ (x : List ℕ). lines t w b ++ x)
       (sym (printed-none w.teller.printer d) ∙ ap (printed w.teller.printer d) (sym none)) in
       let page : v.teller.page ≡ w.teller.page = ap (λ (r : CaptureRun A). r.teller.page) same in
-      watched start now now w v b more told (ap (λ (r : CaptureRun A). r.teller.printer) same) h e
-      (ap (λ (r : CaptureRun A). r.teller.summary) same ∙ (h.counts ∙ ap summary_of seen))
+      watched start now now w v b more told (ap (λ (r : CaptureRun A). r.teller.printer) same) followed leads
+      (ap (λ (r : CaptureRun A). r.teller.summary) same ∙ (followed.counts ∙ ap summary_of seen))
       (subst (Pages start now v.teller.page.text v.teller.page.written) text
-      (subst (λ (x : Page). Pages start now x.text x.written (lines t w b)) (sym page) h.page))
+      (subst (λ (x : Page). Pages start now x.text x.written (lines t w b)) (sym page) followed.page))
 
   -- symbols that have no place stop the following
   pub halted : TapLaws t → (start now : Option (List ℕ)) (w v : CaptureRun A) (b more : List X)
       → v ≡ w → 0 < length more → 2 ^ 60 ≤ t.watch.place w.analyser → IsSound t w → Watches t start now w b →
       Halts t start now v (b ++ more) fault.PlaceLimit
-  halted law start now w v b more e some limit sound h =
+  halted law start now w v b more same some limit sound followed =
       let origin = t.watch.origin w.analyser in
-      let place : t.watch.place w.analyser ≡ origin + length b = law.placed w.analyser b h.is_after in
+      let place : t.watch.place w.analyser ≡ origin + length b = law.placed w.analyser b followed.is_after in
       let most : t.watch.place w.analyser ≤ 2 ^ 60 = sound.places in
       let end : origin + length b ≡ 2 ^ 60 = omega (arith, place, most, limit) in
       let over : 2 ^ 60 - origin < length (b ++ more) = omega (arith, end, some, length-append b more) in
-      subst (λ (x : CaptureRun A). Halts t start now x (b ++ more) fault.PlaceLimit) (sym e)
-      (over, subst (Watches t start now w) (sym (within-front origin b more end)) h)
+      subst (λ (x : CaptureRun A). Halts t start now x (b ++ more) fault.PlaceLimit) (sym same)
+      (over, subst (Watches t start now w) (sym (within-front origin b more end)) followed)
 
   -- a writer was cut off before the lines of some symbols
   pub cut-off : TapLaws t → (start now : Option (List ℕ)) (w v : CaptureRun A) (b more : List X)
@@ -146,38 +150,40 @@ module _ {A X N B : Type 0} (t : TapView A X N B) where
       t.watch.is_after w.analyser b → Leads t.watch w.analyser more told v.analyser
       → Cuts start now (lines t w b) sent → sent < length (lines t w b) →
       Halts t start now v (b ++ more) (fault.Write sent)
-  cut-off law start now w v b more told sent p place s e cut short =
-      let is_after : t.watch.place w.analyser ≡ t.watch.origin w.analyser + length b = law.placed w.analyser b s in
+  cut-off law start now w v b more told sent printer place after leads cut short =
+      let is_after : t.watch.place w.analyser ≡ t.watch.origin w.analyser + length b = law.placed w.analyser b after in
       let fits : t.watch.origin v.analyser + length (b ++ more) ≤ 2 ^ 60 =
-      omega (arith, e.origin, is_after, place, length-append b more) in
+      omega (arith, leads.origin, is_after, place, length-append b more) in
       record {
         front = b;
         more = more;
         all = within-all (t.watch.origin v.analyser) (b ++ more) fits;
-        cut = subst (λ (x : List ℕ). Cuts start now x sent) (sym (lines-same w v b p e.dictionary e.origin)) cut;
-        short = subst (λ (x : List ℕ). sent < length x) (sym (lines-same w v b p e.dictionary e.origin)) short;
+        cut = subst (λ (x : List ℕ). Cuts start now x sent)
+            (sym (lines-same w v b printer leads.dictionary leads.origin)) cut;
+        short = subst (λ (x : List ℕ). sent < length x) (sym (lines-same w v b printer leads.dictionary leads.origin))
+            short;
       }
 
-  -- what stopped, stops with more behind it
+  -- what stopped, stops with more after it
   pub halts-more : (start now : Option (List ℕ)) (w : CaptureRun A) (b more : List X) (f : ToolFault)
       → Halts t start now w b f → Halts t start now w (b ++ more) f
-  halts-more start now w b more fault.PlaceLimit h =
+  halts-more start now w b more fault.PlaceLimit stopped =
       let n = 2 ^ 60 - t.watch.origin w.analyser in
-      let over : n < length b = h.0 in (
+      let over : n < length b = stopped.0 in (
         omega (arith, over, length-append b more),
-        subst (Watches t start now w) (sym (take-append-le n b more (omega (arith, over)))) h.1,
+        subst (Watches t start now w) (sym (take-append-le n b more (omega (arith, over)))) stopped.1,
       )
-  halts-more start now w b more (fault.Write sent) h =
+  halts-more start now w b more (fault.Write sent) stopped =
       let n = 2 ^ 60 - t.watch.origin w.analyser in
       record {
-        front = h.front;
-        more = h.more ++ take (n - length b) more;
-        all = take-split n b more ∙ ap (λ (x : List X). x ++ take (n - length b) more) h.all
-            ∙ append_assoc h.front h.more (take (n - length b) more);
-        cut = h.cut;
-        short = h.short;
+        front = stopped.front;
+        more = stopped.more ++ take (n - length b) more;
+        all = take-split n b more ∙ ap (λ (x : List X). x ++ take (n - length b) more) stopped.all
+            ∙ append_assoc stopped.front stopped.more (take (n - length b) more);
+        cut = stopped.cut;
+        short = stopped.short;
       }
-  halts-more start now w b more _ h = absurd h
+  halts-more start now w b more _ stopped = absurd stopped
 
   -- the first symbols of a word, and the others
   pub word-parts : TapLaws t → (b : List X) (n count : ℕ) (word : N) → n ≤ count →
@@ -192,9 +198,9 @@ module _ {A X N B : Type 0} (t : TapView A X N B) where
   pub halts-word : TapLaws t → (start now : Option (List ℕ)) (w : CaptureRun A) (b : List X) (n count : ℕ) (word : N)
       (f : ToolFault)
       → n ≤ count → Halts t start now w (b ++ t.symbols n word) f → Halts t start now w (b ++ t.symbols count word) f
-  halts-word law start now w b n count word f le h =
+  halts-word law start now w b n count word f le stopped =
       subst (λ (z : List X). Halts t start now w z f) (sym (word-parts law b n count word le))
-      (halts-more start now w (b ++ t.symbols n word) (drop n (t.symbols count word)) f h)
+      (halts-more start now w (b ++ t.symbols n word) (drop n (t.symbols count word)) f stopped)
 
   -- the first symbol of a word was taken alone, or not
   pub front-taken : TapLaws t → (start now : Option (List ℕ)) (w : CaptureRun A) (b : List X) (count : ℕ)
@@ -204,12 +210,12 @@ module _ {A X N B : Type 0} (t : TapView A X N B) where
       (λ f. Halts t start now w (b ++ t.symbols 1 front) f)
       → MatchResult r (λ n. Watches t start now w (b ++ t.symbols n word))
       (λ f. Halts t start now w (b ++ t.symbols count word) f)
-  front-taken law start now w b count word front (Ok n) some is within h =
+  front-taken law start now w b count word front (Ok n) some is within taken =
       let one : n ≡ 1 = omega (arith, within.0, within.1) in
       subst (λ (z : List X). Watches t start now w (b ++ z))
-      (ap (λ (k : ℕ). t.symbols k front) one ∙ is ∙ ap (λ (k : ℕ). t.symbols k word) (sym one)) h
-  front-taken law start now w b count word front (Err f) some is within h =
-      halts-word law start now w b 1 count word f some (subst (λ (z : List X). Halts t start now w (b ++ z) f) is h)
+      (ap (λ (k : ℕ). t.symbols k front) one ∙ is ∙ ap (λ (k : ℕ). t.symbols k word) (sym one)) taken
+  front-taken law start now w b count word front (Err f) some is within taken =
+      halts-word law start now w b 1 count word f some (subst (λ (z : List X). Halts t start now w (b ++ z) f) is taken)
 
   -- the next symbols of those that are left
   pub word-next : TapLaws t → (b all : List X) (i n left : ℕ) (rest : N) → n ≤ left → t.symbols left rest ≡ drop i all
@@ -219,7 +225,7 @@ module _ {A X N B : Type 0} (t : TapView A X N B) where
       ∙ ap (λ (z : List X). b ++ (take i all ++ z)) (law.front n left rest le ∙ ap (λ (z : List X). take n z) is)
       ∙ ap (λ (z : List X). b ++ z) (sym (take-add i n all))
 
-  -- and those that are left behind them
+  -- and those that are left after them
   pub word-behind : TapLaws t → (all : List X) (i n left : ℕ) (rest later : N) → t.symbols (n + left) rest ≡ drop i all
       → t.symbols (n + left) rest ≡ t.symbols n rest ++ t.symbols left later → t.symbols left later ≡ drop (i + n) all
   word-behind law all i n left rest later is parts =
@@ -230,11 +236,11 @@ module _ {A X N B : Type 0} (t : TapView A X N B) where
 
   -- what stays the same twice, stays the same
   pub same-both : (u v w : CaptureRun A) → IsSame t u v → IsSame t v w → IsSame t u w
-  same-both u v w a b = record {
-    printer = b.printer ∙ a.printer;
-    dictionary = b.dictionary ∙ a.dictionary;
-    depth = b.depth ∙ a.depth;
-    origin = b.origin ∙ a.origin;
+  same-both u v w first second = record {
+    printer = second.printer ∙ first.printer;
+    dictionary = second.dictionary ∙ first.dictionary;
+    depth = second.depth ∙ first.depth;
+    origin = second.origin ∙ first.origin;
   }
 
   pub same-self : (w : CaptureRun A) → IsSame t w w
@@ -246,11 +252,11 @@ module _ {A X N B : Type 0} (t : TapView A X N B) where
       → IsFew (2 * t.watch.place w.analyser + 2) v.teller.summary
       → v.teller.page.written + length v.teller.page.text ≤ w.teller.page.written + length w.teller.page.text + 2048
       → IsSound t w → IsSound t v
-  sound-next w v n some e le few octets h = record {
-    places = omega (arith, e, le);
+  sound-next w v n some place le few octets sound = record {
+    places = omega (arith, place, le);
     counts = few-within (2 * t.watch.place w.analyser + 2) (2 * t.watch.place v.analyser) v.teller.summary
-        (omega (arith, e, some)) few;
-    octets = let o = h.octets in omega (arith, e, octets, o, some);
+        (omega (arith, place, some)) few;
+    octets = let before = sound.octets in omega (arith, place, octets, before, some);
   }
 
   -- without a printer there are no lines of the end
@@ -258,12 +264,12 @@ module _ {A X N B : Type 0} (t : TapView A X N B) where
       → w.teller.printer ≡ None → later ≡ page
       → Pages start now page.text page.written (lines t w b) →
       Pages start now later.text later.written (lines t w b ++ last_lines t w b)
-  pages-unended start now w b page later e l h =
+  pages-unended start now w b page later none same before =
       let waits = pending (t.watch.dictionary w.analyser) (heard_by t.watch w.analyser b) in
-      subst (λ (x : Page). Pages start now x.text x.written (lines t w b ++ last_lines t w b)) (sym l)
+      subst (λ (x : Page). Pages start now x.text x.written (lines t w b ++ last_lines t w b)) (sym same)
       (subst (λ (z : List ℕ). Pages start now page.text page.written z)
-      (sym (ap (λ x. lines t w b ++ ended x (t.form.ending (t.watch.origin w.analyser) b waits)) e
-      ∙ append-nil (lines t w b))) h)
+      (sym (ap (λ x. lines t w b ++ ended x (t.form.ending (t.watch.origin w.analyser) b waits)) none
+      ∙ append-nil (lines t w b))) before)
 
   -- the lines of the end were put on the page
   pub pages-ended : (start now : Option (List ℕ)) (w : CaptureRun A) (b : List X) (p : Printer) (page put later : Page)
@@ -274,10 +280,10 @@ module _ {A X N B : Type 0} (t : TapView A X N B) where
       → put.written ≡ page.written
       → Pages start now page.text page.written (lines t w b) →
       Pages start now later.text later.written (lines t w b ++ last_lines t w b)
-  pages-ended start now w b p page put later e l bytes written h =
+  pages-ended start now w b p page put later some same bytes written before =
       let waits = pending (t.watch.dictionary w.analyser) (heard_by t.watch w.analyser b) in
       let last : put.text ≡ page.text ++ last_lines t w b =
-      bytes ∙ ap (λ x. page.text ++ ended x (t.form.ending (t.watch.origin w.analyser) b waits)) (sym e) in
-      subst (λ (x : Page). Pages start now x.text x.written (lines t w b ++ last_lines t w b)) (sym l)
+      bytes ∙ ap (λ x. page.text ++ ended x (t.form.ending (t.watch.origin w.analyser) b waits)) (sym some) in
+      subst (λ (x : Page). Pages start now x.text x.written (lines t w b ++ last_lines t w b)) (sym same)
       (subst (λ (n : ℕ). Pages start now put.text n (lines t w b ++ last_lines t w b)) (sym written)
-      (pages-more start now page.text put.text page.written (lines t w b) (last_lines t w b) last h))
+      (pages-more start now page.text put.text page.written (lines t w b) (last_lines t w b) last before))

@@ -27,8 +27,8 @@ pub record Form (X : Type 0) : Type 0 where
   pub is_two : Bool  -- the frames of the history are told with the number of their line
 
 -- one line
-abbrev pub one_line : Form Bool
-one_line = record {
+abbrev pub form_of_one : Form Bool
+form_of_one = record {
   text = text_capture;
   packed = packed_capture;
   packed_whole = packed_whole;
@@ -38,8 +38,8 @@ one_line = record {
 }
 
 -- two lines
-abbrev pub two_lines : Form (Bool × Bool)
-two_lines = record {
+abbrev pub form_of_two : Form (Bool × Bool)
+form_of_two = record {
   text = text_pair_capture;
   packed = packed_pair_capture;
   packed_whole = packed_pair_whole;
@@ -65,12 +65,12 @@ module _ {X : Type 0} (f : Form X) where
   whole_capture text origin xs = capped origin (unplaced_whole text xs)
 
   -- the reports, by a dictionary, whose longest frame bounds the frames
-  abbrev pub heard_in : ℕ → List FrameType → List X → List Heard
-  heard_in origin d b = f.hears origin (longest_of d) b
+  abbrev pub reports_heard : ℕ → List FrameType → List X → List Heard
+  reports_heard origin d b = f.hears origin (longest_of d) b
 
   -- what is seen of them
-  abbrev pub seen_in : ℕ → List FrameType → List X → List SeenReport
-  seen_in origin d b = seen d (heard_in origin d b)
+  abbrev pub reports_seen : ℕ → List FrameType → List X → List SeenReport
+  reports_seen origin d b = seen d (reports_heard origin d b)
 
   -- the octets have this fault, or they are the whole input and have it
   abbrev pub HasFault : Bool → ℕ → Option (List ℕ) → List ℕ → CaptureFault → Type 0

@@ -4,7 +4,8 @@ use Rattle.std.specs.Io.KnownBytes.{Appends, IsAtEnd}
 use Rattle.bus_bits.specs.Capture.{CaptureFault}
 use Rattle.bus_dictionary.specs.Entry.{FrameType}
 use Rattle.bus_watch.specs.History.{history, tally}
-use Rattle.bus_capture.specs.Captures.{Form, one_line, two_lines, heard_in, seen_in, IsSameFault, HasFault}
+use Rattle.bus_capture.specs.Captures.{Form, HasFault, IsSameFault, form_of_one, form_of_two, reports_heard}
+use Rattle.bus_capture.specs.Captures.{reports_seen}
 use Rattle.bus_text.specs.CheckText.{check_text}
 use Rattle.bus_text.specs.Summary.{summary_of}
 use Rattle.bus_text.specs.Put.{Cuts}
@@ -18,10 +19,10 @@ use Rattle.bus_text.specs.declared.fault.ToolFault.TheVariants.{Write}
 
 module _ {X : Type 0} (f : Form X) where
   -- the report of bits: how often each thing is seen, the verdicts of each station, and the last frames
-  abbrev pub report_of : Options → List FrameType → List X → List ℕ
-  report_of o d b =
-      check_text f.is_two (summary_of (seen_in f o.origin d b)) (tally d (heard_in f o.origin d b))
-      (history o.depth (heard_in f o.origin d b))
+  abbrev pub check_report : Options → List FrameType → List X → List ℕ
+  check_report o d b =
+      check_text f.is_two (summary_of (reports_seen f o.origin d b)) (tally d (reports_heard f o.origin d b))
+      (history o.depth (reports_heard f o.origin d b))
 
   -- these octets are the whole input and have no fault
   pub record IsAll (o : Options) (after : Option (List ℕ)) (xs : List ℕ) : Type 0 where
@@ -32,8 +33,8 @@ module _ {X : Type 0} (f : Form X) where
   pub record ChecksAll (o : Options) (d : List FrameType) (after start now : Option (List ℕ)) (xs : List ℕ)
       (s : Summary) : Type 0 where
     pub all : IsAll o after xs
-    pub out : Appends start now (report_of o d (in_all f o xs).bits)
-    pub counts : s ≡ summary_of (seen_in f o.origin d (in_all f o xs).bits)
+    pub out : Appends start now (check_report o d (in_all f o xs).bits)
+    pub counts : s ≡ summary_of (reports_seen f o.origin d (in_all f o xs).bits)
 
   -- they have no fault so far, and nothing was written
   pub record ChecksSoFar (o : Options) (start now : Option (List ℕ)) (xs : List ℕ) : Type 0 where
@@ -52,7 +53,7 @@ module _ {X : Type 0} (f : Form X) where
   pub record ChecksCut (o : Options) (d : List FrameType) (after start now : Option (List ℕ)) (xs : List ℕ)
       (sent : ℕ) : Type 0 where
     pub all : IsAll o after xs
-    pub cut : Cuts start now (report_of o d (in_all f o xs).bits) sent
+    pub cut : Cuts start now (check_report o d (in_all f o xs).bits) sent
 
   -- what the call answered, which read the octets xs, leaves its reader with `after`, and led its writer from `start`
   -- to `now`
@@ -76,4 +77,4 @@ module _ {X : Type 0} (f : Form X) where
 abbrev pub Checks : Options → Option (List ℕ) → Option (List ℕ) → Option (List ℕ) → List ℕ → Result Summary ToolFault
     → Type 0
 Checks o after start now xs r =
-    by_lines o.two (ChecksBy one_line o after start now xs r) (ChecksBy two_lines o after start now xs r)
+    by_lines o.two (ChecksBy form_of_one o after start now xs r) (ChecksBy form_of_two o after start now xs r)

@@ -3,12 +3,12 @@ use Rattle.std.specs.Prelude.{◌≡◌, ℕ, List, [], ◌++◌, take, Option, 
 use Rattle.std.specs.Io.KnownBytes.{Appends}
 use Rattle.bus_bits.specs.Capture.{CaptureFault}
 use Rattle.bus_dictionary.specs.Entry.{FrameType}
-use Rattle.bus_capture.specs.Captures.{Form, one_line, two_lines, seen_in, IsSameFault}
+use Rattle.bus_capture.specs.Captures.{Form, form_of_one, form_of_two, reports_seen, IsSameFault}
 use Rattle.bus_text.specs.Summary.{summary_of}
 use Rattle.bus_text.specs.Put.{Cuts}
 use Rattle.bus_capture.specs.Begins.{Begins, Refuses}
 use Rattle.bus_capture.specs.Lists.{in_all, listing_of, ending_of, ListsSoFar, by_lines}
-use Rattle.bus_capture.specs.Checks.{report_of, ChecksSoFar}
+use Rattle.bus_capture.specs.Checks.{check_report, ChecksSoFar}
 use Rattle.bus_text.specs.declared.options.Options.{Options}
 use Rattle.bus_text.specs.declared.summary.Summary.{Summary}
 use Rattle.bus_text.specs.declared.fault.ToolFault.{ToolFault}
@@ -40,7 +40,7 @@ module _ {X : Type 0} (f : Form X) where
       (s : Summary) : Type 0 where
     pub clean : (in_all f o all).fault ≡ None
     pub out : Appends start now (listing_in_all o d all)
-    pub counts : s ≡ summary_of (seen_in f o.origin d (in_all f o all).bits)
+    pub counts : s ≡ summary_of (reports_seen f o.origin d (in_all f o all).bits)
 
   pub record ListsItsFront (o : Options) (d : List FrameType) (start now : Option (List ℕ))
       (all : List ℕ) : Type 0 where
@@ -65,8 +65,8 @@ module _ {X : Type 0} (f : Form X) where
   pub record ChecksIt (o : Options) (d : List FrameType) (start now : Option (List ℕ)) (all : List ℕ)
       (s : Summary) : Type 0 where
     pub clean : (in_all f o all).fault ≡ None
-    pub out : Appends start now (report_of f o d (in_all f o all).bits)
-    pub counts : s ≡ summary_of (seen_in f o.origin d (in_all f o all).bits)
+    pub out : Appends start now (check_report f o d (in_all f o all).bits)
+    pub counts : s ≡ summary_of (reports_seen f o.origin d (in_all f o all).bits)
 
   pub record ChecksItsFront (o : Options) (start now : Option (List ℕ)) (all : List ℕ) : Type 0 where
     pub octets : ℕ
@@ -76,7 +76,7 @@ module _ {X : Type 0} (f : Form X) where
   pub record CutsIt (o : Options) (d : List FrameType) (start now : Option (List ℕ)) (all : List ℕ)
       (sent : ℕ) : Type 0 where
     pub clean : (in_all f o all).fault ≡ None
-    pub cut : Cuts start now (report_of f o d (in_all f o all).bits) sent
+    pub cut : Cuts start now (check_report f o d (in_all f o all).bits) sent
 
   -- what the check answered, whose reader had all these octets left, and which led its writer from `start` to `now`
   abbrev pub ChecksKnownBy : Options → Option (List ℕ) → Option (List ℕ) → List ℕ → Result Summary ToolFault → Type 0
@@ -95,9 +95,9 @@ module _ {X : Type 0} (f : Form X) where
 -- led its writer from `start` to `now`.
 abbrev pub ListsKnown : Options → Option (List ℕ) → Option (List ℕ) → List ℕ → Result Summary ToolFault → Type 0
 ListsKnown o start now all r =
-    by_lines o.two (ListsKnownBy one_line o start now all r) (ListsKnownBy two_lines o start now all r)
+    by_lines o.two (ListsKnownBy form_of_one o start now all r) (ListsKnownBy form_of_two o start now all r)
 
 -- What the check of one answered.
 abbrev pub ChecksKnown : Options → Option (List ℕ) → Option (List ℕ) → List ℕ → Result Summary ToolFault → Type 0
 ChecksKnown o start now all r =
-    by_lines o.two (ChecksKnownBy one_line o start now all r) (ChecksKnownBy two_lines o start now all r)
+    by_lines o.two (ChecksKnownBy form_of_one o start now all r) (ChecksKnownBy form_of_two o start now all r)

@@ -5,7 +5,8 @@ use Rattle.std.specs.Io.KnownBytes.{Appends, IsAtEnd}
 use Rattle.bus_bits.specs.Capture.{CaptureOf, CaptureFault}
 use Rattle.bus_dictionary.specs.Entry.{FrameType}
 use Rattle.bus_watch.specs.Talk.{pending}
-use Rattle.bus_capture.specs.Captures.{Form, one_line, two_lines, capture, whole_capture, heard_in, seen_in}
+use Rattle.bus_capture.specs.Captures.{Form, capture, form_of_one, form_of_two, reports_heard, reports_seen}
+use Rattle.bus_capture.specs.Captures.{whole_capture}
 use Rattle.bus_capture.specs.Captures.{IsSameFault, HasFault}
 use Rattle.bus_text.specs.Given.{printer_of}
 use Rattle.bus_text.specs.Listing.{listing, ending_text}
@@ -28,11 +29,11 @@ module _ {X : Type 0} (f : Form X) where
 
   -- the listing of bits, without the lines of the end
   abbrev pub listing_of : Options → List FrameType → List X → List ℕ
-  listing_of o d b = listing (printer_of o) d (seen_in f o.origin d b)
+  listing_of o d b = listing (printer_of o) d (reports_seen f o.origin d b)
 
   -- the lines of the end: pieces that have begun, and a command that waits
   abbrev pub ending_of : Options → List FrameType → List X → List ℕ
-  ending_of o d b = ending_text (printer_of o) (f.ending o.origin b (pending d (heard_in f o.origin d b)))
+  ending_of o d b = ending_text (printer_of o) (f.ending o.origin b (pending d (reports_heard f o.origin d b)))
 
   abbrev pub whole_listing : Options → List FrameType → List X → List ℕ
   whole_listing o d b = listing_of o d b ++ ending_of o d b
@@ -50,7 +51,7 @@ module _ {X : Type 0} (f : Form X) where
     pub at : IsAtEnd after
     pub clean : (in_all f o xs).fault ≡ None
     pub out : Appends start now (whole_listing f o d (in_all f o xs).bits)
-    pub counts : s ≡ summary_of (seen_in f o.origin d (in_all f o xs).bits)
+    pub counts : s ≡ summary_of (reports_seen f o.origin d (in_all f o xs).bits)
 
   -- these octets have no fault: their listing was written, without the lines of the end
   pub record ListsSoFar (o : Options) (d : List FrameType) (start now : Option (List ℕ)) (xs : List ℕ) : Type 0 where
@@ -66,8 +67,8 @@ module _ {X : Type 0} (f : Form X) where
     pub out : Appends start now (listing_of f o d (so_far f o xs).bits)
 
   -- what is to be written of these octets: the lines of the end only where they are the whole input and have no fault
-  abbrev pub Says : Options → List FrameType → Option (List ℕ) → List ℕ → List ℕ → Type 0
-  Says o d after xs text =
+  abbrev pub IsListing : Options → List FrameType → Option (List ℕ) → List ℕ → List ℕ → Type 0
+  IsListing o d after xs text =
       (text ≡ listing_of f o d (so_far f o xs).bits)
       ⊎ (IsAtEnd after × ((in_all f o xs).fault ≡ None) × (text ≡ whole_listing f o d (in_all f o xs).bits))
 
@@ -75,7 +76,7 @@ module _ {X : Type 0} (f : Form X) where
   pub record ListsCut (o : Options) (d : List FrameType) (after start now : Option (List ℕ)) (xs : List ℕ)
       (sent : ℕ) : Type 0 where
     pub text : List ℕ
-    pub said : Says o d after xs text
+    pub said : IsListing o d after xs text
     pub cut : Cuts start now text sent
 
   -- what the call answered, which read the octets xs, leaves its reader with `after`, and led its writer from `start`
@@ -105,4 +106,4 @@ by_lines true one two = two
 abbrev pub Lists : Options → Option (List ℕ) → Option (List ℕ) → Option (List ℕ) → List ℕ → Result Summary ToolFault
     → Type 0
 Lists o after start now xs r =
-    by_lines o.two (ListsBy one_line o after start now xs r) (ListsBy two_lines o after start now xs r)
+    by_lines o.two (ListsBy form_of_one o after start now xs r) (ListsBy form_of_two o after start now xs r)

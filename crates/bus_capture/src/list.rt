@@ -1,7 +1,7 @@
 //! Lists a capture.
 
 ghost use Rattle.std.specs.Prelude.{◌≡◌, ◌<◌, ◌^◌, ℕ, List, Option, IfSome};
-ghost use Rattle.bus_text.specs.Internal.Pages.{Pages};
+ghost use Rattle.bus_text.specs.Pages.{Pages};
 ghost use Rattle.bus_capture.specs.Internal.Closes.{IsNoWrite, Closes};
 ghost use Rattle.std.specs.Io.KnownBytes.{Consumes};
 ghost use Rattle.bus_capture.specs.Lists.{Lists, ListsBy};

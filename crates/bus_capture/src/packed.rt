@@ -25,7 +25,7 @@ const HEAD: usize = 16;
 pub struct PackedCapture<B> {
     /// The octets of its head so far.
     pub head: ArrayVec<u8, HEAD>,
-    /// Reads those behind it, once the head is whole.
+    /// Reads those after it, once the head is whole.
     pub body: Option<B>,
 }
 

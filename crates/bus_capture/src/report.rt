@@ -4,7 +4,7 @@ ghost use Rattle.std.specs.Prelude.{◌+◌, ◌*◌, ◌++◌, ◌<◌, ◌≤�
 ghost use Rattle.bus_watch.specs.History.{history, tally};
 ghost use Rattle.bus_text.specs.CheckText.{tallies_text, history_text, check_text};
 ghost use Rattle.bus_text.specs.Put.{Cuts};
-ghost use Rattle.bus_text.specs.Internal.Pages.{Pages};
+ghost use Rattle.bus_text.specs.Pages.{Pages};
 ghost use Rattle.bus_capture.specs.Internal.Watching.{heard_by};
 
 use crate::tap::Tap;

@@ -7,7 +7,7 @@ ghost use Rattle.std.specs.Prelude.{length};
 ghost use Rattle.bus_watch.specs.Seen.{SeenReport};
 ghost use Rattle.bus_text.specs.Summary.{summary_of};
 ghost use Rattle.bus_text.specs.Put.{Cuts};
-ghost use Rattle.bus_text.specs.Internal.Pages.{Pages};
+ghost use Rattle.bus_text.specs.Pages.{Pages};
 ghost use Rattle.bus_text.specs.Counting.{IsFew};
 
 use crate::report::put_report;

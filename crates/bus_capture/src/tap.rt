@@ -11,7 +11,8 @@ ghost use Rattle.bus_watch.specs.Talk.{pending};
 ghost use Rattle.bus_watch.specs.Watch.{Leads};
 ghost use Rattle.bus_text.specs.CheckText.{kept_text};
 ghost use Rattle.bus_text.specs.Counting.{IsFew};
-ghost use Rattle.bus_text.specs.Internal.Pages.{Pages};
+ghost use Rattle.bus_text.specs.Adds.{Prints};
+ghost use Rattle.bus_text.specs.Pages.{HasRoomFor, Pages};
 ghost use Rattle.bus_text.specs.Listing.{listing, ending_text};
 ghost use Rattle.bus_text.specs.Put.{Cuts};
 ghost use Rattle.bus_text.specs.Summary.{summary_of};
@@ -80,15 +81,13 @@ pub trait Tap: Drop {
 
     /// Puts its lines on the page.
     fn put(&self, printer: &Printer, page: &mut Page)
-        requires room { length page.old.text + 2048 ≤ 16384 }
-        ensures bytes { page.new.text
-            ≡ page.old.text ++ listing printer.now (tap.watch.dictionary self.now) (tap.heard self.now) }
-        ensures len { length page.new.text ≤ length page.old.text + 2048 }
-        ensures written { page.new.written ≡ page.old.written };
+        requires room { HasRoomFor 2048 page.old }
+        ensures { Prints page.old (listing printer.now (tap.watch.dictionary self.now) (tap.heard self.now)) 2048
+            page.new };
 
     /// Puts the lines of the end on the page.
     fn put_ending(&self, printer: &Printer, page: &mut Page)
-        requires room { length page.old.text + 300 ≤ 16384 }
+        requires room { HasRoomFor 300 page.old }
         ensures bytes { (b : List Self.Symbol) → tap.watch.is_after self.now b → page.new.text
             ≡ page.old.text ++ ending_text printer.now (tap.form.ending (tap.watch.origin self.now) b
             (pending (tap.watch.dictionary self.now) (heard_by tap.watch self.now b))) }

@@ -2,7 +2,7 @@
 
 ghost use Rattle.std.specs.Prelude.{◌≡◌, ℕ, Option, List, [], length};
 ghost use Rattle.bus_text.specs.Counting.{IsFew};
-ghost use Rattle.bus_text.specs.Internal.Pages.{Pages};
+ghost use Rattle.bus_text.specs.Pages.{Pages};
 ghost use Rattle.bus_text.specs.Summary.{summary_of};
 ghost use Rattle.bus_capture.specs.Internal.Telling.{HasRoom, Tells};
 ghost use Rattle.bus_capture.specs.Internal.TellingLaws.{has-less, tells-more, tells-none};

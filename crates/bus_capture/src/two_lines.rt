@@ -6,6 +6,8 @@ ghost use Rattle.bus_bits.specs.Bits.{bits_from};
 ghost use Rattle.bus_capture.specs.Internal.TwoLines.{pair_tap};
 ghost use Rattle.bus_capture.specs.Internal.Watching.{Halts, IsSame, IsSound, Watches};
 ghost use Rattle.bus_text.specs.Counting.{IsFew};
+ghost use Rattle.bus_text.specs.Adds.{Prints};
+ghost use Rattle.bus_text.specs.Pages.{HasRoomFor};
 ghost use Rattle.bus_text.specs.Listing.{listing};
 ghost use Rattle.bus_text.specs.Summary.{summary_of};
 ghost use Rattle.bus_watch.specs.Pairs.{seen_on};
@@ -78,11 +80,10 @@ fn count_on<C: Check>(analyser: &PairAnalyser<C>, line: Line, summary: &mut Summ
 
 /// Puts its lines on the page.
 fn put_on<C: Check>(analyser: &PairAnalyser<C>, line: Line, printer: &Printer, page: &mut Page)
-    requires room { length page.old.text + 964 ≤ 16384 }
-    ensures bytes { page.new.text ≡ page.old.text
-        ++ listing printer.now analyser.now.journal.dictionary (option_to_list (seen_on analyser.now line)) }
-    ensures len { length page.new.text ≤ length page.old.text + 964 }
-    ensures written { page.new.written ≡ page.old.written }
+    requires room { HasRoomFor 964 page.old }
+    ensures { Prints page.old
+        (listing printer.now analyser.now.journal.dictionary (option_to_list (seen_on analyser.now line))) 964
+        page.new }
 {
     if let Some(finding) = analyser.finding(line) {
         let octets = analyser.octets(line);

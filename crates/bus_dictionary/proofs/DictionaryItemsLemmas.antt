@@ -1,4 +1,4 @@
--- The items as they are read, one behind another.
+-- The items as they are read, one after another.
 use Rattle.std.proofs.Common.{◌≡◌, ℕ, ◌+◌, ◌<◌, ◌==◌, List, [], ◌∷◌, ◌++◌, ◌⊎◌, inl, inr, codes, find, append_assoc}
 use Rattle.std.proofs.Common.{append-nil, refl, sym, ◌∙◌, ap, subst, arith, Ok, Err, Some, None, Bool, true, false}
 use Rattle.std.proofs.Common.{cond, Contains}

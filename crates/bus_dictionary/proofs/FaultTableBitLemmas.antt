@@ -7,7 +7,8 @@ use Rattle.toml.specs.Data.{Data, array, Items, item, no_items, get, as_array}
 use Rattle.bus_dictionary.specs.declared.fault.DictFault.{DictFault}
 use Rattle.bus_dictionary.specs.declared.fault.DictFault.TheVariants.{BadBit}
 use Rattle.bus_dictionary.specs.DictFault.{◌>>=◌, need}
-use Rattle.bus_dictionary.specs.BitName.{NamedBit, number_at, name_at, has_place, put_bit, bit_of, bits_from, bits_in}
+use Rattle.bus_dictionary.specs.BitName.{NamedBit, number_at, name_at, has_place, put_bit, entry_bit, entry_bits}
+use Rattle.bus_dictionary.specs.BitName.{entry_bits_from}
 use Rattle.bus_dictionary.specs.Says.{IsItem, here, later, HasNumber, HasName, HasBit, bit}
 use Rattle.bus_dictionary.specs.FaultTable.{IsBitRow, bad_place, bad_bit_name, same_place}
 use Rattle.bus_dictionary.proofs.BitNameLemmas.{then_ok, need_ok, unless_ok}
@@ -63,7 +64,7 @@ after k _ n _ (later _ _ c d ds is) = let more = after (k + 1) ds n d is in omeg
 pub none_here : (k n : ℕ) (e : Data) → IsItem k no_items n e → ⊥
 none_here k n e is = elim is [ ]
 
--- an item is the first, or one behind it
+-- an item is the first, or one after it
 pub behind : (k n : ℕ) (d : Data) (ds : Items) (e : Data) → IsItem k (item d ds) n e →
     ((n ≡ k) × (e ≡ d)) ⊎ IsItem (k + 1) ds n e
 behind k _ d ds _ (here _ _ _) = inl (refl, refl)
@@ -102,9 +103,9 @@ IsTaken size k before ds = (n : ℕ) × (at : ℕ) × (b : Data) × IsItem k ds 
     × (has_place at before ≡ true)
 
 bit_err : (n size k : ℕ) (before : List NamedBit) (d : Data) (ds : Items) (f : DictFault) →
-    bit_of n size before d ≡ Err f
+    entry_bit n size before d ≡ Err f
     → (BadBit n ≡ f) × (IsBitFault size k (item d ds) ⊎ IsTaken size k before (item d ds))
-unfolding bit_of
+unfolding entry_bit
 bit_err n size k before d ds f h =
     let this = here k d ds in
     elim (then_err (need (place_at size d) (BadBit n)) _ f h) [
@@ -117,9 +118,9 @@ bit_err n size k before d ds f h =
       ]
     ]
 
-bit_place : (n size : ℕ) (before : List NamedBit) (d : Data) (b : NamedBit) → bit_of n size before d ≡ Ok b →
+bit_place : (n size : ℕ) (before : List NamedBit) (d : Data) (b : NamedBit) → entry_bit n size before d ≡ Ok b →
     (place_at size d ≡ Some b.at) × (has_place b.at before ≡ false)
-unfolding bit_of
+unfolding entry_bit
 bit_place n size before d b h =
     let (at, is_at, h1) = then_ok (need (place_at size d) (BadBit n)) _ b h in
     let (name, is_named, h2) = then_ok (need (name_at d) (BadBit n)) _ b h1 in
@@ -133,12 +134,13 @@ lift_bit size k c ds (no_bit_name n b is none) = no_bit_name n b (later k n c b 
 lift_bit size k c ds (place_again m n at a b less is1 is2 a1 a2) =
     place_again m n at a b less (later k m c a ds is1) (later k n c b ds is2) a1 a2
 
-bits_err : (n size k : ℕ) (before : List NamedBit) (ds : Items) (f : DictFault) → bits_from n size before ds ≡ Err f
+bits_err : (n size k : ℕ) (before : List NamedBit) (ds : Items) (f : DictFault)
+    → entry_bits_from n size before ds ≡ Err f
     → (BadBit n ≡ f) × (IsBitFault size k ds ⊎ IsTaken size k before ds)
-unfolding bits_from
+unfolding entry_bits_from
 bits_err n size k before no_items f h = cc
 bits_err n size k before (item d ds) f h =
-    elim (then_err (bit_of n size before d) _ f h) [
+    elim (then_err (entry_bit n size before d) _ f h) [
       | inl a ↦ bit_err n size k before d ds f a
       | inr (x, is, h1) ↦
           let (is_f, fault) = bits_err n size (k + 1) (put_bit x before) ds f h1 in (
@@ -171,7 +173,7 @@ not_array (array ms) lacks = absurd (lacks ms refl)
 not_array _ lacks = refl
 
 -- why the bits of an entry are not read
-pub bits_in_err : (n size : ℕ) (o : Option Data) (f : DictFault) → bits_in n size o ≡ Err f
+pub bits_in_err : (n size : ℕ) (o : Option Data) (f : DictFault) → entry_bits n size o ≡ Err f
     → (BadBit n ≡ f)
     × (((b : Data) × (o ≡ Some b) × ((ms : Items) → b ≢ array ms)) ⊎
     ((ms : Items) × (o ≡ Some (array ms)) × IsBitRow size ms))
@@ -193,38 +195,39 @@ bits_in_err n size (Some d) f h =
 
 -- each bit of an entry was read
 bit_read : (n size k : ℕ) (before : List NamedBit) (ds : Items) (bits : List NamedBit) (m : ℕ) (b : Data) →
-    bits_from n size before ds ≡ Ok bits → IsItem k ds m b
-    → (old : List NamedBit) × (x : NamedBit) × (bit_of n size old b ≡ Ok x)
-unfolding bits_from
+    entry_bits_from n size before ds ≡ Ok bits → IsItem k ds m b
+    → (old : List NamedBit) × (x : NamedBit) × (entry_bit n size old b ≡ Ok x)
+unfolding entry_bits_from
 bit_read n size _ before _ bits _ _ h (here k d ds) = let (x, is, h1) =
-    then_ok (bit_of n size before d) _ bits h in (before, x, is)
+    then_ok (entry_bit n size before d) _ bits h in (before, x, is)
 bit_read n size _ before _ bits _ _ h (later k m c d ds more) =
-    let (x, is, h1) = then_ok (bit_of n size before c) _ bits h in bit_read n size (k + 1) (put_bit x before) ds bits m
+    let (x, is, h1) = then_ok (entry_bit n size before c) _ bits h in
+    bit_read n size (k + 1) (put_bit x before) ds bits m
     d h1 more
 
 -- none has a place of those before
 bit_new : (n size k at : ℕ) (before : List NamedBit) (ds : Items) (bits : List NamedBit) (m : ℕ) (b : Data) →
-    bits_from n size before ds ≡ Ok bits → has_place at before ≡ true
+    entry_bits_from n size before ds ≡ Ok bits → has_place at before ≡ true
     → IsItem k ds m b → place_at size b ≡ Some at → ⊥
-unfolding bits_from
+unfolding entry_bits_from
 bit_new n size _ at before _ bits _ _ h taken (here k d ds) placed =
-    let (x, is, h1) = then_ok (bit_of n size before d) _ bits h in
+    let (x, is, h1) = then_ok (entry_bit n size before d) _ bits h in
     let (there, free) = bit_place n size before d x is in
     let same : x.at ≡ at = let some = sym there ∙ placed in cc in
     let kept = ap (λ (y : ℕ). has_place y before) same in
     cc
 bit_new n size _ at before _ bits _ _ h taken (later k m c d ds more) placed =
-    let (x, is, h1) = then_ok (bit_of n size before c) _ bits h in
+    let (x, is, h1) = then_ok (entry_bit n size before c) _ bits h in
     bit_new n size (k + 1) at (put_bit x before) ds bits m d h1
     (has_put at x before ∙ kept_of (x.at == at) (has_place at before) taken) more placed
 
 place_twice : (n size k at : ℕ) (before : List NamedBit) (ds : Items) (bits : List NamedBit) (i : ℕ) (a : Data) (j : ℕ)
-    (b : Data) → bits_from n size before ds ≡ Ok bits
+    (b : Data) → entry_bits_from n size before ds ≡ Ok bits
     → IsItem k ds i a → place_at size a ≡ Some at → i < j → IsItem k ds j b → place_at size b ≡ Some at → ⊥
-unfolding bits_from
+unfolding entry_bits_from
 place_twice n size k at before no_items bits i a j b h is_a placed less is_b placed_b = none_here k i a is_a
 place_twice n size k at before (item d ds) bits i a j b h is_a placed less is_b placed_b =
-    let (x, is, h1) = then_ok (bit_of n size before d) _ bits h in
+    let (x, is, h1) = then_ok (entry_bit n size before d) _ bits h in
     elim (behind k j d ds b is_b) [
       | inl first ↦ elim (behind k i d ds a is_a) [
         | inl same ↦ omega arith
@@ -242,8 +245,8 @@ place_twice n size k at before (item d ds) bits i a j b h is_a placed less is_b 
     ]
 
 bits_good : (n size k : ℕ) (before : List NamedBit) (ds : Items) (bits : List NamedBit) →
-    bits_from n size before ds ≡ Ok bits → IsBitFault size k ds → ⊥
-unfolding bit_of
+    entry_bits_from n size before ds ≡ Ok bits → IsBitFault size k ds → ⊥
+unfolding entry_bit
 bits_good n size k before ds bits h (no_place m b is none) =
     let (old, x, read) = bit_read n size k before ds bits m b h is in
     let (at, is_at, h1) = then_ok (need (place_at size b) (BadBit n)) _ x read in
@@ -257,7 +260,7 @@ bits_good n size k before ds bits h (place_again i j at a b less is_a is_b place
     place_twice n size k at before ds bits i a j b h is_a placed_a less is_b placed_b
 
 -- bits that were read are an array, and nothing is wrong with it
-pub bits_in_array : (n size : ℕ) (o : Option Data) (bits : List NamedBit) (b : Data) → bits_in n size o ≡ Ok bits →
+pub bits_in_array : (n size : ℕ) (o : Option Data) (bits : List NamedBit) (b : Data) → entry_bits n size o ≡ Ok bits →
     o ≡ Some b → ((ms : Items) → b ≢ array ms) → ⊥
 bits_in_array n size None bits b h is lacks = cc
 bits_in_array n size (Some d) bits b h is lacks =
@@ -267,13 +270,13 @@ bits_in_array n size (Some d) bits b h is lacks =
     let same : d ≡ b = cc in
     let kept = ap as_array same in cc
 
-pub bits_in_good : (n size : ℕ) (o : Option Data) (bits : List NamedBit) (ds : Items) → bits_in n size o ≡ Ok bits →
+pub bits_in_good : (n size : ℕ) (o : Option Data) (bits : List NamedBit) (ds : Items) → entry_bits n size o ≡ Ok bits →
     o ≡ Some (array ds) → IsBitRow size ds → ⊥
 bits_in_good n size None bits ds h is fault = cc
 bits_in_good n size (Some d) bits ds h is fault =
     let (all, is_array, h1) = then_ok (need (as_array d) (BadBit n)) _ bits h in
     let same : all ≡ ds = let both = sym (need_ok _ (BadBit n) all is_array) ∙ ap (option_and_then as_array) is in cc in
-    bits_good n size 1 [] ds bits (ap (bits_from n size []) (sym same) ∙ h1) (row_bit size ds fault)
+    bits_good n size 1 [] ds bits (ap (entry_bits_from n size []) (sym same) ∙ h1) (row_bit size ds fault)
 
 -- a bit that was put is there, and those before it stay
 put_cases : (new : NamedBit) (bits : List NamedBit) (b : NamedBit) → Contains (put_bit new bits) b →
@@ -314,9 +317,9 @@ put_old new (x ∷ bits) b there =
 abbrev IsNamed : ℕ → Data → NamedBit → Type 0
 IsNamed size m b = HasNumber (8 * size) (codes "at") m b.at × HasName m b.name
 
-bit_says : (n size : ℕ) (before : List NamedBit) (d : Data) (b : NamedBit) → bit_of n size before d ≡ Ok b →
+bit_says : (n size : ℕ) (before : List NamedBit) (d : Data) (b : NamedBit) → entry_bit n size before d ≡ Ok b →
     IsNamed size d b
-unfolding bit_of
+unfolding entry_bit
 bit_says n size before d b h =
     let (at, is_at, h1) = then_ok (need (place_at size d) (BadBit n)) _ b h in
     let (name, is_named, h2) = then_ok (need (name_at d) (BadBit n)) _ b h1 in
@@ -339,12 +342,12 @@ abbrev IsAmong : ℕ → ℕ → Items → NamedBit → Type 0
 IsAmong size k ds b = (m : ℕ) × (e : Data) × IsItem k ds m e × IsNamed size e b
 
 from_bits : (n size k : ℕ) (before : List NamedBit) (ds : Items) (bits : List NamedBit) (b : NamedBit) →
-    bits_from n size before ds ≡ Ok bits → Contains bits b
+    entry_bits_from n size before ds ≡ Ok bits → Contains bits b
     → Contains before b ⊎ IsAmong size k ds b
-unfolding bits_from
+unfolding entry_bits_from
 from_bits n size k before no_items bits b h there = let same : before ≡ bits = cc in inl (rw same there)
 from_bits n size k before (item d ds) bits b h there =
-    let (x, is, h1) = then_ok (bit_of n size before d) _ bits h in
+    let (x, is, h1) = then_ok (entry_bit n size before d) _ bits h in
     elim (from_bits n size (k + 1) (put_bit x before) ds bits b h1 there) [
       | inl put ↦ elim (put_cases x before b put) [
         | inl same ↦ inr (
@@ -359,23 +362,24 @@ from_bits n size k before (item d ds) bits b h there =
     ]
 
 kept_bit : (n size : ℕ) (before : List NamedBit) (ds : Items) (bits : List NamedBit) (b : NamedBit) →
-    bits_from n size before ds ≡ Ok bits → Contains before b → Contains bits b
-unfolding bits_from
+    entry_bits_from n size before ds ≡ Ok bits → Contains before b → Contains bits b
+unfolding entry_bits_from
 kept_bit n size before no_items bits b h there = let same : before ≡ bits = cc in rw (← same) there
 kept_bit n size before (item d ds) bits b h there =
-    let (x, is, h1) = then_ok (bit_of n size before d) _ bits h in kept_bit n size (put_bit x before) ds bits b h1
+    let (x, is, h1) = then_ok (entry_bit n size before d) _ bits h in kept_bit n size (put_bit x before) ds bits b h1
     (put_old x before b there)
 
 to_bits : (n size k : ℕ) (before : List NamedBit) (ds : Items) (bits : List NamedBit) (b : NamedBit) (m : ℕ)
-    (e : Data) → bits_from n size before ds ≡ Ok bits
+    (e : Data) → entry_bits_from n size before ds ≡ Ok bits
     → IsItem k ds m e → IsNamed size e b → Contains bits b
-unfolding bits_from
+unfolding entry_bits_from
 to_bits n size _ before _ bits b _ _ h (here k d ds) named =
-    let (x, is, h1) = then_ok (bit_of n size before d) _ bits h in
+    let (x, is, h1) = then_ok (entry_bit n size before d) _ bits h in
     let same = same_bit size d x b (bit_says n size before d x is) named in
     subst (Contains bits) same (kept_bit n size (put_bit x before) ds bits x h1 (put_new x before))
 to_bits n size _ before _ bits b _ _ h (later k m c d ds more) named =
-    let (x, is, h1) = then_ok (bit_of n size before c) _ bits h in to_bits n size (k + 1) (put_bit x before) ds bits b m
+    let (x, is, h1) = then_ok (entry_bit n size before c) _ bits h in
+    to_bits n size (k + 1) (put_bit x before) ds bits b m
     d h1 more named
 
 among : (size : ℕ) (d : Data) (ms : Items) (b : NamedBit) → get (codes "bits") d ≡ Some (array ms) →
@@ -387,14 +391,14 @@ has_none : (size : ℕ) (d : Data) (b : NamedBit) → get (codes "bits") d ≡ N
 has_none size d b none (bit n m ms is is_m at name) = cc
 
 has_some : (n size : ℕ) (d : Data) (ms : Items) (bits : List NamedBit) (b : NamedBit) →
-    get (codes "bits") d ≡ Some (array ms) → bits_from n size [] ms ≡ Ok bits → HasBit size d b → Contains bits b
+    get (codes "bits") d ≡ Some (array ms) → entry_bits_from n size [] ms ≡ Ok bits → HasBit size d b → Contains bits b
 has_some n size d ms bits b is read (bit k m given is_given is_m at name) =
     let same : given ≡ ms = let twice = sym is_given ∙ is in cc in
     to_bits n size 1 [] ms bits b k m read (subst (λ (x : Items). IsItem 1 x k m) same is_m) (at, name)
 
 -- the bits of an entry are those that its table names
 pub bits_said : (n size : ℕ) (d : Data) (o : Option Data) (bits : List NamedBit) (b : NamedBit) →
-    get (codes "bits") d ≡ o → bits_in n size o ≡ Ok bits → Contains bits b ↔ HasBit size d b
+    get (codes "bits") d ≡ o → entry_bits n size o ≡ Ok bits → Contains bits b ↔ HasBit size d b
 bits_said n size d None bits b is h =
     let same : [] ≡ bits = cc in (
       λ there. absurd (none_in b (subst (λ (x : List NamedBit). Contains x b) (sym same) there)),

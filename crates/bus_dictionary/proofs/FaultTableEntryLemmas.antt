@@ -7,7 +7,7 @@ use Rattle.bus_dictionary.specs.declared.fault.DictFault.{DictFault}
 use Rattle.bus_dictionary.specs.declared.fault.DictFault.TheVariants.{BadType, BadName, BadLength, BadAnswered}
 use Rattle.bus_dictionary.specs.declared.fault.DictFault.TheVariants.{BadWindow, TwiceType}
 use Rattle.bus_dictionary.specs.DictFault.{need}
-use Rattle.bus_dictionary.specs.BitName.{NamedBit, name_at, bits_in}
+use Rattle.bus_dictionary.specs.BitName.{NamedBit, name_at, entry_bits}
 use Rattle.bus_dictionary.specs.Entry.{FrameType, type_at, size_at, answered_in, window_in, has_type, entry_of}
 use Rattle.bus_dictionary.specs.Says.{IsItem, HasNumber, Says}
 use Rattle.bus_dictionary.specs.FaultTable.{IsEntryRow, bad_type, bad_name, bad_length, bad_answered, answered_answer}
@@ -26,7 +26,7 @@ pub record IsRead (v n : ℕ) (before : List FrameType) (d : Data) (e : FrameTyp
   pub size : size_at d ≡ Some e.size
   pub answered : answered_in e.ftype (get (codes "answered") d) ≡ Some e.answered
   pub window : window_in v e.answered (get (codes "window") d) ≡ Some e.window
-  pub bits : bits_in n e.size (get (codes "bits") d) ≡ Ok e.bits
+  pub bits : entry_bits n e.size (get (codes "bits") d) ≡ Ok e.bits
   pub free : has_type e.ftype before ≡ false
 
 pub entry_read : (v n : ℕ) (before : List FrameType) (d : Data) (e : FrameType) → entry_of v n before d ≡ Ok e →
@@ -39,7 +39,7 @@ entry_read v n before d e h =
     let (answered, is_answered, h4) =
     then_ok (need (answered_in t (get (codes "answered") d)) (BadAnswered n)) _ e h3 in
     let (window, is_window, h5) = then_ok (need (window_in v answered (get (codes "window") d)) (BadWindow n)) _ e h4 in
-    let (bits, are_bits, h6) = then_ok (bits_in n size (get (codes "bits") d)) _ e h5 in
+    let (bits, are_bits, h6) = then_ok (entry_bits n size (get (codes "bits") d)) _ e h5 in
     let (free, is) = unless_ok (has_type t before) (TwiceType t) _ e h6 in
     let steps :
     IsRead v n before d
@@ -76,7 +76,7 @@ Column v n ds d (suc (suc (suc (suc zero)))) =
     (t : ℕ) × (a : Bool) × (u : Option ℕ) × (answered_in t (get (codes "answered") d) ≡ Some a)
     × (window_in v a (get (codes "window") d) ≡ Some u)
 Column v n ds d (suc (suc (suc (suc (suc zero))))) =
-    (l : ℕ) × (bits : List NamedBit) × (size_at d ≡ Some l) × (bits_in n l (get (codes "bits") d) ≡ Ok bits)
+    (l : ℕ) × (bits : List NamedBit) × (size_at d ≡ Some l) × (entry_bits n l (get (codes "bits") d) ≡ Ok bits)
 Column v n ds d (suc (suc (suc (suc (suc (suc k)))))) =
     (m t : ℕ) (c : Data) → m < n → IsItem 1 ds m c → HasNumber 256 (codes "type") c t →
     HasNumber 256 (codes "type") d t → ⊥
@@ -109,7 +109,8 @@ row_not v n ds d _ _ (bad_bits b is lacks) (l, bits, sized, are) =
 row_not v n ds d _ _ (bad_bit size ms sized_s is row) (l, bits, sized, are) =
     let some = says_number 254 (codes "length") d size sized_s in
     let same : size ≡ l = let twice = sym some ∙ sized in cc in
-    bits_in_good n size (get (codes "bits") d) bits ms (ap (λ (x : ℕ). bits_in n x (get (codes "bits") d)) same ∙ are)
+    bits_in_good n size (get (codes "bits") d) bits ms
+    (ap (λ (x : ℕ). entry_bits n x (get (codes "bits") d)) same ∙ are)
     is row
 row_not v n ds d _ _ (twice_type m t c less is_c typed_c typed) free = free m t c less is_c typed_c typed
 
@@ -198,7 +199,7 @@ entry_refused v n before ds d f taken h =
                                     marked,
                                     need_ok _ (BadWindow n) window is_window,
                                   ) in
-                                  elim (then_err (bits_in n size (get (codes "bits") d)) _ f h5) [
+                                  elim (then_err (entry_bits n size (get (codes "bits") d)) _ f h5) [
                                     | inl a ↦ let (is, fault) = bits_in_err n size (get (codes "bits") d) f a in (
                                       5,
                                       subst (IsEntryRow v ds n d 5) is (elim fault [

@@ -11,7 +11,7 @@ use Rattle.toml.specs.Parse.{parse_document}
 use Rattle.bus_dictionary.specs.declared.fault.DictFault.TheVariants.{Version, NoFrames, BadType, BadName, BadLength}
 use Rattle.bus_dictionary.specs.declared.fault.DictFault.TheVariants.{BadAnswered, BadWindow, TwiceType}
 use Rattle.bus_dictionary.specs.DictFault.{need}
-use Rattle.bus_dictionary.specs.BitName.{name_at, bits_in}
+use Rattle.bus_dictionary.specs.BitName.{name_at, entry_bits}
 use Rattle.bus_dictionary.specs.Entry.{FrameType, type_at, size_at, if_may_be_answered, answered_in, window_in}
 use Rattle.bus_dictionary.specs.Entry.{has_type, entry_of}
 use Rattle.bus_dictionary.specs.Dictionary.{entries_of, lacks_answer, refuse_lacking, version_at, frames_at}
@@ -49,7 +49,7 @@ entry_of_ok v n before d e h =
     let (answered, is_answered, h4) =
     then_ok (need (answered_in ftype (get (codes "answered") d)) (BadAnswered n)) _ e h3 in
     let (window, is_window, h5) = then_ok (need (window_in v answered (get (codes "window") d)) (BadWindow n)) _ e h4 in
-    let (bits, are_bits, h6) = then_ok (bits_in n size (get (codes "bits") d)) _ e h5 in
+    let (bits, are_bits, h6) = then_ok (entry_bits n size (get (codes "bits") d)) _ e h5 in
     let (free, is) = unless_ok (has_type ftype before) (TwiceType ftype) _ e h6 in
     let octet = number_at_ok 256 (codes "type") d ftype (need_ok _ (BadType n) ftype is_type) in
     let named = name_at_ok d name (need_ok _ (BadName n) name is_named) in

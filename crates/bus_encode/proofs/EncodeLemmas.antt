@@ -8,20 +8,20 @@ use Rattle.std.proofs.lemmas.Bool.Decides.{nat_tests}
 use Rattle.std.specs.Io.BufRead.{strip_last, ends_with_byte}
 use Rattle.bus_line.specs.Line.{Call, gain}
 use Rattle.bus_encode.specs.Lines.{ended_lines, open_line, last_line}
-use Rattle.bus_encode.specs.Encode.{Asked, unless_fault, and_then, line_asked, line_call, line_number, asked_behind}
+use Rattle.bus_encode.specs.Encode.{Asked, unless_fault, and_then, line_asked, line_call, text_line, asked_behind}
 use Rattle.bus_encode.specs.Encode.{open_asked, asked_so_far, asked_in_all, bits_text, text_behind, encode_text}
 use Rattle.bus_text.specs.declared.fault.ToolFault.{ToolFault}
 use Rattle.bus_text.specs.declared.fault.ToolFault.TheVariants.{BadLine}
 use Rattle.bus_encode.proofs.LinesLemmas.{ended_behind, open_behind, ended-append, open-append, ended-by_lf, open-by_lf}
 
--- ---- one thing asked for behind another
+-- ---- one thing asked for after another
 
 abbrev pub nothing : Asked
 nothing = record { calls = []; fault = None }
 
 -- a line of this number is refused for its length or its form
 abbrev pub bad : ℕ → Asked
-bad before = record { calls = []; fault = Some (BadLine (line_number before)) }
+bad before = record { calls = []; fault = Some (BadLine (text_line before)) }
 
 then_nothing_at : (f : Option ToolFault) (cs : List Call) → unless_fault f cs nothing ≡ record { calls = cs; fault = f }
 then_nothing_at None cs = ap (λ (l : List Call). let a : Asked = record { calls = l; fault = None } in a)
@@ -54,11 +54,11 @@ first_clean_at (Some e) cs b h = h
 pub first_clean : (a b : Asked) → (and_then a b).fault ≡ None → a.fault ≡ None
 first_clean a b h = first_clean_at a.fault a.calls b h
 
--- behind no fault
+-- after no fault
 pub then-clean : (a b : Asked) → a.fault ≡ None → and_then a b ≡ record { calls = a.calls ++ b.calls; fault = b.fault }
 then-clean a b h = ap (λ f. unless_fault f a.calls b) h
 
--- behind a fault
+-- after a fault
 pub then-fault : (a b : Asked) (e : ToolFault) → a.fault ≡ Some e → and_then a b ≡ a
 then-fault a b e h =
     ap (λ f. unless_fault f a.calls b) h
@@ -131,16 +131,16 @@ long-asked n l h = rw h refl
 open-long : (n : ℕ) (l : List ℕ) → is_long l ≡ true → open_asked n l ≡ bad n
 open-long n l h =
     ap (λ (b : Bool). let a :
-    Asked = record { calls = []; fault = if b then Some (BadLine (line_number n)) else None } in
+    Asked = record { calls = []; fault = if b then Some (BadLine (text_line n)) else None } in
     a) h
 
 open-short : (n : ℕ) (l : List ℕ) → is_long l ≡ false → open_asked n l ≡ nothing
 open-short n l h =
     ap (λ (b : Bool). let a :
-    Asked = record { calls = []; fault = if b then Some (BadLine (line_number n)) else None } in
+    Asked = record { calls = []; fault = if b then Some (BadLine (text_line n)) else None } in
     a) h
 
--- what is asked for behind a line that stands open
+-- what is asked for after a line that stands open
 abbrev after_open : ℕ → List ℕ → List ℕ → Asked
 after_open n line ys = and_then (asked_behind n (ended_behind line ys))
     (open_asked (n + length (ended_behind line ys)) (open_behind line ys))
@@ -191,7 +191,7 @@ ended_calls xs h =
     let o = open_asked (length (ended_lines xs)) (open_line xs) in
     ap (λ (x : Asked). x.calls) (so_far-is xs ∙ then-clean a o (ended_clean xs h)) ∙ append-nil a.calls
 
--- LF behind an open line
+-- LF after an open line
 pub lf-asked : (xs : List ℕ) → asked_so_far (xs ++ 10 ∷ [])
     ≡ and_then (asked_behind 0 (ended_lines xs)) (line_asked (length (ended_lines xs)) (open_line xs))
 lf-asked xs =
@@ -214,7 +214,7 @@ so_far-both xs ys =
     (asked-append 0 e f ∙ ap (λ (k : ℕ). and_then (asked_behind 0 e) (asked_behind k f)) (zero-add (length e)))
     ∙ then-assoc (asked_behind 0 e) (asked_behind (length e) f) (open_asked (length e + length f) o)))))
 
--- more octets ask for more, and for nothing new behind a fault
+-- more octets ask for more, and for nothing new after a fault
 pub so_far-grows : (xs ys : List ℕ) → (c : Asked) × (asked_so_far (xs ++ ys) ≡ and_then (asked_so_far xs) c)
 so_far-grows xs ys = cases (is_long (open_line xs)) refl
   where

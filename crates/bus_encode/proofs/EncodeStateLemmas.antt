@@ -12,10 +12,10 @@ use Rattle.bus_line.specs.Line.{Call, gain}
 use Rattle.bus_line.specs.Internal.EncoderState.{EncoderState}
 use Rattle.bus_line.specs.Encoding.{AfterCalls}
 use Rattle.bus_encode.specs.Lines.{ended_lines, open_line}
-use Rattle.bus_encode.specs.Encode.{Asked, and_then, one_asked, line_asked, line_call, line_number, asked_behind}
+use Rattle.bus_encode.specs.Encode.{Asked, and_then, one_asked, line_asked, line_call, text_line, asked_behind}
 use Rattle.bus_encode.specs.Encode.{asked_so_far, asked_in_all, bits_text, text_behind, encode_text}
 use Rattle.bus_encode.specs.Encodes.{Asks, Encodes, EncodesAll}
-use Rattle.bus_encode.specs.Internal.EncodeState.{Encoded, Takes, Halts, Ends, Finishes}
+use Rattle.bus_encode.specs.Internal.EncodeState.{HasEncoded, Takes, EncodeHalts, Ends, EncodeFinishes}
 use Rattle.bus_text.specs.declared.fault.ToolFault.{ToolFault}
 use Rattle.bus_text.specs.declared.fault.ToolFault.TheVariants.{Read, ReadsLimit, Write, BadLine, FrameLength}
 use Rattle.bus_text.proofs.KnownBytesLemmas.{appends_nothing, appends_both, appends_kept, part_out}
@@ -37,10 +37,10 @@ none_takes start line number e l n a = record {
 -- ---- one call
 
 pub put_encoded : (start before now : Option (List ℕ)) (e f : EncoderState) (written size : ℕ) (calls : List Call)
-    (call : Call) (bytes text : List ℕ) → Encoded start before e written calls
+    (call : Call) (bytes text : List ℕ) → HasEncoded start before e written calls
     → AfterCalls f (calls ++ call ∷ []) → bytes ≡ bits_text (gain calls call) → text ≡ bytes → size ≡ length bytes →
     Appends before now text
-    → Encoded start now f (written + size) (calls ++ call ∷ [])
+    → HasEncoded start now f (written + size) (calls ++ call ∷ [])
 put_encoded start before now e f written size calls call bytes text d after is same n out =
     let more = text-push calls call in
     let here = subst (λ (l : List ℕ). Appends before now l) (same ∙ is) out in
@@ -60,7 +60,7 @@ put_encoded start before now e f written size calls call bytes text d after is s
     }
 
 pub put_halts : (start before now : Option (List ℕ)) (e : EncoderState) (written sent : ℕ) (calls : List Call)
-    (call : Call) (bytes text : List ℕ) → Encoded start before e written calls
+    (call : Call) (bytes text : List ℕ) → HasEncoded start before e written calls
     → bytes ≡ bits_text (gain calls call) → text ≡ bytes → sent < length text → Appends before now (take sent text)
     → (written + sent ≤ length (encode_text (calls ++ call ∷ [])))
     × Appends start now (take (written + sent) (encode_text (calls ++ call ∷ [])))
@@ -90,23 +90,24 @@ other_takes start now line new number x e written xs h is fits t =
     let short : is_long (open_line (xs ++ x ∷ [])) ≡ false = ap is_long (sym here) ∙ short_is new fits in
     record {
       here = here;
-      lines = t.lines ∙ ap (λ (ls : List (List ℕ)). line_number (length ls)) (sym ended);
+      lines = t.lines ∙ ap (λ (ls : List (List ℕ)). text_line (length ls)) (sym ended);
       clean = ap (λ (a : Asked). a.fault) (so_far-short (xs ++ x ∷ []) short)
           ∙ (ap (λ (ls : List (List ℕ)). (asked_behind 0 ls).fault) ended ∙ ended_clean xs t.clean);
-      done = subst (λ (ls : List (List ℕ)). Encoded start now e written (asked_behind 0 ls).calls) (sym ended) t.done;
+      done = subst (λ (ls : List (List ℕ)). HasEncoded start now e written (asked_behind 0 ls).calls) (sym ended)
+          t.done;
     }
 
 pub long_halts : (start now : Option (List ℕ)) (line : List ℕ) (number x : ℕ) (e : EncoderState) (written : ℕ)
     (xs : List ℕ) (fault : ToolFault) → (x == 10) ≡ false → fault ≡ BadLine number
     → 600 < length (strip_last 13 (line ++ x ∷ [])) → Takes start now line number e written xs →
-    Halts start now written (asked_so_far (xs ++ x ∷ [])) fault
+    EncodeHalts start now written (asked_so_far (xs ++ x ∷ [])) fault
 long_halts start now line number x e written xs fault h f long t =
     let a = asked_behind 0 (ended_lines xs) in
     let here : line ++ x ∷ [] ≡ open_line (xs ++ x ∷ []) =
     ap (λ (l : List ℕ). l ++ x ∷ []) t.here ∙ sym (open-by_other xs x h) in
     let is_so : is_long (open_line (xs ++ x ∷ [])) ≡ true = ap is_long (sym here) ∙ long_is (line ++ x ∷ []) long in
     let is : asked_so_far (xs ++ x ∷ [])
-    ≡ record { calls = a.calls ++ []; fault = Some (BadLine (line_number (length (ended_lines xs)))) } =
+    ≡ record { calls = a.calls ++ []; fault = Some (BadLine (text_line (length (ended_lines xs)))) } =
     so_far-long (xs ++ x ∷ []) is_so
     ∙ (ap (λ (ls : List (List ℕ)). and_then (asked_behind 0 ls) (bad (length ls))) (ended-by_other xs x h)
     ∙ then-clean a (bad (length (ended_lines xs))) (ended_clean xs t.clean)) in
@@ -115,12 +116,12 @@ long_halts start now line number x e written xs fault h f long t =
     let count : written ≡ length (encode_text (a.calls ++ [])) =
     t.done.count ∙ ap (λ (cs : List Call). length (encode_text cs)) (sym text) in
     let here_halts :
-    Halts start now written
-    (record { calls = a.calls ++ []; fault = Some (BadLine (line_number (length (ended_lines xs)))) })
+    EncodeHalts start now written
+    (record { calls = a.calls ++ []; fault = Some (BadLine (text_line (length (ended_lines xs)))) })
     (BadLine number) =
     (ap (λ (n : ℕ). let o : Option ToolFault = Some (BadLine n) in o) (sym t.lines), out, count) in
-    subst (λ (z : ToolFault). Halts start now written (asked_so_far (xs ++ x ∷ [])) z) (sym f)
-    (subst (λ (z : Asked). Halts start now written z (BadLine number)) (sym is) here_halts)
+    subst (λ (z : ToolFault). EncodeHalts start now written (asked_so_far (xs ++ x ∷ [])) z) (sym f)
+    (subst (λ (z : Asked). EncodeHalts start now written z (BadLine number)) (sym is) here_halts)
 
 pub not_lf : (x : ℕ) → x ≢ 10 → (x == 10) ≡ false
 not_lf x h = grind (arith, nat_tests)
@@ -131,7 +132,7 @@ pub push_cases : (start now : Option (List ℕ)) (line new : List ℕ) (number s
     → MatchResult r (λ _. (new ≡ line ++ x ∷ []) × (same ≡ number))
     (λ fault. (fault ≡ BadLine number) × (600 < length (strip_last 13 (line ++ x ∷ []))))
     → MatchResult r (λ _. Takes start now new same e written (xs ++ x ∷ []))
-    (λ fault. Halts start now written (asked_so_far (xs ++ x ∷ [])) fault)
+    (λ fault. EncodeHalts start now written (asked_so_far (xs ++ x ∷ [])) fault)
 push_cases start now line new number same x e written xs (Ok u) h fits t pushed =
     subst (λ (n : ℕ). Takes start now new n e written (xs ++ x ∷ [])) (sym pushed.1)
     (other_takes start now line new number x e written xs h pushed.0 fits t)
@@ -146,7 +147,7 @@ pub one_is : (start now : Option (List ℕ)) (line : List ℕ) (number : ℕ) (e
     → one_asked (line_call number (strip_last 13 line)) ≡ line_asked (length (ended_lines xs)) (open_line xs)
 one_is start now line number e written xs t =
     ap (λ (n : ℕ). one_asked (line_call n (strip_last 13 line))) t.lines
-    ∙ ap (λ (l : List ℕ). one_asked (line_call (line_number (length (ended_lines xs))) (strip_last 13 l))) t.here
+    ∙ ap (λ (l : List ℕ). one_asked (line_call (text_line (length (ended_lines xs))) (strip_last 13 l))) t.here
 
 abbrev pub behind : List Call → Asked → Asked
 behind calls one = record { calls = calls ++ one.calls; fault = one.fault }
@@ -183,7 +184,7 @@ lf_takes start before now line new number next e f written more xs t ends empty 
       here = empty ∙ sym (open-by_lf xs);
       lines = omega (arith, is, t.lines, count);
       clean = ap (λ (a : Asked). a.fault) (lf_is xs one t.clean same) ∙ ends.0;
-      done = subst (λ (cs : List Call). Encoded start now f more cs)
+      done = subst (λ (cs : List Call). HasEncoded start now f more cs)
           (sym (ap (λ (a : Asked). a.calls) (push_is xs one t.clean same))) ends.1;
     }
 
@@ -191,10 +192,10 @@ pub lf_halts : (start before now : Option (List ℕ)) (line : List ℕ) (number 
     (xs : List ℕ) (fault : ToolFault) → Takes start before line number e written xs
     → Ends start now f more (asked_behind 0 (ended_lines xs)).calls (one_asked (line_call number (strip_last 13 line)))
     (Err fault)
-    → Halts start now more (asked_so_far (xs ++ 10 ∷ [])) fault
+    → EncodeHalts start now more (asked_so_far (xs ++ 10 ∷ [])) fault
 lf_halts start before now line number e f written more xs fault t ends =
     let one = one_asked (line_call number (strip_last 13 line)) in
-    subst (λ (a : Asked). Halts start now more a fault)
+    subst (λ (a : Asked). EncodeHalts start now more a fault)
     (sym (lf_is xs one t.clean (one_is start before line number e written xs t))) ends
 
 -- ---- more octets
@@ -209,13 +210,13 @@ part_more start now sent text rest whole is few out =
       subst (λ (l : List ℕ). Appends start now l) (sym part) out,
     )
 
--- what stopped, stops with more behind it
+-- what stopped, stops with more after it
 pub halts-then : (start now : Option (List ℕ)) (written : ℕ) (a c : Asked) (e : ToolFault) →
-    Halts start now written a e → Halts start now written (and_then a c) e
+    EncodeHalts start now written a e → EncodeHalts start now written (and_then a c) e
 halts-then start now written a c (BadLine n) h =
-    subst (λ (z : Asked). Halts start now written z (BadLine n)) (sym (then-fault a c (BadLine n) h.0)) h
+    subst (λ (z : Asked). EncodeHalts start now written z (BadLine n)) (sym (then-fault a c (BadLine n) h.0)) h
 halts-then start now written a c (FrameLength n) h =
-    subst (λ (z : Asked). Halts start now written z (FrameLength n)) (sym (then-fault a c (FrameLength n) h.0)) h
+    subst (λ (z : Asked). EncodeHalts start now written z (FrameLength n)) (sym (then-fault a c (FrameLength n) h.0)) h
 halts-then start now written a c (Write sent) h =
     let more = then-text a c in
     part_more start now sent (encode_text a.calls) more.0 (encode_text (and_then a c).calls) more.1 h.0 h.1
@@ -224,14 +225,14 @@ halts-then start now written a c _ h = absurd h
 -- what stopped in the middle of some octets stops them all
 pub middle_halts : (start now : Option (List ℕ)) (written x i : ℕ) (xs ys : List ℕ) (e : ToolFault) → i < length ys →
     x ≡ get_or ys i 0
-    → Halts start now written (asked_so_far ((xs ++ take i ys) ++ x ∷ [])) e →
-    Halts start now written (asked_so_far (xs ++ ys)) e
+    → EncodeHalts start now written (asked_so_far ((xs ++ take i ys) ++ x ∷ [])) e →
+    EncodeHalts start now written (asked_so_far (xs ++ ys)) e
 middle_halts start now written x i xs ys e h is s =
     let front = (xs ++ take i ys) ++ x ∷ [] in
     let whole : front ++ drop (i + 1) ys ≡ xs ++ ys = grind (arith, common_steps) in
     let more = so_far-grows front (drop (i + 1) ys) in
-    subst (λ (l : List ℕ). Halts start now written (asked_so_far l) e) whole
-    (subst (λ (a : Asked). Halts start now written a e) (sym more.1)
+    subst (λ (l : List ℕ). EncodeHalts start now written (asked_so_far l) e) whole
+    (subst (λ (a : Asked). EncodeHalts start now written a e) (sym more.1)
     (halts-then start now written (asked_so_far front) more.0 e s))
 
 -- all of them
@@ -241,8 +242,8 @@ all_octets i ys h = grind (arith, common_steps)
 -- ---- the end of the reading
 
 pub halts_finishes : (reads : ℕ) (after start now : Option (List ℕ)) (written : ℕ) (xs : List ℕ) (a : Asked)
-    (e : ToolFault) → Asks after xs a → Halts start now written a e
-    → Finishes reads after start now written xs (Err e)
+    (e : ToolFault) → Asks after xs a → EncodeHalts start now written a e
+    → EncodeFinishes reads after start now written xs (Err e)
 halts_finishes reads after start now written xs a Read asks h = absurd h
 halts_finishes reads after start now written xs a ReadsLimit asks h = absurd h
 halts_finishes reads after start now written xs a _ asks h = (a, asks, h)
@@ -251,7 +252,7 @@ pub end_finishes : (reads : ℕ) (after start before now : Option (List ℕ)) (l
     (e f : EncoderState) (written more : ℕ) (xs : List ℕ) (r : Result (Unit {0}) ToolFault)
     → IsAtEnd after → Takes start before line number e written xs
     → Ends start now f more (asked_behind 0 (ended_lines xs)).calls (one_asked (line_call number (strip_last 13 line)))
-    r → Finishes reads after start now more xs r
+    r → EncodeFinishes reads after start now more xs r
 end_finishes reads after start before now line number e f written more xs r at t ends = cases r ends
   where
     one : Asked
@@ -267,7 +268,7 @@ end_finishes reads after start before now line number e f written more xs r at t
     cases : (r : Result (Unit {0}) ToolFault) →
         Ends start now f more (asked_behind 0 (ended_lines xs)).calls
         (one_asked (line_call number (strip_last 13 line)))
-        r → Finishes reads after start now more xs r
+        r → EncodeFinishes reads after start now more xs r
     cases (Ok u) s =
         let calls = ap (λ (a : Asked). a.calls) is in (
           at,
@@ -277,7 +278,7 @@ end_finishes reads after start before now line number e f written more xs r at t
         )
     cases (Err fault) s =
         halts_finishes reads after start now more xs (asked_in_all xs) fault (inr (at, refl))
-        (subst (λ (a : Asked). Halts start now more a fault) (sym is) s)
+        (subst (λ (a : Asked). EncodeHalts start now more a fault) (sym is) s)
 
 -- no fault in the octets so far
 pub clean_so_far : (start now : Option (List ℕ)) (line : List ℕ) (number : ℕ) (e : EncoderState) (written : ℕ)
@@ -294,7 +295,7 @@ clean_so_far start now line number e written xs t =
 -- ---- the flush
 
 pub flushed : (reads : ℕ) (after start now then : Option (List ℕ)) (written : ℕ) (xs : List ℕ)
-    (r : Result (Unit {0}) ToolFault) → Keeps now then → Finishes reads after start now written xs r →
+    (r : Result (Unit {0}) ToolFault) → Keeps now then → EncodeFinishes reads after start now written xs r →
     Encodes reads after start then xs r
 flushed reads after start now then written xs (Ok u) k f = (f.0, f.1, appends_kept start now then _ f.2 k)
 flushed reads after start now then written xs (Err Read) k f = (f.0, appends_kept start now then _ f.1 k)
@@ -316,7 +317,7 @@ whole_part start now written text n out =
 
 pub flush_fails : (reads : ℕ) (after start now then : Option (List ℕ)) (written : ℕ) (xs : List ℕ)
     (r : Result (Unit {0}) ToolFault) → ((n : ℕ) → r ≡ Err (Write n) → ⊥) → Keeps now then
-    → Finishes reads after start now written xs r → Encodes reads after start then xs (Err (Write written))
+    → EncodeFinishes reads after start now written xs r → Encodes reads after start then xs (Err (Write written))
 flush_fails reads after start now then written xs (Ok u) uncut k f =
     let p = whole_part start then written (encode_text (asked_in_all xs).calls) f.3
     (appends_kept start now then _ f.2 k) in

@@ -1,5 +1,5 @@
 -- What worked lines ask an encoder for, computed from the definitions alone.
-use Rattle.std.proofs.Common.{◌≡◌, ℕ, List, [], ◌∷◌, ◌++◌, Some, None, codes, refl}
+use Rattle.std.proofs.Common.{◌≡◌, [], ◌∷◌, ◌++◌, Some, codes, refl}
 use Rattle.std.specs.Path.{rsplit_once}
 use Rattle.hex.specs.Hex.{decode_pairs}
 use Rattle.bus_bits.specs.Octet.{bits_of, bits_of_octets, number, octets}
@@ -7,7 +7,7 @@ use Rattle.bus_fcs.specs.Division.{add, step, divided, remainder}
 use Rattle.bus_fcs.specs.FrameCheck.{ends_inverted, fcs}
 use Rattle.bus_line.specs.Line.{Flag, raw_bits}
 use Rattle.bus_encode.specs.Lines.{ended_lines, open_line}
-use Rattle.bus_encode.specs.Encode.{Asked, asked_behind, asked_in_all, bits_text, encode_text, line_call, text_behind}
+use Rattle.bus_encode.specs.Encode.{asked_behind, asked_in_all, bits_text, encode_text, line_call, text_behind}
 use Rattle.bus_text.specs.declared.fault.ToolFault.TheVariants.{BadLine, FrameLength}
 
 -- a frame, an idle and a frame

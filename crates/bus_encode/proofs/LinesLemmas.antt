@@ -36,7 +36,7 @@ rfind-within c xs (suc n) =
     wider None h = tt
     wider (Some k) h = omega arith
 
--- what stands behind the place, if there is one
+-- what stands after the place, if there is one
 abbrev behind_place : List ℕ → Option ℕ → List ℕ
 behind_place xs r = behind_last xs (option_map (λ i. (take i xs, drop (i + 1) xs)) r)
 
@@ -127,12 +127,12 @@ unfoldable pub ended_behind : List ℕ → List ℕ → List (List ℕ)
 ended_behind line [] = []
 ended_behind line (x ∷ xs) = if x == 10 then line ∷ ended_behind [] xs else ended_behind (line ++ x ∷ []) xs
 
--- the line that stands open behind them
+-- the line that stands open after them
 unfoldable pub open_behind : List ℕ → List ℕ → List ℕ
 open_behind line [] = line
 open_behind line (x ∷ xs) = if x == 10 then open_behind [] xs else open_behind (line ++ x ∷ []) xs
 
--- the walk over octets that follow others goes on from the line that stands open behind those
+-- the walk over octets that follow others goes on from the line that stands open after those
 pub ended-append : (xs ys : List ℕ) → ended_lines (xs ++ ys) ≡ ended_lines xs ++ ended_behind (open_line xs) ys
 unfolding ended_behind
 ended-append xs [] = ap ended_lines (append-nil xs) ∙ sym (append-nil (ended_lines xs))

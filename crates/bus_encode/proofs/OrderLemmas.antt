@@ -10,10 +10,10 @@ use Rattle.hex.specs.declared.error.FromHexError.{FromHexError}
 use Rattle.hex.proofs.HexLemmas.{decode_of-ok}
 use Rattle.bus_line.specs.Line.{Call, Flag, Idle, Frame, added, gain}
 use Rattle.bus_line.specs.Internal.EncoderState.{EncoderState}
-use Rattle.bus_line.specs.Encoding.{AfterCalls, Refused}
+use Rattle.bus_line.specs.Encoding.{AfterCalls, Calls, HasBadLength, Refused}
 use Rattle.bus_line.specs.declared.fault.EncodeFault.{EncodeFault}
 use Rattle.bus_line.specs.declared.fault.EncodeFault.TheVariants.{Ended, LengthRange, Sink}
-use Rattle.bus_encode.specs.Encode.{sized_frame, decoded_frame, line_call, is_text}
+use Rattle.bus_encode.specs.Encode.{sized_frame, decoded_frame, line_call, is_word}
 use Rattle.bus_text.specs.declared.fault.ToolFault.TheVariants.{BadLine, FrameLength}
 use Rattle.bus_encode.specs.declared.bits.CallBits.{CallBits}
 use Rattle.bus_text.proofs.ShowLemmas.{even_digits}
@@ -93,23 +93,23 @@ module _ (n : ℕ) (line : List ℕ) (few : length line ≤ 600) where
   unfolding line_call
   call-none none = let a = within line few in rw (a, none) refl
 
-  pub call-flag : (length line == 0) ≡ false → is_text (codes "flag") line ≡ true → line_call n line ≡ Ok (Some Flag)
+  pub call-flag : (length line == 0) ≡ false → is_word (codes "flag") line ≡ true → line_call n line ≡ Ok (Some Flag)
   unfolding line_call
   call-flag some flag = let a = within line few in rw (a, some, flag) refl
 
-  pub call-idle : (length line == 0) ≡ false → is_text (codes "flag") line ≡ false →
-      is_text (codes "idle") line ≡ true → line_call n line ≡ Ok (Some Idle)
+  pub call-idle : (length line == 0) ≡ false → is_word (codes "flag") line ≡ false →
+      is_word (codes "idle") line ≡ true → line_call n line ≡ Ok (Some Idle)
   unfolding line_call
   call-idle some flag idle = let a = within line few in rw (a, some, flag, idle) refl
 
-  pub call-other : (length line == 0) ≡ false → is_text (codes "flag") line ≡ false →
-      is_text (codes "idle") line ≡ false → is_text (codes "frame ") (take 6 line) ≡ false
+  pub call-other : (length line == 0) ≡ false → is_word (codes "flag") line ≡ false →
+      is_word (codes "idle") line ≡ false → is_word (codes "frame ") (take 6 line) ≡ false
       → line_call n line ≡ Err (BadLine n)
   unfolding line_call
   call-other some flag idle frame = let a = within line few in rw (a, some, flag, idle, frame) refl
 
-  pub call-frame : (length line == 0) ≡ false → is_text (codes "flag") line ≡ false →
-      is_text (codes "idle") line ≡ false → is_text (codes "frame ") (take 6 line) ≡ true
+  pub call-frame : (length line == 0) ≡ false → is_word (codes "flag") line ≡ false →
+      is_word (codes "idle") line ≡ false → is_word (codes "frame ") (take 6 line) ≡ true
       → line_call n line ≡ decoded_frame n (decode_of (drop 6 line))
   unfolding line_call
   call-frame some flag idle frame = let a = within line few in rw (a, some, flag, idle, frame) refl
@@ -157,13 +157,13 @@ never_refused call written old new before after going fits empty none r =
 -- there is room for the bits of a call
 pub never_fails : (call : Call) (old new : EncoderState) (before after : CallBits) (r : Result (Unit {0}) EncodeFault)
     (e : EncodeFault) → r ≡ Err e → old.ended ≡ false → Fits call
-    → before.bits.items ≡ [] → before.refused ≡ 0 → (r ≡ Err Ended → IsTrue old.ended) → (r ≡ Err LengthRange → ⊥)
-    → ((written : ℕ) → r ≡ Err (Sink written) → Refused bits_taken bits_refused call written old new before after) → ⊥
-never_fails call old new before after r Ended is going fits empty none ended range refused = let t : old.ended ≡ true =
-    ended is in cc
-never_fails call old new before after r LengthRange is going fits empty none ended range refused = range is
-never_fails call old new before after r (Sink written) is going fits empty none ended range refused =
-    never_refused call written old new before after going fits empty none (refused written is)
+    → before.bits.items ≡ [] → before.refused ≡ 0 → (HasBadLength call → ⊥)
+    → Calls bits_taken bits_refused call r old new before after → ⊥
+never_fails call old new before after r Ended is going fits empty none sized calls =
+    let ended : old.ended ≡ true = calls.ended.0 is in cc
+never_fails call old new before after r LengthRange is going fits empty none sized calls = sized (calls.range.0 is).1
+never_fails call old new before after r (Sink written) is going fits empty none sized calls =
+    never_refused call written old new before after going fits empty none (calls.refused written is)
 
 pub all_bits : (i : ℕ) (bits : List Bool) → length bits ≤ i → take i bits ≡ bits
 all_bits i bits h = grind (arith, common_steps)

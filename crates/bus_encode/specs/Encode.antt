@@ -10,13 +10,13 @@ use Rattle.bus_encode.specs.Lines.{ended_lines, open_line, all_lines}
 use Rattle.bus_text.specs.declared.fault.ToolFault.{ToolFault}
 use Rattle.bus_text.specs.declared.fault.ToolFault.TheVariants.{BadLine, FrameLength}
 
--- the number of the line behind so many others
-abbrev pub line_number : ℕ → ℕ
-line_number before = before + 1
+-- the number of the line after so many others
+abbrev pub text_line : ℕ → ℕ
+text_line before = before + 1
 
 -- the line is this text
-abbrev pub is_text : List ℕ → List ℕ → Bool
-is_text text line = pointwise (λ x y. x == y) line text
+abbrev pub is_word : List ℕ → List ℕ → Bool
+is_word text line = pointwise (λ x y. x == y) line text
 
 -- a frame of 2 to 256 octets can be sent
 abbrev pub sized_frame : ℕ → List ℕ → Result (Option Call) ToolFault
@@ -35,9 +35,9 @@ unfoldable pub line_call : ℕ → List ℕ → Result (Option Call) ToolFault
 line_call number line =
     if nat_lt 600 (length line) then Err (BadLine number)
     else if length line == 0 then Ok None
-    else if is_text (codes "flag") line then Ok (Some Flag)
-    else if is_text (codes "idle") line then Ok (Some Idle)
-    else if is_text (codes "frame ") (take 6 line) then decoded_frame number (decode_of (drop 6 line))
+    else if is_word (codes "flag") line then Ok (Some Flag)
+    else if is_word (codes "idle") line then Ok (Some Idle)
+    else if is_word (codes "frame ") (take 6 line) then decoded_frame number (decode_of (drop 6 line))
     else Err (BadLine number)
 
 -- the calls that lines ask for, up to the first line that is refused, and why that is
@@ -50,7 +50,7 @@ one_asked (Ok None) = record { calls = []; fault = None }
 one_asked (Ok (Some call)) = record { calls = call ∷ []; fault = None }
 one_asked (Err e) = record { calls = []; fault = Some e }
 
--- behind a fault nothing is asked for
+-- after a fault nothing is asked for
 abbrev pub unless_fault : Option ToolFault → List Call → Asked → Asked
 unless_fault None calls next = record { calls = calls ++ next.calls; fault = next.fault }
 unless_fault (Some e) calls next = record { calls = calls; fault = Some e }
@@ -59,11 +59,11 @@ unless_fault (Some e) calls next = record { calls = calls; fault = Some e }
 abbrev pub and_then : Asked → Asked → Asked
 and_then first next = unless_fault first.fault first.calls next
 
--- what a line behind so many others asks for; a CR at its end is none of its own
+-- what a line after so many others asks for; a CR at its end is none of its own
 abbrev pub line_asked : ℕ → List ℕ → Asked
-line_asked before line = one_asked (line_call (line_number before) (strip_last 13 line))
+line_asked before line = one_asked (line_call (text_line before) (strip_last 13 line))
 
--- what these lines ask for, behind so many others
+-- what these lines ask for, after so many others
 unfoldable pub asked_behind : ℕ → List (List ℕ) → Asked
 asked_behind before [] = record { calls = []; fault = None }
 asked_behind before (line ∷ lines) = and_then (line_asked before line) (asked_behind (before + 1) lines)
@@ -74,7 +74,7 @@ open_asked before line =
     record {
       calls = [];
       fault = if nat_lt 600 (length (strip_last 13 line))
-          then Some (BadLine (line_number before)) else None;
+          then Some (BadLine (text_line before)) else None;
     }
 
 -- what these octets ask for, which more octets may follow
@@ -93,7 +93,7 @@ bit_char bit = if bit then 49 else 48
 unfoldable pub bits_text : List Bool → List ℕ
 bits_text bits = map bit_char bits ++ codes "\n"
 
--- the text of these calls behind others
+-- the text of these calls after others
 unfoldable pub text_behind : List Call → List Call → List ℕ
 text_behind before [] = []
 text_behind before (call ∷ calls) = bits_text (gain before call) ++ text_behind (before ++ call ∷ []) calls

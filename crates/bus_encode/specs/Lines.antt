@@ -3,12 +3,12 @@ use Rattle.std.specs.Prelude.{ℕ, List, [], ◌∷◌, ◌++◌, ◌==◌, leng
 use Rattle.std.specs.Path.{rsplit_once}
 use Rattle.bus_line.specs.Due.{places}
 
--- what stands behind the last LF, by the split there: all, where there is none
+-- what stands after the last LF, by the split there: all, where there is none
 abbrev pub behind_last : List ℕ → Option (List ℕ × List ℕ) → List ℕ
 behind_last xs None = xs
 behind_last xs (Some parts) = parts.1
 
--- what stands behind the last LF
+-- what stands after the last LF
 unfoldable pub open_line : List ℕ → List ℕ
 open_line xs = behind_last xs (rsplit_once 10 xs)
 
@@ -20,7 +20,7 @@ line_ends xs = filter (λ i. slice_index xs i == 10) (places (length xs))
 unfoldable pub ended_lines : List ℕ → List (List ℕ)
 ended_lines xs = map (λ i. open_line (take i xs)) (line_ends xs)
 
--- what stands behind the last LF is a line where it is not empty
+-- what stands after the last LF is a line where it is not empty
 abbrev pub last_line : List ℕ → List (List ℕ)
 last_line [] = []
 last_line (x ∷ xs) = (x ∷ xs) ∷ []

@@ -7,7 +7,8 @@ ghost use Rattle.std.specs.Io.KnownBytes.{Consumes};
 ghost use Rattle.bus_line.specs.Line.{Call};
 ghost use Rattle.bus_encode.specs.Encode.{one_asked, line_call, asked_so_far};
 ghost use Rattle.bus_encode.specs.Encodes.{Encodes};
-ghost use Rattle.bus_encode.specs.Internal.EncodeState.{call_of, IsSized, Encoded, Ends, Takes, Halts, Finishes};
+ghost use Rattle.bus_encode.specs.Internal.EncodeState.{EncodeFinishes, EncodeHalts, Ends, HasEncoded, IsSized, Takes};
+ghost use Rattle.bus_encode.specs.Internal.EncodeState.{call_of};
 
 use crate::bits::call_text;
 use crate::line::OpenLine;
@@ -55,9 +56,10 @@ impl LineReader {
         requires sized { IsSized (call_of order.now) }
         requires few { self.old.written < 2 ^ 100 }
         ensures put { (start : Option (List ℕ)) (calls : List Call) →
-            Encoded start (W.contents w.old) self.old.encoder self.old.written calls → MatchResult result
-            (λ _. Encoded start (W.contents w.new) self.new.encoder self.new.written (calls ++ call_of order.now ∷ []))
-            (λ fault. Halts start (W.contents w.new) self.new.written
+            HasEncoded start (W.contents w.old) self.old.encoder self.old.written calls → MatchResult result
+            (λ _. HasEncoded start (W.contents w.new) self.new.encoder self.new.written
+            (calls ++ call_of order.now ∷ []))
+            (λ fault. EncodeHalts start (W.contents w.new) self.new.written
             (record { calls = calls ++ call_of order.now ∷ []; fault = None }) fault) }
         ensures line { self.new.line ≡ self.old.line }
         ensures few { self.new.written ≤ self.old.written + 2493 }
@@ -78,7 +80,7 @@ impl LineReader {
     fn end_line<W: Write>(&mut self, w: &mut W) -> Result<(), ToolFault>
         requires { self.old.written < 2 ^ 100 }
         ensures ended { (start : Option (List ℕ)) (calls : List Call) →
-            Encoded start (W.contents w.old) self.old.encoder self.old.written calls
+            HasEncoded start (W.contents w.old) self.old.encoder self.old.written calls
             → Ends start (W.contents w.new) self.new.encoder self.new.written calls
             (one_asked (line_call self.old.line.number (strip_last 13 self.old.line.octets.items))) result }
         ensures line { self.new.line ≡ self.old.line }
@@ -99,7 +101,7 @@ impl LineReader {
             self.old.written xs → MatchResult result
             (λ _. Takes start (W.contents w.new) self.new.line.octets.items self.new.line.number self.new.encoder
             self.new.written (xs ++ octet ∷ []))
-            (λ fault. Halts start (W.contents w.new) self.new.written (asked_so_far (xs ++ octet ∷ [])) fault) }
+            (λ fault. EncodeHalts start (W.contents w.new) self.new.written (asked_so_far (xs ++ octet ∷ [])) fault) }
         ensures few { self.new.written ≤ self.old.written + 2493 }
         ensures lines { self.new.line.number ≤ self.old.line.number + 1 }
     {
@@ -120,7 +122,7 @@ impl LineReader {
             self.old.written xs → MatchResult result
             (λ _. Takes start (W.contents w.new) self.new.line.octets.items self.new.line.number self.new.encoder
             self.new.written (xs ++ octets.now))
-            (λ fault. Halts start (W.contents w.new) self.new.written (asked_so_far (xs ++ octets.now)) fault) }
+            (λ fault. EncodeHalts start (W.contents w.new) self.new.written (asked_so_far (xs ++ octets.now)) fault) }
         ensures few { self.new.written ≤ self.old.written + 2493 * length octets.now }
         ensures lines { self.new.line.number ≤ self.old.line.number + length octets.now }
     {
@@ -141,7 +143,8 @@ impl LineReader {
             Takes start start self.old.line.octets.items self.old.line.number self.old.encoder self.old.written [] }
         requires none { (self.old.written ≡ 0) × (self.old.line.number ≡ 1) }
         ensures { (xs : List ℕ) × Consumes (R.remaining r.old) (R.remaining r.new) xs
-            × Finishes reads (R.remaining r.new) (W.contents w.old) (W.contents w.new) self.new.written xs result }
+            × EncodeFinishes reads (R.remaining r.new) (W.contents w.old) (W.contents w.new)
+            self.new.written xs result }
     {
         let mut buffer = [0; ROOM];
         for _turn in 0..reads {
@@ -159,7 +162,7 @@ impl LineReader {
     /// whole ended.
     pub fn flush<W: Write>(&self, ending: Result<(), ToolFault>, w: &mut W) -> Result<(), ToolFault>
         ensures { (reads : ℕ) (after start : Option (List ℕ)) (xs : List ℕ) →
-            Finishes reads after start (W.contents w.old) self.now.written xs ending
+            EncodeFinishes reads after start (W.contents w.old) self.now.written xs ending
             → Encodes reads after start (W.contents w.new) xs result }
     {
         if self.written == 0 || is_cut(&ending) {

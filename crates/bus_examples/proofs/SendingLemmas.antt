@@ -1,10 +1,10 @@
 -- There is room for the bits of a frame.
-use Rattle.std.proofs.Common.{◌≡◌, ◌<◌, ◌≤◌, ◌++◌, ◌⊎◌, ℕ, List, Bool, true, false, [], length, take, Option, Some}
-use Rattle.std.proofs.Common.{None, Result, Ok, Err, IsErrAnd, IsTrue, inl, inr, refl, arith, length-take}
+use Rattle.std.proofs.Common.{◌≡◌, ◌≤◌, ◌++◌, ℕ, List, Bool, true, [], length, take, Option, Some, None, Result, Ok}
+use Rattle.std.proofs.Common.{Err, IsErrAnd, inl, inr, refl, arith, length-take}
 use Rattle.std.proofs.lemmas.Bool.{cases_lt}
 use Rattle.bus_line.specs.Line.{Call, Frame, added, gain}
 use Rattle.bus_line.specs.Internal.EncoderState.{EncoderState}
-use Rattle.bus_line.specs.Encoding.{AfterCalls, Refused}
+use Rattle.bus_line.specs.Encoding.{AfterCalls, Calls, Refused}
 use Rattle.bus_line.specs.declared.fault.EncodeFault.{EncodeFault}
 use Rattle.bus_line.specs.declared.fault.EncodeFault.TheVariants.{Ended, LengthRange, Sink}
 use Rattle.bus_examples.specs.declared.sending.FrameBits.{FrameBits}
@@ -35,18 +35,15 @@ pub only_length : (octets : List ℕ) (old new : EncoderState) (before after : F
     (r : Result (Unit {0}) EncodeFault) (e : EncodeFault) → r ≡ Err e → AfterCalls old []
     → (length octets ≤ 256 → (last : Option Call) → length (added last (Frame octets)) ≤ 2492) →
     before.bits.items ≡ [] → before.refused ≡ 0
-    → (r ≡ Err Ended → IsTrue old.ended) →
-    ((old.ended ≡ false) × ((length octets < 2) ⊎ (256 < length octets)) → r ≡ Err LengthRange)
-    → ((written : ℕ) → r ≡ Err (Sink written) →
-    Refused bits_taken bits_refused (Frame octets) written old new before after) → e ≡ LengthRange
-only_length octets old new before after r Ended is start fits empty none ended range refused =
-    absurd (let t : old.ended ≡ true = ended is in let f = start.going in cc)
-only_length octets old new before after r LengthRange is start fits empty none ended range refused = refl
-only_length octets old new before after r (Sink written) is start fits empty none ended range refused =
+    → Calls bits_taken bits_refused (Frame octets) r old new before after → e ≡ LengthRange
+only_length octets old new before after r Ended is start fits empty none calls =
+    absurd (let ended : old.ended ≡ true = calls.ended.0 is in let going = start.going in cc)
+only_length octets old new before after r LengthRange is start fits empty none calls = refl
+only_length octets old new before after r (Sink written) is start fits empty none calls =
     elim (cases_lt 256 (length octets)) [
-      | inl many ↦ absurd (let e = range (start.going, inr many) in cc)
+      | inl many ↦ absurd (let too_long = calls.range.1 (start.going, inr many) in cc)
       | inr few ↦ absurd (never_refused (Frame octets) written old new before after start (fits few None) empty none
-          (refused written is))
+          (calls.refused written is))
     ]
 
 -- the fault of a result

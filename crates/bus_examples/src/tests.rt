@@ -27,6 +27,8 @@ name = "notice"
 length = 0
 "#;
 
+const FLAG: &str = "01111110";
+
 /// A call between flags: 10 83 00 fd e5, as it is sent.
 const CALL: &str = "01111110 00001000 11000001 00000000 101111101 10100111 01111110";
 
@@ -61,6 +63,33 @@ fn frames_of_a_buffer(rt: HostRuntime) {
     let call = bits_of(&rt, rt.alloc(), CALL);
     assert_eq!(rt; count_frames::<BitCheck>(&call), Ok(1));
     assert_eq!(rt; count_frames::<OctetCheck>(&[]), Ok(0));
+}
+
+/// Frames of so many octets, all 0, of which the longest has 256: their checks as they are sent, and how many are
+/// counted.
+const ZEROS: [(usize, &str, usize); 3] = [
+    (255, "00011001 00100011", 1),
+    (256, "101111100 00010111", 1),
+    (257, "01001111 00011010", 0),
+];
+
+#[test]
+fn longest_frames(rt: HostRuntime) {
+    for (octets, check, want) in ZEROS {
+        let mut bits = bits_of(&rt, rt.alloc(), FLAG);
+        for _bit in 0..octets.saturating_mul(8) {
+            bits.push(false).expect(&rt, "memory");
+        }
+        for text in [check, FLAG] {
+            bits.extend_from_slice(&bits_of(&rt, rt.alloc(), text))
+                .expect(&rt, "memory");
+        }
+        assert_eq!(rt;
+            count_frames::<OctetCheck>(&bits),
+            Ok(want),
+            "{octets} octets"
+        );
+    }
 }
 
 /// The last place at which a frame of a station ends, and how many there are.

@@ -28,16 +28,16 @@ use Rattle.bus_line.proofs.SettleLemmas.{next-bit, length-front, mark-calm, calm
 
 -- what the machine joins is the word
 pub word-joined : {C : Type 0} (d : LineState C) (n x : ℕ) (b : List Bool) → HasTaken d b → n ≤ 48 → x < 2 ^ n →
-    IsWord (bit_or d.history (x * 65536 % 18446744073709551616)) b (bits_of n x)
+    IsWord (bit_or d.last_bits (x * 65536 % 18446744073709551616)) b (bits_of n x)
 word-joined d n x b h f l =
     let k : length (drop (length b) (padded b)) ≡ 16 =
     length-drop (length b) (padded b) ∙ omega (arith, padded-length b) in
     let o : number (drop (length b) (padded b)) < 65536 = rw k at (number-lt (drop (length b) (padded b))) in
-    let low : d.history < 65536 = omega (arith, h.history, o) in
+    let low : d.last_bits < 65536 = omega (arith, h.last_bits, o) in
     let s : x * 65536 % 18446744073709551616 ≡ x * 2 ^ 16 = shl_whole x n 16 64 l (omega (arith, f)) in
-    let e : bit_or d.history (x * 65536 % 18446744073709551616) ≡ d.history + x * 65536 =
-    ap (bit_or d.history) s ∙ (or_shifted_r x 16 d.history low ∙ omega arith) in
-    e ∙ word-made d.history x b (bits_of n x) h.history (sym (number-bits n x l))
+    let e : bit_or d.last_bits (x * 65536 % 18446744073709551616) ≡ d.last_bits + x * 65536 =
+    ap (bit_or d.last_bits) s ∙ (or_shifted_r x 16 d.last_bits low ∙ omega arith) in
+    e ∙ word-made d.last_bits x b (bits_of n x) h.last_bits (sym (number-bits n x l))
 
 -- before the first stop all is calm
 pub calm-before : (w n : ℕ) (b bits : List Bool) → IsWord w b bits → n ≤ length bits →
@@ -69,7 +69,7 @@ pub calm-after : {C : Type 0} (folded : C → List ℕ → Type 0) (cost n : ℕ
 calm-after folded cost n d b bits h l t =
     subst (Tracks folded cost d (b ++ take n bits)) (sym (mark-calm b bits n n h (omega arith) l)) t
 
--- ---- the bit behind calm bits
+-- ---- the bit after calm bits
 
 last-list : (n : ℕ) (b bits : List Bool) → n < length bits →
     b ++ take (n + 1) bits ≡ (b ++ take n bits) ++ get_or bits n false ∷ []
@@ -218,7 +218,7 @@ last-before longest origin w n m x b h =
 
 -- ---- what bits taken at once do
 
--- the lowest bits of x lead from old to new behind the bits b, and the last of them decides this report, if it is one
+-- the lowest bits of x lead from old to new after the bits b, and the last of them decides this report, if it is one
 pub record Behind {C : Type 0} (folded : C → List ℕ → Type 0) (cost : ℕ) (old : LineState C) (b : List Bool) (n x : ℕ)
     (report : Option Report) (new : LineState C) : Type 0 where
   pub after : After folded cost new (b ++ bits_of n x)
@@ -235,7 +235,7 @@ pub front-decides-nothing : {C : Type 0} (folded : C → List ℕ → Type 0) (c
     → DecideNothing folded cost d (bits_of (n - 1) x)
 front-decides-nothing folded cost n x d before = subst (DecideNothing folded cost d) (front-bits n x) before
 
--- behind any bits
+-- after any bits
 pub advances-behind : {C : Type 0} (folded : C → List ℕ → Type 0) (cost n x : ℕ) (old new : LineState C)
     (report : Option Report) → new.longest ≡ old.longest → new.origin ≡ old.origin → new.place ≡ old.place + n
     → ((b : List Bool) → After folded cost old b → Behind folded cost old b n x report new)
@@ -266,7 +266,7 @@ behind-calm folded cost w n x t old new b calm all tracks = record {
   before = calm-before-last old.longest old.origin w n (n - 1) x b calm (omega arith);
 }
 
--- calm bits and the one behind them, once that is decided
+-- calm bits and the one after them, once that is decided
 pub behind-last : {C : Type 0} (folded : C → List ℕ → Type 0) (cost w n m x : ℕ) (old settled new : LineState C)
     (b : List Bool) (report : Option Report) → Last w n m x b
     → settled.longest ≡ old.longest → settled.origin ≡ old.origin

@@ -22,7 +22,7 @@ use Rattle.bus_line.proofs.MarkLastLemmas.{last_mark-flag}
 use Rattle.bus_line.proofs.DueMoreLemmas.{range-append}
 use Rattle.bus_line.proofs.SpellingRawLemmas.{current-low, low-ones}
 use Rattle.bus_line.proofs.DueStreamLemmas.{flag-fits}
-use Rattle.bus_line.proofs.WordLemmas.{history-five}
+use Rattle.bus_line.proofs.WordLemmas.{last-bits-five}
 use Rattle.bus_line.proofs.TracksHoldLemmas.{length-octets}
 use Rattle.bus_fcs.proofs.FrameCheckLemmas.{same_test}
 use Rattle.bus_line.proofs.WholeLemmas.{take_next, data-checked}
@@ -54,8 +54,8 @@ piece-ones b p m f h =
 -- the piece that the newest bit closes: its raw bits, and what the decoder holds of their data
 pub record IsClosed {C : Type 0} (folded : C → List ℕ → Type 0) (d : LineState C) (raw : List Bool) : Type 0 where
   pub low : IsLow 0 raw
-  pub five : d.history / 8 % 32 ≡ 31 → 5 ≤ ones_at_end raw
-  pub fewer : 5 ≤ ones_at_end raw → d.history / 8 % 32 ≡ 31
+  pub five : d.last_bits / 8 % 32 ≡ 31 → 5 ≤ ones_at_end raw
+  pub fewer : 5 ≤ ones_at_end raw → d.last_bits / 8 % 32 ≡ 31
   pub holds : Holds folded d (data_so_far raw)
 
 pub is_closed : {C : Type 0} (folded : C → List ℕ → Type 0) (cost : ℕ) (d : LineState C) (b : List Bool) (bit : Bool)
@@ -66,7 +66,7 @@ is_closed folded cost d b bit p h last some =
     let same : slice_range (b ++ bit ∷ []) (p + 8) m ≡ slice_range b (p + 8) m =
     range-append b (bit ∷ []) (p + 8) m (omega arith) in
     let n : length (b ++ bit ∷ []) - 8 ≡ m = omega (arith, length_push b bit) in
-    let w = history-five d.history b bit (omega arith) h.has_taken.history in
+    let w = last-bits-five d.last_bits b bit (omega arith) h.has_taken.last_bits in
     let e : ones_at_end (take m b) ≡ ones_at_end (slice_range (b ++ bit ∷ []) (p + 8) m) =
     piece-ones b p m (last_mark-flag b (length b) p last).flag (omega arith) ∙ ap ones_at_end (sym same) in
     let held : Holds folded d (settled_data (b ++ bit ∷ []) p) =
@@ -80,14 +80,14 @@ is_closed folded cost d b bit p h last some =
 
 -- five ones before the flag
 pub class-five : {C : Type 0} (folded : C → List ℕ → Type 0) (longest : ℕ) (d : LineState C) (raw : List Bool) →
-    IsClosed folded d raw → d.history / 8 % 32 ≡ 31 → class_of longest raw ≡ Damaged Unstuffed
+    IsClosed folded d raw → d.last_bits / 8 % 32 ≡ 31 → class_of longest raw ≡ Damaged Unstuffed
 class-five folded longest d raw c w =
     let t : (ones_at_end raw == 5) ≡ true = grind (arith, nat_tests, c.five w, low-ones 0 raw c.low) in
     ap (class_of_read longest) (low-unspelled raw c.low) ∙ rw t refl
 
 -- no five: the data are read
 pub class-read : {C : Type 0} (folded : C → List ℕ → Type 0) (longest : ℕ) (d : LineState C) (raw : List Bool) →
-    IsClosed folded d raw → d.history / 8 % 32 ≢ 31 → class_of longest raw ≡ class_of_data longest (data_so_far raw)
+    IsClosed folded d raw → d.last_bits / 8 % 32 ≢ 31 → class_of longest raw ≡ class_of_data longest (data_so_far raw)
 class-read folded longest d raw c w =
     let f : (ones_at_end raw == 5) ≡ false =
     false_from_ne_true _ (λ t. w (c.fewer (omega (arith, eqb-true (ones_at_end raw) 5 t)))) in

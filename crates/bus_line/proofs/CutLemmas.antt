@@ -34,7 +34,7 @@ due-moved n r = due-moved-by n r.kind r.first r.past
 not_in_run : (b : List Bool) (p a : ℕ) → IsFlag b p → IsIdle b a → a ≤ p → p < a + 15 → ⊥
 not_in_run b p a f h l u = clash b p (flag-first b p p f refl) (ones-bit b a 15 p h.0 refl l u)
 
--- ---- behind a flag at its beginning, a list has the reports that it has by itself
+-- ---- after a flag at its beginning, a list has the reports that it has by itself
 to-past : (longest : ℕ) (u s : List Bool) (t : Report) → IsFlag s 0 → IsReport longest s t →
     IsReport longest (u ++ s) (moved (length u) t)
 to-past longest u s _ g (closed p m kind h f c) =
@@ -47,7 +47,7 @@ to-past longest u s _ g (idle a h) =
     subst (λ (n : ℕ). IsReport longest (u ++ s) (record { kind = Idle; first = length u + a; past = n })) e
     (idle (length u + a) (stands-to u s a (ones 15) h.0, fresh-to u s a some h.1))
 
--- the flag of a piece that ends behind a flag stands there, or behind it
+-- the flag of a piece that ends after a flag stands there, or after it
 flag-past : (b : List Bool) (p m q : ℕ) → IsPiece b p m → IsFlag b q → q < m → q ≤ p
 flag-past b p m q h f l =
     elim (cases_lt p q) [ inl u ↦ absurd (omega (arith, l, h.next.least q u (inl f))) | inr u ↦ u ]
@@ -89,7 +89,7 @@ from-past longest u s _ g (idle a h) l =
           ∙ ap (λ (n : ℕ). record { kind = Idle; first = length u + i; past = n }) past,
     )
 
--- ---- and so at each place behind the flag
+-- ---- and so at each place after the flag
 alike : (x y : Option Report) (f : Report → Report) → ((t : Report) → y ≡ Some t → x ≡ Some (f t)) →
     ((r : Report) → x ≡ Some r → (t : Report) × (y ≡ Some t)) → x ≡ option_map f y
 alike x (Some t) f to back = to t refl

@@ -59,17 +59,17 @@ none_number = refl
 -- a flag has come: nothing of its piece is there yet
 pub tracks-flag : {C : Type 0} (folded : C → List ℕ → Type 0) (cost : ℕ) (d : LineState C) (c : List Bool) (mark : Mark)
     (p : ℕ) → Tracks folded cost d c mark → p + 8 ≡ length c
-    → Tracks folded cost (record d { first = Some d.place; gathered = 0; rest = 0 }) c (FlagAt p)
+    → Tracks folded cost (record d { first = Some d.place; data_bits = 0; partial = 0 }) c (FlagAt p)
 tracks-flag folded cost d c mark p h e =
     let none : settled_data c p ≡ [] = data-start c p (omega (arith, e)) in
     record {
-      has_taken = record { place = h.has_taken.place; history = h.has_taken.history };
+      has_taken = record { place = h.has_taken.place; last_bits = h.has_taken.last_bits };
       first = ap Some (h.has_taken.place ∙ ap (λ n. d.origin + n) (sym e));
       piece =
           rw none
           (record {
             count = refl;
-            rest = sym none_number;
+            partial = sym none_number;
             held = λ m. absurd (omega (arith, m));
             checked = λ m. absurd (omega (arith, m));
           });
@@ -87,7 +87,7 @@ pub tracks-abort : {C : Type 0} (folded : C → List ℕ → Type 0) (cost : ℕ
     (mark : Mark) (a : ℕ) → Tracks folded cost d c mark
     → Tracks folded cost (record d { first = None }) c (AbortAt a)
 tracks-abort folded cost d c mark a h = record {
-  has_taken = record { place = h.has_taken.place; history = h.has_taken.history };
+  has_taken = record { place = h.has_taken.place; last_bits = h.has_taken.last_bits };
   first = refl;
   piece = tt;
   counts = record {
@@ -108,13 +108,13 @@ run-within k (false ∷ b) = omega (arith, run-within 0 b)
 pub ones_within : (b : List Bool) → ones_at_end b ≤ length b
 ones_within b = omega (arith, run-within 0 b)
 
--- what was found in the history, by the bits
+-- what was found in the last sixteen bits, by all of them
 pub found-here : {C : Type 0} (e d : LineState C) → e ≡ d → (b : List Bool) (bit : Bool) → HasTaken d (b ++ bit ∷ []) →
     (f : Found)
-    → ((b : List Bool) (bit : Bool) → e.history ≡ number (drop (length (b ++ bit ∷ [])) (padded (b ++ bit ∷ []))) →
+    → ((b : List Bool) (bit : Bool) → e.last_bits ≡ number (drop (length (b ++ bit ∷ [])) (padded (b ++ bit ∷ []))) →
     e.place - 1 - e.origin ≡ length b → IsFound bit (ones_at_end b) (e.place - 1 - e.origin) f)
     → IsFound bit (ones_at_end b) (length b) f
 found-here e d same b bit s f found =
     let here : HasTaken e (b ++ bit ∷ []) = subst (λ x. HasTaken x (b ++ bit ∷ [])) (sym same) s in
     let n : e.place - 1 - e.origin ≡ length b = omega (arith, here.place, length_push b bit) in
-    subst (λ k. IsFound bit (ones_at_end b) k f) n (found b bit here.history n)
+    subst (λ k. IsFound bit (ones_at_end b) k f) n (found b bit here.last_bits n)

@@ -80,7 +80,7 @@ bit-within : (x r j : ℕ) → j < 8 → x / 2 ^ (8 * r) % 256 ≡ 126 → bit_a
 bit-within x r j l e = ap (λ (n : ℕ). n % 2) (sym (shr-shr x (8 * r) j))
     ∙ (sym (low-bit (x / 2 ^ (8 * r)) j l) ∙ ap (λ (n : ℕ). bit_at n j) e)
 
--- behind them there is none
+-- after them there is none
 pub none-behind : (x r : ℕ) → bit_xor x six_flags < 2 ^ 64 → 8 * r ≤ first_other x → first_other x < 8 * r + 8 → r < 6 →
     bits_of 8 (x / 2 ^ (8 * r)) ≡ flag → ⊥
 none-behind x r h l m few e =

@@ -1,4 +1,4 @@
--- Flags right behind a flag: they decide nothing, and each is the last mark.
+-- Flags right after a flag: they decide nothing, and each is the last mark.
 use Rattle.std.proofs.Common.{◌≡◌, ℕ, zero, suc, ◌+◌, ◌-◌, ◌*◌, ◌/◌, ◌%◌, ◌^◌, ◌≤◌, ◌<◌, Bool, false, List, [], ◌∷◌}
 use Rattle.std.proofs.Common.{◌++◌, length, take, drop, replicate, get_or, Some, None, refl, sym, ap, ◌∙◌, subst, arith}
 use Rattle.std.proofs.Common.{append-nil, append_assoc, length-append}
@@ -75,7 +75,7 @@ flag-last b h =
     let k : length u - 7 ≡ length b - 8 = omega (arith, n, flag-length b h) in
     ap current (flag-split b h) ∙ ((at-flag 3 u e (omega (arith, n))).leaves ∙ ap FlagAt k)
 
--- runs of ones in the flag behind it
+-- runs of ones in the flag after it
 run-here : (b : List Bool) → EndsInFlag b → ones_at_end b ≡ 0
 run-here b h = ap ones_at_end (flag-split b h) ∙ ones_after-last 0 (h.front ++ opening) 0
 
@@ -100,7 +100,7 @@ flag-calm b h = λ i l.
     let e = run-in-flag b h i (omega (arith, l)) in
     ((λ six. omega (arith, e, six, l)), λ more. omega (arith, e, more, l))
 
--- flags behind a flag end in one
+-- flags after a flag end in one
 pub flags-end : (b : List Bool) (k : ℕ) → EndsInFlag b → EndsInFlag (b ++ flags k)
 flags-end b zero h = subst EndsInFlag (sym (append-nil b)) h
 flags-end b (suc k) h = record { front = b ++ flags k; all = sym (append_assoc b (flags k) flag) }
@@ -160,8 +160,8 @@ unfolding number
 two-flags = refl
 
 -- the last sixteen bits are two flags
-flag-history : (b : List Bool) → EndsInFlag b → number (drop (length (b ++ flag)) (padded (b ++ flag))) ≡ 32382
-flag-history b h =
+flag-last-bits : (b : List Bool) → EndsInFlag b → number (drop (length (b ++ flag)) (padded (b ++ flag))) ≡ 32382
+flag-last-bits b h =
     let front : List Bool = replicate 16 false ++ h.front in
     let n : length front ≡ length (b ++ flag) =
     omega (arith, length-append (replicate 16 false) h.front, length-append b flag, flag-length b h) in
@@ -172,11 +172,11 @@ flag-history b h =
     ap (λ (x : List Bool). number (drop (length (b ++ flag)) x)) s
     ∙ (ap number (drop_at front (flag ++ flag) (length (b ++ flag)) n) ∙ two-flags)
 
--- the state behind it
+-- the state after it
 pub flag-after : {C : Type 0} (folded : C → List ℕ → Type 0) (cost : ℕ) (d : LineState C) (b : List Bool)
     (place shifted : ℕ) → EndsInFlag b → After folded cost d b → place ≡ d.place + 8
     → After folded cost
-    (record d { place = place; history = 32382; first = Some place; spent = record d.spent { shifted = shifted } })
+    (record d { place = place; last_bits = 32382; first = Some place; spent = record d.spent { shifted = shifted } })
     (b ++ flag)
 flag-after folded cost d b place shifted h t p =
     let n = length-append b flag in
@@ -184,7 +184,7 @@ flag-after folded cost d b place shifted h t p =
     let ended : EndsInFlag (b ++ flag) = record { front = b; all = refl } in
     let e :
     Tracks folded cost
-    (record d { place = place; history = 32382; first = Some place; spent = record d.spent { shifted = shifted } })
+    (record d { place = place; last_bits = 32382; first = Some place; spent = record d.spent { shifted = shifted } })
     (b ++ flag) (FlagAt (length b)) =
     (let old : Holds folded d (settled_data b (length b - 8)) =
     holds-of folded d b (length b - 8) (current b) (flag-last b h) t.piece in
@@ -193,13 +193,13 @@ flag-after folded cost d b place shifted h t p =
     let k = flag-counts cost d b h t.counts 8 (omega arith) in
     let empty : Holds folded d [] = subst (Holds folded d) before old in
     record {
-      has_taken = record { place = p ∙ omega (arith, t.has_taken.place, n); history = sym (flag-history b h) };
+      has_taken = record { place = p ∙ omega (arith, t.has_taken.place, n); last_bits = sym (flag-last-bits b h) };
       first = ap Some (p ∙ omega (arith, t.has_taken.place));
       piece =
           rw none
           (record {
             count = empty.count;
-            rest = empty.rest;
+            partial = empty.partial;
             held = λ l. absurd (omega (arith, l));
             checked = λ l. absurd (omega (arith, l));
           });
@@ -212,7 +212,7 @@ flag-after folded cost d b place shifted h t p =
 pub flags-after : {C : Type 0} (folded : C → List ℕ → Type 0) (cost : ℕ) (d : LineState C) (b : List Bool)
     (k place shifted : ℕ) → 0 < k → (0 < k → EndsInFlag b) → After folded cost d b → place ≡ d.place + 8 * k
     → After folded cost
-    (record d { place = place; history = 32382; first = Some place; spent = record d.spent { shifted = shifted } })
+    (record d { place = place; last_bits = 32382; first = Some place; spent = record d.spent { shifted = shifted } })
     (b ++ flags k)
 flags-after folded cost d b zero place shifted some ends t p = absurd (omega (arith, some))
 flags-after folded cost d b (suc zero) place shifted some ends t p =
@@ -222,6 +222,6 @@ flags-after folded cost d b (suc (suc k)) place shifted some ends t p =
     let before = flags-after folded cost d b (suc k) (d.place + 8 * suc k) shifted (omega arith) (λ s. h) t refl in
     subst
     (After folded cost
-    (record d { place = place; history = 32382; first = Some place; spent = record d.spent { shifted = shifted } }))
+    (record d { place = place; last_bits = 32382; first = Some place; spent = record d.spent { shifted = shifted } }))
     (append_assoc b (flags (suc k)) flag)
     (flag-after folded cost _ (b ++ flags (suc k)) place shifted (flags-end b (suc k) h) before (omega (arith, p)))

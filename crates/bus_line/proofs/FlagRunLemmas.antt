@@ -1,4 +1,4 @@
--- Runs of flags right behind a flag: how many bits they are, and how far a decoder goes.
+-- Runs of flags right after a flag: how many bits they are, and how far a decoder goes.
 use Rattle.std.proofs.Common.{◌≡◌, ◌≢◌, ℕ, zero, suc, ◌+◌, ◌-◌, ◌*◌, ◌/◌, ◌%◌, ◌^◌, ◌≤◌, ◌<◌, Bool, List, ◌++◌, length}
 use Rattle.std.proofs.Common.{take, drop, Option, Some, None, inl, inr, refl, sym, ap, ◌∙◌, subst, arith, append-nil}
 use Rattle.std.proofs.Common.{append_assoc, length-append}

@@ -54,7 +54,7 @@ module _ {S : Type 0} (taken : S → Option (List Bool)) (refusals : S → ℕ) 
     written = omega (arith, p.written, q.written);
   }
 
-  -- more bits would have come behind the one that was refused
+  -- more bits would have come after the one that was refused
   pub cut-before : (xs ys : List Bool) (a b : StuffingWriter) (s t : S) → Cut taken refusals xs a b s t →
       Cut taken refusals (xs ++ ys) a b s t
   cut-before xs ys a b s t q = record {
@@ -132,7 +132,7 @@ next-of xs i d h = split_at xs i d (get_or xs i d) h refl
     ∙ sym (append_assoc (take i xs) (get_or xs i d ∷ []) (drop (i + 1) xs))
 
 module _ {S : Type 0} (taken : S → Option (List Bool)) (refusals : S → ℕ) where
-  -- data d, and behind it e
+  -- data d, and after it e
   pub data-sent : (k : ℕ) (d e : List Bool) (a b c : StuffingWriter) (s t u : S) →
       Sent taken refusals (raw_after k d) a b s t → b.run ≡ run_after k d →
       Sent taken refusals (raw_after b.run e) b c t u → Sent taken refusals (raw_after k (d ++ e)) a c s u

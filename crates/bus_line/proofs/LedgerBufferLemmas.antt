@@ -13,7 +13,7 @@ use Rattle.bus_line.specs.After.{After}
 use Rattle.bus_line.proofs.LedgerStoredLemmas.{stored_from-is, none-behind}
 use Rattle.bus_line.proofs.TracksHoldLemmas.{length-octets}
 
--- behind a flag that is the last mark as many are stored as the settled data have, up to the room
+-- after a flag that is the last mark as many are stored as the settled data have, up to the room
 stored-behind-flag : (longest : ℕ) (b : List Bool) (p : ℕ) → current b ≡ FlagAt p →
     stored_open longest b ≡ min (longest + 2) (length (settled_data b p) / 8)
 stored-behind-flag longest b p e = ap (λ m. stored_behind longest b (begun_by m (length b))) e
@@ -33,7 +33,7 @@ none-behind-mark longest origin b (FlagAt p) e f = absurd (cc)
 
 -- before the first octet none is stored
 pub none-stored : {C : Type 0} (folded : C → List ℕ → Type 0) (cost : ℕ) (d : LineState C) (b : List Bool) →
-    After folded cost d b → d.gathered < 8 → 0 ≡ stored_open d.longest b
+    After folded cost d b → d.data_bits < 8 → 0 ≡ stored_open d.longest b
 none-stored folded cost d b h l = by_mark (current b) refl h.piece
   where
     by_mark : (m : Mark) → current b ≡ m → HoldsFor folded d b m → 0 ≡ stored_open d.longest b
@@ -43,7 +43,7 @@ none-stored folded cost d b h l = by_mark (current b) refl h.piece
 
 -- from then on those that are held
 pub held-stored : {C : Type 0} (folded : C → List ℕ → Type 0) (cost : ℕ) (d : LineState C) (b : List Bool) (first : ℕ) →
-    After folded cost d b → d.first ≡ Some first → 8 ≤ d.gathered → length d.octets ≡ stored_open d.longest b
+    After folded cost d b → d.first ≡ Some first → 8 ≤ d.data_bits → length d.octets ≡ stored_open d.longest b
 held-stored folded cost d b first h f l = by_mark (current b) refl h.piece (sym h.first ∙ f)
   where
     by_mark : (m : Mark) → current b ≡ m → HoldsFor folded d b m → first_of d.origin m ≡ Some first →

@@ -34,7 +34,7 @@ use Rattle.std.proofs.lemmas.Bool.Decides.{nat_tests}
 use Rattle.bus_line.proofs.DecideLemmas.{closing, seven, fifteen, other}
 use Rattle.bus_line.proofs.WholeLemmas.{take_next}
 
--- the octets stored for the piece behind this mark
+-- the octets stored for the piece after this mark
 abbrev open_stored : ℕ → List Bool → Mark → ℕ
 open_stored longest b NoMark = 0
 open_stored longest b (AbortAt a) = 0

@@ -116,7 +116,7 @@ stored_from-is longest b p e =
         and-none true = refl
         and-none false = refl
 
--- and none where nothing stands behind the flag
+-- and none where nothing stands after the flag
 pub none-behind : (longest : ℕ) (b : List Bool) (p : ℕ) → length b ≤ p + 8 → stored_from longest b (p + 8) ≡ 0
 none-behind longest b p h =
     count-none (kept longest b p) (length b) (λ i l. and_left _ _ (lt-leb (p + 8) i (omega (arith, h, l))))

@@ -25,6 +25,7 @@ pub mod SettleLemmas
 pub mod AdvanceLemmas
 pub mod TellLemmas
 pub mod QuietLemmas
+pub mod ReachLemmas
 pub mod FlagCountLemmas
 pub mod FlagLemmas
 pub mod FlagRunLemmas

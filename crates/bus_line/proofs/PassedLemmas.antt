@@ -1,4 +1,4 @@
--- Bits behind flags that follow a flag.
+-- Bits after flags that follow a flag.
 use Rattle.std.proofs.Common.{◌≡◌, ◌≢◌, ℕ, ◌+◌, ◌-◌, ◌*◌, ◌/◌, ◌^◌, ◌≤◌, ◌<◌, Bool, List, [], ◌++◌, length, drop, inl}
 use Rattle.std.proofs.Common.{inr, sym, ap, ◌∙◌, subst, arith, refl, append-nil, append_assoc, length-append}
 use Rattle.std.proofs.lemmas.Bool.{cases_lt}
@@ -17,7 +17,7 @@ use Rattle.bus_line.proofs.AdvanceLemmas.{is_calm, is_last, stops-behind-all, st
 use Rattle.bus_line.proofs.FlagRunLemmas.{flags-length, bits-behind, flags-placed, flags-before, takes-flags}
 use Rattle.bus_line.proofs.FlagRunLemmas.{takes-behind}
 
--- the bits behind them are a number of as many bits
+-- the bits after them are a number of as many bits
 pub below : (n x k : ℕ) → 8 * k ≤ n → x < 2 ^ n → x / 2 ^ (8 * k) < 2 ^ (n - 8 * k)
 below n x k within small =
     let e : n ≡ n - 8 * k + 8 * k = omega (arith, within) in

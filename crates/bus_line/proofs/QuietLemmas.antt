@@ -3,14 +3,17 @@ use Rattle.std.proofs.Common.{◌≡◌, ◌≢◌, ℕ, zero, suc, ◌+◌, ◌
 use Rattle.std.proofs.Common.{[], ◌∷◌, ◌++◌, length, drop, replicate, None, refl, sym, ap, ◌∙◌, subst, arith, inl, inr}
 use Rattle.std.proofs.Common.{if◌then◌else◌}
 use Rattle.std.specs.Prelude.{bit_and, bit_or}
-use Rattle.std.specs.Int.{bit_at}
+use Rattle.std.specs.Int.{bit_at, trailing_zeros, w64}
 use Rattle.std.specs.Int.Bits.{or_shifted_r}
+use Rattle.std.proofs.lemmas.Nat.{and_le_r}
 use Rattle.std.proofs.lemmas.Nat.{shr-shr, field_of}
 use Rattle.std.proofs.Math.Pow.{mod-mod-pow}
 use Rattle.std.proofs.lemmas.List.{length-drop, append-nil, append_assoc, replicate-append-replicate}
 use Rattle.bus_bits.specs.Bits.{bits_from}
 use Rattle.bus_bits.proofs.BitLemmas.{bits-more}
-use Rattle.std.proofs.lemmas.Nat.Bits.{bit_at_and, bit_at-zero, bit_at_mask_inside}
+use Rattle.std.proofs.lemmas.Nat.Bits.{bit_at_and, bit_at-zero, bit_at_mask_inside, bit_at_mask_above}
+use Rattle.std.proofs.lemmas.Nat.Bits.{bit_at_mask_below, bit_at-trailing_zeros}
+use Rattle.std.proofs.lemmas.Bool.{cases_lt}
 use Rattle.bus_bits.specs.Octet.{bits_of, number}
 use Rattle.bus_bits.proofs.OctetLemmas.{bits-low, number-bits, number-lt}
 use Rattle.bus_line.specs.Mark.{flag}
@@ -34,22 +37,52 @@ use Rattle.bus_line.proofs.TellLemmas.{tells-none, tells-more}
 
 -- ---- where six ones end
 
--- the machine's test finds none
-pub no-six : (w : ℕ) → bit_and (six w) 288230376151711740 ≡ 0 → (i : ℕ) → i < 56 → w / 2 ^ (2 + i) % 64 ≢ 63
-no-six w e i l m =
+-- where the machine may find them
+abbrev pub sixes : ℕ → ℕ
+sixes w = bit_and (six w) 288230376151711740
+
+-- and finds none
+no-six-at : (w i : ℕ) → i < 56 → bit_at (sixes w) (2 + i) ≡ 0 → w / 2 ^ (2 + i) % 64 ≢ 63
+no-six-at w i l none m =
     let mask : bit_at 288230376151711740 (2 + i) ≡ 1 =
     bit_at_mask_inside 2 58 (2 + i) (omega arith) (omega (arith, l)) in
-    let none : bit_at (bit_and (six w) 288230376151711740) (2 + i) ≡ 0 =
-    ap (λ (x : ℕ). bit_at x (2 + i)) e ∙ bit_at-zero (2 + i) in
     let both = bit_at_and (six w) 288230376151711740 (2 + i) in
     let low : bit_at (six w) (2 + i) ≡ six (w / 2 ^ (2 + i)) % 2 = ap (λ (x : ℕ). x % 2) (six-shr w (2 + i)) in
     let one = (six-ones (w / 2 ^ (2 + i))).1 m in
     omega (arith, mask, none, both, low, one)
 
--- so no bit is behind just six ones or just fourteen
-pub no-stop : (w behind : ℕ) → behind ≡ w / 256 → ((i : ℕ) → i < 56 → behind / 2 ^ (2 + i) % 64 ≢ 63) → (i : ℕ) →
-    i < 56 → IsStop w i → ⊥
-no-stop w behind e none i l s =
+pub no-six : (w : ℕ) → sixes w ≡ 0 → (i : ℕ) → i < 56 → w / 2 ^ (2 + i) % 64 ≢ 63
+no-six w e i l = no-six-at w i l (ap (λ (x : ℕ). bit_at x (2 + i)) e ∙ bit_at-zero (2 + i))
+
+-- the first
+pub record IsFirstSix (w place : ℕ) : Type 0 where
+  pub least : 2 ≤ place
+  pub most : place < 58
+  pub none : (i : ℕ) → i < place - 2 → w / 2 ^ (2 + i) % 64 ≢ 63
+
+pub first-six : (w : ℕ) → sixes w ≢ 0 → IsFirstSix w (trailing_zeros w64 (sixes w))
+first-six w some =
+    let small : sixes w < 2 ^ 64 = omega (arith, and_le_r (six w) 288230376151711740) in
+    let found = bit_at-trailing_zeros w64 (sixes w) (omega (arith, some)) small in
+    let place : ℕ = trailing_zeros w64 (sixes w) in
+    let both = bit_at_and (six w) 288230376151711740 place in
+    let most : place < 58 = elim (cases_lt place 58) [
+      | inl before ↦ before
+      | inr above ↦ absurd (omega (arith, bit_at_mask_above 2 58 place above, both, found.1))
+    ] in
+    record {
+      least = elim (cases_lt place 2) [
+        | inl below ↦ absurd (omega (arith, bit_at_mask_below 2 58 place below, both, found.1))
+        | inr late ↦ late
+      ];
+      most = most;
+      none = λ i l. no-six-at w i (omega (arith, l, most)) (found.2 (2 + i) (omega (arith, l)));
+    }
+
+-- so no bit comes after exactly six ones or exactly fourteen
+pub no-stop : (w behind n : ℕ) → behind ≡ w / 256 → ((i : ℕ) → i < n → behind / 2 ^ (2 + i) % 64 ≢ 63) → (i : ℕ) →
+    i < n → IsStop w i → ⊥
+no-stop w behind n e none i l s =
     let at : behind / 2 ^ (2 + i) ≡ w / 2 ^ (10 + i) =
     ap (λ (x : ℕ). x / 2 ^ (2 + i)) e ∙ (shr-shr w 8 (2 + i) ∙ ap (λ (j : ℕ). w / 2 ^ j) (omega arith)) in
     elim s [
@@ -63,45 +96,57 @@ no-stop w behind e none i l s =
           none i l (omega (arith, at, far, more))
     ]
 
--- ---- the word of 56 new bits behind sixteen others
+-- ---- the word of 56 new bits after sixteen others
 
 -- as a number, whatever stands above the new bits
 abbrev pub word_of : ℕ → ℕ → ℕ
-word_of history bits = history + bits % 2 ^ 56 * 65536
+word_of last_bits bits = last_bits + bits % 2 ^ 56 * 65536
 
 -- the machine's, but for the eight lowest bits
-pub word-behind : (history bits : ℕ) → history < 65536 → bit_or (history / 256) (bits * 256 % 18446744073709551616)
-    ≡ word_of history bits / 256
-word-behind history bits l =
+pub word-behind : (last_bits bits : ℕ) → last_bits < 65536
+    → bit_or (last_bits / 256) (bits * 256 % 18446744073709551616) ≡ word_of last_bits bits / 256
+word-behind last_bits bits l =
     let y : ℕ = bits % 2 ^ 56 in
     let s : bits * 256 % 18446744073709551616 ≡ y * 2 ^ 8 = omega arith in
-    ap (bit_or (history / 256)) s ∙ (or_shifted_r y 8 (history / 256) (omega (arith, l)) ∙ omega (arith, l))
+    ap (bit_or (last_bits / 256)) s ∙ (or_shifted_r y 8 (last_bits / 256) (omega (arith, l)) ∙ omega (arith, l))
 
 -- and but for the eight highest
-pub word-front : (history bits : ℕ) → history < 65536 → bit_or history (bits * 65536 % 18446744073709551616)
-    ≡ word_of history bits % 2 ^ 64
-word-front history bits l =
+pub word-front : (last_bits bits : ℕ) → last_bits < 65536 → bit_or last_bits (bits * 65536 % 18446744073709551616)
+    ≡ word_of last_bits bits % 2 ^ 64
+word-front last_bits bits l =
     let y : ℕ = bits % 2 ^ 48 in
     let s : bits * 65536 % 18446744073709551616 ≡ y * 2 ^ 16 = omega arith in
-    ap (bit_or history) s ∙ (or_shifted_r y 16 history (omega (arith, l)) ∙ omega (arith, l))
+    ap (bit_or last_bits) s ∙ (or_shifted_r y 16 last_bits (omega (arith, l)) ∙ omega (arith, l))
 
 -- the data that it settles do not hang on these
+field : (w j n : ℕ) → j + n ≤ 64 → w % 2 ^ 64 / 2 ^ j % 2 ^ n ≡ w / 2 ^ j % 2 ^ n
+field w j n m =
+    let e : 64 ≡ (64 - j) + j = omega (arith, m) in
+    let f : 64 - j ≡ (64 - j - n) + n = omega (arith, m) in
+    ap (λ (x : ℕ). w % 2 ^ x / 2 ^ j % 2 ^ n) e
+    ∙ (ap (λ (x : ℕ). x % 2 ^ n) (field_of w (64 - j) j)
+    ∙ (ap (λ (x : ℕ). w / 2 ^ j % 2 ^ x % 2 ^ n) f ∙ mod-mod-pow (w / 2 ^ j) (64 - j - n) n))
+
+field-behind : (w s j n : ℕ) → s + j + n ≤ 64 → w % 2 ^ 64 / 2 ^ s / 2 ^ j % 2 ^ n ≡ w / 2 ^ s / 2 ^ j % 2 ^ n
+field-behind w s j n l =
+    ap (λ (x : ℕ). x % 2 ^ n) (shr-shr (w % 2 ^ 64) s j)
+    ∙ (field w (s + j) n l ∙ ap (λ (x : ℕ). x % 2 ^ n) (sym (shr-shr w s j)))
+
+pub settled-behind : (w s k : ℕ) → s + k ≤ 56 → data_in_word (w % 2 ^ 64 / 2 ^ s) k ≡ data_in_word (w / 2 ^ s) k
+settled-behind w s zero l = refl
+settled-behind w s (suc k) l =
+    let x : ℕ = w % 2 ^ 64 / 2 ^ s in
+    let five : x / 2 ^ (3 + k) % 64 ≡ w / 2 ^ s / 2 ^ (3 + k) % 64 = field-behind w s (3 + k) 6 (omega (arith, l)) in
+    let bit : x / 2 ^ (8 + k) % 2 ≡ w / 2 ^ s / 2 ^ (8 + k) % 2 = field-behind w s (8 + k) 1 (omega (arith, l)) in
+    ap (λ (z : List Bool). z ++ (if x / 2 ^ (3 + k) % 64 == 31 then [] else (x / 2 ^ (8 + k) % 2 == 1) ∷ []))
+    (settled-behind w s k (omega (arith, l))) ∙ rw (five, bit) refl
+
 pub settled-front : (w k : ℕ) → k ≤ 56 → data_in_word (w % 2 ^ 64) k ≡ data_in_word w k
-settled-front w zero l = refl
-settled-front w (suc k) l =
-    let five : w % 2 ^ 64 / 2 ^ (3 + k) % 64 ≡ w / 2 ^ (3 + k) % 64 = field (3 + k) 6 (omega (arith, l)) in
-    let bit : w % 2 ^ 64 / 2 ^ (8 + k) % 2 ≡ w / 2 ^ (8 + k) % 2 = field (8 + k) 1 (omega (arith, l)) in
-    ap (λ (z : List Bool).
-    z ++ (if w % 2 ^ 64 / 2 ^ (3 + k) % 64 == 31 then [] else (w % 2 ^ 64 / 2 ^ (8 + k) % 2 == 1) ∷ []))
-    (settled-front w k (omega (arith, l))) ∙ rw (five, bit) refl
-  where
-    field : (j n : ℕ) → j + n ≤ 64 → w % 2 ^ 64 / 2 ^ j % 2 ^ n ≡ w / 2 ^ j % 2 ^ n
-    field j n m =
-        let e : 64 ≡ (64 - j) + j = omega (arith, m) in
-        let f : 64 - j ≡ (64 - j - n) + n = omega (arith, m) in
-        ap (λ (x : ℕ). w % 2 ^ x / 2 ^ j % 2 ^ n) e
-        ∙ (ap (λ (x : ℕ). x % 2 ^ n) (field_of w (64 - j) j)
-        ∙ (ap (λ (x : ℕ). w / 2 ^ j % 2 ^ x % 2 ^ n) f ∙ mod-mod-pow (w / 2 ^ j) (64 - j - n) n))
+settled-front w k l =
+    let none : w % 2 ^ 64 ≡ w % 2 ^ 64 / 2 ^ 0 = omega arith in
+    let all : w / 2 ^ 0 ≡ w = omega arith in
+    ap (λ (x : ℕ). data_in_word x k) none
+    ∙ (settled-behind w 0 k (omega (arith, l)) ∙ ap (λ (x : ℕ). data_in_word x k) all)
 
 -- ---- 56 bits more of these octets
 
@@ -166,9 +211,9 @@ flags-more os from at x l before next e =
 
 -- ---- time fill
 
--- where no piece is open, one behind sixteen of them decides nothing
+-- where no piece is open, one after sixteen of them decides nothing
 module _ {C : Type 0} (folded : C → List ℕ → Type 0) (cost : ℕ) (check : C) (cells : List ℕ) where
-  one-more : (w : LineWords) → w.history ≡ 65535 → w.settles_at ≡ 2 ^ 62 → w.place + 1 ≤ 2 ^ 60 →
+  one-more : (w : LineWords) → w.last_bits ≡ 65535 → w.settles_at ≡ 2 ^ 62 → w.place + 1 ≤ 2 ^ 60 →
       Tells folded cost (state w check cells) (true ∷ []) None (state (record w { place = w.place + 1 }) check cells)
   unfolding number
   one-more w ones idle room =
@@ -176,13 +221,13 @@ module _ {C : Type 0} (folded : C → List ℕ → Type 0) (cost : ℕ) (check :
       let next : LineWords = record w { place = w.place + 1 } in
       let e = state next check cells in
       let word : (b : List Bool) → After folded cost d b → IsWord 131071 b (true ∷ []) =
-      λ b h. word-made 65535 1 b (true ∷ []) (sym ones ∙ h.has_taken.history) refl in
+      λ b h. word-made 65535 1 b (true ∷ []) (sym ones ∙ h.has_taken.last_bits) refl in
       let none : (i : ℕ) → i < 1 → IsStop 131071 i → ⊥ = λ i l s. let z : i ≡ 0 =
       omega (arith, l) in elim (subst (IsStop 131071) z s) [ inl x ↦ omega (arith, x) | inr x ↦ omega (arith, x) ] in
       let calm : (b : List Bool) → After folded cost d b → IsCalm b (true ∷ []) 1 =
       λ b h. calm-before 131071 1 b (true ∷ []) (word b h) (omega arith) none in
-      let same : next ≡ record w { place = w.place + 1; history = 131071 / 2 ^ 1 % 65536 } =
-      ap (λ (x : ℕ). record w { place = w.place + 1; history = x }) (ones ∙ omega arith) in
+      let same : next ≡ record w { place = w.place + 1; last_bits = 131071 / 2 ^ 1 % 65536 } =
+      ap (λ (x : ℕ). record w { place = w.place + 1; last_bits = x }) (ones ∙ omega arith) in
       let closed : first_in w.settles_at ≡ None = ap first_in idle in
       record {
         leads = record {
@@ -201,8 +246,8 @@ module _ {C : Type 0} (folded : C → List ℕ → Type 0) (cost : ℕ) (check :
             ∙ sym (append-nil (placed w.origin w.longest b));
       }
 
-  pub ones-tell : (n : ℕ) (w : LineWords) → (0 < n → w.history ≡ 65535) → w.settles_at ≡ 2 ^ 62 → w.place + n ≤ 2 ^ 60 →
-      Tells folded cost (state w check cells) (replicate n true) None
+  pub ones-tell : (n : ℕ) (w : LineWords) → (0 < n → w.last_bits ≡ 65535) → w.settles_at ≡ 2 ^ 62
+      → w.place + n ≤ 2 ^ 60 → Tells folded cost (state w check cells) (replicate n true) None
       (state (record w { place = w.place + n }) check cells)
   ones-tell zero w ones idle room =
       let e : w.place ≡ w.place + 0 = omega arith in
@@ -222,7 +267,7 @@ module _ {C : Type 0} (folded : C → List ℕ → Type 0) (cost : ℕ) (check :
       subst (λ (w : LineWords). Tells folded cost (state old check cells) (replicate n true) None (state w check cells))
       (sym p.new_is) (ones-tell n old p.behind idle room)
 
-  -- flags behind a flag
+  -- flags after a flag
   pub passed-flags : (old new : LineWords) (k : ℕ) → PassesFlags old k new → IsWithin old →
       old.settles_at ≡ old.place + 8 → new.place ≤ 2 ^ 60 →
       Tells folded cost (state old check cells) (flags k) None (state new check cells)
@@ -262,14 +307,26 @@ word-is h x b e =
     ∙ ap number (bits-low 56 x) in
     word-made h (x % 2 ^ 56) b (bits_of 56 x) e n
 
-pub history-small : {C : Type 0} (d : LineState C) (b : List Bool) → HasTaken d b → d.history < 65536
-history-small d b h =
+pub last-bits-small : {C : Type 0} (d : LineState C) (b : List Bool) → HasTaken d b → d.last_bits < 65536
+last-bits-small d b h =
     let k : length (drop (length b) (padded b)) ≡ 16 =
     length-drop (length b) (padded b) ∙ omega (arith, padded-length b) in
     let o : number (drop (length b) (padded b)) < 65536 = rw k at (number-lt (drop (length b) (padded b))) in
-    omega (arith, h.history, o)
+    omega (arith, h.last_bits, o)
 
 -- the sixteen newest
-pub history-next : (h x : ℕ) → h < 65536 → bit_or (h / 256) (x * 256 % 18446744073709551616) / 2 ^ 48
+pub last-bits-next : (h x : ℕ) → h < 65536 → bit_or (h / 256) (x * 256 % 18446744073709551616) / 2 ^ 48
     ≡ word_of h x / 2 ^ 56 % 65536
-history-next h x l = ap (λ (y : ℕ). y / 2 ^ 48) (word-behind h x l) ∙ omega (arith, l)
+last-bits-next h x l = ap (λ (y : ℕ). y / 2 ^ 48) (word-behind h x l) ∙ omega (arith, l)
+
+pub newest-front : (h x n : ℕ) → h < 65536 → n < 8
+    → bit_or h (x * 65536 % 18446744073709551616) / 2 ^ n % 65536 ≡ word_of h x / 2 ^ n % 65536
+newest-front h x n l few =
+    ap (λ (y : ℕ). y / 2 ^ n % 65536) (word-front h x l) ∙ field (word_of h x) n 16 (omega (arith, few))
+
+pub newest-behind : (h x n : ℕ) → h < 65536 → 8 ≤ n
+    → bit_or (h / 256) (x * 256 % 18446744073709551616) / 2 ^ (n - 8) % 65536 ≡ word_of h x / 2 ^ n % 65536
+newest-behind h x n l many =
+    let all : 8 + (n - 8) ≡ n = omega (arith, many) in
+    ap (λ (y : ℕ). y / 2 ^ (n - 8) % 65536) (word-behind h x l)
+    ∙ ap (λ (y : ℕ). y % 65536) (shr-shr (word_of h x) 8 (n - 8) ∙ ap (λ (j : ℕ). word_of h x / 2 ^ j) all)

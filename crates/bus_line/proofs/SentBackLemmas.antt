@@ -22,7 +22,7 @@ use Rattle.bus_line.proofs.DueLemmas.{piece_report-is}
 use Rattle.bus_line.proofs.DueStreamLemmas.{at-flag, at-abort, at-idle, at-other}
 use Rattle.bus_line.proofs.SentLemmas.{data_sent, length-sent, raw-spelled, class-sent}
 
--- the bits c behind b leave the reports, the last mark and k ones at the end
+-- the bits c after b leave the reports, the last mark and k ones at the end
 record Quiet (longest : ℕ) (b c : List Bool) (k : ℕ) : Type 0 where
   none : reports longest (b ++ c) ≡ reports longest b
   mark : current (b ++ c) ≡ current b
@@ -101,7 +101,7 @@ flag-shut : (b : List Bool) → EndsFlag b → IsShut b
 flag-shut b e kind = ap (λ x. piece_report kind x (length b)) e.mark
     ∙ piece_report-shut kind (length b - 8) (length b) (omega (arith, e.room))
 
--- a flag behind any bits but six ones
+-- a flag after any bits but six ones
 record FlagAdded (longest : ℕ) (b : List Bool) : Type 0 where
   adds : reports longest (b ++ flag) ≡ reports longest b
       ++ option_to_list (piece_report (λ p. class_of longest (slice_range (b ++ flag) (p + 8) (length b))) (current b)
@@ -156,7 +156,7 @@ range-mid b r t =
     ∙ (ap (λ n. take n (drop (length b) (b ++ (r ++ t)))) e
     ∙ (ap (take (length r)) (drop_at b (r ++ t) (length b) refl) ∙ take_at r t (length r) refl))
 
--- raw bits of data and a flag, behind a flag
+-- raw bits of data and a flag, after a flag
 record ContentAdded (longest : ℕ) (b d r : List Bool) : Type 0 where
   adds : reports longest (b ++ (r ++ flag)) ≡ reports longest b
       ++ record { kind = class_of_data longest d; first = length b; past = length b + length r } ∷ []
@@ -229,7 +229,7 @@ record IdleAdded (longest : ℕ) (b : List Bool) : Type 0 where
   adds : reports longest (b ++ ones 15) ≡ reports longest b ++ idle_at (length b) ∷ []
   ends : EndsIdle (b ++ ones 15)
 
--- fifteen ones behind a 0, or at the start
+-- fifteen ones after a 0, or at the start
 idle-added : (longest : ℕ) (b : List Bool) → ones_at_end b ≡ 0 → IsShut b → IdleAdded longest b
 idle-added longest b z shut =
     let p = quiet-ones longest b 0 6 z (λ i l. (λ e. omega (arith, e, l), λ e. omega (arith, e, l))) in
@@ -286,7 +286,7 @@ idle-goes_on longest b e =
 
 -- ---- calls
 
--- the bits b end as they do behind this call, or are none
+-- the bits b end as they do after this call, or are none
 abbrev EndsWith : Option Call → List Bool → Type 0
 EndsWith None b = b ≡ []
 EndsWith (Some Flag) b = EndsFlag b

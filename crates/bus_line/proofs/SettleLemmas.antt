@@ -41,7 +41,7 @@ settles-none : (longest p : ℕ) (b c : List Bool) → c ≡ b → Settles longe
 settles-none longest p b c e =
     rw e (record { more = sym (append-nil (settled_data b p)); settled = omega arith; filled = refl })
 
--- and bits behind bits
+-- and bits after bits
 settles-both : (longest p : ℕ) (a b c x y : List Bool) → Settles longest p a b x → Settles longest p b c y →
     Settles longest p a c (x ++ y)
 settles-both longest p a b c x y h k = record {
@@ -148,7 +148,7 @@ mark-calm b bits n (suc i) h l k =
     ∙ (mark-kept (b ++ take i bits) (get_or bits i false) c.0 c.1
     ∙ mark-calm b bits n i h (omega (arith, l)) (omega (arith, k)))
 
--- where no flag was last they settle nothing, nor does the bit behind them
+-- where no flag was last they settle nothing, nor does the bit after them
 counts-none : {C : Type 0} (cost origin n : ℕ) (d : LineState C) (b bits : List Bool) → IsCalm b bits n →
     first_of origin (current b) ≡ None → Counts cost d b → (i : ℕ) → i ≤ n + 1 → i ≤ length bits →
     Counts cost d (b ++ take i bits)
@@ -206,13 +206,13 @@ settles-calm longest p w n skip b bits f c h s (suc i) l m =
           (settles-both longest p b u (u ++ x ∷ []) (data_in_word (w / 2 ^ skip) (i - skip)) (late_at w i) before one))
     ]
 
--- ---- what the decoder tracks behind them
+-- ---- what the decoder tracks after them
 
 -- data are appended, or none
 tracks-settled : {C : Type 0} (folded : C → List ℕ → Type 0) (cost p : ℕ) (d e : LineState C)
     (b bits gained : List Bool) → LagsBy folded cost d b bits → current b ≡ FlagAt p →
     Settles d.longest p b (b ++ bits) gained
-    → e.longest ≡ d.longest → e.origin ≡ d.origin → e.place ≡ d.place → e.history ≡ d.history → e.first ≡ d.first
+    → e.longest ≡ d.longest → e.origin ≡ d.origin → e.place ≡ d.place → e.last_bits ≡ d.last_bits → e.first ≡ d.first
     → Holds folded e (settled_data b p ++ gained)
     → e.spent ≡ record d.spent {
       assembled = d.spent.assembled + length gained;
@@ -257,19 +257,18 @@ spent-none s cost longest n =
     let f : s.folded + cost * 0 ≡ s.folded = omega (arith, y) in
     rw (z, a, b, f) refl
 
--- the bits are in the history, and not yet settled
+-- the bits are among the last sixteen, and not yet settled
 pub lags-word : {C : Type 0} (folded : C → List ℕ → Type 0) (cost : ℕ) (d : LineState C) (b bits : List Bool)
-    (w t place history shifted : ℕ) → After folded cost d b → IsWord w b bits → t ≤ length bits
-    → place ≡ d.place + t → history ≡ w / 2 ^ t % 65536
-    → LagsBy folded cost (record d { place = place; history = history; spent = record d.spent { shifted = shifted } }) b
-    (take t bits)
-lags-word folded cost d b bits w t place history shifted h word l p e = record {
+    (w t place last_bits shifted : ℕ) → After folded cost d b → IsWord w b bits → t ≤ length bits
+    → place ≡ d.place + t → last_bits ≡ w / 2 ^ t % 65536 → LagsBy folded cost
+    (record d { place = place; last_bits = last_bits; spent = record d.spent { shifted = shifted } }) b (take t bits)
+lags-word folded cost d b bits w t place last_bits shifted h word l p e = record {
   has_taken = record {
     place = p ∙ omega (arith, h.has_taken.place, length-front t b bits l);
-    history = e ∙ word-next w t b bits word l;
+    last_bits = e ∙ word-next w t b bits word l;
   };
   first = h.first;
-  piece = moved-holds folded d b place history (record d.spent { shifted = shifted }) (current b) h.piece;
+  piece = moved-holds folded d b place last_bits (record d.spent { shifted = shifted }) (current b) h.piece;
   counts = record {
     settled = h.counts.settled;
     filled = h.counts.filled;
@@ -279,7 +278,7 @@ lags-word folded cost d b bits w t place history shifted h word l p e = record {
   };
 }
 
--- no flag was last, or all bits come too early behind it
+-- no flag was last, or all bits come too early after it
 pub word-unsettled : {C : Type 0} (folded : C → List ℕ → Type 0) (cost at w t : ℕ) (first : Option ℕ) (d : LineState C)
     (b bits : List Bool) → IsWord w b bits → t ≤ length bits → IsCalm b bits (t - 1) →
     LagsBy folded cost d b (take t bits)
@@ -319,7 +318,7 @@ pub word-settled : {C : Type 0} (folded : C → List ℕ → Type 0) (cost first
       folded =
           d.spent.folded + cost * octets_more d.longest (length bits) count;
     })
-    → e ≡ record d { gathered = e.gathered; rest = e.rest; octets = e.octets; check = e.check; spent = e.spent }
+    → e ≡ record d { data_bits = e.data_bits; partial = e.partial; octets = e.octets; check = e.check; spent = e.spent }
     → Tracks folded cost e (b ++ take t bits) (current b)
 word-settled folded cost first w t late count data_bits d e b bits h l c lags f far m value holds spent kept =
     let s = first-Some d.origin first (current b) (sym lags.first ∙ f) in
@@ -335,6 +334,6 @@ word-settled folded cost first w t late count data_bits d e b bits h l c lags f 
     tracks-settled folded cost s.0 d e b (take t bits) (bits_of count data_bits) lags s.1
     (subst (Settles d.longest s.0 b (b ++ take t bits)) (sym v) z)
     (ap (λ (x : LineState _). x.longest) kept) (ap (λ (x : LineState _). x.origin) kept)
-    (ap (λ (x : LineState _). x.place) kept) (ap (λ (x : LineState _). x.history) kept)
+    (ap (λ (x : LineState _). x.place) kept) (ap (λ (x : LineState _). x.last_bits) kept)
     (ap (λ (x : LineState _). x.first) kept)
     (holds (settled_data b s.0) held) (rw size (spent (settled_data b s.0) held))

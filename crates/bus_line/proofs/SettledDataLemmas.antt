@@ -132,7 +132,7 @@ fourteen-shr w k =
 abbrev MAX : ℕ
 MAX = 18446744073709551615
 
--- just six ones, or fourteen, before each new bit, and a 1 behind the new bits
+-- exactly six ones, or fourteen, before each new bit, and a 1 after the new bits
 abbrev pub stops : ℕ → ℕ → ℕ
 stops w count = bit_or (bit_or (bit_and (six w / 1024) (MAX - w / 512)) (bit_and (fourteen w / 4) (MAX - w / 2)))
     (1 * 2 ^ count % 18446744073709551616)

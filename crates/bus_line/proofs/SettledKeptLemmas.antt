@@ -1,19 +1,22 @@
 -- What is left of bits without the inserted 0s.
 use Rattle.std.proofs.Common.{◌≡◌, ◌≢◌, ℕ, zero, suc, ◌+◌, ◌-◌, ◌*◌, ◌/◌, ◌%◌, ◌^◌, ◌<◌, ◌≤◌, ◌==◌, Bool, List, [], ◌∷◌}
 use Rattle.std.proofs.Common.{◌++◌, refl, sym, ap, ◌∙◌, subst, arith, nat_eq, not, inl, inr}
-use Rattle.std.specs.Prelude.{bit_and, false, ◌↔◌}
+use Rattle.std.specs.Prelude.{bit_and, cond, count_ones, false, length, ◌↔◌}
+use lib.Lanes.{mask_l}
+use Rattle.std.proofs.lemmas.Simd.{ones-mask_l_cons}
 use mir.Val.{bool_byte}
 use Rattle.std.specs.Int.Bits.{and_self, and_zero_r}
 use Rattle.std.specs.Int.{bit_at, w64, trailing_zeros}
 use Rattle.std.proofs.lemmas.Nat.{shr-shr, and_le_l, and_mask, and_shr, and_block, mod_below, mod-pow-add, mul-add-lt}
-use Rattle.std.proofs.lemmas.Nat.{pow-add, pow_below, pow_pos, one_shl, shr_below, shr_high, shr_split}
+use Rattle.std.proofs.lemmas.Nat.{ones_le_self, pow-add, pow_below, pow_pos, one_shl, shr_below, shr_high, shr_split}
 use Rattle.std.proofs.lemmas.Grind.{and-not_self}
 use Rattle.std.proofs.lemmas.Nat.Bits.{bit_at-zero, bit_at_and, bit_at_not, bit_at_ones, bit_at_above, bit_at_cat_low}
 use Rattle.std.proofs.lemmas.Nat.Bits.{bit_at_cat_high, bit_at-pow_other, bit_at-lt, bit_at-trailing_zeros}
-use Rattle.std.proofs.lemmas.List.{append-nil}
+use Rattle.std.proofs.lemmas.List.{append-nil, length-append}
 use Rattle.std.proofs.lemmas.Bool.{cases_lt, eq-eqb, ne_eqb}
 use Rattle.std.proofs.Math.Nat.{pow-suc, mul_assoc, add-zero, mod-eq_of_lt, mod_self}
-use Rattle.bus_bits.specs.Octet.{bits_of}
+use Rattle.bus_bits.specs.Octet.{bits_of, number}
+use Rattle.bus_bits.proofs.OctetLemmas.{number-bits}
 use Rattle.bus_line.specs.Internal.Settled.{kept, data_in_word}
 
 -- ---- bits of a number
@@ -190,6 +193,50 @@ unmarked-are x s n few below =
       zeros = and-not_self (bit_and x all) MAX s s refl (omega (arith, word)) refl;
       same = kept-others x (unmarked x s n) s n (λ i l free. unmarked-at x s n i few word l free);
     }
+
+-- ---- how many are kept
+
+abbrev trues : List Bool → ℕ
+trues [] = 0
+trues (b ∷ bs) = cond b 1 0 + trues bs
+
+trues-append : (bs cs : List Bool) → trues (bs ++ cs) ≡ trues bs + trues cs
+trues-append [] cs = omega arith
+trues-append (b ∷ bs) cs = ap (λ (n : ℕ). cond b 1 0 + n) (trues-append bs cs) ∙ omega arith
+
+ones-are : (bs : List Bool) → count_ones (mask_l bs) ≡ trues bs
+ones-are [] = omega (arith, ones_le_self 0)
+ones-are (b ∷ bs) = ones-mask_l_cons b bs ∙ ap (λ (n : ℕ). cond b 1 0 + n) (ones-are bs)
+
+mask-number : (bs : List Bool) → mask_l bs ≡ number bs
+unfolding number
+mask-number [] = refl
+mask-number (b ∷ bs) = ap (λ (n : ℕ). cond b 1 0 + 2 * n) (mask-number bs) ∙ omega arith
+
+kept-trues : (x s k : ℕ) → length (kept x s k) + trues (bits_of k s) ≡ k
+unfolding bits_of
+kept-trues x s zero = omega arith
+kept-trues x s (suc k) =
+    let marks = ap trues (bits-back k s) ∙ trues-append (bits_of k s) ((s / 2 ^ k % 2 == 1) ∷ []) in
+    let before = kept-trues x s k in
+    elim (cases_lt (bit_at s k) 1) [
+      | inl l ↦
+          let free : bit_at s k ≢ 1 = λ o. omega (arith, l, o) in
+          let not-one : trues ((s / 2 ^ k % 2 == 1) ∷ []) ≡ 0 = rw (ne_eqb _ _ free) refl in
+          let more = ap length (kept-in x s k free) ∙ length-append (kept x s k) ((bit_at x k == 1) ∷ []) in
+          omega (arith, before, marks, not-one, more)
+      | inr g ↦
+          let out : bit_at s k ≡ 1 = let l = bit_at-lt s k in omega (arith, g, l) in
+          let one : trues ((s / 2 ^ k % 2 == 1) ∷ []) ≡ 1 = rw (eq-eqb _ _ out) refl in
+          let same = ap length (kept-out x s k out) in
+          omega (arith, before, marks, one, same)
+    ]
+
+pub kept-length : (x s n : ℕ) → s < 2 ^ n → length (kept x s n) + count_ones s ≡ n
+kept-length x s n below =
+    let same : mask_l (bits_of n s) ≡ s = mask-number (bits_of n s) ∙ number-bits n s below in
+    let ones : count_ones s ≡ trues (bits_of n s) = ap count_ones (sym same) ∙ ones-are (bits_of n s) in
+    omega (arith, kept-trues x s n, ones)
 
 -- ---- the lowest marked bit taken out
 

@@ -1,4 +1,4 @@
--- The raw bits behind a flag.
+-- The raw bits after a flag.
 use Rattle.std.proofs.Common.{◌≡◌, ℕ, suc, ◌+◌, ◌-◌, ◌≤◌, ◌<◌, ◌==◌, Bool, true, false, not, ◌&&◌, List, [], ◌∷◌, ◌++◌}
 use Rattle.std.proofs.Common.{length, take, drop, get_or, refl, sym, ap, ◌∙◌, subst, inl, inr, arith, nat_le}
 use Rattle.std.specs.List.{slice_range}
@@ -57,7 +57,7 @@ range-first b x m y bit l e n h =
 short : {r : List Bool} → length r ≤ 5 → HasSix r → ⊥
 short {r} l s = omega (arith, ap length s.2, length-append (s.0 ++ ones 6) s.1, length-append s.0 (ones 6))
 
--- behind a flag there are no six ones in a row before the next mark
+-- after a flag there are no six ones in a row before the next mark
 pub raw-low : (b : List Bool) (p m : ℕ) → IsFlag b p → ((q : ℕ) → p < q → IsMark b q → m ≤ q) → m + 7 ≤ length b →
     HasSix (slice_range b (p + 8) m) → ⊥
 raw-low b p m f next l six =

@@ -20,7 +20,7 @@ use Rattle.bus_line.proofs.DueStreamLemmas.{range-more, flag-fits}
 use Rattle.bus_line.proofs.LedgerSettledLemmas.{assembled-more, stored-more}
 use Rattle.bus_line.proofs.SpellingRawLemmas.{settles-now, inserted-raw, current-low}
 
--- the flag of a place behind it
+-- the flag of a place after it
 pub first-Some : (origin first : ℕ) (mark : Mark) → first_of origin mark ≡ Some first →
     (p : ℕ) × (mark ≡ FlagAt p) × (origin + (p + 8) ≡ first)
 first-Some origin first NoMark h = absurd (cc)
@@ -50,7 +50,7 @@ none-settled b bit origin h = settles-now b bit
     ∙ and-false (nat_le 8 (length b)) (belongs (current b) (length b - 8)) _
     (none-belongs origin (length b - 8) (current b) h)
 
--- a bit that comes too early behind its flag does not either
+-- a bit that comes too early after its flag does not either
 pub early-settled : (b : List Bool) (bit : Bool) (p : ℕ) → current b ≡ FlagAt p → length b < p + 16 →
     is_settled (b ++ bit ∷ []) (length b - 8) ≡ false
 early-settled b bit p h l =
@@ -98,7 +98,7 @@ counts-kept cost d b bit f k =
       handled = k.handled;
     }
 
--- the raw bits behind the flag, one more
+-- the raw bits after the flag, one more
 raw-more : (b : List Bool) (bit : Bool) (p : ℕ) → p + 16 ≤ length b →
     slice_range (b ++ bit ∷ []) (p + 8) (length (b ++ bit ∷ []) - 8)
     ≡ slice_range b (p + 8) (length b - 8) ++ get_or b (length b - 8) false ∷ []
@@ -161,25 +161,25 @@ pub settles-open : (at place : ℕ) (first : Option ℕ) → at ≡ settles_from
 settles-open at place None s p l = absurd (omega (arith, s, p, l))
 settles-open at place (Some f) s p l = (f, refl, omega (arith, s, l))
 
-pub moved-holds : {C : Type 0} (folded : C → List ℕ → Type 0) (d : LineState C) (b : List Bool) (place history : ℕ)
+pub moved-holds : {C : Type 0} (folded : C → List ℕ → Type 0) (d : LineState C) (b : List Bool) (place last_bits : ℕ)
     (spent : Spent) (mark : Mark) → HoldsFor folded d b mark →
-    HoldsFor folded (record d { place = place; history = history; spent = spent }) b mark
-moved-holds folded d b place history spent NoMark h = h
-moved-holds folded d b place history spent (AbortAt a) h = h
-moved-holds folded d b place history spent (FlagAt p) h =
-    record { count = h.count; rest = h.rest; held = h.held; checked = h.checked }
+    HoldsFor folded (record d { place = place; last_bits = last_bits; spent = spent }) b mark
+moved-holds folded d b place last_bits spent NoMark h = h
+moved-holds folded d b place last_bits spent (AbortAt a) h = h
+moved-holds folded d b place last_bits spent (FlagAt p) h =
+    record { count = h.count; partial = h.partial; held = h.held; checked = h.checked }
 
-none_history : number (drop (length {A = Bool} []) (padded [])) ≡ 0
+none_last_bits : number (drop (length {A = Bool} []) (padded [])) ≡ 0
 unfolding number
-none_history = refl
+none_last_bits = refl
 
 -- before the first bit
 pub fresh-tracks : {C : Type 0} (folded : C → List ℕ → Type 0) (cost shifted : ℕ) (d : LineState C) →
-    d.place ≡ d.origin → d.history ≡ 0 → d.first ≡ None →
+    d.place ≡ d.origin → d.last_bits ≡ 0 → d.first ≡ None →
     d.spent ≡ record { shifted = shifted; assembled = 0; folded = 0; stored = 0; copied = 0; handled = 0 } →
     Tracks folded cost d [] NoMark
 fresh-tracks folded cost shifted d p w f s = record {
-  has_taken = record { place = omega (arith, p); history = w ∙ sym none_history };
+  has_taken = record { place = omega (arith, p); last_bits = w ∙ sym none_last_bits };
   first = f;
   piece = tt;
   counts = record {
@@ -192,5 +192,6 @@ fresh-tracks folded cost shifted d p w f s = record {
 }
 
 pub stands-same : {C : Type 0} (d e : LineState C) (b : List Bool) → e.place ≡ d.place → e.origin ≡ d.origin →
-    e.history ≡ d.history → HasTaken d b → HasTaken e b
-stands-same d e b p o w h = record { place = p ∙ (h.place ∙ ap (λ n. n + length b) (sym o)); history = w ∙ h.history }
+    e.last_bits ≡ d.last_bits → HasTaken d b → HasTaken e b
+stands-same d e b p o w h =
+    record { place = p ∙ (h.place ∙ ap (λ n. n + length b) (sym o)); last_bits = w ∙ h.last_bits }

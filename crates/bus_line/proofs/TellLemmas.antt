@@ -1,4 +1,4 @@
--- Bits that decide nothing, and bits behind them.
+-- Bits that decide nothing, and bits after them.
 use Rattle.std.proofs.Common.{◌≡◌, ℕ, ◌+◌, ◌-◌, ◌≤◌, ◌++◌, List, [], ◌∷◌, map, Bool, false, Option, None, Some, inl}
 use Rattle.std.proofs.Common.{inr, ap, refl, sym, subst, ◌∙◌, length, length-append, take, drop, get_or, arith}
 use Rattle.std.specs.Option.{is_some, option_map, option_to_list}
@@ -31,7 +31,7 @@ module _ {C : Type 0} (folded : C → List ℕ → Type 0) (cost : ℕ) {a c : L
   silent : (b : List Bool) → After folded cost a b → placed a.origin a.longest (b ++ xs) ≡ placed a.origin a.longest b
   silent b h = p.says b h ∙ append-nil (placed a.origin a.longest b)
 
-  -- what stands behind them, by the first decoder's place and longest frame
+  -- what stands after them, by the first decoder's place and longest frame
   behind : (ys : List Bool) (rs : List Report) (b : List Bool) →
       placed c.origin c.longest ((b ++ xs) ++ ys) ≡ placed c.origin c.longest (b ++ xs) ++ rs →
       placed a.origin a.longest (b ++ (xs ++ ys)) ≡ placed a.origin a.longest (b ++ xs) ++ rs
@@ -65,7 +65,7 @@ pub is-none : {A : Type 0} (o : Option A) → is_some o ≡ false → o ≡ None
 is-none None e = refl
 is-none (Some x) e = absurd (true≢false e)
 
--- bits of octets from bit `from` on and before bit `at`, and bits behind them
+-- bits of octets from bit `from` on and before bit `at`, and bits after them
 module _ {C : Type 0} (folded : C → List ℕ → Type 0) (cost : ℕ) (os : List ℕ) (from at : ℕ) (l : from ≤ at)
     {a c : LineState C} (p : Tells folded cost a (bits_from os from (at - from)) None c) where
   joined : (n m : ℕ) → m ≡ at - from + n → bits_from os from (at - from) ++ bits_from os at n ≡ bits_from os from m
@@ -126,7 +126,7 @@ advances-quiet folded cost {a} {c} {bits} quiet = record {
       (ap (placed a.origin a.longest) all ∙ silent folded cost quiet b stands);
 }
 
--- bits behind those, of which the last may decide a report
+-- bits after those, of which the last may decide a report
 pub advances-on : {C : Type 0} (folded : C → List ℕ → Type 0) (cost : ℕ) (os : List ℕ) (from at : ℕ) → from ≤ at
     → {a c e : LineState C} {r : Option Report} → Tells folded cost a (bits_from os from (at - from)) None c
     → (n m : ℕ) → m ≡ at - from + n
@@ -152,7 +152,7 @@ same-option None (Some y) e = absurd (omega (arith, ap length e))
 same-option (Some x) None e = absurd (omega (arith, ap length e))
 same-option (Some x) (Some y) e = cc
 
-last-bit : (bits : List Bool) → 1 ≤ length bits
+pub last-bit : (bits : List Bool) → 1 ≤ length bits
     → bits ≡ take (length bits - 1) bits ++ get_or bits (length bits - 1) false ∷ []
 last-bit bits some =
     let before = length bits - 1 in

@@ -76,7 +76,7 @@ part-both d e = ap number (rest d e) ∙ sym (number-drop (8 * (length (part d +
 
 -- ---- what the decoder holds
 
--- the data bits so far that fill no octet, and new ones behind them, in one number
+-- the data bits so far that fill no octet, and new ones after them, in one number
 abbrev pub joined : ℕ → ℕ → ℕ → ℕ
 joined rest held bits = bit_or rest (bits * 2 ^ held % 18446744073709551616)
 
@@ -99,29 +99,29 @@ joined-is rest held n bits got r h f b =
     swap : (a r p q : ℕ) → r ≡ p → a ≡ q → a + r ≡ p + q
     swap a r p q e f = omega (arith, e, f)
 
--- what is held behind so many data bits more
+-- what is held after so many data bits more
 pub holds-joined : {C : Type 0} (folded : C → List ℕ → Type 0) (d e : LineState C) (n bits : ℕ) (got : List Bool) →
     Holds folded d got → n ≤ 56 → bits < 2 ^ n
-    → e.gathered ≡ d.gathered + n → e.rest ≡ joined d.rest (d.gathered % 8) bits /
-    2 ^ (8 * ((d.gathered % 8 + n) / 8)) → e.longest ≡ d.longest
-    → Keeps folded e (octets got ++ octets_of ((d.gathered % 8 + n) / 8) (joined d.rest (d.gathered % 8) bits))
+    → e.data_bits ≡ d.data_bits + n → e.partial ≡ joined d.partial (d.data_bits % 8) bits /
+    2 ^ (8 * ((d.data_bits % 8 + n) / 8)) → e.longest ≡ d.longest
+    → Keeps folded e (octets got ++ octets_of ((d.data_bits % 8 + n) / 8) (joined d.partial (d.data_bits % 8) bits))
     → Holds folded e (got ++ bits_of n bits)
 holds-joined folded d e n bits got h f b g r l k =
     let x = bits_of n bits in
-    let j : joined d.rest (d.gathered % 8) bits ≡ number (part got ++ bits_of n bits) =
-    joined-is d.rest (d.gathered % 8) n bits got (h.rest ∙ ap number (sym (part-is got)))
+    let j : joined d.partial (d.data_bits % 8) bits ≡ number (part got ++ bits_of n bits) =
+    joined-is d.partial (d.data_bits % 8) n bits got (h.partial ∙ ap number (sym (part-is got)))
     (ap (λ (m : ℕ). m % 8) h.count) f b in
-    let c : (d.gathered % 8 + n) / 8 ≡ length (part got ++ bits_of n bits) / 8 =
+    let c : (d.data_bits % 8 + n) / 8 ≡ length (part got ++ bits_of n bits) / 8 =
     omega (arith, h.count, length-part got, length-append (part got) (bits_of n bits), length-bits n bits) in
-    let o : octets got ++ octets_of ((d.gathered % 8 + n) / 8) (joined d.rest (d.gathered % 8) bits)
+    let o : octets got ++ octets_of ((d.data_bits % 8 + n) / 8) (joined d.partial (d.data_bits % 8) bits)
     ≡ octets (got ++ bits_of n bits) =
-    ap (λ (i : ℕ). octets got ++ octets_of i (joined d.rest (d.gathered % 8) bits)) c
+    ap (λ (i : ℕ). octets got ++ octets_of i (joined d.partial (d.data_bits % 8) bits)) c
     ∙ (ap (λ (i : ℕ). octets got ++ octets_of (length (part got ++ x) / 8) i) j ∙ sym (octets-both got x)) in
     let q = subst (Keeps folded e) o k in
     record {
       count = g ∙ omega (arith, h.count, length-append got (bits_of n bits), length-bits n bits);
-      rest =
-          r ∙ (ap (λ (i : ℕ). joined d.rest (d.gathered % 8) bits / 2 ^ (8 * i)) c
+      partial =
+          r ∙ (ap (λ (i : ℕ). joined d.partial (d.data_bits % 8) bits / 2 ^ (8 * i)) c
           ∙ (ap (λ (i : ℕ). i / 2 ^ (8 * (length (part got ++ x) / 8))) j
           ∙ (sym (part-both got x) ∙ ap number (part-is (got ++ x)))));
       held = λ m. q.held;
@@ -130,12 +130,12 @@ holds-joined folded d e n bits got h f b g r l k =
 
 -- before the first octet none is there
 pub none-yet : {C : Type 0} (folded : C → List ℕ → Type 0) (d : LineState C) (got : List Bool) → Holds folded d got →
-    d.gathered < 8 → octets got ≡ []
+    d.data_bits < 8 → octets got ≡ []
 none-yet folded d got h l = octets-short got (omega (arith, h.count, l))
 
--- and behind it some
+-- and after it some
 pub keeps-held : {C : Type 0} (folded : C → List ℕ → Type 0) (d e : LineState C) (got : List Bool) →
-    Holds folded d got → 8 ≤ d.gathered → e.longest ≡ d.longest → e.octets ≡ d.octets → e.check ≡ d.check →
+    Holds folded d got → 8 ≤ d.data_bits → e.longest ≡ d.longest → e.octets ≡ d.octets → e.check ≡ d.check →
     Keeps folded e (octets got)
 keeps-held folded d e got h l n o c =
     let m : 8 ≤ length got = omega (arith, h.count, l) in
@@ -143,11 +143,11 @@ keeps-held folded d e got h l n o c =
 
 -- as many octets more as the ledger counts
 pub gain-more : {C : Type 0} (folded : C → List ℕ → Type 0) (d : LineState C) (n : ℕ) (got : List Bool) →
-    Holds folded d got → gain (d.longest + 2) (length (octets got)) ((d.gathered % 8 + n) / 8)
+    Holds folded d got → gain (d.longest + 2) (length (octets got)) ((d.data_bits % 8 + n) / 8)
     ≡ octets_more d.longest (length got) n
 gain-more folded d n got h =
     let k : length (octets got) ≡ length got / 8 = length-octets (length got / 8) got refl in
-    let c : length (octets got) + (d.gathered % 8 + n) / 8 ≡ (length got + n) / 8 = omega (arith, k, h.count) in
+    let c : length (octets got) + (d.data_bits % 8 + n) / 8 ≡ (length got + n) / 8 = omega (arith, k, h.count) in
     ap (λ (i : ℕ). min i (d.longest + 2) - min (length (octets got)) (d.longest + 2)) c
     ∙ ap (λ (i : ℕ). min ((length got + n) / 8) (d.longest + 2) - min i (d.longest + 2)) k
 
@@ -231,19 +231,20 @@ keeps-more folded d e k m n more os h i f g l o c =
 
 -- ---- all together
 
-keeps-set : {C : Type 0} (folded : C → List ℕ → Type 0) (a : LineState C) (gathered rest : ℕ) (spent : Spent)
-    (os : List ℕ) → Keeps folded a os → Keeps folded (record a { gathered = gathered; rest = rest; spent = spent }) os
-keeps-set folded a gathered rest spent os h = record { held = h.held; checked = h.checked }
+keeps-set : {C : Type 0} (folded : C → List ℕ → Type 0) (a : LineState C) (data_bits partial : ℕ) (spent : Spent)
+    (os : List ℕ) → Keeps folded a os →
+    Keeps folded (record a { data_bits = data_bits; partial = partial; spent = spent }) os
+keeps-set folded a data_bits partial spent os h = record { held = h.held; checked = h.checked }
 
 pub append-holds : {C : Type 0} (folded : C → List ℕ → Type 0) (d a e : LineState C) (n bits j k : ℕ) (t : Spent)
     (got : List Bool) → Holds folded d got → n ≤ 56 → bits < 2 ^ n
-    → j ≡ joined d.rest (d.gathered % 8) bits → k ≡ (d.gathered % 8 + n) / 8 → a.gathered ≡ d.gathered →
-    a.longest ≡ d.longest → Keeps folded a (octets got)
-    → ((os : List ℕ) → Keeps folded (record a { gathered = a.gathered + n; rest = j / 2 ^ (8 * k); spent = t }) os →
-    Keeps folded e (os ++ octets_of k j))
+    → j ≡ joined d.partial (d.data_bits % 8) bits → k ≡ (d.data_bits % 8 + n) / 8 → a.data_bits ≡ d.data_bits →
+    a.longest ≡ d.longest → Keeps folded a (octets got) → ((os : List ℕ)
+    → Keeps folded (record a { data_bits = a.data_bits + n; partial = j / 2 ^ (8 * k); spent = t }) os
+    → Keeps folded e (os ++ octets_of k j))
     → e ≡ record a {
-      gathered = a.gathered + n;
-      rest = j / 2 ^ (8 * k);
+      data_bits = a.data_bits + n;
+      partial = j / 2 ^ (8 * k);
       octets = e.octets;
       check = e.check;
       spent = e.spent;
@@ -251,19 +252,19 @@ pub append-holds : {C : Type 0} (folded : C → List ℕ → Type 0) (d a e : Li
     → Holds folded e (got ++ bits_of n bits)
 append-holds folded d a e n bits j k t got h f b x y g l q keeps kept =
     holds-joined folded d e n bits got h f b
-    (ap (λ (s : LineState _). s.gathered) kept ∙ ap (λ (i : ℕ). i + n) g)
-    (ap (λ (s : LineState _). s.rest) kept
-    ∙ (ap (λ (i : ℕ). i / 2 ^ (8 * k)) x ∙ ap (λ (i : ℕ). joined d.rest (d.gathered % 8) bits / 2 ^ (8 * i)) y))
+    (ap (λ (s : LineState _). s.data_bits) kept ∙ ap (λ (i : ℕ). i + n) g)
+    (ap (λ (s : LineState _). s.partial) kept
+    ∙ (ap (λ (i : ℕ). i / 2 ^ (8 * k)) x ∙ ap (λ (i : ℕ). joined d.partial (d.data_bits % 8) bits / 2 ^ (8 * i)) y))
     (ap (λ (s : LineState _). s.longest) kept ∙ l)
     (subst (Keeps folded e) (ap (λ (i : ℕ). octets got ++ octets_of i j) y
-    ∙ ap (λ (i : ℕ). octets got ++ octets_of ((d.gathered % 8 + n) / 8) i) x)
-    (keeps (octets got) (keeps-set folded a (a.gathered + n) (j / 2 ^ (8 * k)) t (octets got) q)))
+    ∙ ap (λ (i : ℕ). octets got ++ octets_of ((d.data_bits % 8 + n) / 8) i) x)
+    (keeps (octets got) (keeps-set folded a (a.data_bits + n) (j / 2 ^ (8 * k)) t (octets got) q)))
 
 pub append-spent : {C : Type 0} (folded : C → List ℕ → Type 0) (cost : ℕ) (d a e : LineState C) (n j k : ℕ) (t : Spent)
     (got : List Bool) → Holds folded d got
-    → k ≡ (d.gathered % 8 + n) / 8 → a.longest ≡ d.longest → Keeps folded a (octets got)
-    → ((os : List ℕ) → Keeps folded (record a { gathered = a.gathered + n; rest = j / 2 ^ (8 * k); spent = t }) os →
-    e.spent ≡ record t {
+    → k ≡ (d.data_bits % 8 + n) / 8 → a.longest ≡ d.longest → Keeps folded a (octets got) → ((os : List ℕ)
+    → Keeps folded (record a { data_bits = a.data_bits + n; partial = j / 2 ^ (8 * k); spent = t }) os
+    → e.spent ≡ record t {
       stored = t.stored + gain (a.longest + 2) (length os) k;
       folded = t.folded + cost * gain (a.longest + 2) (length os) k;
     })
@@ -278,7 +279,7 @@ append-spent folded cost d a e n j k t got h y l q spent u =
     let z : gain (a.longest + 2) (length (octets got)) k ≡ octets_more d.longest (length got) n =
     ap (λ (i : ℕ). gain (i + 2) (length (octets got)) k) l
     ∙ (ap (gain (d.longest + 2) (length (octets got))) y ∙ gain-more folded d n got h) in
-    spent (octets got) (keeps-set folded a (a.gathered + n) (j / 2 ^ (8 * k)) t (octets got) q)
+    spent (octets got) (keeps-set folded a (a.data_bits + n) (j / 2 ^ (8 * k)) t (octets got) q)
     ∙ (ap (λ (i : ℕ). record t { stored = t.stored + i; folded = t.folded + cost * i }) z
     ∙ ap (λ (s : Spent). record s {
       stored = s.stored + octets_more d.longest (length got) n;

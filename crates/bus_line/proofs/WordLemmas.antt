@@ -197,7 +197,7 @@ word-just k s w i b bits e h l =
     ap (λ (x : ℕ). x % 2 ^ suc k) (word-part w (s + i) b bits h) in
     ((λ x. sym o ∙ r.0 (sym (ap (λ (y : ℕ). y + 2) f) ∙ x)), λ x. ap (λ (y : ℕ). y + 2) f ∙ r.1 (o ∙ x))
 
--- the next history
+-- the next last sixteen bits
 pub word-next : (w t : ℕ) (b bits : List Bool) → IsWord w b bits → t ≤ length bits →
     w / 2 ^ t % 65536 ≡ number (drop (length (b ++ take t bits)) (padded (b ++ take t bits)))
 word-next w t b bits h l =
@@ -222,7 +222,7 @@ word-next w t b bits h l =
     turn k (suc m) (x ∷ p) = let e : k + suc m ≡ suc (k + m) =
         omega arith in turn k m p ∙ ap (λ (j : ℕ). drop (suc m) (take j (x ∷ p))) (sym e)
 
--- the history and new bits are the word
+-- the last sixteen bits and new ones are the word
 pub word-made : (h n : ℕ) (b bits : List Bool) → h ≡ number (drop (length b) (padded b)) → n ≡ number bits →
     IsWord (h + n * 65536) b bits
 word-made h n b bits e f =
@@ -298,9 +298,9 @@ word-bit w i b bits h l far =
     ∙ (first-bit (drop q u) ∙ ap (λ (x : Bool). cond x 1 0)
     (get_or-drop q u 0 false ∙ ap (λ (j : ℕ). get_or u j false) z)))))
 
--- ---- the history
+-- ---- the last sixteen bits
 
--- what it shows behind a bit
+-- what they show after a bit
 pub record Looks (h : ℕ) (b : List Bool) (bit : Bool) : Type 0 where
   pub newest : h ≡ cond bit 1 0 * 32768 + h % 32768
   pub six : h / 256 % 128 ≡ 126 → ones_at_end b ≡ 6
@@ -335,11 +335,11 @@ looks h b bit e =
     }
 
 -- five ones before the last eight bits
-pub history-five : (h : ℕ) (b : List Bool) (bit : Bool) → 7 ≤ length b →
+pub last-bits-five : (h : ℕ) (b : List Bool) (bit : Bool) → 7 ≤ length b →
     h ≡ number (drop (length (b ++ bit ∷ [])) (padded (b ++ bit ∷ [])))
     → (h / 8 % 32 ≡ 31 → 5 ≤ ones_at_end (take (length b - 7) b))
     × (5 ≤ ones_at_end (take (length b - 7) b) → h / 8 % 32 ≡ 31)
-history-five h b bit far e =
+last-bits-five h b bit far e =
     let c = b ++ bit ∷ [] in
     let m = length c + 3 in
     let n : length (b ++ bit ∷ []) ≡ length b + 1 = length-append b (bit ∷ []) in

@@ -21,7 +21,7 @@ use Rattle.bus_line.proofs.SettleLemmas.{lags-word}
 use Rattle.bus_line.proofs.FlagLemmas.{flags-after, no-bits}
 use Rattle.bus_line.proofs.FlagRunLemmas.{mark-is, mark-told}
 
--- the place behind which bits settle, by the first place of the piece
+-- the place after which bits settle, by the first place of the piece
 pub settles-told : (at : ℕ) → 8 ≤ at → at ≡ settles_from (first_in at)
 settles-told at l = shows (at == 2 ^ 62) refl
   where
@@ -89,7 +89,7 @@ flags-passed folded cost old new check cells b (suc k) p ends fits h =
     After folded cost
     (record d {
       place = old.place + 8 * suc k;
-      history = 32382;
+      last_bits = 32382;
       first = o;
       spent = record d.spent { shifted = old.place + 8 * suc k - old.origin };
     }) (b ++ flags (suc k))) (sym first) t)
@@ -97,16 +97,16 @@ flags-passed folded cost old new check cells b (suc k) p ends fits h =
 -- what stays of the words stays of the decoder
 pub kept-state : {C : Type 0} (old new : LineWords) (check before : C) (cells start : List ℕ)
     → new ≡ record old {
-      gathered = new.gathered;
+      data_bits = new.data_bits;
       assembled = new.assembled;
       folded = new.folded;
       stored = new.stored;
-      rest = new.rest;
+      partial = new.partial;
       len = new.len;
     }
     → state new check cells ≡ record (state old before start) {
-      gathered = new.gathered;
-      rest = new.rest;
+      data_bits = new.data_bits;
+      partial = new.partial;
       octets = take new.len cells;
       check = check;
       spent = (state new check cells).spent;
@@ -115,9 +115,9 @@ kept-state old new check before cells start e =
     let longest : new.longest ≡ old.longest = ap (λ (w : LineWords). w.longest) e in
     let origin : new.origin ≡ old.origin = ap (λ (w : LineWords). w.origin) e in
     let place : new.place ≡ old.place = ap (λ (w : LineWords). w.place) e in
-    let history : new.history ≡ old.history = ap (λ (w : LineWords). w.history) e in
+    let last_bits : new.last_bits ≡ old.last_bits = ap (λ (w : LineWords). w.last_bits) e in
     let settles : new.settles_at ≡ old.settles_at = ap (λ (w : LineWords). w.settles_at) e in
-    rw (longest, origin, place, history, settles) refl
+    rw (longest, origin, place, last_bits, settles) refl
 
 pub kept-put : {C : Type 0} (old new : LineWords) (check before : C) (cells start : List ℕ) →
     new ≡ record old { folded = new.folded; stored = new.stored; len = new.len }
@@ -127,12 +127,12 @@ kept-put old new check before cells start e =
     let longest : new.longest ≡ old.longest = ap (λ (w : LineWords). w.longest) e in
     let origin : new.origin ≡ old.origin = ap (λ (w : LineWords). w.origin) e in
     let place : new.place ≡ old.place = ap (λ (w : LineWords). w.place) e in
-    let history : new.history ≡ old.history = ap (λ (w : LineWords). w.history) e in
+    let last_bits : new.last_bits ≡ old.last_bits = ap (λ (w : LineWords). w.last_bits) e in
     let settles : new.settles_at ≡ old.settles_at = ap (λ (w : LineWords). w.settles_at) e in
     let assembled : new.assembled ≡ old.assembled = ap (λ (w : LineWords). w.assembled) e in
-    let gathered : new.gathered ≡ old.gathered = ap (λ (w : LineWords). w.gathered) e in
-    let rest : new.rest ≡ old.rest = ap (λ (w : LineWords). w.rest) e in
-    rw (longest, origin, place, history, settles, assembled, gathered, rest) refl
+    let data_bits : new.data_bits ≡ old.data_bits = ap (λ (w : LineWords). w.data_bits) e in
+    let partial : new.partial ≡ old.partial = ap (λ (w : LineWords). w.partial) e in
+    rw (longest, origin, place, last_bits, settles, assembled, data_bits, partial) refl
 
 -- the only bit that a word shows is an inserted 0
 pub settled-none : (w : ℕ) → w / 8 % 64 ≡ 31 → bits_of 0 0 ≡ data_in_word (w / 2 ^ (1 - 1)) 1
@@ -150,10 +150,10 @@ settled-one w e = shows (w / 2 ^ (1 - 1) / 2 ^ (3 + 0) % 64 == 31) refl
     shows true q = absurd (e (omega (arith, eqb-true (w / 2 ^ (1 - 1) / 2 ^ (3 + 0) % 64) 31 q)))
     shows false q = ap (λ (x : ℕ). (x == 1) ∷ []) (omega arith)
 
--- bits that came into the history
+-- bits that are the last ones now
 pub shift-lags : {C : Type 0} (folded : C → List ℕ → Type 0) (cost : ℕ) (old new : LineWords) (check : C)
     (cells : List ℕ) (b bits : List Bool) (w t : ℕ) →
-    new ≡ record old { place = old.place + t; history = w / 2 ^ t % 65536 }
+    new ≡ record old { place = old.place + t; last_bits = w / 2 ^ t % 65536 }
     → After folded cost (state old check cells) b → IsWord w b bits → t ≤ length bits →
     LagsBy folded cost (state new check cells) b (take t bits)
 shift-lags folded cost old new check cells b bits w t e h word l =

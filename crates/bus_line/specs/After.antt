@@ -59,7 +59,7 @@ abbrev pub FitsFrame : ℕ → Option Piece → Type 0
 FitsFrame longest (Some (piece.Frame span octets)) = (length octets.now ≤ longest + 2) × (longest ≤ 256)
 FitsFrame longest answer = Unit {0}
 
--- of these bits, behind those of b, so many are taken: all, or those up to the first that may decide a report
+-- of these bits, after those of b, so many are taken: all, or those up to the first that may decide a report
 pub record TakesTo (b bits : List Bool) (count : ℕ) : Type 0 where
   pub before : (i : ℕ) → i + 1 < count → MayDecideAt b bits i → ⊥
   pub stop : count < length bits → MayDecideAt b bits (count - 1)

@@ -10,11 +10,11 @@ pub record EndsInOnes (b : List Bool) (count : ℕ) : Type 0 where
   pub run : StandsAt b first (ones count)
   pub before : StartsRun b first
 
--- the next bit may decide a report: it stands behind just six ones, or just fourteen
+-- the next bit may decide a report: it stands after exactly six ones, or exactly fourteen
 abbrev pub MayDecide : List Bool → Type 0
 MayDecide b = EndsInOnes b 6 ⊎ EndsInOnes b 14
 
--- so many flags, one right behind the other
+-- so many flags, one right after another
 abbrev pub flags : ℕ → List Bool
 flags zero = []
 flags (suc k) = flags k ++ flag
@@ -28,7 +28,7 @@ pub record EndsInFlag (b : List Bool) : Type 0 where
   pub all : b ≡ front ++ flag
 
 -- of bits that follow b the one with number `i` may decide a report: what stands before it says so, and it ends none
--- of the flags with which these bits go on right behind a flag
+-- of the flags with which these bits go on right after a flag
 pub record MayDecideAt (b bits : List Bool) (i : ℕ) : Type 0 where
   pub behind : MayDecide (b ++ take i bits)
   pub apart : EndsInFlag b → AreFlags (take (i + 1) bits) → ⊥

@@ -5,6 +5,7 @@ pub mod LineView
 pub mod Settled
 pub mod Flags
 pub mod Quiet
+pub mod Reaches
 pub mod Look
 pub mod Inserting
 pub mod EncoderState

@@ -3,7 +3,7 @@ use Rattle.std.specs.Prelude.{◌≢◌, ◌==◌, ℕ, ◌+◌, ◌-◌, ◌*�
 pub use Rattle.bus_line.specs.Internal.LineState.{LineState}
 use Rattle.bus_line.specs.declared.line_words.LineWords.{LineWords}
 
--- the first place of the open piece, by the place behind which each bit settles one of it
+-- the first place of the open piece, by the place after which each bit settles one of it
 abbrev pub first_in : ℕ → Option ℕ
 first_in at = if at == 2 ^ 62 then None else Some (at - 8)
 
@@ -13,10 +13,10 @@ state w check cells = record {
   longest = w.longest;
   origin = w.origin;
   place = w.place;
-  history = w.history;
+  last_bits = w.last_bits;
   first = first_in w.settles_at;
-  gathered = w.gathered;
-  rest = w.rest;
+  data_bits = w.data_bits;
+  partial = w.partial;
   octets = take w.len cells;
   check = check;
   spent = record {
@@ -36,12 +36,12 @@ fresh_words longest origin = record {
   origin = origin;
   place = origin;
   settles_at = 2 ^ 62;
-  gathered = 0;
+  data_bits = 0;
   assembled = 0;
   folded = 0;
   stored = 0;
-  history = 0;
-  rest = 0;
+  last_bits = 0;
+  partial = 0;
   spare = 0;
   len = 0;
   register = 0;
@@ -56,7 +56,7 @@ pub record IsWithin (w : LineWords) : Type 0 where
   pub begins : w.origin ≤ w.place
   pub settles_late : 8 ≤ w.settles_at
   pub settles : w.settles_at ≢ 2 ^ 62 → w.settles_at ≤ w.place + 8
-  pub gathered_fits : w.gathered ≤ w.assembled
+  pub data_bits_fit : w.data_bits ≤ w.assembled
   pub settled : w.assembled ≤ w.place - w.origin
   pub filled : w.stored ≤ w.assembled
   pub paid : w.folded ≤ 8 * w.stored

@@ -5,11 +5,13 @@ mod decide;
 mod flags;
 mod look;
 mod marked;
+mod piece;
 mod quiet;
 mod scan;
 mod settled;
 mod step;
 mod stop;
+mod turns;
 
 ghost use Rattle.std.specs.Prelude.{◌≡◌, ◌+◌, ◌*◌, ◌-◌, ◌≤◌, ◌<◌, ◌^◌, ◌↔◌, ◌⊎◌, List, Bool, [], ◌∷◌, ◌++◌, IsErr};
 ghost use Rattle.std.specs.Prelude.{IfOk, OnErr, length, Some, None};
@@ -147,7 +149,7 @@ impl<C: Check> LineDecoder<C> {
         // The `?` parts the two cases for the proof.
         let scanned = self
             .words
-            .scan(&mut self.check, &mut self.cells, octets, at, end)?;
+            .scan::<C, true>(&mut self.check, &mut self.cells, octets, at, end)?;
         Ok(scanned)
     }
 
@@ -163,7 +165,7 @@ impl<C: Check> LineDecoder<C> {
     {
         let passed = 8 * self.words.flags_ahead(bits, count);
         let left = count - passed;
-        let calm = calm_bits((self.words.history | bits << 16) >> passed, left);
+        let calm = calm_bits((self.words.last_bits | bits << 16) >> passed, left);
         if calm == left {
             count
         } else {
@@ -228,7 +230,7 @@ impl<C: Check> LineDecoder<C> {
         if self.words.settles_at == NEVER {
             return 0;
         }
-        if self.words.gathered < 8 {
+        if self.words.data_bits < 8 {
             return 0;
         }
         self.words.len as usize

@@ -35,11 +35,11 @@ pub struct LineWords {
     /// Data bits settled, of all pieces.
     pub assembled: u64,
     /// How many of them are of the piece from `settles_at` on.
-    pub gathered: u64,
+    pub data_bits: u64,
     /// Those of them that fill no octet yet, the first lowest.
-    pub rest: u64,
+    pub partial: u64,
     /// The last sixteen bits, the oldest lowest, with 0s before the first.
-    pub history: u64,
+    pub last_bits: u64,
     /// How many octets there are of the piece, or of the frame before it until the first octet is full.
     pub len: u32,
     /// Not read.
@@ -74,9 +74,9 @@ impl LineWords {
             folded: 0,
             stored: 0,
             assembled: 0,
-            gathered: 0,
-            rest: 0,
-            history: 0,
+            data_bits: 0,
+            partial: 0,
+            last_bits: 0,
             len: 0,
             spare: 0,
             register: 0,
@@ -94,7 +94,7 @@ impl LineWords {
             && self.place <= PLACES
             && self.origin <= self.place
             && (self.settles_at.wrapping_sub(8) <= self.place || self.settles_at == NEVER)
-            && self.gathered <= self.assembled
+            && self.data_bits <= self.assembled
             && self.assembled <= self.place - self.origin
             && self.stored <= self.assembled
             && self.folded <= 8 * self.stored

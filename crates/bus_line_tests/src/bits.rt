@@ -2,7 +2,7 @@
 
 use bus_bits::{
     BadMark, EightBits, HeadFault, PackedBits, PackedFault, PackedHead, Spent, TextBits, TextBlock,
-    Word, bits_octet, octet_bits, word_at,
+    Word, bits_octet, octet_bits, seven_octets_at, word_at,
 };
 use std::process::Abort;
 
@@ -17,7 +17,7 @@ fn text_stops_at_a_bad_mark(rt: HostRuntime) {
     for octet in b"01111110 " {
         let bit = text.step(*octet).expect(&rt, "no bad mark");
         let want = if *octet == b' ' { None } else { given.next() };
-        assert_eq!(rt; bit, want.map(|octet| *octet == b'1'));
+        assert_eq!(rt; bit, want.map(|octet| *octet == b'1'), "octet {octet}");
     }
     assert_eq!(rt; given.len(), 0);
     assert_eq!(rt; text.step(b'2'), Err(BadMark));
@@ -25,7 +25,7 @@ fn text_stops_at_a_bad_mark(rt: HostRuntime) {
 }
 
 fn check_eight(rt: &impl Abort, octets: &[u8], want: Option<EightBits>) {
-    assert_eq!(rt; TextBits::eight(octets), want);
+    assert_eq!(rt; TextBits::eight(octets), want, "{octets:?}");
 }
 
 #[test]
@@ -85,8 +85,8 @@ const OCTETS: [OctetRow; 3] = [
 #[test]
 fn octets_are_their_bits(rt: HostRuntime) {
     for row in &OCTETS {
-        assert_eq!(rt; octet_bits(row.octet), row.bits);
-        assert_eq!(rt; bits_octet(&row.bits), row.octet);
+        assert_eq!(rt; octet_bits(row.octet), row.bits, "octet {}", row.octet);
+        assert_eq!(rt; bits_octet(&row.bits), row.octet, "octet {}", row.octet);
     }
 }
 
@@ -100,7 +100,10 @@ struct WordRow {
 
 const SEVEN: &[u8] = &[0x01, 0x02, 0x04, 0x08, 0x10, 0x20, 0x40];
 
-const WORDS: [WordRow; 4] = [
+/// One octet more than a number of 64 bits has.
+const NINE: &[u8] = &[0x01, 0x02, 0x04, 0x08, 0x10, 0x20, 0x40, 0x80, 0xb4];
+
+const WORDS: [WordRow; 6] = [
     WordRow {
         octets: SEVEN,
         at: 0,
@@ -134,14 +137,58 @@ const WORDS: [WordRow; 4] = [
             count: 5,
         },
     },
+    WordRow {
+        octets: NINE,
+        at: 66,
+        end: 71,
+        word: Word {
+            bits: 0x0d,
+            count: 5,
+        },
+    },
+    WordRow {
+        octets: NINE,
+        at: 12,
+        end: 72,
+        word: Word {
+            bits: 0x0402_0100_8040,
+            count: 48,
+        },
+    },
 ];
 
 #[test]
 fn words_are_cut_out(rt: HostRuntime) {
     for row in &WORDS {
-        assert!(rt; row.at < row.end && row.end <= 8 * row.octets.len());
+        assert!(rt;
+            row.at < row.end && row.end <= 8 * row.octets.len(),
+            "bits {} to {}",
+            row.at,
+            row.end
+        );
         let Word { bits, count } = word_at(row.octets, row.at, row.end);
-        assert_eq!(rt; (bits, count), (row.word.bits, row.word.count));
+        assert_eq!(rt;
+            (bits, count),
+            (row.word.bits, row.word.count),
+            "bits {} to {}",
+            row.at,
+            row.end
+        );
+    }
+}
+
+/// The 56 bits of nine octets from one on.
+const SEVENS: [(usize, u64); 3] = [
+    (0, 0x40_2010_0804_0201),
+    (3, 0x08_0402_0100_8040),
+    (8, 0x80_4020_1008_0402),
+];
+
+#[test]
+fn seven_octets_are_cut_out(rt: HostRuntime) {
+    for (at, want) in SEVENS {
+        assert!(rt; NINE.len() == 9 && at <= 8);
+        assert_eq!(rt; seven_octets_at(NINE, at) % (1 << 56), want, "from {at}");
     }
 }
 
@@ -247,7 +294,7 @@ fn texts_are_packed(rt: HostRuntime) {
 
 fn check_head(rt: &impl Abort, head: &[u8; 16], want: Result<u64, HeadFault>) {
     let bits = PackedHead::read(head).map(|head| head.bits);
-    assert_eq!(rt; bits, want);
+    assert_eq!(rt; bits, want, "{head:?}");
 }
 
 #[test]
@@ -269,7 +316,11 @@ fn packed_bits_are_given(rt: HostRuntime) {
     let mut given = BITS.iter();
     for octet in front {
         for bit in packed.step(octet).expect(&rt, "bits").as_slice() {
-            assert_eq!(rt; given.next().copied(), Some(if *bit { b'1' } else { b'0' }));
+            assert_eq!(rt;
+                given.next().copied(),
+                Some(if *bit { b'1' } else { b'0' }),
+                "octet {octet}"
+            );
         }
     }
     assert_eq!(rt; packed.left(), 1);

@@ -15,6 +15,21 @@ fn folded<C: Check>(octets: &[u8]) -> C {
     check
 }
 
+/// The register after these octets, bit by bit, as the rules have it (ISO/IEC 13239, 16-bit frame checking sequence).
+fn register_of(octets: &[u8]) -> u16 {
+    let mut register: u16 = 0xffff;
+    for octet in octets {
+        for place in 0..8u32 {
+            let adds = register % 2 != u16::from(*octet) >> place & 1;
+            register /= 2;
+            if adds {
+                register ^= 0x8408;
+            }
+        }
+    }
+    register
+}
+
 /// The published check value of this CRC (`123456789`), and values worked out outside this code, as sent.
 #[test]
 fn trailers(rt: HostRuntime) {
@@ -30,8 +45,8 @@ fn trailers(rt: HostRuntime) {
         (&[0x10, 0x83, 0x81, 0x01, 0x02], [0x6e, 0x1f]),
     ];
     for (octets, want) in cases {
-        assert_eq!(rt; folded::<BitCheck>(octets).trailer(), want);
-        assert_eq!(rt; folded::<OctetCheck>(octets).trailer(), want);
+        assert_eq!(rt; folded::<BitCheck>(octets).trailer(), want, "{octets:?}");
+        assert_eq!(rt; folded::<OctetCheck>(octets).trailer(), want, "{octets:?}");
     }
 }
 
@@ -48,32 +63,83 @@ fn registers(rt: HostRuntime) {
     for (count, register) in cases {
         let want = (!register).to_le_bytes();
         let octets = &FRAME[..count.min(FRAME.len())];
-        assert_eq!(rt; folded::<BitCheck>(octets).trailer(), want);
-        assert_eq!(rt; folded::<OctetCheck>(octets).trailer(), want);
+        assert_eq!(rt;
+            folded::<BitCheck>(octets).trailer(),
+            want,
+            "{count} octets"
+        );
+        assert_eq!(rt;
+            folded::<OctetCheck>(octets).trailer(),
+            want,
+            "{count} octets"
+        );
     }
+}
+
+/// Every octet at every place of seven, by folding one by one and all at once.
+#[test]
+fn each_octet_at_each_place(rt: HostRuntime) {
+    for place in 0..7usize {
+        for octet in 0..=255u8 {
+            let mut octets = [0; 8];
+            octets[place] = octet;
+            let want = (!register_of(&octets[..7])).to_le_bytes();
+            assert_eq!(rt; folded::<BitCheck>(&octets[..7]).trailer(), want);
+            assert_eq!(rt; folded::<OctetCheck>(&octets[..7]).trailer(), want);
+            let mut at_once = OctetCheck::fresh();
+            let mut spent = Spent::zero();
+            at_once.fold_some(&octets, 7, &mut spent);
+            assert_eq!(rt; at_once.trailer(), want, "{octet} at {place}");
+        }
+    }
+}
+
+/// The work of folding so many octets.
+fn cost_of<C: Check>(count: usize) -> u64 {
+    let mut check = C::fresh();
+    let mut sum: u64 = 0;
+    for octet in [0x55; 8].iter().take(count) {
+        let mut spent = Spent::zero();
+        check.fold(*octet, &mut spent);
+        sum = sum.saturating_add(spent.folded);
+    }
+    sum
+}
+
+/// An octet costs eight units of work by bits, and one by the tables, also where it is folded with others.
+#[test]
+fn costs(rt: HostRuntime) {
+    for (count, by_bits, by_octets) in [(0, 0, 0), (1, 8, 1), (7, 56, 7)] {
+        assert_eq!(rt; cost_of::<BitCheck>(count), by_bits);
+        assert_eq!(rt; cost_of::<OctetCheck>(count), by_octets);
+    }
+    let mut at_once = OctetCheck::fresh();
+    let mut spent = Spent::zero();
+    at_once.fold_some(&[0x55; 8], 7, &mut spent);
+    assert_eq!(rt; spent.folded, 7);
 }
 
 /// A frame is good, and with the octets of its check exchanged it is not.
 #[test]
 fn good_and_exchanged(rt: HostRuntime) {
     for (octets, want) in [(FRAME, true), ([0x10, 0x83, 0x00, 0xe5, 0xfd], false)] {
-        assert_eq!(rt; folded::<BitCheck>(&octets).is_good(), want);
-        assert_eq!(rt; folded::<OctetCheck>(&octets).is_good(), want);
-        assert_eq!(rt; fcs_is_good::<BitCheck>(&octets), want);
-        assert_eq!(rt; fcs_is_good::<OctetCheck>(&octets), want);
+        assert_eq!(rt; folded::<BitCheck>(&octets).is_good(), want, "{octets:?}");
+        assert_eq!(rt; folded::<OctetCheck>(&octets).is_good(), want, "{octets:?}");
+        assert_eq!(rt; fcs_is_good::<BitCheck>(&octets), want, "{octets:?}");
+        assert_eq!(rt; fcs_is_good::<OctetCheck>(&octets), want, "{octets:?}");
     }
 }
 
 /// Each change of a frame within sixteen bits is seen: its first changed bit is one of 25, and any
-/// of the fifteen bits behind it may change too.
+/// of the fifteen bits after it may change too.
 #[test]
 fn changes_within_sixteen_bits(rt: HostRuntime) {
     let frame = u64::from_le_bytes([0x10, 0x83, 0x00, 0xfd, 0xe5, 0, 0, 0]);
     for place in 0..25u32 {
         for rest in 0..32768u64 {
             let octets = (frame ^ ((2 * rest + 1) << place)).to_le_bytes();
-            assert!(rt; !folded::<BitCheck>(&octets[..5]).is_good());
-            assert!(rt; !folded::<OctetCheck>(&octets[..5]).is_good());
+            assert!(rt; !folded::<BitCheck>(&octets[..5]).is_good(), "{octets:?}");
+            assert!(rt; !folded::<OctetCheck>(&octets[..5]).is_good(), "{octets:?}");
         }
     }
 }

@@ -63,7 +63,7 @@ fn word_of(rt: &impl Abort, bits: &[bool], most: u32) -> (u64, u32)
     (bits_number(front), front.len() as u32)
 }
 
-/// Takes up to `size` of these bits with one call: the bits behind them, and the report.
+/// Takes up to `size` of these bits with one call: the bits after them, and the report.
 fn take_some<'a, 'd, C: Check>(
     rt: &impl Abort,
     decoder: &'d mut LineDecoder<C>,

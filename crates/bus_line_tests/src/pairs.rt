@@ -63,12 +63,12 @@ const MARKS: [MarkRow; 11] = [
 fn marks_are_pairs(rt: HostRuntime) {
     let mut text = TextPairs::new();
     for row in &MARKS {
-        assert_eq!(rt; text.step(row.octet), row.want);
+        assert_eq!(rt; text.step(row.octet), row.want, "octet {}", row.octet);
     }
 }
 
 fn check_eight(rt: &impl Abort, octets: &[u8], want: Option<EightPairs>) {
-    assert_eq!(rt; TextPairs::eight(octets), want);
+    assert_eq!(rt; TextPairs::eight(octets), want, "{octets:?}");
 }
 
 #[test]
@@ -199,7 +199,12 @@ const HEADS: [HeadRow; 4] = [
 #[test]
 fn heads_of_pairs_are_read(rt: HostRuntime) {
     for row in &HEADS {
-        assert_eq!(rt; PairHead::read(row.head).map(|head| head.pairs), row.want);
+        assert_eq!(rt;
+            PairHead::read(row.head).map(|head| head.pairs),
+            row.want,
+            "{:?}",
+            row.head
+        );
     }
     let other = PackedHead::read(b"TS2BITS2\x0f\0\0\0\0\0\0\0");
     assert_eq!(rt; other.err(), Some(HeadFault::Magic));
@@ -265,7 +270,7 @@ fn octets_are_four_pairs(rt: HostRuntime) {
     let mut packed = PackedPairs::new(PairHead { pairs: 17 });
     for row in &PAIRS {
         let pairs = packed.step(row.octet).expect(&rt, "four pairs");
-        assert_eq!(rt; pairs.as_slice(), &row.pairs[..]);
+        assert_eq!(rt; pairs.as_slice(), &row.pairs[..], "octet {}", row.octet);
     }
     assert_eq!(rt; packed.left(), 1);
     assert_eq!(rt; packed.finish(), Err(PackedFault::ShortBody));

@@ -16,34 +16,34 @@ use Rattle.bus_text.specs.Listing.{hex_digit, hex_of}
 -- what is so of each number below sixteen
 pub below_sixteen : (P : ℕ → Type 0) → P 0 → P 1 → P 2 → P 3 → P 4 → P 5 → P 6 → P 7 → P 8 → P 9 → P 10 → P 11
     → P 12 → P 13 → P 14 → P 15 → (d : ℕ) → d < 16 → P d
-below_sixteen P p0 p1 p2 p3 p4 p5 p6 p7 p8 p9 p10 p11 p12 p13 p14 p15 zero h = p0
-below_sixteen P p0 p1 p2 p3 p4 p5 p6 p7 p8 p9 p10 p11 p12 p13 p14 p15 (suc zero) h = p1
-below_sixteen P p0 p1 p2 p3 p4 p5 p6 p7 p8 p9 p10 p11 p12 p13 p14 p15 (suc (suc zero)) h = p2
-below_sixteen P p0 p1 p2 p3 p4 p5 p6 p7 p8 p9 p10 p11 p12 p13 p14 p15 (suc (suc (suc zero))) h = p3
-below_sixteen P p0 p1 p2 p3 p4 p5 p6 p7 p8 p9 p10 p11 p12 p13 p14 p15 (suc (suc (suc (suc zero)))) h = p4
-below_sixteen P p0 p1 p2 p3 p4 p5 p6 p7 p8 p9 p10 p11 p12 p13 p14 p15 (suc (suc (suc (suc (suc zero))))) h = p5
-below_sixteen P p0 p1 p2 p3 p4 p5 p6 p7 p8 p9 p10 p11 p12 p13 p14 p15 (suc (suc (suc (suc (suc (suc zero)))))) h = p6
-below_sixteen P p0 p1 p2 p3 p4 p5 p6 p7 p8 p9 p10 p11 p12 p13 p14 p15 (suc (suc (suc (suc (suc (suc (suc zero))))))) h =
-    p7
+below_sixteen P p0 p1 p2 p3 p4 p5 p6 p7 p8 p9 p10 p11 p12 p13 p14 p15 zero low = p0
+below_sixteen P p0 p1 p2 p3 p4 p5 p6 p7 p8 p9 p10 p11 p12 p13 p14 p15 (suc zero) low = p1
+below_sixteen P p0 p1 p2 p3 p4 p5 p6 p7 p8 p9 p10 p11 p12 p13 p14 p15 (suc (suc zero)) low = p2
+below_sixteen P p0 p1 p2 p3 p4 p5 p6 p7 p8 p9 p10 p11 p12 p13 p14 p15 (suc (suc (suc zero))) low = p3
+below_sixteen P p0 p1 p2 p3 p4 p5 p6 p7 p8 p9 p10 p11 p12 p13 p14 p15 (suc (suc (suc (suc zero)))) low = p4
+below_sixteen P p0 p1 p2 p3 p4 p5 p6 p7 p8 p9 p10 p11 p12 p13 p14 p15 (suc (suc (suc (suc (suc zero))))) low = p5
+below_sixteen P p0 p1 p2 p3 p4 p5 p6 p7 p8 p9 p10 p11 p12 p13 p14 p15 (suc (suc (suc (suc (suc (suc zero)))))) low = p6
 below_sixteen P p0 p1 p2 p3 p4 p5 p6 p7 p8 p9 p10 p11 p12 p13 p14 p15
-    (suc (suc (suc (suc (suc (suc (suc (suc zero)))))))) h = p8
+    (suc (suc (suc (suc (suc (suc (suc zero))))))) low = p7
 below_sixteen P p0 p1 p2 p3 p4 p5 p6 p7 p8 p9 p10 p11 p12 p13 p14 p15
-    (suc (suc (suc (suc (suc (suc (suc (suc (suc zero))))))))) h = p9
+    (suc (suc (suc (suc (suc (suc (suc (suc zero)))))))) low = p8
 below_sixteen P p0 p1 p2 p3 p4 p5 p6 p7 p8 p9 p10 p11 p12 p13 p14 p15
-    (suc (suc (suc (suc (suc (suc (suc (suc (suc (suc zero)))))))))) h = p10
+    (suc (suc (suc (suc (suc (suc (suc (suc (suc zero))))))))) low = p9
 below_sixteen P p0 p1 p2 p3 p4 p5 p6 p7 p8 p9 p10 p11 p12 p13 p14 p15
-    (suc (suc (suc (suc (suc (suc (suc (suc (suc (suc (suc zero))))))))))) h = p11
+    (suc (suc (suc (suc (suc (suc (suc (suc (suc (suc zero)))))))))) low = p10
 below_sixteen P p0 p1 p2 p3 p4 p5 p6 p7 p8 p9 p10 p11 p12 p13 p14 p15
-    (suc (suc (suc (suc (suc (suc (suc (suc (suc (suc (suc (suc zero)))))))))))) h = p12
+    (suc (suc (suc (suc (suc (suc (suc (suc (suc (suc (suc zero))))))))))) low = p11
 below_sixteen P p0 p1 p2 p3 p4 p5 p6 p7 p8 p9 p10 p11 p12 p13 p14 p15
-    (suc (suc (suc (suc (suc (suc (suc (suc (suc (suc (suc (suc (suc zero))))))))))))) h = p13
+    (suc (suc (suc (suc (suc (suc (suc (suc (suc (suc (suc (suc zero)))))))))))) low = p12
 below_sixteen P p0 p1 p2 p3 p4 p5 p6 p7 p8 p9 p10 p11 p12 p13 p14 p15
-    (suc (suc (suc (suc (suc (suc (suc (suc (suc (suc (suc (suc (suc (suc zero)))))))))))))) h = p14
+    (suc (suc (suc (suc (suc (suc (suc (suc (suc (suc (suc (suc (suc zero))))))))))))) low = p13
 below_sixteen P p0 p1 p2 p3 p4 p5 p6 p7 p8 p9 p10 p11 p12 p13 p14 p15
-    (suc (suc (suc (suc (suc (suc (suc (suc (suc (suc (suc (suc (suc (suc (suc zero))))))))))))))) h = p15
+    (suc (suc (suc (suc (suc (suc (suc (suc (suc (suc (suc (suc (suc (suc zero)))))))))))))) low = p14
 below_sixteen P p0 p1 p2 p3 p4 p5 p6 p7 p8 p9 p10 p11 p12 p13 p14 p15
-    (suc (suc (suc (suc (suc (suc (suc (suc (suc (suc (suc (suc (suc (suc (suc (suc n)))))))))))))))) h =
-    absurd (omega (arith, h))
+    (suc (suc (suc (suc (suc (suc (suc (suc (suc (suc (suc (suc (suc (suc (suc zero))))))))))))))) low = p15
+below_sixteen P p0 p1 p2 p3 p4 p5 p6 p7 p8 p9 p10 p11 p12 p13 p14 p15
+    (suc (suc (suc (suc (suc (suc (suc (suc (suc (suc (suc (suc (suc (suc (suc (suc n)))))))))))))))) low =
+    absurd (omega (arith, low))
 
 -- the characters in a table
 pub digit_at : (d : ℕ) → d < 16 → slice_index_or DIGITS d 0 ≡ hex_digit d
@@ -159,7 +159,7 @@ hex_take k os few =
     hex_length (take k os) ∙ ap (λ n. 2 * n) (length-take-le k os few) in
     ap (take (2 * k)) front ∙ (rw long at (take-append_seam (hex_of (take k os)) (hex_of (drop k os))))
 
--- the last octets are written over what is written of them already, up to some place behind them
+-- the last octets are written over what is written of them already, up to some place after them
 pub hex_again : (text : List ℕ) (k : ℕ) (written os : List ℕ) → take k written ≡ take k os → k ≤ length written
     → take (length text + 2 * k) (text ++ hex_of written) ++ hex_of (drop k os) ≡ text ++ hex_of os
 hex_again text k written os same few =
@@ -193,11 +193,11 @@ hex_chunk n i os count more =
 -- the digits of as many octets in each half
 pub halves : (n : ℕ) (first last a b : List ℕ) → length first ≡ n → length last ≡ n → length a ≡ 2 * n
     → a ++ b ≡ hex_of (pick_l 0 (first ++ last) (range_with_len 0 (n + n))) → (a ≡ hex_of first) × (b ≡ hex_of last)
-halves n first last a b f l long is =
+halves n first last a b first-long last-long long is =
     let all : pick_l 0 (first ++ last) (range_with_len 0 (n + n)) ≡ first ++ last =
-    pick_l_whole 0 (first ++ last) (n + n) (omega (arith, length-append first last, f, l)) in
+    pick_l_whole 0 (first ++ last) (n + n) (omega (arith, length-append first last, first-long, last-long)) in
     let whole : a ++ b ≡ hex_of first ++ hex_of last = is ∙ ap hex_of all ∙ hex_append first last in
-    let same : length a ≡ length (hex_of first) = omega (arith, hex_length first, f, long) in (
+    let same : length a ≡ length (hex_of first) = omega (arith, hex_length first, first-long, long) in (
       sym (take-append_seam a b) ∙ ap (take (length a)) whole ∙ ap (λ k. take k (hex_of first ++ hex_of last)) same
           ∙ take-append_seam (hex_of first) (hex_of last),
       sym (drop-append_seam a b) ∙ ap (drop (length a)) whole ∙ ap (λ k. drop k (hex_of first ++ hex_of last)) same

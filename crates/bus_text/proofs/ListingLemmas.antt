@@ -1,6 +1,6 @@
 -- The listing of more reports, in parts.
-use Rattle.std.proofs.Common.{◌≡◌, ℕ, Bool, true, false, if◌then◌else◌, List, [], ◌∷◌, ◌++◌, option_map, refl, sym, ap}
-use Rattle.std.proofs.Common.{◌∙◌, append_assoc, append-nil}
+use Rattle.std.proofs.Common.{◌≡◌, ℕ, true, false, if◌then◌else◌, List, [], ◌∷◌, ◌++◌, option_map, refl, sym, ap}
+use Rattle.std.proofs.Common.{◌∙◌, ◌+◌, append_assoc, append-nil, arith}
 use Rattle.std.specs.List.{flat_map, filter}
 use Rattle.std.specs.Option.{option_to_list}
 use Rattle.std.proofs.lemmas.Grind.{flat_map-append}
@@ -9,7 +9,9 @@ use Rattle.bus_dictionary.specs.Entry.{FrameType}
 use Rattle.bus_watch.specs.Seen.{SeenReport}
 use Rattle.bus_text.specs.Listing.{Line, is_left, text_of, report_line, verdict_line, stray_lines, seen_lines, lines_of}
 use Rattle.bus_text.specs.Listing.{listing}
+use Rattle.bus_text.specs.Adds.{Prints}
 use Rattle.bus_text.specs.declared.filter.Filter.{Filter}
+use Rattle.bus_text.specs.declared.page.Page.{Page}
 use Rattle.bus_text.specs.declared.printer.Printer.{Printer}
 
 -- the text of lines is in parts
@@ -27,26 +29,39 @@ text-one f l = elim (is_left f l) as (λ b.
       | false ↦ refl
     ]
 
--- nothing is put for a line that the filter drops
-pub put-dropped : (f : Filter) (l : Line) (page : List ℕ) → is_left f l ≡ false → page ≡ page ++ text_of f (l ∷ [])
-put-dropped f l page h =
-    sym (ap (λ t. page ++ t) (text-one f l ∙ ap (λ (b : Bool). if b then l.text else []) h) ∙ append-nil page)
-
--- the text of a line that the filter leaves
-pub put-left : (f : Filter) (l : Line) (page new : List ℕ) → is_left f l ≡ true → new ≡ page ++ l.text →
-    new ≡ page ++ text_of f (l ∷ [])
-put-left f l page new h e = e ∙ sym (ap (λ t. page ++ t) (text-one f l ∙ ap (λ (b : Bool). if b then l.text else []) h))
+-- a page that stays is one on which nothing is put
+pub nothing-put : (most : ℕ) (page : Page) → Prints page [] most page
+nothing-put most page = record { bytes = sym (append-nil page.text); len = omega arith; written = refl }
 
 -- nothing is put for no lines
-pub put-none : (f : Filter) (lines : List Line) (page : List ℕ) → lines ≡ [] → page ≡ page ++ text_of f lines
+pub put-none : (f : Filter) (lines : List Line) (most : ℕ) (page : Page) → lines ≡ [] →
+    Prints page (text_of f lines) most page
 unfolding text_of
-put-none f lines page h = sym (append-nil page) ∙ sym (ap (λ l. page ++ text_of f l) h)
+put-none f lines most page none = rw none (nothing-put most page)
 
--- two texts are put, one behind the other
-pub put-both : (f : Filter) (xs ys : List Line) (page mid new : List ℕ) → mid ≡ page ++ text_of f xs →
-    new ≡ mid ++ text_of f ys → new ≡ page ++ text_of f (xs ++ ys)
-put-both f xs ys page mid new first second = second ∙ ap (λ t. t ++ text_of f ys) first
-    ∙ append_assoc page (text_of f xs) (text_of f ys) ∙ sym (ap (λ t. page ++ t) (text-append f xs ys))
+-- nothing is put for a line that the filter drops
+pub put-dropped : (f : Filter) (l : Line) (most : ℕ) (page : Page) → is_left f l ≡ false →
+    Prints page (text_of f (l ∷ [])) most page
+put-dropped f l most page dropped = rw (text-one f l) (rw dropped (nothing-put most page))
+
+-- the text of a line that the filter leaves
+pub put-left : (f : Filter) (l : Line) {most : ℕ} {page new : Page} → is_left f l ≡ true →
+    Prints page l.text most new → Prints page (text_of f (l ∷ [])) most new
+put-left f l left put = rw (text-one f l) (rw left put)
+
+-- two texts are put, one after the other
+pub put-behind : {first second : List ℕ} {m n : ℕ} {page mid new : Page} → Prints page first m mid →
+    Prints mid second n new → Prints page (first ++ second) (m + n) new
+put-behind {first = first} {second = second} {page = page} before behind = record {
+  bytes = behind.bytes ∙ ap (λ t. t ++ second) before.bytes ∙ append_assoc page.text first second;
+  len = omega (arith, before.len, behind.len);
+  written = behind.written ∙ before.written;
+}
+
+-- the texts of some lines and of more
+pub put-both : (f : Filter) (xs ys : List Line) {m n : ℕ} {page mid new : Page} → Prints page (text_of f xs) m mid →
+    Prints mid (text_of f ys) n new → Prints page (text_of f (xs ++ ys)) (m + n) new
+put-both f xs ys before behind = rw (text-append f xs ys) (put-behind before behind)
 
 -- the listing of reports is in parts
 pub listing-append : (p : Printer) (d : List FrameType) (xs ys : List SeenReport) →
@@ -54,7 +69,7 @@ pub listing-append : (p : Printer) (d : List FrameType) (xs ys : List SeenReport
 listing-append p d xs ys = ap (text_of p.filter) (flat_map-append (seen_lines p.heads d) xs ys)
     ∙ text-append p.filter (lines_of p.heads d xs) (lines_of p.heads d ys)
 
--- the listing of one report is its own line, and the lines behind it
+-- the listing of one report is its own line, and the lines after it
 pub listing-one : (p : Printer) (d : List FrameType) (s : SeenReport)
     → listing p d (s ∷ []) ≡ text_of p.filter (report_line p.heads d s ∷ [])
     ++ (text_of p.filter (option_to_list (option_map (verdict_line s.line) s.verdict))
@@ -67,14 +82,10 @@ listing-one p d s =
     ∙ text-append p.filter (own ∷ []) (verdict ++ stray)
     ∙ ap (λ t. text_of p.filter (own ∷ []) ++ t) (text-append p.filter verdict stray)
 
--- they were put, one behind the other
-pub put-one : (p : Printer) (d : List FrameType) (s : SeenReport) (page own verdict all : List ℕ)
-    → own ≡ page ++ text_of p.filter (report_line p.heads d s ∷ []) →
-    verdict ≡ own ++ text_of p.filter (option_to_list (option_map (verdict_line s.line) s.verdict))
-    → all ≡ verdict ++ text_of p.filter (stray_lines p.heads s) → all ≡ page ++ listing p d (s ∷ [])
-put-one p d s page own verdict all e f g =
-    let x = text_of p.filter (report_line p.heads d s ∷ []) in
-    let y = text_of p.filter (option_to_list (option_map (verdict_line s.line) s.verdict)) in
-    let z = text_of p.filter (stray_lines p.heads s) in
-    g ∙ ap (λ t. t ++ z) (f ∙ ap (λ t. t ++ y) e) ∙ append_assoc (page ++ x) y z ∙ append_assoc page x (y ++ z)
-    ∙ sym (ap (λ t. page ++ t) (listing-one p d s))
+-- they were put, one after the other
+pub put-one : (p : Printer) (d : List FrameType) (s : SeenReport) {k m n : ℕ} {page own verdict all : Page}
+    → Prints page (text_of p.filter (report_line p.heads d s ∷ [])) k own →
+    Prints own (text_of p.filter (option_to_list (option_map (verdict_line s.line) s.verdict))) m verdict
+    → Prints verdict (text_of p.filter (stray_lines p.heads s)) n all →
+    Prints page (listing p d (s ∷ [])) (k + (m + n)) all
+put-one p d s own verdict stray = rw (listing-one p d s) (put-behind own (put-behind verdict stray))

@@ -6,19 +6,19 @@ use Rattle.std.proofs.lemmas.List.Sums.{sum_by-append}
 use Rattle.bus_watch.specs.Seen.{SeenReport}
 use Rattle.bus_watch.specs.declared.outcome.Outcome.TheVariants.{Answered, Late, Missing, Spoilt}
 use Rattle.bus_watch.specs.Talk.{is_idle}
-use Rattle.bus_text.specs.Summary.{is_frame, is_damaged, is_overlong, is_abort, has_outcome, summary_of}
-use Rattle.bus_text.specs.Counting.{counted, with_kind, with_seen}
+use Rattle.bus_text.specs.Summary.{shows_frame, shows_damaged, shows_overlong, shows_abort, has_outcome, summary_of}
+use Rattle.bus_text.specs.Counting.{one_more_if, with_kind, with_seen}
 use Rattle.bus_text.specs.declared.summary.Summary.{Summary}
 use Rattle.bus_line.specs.Shown.{kind_with}
 use Rattle.bus_line.specs.declared.event.EventKind.{EventKind}
 use Rattle.bus_line.specs.declared.event.EventKind.TheVariants as event
 
 count-last : {X : Type 0} (p : X → Bool) (xs : List X) (x : X) →
-    count_by p (xs ++ x ∷ []) ≡ counted (p x) (count_by p xs)
+    count_by p (xs ++ x ∷ []) ≡ one_more_if (p x) (count_by p xs)
 count-last p xs x =
     let n = count_by p xs in
     sum_by-append (λ x. cond (p x) 1 0) xs (x ∷ [])
-    ∙ (elim (p x) as (λ b. n + (0 + cond b 1 0) ≡ counted b n) [
+    ∙ (elim (p x) as (λ b. n + (0 + cond b 1 0) ≡ one_more_if b n) [
       | true ↦ omega arith
       | false ↦ omega arith
     ])
@@ -28,10 +28,10 @@ pub summary-more : (before : List SeenReport) (s : SeenReport) →
     summary_of (before ++ s ∷ []) ≡ with_seen s (summary_of before)
 summary-more before s =
     rw (
-      count-last (λ (s : SeenReport). is_frame s.report.kind) before s,
-      count-last (λ (s : SeenReport). is_damaged s.report.kind) before s,
-      count-last (λ (s : SeenReport). is_overlong s.report.kind) before s,
-      count-last (λ (s : SeenReport). is_abort s.report.kind) before s,
+      count-last (λ (s : SeenReport). shows_frame s.report.kind) before s,
+      count-last (λ (s : SeenReport). shows_damaged s.report.kind) before s,
+      count-last (λ (s : SeenReport). shows_overlong s.report.kind) before s,
+      count-last (λ (s : SeenReport). shows_abort s.report.kind) before s,
       count-last (λ (s : SeenReport). is_idle s.report.kind) before s,
       count-last (λ (s : SeenReport). s.stray) before s,
       count-last (λ (s : SeenReport). has_outcome Answered s.verdict) before s,

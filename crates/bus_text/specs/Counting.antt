@@ -6,34 +6,34 @@ use Rattle.bus_watch.specs.Seen.{SeenReport}
 use Rattle.bus_watch.specs.declared.outcome.Outcome.TheVariants.{Answered, Late, Missing, Spoilt}
 use Rattle.bus_watch.specs.declared.verdict.Verdict.{Verdict}
 use Rattle.bus_text.specs.declared.summary.Summary.{Summary}
-use Rattle.bus_text.specs.Summary.{has_outcome, is_abort, is_damaged, is_frame, is_overlong}
+use Rattle.bus_text.specs.Summary.{has_outcome, shows_abort, shows_damaged, shows_frame, shows_overlong}
 
 -- one more, if it is so
-abbrev pub counted : Bool → ℕ → ℕ
-counted b n = if b then n + 1 else n
+abbrev pub one_more_if : Bool → ℕ → ℕ
+one_more_if b n = if b then n + 1 else n
 
 -- a piece of this kind is counted
 abbrev pub with_kind : Kind → Summary → Summary
 with_kind k s = record s {
-  frames = counted (is_frame k) s.frames;
-  damaged = counted (is_damaged k) s.damaged;
-  overlong = counted (is_overlong k) s.overlong;
-  aborts = counted (is_abort k) s.aborts;
-  idles = counted (is_idle k) s.idles;
+  frames = one_more_if (shows_frame k) s.frames;
+  damaged = one_more_if (shows_damaged k) s.damaged;
+  overlong = one_more_if (shows_overlong k) s.overlong;
+  aborts = one_more_if (shows_abort k) s.aborts;
+  idles = one_more_if (is_idle k) s.idles;
 }
 
 -- a verdict is counted
 abbrev pub with_verdict : Option Verdict → Summary → Summary
 with_verdict v s = record s {
-  answered = counted (has_outcome Answered v) s.answered;
-  missing = counted (has_outcome Missing v) s.missing;
-  spoilt = counted (has_outcome Spoilt v) s.spoilt;
-  late = counted (has_outcome Late v) s.late;
+  answered = one_more_if (has_outcome Answered v) s.answered;
+  missing = one_more_if (has_outcome Missing v) s.missing;
+  spoilt = one_more_if (has_outcome Spoilt v) s.spoilt;
+  late = one_more_if (has_outcome Late v) s.late;
 }
 
 -- a stray is counted
 abbrev pub with_stray : Bool → Summary → Summary
-with_stray stray s = record s { strays = counted stray s.strays }
+with_stray stray s = record s { strays = one_more_if stray s.strays }
 
 -- one report more is counted
 abbrev pub with_seen : SeenReport → Summary → Summary

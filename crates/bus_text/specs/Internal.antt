@@ -1,3 +1,2 @@
 -- What proofs and private functions speak of: the state behind a contract, and what holds of it between two steps.
-pub mod Pages
 pub mod Fronts

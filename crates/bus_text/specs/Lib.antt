@@ -6,5 +6,7 @@ pub mod Counting
 pub mod CheckText
 pub mod Given
 pub mod Put
+pub mod Adds
+pub mod Pages
 pub mod Show
 pub mod Internal

@@ -60,7 +60,7 @@ report_kind report.Overlong = kind.Overlong
 report_kind report.Abort = kind.Abort
 report_kind report.Idle = kind.Idle
 
--- two places, each with a space behind it
+-- two places, each with a space after it
 abbrev pub span_text : Span → List ℕ
 span_text span = decimal span.first ++ codes " " ++ decimal span.past ++ codes " "
 

@@ -8,7 +8,7 @@ use Rattle.hex.specs.declared.error.FromHexError.{FromHexError}
 use Rattle.bus_bits.specs.Octet.{bits_of_octets}
 use Rattle.bus_fcs.specs.FrameCheck.{is_good}
 use Rattle.bus_dictionary.specs.BitName.{NamedBit}
-use Rattle.bus_dictionary.specs.NameWalk.{ones}
+use Rattle.bus_dictionary.specs.NameWalk.{set_bits}
 use Rattle.bus_dictionary.specs.Entry.{FrameType}
 use Rattle.bus_dictionary.specs.Dictionary.{dictionary_of_text, entry_at}
 use Rattle.bus_dictionary.specs.Standing.{standing}
@@ -59,13 +59,13 @@ abbrev pub name_text : NamedBit → List ℕ
 name_text b = decimal b.at ++ codes " " ++ b.name ++ codes "\n"
 
 -- a line for each named bit that is 1 in the octets after the type
-abbrev pub bits_text : List ℕ → Option FrameType → List ℕ
-bits_text octets None = []
-bits_text octets (Some e) = flat_map name_text (ones (slice_range octets 3 (length octets - 2)) e.bits)
+abbrev pub bit_lines : List ℕ → Option FrameType → List ℕ
+bit_lines octets None = []
+bit_lines octets (Some e) = flat_map name_text (set_bits (slice_range octets 3 (length octets - 2)) e.bits)
 
 -- only where the dictionary knows the frame
 abbrev pub names_text : Standing → List ℕ → List FrameType → List ℕ
-names_text (Known station ftype) octets d = bits_text octets (entry_at ftype d)
+names_text (Known station ftype) octets d = bit_lines octets (entry_at ftype d)
 names_text _ octets d = []
 
 -- what is shown of a frame

@@ -9,21 +9,21 @@ use Rattle.bus_watch.specs.declared.outcome.Outcome.TheVariants.{Answered, Late,
 use Rattle.bus_watch.specs.declared.verdict.Verdict.{Verdict}
 use Rattle.bus_text.specs.declared.summary.Summary.{Summary}
 
-abbrev pub is_frame : Kind → Bool
-is_frame (Frame octets) = true
-is_frame kind = false
+abbrev pub shows_frame : Kind → Bool
+shows_frame (Frame octets) = true
+shows_frame kind = false
 
-abbrev pub is_damaged : Kind → Bool
-is_damaged (Damaged cause) = true
-is_damaged kind = false
+abbrev pub shows_damaged : Kind → Bool
+shows_damaged (Damaged cause) = true
+shows_damaged kind = false
 
-abbrev pub is_overlong : Kind → Bool
-is_overlong Overlong = true
-is_overlong kind = false
+abbrev pub shows_overlong : Kind → Bool
+shows_overlong Overlong = true
+shows_overlong kind = false
 
-abbrev pub is_abort : Kind → Bool
-is_abort Abort = true
-is_abort kind = false
+abbrev pub shows_abort : Kind → Bool
+shows_abort Abort = true
+shows_abort kind = false
 
 -- a verdict with this outcome
 abbrev pub has_outcome : Outcome → Option Verdict → Bool
@@ -33,10 +33,10 @@ has_outcome outcome (Some v) = is_outcome outcome v.outcome
 -- how many of what is seen are of each kind, are strays, and decide each verdict
 abbrev pub summary_of : List SeenReport → Summary
 summary_of seen = record {
-  frames = count_by (λ s. is_frame s.report.kind) seen;
-  damaged = count_by (λ s. is_damaged s.report.kind) seen;
-  overlong = count_by (λ s. is_overlong s.report.kind) seen;
-  aborts = count_by (λ s. is_abort s.report.kind) seen;
+  frames = count_by (λ s. shows_frame s.report.kind) seen;
+  damaged = count_by (λ s. shows_damaged s.report.kind) seen;
+  overlong = count_by (λ s. shows_overlong s.report.kind) seen;
+  aborts = count_by (λ s. shows_abort s.report.kind) seen;
   idles = count_by (λ s. is_idle s.report.kind) seen;
   strays = count_by (λ s. s.stray) seen;
   answered = count_by (λ s. has_outcome Answered s.verdict) seen;

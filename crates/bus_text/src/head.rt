@@ -1,8 +1,9 @@
 //! What the head of a frame says.
 
-ghost use Rattle.std.specs.Prelude.{◌≡◌, ◌+◌, ◌++◌, ◌≤◌, length};
+ghost use Rattle.std.specs.Prelude.{◌≡◌, ◌+◌, ◌≤◌, length};
 ghost use Rattle.bus_dictionary.specs.Dictionary.{entry_at};
 ghost use Rattle.bus_text.specs.HeadText.{name_of, typed_text, head_text};
+ghost use Rattle.bus_text.specs.Adds.{Adds};
 
 use crate::line::push_station;
 use crate::number::push_octet_number;
@@ -26,8 +27,7 @@ fn type_name(dictionary: &Dictionary, ftype: u8) -> &str
 fn push_typed<const N: usize>(text: &mut Text<N>, station: u8, ftype: u8, what: &str)
     requires room { length text.old + 65 ≤ N }
     requires short { length what.now ≤ 40 }
-    ensures bytes { text.new ≡ text.old ++ typed_text station ftype what.now }
-    ensures len { length text.new ≤ length text.old + 61 }
+    ensures { Adds text.old (typed_text station ftype what.now) 61 text.new }
 {
     push_station(text, station, ftype);
     text.push(b' ');
@@ -42,8 +42,7 @@ pub(crate) fn push_head<const N: usize>(
     dictionary: &Dictionary,
 )
     requires { length text.old + 65 ≤ N }
-    ensures bytes { text.new ≡ text.old ++ head_text standing dictionary.now }
-    ensures len { length text.new ≤ length text.old + 61 }
+    ensures { Adds text.old (head_text standing dictionary.now) 61 text.new }
 {
     match standing {
         Standing::Known { station, ftype } => {

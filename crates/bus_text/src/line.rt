@@ -1,9 +1,10 @@
 //! Parts of lines.
 
-ghost use Rattle.std.specs.Prelude.{◌≡◌, ◌+◌, ◌++◌, ◌≤◌, length};
+ghost use Rattle.std.specs.Prelude.{◌+◌, ◌++◌, ◌≤◌, length};
 ghost use Rattle.bus_line.specs.Shown.{kind_with, reported, span_of};
 ghost use Rattle.bus_text.specs.Listing.{cause_word, line_number, span_text, report_word};
 ghost use Rattle.bus_text.specs.HeadText.{station_text};
+ghost use Rattle.bus_text.specs.Adds.{Adds};
 
 use crate::hex_digits::push_hex;
 use crate::number::push_octet_number;
@@ -19,8 +20,7 @@ pub(crate) type FrameLine = Text<640>;
 #[inline(always)]
 pub(crate) fn push_station<const N: usize>(text: &mut Text<N>, station: u8, ftype: u8)
     requires { length text.old + 24 ≤ N }
-    ensures bytes { text.new ≡ text.old ++ station_text station ftype }
-    ensures len { length text.new ≤ length text.old + 20 }
+    ensures { Adds text.old (station_text station ftype) 20 text.new }
 {
     text.put(*b"station ", 8);
     push_octet_number(text, station);
@@ -32,8 +32,7 @@ pub(crate) fn push_station<const N: usize>(text: &mut Text<N>, station: u8, ftyp
 #[inline(always)]
 pub(crate) fn push_line_number<const N: usize>(text: &mut Text<N>, line: Option<Line>)
     requires { length text.old + 2 ≤ N }
-    ensures bytes { text.new ≡ text.old ++ line_number line }
-    ensures len { length text.new ≤ length text.old + 2 }
+    ensures { Adds text.old (line_number line) 2 text.new }
 {
     match line {
         None => {}
@@ -46,8 +45,7 @@ pub(crate) fn push_line_number<const N: usize>(text: &mut Text<N>, line: Option<
 #[inline(always)]
 pub(crate) fn push_span<const N: usize>(text: &mut Text<N>, places: &mut Places, span: Span)
     requires { length text.old + 48 ≤ N }
-    ensures bytes { text.new ≡ text.old ++ span_text span }
-    ensures len { length text.new ≤ length text.old + 42 }
+    ensures { Adds text.old (span_text span) 42 text.new }
 {
     places.push(text, span.first);
     places.push(text, span.past);
@@ -57,8 +55,7 @@ pub(crate) fn push_span<const N: usize>(text: &mut Text<N>, places: &mut Places,
 #[inline(always)]
 fn push_cause<const N: usize>(text: &mut Text<N>, cause: Cause)
     requires { length text.old + 16 ≤ N }
-    ensures bytes { text.new ≡ text.old ++ cause_word cause }
-    ensures len { length text.new ≤ length text.old + 9 }
+    ensures { Adds text.old (cause_word cause) 9 text.new }
 {
     match cause {
         Cause::Unstuffed => text.put(*b"unstuffed       ", 9),
@@ -73,8 +70,7 @@ fn push_cause<const N: usize>(text: &mut Text<N>, cause: Cause)
 fn push_word<const N: usize>(text: &mut Text<N>, kind: EventKind, octets: &[u8])
     requires room { length text.old + 524 ≤ N }
     requires held { length octets.now ≤ 258 }
-    ensures bytes { text.new ≡ text.old ++ report_word (kind_with octets.now kind) }
-    ensures len { length text.new ≤ length text.old + 522 }
+    ensures { Adds text.old (report_word (kind_with octets.now kind)) 522 text.new }
 {
     match kind {
         EventKind::Frame => {
@@ -102,10 +98,9 @@ pub(crate) fn push_front<const N: usize>(
 )
     requires room { length text.old + 566 ≤ N }
     requires held { length octets.now ≤ 258 }
-    ensures bytes { text.new
-        ≡ text.old
-        ++ (span_text (span_of (reported octets.now event.now)) ++ report_word (reported octets.now event.now).kind) }
-    ensures len { length text.new ≤ length text.old + 564 }
+    ensures { Adds text.old
+        (span_text (span_of (reported octets.now event.now)) ++ report_word (reported octets.now event.now).kind)
+        564 text.new }
 {
     push_span(text, places, event.span);
     push_word(text, event.kind, octets);

@@ -1,6 +1,7 @@
 //! Numbers in decimal.
 
-ghost use Rattle.std.specs.Prelude.{◌≡◌, ◌+◌, ◌++◌, ◌≤◌, length, take, decimal};
+ghost use Rattle.std.specs.Prelude.{◌≡◌, ◌+◌, ◌≤◌, length, take, decimal};
+ghost use Rattle.bus_text.specs.Adds.{Adds};
 
 use crate::text::Text;
 use itoa::Buffer;
@@ -44,8 +45,7 @@ const OCTETS: [u32; 256] = [
 /// Appends a number in decimal.
 pub(crate) fn push_number<const N: usize>(text: &mut Text<N>, n: u64)
     requires { length text.old + 20 ≤ N }
-    ensures bytes { text.new ≡ text.old ++ decimal n }
-    ensures len { length text.new ≤ length text.old + 20 }
+    ensures { Adds text.old (decimal n) 20 text.new }
 {
     let mut buffer = Buffer::new();
     text.push_str(buffer.format(n));
@@ -55,8 +55,7 @@ pub(crate) fn push_number<const N: usize>(text: &mut Text<N>, n: u64)
 #[inline(always)]
 pub(crate) fn push_octet_number<const N: usize>(text: &mut Text<N>, octet: u8)
     requires { length text.old + 4 ≤ N }
-    ensures bytes { text.new ≡ text.old ++ decimal octet }
-    ensures len { length text.new ≤ length text.old + 3 }
+    ensures { Adds text.old (decimal octet) 3 text.new }
 {
     let (digits, count) = digits_of(octet);
     text.put(digits, count);

@@ -4,7 +4,7 @@ ghost use Rattle.std.specs.Prelude.{◌≡◌, ◌+◌, ◌<◌, ◌≤◌, ◌^
 ghost use Rattle.std.specs.Prelude.{length};
 ghost use Rattle.std.specs.Io.KnownBytes.{Appends};
 ghost use Rattle.bus_text.specs.Put.{Cuts};
-ghost use Rattle.bus_text.specs.Internal.Pages.{Pages};
+ghost use Rattle.bus_text.specs.Pages.{HasRoomFor, Pages};
 
 use crate::places::Places;
 use crate::put::{ShortWrite, put_text};
@@ -74,7 +74,7 @@ impl Page {
             (λ cut. Cuts start (W.contents w.new) text cut.sent) }
         ensures kept { OnErr result (self.new ≡ self.old) }
         ensures short { IfErr result (λ cut. cut.sent < self.old.written + length self.old.text) }
-        ensures room { OnOk result (length self.new.text + 2048 ≤ 16384) }
+        ensures room { OnOk result (HasRoomFor 2048 self.new) }
         ensures sum { OnOk result
             (self.new.written + length self.new.text ≡ self.old.written + length self.old.text) }
     {

@@ -2,6 +2,7 @@
 
 ghost use Rattle.std.specs.Prelude.{◌≡◌, ◌+◌, ◌*◌, ◌/◌, ◌^◌, ◌++◌, ◌<◌, ◌≤◌, ℕ, length, take, codes, decimal};
 ghost use Rattle.bus_text.specs.Internal.Fronts.{IsFront};
+ghost use Rattle.bus_text.specs.Adds.{Adds};
 
 use crate::number::push_number;
 use crate::text::Text;
@@ -63,8 +64,7 @@ impl Places {
     #[inline(always)]
     pub fn push<const N: usize>(&mut self, text: &mut Text<N>, place: u64)
         requires { length text.old + 24 ≤ N }
-        ensures bytes { text.new ≡ text.old ++ (decimal place ++ codes " ") }
-        ensures len { length text.new ≤ length text.old + 21 }
+        ensures { Adds text.old (decimal place ++ codes " ") 21 text.new }
     {
         if place < 10000 {
             push_number(text, place);

@@ -10,6 +10,8 @@ ghost use Rattle.bus_text.specs.Kinds.{kind_word};
 ghost use Rattle.bus_text.specs.Listing.{report_kind, report_line, outcome_kind, frame_line, verdict_line, begun_line};
 ghost use Rattle.bus_text.specs.Listing.{begun_lines, pending_lines, strays_at, head_part, text_of, listing, passes};
 ghost use Rattle.bus_text.specs.Listing.{station_of, line_of_commands, ending_text, ending_lines, pair_ending_lines};
+ghost use Rattle.bus_text.specs.Adds.{Adds, Prints};
+ghost use Rattle.bus_text.specs.Pages.{HasRoomFor};
 
 use crate::filter::Filter;
 use crate::head::push_head;
@@ -72,8 +74,7 @@ fn line_of_commands(line: Option<Line>) -> Option<Line>
 #[inline(always)]
 fn push_kind<const N: usize>(text: &mut Text<N>, kind: Kind)
     requires { length text.old + 16 ≤ N }
-    ensures bytes { text.new ≡ text.old ++ (kind_word kind ++ codes " ") }
-    ensures len { length text.new ≤ length text.old + 9 }
+    ensures { Adds text.old (kind_word kind ++ codes " ") 9 text.new }
 {
     let (word, count) = kind.padded();
     text.put(word, count);
@@ -82,10 +83,8 @@ fn push_kind<const N: usize>(text: &mut Text<N>, kind: Kind)
 /// Appends a line about a frame.
 #[inline(always)]
 fn push_frame(page: &mut Page, line: Option<Line>, kind: Kind, span: Span, station: u8, ftype: u8)
-    requires { length page.old.text + 100 ≤ 16384 }
-    ensures bytes { page.new.text ≡ page.old.text ++ (frame_line line kind span station ftype).text }
-    ensures len { length page.new.text ≤ length page.old.text + 100 }
-    ensures written { page.new.written ≡ page.old.written }
+    requires { HasRoomFor 100 page.old }
+    ensures { Prints page.old (frame_line line kind span station ftype).text 100 page.new }
 {
     push_line_number(&mut page.text, line);
     push_span(&mut page.text, &mut page.places, span);
@@ -97,10 +96,8 @@ fn push_frame(page: &mut Page, line: Option<Line>, kind: Kind, span: Span, stati
 /// Appends the line of a piece that has begun.
 #[inline(always)]
 fn push_begun(page: &mut Page, line: Option<Line>, span: Span)
-    requires { length page.old.text + 100 ≤ 16384 }
-    ensures bytes { page.new.text ≡ page.old.text ++ (begun_line line span).text }
-    ensures len { length page.new.text ≤ length page.old.text + 100 }
-    ensures written { page.new.written ≡ page.old.written }
+    requires { HasRoomFor 100 page.old }
+    ensures { Prints page.old (begun_line line span).text 100 page.new }
 {
     push_line_number(&mut page.text, line);
     push_span(&mut page.text, &mut page.places, span);
@@ -130,12 +127,10 @@ impl Printer {
         dictionary: &Dictionary,
         page: &mut Page,
     )
-        requires room { length page.old.text + 964 ≤ 16384 }
+        requires room { HasRoomFor 964 page.old }
         requires held { length octets.now ≤ 258 }
-        ensures bytes { page.new.text
-            ≡ page.old.text ++ listing self.now dictionary.now (found_on line octets.now finding.now ∷ []) }
-        ensures len { length page.new.text ≤ length page.old.text + 964 }
-        ensures written { page.new.written ≡ page.old.written }
+        ensures { Prints page.old (listing self.now dictionary.now (found_on line octets.now finding.now ∷ [])) 964
+            page.new }
     {
         self.put_report(line, finding, octets, dictionary, page);
         self.put_verdict(line, finding.verdict, page);
@@ -167,14 +162,12 @@ impl Printer {
         dictionary: &Dictionary,
         page: &mut Page,
     )
-        requires room { length page.old.text + 640 ≤ 16384 }
+        requires room { HasRoomFor 640 page.old }
         requires held { length octets.now ≤ 258 }
-        ensures bytes { page.new.text
-            ≡ page.old.text
-            ++ text_of self.now.filter
-            (report_line self.now.heads dictionary.now (found_on line octets.now finding.now) ∷ []) }
-        ensures len { length page.new.text ≤ length page.old.text + 629 }
-        ensures written { page.new.written ≡ page.old.written }
+        ensures { Prints page.old
+            (text_of self.now.filter
+            (report_line self.now.heads dictionary.now (found_on line octets.now finding.now) ∷ [])) 629
+            page.new }
     {
         if !self.leaves(finding) {
             return;
@@ -188,10 +181,8 @@ impl Printer {
     /// Puts a space and what the head of a frame says on the page, if there is a dictionary.
     #[inline(always)]
     fn put_head(&self, standing: Option<Standing>, dictionary: &Dictionary, page: &mut Page)
-        requires room { length page.old.text + 66 ≤ 16384 }
-        ensures bytes { page.new.text ≡ page.old.text ++ head_part self.now.heads dictionary.now standing }
-        ensures len { length page.new.text ≤ length page.old.text + 62 }
-        ensures written { page.new.written ≡ page.old.written }
+        requires room { HasRoomFor 66 page.old }
+        ensures { Prints page.old (head_part self.now.heads dictionary.now standing) 62 page.new }
     {
         let Some(standing) = standing else {
             return;
@@ -206,11 +197,10 @@ impl Printer {
     /// Puts the line of a verdict on the page, if there is one.
     #[inline(always)]
     fn put_verdict(&self, line: Option<Line>, verdict: Option<Verdict>, page: &mut Page)
-        requires room { length page.old.text + 100 ≤ 16384 }
-        ensures bytes { page.new.text
-            ≡ page.old.text ++ text_of self.now.filter (option_to_list (option_map (verdict_line line) verdict)) }
-        ensures len { length page.new.text ≤ length page.old.text + 100 }
-        ensures written { page.new.written ≡ page.old.written }
+        requires room { HasRoomFor 100 page.old }
+        ensures { Prints page.old
+            (text_of self.now.filter (option_to_list (option_map (verdict_line line) verdict))) 100
+            page.new }
     {
         let Some(verdict) = verdict else {
             return;
@@ -230,13 +220,11 @@ impl Printer {
     /// Puts the line of a stray on the page, if there is a dictionary.
     #[inline(always)]
     fn put_stray(&self, line: Option<Line>, finding: &Finding, page: &mut Page)
-        requires room { length page.old.text + 100 ≤ 16384 }
-        ensures bytes { page.new.text
-            ≡ page.old.text
-            ++ text_of self.now.filter
-            (strays_at line self.now.heads finding.now.stray finding.now.event.span finding.now.standing) }
-        ensures len { length page.new.text ≤ length page.old.text + 100 }
-        ensures written { page.new.written ≡ page.old.written }
+        requires room { HasRoomFor 100 page.old }
+        ensures { Prints page.old
+            (text_of self.now.filter
+            (strays_at line self.now.heads finding.now.stray finding.now.event.span finding.now.standing)) 100
+            page.new }
     {
         if !self.heads {
             return;
@@ -265,11 +253,9 @@ impl Printer {
         ftype: u8,
         page: &mut Page,
     )
-        requires room { length page.old.text + 100 ≤ 16384 }
-        ensures bytes { page.new.text
-            ≡ page.old.text ++ text_of self.now.filter (frame_line line kind span station ftype ∷ []) }
-        ensures len { length page.new.text ≤ length page.old.text + 100 }
-        ensures written { page.new.written ≡ page.old.written }
+        requires room { HasRoomFor 100 page.old }
+        ensures { Prints page.old (text_of self.now.filter (frame_line line kind span station ftype ∷ [])) 100
+            page.new }
     {
         if !self.filter.passes(kind, Some(station), Some(ftype)) {
             return;
@@ -279,11 +265,8 @@ impl Printer {
 
     /// Puts the line of a piece that has begun on the page, if one has.
     fn put_begun(&self, line: Option<Line>, begun: Option<Span>, page: &mut Page)
-        requires room { length page.old.text + 100 ≤ 16384 }
-        ensures bytes { page.new.text
-            ≡ page.old.text ++ text_of self.now.filter (begun_lines line begun) }
-        ensures len { length page.new.text ≤ length page.old.text + 100 }
-        ensures written { page.new.written ≡ page.old.written }
+        requires room { HasRoomFor 100 page.old }
+        ensures { Prints page.old (text_of self.now.filter (begun_lines line begun)) 100 page.new }
     {
         let Some(span) = begun else {
             return;
@@ -296,11 +279,8 @@ impl Printer {
 
     /// Puts the line of a command without a verdict on the page, if there is one.
     fn put_pending(&self, line: Option<Line>, pending: Option<Pending>, page: &mut Page)
-        requires room { length page.old.text + 100 ≤ 16384 }
-        ensures bytes { page.new.text
-            ≡ page.old.text ++ text_of self.now.filter (pending_lines line pending) }
-        ensures len { length page.new.text ≤ length page.old.text + 100 }
-        ensures written { page.new.written ≡ page.old.written }
+        requires room { HasRoomFor 100 page.old }
+        ensures { Prints page.old (text_of self.now.filter (pending_lines line pending)) 100 page.new }
     {
         let Some(command) = pending else {
             return;
@@ -317,11 +297,9 @@ impl Printer {
 
     /// Puts the lines of the end on the page.
     pub fn put_ending(&self, ending: &Ending, page: &mut Page)
-        requires room { length page.old.text + 200 ≤ 16384 }
-        ensures bytes { page.new.text
-            ≡ page.old.text ++ ending_text self.now (ending_lines ending.now.begun ending.now.pending) }
-        ensures len { length page.new.text ≤ length page.old.text + 200 }
-        ensures written { page.new.written ≡ page.old.written }
+        requires room { HasRoomFor 200 page.old }
+        ensures { Prints page.old (ending_text self.now (ending_lines ending.now.begun ending.now.pending)) 200
+            page.new }
     {
         self.put_begun(None, ending.begun, page);
         self.put_pending(None, ending.pending, page);
@@ -329,11 +307,10 @@ impl Printer {
 
     /// Puts the lines of the end of two lines on the page.
     pub fn put_pair_ending(&self, ending: &PairEnding, page: &mut Page)
-        requires room { length page.old.text + 300 ≤ 16384 }
-        ensures bytes { page.new.text ≡ page.old.text
-            ++ ending_text self.now (pair_ending_lines ending.now.first ending.now.second ending.now.pending) }
-        ensures len { length page.new.text ≤ length page.old.text + 300 }
-        ensures written { page.new.written ≡ page.old.written }
+        requires room { HasRoomFor 300 page.old }
+        ensures { Prints page.old
+            (ending_text self.now (pair_ending_lines ending.now.first ending.now.second ending.now.pending)) 300
+            page.new }
     {
         self.put_begun(Some(Line::First), ending.first, page);
         self.put_begun(Some(Line::Second), ending.second, page);

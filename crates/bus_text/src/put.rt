@@ -2,7 +2,7 @@
 
 ghost use Rattle.std.specs.Prelude.{◌≡◌, ◌+◌, ◌<◌, ◌≤◌, ◌++◌, ℕ, List, Option, OnOk, IfOk, IfErr, length, take};
 ghost use Rattle.std.specs.Io.KnownBytes.{Appends};
-ghost use Rattle.bus_text.specs.Internal.Pages.{Puts};
+ghost use Rattle.bus_text.specs.Pages.{Puts};
 
 use crate::line::FrameLine;
 use std::io::Write;

@@ -3,7 +3,8 @@
 ghost use Rattle.std.specs.Prelude.{◌≡◌, ◌+◌, ◌++◌, ◌<◌, ◌≤◌, ◌^◌, ℕ, List, Option, MatchResult, OnOk, length};
 ghost use Rattle.bus_text.specs.CheckText.{count_text, summary_text, tally_line, has_none, tally_text, last_text};
 ghost use Rattle.bus_text.specs.Put.{Cuts};
-ghost use Rattle.bus_text.specs.Internal.Pages.{Pages};
+ghost use Rattle.bus_text.specs.Pages.{HasRoomFor, Pages};
+ghost use Rattle.bus_text.specs.Adds.{Adds, Prints};
 
 use crate::hex_digits::push_hex;
 use crate::line::{push_line_number, push_span};
@@ -19,8 +20,7 @@ use std::io::Write;
 fn push_count<const N: usize>(text: &mut Text<N>, word: &str, count: u64)
     requires room { length text.old + 30 ≤ N }
     requires short { length word.now ≤ 8 }
-    ensures bytes { text.new ≡ text.old ++ count_text word.now count }
-    ensures len { length text.new ≤ length text.old + 30 }
+    ensures { Adds text.old (count_text word.now count) 30 text.new }
 {
     text.push_str(word);
     text.push(b' ');
@@ -31,8 +31,7 @@ fn push_count<const N: usize>(text: &mut Text<N>, word: &str, count: u64)
 /// Appends the ten counts, a line for each.
 fn push_summary<const N: usize>(text: &mut Text<N>, summary: &Summary)
     requires { length text.old + 300 ≤ N }
-    ensures bytes { text.new ≡ text.old ++ summary_text summary.now }
-    ensures len { length text.new ≤ length text.old + 300 }
+    ensures { Adds text.old (summary_text summary.now) 300 text.new }
 {
     push_count(text, "frames", summary.frames);
     push_count(text, "damaged", summary.damaged);
@@ -49,8 +48,7 @@ fn push_summary<const N: usize>(text: &mut Text<N>, summary: &Summary)
 /// Appends the line of a station's verdicts.
 fn push_tally<const N: usize>(text: &mut Text<N>, station: u8, counts: Counts)
     requires { length text.old + 140 ≤ N }
-    ensures bytes { text.new ≡ text.old ++ tally_line station counts }
-    ensures len { length text.new ≤ length text.old + 140 }
+    ensures { Adds text.old (tally_line station counts) 140 text.new }
 {
     text.push_str("station ");
     push_octet_number(text, station);
@@ -67,10 +65,8 @@ fn push_tally<const N: usize>(text: &mut Text<N>, station: u8, counts: Counts)
 
 /// Appends the line of a frame of the history.
 fn push_kept(page: &mut Page, line: Option<Line>, kept: &Kept)
-    requires { length page.old.text + 572 ≤ 16384 }
-    ensures bytes { page.new.text ≡ page.old.text ++ last_text line kept.now.span kept.now.octets.items }
-    ensures len { length page.new.text ≤ length page.old.text + 572 }
-    ensures written { page.new.written ≡ page.old.written }
+    requires { HasRoomFor 572 page.old }
+    ensures { Prints page.old (last_text line kept.now.span kept.now.octets.items) 572 page.new }
 {
     page.text.push_str("last ");
     push_line_number(&mut page.text, line);

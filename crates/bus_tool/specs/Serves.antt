@@ -12,8 +12,8 @@ use Rattle.bus_tool.specs.declared.arguments.Request.{Request}
 use Rattle.bus_tool.specs.declared.arguments.Request.TheVariants as request
 
 -- nothing was damaged, overlong, missing, spoilt or late
-abbrev pub IsClean : Summary → Type 0
-IsClean s = (s.damaged ≡ 0) × (s.overlong ≡ 0) × (s.missing ≡ 0) × (s.spoilt ≡ 0) × (s.late ≡ 0)
+abbrev pub IsFaultless : Summary → Type 0
+IsFaultless s = (s.damaged ≡ 0) × (s.overlong ≡ 0) × (s.missing ≡ 0) × (s.spoilt ≡ 0) × (s.late ≡ 0)
 
 -- the status of a call: 0, and 2 for any fault
 abbrev pub IsStatus : {A : Type 0} → Result A ToolFault → ℕ → Type 0
@@ -22,7 +22,7 @@ IsStatus (Err fault) status = status ≡ 2
 
 -- the status of a check: 0 if all was clean, 1 if not, and 2 for any fault
 abbrev pub IsCheckStatus : Result Summary ToolFault → ℕ → Type 0
-IsCheckStatus (Ok s) status = (status ≤ 1) × ((status ≡ 0) ↔ IsClean s)
+IsCheckStatus (Ok s) status = (status ≤ 1) × ((status ≡ 0) ↔ IsFaultless s)
 IsCheckStatus (Err fault) status = status ≡ 2
 
 -- what is asked for was done: what the reader gave before and after, what the writer had and has, and the status

@@ -89,6 +89,29 @@ impl Write for Narrow {
     }
 }
 
+/// Fails at write number `fails_at`, counted from 1, and else takes everything.
+#[derive(Drop)]
+pub struct Faltering {
+    pub octets: usize,
+    pub writes: u64,
+    pub fails_at: u64,
+}
+
+impl Write for Faltering {
+    fn write(&mut self, buf: &[u8]) -> io::Result<usize> {
+        self.writes = self.writes.saturating_add(1);
+        if self.writes == self.fails_at {
+            return Err(io::Error::from(ErrorKind::Other));
+        }
+        self.octets = self.octets.saturating_add(buf.len());
+        Ok(buf.len())
+    }
+
+    fn flush(&mut self) -> io::Result<()> {
+        Ok(())
+    }
+}
+
 /// Takes what it has room for, and asks for no memory.
 #[derive(Drop)]
 pub struct Fixed {

@@ -57,26 +57,26 @@ pub sees-heard : {C : Type 0} (folded : C → List ℕ → Type 0) (cost : ℕ) 
     (told : Option SeenReport)
     → Hears folded cost None old.decoder old.journal bits told new.decoder new.journal →
     Sees folded cost old bits (option_to_list told) new
-sees-heard folded cost old new bits told h =
-    let led = h.advances.tells.leads in
+sees-heard folded cost old new bits told hears =
+    let led = hears.advances.tells.leads in
     let same : (bs : List Bool) → line new bs ≡ line old bs = λ bs.
     ap (λ o. of_line (placed o (longest_of new.journal.dictionary) bs)) led.origin
-    ∙ ap (λ d. of_line (placed old.decoder.origin (longest_of d) bs)) h.dictionary in
+    ∙ ap (λ d. of_line (placed old.decoder.origin (longest_of d) bs)) hears.dictionary in
     let grown : (b : List Bool) → IsAfter folded cost old b →
-    line old (b ++ bits) ≡ line old b ++ heard_option None h.report = λ b t.
+    line old (b ++ bits) ≡ line old b ++ heard_option None hears.report = λ b reached.
     let before = placed old.decoder.origin (longest_of old.journal.dictionary) b in
     let more : placed old.decoder.origin (longest_of old.journal.dictionary) (b ++ bits)
-    ≡ before ++ option_to_list h.report = rw (← t.longest) (h.advances.tells.says b t.decoder) in
-    ap of_line more ∙ map-append (heard_on None) before (option_to_list h.report) in
+    ≡ before ++ option_to_list hears.report = rw (← reached.longest) (hears.advances.tells.says b reached.decoder) in
+    ap of_line more ∙ map-append (heard_on None) before (option_to_list hears.report) in
     record {
-      is_after = λ b t. record {
-        decoder = led.after b t.decoder;
-        longest = led.longest ∙ t.longest ∙ ap longest_of (sym h.dictionary);
-        journal = subst (Keeps new.journal) (sym (same (b ++ bits) ∙ grown b t)) (h.keeps (line old b) t.journal);
+      is_after = λ b reached. record {
+        decoder = led.after b reached.decoder;
+        longest = led.longest ∙ reached.longest ∙ ap longest_of (sym hears.dictionary);
+        journal = rw (same (b ++ bits), grown b reached) (hears.keeps (line old b) reached.journal);
       };
-      seen = λ b t. ap (seen old.journal.dictionary) (grown b t) ∙ h.seen (line old b) t.journal;
-      dictionary = h.dictionary;
-      depth = h.depth;
+      seen = λ b reached. ap (seen old.journal.dictionary) (grown b reached) ∙ hears.seen (line old b) reached.journal;
+      dictionary = hears.dictionary;
+      depth = hears.depth;
       origin = led.origin;
       place = led.place;
     }
@@ -86,16 +86,16 @@ pub ledger-is : {C : Type 0} (folded : C → List ℕ → Type 0) (cost : ℕ) (
     (d j : Spent) → IsAfter folded cost a b
     → IsLineLedger cost a.decoder.longest b d → j.copied ≡ a.journal.copied → j.handled ≡ a.journal.handled
     → IsLedger cost (longest_of a.journal.dictionary) b (record d { copied = j.copied; handled = j.handled })
-ledger-is folded cost a b d j s l copied handled =
+ledger-is folded cost a b d j reached ledger copied handled =
     let rs = placed a.decoder.origin (longest_of a.journal.dictionary) b in
     record {
-      bits = l.bits;
-      settled = l.settled;
-      filled = rw (← s.longest) l.filled;
-      paid = rw (← s.longest) l.paid;
-      kept = copied ∙ s.journal.copied ∙ heard-octets None rs
+      bits = ledger.bits;
+      settled = ledger.settled;
+      filled = rw (← reached.longest) ledger.filled;
+      paid = rw (← reached.longest) ledger.paid;
+      kept = copied ∙ reached.journal.copied ∙ heard-octets None rs
           ∙ octets-moved a.decoder.origin (reports (longest_of a.journal.dictionary) b);
-      reported = handled ∙ s.journal.handled ∙ heard-steps None rs
+      reported = handled ∙ reached.journal.handled ∙ heard-steps None rs
           ∙ steps-moved a.decoder.origin (reports (longest_of a.journal.dictionary) b);
     }
 
@@ -103,6 +103,6 @@ ledger-is folded cost a b d j s l copied handled =
 pub seen-before : {C : Type 0} (folded : C → List ℕ → Type 0) (cost : ℕ) (a : AnalyserState C) (bits : List Bool)
     → DecideNothing folded cost a.decoder bits
     → (b : List Bool) → IsAfter folded cost a b → seen_after a (b ++ bits) ≡ seen_after a b
-seen-before folded cost a bits calm b s =
-    let same : line a (b ++ bits) ≡ line a b = ap of_line (rw (← s.longest) (calm b s.decoder)) in
+seen-before folded cost a bits calm b reached =
+    let same : line a (b ++ bits) ≡ line a b = ap of_line (rw (← reached.longest) (calm b reached.decoder)) in
     ap (seen a.journal.dictionary) same

@@ -71,7 +71,7 @@ steps-six Kind.Idle = omega arith
 
 steps-within : (hs : List Heard) → handled_of hs ≤ 6 * length hs
 steps-within hs =
-    omega (arith, sum_by-le (λ (h : Heard). steps h.report) 6 hs (λ i d l. steps-six (get_or hs i d).report.kind))
+    omega (arith, sum_by-le (λ (h : Heard). steps h.report) 6 hs (λ i d inside. steps-six (get_or hs i d).report.kind))
 
 pub octets-moved : (origin : ℕ) (rs : List Report) → sum_by octet_count (map (moved origin) rs) ≡ sum_by octet_count rs
 octets-moved origin [] = refl
@@ -89,27 +89,27 @@ steps-moved origin (r ∷ rs) =
 tally-within : (d : List FrameType) (hs : List Heard) (station : ℕ) (c : Counts) → c ≡ tally d hs station →
     length hs ≤ 2 ^ 61 + 1
     → (c.answered + 1 < 2 ^ 64) × (c.missing + 1 < 2 ^ 64) × (c.spoilt + 1 < 2 ^ 64) × (c.late + 1 < 2 ^ 64)
-tally-within d hs station c e l =
-    let v = verdicts-length d hs in
+tally-within d hs station c is few =
+    let verdicts_within = verdicts-length d hs in
     let most : (o : Outcome) → verdicts_of o station (verdicts d hs) ≤ length (verdicts d hs) =
     λ o. count_by-le-length _ (verdicts d hs) in
-    rw e (
-      omega (arith, v, most Answered, l),
-      omega (arith, v, most Missing, l),
-      omega (arith, v, most Spoilt, l),
-      omega (arith, v, most Late, l),
+    rw is (
+      omega (arith, verdicts_within, most Answered, few),
+      omega (arith, verdicts_within, most Missing, few),
+      omega (arith, verdicts_within, most Spoilt, few),
+      omega (arith, verdicts_within, most Late, few),
     )
 
 same-Some : {X : Type 0} (x y : X) → Some x ≡ Some y → x ≡ y
-same-Some x y e = cc
+same-Some x y same = cc
 
 -- after no more reports than two lines have, all counters have room for one more
 pub room-of : (j : JournalState) (hs : List Heard) → Keeps j hs → copied_of hs ≤ 2 ^ 62 → length hs ≤ 2 ^ 61 + 1 →
     HasRoom j
-room-of j hs k octets l = record {
-  copied = omega (arith, k.copied, octets);
-  handled = omega (arith, k.handled, steps-within hs, l);
-  tally = λ s c u e. tally-within j.dictionary hs s c (same-Some c _ (sym e ∙ k.tally s u)) l;
+room-of j hs kept octets few = record {
+  copied = omega (arith, kept.copied, octets);
+  handled = omega (arith, kept.handled, steps-within hs, few);
+  tally = λ s c within is. tally-within j.dictionary hs s c (same-Some c _ (sym is ∙ kept.tally s within)) few;
 }
 
 -- the reports of a line add up as they do without it
@@ -129,10 +129,10 @@ heard-steps on (r ∷ rs) =
 pub room : {C : Type 0} (folded : C → List ℕ → Type 0) (cost : ℕ) (a : AnalyserState C) (b : List Bool) → FramesStored →
     StoredPaid → AssembledWithin
     → IsAfter folded cost a b → length b ≤ 2 ^ 60 → HasRoom a.journal
-room folded cost a b frames paid within s l =
+room folded cost a b frames paid within reached few =
     let longest = longest_of a.journal.dictionary in
     let rs = placed a.decoder.origin longest b in
-    room-of a.journal (line a b) s.journal
+    room-of a.journal (line a b) reached.journal
     (omega (
       arith,
       heard-octets None rs,
@@ -140,27 +140,27 @@ room folded cost a b frames paid within s l =
       frames longest b,
       paid longest b,
       within b,
-      l,
+      few,
     ))
-    (omega (arith, length-map rs (heard_on None), line-length a.decoder.origin longest b, l))
+    (omega (arith, length-map rs (heard_on None), line-length a.decoder.origin longest b, few))
 
 -- a frame that is due has its head and its check
 map-Some : {X Y : Type 0} (f : X → Y) (o : Option X) (y : Y) → Some y ≡ option_map f o →
     (x : X) × (o ≡ Some x) × (f x ≡ y)
-map-Some f None y e = absurd (cc)
-map-Some f (Some x) y e = (x, refl, cc)
+map-Some f None y same = absurd (cc)
+map-Some f (Some x) y same = (x, refl, cc)
 
 whole-kind : (longest : ℕ) (b : List Bool) (i : ℕ) (octets : List ℕ) (kind : EventKind) → DueIsIt → FrameIsSpelled
     → (r : Report) → due_at longest b i ≡ Some r → r.kind ≡ kind_with octets kind → IsWhole kind octets
-whole-kind longest b i octets event.Frame due spelled r e k =
-    (spelled longest b r octets ((due longest b i r).1 e).0 k).2
-whole-kind longest b i octets (event.Damaged cause) due spelled r e k = tt
-whole-kind longest b i octets event.Overlong due spelled r e k = tt
-whole-kind longest b i octets event.Abort due spelled r e k = tt
-whole-kind longest b i octets event.Idle due spelled r e k = tt
+whole-kind longest b i octets event.Frame due spelled r due_is kind_is =
+    (spelled longest b r octets ((due longest b i r).1 due_is).0 kind_is).2
+whole-kind longest b i octets (event.Damaged cause) due spelled r due_is kind_is = tt
+whole-kind longest b i octets event.Overlong due spelled r due_is kind_is = tt
+whole-kind longest b i octets event.Abort due spelled r due_is kind_is = tt
+whole-kind longest b i octets event.Idle due spelled r due_is kind_is = tt
 
 pub whole : (longest origin : ℕ) (b : List Bool) (i : ℕ) (octets : List ℕ) (e : Event) → DueIsIt → FrameIsSpelled
     → Some (reported octets e) ≡ option_map (moved origin) (due_at longest b i) → IsWhole e.kind octets
 whole longest origin b i octets e due spelled is =
-    let s = map-Some (moved origin) (due_at longest b i) (reported octets e) is in
-    whole-kind longest b i octets e.kind due spelled s.0 s.1 (ap (λ (x : Report). x.kind) s.2)
+    let found = map-Some (moved origin) (due_at longest b i) (reported octets e) is in
+    whole-kind longest b i octets e.kind due spelled found.0 found.1 (ap (λ (x : Report). x.kind) found.2)

@@ -16,7 +16,7 @@ use Rattle.bus_watch.proofs.SeenLemmas.{seen-more}
 use Rattle.bus_watch.proofs.TalkLemmas.{pending-idle, pending-talk, decided-idle, decided-talk}
 
 both-cons : {A : Type 0} (x y : A) (xs ys : List A) → x ≡ y → xs ≡ ys → x ∷ xs ≡ y ∷ ys
-both-cons x y xs ys e es = rw (e, es) refl
+both-cons x y xs ys heads tails = rw (heads, tails) refl
 
 -- what is seen of reports behind others
 abbrev behind : List FrameType → List Heard → List Heard → List SeenReport
@@ -45,31 +45,33 @@ with_verdict d h v = record {
 -- only the command that waits counts of the reports before
 decided-alike : (d : List FrameType) (a c : List Heard) (h : Heard) → pending d a ≡ pending d c →
     decided d a h ≡ decided d c h
-decided-alike d a c h e = step (is_idle h.report.kind) refl
+decided-alike d a c h same_pending = step (is_idle h.report.kind) refl
   where
     step : (b : Bool) → is_idle h.report.kind ≡ b → decided d a h ≡ decided d c h
-    step true i = decided-idle d a h i ∙ sym (decided-idle d c h i)
-    step false i =
-        decided-talk d a h i ∙ ap (option_map (verdict d (begins d h))) e ∙ sym (decided-talk d c h i)
+    step true kind_is = decided-idle d a h kind_is ∙ sym (decided-idle d c h kind_is)
+    step false kind_is =
+        decided-talk d a h kind_is ∙ ap (option_map (verdict d (begins d h))) same_pending
+        ∙ sym (decided-talk d c h kind_is)
 
 pending-alike : (d : List FrameType) (a c : List Heard) (h : Heard) → pending d a ≡ pending d c →
     pending d (a ++ h ∷ []) ≡ pending d (c ++ h ∷ [])
-pending-alike d a c h e = step (is_idle h.report.kind) refl
+pending-alike d a c h same_pending = step (is_idle h.report.kind) refl
   where
     step : (b : Bool) → is_idle h.report.kind ≡ b → pending d (a ++ h ∷ []) ≡ pending d (c ++ h ∷ [])
-    step true i = pending-idle d a h i ∙ e ∙ sym (pending-idle d c h i)
-    step false i = pending-talk d a h i ∙ sym (pending-talk d c h i)
+    step true kind_is = pending-idle d a h kind_is ∙ same_pending ∙ sym (pending-idle d c h kind_is)
+    step false kind_is = pending-talk d a h kind_is ∙ sym (pending-talk d c h kind_is)
 
 behind-alike : (d : List FrameType) (a c hs : List Heard) → pending d a ≡ pending d c → behind d a hs ≡ behind d c hs
-behind-alike d a c [] e = refl
-behind-alike d a c (h ∷ hs) e =
-    both-cons _ _ _ _ (ap (with_verdict d h) (decided-alike d a c h e))
-    (behind-alike d (a ++ h ∷ []) (c ++ h ∷ []) hs (pending-alike d a c h e))
+behind-alike d a c [] same_pending = refl
+behind-alike d a c (h ∷ hs) same_pending =
+    both-cons _ _ _ _ (ap (with_verdict d h) (decided-alike d a c h same_pending))
+    (behind-alike d (a ++ h ∷ []) (c ++ h ∷ []) hs (pending-alike d a c h same_pending))
 
 pub loses-nothing : CutLosesNothing
-loses-nothing d before hs e =
+loses-nothing d before hs none_waits =
     seen-behind d before hs
-    ∙ ap (λ (ss : List SeenReport). seen d before ++ ss) (behind-alike d before [] hs e ∙ sym (seen-behind d [] hs))
+    ∙ ap (λ (ss : List SeenReport). seen d before ++ ss)
+    (behind-alike d before [] hs none_waits ∙ sym (seen-behind d [] hs))
 
 behind-append : (d : List FrameType) (before xs ys : List Heard) →
     behind d before (xs ++ ys) ≡ behind d before xs ++ behind d (before ++ xs) ys
@@ -81,49 +83,49 @@ behind-append d before (x ∷ xs) ys =
 
 -- where all are idle lines, so is the first, and the others are
 idle-first : (h : Heard) (hs : List Heard) → talk (h ∷ hs) ≡ [] → (is_idle h.report.kind ≡ true) × (talk hs ≡ [])
-idle-first h hs e = step (is_idle h.report.kind) refl
+idle-first h hs all_idle = step (is_idle h.report.kind) refl
   where
     step : (b : Bool) → is_idle h.report.kind ≡ b → (is_idle h.report.kind ≡ true) × (talk hs ≡ [])
-    step true i = (i, rw i at e)
-    step false i = absurd (omega (arith, ap (length {A = Heard}) (rw i at e)))
+    step true kind_is = (kind_is, rw kind_is at all_idle)
+    step false kind_is = absurd (omega (arith, ap (length {A = Heard}) (rw kind_is at all_idle)))
 
 behind-idles : (d : List FrameType) (a c hs : List Heard) → talk hs ≡ [] → behind d a hs ≡ behind d c hs
-behind-idles d a c [] e = refl
-behind-idles d a c (h ∷ hs) e =
-    let i = idle-first h hs e in
+behind-idles d a c [] all_idle = refl
+behind-idles d a c (h ∷ hs) all_idle =
+    let parts = idle-first h hs all_idle in
     both-cons _ _ _ _
-    (ap (with_verdict d h) (decided-idle d a h i.0 ∙ sym (decided-idle d c h i.0)))
-    (behind-idles d (a ++ h ∷ []) (c ++ h ∷ []) hs i.1)
+    (ap (with_verdict d h) (decided-idle d a h parts.0 ∙ sym (decided-idle d c h parts.0)))
+    (behind-idles d (a ++ h ∷ []) (c ++ h ∷ []) hs parts.1)
 
 pending-idles : (d : List FrameType) (before hs : List Heard) → talk hs ≡ [] →
     pending d (before ++ hs) ≡ pending d before
-pending-idles d before [] e = ap (pending d) (append-nil before)
-pending-idles d before (h ∷ hs) e =
-    let i = idle-first h hs e in
+pending-idles d before [] all_idle = ap (pending d) (append-nil before)
+pending-idles d before (h ∷ hs) all_idle =
+    let parts = idle-first h hs all_idle in
     ap (pending d) (sym (append_assoc before (h ∷ []) hs))
-    ∙ pending-idles d (before ++ h ∷ []) hs i.1
-    ∙ pending-idle d before h i.0
+    ∙ pending-idles d (before ++ h ∷ []) hs parts.1
+    ∙ pending-idle d before h parts.0
 
 pub loses-verdict : CutLosesVerdict
-loses-verdict d before idles rest h t i =
+loses-verdict d before idles rest h all_idle talks =
     let same = behind-alike d (idles ++ h ∷ []) ((before ++ idles) ++ h ∷ []) rest
-    (pending-talk d idles h i ∙ sym (pending-talk d (before ++ idles) h i)) in
-    let none : pending d idles ≡ None = pending-idles d [] idles t in
+    (pending-talk d idles h talks ∙ sym (pending-talk d (before ++ idles) h talks)) in
+    let none : pending d idles ≡ None = pending-idles d [] idles all_idle in
     record {
       others = behind d ((before ++ idles) ++ h ∷ []) rest;
       whole = seen-behind d before (idles ++ h ∷ rest)
           ∙ ap (λ (ss : List SeenReport). seen d before ++ ss)
           (behind-append d before idles (h ∷ rest)
           ∙ ap (λ (ss : List SeenReport). ss ++ behind d (before ++ idles) (h ∷ rest))
-          (behind-idles d before [] idles t ∙ sym (seen-behind d [] idles)));
+          (behind-idles d before [] idles all_idle ∙ sym (seen-behind d [] idles)));
       alone = seen-behind d [] (idles ++ h ∷ rest)
           ∙ behind-append d [] idles (h ∷ rest)
           ∙ ap (λ (ss : List SeenReport). ss ++ seen_of d idles h ∷ behind d (idles ++ h ∷ []) rest)
           (sym (seen-behind d [] idles))
           ∙ ap (λ (ss : List SeenReport). seen d idles ++ seen_of d idles h ∷ ss) same;
-      verdict = decided-talk d (before ++ idles) h i
-          ∙ ap (option_map (verdict d (begins d h))) (pending-idles d before idles t);
-      none = decided-talk d idles h i ∙ ap (option_map (verdict d (begins d h))) none;
+      verdict = decided-talk d (before ++ idles) h talks
+          ∙ ap (option_map (verdict d (begins d h))) (pending-idles d before idles all_idle);
+      none = decided-talk d idles h talks ∙ ap (option_map (verdict d (begins d h))) none;
     }
 
 moved-twice : (m n : ℕ) (rs : List Report) → map (moved m) (map (moved n) rs) ≡ map (moved (m + n)) rs
@@ -145,7 +147,7 @@ placed-cut cut longest origin u t =
     (moved-twice origin (length u) (reports longest (flag ++ t)))
 
 pub flag-loses-nothing : CutAtFlag → FlagLosesNothing
-flag-loses-nothing cut d longest origin u t e =
+flag-loses-nothing cut d longest origin u t none_waits =
     ap (seen d) (placed-cut cut longest origin u t)
     ∙ loses-nothing d (of_line (placed origin longest (u ++ flag)))
-    (of_line (placed (origin + length u) longest (flag ++ t))) e
+    (of_line (placed (origin + length u) longest (flag ++ t))) none_waits

@@ -23,13 +23,13 @@ use Rattle.bus_watch.specs.declared.fault.RunFault.TheVariants.{Feed}
 pub made : {A : Type 0} (r : Result A NewFault) (a : A) (depth origin : ℕ) → r ≡ Ok a
     → (r ≡ Err DepthRange) ↔ ((depth < 1) ⊎ (1024 < depth)) →
     (r ≡ Err Origin) ↔ ((1 ≤ depth) × (depth ≤ 1024) × (2 ^ 60 < origin)) → CanBeMade depth origin
-made r a depth origin is d o =
+made r a depth origin is depth_refused origin_refused =
     elim (cases_lt depth 1) [
-      | inl l ↦ absurd (let e = d.1 (inl l) in cc)
+      | inl refused ↦ absurd (let same = depth_refused.1 (inl refused) in cc)
       | inr some ↦ elim (cases_lt 1024 depth) [
-        | inl l ↦ absurd (let e = d.1 (inr l) in cc)
+        | inl refused ↦ absurd (let same = depth_refused.1 (inr refused) in cc)
         | inr most ↦ elim (cases_lt (2 ^ 60) origin) [
-          | inl l ↦ absurd (let e = o.1 (some, most, l) in cc)
+          | inl refused ↦ absurd (let same = origin_refused.1 (some, most, refused) in cc)
           | inr near ↦ (some, most, near)
         ]
       ]
@@ -43,7 +43,7 @@ pub feed-fails : {A : Type 0} (r : Result A FeedFault) (fault : FeedFault) (dept
 feed-fails r PlaceLimit depth origin count Stopped is can limit stopped = (can, limit.0 is)
 feed-fails r (Sink consumed) depth origin count Stopped is can limit stopped =
     elim (cases_lt (2 ^ 60) (origin + count)) [
-      | inl l ↦ absurd (let e = limit.1 l in cc)
+      | inl far ↦ absurd (let same = limit.1 far in cc)
       | inr near ↦ (can, near, stopped)
     ]
 
@@ -62,15 +62,15 @@ all_seen-length are d origin b =
 pub seen-within : SeenAreReports → ReportsGrow → (d : List FrameType) (origin n : ℕ) (b : List Bool) →
     length (all_seen d origin (take n b)) ≤ length (all_seen d origin b)
 seen-within are grow d origin n b =
-    let g = grow (longest_of d) (take n b) (drop n b) in
-    let e : reports (longest_of d) b ≡ reports (longest_of d) (take n b) ++ g.0 =
-    ap (reports (longest_of d)) (sym (take-append-drop n b)) ∙ g.1 in
+    let grown = grow (longest_of d) (take n b) (drop n b) in
+    let whole : reports (longest_of d) b ≡ reports (longest_of d) (take n b) ++ grown.0 =
+    ap (reports (longest_of d)) (sym (take-append-drop n b)) ∙ grown.1 in
     omega (
       arith,
       all_seen-length are d origin b,
       all_seen-length are d origin (take n b),
-      ap length e,
-      length-append (reports (longest_of d) (take n b)) g.0,
+      ap length whole,
+      length-append (reports (longest_of d) (take n b)) grown.0,
     )
 
 -- a full log lacks one report at least
@@ -78,20 +78,20 @@ pub log-lacks : {S : Type 0} (taken : S → Option (List SeenReport)) → SeenAr
     (d : List FrameType) (origin room : ℕ) (b : List Bool) (s t : S) (consumed : ℕ) (rs : List SeenReport)
     → taken s ≡ Some [] → taken t ≡ Some rs → length rs ≡ room → StoppedAt taken d origin b s t consumed →
     room < length (all_seen d origin b)
-log-lacks taken are grow d origin room b s t consumed rs start end full h =
-    let took : Some rs ≡ Some (all_seen d origin (take (consumed - 1) b)) = sym end ∙ (h.took ∙ rw start refl) in
+log-lacks taken are grow d origin room b s t consumed rs start end full stopped =
+    let took : Some rs ≡ Some (all_seen d origin (take (consumed - 1) b)) = sym end ∙ (stopped.took ∙ rw start refl) in
     let same : rs ≡ all_seen d origin (take (consumed - 1) b) = cc in
     omega (
       arith,
       full,
       ap length same,
-      ap length h.refused,
-      length-append (all_seen d origin (take (consumed - 1) b)) (h.lost ∷ []),
+      ap length stopped.refused,
+      length-append (all_seen d origin (take (consumed - 1) b)) (stopped.lost ∷ []),
       seen-within are grow d origin consumed b,
     )
 
 -- what follows from two facts of a sink's fault
 pub for-sink : (fault : FeedFault) {P Q R : ℕ → Type 0} → ((n : ℕ) → P n → Q n → R n) → ForSink fault P →
     ForSink fault Q → ForSink fault R
-for-sink PlaceLimit f p q = tt
-for-sink (Sink consumed) f p q = f consumed p q
+for-sink PlaceLimit both first second = tt
+for-sink (Sink consumed) both first second = both consumed first second

@@ -30,12 +30,12 @@ pub record IsAlike {A X : Type 0} (w : Watch A X) (a e : A) : Type 0 where
 pub runs-alike : {A X : Type 0} (w : Watch A X) (start end : A) (pieces : List (List X))
     (tolds : List (List SeenReport)) → Runs w start pieces tolds end → IsAlike w start end
 runs-alike w start _ _ _ (ended a) = record { dictionary = refl; depth = refl; origin = refl }
-runs-alike w start end _ _ (called a c e xs told pieces tolds h r) =
-    let rest = runs-alike w c e pieces tolds r in
+runs-alike w start end _ _ (called a c e xs told pieces tolds leads runs) =
+    let rest = runs-alike w c e pieces tolds runs in
     record {
-      dictionary = rest.dictionary ∙ h.dictionary;
-      depth = rest.depth ∙ h.depth;
-      origin = rest.origin ∙ h.origin;
+      dictionary = rest.dictionary ∙ leads.dictionary;
+      depth = rest.depth ∙ leads.depth;
+      origin = rest.origin ∙ leads.origin;
     }
 
 -- what the getters answer that a usage is made of
@@ -53,9 +53,9 @@ pub record Answers {C : Type 0} (folded : C → List ℕ → Type 0) (cost : ℕ
 
 pub whole-run : {C : Type 0} (folded : C → List ℕ → Type 0) (cost : ℕ) (e : AnalyserState C) (u : Usage) →
     AnyCut folded cost → ReportsAre → SeenAreReports → Answers folded cost e u → WholeRun folded cost e u
-whole-run folded cost e u cut are in-order h = λ start pieces tolds s r.
-    let alike = runs-alike (one_line folded cost) start e pieces tolds r in
-    let both = cut start e pieces tolds s r in
+whole-run folded cost e u cut are in-order answers = λ start pieces tolds new runs.
+    let alike = runs-alike (one_line folded cost) start e pieces tolds runs in
+    let both = cut start e pieces tolds new runs in
     let is_after = both.0 in
     let b = joined pieces in
     let all_told = both.1 ∙ sym (same-seen (one_line folded cost) start e b alike.dictionary alike.origin) in
@@ -68,21 +68,21 @@ whole-run folded cost e u cut are in-order h = λ start pieces tolds s r.
         ap (map heard_in) all_told ∙ in-order e.journal.dictionary
             (of_line (placed e.decoder.origin (longest_of e.journal.dictionary) b)),
       );
-      buffer_bound = h.room;
-      buffered = h.buffered _ is_after;
+      buffer_bound = answers.room;
+      buffered = answers.buffered _ is_after;
       history = is_after.journal.history;
-      history_len = h.kept _ is_after ∙ ap length (sym is_after.journal.history);
-      history_bound = h.deep;
-      ledger = h.ledger _ is_after;
-      seventeen = h.seventeen _ is_after;
-      four = h.four _ is_after;
-      three = λ one. h.three one _ is_after;
+      history_len = answers.kept _ is_after ∙ ap length (sym is_after.journal.history);
+      history_bound = answers.deep;
+      ledger = answers.ledger _ is_after;
+      seventeen = answers.seventeen _ is_after;
+      four = answers.four _ is_after;
+      three = λ one. answers.three one _ is_after;
     })
 
 -- one piece more
 pub pieces-more : (ps : List (Bor (List Bool))) (i : ℕ) (d : Bor (List Bool)) → i < length ps →
     bits_in (take (i + 1) ps) ≡ bits_in (take i ps) ++ (get_or ps i d).now
-pieces-more ps i d l = ap bits_in (take_more ps i d l)
+pieces-more ps i d inside = ap bits_in (take_more ps i d inside)
     ∙ sym (flat_map_more (λ (p : Bor (List Bool)). p.now) [] (take i ps) (get_or ps i d))
 
 -- the first pieces and the others
@@ -96,41 +96,41 @@ pieces-split ps i =
 -- and one of them
 pub pieces-one : (ps : List (Bor (List Bool))) (i : ℕ) (d : Bor (List Bool)) → i < length ps →
     length (bits_in (take i ps)) + length (get_or ps i d).now ≤ length (bits_in ps)
-pieces-one ps i d l =
+pieces-one ps i d inside =
     omega (
       arith,
       pieces-split ps (i + 1),
-      ap length (pieces-more ps i d l),
+      ap length (pieces-more ps i d inside),
       length-append (bits_in (take i ps)) (get_or ps i d).now,
     )
 
 -- all bits, at one piece
 pub pieces-at : (ps : List (Bor (List Bool))) (i : ℕ) (d : Bor (List Bool)) → i < length ps →
     bits_in ps ≡ (bits_in (take i ps) ++ (get_or ps i d).now) ++ bits_in (drop (i + 1) ps)
-pieces-at ps i d l =
+pieces-at ps i d inside =
     ap bits_in (sym (take-append-drop (i + 1) ps))
     ∙ (flat_map-append (λ (p : Bor (List Bool)). p.now) (take (i + 1) ps) (drop (i + 1) ps)
-    ∙ ap (λ bs. bs ++ bits_in (drop (i + 1) ps)) (pieces-more ps i d l))
+    ∙ ap (λ bs. bs ++ bits_in (drop (i + 1) ps)) (pieces-more ps i d inside))
 
 -- what was fed to a new analyser is a whole run
 pub fed-headline : {C S : Type 0} (folded : C → List ℕ → Type 0) (cost : ℕ) (taken : S → Option (List SeenReport))
     (a e : AnalyserState C) (b : List Bool) (s t : S) (u : Usage)
     → IsAfter folded cost a [] → (f : Fed folded cost taken a b e s t) → WholeRun folded cost e u →
     Headline cost a.journal.dictionary a.journal.depth a.decoder.origin b f.seen e.journal.history u
-fed-headline folded cost taken a e b s t u new f whole =
+fed-headline folded cost taken a e b s t u new fed whole =
     let d = a.journal.dictionary in
     let depth = a.journal.depth in
     let origin = a.decoder.origin in
-    let h = whole a (b ∷ []) (f.seen ∷ []) new (called a e e b f.seen [] [] f.sees (ended e)) in
-    subst (λ x. Headline cost d depth origin x f.seen e.journal.history u) (append-nil b)
-    (subst (λ y. Headline cost d depth origin (b ++ []) y e.journal.history u) (append-nil f.seen) h)
+    let headline = whole a (b ∷ []) (fed.seen ∷ []) new (called a e e b fed.seen [] [] fed.sees (ended e)) in
+    subst (λ x. Headline cost d depth origin x fed.seen e.journal.history u) (append-nil b)
+    (subst (λ y. Headline cost d depth origin (b ++ []) y e.journal.history u) (append-nil fed.seen) headline)
 
 -- what a new analyser saw of all it was fed
 pub fed-seen : {C S : Type 0} (folded : C → List ℕ → Type 0) (cost : ℕ) (taken : S → Option (List SeenReport))
     (a e : AnalyserState C) (b : List Bool) (s t : S)
     → IsAfter folded cost a [] → (f : Fed folded cost taken a b e s t) →
     f.seen ≡ all_seen a.journal.dictionary a.decoder.origin b
-fed-seen folded cost taken a e b s t new f = sym (f.sees.seen [] new)
+fed-seen folded cost taken a e b s t new fed = sym (fed.sees.seen [] new)
 
 -- where a sink refused a report of what a new analyser was fed
 pub stopped : {C S : Type 0} (folded : C → List ℕ → Type 0) (cost : ℕ) (taken : S → Option (List SeenReport))
@@ -138,18 +138,18 @@ pub stopped : {C S : Type 0} (folded : C → List ℕ → Type 0) (cost : ℕ) (
     → IsAfter folded cost a [] → RefusedAt folded cost taken a b consumed e s t →
     StoppedAt taken a.journal.dictionary a.decoder.origin b s t consumed
 stopped folded cost taken a e b s t consumed new at =
-    let r = at.refused in
+    let refused = at.refused in
     let d = a.journal.dictionary in
     let origin = a.decoder.origin in
-    let n : length (take consumed b) - 1 ≡ consumed - 1 = omega (arith, at.within, length-take consumed b) in
+    let count : length (take consumed b) - 1 ≡ consumed - 1 = omega (arith, at.within, length-take consumed b) in
     let front : take (length (take consumed b) - 1) (take consumed b) ≡ take (consumed - 1) b =
-    ap (λ k. take k (take consumed b)) n ∙ take-take (consumed - 1) consumed b (omega arith) in
-    let before : all_seen d origin (take (consumed - 1) b) ≡ r.seen =
-    ap (all_seen d origin) (sym front) ∙ r.front [] new in
+    ap (λ k. take k (take consumed b)) count ∙ take-take (consumed - 1) consumed b (omega arith) in
+    let before : all_seen d origin (take (consumed - 1) b) ≡ refused.seen =
+    ap (all_seen d origin) (sym front) ∙ refused.front [] new in
     record {
       some = at.some;
       within = at.within;
-      took = r.took ∙ ap (told (taken s)) (sym before);
-      lost = r.lost;
-      refused = r.sees.seen [] new ∙ ap (λ xs. xs ++ r.lost ∷ []) (sym before);
+      took = refused.took ∙ ap (told (taken s)) (sym before);
+      lost = refused.lost;
+      refused = refused.sees.seen [] new ∙ ap (λ xs. xs ++ refused.lost ∷ []) (sym before);
     }

@@ -44,11 +44,11 @@ tally-of vs station = record {
 
 same-counts : (a b : Counts) → a.answered ≡ b.answered → a.missing ≡ b.missing → a.spoilt ≡ b.spoilt → a.late ≡ b.late →
     a ≡ b
-same-counts a b e f g h = one b.answered b.missing b.spoilt b.late e f g h
+same-counts a b answered missing spoilt late = one b.answered b.missing b.spoilt b.late answered missing spoilt late
   where
     one : (x y z w : ℕ) → a.answered ≡ x → a.missing ≡ y → a.spoilt ≡ z → a.late ≡ w →
         a ≡ record { answered = x; missing = y; spoilt = z; late = w }
-    one x y z w e f g h = rw (← e, ← f, ← g, ← h) refl
+    one x y z w answered missing spoilt late = rw (← answered, ← missing, ← spoilt, ← late) refl
 
 abbrev added : Outcome → Bool → Counts → Counts
 added o b c =
@@ -103,12 +103,12 @@ keep_last-map f n xs = sym (drop-map f (length xs - n) xs) ∙ ap (λ k. drop (k
 
 pub keep-frame : (n : ℕ) (ks : List PairKept) (k : PairKept) (f : KeptFrame) → kept_pair k ≡ f →
     map kept_pair (keep_last n (ks ++ k ∷ [])) ≡ keep_last n (map kept_pair ks ++ f ∷ [])
-keep-frame n ks k f e = keep_last-map kept_pair n (ks ++ k ∷ [])
-    ∙ ap (keep_last n) (map-append kept_pair ks (k ∷ []) ∙ ap (λ g. map kept_pair ks ++ g ∷ []) e)
+keep-frame n ks k f same = keep_last-map kept_pair n (ks ++ k ∷ [])
+    ∙ ap (keep_last n) (map-append kept_pair ks (k ∷ []) ∙ ap (λ g. map kept_pair ks ++ g ∷ []) same)
 
 pub slice_get-replicate : {X : Type 0} (n : ℕ) (x : X) (i : ℕ) → i < n → slice_get (replicate n x) i ≡ Some x
-slice_get-replicate n x i l = slice_get-get_or (replicate n x) i x (omega (arith, length-replicate n x))
-    ∙ ap Some (get_or-replicate n i x x l)
+slice_get-replicate n x i within = slice_get-get_or (replicate n x) i x (omega (arith, length-replicate n x))
+    ∙ ap Some (get_or-replicate n i x x within)
 
 frames-more : (rs : List Heard) (r : Heard) → frames (rs ++ r ∷ []) ≡ frames rs ++ cons_option (frame_of r) []
 frames-more rs r = filter_map-append frame_of rs (r ∷ [])
@@ -132,8 +132,8 @@ pending-more d rs r = step (is_idle r.report.kind) refl
   where
     step : (b : Bool) → is_idle r.report.kind ≡ b → (if is_idle r.report.kind then pending d rs else waits d r)
         ≡ pending d (rs ++ r ∷ [])
-    step true e = rw e (sym (pending-idle d rs r e))
-    step false e = rw e (sym (pending-talk d rs r e))
+    step true kind_is = rw kind_is (sym (pending-idle d rs r kind_is))
+    step false kind_is = rw kind_is (sym (pending-talk d rs r kind_is))
 
 -- what a report changes in a journal
 pub record Takes (old new : JournalState) (r : Heard) (verdict : Option Verdict) : Type 0 where
@@ -147,19 +147,20 @@ pub record Takes (old new : JournalState) (r : Heard) (verdict : Option Verdict)
 
 pub keeps-more : (old new : JournalState) (rs : List Heard) (r : Heard) → Keeps old rs →
     Takes old new r (decided old.dictionary rs r) → Keeps new (rs ++ r ∷ [])
-keeps-more old new rs r k t = record {
-  history = t.history ∙ ap (λ h. keeping old.depth h (frame_of r)) k.history ∙ sym (history-more old.depth rs r)
-      ∙ ap (λ n. history n (rs ++ r ∷ [])) (sym t.depth);
-  waiting = t.waiting ∙ ap (λ w. if is_idle r.report.kind then w else waits old.dictionary r) k.waiting
-      ∙ pending-more old.dictionary rs r ∙ ap (λ d. pending d (rs ++ r ∷ [])) (sym t.dictionary);
-  tally = λ station l. t.tally station _ (k.tally station l)
+keeps-more old new rs r kept takes = record {
+  history = takes.history ∙ ap (λ h. keeping old.depth h (frame_of r)) kept.history ∙ sym (history-more old.depth rs r)
+      ∙ ap (λ n. history n (rs ++ r ∷ [])) (sym takes.depth);
+  waiting = takes.waiting ∙ ap (λ w. if is_idle r.report.kind then w else waits old.dictionary r) kept.waiting
+      ∙ pending-more old.dictionary rs r ∙ ap (λ d. pending d (rs ++ r ∷ [])) (sym takes.dictionary);
+  tally = λ station within. takes.tally station _ (kept.tally station within)
       ∙ ap Some (sym (tally-more old.dictionary rs r station)
-      ∙ ap (λ d. tally d (rs ++ r ∷ []) station) (sym t.dictionary));
+      ∙ ap (λ d. tally d (rs ++ r ∷ []) station) (sym takes.dictionary));
   copied =
-      t.copied ∙ (ap (λ n. n + octet_count r.report) k.copied
+      takes.copied ∙ (ap (λ n. n + octet_count r.report) kept.copied
       ∙ sym (sum_by_push (λ (h : Heard). octet_count h.report) rs r));
   handled =
-      t.handled ∙ (ap (λ n. n + steps r.report) k.handled ∙ sym (sum_by_push (λ (h : Heard). steps h.report) rs r));
+      takes.handled ∙ (ap (λ n. n + steps r.report) kept.handled
+      ∙ sym (sum_by_push (λ (h : Heard). steps h.report) rs r));
 }
 
 -- neither the history nor the command that waits hears of this kind
@@ -170,56 +171,56 @@ pub record IsQuiet (d : List FrameType) (kind : Kind) : Type 0 where
   pub three : kind_steps kind ≡ 3
 
 pub damage-quiet : (d : List FrameType) (kind : Kind) → is_damage kind ≡ true → (is_idle kind ≡ false) × IsQuiet d kind
-damage-quiet d (Frame octets) h = absurd (cc)
-damage-quiet d (Damaged cause) h =
+damage-quiet d (Frame octets) damage = absurd (cc)
+damage-quiet d (Damaged cause) damage =
     (refl, record { no_frame = λ line span. refl; no_standing = refl; no_octets = refl; three = refl })
-damage-quiet d Overlong h =
+damage-quiet d Overlong damage =
     (refl, record { no_frame = λ line span. refl; no_standing = refl; no_octets = refl; three = refl })
-damage-quiet d Abort h =
+damage-quiet d Abort damage =
     (refl, record { no_frame = λ line span. refl; no_standing = refl; no_octets = refl; three = refl })
-damage-quiet d Idle h = absurd (cc)
+damage-quiet d Idle damage = absurd (cc)
 
 pub idle-quiet : (d : List FrameType) (kind : Kind) → is_idle kind ≡ true → IsQuiet d kind
-idle-quiet d Idle h = record { no_frame = λ line span. refl; no_standing = refl; no_octets = refl; three = refl }
-idle-quiet d (Frame octets) h = absurd (cc)
-idle-quiet d (Damaged cause) h = absurd (cc)
-idle-quiet d Overlong h = absurd (cc)
-idle-quiet d Abort h = absurd (cc)
+idle-quiet d Idle idle = record { no_frame = λ line span. refl; no_standing = refl; no_octets = refl; three = refl }
+idle-quiet d (Frame octets) idle = absurd (cc)
+idle-quiet d (Damaged cause) idle = absurd (cc)
+idle-quiet d Overlong idle = absurd (cc)
+idle-quiet d Abort idle = absurd (cc)
 
 -- what a piece that is no frame changes
 pub keeps-damage : (old new : JournalState) (rs : List Heard) (r : Heard) → Keeps old rs →
     is_damage r.report.kind ≡ true
     → new ≡ record old { waiting = None; tally = new.tally; handled = new.handled } → new.handled ≡ old.handled + 3 →
     Counted (option_map (verdict old.dictionary None) old.waiting) old.tally new.tally → Keeps new (rs ++ r ∷ [])
-keeps-damage old new rs r k h e n t =
-    let q = damage-quiet old.dictionary r.report.kind h in
+keeps-damage old new rs r kept damage is three_steps verdict_counted =
+    let quiet = damage-quiet old.dictionary r.report.kind damage in
     let j : JournalState = record old { waiting = None; tally = new.tally; handled = new.handled } in
     let judged : option_map (verdict old.dictionary None) old.waiting ≡ decided old.dictionary rs r =
-    rw (decided-talk old.dictionary rs r q.0, q.1.no_standing, k.waiting) refl in
-    subst (λ j. Keeps j (rs ++ r ∷ [])) (sym e) (keeps-more old j rs r k (record {
+    rw (decided-talk old.dictionary rs r quiet.0, quiet.1.no_standing, kept.waiting) refl in
+    subst (λ j. Keeps j (rs ++ r ∷ [])) (sym is) (keeps-more old j rs r kept (record {
       dictionary = refl;
       depth = refl;
-      history = rw (q.1.no_frame) refl;
-      waiting = rw (q.0, q.1.no_standing) refl;
-      tally = subst (λ v. Counted v old.tally new.tally) judged t;
-      copied = rw (q.1.no_octets) (omega arith);
-      handled = rw (q.1.three) n;
+      history = rw (quiet.1.no_frame) refl;
+      waiting = rw (quiet.0, quiet.1.no_standing) refl;
+      tally = subst (λ v. Counted v old.tally new.tally) judged verdict_counted;
+      copied = rw (quiet.1.no_octets) (omega arith);
+      handled = rw (quiet.1.three) three_steps;
     }))
 
 -- and what an idle changes
 pub keeps-idle : (old new : JournalState) (rs : List Heard) (r : Heard) → Keeps old rs → is_idle r.report.kind ≡ true
     → new ≡ record old { handled = new.handled } → new.handled ≡ old.handled + 3 → Keeps new (rs ++ r ∷ [])
-keeps-idle old new rs r k h e n =
-    let q = idle-quiet old.dictionary r.report.kind h in
+keeps-idle old new rs r kept idle is three_steps =
+    let quiet = idle-quiet old.dictionary r.report.kind idle in
     let j : JournalState = record old { handled = new.handled } in
-    subst (λ j. Keeps j (rs ++ r ∷ [])) (sym e) (keeps-more old j rs r k (record {
+    subst (λ j. Keeps j (rs ++ r ∷ [])) (sym is) (keeps-more old j rs r kept (record {
       dictionary = refl;
       depth = refl;
-      history = rw (q.no_frame) refl;
-      waiting = rw h refl;
-      tally = rw (decided-idle old.dictionary rs r h) (λ station c l. l);
-      copied = rw (q.no_octets) (omega arith);
-      handled = rw (q.three) n;
+      history = rw (quiet.no_frame) refl;
+      waiting = rw idle refl;
+      tally = rw (decided-idle old.dictionary rs r idle) (λ station c same. same);
+      copied = rw (quiet.no_octets) (omega arith);
+      handled = rw (quiet.three) three_steps;
     }))
 
 -- what a frame changes
@@ -240,29 +241,18 @@ pub keeps-frame : (old new : JournalState) (rs : List Heard) (line : Option Line
     → Counted (option_map (verdict old.dictionary (Some (line, span.first, standing octets old.dictionary)))
     old.waiting) old.tally new.tally
     → Keeps new (rs ++ heard_on line (record { kind = Frame octets; first = span.first; past = span.past }) ∷ [])
-keeps-frame old new rs line span octets k e n m t =
+keeps-frame old new rs line span octets kept is octets_copied six_steps verdict_counted =
     let r : Heard = heard_on line (record { kind = Frame octets; first = span.first; past = span.past }) in
     let judged : option_map (verdict old.dictionary (Some (line, span.first, standing octets old.dictionary)))
-    old.waiting ≡ decided old.dictionary rs r = rw (decided-talk old.dictionary rs r refl, k.waiting) refl in
-    let j : JournalState =
-    record old {
-      history = keep_last old.depth
-          (old.history ++ record { line = line_of line; span = span; octets = octets } ∷ []);
-      waiting =
-          command_on line old.dictionary span (standing octets old.dictionary);
-      tally = new.tally;
-      copied =
-          new.copied;
-      handled = new.handled;
-    } in
-    subst (λ j. Keeps j (rs ++ r ∷ [])) (sym e) (keeps-more old j rs r k (record {
+    old.waiting ≡ decided old.dictionary rs r = rw (decided-talk old.dictionary rs r refl, kept.waiting) refl in
+    rw is (keeps-more old _ rs r kept (record {
       dictionary = refl;
       depth = refl;
       history = refl;
       waiting = refl;
-      tally = subst (λ v. Counted v old.tally new.tally) judged t;
-      copied = n;
-      handled = m;
+      tally = subst (λ v. Counted v old.tally new.tally) judged verdict_counted;
+      copied = octets_copied;
+      handled = six_steps;
     }))
 
 -- frames of the only line count as the first's
@@ -271,38 +261,39 @@ IsFirst f = f.line ≡ First
 
 one-first : (span : Span) (fs : List KeptFrame) → All IsFirst fs → (k : Kind) →
     All IsFirst (cons_option (frame_at First span k) fs)
-one-first span fs h (Frame octets) = All-cons IsFirst (record { line = First; span = span; octets = octets }) fs refl h
-one-first span fs h (Damaged cause) = h
-one-first span fs h Overlong = h
-one-first span fs h Abort = h
-one-first span fs h Idle = h
+one-first span fs firsts (Frame octets) =
+    All-cons IsFirst (record { line = First; span = span; octets = octets }) fs refl firsts
+one-first span fs firsts (Damaged cause) = firsts
+one-first span fs firsts Overlong = firsts
+one-first span fs firsts Abort = firsts
+one-first span fs firsts Idle = firsts
 
 frames-first : (rs : List Report) → All IsFirst (frames (of_line rs))
 frames-first [] = All-nil IsFirst
 frames-first (r ∷ rs) = one-first (span_of r) (frames (of_line rs)) (frames-first rs) r.kind
 
 same-item : {X : Type 0} (x y : X) → Some x ≡ Some y → x ≡ y
-same-item x y e = cc
+same-item x y same = cc
 
 all-at : {X : Type 0} (P : X → Type 0) (xs : List X) (i : ℕ) (x : X) → All P xs → slice_get xs i ≡ Some x → P x
-all-at P xs i x h e = elim ((slice_get_cases xs i).1) [
-  | inl a ↦ subst P (a.3 ∙ same-item a.0 x (sym a.2 ∙ e)) (h i a.0 a.1)
-  | inr b ↦ absurd (let n = b.1 in cc)
+all-at P xs i x all at = elim ((slice_get_cases xs i).1) [
+  | inl found ↦ subst P (found.3 ∙ same-item found.0 x (sym found.2 ∙ at)) (all i found.0 found.1)
+  | inr beyond ↦ absurd (let none = beyond.1 in cc)
 ]
 
 -- what is kept of the only line
 pub history-at : (items : List PairKept) (depth : ℕ) (rs : List Report) (i : ℕ) (k : PairKept) →
     map kept_pair items ≡ history depth (of_line rs) → slice_get items i ≡ Some k
     → Some (kept_frame k.kept) ≡ slice_get (map kept_pair items) i
-history-at items depth rs i k e g =
+history-at items depth rs i k kept item =
     let at : slice_get (map kept_pair items) i ≡ Some (kept_pair k) =
-    slice_get-map kept_pair items i ∙ ap (option_map kept_pair) g in
+    slice_get-map kept_pair items i ∙ ap (option_map kept_pair) item in
     let here : slice_get (history depth (of_line rs)) i ≡ Some (kept_pair k) =
-    ap (λ (l : List KeptFrame). slice_get l i) (sym e) ∙ at in
+    ap (λ (l : List KeptFrame). slice_get l i) (sym kept) ∙ at in
     let first : k.line ≡ First =
     all-at IsFirst (history depth (of_line rs)) i (kept_pair k)
     (All-drop IsFirst (length (frames (of_line rs)) - depth) (frames (of_line rs)) (frames-first rs)) here in
     sym (at ∙ ap (λ (l : Line). Some (kept_pair (record { line = l; kept = k.kept }))) first)
 
 pub history-none : (items : List PairKept) (i : ℕ) → slice_get items i ≡ None → None ≡ slice_get (map kept_pair items) i
-history-none items i g = sym (slice_get-map kept_pair items i ∙ ap (option_map kept_pair) g)
+history-none items i none = sym (slice_get-map kept_pair items i ∙ ap (option_map kept_pair) none)

@@ -26,9 +26,9 @@ use Rattle.bus_line.proofs.DueMoreLemmas.{map-option}
 -- what holds of no reports, and stays with one more, holds of all
 from-front : (P : List Heard → Type 0) → ((rs : List Heard) (r : Heard) → P rs → P (rs ++ r ∷ [])) →
     (before after : List Heard) → P before → P (before ++ after)
-from-front P step before [] h = subst P (sym (append-nil before)) h
-from-front P step before (r ∷ after) h =
-    subst P (append_assoc before (r ∷ []) after) (from-front P step (before ++ r ∷ []) after (step before r h))
+from-front P step before [] holds = subst P (sym (append-nil before)) holds
+from-front P step before (r ∷ after) holds =
+    subst P (append_assoc before (r ∷ []) after) (from-front P step (before ++ r ∷ []) after (step before r holds))
 
 pub one-by-one : (P : List Heard → Type 0) → P [] → ((rs : List Heard) (r : Heard) → P rs → P (rs ++ r ∷ [])) →
     (rs : List Heard) → P rs
@@ -37,8 +37,8 @@ one-by-one P none step rs = from-front P step [] rs none
 pub seen-reports : (d : List FrameType) (rs : List Heard) → map heard_in (seen d rs) ≡ rs
 seen-reports d rs =
     one-by-one (λ rs. map heard_in (seen d rs) ≡ rs) refl
-    (λ rs r h. ap (map heard_in) (seen-more d rs r)
-    ∙ (map-append heard_in (seen d rs) (seen_of d rs r ∷ []) ∙ ap (λ xs. xs ++ r ∷ []) h))
+    (λ rs r same. ap (map heard_in) (seen-more d rs r)
+    ∙ (map-append heard_in (seen d rs) (seen_of d rs r ∷ []) ∙ ap (λ xs. xs ++ r ∷ []) same))
     rs
 
 verdict-option : (o : Option Verdict) → cons_option o [] ≡ option_to_list o
@@ -49,9 +49,9 @@ pub seen-decides : (d : List FrameType) (rs : List Heard) →
     filter_map (λ (s : SeenReport). s.verdict) (seen d rs) ≡ verdicts d rs
 seen-decides d rs =
     one-by-one (λ rs. filter_map (λ (s : SeenReport). s.verdict) (seen d rs) ≡ verdicts d rs) refl
-    (λ rs r h. ap (filter_map (λ (s : SeenReport). s.verdict)) (seen-more d rs r)
+    (λ rs r same. ap (filter_map (λ (s : SeenReport). s.verdict)) (seen-more d rs r)
     ∙ (filter_map-append (λ (s : SeenReport). s.verdict) (seen d rs) (seen_of d rs r ∷ [])
-    ∙ (ap (λ vs. vs ++ cons_option (decided d rs r) []) h
+    ∙ (ap (λ vs. vs ++ cons_option (decided d rs r) []) same
     ∙ (ap (λ vs. verdicts d rs ++ vs) (verdict-option (decided d rs r)) ∙ sym (verdicts-more d rs r)))))
     rs
 
@@ -66,20 +66,20 @@ due-moved origin Idle first past = omega arith
 -- nothing is due where all reports are due before
 find-none : (place : ℕ) (ss : List SeenReport) → All (λ (h : Heard). due h.report < place) (map heard_in ss) →
     find (λ (s : SeenReport). due s.report == place) ss ≡ None
-find-none place [] h = refl
-find-none place (s ∷ ss) h =
+find-none place [] before = refl
+find-none place (s ∷ ss) before =
     let apart : (due s.report == place) ≡ false =
-    ne_eqb (due s.report) place (λ e. omega (arith, e, h 0 (heard_in s) (omega arith))) in
-    rw apart (find-none place ss (λ i d l. h (suc i) d (omega (arith, l))))
+    ne_eqb (due s.report) place (λ same. omega (arith, same, before 0 (heard_in s) (omega arith))) in
+    rw apart (find-none place ss (λ i d inside. before (suc i) d (omega (arith, inside))))
 
 line-due : (longest origin : ℕ) (b : List Bool) → DueBelow →
     All (λ r. due r < origin + length b) (placed origin longest b)
 line-due longest origin b below =
-    All-map (λ r. due r < origin + length b) (moved origin) (reports longest b) (λ i d l.
+    All-map (λ r. due r < origin + length b) (moved origin) (reports longest b) (λ i d inside.
     let r = get_or (reports longest b) i d in
     omega (
       arith,
-      below longest b r (Contains-get_or (reports longest b) i d l),
+      below longest b r (Contains-get_or (reports longest b) i d inside),
       due-moved origin r.kind r.first r.past,
     ))
 
@@ -91,33 +91,33 @@ line-heard longest origin b below =
 
 at-none : (d : List FrameType) (rs : List Heard) (place : ℕ) → All (λ (h : Heard). due h.report < place) rs →
     seen_at d rs place ≡ None
-at-none d rs place h =
-    find-none place (seen d rs) (subst (All (λ (h : Heard). due h.report < place)) (sym (seen-reports d rs)) h)
+at-none d rs place before =
+    find-none place (seen d rs) (rw (seen-reports d rs) before)
 
 at-last : (d : List FrameType) (rs : List Heard) (r : Heard) (place : ℕ) →
     All (λ (h : Heard). due h.report < place) rs → due r.report ≡ place →
     seen_at d (rs ++ r ∷ []) place ≡ Some (seen_of d rs r)
-at-last d rs r place h e =
+at-last d rs r place before here =
     let p : SeenReport → Bool = λ s. due s.report == place in
-    let yes : (due r.report == place) ≡ true = eq-eqb (due r.report) place e in
+    let yes : (due r.report == place) ≡ true = eq-eqb (due r.report) place here in
     ap (find p) (seen-more d rs r)
     ∙ (find-append p (seen d rs) (seen_of d rs r ∷ [])
-    ∙ (ap (λ o. option_or o (find p (seen_of d rs r ∷ []))) (at-none d rs place h) ∙ rw yes refl))
+    ∙ (ap (λ o. option_or o (find p (seen_of d rs r ∷ []))) (at-none d rs place before) ∙ rw yes refl))
 
 grows-by : (d : List FrameType) (longest origin : ℕ) (b longer : List Bool) → DueIsIt → DueBelow → (o : Option Report) →
     due_at longest longer (length b) ≡ o
     → placed origin longest longer ≡ placed origin longest b ++ option_to_list (option_map (moved origin) o)
     → seen d (of_line (placed origin longest longer)) ≡ seen d (of_line (placed origin longest b))
     ++ option_to_list (seen_at d (of_line (placed origin longest longer)) (origin + length b))
-grows-by d longest origin b longer it below None e grown =
+grows-by d longest origin b longer it below None due_is grown =
     let hs = of_line (placed origin longest b) in
     let same : of_line (placed origin longest longer) ≡ hs =
     ap of_line (grown ∙ append-nil (placed origin longest b)) in
     rw (same, at-none d hs (origin + length b) (line-heard longest origin b below)) (sym (append-nil (seen d hs)))
-grows-by d longest origin b longer it below (Some r) e grown =
+grows-by d longest origin b longer it below (Some r) due_is grown =
     let rs = placed origin longest b in
     let h : Heard = heard_on None (moved origin r) in
-    let is : due r ≡ length b = ((it longest longer (length b) r).1 e).1 in
+    let is : due r ≡ length b = ((it longest longer (length b) r).1 due_is).1 in
     let at : due (moved origin r) ≡ origin + length b =
     due-moved origin r.kind r.first r.past ∙ ap (λ n. origin + n) is in
     let more : of_line (placed origin longest longer) ≡ of_line rs ++ h ∷ [] =
@@ -134,20 +134,20 @@ seen-grows more it below = λ d longest origin b bit.
     ∙ ap (λ rs. placed origin longest b ++ rs) (map-option (moved origin) o)))
 
 same-told : (o p : Option SeenReport) → option_to_list o ≡ option_to_list p → o ≡ p
-same-told None None e = refl
-same-told None (Some s) e = absurd (omega (arith, ap length e))
-same-told (Some s) None e = absurd (omega (arith, ap length e))
-same-told (Some s) (Some t) e = cc
+same-told None None same = refl
+same-told None (Some s) same = absurd (omega (arith, ap length same))
+same-told (Some s) None same = absurd (omega (arith, ap length same))
+same-told (Some s) (Some t) same = cc
 
 -- what a bit adds is what is seen at its place
 pub answer-is : {C : Type 0} (folded : C → List ℕ → Type 0) (cost : ℕ) (a : AnalyserState C) (b : List Bool)
     (bit : Bool) (o : Option SeenReport) → SeenGrows → IsAfter folded cost a b
     → seen_after a (b ++ bit ∷ []) ≡ seen_after a b ++ option_to_list o →
     o ≡ seen_at a.journal.dictionary (line a (b ++ bit ∷ [])) a.decoder.place
-answer-is folded cost a b bit o grows s e =
+answer-is folded cost a b bit o grows reached adds =
     let d = a.journal.dictionary in
     let rs = line a (b ++ bit ∷ []) in
     let at : o ≡ seen_at d rs (a.decoder.origin + length b) =
     same-told o (seen_at d rs (a.decoder.origin + length b))
-    (append_cancel_left (seen_after a b) _ _ (sym e ∙ grows d (longest_of d) a.decoder.origin b bit)) in
-    at ∙ ap (seen_at d rs) (sym s.decoder.has_taken.place)
+    (append_cancel_left (seen_after a b) _ _ (sym adds ∙ grows d (longest_of d) a.decoder.origin b bit)) in
+    at ∙ ap (seen_at d rs) (sym reached.decoder.has_taken.place)

@@ -7,6 +7,7 @@ pub mod AnalyserViewLemmas
 pub mod AfterLemmas
 pub mod LedgerLemmas
 pub mod LawsLemmas
+pub mod SinkLemmas
 pub mod FedLemmas
 pub mod HeadlineLemmas
 pub mod FailLemmas

@@ -17,177 +17,211 @@ use Rattle.bus_watch.specs.declared.line.Line.TheVariants.{First, Second}
 
 flat_map-places : {Y : Type 0} (f g : ℕ → List Y) (n : ℕ) → ((i : ℕ) → i < n → f i ≡ g i) →
     flat_map f (places n) ≡ flat_map g (places n)
-flat_map-places f g zero h = refl
-flat_map-places f g (suc n) h =
+flat_map-places f g zero same = refl
+flat_map-places f g (suc n) same =
     flat_map-append f (places n) (n ∷ [])
-    ∙ (ap (λ ys. ys ++ flat_map f (n ∷ [])) (flat_map-places f g n (λ i l. h i (omega (arith, l))))
-    ∙ (ap (λ ys. flat_map g (places n) ++ (ys ++ [])) (h n (omega arith))
+    ∙ (ap (λ ys. ys ++ flat_map f (n ∷ [])) (flat_map-places f g n (λ i before. same i (omega (arith, before))))
+    ∙ (ap (λ ys. flat_map g (places n) ++ (ys ++ [])) (same n (omega arith))
     ∙ sym (flat_map-append g (places n) (n ∷ []))))
 
 heard_at-append : DueStays → (line : Line) (origin longest : ℕ) (b : List Bool) (x : Bool) (i : ℕ) → i < length b →
     heard_at line origin longest (b ++ x ∷ []) i ≡ heard_at line origin longest b i
-heard_at-append stays line origin longest b x i l =
-    ap (λ o. map (heard_on (Some line)) (option_to_list (option_map (moved origin) o))) (stays longest b (x ∷ []) i l)
+heard_at-append stays line origin longest b x i before =
+    ap (λ o. map (heard_on (Some line)) (option_to_list (option_map (moved origin) o)))
+    (stays longest b (x ∷ []) i before)
 
 -- what a pair of bits adds
 abbrev pub added : ℕ → ℕ → List (Bool × Bool) → Bool × Bool → List Heard
 added origin longest ps p = heard_at First origin longest (firsts ps ++ p.0 ∷ []) (length ps)
     ++ heard_at Second origin longest (seconds ps ++ p.1 ∷ []) (length ps)
 
-pub firsts-more : (ps : List (Bool × Bool)) (p : Bool × Bool) → firsts (ps ++ p ∷ []) ≡ firsts ps ++ p.0 ∷ []
-firsts-more ps p = map-append (λ (q : Bool × Bool). q.0) ps (p ∷ [])
+pub length-firsts : (ps : List (Bool × Bool)) → length (firsts ps) ≡ length ps
+length-firsts ps = length-map ps (λ (p : Bool × Bool). p.0)
 
-pub seconds-more : (ps : List (Bool × Bool)) (p : Bool × Bool) → seconds (ps ++ p ∷ []) ≡ seconds ps ++ p.1 ∷ []
-seconds-more ps p = map-append (λ (q : Bool × Bool). q.1) ps (p ∷ [])
+pub length-seconds : (ps : List (Bool × Bool)) → length (seconds ps) ≡ length ps
+length-seconds ps = length-map ps (λ (p : Bool × Bool). p.1)
+
+pub firsts-append : (ps qs : List (Bool × Bool)) → firsts (ps ++ qs) ≡ firsts ps ++ firsts qs
+firsts-append ps qs = map-append (λ (p : Bool × Bool). p.0) ps qs
+
+pub seconds-append : (ps qs : List (Bool × Bool)) → seconds (ps ++ qs) ≡ seconds ps ++ seconds qs
+seconds-append ps qs = map-append (λ (p : Bool × Bool). p.1) ps qs
 
 -- one pair more adds at most the first line's report and then the second's
 pub merged-more : DueStays → (origin longest : ℕ) (ps : List (Bool × Bool)) (p : Bool × Bool) →
     merged origin longest (ps ++ p ∷ []) ≡ merged origin longest ps ++ added origin longest ps p
 merged-more stays origin longest ps p =
     let n = length ps in
-    let one : n ≡ length (firsts ps) = sym (length-map ps (λ (q : Bool × Bool). q.0)) in
-    let two : n ≡ length (seconds ps) = sym (length-map ps (λ (q : Bool × Bool). q.1)) in
     let f : ℕ → List Heard = λ i. heard_at First origin longest (firsts ps ++ p.0 ∷ []) i
     ++ heard_at Second origin longest (seconds ps ++ p.1 ∷ []) i in
     let g : ℕ → List Heard = λ i. heard_at First origin longest (firsts ps) i
     ++ heard_at Second origin longest (seconds ps) i in
     let count : length (ps ++ p ∷ []) ≡ suc n = omega (arith, length-append ps (p ∷ [])) in
-    ap (λ bs.
-    flat_map (λ i. heard_at First origin longest bs i ++ heard_at Second origin longest (seconds (ps ++ p ∷ [])) i)
-    (places (length (ps ++ p ∷ [])))) (firsts-more ps p)
-    ∙ (ap
-    (λ bs. flat_map (λ i. heard_at First origin longest (firsts ps ++ p.0 ∷ []) i
-    ++ heard_at Second origin longest bs i) (places (length (ps ++ p ∷ [])))) (seconds-more ps p)
-    ∙ (ap (λ k. flat_map f (places k)) count
-    ∙ (flat_map-append f (places n) (n ∷ [])
-    ∙ (ap (λ ys. ys ++ (f n ++ [])) (flat_map-places f g n (λ i l.
-    ap (λ xs. xs ++ heard_at Second origin longest (seconds ps ++ p.1 ∷ []) i)
-    (heard_at-append stays First origin longest (firsts ps) p.0 i (omega (arith, l, one)))
-    ∙ ap (λ xs. heard_at First origin longest (firsts ps) i ++ xs)
-    (heard_at-append stays Second origin longest (seconds ps) p.1 i (omega (arith, l, two)))))
-    ∙ ap (λ ys. merged origin longest ps ++ ys) (append-nil (f n))))))
+    rw (firsts-append ps (p ∷ []), seconds-append ps (p ∷ []), count)
+    (flat_map-append f (places n) (n ∷ [])
+    ∙ (ap (λ ys. ys ++ (f n ++ [])) (flat_map-places f g n (λ i before.
+    ap (λ hs. hs ++ heard_at Second origin longest (seconds ps ++ p.1 ∷ []) i)
+    (heard_at-append stays First origin longest (firsts ps) p.0 i (omega (arith, before, length-firsts ps)))
+    ∙ ap (λ hs. heard_at First origin longest (firsts ps) i ++ hs)
+    (heard_at-append stays Second origin longest (seconds ps) p.1 i (omega (arith, before, length-seconds ps)))))
+    ∙ ap (λ ys. merged origin longest ps ++ ys) (append-nil (f n))))
 
 -- reports only grow
 pub placed-grows : ReportsGrow → (origin longest : ℕ) (b c : List Bool) →
     (rs : List Report) × (placed origin longest (b ++ c) ≡ placed origin longest b ++ rs)
 placed-grows grow origin longest b c =
-    let g = grow longest b c in
-    (map (moved origin) g.0, ap (map (moved origin)) g.1 ∙ map-append (moved origin) (reports longest b) g.0)
+    let grown = grow longest b c in (
+      map (moved origin) grown.0,
+      ap (map (moved origin)) grown.1 ∙ map-append (moved origin) (reports longest b) grown.0,
+    )
 
 no-items : {X : Type 0} (xs : List X) → length xs ≡ 0 → xs ≡ []
-no-items [] e = refl
-no-items (x ∷ xs) e = absurd (omega (arith, e))
+no-items [] none = refl
+no-items (x ∷ xs) none = absurd (omega (arith, none))
 
 -- where bits decide nothing, no front of them does
-pub quiet-front : ReportsGrow → (origin longest : ℕ) (b c d : List Bool) →
+quiet-front : ReportsGrow → (origin longest : ℕ) (b c d : List Bool) →
     placed origin longest (b ++ (c ++ d)) ≡ placed origin longest b →
     placed origin longest (b ++ c) ≡ placed origin longest b
-quiet-front grow origin longest b c d e =
-    let g = placed-grows grow origin longest b c in
-    let h = placed-grows grow origin longest (b ++ c) d in
-    let none : length g.0 ≡ 0 = omega (
+quiet-front grow origin longest b c d quiet =
+    let first = placed-grows grow origin longest b c in
+    let next = placed-grows grow origin longest (b ++ c) d in
+    let none : length first.0 ≡ 0 = omega (
       arith,
-      ap length g.1,
-      length-append (placed origin longest b) g.0,
-      ap length h.1,
-      length-append (placed origin longest (b ++ c)) h.0,
-      ap length e,
+      ap length first.1,
+      length-append (placed origin longest b) first.0,
+      ap length next.1,
+      length-append (placed origin longest (b ++ c)) next.0,
+      ap length quiet,
       ap (λ (x : List Bool). length (placed origin longest x)) (append_assoc b c d),
     ) in
-    g.1 ∙ (ap (λ rs. placed origin longest b ++ rs) (no-items g.0 none) ∙ append-nil (placed origin longest b))
+    first.1 ∙ (ap (λ rs. placed origin longest b ++ rs) (no-items first.0 none) ∙ append-nil (placed origin longest b))
 
--- what one bit more decides
+-- what one bit more adds to the reports of a line
+bit-adds : OneMore → (origin longest : ℕ) (b : List Bool) (x : Bool) → placed origin longest (b ++ x ∷ [])
+    ≡ placed origin longest b
+    ++ option_to_list (option_map (moved origin) (due_at longest (b ++ x ∷ []) (length b)))
+bit-adds more origin longest b x =
+    let o = due_at longest (b ++ x ∷ []) (length b) in
+    ap (map (moved origin)) (more longest b x)
+    ∙ (map-append (moved origin) (reports longest b) (option_to_list o)
+    ∙ ap (λ rs. placed origin longest b ++ rs) (map-option (moved origin) o))
+
+-- and what is heard at it
 due-from : OneMore → (line : Line) (origin longest : ℕ) (b : List Bool) (x : Bool) (r : Option Report) →
     placed origin longest (b ++ x ∷ []) ≡ placed origin longest b ++ option_to_list r
     → heard_at line origin longest (b ++ x ∷ []) (length b) ≡ heard_option (Some line) r
-due-from more line origin longest b x r e =
-    let o = due_at longest (b ++ x ∷ []) (length b) in
-    let grown : placed origin longest (b ++ x ∷ []) ≡ placed origin longest b
-    ++ option_to_list (option_map (moved origin) o) =
-    ap (map (moved origin)) (more longest b x)
-    ∙ (map-append (moved origin) (reports longest b) (option_to_list o)
-    ∙ ap (λ rs. placed origin longest b ++ rs) (map-option (moved origin) o)) in
-    ap (map (heard_on (Some line))) (append_cancel_left (placed origin longest b) _ _ (sym grown ∙ e))
+due-from more line origin longest b x r adds =
+    ap (map (heard_on (Some line)))
+    (append_cancel_left (placed origin longest b) _ _ (sym (bit-adds more origin longest b x) ∙ adds))
 
 -- what a pair adds, by what it decides on each line
-pub added-is : OneMore → (origin longest : ℕ) (ps : List (Bool × Bool)) (p : Bool × Bool) (r s : Option Report)
+added-is : OneMore → (origin longest : ℕ) (ps : List (Bool × Bool)) (p : Bool × Bool) (r s : Option Report)
     → placed origin longest (firsts ps ++ p.0 ∷ []) ≡ placed origin longest (firsts ps) ++ option_to_list r
     → placed origin longest (seconds ps ++ p.1 ∷ []) ≡ placed origin longest (seconds ps) ++ option_to_list s
     → added origin longest ps p ≡ heard_option (Some First) r ++ heard_option (Some Second) s
-added-is more origin longest ps p r s e f =
+added-is more origin longest ps p r s first_adds second_adds =
     let one : heard_at First origin longest (firsts ps ++ p.0 ∷ []) (length ps) ≡ heard_option (Some First) r =
-    ap (heard_at First origin longest (firsts ps ++ p.0 ∷ [])) (sym (length-map ps (λ (q : Bool × Bool). q.0)))
-    ∙ due-from more First origin longest (firsts ps) p.0 r e in
+    ap (heard_at First origin longest (firsts ps ++ p.0 ∷ [])) (sym (length-firsts ps))
+    ∙ due-from more First origin longest (firsts ps) p.0 r first_adds in
     let two : heard_at Second origin longest (seconds ps ++ p.1 ∷ []) (length ps) ≡ heard_option (Some Second) s =
-    ap (heard_at Second origin longest (seconds ps ++ p.1 ∷ [])) (sym (length-map ps (λ (q : Bool × Bool). q.1)))
-    ∙ due-from more Second origin longest (seconds ps) p.1 s f in
+    ap (heard_at Second origin longest (seconds ps ++ p.1 ∷ [])) (sym (length-seconds ps))
+    ∙ due-from more Second origin longest (seconds ps) p.1 s second_adds in
     ap (λ hs. hs ++ heard_at Second origin longest (seconds ps ++ p.1 ∷ []) (length ps)) one
     ∙ ap (λ hs. heard_option (Some First) r ++ hs) two
+
+-- pairs at which the second line reports nothing
+merged-first-alone : DueStays → OneMore → ReportsGrow →
+    (origin longest : ℕ) (ps xs : List (Bool × Bool)) (rs : List Report)
+    → placed origin longest (firsts ps ++ firsts xs) ≡ placed origin longest (firsts ps) ++ rs →
+    placed origin longest (seconds ps ++ seconds xs) ≡ placed origin longest (seconds ps)
+    → merged origin longest (ps ++ xs) ≡ merged origin longest ps ++ map (heard_on (Some First)) rs
+merged-first-alone stays more grow origin longest ps [] rs adds quiet =
+    let none : rs ≡ [] = append_cancel_left (placed origin longest (firsts ps)) rs []
+    (sym adds ∙ (ap (placed origin longest) (append-nil (firsts ps))
+    ∙ sym (append-nil (placed origin longest (firsts ps))))) in
+    rw none (ap (merged origin longest) (append-nil ps) ∙ sym (append-nil (merged origin longest ps)))
+merged-first-alone stays more grow origin longest ps (x ∷ xs) rs adds quiet =
+    let qs : List (Bool × Bool) = ps ++ x ∷ [] in
+    let r = option_map (moved origin) (due_at longest (firsts ps ++ x.0 ∷ []) (length (firsts ps))) in
+    let x_adds = bit-adds more origin longest (firsts ps) x.0 in
+    let x_quiet = quiet-front grow origin longest (seconds ps) (x.1 ∷ []) (seconds xs) quiet in
+    let rest = placed-grows grow origin longest (firsts ps ++ x.0 ∷ []) (firsts xs) in
+    let parts : rs ≡ option_to_list r ++ rest.0 =
+    append_cancel_left (placed origin longest (firsts ps)) rs (option_to_list r ++ rest.0)
+    (sym adds
+    ∙ (ap (placed origin longest) (sym (append_assoc (firsts ps) (x.0 ∷ []) (firsts xs)))
+    ∙ (rest.1
+    ∙ (ap (λ more. more ++ rest.0) x_adds
+    ∙ append_assoc (placed origin longest (firsts ps)) (option_to_list r) rest.0)))) in
+    let step : merged origin longest qs ≡ merged origin longest ps ++ heard_option (Some First) r =
+    merged-more stays origin longest ps x
+    ∙ ap (λ hs. merged origin longest ps ++ hs)
+    (added-is more origin longest ps x r None x_adds (x_quiet ∙ sym (append-nil (placed origin longest (seconds ps))))
+    ∙ append-nil (heard_option (Some First) r)) in
+    let rest_adds : placed origin longest (firsts qs ++ firsts xs) ≡ placed origin longest (firsts qs) ++ rest.0 =
+    rw (firsts-append ps (x ∷ [])) rest.1 in
+    let rest_quiet : placed origin longest (seconds qs ++ seconds xs) ≡ placed origin longest (seconds qs) =
+    rw (seconds-append ps (x ∷ []))
+    (ap (placed origin longest) (append_assoc (seconds ps) (x.1 ∷ []) (seconds xs)) ∙ (quiet ∙ sym x_quiet)) in
+    ap (merged origin longest) (sym (append_assoc ps (x ∷ []) xs))
+    ∙ (merged-first-alone stays more grow origin longest qs xs rest.0 rest_adds rest_quiet
+    ∙ (ap (λ hs. hs ++ map (heard_on (Some First)) rest.0) step
+    ∙ (append_assoc (merged origin longest ps) (heard_option (Some First) r) (map (heard_on (Some First)) rest.0)
+    ∙ ap (λ hs. merged origin longest ps ++ hs)
+    (sym (ap (map (heard_on (Some First))) parts ∙ map-append (heard_on (Some First)) (option_to_list r) rest.0)))))
 
 -- pairs that decide nothing add nothing
 pub merged-quiet : DueStays → OneMore → ReportsGrow → (origin longest : ℕ) (ps xs : List (Bool × Bool))
     → placed origin longest (firsts ps ++ firsts xs) ≡ placed origin longest (firsts ps) →
     placed origin longest (seconds ps ++ seconds xs) ≡ placed origin longest (seconds ps)
     → merged origin longest (ps ++ xs) ≡ merged origin longest ps
-merged-quiet stays more grow origin longest ps [] e f = ap (merged origin longest) (append-nil ps)
-merged-quiet stays more grow origin longest ps (x ∷ xs) e f =
-    let qs : List (Bool × Bool) = ps ++ x ∷ [] in
-    let one : placed origin longest (firsts ps ++ x.0 ∷ []) ≡ placed origin longest (firsts ps) =
-    quiet-front grow origin longest (firsts ps) (x.0 ∷ []) (firsts xs) e in
-    let two : placed origin longest (seconds ps ++ x.1 ∷ []) ≡ placed origin longest (seconds ps) =
-    quiet-front grow origin longest (seconds ps) (x.1 ∷ []) (seconds xs) f in
-    let step : merged origin longest qs ≡ merged origin longest ps =
-    merged-more stays origin longest ps x
-    ∙ (ap (λ hs. merged origin longest ps ++ hs)
-    (added-is more origin longest ps x None None (one ∙ sym (append-nil (placed origin longest (firsts ps))))
-    (two ∙ sym (append-nil (placed origin longest (seconds ps)))))
-    ∙ append-nil (merged origin longest ps)) in
-    let first : placed origin longest (firsts qs ++ firsts xs) ≡ placed origin longest (firsts qs) =
-    ap (λ (b : List Bool). placed origin longest (b ++ firsts xs)) (firsts-more ps x)
-    ∙ (ap (placed origin longest) (append_assoc (firsts ps) (x.0 ∷ []) (firsts xs))
-    ∙ (e ∙ (sym one ∙ ap (placed origin longest) (sym (firsts-more ps x))))) in
-    let second : placed origin longest (seconds qs ++ seconds xs) ≡ placed origin longest (seconds qs) =
-    ap (λ (b : List Bool). placed origin longest (b ++ seconds xs)) (seconds-more ps x)
-    ∙ (ap (placed origin longest) (append_assoc (seconds ps) (x.1 ∷ []) (seconds xs))
-    ∙ (f ∙ (sym two ∙ ap (placed origin longest) (sym (seconds-more ps x))))) in
-    ap (merged origin longest) (sym (append_assoc ps (x ∷ []) xs))
-    ∙ (merged-quiet stays more grow origin longest qs xs first second ∙ step)
+merged-quiet stays more grow origin longest ps xs first_quiet second_quiet =
+    merged-first-alone stays more grow origin longest ps xs []
+    (first_quiet ∙ sym (append-nil (placed origin longest (firsts ps)))) second_quiet
+    ∙ append-nil (merged origin longest ps)
 
-pub firsts-append : (ps qs : List (Bool × Bool)) → firsts (ps ++ qs) ≡ firsts ps ++ firsts qs
-firsts-append ps qs = map-append (λ (q : Bool × Bool). q.0) ps qs
-
-pub seconds-append : (ps qs : List (Bool × Bool)) → seconds (ps ++ qs) ≡ seconds ps ++ seconds qs
-seconds-append ps qs = map-append (λ (q : Bool × Bool). q.1) ps qs
-
--- pairs of which at most the last decides reports add these
-pub merged-last : DueStays → OneMore → ReportsGrow →
-    (origin longest : ℕ) (ps xs : List (Bool × Bool)) (x : Bool × Bool) (r s : Option Report)
-    → placed origin longest (firsts ps ++ firsts xs) ≡ placed origin longest (firsts ps) →
-    placed origin longest (seconds ps ++ seconds xs) ≡ placed origin longest (seconds ps)
-    → placed origin longest (firsts ps ++ firsts (xs ++ x ∷ [])) ≡ placed origin longest (firsts ps) ++ option_to_list r
+-- pairs of which at most the last decides a report of the second line add these
+pub merged-led : DueStays → OneMore → ReportsGrow →
+    (origin longest : ℕ) (ps xs : List (Bool × Bool)) (x : Bool × Bool) (rs : List Report) (s : Option Report)
+    → placed origin longest (firsts ps ++ firsts (xs ++ x ∷ [])) ≡ placed origin longest (firsts ps) ++ rs
+    → placed origin longest (seconds ps ++ seconds xs) ≡ placed origin longest (seconds ps)
     → placed origin longest (seconds ps ++ seconds (xs ++ x ∷ []))
     ≡ placed origin longest (seconds ps) ++ option_to_list s
     → merged origin longest (ps ++ (xs ++ x ∷ [])) ≡ merged origin longest ps
-    ++ (heard_option (Some First) r ++ heard_option (Some Second) s)
-merged-last stays more grow origin longest ps xs x r s e f g h =
+    ++ (map (heard_on (Some First)) rs ++ heard_option (Some Second) s)
+merged-led stays more grow origin longest ps xs x rs s first_adds quiet second_adds =
     let qs : List (Bool × Bool) = ps ++ xs in
+    let r = option_map (moved origin) (due_at longest (firsts qs ++ x.0 ∷ []) (length (firsts qs))) in
+    let x_adds = bit-adds more origin longest (firsts qs) x.0 in
+    let before = placed-grows grow origin longest (firsts ps) (firsts xs) in
     let fronts : firsts qs ++ x.0 ∷ [] ≡ firsts ps ++ firsts (xs ++ x ∷ []) =
-    ap (λ b. b ++ x.0 ∷ []) (firsts-append ps xs)
-    ∙ (append_assoc (firsts ps) (firsts xs) (x.0 ∷ []) ∙ ap (λ b. firsts ps ++ b) (sym (firsts-more xs x))) in
+    rw (firsts-append ps xs, firsts-append xs (x ∷ [])) (append_assoc (firsts ps) (firsts xs) (x.0 ∷ [])) in
     let backs : seconds qs ++ x.1 ∷ [] ≡ seconds ps ++ seconds (xs ++ x ∷ []) =
-    ap (λ b. b ++ x.1 ∷ []) (seconds-append ps xs)
-    ∙ (append_assoc (seconds ps) (seconds xs) (x.1 ∷ []) ∙ ap (λ b. seconds ps ++ b) (sym (seconds-more xs x))) in
-    let one : placed origin longest (firsts qs ++ x.0 ∷ []) ≡ placed origin longest (firsts qs) ++ option_to_list r =
-    ap (placed origin longest) fronts
-    ∙ (g ∙ ap (λ rs. rs ++ option_to_list r) (sym (ap (placed origin longest) (firsts-append ps xs) ∙ e))) in
-    let two : placed origin longest (seconds qs ++ x.1 ∷ []) ≡ placed origin longest (seconds qs) ++ option_to_list s =
-    ap (placed origin longest) backs
-    ∙ (h ∙ ap (λ rs. rs ++ option_to_list s) (sym (ap (placed origin longest) (seconds-append ps xs) ∙ f))) in
+    rw (seconds-append ps xs, seconds-append xs (x ∷ [])) (append_assoc (seconds ps) (seconds xs) (x.1 ∷ [])) in
+    let front : placed origin longest (firsts qs) ≡ placed origin longest (firsts ps) ++ before.0 =
+    ap (placed origin longest) (firsts-append ps xs) ∙ before.1 in
+    let parts : rs ≡ before.0 ++ option_to_list r =
+    append_cancel_left (placed origin longest (firsts ps)) rs (before.0 ++ option_to_list r)
+    (sym first_adds ∙ (ap (placed origin longest) (sym fronts)
+    ∙ (x_adds ∙ (ap (λ more. more ++ option_to_list r) front
+    ∙ append_assoc (placed origin longest (firsts ps)) before.0 (option_to_list r))))) in
+    let last : placed origin longest (seconds qs ++ x.1 ∷ []) ≡ placed origin longest (seconds qs) ++ option_to_list s =
+    ap (placed origin longest) backs ∙ (second_adds
+    ∙ ap (λ more. more ++ option_to_list s) (sym (ap (placed origin longest) (seconds-append ps xs) ∙ quiet))) in
+    let hs : List Heard = map (heard_on (Some First)) before.0 in
+    let is : List Heard = heard_option (Some First) r in
+    let js : List Heard = heard_option (Some Second) s in
     ap (merged origin longest) (sym (append_assoc ps xs (x ∷ [])))
     ∙ (merged-more stays origin longest qs x
-    ∙ (ap (λ hs. merged origin longest qs ++ hs) (added-is more origin longest qs x r s one two)
-    ∙ ap (λ hs. hs ++ (heard_option (Some First) r ++ heard_option (Some Second) s))
-    (merged-quiet stays more grow origin longest ps xs e f)))
+    ∙ (ap (λ hs. merged origin longest qs ++ hs) (added-is more origin longest qs x r s x_adds last)
+    ∙ (ap (λ hs. hs ++ (is ++ js)) (merged-first-alone stays more grow origin longest ps xs before.0 before.1 quiet)
+    ∙ (append_assoc (merged origin longest ps) hs (is ++ js)
+    ∙ ap (λ hs. merged origin longest ps ++ hs)
+    (sym (append_assoc hs is js)
+    ∙ ap (λ hs. hs ++ js)
+    (sym (ap (map (heard_on (Some First))) parts
+    ∙ map-append (heard_on (Some First)) before.0 (option_to_list r))))))))
 
 -- a line by itself
 heard-list : (line : Line) (origin longest : ℕ) (b : List Bool) (is : List ℕ) →
@@ -239,18 +273,16 @@ pub merged-adds : (m : List Heard → ℕ) → m [] ≡ 0 → ((xs ys : List Hea
     + m (of_one Second origin longest (seconds ps))
 merged-adds m none more origin longest ps =
     let n = length ps in
-    let one : length (firsts ps) ≡ n = length-map ps (λ (q : Bool × Bool). q.0) in
-    let two : length (seconds ps) ≡ n = length-map ps (λ (q : Bool × Bool). q.1) in
     flat-sum m none more (heard_at First origin longest (firsts ps)) (heard_at Second origin longest (seconds ps))
     (places n)
     ∙ (ap (λ hs. m hs + m (flat_map (heard_at Second origin longest (seconds ps)) (places n)))
     (heard-list First origin longest (firsts ps) (places n)
     ∙ ap (λ k. map (heard_on (Some First)) (map (moved origin) (filter_map (due_at longest (firsts ps)) (places k))))
-    (sym one))
+    (sym (length-firsts ps)))
     ∙ ap (λ hs. m (of_one First origin longest (firsts ps)) + m hs)
     (heard-list Second origin longest (seconds ps) (places n)
     ∙ ap (λ k. map (heard_on (Some Second))
-    (map (moved origin) (filter_map (due_at longest (seconds ps)) (places k)))) (sym two)))
+    (map (moved origin) (filter_map (due_at longest (seconds ps)) (places k)))) (sym (length-seconds ps))))
 
 -- either line by itself among them
 side-append : (line : Line) (xs ys : List Heard) → of_side line (xs ++ ys) ≡ of_side line xs ++ of_side line ys
@@ -272,11 +304,11 @@ side-other (r ∷ rs) = side-other rs
 flat-side : (line : Line) (f g : ℕ → List Heard) (h : ℕ → List Report) (is : List ℕ) →
     ((i : ℕ) → of_side line (f i) ++ of_side line (g i) ≡ h i) →
     of_side line (flat_map (λ i. f i ++ g i) is) ≡ flat_map h is
-flat-side line f g h [] e = refl
-flat-side line f g h (i ∷ is) e =
+flat-side line f g h [] parts = refl
+flat-side line f g h (i ∷ is) parts =
     side-append line (f i ++ g i) (flat_map (λ i. f i ++ g i) is)
-    ∙ (ap (λ xs. xs ++ of_side line (flat_map (λ i. f i ++ g i) is)) (side-append line (f i) (g i) ∙ e i)
-    ∙ ap (λ xs. h i ++ xs) (flat-side line f g h is e))
+    ∙ (ap (λ xs. xs ++ of_side line (flat_map (λ i. f i ++ g i) is)) (side-append line (f i) (g i) ∙ parts i)
+    ∙ ap (λ xs. h i ++ xs) (flat-side line f g h is parts))
 
 flat-placed : (origin longest : ℕ) (b : List Bool) (is : List ℕ) →
     flat_map (λ i. option_to_list (option_map (moved origin) (due_at longest b i))) is
@@ -306,7 +338,7 @@ merged-first longest origin ps =
     ∙ (ap (λ xs. due (firsts ps) i ++ xs) (side-other (due (seconds ps) i)).0 ∙ append-nil (due (firsts ps) i)))
     ∙ (flat-placed origin longest (firsts ps) (places n)
     ∙ ap (λ k. map (moved origin) (filter_map (due_at longest (firsts ps)) (places k)))
-    (sym (length-map ps (λ (q : Bool × Bool). q.0))))
+    (sym (length-firsts ps)))
 
 pub merged-second : (longest origin : ℕ) (ps : List (Bool × Bool)) →
     of_side Second (merged origin longest ps) ≡ placed origin longest (seconds ps)
@@ -319,4 +351,4 @@ merged-second longest origin ps =
     (side-other (due (firsts ps) i)).1 ∙ side-same Second (due (seconds ps) i))
     ∙ (flat-placed origin longest (seconds ps) (places n)
     ∙ ap (λ k. map (moved origin) (filter_map (due_at longest (seconds ps)) (places k)))
-    (sym (length-map ps (λ (q : Bool × Bool). q.1))))
+    (sym (length-seconds ps)))

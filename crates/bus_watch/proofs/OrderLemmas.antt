@@ -20,13 +20,14 @@ use Rattle.bus_watch.proofs.PairLemmas.{heard-due, both-due, below}
 before-append : (xs ys : List Heard) → AllPairs ComesBefore xs → AllPairs ComesBefore ys
     → ((i j : ℕ) (d : Heard) → i < length xs → j < length ys → ComesBefore (get_or xs i d) (get_or ys j d)) →
     AllPairs ComesBefore (xs ++ ys)
-before-append [] ys p q r = q
-before-append (x ∷ xs) ys p q r =
-    let rest = before-append xs ys (λ i j d l m. p (suc i) (suc j) d (omega (arith, l)) (omega (arith, m))) q
-    (λ i j d l m. r (suc i) j d (omega (arith, l)) m) in
+before-append [] ys first second across = second
+before-append (x ∷ xs) ys first second across =
+    let rest = before-append xs ys
+    (λ i j d before inside. first (suc i) (suc j) d (omega (arith, before)) (omega (arith, inside))) second
+    (λ i j d i_inside j_inside. across (suc i) j d (omega (arith, i_inside)) j_inside) in
     AllPairs-cons ComesBefore x (xs ++ ys)
-    (All-append (ComesBefore x) xs ys (λ i d l. p 0 (suc i) d (omega arith) (omega (arith, l)))
-    (λ j d l. r 0 j d (omega arith) l))
+    (All-append (ComesBefore x) xs ys (λ i d inside. first 0 (suc i) d (omega arith) (omega (arith, inside)))
+    (λ j d inside. across 0 j d (omega arith) inside))
     rest
 
 -- what is heard on a line
@@ -45,30 +46,34 @@ alone on origin longest b i = one (due_at longest b i)
   where
     one : (o : Option Report) →
         AllPairs ComesBefore (map (heard_on (Some on)) (option_to_list (option_map (moved origin) o)))
-    one None = λ i j d l m. absurd (omega (arith, m))
-    one (Some r) = λ i j d l m. absurd (omega (arith, l, m))
+    one None = λ i j d before inside. absurd (omega (arith, inside))
+    one (Some r) = λ i j d before inside. absurd (omega (arith, before, inside))
 
 both-rise : DueIsIt → (origin longest : ℕ) (b c : List Bool) (i : ℕ) →
     AllPairs ComesBefore (heard_at First origin longest b i ++ heard_at Second origin longest c i)
 both-rise it origin longest b c i =
     before-append (heard_at First origin longest b i) (heard_at Second origin longest c i)
     (alone First origin longest b i) (alone Second origin longest c i)
-    (λ k m d l n. inr (
-      heard-due it First origin longest b i k d l ∙ sym (heard-due it Second origin longest c i m d n),
-      heard-line First origin longest b i k d l,
-      heard-line Second origin longest c i m d n,
+    (λ k m d k_inside m_inside. inr (
+      heard-due it First origin longest b i k d k_inside ∙ sym (heard-due it Second origin longest c i m d m_inside),
+      heard-line First origin longest b i k d k_inside,
+      heard-line Second origin longest c i m d m_inside,
     ))
 
 all-rise : DueIsIt → (origin longest : ℕ) (b c : List Bool) (n : ℕ) →
     AllPairs ComesBefore
     (flat_map (λ i. heard_at First origin longest b i ++ heard_at Second origin longest c i) (places n))
-all-rise it origin longest b c zero = λ i j d l m. absurd (omega (arith, m))
+all-rise it origin longest b c zero = λ i j d before inside. absurd (omega (arith, inside))
 all-rise it origin longest b c (suc n) =
     let f : ℕ → List Heard = λ i. heard_at First origin longest b i ++ heard_at Second origin longest c i in
     subst (AllPairs ComesBefore)
     (sym (flat_map-append f (places n) (n ∷ []) ∙ ap (λ ys. flat_map f (places n) ++ ys) (append-nil (f n))))
     (before-append (flat_map f (places n)) (f n) (all-rise it origin longest b c n) (both-rise it origin longest b c n)
-    (λ i j d l m. inl (omega (arith, below it origin longest b c n i d l, both-due it origin longest b c n j d m))))
+    (λ i j d i_inside j_inside. inl (omega (
+      arith,
+      below it origin longest b c n i d i_inside,
+      both-due it origin longest b c n j d j_inside,
+    ))))
 
 -- a report is of one line or the other
 abbrev IsOfOne : Heard → Type 0
@@ -83,8 +88,8 @@ all-of-one origin longest b c (suc n) =
     (sym (flat_map-append f (places n) (n ∷ []) ∙ ap (λ ys. flat_map f (places n) ++ ys) (append-nil (f n))))
     (All-append IsOfOne (flat_map f (places n)) (f n) (all-of-one origin longest b c n)
     (All-append IsOfOne (heard_at First origin longest b n) (heard_at Second origin longest c n)
-    (λ i d l. inl (heard-line First origin longest b n i d l))
-    (λ i d l. inr (heard-line Second origin longest c n i d l))))
+    (λ i d inside. inl (heard-line First origin longest b n i d inside))
+    (λ i d inside. inr (heard-line Second origin longest c n i d inside))))
 
 pub merged-is-merged : DueIsIt → MergedIsMerged
 merged-is-merged it = λ longest origin ps. record {

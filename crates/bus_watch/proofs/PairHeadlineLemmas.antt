@@ -41,9 +41,9 @@ pub record Answers {C : Type 0} (folded : C → List ℕ → Type 0) (cost : ℕ
 pub whole-pair-run : {C : Type 0} (folded : C → List ℕ → Type 0) (cost : ℕ) (e : PairState C) (u : PairUsage) →
     AnyCutOfPairs folded cost → ReportsAre → SeenAreReports → MergedIsMerged → Answers folded cost e u →
     WholePairRun folded cost e u
-whole-pair-run folded cost e u cut are in-order sides h = λ start pieces tolds s r.
-    let alike = runs-alike (two_lines folded cost) start e pieces tolds r in
-    let both = cut start e pieces tolds s r in
+whole-pair-run folded cost e u cut are in-order sides answers = λ start pieces tolds new runs.
+    let alike = runs-alike (two_lines folded cost) start e pieces tolds runs in
+    let both = cut start e pieces tolds new runs in
     let is_after = both.0 in
     let ps = joined pieces in
     let longest = longest_of e.journal.dictionary in
@@ -58,17 +58,17 @@ whole-pair-run folded cost e u cut are in-order sides h = λ start pieces tolds 
           (reports longest (firsts ps), are longest (firsts ps), ap (of_side First) all_heard ∙ merges.first);
       second_framing =
           (reports longest (seconds ps), are longest (seconds ps), ap (of_side Second) all_heard ∙ merges.second);
-      first_bound = h.first_room;
-      second_bound = h.second_room;
-      first_buffered = h.first_buffered _ is_after;
-      second_buffered = h.second_buffered _ is_after;
+      first_bound = answers.first_room;
+      second_bound = answers.second_room;
+      first_buffered = answers.first_buffered _ is_after;
+      second_buffered = answers.second_buffered _ is_after;
       history = is_after.journal.history;
-      history_len = h.kept _ is_after ∙ ap length (sym is_after.journal.history);
-      history_bound = h.deep;
-      ledger = h.ledger _ is_after;
-      seventeen = h.seventeen _ is_after;
-      four = h.four _ is_after;
-      three = λ one. h.three one _ is_after;
+      history_len = answers.kept _ is_after ∙ ap length (sym is_after.journal.history);
+      history_bound = answers.deep;
+      ledger = answers.ledger _ is_after;
+      seventeen = answers.seventeen _ is_after;
+      four = answers.four _ is_after;
+      three = λ one. answers.three one _ is_after;
     })
 
 -- what was fed to a new analyser is a whole run
@@ -77,13 +77,13 @@ pub fed-pair-headline : {C S : Type 0} (folded : C → List ℕ → Type 0) (cos
     → IsAfterPairs folded cost a [] → (f : FedBy (two_lines folded cost) taken a ps e s t) →
     WholePairRun folded cost e u
     → PairHeadline cost a.journal.dictionary a.journal.depth a.first.origin ps f.seen e.journal.history u
-fed-pair-headline folded cost taken a e ps s t u new f whole =
+fed-pair-headline folded cost taken a e ps s t u new fed whole =
     let d = a.journal.dictionary in
     let depth = a.journal.depth in
     let origin = a.first.origin in
-    let h = whole a (ps ∷ []) (f.seen ∷ []) new (called a e e ps f.seen [] [] f.sees (ended e)) in
-    subst (λ x. PairHeadline cost d depth origin x f.seen e.journal.history u) (append-nil ps)
-    (subst (λ y. PairHeadline cost d depth origin (ps ++ []) y e.journal.history u) (append-nil f.seen) h)
+    let headline = whole a (ps ∷ []) (fed.seen ∷ []) new (called a e e ps fed.seen [] [] fed.sees (ended e)) in
+    subst (λ x. PairHeadline cost d depth origin x fed.seen e.journal.history u) (append-nil ps)
+    (subst (λ y. PairHeadline cost d depth origin (ps ++ []) y e.journal.history u) (append-nil fed.seen) headline)
 
 -- where a sink refused reports of what a new analyser was fed
 pub stopped-at-pair : {C S : Type 0} (folded : C → List ℕ → Type 0) (cost : ℕ) (taken : S → Option (List SeenReport))
@@ -91,21 +91,21 @@ pub stopped-at-pair : {C S : Type 0} (folded : C → List ℕ → Type 0) (cost 
     → IsAfterPairs folded cost a [] → RefusedByAt (two_lines folded cost) taken n a ps consumed e s t
     → StoppedAtPair taken n a.journal.dictionary a.first.origin ps s t consumed
 stopped-at-pair folded cost taken a e ps s t n consumed new at =
-    let r = at.refused in
+    let refused = at.refused in
     let d = a.journal.dictionary in
     let origin = a.first.origin in
     let count : length (take consumed ps) - 1 ≡ consumed - 1 = omega (arith, at.within, length-take consumed ps) in
     let front : take (length (take consumed ps) - 1) (take consumed ps) ≡ take (consumed - 1) ps =
     ap (λ k. take k (take consumed ps)) count ∙ take-take (consumed - 1) consumed ps (omega arith) in
-    let before : all_seen_on_both d origin (take (consumed - 1) ps) ≡ r.seen =
-    ap (all_seen_on_both d origin) (sym front) ∙ r.front [] new in
+    let before : all_seen_on_both d origin (take (consumed - 1) ps) ≡ refused.seen =
+    ap (all_seen_on_both d origin) (sym front) ∙ refused.front [] new in
     record {
       some = at.some;
       within = at.within;
-      at_last = r.at_last;
-      of_last = r.of_last;
-      seen = r.sees.seen [] new ∙ ap (λ xs. xs ++ r.at_last) (sym before);
-      some_refused = r.some_refused;
-      lacks = r.lacks;
-      took = r.took ∙ ap (λ xs. told (taken s) (xs ++ r.of_last)) (sym before);
+      at_last = refused.at_last;
+      of_last = refused.of_last;
+      seen = refused.sees.seen [] new ∙ ap (λ xs. xs ++ refused.at_last) (sym before);
+      some_refused = refused.some_refused;
+      lacks = refused.lacks;
+      took = refused.took ∙ ap (λ xs. told (taken s) (xs ++ refused.of_last)) (sym before);
     }

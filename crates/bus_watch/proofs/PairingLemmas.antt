@@ -12,6 +12,7 @@ use Rattle.bus_watch.proofs.TalkLemmas.{pending-talk}
 -- none waits behind damage
 pub waiting-damage : (d : List FrameType) (hs : List Heard) (r : Heard) → is_damage r.report.kind ≡ true →
     None ≡ pending d (hs ++ r ∷ [])
-waiting-damage d hs r h =
-    let q = damage-quiet d r.report.kind h in
-    sym (pending-talk d hs r q.0 ∙ ap (λ s. option_and_then (command_on r.line d (span_of r.report)) s) q.1.no_standing)
+waiting-damage d hs r damage =
+    let quiet = damage-quiet d r.report.kind damage in
+    sym (pending-talk d hs r quiet.0
+    ∙ ap (λ s. option_and_then (command_on r.line d (span_of r.report)) s) quiet.1.no_standing)

@@ -14,8 +14,8 @@ use Rattle.bus_line.proofs.DueMoreLemmas.{filter_map-places}
 -- the reports before keep their numbers
 before-same : (d : List FrameType) (rs : List Heard) (r : Heard) (i : ℕ) → i < length rs →
     seen_number d (rs ++ r ∷ []) i ≡ seen_number d rs i
-before-same d rs r i l = rw (slice_get-append_left rs (r ∷ []) i l, take-append-le i rs (r ∷ []) (omega (arith, l)))
-    refl
+before-same d rs r i before =
+    rw (slice_get-append_left rs (r ∷ []) i before, take-append-le i rs (r ∷ []) (omega (arith, before))) refl
 
 new-number : (d : List FrameType) (rs : List Heard) (r : Heard) →
     seen_number d (rs ++ r ∷ []) (length rs) ≡ Some (seen_of d rs r)
@@ -26,8 +26,8 @@ pub seen-more : (d : List FrameType) (rs : List Heard) (r : Heard) →
     seen d (rs ++ r ∷ []) ≡ seen d rs ++ seen_of d rs r ∷ []
 seen-more d rs r =
     let f = seen_number d (rs ++ r ∷ []) in
-    let l : length (rs ++ r ∷ []) ≡ suc (length rs) = omega (arith, length_push rs r) in
-    rw l
+    let count : length (rs ++ r ∷ []) ≡ suc (length rs) = omega (arith, length_push rs r) in
+    rw count
     (filter_map-append f (places (length rs)) (length rs ∷ [])
     ∙ (ap (λ xs. xs ++ filter_map f (length rs ∷ []))
     (filter_map-places f (seen_number d rs) (length rs) (before-same d rs r))

@@ -40,10 +40,10 @@ talk-more rs r = filter-append _ rs (r ∷ []) ∙ ap (λ xs. talk rs ++ xs) (on
     one false = refl
 
 talk-idle : (rs : List Heard) (r : Heard) → is_idle r.report.kind ≡ true → talk (rs ++ r ∷ []) ≡ talk rs
-talk-idle rs r e = talk-more rs r ∙ rw e (append-nil (talk rs))
+talk-idle rs r idle = talk-more rs r ∙ rw idle (append-nil (talk rs))
 
 talk-one : (rs : List Heard) (r : Heard) → is_idle r.report.kind ≡ false → talk (rs ++ r ∷ []) ≡ talk rs ++ r ∷ []
-talk-one rs r e = talk-more rs r ∙ rw e refl
+talk-one rs r talks = talk-more rs r ∙ rw talks refl
 
 -- of a talk
 abbrev pending-of : List FrameType → List Heard → Option Pending
@@ -51,17 +51,17 @@ pending-of d xs = option_and_then (waits d) (last_or None xs)
 
 pub pending-idle : (d : List FrameType) (rs : List Heard) (r : Heard) → is_idle r.report.kind ≡ true →
     pending d (rs ++ r ∷ []) ≡ pending d rs
-pending-idle d rs r e = ap (pending-of d) (talk-idle rs r e)
+pending-idle d rs r idle = ap (pending-of d) (talk-idle rs r idle)
 
 pub pending-talk : (d : List FrameType) (rs : List Heard) (r : Heard) → is_idle r.report.kind ≡ false →
     pending d (rs ++ r ∷ []) ≡ waits d r
-pending-talk d rs r e =
-    ap (pending-of d) (talk-one rs r e)
+pending-talk d rs r talks =
+    ap (pending-of d) (talk-one rs r talks)
     ∙ ap (option_and_then (waits d)) (last_or-push None (talk rs) r)
 
 pub decided-idle : (d : List FrameType) (rs : List Heard) (r : Heard) → is_idle r.report.kind ≡ true →
     decided d rs r ≡ None
-decided-idle d rs r e = rw e refl
+decided-idle d rs r idle = rw idle refl
 
 -- the verdict on the left neighbour is that on the command that waits
 judged : (d : List FrameType) (r : Heard) (o : Option Heard) →
@@ -71,7 +71,7 @@ judged d r (Some left) = refl
 
 pub decided-talk : (d : List FrameType) (rs : List Heard) (r : Heard) → is_idle r.report.kind ≡ false →
     decided d rs r ≡ option_map (verdict d (begins d r)) (pending d rs)
-decided-talk d rs r e = rw e (judged d r (last_or None (talk rs)))
+decided-talk d rs r talks = rw talks (judged d r (last_or None (talk rs)))
 
 abbrev verdicts-of : (d : List FrameType) (ps : List (Heard × Heard)) → List Verdict
 verdicts-of d ps = filter_map (λ pair. verdict_on d pair.0 pair.1) ps
@@ -91,11 +91,11 @@ verdicts-more d rs r = step (is_idle r.report.kind) refl
   where
     step : (b : Bool) → is_idle r.report.kind ≡ b → verdicts d (rs ++ r ∷ [])
         ≡ verdicts d rs ++ option_to_list (decided d rs r)
-    step true e =
-        ap (λ xs. verdicts-of d (neighbours xs)) (talk-idle rs r e)
-        ∙ rw (decided-idle d rs r e) (sym (append-nil (verdicts d rs)))
-    step false e =
-        ap (λ xs. verdicts-of d (neighbours xs)) (talk-one rs r e)
+    step true kind_is =
+        ap (λ xs. verdicts-of d (neighbours xs)) (talk-idle rs r kind_is)
+        ∙ rw (decided-idle d rs r kind_is) (sym (append-nil (verdicts d rs)))
+    step false kind_is =
+        ap (λ xs. verdicts-of d (neighbours xs)) (talk-one rs r kind_is)
         ∙ (ap (verdicts-of d) (neighbours-push (talk rs) r)
         ∙ (filter_map-append _ (neighbours (talk rs)) (paired (last_or None (talk rs)) r)
-        ∙ rw e (ap (λ xs. verdicts d rs ++ xs) (judged-pair d (last_or None (talk rs)) r))))
+        ∙ rw kind_is (ap (λ xs. verdicts d rs ++ xs) (judged-pair d (last_or None (talk rs)) r))))

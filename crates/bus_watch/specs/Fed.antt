@@ -1,7 +1,7 @@
 -- What feeding bits does to an analyser and a sink.
 use Rattle.std.specs.Prelude.{◌≡◌, ℕ, ◌+◌, ◌-◌, ◌<◌, ◌≤◌, Bool, List, [], ◌∷◌, ◌++◌, length, take, Option}
 use Rattle.bus_watch.specs.Seen.{SeenReport}
-use Rattle.bus_watch.specs.Sink.{told}
+use Rattle.bus_watch.specs.Sink.{told, SinkTook}
 use Rattle.bus_watch.specs.Watch.{Watch, Leads, seen_by}
 use Rattle.bus_watch.specs.After.{AnalyserState, IsAfter, Sees, seen_after, one_line}
 use Rattle.bus_watch.specs.declared.fault.FeedFault.{FeedFault}
@@ -21,12 +21,12 @@ pub data Lacks : List SeenReport → List SeenReport → ℕ → Type 0 where
   refused : (s : SeenReport) (ss ts : List SeenReport) (n : ℕ) → Lacks ss ts n → Lacks (s ∷ ss) ts (n + 1)
 
 -- a sink was offered these, and refused so many
-pub record Offered {S : Type 0} (taken : S → Option (List SeenReport)) (refusals : S → ℕ) (all : List SeenReport)
-    (n : ℕ) (before after : S) : Type 0 where
+pub record Offered {S : Type 0} (taken : S → Option (List SeenReport)) (room : S → Option ℕ) (refusals : S → ℕ)
+    (all : List SeenReport) (n : ℕ) (before after : S) : Type 0 where
   pub took_of : List SeenReport
   pub lacks : Lacks all took_of n
   pub took : taken after ≡ told (taken before) took_of
-  pub count : refusals after ≡ refusals before + n
+  pub sink : SinkTook taken room refusals n before after
 
 -- these led from old to new, and the sink took what is seen at them, but that it refused so many of what is seen at
 -- the last

@@ -17,7 +17,7 @@ use crate::ending::Ending;
 use crate::fault::NewFault;
 use crate::feed::PLACES;
 use crate::finding::Finding;
-use crate::hear::{begun_span, hear, hear_octets};
+use crate::hear::{begun_span, fresh, hear, hear_octets};
 use crate::journal::Journal;
 use crate::kept::Kept;
 use crate::laws::{seen_grows, steps_are_bounded};
@@ -127,16 +127,9 @@ impl<C: Check> Analyser<C> {
         ensures unchanged { OnErr result (self.new ≡ self.old) }
     {
         settled_places();
-        // The `?` parts the two cases for the proof.
-        let taken = hear(
-            &mut self.decoder,
-            &mut self.journal,
-            &mut self.is_decided,
-            None,
-            bits,
-            count,
-        )?;
-        Ok(taken)
+        let intake = hear(&mut self.decoder, &mut self.journal, None, bits, count)?;
+        self.is_decided = intake.is_decided;
+        Ok(intake.count)
     }
 
     /// Takes bits of these octets, the least significant of each first, from bit `at` on and before bit `end`: up to
@@ -162,17 +155,9 @@ impl<C: Check> Analyser<C> {
         ensures unchanged { OnErr result (self.new ≡ self.old) }
     {
         settled_places();
-        // The `?` parts the two cases for the proof.
-        let taken = hear_octets(
-            &mut self.decoder,
-            &mut self.journal,
-            &mut self.is_decided,
-            None,
-            octets,
-            at,
-            end,
-        )?;
-        Ok(taken)
+        let intake = hear_octets(&mut self.decoder, &mut self.journal, None, octets, at, end)?;
+        self.is_decided = intake.is_decided;
+        Ok(intake.count)
     }
 
     /// What is seen at the last bit that [`Analyser::take`] or [`Analyser::scan`] took, if it decides a report.
@@ -181,11 +166,7 @@ impl<C: Check> Analyser<C> {
     pub fn finding(&self) -> Option<&Finding>
         ensures { option_copied result ≡ self.now.finding }
     {
-        if self.is_decided {
-            Some(self.journal.last())
-        } else {
-            None
-        }
+        fresh(&self.journal, self.is_decided)
     }
 
     /// The octets of the frame that the last bit closed: address, control, information and the two

@@ -2,7 +2,7 @@
 
 ghost use Rattle.std.specs.Prelude.{◌≡◌, ◌+◌, ◌-◌, ◌≤◌, ◌<◌, ◌^◌, ◌↔◌, IsErrOf, IsTrue, IfErr, OnOk, length};
 ghost use Rattle.bus_watch.specs.Fed.{Fed, RefusedAt, ForSink};
-ghost use Rattle.bus_watch.specs.Sink.{IsFull, IsWithinRoom};
+ghost use Rattle.bus_watch.specs.Sink.{SinkTook};
 ghost use Rattle.bus_watch.specs.Headline.{bits_in};
 
 use crate::analyser::Analyser;
@@ -40,16 +40,11 @@ impl<C: Check> Analyser<C> {
         ensures unchanged { IsErrOf result FeedFault.PlaceLimit → (self.new ≡ self.old) × (sink.new ≡ sink.old) }
         ensures fed { OnOk result (
             Fed C.folded C.COST S.taken self.old (bits_in pieces.now) self.new sink.old sink.new) }
-        ensures none_refused { OnOk result (S.refusals sink.new ≡ S.refusals sink.old) }
+        ensures none_refused { OnOk result (SinkTook S.taken S.room S.refusals 0 sink.old sink.new) }
         ensures refused { IfErr result (λ fault. ForSink fault (λ consumed.
             RefusedAt C.folded C.COST S.taken self.old (bits_in pieces.now) consumed self.new sink.old sink.new)) }
         ensures one_refused { IfErr result (λ fault. ForSink fault (λ consumed.
-            S.refusals sink.new ≡ S.refusals sink.old + 1)) }
-        ensures room { S.room sink.new ≡ S.room sink.old }
-        ensures full { IfErr result (λ fault. ForSink fault (λ consumed.
-            IsFull (S.room sink.new) (S.taken sink.new))) }
-        ensures within { OnOk result (IsWithinRoom (S.room sink.old) (S.taken sink.old) →
-            IsWithinRoom (S.room sink.new) (S.taken sink.new)) }
+            SinkTook S.taken S.room S.refusals 1 sink.old sink.new)) }
     {
         if !fits(pieces, PLACES - self.place()) {
             return Err(FeedFault::PlaceLimit);

@@ -4,7 +4,7 @@ ghost use Rattle.std.specs.Prelude.{◌≡◌, ◌+◌, ◌-◌, ◌<◌, ◌≤
 ghost use Rattle.bus_watch.specs.Headline.{Headline, Fails, StoppedAt, CanBeMade, UnlessStopped, all_seen, bits_in};
 ghost use Rattle.bus_watch.specs.Headline.{kept_frames};
 ghost use Rattle.bus_watch.specs.Seen.{SeenReport};
-ghost use Rattle.bus_watch.specs.Sink.{told};
+ghost use Rattle.bus_watch.specs.Sink.{told, SinkTook};
 ghost use Rattle.bus_watch.specs.After.{IsAfter};
 
 use crate::analyser::Analyser;
@@ -54,9 +54,9 @@ pub fn run_all<C: Check, S: ReportSink>(
         × Headline C.COST dictionary depth origin (bits_in pieces.now) reports (kept_frames run.analyser) run.usage) }
     ensures is_after { IfOk result (λ run. IsAfter C.folded C.COST run.analyser (bits_in pieces.now)) }
     ensures within_limits { OnOk result (CanBeMade depth origin × (origin + length (bits_in pieces.now) ≤ 2 ^ 60)) }
-    ensures none_refused { OnOk result (S.refusals sink.new ≡ S.refusals sink.old) }
+    ensures none_refused { OnOk result (SinkTook S.taken S.room S.refusals 0 sink.old sink.new) }
     ensures fails { IfErr result (Fails depth origin (length (bits_in pieces.now)) (λ consumed.
-        (S.refusals sink.new ≡ S.refusals sink.old + 1)
+        SinkTook S.taken S.room S.refusals 1 sink.old sink.new
         × StoppedAt S.taken dictionary origin (bits_in pieces.now) sink.old sink.new consumed)) }
     ensures untouched { IfErr result (UnlessStopped (sink.new ≡ sink.old)) }
 {

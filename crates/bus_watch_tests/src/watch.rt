@@ -37,7 +37,7 @@ fn sent(word: &str) -> &str {
         "control-19" => "00001000 11001000 00110011 00011101",
         // 10 83 45 2c: without information.
         "untyped" => "00001000 11000001 10100010 00110100",
-        // 10 83 01 74 f4: of type 1, with nothing behind it.
+        // 10 83 01 74 f4: of type 1, with nothing after it.
         "type-1" => "00001000 11000001 10000000 00101110 00101111",
         bits => bits,
     }
@@ -114,7 +114,7 @@ fn push_bits(bits: &mut Vec<bool>, text: &str) -> Result<(), AllocError> {
     Ok(())
 }
 
-/// The bits of words, one behind the other.
+/// The bits of words, one after the other.
 fn bits_of(alloc: Global, words: &str) -> Result<Vec<bool>, AllocError> {
     let mut bits = Vec::new(alloc);
     for word in words.split_whitespace() {

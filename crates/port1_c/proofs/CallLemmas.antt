@@ -1,10 +1,10 @@
 -- The bits of a frame in a sink with room for them.
 use Rattle.std.proofs.Common.{◌≡◌, ℕ, ◌≤◌, Bool, true, List, [], ◌++◌, length, take, Option, None, Some, Result, Err}
-use Rattle.std.proofs.Common.{IsTrue, ap, ◌∙◌, arith, length-take}
+use Rattle.std.proofs.Common.{ap, ◌∙◌, arith, length-take}
 use Rattle.bus_line.specs.Line.{Frame, added, gain, raw_bits}
 use Rattle.bus_line.specs.Mark.{flag}
 use Rattle.bus_line.specs.Internal.EncoderState.{EncoderState}
-use Rattle.bus_line.specs.Encoding.{AfterCalls, Encoded, Refused}
+use Rattle.bus_line.specs.Encoding.{AfterCalls, Calls, Encoded, HasBadLength, Refused}
 use Rattle.bus_line.specs.declared.fault.EncodeFault.{EncodeFault}
 use Rattle.bus_line.specs.declared.fault.EncodeFault.TheVariants.{Ended, LengthRange, Sink}
 use Rattle.bus_bits.specs.Bits.{bits_from}
@@ -54,11 +54,11 @@ module _ (octets : List ℕ) (old new : EncoderState) (before after : CallBits) 
 
   -- there is room for it
   pub never-fails : (r : Result (Unit {0}) EncodeFault) (e : EncodeFault) → r ≡ Err e → before.refused ≡ 0 →
-      length (added None (Frame octets)) ≤ 2492
-      → (r ≡ Err Ended → IsTrue old.ended) → (r ≡ Err LengthRange → ⊥)
-      → ((written : ℕ) → r ≡ Err (Sink written) → Refused taken refusals (Frame octets) written old new before after) →
-      ⊥
-  never-fails r Ended is none fits ended range refused = let t : old.ended ≡ true = ended is in let f =
-      first.going in cc
-  never-fails r LengthRange is none fits ended range refused = range is
-  never-fails r (Sink written) is none fits ended range refused = never-refused written none fits (refused written is)
+      length (added None (Frame octets)) ≤ 2492 → (HasBadLength (Frame octets) → ⊥)
+      → Calls taken refusals (Frame octets) r old new before after → ⊥
+  never-fails r Ended is none fits sized calls =
+      let ended : old.ended ≡ true = calls.ended.0 is in
+      let going = first.going in
+      cc
+  never-fails r LengthRange is none fits sized calls = sized (calls.range.0 is).1
+  never-fails r (Sink written) is none fits sized calls = never-refused written none fits (calls.refused written is)

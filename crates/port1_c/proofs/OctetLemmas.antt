@@ -19,7 +19,7 @@ octet-alone o at n l = bits-in (o ∷ []) 0 at at n (omega arith) l
 pub first-bits : (o n : ℕ) → n ≤ 8 → bits_of n o ≡ bits_from (o ∷ []) 0 n
 first-bits o n l = let e : o ≡ o / 2 ^ 0 = omega arith in ap (bits_of n) e ∙ octet-alone o 0 n (omega (arith, l))
 
--- the bits behind the first `at` of so many
+-- the bits after the first `at` of so many
 behind : (at k m x : ℕ) → m ≡ at + k → drop at (bits_of m x) ≡ bits_of k (x / 2 ^ at)
 behind at k m x e =
     ap (λ (i : ℕ). drop at (bits_of i x)) e
@@ -67,13 +67,3 @@ first-of-reversed o r at n m i z e l =
 
 pub bits-of-reversed : (o r at n : ℕ) → r ≡ reverse_bits w8 o → at + n ≤ 8 → bits_from (r ∷ []) at n ≡ high_first o at n
 bits-of-reversed o r at n i l = ap (λ (x : ℕ). bits_from (x ∷ []) at n) i ∙ reversed-octet o at n l
-
-pub length-high-first : (o at n : ℕ) → at + n ≤ 8 → length (high_first o at n) ≡ n
-length-high-first o at n l = ap length (sym (reversed-octet o at n l)) ∙ length-from (reverse_bits w8 o ∷ []) at n
-
--- all of its bits but the last
-pub front-high-first : (o at n : ℕ) → at + n ≤ 8
-    → take (length (high_first o at n) - 1) (high_first o at n) ≡ high_first o at (n - 1)
-front-high-first o at n within =
-    rw (← reversed-octet o at n within)
-    (front-from (reverse_bits w8 o ∷ []) at n ∙ reversed-octet o at (n - 1) (omega (arith, within)))

@@ -2,7 +2,7 @@
 use Rattle.std.proofs.Common.{◌≡◌, ◌≢◌, ℕ, zero, suc, ◌+◌, ◌<◌, ◌≤◌, Bool, List, [], ◌∷◌, ◌++◌, length, refl, sym, ap}
 use Rattle.std.proofs.Common.{◌∙◌, arith}
 use Rattle.bus_bits.specs.Bits.{bit_at, bits_from}
-use Rattle.port1_c.specs.Bits.{Puts}
+use Rattle.port1_c.specs.Bits.{PutsBits}
 use Rattle.bus_bits.proofs.BitLemmas.{bits-more, length-from}
 
 -- bits that are alike
@@ -14,12 +14,12 @@ bits-alike os ps i (suc n) h =
     ap (λ b. b ∷ bits_from os (i + 1) n) (h i (omega arith) (omega arith))
     ∙ ap (λ bits. bit_at ps i ∷ bits) (bits-alike os ps (i + 1) n (λ j l m. h j (omega (arith, l)) (omega (arith, m))))
 
--- the bit behind some
+-- the bit after some
 pub bits-next : (os : List ℕ) (i n : ℕ) → bits_from os i (n + 1) ≡ bits_from os i n ++ bit_at os (i + n) ∷ []
 unfolding bits_from
 bits-next os i n = bits-more os i n 1
 
--- a bit put in behind some
+-- a bit put in after some
 pub bits-pushed : (os ps : List ℕ) (i n place : ℕ) (bit : Bool) → place ≡ i + n → bit_at ps place ≡ bit →
     ((j : ℕ) → j ≢ place → bit_at ps j ≡ bit_at os j)
     → bits_from ps i (n + 1) ≡ bits_from os i n ++ bit ∷ []
@@ -28,15 +28,15 @@ bits-pushed os ps i n place bit e is kept =
     ∙ ap (λ b. bits_from ps i n ++ b ∷ []) is
     ∙ ap (λ bits. bits ++ bit ∷ []) (bits-alike ps os i n (λ j l m. kept j (λ f. omega (arith, e, f, m))))
 
-pub puts-none : (os : List ℕ) (at : ℕ) (ps : List ℕ) (i : ℕ) → Puts os at (bits_from ps i 0) os
+pub puts-none : (os : List ℕ) (at : ℕ) (ps : List ℕ) (i : ℕ) → PutsBits os at (bits_from ps i 0) os
 unfolding bits_from
 puts-none os at ps i = record { long = refl; put = refl; before = λ j l. refl; behind = λ j l. refl }
 
 -- one bit more
-pub puts-more : (old mid new source : List ℕ) (at i n : ℕ) → Puts old at (bits_from source i n) mid →
+pub puts-more : (old mid new source : List ℕ) (at i n : ℕ) → PutsBits old at (bits_from source i n) mid →
     length new ≡ length mid
     → bit_at new (at + n) ≡ bit_at source (i + n) → ((j : ℕ) → j ≢ at + n → bit_at new j ≡ bit_at mid j) →
-    Puts old at (bits_from source i (n + 1)) new
+    PutsBits old at (bits_from source i (n + 1)) new
 puts-more old mid new source at i n p long is kept =
     let l : length (bits_from source i n) ≡ n = length-from source i n in
     let m : length (bits_from source i (n + 1)) ≡ n + 1 = length-from source i (n + 1) in

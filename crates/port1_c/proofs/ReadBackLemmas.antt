@@ -1,4 +1,4 @@
--- What is read of idles behind other calls.
+-- What is read of idles after other calls.
 use Rattle.std.proofs.Common.{◌≡◌, ℕ, zero, suc, ◌+◌, ◌<◌, List, [], ◌∷◌, ◌++◌, length, Option, None, Some, refl, sym}
 use Rattle.std.proofs.Common.{ap, ◌∙◌, arith, length-append}
 use Rattle.std.specs.Prelude.{All, if◌then◌else◌}
@@ -27,7 +27,7 @@ read-more place before (call ∷ calls) more =
     (read_behind (place + length (added before call ++ line_behind (Some call) calls)) (last_or (Some call) calls)
     more))
 
--- idles behind an idle are read as nothing
+-- idles after an idle are read as nothing
 read-none : (place n : ℕ) → read_behind place (Some Idle) (idles n) ≡ []
 read-none place zero = refl
 read-none place (suc n) = read-none (place + 15) n

@@ -1,4 +1,4 @@
--- Bits that decide nothing, and bits behind them that decide a report.
+-- Bits that decide nothing, and bits after them that decide a report.
 use Rattle.std.proofs.Common.{◌≡◌, ◌≤◌, ◌-◌, ℕ, List, [], ◌∷◌, Bool, Option, None, ap, refl, subst, sym, ◌∙◌}
 use Rattle.std.proofs.Common.{arith}
 use Rattle.bus_fcs.specs.declared.octet_check.OctetCheck.{OctetCheck}
@@ -10,19 +10,24 @@ use Rattle.bus_line.proofs.TellLemmas as lines
 use Rattle.bus_bits.specs.Bits.{bits_from}
 use Rattle.bus_bits.specs.Octet.{bits_of}
 use Rattle.port1_c.specs.declared.report.Port1Report.{Port1Report}
-use Rattle.port1_c.specs.Line.{Advances, Tells, told}
+use Rattle.port1_c.specs.Line.{Advances, Tells, report_told}
 use Rattle.port1_c.proofs.OctetLemmas.{first-bits}
 
 abbrev pub State : Type 0
 State = LineState OctetCheck
 
-pub told-none : (r : Port1Report) (octets : List ℕ) → r.kind ≡ 0 → told r octets ≡ None
+pub told-none : (r : Port1Report) (octets : List ℕ) → r.kind ≡ 0 → report_told r octets ≡ None
 told-none r octets e = rw e refl
 
 -- a report of kind 0 is none
 pub tells-none : (a c : State) (bits : List Bool) (r : Port1Report) → r.kind ≡ 0 → Tells a bits r c →
     line.Tells HasFolded 1 a bits None c
 tells-none a c bits r e p = subst (λ (o : Option Report). line.Tells HasFolded 1 a bits o c) (told-none r c.octets e) p
+
+-- the same bits, said in another way
+pub advances-same : {a c : State} {bits those : List Bool} (r : Port1Report) → bits ≡ those → Advances a bits r c
+    → Advances a those r c
+advances-same {a} {c} r same = subst (λ (those : List Bool). Advances a those r c) same
 
 -- no bits
 pub advances-no-bits : (os : List ℕ) (at n : ℕ) (d : State) (r : Port1Report) → n ≡ 0 → r.kind ≡ 0
@@ -35,7 +40,7 @@ pub tells-first : (o : ℕ) (d : State) → line.Tells HasFolded 1 d (bits_of 0 
 unfolding bits_of
 tells-first o d = lines.tells-none HasFolded 1 d
 
--- the first bits of an octet decide nothing; what those behind them decide
+-- the first bits of an octet decide nothing; what those after them decide
 module _ (o at past : ℕ) (m : past ≤ 8) {a c : State} (p : line.Tells HasFolded 1 a (bits_of at o) None c) where
   from-first : at ≤ past → line.Tells HasFolded 1 a (bits_from (o ∷ []) 0 (at - 0)) None c
   from-first l =

@@ -4,7 +4,7 @@ use Rattle.bus_bits.specs.Octet.{bits_of}
 use Rattle.bus_bits.specs.Bits.{bit_at, bits_from}
 
 -- from bit `at` on these bits came into the octets, and all others are as they were
-pub record Puts (old : List ℕ) (at : ℕ) (bits : List Bool) (new : List ℕ) : Type 0 where
+pub record PutsBits (old : List ℕ) (at : ℕ) (bits : List Bool) (new : List ℕ) : Type 0 where
   pub long : length new ≡ length old
   pub put : bits_from new at (length bits) ≡ bits
   pub before : (i : ℕ) → i < at → bit_at new i ≡ bit_at old i

@@ -1,9 +1,8 @@
 -- What a C caller's memory says of a decoder and of a report.
-use Rattle.std.specs.Prelude.{◌≡◌, ◌≢◌, ◌≤◌, ◌==◌, not, ℕ, ◌+◌, Bool, List, take, Option, Some, None, if◌then◌else◌}
+use Rattle.std.specs.Prelude.{◌≡◌, ◌≢◌, ◌≤◌, ◌==◌, not, ℕ, Bool, List, Option, Some, None, if◌then◌else◌}
 use Rattle.bus_fcs.specs.declared.octet_check.OctetCheck.{OctetCheck}
 use Rattle.bus_fcs.specs.Folded.{HasFolded}
 use Rattle.bus_line.specs.After as line
-use Rattle.bus_line.specs.Due.{placed}
 use Rattle.bus_line.specs.Words.{IsWithin, LineState, state}
 use Rattle.bus_line.specs.Report.{Report, Kind}
 use Rattle.bus_line.specs.declared.cause.Cause.{Cause}
@@ -11,8 +10,8 @@ use Rattle.bus_line.specs.declared.cause.Cause.TheVariants as cause
 use Rattle.port1_c.specs.declared.line.Port1Line.{Port1Line}
 use Rattle.port1_c.specs.declared.report.Port1Report.{Port1Report}
 
-abbrev pub first_in : ℕ → ℕ → Option ℕ
-first_in has first = if has == 0 then None else Some first
+abbrev pub first_told : ℕ → ℕ → Option ℕ
+first_told has first = if has == 0 then None else Some first
 
 -- the memory holds a decoder
 abbrev pub Sound : Port1Line → Type 0
@@ -26,43 +25,31 @@ check_of l = record { state = l.words.register }
 abbrev pub held : Port1Line → LineState OctetCheck
 held l = state l.words (check_of l) l.octets
 
--- a decoder may stand after the bits b
-abbrev pub After : LineState OctetCheck → List Bool → Type 0
-After d b = line.After HasFolded 1 d b
-
--- and so the memory
-abbrev pub Stands : Port1Line → List Bool → Type 0
-Stands l b = After (held l) b
-
--- the octets of the frame that was just told
-abbrev pub frame : Port1Line → List ℕ
-frame l = take l.words.len l.octets
-
--- the reports of the bits b
-abbrev pub reports_of : Port1Line → List Bool → List Report
-reports_of l b = placed l.words.origin l.words.longest b
+-- the memory may hold a decoder after the bits b
+abbrev pub LineAfter : Port1Line → List Bool → Type 0
+LineAfter l b = line.After HasFolded 1 (held l) b
 
 -- a number that stands for a bit
-abbrev pub bit_of : ℕ → Bool
-bit_of n = not (n == 0)
+abbrev pub bit_told : ℕ → Bool
+bit_told n = not (n == 0)
 
-abbrev pub cause_in : ℕ → Cause
-cause_in n =
+abbrev pub cause_told : ℕ → Cause
+cause_told n =
     if n == 1 then cause.Unstuffed
     else (if n == 2 then cause.Short else (if n == 3 then cause.Unaligned else cause.Fcs))
 
-abbrev pub kind_in : ℕ → ℕ → List ℕ → Kind
-kind_in kind cause octets =
+abbrev pub kind_told : ℕ → ℕ → List ℕ → Kind
+kind_told kind cause octets =
     if kind == 1 then Kind.Frame octets else
-    (if kind == 2 then Kind.Damaged (cause_in cause) else
+    (if kind == 2 then Kind.Damaged (cause_told cause) else
     (if kind == 3 then Kind.Overlong else
     (if kind == 4 then Kind.Abort else Kind.Idle)))
 
 -- the report that the memory tells, if it tells one; a frame's octets are these
-abbrev pub told : Port1Report → List ℕ → Option Report
-told r octets =
+abbrev pub report_told : Port1Report → List ℕ → Option Report
+report_told r octets =
     if r.kind == 0
-    then None else Some (record { kind = kind_in r.kind r.cause octets; first = r.first; past = r.past })
+    then None else Some (record { kind = kind_told r.kind r.cause octets; first = r.first; past = r.past })
 
 -- the numbers of include/port1.h: a kind up to 5, and a cause of 1 to 4 for a damaged piece alone
 pub record IsCoded (r : Port1Report) : Type 0 where
@@ -70,16 +57,10 @@ pub record IsCoded (r : Port1Report) : Type 0 where
   pub damaged : r.kind ≡ 2 → (1 ≤ r.cause) × (r.cause ≤ 4)
   pub others : r.kind ≢ 2 → r.cause ≡ 0
 
--- the longest frame and the place of the first bit stay, and so many bits were taken
-pub record Goes (old : Port1Line) (count : ℕ) (new : Port1Line) : Type 0 where
-  pub longest : new.words.longest ≡ old.words.longest
-  pub origin : new.words.origin ≡ old.words.origin
-  pub place : new.words.place ≡ old.words.place + count
-
 -- these bits lead from old to new, and decide just this report, if it is one
 abbrev pub Tells : LineState OctetCheck → List Bool → Port1Report → LineState OctetCheck → Type 0
-Tells old bits r new = line.Tells HasFolded 1 old bits (told r new.octets) new
+Tells old bits r new = line.Tells HasFolded 1 old bits (report_told r new.octets) new
 
 -- these bits lead from old to new; the last of them decides this report, if it is one, and no other decides a report
 abbrev pub Advances : LineState OctetCheck → List Bool → Port1Report → LineState OctetCheck → Type 0
-Advances old bits r new = line.Advances HasFolded 1 old bits (told r new.octets) new
+Advances old bits r new = line.Advances HasFolded 1 old bits (report_told r new.octets) new

@@ -1,12 +1,12 @@
 //! What C calls.
 
-ghost use Rattle.std.specs.Prelude.{◌≡◌, ◌≢◌, ◌+◌, ◌-◌, ◌*◌, ◌≤◌, ◌<◌, ◌^◌, ◌↔◌, ◌⊎◌, List, Bool, ◌∷◌, ◌++◌, []};
+ghost use Rattle.std.specs.Prelude.{◌≡◌, ◌≢◌, ◌+◌, ◌-◌, ◌*◌, ◌≤◌, ◌<◌, ◌^◌, ◌↔◌, ◌⊎◌, List, Bool, ◌∷◌, []};
 ghost use Rattle.std.specs.Prelude.{IsTrue, length};
-ghost use Rattle.std.specs.Option.{option_map, option_to_list};
+ghost use Rattle.std.specs.Option.{option_map};
 ghost use Rattle.bus_line.specs.Due.{begun};
 ghost use Rattle.bus_bits.specs.Bits.{bits_from};
 ghost use Rattle.port1_c.specs.Bits.{high_first};
-ghost use Rattle.port1_c.specs.Line.{Sound, Stands, bit_of, first_in, frame, Goes, IsCoded, reports_of, told};
+ghost use Rattle.port1_c.specs.Line.{Advances, IsCoded, Sound, LineAfter, Tells, bit_told, first_told, held};
 ghost use Rattle.port1_c.specs.declared.status.TheConstants.{OK, BAD_LENGTH, PLACE_LIMIT, BAD_STATE, BAD_ARGUMENT};
 
 use crate::bits;
@@ -25,7 +25,7 @@ pub extern "C" fn port1_line_init(line: &mut Port1Line, longest: u64, origin: u6
     ensures origin { (result ≡ PLACE_LIMIT) ↔ ((3 ≤ longest) × (longest ≤ 256) × (2 ^ 60 < origin)) }
     ensures status { result ≤ PLACE_LIMIT }
     ensures sound { result ≡ OK → Sound line.new }
-    ensures stands { result ≡ OK → Stands line.new [] }
+    ensures stands { result ≡ OK → LineAfter line.new [] }
     ensures given { result ≡ OK → (line.new.words.longest ≡ longest) × (line.new.words.origin ≡ origin)
         × (line.new.words.place ≡ origin) }
     ensures kept { result ≢ OK → line.new ≡ line.old }
@@ -54,11 +54,7 @@ pub extern "C" fn port1_line_push(line: &mut Port1Line, bit: u8, report: &mut Po
     ensures kept { result ≢ OK → (line.new ≡ line.old) × (report.new ≡ report.old) }
     ensures sound { result ≡ OK → Sound line.new }
     ensures coded { result ≡ OK → IsCoded report.new }
-    ensures goes { result ≡ OK → Goes line.old 1 line.new }
-    ensures stands { result ≡ OK → (b : List Bool) → Stands line.old b → Stands line.new (b ++ bit_of bit ∷ []) }
-    ensures told { result ≡ OK → (b : List Bool) → Stands line.old b →
-        reports_of line.new (b ++ bit_of bit ∷ []) ≡ reports_of line.old b
-        ++ option_to_list (told report.new (frame line.new)) }
+    ensures tells { result ≡ OK → Tells (held line.old) (bit_told bit ∷ []) report.new (held line.new) }
 {
     if !line.words.are_sound() {
         return BAD_STATE;
@@ -101,18 +97,12 @@ pub extern "C" fn port1_line_feed(
     ensures kept { BAD_STATE ≤ result → (line.new ≡ line.old) × (at.new ≡ at.old) × (report.new ≡ report.old) }
     ensures sound { result < BAD_STATE → Sound line.new }
     ensures coded { result < BAD_STATE → IsCoded report.new }
-    ensures goes { result < BAD_STATE → Goes line.old (at.new - at.old) line.new }
     ensures bound { result < BAD_STATE → (at.old ≤ at.new) × (at.new ≤ end) }
     ensures some { result < BAD_STATE → report.new.kind ≢ 0 → at.old < at.new }
     ensures all { result ≡ OK → report.new.kind ≡ 0 → at.new ≡ end }
     ensures limit { result ≡ PLACE_LIMIT → (report.new.kind ≡ 0) × (at.new < end) × (line.new.words.place ≡ 2 ^ 60) }
-    ensures stands { result < BAD_STATE → (b : List Bool) → Stands line.old b →
-        Stands line.new (b ++ bits_from octets.now at.old (at.new - at.old)) }
-    ensures told { result < BAD_STATE → (b : List Bool) → Stands line.old b →
-        reports_of line.new (b ++ bits_from octets.now at.old (at.new - at.old)) ≡ reports_of line.old b
-        ++ option_to_list (told report.new (frame line.new)) }
-    ensures last { result < BAD_STATE → report.new.kind ≢ 0 → (b : List Bool) → Stands line.old b →
-        reports_of line.old (b ++ bits_from octets.now at.old (at.new - at.old - 1)) ≡ reports_of line.old b }
+    ensures advances { result < BAD_STATE →
+        Advances (held line.old) (bits_from octets.now at.old (at.new - at.old)) report.new (held line.new) }
 {
     if bits::are_octet(octets, *at, end) {
         return bits::feed_octet(line, octets[0], at, report);
@@ -141,18 +131,12 @@ pub extern "C" fn port1_line_feed_high_first(
     ensures kept { BAD_STATE ≤ result → (line.new ≡ line.old) × (at.new ≡ at.old) × (report.new ≡ report.old) }
     ensures sound { result < BAD_STATE → Sound line.new }
     ensures coded { result < BAD_STATE → IsCoded report.new }
-    ensures goes { result < BAD_STATE → Goes line.old (at.new - at.old) line.new }
     ensures bound { result < BAD_STATE → (at.old ≤ at.new) × (at.new ≤ 8) }
     ensures some { result < BAD_STATE → report.new.kind ≢ 0 → at.old < at.new }
     ensures all { result ≡ OK → report.new.kind ≡ 0 → at.new ≡ 8 }
     ensures limit { result ≡ PLACE_LIMIT → (report.new.kind ≡ 0) × (at.new < 8) × (line.new.words.place ≡ 2 ^ 60) }
-    ensures stands { result < BAD_STATE → (b : List Bool) → Stands line.old b →
-        Stands line.new (b ++ high_first octet at.old (at.new - at.old)) }
-    ensures told { result < BAD_STATE → (b : List Bool) → Stands line.old b →
-        reports_of line.new (b ++ high_first octet at.old (at.new - at.old)) ≡ reports_of line.old b
-        ++ option_to_list (told report.new (frame line.new)) }
-    ensures last { result < BAD_STATE → report.new.kind ≢ 0 → (b : List Bool) → Stands line.old b →
-        reports_of line.old (b ++ high_first octet at.old (at.new - at.old - 1)) ≡ reports_of line.old b }
+    ensures advances { result < BAD_STATE →
+        Advances (held line.old) (high_first octet at.old (at.new - at.old)) report.new (held line.new) }
 {
     if *at == 0 {
         return bits::feed_octet(line, octet.reverse_bits(), at, report);
@@ -175,8 +159,8 @@ pub extern "C" fn port1_line_open(line: &Port1Line, has_begun: &mut u8, first: &
     ensures kept { result ≢ OK → (has_begun.new ≡ has_begun.old) × (first.new ≡ first.old) }
     ensures flag { result ≡ OK → has_begun.new ≤ 1 }
     ensures untouched { result ≡ OK → has_begun.new ≡ 0 → first.new ≡ first.old }
-    ensures begun { result ≡ OK → (b : List Bool) → Stands line.now b →
-        first_in has_begun.new first.new ≡ option_map (λ first. line.now.words.origin + first) (begun b) }
+    ensures begun { result ≡ OK → (b : List Bool) → LineAfter line.now b →
+        first_told has_begun.new first.new ≡ option_map (λ first. line.now.words.origin + first) (begun b) }
 {
     if !line.words.are_sound() {
         return BAD_STATE;

@@ -1,6 +1,6 @@
 //! A table of frame types in a caller's memory.
 
-ghost use Rattle.port1_c.specs.Pair.{entries_of};
+ghost use Rattle.port1_c.specs.Pair.{entries_told};
 
 use bus_dictionary::{Rule, Rules};
 
@@ -27,7 +27,7 @@ pub(crate) struct Table<'a> {
 }
 
 impl Rules for Table<'_> {
-    ghost entries = { λ table. entries_of 0 table.entries.now };
+    ghost entries = { λ table. entries_told 0 table.entries.now };
 
     fn rule(&self, ftype: u8) -> Option<Rule> {
         match self.entry(ftype) {
@@ -55,11 +55,11 @@ impl Table<'_> {
 
 impl Port1Entry {
     ghost use Rattle.std.specs.Prelude.{◌≡◌};
-    ghost use Rattle.port1_c.specs.Pair.{rule_in};
+    ghost use Rattle.port1_c.specs.Pair.{rule_told};
 
     /// What the entry says.
     fn rule(self) -> Rule
-        ensures { result ≡ rule_in self }
+        ensures { result ≡ rule_told self }
     {
         Rule {
             size: self.length,

@@ -40,7 +40,7 @@ impl Port1Line {
         let mut check = OctetCheck::with_register(self.words.register);
         match self
             .words
-            .scan(&mut check, &mut self.octets, octets, at, end)
+            .scan::<OctetCheck, false>(&mut check, &mut self.octets, octets, at, end)
         {
             Ok(scanned) => {
                 self.words.register = check.register();

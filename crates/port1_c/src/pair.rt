@@ -1,7 +1,7 @@
 //! A command that waits, in a caller's memory.
 
 ghost use Rattle.std.specs.Prelude.{◌≡◌, None};
-ghost use Rattle.port1_c.specs.Pair.{fresh, waiting};
+ghost use Rattle.port1_c.specs.Pair.{no_reports, waiting};
 
 use bus_bits::Span;
 use bus_watch::{Pairing, Pending};
@@ -27,7 +27,7 @@ pub struct Port1Pair {
 impl Port1Pair {
     /// Before any report.
     pub(crate) fn new() -> Self
-        ensures { result ≡ fresh }
+        ensures { result ≡ no_reports }
     {
         Port1Pair {
             first: 0,

@@ -3,7 +3,8 @@
 ghost use Rattle.std.specs.Prelude.{◌≡◌, ◌≢◌, ◌<◌, ◌↔◌, ◌⊎◌, List, [], ◌∷◌, ◌++◌, Some, IsSome, IfSome};
 ghost use Rattle.bus_watch.specs.Heard.{Heard};
 ghost use Rattle.bus_watch.specs.Seen.{seen_of};
-ghost use Rattle.port1_c.specs.Pair.{IsCodedSeen, IsReport, Waits, entries_of, fresh, heard_in, line_in, seen_in};
+ghost use Rattle.port1_c.specs.Pair.{CanBeReport, IsCodedSeen, PairAfter, entries_told, heard_told, line_told};
+ghost use Rattle.port1_c.specs.Pair.{no_reports, seen_told};
 ghost use Rattle.port1_c.specs.declared.status.TheConstants.{OK, BAD_ARGUMENT};
 
 use crate::entry::{Port1Entry, Table};
@@ -16,7 +17,7 @@ use bus_watch::Line;
 /// The line of a number, if it is that of one.
 fn line_of(number: u32) -> Option<Option<Line>>
     ensures some { IsSome result ↔ (number < 3) }
-    ensures value { IfSome result (λ line. line ≡ line_in number) }
+    ensures value { IfSome result (λ line. line ≡ line_told number) }
 {
     match number {
         0 => Some(None),
@@ -30,8 +31,8 @@ fn line_of(number: u32) -> Option<Option<Line>>
 #[unsafe(no_mangle)]
 pub extern "C" fn port1_pair_init(pair: &mut Port1Pair) -> u32
     ensures status { result ≡ OK }
-    ensures value { pair.new ≡ fresh }
-    ensures waits { (entries : List Port1Entry) → Waits pair.new entries [] }
+    ensures value { pair.new ≡ no_reports }
+    ensures waits { (entries : List Port1Entry) → PairAfter pair.new entries [] }
 {
     *pair = Port1Pair::new();
     OK
@@ -51,14 +52,14 @@ pub extern "C" fn port1_pair_take(
     seen: &mut Port1Seen,
 ) -> u32
     ensures status { (result ≡ OK) ⊎ (result ≡ BAD_ARGUMENT) }
-    ensures taken { result ≡ OK ↔ (line < 3) × IsReport report.now octets.now }
+    ensures taken { result ≡ OK ↔ (line < 3) × CanBeReport report.now octets.now }
     ensures kept { result ≢ OK → (pair.new ≡ pair.old) × (seen.new ≡ seen.old) }
     ensures coded { result ≡ OK → IsCodedSeen seen.new }
-    ensures waits { result ≡ OK → (hs : List Heard) → Waits pair.old entries.now hs →
-        Waits pair.new entries.now (hs ++ heard_in line report.now octets.now ∷ []) }
-    ensures says { result ≡ OK → (hs : List Heard) → Waits pair.old entries.now hs →
-        seen_in seen.new (heard_in line report.now octets.now)
-        ≡ seen_of (entries_of 0 entries.now) hs (heard_in line report.now octets.now) }
+    ensures waits { result ≡ OK → (hs : List Heard) → PairAfter pair.old entries.now hs →
+        PairAfter pair.new entries.now (hs ++ heard_told line report.now octets.now ∷ []) }
+    ensures says { result ≡ OK → (hs : List Heard) → PairAfter pair.old entries.now hs →
+        seen_told seen.new (heard_told line report.now octets.now)
+        ≡ seen_of (entries_told 0 entries.now) hs (heard_told line report.now octets.now) }
 {
     let Some(line) = line_of(line) else {
         return BAD_ARGUMENT;

@@ -2,7 +2,7 @@
 
 ghost use Rattle.std.specs.Prelude.{◌≡◌, ◌≢◌, ◌+◌, ◌-◌, ◌*◌, ◌≤◌, ◌<◌, ◌^◌, ◌/◌, ◌%◌, ℕ, cond, length};
 ghost use Rattle.bus_bits.specs.Bits.{bit_at, bits_from};
-ghost use Rattle.port1_c.specs.Bits.{Puts};
+ghost use Rattle.port1_c.specs.Bits.{PutsBits};
 
 /// Bit `at` of these octets, the lowest of each first.
 #[inline(always)]
@@ -41,7 +41,7 @@ pub(crate) fn put_bits(octets: &mut [u8], at: usize, source: &[u8], first: usize
     requires within { end ≤ 8 * length source.now }
     requires room { at + (end - first) ≤ 8 * length octets.old }
     requires small { at + (end - first) < 2 ^ 64 }
-    ensures { Puts octets.old at (bits_from source.now first (end - first)) octets.new }
+    ensures { PutsBits octets.old at (bits_from source.now first (end - first)) octets.new }
 {
     for i in 0..end - first {
         set_bit(octets, at + i, get_bit(source, first + i));

@@ -3,8 +3,8 @@
 ghost use Rattle.std.specs.Prelude.{◌≡◌, ◌≢◌, ◌≤◌, ◌↔◌, ℕ, List, Option, None, Some, IsSome, IfSome, length};
 ghost use Rattle.std.specs.Option.{option_map};
 ghost use Rattle.bus_line.specs.Shown.{reported};
-ghost use Rattle.port1_c.specs.Line.{IsCoded, cause_in, told};
-ghost use Rattle.port1_c.specs.Pair.{IsReport, heard_in};
+ghost use Rattle.port1_c.specs.Line.{IsCoded, cause_told, report_told};
+ghost use Rattle.port1_c.specs.Pair.{CanBeReport, heard_told};
 
 use bus_bits::Span;
 use bus_line::{Cause, Event, EventKind};
@@ -60,7 +60,7 @@ impl Port1Report {
 
     /// The report of an event.
     pub(crate) fn of_event(event: Event) -> Self
-        ensures tells { (octets : List ℕ) → told result octets ≡ Some (reported octets event) }
+        ensures tells { (octets : List ℕ) → report_told result octets ≡ Some (reported octets event) }
         ensures some { result.kind ≢ 0 }
         ensures coded { IsCoded result }
     {
@@ -79,7 +79,7 @@ impl Port1Report {
 
     /// The report of an event, if there is one.
     pub(crate) fn of(event: Option<Event>) -> Self
-        ensures tells { (octets : List ℕ) → told result octets ≡ option_map (reported octets) event }
+        ensures tells { (octets : List ℕ) → report_told result octets ≡ option_map (reported octets) event }
         ensures none { result.kind ≡ 0 → event ≡ None }
         ensures coded { IsCoded result }
     {
@@ -91,8 +91,8 @@ impl Port1Report {
 
     /// The event that it tells, if there can be such a one; that of a frame has four octets or more.
     pub(crate) fn event(&self, octets: &[u8]) -> Option<Event>
-        ensures some { IsSome result ↔ IsReport self.now octets.now }
-        ensures value { IfSome result (λ e. reported octets.now e ≡ (heard_in 0 self.now octets.now).report) }
+        ensures some { IsSome result ↔ CanBeReport self.now octets.now }
+        ensures value { IfSome result (λ e. reported octets.now e ≡ (heard_told 0 self.now octets.now).report) }
         ensures frame { IfSome result (λ e. e.kind ≡ EventKind.Frame → 4 ≤ length octets.now) }
     {
         let kind = match self.kind {
@@ -115,7 +115,7 @@ impl Port1Report {
     /// The cause of damage, if it is one.
     fn cause(&self) -> Option<Cause>
         ensures some { IsSome result ↔ (1 ≤ self.now.cause) × (self.now.cause ≤ 4) }
-        ensures value { IfSome result (λ c. c ≡ cause_in self.now.cause) }
+        ensures value { IfSome result (λ c. c ≡ cause_told self.now.cause) }
     {
         match self.cause {
             UNSTUFFED => Some(Cause::Unstuffed),
@@ -129,7 +129,7 @@ impl Port1Report {
     /// No report.
     pub(crate) fn none() -> Self
         ensures kind { result.kind ≡ 0 }
-        ensures tells { (octets : List ℕ) → told result octets ≡ None }
+        ensures tells { (octets : List ℕ) → report_told result octets ≡ None }
         ensures coded { IsCoded result }
     {
         Port1Report {

@@ -1,7 +1,7 @@
 //! What follows from a report, in a caller's memory.
 
 ghost use Rattle.std.specs.Prelude.{◌≡◌, ◌≢◌, ◌≤◌, ◌==◌, not, replicate};
-ghost use Rattle.port1_c.specs.Pair.{IsCodedSeen, outcome_in, standing_in, standing_of, verdict_in};
+ghost use Rattle.port1_c.specs.Pair.{IsCodedSeen, outcome_told, standing_told, standing_by, verdict_told};
 
 use bus_dictionary::Standing;
 use bus_watch::{Finding, Outcome};
@@ -68,7 +68,7 @@ impl Stands {
     /// How a piece stands, if it is a frame.
     fn of(standing: Option<Standing>) -> Self
         ensures number { result.number ≤ 5 }
-        ensures value { standing_of result.number result.station result.control result.ftype ≡ standing }
+        ensures value { standing_by result.number result.station result.control result.ftype ≡ standing }
     {
         let (number, station, control, ftype) = match standing {
             None => (0, 0, 0, 0),
@@ -93,7 +93,7 @@ impl Stands {
 fn outcome_number(outcome: Outcome) -> u32
     ensures some { result ≢ 0 }
     ensures number { result ≤ 4 }
-    ensures value { outcome_in result ≡ outcome }
+    ensures value { outcome_told result ≡ outcome }
 {
     match outcome {
         Outcome::Answered => ANSWERED,
@@ -107,8 +107,8 @@ impl Port1Seen {
     /// What follows from a report.
     pub(crate) fn of(finding: &Finding) -> Self
         ensures coded { IsCodedSeen result }
-        ensures standing { standing_in result ≡ finding.now.standing }
-        ensures verdict { verdict_in result ≡ finding.now.verdict }
+        ensures standing { standing_told result ≡ finding.now.standing }
+        ensures verdict { verdict_told result ≡ finding.now.verdict }
         ensures stray { not (result.stray == 0) ≡ finding.now.stray }
     {
         let stands = Stands::of(finding.standing);
@@ -130,7 +130,7 @@ impl Port1Seen {
     fn undecided(stands: Stands, stray: u32) -> Self
         ensures number { result.standing ≡ stands.number }
         ensures spare { result.spare ≡ replicate 7 0 }
-        ensures standing { standing_in result ≡ standing_of stands.number stands.station stands.control stands.ftype }
+        ensures standing { standing_told result ≡ standing_by stands.number stands.station stands.control stands.ftype }
         ensures verdict { result.verdict ≡ 0 }
         ensures stray { result.stray ≡ stray }
     {

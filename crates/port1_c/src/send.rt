@@ -1,10 +1,10 @@
 //! What C calls to send.
 
-ghost use Rattle.std.specs.Prelude.{◌≡◌, ◌≢◌, ◌+◌, ◌-◌, ◌*◌, ◌%◌, ◌≤◌, ◌<◌, ◌^◌, ◌↔◌, ◌⊎◌, List, [], ◌∷◌, ◌++◌, length};
-ghost use Rattle.bus_line.specs.Line.{Call, gain};
+ghost use Rattle.std.specs.Prelude.{◌≡◌, ◌≢◌, ◌+◌, ◌-◌, ◌*◌, ◌%◌, ◌≤◌, ◌<◌, ◌^◌, ◌↔◌, ◌⊎◌, [], ◌∷◌, length};
+ghost use Rattle.bus_line.specs.Line.{Call};
 ghost use Rattle.bus_bits.specs.Bits.{bits_from};
-ghost use Rattle.port1_c.specs.Bits.{Puts};
-ghost use Rattle.port1_c.specs.Send.{Follows, Gains, GainsAll, idles};
+ghost use Rattle.port1_c.specs.Bits.{PutsBits};
+ghost use Rattle.port1_c.specs.Send.{SenderAfter, Sends, idles};
 ghost use Rattle.port1_c.specs.declared.status.TheConstants.{OK, BAD_LENGTH, BAD_STATE, BAD_ARGUMENT, NO_ROOM};
 
 use crate::call_bits::frame_bits;
@@ -29,7 +29,7 @@ fn put(
     ensures room { result ≡ NO_ROOM ↔ ((8 * length octets.old < at.old + bits.new) ⊎ (2 ^ 64 ≤ at.old + bits.new)) }
     ensures kept { result ≢ OK → (octets.new ≡ octets.old) × (at.new ≡ at.old) }
     ensures at { result ≡ OK → at.new ≡ at.old + bits.new }
-    ensures puts { result ≡ OK → Puts octets.old at.old (bits_from source.now first (end - first)) octets.new }
+    ensures puts { result ≡ OK → PutsBits octets.old at.old (bits_from source.now first (end - first)) octets.new }
 {
     *bits = end - first;
     if octets.len().saturating_mul(8) - *at < *bits {
@@ -53,7 +53,7 @@ fn first_bit(sender: &Port1Sender) -> usize
 #[unsafe(no_mangle)]
 pub extern "C" fn port1_sender_init(sender: &mut Port1Sender) -> u32
     ensures status { result ≡ OK }
-    ensures follows { Follows sender.new [] }
+    ensures follows { SenderAfter sender.new [] }
 {
     sender.behind_flag = 0;
     OK
@@ -71,18 +71,9 @@ pub extern "C" fn port1_send_flag(
     bits: &mut usize,
 ) -> u32
     ensures status { (result ≡ OK) ⊎ (result ≡ BAD_STATE) ⊎ (result ≡ BAD_ARGUMENT) ⊎ (result ≡ NO_ROOM) }
-    ensures argument { (result ≡ BAD_ARGUMENT) ↔ (8 * length octets.old < at.old) }
-    ensures state { (result ≡ BAD_STATE) ↔ ((at.old ≤ 8 * length octets.old) × (1 < sender.old.behind_flag)) }
-    ensures room { (result ≡ OK) ⊎ (result ≡ NO_ROOM) → (result ≡ NO_ROOM
-        ↔ ((8 * length octets.old < at.old + bits.new) ⊎ (2 ^ 64 ≤ at.old + bits.new))) }
-    ensures kept { result ≢ OK → (sender.new ≡ sender.old) × (octets.new ≡ octets.old) × (at.new ≡ at.old) }
-    ensures untold { (result ≡ BAD_STATE) ⊎ (result ≡ BAD_ARGUMENT) → bits.new ≡ bits.old }
-    ensures told { (result ≡ OK) ⊎ (result ≡ NO_ROOM) → (calls : List Call) → Follows sender.old calls →
-        bits.new ≡ length (gain calls Call.Flag) }
-    ensures at { result ≡ OK → at.new ≡ at.old + bits.new }
-    ensures gains { result ≡ OK → Gains sender.old octets.old at.old Call.Flag octets.new }
-    ensures follows { result ≡ OK → (calls : List Call) → Follows sender.old calls →
-        Follows sender.new (calls ++ Call.Flag ∷ []) }
+    ensures sends { Sends (Call.Flag ∷ []) result
+        (record { sender = sender.old; octets = octets.old; at = at.old; bits = bits.old })
+        (record { sender = sender.new; octets = octets.new; at = at.new; bits = bits.new }) }
 {
     if *at > octets.len().saturating_mul(8) {
         return BAD_ARGUMENT;
@@ -107,18 +98,9 @@ pub extern "C" fn port1_send_idle(
     bits: &mut usize,
 ) -> u32
     ensures status { (result ≡ OK) ⊎ (result ≡ BAD_STATE) ⊎ (result ≡ BAD_ARGUMENT) ⊎ (result ≡ NO_ROOM) }
-    ensures argument { (result ≡ BAD_ARGUMENT) ↔ (8 * length octets.old < at.old) }
-    ensures state { (result ≡ BAD_STATE) ↔ ((at.old ≤ 8 * length octets.old) × (1 < sender.old.behind_flag)) }
-    ensures room { (result ≡ OK) ⊎ (result ≡ NO_ROOM) → (result ≡ NO_ROOM
-        ↔ ((8 * length octets.old < at.old + bits.new) ⊎ (2 ^ 64 ≤ at.old + bits.new))) }
-    ensures kept { result ≢ OK → (sender.new ≡ sender.old) × (octets.new ≡ octets.old) × (at.new ≡ at.old) }
-    ensures untold { (result ≡ BAD_STATE) ⊎ (result ≡ BAD_ARGUMENT) → bits.new ≡ bits.old }
-    ensures told { (result ≡ OK) ⊎ (result ≡ NO_ROOM) → (calls : List Call) → Follows sender.old calls →
-        bits.new ≡ length (gain calls Call.Idle) }
-    ensures at { result ≡ OK → at.new ≡ at.old + bits.new }
-    ensures gains { result ≡ OK → Gains sender.old octets.old at.old Call.Idle octets.new }
-    ensures follows { result ≡ OK → (calls : List Call) → Follows sender.old calls →
-        Follows sender.new (calls ++ Call.Idle ∷ []) }
+    ensures sends { Sends (Call.Idle ∷ []) result
+        (record { sender = sender.old; octets = octets.old; at = at.old; bits = bits.old })
+        (record { sender = sender.new; octets = octets.new; at = at.new; bits = bits.new }) }
 {
     if *at > octets.len().saturating_mul(8) {
         return BAD_ARGUMENT;
@@ -144,18 +126,11 @@ pub extern "C" fn port1_send_align(
     bits: &mut usize,
 ) -> u32
     ensures status { (result ≡ OK) ⊎ (result ≡ BAD_STATE) ⊎ (result ≡ BAD_ARGUMENT) ⊎ (result ≡ NO_ROOM) }
-    ensures argument { (result ≡ BAD_ARGUMENT) ↔ (8 * length octets.old < at.old) }
-    ensures state { (result ≡ BAD_STATE) ↔ ((at.old ≤ 8 * length octets.old) × (1 < sender.old.behind_flag)) }
-    ensures room { (result ≡ OK) ⊎ (result ≡ NO_ROOM) → (result ≡ NO_ROOM
-        ↔ ((8 * length octets.old < at.old + bits.new) ⊎ (2 ^ 64 ≤ at.old + bits.new))) }
-    ensures kept { result ≢ OK → (sender.new ≡ sender.old) × (octets.new ≡ octets.old) × (at.new ≡ at.old) }
-    ensures untold { (result ≡ BAD_STATE) ⊎ (result ≡ BAD_ARGUMENT) → bits.new ≡ bits.old }
-    ensures told { (result ≡ OK) ⊎ (result ≡ NO_ROOM) → bits.new ≡ 15 * (at.old % 8) }
-    ensures at { result ≡ OK → at.new ≡ at.old + bits.new }
+    ensures sends { Sends (idles (at.old % 8)) result
+        (record { sender = sender.old; octets = octets.old; at = at.old; bits = bits.old })
+        (record { sender = sender.new; octets = octets.new; at = at.new; bits = bits.new }) }
+    ensures few { (result ≡ OK) ⊎ (result ≡ NO_ROOM) → bits.new ≡ 15 * (at.old % 8) }
     ensures aligned { result ≡ OK → at.new % 8 ≡ 0 }
-    ensures gains { result ≡ OK → GainsAll sender.old octets.old at.old (idles (at.old % 8)) octets.new }
-    ensures follows { result ≡ OK → (calls : List Call) → Follows sender.old calls →
-        Follows sender.new (calls ++ idles (at.old % 8)) }
 {
     if *at > octets.len().saturating_mul(8) {
         return BAD_ARGUMENT;
@@ -184,20 +159,11 @@ pub extern "C" fn port1_send_frame(
 ) -> u32
     ensures status { (result ≡ OK) ⊎ (result ≡ BAD_LENGTH) ⊎ (result ≡ BAD_STATE) ⊎ (result ≡ BAD_ARGUMENT)
         ⊎ (result ≡ NO_ROOM) }
-    ensures argument { (result ≡ BAD_ARGUMENT) ↔ (8 * length octets.old < at.old) }
-    ensures state { (result ≡ BAD_STATE) ↔ ((at.old ≤ 8 * length octets.old) × (1 < sender.old.behind_flag)) }
     ensures range { (result ≡ BAD_LENGTH) ↔ ((at.old ≤ 8 * length octets.old) × (sender.old.behind_flag ≤ 1)
         × ((length frame.now < 2) ⊎ (256 < length frame.now))) }
-    ensures room { (result ≡ OK) ⊎ (result ≡ NO_ROOM) → (result ≡ NO_ROOM
-        ↔ ((8 * length octets.old < at.old + bits.new) ⊎ (2 ^ 64 ≤ at.old + bits.new))) }
-    ensures kept { result ≢ OK → (sender.new ≡ sender.old) × (octets.new ≡ octets.old) × (at.new ≡ at.old) }
-    ensures untold { (result ≡ BAD_LENGTH) ⊎ (result ≡ BAD_STATE) ⊎ (result ≡ BAD_ARGUMENT) → bits.new ≡ bits.old }
-    ensures told { (result ≡ OK) ⊎ (result ≡ NO_ROOM) → (calls : List Call) → Follows sender.old calls →
-        bits.new ≡ length (gain calls (Call.Frame frame.now)) }
-    ensures at { result ≡ OK → at.new ≡ at.old + bits.new }
-    ensures gains { result ≡ OK → Gains sender.old octets.old at.old (Call.Frame frame.now) octets.new }
-    ensures follows { result ≡ OK → (calls : List Call) → Follows sender.old calls →
-        Follows sender.new (calls ++ (Call.Frame frame.now) ∷ []) }
+    ensures sends { Sends (Call.Frame frame.now ∷ []) result
+        (record { sender = sender.old; octets = octets.old; at = at.old; bits = bits.old })
+        (record { sender = sender.new; octets = octets.new; at = at.new; bits = bits.new }) }
 {
     if *at > octets.len().saturating_mul(8) {
         return BAD_ARGUMENT;

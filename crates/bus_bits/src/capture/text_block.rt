@@ -84,7 +84,7 @@ fn close(block: &mut [u8], packing: Packing) -> TextBlock
     }
 }
 
-/// Packs up to 80 bits more, and takes what is skipped behind them.
+/// Packs up to 80 bits more, and takes what is skipped after them.
 #[inline(always)]
 fn pack_some(text: &[u8], block: &mut [u8], packing: Packing) -> Packing
     requires packed { IsPacked text.now block.old packing }
@@ -101,7 +101,7 @@ fn pack_some(text: &[u8], block: &mut [u8], packing: Packing) -> Packing
     pack_line(text, block, long)
 }
 
-/// Packs up to 16 bits four times, and takes what is skipped behind each of them: where lines are short, 64 octets are
+/// Packs up to 16 bits four times, and takes what is skipped after each of them: where lines are short, 64 octets are
 /// not looked at for each.
 #[inline(always)]
 fn pack_short_lines(text: &[u8], block: &mut [u8], packing: Packing) -> Packing
@@ -118,7 +118,7 @@ fn pack_short_lines(text: &[u8], block: &mut [u8], packing: Packing) -> Packing
     pack_line(text, block, third)
 }
 
-/// Packs up to 16 bits more, and takes what is skipped behind them.
+/// Packs up to 16 bits more, and takes what is skipped after them.
 #[inline(always)]
 fn pack_line(text: &[u8], block: &mut [u8], packing: Packing) -> Packing
     requires packed { IsPacked text.now block.old packing }
@@ -193,7 +193,7 @@ fn pass_spaces(text: &[u8], packing: Packing) -> Packing
     now
 }
 
-/// Puts the bits of as many octets of the text behind those that a block has. Eight octets are stored, though fewer may
+/// Puts the bits of as many octets of the text after those that a block has. Eight octets are stored, though fewer may
 /// be full.
 #[inline(always)]
 fn put_bits(block: &mut [u8], bits: u64, count: u32, packing: Packing) -> Packing

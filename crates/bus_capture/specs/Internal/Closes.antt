@@ -1,4 +1,4 @@
--- How a text is closed behind a fault.
+-- How a text is closed after a fault.
 use Rattle.std.specs.Prelude.{◌≡◌, ◌⊎◌, ℕ, List, Option}
 use Rattle.std.specs.Io.KnownBytes.{Appends}
 use Rattle.bus_text.specs.Put.{Cuts}

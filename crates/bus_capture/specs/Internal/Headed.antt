@@ -1,9 +1,9 @@
--- Packed captures, of one line or of two, behind their heads.
+-- Packed captures, of one line or of two, after their heads.
 use Rattle.std.specs.Prelude.{◌≡◌, ℕ, List, ◌++◌, length, Option, None}
 use Rattle.bus_bits.specs.Capture.{CaptureFault}
 use Rattle.bus_bits.specs.Packed.{head_bits}
 
--- these octets are a head without a fault and others behind it, at which so many bits or pairs are left, as `After`
+-- these octets are a head without a fault and others after it, at which so many bits or pairs are left, as `After`
 -- says it of a head's count and these others
 pub record IsHeaded (fault : List ℕ → Option CaptureFault) (After : ℕ → List ℕ → ℕ → Type 0) (left : ℕ)
     (xs : List ℕ) : Type 0 where

@@ -6,14 +6,14 @@ use Rattle.bus_watch.specs.Seen.{SeenReport, seen}
 use Rattle.bus_watch.specs.Watch.{Watch}
 use Rattle.bus_capture.specs.Captures.{Form}
 
--- an analyser A that takes X, and its captures; words N of up to 48 X, and readers B of the octets behind a packed head
+-- an analyser A that takes X, and its captures; words N of up to 48 X, and readers B of the octets after a packed head
 pub record TapView (A X N B : Type 0) : Type 1 where
   pub watch : Watch A X
   pub form : Form X
   pub heard : A → List SeenReport  -- what is seen at the last X taken
   pub symbols : ℕ → N → List X  -- the first so many of a word
   pub fits : ℕ → N → Type 0  -- a word has no others
-  pub is_body : B → List ℕ → Type 0  -- these octets are a good head and those behind it that were taken
+  pub is_body : B → List ℕ → Type 0  -- these octets are a good head and those after it that were taken
 
 -- what is seen of more goes on
 pub record SeenOn {X : Type 0} (f : Form X) (d : List FrameType) (longest origin : ℕ) (b more : List X) : Type 0 where

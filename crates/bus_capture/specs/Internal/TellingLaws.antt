@@ -1,4 +1,4 @@
--- The laws of a listener that tells: reports behind reports, and room for fewer.
+-- The laws of a listener that tells: reports after reports, and room for fewer.
 use Rattle.std.proofs.Common.{◌≡◌, ℕ, ◌+◌, ◌≤◌, List, [], ◌++◌, length, Option, Some, None, refl, sym, ap, ◌∙◌, subst}
 use Rattle.std.proofs.Common.{arith, append-nil, append_assoc, length-append}
 use Rattle.bus_dictionary.specs.Entry.{FrameType}

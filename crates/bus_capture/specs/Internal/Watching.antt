@@ -10,7 +10,7 @@ use Rattle.bus_watch.specs.Watch.{Watch, seen_by}
 use Rattle.bus_text.specs.Listing.{Line, listing, ending_text}
 use Rattle.bus_text.specs.Summary.{summary_of}
 use Rattle.bus_text.specs.Counting.{IsFew}
-use Rattle.bus_text.specs.Internal.Pages.{Pages}
+use Rattle.bus_text.specs.Pages.{Pages}
 use Rattle.bus_text.specs.Put.{Cuts}
 use Rattle.bus_text.specs.CheckText.{check_text}
 use Rattle.bus_text.specs.declared.printer.Printer.{Printer}
@@ -53,7 +53,7 @@ module _ {A X N B : Type 0} (t : TapView A X N B) where
   abbrev pub lines : CaptureRun A → List X → List ℕ
   lines run b = printed run.teller.printer (t.watch.dictionary run.analyser) (seen_by t.watch run.analyser b)
 
-  -- the lines of the end behind these bits
+  -- the lines of the end after these bits
   abbrev pub last_lines : CaptureRun A → List X → List ℕ
   last_lines run b =
       ended run.teller.printer (t.form.ending (t.watch.origin run.analyser) b

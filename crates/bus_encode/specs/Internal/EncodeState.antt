@@ -5,7 +5,7 @@ use Rattle.bus_line.specs.Line.{Call, Flag, Idle, Frame}
 use Rattle.bus_line.specs.Internal.EncoderState.{EncoderState}
 use Rattle.bus_line.specs.Encoding.{AfterCalls}
 use Rattle.bus_encode.specs.Lines.{ended_lines, open_line}
-use Rattle.bus_encode.specs.Encode.{Asked, line_number, asked_behind, asked_so_far, asked_in_all, encode_text}
+use Rattle.bus_encode.specs.Encode.{Asked, text_line, asked_behind, asked_so_far, asked_in_all, encode_text}
 use Rattle.bus_encode.specs.Encodes.{Asks}
 use Rattle.bus_text.specs.declared.fault.ToolFault.{ToolFault}
 use Rattle.bus_text.specs.declared.fault.ToolFault.TheVariants.{Read, ReadsLimit, Write, BadLine, FrameLength}
@@ -24,7 +24,7 @@ IsSized (Frame octets) = (2 ≤ length octets) × (length octets ≤ 256)
 IsSized _ = Unit {0}
 
 -- these calls were encoded, and their text went out
-pub record Encoded (start now : Option (List ℕ)) (encoder : EncoderState) (written : ℕ)
+pub record HasEncoded (start now : Option (List ℕ)) (encoder : EncoderState) (written : ℕ)
     (calls : List Call) : Type 0 where
   pub after : AfterCalls encoder calls
   pub out : Appends start now (encode_text calls)
@@ -34,39 +34,40 @@ pub record Encoded (start now : Option (List ℕ)) (encoder : EncoderState) (wri
 pub record Takes (start now : Option (List ℕ)) (line : List ℕ) (number : ℕ) (encoder : EncoderState) (written : ℕ)
     (xs : List ℕ) : Type 0 where
   pub here : line ≡ open_line xs
-  pub lines : number ≡ line_number (length (ended_lines xs))
+  pub lines : number ≡ text_line (length (ended_lines xs))
   pub clean : (asked_so_far xs).fault ≡ None
-  pub done : Encoded start now encoder written (asked_behind 0 (ended_lines xs)).calls
+  pub done : HasEncoded start now encoder written (asked_behind 0 (ended_lines xs)).calls
 
 -- this fault stopped what was asked for
-abbrev pub Halts : Option (List ℕ) → Option (List ℕ) → ℕ → Asked → ToolFault → Type 0
-Halts start now written a (BadLine n) =
+abbrev pub EncodeHalts : Option (List ℕ) → Option (List ℕ) → ℕ → Asked → ToolFault → Type 0
+EncodeHalts start now written a (BadLine n) =
     (a.fault ≡ Some (BadLine n)) × Appends start now (encode_text a.calls) × (written ≡ length (encode_text a.calls))
-Halts start now written a (FrameLength n) =
+EncodeHalts start now written a (FrameLength n) =
     (a.fault ≡ Some (FrameLength n)) × Appends start now (encode_text a.calls)
     × (written ≡ length (encode_text a.calls))
-Halts start now written a (Write sent) =
+EncodeHalts start now written a (Write sent) =
     (sent ≤ length (encode_text a.calls)) × Appends start now (take sent (encode_text a.calls))
-Halts start now written a _ = ⊥
+EncodeHalts start now written a _ = ⊥
 
--- how a line ended that stands behind these calls and asks for `one`
+-- how a line ended that stands after these calls and asks for `one`
 abbrev pub Ends : Option (List ℕ) → Option (List ℕ) → EncoderState → ℕ → List Call → Asked
     → Result (Unit {0}) ToolFault → Type 0
 Ends start now encoder written calls one (Ok _) =
-    (one.fault ≡ None) × Encoded start now encoder written (calls ++ one.calls)
+    (one.fault ≡ None) × HasEncoded start now encoder written (calls ++ one.calls)
 Ends start now encoder written calls one (Err e) =
-    Halts start now written (record { calls = calls ++ one.calls; fault = one.fault }) e
+    EncodeHalts start now written (record { calls = calls ++ one.calls; fault = one.fault }) e
 
 -- how the reading of these octets ended, whose reader has `after` left, before the flush
-abbrev pub Finishes : ℕ → Option (List ℕ) → Option (List ℕ) → Option (List ℕ) → ℕ → List ℕ
+abbrev pub EncodeFinishes : ℕ → Option (List ℕ) → Option (List ℕ) → Option (List ℕ) → ℕ → List ℕ
     → Result (Unit {0}) ToolFault → Type 0
-Finishes reads after start now written xs (Ok _) =
+EncodeFinishes reads after start now written xs (Ok _) =
     IsAtEnd after × ((asked_in_all xs).fault ≡ None) × Appends start now (encode_text (asked_in_all xs).calls)
     × (written ≡ length (encode_text (asked_in_all xs).calls))
-Finishes reads after start now written xs (Err Read) =
+EncodeFinishes reads after start now written xs (Err Read) =
     ((asked_so_far xs).fault ≡ None) × Appends start now (encode_text (asked_so_far xs).calls)
     × (written ≡ length (encode_text (asked_so_far xs).calls))
-Finishes reads after start now written xs (Err ReadsLimit) =
+EncodeFinishes reads after start now written xs (Err ReadsLimit) =
     (reads ≤ length xs) × ((asked_so_far xs).fault ≡ None) × Appends start now (encode_text (asked_so_far xs).calls)
     × (written ≡ length (encode_text (asked_so_far xs).calls))
-Finishes reads after start now written xs (Err e) = (a : Asked) × Asks after xs a × Halts start now written a e
+EncodeFinishes reads after start now written xs (Err e) =
+    (a : Asked) × Asks after xs a × EncodeHalts start now written a e

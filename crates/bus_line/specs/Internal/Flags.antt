@@ -12,13 +12,13 @@ pub record FlagsAhead (b bits : List Bool) (k : ℕ) : Type 0 where
   pub behind : 0 < k → EndsInFlag b
   pub most : EndsInFlag b → 8 * k + 8 ≤ length bits → take 8 (drop (8 * k) bits) ≡ flag → ⊥
 
--- of the `n` bits of x so many are left behind these flags, and those are the bits of `rest`
+-- of the `n` bits of x so many are left after these flags, and those are the bits of `rest`
 pub record IsPast (b : List Bool) (n x k rest left : ℕ) : Type 0 where
   pub ahead : FlagsAhead b (bits_of n x) k
   pub bits : rest ≡ x / 2 ^ (8 * k)
   pub count : left ≡ n - 8 * k
 
--- of these bits so many are taken: all, or those up to the first behind just six ones or just fourteen
+-- of these bits so many are taken: all, or those up to the first after exactly six ones or exactly fourteen
 pub record StopsAt (b bits : List Bool) (count : ℕ) : Type 0 where
   pub before : (i : ℕ) → i + 1 < count → MayDecide (b ++ take i bits) → ⊥
   pub stop : count < length bits → MayDecide (b ++ take (count - 1) bits)
@@ -32,4 +32,4 @@ pub record ShowsFlag (w : LineWords) (b : List Bool) : Type 0 where
 pub record PassesFlags (old : LineWords) (count : ℕ) (new : LineWords) : Type 0 where
   pub none : count ≡ 0 → new ≡ old
   pub some : 0 < count
-      → new ≡ record old { place = old.place + 8 * count; history = 32382; settles_at = old.place + 8 * count + 8 }
+      → new ≡ record old { place = old.place + 8 * count; last_bits = 32382; settles_at = old.place + 8 * count + 8 }

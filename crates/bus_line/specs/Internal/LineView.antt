@@ -7,7 +7,7 @@ use Rattle.bus_line.specs.declared.decoder.LineDecoder.TheInside.{Inside}
 abbrev pub line_state : {C : Type 0} → Inside C → LineState C
 line_state d = state d.words d.check d.cells
 
--- the place behind which each bit settles one of the piece that begins there; with no piece open, no bit's place comes
+-- the place after which each bit settles one of the piece that begins there; with no piece open, no bit's place comes
 -- so far
 abbrev pub settles_from : Option ℕ → ℕ
 settles_from None = 2 ^ 62

@@ -4,9 +4,9 @@ use Rattle.bus_bits.specs.Bits.{bits_from}
 use Rattle.bus_line.specs.declared.line_words.LineWords.{LineWords}
 use Rattle.bus_line.specs.Decides.{flags}
 
--- so many ones more, behind sixteen, lead from old to new
+-- so many ones more, after sixteen, lead from old to new
 pub record PassesOnes (old : LineWords) (count : ℕ) (new : LineWords) : Type 0 where
-  pub behind : 0 < count → old.history ≡ 65535
+  pub behind : 0 < count → old.last_bits ≡ 65535
   pub new_is : new ≡ record old { place = old.place + count }
 
 -- the bits of these octets from bit `from` on and before bit `to` are whole flags

@@ -7,7 +7,7 @@ use Rattle.bus_line.specs.Due.{current}
 use Rattle.bus_line.specs.Internal.LineState.{LineState}
 use Rattle.bus_line.specs.Internal.Tracks.{HasTaken, HoldsFor, Counts, first_of, padded}
 
--- none of the first `n` bits stands behind just six ones or just fourteen
+-- none of the first `n` bits stands after exactly six ones or exactly fourteen
 abbrev pub IsCalm : List Bool → List Bool → ℕ → Type 0
 IsCalm b bits n = (i : ℕ) → i < n → (ones_at_end (b ++ take i bits) ≢ 6) × (ones_at_end (b ++ take i bits) ≢ 14)
 
@@ -15,11 +15,11 @@ IsCalm b bits n = (i : ℕ) → i < n → (ones_at_end (b ++ take i bits) ≢ 6)
 abbrev pub IsWord : ℕ → List Bool → List Bool → Type 0
 IsWord w b bits = w ≡ number (drop (length b) (padded (b ++ bits)))
 
--- the word shows just six ones, or fourteen, before the new bit `i`
+-- the word shows exactly six ones, or fourteen, before the new bit `i`
 abbrev pub IsStop : ℕ → ℕ → Type 0
 IsStop w i = (w / 2 ^ (9 + i) % 128 ≡ 126) ⊎ (w / 2 ^ (1 + i) % 32768 ≡ 32766)
 
--- of the first `k` bits behind the eight lowest those that are no 0 after five ones, the oldest first
+-- of the first `k` bits after the eight lowest those that are no 0 after five ones, the oldest first
 abbrev pub data_in_word : ℕ → ℕ → List Bool
 data_in_word word zero = []
 data_in_word word (suc k) =
@@ -38,11 +38,11 @@ pub record LagsBy {C : Type 0} (folded : C → List ℕ → Type 0) (cost : ℕ)
   pub piece : HoldsFor folded d b (current b)
   pub counts : Counts cost d b
 
--- how many more of the first `limit` there are where `k` come behind `n`
+-- how many more of the first `limit` there are where `k` come after `n`
 abbrev pub gain : ℕ → ℕ → ℕ → ℕ
 gain limit n k = min (n + k) limit - min n limit
 
--- how many octets more of a piece of `n` data bits are stored, where `k` come behind them
+-- how many octets more of a piece of `n` data bits are stored, where `k` come after them
 abbrev pub octets_more : ℕ → ℕ → ℕ → ℕ
 octets_more longest n k = min ((n + k) / 8) (longest + 2) - min (n / 8) (longest + 2)
 

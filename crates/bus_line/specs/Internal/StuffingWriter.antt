@@ -10,7 +10,7 @@ module _ {S : Type 0} (taken : S → Option (List Bool)) (refusals : S → ℕ) 
     pub kept : refusals after ≡ refusals before
     pub written : new.written ≡ old.written + length bits
 
-  -- the sink took the first `count` of these bits, which were counted, and refused the one behind them
+  -- the sink took the first `count` of these bits, which were counted, and refused the one after them
   pub record Cut (bits : List Bool) (old new : StuffingWriter) (before after : S) : Type 0 where
     pub count : ℕ
     pub within : count < length bits

@@ -13,14 +13,14 @@ first_of origin NoMark = None
 first_of origin (FlagAt p) = Some (origin + (p + 8))
 first_of origin (AbortAt a) = None
 
--- the data of the raw bits behind the flag at p, up to eight bits before the end
+-- the data of the raw bits after the flag at p, up to eight bits before the end
 abbrev pub settled_data : List Bool → ℕ → List Bool
 settled_data b p = data_so_far (slice_range b (p + 8) (length b - 8))
 
 -- the decoder holds the first octets of this data, and their check
 pub record Holds {C : Type 0} (folded : C → List ℕ → Type 0) (d : LineState C) (bits : List Bool) : Type 0 where
-  pub count : d.gathered ≡ length bits
-  pub rest : d.rest ≡ number (drop (8 * (length bits / 8)) bits)
+  pub count : d.data_bits ≡ length bits
+  pub partial : d.partial ≡ number (drop (8 * (length bits / 8)) bits)
   pub held : 8 ≤ length bits → d.octets ≡ take (d.longest + 2) (octets bits)
   pub checked : 8 ≤ length bits → folded d.check (take (d.longest + 2) (octets bits))
 
@@ -41,10 +41,10 @@ pub record Counts {C : Type 0} (cost : ℕ) (d : LineState C) (b : List Bool) : 
 abbrev pub padded : List Bool → List Bool
 padded b = replicate 16 false ++ b
 
--- the bits b were taken; their last sixteen are the history, the oldest lowest
+-- the bits b were taken; their last sixteen are kept, the oldest lowest
 pub record HasTaken {C : Type 0} (d : LineState C) (b : List Bool) : Type 0 where
   pub place : d.place ≡ d.origin + length b
-  pub history : d.history ≡ number (drop (length b) (padded b))
+  pub last_bits : d.last_bits ≡ number (drop (length b) (padded b))
 
 -- the bits b were taken and settled, and this mark was the last
 pub record Tracks {C : Type 0} (folded : C → List ℕ → Type 0) (cost : ℕ) (d : LineState C) (b : List Bool)

@@ -31,23 +31,23 @@ impl LineWords {
             } }
         ensures kept { self.new
             ≡ record self.old {
-              gathered = self.new.gathered;
+              data_bits = self.new.data_bits;
               assembled = self.new.assembled;
               folded = self.new.folded;
               stored = self.new.stored;
-              rest = self.new.rest;
+              partial = self.new.partial;
               len = self.new.len;
             } }
         ensures within { IsWithin self.new }
         ensures cells { length cells.new ≡ 272 }
     {
-        let held = self.gathered % 8;
+        let held = self.data_bits % 8;
         let whole = (held + more.count) / 8;
-        let joined = self.rest | more.bits << held;
+        let joined = self.partial | more.bits << held;
         self.begin(check);
         self.assembled += more.count;
-        self.gathered += more.count;
-        self.rest = joined >> (8 * whole);
+        self.data_bits += more.count;
+        self.partial = joined >> (8 * whole);
         self.put_all(check, cells, joined, whole);
     }
 
@@ -73,23 +73,23 @@ impl LineWords {
             } }
         ensures kept { self.new
             ≡ record self.old {
-              gathered = self.new.gathered;
+              data_bits = self.new.data_bits;
               assembled = self.new.assembled;
               folded = self.new.folded;
               stored = self.new.stored;
-              rest = self.new.rest;
+              partial = self.new.partial;
               len = self.new.len;
             } }
         ensures within { IsWithin self.new }
         ensures cells { length cells.new ≡ 272 }
     {
-        let held = self.gathered % 8;
+        let held = self.data_bits % 8;
         let whole = (held + more.count) / 8;
-        let joined = self.rest | more.bits << held;
+        let joined = self.partial | more.bits << held;
         self.begin(check);
         self.assembled += more.count;
-        self.gathered += more.count;
-        self.rest = joined >> (8 * whole);
+        self.data_bits += more.count;
+        self.partial = joined >> (8 * whole);
         self.put_short(check, cells, joined, whole);
     }
 
@@ -109,26 +109,26 @@ impl LineWords {
             } }
         ensures kept { self.new
             ≡ record self.old {
-              gathered = self.new.gathered;
+              data_bits = self.new.data_bits;
               assembled = self.new.assembled;
               folded = self.new.folded;
               stored = self.new.stored;
-              rest = self.new.rest;
+              partial = self.new.partial;
               len = self.new.len;
             } }
         ensures within { IsWithin self.new }
         ensures cells { length cells.new ≡ 272 }
     {
-        let held = self.gathered % 8;
-        let joined = self.rest | bit << held;
+        let held = self.data_bits % 8;
+        let joined = self.partial | bit << held;
         self.begin(check);
         self.assembled += 1;
-        self.gathered += 1;
+        self.data_bits += 1;
         if held < 7 {
-            self.rest = joined;
+            self.partial = joined;
             return;
         }
-        self.rest = joined >> 8;
+        self.partial = joined >> 8;
         self.put_one(check, cells, joined);
     }
 
@@ -141,7 +141,7 @@ impl LineWords {
         ensures kept { self.new ≡ record self.old { len = self.new.len } }
         ensures within { IsWithin self.new }
     {
-        if self.gathered >= 8 {
+        if self.data_bits >= 8 {
             return;
         }
         self.len = 0;

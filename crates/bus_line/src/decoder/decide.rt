@@ -20,8 +20,7 @@ impl LineWords {
     ghost use Rattle.bus_line.specs.Shown.{kind_with, reported};
     ghost use Rattle.bus_line.specs.Report.{moved};
 
-    /// Finds whether the newest bit ends a flag, or is the seventh or the fifteenth one of a run, and
-    /// returns what that decides.
+    /// Decides as [`LineWords::decide_here`] does, in a function of its own.
     #[inline(never)]
     pub(crate) fn decide<C: Check>(&mut self, check: &C) -> Option<Event>
         requires within { IsWithin self.old }
@@ -38,14 +37,35 @@ impl LineWords {
         ensures place { self.new.place ≡ self.old.place }
         ensures within { IsWithin self.new }
     {
+        self.decide_here(check)
+    }
+
+    /// Finds whether the newest bit ends a flag, or is the seventh or the fifteenth one of a run, and
+    /// returns what that decides.
+    #[inline(always)]
+    pub(crate) fn decide_here<C: Check>(&mut self, check: &C) -> Option<Event>
+        requires within { IsWithin self.old }
+        requires some { self.old.origin < self.old.place }
+        ensures answer { (cells : List ℕ) (b : List Bool) (bit : Bool) →
+            Tracks C.folded C.COST (state self.old check.now cells) (b ++ bit ∷ []) (current b) →
+            option_map (reported (state self.new check.now cells).octets) result
+            ≡ option_map (moved self.old.origin) (due_at self.old.longest (b ++ bit ∷ []) (length b)) }
+        ensures after { (cells : List ℕ) (b : List Bool) (bit : Bool) →
+            Tracks C.folded C.COST (state self.old check.now cells) (b ++ bit ∷ []) (current b) →
+            After C.folded C.COST (state self.new check.now cells) (b ++ bit ∷ []) }
+        ensures longest { self.new.longest ≡ self.old.longest }
+        ensures origin { self.new.origin ≡ self.old.origin }
+        ensures place { self.new.place ≡ self.old.place }
+        ensures within { IsWithin self.new }
+    {
         // All bits of the mark have been taken, so no subtraction saturates.
         let place = self.place;
-        match look(self.history, place - 1 - self.origin) {
+        match look(self.last_bits, place - 1 - self.origin) {
             Found::Closing => {
                 let event = self.closed(check, place - 8);
                 self.settles_at = place + 8;
-                self.gathered = 0;
-                self.rest = 0;
+                self.data_bits = 0;
+                self.partial = 0;
                 event
             }
             Found::Seven => {
@@ -113,16 +133,16 @@ impl LineWords {
             kind_with (state self.now check.now cells).octets result
             ≡ class_of self.now.longest (slice_range (b ++ bit ∷ []) (p + 8) (length b - 7)) }
     {
-        if (self.history >> 3) & 0x1f == 0x1f {
+        if (self.last_bits >> 3) & 0x1f == 0x1f {
             return EventKind::Damaged(Cause::Unstuffed);
         }
-        if self.gathered > 8 * (self.longest + 2) {
+        if self.data_bits > 8 * (self.longest + 2) {
             return EventKind::Overlong;
         }
-        if self.gathered < 32 {
+        if self.data_bits < 32 {
             return EventKind::Damaged(Cause::Short);
         }
-        if self.gathered % 8 != 0 {
+        if self.data_bits % 8 != 0 {
             return EventKind::Damaged(Cause::Unaligned);
         }
         if !check.is_good() {

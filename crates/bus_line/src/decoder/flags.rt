@@ -1,4 +1,4 @@
-//! Flags one behind the other, which decide nothing.
+//! Flags one after another, which decide nothing.
 
 ghost use Rattle.std.specs.Prelude.{◌≡◌, ◌≢◌, ◌+◌, ◌-◌, ◌*◌, ◌/◌, ◌≤◌, ◌<◌, ◌^◌, List, Bool, true, false, ◌++◌, ℕ};
 ghost use Rattle.bus_bits.specs.Octet.{bits_of};
@@ -9,10 +9,10 @@ ghost use Rattle.bus_line.specs.Internal.Flags.{FlagsAhead, IsPast};
 use crate::line_words::LineWords;
 use std::cmp::min;
 
-/// Six flags, one behind the other.
+/// Six flags, one after another.
 const SIX_FLAGS: u64 = 0x7e7e_7e7e_7e7e;
 
-/// Bits behind flags, the first lowest.
+/// Bits after flags, the first lowest.
 #[derive(Clone, Copy)]
 pub(crate) struct Rest {
     /// How many flags there were.
@@ -63,7 +63,7 @@ impl LineWords {
         0
     }
 
-    /// Takes the flags with which these bits go on right behind a flag, and answers what is left.
+    /// Takes the flags with which these bits go on right after a flag, and answers what is left.
     #[inline(always)]
     pub(crate) fn past_flags(&mut self, bits: u64, count: u32) -> Rest
         requires within { IsWithin self.old }
@@ -112,7 +112,7 @@ impl LineWords {
             return;
         }
         self.place += u64::from(8 * count);
-        self.history = 0x7e7e;
+        self.last_bits = 0x7e7e;
         self.settles_at = self.place + 8;
     }
 }

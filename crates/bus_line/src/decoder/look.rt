@@ -9,7 +9,7 @@ ghost use Rattle.bus_line.specs.Internal.Tracks.{padded};
 /// What the newest bit ends.
 #[derive(Clone, Copy)]
 pub(crate) enum Found {
-    /// A flag: a 0 after six ones, behind a 0.
+    /// A flag: a 0 after six ones that follow a 0.
     Closing,
     /// The seventh one of a run: an abort mark.
     Seven,
@@ -19,19 +19,19 @@ pub(crate) enum Found {
 }
 
 /// What the newest bit ends, by the last sixteen bits, the oldest lowest. `count` bits came before it.
-pub(crate) fn look(history: u64, count: u64) -> Found
+pub(crate) fn look(last_bits: u64, count: u64) -> Found
     ensures closing { result ≡ Found.Closing → 6 < count }
     ensures found { (b : List Bool) (bit : Bool) →
-        history ≡ number (drop (length (b ++ bit ∷ [])) (padded (b ++ bit ∷ []))) → count ≡ length b →
+        last_bits ≡ number (drop (length (b ++ bit ∷ [])) (padded (b ++ bit ∷ []))) → count ≡ length b →
         IsFound bit (ones_at_end b) count result }
 {
-    if history >> 8 == 0xfe {
+    if last_bits >> 8 == 0xfe {
         return Found::Seven;
     }
-    if history == 0xfffe {
+    if last_bits == 0xfffe {
         return Found::Fifteen;
     }
-    if history >> 8 == 0x7e && count > 6 {
+    if last_bits >> 8 == 0x7e && count > 6 {
         return Found::Closing;
     }
     Found::Other

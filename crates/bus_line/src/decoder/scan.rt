@@ -25,9 +25,11 @@ impl LineWords {
     /// Takes bits as [`LineDecoder::scan`](crate::LineDecoder::scan) does, with the octets of the piece and
     /// their check in the caller's hands. The first [`LineWords::len`] of the cells are then the octets.
     ///
+    /// With `TURNS` it is quicker on a processor of 64 bits, and twice the code; without, it is what firmware needs.
+    ///
     /// Refuses as [`PlaceLimit`], with nothing changed, where the first bit's place would be 2^60.
     #[inline(always)]
-    pub fn scan<C: Check>(
+    pub fn scan<C: Check, const TURNS: bool>(
         &mut self,
         check: &mut C,
         cells: &mut [u8; 272],
@@ -55,12 +57,12 @@ impl LineWords {
             return Err(PlaceLimit);
         }
         let count = min((end - at) as u64, room) as usize;
-        Ok(self.scan_all(check, cells, octets, at, at + count))
+        Ok(self.scan_all::<C, TURNS>(check, cells, octets, at, at + count))
     }
 
     /// Takes bits up to the first that decides a report, or all, which have places.
     #[inline(always)]
-    fn scan_all<C: Check>(
+    fn scan_all<C: Check, const TURNS: bool>(
         &mut self,
         check: &mut C,
         cells: &mut [u8; 272],
@@ -84,7 +86,7 @@ impl LineWords {
     {
         let mut at = from;
         while at < end {
-            let scanned = self.scan_some(check, cells, octets, at, end);
+            let scanned = self.scan_next::<C, TURNS>(check, cells, octets, at, end);
             at += scanned.count;
             if scanned.event.is_some() {
                 return Scanned {
@@ -100,9 +102,9 @@ impl LineWords {
     }
 
     /// Takes up to 48 bits, or those of them up to the first that may decide a report; and if that decides none, those
-    /// behind them that decide nothing, as many as come at once.
+    /// after them that decide nothing, as many as come at once.
     #[inline(always)]
-    fn scan_some<C: Check>(
+    pub(crate) fn scan_some<C: Check>(
         &mut self,
         check: &mut C,
         cells: &mut [u8; 272],
@@ -218,20 +220,20 @@ impl LineWords {
         ensures within { IsWithin self.new }
         ensures cells { length cells.new ≡ 272 }
     {
-        let behind = self.history >> 8 | bits << 8;
+        let behind = self.last_bits >> 8 | bits << 8;
         if has_six(behind) {
             return false;
         }
-        let settled = data_in_word(self.history | bits << 16, 56);
+        let settled = data_in_word(self.last_bits | bits << 16, 56);
         self.place += 56;
-        self.history = behind >> 48;
+        self.last_bits = behind >> 48;
         self.append(check, cells, settled);
         true
     }
 
     /// Takes ones of an idle line, where no piece is open, 56 at a time.
     #[inline(always)]
-    fn pass_ones(&mut self, octets: &[u8], from: usize, end: usize) -> usize
+    pub(crate) fn pass_ones(&mut self, octets: &[u8], from: usize, end: usize) -> usize
         requires within { IsWithin self.old }
         requires idle { self.old.settles_at ≡ 2 ^ 62 }
         requires some { from ≤ end }
@@ -240,9 +242,10 @@ impl LineWords {
         ensures within { (from ≤ result) × (result ≤ end) }
         ensures bits { bits_from octets.now from (result - from) ≡ replicate (result - from) true }
         ensures passes { PassesOnes self.old (result - from) self.new }
+        ensures none { result ≡ from → self.new ≡ self.old }
         ensures sound { IsWithin self.new }
     {
-        if self.history != 0xffff {
+        if self.last_bits != 0xffff {
             return from;
         }
         let at = ones_end(octets, from, end);
@@ -250,9 +253,9 @@ impl LineWords {
         at
     }
 
-    /// Takes flags behind a flag, seven at a time.
+    /// Takes flags after a flag, seven at a time.
     #[inline(always)]
-    fn pass_flags(&mut self, octets: &[u8], from: usize, end: usize) -> usize
+    pub(crate) fn pass_flags(&mut self, octets: &[u8], from: usize, end: usize) -> usize
         requires within { IsWithin self.old }
         requires flag { self.old.settles_at ≡ self.old.place + 8 }
         requires some { from ≤ end }
@@ -266,7 +269,7 @@ impl LineWords {
         let at = flags_end(octets, from, end);
         if at > from {
             self.place += (at - from) as u64;
-            self.history = 0x7e7e;
+            self.last_bits = 0x7e7e;
             self.settles_at = self.place + 8;
         }
         at

@@ -13,7 +13,7 @@ pub(crate) struct Data {
     pub(crate) count: u64,
 }
 
-/// The data among the `count` bits behind the eight lowest of the word: those that are no inserted
+/// The data among the `count` bits after the eight lowest of the word: those that are no inserted
 /// 0 (ISO/IEC 13239, transparency).
 #[inline(always)]
 pub(crate) fn data_in_word(word: u64, count: u64) -> Data
@@ -26,7 +26,7 @@ pub(crate) fn data_in_word(word: u64, count: u64) -> Data
     destuffed(word >> 8, inserted_zeros(word) & all, count)
 }
 
-/// Which of the bits behind the eight lowest of the word are inserted 0s: a 0 behind five ones.
+/// Which of the bits after the eight lowest of the word are inserted 0s: a 0 after five ones.
 #[inline(always)]
 fn inserted_zeros(word: u64) -> u64
     ensures { (k : ℕ) → k < 56 → (result / 2 ^ k % 2 ≡ 1 ↔ word / 2 ^ (3 + k) % 64 ≡ 31) }
@@ -35,6 +35,18 @@ fn inserted_zeros(word: u64) -> u64
     let four = two & two >> 2;
     let five = four & word >> 4;
     five >> 3 & !(word >> 8)
+}
+
+/// The data that [`data_in_word`] finds, quicker where there are many bits of a capture.
+#[inline(always)]
+pub(crate) fn data_in_turn(word: u64, count: u64) -> Data
+    requires { count ≤ 56 }
+    ensures value { bits_of result.count result.bits ≡ data_in_word word count }
+    ensures few { result.count ≤ count }
+    ensures small { result.bits < 2 ^ result.count }
+{
+    let all = (1 << count) - 1;
+    destuffed_turn(word >> 8, inserted_zeros(word) & all, count)
 }
 
 /// So many bits without those marked as inserted, the first lowest.
@@ -59,5 +71,34 @@ fn destuffed(bits: u64, inserted: u64, count: u64) -> Data
     Data {
         bits: left.bits,
         count: left.count,
+    }
+}
+
+/// So many bits without those marked as inserted, as [`destuffed`] gives them. Four are taken out without a branch,
+/// since the line's data decide how many there are, and these are counted by themselves.
+#[inline(always)]
+fn destuffed_turn(bits: u64, inserted: u64, count: u64) -> Data
+    requires few { count ≤ 56 }
+    requires marked { inserted < 2 ^ count }
+    ensures value { bits_of result.count result.bits ≡ kept bits inserted count }
+    ensures few { result.count ≤ count }
+    ensures small { result.bits < 2 ^ result.count }
+{
+    let all = (1 << count) - 1;
+    let mut left = Marked {
+        bits: bits & all & !inserted,
+        marks: inserted,
+        count,
+    }
+    .without_lowest()
+    .without_lowest()
+    .without_lowest()
+    .without_lowest();
+    while left.marks != 0 {
+        left = left.without_lowest();
+    }
+    Data {
+        bits: left.bits,
+        count: count - u64::from(inserted.count_ones()),
     }
 }

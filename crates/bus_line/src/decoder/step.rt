@@ -88,7 +88,7 @@ impl LineWords {
     }
 
     /// Takes the bits up to the first that may decide a report, or all of them, and answers what the
-    /// last of them decides. Flags right behind a flag decide nothing, and are taken together.
+    /// last of them decides. Flags right after a flag decide nothing, and are taken together.
     #[inline(always)]
     pub(crate) fn advance<C: Check>(
         &mut self,
@@ -123,7 +123,7 @@ impl LineWords {
         }
     }
 
-    /// Takes the bits up to the first behind just six ones or just fourteen, or all of them, and answers
+    /// Takes the bits up to the first after exactly six ones or exactly fourteen, or all of them, and answers
     /// what the last of them decides.
     #[inline(always)]
     fn advance_to_stop<C: Check>(
@@ -148,7 +148,7 @@ impl LineWords {
         ensures within { IsWithin self.new }
         ensures cells { length cells.new ≡ 272 }
     {
-        let word = self.history | bits << 16;
+        let word = self.last_bits | bits << 16;
         let calm = calm_bits(word, count);
         if calm == count {
             self.shift(word, u64::from(count));
@@ -186,7 +186,7 @@ impl LineWords {
         ensures within { IsWithin self.new }
         ensures cells { length cells.new ≡ 272 }
     {
-        let word = self.history | bits << 16;
+        let word = self.last_bits | bits << 16;
         let calm = calm_bits(word, count);
         if calm == count {
             self.shift(word, u64::from(count));
@@ -202,18 +202,18 @@ impl LineWords {
         }
     }
 
-    /// Puts so many bits of the word behind the history.
+    /// Moves so many bits of the word into the last ones.
     #[inline(always)]
     fn shift(&mut self, word: u64, count: u64)
         requires within { IsWithin self.old }
         requires few { count ≤ 48 }
         requires room { self.old.place + count ≤ 2 ^ 60 }
         ensures value { self.new
-            ≡ record self.old { place = self.old.place + count; history = word / 2 ^ count % 65536 } }
+            ≡ record self.old { place = self.old.place + count; last_bits = word / 2 ^ count % 65536 } }
         ensures within { IsWithin self.new }
     {
         self.place += count;
-        self.history = word >> count & 0xffff;
+        self.last_bits = word >> count & 0xffff;
     }
 
     /// Settles the bits that eight later ones have followed: where a piece has begun, those that are
@@ -297,7 +297,7 @@ impl LineWords {
         if self.place >= PLACES {
             return Err(PlaceLimit);
         }
-        let word = self.history | u64::from(bit) << 16;
+        let word = self.last_bits | u64::from(bit) << 16;
         self.shift(word, 1);
         self.settle_one(check, cells, word);
         if is_calm(word) {

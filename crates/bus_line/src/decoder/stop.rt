@@ -3,7 +3,7 @@
 ghost use Rattle.std.specs.Prelude.{◌≡◌, ◌≤◌, ◌<◌, true, false, ℕ};
 ghost use Rattle.bus_line.specs.Internal.Settled.{IsStop};
 
-/// How many of the new bits stand before the first that is behind just six ones or just fourteen:
+/// How many of the new bits stand before the first that comes after exactly six ones or exactly fourteen:
 /// `count`, if there is no such bit among so many.
 ///
 /// The word has the sixteen bits before the new ones, and these, the oldest lowest.
@@ -22,7 +22,7 @@ pub(crate) fn calm_bits(word: u64, count: u32) -> u32
     stop.trailing_zeros()
 }
 
-/// Whether the new bit behind sixteen others, the oldest lowest, is behind neither just six ones nor just fourteen.
+/// Whether the new bit after sixteen others, the oldest lowest, follows neither exactly six ones nor exactly fourteen.
 #[inline(always)]
 pub(crate) fn is_calm(word: u64) -> bool
     ensures calm { result ≡ true → IsStop word 0 → ⊥ }

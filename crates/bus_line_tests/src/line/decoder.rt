@@ -163,15 +163,19 @@ fn worked_frames(rt: HostRuntime) {
     }
 }
 
-/// The octets of a frame stand in the decoder once its flag has closed it.
+/// The octets of a frame are lent with its report, and stand in the decoder once its flag has closed it.
 #[test]
 fn octets_of_a_frame(rt: HostRuntime) {
     let text = "01111110 00001000 11000001 00000000 101111101 10100111 01111110";
     let bits = bits_of(&rt, rt.alloc(), text);
     let mut decoder = LineDecoder::<OctetCheck>::new(3, 0).expect(&rt, "a decoder");
+    let mut told = String::new(rt.alloc());
     for bit in &bits {
-        decoder.push(*bit).expect(&rt, "a place");
+        if let Some(piece) = decoder.push(*bit).expect(&rt, "a place") {
+            push_report(&rt, &mut told, &piece);
+        }
     }
+    assert_eq!(rt; told.as_str(), "8 49 frame 108300fde5");
     assert_eq!(rt; decoder.octets(), [0x10, 0x83, 0x00, 0xfd, 0xe5].as_slice());
 }
 

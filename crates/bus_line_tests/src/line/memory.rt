@@ -60,7 +60,7 @@ fn each_report(rt: HostRuntime) {
     assert_eq!(rt; reports.len(), PLACES.len());
     for (report, (first, past)) in reports.iter().zip(PLACES) {
         let span = report.as_piece().span();
-        assert_eq!(rt; (span.first, span.past), (first, past));
+        assert_eq!(rt; (span.first, span.past), (first, past), "{first} to {past}");
     }
 }
 

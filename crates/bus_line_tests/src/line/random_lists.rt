@@ -13,7 +13,7 @@ const BITS: usize = 5000;
 /// The longest frame in octets.
 const LONGEST: usize = 5;
 
-/// What traffic is made of: a flag, flags one behind the other and with one 0 between them, a good frame
+/// What traffic is made of: a flag, flags one after the other and with one 0 between them, a good frame
 /// and one with a wrong octet, runs of 1s and of 0s, noise.
 const PARTS: [&str; 10] = [
     "01111110",
@@ -44,7 +44,7 @@ pub(super) fn state_of(decoder: &LineDecoder<OctetCheck>) -> State {
     }
 }
 
-/// Parts and beginnings of parts, one behind the other; the same seed gives the same list.
+/// Parts and beginnings of parts, one after the other; the same seed gives the same list.
 pub(super) fn traffic(rt: &impl Abort, alloc: Global, seed: u64) -> Vec<bool> {
     let mut bits = Vec::new(alloc);
     let mut state = seed;

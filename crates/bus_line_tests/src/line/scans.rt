@@ -1,10 +1,12 @@
 //! Long lists of random traffic, scanned as octets from every bit of an octet on and cut anywhere, beside the same
-//! bit by bit.
+//! bit by bit; and worked lists, scanned to their reports.
 
+use super::bits_of;
 use super::random_lists::{state_of, traffic};
+use super::text::push_report;
 use bus_bits::bits_octet;
-use bus_fcs::OctetCheck;
-use bus_line::LineDecoder;
+use bus_fcs::{Check, OctetCheck};
+use bus_line::{LineDecoder, LineWords, PlaceLimit, Scanned};
 use std::alloc::Global;
 use std::process::Abort;
 
@@ -13,6 +15,72 @@ const LONGEST: [usize; 6] = [3, 4, 5, 9, 40, 256];
 
 /// How many bits a call gets at most.
 const SIZES: [usize; 12] = [1, 7, 8, 9, 48, 55, 56, 63, 64, 65, 120, 100_000];
+
+/// A decoder, and the same in its parts, as firmware keeps it, which scans without turns.
+#[derive(Drop)]
+struct Both {
+    decoder: LineDecoder<OctetCheck>,
+    words: LineWords,
+    check: OctetCheck,
+    cells: [u8; 272],
+}
+
+impl Both {
+    fn new(rt: &impl Abort, longest: usize, origin: u64) -> Self {
+        Both {
+            decoder: LineDecoder::new(longest, origin).expect(rt, "a decoder"),
+            words: LineWords::new(longest, origin).expect(rt, "words"),
+            check: OctetCheck::fresh(),
+            cells: [0; 272],
+        }
+    }
+
+    /// Scans bits with either, which are to answer the same.
+    fn scan(
+        &mut self,
+        rt: &impl Abort,
+        octets: &[u8],
+        at: usize,
+        end: usize,
+    ) -> Result<Scanned, PlaceLimit> {
+        assert!(rt;
+            at < end && end / 8 <= octets.len() && octets.len() < 10_000,
+            "bits of octets"
+        );
+        assert!(rt; end <= 8 * octets.len(), "bits of octets");
+        let answer = self.decoder.scan(octets, at, end);
+        assert!(rt; self.words.are_sound(), "words of a decoder");
+        let other = self
+            .words
+            .scan::<OctetCheck, false>(&mut self.check, &mut self.cells, octets, at, end);
+        assert_eq!(rt; answer, other, "without turns");
+        answer
+    }
+
+    /// Both say the same of themselves.
+    fn check_alike(&self, rt: &impl Abort) {
+        let octets = self.cells.get(..self.words.len as usize);
+        assert_eq!(rt; octets, Some(self.decoder.octets()), "without turns");
+        assert!(rt; self.words.are_sound(), "words of a decoder");
+        assert_eq!(rt; self.words.begun(), self.decoder.begun(), "without turns");
+        let spent = self.decoder.spent();
+        assert_eq!(rt;
+            [
+                self.words.place,
+                self.words.assembled,
+                self.words.stored,
+                self.words.folded
+            ],
+            [
+                self.decoder.place(),
+                spent.assembled,
+                spent.stored,
+                spent.folded
+            ],
+            "without turns"
+        );
+    }
+}
 
 /// The octets of these bits, the first lowest; the last bits that fill none are left out.
 fn octets_of(rt: &impl Abort, alloc: Global, bits: &[bool]) -> Vec<u8> {
@@ -28,7 +96,7 @@ fn octets_of(rt: &impl Abort, alloc: Global, bits: &[bool]) -> Vec<u8> {
 /// the same and to say the same of themselves. Returns how many it took.
 fn scan_some(
     rt: &impl Abort,
-    scanned: &mut LineDecoder<OctetCheck>,
+    both: &mut Both,
     taken: &mut LineDecoder<OctetCheck>,
     octets: &[u8],
     bits: &[bool],
@@ -36,12 +104,10 @@ fn scan_some(
     size: usize,
 ) -> usize {
     let end = at.wrapping_add(size).min(bits.len());
-    assert!(rt;
-        at < end && end / 8 <= octets.len() && octets.len() < 10_000,
-        "bits of octets"
-    );
-    assert!(rt; end <= 8 * octets.len(), "bits of octets");
-    let answer = scanned.scan(octets, at, end).expect(rt, "a place");
+    assert!(rt; at < end, "bits");
+    let answer = both.scan(rt, octets, at, end).expect(rt, "a place");
+    both.check_alike(rt);
+    let scanned = &both.decoder;
     let mut last = None;
     for bit in bits[at..end].iter().take(answer.count) {
         assert!(rt; last.is_none(), "a report before the last bit");
@@ -66,7 +132,7 @@ fn scan_all(
     longest: usize,
     size: usize,
 ) -> usize {
-    let mut scanned = LineDecoder::<OctetCheck>::new(longest, 3).expect(rt, "a decoder");
+    let mut both = Both::new(rt, longest, 3);
     let mut taken = LineDecoder::<OctetCheck>::new(longest, 3).expect(rt, "a decoder");
     let mut at = from;
     let mut many: usize = 0;
@@ -74,7 +140,7 @@ fn scan_all(
         if at >= bits.len() {
             break;
         }
-        let count = scan_some(rt, &mut scanned, &mut taken, octets, bits, at, size);
+        let count = scan_some(rt, &mut both, &mut taken, octets, bits, at, size);
         if count > 1 {
             many = many.wrapping_add(1);
         }
@@ -97,4 +163,171 @@ fn scans(rt: HostRuntime) {
         }
     }
     assert!(&rt; many > 5000, "calls that take many bits");
+}
+
+/// Words with how often each comes, how many of their bits a first call gets, and their reports where the longest
+/// frame has forty octets.
+struct ScanRow {
+    words: &'static [(&'static str, usize)],
+    first: usize,
+    want: &'static str,
+}
+
+const FLAG: &str = "01111110";
+
+const SCANNED: [ScanRow; 9] = [
+    // an idle, a 0, and ones again
+    ScanRow {
+        words: &[("1", 15), ("0", 1), ("1", 104)],
+        first: 120,
+        want: "0 15 idle, 16 31 idle",
+    },
+    // flags, and where the eighth would be an abort, which ends no piece
+    ScanRow {
+        words: &[(FLAG, 7), ("11111110", 1), ("0", 64), (FLAG, 1)],
+        first: 136,
+        want: "",
+    },
+    // an open piece, and behind the cut eight flags
+    ScanRow {
+        words: &[(FLAG, 1), ("0", 16), (FLAG, 8), ("0", 8)],
+        first: 24,
+        want: "8 24 damaged short",
+    },
+    // the second flag ends 56 bits behind the first, or 104
+    ScanRow {
+        words: &[(FLAG, 1), ("0", 48), (FLAG, 1), ("0", 72), (FLAG, 1)],
+        first: 144,
+        want: "8 56 damaged fcs, 64 136 damaged fcs",
+    },
+    ScanRow {
+        words: &[(FLAG, 1), ("0", 96), (FLAG, 1), ("0", 72), (FLAG, 1)],
+        first: 192,
+        want: "8 104 damaged fcs, 112 184 damaged fcs",
+    },
+    // the second flag stands across the place 112, or across 120
+    ScanRow {
+        words: &[
+            (FLAG, 1),
+            ("0", 100),
+            (FLAG, 1),
+            ("0", 120),
+            (FLAG, 1),
+            ("0", 4),
+        ],
+        first: 248,
+        want: "8 108 damaged unaligned, 116 236 damaged fcs",
+    },
+    ScanRow {
+        words: &[
+            (FLAG, 1),
+            ("0", 108),
+            (FLAG, 1),
+            ("0", 120),
+            (FLAG, 1),
+            ("0", 4),
+        ],
+        first: 256,
+        want: "8 116 damaged unaligned, 124 244 damaged fcs",
+    },
+    // an inserted 0 six bits before the place 56, or 64, and as many data bits as whole octets have
+    ScanRow {
+        words: &[
+            (FLAG, 1),
+            ("0", 37),
+            ("111110", 1),
+            ("0", 62),
+            (FLAG, 1),
+            ("0", 71),
+        ],
+        first: 192,
+        want: "8 113 damaged fcs",
+    },
+    ScanRow {
+        words: &[
+            (FLAG, 1),
+            ("0", 45),
+            ("111110", 1),
+            ("0", 62),
+            (FLAG, 1),
+            ("0", 71),
+        ],
+        first: 200,
+        want: "8 121 damaged fcs",
+    },
+];
+
+/// The bits of these words.
+fn bits_of_words(rt: &impl Abort, alloc: Global, words: &[(&str, usize)]) -> Vec<bool> {
+    let mut bits = Vec::new(alloc);
+    for (word, count) in words {
+        let some = bits_of(rt, alloc, word);
+        for _ in 0..*count {
+            bits.extend_from_slice(&some).expect(rt, "memory");
+        }
+    }
+    bits
+}
+
+/// Scans the bits from one on and before another to their reports.
+fn push_scanned(
+    rt: &impl Abort,
+    text: &mut String,
+    both: &mut Both,
+    octets: &[u8],
+    from: usize,
+    end: usize,
+) {
+    let mut at = from;
+    for _ in from..end {
+        if at >= end {
+            break;
+        }
+        let answer = both.scan(rt, octets, at, end).expect(rt, "a place");
+        at = at.wrapping_add(answer.count);
+        if let Some(event) = answer.event {
+            if !text.is_empty() {
+                text.push_str(", ").expect(rt, "memory");
+            }
+            push_report(rt, text, &event.with_octets(both.decoder.octets()));
+        }
+    }
+    assert_eq!(rt; at, end);
+}
+
+#[test]
+fn scanned_reports(rt: HostRuntime) {
+    let alloc = rt.alloc();
+    for row in &SCANNED {
+        let bits = bits_of_words(&rt, alloc, row.words);
+        let octets = octets_of(&rt, alloc, &bits);
+        let mut both = Both::new(&rt, 40, 0);
+        let mut text = String::new(alloc);
+        push_scanned(&rt, &mut text, &mut both, &octets, 0, row.first);
+        push_scanned(&rt, &mut text, &mut both, &octets, row.first, bits.len());
+        assert_eq!(rt; text.as_str(), row.want, "{} bits", bits.len());
+    }
+}
+
+/// It stops in front of a bit whose place would be 2^60, and refuses where that is the first.
+#[test]
+fn at_the_place_limit(rt: HostRuntime) {
+    let far: u64 = 1 << 60;
+    for room in [0u64, 1, 7, 8, 47, 48, 63, 64, 65, 127, 128, 129] {
+        let mut both = Both::new(&rt, 3, far.wrapping_sub(room));
+        let answer = both.scan(&rt, &[0; 16], 0, 128);
+        let want = match room {
+            0 => Err(PlaceLimit),
+            _ => Ok(Scanned {
+                count: room.min(128) as usize,
+                event: None,
+            }),
+        };
+        assert_eq!(rt; answer, want, "{room} places");
+        let taken = room.min(128);
+        assert_eq!(rt;
+            both.decoder.place(),
+            far.wrapping_sub(room).wrapping_add(taken)
+        );
+    }
 }

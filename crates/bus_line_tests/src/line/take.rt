@@ -6,7 +6,7 @@ use bus_line::LineDecoder;
 use std::alloc::Global;
 use std::process::Abort;
 
-/// 48 bits behind a list, and how many of them one call takes.
+/// 48 bits after a list, and how many of them one call takes.
 #[derive(Drop)]
 struct Behind {
     before: &'static str,
@@ -72,27 +72,39 @@ const BEHIND: [Behind; 11] = [
     },
 ];
 
-/// How many of these 48 bits a decoder takes with one call behind a list. It would take as many as the row says.
+/// How many of these 48 bits a decoder takes with one call after a list. It would take as many as the row says.
 fn taken_behind(rt: &impl Abort, alloc: Global, row: &Behind) -> u32 {
     let mut decoder = LineDecoder::<OctetCheck>::new(3, 0).expect(rt, "a decoder");
     for before in &bits_of(rt, alloc, row.before) {
         decoder.push(*before).expect(rt, "a place");
     }
     let place = decoder.place();
-    assert_eq!(rt; decoder.would_take(row.bits % (1 << 48), 48), row.taken);
+    assert_eq!(rt;
+        decoder.would_take(row.bits % (1 << 48), 48),
+        row.taken,
+        "{} after {}",
+        row.bits,
+        row.before
+    );
     let taken = decoder.take(row.bits % (1 << 48), 48).expect(rt, "a place");
     let count = taken.count;
-    assert_eq!(rt; decoder.place(), place.wrapping_add(u64::from(count)));
+    assert_eq!(rt;
+        decoder.place(),
+        place.wrapping_add(u64::from(count)),
+        "{} after {}",
+        row.bits,
+        row.before
+    );
     count
 }
 
-/// It stops behind the first bit before which just six ones are, or just fourteen, unless that bit ends one of
+/// It stops after the first bit before which exactly six ones are, or exactly fourteen, unless that bit ends one of
 /// the flags that directly follow a flag.
 #[test]
 fn bits_at_once(rt: HostRuntime) {
     for row in BEHIND {
         let count = taken_behind(&rt, rt.alloc(), &row);
-        assert_eq!(rt; count, row.taken, "{} behind {}", row.bits, row.before);
+        assert_eq!(rt; count, row.taken, "{} after {}", row.bits, row.before);
     }
 }
 

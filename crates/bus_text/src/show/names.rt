@@ -1,11 +1,11 @@
 //! The lines of the bits that are 1.
 
-ghost use Rattle.std.specs.Prelude.{◌≡◌, ◌+◌, ◌<◌, ◌≤◌, List, ℕ, Option, ◌++◌, length};
+ghost use Rattle.std.specs.Prelude.{◌≡◌, ◌+◌, ◌≤◌, List, ℕ, Option, ◌++◌, length};
 ghost use Rattle.std.specs.List.{flat_map};
 ghost use Rattle.std.specs.Io.KnownBytes.{Appends};
 ghost use Rattle.bus_dictionary.specs.BitName.{named_bit};
 ghost use Rattle.bus_text.specs.Show.{name_text};
-ghost use Rattle.bus_text.specs.Internal.Pages.{Puts};
+ghost use Rattle.bus_text.specs.Pages.{Puts};
 
 use crate::line::FrameLine;
 use crate::number::push_number;

@@ -2,7 +2,7 @@
 
 ghost use Rattle.std.specs.Prelude.{◌≡◌, ◌≤◌, ◌++◌, length, take, codes, OnOk, IfOk, IfErr};
 ghost use Rattle.std.specs.Io.KnownBytes.{Appends};
-ghost use Rattle.bus_text.specs.Internal.Pages.{Puts};
+ghost use Rattle.bus_text.specs.Pages.{Puts};
 ghost use Rattle.bus_text.specs.Show.{frame_text, shown_text};
 ghost use Rattle.bus_text.specs.HeadText.{head_text};
 

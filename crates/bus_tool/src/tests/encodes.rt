@@ -29,7 +29,7 @@ fn endless_reader(rt: HostRuntime) {
 
 #[test]
 fn flushes(rt: HostRuntime) {
-    // Once behind the text, also before a fault of a line, whose place a failing flush takes.
+    // Once after the text, also before a fault of a line, whose place a failing flush takes.
     let cases: [(&[u8], bool, Result<(), ToolFault>, u64); 6] = [
         (b"", true, Ok(()), 0),
         (b"\n", true, Ok(()), 0),
@@ -41,8 +41,12 @@ fn flushes(rt: HostRuntime) {
     for (octets, fails, want, flushes) in cases {
         let mut writer = Narrow::new(rt.alloc(), 1000, fails);
         let mut reader = octets;
-        assert_eq!(rt; encode_frames(100, &mut reader, &mut writer), want);
-        assert_eq!(rt; writer.flushes, flushes);
+        assert_eq!(rt;
+            encode_frames(100, &mut reader, &mut writer),
+            want,
+            "{octets:?}, fails: {fails}"
+        );
+        assert_eq!(rt; writer.flushes, flushes, "{octets:?}, fails: {fails}");
     }
 }
 

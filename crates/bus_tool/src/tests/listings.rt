@@ -1,6 +1,6 @@
 //! Captures by honest and by failing readers and writers.
 
-use crate::fakes::{Counted, Narrow, Pieces, Repeated};
+use crate::fakes::{Counted, Faltering, Narrow, Pieces, Repeated};
 use crate::tests::worked::{
     CALL, CALL_AND_REPLY, CALLS, FLAG, IDLE, NONE, joined, of_text, run_over,
 };
@@ -18,7 +18,7 @@ fn pieces(rest: &[u8], piece: usize, fails_at: u64) -> Pieces<'_> {
     }
 }
 
-/// A text capture with so many spaces behind each bit.
+/// A text capture with so many spaces after each bit.
 pub fn spaced(alloc: Global, capture: &[u8], spaces: usize) -> Result<Vec<u8>, AllocError> {
     let mut wide = Vec::new(alloc);
     for mark in capture {
@@ -56,7 +56,7 @@ fn endless_reader(rt: HostRuntime) {
     }
 }
 
-/// Once behind a text that is not empty, also before a fault, whose place a failing flush takes.
+/// Once after a text that is not empty, also before a fault, whose place a failing flush takes.
 #[test]
 fn flushes(rt: HostRuntime) {
     let cases: [(&[&str], bool, Option<ToolFault>, u64); 8] = [
@@ -88,7 +88,7 @@ fn flushes(rt: HostRuntime) {
         assert_eq!(rt; ending.err(), want, "{parts:?}");
         assert_eq!(rt; writer.flushes, flushes, "{parts:?}");
     }
-    // The error of a reader behind a line gives way to that of the flush, too.
+    // The error of a reader after a line gives way to that of the flush, too.
     let capture = joined(rt.alloc(), &CALL_AND_REPLY).expect(&rt, "memory");
     let mut writer = Narrow::new(rt.alloc(), 1000, true);
     let mut reader = pieces(capture.as_slice(), 1, 107);
@@ -130,14 +130,18 @@ fn judged_before(rt: HostRuntime) {
             let mut reader = pieces(b"2", 1, 0);
             let mut writer = Narrow::new(rt.alloc(), 0, true);
             let ending = run_over(checks, rt.alloc(), &options, &mut reader, &mut writer);
-            assert_eq!(rt; ending.as_ref().err(), Some(fault));
-            assert_eq!(rt; reader.calls, 0);
-            assert_eq!(rt; writer.flushes, 0);
+            assert_eq!(rt;
+                ending.as_ref().err(),
+                Some(fault),
+                "depth {depth}, origin {origin}"
+            );
+            assert_eq!(rt; reader.calls, 0, "depth {depth}, origin {origin}");
+            assert_eq!(rt; writer.flushes, 0, "depth {depth}, origin {origin}");
         }
     }
 }
 
-/// Both lines of a place are told, and the text is flushed once, also where a mark behind it is bad.
+/// Both lines of a place are told, and the text is flushed once, also where a mark after it is bad.
 #[test]
 fn flushes_of_two_lines(rt: HostRuntime) {
     let bad = ToolFault::BadMark { at: 15 };
@@ -153,12 +157,49 @@ fn flushes_of_two_lines(rt: HostRuntime) {
         let mut reader: &[u8] = b"3333333333333334";
         let mut writer = Narrow::new(rt.alloc(), 1000, fails);
         let ending = list_capture(rt.alloc(), &options, &mut reader, &mut writer);
-        assert_eq!(rt; ending.err(), want);
-        assert_eq!(rt; (writer.out.len(), writer.flushes), (octets, 1));
+        assert_eq!(rt; ending.err(), want, "fails: {fails}");
+        assert_eq!(rt;
+            (writer.out.len(), writer.flushes),
+            (octets, 1),
+            "fails: {fails}"
+        );
     }
 }
 
-/// A call, and the flag behind it.
+/// A listing ends at the first write that fails, though the next one would not. Of two lines that have flags with a 0
+/// between each two the lines of one read fill more than a page.
+#[test]
+fn one_failing_write(rt: HostRuntime) {
+    let mut capture = Vec::new(rt.alloc());
+    for _piece in 0..499u64 {
+        capture
+            .extend_from_slice(b"033333300")
+            .expect(&rt, "memory");
+    }
+    capture.extend_from_slice(b"03333330").expect(&rt, "memory");
+    let all = Summary {
+        damaged: 998,
+        ..NONE
+    };
+    for (fails_at, want) in [(0, Ok(all)), (1, Err(ToolFault::Write { written: 0 }))] {
+        let options = Options {
+            two: true,
+            ..of_text(None)
+        };
+        let mut reader = capture.as_slice();
+        let mut writer = Faltering {
+            octets: 0,
+            writes: 0,
+            fails_at,
+        };
+        let ending = list_capture(rt.alloc(), &options, &mut reader, &mut writer);
+        assert_eq!(rt; ending, want, "write {fails_at}");
+        assert_eq!(rt; writer.octets > 0, fails_at == 0, "write {fails_at}");
+        assert_eq!(rt; writer.writes == 1, fails_at == 1, "write {fails_at}");
+    }
+}
+
+/// A call, and the flag after it.
 const CALL_AND_FLAG: &[u8] = b"00001000 11000001 00000000 101111101 10100111 01111110";
 
 /// To be run with each request for memory refused in turn. A refusal comes before the first read
@@ -187,12 +228,20 @@ fn refused_memory(rt: HostRuntime) {
             };
             let ending = run_over(checks, rt.alloc(), &options, &mut reader, &mut writer);
             if ending == Err(ToolFault::Memory) {
-                assert!(rt; !is_refused);
-                assert_eq!(rt; (reader.calls, writer), (0, Counted::new()));
+                assert!(rt; !is_refused, "checks: {checks}, two lines: {two}");
+                assert_eq!(rt;
+                    (reader.calls, writer),
+                    (0, Counted::new()),
+                    "checks: {checks}, two lines: {two}"
+                );
                 is_refused = true;
             } else {
-                assert_eq!(rt; ending, Ok(want));
-                assert_eq!(rt; (reader.calls, writer.flushes), (1101, 1));
+                assert_eq!(rt; ending, Ok(want), "checks: {checks}, two lines: {two}");
+                assert_eq!(rt;
+                    (reader.calls, writer.flushes),
+                    (1101, 1),
+                    "checks: {checks}, two lines: {two}"
+                );
             }
         }
     }

@@ -105,7 +105,7 @@ fn deaf_faults(rt: HostRuntime) {
         let mut out = Vec::new(rt.alloc());
         let got = run(rt.alloc(), words, &mut reader, &mut out, &mut deaf);
         assert_eq!(rt; got, 2, "{words:?}");
-        assert_eq!(rt; out.as_slice(), text.as_bytes());
+        assert_eq!(rt; out.as_slice(), text.as_bytes(), "{words:?}");
     }
 }
 
@@ -138,15 +138,19 @@ fn refused_memory(rt: HostRuntime) {
             let mut told = Fixed::new();
             let status = run(rt.alloc(), words, &mut reader, &mut writer, &mut told);
             if status == 2 {
-                assert!(rt; !is_refused);
-                assert_eq!(rt; reader.len(), capture.len());
-                assert!(rt; writer.out.is_empty());
-                assert_eq!(rt; told.out.as_slice(), "port1: no memory\n".as_bytes());
+                assert!(rt; !is_refused, "{words:?}");
+                assert_eq!(rt; reader.len(), capture.len(), "{words:?}");
+                assert!(rt; writer.out.is_empty(), "{words:?}");
+                assert_eq!(rt;
+                    told.out.as_slice(),
+                    "port1: no memory\n".as_bytes(),
+                    "{words:?}"
+                );
                 is_refused = true;
             } else {
-                assert_eq!(rt; status, 0);
-                assert_eq!(rt; writer.out.as_slice(), text.as_bytes());
-                assert!(rt; told.out.is_empty());
+                assert_eq!(rt; status, 0, "{words:?}");
+                assert_eq!(rt; writer.out.as_slice(), text.as_bytes(), "{words:?}");
+                assert!(rt; told.out.is_empty(), "{words:?}");
             }
         }
     }

@@ -116,11 +116,11 @@ fn reads_of_captures(rt: HostRuntime) {
                 Err(ToolFault::ReadsLimit)
             };
             assert_eq!(rt; ending, want, "{}", row.reads);
-            assert_eq!(rt; reader.calls, row.calls);
+            assert_eq!(rt; reader.calls, row.calls, "{}", row.reads);
             if row.is_enough || row.octets() == OCTETS && !checks {
-                assert_eq!(rt; out.as_slice(), text.as_bytes());
+                assert_eq!(rt; out.as_slice(), text.as_bytes(), "{}", row.reads);
             } else if checks {
-                assert!(rt; out.is_empty());
+                assert!(rt; out.is_empty(), "{}", row.reads);
             }
         }
     }
@@ -143,13 +143,15 @@ fn reads_of_lines(rt: HostRuntime) {
             Err(ToolFault::ReadsLimit)
         };
         assert_eq!(rt; ending, want, "{}", row.reads);
-        assert_eq!(rt; reader.calls, row.calls);
+        assert_eq!(rt; reader.calls, row.calls, "{}", row.reads);
         // A line has five octets, with an empty one after it, and its text nine with the LF.
         let texts = (row.octets() as u64 + 1) / 6;
-        assert_eq!(rt; writer.octets, 9 * texts);
+        assert_eq!(rt; writer.octets, 9 * texts, "{}", row.reads);
         assert_eq!(rt;
             (writer.empty_writes, writer.flushes),
-            (0, u64::from(texts > 0))
+            (0, u64::from(texts > 0)),
+            "{}",
+            row.reads
         );
     }
 }
@@ -186,7 +188,11 @@ fn many_reads_of_the_program(rt: HostRuntime) {
         };
         let mut out = Counted::new();
         let mut told = Counted::new();
-        assert_eq!(rt; run(rt.alloc(), words, &mut reader, &mut out, &mut told), 0);
+        assert_eq!(rt;
+            run(rt.alloc(), words, &mut reader, &mut out, &mut told),
+            0,
+            "{words:?}"
+        );
         assert_eq!(rt; reader.calls, (1 << 20) + 1, "{words:?}");
     }
 }

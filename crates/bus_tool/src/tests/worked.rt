@@ -28,7 +28,7 @@ pub const CALL_AND_REPLY_TEXT: &str = "\
 /// The first of these lines.
 pub const CALL_TEXT: &str = "8 49 frame 108300fde5 station 16 type 0 call\n";
 
-/// One call, and nothing behind its last flag.
+/// One call, and nothing after its last flag.
 pub const ONE_CALL_TEXT: &str = "\
 8 49 frame 108300fde5 station 16 type 0 call
 8 49 pending station 16 type 0
@@ -53,7 +53,7 @@ last 57 98 108380f561
 /// Fifty-seven ones, as many bits as a call and its flags have.
 pub const REST: &str = "111111111111111 111111111111111 111111111111111 111111111111";
 
-/// A call on the first of two lines, and behind it the reply on the second, 114 places.
+/// A call on the first of two lines, and after it the reply on the second, 114 places.
 pub const CALL_ON_FIRST: [&str; 4] = [FLAG, CALL, FLAG, REST];
 
 pub const REPLY_ON_SECOND: [&str; 4] = [REST, FLAG, REPLY, FLAG];

@@ -29,7 +29,7 @@ impl Journal {
         ensures kept { self.new ≡ record self.old { history = self.new.history; spent = self.new.spent } }
     {
         self.spent.copied += octets.len() as u64;
-        self.spent.tick_handled();
         self.history.put(kept_line(line), span, octets);
+        self.spent.tick_handled();
     }
 }

@@ -20,7 +20,7 @@ use crate::counts::Counts;
 use crate::fault::NewFault;
 use crate::feed::PLACES;
 use crate::finding::Finding;
-use crate::hear::{begun_span, hear};
+use crate::hear::{begun_span, fresh, hear};
 use crate::journal::Journal;
 use crate::laws::{pairs_grow, steps_are_bounded};
 use crate::line::Line;
@@ -86,10 +86,8 @@ fn hear_all<C: Check>(
     ensures { Hears C.folded C.COST (Some line) decoder.old (journal_state journal.old) (bits_of count bits)
         (option_map (found_on (Some line) decoder.new.octets) result) decoder.new (journal_state journal.new) }
 {
-    let mut is_decided = false;
-    match hear(decoder, journal, &mut is_decided, Some(line), bits, count) {
-        Ok(_) if is_decided => Some(*journal.last()),
-        Ok(_) => None,
+    match hear(decoder, journal, Some(line), bits, count) {
+        Ok(intake) => fresh(journal, intake.is_decided).copied(),
         Err(PlaceLimit) => unreachable!(),
     }
 }

@@ -8,7 +8,7 @@ ghost use Rattle.bus_watch.specs.Heard.{firsts, seconds};
 ghost use Rattle.bus_watch.specs.PairShown.{shown_option_on, shown_pair};
 ghost use Rattle.bus_watch.specs.Pairs.{two_lines};
 ghost use Rattle.bus_watch.specs.Shown.{IsKeepable};
-ghost use Rattle.bus_watch.specs.Sink.{IsFull, IsWithinRoom};
+ghost use Rattle.bus_watch.specs.Sink.{SinkTook};
 
 use crate::fault::FeedFault;
 use crate::feed::{FedSome, PLACES};
@@ -45,15 +45,9 @@ fn offer<S: PairSink>(line: Line, seen: Option<Seen<'_>>, sink: &mut S) -> Resul
     requires count { S.refusals sink.old < 2 ^ 64 - 1 }
     requires fits { IsKeepable seen }
     ensures ok { OnOk result
-        (Offered S.taken S.refusals (option_to_list (shown_option_on line seen.entry)) 0 sink.old sink.new) }
+        (Offered S.taken S.room S.refusals (option_to_list (shown_option_on line seen.entry)) 0 sink.old sink.new) }
     ensures err { OnErr result
-        (Offered S.taken S.refusals (option_to_list (shown_option_on line seen.entry)) 1 sink.old sink.new) }
-    ensures room { S.room sink.new ≡ S.room sink.old }
-    ensures full { OnErr result (IsFull (S.room sink.new) (S.taken sink.new)) }
-    ensures still_full { OnOk result (IsFull (S.room sink.old) (S.taken sink.old) →
-        IsFull (S.room sink.new) (S.taken sink.new)) }
-    ensures within { OnOk result (IsWithinRoom (S.room sink.old) (S.taken sink.old) →
-        IsWithinRoom (S.room sink.new) (S.taken sink.new)) }
+        (Offered S.taken S.room S.refusals (option_to_list (shown_option_on line seen.entry)) 1 sink.old sink.new) }
 {
     match seen {
         None => Ok(()),
@@ -66,13 +60,9 @@ fn offer_both<S: PairSink>(seen: PairSeen<'_>, sink: &mut S) -> Result<(), SinkR
     requires count { S.refusals sink.old < 2 ^ 64 - 2 }
     requires first_fits { IsKeepable seen.first }
     requires second_fits { IsKeepable seen.second }
-    ensures ok { OnOk result (Offered S.taken S.refusals (shown_pair seen.entry) 0 sink.old sink.new) }
+    ensures ok { OnOk result (Offered S.taken S.room S.refusals (shown_pair seen.entry) 0 sink.old sink.new) }
     ensures err { OnErr result ((n : ℕ) × (0 < n) × (n ≤ 2)
-        × Offered S.taken S.refusals (shown_pair seen.entry) n sink.old sink.new) }
-    ensures room { S.room sink.new ≡ S.room sink.old }
-    ensures full { OnErr result (IsFull (S.room sink.new) (S.taken sink.new)) }
-    ensures within { OnOk result (IsWithinRoom (S.room sink.old) (S.taken sink.old) →
-        IsWithinRoom (S.room sink.new) (S.taken sink.new)) }
+        × Offered S.taken S.room S.refusals (shown_pair seen.entry) n sink.old sink.new) }
 {
     match offer(Line::First, seen.first, sink) {
         Ok(()) => offer(Line::Second, seen.second, sink),
@@ -102,16 +92,11 @@ impl<C: Check> PairAnalyser<C> {
         ensures unchanged { IsErrOf result FeedFault.PlaceLimit → (self.new ≡ self.old) × (sink.new ≡ sink.old) }
         ensures fed { OnOk result
             (FedBy (two_lines C.folded C.COST) S.taken self.old pairs.now self.new sink.old sink.new) }
-        ensures none_refused { OnOk result (S.refusals sink.new ≡ S.refusals sink.old) }
+        ensures none_refused { OnOk result (SinkTook S.taken S.room S.refusals 0 sink.old sink.new) }
         ensures refused { IfErr result (λ fault. ForSink fault (λ consumed.
-            (n : ℕ) × (n ≤ 2) × (S.refusals sink.new ≡ S.refusals sink.old + n)
+            (n : ℕ) × (n ≤ 2) × SinkTook S.taken S.room S.refusals n sink.old sink.new
             × RefusedByAt (two_lines C.folded C.COST) S.taken n self.old pairs.now consumed self.new
             sink.old sink.new)) }
-        ensures room { S.room sink.new ≡ S.room sink.old }
-        ensures full { IfErr result (λ fault. ForSink fault (λ consumed.
-            IsFull (S.room sink.new) (S.taken sink.new))) }
-        ensures within { OnOk result (IsWithinRoom (S.room sink.old) (S.taken sink.old) →
-            IsWithinRoom (S.room sink.new) (S.taken sink.new)) }
     {
         if pairs.len() as u64 > PLACES - self.place() {
             return Err(FeedFault::PlaceLimit);
@@ -136,14 +121,11 @@ impl<C: Check> PairAnalyser<C> {
         ensures within { (1 ≤ result.count) × (result.count ≤ length pairs.now) }
         ensures fed { OnOk result.told (FedBy (two_lines C.folded C.COST) S.taken
             self.old (take result.count pairs.now) self.new sink.old sink.new) }
-        ensures none_refused { OnOk result.told (S.refusals sink.new ≡ S.refusals sink.old) }
-        ensures refused { OnErr result.told ((n : ℕ) × (n ≤ 2) × (S.refusals sink.new ≡ S.refusals sink.old + n)
+        ensures none_refused { OnOk result.told (SinkTook S.taken S.room S.refusals 0 sink.old sink.new) }
+        ensures refused { OnErr result.told ((n : ℕ) × (n ≤ 2)
+            × SinkTook S.taken S.room S.refusals n sink.old sink.new
             × RefusedBy (two_lines C.folded C.COST) S.taken n
             self.old (take result.count pairs.now) self.new sink.old sink.new) }
-        ensures room { S.room sink.new ≡ S.room sink.old }
-        ensures full { OnErr result.told (IsFull (S.room sink.new) (S.taken sink.new)) }
-        ensures kept { OnOk result.told (IsWithinRoom (S.room sink.old) (S.taken sink.old) →
-            IsWithinRoom (S.room sink.new) (S.taken sink.new)) }
     {
         let most = min(pairs.len(), 48);
         let words = pair_words(&pairs[..most]);

@@ -5,7 +5,7 @@ ghost use Rattle.bus_watch.specs.Headline.{Fails, CanBeMade, UnlessStopped};
 ghost use Rattle.bus_watch.specs.PairHeadline.{PairHeadline, StoppedAtPair};
 ghost use Rattle.bus_watch.specs.Pairs.{IsAfterPairs};
 ghost use Rattle.bus_watch.specs.Seen.{SeenReport};
-ghost use Rattle.bus_watch.specs.Sink.{told};
+ghost use Rattle.bus_watch.specs.Sink.{told, SinkTook};
 
 use crate::fault::RunFault;
 use crate::pair::analyser::PairAnalyser;
@@ -50,9 +50,9 @@ pub fn run_pairs<C: Check, S: PairSink>(
         × PairHeadline C.COST dictionary depth origin pairs.now reports run.analyser.journal.history run.usage) }
     ensures is_after { IfOk result (λ run. IsAfterPairs C.folded C.COST run.analyser pairs.now) }
     ensures within_limits { OnOk result (CanBeMade depth origin × (origin + length pairs.now ≤ 2 ^ 60)) }
-    ensures none_refused { OnOk result (S.refusals sink.new ≡ S.refusals sink.old) }
+    ensures none_refused { OnOk result (SinkTook S.taken S.room S.refusals 0 sink.old sink.new) }
     ensures fails { IfErr result (Fails depth origin (length pairs.now) (λ consumed.
-        (n : ℕ) × (n ≤ 2) × (S.refusals sink.new ≡ S.refusals sink.old + n)
+        (n : ℕ) × (n ≤ 2) × SinkTook S.taken S.room S.refusals n sink.old sink.new
         × StoppedAtPair S.taken n dictionary origin pairs.now sink.old sink.new consumed)) }
     ensures untouched { IfErr result (UnlessStopped (sink.new ≡ sink.old)) }
 {

@@ -14,8 +14,9 @@ pub(crate) fn is_stray(standing: Standing, verdict: Option<Verdict>) -> bool
     ensures { result ≡ is_stray (Some standing) verdict }
 {
     match standing.frame_type() {
-        Some(ftype) if ftype >= 128 => !answers(verdict),
-        _ => false,
+        // Without a branch, since the line's data decide what the type is.
+        Some(ftype) => (ftype >= 128) & !answers(verdict),
+        None => false,
     }
 }
 

@@ -30,8 +30,8 @@ fn many_names(rt: HostRuntime) {
     let mut count = 0u16;
     for BitName { at, name } in set_names(entry, &rest) {
         let want = format!(in rt.alloc(); "the-bit-at-place-{count}").expect(&rt, "memory");
-        assert_eq!(rt; at, count);
-        assert_eq!(rt; name.as_str(), want.as_str());
+        assert_eq!(rt; at, count, "name {count}");
+        assert_eq!(rt; name.as_str(), want.as_str(), "name {count}");
         count = count.saturating_add(1);
     }
     assert_eq!(rt; count, 2024);
@@ -54,9 +54,9 @@ fn many_entries(rt: HostRuntime) {
     for ftype in 0..=255u8 {
         let entry = dictionary.entry(ftype).expect(&rt, "no entry");
         let name = format!(in rt.alloc(); "n{ftype}").expect(&rt, "memory");
-        assert_eq!(rt; entry.name(), name.as_str());
-        assert_eq!(rt; entry.length(), usize::from(ftype % 254));
-        assert_eq!(rt; entry.answered(), ftype < 128);
+        assert_eq!(rt; entry.name(), name.as_str(), "type {ftype}");
+        assert_eq!(rt; entry.length(), usize::from(ftype % 254), "type {ftype}");
+        assert_eq!(rt; entry.answered(), ftype < 128, "type {ftype}");
     }
 }
 
@@ -68,7 +68,7 @@ fn read_again(alloc: Global, text: &str) -> Result<Dictionary, DictFault> {
     }
 }
 
-/// To be run with each request for memory refused in turn: behind a refusal the next attempt
+/// To be run with each request for memory refused in turn: after a refusal the next attempt
 /// succeeds, and what was read asks for no more.
 #[test]
 fn refused_memory(rt: HostRuntime) {
@@ -99,7 +99,7 @@ fn empty_takes_no_memory(rt: HostRuntime) {
     let empty = Dictionary::empty(rt.alloc());
     assert_eq!(rt; empty.longest(), 256);
     for ftype in 0..=255u8 {
-        assert!(rt; empty.entry(ftype).is_none());
+        assert!(rt; empty.entry(ftype).is_none(), "type {ftype}");
     }
     let want = Standing::Unknown {
         station: 16,

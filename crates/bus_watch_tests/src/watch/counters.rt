@@ -144,7 +144,7 @@ const LAST_CALL: Span = Span {
 
 fn check_kept(rt: &impl Abort, analyser: &Analyser<OctetCheck>, index: usize, want: Span) {
     let kept = analyser.history(index).expect(rt, "a frame");
-    assert_eq!(rt; kept.span, want);
+    assert_eq!(rt; kept.span, want, "frame {index}");
 }
 
 /// The first command that is kept.

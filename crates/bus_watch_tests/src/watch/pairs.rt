@@ -9,6 +9,8 @@ mod random_lists;
 mod runs;
 mod sinks;
 
+use self::memory::Hearer;
+use super::limits::FAR;
 use super::rows::{DAMAGE, FRAMES};
 use super::table::row_of;
 use super::text::{push_ending, push_seen};
@@ -42,7 +44,7 @@ const NOTHING_OPEN: PairEnding = PairEnding {
 };
 
 const PAIR_ROWS: [PairRow; 7] = [
-    // the reply comes on the second line, behind the call
+    // the reply comes on the second line, after the call
     PairRow {
         first: "flag call flag",
         second: "ones-57 flag reply flag",
@@ -176,7 +178,7 @@ impl PairCollector {
     }
 }
 
-/// What is seen on a line, behind what the text has.
+/// What is seen on a line, after what the text has.
 fn push_seen_on(text: &mut String, line: Line, seen: &Seen<'_>) -> Result<(), AllocError> {
     push_seen(text, seen)?;
     text.push_str(match line {
@@ -246,7 +248,7 @@ fn pushed<C: Check>(
     text
 }
 
-/// What was found on a line, behind what the text has.
+/// What was found on a line, after what the text has.
 fn push_found<C: Check>(
     rt: &impl Abort,
     text: &mut String,
@@ -259,7 +261,7 @@ fn push_found<C: Check>(
     }
 }
 
-/// Takes up to `size` of these pairs with one call, and what was seen at the last of them goes behind
+/// Takes up to `size` of these pairs with one call, and what was seen at the last of them goes after
 /// what the text has; how many these are.
 fn take_some<C: Check>(
     rt: &impl Abort,
@@ -355,7 +357,7 @@ fn check_first(rt: &impl Abort, alloc: Global, line: &str) {
     let mut text = String::new(alloc);
     for bit in &row.bits {
         let seen = analyser.push(*bit, false).expect(rt, "a place");
-        assert!(rt; seen.second.is_none());
+        assert!(rt; seen.second.is_none(), "{line}");
         if let Some(first) = &seen.first {
             push_seen(&mut text, first).expect(rt, "text");
         }
@@ -370,8 +372,8 @@ fn check_first(rt: &impl Abort, alloc: Global, line: &str) {
         pending,
     };
     push_ending(&mut text, ending).expect(rt, "text");
-    assert_eq!(rt; text.as_str(), row.want);
-    assert_eq!(rt; second, None);
+    assert_eq!(rt; text.as_str(), row.want, "{line}");
+    assert_eq!(rt; second, None, "{line}");
 }
 
 #[test]
@@ -385,29 +387,51 @@ fn rows_of_one_line_beside_silence(rt: HostRuntime) {
     }
 }
 
-/// The steps of the first row, with a check that costs one an octet.
+/// The words of two lists, the shorter going on with ones, and the steps with a check that costs one an octet.
+struct StepsRow {
+    first: &'static str,
+    second: &'static str,
+    spent: Spent,
+}
+
+const STEPS: [StepsRow; 2] = [
+    // a frame and an idle on either line
+    StepsRow {
+        first: "flag call flag",
+        second: "ones-57 flag reply flag",
+        spent: Spent {
+            shifted: 228,
+            assembled: 80,
+            folded: 10,
+            stored: 10,
+            copied: 10,
+            handled: 18,
+        },
+    },
+    // an idle on the first, and a frame on the second alone
+    StepsRow {
+        first: "",
+        second: "flag call flag",
+        spent: Spent {
+            shifted: 114,
+            assembled: 40,
+            folded: 5,
+            stored: 5,
+            copied: 5,
+            handled: 9,
+        },
+    },
+];
+
 #[test]
 fn steps_of_two_lines(rt: HostRuntime) {
     let alloc = rt.alloc();
-    let lines = two_lines(
-        &rt,
-        alloc,
-        "flag call flag",
-        "ones-57 flag reply flag",
-        true,
-    );
-    assert_eq!(rt; lines.pairs.len(), 114);
-    let mut analyser = analyser::<OctetCheck>(&rt, alloc);
-    pushed(&rt, alloc, &mut analyser, &lines.pairs);
-    let want = Spent {
-        shifted: 228,
-        assembled: 80,
-        folded: 10,
-        stored: 10,
-        copied: 10,
-        handled: 18,
-    };
-    assert_eq!(rt; analyser.spent(), want);
+    for row in &STEPS {
+        let lines = two_lines(&rt, alloc, row.first, row.second, true);
+        let mut analyser = analyser::<OctetCheck>(&rt, alloc);
+        pushed(&rt, alloc, &mut analyser, &lines.pairs);
+        assert_eq!(rt; analyser.spent(), row.spent, "{}", row.second);
+    }
 }
 
 /// The last two of three frames, with their lines.
@@ -461,7 +485,8 @@ fn limits_of_two_lines(rt: HostRuntime) {
     for depth in [0, 1025] {
         assert_eq!(rt;
             new_at(&rt, alloc, depth, 0).err(),
-            Some(NewFault::DepthRange)
+            Some(NewFault::DepthRange),
+            "depth {depth}"
         );
     }
     let past_all = (1 << 60) + 1;
@@ -479,4 +504,48 @@ fn limits_of_two_lines(rt: HostRuntime) {
     feed(&rt, &mut analyser, &pairs[..3], &mut sink).expect(&rt, "room");
     assert_eq!(rt; analyser.spent().shifted, 6);
     assert!(rt; analyser.push(true, true).is_err());
+}
+
+/// Pairs are taken up to the place before 2^60, and no more.
+#[test]
+fn last_taken_pairs(rt: HostRuntime) {
+    let alloc = rt.alloc();
+    for room in [0u64, 1, 3, 48] {
+        let origin = FAR.wrapping_sub(room);
+        let mut analyser = new_at(&rt, alloc, 1, origin).expect(&rt, "an analyser");
+        for _ in 0..room {
+            assert!(rt; analyser.has_room(1), "{room} places");
+            assert!(rt; analyser.push(true, false).is_ok(), "{room} places");
+        }
+        assert_eq!(rt;
+            analyser.spent().shifted,
+            room.saturating_mul(2),
+            "{room} places"
+        );
+        assert!(rt; !analyser.has_room(1), "{room} places");
+        assert_eq!(rt;
+            analyser.take(0, 0, 1).err(),
+            Some(PlaceLimit),
+            "{room} places"
+        );
+    }
+}
+
+/// Scanning stops in front of the place 2^60.
+#[test]
+fn last_scanned_pairs(rt: HostRuntime) {
+    let alloc = rt.alloc();
+    for room in [0u64, 1, 3, 7, 8, 9] {
+        let origin = FAR.wrapping_sub(room);
+        let mut analyser = new_at(&rt, alloc, 1, origin).expect(&rt, "an analyser");
+        let mut heard = 0;
+        let taken = analyser.scan(&[0xff], &[0xff], 8, &mut Hearer, &mut heard);
+        let want = room.min(8);
+        assert_eq!(rt; (taken as u64, heard), (want, 0), "{room} places");
+        assert_eq!(rt;
+            analyser.spent().shifted,
+            want.saturating_mul(2),
+            "{room} places"
+        );
+    }
 }

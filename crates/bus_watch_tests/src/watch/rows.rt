@@ -3,7 +3,7 @@
 use super::sinks::{Collector, run};
 use super::table::{Row, pushed, row_of, taken};
 use super::text::push_ending;
-use super::{CALLS, NONE, bits_of};
+use super::{CALLS, NONE, WITHIN, bits_of};
 use bus_dictionary::Dictionary;
 use bus_fcs::{BitCheck, Check, OctetCheck};
 use bus_line::Span;
@@ -132,8 +132,14 @@ fn any_cut(rt: HostRuntime) {
     }
 }
 
-fn check_tally<C: Check>(rt: &impl Abort, alloc: Global, words: &str, want: Counts) {
-    let dictionary = Dictionary::read(alloc, CALLS).expect(rt, "a dictionary");
+fn check_tally<C: Check>(
+    rt: &impl Abort,
+    alloc: Global,
+    dictionary: &str,
+    words: &str,
+    want: Counts,
+) {
+    let dictionary = Dictionary::read(alloc, dictionary).expect(rt, "a dictionary");
     let mut analyser = Analyser::<C>::new(alloc, dictionary, 2, 0).expect(rt, "an analyser");
     let bits = bits_of(alloc, words).expect(rt, "bits");
     pushed(rt, alloc, &mut analyser, &bits);
@@ -146,19 +152,41 @@ fn check_tallies<C: Check>(rt: &impl Abort, alloc: Global) {
         answered: 1,
         ..NONE
     };
-    check_tally::<C>(rt, alloc, "flag call flag idle flag reply flag", answered);
+    check_tally::<C>(
+        rt,
+        alloc,
+        CALLS,
+        "flag call flag idle flag reply flag",
+        answered,
+    );
     let spoilt = Counts { spoilt: 1, ..NONE };
-    check_tally::<C>(rt, alloc, "flag call flag short flag reply flag", spoilt);
+    check_tally::<C>(
+        rt,
+        alloc,
+        CALLS,
+        "flag call flag short flag reply flag",
+        spoilt,
+    );
     let missing = Counts { missing: 1, ..NONE };
     check_tally::<C>(
         rt,
         alloc,
+        CALLS,
         "flag call flag control-19 flag reply flag",
         missing,
     );
+    let late = Counts { late: 1, ..NONE };
+    check_tally::<C>(
+        rt,
+        alloc,
+        WITHIN,
+        "flag call flag flag flag reply flag",
+        late,
+    );
 }
 
-/// An answer after an idle, after damage, and after another frame: only an idle may stand between.
+/// An answer after an idle, after damage, and after another frame: only an idle may stand between. And one after its
+/// window.
 #[test]
 fn tallies(rt: HostRuntime) {
     check_tallies::<BitCheck>(&rt, rt.alloc());

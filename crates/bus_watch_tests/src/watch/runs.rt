@@ -20,13 +20,13 @@ fn check_frame(rt: &impl Abort, log: &ReportLog, index: usize, span: Span, octet
     let LoggedPiece::Frame(frame) = &report.piece else {
         panic!(rt; "no frame");
     };
-    assert_eq!(rt; frame.span, span);
-    assert_eq!(rt; frame.octets.as_slice(), octets);
-    assert!(rt; !report.stray);
-    assert_eq!(rt; report.verdict.is_some(), index == 1);
+    assert_eq!(rt; frame.span, span, "report {index}");
+    assert_eq!(rt; frame.octets.as_slice(), octets, "report {index}");
+    assert!(rt; !report.stray, "report {index}");
+    assert_eq!(rt; report.verdict.is_some(), index == 1, "report {index}");
 }
 
-/// The place `bits` behind `origin`.
+/// The place `bits` after `origin`.
 fn behind(origin: u64, first: u64, past: u64) -> Span {
     Span {
         first: origin.saturating_add(first),
@@ -56,8 +56,8 @@ fn check_listed(rt: &impl Abort, alloc: Global, origin: u64, room: usize) {
     )
     .expect(rt, "reports");
     check_log(rt, &log, origin);
-    assert_eq!(rt; log.room(), room);
-    assert_eq!(rt; log.refused(), 0);
+    assert_eq!(rt; log.room(), room, "{room} from {origin}");
+    assert_eq!(rt; log.refused(), 0, "{room} from {origin}");
 }
 
 /// All reports of a list, in a log with just the room for them, with more, and at the last place.

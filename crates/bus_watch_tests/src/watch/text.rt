@@ -58,7 +58,7 @@ fn push_verdict(text: &mut String, verdict: Verdict) -> Result<(), AllocError> {
     )
 }
 
-/// A `; ` behind what the text has.
+/// A `; ` after what the text has.
 fn push_break(text: &mut String) -> Result<(), AllocError> {
     if text.is_empty() {
         return Ok(());
@@ -66,7 +66,7 @@ fn push_break(text: &mut String) -> Result<(), AllocError> {
     text.push_str("; ")
 }
 
-/// What is open and what is pending at the end, behind what the text has.
+/// What is open and what is pending at the end, after what the text has.
 pub(super) fn push_ending(text: &mut String, ending: Ending) -> Result<(), AllocError> {
     if let Some(Span { first, past }) = ending.begun {
         push_break(text)?;
@@ -84,7 +84,7 @@ pub(super) fn push_ending(text: &mut String, ending: Ending) -> Result<(), Alloc
     Ok(())
 }
 
-/// What is seen, behind what the text has.
+/// What is seen, after what the text has.
 pub(super) fn push_seen(text: &mut String, seen: &Seen) -> Result<(), AllocError> {
     let (span, word) = piece_word(&seen.piece);
     let (first, past) = (span.first, span.past);

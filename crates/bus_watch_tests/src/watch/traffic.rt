@@ -12,7 +12,7 @@ pub(super) const OCTETS: usize = 41;
 /// So many rounds have more than 10^5 bits.
 pub(super) const ROUNDS: u64 = 305;
 
-/// The bits of these words, and behind them ones.
+/// The bits of these words, and after them ones.
 pub(super) fn round_of(rt: &impl Abort, words: &str) -> [bool; BITS] {
     let mut bits = [true; BITS];
     let mut place: usize = 0;

@@ -114,11 +114,11 @@ fn fed(rt: &impl Abort, alloc: Global, octets: &[u8], from: usize, size: usize) 
         let mut report = UNTOLD;
         let end = at.saturating_add(size).min(bits);
         let status = port1_line_feed(&mut line, octets, &mut at, end, &mut report);
-        assert_eq!(rt; status, OK);
+        assert_eq!(rt; status, OK, "{size} bits from {from} on");
         assert!(rt; report.kind != NONE || at == end, "bits are left");
         note(rt, &mut told, &line, &report);
     }
-    assert_eq!(rt; at, bits);
+    assert_eq!(rt; at, bits, "{size} bits from {from} on");
     told
 }
 
@@ -153,14 +153,14 @@ fn fed_alone(
         for _ in 0..8u64 {
             let mut report = UNTOLD;
             let status = feed_eight(&mut line, eight, is_lowest_first, &mut at, &mut report);
-            assert_eq!(rt; status, OK);
+            assert_eq!(rt; status, OK, "from bit {from} on");
             assert!(rt; report.kind != NONE || at == 8, "bits are left");
             note(rt, &mut told, &line, &report);
             if at == 8 {
                 break;
             }
         }
-        assert_eq!(rt; at, 8);
+        assert_eq!(rt; at, 8, "from bit {from} on");
         at = 0;
     }
     told

@@ -106,10 +106,10 @@ fn waiting(rt: &impl Abort, entries: &[Port1Entry]) -> Port1Pair {
     pair
 }
 
-/// The report behind the command: its kind, its cause and the place of its first bit.
+/// The report after the command: its kind, its cause and the place of its first bit.
 type Behind = (u32, u32, u64);
 
-/// What comes behind the command, how many of the table's entries there are, then standing, verdict and stray, and
+/// What comes after the command, how many of the table's entries there are, then standing, verdict and stray, and
 /// whether the command still waits. The window ends where the first bit is that of place 65.
 const VERDICTS: [(Behind, usize, (u32, u32, u32), u32); 8] = [
     ((FRAME, 0, 57), 129, (KNOWN, ANSWERED, 0), 0),
@@ -149,13 +149,25 @@ fn verdicts(rt: HostRuntime) {
             behind.2
         );
         if want.1 != 0 {
-            assert_eq!(rt; (seen.first, seen.past), CALLED);
-            assert_eq!(rt; (seen.command_station, seen.command_type), (16, 0));
+            assert_eq!(rt;
+                (seen.first, seen.past),
+                CALLED,
+                "kind {} at {}",
+                behind.0,
+                behind.2
+            );
+            assert_eq!(rt;
+                (seen.command_station, seen.command_type),
+                (16, 0),
+                "kind {} at {}",
+                behind.0,
+                behind.2
+            );
         }
     }
 }
 
-/// A frame of two lines: its line, whether it is the answer or else the command, and what is seen of it behind the
+/// A frame of two lines: its line, whether it is the answer or else the command, and what is seen of it after the
 /// command.
 const OF_TWO: [(u32, bool, (u32, u32, u32), u32); 4] = [
     (1, true, (KNOWN, MISSING, 1), 0),
@@ -211,7 +223,15 @@ fn refused_reports(rt: HostRuntime) {
             BAD_ARGUMENT,
             "line {line}, kind {kind}, cause {cause}"
         );
-        assert_eq!(rt; kept(&pair), kept(&waiting(&rt, &entries)));
-        assert_eq!(rt; said(&seen), said(&UNSEEN));
+        assert_eq!(rt;
+            kept(&pair),
+            kept(&waiting(&rt, &entries)),
+            "line {line}, kind {kind}, cause {cause}"
+        );
+        assert_eq!(rt;
+            said(&seen),
+            said(&UNSEEN),
+            "line {line}, kind {kind}, cause {cause}"
+        );
     }
 }

@@ -99,7 +99,7 @@ fn sent_bits(rt: HostRuntime) {
     }
 }
 
-/// What is asked for, behind a flag or not, or of no sender; how many octets there are and at which bit it is to begin;
+/// What is asked for, after a flag or not, or of no sender; how many octets there are and at which bit it is to begin;
 /// what comes of it and how many bits are told.
 type Asked = (Ask, u32, usize, usize, u32, usize);
 
@@ -143,9 +143,13 @@ fn refused_sends(rt: HostRuntime) {
         );
         assert_eq!(rt; bits, told, "{what:?} at {from}");
         if want == OK {
-            assert_eq!(rt; at, from.wrapping_add(told));
+            assert_eq!(rt; at, from.wrapping_add(told), "{what:?} at {from}");
         } else {
-            assert_eq!(rt; (at, sender.behind_flag), (from, behind_flag));
+            assert_eq!(rt;
+                (at, sender.behind_flag),
+                (from, behind_flag),
+                "{what:?} at {from}"
+            );
             assert_eq!(rt; octets, [0x96; 8], "{what:?} at {from}");
         }
     }

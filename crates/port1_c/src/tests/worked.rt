@@ -70,9 +70,9 @@ pub(super) fn memory(number: u8) -> Port1Line {
             folded: word,
             stored: word,
             assembled: word,
-            gathered: word,
-            rest: word,
-            history: word,
+            data_bits: word,
+            partial: word,
+            last_bits: word,
             len: u32::from(number),
             spare: u16::from(number),
             register: u16::from(number),
@@ -96,7 +96,7 @@ pub(super) fn bits_of(rt: &impl Abort, alloc: Global, texts: &[&str]) -> Vec<boo
     bits
 }
 
-/// So many equal bits behind these.
+/// So many equal bits after these.
 pub(super) fn push_bits(rt: &impl Abort, bits: &mut Vec<bool>, bit: bool, count: usize) {
     for _ in 0..count {
         bits.push(bit).expect(rt, "memory");

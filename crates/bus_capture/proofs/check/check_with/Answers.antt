@@ -9,10 +9,10 @@ use Rattle.bus_capture.proofs.check.check_with.Goals as goal
 
 pub returns-in_err-reader : goal.returns-in_err-reader
 returns-in_err-reader g c =
-    let p = err_from_is_err_and c.from_residual.result c.from_residual.ensures.1 in
+    let failed = err_from_is_err_and c.from_residual.result c.from_residual.ensures.1 in
     let checks = checks-nothing g.T.Tap.tap.form c.args.o.now _ (g.W.Write.contents c.args.w.now)
     (g.W.Write.contents c.args.w.now) c.in_err-reader.field-0.0 c.in_err-reader.ensures.made (appends_nothing _) in
-    rw (p.1, p.2) (record {
+    rw (failed.1, failed.2) (record {
       checked = ([], consumes_nothing _, checks);
       known = known-checks g.T.Tap.tap.form c.laws.ensures.form c.args.o.now _ _ _ _ [] (Err c.in_err-reader.field-0.0)
           (consumes_nothing (g.R.Read.remaining c.args.r.now)) checks;
@@ -41,7 +41,8 @@ returns g c =
 
 pub returns-in_err-take_input : goal.returns-in_err-take_input
 returns-in_err-take_input g c =
-    let p = err_from_is_err_and c.from_residual-in_err-take_input.result c.from_residual-in_err-take_input.ensures.1 in
+    let failed = err_from_is_err_and c.from_residual-in_err-take_input.result
+    c.from_residual-in_err-take_input.ensures.1 in
     let o = c.args.o.now in
     let start = g.W.Write.contents c.args.w.now in
     let w = c.take_input.new.self.run in
@@ -52,7 +53,7 @@ returns-in_err-take_input g c =
     let checks = stops-checks g.T.Tap.tap o made.0 (is_text c.in_ok-reader.reader.source)
     (g.R.Read.remaining c.take_input.new.r) start _ w read.0 c.in_err-take_input.field-0.0 made.1 asked given.0
     read.2 in
-    rw (p.1, p.2) (record {
+    rw (failed.1, failed.2) (record {
       checked = (read.0, read.1, checks);
       known = known-checks g.T.Tap.tap.form c.laws.ensures.form o (g.R.Read.remaining c.args.r.now)
           (g.R.Read.remaining c.take_input.new.r) start _ read.0 (Err c.in_err-take_input.field-0.0) read.1 checks;

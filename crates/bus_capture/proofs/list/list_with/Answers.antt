@@ -10,10 +10,10 @@ use Rattle.bus_capture.proofs.list.list_with.Goals as goal
 
 pub returns-in_err-reader : goal.returns-in_err-reader
 returns-in_err-reader g c =
-    let p = err_from_is_err_and c.from_residual.result c.from_residual.ensures.1 in
+    let failed = err_from_is_err_and c.from_residual.result c.from_residual.ensures.1 in
     let lists = does-nothing g.T.Tap.tap.form c.args.o.now _ (g.W.Write.contents c.args.w.now)
     (g.W.Write.contents c.args.w.now) c.in_err-reader.field-0.0 c.in_err-reader.ensures.made (appends_nothing _) in
-    rw (p.1, p.2) (record {
+    rw (failed.1, failed.2) (record {
       listed = ([], consumes_nothing _, lists);
       known = known-lists g.T.Tap.tap.form c.laws.ensures.form c.args.o.now _ _ _ _ [] (Err c.in_err-reader.field-0.0)
           (consumes_nothing (g.R.Read.remaining c.args.r.now)) lists;

@@ -14,14 +14,14 @@ loop-at-init g c =
       within = omega arith;
       sound = c.requires.sound;
       same = same-self tap c.args.run.now;
-      followed = λ start b h. subst (Watches tap start (g.W.Write.contents c.args.w.now) c.args.run.now)
-          (from-none b c.args.octets.now) h;
+      followed = λ start b followed. subst (Watches tap start (g.W.Write.contents c.args.w.now) c.args.run.now)
+          (from-none b c.args.octets.now) followed;
     }
 
 pub returns-in_err-at-clause-taken : goal.returns-in_err-at-clause-taken
 returns-in_err-at-clause-taken g c =
-    let p = err_from_is_err_and c.from_residual.result c.from_residual.ensures.1 in
-    rw (p.1, p.2) (λ start b h.
+    let failed = err_from_is_err_and c.from_residual.result c.from_residual.ensures.1 in
+    rw (failed.1, failed.2) (λ start b followed.
     let tap = one_tap g.C.Check.folded g.C.Check.COST in
     let os = c.args.octets.now in
     let at = c.loop-at.at in
@@ -29,7 +29,7 @@ returns-in_err-at-clause-taken g c =
     let whole = from-next b os at (c.args.end - at) ∙ ap (λ (n : ℕ). b ++ bits_from os 0 n) all in
     subst (λ (z : List Bool). Halts tap start (g.W.Write.contents c.take_some.new.w) c.take_some.new.run z
     c.in_err-at.field-0.0) whole
-    (c.in_err-at.ensures.taken start (b ++ bits_from os 0 at) (c.loop-at.invariant.followed start b h)))
+    (c.in_err-at.ensures.taken start (b ++ bits_from os 0 at) (c.loop-at.invariant.followed start b followed)))
 
 pub loop-at-preserved : goal.loop-at-preserved
 loop-at-preserved g c =
@@ -42,14 +42,14 @@ loop-at-preserved g c =
       sound = c.take_some.ensures.sound;
       same = same-both tap c.args.run.now c.loop-at.run c.take_some.new.run c.loop-at.invariant.same
           c.take_some.ensures.same;
-      followed = λ start b h.
+      followed = λ start b followed.
           subst (Watches tap start (g.W.Write.contents c.take_some.new.w) c.take_some.new.run) (from-next b os at n)
-          (c.in_ok-at.ensures.taken start (b ++ bits_from os 0 at) (c.loop-at.invariant.followed start b h));
+          (c.in_ok-at.ensures.taken start (b ++ bits_from os 0 at) (c.loop-at.invariant.followed start b followed));
     }
 
 pub returns-clause-taken : goal.returns-clause-taken
-returns-clause-taken g c = λ start b h.
+returns-clause-taken g c = λ start b followed.
     let os = c.args.octets.now in
     let end : c.loop-at.at ≡ c.args.end = omega (arith, c.loop-at.invariant.within, c.loop-at-test.false) in
     subst (λ (n : ℕ). Watches (one_tap g.C.Check.folded g.C.Check.COST) start (g.W.Write.contents c.loop-at.w)
-    c.loop-at.run (b ++ bits_from os 0 n)) end (c.loop-at.invariant.followed start b h)
+    c.loop-at.run (b ++ bits_from os 0 n)) end (c.loop-at.invariant.followed start b followed)

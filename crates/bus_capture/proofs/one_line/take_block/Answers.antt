@@ -8,31 +8,31 @@ use Rattle.bus_capture.proofs.one_line.take_block.Goals as goal
 
 pub returns-in_err-take_bits-clause-taken : goal.returns-in_err-take_bits-clause-taken
 returns-in_err-take_bits-clause-taken g c =
-    let p = err_from_is_err_and c.from_residual.result c.from_residual.ensures.1 in
-    rw (p.1, p.2) (λ start xs f.
+    let failed = err_from_is_err_and c.from_residual.result c.from_residual.ensures.1 in
+    rw (failed.1, failed.2) (λ start xs followed.
     let tap = one_tap g.C.Check.folded g.C.Check.COST in
     let packed = c.pack-packed in
     let b = (tap.form.text xs).bits in
-    let given = packed.ensures.given xs f.clean in
-    let fits = followed-fits tap c.laws.ensures start _ c.args.run.now b c.requires.sound f.bits in
+    let given = packed.ensures.given xs followed.clean in
+    let fits = followed-fits tap c.laws.ensures start _ c.args.run.now b c.requires.sound followed.bits in
     let low : tap.watch.origin c.take_bits.new.run.analyser ≤ 2 ^ 60 =
     omega (arith, fits, c.take_bits.ensures.same.origin) in (
       packed.result.taken,
       packed.ensures.enough,
       mark-taken tap start _ c.take_bits.new.run (xs ++ take packed.result.taken c.args.text.now)
           (b ++ bits_from packed.new.block 0 packed.result.count) (Err c.in_err-take_bits.field-0.0) low given.0 given.1
-          (c.in_err-take_bits.ensures.taken start b f.bits),
+          (c.in_err-take_bits.ensures.taken start b followed.bits),
     ))
 
 pub returns-clause-taken : goal.returns-clause-taken
-returns-clause-taken g c = λ start xs f.
+returns-clause-taken g c = λ start xs followed.
     let tap = one_tap g.C.Check.folded g.C.Check.COST in
     let packed = c.pack-packed in
     let b = (tap.form.text xs).bits in
-    let given = packed.ensures.given xs f.clean in
-    let fits = followed-fits tap c.laws.ensures start _ c.args.run.now b c.requires.sound f.bits in
+    let given = packed.ensures.given xs followed.clean in
+    let fits = followed-fits tap c.laws.ensures start _ c.args.run.now b c.requires.sound followed.bits in
     let low : tap.watch.origin c.take_bits.new.run.analyser ≤ 2 ^ 60 =
     omega (arith, fits, c.take_bits.ensures.same.origin) in
     mark-taken tap start _ c.take_bits.new.run (xs ++ take packed.result.taken c.args.text.now)
     (b ++ bits_from packed.new.block 0 packed.result.count) (Ok tt) low given.0 given.1
-    (c.in_ok-take_bits.ensures.taken start b f.bits)
+    (c.in_ok-take_bits.ensures.taken start b followed.bits)

@@ -1,4 +1,4 @@
-use Rattle.std.proofs.Common.{◌≤◌, ◌^◌, ◌≡◌, ◌++◌, ◌∷◌, [], ℕ, Bool, List, Err, Ok, take, refl, ap, ◌∙◌, arith}
+use Rattle.std.proofs.Common.{◌≤◌, ◌^◌, ◌≡◌, ◌++◌, ◌∷◌, [], Bool, List, Err, Ok, take, refl, ap, ◌∙◌, arith}
 use Rattle.std.proofs.lemmas.Result.{err_from_is_err_and}
 use Rattle.bus_bits.specs.Bits.{bits_from}
 use Rattle.bus_bits.specs.Octet.{bits_of}
@@ -11,40 +11,41 @@ use Rattle.bus_capture.proofs.one_line.take_eight.Goals as goal
 
 pub returns-in_err-take_bits-clause-taken : goal.returns-in_err-take_bits-clause-taken
 returns-in_err-take_bits-clause-taken g c =
-    let p = err_from_is_err_and c.from_residual.result c.from_residual.ensures.1 in
-    rw (p.1, p.2) (λ start xs f.
+    let failed = err_from_is_err_and c.from_residual.result c.from_residual.ensures.1 in
+    rw (failed.1, failed.2) (λ start xs followed.
     let tap = one_tap g.C.Check.folded g.C.Check.COST in
     let eight = c.in-Some.eight in
     let b = (tap.form.text xs).bits in
-    let given = c.in-Some.ensures.given eight refl xs f.clean in
+    let given = c.in-Some.ensures.given eight refl xs followed.clean in
     let bit = bits-in (eight.octet ∷ []) 0 0 0 8 (omega arith) (omega arith) in
     let same : bits_of 8 eight.octet ≡ bits_from (eight.octet ∷ []) 0 8 = ap (bits_of 8) (omega arith) ∙ bit in
     let bits = given.1 ∙ ap (λ (z : List Bool). text_bits xs ++ z) same in
     let fewest = c.in-Some.ensures.fewest eight refl in
-    let fits = followed-fits tap c.laws.ensures start _ c.args.run.now b c.requires f.bits in
+    let fits = followed-fits tap c.laws.ensures start _ c.args.run.now b c.requires followed.bits in
     let low : tap.watch.origin c.take_bits.new.run.analyser ≤ 2 ^ 60 =
     omega (arith, fits, c.take_bits.ensures.same.origin) in (
       eight.taken,
       fewest.0.0,
       mark-taken tap start _ c.take_bits.new.run (xs ++ take eight.taken c.args.text.now)
           (b ++ bits_from (eight.octet ∷ []) 0 8) (Err c.in_err-take_bits.field-0.0) low given.0 bits
-          (c.in_err-take_bits.ensures.taken start b f.bits),
+          (c.in_err-take_bits.ensures.taken start b followed.bits),
     ))
 
 pub returns-clause-taken : goal.returns-clause-taken
-returns-clause-taken g c = λ start xs f.
+returns-clause-taken g c = λ start xs followed.
     let tap = one_tap g.C.Check.folded g.C.Check.COST in
     let eight = c.in-Some.eight in
     let b = (tap.form.text xs).bits in
-    let given = c.in-Some.ensures.given eight refl xs f.clean in
+    let given = c.in-Some.ensures.given eight refl xs followed.clean in
     let bit = bits-in (eight.octet ∷ []) 0 0 0 8 (omega arith) (omega arith) in
     let same : bits_of 8 eight.octet ≡ bits_from (eight.octet ∷ []) 0 8 = ap (bits_of 8) (omega arith) ∙ bit in
     let bits = given.1 ∙ ap (λ (z : List Bool). text_bits xs ++ z) same in
-    let fits = followed-fits tap c.laws.ensures start _ c.args.run.now b c.requires f.bits in
+    let fits = followed-fits tap c.laws.ensures start _ c.args.run.now b c.requires followed.bits in
     let low : tap.watch.origin c.take_bits.new.run.analyser ≤ 2 ^ 60 =
     omega (arith, fits, c.take_bits.ensures.same.origin) in
     mark-taken tap start _ c.take_bits.new.run (xs ++ take eight.taken c.args.text.now)
-    (b ++ bits_from (eight.octet ∷ []) 0 8) (Ok tt) low given.0 bits (c.in_ok-take_bits.ensures.taken start b f.bits)
+    (b ++ bits_from (eight.octet ∷ []) 0 8) (Ok tt) low given.0 bits
+    (c.in_ok-take_bits.ensures.taken start b followed.bits)
 
 pub returns-clause-enough : goal.returns-clause-enough
 returns-clause-enough g c = let fewest = c.in-Some.ensures.fewest c.in-Some.eight refl in fewest.0.0

@@ -10,12 +10,12 @@ use Rattle.bus_capture.proofs.packed.take_body.Goals as goal
 
 pub returns-in_err-taken-clause-taken : goal.returns-in_err-taken-clause-taken
 returns-in_err-taken-clause-taken g c =
-    let p = err_from_is_err_and c.from_residual.result c.from_residual.ensures.1 in
-    rw (p.1, p.2) (λ start xs f.
+    let failed = err_from_is_err_and c.from_residual.result c.from_residual.ensures.1 in
+    rw (failed.1, failed.2) (λ start xs followed.
     let tap = g.T.Tap.tap in
     let os = c.args.octets.now in
     let i = c.loop-taken.taken in
-    let stops = c.in_err-taken.ensures.taken start (xs ++ take i os) (c.loop-taken.invariant.front start xs f) in
+    let stops = c.in_err-taken.ensures.taken start (xs ++ take i os) (c.loop-taken.invariant.front start xs followed) in
     let n = stops.0 in
     let origin = tap.watch.origin c.take_some.new.run.analyser in
     stops-more tap start _ c.take_some.new.run (capped origin (tap.form.packed (xs ++ take (i + n) os)))
@@ -29,18 +29,18 @@ loop-taken-preserved g c = record {
   sound = c.take_some.ensures.sound;
   same = same-both g.T.Tap.tap c.args.run.now c.loop-taken.run c.take_some.new.run c.loop-taken.invariant.same
       c.take_some.ensures.same;
-  front = λ start xs f.
+  front = λ start xs followed.
       let os = c.args.octets.now in
       let i = c.loop-taken.taken in
       subst (FollowsBody g.T.Tap.tap start (g.W.Write.contents c.take_some.new.w) c.take_some.new.body
       c.take_some.new.run)
       (octets-next xs os i c.in_ok-taken.field-0)
-      (c.in_ok-taken.ensures.taken start (xs ++ take i os) (c.loop-taken.invariant.front start xs f));
+      (c.in_ok-taken.ensures.taken start (xs ++ take i os) (c.loop-taken.invariant.front start xs followed));
 }
 
 pub returns-clause-taken : goal.returns-clause-taken
 returns-clause-taken g c =
-    λ start xs f.
+    λ start xs followed.
     subst (λ (os : List ℕ). FollowsBody g.T.Tap.tap start (g.W.Write.contents c.loop-taken.w) c.loop-taken.body
     c.loop-taken.run (xs ++ os))
-    (take_all c.loop-taken.taken c.args.octets.now (omega arith)) (c.loop-taken.invariant.front start xs f)
+    (take_all c.loop-taken.taken c.args.octets.now (omega arith)) (c.loop-taken.invariant.front start xs followed)

@@ -6,12 +6,13 @@ use Rattle.bus_capture.proofs.packed.take_some.Goals as goal
 
 pub returns-in_err-take_octet-clause-taken : goal.returns-in_err-take_octet-clause-taken
 returns-in_err-take_octet-clause-taken g c =
-    let p = err_from_is_err_and c.from_residual-in_err-take_octet.result c.from_residual-in_err-take_octet.ensures.1 in
-    rw (p.1, p.2) (λ start xs f.
+    let failed = err_from_is_err_and c.from_residual-in_err-take_octet.result
+    c.from_residual-in_err-take_octet.ensures.1 in
+    rw (failed.1, failed.2) (λ start xs followed.
     let tap = g.T.Tap.tap in
     let many = c.take_packed.new in
     let here = none-read tap start (g.W.Write.contents many.w) many.run many.body xs c.args.octets.now
-    c.in_ok-taken.taken (omega (arith, c.if-taken-gt0.false)) (c.in_ok-taken.ensures.taken start xs f) in (
+    c.in_ok-taken.taken (omega (arith, c.if-taken-gt0.false)) (c.in_ok-taken.ensures.taken start xs followed) in (
       1,
       subst (λ (ys : List ℕ). Stops tap false start (g.W.Write.contents c.take_octet.new.w) c.take_octet.new.run ys
           c.in_err-take_octet.field-0.0)
@@ -19,11 +20,11 @@ returns-in_err-take_octet-clause-taken g c =
     ))
 
 pub returns-clause-taken : goal.returns-clause-taken
-returns-clause-taken g c = λ start xs f.
+returns-clause-taken g c = λ start xs followed.
     let tap = g.T.Tap.tap in
     let many = c.take_packed.new in
     let here = none-read tap start (g.W.Write.contents many.w) many.run many.body xs c.args.octets.now
-    c.in_ok-taken.taken (omega (arith, c.if-taken-gt0.false)) (c.in_ok-taken.ensures.taken start xs f) in
+    c.in_ok-taken.taken (omega (arith, c.if-taken-gt0.false)) (c.in_ok-taken.ensures.taken start xs followed) in
     subst (FollowsBody tap start (g.W.Write.contents c.take_octet.new.w) c.take_octet.new.body c.take_octet.new.run)
     (first-octet xs c.args.octets.now c.requires.some)
     (c.in_ok-take_octet.ensures.taken start xs here)

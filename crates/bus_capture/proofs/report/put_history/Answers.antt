@@ -3,15 +3,15 @@ use Rattle.std.proofs.lemmas.List.{take_all}
 use Rattle.std.proofs.lemmas.Result.{err_from_is_err_and}
 use Rattle.bus_watch.specs.History.{KeptFrame, history}
 use Rattle.bus_text.specs.CheckText.{history_text}
-use Rattle.bus_text.specs.Internal.Pages.{Pages}
+use Rattle.bus_text.specs.Pages.{Pages}
 use Rattle.bus_capture.specs.Internal.Watching.{heard_by}
 use Rattle.bus_capture.proofs.ReportLemmas.{frame-at, pages-kept, cuts-kept}
 use Rattle.bus_capture.proofs.report.put_history.Goals as goal
 
 pub returns-in_err-put_last-clause-put : goal.returns-in_err-put_last-clause-put
 returns-in_err-put_last-clause-put g c =
-    let p = err_from_is_err_and c.from_residual.result c.from_residual.ensures.1 in
-    rw (p.1, p.2) (λ start text b is_after p.
+    let failed = err_from_is_err_and c.from_residual.result c.from_residual.ensures.1 in
+    rw (failed.1, failed.2) (λ start text b is_after p.
     let h = history (g.T.Tap.tap.watch.depth c.args.analyser.now) (heard_by g.T.Tap.tap.watch c.args.analyser.now b) in
     let two = g.T.Tap.tap.form.is_two in
     let i = c.loop-i.i in

@@ -2,7 +2,7 @@ use Rattle.std.proofs.Common.{ℕ, ◌+◌, ◌*◌, ◌≤◌, List, ◌++◌, 
 use Rattle.bus_capture.specs.Internal.Watching.{heard_by}
 use Rattle.bus_watch.specs.History.{history}
 use Rattle.bus_text.specs.CheckText.{history_text}
-use Rattle.bus_text.specs.Internal.Pages.{Pages}
+use Rattle.bus_text.specs.Pages.{Pages}
 use Rattle.bus_capture.proofs.report.put_history.Given as goal
 
 -- the first frames were put

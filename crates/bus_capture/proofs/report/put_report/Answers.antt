@@ -4,15 +4,15 @@ use Rattle.bus_capture.specs.Internal.Watching.{heard_by}
 use Rattle.bus_watch.specs.History.{history, tally}
 use Rattle.bus_text.specs.CheckText.{summary_text, tallies_text, history_text}
 use Rattle.bus_text.specs.Put.{Cuts}
-use Rattle.bus_text.specs.Internal.Pages.{Pages}
+use Rattle.bus_text.specs.Pages.{Pages}
 use Rattle.bus_text.proofs.PagesLemmas.{cuts-more}
 use Rattle.bus_capture.proofs.ReportLemmas.{report-parts}
 use Rattle.bus_capture.proofs.report.put_report.Goals as goal
 
 pub returns-in_err-put_summary-clause-put : goal.returns-in_err-put_summary-clause-put
 returns-in_err-put_summary-clause-put g c =
-    let p = err_from_is_err_and c.from_residual.result c.from_residual.ensures.1 in
-    rw (p.1, p.2) (λ start text b is_after p.
+    let failed = err_from_is_err_and c.from_residual.result c.from_residual.ensures.1 in
+    rw (failed.1, failed.2) (λ start text b is_after p.
     let a = c.args.analyser.now in
     let s = summary_text c.args.summary.now in
     let t = tallies_text (tally (g.T.Tap.tap.watch.dictionary a) (heard_by g.T.Tap.tap.watch a b)) 256 in
@@ -26,9 +26,9 @@ returns-in_err-put_summary-clause-put g c =
 
 pub returns-in_err-put_tallies-clause-put : goal.returns-in_err-put_tallies-clause-put
 returns-in_err-put_tallies-clause-put g c =
-    let p = err_from_is_err_and c.from_residual-in_err-put_tallies.result
+    let failed = err_from_is_err_and c.from_residual-in_err-put_tallies.result
     c.from_residual-in_err-put_tallies.ensures.1 in
-    rw (p.1, p.2) (λ start text b is_after p.
+    rw (failed.1, failed.2) (λ start text b is_after p.
     let a = c.args.analyser.now in
     let s = summary_text c.args.summary.now in
     let t = tallies_text (tally (g.T.Tap.tap.watch.dictionary a) (heard_by g.T.Tap.tap.watch a b)) 256 in

@@ -3,7 +3,7 @@ use Rattle.std.proofs.lemmas.Result.{err_from_is_err_and}
 use Rattle.bus_capture.specs.Internal.Watching.{heard_by}
 use Rattle.bus_watch.specs.History.{tally}
 use Rattle.bus_text.specs.CheckText.{tallies_text}
-use Rattle.bus_text.specs.Internal.Pages.{Pages}
+use Rattle.bus_text.specs.Pages.{Pages}
 use Rattle.bus_capture.proofs.ReportLemmas.{tallies-none, pages-tally, cuts-tally}
 use Rattle.bus_capture.proofs.report.put_tallies.Goals as goal
 
@@ -19,8 +19,8 @@ loop-station-init g c = record {
 
 pub returns-in_err-put_tally-clause-put : goal.returns-in_err-put_tally-clause-put
 returns-in_err-put_tally-clause-put g c =
-    let p = err_from_is_err_and c.from_residual.result c.from_residual.ensures.1 in
-    rw (p.1, p.2) (λ start text b is_after p.
+    let failed = err_from_is_err_and c.from_residual.result c.from_residual.ensures.1 in
+    rw (failed.1, failed.2) (λ start text b is_after p.
     let t = tally (g.T.Tap.tap.watch.dictionary c.args.analyser.now)
     (heard_by g.T.Tap.tap.watch c.args.analyser.now b) in
     let k = c.loop-station.station in

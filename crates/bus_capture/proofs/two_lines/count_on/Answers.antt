@@ -7,10 +7,10 @@ use Rattle.bus_capture.proofs.TwoLinesLemmas.{counted-on}
 use Rattle.bus_capture.proofs.two_lines.count_on.Goals as goal
 
 pub returns-in-Some-clause-counted : goal.returns-in-Some-clause-counted
-returns-in-Some-clause-counted g c = λ before e.
+returns-in-Some-clause-counted g c = λ before counted.
     let a = c.args.analyser.now in
     let line = c.args.line in
     let os = octets_on a line in
     subst (λ o. c.count.new.self ≡ summary_of (before ++ option_to_list (option_map (found_on (Some line) os) o)))
     c.in-Some.ensures
-    (c.count.ensures.counted before os e ∙ counted-on before line os c.in-Some.finding.now)
+    (c.count.ensures.counted before os counted ∙ counted-on before line os c.in-Some.finding.now)

@@ -11,7 +11,7 @@ use Rattle.bus_capture.proofs.ToldLemmas.{halts-behind, limited, told-cut, told-
 use Rattle.bus_capture.proofs.two_lines.take_pairs.Goals as goal
 
 pub returns-in-Some-clause-taken : goal.returns-in-Some-clause-taken
-returns-in-Some-clause-taken g c = λ start b h.
+returns-in-Some-clause-taken g c = λ start b followed.
     let tap = pair_tap g.C.Check.folded g.C.Check.COST in
     let n = c.scan-taken.result in
     let os = c.args.first.now in
@@ -22,7 +22,7 @@ returns-in-Some-clause-taken g c = λ start b h.
     (told-cut tap c.args.run.now _ (zip (bits_from os 0 n) (bits_from ys 0 n)) (g.W.Write.contents c.args.w.now)
     (g.W.Write.contents c.scan-taken.new.out) c.scan-taken.ensures.told
     c.laws.ensures c.in-Some.cut c.in-Some.is
-    (omega (arith, length-zipped os ys 0 n, c.scan-taken.ensures.taken, c.requires.sound.places)) start b h))
+    (omega (arith, length-zipped os ys 0 n, c.scan-taken.ensures.taken, c.requires.sound.places)) start b followed))
 
 pub returns-in-Some-clause-sound : goal.returns-in-Some-clause-sound
 returns-in-Some-clause-sound g c =
@@ -45,7 +45,7 @@ returns-then-taken-count-clause-sound g c =
     (omega (arith, length-zipped os ys 0 n, c.scan-taken.ensures.taken, c.requires.sound.places)) c.requires.sound
 
 pub returns-then-taken-count-clause-taken : goal.returns-then-taken-count-clause-taken
-returns-then-taken-count-clause-taken g c = λ start b h.
+returns-then-taken-count-clause-taken g c = λ start b before.
     let tap = pair_tap g.C.Check.folded g.C.Check.COST in
     let n = c.scan-taken.result in
     let os = c.args.first.now in
@@ -57,14 +57,14 @@ returns-then-taken-count-clause-taken g c = λ start b h.
     let sound = told-sound tap c.args.run.now _ ps (g.W.Write.contents c.args.w.now)
     (g.W.Write.contents c.scan-taken.new.out) told room c.requires.sound in
     let followed = told-watched tap c.args.run.now _ ps (g.W.Write.contents c.args.w.now)
-    (g.W.Write.contents c.scan-taken.new.out) told (none-cut _ c.in_default.not-Some) start b h in
+    (g.W.Write.contents c.scan-taken.new.out) told (none-cut _ c.in_default.not-Some) start b before in
     limited tap c.laws.ensures start (g.W.Write.contents c.scan-taken.new.out) _ b os ys n c.args.count
     c.if-taken-count.true
     (omega (arith, told.sees.place, length-zipped os ys 0 n, c.scan-taken.ensures.taken, c.if-taken-count.true)) sound
     followed
 
 pub returns-clause-taken : goal.returns-clause-taken
-returns-clause-taken g c = λ start b h.
+returns-clause-taken g c = λ start b followed.
     let tap = pair_tap g.C.Check.folded g.C.Check.COST in
     let n = c.scan-taken.result in
     let os = c.args.first.now in
@@ -76,7 +76,7 @@ returns-clause-taken g c = λ start b h.
     (b ++ zip (bits_from os 0 k) (bits_from ys 0 k))) all
     (told-watched tap c.args.run.now now (zip (bits_from os 0 n) (bits_from ys 0 n)) (g.W.Write.contents c.args.w.now)
     (g.W.Write.contents c.scan-taken.new.out) c.scan-taken.ensures.told
-    (none-cut _ c.in_default.not-Some) start b h)
+    (none-cut _ c.in_default.not-Some) start b followed)
 
 pub returns-clause-sound : goal.returns-clause-sound
 returns-clause-sound g c =

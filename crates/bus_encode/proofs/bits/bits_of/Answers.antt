@@ -12,12 +12,12 @@ unreachable-requires c = elim c.match-order.branch [
       let r = w.flag-outcome in
       never_fails Flag c.args.encoder.now r.new.self c.new-sink.result r.new.sink r.result c.in-Err.field-0
       (sym w.outcome-is ∙ c.in-Err.is) c.requires.going flag_fits
-      c.new-sink.ensures.0 c.new-sink.ensures.1 r.ensures.ended.0 r.ensures.no_length r.ensures.refused
+      c.new-sink.ensures.0 c.new-sink.ensures.1 (λ bad. bad) r.ensures
   | in-Idle w ↦
       let r = w.idle-outcome in
       never_fails Idle c.args.encoder.now r.new.self c.new-sink.result r.new.sink r.result c.in-Err.field-0
       (sym w.outcome-is ∙ c.in-Err.is) c.requires.going idle_fits
-      c.new-sink.ensures.0 c.new-sink.ensures.1 r.ensures.ended.0 r.ensures.no_length r.ensures.refused
+      c.new-sink.ensures.0 c.new-sink.ensures.1 (λ bad. bad) r.ensures
   | in-Frame w ↦
       let r = w.frame-outcome in
       let octets = w.deref.result.now in
@@ -26,8 +26,8 @@ unreachable-requires c = elim c.match-order.branch [
       (subst (λ (o : Order). IsSized (call_of o)) w.in-Frame.is c.requires.sized) in
       never_fails (Frame octets) c.args.encoder.now r.new.self c.new-sink.result r.new.sink r.result c.in-Err.field-0
       (sym w.outcome-is ∙ c.in-Err.is) c.requires.going (r.ensures.bound sized.1)
-      c.new-sink.ensures.0 c.new-sink.ensures.1 r.ensures.ended.0
-      (λ h. elim (r.ensures.range.0 h).1
+      c.new-sink.ensures.0 c.new-sink.ensures.1
+      (λ bad. elim bad
       [ inl few ↦ absurd (omega (arith, few, sized.0)) | inr many ↦ absurd (omega (arith, many, sized.1)) ])
-      r.ensures.refused
+      r.ensures.calls
 ]

@@ -11,12 +11,12 @@ pub returns-clause-bits : goal.returns-clause-bits
 returns-clause-bits c =
     subst (λ (l : List Bool). c.frame.new.sink.bits.items ≡ l ++ (flag ++ (raw_bits c.args.octets.now ++ flag)))
     c.new.ensures
-    (same-list _ _ (c.in_ok-frame.ensures.encoded.took [] c.new-encoder.ensures))
+    (same-list _ _ (c.in_ok-frame.ensures.calls.encoded.took [] c.new-encoder.ensures))
 
 pub returns-in_err-frame-clause-no_other : goal.returns-in_err-frame-clause-no_other
 returns-in_err-frame-clause-no_other c =
     let f = c.frame in
     let e = c.in_err-frame.field-0.0 in
     let only = only_length c.args.octets.now c.new-encoder.result f.new.self _ f.new.sink f.result e c.in_err-frame.was
-    c.new-encoder.ensures f.ensures.bound c.new.ensures refl f.ensures.ended.0 f.ensures.range.1 f.ensures.refused in
+    c.new-encoder.ensures f.ensures.bound c.new.ensures refl f.ensures.calls in
     λ failed. is_of c.from_residual.result e only c.from_residual.ensures.1

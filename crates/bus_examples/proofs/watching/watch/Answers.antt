@@ -30,16 +30,16 @@ returns-in_err-feed-clause-fails c =
     let limit : (c.feed.result ≡ Err PlaceLimit) ↔ (2 ^ 60 < 0 + length c.args.bits.now) =
     rw (← given.3) c.feed.ensures.limit in
     let start : Some c.in-Ok.log.reports ≡ Some [] = ap (λ (log : LogState). Some log.reports) c.in-Ok.ensures in
-    let room : c.feed.new.sink.room ≡ c.args.room =
-    same c.feed.ensures.room ∙ ap (λ (log : LogState). log.room) c.in-Ok.ensures in
+    let room : c.in-Ok.log.room ≡ c.args.room = ap (λ (log : LogState). log.room) c.in-Ok.ensures in
     let fails = feed-fails c.feed.result fault 16 0 (length c.args.bits.now) _ c.in_err-feed.was can limit
     (for-sink fault
-    (λ consumed at full. rw (← given.0, ← given.2)
+    (λ consumed at sink. rw (← given.0, ← given.2)
     (log-lacks (λ log. Some log.reports) c.seen_grows.ensures.reports c.reports_grow.ensures.grow _ _ c.args.room
-    c.args.bits.now c.in-Ok.log c.feed.new.sink consumed c.feed.new.sink.reports start refl (full ∙ room)
+    c.args.bits.now c.in-Ok.log c.feed.new.sink consumed c.feed.new.sink.reports start refl
+    (sink.full (omega arith) ∙ (same sink.same_room ∙ room))
     (stopped _ _ (λ log. Some log.reports) c.in_ok-analyser.analyser c.feed.new.self c.args.bits.now c.in-Ok.log
     c.feed.new.sink consumed c.in_ok-analyser.ensures.is_after at)))
-    c.in_err-feed.ensures.refused c.in_err-feed.ensures.full) in
+    c.in_err-feed.ensures.refused c.in_err-feed.ensures.one_refused) in
     if_err c.from_residual-in_err-feed.result (Feed fault) _ fails c.from_residual-in_err-feed.ensures.1
 
 pub returns-clause-seen : goal.returns-clause-seen
@@ -51,11 +51,12 @@ returns-clause-within_limits c =
     let is = c.in_ok-feed.was in
     let limit : (c.feed.result ≡ Err PlaceLimit) ↔ (2 ^ 60 < 0 + length c.args.bits.now) =
     rw (← given.3) c.feed.ensures.limit in
+    let sink = c.in_ok-feed.ensures.none_refused in
     let room : c.feed.new.sink.room ≡ c.args.room =
-    same c.feed.ensures.room ∙ ap (λ (log : LogState). log.room) c.in-Ok.ensures in
+    same sink.same_room ∙ ap (λ (log : LogState). log.room) c.in-Ok.ensures in
     let none : length c.in-Ok.log.reports ≡ 0 = ap (λ (log : LogState). length log.reports) c.in-Ok.ensures in
     let within : length c.feed.new.sink.reports ≤ c.feed.new.sink.room =
-    c.in_ok-feed.ensures.within (omega (arith, none)) in (
+    sink.within (omega (arith, none)) in (
       elim (cases_lt (2 ^ 60) (0 + length c.args.bits.now)) [
         | inl far ↦ absurd (let e = limit.1 far in cc)
         | inr near ↦ omega (arith, near)

@@ -1,5 +1,4 @@
-use Rattle.std.proofs.Common.{◌≡◌, ◌+◌, ◌-◌, ◌^◌, ◌++◌, ℕ, true, List, length, Some, inl, inr, refl, sym, ap}
-use Rattle.std.proofs.Common.{subst}
+use Rattle.std.proofs.Common.{◌≡◌, ◌+◌, ◌-◌, ◌^◌, ◌++◌, ℕ, true, List, length, Some, inl, inr, refl, sym, ap, subst}
 use Rattle.std.specs.Option.{option_map}
 use Rattle.std.proofs.lemmas.Bool.{cases_lt}
 use Rattle.bus_bits.specs.Octet.{bits_of}
@@ -13,23 +12,11 @@ use Rattle.bus_watch.specs.Internal.JournalState.{Enters, journal_state}
 use Rattle.bus_watch.specs.Internal.Hears.{told_on}
 use Rattle.bus_watch.proofs.AfterLemmas.{hears-none, hears-some}
 use Rattle.bus_watch.proofs.AnalyserViewLemmas.{whole}
+use Rattle.bus_watch.proofs.hear.hear.Goals.{in-Some, in_default}
 use Rattle.bus_watch.proofs.hear.hear.Goals as goal
 
-pub returns-in_default-clause-hears : goal.returns-in_default-clause-hears
-returns-in_default-clause-hears g c =
-    let folded = g.C.Check.folded in
-    let cost = g.C.Check.COST in
-    let taken = c.in_ok-taken in
-    let bits = bits_of taken.taken.count c.args.bits in
-    let old = c.args.decoder.now in
-    let new = c.take.new.self in
-    let journal = journal_state c.args.journal.now in
-    let advances = subst (λ o. Advances folded cost old bits (option_map (reported new.octets) o) new)
-    c.in_default.is taken.ensures.advances in
-    hears-none folded cost c.args.line old new journal journal bits advances refl
-
-pub take-requires-2-clause-whole : goal.take-requires-2-clause-whole
-take-requires-2-clause-whole g c =
+pub take-requires-in-Some-clause-whole : goal.take-requires-in-Some-clause-whole
+take-requires-in-Some-clause-whole g c =
     let b = c.requires.reached.bits in
     let n = c.in_ok-taken.taken.count in
     let d = c.args.decoder.now in
@@ -41,29 +28,38 @@ take-requires-2-clause-whole g c =
     (subst (λ o. option_map (reported c.take.new.self.octets) o ≡ due) c.in-Some.is
     (c.in_ok-taken.ensures.answer b c.requires.reached.after)))
 
-pub take-requires-2-clause-room : goal.take-requires-2-clause-room
-take-requires-2-clause-room g c =
+pub take-requires-in-Some-clause-room : goal.take-requires-in-Some-clause-room
+take-requires-in-Some-clause-room g c =
     c.requires.room (elim (cases_lt (2 ^ 60) (c.args.decoder.now.place + c.args.count))
-    [ inl u ↦ absurd (let e = c.in_ok-taken.ensures.limit.1 u in cc) | inr u ↦ u ])
+    [ inl far ↦ absurd (let refused = c.in_ok-taken.ensures.limit.1 far in cc) | inr near ↦ near ])
 
 pub returns-clause-hears : goal.returns-clause-hears
 returns-clause-hears g c =
     let folded = g.C.Check.folded in
     let cost = g.C.Check.COST in
     let taken = c.in_ok-taken in
-    let bits = bits_of taken.taken.count c.args.bits in
+    let bits = bits_of c.in_ok-taken.taken.count c.args.bits in
     let old = c.args.decoder.now in
     let new = c.take.new.self in
     let octets = new.octets in
-    let event = c.in-Some.event in
     let line = c.args.line in
     let before = journal_state c.args.journal.now in
-    let after = journal_state c.take-2.new.self in
-    let last = c.take-2.new.self.last in
-    let advances = subst (λ o. Advances folded cost old bits (option_map (reported octets) o) new)
-    c.in-Some.is taken.ensures.advances in
-    let enters = subst
-    (λ (os : List ℕ). Enters before (heard_on line (reported os event)) (found_on line os last) after)
-    c.octets.ensures.value c.take-2.ensures.enters in
-    hears-some folded cost line old new before after bits (reported octets event) (told_on line octets true last)
-    advances enters.keeps (λ hs kept. ap Some (enters.says hs kept)) enters.dictionary enters.depth
+    elim c.match-taken.branch [
+      | in-Some w ↦
+          let event = w.in-Some.event in
+          let after = journal_state w.take-in-Some.new.self in
+          let last = w.take-in-Some.new.self.last in
+          let advances = subst (λ o. Advances folded cost old bits (option_map (reported octets) o) new)
+          w.in-Some.is taken.ensures.advances in
+          let enters = subst
+          (λ (os : List ℕ). Enters before (heard_on line (reported os event)) (found_on line os last) after)
+          w.octets.ensures.value w.take-in-Some.ensures.enters in
+          rw (w.journal-is, c.is_some.ensures, w.in-Some.is)
+          (hears-some folded cost line old new before after bits (reported octets event) (told_on line octets true last)
+          advances enters.keeps (λ hs kept. ap Some (enters.says hs kept)) enters.dictionary enters.depth)
+      | in_default w ↦
+          let advances = subst (λ o. Advances folded cost old bits (option_map (reported octets) o) new)
+          w.in_default.is taken.ensures.advances in
+          rw (w.journal-is, c.is_some.ensures, w.in_default.is)
+          (hears-none folded cost line old new before before bits advances refl)
+    ]

@@ -1,5 +1,4 @@
-use Rattle.std.proofs.Common.{◌≡◌, ◌+◌, ◌-◌, ◌^◌, ◌++◌, ℕ, true, List, length, Some, inl, inr, refl, sym, ap}
-use Rattle.std.proofs.Common.{subst}
+use Rattle.std.proofs.Common.{◌≡◌, ◌+◌, ◌-◌, ◌^◌, ◌++◌, ℕ, true, List, length, Some, inl, inr, refl, sym, ap, subst}
 use Rattle.std.specs.Option.{option_map}
 use Rattle.std.proofs.lemmas.Bool.{cases_lt}
 use Rattle.bus_bits.specs.Bits.{bits_from}
@@ -13,20 +12,8 @@ use Rattle.bus_watch.specs.Internal.JournalState.{Enters, journal_state}
 use Rattle.bus_watch.specs.Internal.Hears.{told_on}
 use Rattle.bus_watch.proofs.AfterLemmas.{hears-none, hears-some}
 use Rattle.bus_watch.proofs.AnalyserViewLemmas.{whole}
+use Rattle.bus_watch.proofs.hear.hear_octets.Goals.{in-Some, in_default}
 use Rattle.bus_watch.proofs.hear.hear_octets.Goals as goal
-
-pub returns-in_default-clause-hears : goal.returns-in_default-clause-hears
-returns-in_default-clause-hears g c =
-    let folded = g.C.Check.folded in
-    let cost = g.C.Check.COST in
-    let scanned = c.in_ok-scanned in
-    let bits = bits_from c.args.octets.now c.args.at scanned.scanned.count in
-    let old = c.args.decoder.now in
-    let new = c.scan.new.self in
-    let journal = journal_state c.args.journal.now in
-    let advances = subst (λ o. Advances folded cost old bits (option_map (reported new.octets) o) new)
-    c.in_default.is scanned.ensures.advances in
-    hears-none folded cost c.args.line old new journal journal bits advances refl
 
 pub take-requires-clause-whole : goal.take-requires-clause-whole
 take-requires-clause-whole g c =
@@ -44,26 +31,35 @@ take-requires-clause-whole g c =
 pub take-requires-clause-room : goal.take-requires-clause-room
 take-requires-clause-room g c =
     c.requires.room (elim (cases_lt c.args.decoder.now.place (2 ^ 60))
-    [ inl u ↦ u | inr u ↦ absurd (let e = c.in_ok-scanned.ensures.limit.1 u in cc) ])
+    [ inl near ↦ near | inr far ↦ absurd (let refused = c.in_ok-scanned.ensures.limit.1 far in cc) ])
 
 pub returns-clause-hears : goal.returns-clause-hears
 returns-clause-hears g c =
     let folded = g.C.Check.folded in
     let cost = g.C.Check.COST in
     let scanned = c.in_ok-scanned in
-    let bits = bits_from c.args.octets.now c.args.at scanned.scanned.count in
+    let bits = bits_from c.args.octets.now c.args.at c.in_ok-scanned.scanned.count in
     let old = c.args.decoder.now in
     let new = c.scan.new.self in
     let octets = new.octets in
-    let event = c.in-Some.event in
     let line = c.args.line in
     let before = journal_state c.args.journal.now in
-    let after = journal_state c.take.new.self in
-    let last = c.take.new.self.last in
-    let advances = subst (λ o. Advances folded cost old bits (option_map (reported octets) o) new)
-    c.in-Some.is scanned.ensures.advances in
-    let enters = subst
-    (λ (os : List ℕ). Enters before (heard_on line (reported os event)) (found_on line os last) after)
-    c.octets.ensures.value c.take.ensures.enters in
-    hears-some folded cost line old new before after bits (reported octets event) (told_on line octets true last)
-    advances enters.keeps (λ hs kept. ap Some (enters.says hs kept)) enters.dictionary enters.depth
+    elim c.match-scanned.branch [
+      | in-Some w ↦
+          let event = w.in-Some.event in
+          let after = journal_state w.take.new.self in
+          let last = w.take.new.self.last in
+          let advances = subst (λ o. Advances folded cost old bits (option_map (reported octets) o) new)
+          w.in-Some.is scanned.ensures.advances in
+          let enters = subst
+          (λ (os : List ℕ). Enters before (heard_on line (reported os event)) (found_on line os last) after)
+          w.octets.ensures.value w.take.ensures.enters in
+          rw (w.journal-is, c.is_some.ensures, w.in-Some.is)
+          (hears-some folded cost line old new before after bits (reported octets event) (told_on line octets true last)
+          advances enters.keeps (λ hs kept. ap Some (enters.says hs kept)) enters.dictionary enters.depth)
+      | in_default w ↦
+          let advances = subst (λ o. Advances folded cost old bits (option_map (reported octets) o) new)
+          w.in_default.is scanned.ensures.advances in
+          rw (w.journal-is, c.is_some.ensures, w.in_default.is)
+          (hears-none folded cost line old new before before bits advances refl)
+    ]

@@ -1,5 +1,6 @@
-use Rattle.std.proofs.Common.{◌≡◌, ◌<◌, ◌^◌, ◌+◌, ◌↔◌, ℕ, length, Err, Some, [], refl, ap, ◌∙◌}
+use Rattle.std.proofs.Common.{◌≡◌, ◌<◌, ◌^◌, ◌+◌, ◌↔◌, ℕ, length, Err, Some, [], refl, ap, ◌∙◌, arith}
 use Rattle.bus_watch.specs.LogState.{LogState}
+use Rattle.bus_watch.specs.Sink.{SinkTook}
 use Rattle.bus_watch.specs.declared.fault.FeedFault.TheVariants.{PlaceLimit}
 use Rattle.bus_watch.proofs.HeadlineLemmas.{stopped}
 use Rattle.bus_watch.proofs.FailLemmas.{made, feed-fails, for-sink, log-lacks}
@@ -16,13 +17,14 @@ returns-clause-fails c =
     rw (← given.3) c.feed.ensures.limit in
     let start : Some c.in-Ok-new.log.reports ≡ Some [] =
     ap (λ (log : LogState). Some log.reports) c.in-Ok-new.ensures in
-    let room : c.feed.new.sink.room ≡ c.args.room = same-number _ _ c.feed.ensures.room
-    ∙ ap (λ (log : LogState). log.room) c.in-Ok-new.ensures in
+    let room : c.in-Ok-new.log.room ≡ c.args.room = ap (λ (log : LogState). log.room) c.in-Ok-new.ensures in
     feed-fails c.feed.result c.in-Err-feed.fault 1 c.args.origin (length c.args.bits.now) _ c.in-Err-feed.is can limit
     (for-sink c.in-Err-feed.fault
-    (λ consumed at full. rw (← given.0, ← given.2)
+    (λ consumed at (sink : SinkTook (λ (log : LogState). Some log.reports) (λ log. Some log.room) (λ log. log.refusals)
+    1 c.in-Ok-new.log c.feed.new.sink). rw (← given.0, ← given.2)
     (log-lacks (λ log. Some log.reports) c.seen_grows.ensures.reports c.reports_grow.ensures.grow _ _ c.args.room
-    c.args.bits.now c.in-Ok-new.log c.feed.new.sink consumed c.feed.new.sink.reports start refl (full ∙ room)
+    c.args.bits.now c.in-Ok-new.log c.feed.new.sink consumed c.feed.new.sink.reports start refl
+    (sink.full (omega arith) ∙ (same-number _ _ sink.same_room ∙ room))
     (stopped _ _ (λ log. Some log.reports) c.in-Ok.analyser c.feed.new.self c.args.bits.now c.in-Ok-new.log
     c.feed.new.sink consumed c.in-Ok.ensures.is_after at)))
-    c.in-Err-feed.ensures.refused c.in-Err-feed.ensures.full)
+    c.in-Err-feed.ensures.refused c.in-Err-feed.ensures.one_refused)

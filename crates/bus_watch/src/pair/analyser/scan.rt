@@ -4,7 +4,7 @@ ghost use Rattle.std.specs.Prelude.{◌≡◌, ◌+◌, ◌-◌, ◌*◌, ◌≤
 ghost use Rattle.std.specs.Prelude.{option_copied};
 ghost use Rattle.std.specs.Option.{option_to_list, option_map};
 ghost use Rattle.bus_bits.specs.Bits.{bits_from};
-ghost use Rattle.bus_watch.specs.Internal.Hears.{fresh, HearsMany, Reaches};
+ghost use Rattle.bus_watch.specs.Internal.Hears.{HearsMany, Reaches};
 ghost use Rattle.bus_watch.specs.Internal.JournalState.{journal_state};
 ghost use Rattle.bus_watch.specs.Shown.{found_on};
 ghost use Rattle.bus_watch.specs.Watch.{LeadsTold};
@@ -12,7 +12,7 @@ ghost use Rattle.bus_watch.specs.Pairs.{two_lines};
 
 use crate::feed::PLACES;
 use crate::finding::Finding;
-use crate::hear::hear_octets;
+use crate::hear::{fresh, hear_octets};
 use crate::journal::Journal;
 use crate::line::Line;
 use crate::pair::analyser::PairAnalyser;
@@ -22,18 +22,6 @@ use bus_fcs::Check;
 use bus_line::laws::{frame_is_spelled, reports_are, reports_grow, settled_places};
 use bus_line::{LineDecoder, PlaceLimit};
 use std::cmp::min;
-
-/// What the last report was found to be, if the last bits decided it.
-#[inline(always)]
-fn fresh(journal: &Journal, is_decided: bool) -> Option<&Finding>
-    ensures { option_copied result ≡ fresh is_decided journal.now.last }
-{
-    if is_decided {
-        Some(journal.last())
-    } else {
-        None
-    }
-}
 
 /// Tells a listener what a report of a line was found to be, if there was one.
 #[inline(always)]
@@ -83,23 +71,14 @@ fn follow<C: Check, X, L: PairListener<X>>(
     settled_places();
     let mut at = from;
     while at < past {
-        let mut is_decided = false;
-        let heard = hear_octets(
-            decoder,
-            journal,
-            &mut is_decided,
-            Some(Line::First),
-            octets,
-            at,
-            past,
-        );
-        match heard {
-            Ok(count) => at += count,
+        let intake = match hear_octets(decoder, journal, Some(Line::First), octets, at, past) {
+            Ok(intake) => intake,
             Err(PlaceLimit) => unreachable!(),
-        }
+        };
+        at += intake.count;
         tell(
             Line::First,
-            fresh(journal, is_decided),
+            fresh(journal, intake.is_decided),
             decoder.octets(),
             journal.dictionary(),
             listener,

@@ -249,7 +249,7 @@ fn differing_second(
     None
 }
 
-/// The lowest `count` bits of `pattern`, the lowest first, behind these.
+/// The lowest `count` bits of `pattern`, the lowest first, after these.
 fn list_of(rt: &impl Abort, alloc: Global, before: &[bool], pattern: u32, count: u32) -> Vec<bool> {
     let mut bits = Vec::new(alloc);
     bits.extend_from_slice(before).expect(rt, "memory");
@@ -259,7 +259,7 @@ fn list_of(rt: &impl Abort, alloc: Global, before: &[bool], pattern: u32, count:
     bits
 }
 
-/// Each list of `count` bits behind these.
+/// Each list of `count` bits after these.
 fn sides(rt: &impl Abort, alloc: Global, before: &str, count: u32) -> Vec<Side> {
     let before = bits_of(alloc, before).expect(rt, "memory");
     let patterns: u32 = 1 << count.min(16);
@@ -273,7 +273,7 @@ fn sides(rt: &impl Abort, alloc: Global, before: &str, count: u32) -> Vec<Side> 
     sides
 }
 
-/// Every list of `count` pairs behind these bits of the two lines.
+/// Every list of `count` pairs after these bits of the two lines.
 fn none_differs(rt: &impl Abort, alloc: Global, first: &str, second: &str, count: u32) {
     let firsts = sides(rt, alloc, first, count);
     let seconds = sides(rt, alloc, second, count);

@@ -122,7 +122,7 @@ fn refused_memory(rt: HostRuntime) {
 
 /// A listener that counts the reports that it hears of, in no memory.
 #[derive(Drop)]
-struct Hearer;
+pub(super) struct Hearer;
 
 impl PairListener<u64> for Hearer {
     ghost hears = { λ d l before seen m behind. Unit {0} };

@@ -98,7 +98,7 @@ fn push_part(rt: &impl Abort, lines: &mut TwoLines, part: &TwoLines, most: usize
     }
 }
 
-/// Parts and beginnings of parts, one behind the other; the same seed gives the same lists.
+/// Parts and beginnings of parts, one after the other; the same seed gives the same lists.
 fn traffic(rt: &impl Abort, alloc: Global, seed: u64) -> TwoLines {
     let mut lines = TwoLines {
         first: Vec::new(alloc),

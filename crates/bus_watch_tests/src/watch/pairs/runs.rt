@@ -54,9 +54,13 @@ fn both_are_logged(rt: HostRuntime) {
     let lines = [Line::First, Line::Second];
     assert_eq!(rt; log.reports().len(), lines.len());
     for (report, line) in log.reports().iter().zip(lines) {
-        assert_eq!(rt; report.line, line);
-        assert_eq!(rt; frame_of(&report.logged.piece), Some((span, 5)));
-        assert_eq!(rt; report.logged.verdict.is_some(), line == Line::Second);
+        assert_eq!(rt; report.line, line, "{line:?}");
+        assert_eq!(rt; frame_of(&report.logged.piece), Some((span, 5)), "{line:?}");
+        assert_eq!(rt;
+            report.logged.verdict.is_some(),
+            line == Line::Second,
+            "{line:?}"
+        );
     }
 }
 
@@ -115,6 +119,6 @@ fn faults_of_runs(rt: HostRuntime) {
         let mut log = PairLog::new(alloc, row.room).expect(&rt, "a log");
         let ended = run(&rt, alloc, row.depth, row.origin, &mut log);
         assert_eq!(rt; ended.err(), Some(row.want), "{}", row.room);
-        assert!(rt; log.reports().len() <= log.room());
+        assert!(rt; log.reports().len() <= log.room(), "{}", row.room);
     }
 }

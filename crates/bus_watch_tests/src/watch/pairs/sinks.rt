@@ -89,7 +89,7 @@ const PAIR_REFUSALS: [PairRefusal; 8] = [
     },
 ];
 
-/// Feeding stops behind each place at which a report is refused, and goes on from there.
+/// Feeding stops after each place at which a report is refused, and goes on from there.
 fn check_refusal<C: Check>(rt: &impl Abort, alloc: Global, lines: &TwoLines, row: &PairRefusal) {
     let mut fed = analyser::<C>(rt, alloc);
     let mut sink = PairCollector::new(alloc, row.refuses);
@@ -98,11 +98,15 @@ fn check_refusal<C: Check>(rt: &impl Abort, alloc: Global, lines: &TwoLines, row
         let rest = lines.pairs.get(before..).expect(rt, "pairs");
         let fault = feed(rt, &mut fed, rest, &mut sink).err();
         let consumed = stop.wrapping_sub(before);
-        assert_eq!(rt; fault, Some(FeedFault::Sink { consumed }));
+        assert_eq!(rt;
+            fault,
+            Some(FeedFault::Sink { consumed }),
+            "up to pair {stop}"
+        );
         if before == 0 {
-            assert_eq!(rt; sink.refused(), row.refusals);
+            assert_eq!(rt; sink.refused(), row.refusals, "up to pair {stop}");
             let told = joined(rt, alloc, row.told);
-            assert_eq!(rt; sink.text.as_str(), told.as_str());
+            assert_eq!(rt; sink.text.as_str(), told.as_str(), "up to pair {stop}");
         }
         before = *stop;
     }

@@ -7,15 +7,15 @@ unreachable-requires c =
     let r = c.frame.ensures in
     never-fails c.args.octets.now c.new.result c.frame.new.self c.new-bits.result c.frame.new.sink c.new.ensures
     c.new-bits.ensures.0 c.frame.result c.in-Err.field-0 c.in-Err.is
-    c.new-bits.ensures.1 (r.bound c.requires.most None) r.ended.0
-    (λ h.
-    elim (r.range.0 h).1 [
+    c.new-bits.ensures.1 (r.bound c.requires.most None)
+    (λ bad.
+    elim bad [
       | inl few ↦ absurd (omega (arith, few, c.requires.least))
       | inr many ↦
           absurd (omega (arith, many, c.requires.most))
     ])
-    r.refused
+    r.calls
 
 pub returns : goal.returns
 returns c = frame-taken c.args.octets.now c.new.result c.frame.new.self c.new-bits.result c.frame.new.sink c.new.ensures
-    c.new-bits.ensures.0 c.in-Ok.ensures.encoded
+    c.new-bits.ensures.0 c.in-Ok.ensures.calls.encoded

@@ -3,13 +3,13 @@ use Rattle.bus_fcs.specs.Folded.{HasFolded}
 use Rattle.bus_line.specs.Words.{fresh_words, state}
 use Rattle.bus_line.specs.declared.line_words.LineWords.{LineWords}
 use Rattle.bus_line.proofs.StepLemmas.{fresh-tracks}
-use Rattle.port1_c.specs.Line.{Stands}
+use Rattle.port1_c.specs.Line.{LineAfter}
 use Rattle.port1_c.proofs.calls.port1_line_init.Goals as goal
 
 pub returns-in-Ok-clause-stands : goal.returns-in-Ok-clause-stands
 returns-in-Ok-clause-stands c = λ _.
     let octets = replicate 272 0 in
     let origin = c.args.origin in
-    subst (λ (w : LineWords). Stands (record { words = w; octets = octets }) []) (sym c.in-Ok.ensures.value)
+    subst (λ (w : LineWords). LineAfter (record { words = w; octets = octets }) []) (sym c.in-Ok.ensures.value)
     (fresh-tracks HasFolded 1 (origin - origin)
     (state (fresh_words c.args.longest origin) (record { state = 0 }) octets) refl refl refl refl)

@@ -1,6 +1,6 @@
 use Rattle.std.proofs.Common.{◌≡◌, ◌-◌, ℕ, ◌∙◌, subst, arith}
 use Rattle.bus_bits.specs.Bits.{bits_from}
-use Rattle.port1_c.specs.Bits.{Puts}
+use Rattle.port1_c.specs.Bits.{PutsBits}
 use Rattle.port1_c.proofs.PutLemmas.{puts-none, puts-more}
 use Rattle.port1_c.proofs.put.put_bits.Goals as goal
 
@@ -16,5 +16,6 @@ loop-i-preserved c =
 pub returns : goal.returns
 returns c =
     let e : c.loop-i.i ≡ c.args.end - c.args.first = omega (arith, c.loop-i.auto.i-end, c.loop-i-test.false) in
-    subst (λ (n : ℕ). Puts c.args.octets.now c.args.at (bits_from c.args.source.now c.args.first n) c.loop-i.octets) e
+    subst (λ (n : ℕ). PutsBits c.args.octets.now c.args.at (bits_from c.args.source.now c.args.first n) c.loop-i.octets)
+    e
     c.loop-i.invariant

@@ -1,13 +1,13 @@
-use Rattle.std.proofs.Common.{refl}
+use Rattle.std.proofs.Common.{[], ◌∷◌, refl, arith}
 use Rattle.bus_line.specs.Line.{Flag}
-use Rattle.port1_c.proofs.SendLemmas.{follows-on, flag-gains}
+use Rattle.port1_c.proofs.SendLemmas.{follows-on, flag-gains, sends-all}
 use Rattle.port1_c.proofs.send.port1_send_flag.Goals as goal
 
-pub returns-then-status-eq-OK-clause-gains : goal.returns-then-status-eq-OK-clause-gains
-returns-then-status-eq-OK-clause-gains c =
-    λ done. flag-gains c.args.sender.now c.args.octets.now c.put-status.new.octets c.args.at.now
-    (c.put-status.ensures.puts done)
-
-pub returns-then-status-eq-OK-clause-follows : goal.returns-then-status-eq-OK-clause-follows
-returns-then-status-eq-OK-clause-follows c = λ done calls follows.
-    follows-on (record { behind_flag = 1 }) calls Flag refl
+pub returns-then-status-eq-OK-clause-sends : goal.returns-then-status-eq-OK-clause-sends
+returns-then-status-eq-OK-clause-sends c =
+    let done = c.if-status-eq-OK.true in
+    let put = c.put-status in
+    sends-all (Flag ∷ []) put.result _ _ (omega (arith, c.if-at-saturating_mul.false, c.saturating_mul.ensures))
+    c.if-sender-gt1.false put.ensures.room (λ calls follows. omega (arith, put.ensures.told)) done (put.ensures.at done)
+    (flag-gains c.args.sender.now c.args.octets.now put.new.octets c.args.at.now (put.ensures.puts done))
+    (λ calls follows. follows-on (record { behind_flag = 1 }) calls Flag refl)

@@ -6,10 +6,10 @@ use Rattle.bus_capture.specs.Internal.TellingLaws.{few-within}
 use Rattle.bus_capture.proofs.one_line.AnalyserTap.count.Goals as goal
 
 pub returns-in-Some-clause-counted : goal.returns-in-Some-clause-counted
-returns-in-Some-clause-counted g c = λ before e.
+returns-in-Some-clause-counted g c = λ before counted.
     let os = c.args.self.now.decoder.octets in
     subst (λ o. c.count.new.self ≡ summary_of (before ++ option_to_list (option_map (found os) o))) c.in-Some.ensures
-    (c.count.ensures.counted before os e)
+    (c.count.ensures.counted before os counted)
 
 pub returns-in-Some-clause-few : goal.returns-in-Some-clause-few
 returns-in-Some-clause-few g c =

@@ -5,7 +5,7 @@ use Rattle.std.specs.Option.{option_to_list}
 use Rattle.bus_line.specs.Due.{placed}
 use Rattle.bus_watch.specs.Heard.{of_line}
 use Rattle.bus_watch.specs.Seen.{seen_at}
-use Rattle.bus_capture.specs.Captures.{one_line}
+use Rattle.bus_capture.specs.Captures.{form_of_one}
 use Rattle.bus_capture.proofs.HeadedLemmas.{head-clean}
 use Rattle.bus_capture.proofs.SeenOnLemmas.{seen-on}
 use Rattle.bus_capture.proofs.OneLineLemmas.{same_bits}
@@ -25,7 +25,7 @@ returns g c =
         short = head.short;
         places = grow.capped;
         silent = λ origin longest. refl;
-        seen = λ d longest origin. seen-on one_line d longest origin
+        seen = λ d longest origin. seen-on form_of_one d longest origin
             (λ b bit. option_to_list (seen_at d (of_line (placed origin longest (b ++ bit ∷ []))) (origin + length b)))
             (c.seen_grows.ensures.grows d longest origin);
       };

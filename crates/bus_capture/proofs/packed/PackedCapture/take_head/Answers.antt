@@ -14,12 +14,12 @@ use Rattle.bus_capture.proofs.SessionsPackedLemmas.{slice-rest}
 use Rattle.bus_capture.proofs.packed.PackedCapture.take_head.Goals as goal
 
 pub returns-then-octets-missing-clause-taken : goal.returns-then-octets-missing-clause-taken
-returns-then-octets-missing-clause-taken g c = λ start xs f.
+returns-then-octets-missing-clause-taken g c = λ start xs followed.
     let tap = g.T.Tap.tap in
     let os = c.args.octets.now in
     let items = c.gather.new.self.head.items in
     let law = c.laws.ensures.form in
-    let read = subst (λ b. IsRead tap c.args.self.now.head.items b xs) c.requires.none f.read in
+    let read = subst (λ b. IsRead tap c.args.self.now.head.items b xs) c.requires.none followed.read in
     let short : length (xs ++ os) < 16 =
     omega (arith, c.if-octets-missing.true, c.len-missing.ensures.value, ap length read.0, length-append xs os) in
     let all : items ≡ xs ++ os = c.gather.ensures.items ∙ ap (λ (ys : List ℕ). ys ++ os) read.0 in
@@ -28,18 +28,18 @@ returns-then-octets-missing-clause-taken g c = λ start xs f.
     ((law.short xs read.1).0 ∙ sym (law.short (xs ++ os) short).0) in
     record {
       read = subst (λ b. IsRead tap items b (xs ++ os)) (sym (c.gather.ensures.body ∙ c.requires.none)) (all, short);
-      bits = subst (Watches tap start (g.W.Write.contents c.args.w.now) c.args.run.now) bits f.bits;
+      bits = subst (Watches tap start (g.W.Write.contents c.args.w.now) c.args.run.now) bits followed.bits;
     }
 
 pub returns-in_err-body-clause-taken : goal.returns-in_err-body-clause-taken
 returns-in_err-body-clause-taken g c =
-    let p = err_from_is_err_and c.from_residual.result c.from_residual.ensures.1 in
-    rw (p.1, p.2) (λ start xs f.
+    let failed = err_from_is_err_and c.from_residual.result c.from_residual.ensures.1 in
+    rw (failed.1, failed.2) (λ start xs followed.
     let tap = g.T.Tap.tap in
     let fault = c.in_err-body.field-0.0 in
     let refused = err-mapped _ _ (λ (e : HeadFault) (t : ToolFault). IsSameFault t (head_fault_of e)) c.read_head.result
     (Err fault) fault refl c.in_err-body.ensures.cases c.read_head.ensures in
-    let read = subst (λ b. IsRead tap c.args.self.now.head.items b xs) c.requires.none f.read in
+    let read = subst (λ b. IsRead tap c.args.self.now.head.items b xs) c.requires.none followed.read in
     let h = c.head.result in
     let os = c.args.octets.now in
     let n = c.len-missing.result in
@@ -49,7 +49,7 @@ returns-in_err-body-clause-taken g c =
     let none =
     subst (λ (d : CaptureOf g.row.T-Symbol.Denot).
     Watches tap start (g.W.Write.contents c.args.w.now) c.args.run.now d.bits) (c.laws.ensures.form.short xs read.1).0
-    f.bits in
+    followed.bits in
     faulty-stops tap start _ c.args.run.now _ fault
     (fault-in tap c.laws.ensures start _ c.args.run.now (tap.form.packed (xs ++ os)) [] (head_fault_of refused.0) fault
     c.requires.sound refused.1 (ap (λ (d : CaptureOf g.row.T-Symbol.Denot). d.bits) is)
@@ -57,9 +57,9 @@ returns-in_err-body-clause-taken g c =
 
 pub returns-clause-taken : goal.returns-clause-taken
 returns-clause-taken g c =
-    λ start xs f.
+    λ start xs followed.
     let tap = g.T.Tap.tap in
-    let read = subst (λ b. IsRead tap c.args.self.now.head.items b xs) c.requires.none f.read in
+    let read = subst (λ b. IsRead tap c.args.self.now.head.items b xs) c.requires.none followed.read in
     let h = c.head.result in
     let os = c.args.octets.now in
     let n = c.len-missing.result in
@@ -68,7 +68,7 @@ returns-clause-taken g c =
     let none =
     subst (λ (d : CaptureOf g.row.T-Symbol.Denot).
     Watches tap start (g.W.Write.contents c.args.w.now) c.args.run.now d.bits) (c.laws.ensures.form.short xs read.1).0
-    f.bits in
+    followed.bits in
     let made = ok-mapped _ _ (λ (e : HeadFault) (t : ToolFault). IsSameFault t (head_fault_of e)) c.read_head.result
     (Ok c.in_ok-body.body) c.in_ok-body.body refl c.in_ok-body.ensures.cases c.read_head.ensures in
     let body : FollowsBody tap start (g.W.Write.contents c.args.w.now) c.in_ok-body.body c.args.run.now h = record {

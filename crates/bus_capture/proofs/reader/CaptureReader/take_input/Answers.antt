@@ -41,7 +41,7 @@ returns-in-Err-clause-read g c =
 
 pub returns-in_err-take_read-clause-read : goal.returns-in_err-take_read-clause-read
 returns-in_err-take_read-clause-read g c =
-    let p = err_from_is_err_and c.from_residual.result c.from_residual.ensures.1 in
+    let failed = err_from_is_err_and c.from_residual.result c.from_residual.ensures.1 in
     let before = c.loop-turn.invariant.taken in
     let start = g.W.Write.contents c.args.w.now in
     let now = g.W.Write.contents c.take_read.new.w in
@@ -49,7 +49,7 @@ returns-in_err-take_read-clause-read g c =
     let stops =
     subst (λ (b : Bool). Stops g.T.Tap.tap b start now c.take_read.new.self.run xs c.in_err-take_read.field-0.0)
     c.loop-turn.invariant.text (c.in_err-take_read.ensures.taken start before.0 before.2) in
-    rw (p.1, p.2) (
+    rw (failed.1, failed.2) (
       xs,
       consumes_both _ _ _ before.0 _ before.1 c.in-Ok.ensures.bytes.0,
       stops-finishes g.T.Tap.tap (is_text c.args.self.now.source) c.args.reads (g.R.Read.remaining c.read.new.self)
@@ -63,7 +63,7 @@ loop-turn-preserved g c =
       same = same-both g.T.Tap.tap c.args.self.now.run c.loop-turn.self.run c.take_read.new.self.run
           c.loop-turn.invariant.same c.take_read.ensures.same;
       text = c.take_read.ensures.text ∙ c.loop-turn.invariant.text;
-      few = let f = c.in_ok-take_read.ensures.few in let i = c.loop-turn.invariant.few in search rules;
+      few = let added = c.in_ok-take_read.ensures.few in let earlier = c.loop-turn.invariant.few in search rules;
       taken = (
         _,
         consumes_both _ _ _ before.0 _ before.1 c.in-Ok.ensures.bytes.0,

@@ -10,10 +10,11 @@ use Rattle.bus_capture.proofs.reader.CaptureReader.take_read.Goals as goal
 
 pub returns-in_err-write_out-clause-taken : goal.returns-in_err-write_out-clause-taken
 returns-in_err-write_out-clause-taken g c =
-    let p = err_from_is_err_and c.from_residual-in_err-write_out.result c.from_residual-in_err-write_out.ensures.1 in
-    rw (p.1, p.2) (λ start xs f.
+    let failed = err_from_is_err_and c.from_residual-in_err-write_out.result
+    c.from_residual-in_err-write_out.ensures.1 in
+    rw (failed.1, failed.2) (λ start xs followed.
     let ys = xs ++ c.args.octets.now in
-    let taken = c.in_ok-take.ensures.taken start xs f in
+    let taken = c.in_ok-take.ensures.taken start xs followed in
     let law = c.laws.ensures in
     let clean = is-clean g.T.Tap.tap law (is_text c.take.new.self.source) start _ c.take.new.self.run ys
     c.take.ensures.sound

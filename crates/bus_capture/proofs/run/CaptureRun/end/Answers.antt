@@ -1,6 +1,6 @@
 use Rattle.std.proofs.Common.{◌++◌, refl}
 use Rattle.std.proofs.lemmas.Result.{err_from_is_err_and}
-use Rattle.bus_text.specs.Internal.Pages.{Pages}
+use Rattle.bus_text.specs.Pages.{Pages}
 use Rattle.bus_capture.specs.Internal.Watching.{lines, last_lines}
 use Rattle.bus_capture.proofs.WatchingLemmas.{pages-ended, pages-unended}
 use Rattle.bus_capture.proofs.run.CaptureRun.end.Goals as goal
@@ -8,16 +8,16 @@ use Rattle.bus_capture.proofs.run.CaptureRun.end.Goals.{in-Some, in_default}
 
 pub returns : goal.returns
 returns g c =
-    λ start b h.
+    λ start b followed.
     let tap = g.T.Tap.tap in
     let w = c.args.self in
     let text = lines tap w b ++ last_lines tap w b in
-    let turned = c.in_ok-make_room.ensures.turned start (lines tap w b) h.page in
+    let turned = c.in_ok-make_room.ensures.turned start (lines tap w b) followed.page in
     let page : Pages start (g.W.Write.contents c.make_room.new.w) c.match-printer.page.text c.match-printer.page.written
     text =
     elim c.match-printer.branch [
       | in-Some x ↦ pages-ended tap start _ w b x.in-Some.printer c.make_room.new.self x.put_ending.new.page
-          c.match-printer.page x.in-Some.is x.page-is (x.put_ending.ensures.bytes b h.is_after)
+          c.match-printer.page x.in-Some.is x.page-is (x.put_ending.ensures.bytes b followed.is_after)
           x.put_ending.ensures.written turned
       | in_default x ↦ pages-unended tap start _ w b c.make_room.new.self c.match-printer.page x.in_default.is x.page-is
           turned
@@ -26,17 +26,17 @@ returns g c =
 
 pub returns-in_err-close : goal.returns-in_err-close
 returns-in_err-close g c =
-    let p = err_from_is_err_and c.from_residual-in_err-close.result c.from_residual-in_err-close.ensures.1 in
-    rw (p.1, p.2) (λ start b h.
+    let failed = err_from_is_err_and c.from_residual-in_err-close.result c.from_residual-in_err-close.ensures.1 in
+    rw (failed.1, failed.2) (λ start b followed.
     let tap = g.T.Tap.tap in
     let w = c.args.self in
     let text = lines tap w b ++ last_lines tap w b in
-    let turned = c.in_ok-make_room.ensures.turned start (lines tap w b) h.page in
+    let turned = c.in_ok-make_room.ensures.turned start (lines tap w b) followed.page in
     let page : Pages start (g.W.Write.contents c.make_room.new.w) c.match-printer.page.text c.match-printer.page.written
     text =
     elim c.match-printer.branch [
       | in-Some x ↦ pages-ended tap start _ w b x.in-Some.printer c.make_room.new.self x.put_ending.new.page
-          c.match-printer.page x.in-Some.is x.page-is (x.put_ending.ensures.bytes b h.is_after)
+          c.match-printer.page x.in-Some.is x.page-is (x.put_ending.ensures.bytes b followed.is_after)
           x.put_ending.ensures.written turned
       | in_default x ↦ pages-unended tap start _ w b c.make_room.new.self c.match-printer.page x.in_default.is x.page-is
           turned

@@ -7,13 +7,13 @@ use Rattle.bus_capture.proofs.run.CaptureRun.take_symbols.Goals as goal
 
 pub returns-in_err-take_symbol-clause-taken : goal.returns-in_err-take_symbol-clause-taken
 returns-in_err-take_symbol-clause-taken g c =
-    let p = err_from_is_err_and c.from_residual.result c.from_residual.ensures.1 in
-    rw (p.1, p.2) (λ start b h.
+    let failed = err_from_is_err_and c.from_residual.result c.from_residual.ensures.1 in
+    rw (failed.1, failed.2) (λ start b followed.
     let all = c.args.symbols.now in
     let i = c.loop-symbol.symbol-index in
     let x = c.symbol-item.result in
     let halts = c.in_err-take_symbol.ensures.taken start (b ++ take i all)
-    (c.loop-symbol.invariant.followed start b h) in
+    (c.loop-symbol.invariant.followed start b followed) in
     subst (λ (z : List g.row.T-Symbol.Denot).
     Halts g.T.Tap.tap start (g.W.Write.contents c.take_symbol.new.w) c.take_symbol.new.self z
     c.in_err-take_symbol.field-0.0)
@@ -26,19 +26,19 @@ loop-symbol-preserved g c = record {
   sound = c.take_symbol.ensures.sound;
   same = same-both g.T.Tap.tap c.args.self.now c.loop-symbol.self c.take_symbol.new.self c.loop-symbol.invariant.same
       c.take_symbol.ensures.same;
-  followed = λ start b h.
+  followed = λ start b followed.
       let all = c.args.symbols.now in
       let i = c.loop-symbol.symbol-index in
       let x = c.symbol-item.result in
       subst (Watches g.T.Tap.tap start (g.W.Write.contents c.take_symbol.new.w) c.take_symbol.new.self)
       (item-next b all i x x c.loop-symbol-test.true c.symbol-item.is)
-      (c.in_ok-take_symbol.ensures.taken start (b ++ take i all) (c.loop-symbol.invariant.followed start b h));
+      (c.in_ok-take_symbol.ensures.taken start (b ++ take i all) (c.loop-symbol.invariant.followed start b followed));
 }
 
 pub returns-clause-taken : goal.returns-clause-taken
 returns-clause-taken g c =
-    λ start b h.
+    λ start b followed.
     subst (λ (x : List g.row.T-Symbol.Denot).
     Watches g.T.Tap.tap start (g.W.Write.contents c.loop-symbol.w) c.loop-symbol.self (b ++ x))
     (take_all c.loop-symbol.symbol-index c.args.symbols.now (omega arith))
-    (c.loop-symbol.invariant.followed start b h)
+    (c.loop-symbol.invariant.followed start b followed)

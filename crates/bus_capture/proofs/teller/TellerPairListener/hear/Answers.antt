@@ -1,8 +1,6 @@
-use Rattle.std.proofs.Common.{◌≡◌, ◌+◌, ◌++◌, ◌∷◌, [], ℕ, Some, None, length, refl, sym, ap, ◌∙◌, subst, arith}
+use Rattle.std.proofs.Common.{◌≡◌, ◌+◌, ◌++◌, ◌∷◌, [], Some, None, length, refl, sym, ap, ◌∙◌, subst, arith}
 use Rattle.std.proofs.Common.{length-append}
-use Rattle.bus_text.proofs.PagesLemmas.{cut-short, cuts-more, pages-more}
-use Rattle.bus_text.specs.Internal.Pages.{Pages}
-use Rattle.bus_text.specs.Listing.{listing}
+use Rattle.bus_text.proofs.PagesLemmas.{cut-short, cuts-more, pages-printed}
 use Rattle.bus_watch.specs.Shown.{found_on}
 use Rattle.bus_capture.specs.Internal.Telling.{IsOut}
 use Rattle.bus_capture.specs.Internal.Watching.{printed}
@@ -33,9 +31,9 @@ returns-in-Err-clause-heard g c =
     let same = c.in-Err.ensures.kept in
     record {
       printer = refl;
-      out = λ start text h.
+      out = λ start text so-far.
           let before = subst (λ cut. IsOut start (g.W.Write.contents c.args.w.now) c.args.self.now.page cut text) none
-          h in
+          so-far in
           let more = printed c.args.self.now.printer c.args.dictionary.now
           (found_on (Some c.args.line) c.args.octets.now c.args.finding.now ∷ []) in
           let short = cut-short start (g.W.Write.contents c.args.w.now) c.args.self.now.page.text
@@ -55,18 +53,13 @@ returns-clause-heard g c =
     let seen = found_on (Some c.args.line) c.args.octets.now c.args.finding.now in
     record {
       printer = refl;
-      out = λ start text h.
+      out = λ start text so-far.
           let before = subst (λ cut. IsOut start (g.W.Write.contents c.args.w.now) c.args.self.now.page cut text) none
-          h in
-          let turned = c.in_default-make_room.ensures.turned start text before in
-          let lines = listing c.in-Some.printer c.args.dictionary.now (seen ∷ []) in
-          let put = pages-more start (g.W.Write.contents c.make_room.new.w) c.make_room.new.self.text
-          c.put.new.page.text c.make_room.new.self.written text lines c.put.ensures.bytes turned in
+          so-far in
           subst (λ cut. IsOut start (g.W.Write.contents c.make_room.new.w) c.put.new.page cut
           (text ++ printed c.args.self.now.printer c.args.dictionary.now (seen ∷ []))) (sym none)
           (rw (c.in-Some.is)
-          (subst (λ (n : ℕ). Pages start (g.W.Write.contents c.make_room.new.w) c.put.new.page.text n (text ++ lines))
-          (sym c.put.ensures.written) put));
+          (pages-printed c.put.ensures (c.in_default-make_room.ensures.turned start text before)));
       stays = λ sent cut. cut;
       counted = λ all is whole. c.count.ensures.counted all c.args.octets.now is
           ∙ counted-on all c.args.line c.args.octets.now c.args.finding.now;

@@ -14,8 +14,8 @@ pub loop-taken-init : goal.loop-taken-init
 loop-taken-init g c = record {
   sound = c.requires.sound;
   same = same-self g.T.Tap.tap c.args.run.now;
-  front = λ start xs t. subst (FollowsOctets g.T.Tap.tap start (g.W.Write.contents c.args.w.now) c.args.run.now)
-      (sym (append-nil xs)) (record { clean = t.clean; bits = t.bits });
+  front = λ start xs followed. subst (FollowsOctets g.T.Tap.tap start (g.W.Write.contents c.args.w.now) c.args.run.now)
+      (sym (append-nil xs)) (record { clean = followed.clean; bits = followed.bits });
 }
 
 pub take_text-requires : goal.take_text-requires
@@ -23,12 +23,12 @@ take_text-requires g c = c.loop-taken.invariant.sound
 
 pub returns-in_err-many-clause-taken : goal.returns-in_err-many-clause-taken
 returns-in_err-many-clause-taken g c =
-    let p = err_from_is_err_and c.from_residual.result c.from_residual.ensures.1 in
-    rw (p.1, p.2) (λ start xs t.
+    let failed = err_from_is_err_and c.from_residual.result c.from_residual.ensures.1 in
+    rw (failed.1, failed.2) (λ start xs followed.
     let tap = g.T.Tap.tap in
     let os = c.args.octets.now in
     let i = c.loop-taken.taken in
-    let stops = c.in_err-many.ensures.taken start (xs ++ take i os) (c.loop-taken.invariant.front start xs t) in
+    let stops = c.in_err-many.ensures.taken start (xs ++ take i os) (c.loop-taken.invariant.front start xs followed) in
     let n = stops.0 in
     let origin = tap.watch.origin c.take_text.new.run.analyser in
     stops-more tap start _ c.take_text.new.run (capped origin (tap.form.text (xs ++ take (i + n) os)))
@@ -47,12 +47,12 @@ loop-taken-preserved-then-many-gt0 g c = record {
   sound = c.take_text.ensures.sound;
   same = same-both g.T.Tap.tap c.args.run.now c.loop-taken.run c.take_text.new.run c.loop-taken.invariant.same
       c.take_text.ensures.same;
-  front = λ start xs t.
+  front = λ start xs followed.
       let os = c.args.octets.now in
       let i = c.loop-taken.taken in
       subst (FollowsOctets g.T.Tap.tap start (g.W.Write.contents c.take_text.new.w) c.take_text.new.run)
       (octets-next xs os i c.in_ok-many.many)
-      (c.in_ok-many.ensures.taken start (xs ++ take i os) (c.loop-taken.invariant.front start xs t));
+      (c.in_ok-many.ensures.taken start (xs ++ take i os) (c.loop-taken.invariant.front start xs followed));
 }
 
 pub take_one-requires : goal.take_one-requires
@@ -60,17 +60,17 @@ take_one-requires g c = c.take_text.ensures.sound
 
 pub returns-in_err-take_one-clause-taken : goal.returns-in_err-take_one-clause-taken
 returns-in_err-take_one-clause-taken g c =
-    let p = err_from_is_err_and c.from_residual-in_err-take_one.result c.from_residual-in_err-take_one.ensures.1 in
-    rw (p.1, p.2) (λ start xs t.
+    let failed = err_from_is_err_and c.from_residual-in_err-take_one.result c.from_residual-in_err-take_one.ensures.1 in
+    rw (failed.1, failed.2) (λ start xs followed.
     let tap = g.T.Tap.tap in
     let os = c.args.octets.now in
     let i = c.loop-taken.taken in
     let x = get_or os i 0 in
     let front = xs ++ take i os in
     let at : c.args.self.now.at + i ≡ length front =
-    omega (arith, t.at, octets-before xs os i c.loop-taken-test.true) in
+    omega (arith, followed.at, octets-before xs os i c.loop-taken-test.true) in
     let here = none-taken tap start _ _ front _ c.in_ok-many.many (omega (arith, c.if-many-gt0.false))
-    (c.in_ok-many.ensures.taken start front (c.loop-taken.invariant.front start xs t)) in
+    (c.in_ok-many.ensures.taken start front (c.loop-taken.invariant.front start xs followed)) in
     let stops = c.in_err-take_one.ensures.taken start front at here in
     let origin = tap.watch.origin c.take_one.new.run.analyser in
     stops-more tap start _ c.take_one.new.run (capped origin (tap.form.text (xs ++ take (i + 1) os)))
@@ -91,15 +91,15 @@ loop-taken-preserved g c = record {
   same = same-both g.T.Tap.tap c.args.run.now c.take_text.new.run c.take_one.new.run
       (same-both g.T.Tap.tap c.args.run.now c.loop-taken.run c.take_text.new.run c.loop-taken.invariant.same
       c.take_text.ensures.same) c.take_one.ensures.same;
-  front = λ start xs t.
+  front = λ start xs followed.
       let tap = g.T.Tap.tap in
       let os = c.args.octets.now in
       let i = c.loop-taken.taken in
       let front = xs ++ take i os in
       let at : c.args.self.now.at + i ≡ length front =
-      omega (arith, t.at, octets-before xs os i c.loop-taken-test.true) in
+      omega (arith, followed.at, octets-before xs os i c.loop-taken-test.true) in
       let here = none-taken tap start _ _ front _ c.in_ok-many.many (omega (arith, c.if-many-gt0.false))
-      (c.in_ok-many.ensures.taken start front (c.loop-taken.invariant.front start xs t)) in
+      (c.in_ok-many.ensures.taken start front (c.loop-taken.invariant.front start xs followed)) in
       subst (FollowsOctets tap start (g.W.Write.contents c.take_one.new.w) c.take_one.new.run)
       (item-next xs os i (get_or os i 0) 0 c.loop-taken-test.true refl)
       (c.in_ok-take_one.ensures.taken start front at here);
@@ -107,15 +107,15 @@ loop-taken-preserved g c = record {
 
 pub returns-clause-taken : goal.returns-clause-taken
 returns-clause-taken g c =
-    λ start xs t.
+    λ start xs followed.
     let all = take_all c.loop-taken.taken c.args.octets.now (omega arith) in
-    let f =
+    let whole =
     subst (λ (os : List ℕ). FollowsOctets g.T.Tap.tap start (g.W.Write.contents c.loop-taken.w) c.loop-taken.run
-    (xs ++ os)) all (c.loop-taken.invariant.front start xs t) in
+    (xs ++ os)) all (c.loop-taken.invariant.front start xs followed) in
     record {
-      at = omega (arith, t.at, length-append xs c.args.octets.now);
-      clean = f.clean;
-      bits = f.bits;
+      at = omega (arith, followed.at, length-append xs c.args.octets.now);
+      clean = whole.clean;
+      bits = whole.bits;
     }
 
 pub returns-clause-same : goal.returns-clause-same

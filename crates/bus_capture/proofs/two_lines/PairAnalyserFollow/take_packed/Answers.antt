@@ -24,8 +24,8 @@ take_all-requires-clause-sixteens g c =
 
 pub returns-in_err-take_pairs-clause-taken : goal.returns-in_err-take_pairs-clause-taken
 returns-in_err-take_pairs-clause-taken g c =
-    let p = err_from_is_err_and c.from_residual.result c.from_residual.ensures.1 in
-    rw (p.1, p.2) (λ start xs f.
+    let failed = err_from_is_err_and c.from_residual.result c.from_residual.ensures.1 in
+    rw (failed.1, failed.2) (λ start xs followed.
     let tap = pair_tap g.C.Check.folded g.C.Check.COST in
     let count = c.whole-count.result in
     let whole = take count c.args.octets.now in
@@ -34,17 +34,18 @@ returns-in_err-take_pairs-clause-taken g c =
     (bits_from c.take_all.new.second 0 (4 * length whole)) in
     let read = octets-read packed_pair_capture pair_body pair_head_fault PairsAfter
     (λ head zs wide. (c.pairs_are_head_and_body.ensures.headed head zs wide).0)
-    c.args.body.now c.take_all.new.self xs whole ps c.take_all.ensures.given f.read in
-    let fits = followed-fits tap c.laws.ensures start _ c.args.run.now b c.requires f.bits in
+    c.args.body.now c.take_all.new.self xs whole ps c.take_all.ensures.given followed.read in
+    let fits = followed-fits tap c.laws.ensures start _ c.args.run.now b c.requires followed.bits in
     let low : tap.watch.origin c.take_pairs.new.run.analyser ≤ 2 ^ 60 =
     omega (arith, fits, c.take_pairs.ensures.same.origin) in (
       count,
       octets-taken tap start _ c.take_pairs.new.run (xs ++ whole) c.take_all.new.self (b ++ ps)
-          (Err c.in_err-take_pairs.field-0.0) low read.0 read.1 (c.in_err-take_pairs.ensures.taken start b f.bits),
+          (Err c.in_err-take_pairs.field-0.0) low read.0 read.1
+          (c.in_err-take_pairs.ensures.taken start b followed.bits),
     ))
 
 pub returns-clause-taken : goal.returns-clause-taken
-returns-clause-taken g c = λ start xs f.
+returns-clause-taken g c = λ start xs followed.
     let tap = pair_tap g.C.Check.folded g.C.Check.COST in
     let count = c.whole-count.result in
     let whole = take count c.args.octets.now in
@@ -53,9 +54,9 @@ returns-clause-taken g c = λ start xs f.
     (bits_from c.take_all.new.second 0 (4 * length whole)) in
     let read = octets-read packed_pair_capture pair_body pair_head_fault PairsAfter
     (λ head zs wide. (c.pairs_are_head_and_body.ensures.headed head zs wide).0)
-    c.args.body.now c.take_all.new.self xs whole ps c.take_all.ensures.given f.read in
-    let fits = followed-fits tap c.laws.ensures start _ c.args.run.now b c.requires f.bits in
+    c.args.body.now c.take_all.new.self xs whole ps c.take_all.ensures.given followed.read in
+    let fits = followed-fits tap c.laws.ensures start _ c.args.run.now b c.requires followed.bits in
     let low : tap.watch.origin c.take_pairs.new.run.analyser ≤ 2 ^ 60 =
     omega (arith, fits, c.take_pairs.ensures.same.origin) in
     octets-taken tap start _ c.take_pairs.new.run (xs ++ whole) c.take_all.new.self (b ++ ps) (Ok tt) low read.0 read.1
-    (c.in_ok-take_pairs.ensures.taken start b f.bits)
+    (c.in_ok-take_pairs.ensures.taken start b followed.bits)

@@ -11,11 +11,11 @@ count_on-requires-2 g c =
     (c.requires.0 + 1, c.count_on.ensures.few c.requires.0 c.requires.1, omega (arith, c.requires.2))
 
 pub returns-clause-counted : goal.returns-clause-counted
-returns-clause-counted g c = λ before e.
+returns-clause-counted g c = λ before counted.
     let a = c.args.self.now in
     let first = option_to_list (seen_on a First) in
     let second = option_to_list (seen_on a Second) in
-    c.count_on-2.ensures.counted (before ++ first) (c.count_on.ensures.counted before e)
+    c.count_on-2.ensures.counted (before ++ first) (c.count_on.ensures.counted before counted)
     ∙ ap summary_of (append_assoc before first second)
 
 pub returns-clause-few : goal.returns-clause-few

@@ -3,7 +3,7 @@ use Rattle.bus_watch.proofs.PairLemmas.{length-pairs, pairs-front}
 use Rattle.bus_bits.specs.Packed.{PairsAfter, packed_pair_capture, pair_body, pair_head_fault}
 use Rattle.bus_watch.specs.Heard.{merged}
 use Rattle.bus_watch.specs.Seen.{all_seen_at}
-use Rattle.bus_capture.specs.Captures.{two_lines}
+use Rattle.bus_capture.specs.Captures.{form_of_two}
 use Rattle.bus_capture.proofs.HeadedLemmas.{head-clean}
 use Rattle.bus_capture.proofs.SeenOnLemmas.{seen-on}
 use Rattle.bus_capture.proofs.TwoLinesLemmas.{same_pairs, placed-pairs}
@@ -23,7 +23,7 @@ returns g c =
         short = head.short;
         places = grow.capped;
         silent = λ origin longest. refl;
-        seen = λ d longest origin. seen-on two_lines d longest origin
+        seen = λ d longest origin. seen-on form_of_two d longest origin
             (λ ps p. all_seen_at d (merged origin longest (ps ++ p ∷ [])) (origin + length ps))
             (c.pairs_grow.ensures.grows d longest origin);
       };

@@ -2,7 +2,7 @@ use Rattle.std.proofs.Common.{◌≡◌, ◌+◌, ℕ, [], ◌∷◌, ◌++◌, 
 use Rattle.std.proofs.lemmas.Result.{err_from_is_err_and}
 use Rattle.bus_encode.specs.Lines.{ended_lines}
 use Rattle.bus_encode.specs.Encode.{asked_behind, asked_so_far}
-use Rattle.bus_encode.specs.Internal.EncodeState.{Takes, Halts}
+use Rattle.bus_encode.specs.Internal.EncodeState.{Takes, EncodeHalts}
 use Rattle.bus_encode.specs.declared.line.OpenLine.{OpenLine}
 use Rattle.bus_encode.proofs.EncodeStateLemmas.{not_lf, push_cases, lf_takes, lf_halts}
 use Rattle.bus_encode.proofs.reader.LineReader.take_one.Goals as goal
@@ -19,7 +19,7 @@ returns-in_err-end_line-clause-taken g c =
     let p = err_from_is_err_and c.from_residual.result c.from_residual.ensures.1 in
     rw (p.1, p.2) (λ start xs t.
     let now = g.W.Write.contents c.end_line.new.w in
-    subst (λ (o : ℕ). Halts start now c.end_line.new.self.written (asked_so_far (xs ++ o ∷ []))
+    subst (λ (o : ℕ). EncodeHalts start now c.end_line.new.self.written (asked_so_far (xs ++ o ∷ []))
     c.in_err-end_line.field-0.0) (sym c.if-octet-ne10.false)
     (lf_halts start (g.W.Write.contents c.args.w.now) now c.args.self.now.line.octets.items c.args.self.now.line.number
     c.args.self.now.encoder c.end_line.new.self.encoder c.args.self.now.written c.end_line.new.self.written xs

@@ -13,17 +13,17 @@ returns-clause-holds g c = λ bits h.
     let e = state c.put_short.new.self c.put_short.new.check c.put_short.new.cells in
     let n = c.args.more.count in
     let b = c.begin.new.self in
-    append-holds _ d a e n c.args.more.bits (joined w.rest (w.gathered % 8) c.args.more.bits) ((w.gathered % 8 + n) / 8)
-    _ bits h (omega (arith, c.requires.few)) c.requires.small refl refl
-    (ap (λ (s : LineWords). s.gathered) c.begin.ensures.kept)
+    append-holds _ d a e n c.args.more.bits (joined w.partial (w.data_bits % 8) c.args.more.bits)
+    ((w.data_bits % 8 + n) / 8) _ bits h (omega (arith, c.requires.few)) c.requires.small refl refl
+    (ap (λ (s : LineWords). s.data_bits) c.begin.ensures.kept)
     (ap (λ (s : LineWords). s.longest) c.begin.ensures.kept)
     (c.begin.ensures.keeps c.args.cells.now bits h)
     c.put_short.ensures.keeps
     (kept-put
     (record b {
       assembled = b.assembled + n;
-      gathered = b.gathered + n;
-      rest = joined w.rest (w.gathered % 8) c.args.more.bits / 2 ^ (8 * ((w.gathered % 8 + n) / 8));
+      data_bits = b.data_bits + n;
+      partial = joined w.partial (w.data_bits % 8) c.args.more.bits / 2 ^ (8 * ((w.data_bits % 8 + n) / 8));
     })
     c.put_short.new.self c.put_short.new.check c.begin.new.check c.put_short.new.cells c.args.cells.now
     c.put_short.ensures.kept)
@@ -35,8 +35,8 @@ returns-clause-spent g c = λ bits h.
     let a = state c.begin.new.self c.begin.new.check c.args.cells.now in
     let e = state c.put_short.new.self c.put_short.new.check c.put_short.new.cells in
     let n = c.args.more.count in
-    append-spent _ _ d a e n (joined w.rest (w.gathered % 8) c.args.more.bits) ((w.gathered % 8 + n) / 8) _ bits h refl
-    (ap (λ (s : LineWords). s.longest) c.begin.ensures.kept)
+    append-spent _ _ d a e n (joined w.partial (w.data_bits % 8) c.args.more.bits) ((w.data_bits % 8 + n) / 8)
+    _ bits h refl (ap (λ (s : LineWords). s.longest) c.begin.ensures.kept)
     (c.begin.ensures.keeps c.args.cells.now bits h)
     c.put_short.ensures.spent
     (ap (λ (s : LineWords).

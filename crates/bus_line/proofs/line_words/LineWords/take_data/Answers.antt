@@ -8,8 +8,8 @@ use Rattle.bus_line.specs.Internal.LineView.{settles_from}
 use Rattle.bus_line.specs.Internal.Settled.{data_in_word}
 use Rattle.bus_line.specs.declared.line_words.LineWords.{LineWords}
 use Rattle.bus_line.proofs.AdvanceLemmas.{Calm, is_calm, all-after, all-placed}
-use Rattle.bus_line.proofs.QuietLemmas.{history-next, history-small, settled-front, no-stop, word-behind, word-front}
-use Rattle.bus_line.proofs.QuietLemmas.{word-is, word_of}
+use Rattle.bus_line.proofs.QuietLemmas.{last-bits-next, last-bits-small, settled-front, no-stop, word-behind}
+use Rattle.bus_line.proofs.QuietLemmas.{word-front, word-is, word_of}
 use Rattle.bus_line.proofs.SettleLemmas.{word-settled}
 use Rattle.bus_line.proofs.StepLemmas.{settles-open}
 use Rattle.bus_line.proofs.WordsLemmas.{kept-state, settles-told, shift-lags}
@@ -22,9 +22,9 @@ returns-clause-tells g c = λ _.
     let d = state old c.args.check.now c.args.cells.now in
     let new = c.append.new.self in
     let e = state new c.append.new.check c.append.new.cells in
-    let w : ℕ = word_of old.history x in
-    let behind : ℕ = bit_or (old.history / 256) (x * 256 % 18446744073709551616) in
-    let mid : LineWords = record old { place = old.place + 56; history = behind / 2 ^ 48 } in
+    let w : ℕ = word_of old.last_bits x in
+    let behind : ℕ = bit_or (old.last_bits / 256) (x * 256 % 18446744073709551616) in
+    let mid : LineWords = record old { place = old.place + 56; last_bits = behind / 2 ^ 48 } in
     let settled = c.data_in_word-settled in
     let longest : new.longest ≡ old.longest = ap (λ (s : LineWords). s.longest) c.append.ensures.kept in
     let origin : new.origin ≡ old.origin = ap (λ (s : LineWords). s.origin) c.append.ensures.kept in
@@ -34,21 +34,21 @@ returns-clause-tells g c = λ _.
     (omega (arith, c.requires.open)) in
     let at : old.settles_at ≡ began.0 + 8 = told ∙ ap settles_from began.1 in
     let calm : (b : List Bool) → After g.C.Check.folded g.C.Check.COST d b → Calm w 56 x b = λ b h.
-    let small = history-small d b h.has_taken in
-    is_calm w 56 56 x b (word-is old.history x b h.has_taken.history) refl
-    (no-stop w behind (word-behind old.history x small) (c.has_six.ensures c.if-has_six.false)) in
+    let small = last-bits-small d b h.has_taken in
+    is_calm w 56 56 x b (word-is old.last_bits x b h.has_taken.last_bits) refl
+    (no-stop w behind 56 (word-behind old.last_bits x small) (c.has_six.ensures c.if-has_six.false)) in
     record {
       leads = record {
         after = λ b h.
-            let small = history-small d b h.has_taken in
-            let word = word-is old.history x b h.has_taken.history in
+            let small = last-bits-small d b h.has_taken in
+            let word = word-is old.last_bits x b h.has_taken.last_bits in
             let n : 56 ≤ length (bits_of 56 x) = omega (arith, length-bits 56 x) in
-            let next = ap (λ (y : ℕ). record old { place = old.place + 56; history = y })
-            (history-next old.history x small) in
+            let next = ap (λ (y : ℕ). record old { place = old.place + 56; last_bits = y })
+            (last-bits-next old.last_bits x small) in
             let lags = shift-lags _ _ old mid c.args.check.now c.args.cells.now b (bits_of 56 x) w 56 next h word n in
             let shift : w ≡ w / 2 ^ (56 - 56) = omega arith in
             let value = settled.ensures.value
-            ∙ (ap (λ (y : ℕ). data_in_word y 56) (word-front old.history x small)
+            ∙ (ap (λ (y : ℕ). data_in_word y 56) (word-front old.last_bits x small)
             ∙ (settled-front w 56 (omega arith) ∙ ap (λ (y : ℕ). data_in_word y 56) shift)) in
             all-after _ _ w 56 x 56 e b (calm b h) refl (λ q.
             word-settled _ _ began.0 w 56 56 settled.result.count settled.result.bits

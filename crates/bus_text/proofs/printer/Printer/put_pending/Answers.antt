@@ -4,7 +4,7 @@ use Rattle.bus_text.specs.Listing.{pending_line}
 use Rattle.bus_text.proofs.ListingLemmas.{put-none}
 use Rattle.bus_text.proofs.printer.Printer.put_pending.Goals as goal
 
-pub returns-in_default-clause-bytes : goal.returns-in_default-clause-bytes
-returns-in_default-clause-bytes c =
-    put-none c.args.self.now.filter _ c.args.page.now.text
+pub returns-in_default : goal.returns-in_default
+returns-in_default c =
+    put-none c.args.self.now.filter _ _ c.args.page.now
     (ap (λ v. option_to_list (option_map (pending_line c.args.line) v)) c.in_default.is)

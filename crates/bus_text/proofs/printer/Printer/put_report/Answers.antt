@@ -1,19 +1,20 @@
-use Rattle.std.proofs.Common.{◌≡◌, ◌++◌, ◌∙◌, sym, ap, codes, append_assoc, rules}
+use Rattle.std.proofs.Common.{◌≡◌, ◌++◌, ◌∙◌, sym, ap, codes, append_assoc, arith, rules}
+use Rattle.std.proofs.lemmas.Grind.{common_steps}
 use Rattle.bus_line.specs.Shown.{reported, span_of}
 use Rattle.bus_watch.specs.Shown.{found_on}
 use Rattle.bus_text.specs.Listing.{line_number, report_line, report_word, span_text, head_part}
 use Rattle.bus_text.proofs.ListingLemmas.{put-dropped, put-left}
 use Rattle.bus_text.proofs.printer.Printer.put_report.Goals as goal
 
-pub returns-then-not-leaves-clause-bytes : goal.returns-then-not-leaves-clause-bytes
-returns-then-not-leaves-clause-bytes c =
+pub returns-then-not-leaves : goal.returns-then-not-leaves
+returns-then-not-leaves c =
     put-dropped c.args.self.now.filter
     (report_line c.args.self.now.heads c.args.dictionary.now
-    (found_on c.args.line c.args.octets.now c.args.finding.now)) c.args.page.now.text
+    (found_on c.args.line c.args.octets.now c.args.finding.now)) _ c.args.page.now
     (sym (c.leaves.ensures c.args.octets.now) ∙ c.if-not-leaves.true)
 
-pub returns-clause-bytes : goal.returns-clause-bytes
-returns-clause-bytes c =
+pub returns : goal.returns
+returns c =
     let page = c.args.page.now.text in
     let r = reported c.args.octets.now c.args.finding.now.event in
     let front = span_text (span_of r) ++ report_word r.kind in
@@ -29,5 +30,6 @@ returns-clause-bytes c =
     ∙ append_assoc page ((line ++ front) ++ head) (codes "\n") in
     put-left c.args.self.now.filter
     (report_line c.args.self.now.heads c.args.dictionary.now
-    (found_on c.args.line c.args.octets.now c.args.finding.now)) page c.push.new.self
-    (sym (c.leaves.ensures c.args.octets.now) ∙ c.if-not-leaves.false) all
+    (found_on c.args.line c.args.octets.now c.args.finding.now))
+    (sym (c.leaves.ensures c.args.octets.now) ∙ c.if-not-leaves.false)
+    (record { bytes = all; len = grind (arith, common_steps); written = search rules })

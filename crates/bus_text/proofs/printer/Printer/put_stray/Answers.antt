@@ -19,37 +19,37 @@ is_told : (line : Option Line) (heads stray : Bool) (span : Span) (standing : Op
 is_told line heads stray span standing h s = ap (λ (b : Bool). strays_at line b stray span standing) h
     ∙ ap (λ (b : Bool). strays_at line true b span standing) s
 
-pub returns-then-not-self-clause-bytes : goal.returns-then-not-self-clause-bytes
-returns-then-not-self-clause-bytes c =
+pub returns-then-not-self : goal.returns-then-not-self
+returns-then-not-self c =
     let b = c.args.finding.now in
-    put-none c.args.self.now.filter (strays_at c.args.line c.args.self.now.heads b.stray b.event.span b.standing)
-    c.args.page.now.text
+    put-none c.args.self.now.filter (strays_at c.args.line c.args.self.now.heads b.stray b.event.span b.standing) _
+    c.args.page.now
     (no_heads c.args.line c.args.self.now.heads b.stray b.event.span b.standing (search (rules, tests)))
 
-pub returns-then-not-finding-clause-bytes : goal.returns-then-not-finding-clause-bytes
-returns-then-not-finding-clause-bytes c =
+pub returns-then-not-finding : goal.returns-then-not-finding
+returns-then-not-finding c =
     let b = c.args.finding.now in
     let heads : c.args.self.now.heads ≡ true = search (rules, tests) in
     let stray : b.stray ≡ false = search (rules, tests) in
-    put-none c.args.self.now.filter (strays_at c.args.line c.args.self.now.heads b.stray b.event.span b.standing)
-    c.args.page.now.text
+    put-none c.args.self.now.filter (strays_at c.args.line c.args.self.now.heads b.stray b.event.span b.standing) _
+    c.args.page.now
     (ap (λ (h : Bool). strays_at c.args.line h b.stray b.event.span b.standing) heads
     ∙ ap (λ (s : Bool). strays_at c.args.line true s b.event.span b.standing) stray)
 
-pub returns-in_default-clause-bytes : goal.returns-in_default-clause-bytes
-returns-in_default-clause-bytes c =
+pub returns-in_default : goal.returns-in_default
+returns-in_default c =
     let b = c.args.finding.now in
-    put-none c.args.self.now.filter (strays_at c.args.line c.args.self.now.heads b.stray b.event.span b.standing)
-    c.args.page.now.text
+    put-none c.args.self.now.filter (strays_at c.args.line c.args.self.now.heads b.stray b.event.span b.standing) _
+    c.args.page.now
     (is_told c.args.line c.args.self.now.heads b.stray b.event.span b.standing (search (rules, tests))
     (search (rules, tests))
     ∙ ap (λ (s : Option Standing). strays_at c.args.line true true b.event.span s) c.in_default.is)
 
-pub returns-in_default-frame_type-clause-bytes : goal.returns-in_default-frame_type-clause-bytes
-returns-in_default-frame_type-clause-bytes c =
+pub returns-in_default-frame_type : goal.returns-in_default-frame_type
+returns-in_default-frame_type c =
     let b = c.args.finding.now in
-    put-none c.args.self.now.filter (strays_at c.args.line c.args.self.now.heads b.stray b.event.span b.standing)
-    c.args.page.now.text
+    put-none c.args.self.now.filter (strays_at c.args.line c.args.self.now.heads b.stray b.event.span b.standing) _
+    c.args.page.now
     (is_told c.args.line c.args.self.now.heads b.stray b.event.span b.standing (search (rules, tests))
     (search (rules, tests))
     ∙ ap (λ (s : Option Standing). strays_at c.args.line true true b.event.span s) c.in-Some.is

@@ -4,7 +4,7 @@ use Rattle.std.proofs.lemmas.Result.{err_from_is_err_and}
 use Rattle.std.specs.List.{flat_map}
 use Rattle.std.specs.Io.KnownBytes.{Appends}
 use Rattle.bus_dictionary.specs.BitName.{NamedBit, named_bit}
-use Rattle.bus_text.specs.Internal.Pages.{Puts}
+use Rattle.bus_text.specs.Pages.{Puts}
 use Rattle.bus_text.specs.Show.{name_text}
 use Rattle.bus_text.proofs.ShowLemmas.{cut_more, names_text_at}
 use Rattle.bus_text.proofs.show.names.put_names.Goals as goal
@@ -39,8 +39,8 @@ put_line-requires g c =
 
 pub returns-in_err-written : goal.returns-in_err-written
 returns-in_err-written g c =
-    let p = err_from_is_err_and c.from_residual.result c.from_residual.ensures.1 in
-    rw (p.1, p.2) (record {
+    let failed = err_from_is_err_and c.from_residual.result c.from_residual.ensures.1 in
+    rw (failed.1, failed.2) (record {
       put = λ start before out is.
           let so_far = c.loop-name.invariant.2 in
           let b = named_bit c.in-Some.name in

@@ -5,7 +5,7 @@ use Rattle.bus_dictionary.specs.BitName.{NamedBit}
 use Rattle.bus_text.specs.Show.{name_text}
 use Rattle.bus_text.proofs.show.names.put_names.Given as goal
 
--- these names are done, and their lines went out behind what was there before
+-- these names are done, and their lines went out after what was there before
 abbrev pub invariant-loop-name : goal.invariant-loop-name
 invariant-loop-name g l =
     (goal.iterator-loop-name g).can_next l.name-iterator

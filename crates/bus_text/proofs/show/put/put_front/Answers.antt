@@ -1,6 +1,6 @@
 use Rattle.std.proofs.Common.{ℕ, List, [], ◌++◌, codes, Err, refl, subst}
 use Rattle.std.proofs.lemmas.Result.{err_from_is_err_and}
-use Rattle.bus_text.specs.Internal.Pages.{Puts}
+use Rattle.bus_text.specs.Pages.{Puts}
 use Rattle.bus_text.specs.Show.{frame_text}
 use Rattle.bus_text.specs.HeadText.{head_text}
 use Rattle.bus_text.proofs.KnownBytesLemmas.{appends_nothing}
@@ -20,10 +20,10 @@ returns-clause-put g c =
 
 pub returns-in_err-sent-clause-put : goal.returns-in_err-sent-clause-put
 returns-in_err-sent-clause-put g c =
-    let p = err_from_is_err_and c.from_residual.result c.from_residual.ensures.1 in
+    let failed = err_from_is_err_and c.from_residual.result c.from_residual.ensures.1 in
     let start = g.W.Write.contents c.args.w.now in
     let now = g.W.Write.contents c.put_line.new.w in
     let front = subst (λ (l : List ℕ). Puts start now l (Err c.in_err-sent.field-0.0)) c.frame_line.ensures
     (c.in_err-sent.ensures.put start [] (appends_nothing start) refl) in
-    rw (p.1, p.2) (cut_more start now (frame_text c.args.octets.now)
+    rw (failed.1, failed.2) (cut_more start now (frame_text c.args.octets.now)
     (head_text c.args.standing c.args.dictionary.now ++ codes "\n") c.in_err-sent.field-0.0 front)

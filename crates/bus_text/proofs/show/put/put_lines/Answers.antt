@@ -5,15 +5,15 @@ use Rattle.std.proofs.lemmas.Result.{err_from_is_err_and}
 use Rattle.std.specs.List.{flat_map}
 use Rattle.bus_dictionary.specs.Standing.{standing}
 use Rattle.bus_dictionary.specs.declared.standing.Standing.{Standing}
-use Rattle.bus_text.specs.Internal.Pages.{Puts}
-use Rattle.bus_text.specs.Show.{frame_text, names_text, name_text, bits_text}
+use Rattle.bus_text.specs.Pages.{Puts}
+use Rattle.bus_text.specs.Show.{frame_text, names_text, name_text, bit_lines}
 use Rattle.bus_text.specs.HeadText.{head_text}
 use Rattle.bus_text.proofs.ShowLemmas.{cut_more, names_few, known_size, shown_front, shown_alone, no_names}
 use Rattle.bus_text.proofs.show.put.put_lines.Goals as goal
 
 pub returns-in_err-sent : goal.returns-in_err-sent
 returns-in_err-sent g c =
-    let p = err_from_is_err_and c.from_residual.result c.from_residual.ensures.1 in
+    let failed = err_from_is_err_and c.from_residual.result c.from_residual.ensures.1 in
     let start = g.W.Write.contents c.args.w.now in
     let now = g.W.Write.contents c.put_front.new.w in
     let octets = c.args.octets.now in
@@ -21,7 +21,8 @@ returns-in_err-sent g c =
     let front =
     subst (λ (s : Standing). Puts start now (frame_text octets ++ (head_text s d ++ codes "\n"))
     (Err c.in_err-sent.field-0.0)) c.read-standing.ensures.value c.in_err-sent.ensures.put in
-    rw (p.1, p.2) (subst (λ (l : List ℕ). Puts start now l (Err c.in_err-sent.field-0.0)) (sym (shown_front octets d))
+    rw (failed.1, failed.2)
+    (subst (λ (l : List ℕ). Puts start now l (Err c.in_err-sent.field-0.0)) (sym (shown_front octets d))
     (cut_more start now (frame_text octets ++ (head_text (standing octets d) d ++ codes "\n"))
     (names_text (standing octets d) octets d) c.in_err-sent.field-0.0 front))
 
@@ -67,7 +68,7 @@ returns-in-Some g c =
     let put = c.put_names.ensures.put start text front.0 front.1 in
     let names : flat_map name_text c.set_names.result ≡ names_text (standing octets d) octets d =
     ap (flat_map name_text) c.set_names.ensures.value
-    ∙ (ap (bits_text octets) c.in-Some.ensures
+    ∙ (ap (bit_lines octets) c.in-Some.ensures
     ∙ ap (λ (s : Standing). names_text s octets d) c.in-Known.ensures.value) in
     subst (λ (l : List ℕ). Puts start now l c.put_names.result)
     (ap (λ (l : List ℕ). text ++ l) names ∙ sym (shown_front octets d)) put

@@ -10,13 +10,13 @@ pub returns-then-not-is_hex-clause-octets : goal.returns-then-not-is_hex-clause-
 returns-then-not-is_hex-clause-octets c =
     let same = c.as_bytes-digits.ensures.value in
     no_hex c.args.hex.now (λ some even all.
-    let t : c.is_hex.result ≡ true =
+    let hex : c.is_hex.result ≡ true =
     c.is_hex.ensures.1 (
       omega (arith, some, ap length same),
       omega (arith, even, ap length same),
       subst (AllPass is_hex_digit) (sym same) all,
     ) in
-    cc t)
+    cc hex)
 
 pub returns-then-count-lt4-clause-octets : goal.returns-then-count-lt4-clause-octets
 returns-then-count-lt4-clause-octets c =

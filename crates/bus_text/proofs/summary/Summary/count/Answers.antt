@@ -25,11 +25,11 @@ returns-else-finding-clause-adds c = λ octets.
     (sym c.if-finding.false)
 
 pub returns-then-finding-clause-counted : goal.returns-then-finding-clause-counted
-returns-then-finding-clause-counted c = λ before octets e.
+returns-then-finding-clause-counted c = λ before octets counted.
     let s = found octets c.args.finding.now in
-    returns-then-finding-clause-adds c octets ∙ ap (with_seen s) e ∙ sym (summary-more before s)
+    returns-then-finding-clause-adds c octets ∙ ap (with_seen s) counted ∙ sym (summary-more before s)
 
 pub returns-else-finding-clause-counted : goal.returns-else-finding-clause-counted
-returns-else-finding-clause-counted c = λ before octets e.
+returns-else-finding-clause-counted c = λ before octets counted.
     let s = found octets c.args.finding.now in
-    returns-else-finding-clause-adds c octets ∙ ap (with_seen s) e ∙ sym (summary-more before s)
+    returns-else-finding-clause-adds c octets ∙ ap (with_seen s) counted ∙ sym (summary-more before s)

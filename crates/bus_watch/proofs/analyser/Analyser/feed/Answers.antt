@@ -1,66 +1,37 @@
-use Rattle.std.proofs.Common.{◌-◌, length, drop, refl, sym, ◌∙◌, arith, subst}
-use Rattle.std.proofs.lemmas.List.{length-take}
-use Rattle.bus_watch.specs.Fed.{Fed, Refused}
-use Rattle.bus_watch.specs.After.{one_line}
-use Rattle.bus_watch.proofs.FedLemmas.{fed-nil, fed-more, refused-after, next, at-ok, at-err}
+use Rattle.std.proofs.Common.{arith}
+use Rattle.bus_watch.proofs.SinkLemmas.{took-none, took-after}
+use Rattle.bus_watch.proofs.FedLemmas.{fed-nil, fed-more, refused-after, next, next-within, at-ok, at-err}
 use Rattle.bus_watch.proofs.analyser.Analyser.feed.Goals as goal
 
 pub loop-consumed-init : goal.loop-consumed-init
-loop-consumed-init g c =
-    record {
-      within = omega arith;
-      fed = fed-nil (one_line g.C.Check.folded g.C.Check.COST) g.S.ReportSink.taken
-          c.args.self.now c.args.sink.now;
-      refusals = refl;
-      room = refl;
-      kept = λ w. w;
-    }
+loop-consumed-init g c = record { within = omega arith; fed = fed-nil; sink = took-none }
 
 pub returns-then-is_err-clause-refused : goal.returns-then-is_err-clause-refused
 returns-then-is_err-clause-refused g c =
-    let f = c.feed_some-fed in
-    let all = next c.args.bits.now c.loop-consumed.consumed f.result.count c.loop-consumed.invariant.within
-    f.ensures.within.1 in
-    let refused = at-err f.result.told c.if-is_err.ensures.value f.ensures.refused in
+    let some = c.feed_some-fed in
+    let before = c.loop-consumed.invariant in
+    let bits = c.args.bits.now in
     record {
-      some = omega (arith, f.ensures.within.0);
-      within =
-          omega (
-            arith,
-            f.ensures.within.1,
-            c.loop-consumed.invariant.within,
-            length-take (length c.args.bits.now - c.loop-consumed.consumed)
-                (drop c.loop-consumed.consumed c.args.bits.now),
-          );
-      refused =
-          subst (λ x. Refused g.C.Check.folded g.C.Check.COST g.S.ReportSink.taken c.args.self.now x f.new.self
-          c.args.sink.now f.new.sink) (sym all)
-          (refused-after g.C.Check.folded g.C.Check.COST g.S.ReportSink.taken _ _ _ _ _ _ _ _
-          c.loop-consumed.invariant.fed refused);
+      some = omega (arith, some.ensures.within.0);
+      within = next-within bits c.loop-consumed.consumed some.result.count before.within some.ensures.within.1;
+      refused = rw (next bits c.loop-consumed.consumed some.result.count before.within some.ensures.within.1)
+          (refused-after before.fed (at-err some.result.told c.if-is_err.ensures.value some.ensures.refused));
     }
+
+pub returns-then-is_err-clause-one_refused : goal.returns-then-is_err-clause-one_refused
+returns-then-is_err-clause-one_refused g c =
+    let some = c.feed_some-fed in
+    took-after c.loop-consumed.invariant.sink
+    (at-err some.result.told c.if-is_err.ensures.value some.ensures.one_refused)
 
 pub loop-consumed-preserved : goal.loop-consumed-preserved
 loop-consumed-preserved g c =
-    let f = c.feed_some-fed in
-    let all = next c.args.bits.now c.loop-consumed.consumed f.result.count c.loop-consumed.invariant.within
-    f.ensures.within.1 in
-    let fed = at-ok f.result.told c.if-is_err.ensures.value f.ensures.fed in
+    let some = c.feed_some-fed in
+    let before = c.loop-consumed.invariant in
+    let bits = c.args.bits.now in
     record {
-      within =
-          omega (
-            arith,
-            f.ensures.within.1,
-            c.loop-consumed.invariant.within,
-            length-take (length c.args.bits.now - c.loop-consumed.consumed)
-                (drop c.loop-consumed.consumed c.args.bits.now),
-          );
-      fed =
-          subst (λ x. Fed g.C.Check.folded g.C.Check.COST g.S.ReportSink.taken c.args.self.now x f.new.self
-          c.args.sink.now f.new.sink) (sym all)
-          (fed-more (one_line g.C.Check.folded g.C.Check.COST) g.S.ReportSink.taken _ _ _ _ _ _ _ _
-          c.loop-consumed.invariant.fed fed);
-      refusals = at-ok f.result.told c.if-is_err.ensures.value f.ensures.none_refused
-          ∙ c.loop-consumed.invariant.refusals;
-      room = f.ensures.room ∙ c.loop-consumed.invariant.room;
-      kept = λ w. at-ok f.result.told c.if-is_err.ensures.value f.ensures.kept (c.loop-consumed.invariant.kept w);
+      within = next-within bits c.loop-consumed.consumed some.result.count before.within some.ensures.within.1;
+      fed = rw (next bits c.loop-consumed.consumed some.result.count before.within some.ensures.within.1)
+          (fed-more before.fed (at-ok some.result.told c.if-is_err.ensures.value some.ensures.fed));
+      sink = took-after before.sink (at-ok some.result.told c.if-is_err.ensures.value some.ensures.none_refused);
     }

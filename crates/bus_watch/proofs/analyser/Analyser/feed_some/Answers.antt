@@ -7,22 +7,20 @@ use Rattle.bus_watch.proofs.analyser.Analyser.feed_some.Goals as goal
 
 pub returns-clause-fed : goal.returns-clause-fed
 returns-clause-fed g c =
-    let n = c.in-Ok.count in
     on_ok_weaker c.hand.result
-    (λ took. fed-word g.C.Check.folded g.C.Check.COST g.S.ReportSink.taken c.args.self.now c.take.new.self
-    c.args.bits.now c.bits_number-word.result c.min-most.result n
-    (option_map (found c.take.new.self.decoder.octets) c.take.new.self.finding) c.args.sink.now c.hand.new.sink
-    c.bits_number-word.ensures.value (omega (arith, c.min-most.ensures, least (length c.args.bits.now) 48))
+    (λ took. fed-word c.args.self.now c.take.new.self c.args.bits.now c.bits_number-word.result c.min-most.result
+    c.in-Ok.count (option_map (found c.take.new.self.decoder.octets) c.take.new.self.finding) c.args.sink.now
+    c.hand.new.sink c.bits_number-word.ensures.value
+    (omega (arith, c.min-most.ensures, least (length c.args.bits.now) 48))
     c.in-Ok.ensures.within.1 c.in-Ok.ensures.sees took)
     c.hand.ensures.took
 
 pub returns-clause-refused : goal.returns-clause-refused
 returns-clause-refused g c =
-    let n = c.in-Ok.count in
     on_err_weaker c.hand.result
-    (λ lost. refused-word g.C.Check.folded g.C.Check.COST g.S.ReportSink.taken c.args.self.now c.take.new.self
-    c.args.bits.now c.bits_number-word.result c.min-most.result n
-    (option_map (found c.take.new.self.decoder.octets) c.take.new.self.finding) c.args.sink.now c.hand.new.sink
-    c.bits_number-word.ensures.value (omega (arith, c.min-most.ensures, least (length c.args.bits.now) 48))
+    (λ lost. refused-word c.args.self.now c.take.new.self c.args.bits.now c.bits_number-word.result c.min-most.result
+    c.in-Ok.count (option_map (found c.take.new.self.decoder.octets) c.take.new.self.finding) c.args.sink.now
+    c.hand.new.sink c.bits_number-word.ensures.value
+    (omega (arith, c.min-most.ensures, least (length c.args.bits.now) 48))
     c.in-Ok.ensures.within.0 c.in-Ok.ensures.within.1 c.in-Ok.ensures.sees c.in-Ok.ensures.before lost)
     c.hand.ensures.lost

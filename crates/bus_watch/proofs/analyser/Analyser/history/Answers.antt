@@ -26,9 +26,9 @@ returns-in-None-clause-lent g c =
     (history-none items c.args.i at)
 
 pub returns-in-Some-clause-value : goal.returns-in-Some-clause-value
-returns-in-Some-clause-value g c = λ b s. returns-in-Some-clause-lent g c
-    ∙ ap (λ (l : List KeptFrame). slice_get l c.args.i) s.journal.history
+returns-in-Some-clause-value g c = λ _ reached. returns-in-Some-clause-lent g c
+    ∙ ap (λ (l : List KeptFrame). slice_get l c.args.i) reached.journal.history
 
 pub returns-in-None-clause-value : goal.returns-in-None-clause-value
-returns-in-None-clause-value g c = λ b s. returns-in-None-clause-lent g c
-    ∙ ap (λ (l : List KeptFrame). slice_get l c.args.i) s.journal.history
+returns-in-None-clause-value g c = λ _ reached. returns-in-None-clause-lent g c
+    ∙ ap (λ (l : List KeptFrame). slice_get l c.args.i) reached.journal.history

@@ -1,4 +1,4 @@
-use Rattle.std.proofs.Common.{◌≡◌, List, Bool, [], ◌∷◌, refl, sym, subst, arith}
+use Rattle.std.proofs.Common.{◌≡◌, [], ◌∷◌, refl, arith}
 use Rattle.std.specs.Option.{option_to_list}
 use Rattle.bus_bits.specs.Octet.{bits_of}
 use Rattle.bus_bits.proofs.OctetLemmas.{one_bit}
@@ -15,15 +15,15 @@ returns g c =
     one_bit c.from.result n c.args.bit c.from.ensures within.0 within.1 in
     let sees : Sees g.C.Check.folded g.C.Check.COST c.args.self.now (c.args.bit ∷ [])
     (option_to_list (shown_option c.lent.result)) c.take.new.self =
-    subst (λ (x : List Bool). Sees g.C.Check.folded g.C.Check.COST c.args.self.now x
-    (option_to_list (shown_option c.lent.result)) c.take.new.self) one
-    (subst (λ o. Sees g.C.Check.folded g.C.Check.COST c.args.self.now (bits_of n c.from.result) (option_to_list o)
-    c.take.new.self) (sym c.lent.ensures.shown) c.in_ok-take.ensures.sees) in (
-      (refl, (λ e. tt), (sees, tt)),
+    rw (← one, c.lent.ensures.shown) c.in_ok-take.ensures.sees in (
+      (refl, (λ _. tt), (sees, tt)),
       record {
-        limit = ((λ e. absurd (cc)), (λ h. absurd (let e = c.in_ok-take.ensures.limit.1 (omega (arith, h)) in cc)));
-        answer = λ b s. answer-is g.C.Check.folded g.C.Check.COST c.args.self.now b c.args.bit
-            (shown_option c.lent.result) c.seen_grows.ensures.grows s (sees.seen b s);
+        limit = (
+          (λ same. absurd (cc)),
+          (λ far. absurd (let refused = c.in_ok-take.ensures.limit.1 (omega (arith, far)) in cc)),
+        );
+        answer = λ b reached. answer-is g.C.Check.folded g.C.Check.COST c.args.self.now b c.args.bit
+            (shown_option c.lent.result) c.seen_grows.ensures.grows reached (sees.seen b reached);
         fits = c.lent.ensures.fits;
         rests = tt;
       },

@@ -20,13 +20,13 @@ hear_octets-requires-clause-room g c = λ place.
 
 pub invariant_of-self-2 : goal.invariant_of-self-2
 invariant_of-self-2 g c =
-    let x = bits_from c.args.octets.now c.args.at c.in_ok-taken.taken in
-    let h = c.in_ok-taken.ensures.hears in
+    let x = bits_from c.args.octets.now c.args.at c.in_ok-intake.intake.count in
+    let h = c.in_ok-intake.ensures.hears in
     let new : AnalyserState g.row.C.Denot =
     record {
       decoder = c.hear_octets.new.decoder;
       journal = journal_state c.hear_octets.new.journal;
-      finding = fresh c.hear_octets.new.has_decided c.hear_octets.new.journal.last;
+      finding = fresh c.in_ok-intake.intake.is_decided c.hear_octets.new.journal.last;
     } in
     let sees = sees-heard g.C.Check.folded g.C.Check.COST (analyser_state c.self.inside) new x _ h in
     record {
@@ -37,29 +37,29 @@ invariant_of-self-2 g c =
     }
 
 pub returns-clause-all : goal.returns-clause-all
-returns-clause-all g c = c.in_ok-taken.ensures.all
+returns-clause-all g c = c.in_ok-intake.ensures.all
 
 pub returns-clause-sees : goal.returns-clause-sees
 returns-clause-sees g c =
-    let x = bits_from c.args.octets.now c.args.at c.in_ok-taken.taken in
-    let told = told_on None c.hear_octets.new.decoder.octets c.hear_octets.new.has_decided
+    let x = bits_from c.args.octets.now c.args.at c.in_ok-intake.intake.count in
+    let told = told_on None c.hear_octets.new.decoder.octets c.in_ok-intake.intake.is_decided
     c.hear_octets.new.journal.last in
     let new : AnalyserState g.row.C.Denot =
     record {
       decoder = c.hear_octets.new.decoder;
       journal = journal_state c.hear_octets.new.journal;
-      finding = fresh c.hear_octets.new.has_decided c.hear_octets.new.journal.last;
+      finding = fresh c.in_ok-intake.intake.is_decided c.hear_octets.new.journal.last;
     } in
     subst (λ a. Sees g.C.Check.folded g.C.Check.COST a x (option_to_list told) new) c.self.view_is
-    (sees-heard g.C.Check.folded g.C.Check.COST (analyser_state c.self.inside) new x told c.in_ok-taken.ensures.hears)
+    (sees-heard g.C.Check.folded g.C.Check.COST (analyser_state c.self.inside) new x told c.in_ok-intake.ensures.hears)
 
 pub returns-clause-before : goal.returns-clause-before
 returns-clause-before g c =
-    let n = c.in_ok-taken.taken in
+    let n = c.in_ok-intake.intake.count in
     let os = c.args.octets.now in
     let x = bits_from os c.args.at (n - 1) in
     let d = c.self.inside.decoder in
-    let hears = c.in_ok-taken.ensures.hears in
+    let hears = c.in_ok-intake.ensures.hears in
     let before = subst (DecideNothing g.C.Check.folded g.C.Check.COST d) (front-from os c.args.at n)
     hears.advances.before in
     subst (λ a. (b : List Bool) → IsAfter g.C.Check.folded g.C.Check.COST a b → seen_after a (b ++ x) ≡ seen_after a b)

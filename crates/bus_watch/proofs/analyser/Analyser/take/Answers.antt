@@ -20,13 +20,13 @@ hear-requires-clause-room g c = λ place.
 
 pub invariant_of-self-2 : goal.invariant_of-self-2
 invariant_of-self-2 g c =
-    let x = bits_of c.in_ok-taken.taken c.args.bits in
-    let h = c.in_ok-taken.ensures.hears in
+    let x = bits_of c.in_ok-intake.intake.count c.args.bits in
+    let h = c.in_ok-intake.ensures.hears in
     let new : AnalyserState g.row.C.Denot =
     record {
       decoder = c.hear.new.decoder;
       journal = journal_state c.hear.new.journal;
-      finding = fresh c.hear.new.is_decided c.hear.new.journal.last;
+      finding = fresh c.in_ok-intake.intake.is_decided c.hear.new.journal.last;
     } in
     let sees = sees-heard g.C.Check.folded g.C.Check.COST (analyser_state c.self.inside) new x _ h in
     record {
@@ -38,26 +38,26 @@ invariant_of-self-2 g c =
 
 pub returns-clause-sees : goal.returns-clause-sees
 returns-clause-sees g c =
-    let x = bits_of c.in_ok-taken.taken c.args.bits in
-    let told = told_on None c.hear.new.decoder.octets c.hear.new.is_decided c.hear.new.journal.last in
+    let x = bits_of c.in_ok-intake.intake.count c.args.bits in
+    let told = told_on None c.hear.new.decoder.octets c.in_ok-intake.intake.is_decided c.hear.new.journal.last in
     let new : AnalyserState g.row.C.Denot =
     record {
       decoder = c.hear.new.decoder;
       journal = journal_state c.hear.new.journal;
-      finding = fresh c.hear.new.is_decided c.hear.new.journal.last;
+      finding = fresh c.in_ok-intake.intake.is_decided c.hear.new.journal.last;
     } in
     subst (λ a. Sees g.C.Check.folded g.C.Check.COST a x (option_to_list told) new) c.self.view_is
-    (sees-heard g.C.Check.folded g.C.Check.COST (analyser_state c.self.inside) new x told c.in_ok-taken.ensures.hears)
+    (sees-heard g.C.Check.folded g.C.Check.COST (analyser_state c.self.inside) new x told c.in_ok-intake.ensures.hears)
 
 pub returns-clause-before : goal.returns-clause-before
 returns-clause-before g c =
-    let n = c.in_ok-taken.taken in
+    let n = c.in_ok-intake.intake.count in
     let x = bits_of (n - 1) c.args.bits in
     let d = c.self.inside.decoder in
     let all = bits_of n c.args.bits in
     let front : take (length all - 1) all ≡ x = ap (λ k. take (k - 1) all) (length-bits n c.args.bits)
     ∙ bits-front (n - 1) n c.args.bits (omega arith) in
-    let hears = c.in_ok-taken.ensures.hears in
+    let hears = c.in_ok-intake.ensures.hears in
     let before = subst (DecideNothing g.C.Check.folded g.C.Check.COST d) front hears.advances.before in
     subst (λ a. (b : List Bool) → IsAfter g.C.Check.folded g.C.Check.COST a b → seen_after a (b ++ x) ≡ seen_after a b)
     c.self.view_is
@@ -66,5 +66,5 @@ returns-clause-before g c =
 pub returns-clause-stops : goal.returns-clause-stops
 returns-clause-stops g c =
     subst (λ a. (b : List Bool) → IsAfter g.C.Check.folded g.C.Check.COST a b →
-    TakesTo b (bits_of c.args.count c.args.bits) c.in_ok-taken.taken) c.self.view_is
-    (λ b s. c.in_ok-taken.ensures.stops b s.decoder)
+    TakesTo b (bits_of c.args.count c.args.bits) c.in_ok-intake.intake.count) c.self.view_is
+    (λ b s. c.in_ok-intake.ensures.stops b s.decoder)

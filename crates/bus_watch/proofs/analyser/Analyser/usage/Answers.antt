@@ -13,5 +13,5 @@ returns-clause-headline g c =
       ledger = c.spent.ensures.ledger;
       seventeen = c.spent.ensures.seventeen;
       four = c.spent.ensures.four;
-      three = λ one b s. (c.spent.ensures.three one b s).1;
+      three = λ cheap b reached. (c.spent.ensures.three cheap b reached).1;
     })

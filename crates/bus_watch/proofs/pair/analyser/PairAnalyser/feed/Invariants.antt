@@ -1,7 +1,7 @@
-use Rattle.std.proofs.Common.{◌≡◌, ◌≤◌, ◌-◌, length, take}
+use Rattle.std.proofs.Common.{◌≤◌, ◌-◌, length, take}
 use Rattle.bus_watch.specs.Fed.{FedBy}
 use Rattle.bus_watch.specs.Pairs.{two_lines}
-use Rattle.bus_watch.specs.Sink.{IsWithinRoom}
+use Rattle.bus_watch.specs.Sink.{SinkTook}
 use Rattle.bus_watch.proofs.pair.analyser.PairAnalyser.feed.Given as goal
 
 -- the sink took what is seen at the pairs so far
@@ -10,10 +10,7 @@ invariant-loop-consumed g l = record {
   within : l.consumed ≤ length l.fn.pairs;
   fed : FedBy (two_lines g.C.Check.folded g.C.Check.COST) g.S.PairSink.taken l.fn.self (take l.consumed l.fn.pairs)
       l.self l.fn.sink l.sink;
-  refusals : g.S.PairSink.refusals l.sink ≡ g.S.PairSink.refusals l.fn.sink;
-  room : g.S.PairSink.room l.sink ≡ g.S.PairSink.room l.fn.sink;
-  kept : IsWithinRoom (g.S.PairSink.room l.fn.sink) (g.S.PairSink.taken l.fn.sink) →
-      IsWithinRoom (g.S.PairSink.room l.sink) (g.S.PairSink.taken l.sink);
+  sink : SinkTook g.S.PairSink.taken g.S.PairSink.room g.S.PairSink.refusals 0 l.fn.sink l.sink;
 }
 
 abbrev pub decreases-loop-consumed : goal.decreases-loop-consumed

@@ -4,16 +4,17 @@ use Rattle.bus_watch.proofs.pair.analyser.PairAnalyser.new.Goals as goal
 
 pub invariant_of-result : goal.invariant_of-result
 invariant_of-result g c =
-    let j = c.in-Ok-new-2.ensures in
+    let made = c.in-Ok-new-2.ensures in
     record {
-      depth = omega (arith, j.given.1, c.if-depth-gt1024.false);
+      depth = omega (arith, made.given.1, c.if-depth-gt1024.false);
       pairs = [];
       reached = record {
         first = c.in-Ok.ensures.after;
         second = c.in-Ok-new.ensures.after;
         origin = c.in-Ok-new.ensures.given.1 ∙ sym c.in-Ok.ensures.given.1;
-        longest = c.in-Ok.ensures.given.0 ∙ c.longest-longest.ensures.value ∙ ap longest_of (sym j.given.0);
-        longest_second = c.in-Ok-new.ensures.given.0 ∙ c.longest-longest.ensures.value ∙ ap longest_of (sym j.given.0);
-        journal = j.keeps;
+        longest = c.in-Ok.ensures.given.0 ∙ c.longest-longest.ensures.value ∙ ap longest_of (sym made.given.0);
+        longest_second = c.in-Ok-new.ensures.given.0 ∙ c.longest-longest.ensures.value
+            ∙ ap longest_of (sym made.given.0);
+        journal = made.keeps;
       };
     }

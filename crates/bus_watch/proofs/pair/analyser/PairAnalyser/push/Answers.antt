@@ -1,5 +1,4 @@
-use Rattle.std.proofs.Common.{◌≡◌, List, Bool, [], ◌∷◌, refl, sym, subst, arith}
-use Rattle.bus_watch.specs.Seen.{SeenReport}
+use Rattle.std.proofs.Common.{◌≡◌, [], ◌∷◌, refl, arith}
 use Rattle.bus_watch.specs.Heard.{pairs_of}
 use Rattle.bus_watch.specs.PairShown.{shown_pair}
 use Rattle.bus_watch.specs.Pairs.{SeesPairs}
@@ -15,16 +14,16 @@ returns g c =
     within.1 in
     let sees : SeesPairs g.C.Check.folded g.C.Check.COST c.args.self.now ((c.args.first, c.args.second) ∷ [])
     (shown_pair c.seen.result) c.take.new.self =
-    subst (λ (x : List (Bool × Bool)). SeesPairs g.C.Check.folded g.C.Check.COST c.args.self.now x
-    (shown_pair c.seen.result) c.take.new.self) one
-    (subst (λ (told : List SeenReport). SeesPairs g.C.Check.folded g.C.Check.COST c.args.self.now
-    (pairs_of n c.from.result c.from-2.result) told c.take.new.self) (sym c.seen.ensures.shown)
-    c.in_ok-take.ensures.sees) in (
-      (refl, (λ e. tt), (sees, tt)),
+    rw (← one, c.seen.ensures.shown) c.in_ok-take.ensures.sees in (
+      (refl, (λ _. tt), (sees, tt)),
       record {
-        limit = ((λ e. absurd (cc)), (λ h. absurd (let e = c.in_ok-take.ensures.limit.1 (omega (arith, h)) in cc)));
-        answer = λ ps t. answer-pair g.C.Check.folded g.C.Check.COST c.args.self.now ps (c.args.first, c.args.second)
-            (shown_pair c.seen.result) c.pairs_grow.ensures.grows t (sees.seen ps t);
+        limit = (
+          (λ same. absurd (cc)),
+          (λ far. absurd (let refused = c.in_ok-take.ensures.limit.1 (omega (arith, far)) in cc)),
+        );
+        answer = λ ps reached. answer-pair g.C.Check.folded g.C.Check.COST c.args.self.now ps
+            (c.args.first, c.args.second) (shown_pair c.seen.result) c.pairs_grow.ensures.grows reached
+            (sees.seen ps reached);
         fits = (c.seen.ensures.first_fits, c.seen.ensures.second_fits);
         rests = tt;
       },

@@ -53,11 +53,11 @@ loop-at-preserved g c =
           (rw (zip-met c.args.first.now c.args.second.now i n)
           (leads-further (two_lines g.C.Check.folded g.C.Check.COST) c.args.self.now c.loop-at.self scanned.new.self _ _
           _ _ _ before last
-          (λ ss ts p q. g.met.L.PairListener.hears_more c.args.self.now.journal.dictionary c.args.listener.now
+          (λ ss ts first next. g.met.L.PairListener.hears_more c.args.self.now.journal.dictionary c.args.listener.now
           c.loop-at.listener scanned.new.listener
-          c.args.out.now c.loop-at.out scanned.new.out ss ts p
+          c.args.out.now c.loop-at.out scanned.new.out ss ts first
           (subst (λ d. g.L.PairListener.hears d c.loop-at.listener c.loop-at.out ts scanned.new.listener
-          scanned.new.out) dictionary q))));
+          scanned.new.out) dictionary next))));
       room = scanned.ensures.left;
       none =
           (scanned.ensures.found.0 ∙ c.loop-at.invariant.none.0, scanned.ensures.found.1 ∙ c.loop-at.invariant.none.1);

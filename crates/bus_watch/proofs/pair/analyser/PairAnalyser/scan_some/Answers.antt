@@ -1,7 +1,6 @@
-use Rattle.std.proofs.Common.{◌≡◌, ◌+◌, ◌-◌, ◌*◌, ◌++◌, ℕ, List, Bool, length, zip, Option, Some, None, true}
-use Rattle.std.proofs.Common.{refl, sym, ap, ◌∙◌, subst, append-nil, arith}
+use Rattle.std.proofs.Common.{◌≡◌, ◌+◌, ◌-◌, ◌*◌, ◌++◌, ℕ, List, Bool, length, zip, Option, Some, None, true, refl, sym}
+use Rattle.std.proofs.Common.{ap, ◌∙◌, subst, append-nil, arith}
 use Rattle.std.specs.Option.{option_to_list, option_map}
-use Rattle.std.proofs.lemmas.List.{length-map}
 use Rattle.bus_bits.specs.Bits.{bits_from}
 use Rattle.bus_bits.proofs.BitLemmas.{length-from}
 use Rattle.bus_line.specs.After.{Advances}
@@ -21,6 +20,7 @@ use Rattle.bus_watch.proofs.AfterLemmas.{hears-none, hears-some}
 use Rattle.bus_watch.proofs.AnalyserViewLemmas.{whole}
 use Rattle.bus_watch.proofs.PairScanLemmas.{leads-scanned, pairs-reach, reaches-room}
 use Rattle.bus_watch.proofs.pair.analyser.PairAnalyser.scan_some.Given.{Over}
+use Rattle.bus_watch.proofs.MergedLemmas.{length-firsts}
 use Rattle.bus_watch.proofs.pair.analyser.PairAnalyser.scan_some.Goals as goal
 
 pub follow-requires-clause-reaches : goal.follow-requires-clause-reaches
@@ -34,7 +34,7 @@ follow-requires-clause-reaches g c =
       ap (λ (a : PairState g.row.C.Denot). a.first.place) c.self.view_is,
       c.requires.places,
       reached.first.has_taken.place,
-      length-map ps (λ (q : Bool × Bool). q.0),
+      length-firsts ps,
     ))
 
 pub take-requires-clause-whole : goal.take-requires-clause-whole
@@ -120,7 +120,7 @@ leads-on : (g : Over) (c : goal.After-tell g) (told : List SeenReport → Type 0
     told (c.follow.ensures.hears.seen_now ++ option_to_list (last-seen g c))
     → LeadsTold (two_lines g.C.Check.folded g.C.Check.COST) (pair_state c.self.inside) (pairs-taken g c)
     (with-report g c) told
-leads-on g c told t =
+leads-on g c told all_told =
     let folded = g.C.Check.folded in
     let cost = g.C.Check.COST in
     let n = c.in-Ok.scanned.count in
@@ -143,7 +143,7 @@ leads-on g c told t =
     leads-scanned folded cost (pair_state c.self.inside) (with-report g c) before
     c.args.first.now c.args.second.now c.args.from (c.args.from + n - c.args.from) (last-seen g c) _ told
     c.reports_grow.ensures.stays c.reports_grow.ensures.more c.reports_grow.ensures.grow
-    (omega (arith, c.in-Ok.ensures.count)) c.follow.ensures.hears (rw all heard) t
+    (omega (arith, c.in-Ok.ensures.count)) c.follow.ensures.hears (rw all heard) all_told
 
 pub invariant_of-self : goal.invariant_of-self
 invariant_of-self g c = record {
@@ -188,7 +188,7 @@ pairs-passed g c =
 passes-on : (g : Over) (c : goal.In_default g) (told : List SeenReport → Type 0) → told c.follow.ensures.hears.seen_now
     → LeadsTold (two_lines g.C.Check.folded g.C.Check.COST) (pair_state c.self.inside) (pairs-passed g c)
     (without-report g c) told
-passes-on g c told t =
+passes-on g c told all_told =
     let folded = g.C.Check.folded in
     let cost = g.C.Check.COST in
     let n = c.in-Ok.scanned.count in
@@ -204,7 +204,7 @@ passes-on g c told t =
     c.args.first.now c.args.second.now c.args.from (c.args.from + n - c.args.from) None _ told
     c.reports_grow.ensures.stays c.reports_grow.ensures.more c.reports_grow.ensures.grow
     (omega (arith, c.in-Ok.ensures.count)) c.follow.ensures.hears (rw all heard)
-    (subst told (sym (append-nil c.follow.ensures.hears.seen_now)) t)
+    (rw (append-nil c.follow.ensures.hears.seen_now) all_told)
 
 pub invariant_of-self-in_default : goal.invariant_of-self-in_default
 invariant_of-self-in_default g c = record {

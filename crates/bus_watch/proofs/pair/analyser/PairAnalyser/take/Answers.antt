@@ -1,23 +1,23 @@
-use Rattle.std.proofs.Common.{◌≡◌, ◌-◌, ◌*◌, ◌%◌, ◌^◌, ◌++◌, List, Bool, min, sym, ap, ◌∙◌, subst, arith}
-use Rattle.std.proofs.lemmas.List.{length-map}
+use Rattle.std.proofs.Common.{◌-◌, ◌*◌, ◌%◌, ◌^◌, ◌++◌, sym, ap, ◌∙◌, arith}
 use Rattle.bus_bits.specs.Octet.{bits_of}
 use Rattle.bus_bits.proofs.OctetLemmas.{length-bits, least}
 use Rattle.bus_watch.specs.Heard.{firsts, seconds, pairs_of}
 use Rattle.bus_watch.specs.Internal.JournalState.{journal_state}
 use Rattle.bus_watch.specs.Internal.PairView.{pair_state}
-use Rattle.bus_watch.specs.Pairs.{PairState, IsAfterPairs, SeesPairs, TakesPairsTo, heard_pair, seen_after_pairs}
-use Rattle.bus_watch.proofs.PairLemmas.{decides-front, takes-least, sees-words, words-before, room-first, room-second}
+use Rattle.bus_watch.specs.Pairs.{PairState}
+use Rattle.bus_watch.proofs.PairLemmas.{decides-front, takes-least, room-first, room-second}
+use Rattle.bus_watch.proofs.PairScanLemmas.{sees-words, words-before}
+use Rattle.bus_watch.proofs.MergedLemmas.{length-firsts}
 use Rattle.bus_watch.proofs.pair.analyser.PairAnalyser.take.Goals as goal
 
 pub hear_all-self-inside-requires-clause-calm : goal.hear_all-self-inside-requires-clause-calm
-hear_all-self-inside-requires-clause-calm g c = λ b h i l m.
+hear_all-self-inside-requires-clause-calm g c = λ b reached i before decides.
     let n = c.min-taken.result in
-    let e : n ≡ min c.would_take-first_takes.result c.would_take-second_takes.result =
-    c.min-taken.ensures ∙ least c.would_take-first_takes.result c.would_take-second_takes.result in
-    (c.would_take-first_takes.ensures.stops b h).before i (omega (arith, l, e))
+    let fewer = c.min-taken.ensures ∙ least c.would_take-first_takes.result c.would_take-second_takes.result in
+    (c.would_take-first_takes.ensures.stops b reached).before i (omega (arith, before, fewer))
     (decides-front b i n c.args.count c.args.first
-    (omega (arith, e, c.would_take-first_takes.ensures.within, c.requires.few))
-    (omega (arith, e, c.would_take-first_takes.ensures.within)) (omega (arith, l)) m)
+    (omega (arith, fewer, c.would_take-first_takes.ensures.within, c.requires.few))
+    (omega (arith, fewer, c.would_take-first_takes.ensures.within)) (omega (arith, before)) decides)
 
 pub hear_all-self-inside-requires-clause-room : goal.hear_all-self-inside-requires-clause-room
 hear_all-self-inside-requires-clause-room g c =
@@ -30,25 +30,23 @@ hear_all-self-inside-requires-clause-room g c =
       place,
       ap (λ (a : PairState g.row.C.Denot). a.first.place) c.self.view_is,
       c.self.invariant.reached.first.has_taken.place,
-      length-map ps (λ (q : Bool × Bool). q.0),
+      length-firsts ps,
     ))
 
 pub hear_all-self-inside-requires-2-clause-calm : goal.hear_all-self-inside-requires-2-clause-calm
-hear_all-self-inside-requires-2-clause-calm g c = λ b h i l m.
+hear_all-self-inside-requires-2-clause-calm g c = λ b reached i before decides.
     let n = c.min-taken.result in
-    let e : n ≡ min c.would_take-first_takes.result c.would_take-second_takes.result =
-    c.min-taken.ensures ∙ least c.would_take-first_takes.result c.would_take-second_takes.result in
-    (c.would_take-second_takes.ensures.stops b h).before i (omega (arith, l, e))
+    let fewer = c.min-taken.ensures ∙ least c.would_take-first_takes.result c.would_take-second_takes.result in
+    (c.would_take-second_takes.ensures.stops b reached).before i (omega (arith, before, fewer))
     (decides-front b i n c.args.count c.args.second
-    (omega (arith, e, c.would_take-second_takes.ensures.within, c.requires.few))
-    (omega (arith, e, c.would_take-second_takes.ensures.within)) (omega (arith, l)) m)
+    (omega (arith, fewer, c.would_take-second_takes.ensures.within, c.requires.few))
+    (omega (arith, fewer, c.would_take-second_takes.ensures.within)) (omega (arith, before)) decides)
 
 pub hear_all-self-inside-requires-2-clause-room : goal.hear_all-self-inside-requires-2-clause-room
 hear_all-self-inside-requires-2-clause-room g c =
     let ps = c.self.invariant.pairs in
     let n = c.min-taken.result in
-    let e : n ≡ min c.would_take-first_takes.result c.would_take-second_takes.result =
-    c.min-taken.ensures ∙ least c.would_take-first_takes.result c.would_take-second_takes.result in
+    let fewer = c.min-taken.ensures ∙ least c.would_take-first_takes.result c.would_take-second_takes.result in
     let place = c.has_room.ensures.0 c.if-not-has_room.false in
     room-second g.C.Check.folded g.C.Check.COST (pair_state c.self.inside) c.hear_all-self-inside.new.decoder
     (journal_state c.hear_all-self-inside.new.journal) _ _ ps c.settled_places.ensures.frames
@@ -59,9 +57,9 @@ hear_all-self-inside-requires-2-clause-room g c =
       place,
       ap (λ (a : PairState g.row.C.Denot). a.first.place) c.self.view_is,
       c.self.invariant.reached.first.has_taken.place,
-      length-map ps (λ (q : Bool × Bool). q.0),
+      length-firsts ps,
       length-bits n (c.args.first % (1 * 2 ^ n % 2 ^ 64)),
-      e,
+      fewer,
       c.would_take-first_takes.ensures.within,
     ))
 
@@ -69,25 +67,21 @@ pub returns-clause-stops : goal.returns-clause-stops
 returns-clause-stops g c =
     let n1 = c.would_take-first_takes.result in
     let n2 = c.would_take-second_takes.result in
-    let n = c.min-taken.result in
     let x = bits_of c.args.count c.args.first in
     let y = bits_of c.args.count c.args.second in
-    let e : n ≡ min n1 n2 = c.min-taken.ensures ∙ least n1 n2 in
-    subst (λ a. (ps : List (Bool × Bool)) → IsAfterPairs g.C.Check.folded g.C.Check.COST a ps →
-    TakesPairsTo (firsts ps) (seconds ps) x y n) c.self.view_is
-    (λ ps t. subst (TakesPairsTo (firsts ps) (seconds ps) x y) (sym e)
+    rw (← c.self.view_is)
+    (λ ps reached. rw (c.min-taken.ensures ∙ least n1 n2)
     (takes-least (firsts ps) (seconds ps) x y n1 n2
     (length-bits c.args.count c.args.first ∙ sym (length-bits c.args.count c.args.second))
-    (c.would_take-first_takes.ensures.stops (firsts ps) t.first)
-    (c.would_take-second_takes.ensures.stops (seconds ps) t.second)))
+    (c.would_take-first_takes.ensures.stops (firsts ps) reached.first)
+    (c.would_take-second_takes.ensures.stops (seconds ps) reached.second)))
 
 pub invariant_of-self : goal.invariant_of-self
 invariant_of-self g c =
     let n = c.min-taken.result in
-    let e : n ≡ min c.would_take-first_takes.result c.would_take-second_takes.result =
-    c.min-taken.ensures ∙ least c.would_take-first_takes.result c.would_take-second_takes.result in
-    let h1 = c.hear_all-self-inside.ensures in
-    let h2 = c.hear_all-self-inside-2.ensures in
+    let fewer = c.min-taken.ensures ∙ least c.would_take-first_takes.result c.would_take-second_takes.result in
+    let first = c.hear_all-self-inside.ensures in
+    let second = c.hear_all-self-inside-2.ensures in
     let new : PairState g.row.C.Denot =
     record {
       first = c.hear_all-self-inside.new.decoder;
@@ -100,56 +94,30 @@ invariant_of-self g c =
     let sees = sees-words g.C.Check.folded g.C.Check.COST n c.args.first c.args.second (pair_state c.self.inside) new
     (journal_state c.hear_all-self-inside.new.journal) _ _ c.reports_grow.ensures.stays c.reports_grow.ensures.more
     c.reports_grow.ensures.grow
-    (omega (arith, e, c.would_take-first_takes.ensures.within, c.would_take-second_takes.ensures.within))
-    (omega (arith, e, c.would_take-first_takes.ensures.within, c.requires.few)) h1 h2 in
+    (omega (arith, fewer, c.would_take-first_takes.ensures.within, c.would_take-second_takes.ensures.within))
+    (omega (arith, fewer, c.would_take-first_takes.ensures.within, c.requires.few)) first second in
     record {
-      depth = omega (arith, c.self.invariant.depth, h1.depth, h2.depth);
+      depth = omega (arith, c.self.invariant.depth, first.depth, second.depth);
       pairs = c.self.invariant.pairs ++ pairs_of n c.args.first c.args.second;
       reached = sees.is_after c.self.invariant.pairs c.self.invariant.reached;
     }
 
 pub returns-clause-sees : goal.returns-clause-sees
 returns-clause-sees g c =
-    let n = c.min-taken.result in
-    let e : n ≡ min c.would_take-first_takes.result c.would_take-second_takes.result =
-    c.min-taken.ensures ∙ least c.would_take-first_takes.result c.would_take-second_takes.result in
-    let new : PairState g.row.C.Denot =
-    record {
-      first = c.hear_all-self-inside.new.decoder;
-      second = c.hear_all-self-inside-2.new.decoder;
-      journal = journal_state c.hear_all-self-inside-2.new.journal;
-      found_first =
-          c.hear_all-self-inside.result;
-      found_second = c.hear_all-self-inside-2.result;
-    } in
-    subst (λ a. SeesPairs g.C.Check.folded g.C.Check.COST a (pairs_of n c.args.first c.args.second) (heard_pair new)
-    new) c.self.view_is
-    (sees-words g.C.Check.folded g.C.Check.COST n c.args.first c.args.second (pair_state c.self.inside) new
-    (journal_state c.hear_all-self-inside.new.journal) _ _ c.reports_grow.ensures.stays c.reports_grow.ensures.more
-    c.reports_grow.ensures.grow
-    (omega (arith, e, c.would_take-first_takes.ensures.within, c.would_take-second_takes.ensures.within))
-    (omega (arith, e, c.would_take-first_takes.ensures.within, c.requires.few)) c.hear_all-self-inside.ensures
+    let fewer = c.min-taken.ensures ∙ least c.would_take-first_takes.result c.would_take-second_takes.result in
+    rw (← c.self.view_is)
+    (sees-words g.C.Check.folded g.C.Check.COST c.min-taken.result c.args.first c.args.second
+    (pair_state c.self.inside) _ (journal_state c.hear_all-self-inside.new.journal) _ _ c.reports_grow.ensures.stays
+    c.reports_grow.ensures.more c.reports_grow.ensures.grow
+    (omega (arith, fewer, c.would_take-first_takes.ensures.within, c.would_take-second_takes.ensures.within))
+    (omega (arith, fewer, c.would_take-first_takes.ensures.within, c.requires.few)) c.hear_all-self-inside.ensures
     c.hear_all-self-inside-2.ensures)
 
 pub returns-clause-before : goal.returns-clause-before
 returns-clause-before g c =
-    let n = c.min-taken.result in
-    let e : n ≡ min c.would_take-first_takes.result c.would_take-second_takes.result =
-    c.min-taken.ensures ∙ least c.would_take-first_takes.result c.would_take-second_takes.result in
-    let new : PairState g.row.C.Denot =
-    record {
-      first = c.hear_all-self-inside.new.decoder;
-      second = c.hear_all-self-inside-2.new.decoder;
-      journal = journal_state c.hear_all-self-inside-2.new.journal;
-      found_first =
-          c.hear_all-self-inside.result;
-      found_second = c.hear_all-self-inside-2.result;
-    } in
-    subst (λ a. (ps : List (Bool × Bool)) → IsAfterPairs g.C.Check.folded g.C.Check.COST a ps →
-    seen_after_pairs a (ps ++ pairs_of (n - 1) c.args.first c.args.second) ≡ seen_after_pairs a ps) c.self.view_is
-    (words-before g.C.Check.folded g.C.Check.COST n c.args.first c.args.second (pair_state c.self.inside) new
-    (journal_state c.hear_all-self-inside.new.journal) _ _ c.reports_grow.ensures.stays c.reports_grow.ensures.more
-    c.reports_grow.ensures.grow
-    (omega (arith, e, c.would_take-first_takes.ensures.within, c.would_take-second_takes.ensures.within))
-    (omega (arith, e, c.would_take-first_takes.ensures.within, c.requires.few)) c.hear_all-self-inside.ensures
-    c.hear_all-self-inside-2.ensures)
+    let fewer = c.min-taken.ensures ∙ least c.would_take-first_takes.result c.would_take-second_takes.result in
+    rw (← c.self.view_is)
+    (words-before g.C.Check.folded g.C.Check.COST c.min-taken.result c.args.first c.args.second
+    (pair_state c.self.inside) c.reports_grow.ensures.stays c.reports_grow.ensures.more c.reports_grow.ensures.grow
+    (omega (arith, fewer, c.would_take-first_takes.ensures.within, c.requires.few))
+    c.hear_all-self-inside.ensures.advances.before c.hear_all-self-inside-2.ensures.advances.before)

@@ -20,5 +20,5 @@ returns-clause-headline g c =
       ledger = c.spent.ensures.ledger;
       seventeen = c.spent.ensures.seventeen;
       four = c.spent.ensures.four;
-      three = λ one ps s. (c.spent.ensures.three one ps s).1;
+      three = λ cheap ps reached. (c.spent.ensures.three cheap ps reached).1;
     })

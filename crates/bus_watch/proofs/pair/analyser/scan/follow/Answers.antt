@@ -20,8 +20,8 @@ loop-at-init g c = record {
   reaches = c.requires.reaches;
 }
 
-pub hear_octets-heard-requires-clause-room : goal.hear_octets-heard-requires-clause-room
-hear_octets-heard-requires-clause-room g c = λ below.
+pub hear_octets-requires-clause-room : goal.hear_octets-requires-clause-room
+hear_octets-requires-clause-room g c = λ below.
     reaches-room g.C.Check.folded g.C.Check.COST c.loop-at.decoder (journal_state c.loop-at.journal)
     c.settled_places.ensures.frames c.settled_places.ensures.paid c.settled_places.ensures.within
     c.loop-at.invariant.reaches (omega (arith, below))
@@ -49,12 +49,12 @@ tell-requires-clause-room g c =
 
 pub loop-at-preserved : goal.loop-at-preserved
 loop-at-preserved g c =
-    let n = c.in-Ok.count in
+    let n = c.in-Ok.intake.count in
     let i = c.loop-at.at in
     let before = c.loop-at.invariant in
     let heard = c.in-Ok.ensures.hears in
-    let last = told_on (Some First) c.hear_octets-heard.new.decoder.octets c.hear_octets-heard.new.has_decided
-    c.hear_octets-heard.new.journal.last in
+    let last = told_on (Some First) c.hear_octets.new.decoder.octets c.in-Ok.intake.is_decided
+    c.hear_octets.new.journal.last in
     let dictionary = c.dictionary.ensures ∙ (heard.dictionary ∙ before.hears.dictionary) in
     let told : g.L.PairListener.hears c.args.journal.now.dictionary c.loop-at.listener c.loop-at.out
     (option_to_list last) c.tell.new.listener c.tell.new.out =
@@ -64,9 +64,9 @@ loop-at-preserved g c =
       within = omega (arith, c.in-Ok.ensures.within.1, c.loop-at-test.true);
       hears = rw (bits-met c.args.octets.now c.args.from i n before.some)
           (hears-more g.C.Check.folded g.C.Check.COST (Some First) c.args.decoder.now c.loop-at.decoder
-          c.hear_octets-heard.new.decoder
+          c.hear_octets.new.decoder
           (journal_state c.args.journal.now) (journal_state c.loop-at.journal)
-          (journal_state c.hear_octets-heard.new.journal)
+          (journal_state c.hear_octets.new.journal)
           (bits_from c.args.octets.now c.args.from (i - c.args.from)) (bits_from c.args.octets.now i n) last _ _
           (omega (arith, length-from c.args.octets.now i n, c.in-Ok.ensures.within.0)) before.hears heard
           (g.met.L.PairListener.hears_more c.args.journal.now.dictionary c.args.listener.now c.loop-at.listener
@@ -79,8 +79,8 @@ loop-at-preserved g c =
           (g.met.L.PairListener.has_less c.loop-at.listener (c.args.past - i + more) (1 + left)
           (omega (arith, c.in-Ok.ensures.within, c.loop-at-test.true)) (before.left more room));
       reaches = reaches-more g.C.Check.folded g.C.Check.COST (Some First) c.loop-at.decoder
-          c.hear_octets-heard.new.decoder
-          (journal_state c.loop-at.journal) (journal_state c.hear_octets-heard.new.journal)
+          c.hear_octets.new.decoder
+          (journal_state c.loop-at.journal) (journal_state c.hear_octets.new.journal)
           (bits_from c.args.octets.now i n) last before.reaches heard;
     }
 

@@ -11,7 +11,7 @@ use Rattle.bus_line.specs.declared.decoder.look.Found.TheVariants.{Closing, Seve
 use Rattle.bus_line.proofs.DecideLemmas.{closing, seven, fifteen, other, tracks-flag, tracks-abort, ones_within}
 use Rattle.bus_line.proofs.DecideLemmas.{found-here}
 use Rattle.bus_line.proofs.WordsLemmas.{first-at}
-use Rattle.bus_line.proofs.line_words.LineWords.decide.Goals as goal
+use Rattle.bus_line.proofs.line_words.LineWords.decide_here.Goals as goal
 
 pub returns-in-Closing-clause-answer : goal.returns-in-Closing-clause-answer
 returns-in-Closing-clause-answer g c = λ cells b bit h.
@@ -32,8 +32,9 @@ returns-in-Closing-clause-after g c = λ cells b bit h.
     found-here (state c.args.self.now c.args.check.now cells) _ refl b bit h.has_taken Closing
     c.in-Closing.ensures.found in
     subst (Tracks g.C.Check.folded g.C.Check.COST _ bits) (sym (closing 3 b bit found).leaves)
-    (subst (λ (o : Option ℕ). Tracks g.C.Check.folded g.C.Check.COST (record d { first = o; gathered = 0; rest = 0 })
-    bits (FlagAt (length b - 7))) (sym (first-at d.place c.requires.within.place_fits))
+    (subst (λ (o : Option ℕ).
+    Tracks g.C.Check.folded g.C.Check.COST (record d { first = o; data_bits = 0; partial = 0 }) bits
+    (FlagAt (length b - 7))) (sym (first-at d.place c.requires.within.place_fits))
     (tracks-flag _ _ d bits (current b) (length b - 7) h (omega (arith, n, found.2))))
 
 pub returns-in-Seven-clause-answer : goal.returns-in-Seven-clause-answer

@@ -1,6 +1,7 @@
 -- A text that is written by and by.
-use Rattle.std.specs.Prelude.{◌≡◌, ◌++◌, ◌≤◌, ℕ, List, length, take, Option, Result, Ok, Err}
+use Rattle.std.specs.Prelude.{◌≡◌, ◌+◌, ◌++◌, ◌≤◌, ℕ, List, length, take, Option, Result, Ok, Err}
 use Rattle.std.specs.Io.KnownBytes.{Appends}
+use Rattle.bus_text.specs.declared.page.Page.{Page}
 use Rattle.bus_text.specs.declared.put.ShortWrite.{ShortWrite}
 
 -- the writer went from `start` to `now`: with Ok by the whole text, and else by a front of it
@@ -14,3 +15,7 @@ pub record Pages (start now : Option (List ℕ)) (page : List ℕ) (written : �
   pub out : Appends start now sent
   pub count : written ≡ length sent
   pub whole : text ≡ sent ++ page
+
+-- a page, which holds 16384 octets, has room for so many more
+abbrev pub HasRoomFor : ℕ → Page → Type 0
+HasRoomFor more page = length page.text + more ≤ 16384

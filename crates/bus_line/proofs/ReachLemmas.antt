@@ -1,0 +1,180 @@
+-- Bits of a piece, and the one after six ones.
+use Rattle.std.proofs.Common.{◌≡◌, ◌≢◌, ℕ, ◌+◌, ◌-◌, ◌*◌, ◌/◌, ◌%◌, ◌^◌, ◌≤◌, ◌<◌, ◌++◌, List, [], ◌∷◌, Bool, true}
+use Rattle.std.proofs.Common.{false, Option, None, ap, refl, sym, subst, ◌∙◌, length, length-append, take, get_or}
+use Rattle.std.proofs.Common.{arith}
+use Rattle.std.specs.Prelude.{bit_or}
+use Rattle.std.specs.Option.{option_map, option_to_list}
+use Rattle.std.proofs.lemmas.List.{append-nil, append_assoc, take_all}
+use Rattle.bus_bits.specs.Bits.{bits_from}
+use Rattle.bus_bits.specs.Octet.{bits_of}
+use Rattle.bus_bits.proofs.BitLemmas.{bits-more, bits-taken}
+use Rattle.bus_bits.proofs.OctetLemmas.{bits-front, length-bits}
+use Rattle.bus_line.specs.Report.{Report, moved}
+use Rattle.bus_line.specs.Due.{current, due_at, placed}
+use Rattle.bus_line.specs.After.{Advances, After, DecideNothing, Tells}
+use Rattle.bus_line.specs.Internal.LineState.{LineState}
+use Rattle.bus_line.specs.Internal.Reaches.{Reaches, ReachesTo}
+use Rattle.bus_line.specs.Internal.Settled.{IsCalm}
+use Rattle.bus_line.specs.Internal.Tracks.{HasTaken, Tracks}
+use Rattle.bus_line.proofs.DueMoreLemmas.{placed-more}
+use Rattle.bus_line.proofs.AdvanceLemmas.{calm-after, calm-before, calm-placed, tracks-last}
+use Rattle.bus_line.proofs.QuietLemmas.{last-bits-small, no-stop, word-behind, word-is, word_of}
+use Rattle.bus_line.proofs.TellLemmas.{decide-more, last-bit, tells-more}
+
+-- ---- calm bits
+
+-- of the lowest bits of a number, however many more there are
+pub calm-front : (b : List Bool) (x n m k : ℕ) → IsCalm b (bits_of n x) k → k ≤ n → k ≤ m → IsCalm b (bits_of m x) k
+calm-front b x n m k calm low lows = λ i l.
+    let same : take i (bits_of m x) ≡ take i (bits_of n x) =
+    bits-front i m x (omega (arith, l, lows)) ∙ sym (bits-front i n x (omega (arith, l, low))) in
+    rw (same) (calm i l)
+
+-- of 56 bits, before the first after six ones
+pub calm-turn : {C : Type 0} (d : LineState C) (x m n : ℕ) (b : List Bool) → HasTaken d b →
+    ((i : ℕ) → i < m → bit_or (d.last_bits / 256) (x * 256 % 18446744073709551616) / 2 ^ (2 + i) % 64 ≢ 63) →
+    m ≤ 56 → m ≤ n → IsCalm b (bits_of n x) m
+calm-turn d x m n b taken none low lows =
+    let w : ℕ = word_of d.last_bits x in
+    let behind = word-behind d.last_bits x (last-bits-small d b taken) in
+    let word = word-is d.last_bits x b taken.last_bits in
+    let within : m ≤ length (bits_of 56 x) = omega (arith, low, length-bits 56 x) in
+    calm-front b x 56 n m (calm-before w m b (bits_of 56 x) word within (no-stop w _ m behind none)) low lows
+
+module _ {C : Type 0} (folded : C → List ℕ → Type 0) (cost : ℕ) {old new : LineState C} {bits : List Bool}
+    (longest : new.longest ≡ old.longest) (origin : new.origin ≡ old.origin)
+    (place : new.place ≡ old.place + length bits) where
+  -- which all are settled
+  pub reached-all : ((b : List Bool) → After folded cost old b → IsCalm b bits (length bits)) →
+      ((b : List Bool) → After folded cost old b → Tracks folded cost new (b ++ bits) (current b)) →
+      Tells folded cost old bits None new
+  reached-all calm tracks =
+      let all : take (length bits) bits ≡ bits = take_all (length bits) bits (omega arith) in
+      record {
+        leads = record {
+          after = λ b h.
+              let t = subst (λ (z : List Bool). Tracks folded cost new (b ++ z) (current b)) (sym all) (tracks b h) in
+              subst (λ (z : List Bool). After folded cost new (b ++ z)) all
+              (calm-after folded cost (length bits) new b bits (calm b h) (omega arith) t);
+          longest = longest;
+          origin = origin;
+          place = place;
+        };
+        says = λ b h.
+            ap (λ (z : List Bool). placed old.origin old.longest (b ++ z)) (sym all)
+            ∙ (calm-placed old.origin old.longest (length bits) b bits (calm b h) (length bits) (omega arith)
+            (omega arith) ∙ sym (append-nil (placed old.origin old.longest b)));
+      }
+
+  -- and one after them
+  pub reached-last : 1 ≤ length bits →
+      ((b : List Bool) → After folded cost old b → IsCalm b bits (length bits - 1)) →
+      ((b : List Bool) → After folded cost old b → Tracks folded cost new (b ++ bits) (current b)) →
+      Reaches folded cost old bits new
+  reached-last some calm tracks =
+      let n : ℕ = length bits - 1 in
+      let all : take (n + 1) bits ≡ bits = take_all (n + 1) bits (omega (arith, some)) in
+      record {
+        front = take n bits;
+        last = get_or bits n false;
+        all = last-bit bits some;
+        longest = longest;
+        origin = origin;
+        place = place;
+        tracks = λ b h.
+            tracks-last folded cost n new b bits (calm b h) (omega (arith, some))
+            (subst (λ (z : List Bool). Tracks folded cost new (b ++ z) (current b)) (sym all) (tracks b h));
+        before = λ b h.
+            calm-placed old.origin old.longest n b bits (calm b h) n (omega arith) (omega arith);
+      }
+
+-- ---- what the last of them decides
+
+pub decided : {C : Type 0} (folded : C → List ℕ → Type 0) (cost : ℕ) {old mid new : LineState C} {bits : List Bool}
+    {report : Option Report} → Reaches folded cost old bits mid
+    → new.longest ≡ mid.longest → new.origin ≡ mid.origin → new.place ≡ mid.place
+    → ((b : List Bool) (bit : Bool) → Tracks folded cost mid (b ++ bit ∷ []) (current b) →
+    report ≡ option_map (moved mid.origin) (due_at mid.longest (b ++ bit ∷ []) (length b)))
+    → ((b : List Bool) (bit : Bool) → Tracks folded cost mid (b ++ bit ∷ []) (current b) →
+    After folded cost new (b ++ bit ∷ []))
+    → Advances folded cost old bits report new
+decided folded cost {old} {mid} {new} {bits} {report} reached longest origin place answer after =
+    let front = reached.front in
+    let last = reached.last in
+    let joined : (b : List Bool) → (b ++ front) ++ last ∷ [] ≡ b ++ bits =
+    λ b. append_assoc b front (last ∷ []) ∙ ap (λ (z : List Bool). b ++ z) (sym reached.all) in
+    let fewer : take (length bits - 1) bits ≡ front = but-last bits front last reached.all in
+    record {
+      tells = record {
+        leads = record {
+          after = λ b h. subst (After folded cost new) (joined b) (after (b ++ front) last (reached.tracks b h));
+          longest = longest ∙ reached.longest;
+          origin = origin ∙ reached.origin;
+          place = place ∙ reached.place;
+        };
+        says = λ b h.
+            let due = answer (b ++ front) last (reached.tracks b h) in
+            let here : report ≡ option_map (moved old.origin)
+            (due_at old.longest ((b ++ front) ++ last ∷ []) (length (b ++ front))) =
+            rw (← reached.longest, ← reached.origin) due in
+            ap (placed old.origin old.longest) (sym (joined b))
+            ∙ (placed-more old.origin old.longest (b ++ front) last report here
+            ∙ ap (λ (z : List Report). z ++ option_to_list report) (reached.before b h));
+      };
+      before = subst (DecideNothing folded cost old) (sym fewer) reached.before;
+    }
+  where
+    take-front : (xs ys : List Bool) → take (length xs) (xs ++ ys) ≡ xs
+    take-front [] ys = refl
+    take-front (x ∷ xs) ys = ap (λ (z : List Bool). x ∷ z) (take-front xs ys)
+
+    but-last : (bits front : List Bool) (last : Bool) → bits ≡ front ++ last ∷ [] → take (length bits - 1) bits ≡ front
+    but-last bits front last all =
+        let n : length bits - 1 ≡ length front =
+        omega (arith, ap length all, length-append front (last ∷ [])) in
+        ap (λ (k : ℕ). take k bits) n
+        ∙ (ap (take (length front)) all ∙ take-front front (last ∷ []))
+
+-- ---- after bits that decide nothing
+
+-- some of 56 bits
+pub turn-bits : (os : List ℕ) (at x n : ℕ) → bits_of 56 x ≡ bits_from os at 56 → n ≤ 56
+    → bits_of n x ≡ bits_from os at n
+turn-bits os at x n same few =
+    sym (bits-front n 56 x few) ∙ (ap (take n) same ∙ bits-taken os at 56 n few)
+
+reaches-more : {C : Type 0} (folded : C → List ℕ → Type 0) (cost : ℕ) {a c e : LineState C} {xs ys : List Bool}
+    → Tells folded cost a xs None c → Reaches folded cost c ys e → Reaches folded cost a (xs ++ ys) e
+reaches-more folded cost {a} {c} {e} {xs} {ys} p q =
+    let more : xs ++ ys ≡ (xs ++ q.front) ++ q.last ∷ [] =
+    ap (λ (z : List Bool). xs ++ z) q.all ∙ sym (append_assoc xs q.front (q.last ∷ [])) in
+    record {
+      front = xs ++ q.front;
+      last = q.last;
+      all = more;
+      longest = q.longest ∙ p.leads.longest;
+      origin = q.origin ∙ p.leads.origin;
+      place = omega (arith, length-append xs ys, p.leads.place, q.place);
+      tracks = λ b h.
+          subst (λ (z : List Bool). Tracks folded cost e (z ++ q.last ∷ []) (current z))
+          (append_assoc b xs q.front) (q.tracks (b ++ xs) (p.leads.after b h));
+      before = decide-more folded cost p q.before;
+    }
+
+reaches-to-more : {C : Type 0} (folded : C → List ℕ → Type 0) (cost : ℕ) {a c : LineState C} {xs : List Bool}
+    (e : LineState C) (ys : List Bool) (is_stop : Bool) → Tells folded cost a xs None c
+    → ReachesTo folded cost c ys is_stop e → ReachesTo folded cost a (xs ++ ys) is_stop e
+reaches-to-more folded cost e ys true p q = reaches-more folded cost p q
+reaches-to-more folded cost e ys false p q = tells-more folded cost p q
+
+pub reaches-on : {C : Type 0} (folded : C → List ℕ → Type 0) (cost : ℕ) (os : List ℕ) (from at : ℕ) → from ≤ at
+    → {a c : LineState C} → Tells folded cost a (bits_from os from (at - from)) None c
+    → (e : LineState C) (n m : ℕ) (is_stop : Bool) → m ≡ at - from + n
+    → ReachesTo folded cost c (bits_from os at n) is_stop e → ReachesTo folded cost a (bits_from os from m) is_stop e
+reaches-on folded cost os from at begun {a} {c} quiet e n m is_stop count reached =
+    let i : at ≡ from + (at - from) = omega (arith, begun) in
+    let joined : bits_from os from (at - from) ++ bits_from os at n ≡ bits_from os from m =
+    ap (λ (j : ℕ). bits_from os from (at - from) ++ bits_from os j n) i
+    ∙ (sym (bits-more os from (at - from) n) ∙ ap (bits_from os from) (sym count)) in
+    subst (λ (z : List Bool). ReachesTo folded cost a z is_stop e) joined
+    (reaches-to-more folded cost e (bits_from os at n) is_stop quiet reached)

@@ -1,0 +1,12 @@
+use Rattle.std.proofs.Common.{◌∙◌}
+use Rattle.bus_line.proofs.SettledKeptLemmas.{settled-word}
+use Rattle.bus_line.proofs.decoder.settled.data_in_turn.Goals as goal
+
+pub returns-clause-value : goal.returns-clause-value
+returns-clause-value c =
+    c.destuffed_turn.ensures.value
+    ∙ (settled-word c.args.word c.inserted_zeros.result c.args.count c.requires c.inserted_zeros.ensures).0
+
+pub destuffed_turn-requires-clause-marked : goal.destuffed_turn-requires-clause-marked
+destuffed_turn-requires-clause-marked c =
+    (settled-word c.args.word c.inserted_zeros.result c.args.count c.requires c.inserted_zeros.ensures).1

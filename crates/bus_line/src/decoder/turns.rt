@@ -1,0 +1,186 @@
+//! Bits of octets by turns.
+
+ghost use Rattle.std.specs.Prelude.{◌≡◌, ◌+◌, ◌-◌, ◌*◌, ◌≤◌, ◌<◌, ◌^◌, length};
+ghost use Rattle.std.specs.Option.{option_map};
+ghost use Rattle.bus_bits.specs.Bits.{bits_from};
+
+use crate::line_words::{LineWords, NEVER};
+use crate::scanned::Scanned;
+use bus_bits::{seven_octets_at, word_at};
+use bus_fcs::Check;
+
+impl LineWords {
+    ghost use Rattle.bus_line.specs.Words.{IsWithin, state};
+    ghost use Rattle.bus_line.specs.Shown.{reported};
+    ghost use Rattle.bus_line.specs.After.{Advances};
+
+    /// Takes at least one bit, and those after it up to the first that may decide a report, as many as come at once.
+    #[inline(always)]
+    pub(crate) fn scan_next<C: Check, const TURNS: bool>(
+        &mut self,
+        check: &mut C,
+        cells: &mut [u8; 272],
+        octets: &[u8],
+        from: usize,
+        end: usize,
+    ) -> Scanned
+        requires within { IsWithin self.old }
+        requires some { from < end }
+        requires enough { end ≤ 8 * length octets.now }
+        requires room { self.old.place + (end - from) ≤ 2 ^ 60 }
+        ensures count { (1 ≤ result.count) × (result.count ≤ end - from) }
+        ensures advances { Advances C.folded C.COST (state self.old check.old cells.old)
+            (bits_from octets.now from result.count)
+            (option_map (reported (state self.new check.new cells.new).octets) result.event)
+            (state self.new check.new cells.new) }
+        ensures within { IsWithin self.new }
+        ensures cells { length cells.new ≡ 272 }
+    {
+        if TURNS {
+            return self.scan_turns(check, cells, octets, from, end);
+        }
+        self.scan_some(check, cells, octets, from, end)
+    }
+
+    /// Takes bits as [`LineWords::scan_some`] does: by turns of 56 where the last mark is a flag.
+    #[inline(always)]
+    fn scan_turns<C: Check>(
+        &mut self,
+        check: &mut C,
+        cells: &mut [u8; 272],
+        octets: &[u8],
+        from: usize,
+        end: usize,
+    ) -> Scanned
+        requires within { IsWithin self.old }
+        requires some { from < end }
+        requires enough { end ≤ 8 * length octets.now }
+        requires room { self.old.place + (end - from) ≤ 2 ^ 60 }
+        ensures count { (1 ≤ result.count) × (result.count ≤ end - from) }
+        ensures advances { Advances C.folded C.COST (state self.old check.old cells.old)
+            (bits_from octets.now from result.count)
+            (option_map (reported (state self.new check.new cells.new).octets) result.event)
+            (state self.new check.new cells.new) }
+        ensures within { IsWithin self.new }
+        ensures cells { length cells.new ≡ 272 }
+    {
+        if end - from < 64 {
+            return self.scan_word(check, cells, octets, from, end);
+        }
+        if self.settles_at <= self.place + 8 {
+            return self.scan_piece(check, cells, octets, from, end);
+        }
+        if self.settles_at != NEVER {
+            return self.scan_word(check, cells, octets, from, end);
+        }
+        let past = self.pass_ones(octets, from, end);
+        if past == from {
+            return self.scan_word(check, cells, octets, from, end);
+        }
+        Scanned {
+            count: past - from,
+            event: None,
+        }
+    }
+
+    /// Takes up to 48 bits, or those of them up to the first that may decide a report.
+    #[inline(always)]
+    fn scan_word<C: Check>(
+        &mut self,
+        check: &mut C,
+        cells: &mut [u8; 272],
+        octets: &[u8],
+        from: usize,
+        end: usize,
+    ) -> Scanned
+        requires within { IsWithin self.old }
+        requires some { from < end }
+        requires enough { end ≤ 8 * length octets.now }
+        requires room { self.old.place + (end - from) ≤ 2 ^ 60 }
+        ensures count { (1 ≤ result.count) × (result.count ≤ end - from) }
+        ensures advances { Advances C.folded C.COST (state self.old check.old cells.old)
+            (bits_from octets.now from result.count)
+            (option_map (reported (state self.new check.new cells.new).octets) result.event)
+            (state self.new check.new cells.new) }
+        ensures within { IsWithin self.new }
+        ensures cells { length cells.new ≡ 272 }
+    {
+        let word = word_at(octets, from, end);
+        let taken = self.advance(check, cells, word.bits, word.count);
+        Scanned {
+            count: taken.count as usize,
+            event: taken.event,
+        }
+    }
+
+    /// Takes bits after a flag: flags directly after it, or those of the piece that it opens.
+    #[inline(always)]
+    fn scan_piece<C: Check>(
+        &mut self,
+        check: &mut C,
+        cells: &mut [u8; 272],
+        octets: &[u8],
+        from: usize,
+        end: usize,
+    ) -> Scanned
+        requires within { IsWithin self.old }
+        requires some { from + 64 ≤ end }
+        requires enough { end ≤ 8 * length octets.now }
+        requires room { self.old.place + (end - from) ≤ 2 ^ 60 }
+        ensures count { (1 ≤ result.count) × (result.count ≤ end - from) }
+        ensures advances { Advances C.folded C.COST (state self.old check.old cells.old)
+            (bits_from octets.now from result.count)
+            (option_map (reported (state self.new check.new cells.new).octets) result.event)
+            (state self.new check.new cells.new) }
+        ensures within { IsWithin self.new }
+        ensures cells { length cells.new ≡ 272 }
+    {
+        if self.settles_at == self.place + 8 {
+            let past = self.pass_flags(octets, from, end);
+            if past > from {
+                return Scanned {
+                    count: past - from,
+                    event: None,
+                };
+            }
+            if self.is_flag_ahead(seven_octets_at(octets, from)) {
+                return self.scan_word(check, cells, octets, from, end);
+            }
+        }
+        self.scan_open(check, cells, octets, from, end)
+    }
+
+    /// Takes bits of the piece that the last flag opens.
+    #[inline(always)]
+    fn scan_open<C: Check>(
+        &mut self,
+        check: &mut C,
+        cells: &mut [u8; 272],
+        octets: &[u8],
+        from: usize,
+        end: usize,
+    ) -> Scanned
+        requires within { IsWithin self.old }
+        requires some { from + 64 ≤ end }
+        requires enough { end ≤ 8 * length octets.now }
+        requires room { self.old.place + (end - from) ≤ 2 ^ 60 }
+        ensures count { (1 ≤ result.count) × (result.count ≤ end - from) }
+        ensures advances { Advances C.folded C.COST (state self.old check.old cells.old)
+            (bits_from octets.now from result.count)
+            (option_map (reported (state self.new check.new cells.new).octets) result.event)
+            (state self.new check.new cells.new) }
+        ensures within { IsWithin self.new }
+        ensures cells { length cells.new ≡ 272 }
+    {
+        let reached = self.reach(check, cells, octets, from, end);
+        let event = if reached.is_stop {
+            self.decide_here(check)
+        } else {
+            None
+        };
+        Scanned {
+            count: reached.count,
+            event,
+        }
+    }
+}
