@@ -34,22 +34,22 @@ ones_after-append k (false ∷ x) y = ones_after-append 0 x y
 
 -- a flag ends in a 0
 flag-zero : (b : List Bool) (p : ℕ) → IsFlag b p → ones_at_end (take (p + 8) b) ≡ 0
-flag-zero b p f =
-    let x : get_or b (p + 7) false ≡ false = stands-bit b p flag 7 f (omega arith) in
-    let n : p + 8 ≡ (p + 7) + 1 = omega arith in
-    let e : take (p + 8) b ≡ take (p + 7) b ++ false ∷ [] =
-    ap (λ k. take k b) n
-    ∙ (take_next b (p + 7) false (omega (arith, flag-fits b p f)) ∙ ap (λ y. take (p + 7) b ++ y ∷ []) x) in
-    ap ones_at_end e ∙ ones_after-more 0 (take (p + 7) b) false
+flag-zero b p is-flag =
+    let low : get_or b (p + 7) false ≡ false = stands-bit b p flag 7 is-flag (omega arith) in
+    let size : p + 8 ≡ (p + 7) + 1 = omega arith in
+    let parts : take (p + 8) b ≡ take (p + 7) b ++ false ∷ [] =
+    ap (λ k. take k b) size
+    ∙ (take_next b (p + 7) false (omega (arith, flag-fits b p is-flag)) ∙ ap (λ y. take (p + 7) b ++ y ∷ []) low) in
+    ap ones_at_end parts ∙ ones_after-more 0 (take (p + 7) b) false
 
 -- the ones at the end of a piece are those at the end of the bits up to there
 piece-ones : (b : List Bool) (p m : ℕ) → IsFlag b p → p + 8 ≤ m →
     ones_at_end (take m b) ≡ ones_at_end (slice_range b (p + 8) m)
-piece-ones b p m f h =
+piece-ones b p m is-flag within =
     let raw = slice_range b (p + 8) m in
-    let n : m ≡ (p + 8) + (m - (p + 8)) = omega arith in
-    let e : take m b ≡ take (p + 8) b ++ raw = ap (λ k. take k b) n ∙ take-add (p + 8) (m - (p + 8)) b in
-    ap ones_at_end e ∙ (ones_after-append 0 (take (p + 8) b) raw ∙ ap (λ k. ones_after k raw) (flag-zero b p f))
+    let size : m ≡ (p + 8) + (m - (p + 8)) = omega arith in
+    let parts : take m b ≡ take (p + 8) b ++ raw = ap (λ k. take k b) size ∙ take-add (p + 8) (m - (p + 8)) b in
+    ap ones_at_end parts ∙ (ones_after-append 0 (take (p + 8) b) raw ∙ rw (flag-zero b p is-flag) refl)
 
 -- the piece that the newest bit closes: its raw bits, and what the decoder holds of their data
 pub record IsClosed {C : Type 0} (folded : C → List ℕ → Type 0) (d : LineState C) (raw : List Bool) : Type 0 where
@@ -61,70 +61,70 @@ pub record IsClosed {C : Type 0} (folded : C → List ℕ → Type 0) (d : LineS
 pub is_closed : {C : Type 0} (folded : C → List ℕ → Type 0) (cost : ℕ) (d : LineState C) (b : List Bool) (bit : Bool)
     (p : ℕ) → Tracks folded cost d (b ++ bit ∷ []) (current b) → current b ≡ FlagAt p → p + 15 < length b
     → IsClosed folded d (slice_range (b ++ bit ∷ []) (p + 8) (length b - 7))
-is_closed folded cost d b bit p h last some =
+is_closed folded cost d b bit p tracks last some =
     let m = length b - 7 in
     let same : slice_range (b ++ bit ∷ []) (p + 8) m ≡ slice_range b (p + 8) m =
     range-append b (bit ∷ []) (p + 8) m (omega arith) in
-    let n : length (b ++ bit ∷ []) - 8 ≡ m = omega (arith, length_push b bit) in
-    let w = last-bits-five d.last_bits b bit (omega arith) h.has_taken.last_bits in
-    let e : ones_at_end (take m b) ≡ ones_at_end (slice_range (b ++ bit ∷ []) (p + 8) m) =
+    let end : length (b ++ bit ∷ []) - 8 ≡ m = omega (arith, length_push b bit) in
+    let shown = last-bits-five d.last_bits b bit (omega arith) tracks.has_taken.last_bits in
+    let run : ones_at_end (take m b) ≡ ones_at_end (slice_range (b ++ bit ∷ []) (p + 8) m) =
     piece-ones b p m (last_mark-flag b (length b) p last).flag (omega arith) ∙ ap ones_at_end (sym same) in
     let held : Holds folded d (settled_data (b ++ bit ∷ []) p) =
-    subst (HoldsFor folded d (b ++ bit ∷ [])) last h.piece in
+    subst (HoldsFor folded d (b ++ bit ∷ [])) last tracks.piece in
     record {
       low = subst (IsLow 0) (sym same) (low-from (slice_range b (p + 8) m) (current-low b p m last (omega arith)));
-      five = λ k. omega (arith, e, w.0 k);
-      fewer = λ k. w.1 (omega (arith, e, k));
-      holds = subst (λ k. Holds folded d (data_so_far (slice_range (b ++ bit ∷ []) (p + 8) k))) n held;
+      five = λ is. omega (arith, run, shown.0 is);
+      fewer = λ is. shown.1 (omega (arith, run, is));
+      holds = subst (λ k. Holds folded d (data_so_far (slice_range (b ++ bit ∷ []) (p + 8) k))) end held;
     }
 
 -- five ones before the flag
 pub class-five : {C : Type 0} (folded : C → List ℕ → Type 0) (longest : ℕ) (d : LineState C) (raw : List Bool) →
     IsClosed folded d raw → d.last_bits / 8 % 32 ≡ 31 → class_of longest raw ≡ Damaged Unstuffed
-class-five folded longest d raw c w =
-    let t : (ones_at_end raw == 5) ≡ true = grind (arith, nat_tests, c.five w, low-ones 0 raw c.low) in
-    ap (class_of_read longest) (low-unspelled raw c.low) ∙ rw t refl
+class-five folded longest d raw closed shown =
+    let five : (ones_at_end raw == 5) ≡ true = grind (arith, nat_tests, closed.five shown, low-ones 0 raw closed.low) in
+    ap (class_of_read longest) (low-unspelled raw closed.low) ∙ rw five refl
 
 -- no five: the data are read
 pub class-read : {C : Type 0} (folded : C → List ℕ → Type 0) (longest : ℕ) (d : LineState C) (raw : List Bool) →
     IsClosed folded d raw → d.last_bits / 8 % 32 ≢ 31 → class_of longest raw ≡ class_of_data longest (data_so_far raw)
-class-read folded longest d raw c w =
-    let f : (ones_at_end raw == 5) ≡ false =
-    false_from_ne_true _ (λ t. w (c.fewer (omega (arith, eqb-true (ones_at_end raw) 5 t)))) in
-    ap (class_of_read longest) (low-unspelled raw c.low) ∙ rw f refl
+class-read folded longest d raw closed not-shown =
+    let not-five : (ones_at_end raw == 5) ≡ false =
+    false_from_ne_true _ (λ is. not-shown (closed.fewer (omega (arith, eqb-true (ones_at_end raw) 5 is)))) in
+    ap (class_of_read longest) (low-unspelled raw closed.low) ∙ rw not-five refl
 
 -- the first case that fits
 pub data-over : (longest : ℕ) (d : List Bool) → 8 * (longest + 2) < length d → class_of_data longest d ≡ Overlong
-data-over longest d h =
-    let t : nat_lt (8 * (longest + 2)) (length d) ≡ true = grind (arith, nat_tests) in
-    rw t refl
+data-over longest d long =
+    let is : nat_lt (8 * (longest + 2)) (length d) ≡ true = grind (arith, nat_tests) in
+    rw is refl
 
 pub data-short : (longest : ℕ) (d : List Bool) → length d ≤ 8 * (longest + 2) → length d < 32 →
     class_of_data longest d ≡ Damaged Short
-data-short longest d most h =
-    let f : nat_lt (8 * (longest + 2)) (length d) ≡ false = grind (arith, nat_tests) in
-    let t : nat_lt (length d) 32 ≡ true = grind (arith, nat_tests) in
-    rw (f, t) refl
+data-short longest d most short =
+    let fits : nat_lt (8 * (longest + 2)) (length d) ≡ false = grind (arith, nat_tests) in
+    let is : nat_lt (length d) 32 ≡ true = grind (arith, nat_tests) in
+    rw (fits, is) refl
 
 pub data-unaligned : (longest : ℕ) (d : List Bool) → length d ≤ 8 * (longest + 2) → 32 ≤ length d → length d % 8 ≢ 0 →
     class_of_data longest d ≡ Damaged Unaligned
-data-unaligned longest d most least h =
-    let f : nat_lt (8 * (longest + 2)) (length d) ≡ false = grind (arith, nat_tests) in
-    let g : nat_lt (length d) 32 ≡ false = grind (arith, nat_tests) in
-    let t : (length d % 8 == 0) ≡ false = grind (arith, nat_tests) in
-    rw (f, g, t) refl
+data-unaligned longest d most least odd =
+    let fits : nat_lt (8 * (longest + 2)) (length d) ≡ false = grind (arith, nat_tests) in
+    let long : nat_lt (length d) 32 ≡ false = grind (arith, nat_tests) in
+    let is : (length d % 8 == 0) ≡ false = grind (arith, nat_tests) in
+    rw (fits, long, is) refl
 
 -- all octets of the data are held
 pub all-held : {C : Type 0} (folded : C → List ℕ → Type 0) (d : LineState C) (bits : List Bool) → Holds folded d bits →
     32 ≤ length bits → length bits ≤ 8 * (d.longest + 2)
     → (d.octets ≡ octets bits) × folded d.check (octets bits) × (4 ≤ length (octets bits))
-all-held folded d bits h least most =
-    let n : length (octets bits) ≡ length bits / 8 = length-octets (length bits / 8) bits refl in
+all-held folded d bits holds least most =
+    let size : length (octets bits) ≡ length bits / 8 = length-octets (length bits / 8) bits refl in
     let whole : take (d.longest + 2) (octets bits) ≡ octets bits =
-    take_all (d.longest + 2) (octets bits) (omega (arith, n)) in (
-      h.held (omega arith) ∙ whole,
-      subst (λ (os : List ℕ). folded d.check os) whole (h.checked (omega arith)),
-      omega (arith, n),
+    take_all (d.longest + 2) (octets bits) (omega (arith, size)) in (
+      holds.held (omega arith) ∙ whole,
+      subst (λ (os : List ℕ). folded d.check os) whole (holds.checked (omega arith)),
+      omega (arith, size),
     )
 
 -- data that were checked
@@ -132,8 +132,8 @@ pub class-checked : {C : Type 0} (folded : C → List ℕ → Type 0) (d : LineS
     Holds folded d bits → 32 ≤ length bits → length bits ≤ 8 * (d.longest + 2) → length bits % 8 ≡ 0
     → ((os : List ℕ) → folded d.check os → 4 ≤ length os → (IsTrue good ↔ Good (bits_of_octets os))) →
     class_of_data d.longest bits ≡ (if good then Frame d.octets else Damaged Fcs)
-class-checked folded d bits good h least most whole test =
-    let held = all-held folded d bits h least most in
+class-checked folded d bits good holds least most whole test =
+    let held = all-held folded d bits holds least most in
     let same : good ≡ is_good (bits_of_octets (octets bits)) =
     same_test good (bits_of_octets (octets bits)) (test (octets bits) held.1 held.2) in
     data-checked d.longest bits most least whole

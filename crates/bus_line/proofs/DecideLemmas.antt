@@ -35,22 +35,22 @@ pub closing : (longest : ℕ) (b : List Bool) (bit : Bool) → IsFound bit (ones
     → Decides longest b bit
     (piece_report (λ p. class_of longest (slice_range (b ++ bit ∷ []) (p + 8) (length b - 7))) (current b)
     (length b - 7)) (FlagAt (length b - 7))
-closing longest b true f = absurd (cc (f.0))
-closing longest b false f = at-flag longest b f.1 f.2
+closing longest b true found = absurd (cc (found.0))
+closing longest b false found = at-flag longest b found.1 found.2
 
 pub seven : (longest : ℕ) (b : List Bool) (bit : Bool) → IsFound bit (ones_at_end b) (length b) Seven
     → Decides longest b bit (piece_report (λ p. Abort) (current b) (length b - 6)) (AbortAt (length b - 6))
-seven longest b false f = absurd (cc (f.0))
-seven longest b true f = at-abort longest b f.1
+seven longest b false found = absurd (cc (found.0))
+seven longest b true found = at-abort longest b found.1
 
 pub fifteen : (longest : ℕ) (b : List Bool) (bit : Bool) → IsFound bit (ones_at_end b) (length b) Fifteen
     → Decides longest b bit (Some (record { kind = Idle; first = length b - 14; past = length b + 1 })) (current b)
-fifteen longest b false f = absurd (cc (f.0))
-fifteen longest b true f = at-idle longest b f.1
+fifteen longest b false found = absurd (cc (found.0))
+fifteen longest b true found = at-idle longest b found.1
 
 pub other : (longest : ℕ) (b : List Bool) (bit : Bool) → IsFound bit (ones_at_end b) (length b) Other →
     Decides longest b bit None (current b)
-other longest b bit f = at-other longest b bit f.0 f.1
+other longest b bit found = at-other longest b bit found.0 found.1
 
 none_number : number [] ≡ 0
 unfolding number
@@ -60,25 +60,25 @@ none_number = refl
 pub tracks-flag : {C : Type 0} (folded : C → List ℕ → Type 0) (cost : ℕ) (d : LineState C) (c : List Bool) (mark : Mark)
     (p : ℕ) → Tracks folded cost d c mark → p + 8 ≡ length c
     → Tracks folded cost (record d { first = Some d.place; data_bits = 0; partial = 0 }) c (FlagAt p)
-tracks-flag folded cost d c mark p h e =
-    let none : settled_data c p ≡ [] = data-start c p (omega (arith, e)) in
+tracks-flag folded cost d c mark p tracks end =
+    let none : settled_data c p ≡ [] = data-start c p (omega (arith, end)) in
     record {
-      has_taken = record { place = h.has_taken.place; last_bits = h.has_taken.last_bits };
-      first = ap Some (h.has_taken.place ∙ ap (λ n. d.origin + n) (sym e));
+      has_taken = record { place = tracks.has_taken.place; last_bits = tracks.has_taken.last_bits };
+      first = ap Some (tracks.has_taken.place ∙ ap (λ n. d.origin + n) (sym end));
       piece =
           rw none
           (record {
             count = refl;
             partial = sym none_number;
-            held = λ m. absurd (omega (arith, m));
-            checked = λ m. absurd (omega (arith, m));
+            held = λ full. absurd (omega (arith, full));
+            checked = λ full. absurd (omega (arith, full));
           });
       counts = record {
-        settled = h.counts.settled;
-        filled = h.counts.filled;
-        paid = h.counts.paid;
-        copied = h.counts.copied;
-        handled = h.counts.handled;
+        settled = tracks.counts.settled;
+        filled = tracks.counts.filled;
+        paid = tracks.counts.paid;
+        copied = tracks.counts.copied;
+        handled = tracks.counts.handled;
       };
     }
 
@@ -86,16 +86,16 @@ tracks-flag folded cost d c mark p h e =
 pub tracks-abort : {C : Type 0} (folded : C → List ℕ → Type 0) (cost : ℕ) (d : LineState C) (c : List Bool)
     (mark : Mark) (a : ℕ) → Tracks folded cost d c mark
     → Tracks folded cost (record d { first = None }) c (AbortAt a)
-tracks-abort folded cost d c mark a h = record {
-  has_taken = record { place = h.has_taken.place; last_bits = h.has_taken.last_bits };
+tracks-abort folded cost d c mark a tracks = record {
+  has_taken = record { place = tracks.has_taken.place; last_bits = tracks.has_taken.last_bits };
   first = refl;
   piece = tt;
   counts = record {
-    settled = h.counts.settled;
-    filled = h.counts.filled;
-    paid = h.counts.paid;
-    copied = h.counts.copied;
-    handled = h.counts.handled;
+    settled = tracks.counts.settled;
+    filled = tracks.counts.filled;
+    paid = tracks.counts.paid;
+    copied = tracks.counts.copied;
+    handled = tracks.counts.handled;
   };
 }
 
@@ -114,7 +114,7 @@ pub found-here : {C : Type 0} (e d : LineState C) → e ≡ d → (b : List Bool
     → ((b : List Bool) (bit : Bool) → e.last_bits ≡ number (drop (length (b ++ bit ∷ [])) (padded (b ++ bit ∷ []))) →
     e.place - 1 - e.origin ≡ length b → IsFound bit (ones_at_end b) (e.place - 1 - e.origin) f)
     → IsFound bit (ones_at_end b) (length b) f
-found-here e d same b bit s f found =
-    let here : HasTaken e (b ++ bit ∷ []) = subst (λ x. HasTaken x (b ++ bit ∷ [])) (sym same) s in
-    let n : e.place - 1 - e.origin ≡ length b = omega (arith, here.place, length_push b bit) in
-    subst (λ k. IsFound bit (ones_at_end b) k f) n (found b bit here.last_bits n)
+found-here e d same b bit taken f found =
+    let here : HasTaken e (b ++ bit ∷ []) = subst (λ x. HasTaken x (b ++ bit ∷ [])) (sym same) taken in
+    let count : e.place - 1 - e.origin ≡ length b = omega (arith, here.place, length_push b bit) in
+    subst (λ k. IsFound bit (ones_at_end b) k f) count (found b bit here.last_bits count)

@@ -9,7 +9,7 @@ use Rattle.std.proofs.lemmas.Bool.{cases_lt, false_from_ne_true, cond-false, bot
 use Rattle.bus_line.specs.Spelling.{ones}
 use Rattle.bus_line.specs.Internal.Run.{ones_after, ones_at_end}
 use Rattle.bus_line.proofs.RunLemmas.{ones_after-more}
-use Rattle.bus_line.specs.Mark.{flag, StandsAt, StartsRun, IsFlag, IsAbort, IsIdle, IsMark}
+use Rattle.bus_line.specs.Mark.{flag, StandsAt, StartsRun, IsFlag, IsAbort, IsMark}
 use Rattle.bus_line.specs.Report.{Abort, Idle}
 use Rattle.bus_line.specs.Due.{is_flag, is_abort, FlagAt, AbortAt, last_mark, class_of, piece_report, due_at, current}
 use Rattle.bus_line.proofs.StepStreamLemmas.{Decides}
@@ -34,12 +34,13 @@ pub runs : (j : ℕ) (b : List Bool) → ((b ≡ ones (length b)) × (ones_after
     ((u : List Bool) × (b ≡ u ++ false ∷ ones (ones_after j b)))
 runs j [] = inl (refl, omega arith)
 runs j (true ∷ b) = elim (runs (suc j) b) [
-  | inl h ↦ inl (ap (λ x. true ∷ x) h.0, h.1 ∙ omega arith)
-  | inr h ↦ inr (true ∷ h.0, ap (λ x. true ∷ x) h.1)
+  | inl alone ↦ inl (ap (λ x. true ∷ x) alone.0, alone.1 ∙ omega arith)
+  | inr last ↦ inr (true ∷ last.0, ap (λ x. true ∷ x) last.1)
 ]
 runs j (false ∷ b) = elim (runs 0 b) [
-  | inl h ↦ let e : length b ≡ ones_after 0 b = omega (arith, h.1) in inr ([], ap (λ x. false ∷ x) (h.0 ∙ ap ones e))
-  | inr h ↦ inr (false ∷ h.0, ap (λ x. false ∷ x) h.1)
+  | inl alone ↦ let all : length b ≡ ones_after 0 b =
+      omega (arith, alone.1) in inr ([], ap (λ x. false ∷ x) (alone.0 ∙ ap ones all))
+  | inr last ↦ inr (false ∷ last.0, ap (λ x. false ∷ x) last.1)
 ]
 
 stands-end : (u w : List Bool) → StandsAt (u ++ w) (length u) w
@@ -48,253 +49,257 @@ stands-end u w = ap (take (length w)) (drop_at u w (length u) refl) ∙ take_all
 -- part of what stands
 pub stands-part : (b : List Bool) (p : ℕ) (w : List Bool) (i n m : ℕ) → i + m ≡ length w → n ≤ m → StandsAt b p w →
     take n (drop (p + i) b) ≡ take n (drop i w)
-stands-part b p w i n m e l h =
-    let x : take (i + m) (drop p b) ≡ w = subst (λ k. take k (drop p b) ≡ w) (sym e) h in
+stands-part b p w i n m size within stands =
+    let same : take (i + m) (drop p b) ≡ w = subst (λ k. take k (drop p b) ≡ w) (sym size) stands in
     ap (take n) (sym (drop-drop i p b))
-    ∙ (sym (take-take n m (drop i (drop p b)) l)
+    ∙ (sym (take-take n m (drop i (drop p b)) within)
     ∙ (ap (take n) (sym (drop-take i m (drop p b)))
-    ∙ ap (λ xs. take n (drop i xs)) x))
+    ∙ ap (λ xs. take n (drop i xs)) same))
 
 -- a run of ones that ends where the list ends
 pub run-end : (b : List Bool) (a k : ℕ) → StandsAt b a (ones k) → StartsRun b a → a + k ≡ length b → ones_at_end b ≡ k
-run-end b zero k h f e =
-    let x : b ≡ ones k = sym (take_all (length (ones k)) b (omega (arith, length-replicate k true))) ∙ h in
-    ap (ones_after 0) x ∙ (ones_after-ones 0 k ∙ omega arith)
-run-end b (suc q) k h f e =
-    let y : get_or b (q + 0) false ≡ false = stands-bit b q (false ∷ []) 0 f (omega arith) in
-    let z : q + 0 ≡ q = omega arith in
-    let g : get_or b q false ≡ false = subst (λ i. get_or b i false ≡ false) z y in
-    let s : q + 1 ≡ suc q = omega arith in
-    let x : drop (suc q) b ≡ ones k =
+run-end b zero k stands start end =
+    let all : b ≡ ones k = sym (take_all (length (ones k)) b (omega (arith, length-replicate k true))) ∙ stands in
+    ap (ones_after 0) all ∙ (ones_after-ones 0 k ∙ omega arith)
+run-end b (suc q) k stands start end =
+    let bit : get_or b (q + 0) false ≡ false = stands-bit b q (false ∷ []) 0 start (omega arith) in
+    let here : q + 0 ≡ q = omega arith in
+    let zero-bit : get_or b q false ≡ false = subst (λ i. get_or b i false ≡ false) here bit in
+    let next : q + 1 ≡ suc q = omega arith in
+    let rest : drop (suc q) b ≡ ones k =
     sym (take_all (length (ones k)) (drop (suc q) b) (omega (arith, length-replicate k true, length-drop (suc q) b)))
-    ∙ h in
-    let d : drop q b ≡ false ∷ ones k = drop_more b q false (omega arith) ∙ rw (g, s, x) refl in
-    let t : b ≡ take q b ++ false ∷ ones k = sym (take-append-drop q b) ∙ ap (λ xs. take q b ++ xs) d in
-    ap (ones_after 0) t ∙ ones_after-last 0 (take q b) k
+    ∙ stands in
+    let from : drop q b ≡ false ∷ ones k = drop_more b q false (omega arith) ∙ rw (zero-bit, next, rest) refl in
+    let parts : b ≡ take q b ++ false ∷ ones k = sym (take-append-drop q b) ∙ ap (λ xs. take q b ++ xs) from in
+    ap (ones_after 0) parts ∙ ones_after-last 0 (take q b) k
 
 pub run-stands : (b : List Bool) (k : ℕ) → ones_at_end b ≡ k → (a : ℕ) × (a + k ≡ length b) × StandsAt b a (ones k)
     × StartsRun b a
-run-stands b k e = elim (runs 0 b) [
-  | inl h ↦
-      let n : length b ≡ k = omega (arith, h.1) in
-      let x : b ≡ ones k = h.0 ∙ ap ones n in
-      (0, omega arith, subst (λ c. StandsAt c 0 (ones k)) (sym x) (stands-end [] (ones k)), tt)
-  | inr h ↦
-      let x : b ≡ h.0 ++ false ∷ ones k = h.1 ∙ ap (λ n. h.0 ++ false ∷ ones n) e in
-      let y : b ≡ (h.0 ++ false ∷ []) ++ ones k = x ∙ sym (append_assoc h.0 (false ∷ []) (ones k)) in
-      let l : length (h.0 ++ false ∷ []) ≡ suc (length h.0) = omega (arith, length_push h.0 false) in (
-        suc (length h.0),
-        omega (arith, ap length y, length-append (h.0 ++ false ∷ []) (ones k), length-replicate k true, l),
-        subst (λ c. StandsAt c (suc (length h.0)) (ones k)) (sym y)
-            (subst (λ n. StandsAt ((h.0 ++ false ∷ []) ++ ones k) n (ones k)) l
-            (stands-end (h.0 ++ false ∷ []) (ones k))),
-        subst (λ c. StandsAt c (length h.0) (false ∷ [])) (sym x)
-            (ap (take 1) (drop_at h.0 (false ∷ ones k) (length h.0) refl)),
+run-stands b k run = elim (runs 0 b) [
+  | inl alone ↦
+      let size : length b ≡ k = omega (arith, alone.1) in
+      let is : b ≡ ones k = alone.0 ∙ ap ones size in
+      (0, omega arith, subst (λ c. StandsAt c 0 (ones k)) (sym is) (stands-end [] (ones k)), tt)
+  | inr last ↦
+      let is : b ≡ last.0 ++ false ∷ ones k = last.1 ∙ ap (λ n. last.0 ++ false ∷ ones n) run in
+      let parts : b ≡ (last.0 ++ false ∷ []) ++ ones k = is ∙ sym (append_assoc last.0 (false ∷ []) (ones k)) in
+      let size : length (last.0 ++ false ∷ []) ≡ suc (length last.0) = omega (arith, length_push last.0 false) in (
+        suc (length last.0),
+        omega (arith, ap length parts, length-append (last.0 ++ false ∷ []) (ones k), length-replicate k true, size),
+        subst (λ c. StandsAt c (suc (length last.0)) (ones k)) (sym parts)
+            (subst (λ n. StandsAt ((last.0 ++ false ∷ []) ++ ones k) n (ones k)) size
+            (stands-end (last.0 ++ false ∷ []) (ones k))),
+        subst (λ c. StandsAt c (length last.0) (false ∷ [])) (sym is)
+            (ap (take 1) (drop_at last.0 (false ∷ ones k) (length last.0) refl)),
       )
 ]
 
 -- a flag that ends with a bit
 pub flag-end : (b : List Bool) (bit : Bool) (p : ℕ) → IsFlag (b ++ bit ∷ []) p → p + 7 ≡ length b →
     (bit ≡ false) × (ones_at_end b ≡ 6) × (6 < length b)
-flag-end b bit p f e =
-    let x : get_or (b ++ bit ∷ []) (p + 7) false ≡ false = stands-bit (b ++ bit ∷ []) p flag 7 f (omega arith) in
-    let y : get_or (b ++ bit ∷ []) (p + 7) false ≡ bit = get_or_push b bit false (p + 7) (sym e) in
-    let s : p + 1 ≡ suc p = omega arith in
-    let z : p + 0 ≡ p = omega arith in
-    let o : take 6 (drop (p + 1) (b ++ bit ∷ [])) ≡ ones 6 =
-    stands-part (b ++ bit ∷ []) p flag 1 6 7 refl (omega arith) f in
-    let v : take 1 (drop (p + 0) (b ++ bit ∷ [])) ≡ false ∷ [] =
-    stands-part (b ++ bit ∷ []) p flag 0 1 8 refl (omega arith) f in
-    let r : StandsAt b (suc p) (ones 6) = sym (window-append 6 (suc p) b (bit ∷ []) (omega arith))
-    ∙ (subst (λ i. take 6 (drop i (b ++ bit ∷ [])) ≡ ones 6) s o) in
-    let w : StandsAt b p (false ∷ []) = sym (window-append 1 p b (bit ∷ []) (omega arith))
-    ∙ (subst (λ i. take 1 (drop i (b ++ bit ∷ [])) ≡ false ∷ []) z v) in
-    (sym y ∙ x, run-end b (suc p) 6 r w (omega arith), omega arith)
+flag-end b bit p is-flag end =
+    let low : get_or (b ++ bit ∷ []) (p + 7) false ≡ false = stands-bit _ p flag 7 is-flag (omega arith) in
+    let last : get_or (b ++ bit ∷ []) (p + 7) false ≡ bit = get_or_push b bit false (p + 7) (sym end) in
+    let next : p + 1 ≡ suc p = omega arith in
+    let here : p + 0 ≡ p = omega arith in
+    let six : take 6 (drop (p + 1) (b ++ bit ∷ [])) ≡ ones 6 =
+    stands-part (b ++ bit ∷ []) p flag 1 6 7 refl (omega arith) is-flag in
+    let zero-bit : take 1 (drop (p + 0) (b ++ bit ∷ [])) ≡ false ∷ [] =
+    stands-part (b ++ bit ∷ []) p flag 0 1 8 refl (omega arith) is-flag in
+    let run : StandsAt b (suc p) (ones 6) =
+    sym (window-append 6 (suc p) b (bit ∷ []) (omega arith)) ∙ (rw next at six) in
+    let start : StandsAt b p (false ∷ []) =
+    sym (window-append 1 p b (bit ∷ []) (omega arith)) ∙ (rw here at zero-bit) in
+    (sym last ∙ low, run-end b (suc p) 6 run start (omega arith), omega arith)
 
 pub flag-made : (b : List Bool) → ones_at_end b ≡ 6 → 6 < length b → IsFlag (b ++ false ∷ []) (length b - 7)
-flag-made b e l = elim (runs 0 b) [
-  | inl h ↦ absurd (omega (arith, h.1))
-  | inr h ↦
-      let x : b ≡ h.0 ++ false ∷ ones 6 = h.1 ∙ ap (λ n. h.0 ++ false ∷ ones n) e in
-      let y : b ++ false ∷ [] ≡ h.0 ++ flag = ap (λ c. c ++ false ∷ []) x
-      ∙ append_assoc h.0 (false ∷ ones 6) (false ∷ []) in
-      let n : length h.0 ≡ length b - 7 = omega (arith, ap length x, length-append h.0 (false ∷ ones 6)) in
-      subst (λ c. IsFlag c (length b - 7)) (sym y) (subst (IsFlag (h.0 ++ flag)) n (stands-end h.0 flag))
+flag-made b six long = elim (runs 0 b) [
+  | inl alone ↦ absurd (omega (arith, alone.1))
+  | inr last ↦
+      let is : b ≡ last.0 ++ false ∷ ones 6 = last.1 ∙ ap (λ n. last.0 ++ false ∷ ones n) six in
+      let whole : b ++ false ∷ [] ≡ last.0 ++ flag = ap (λ c. c ++ false ∷ []) is
+      ∙ append_assoc last.0 (false ∷ ones 6) (false ∷ []) in
+      let place : length last.0 ≡ length b - 7 = omega (arith, ap length is, length-append last.0 (false ∷ ones 6)) in
+      subst (λ c. IsFlag c (length b - 7)) (sym whole) (subst (IsFlag (last.0 ++ flag)) place (stands-end last.0 flag))
 ]
 
 -- marks fit in the list
 pub flag-fits : (b : List Bool) (q : ℕ) → IsFlag b q → q + 8 ≤ length b
-flag-fits b q h = stands-within b q flag h (omega arith)
+flag-fits b q is-flag = stands-within b q flag is-flag (omega arith)
 
 pub abort-fits : (b : List Bool) (q : ℕ) → IsAbort b q → q + 7 ≤ length b
-abort-fits b q h = stands-within b q (ones 7) h.0 (omega arith)
+abort-fits b q is-abort = stands-within b q (ones 7) is-abort.0 (omega arith)
 
 pub mark-fits : (b : List Bool) (q : ℕ) → IsMark b q → q + 7 ≤ length b
-mark-fits b q (inl h) = omega (arith, flag-fits b q h)
-mark-fits b q (inr h) = abort-fits b q h
+mark-fits b q (inl is-flag) = omega (arith, flag-fits b q is-flag)
+mark-fits b q (inr is-abort) = abort-fits b q is-abort
+
+pub not-flag : (b : List Bool) (p : ℕ) → (IsFlag b p → ⊥) → is_flag b p ≡ false
+not-flag b p none = false_from_ne_true _ (λ is. none (flag-true b p is))
+
+pub not-abort : (b : List Bool) (p : ℕ) → (IsAbort b p → ⊥) → is_abort b p ≡ false
+not-abort b p none = false_from_ne_true _ (λ is. none (abort-true b p is))
 
 -- the last mark, where there is none in between
 pub last_mark-skip : (b : List Bool) (k j : ℕ) → ((q : ℕ) → k ≤ q → IsMark b q → q < k + j → ⊥) →
     last_mark b (k + j) ≡ last_mark b k
-last_mark-skip b k zero h = ap (last_mark b) (omega arith)
-last_mark-skip b k (suc j) h =
-    let e : k + suc j ≡ suc (k + j) = omega arith in
-    let f : is_flag b (k + j) ≡ false =
-    false_from_ne_true _ (λ t. h (k + j) (omega arith) (inl (flag-true b (k + j) t)) (omega arith)) in
-    let g : is_abort b (k + j) ≡ false =
-    false_from_ne_true _ (λ t. h (k + j) (omega arith) (inr (abort-true b (k + j) t)) (omega arith)) in
-    ap (last_mark b) e ∙ rw (f, g) (last_mark-skip b k j (λ q l m u. h q l m (omega arith)))
+last_mark-skip b k zero none = ap (last_mark b) (omega arith)
+last_mark-skip b k (suc j) none =
+    let next : k + suc j ≡ suc (k + j) = omega arith in
+    let flag-free = not-flag b (k + j) (λ is. none (k + j) (omega arith) (inl is) (omega arith)) in
+    let abort-free = not-abort b (k + j) (λ is. none (k + j) (omega arith) (inr is) (omega arith)) in
+    ap (last_mark b) next
+    ∙ rw (flag-free, abort-free) (last_mark-skip b k j (λ q from mark below. none q from mark (omega arith)))
 
 pub last_mark-down : (b : List Bool) (k n : ℕ) → k ≤ n → ((q : ℕ) → k ≤ q → IsMark b q → q < n → ⊥) →
     last_mark b n ≡ last_mark b k
-last_mark-down b k n l h =
-    let e : k + (n - k) ≡ n = omega arith in
-    ap (last_mark b) (sym e) ∙ last_mark-skip b k (n - k) (λ q u m v. h q u m (omega arith))
+last_mark-down b k n within none =
+    let size : n ≡ k + (n - k) = omega arith in
+    ap (last_mark b) size ∙ last_mark-skip b k (n - k) (λ q from mark below. none q from mark (omega arith))
 
 -- where no flag ends with the bit, the last mark before the last seven places is the one before the bit
 pub kept : (b : List Bool) (bit : Bool) → ((p : ℕ) → IsFlag (b ++ bit ∷ []) p → p + 7 ≡ length b → ⊥) →
     last_mark (b ++ bit ∷ []) (length b - 6) ≡ current b
-kept b bit h = elim (cases_lt (length b) 7) [
-  | inl l ↦
-      let e : length b - 6 ≡ 0 = omega arith in
-      ap (last_mark (b ++ bit ∷ [])) e
-      ∙ sym (last_mark-down b 0 (length b) (omega arith) (λ q u m v. absurd (omega (arith, mark-fits b q m))))
-  | inr l ↦
+kept b bit none = elim (cases_lt (length b) 7) [
+  | inl few ↦
+      let start : length b - 6 ≡ 0 = omega arith in
+      ap (last_mark (b ++ bit ∷ [])) start
+      ∙ sym (last_mark-down b 0 (length b) (omega arith) (λ q from mark below. omega (arith, mark-fits b q mark)))
+  | inr many ↦
       let p = length b - 7 in
-      let e : length b - 6 ≡ suc p = omega arith in
-      let f : is_flag (b ++ bit ∷ []) p ≡ false =
-      false_from_ne_true _ (λ t. h p (flag-true (b ++ bit ∷ []) p t) (omega arith)) in
-      let g : is_flag b p ≡ false =
-      false_from_ne_true _ (λ t. absurd (omega (arith, flag-fits b p (flag-true b p t)))) in
-      let a : is_abort (b ++ bit ∷ []) p ≡ is_abort b p = is_abort-append b (bit ∷ []) p (omega arith) in
-      let m : last_mark (b ++ bit ∷ []) p ≡ last_mark b p = last_mark-append b (bit ∷ []) p (omega arith) in
-      let s : last_mark (b ++ bit ∷ []) (suc p) ≡ last_mark b (suc p) = rw (f, g, a, m) refl in
-      ap (last_mark (b ++ bit ∷ [])) e
-      ∙ (s ∙ sym (last_mark-down b (suc p) (length b) (omega arith)
-      (λ q u n v. absurd (omega (arith, mark-fits b q n)))))
+      let next : length b - 6 ≡ suc p = omega arith in
+      let new = not-flag (b ++ bit ∷ []) p (λ is. none p is (omega arith)) in
+      let old = not-flag b p (λ is. omega (arith, flag-fits b p is)) in
+      let abort : is_abort (b ++ bit ∷ []) p ≡ is_abort b p = is_abort-append b (bit ∷ []) p (omega arith) in
+      let before : last_mark (b ++ bit ∷ []) p ≡ last_mark b p = last_mark-append b (bit ∷ []) p (omega arith) in
+      let same : last_mark (b ++ bit ∷ []) (suc p) ≡ last_mark b (suc p) = rw (new, old, abort, before) refl in
+      ap (last_mark (b ++ bit ∷ [])) next ∙ (same ∙ sym (last_mark-down b (suc p) (length b) (omega arith)
+      (λ q from mark below. omega (arith, mark-fits b q mark))))
 ]
 
 -- one place has no flag and abort mark
 pub flag-not_abort : (b : List Bool) (p : ℕ) → IsFlag b p → IsAbort b p → ⊥
-flag-not_abort b p f a =
-    let x : get_or b (p + 0) false ≡ false = stands-bit b p flag 0 f (omega arith) in
-    let y : get_or b (p + 0) false ≡ true = stands-bit b p (ones 7) 0 a.0 (omega arith) in
-    both_ways (get_or b (p + 0) false) x y
+flag-not_abort b p is-flag is-abort =
+    let low : get_or b (p + 0) false ≡ false = stands-bit b p flag 0 is-flag (omega arith) in
+    let high : get_or b (p + 0) false ≡ true = stands-bit b p (ones 7) 0 is-abort.0 (omega arith) in
+    both_ways (get_or b (p + 0) false) low high
 
 ones-pushed : (b : List Bool) (bit : Bool) (k : ℕ) → ones_at_end (b ++ bit ∷ []) ≡ suc k →
     (bit ≡ true) × (ones_at_end b ≡ k)
-ones-pushed b true k h = let e = ones_after-more 0 b true in (refl, omega (arith, e, h))
-ones-pushed b false k h = let e = ones_after-more 0 b false in absurd (omega (arith, e, h))
+ones-pushed b true k run = let more = ones_after-more 0 b true in (refl, omega (arith, more, run))
+ones-pushed b false k run = let more = ones_after-more 0 b false in absurd (omega (arith, more, run))
 
 -- a bit that ends no flag and no abort mark leaves the last mark
 pub keeps : (b : List Bool) (bit : Bool) → ((p : ℕ) → IsFlag (b ++ bit ∷ []) p → p + 7 ≡ length b → ⊥) →
     ones_at_end (b ++ bit ∷ []) ≢ 7 → current (b ++ bit ∷ []) ≡ current b
-keeps b bit h k =
+keeps b bit none not-seven =
     let c = b ++ bit ∷ [] in
-    let l : length (b ++ bit ∷ []) ≡ length b + 1 = length_push b bit in
-    last_mark-down c (length b - 6) (length c) (omega (arith, l)) (λ q u m v. elim m [
-      | inl f ↦ omega (arith, l, flag-fits c q f)
-      | inr a ↦ k (run-end c q 7 a.0 a.1 (omega (arith, l, abort-fits c q a)))
+    let size : length (b ++ bit ∷ []) ≡ length b + 1 = length_push b bit in
+    last_mark-down c (length b - 6) (length c) (omega (arith, size)) (λ q from mark below. elim mark [
+      | inl is-flag ↦ omega (arith, size, flag-fits c q is-flag)
+      | inr is-abort ↦
+          not-seven (run-end c q 7 is-abort.0 is-abort.1 (omega (arith, size, abort-fits c q is-abort)))
     ])
-    ∙ kept b bit h
+    ∙ kept b bit none
 
 pub at-flag : (longest : ℕ) (b : List Bool) → ones_at_end b ≡ 6 → 6 < length b →
     Decides longest b false
     (piece_report (λ p. class_of longest (slice_range (b ++ false ∷ []) (p + 8) (length b - 7))) (current b)
     (length b - 7)) (FlagAt (length b - 7))
-at-flag longest b e l =
+at-flag longest b six long =
     let c = b ++ false ∷ [] in
     let p = length b - 7 in
-    let n : length (b ++ false ∷ []) ≡ length b + 1 = length_push b false in
-    let f = flag-made b e l in
-    let s : p + 7 ≡ length b = omega arith in
-    let m : last_mark (b ++ false ∷ []) p ≡ current b =
+    let size : length (b ++ false ∷ []) ≡ length b + 1 = length_push b false in
+    let made = flag-made b six long in
+    let end : length b ≡ p + 7 = omega arith in
+    let before : last_mark (b ++ false ∷ []) p ≡ current b =
     last_mark-append b (false ∷ []) p (omega arith)
-    ∙ sym (last_mark-down b p (length b) (omega arith) (λ q u k v. elim k [
-      | inl g ↦ omega (arith, flag-fits b q g)
-      | inr g ↦
-          let x : q ≡ p = omega (arith, abort-fits b q g) in
-          flag-not_abort c p f
-          (abort-true c p (is_abort-append b (false ∷ []) p (omega arith) ∙ abort-is b p (subst (IsAbort b) x g)))
+    ∙ sym (last_mark-down b p (length b) (omega arith) (λ q from mark below. elim mark [
+      | inl is-flag ↦ omega (arith, flag-fits b q is-flag)
+      | inr is-abort ↦
+          let same : q ≡ p = omega (arith, abort-fits b q is-abort) in
+          let old = abort-is b p (rw same at is-abort) in
+          flag-not_abort c p made (abort-true c p (is_abort-append b (false ∷ []) p (omega arith) ∙ old))
     ])) in
-    let t = flag-is c p f in
+    let is = flag-is c p made in
     record {
-      answers = ap (due_at longest c) (sym s)
-          ∙ (due_at-flag longest c p f ∙ ap (λ x. piece_report (λ q. class_of longest (slice_range c (q + 8) p)) x p)
-          m);
+      answers = ap (due_at longest c) end ∙ (due_at-flag longest c p made ∙ rw before refl);
       leaves =
-          last_mark-down c (suc p) (length c) (omega (arith, n)) (λ q u k v. elim k [
-            | inl g ↦ omega (arith, n, flag-fits c q g)
-            | inr g ↦ let x : q ≡ suc p =
-                omega (arith, n, abort-fits c q g) in flag-abort c p (suc p) f (subst (IsAbort c) x g) (omega arith)
+          last_mark-down c (suc p) (length c) (omega (arith, size)) (λ q from mark below. elim mark [
+            | inl is-flag ↦ omega (arith, size, flag-fits c q is-flag)
+            | inr is-abort ↦
+                let next : q ≡ suc p = omega (arith, size, abort-fits c q is-abort) in
+                flag-abort c p (suc p) made (rw next at is-abort) (omega arith)
           ])
-          ∙ rw t refl;
+          ∙ rw is refl;
     }
+
+-- a run of ones that one more ends
+run-made : (b : List Bool) (k : ℕ) → ones_at_end b ≡ k → StandsAt (b ++ true ∷ []) (length b - k) (ones (suc k))
+    × StartsRun (b ++ true ∷ []) (length b - k) × (length b ≡ length b - k + k)
+run-made b k run =
+    let found = run-stands (b ++ true ∷ []) (suc k) (ones_after-more 0 b true ∙ ap suc run) in
+    let size = length_push b true in
+    let place : found.0 ≡ length b - k = omega (arith, found.1, size) in
+    (rw (← place) found.2, rw (← place) found.3, omega (arith, found.1, size))
 
 pub at-abort : (longest : ℕ) (b : List Bool) → ones_at_end b ≡ 6 →
     Decides longest b true (piece_report (λ p. Abort) (current b) (length b - 6)) (AbortAt (length b - 6))
-at-abort longest b e =
+at-abort longest b six =
     let c = b ++ true ∷ [] in
     let k = length b - 6 in
-    let n : length (b ++ true ∷ []) ≡ length b + 1 = length_push b true in
-    let o : ones_at_end (b ++ true ∷ []) ≡ 7 = ones_after-more 0 b true ∙ ap suc e in
-    let r = run-stands c 7 o in
-    let x : r.0 ≡ k = omega (arith, r.1, n) in
-    let a : IsAbort (b ++ true ∷ []) k = (subst (λ i. StandsAt c i (ones 7)) x r.2, subst (StartsRun c) x r.3) in
-    let s : k + 6 ≡ length b = omega (arith, r.1, n) in
-    let m = kept b true (λ p f g. true≢false (flag-end b true p f g).0) in
-    let f : is_flag (b ++ true ∷ []) k ≡ false =
-    false_from_ne_true _ (λ t. absurd (omega (arith, n, flag-fits c k (flag-true c k t)))) in
-    let t = abort-is c k a in
+    let size : length (b ++ true ∷ []) ≡ length b + 1 = length_push b true in
+    let made = run-made b 6 six in
+    let abort : IsAbort (b ++ true ∷ []) k = (made.0, made.1) in
+    let before = kept b true (λ p is-flag end. true≢false (flag-end b true p is-flag end).0) in
+    let none = not-flag c k (λ is. omega (arith, size, flag-fits c k is)) in
+    let is = abort-is c k abort in
     record {
-      answers = ap (due_at longest c) (sym s)
-          ∙ (due_at-abort longest c k a ∙ ap (λ x. piece_report (λ q. Abort) x k) m);
-      leaves = last_mark-down c (suc k) (length c) (omega (arith, n)) (λ q u g v. omega (arith, n, mark-fits c q g))
-          ∙ rw (f, t) refl;
+      answers = ap (due_at longest c) made.2 ∙ (due_at-abort longest c k abort ∙ rw before refl);
+      leaves = last_mark-down c (suc k) (length c) (omega (arith, size))
+          (λ q from mark below. omega (arith, size, mark-fits c q mark)) ∙ rw (none, is) refl;
     }
 
 pub at-idle : (longest : ℕ) (b : List Bool) → ones_at_end b ≡ 14 →
     Decides longest b true (Some (record { kind = Idle; first = length b - 14; past = length b + 1 })) (current b)
-at-idle longest b e =
+at-idle longest b fourteen =
     let c = b ++ true ∷ [] in
     let k = length b - 14 in
-    let n : length (b ++ true ∷ []) ≡ length b + 1 = length_push b true in
-    let o : ones_at_end (b ++ true ∷ []) ≡ 15 = ones_after-more 0 b true ∙ ap suc e in
-    let r = run-stands c 15 o in
-    let x : r.0 ≡ k = omega (arith, r.1, n) in
-    let a : IsIdle (b ++ true ∷ []) k = (subst (λ i. StandsAt c i (ones 15)) x r.2, subst (StartsRun c) x r.3) in
-    let s : k + 14 ≡ length b = omega (arith, r.1, n) in
-    let y : k + 15 ≡ length b + 1 = omega arith in
+    let made = run-made b 14 fourteen in
+    let past : k + 15 ≡ length b + 1 = omega (arith, made.2) in
     record {
-      answers = ap (due_at longest c) (sym s)
-          ∙ (due_at-idle longest c k a ∙ ap (λ i. Some (record { kind = Idle; first = k; past = i })) y);
-      leaves = keeps b true (λ p f g. true≢false (flag-end b true p f g).0) (λ z. absurd (omega (arith, o, z)));
+      answers = ap (due_at longest c) made.2 ∙ (due_at-idle longest c k (made.0, made.1) ∙ rw past refl);
+      leaves = keeps b true (λ p is-flag end. true≢false (flag-end b true p is-flag end).0)
+          (λ seven. omega (arith, ones_after-more 0 b true, fourteen, seven));
     }
 
 pub at-other : (longest : ℕ) (b : List Bool) (bit : Bool) → (bit ≡ false → ones_at_end b ≡ 6 → 6 < length b → ⊥) →
     (bit ≡ true → (ones_at_end b ≢ 6) × (ones_at_end b ≢ 14)) → Decides longest b bit None (current b)
-at-other longest b bit h k =
+at-other longest b bit not-flagged neither =
     let c = b ++ bit ∷ [] in
-    let n : length (b ++ bit ∷ []) ≡ length b + 1 = length_push b bit in
+    let size : length (b ++ bit ∷ []) ≡ length b + 1 = length_push b bit in
+    let none : (p : ℕ) → IsFlag (b ++ bit ∷ []) p → p + 7 ≡ length b → ⊥ =
+    λ p is end. let ended = flag-end b bit p is end in not-flagged ended.0 ended.1 ended.2 in
+    let not-seven : ones_at_end (b ++ bit ∷ []) ≢ 7 =
+    λ seven. let last = ones-pushed b bit 6 seven in (neither last.0).0 last.1 in
+    let not-fifteen : ones_at_end (b ++ bit ∷ []) ≢ 15 =
+    λ fifteen. let last = ones-pushed b bit 14 fifteen in (neither last.0).1 last.1 in
     record {
       answers =
-          cond-false _ _ _ (no-flag c (length b) (λ p f s. let x = flag-end b bit p f s in h x.0 x.1 x.2))
+          cond-false _ _ _ (no-flag c (length b) none)
           ∙ (cond-false _ _ _
-          (no-abort c (length b)
-          (λ p a s. let x = ones-pushed b bit 6 (run-end c p 7 a.0 a.1 (omega (arith, n, s))) in (k x.0).0 x.1))
+          (no-abort c (length b) (λ p is end. not-seven (run-end c p 7 is.0 is.1 (omega (arith, size, end)))))
           ∙ cond-false _ _ _
-          (no-idle c (length b)
-          (λ p a s. let x = ones-pushed b bit 14 (run-end c p 15 a.0 a.1 (omega (arith, n, s))) in (k x.0).1 x.1)));
-      leaves = keeps b bit (λ p f s. let x = flag-end b bit p f s in h x.0 x.1 x.2)
-          (λ z. let x = ones-pushed b bit 6 z in (k x.0).0 x.1);
+          (no-idle c (length b) (λ p is end. not-fifteen (run-end c p 15 is.0 is.1 (omega (arith, size, end))))));
+      leaves = keeps b bit none not-seven;
     }
 
 pub range-more : (b : List Bool) (bit : Bool) (x m : ℕ) → x ≤ m → m < length b →
     slice_range (b ++ bit ∷ []) x (m + 1) ≡ slice_range b x m ++ get_or b m false ∷ []
-range-more b bit x m l h =
-    let e : (m + 1) - x ≡ (m - x) + 1 = omega arith in
-    let d : x + (m - x) ≡ m = omega arith in
+range-more b bit x m within inside =
+    let size : (m + 1) - x ≡ (m - x) + 1 = omega arith in
+    let end : x + (m - x) ≡ m = omega arith in
     range-append b (bit ∷ []) x (m + 1) (omega arith)
-    ∙ (ap (λ n. take n (drop x b)) e
+    ∙ (ap (λ n. take n (drop x b)) size
     ∙ (take_more (drop x b) (m - x) false (omega (arith, length-drop x b))
-    ∙ ap (λ y. take (m - x) (drop x b) ++ y ∷ []) (get_or-drop x b (m - x) false ∙ ap (λ n. get_or b n false) d)))
+    ∙ ap (λ y. take (m - x) (drop x b) ++ y ∷ []) (get_or-drop x b (m - x) false ∙ ap (λ n. get_or b n false) end)))

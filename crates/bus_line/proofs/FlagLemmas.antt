@@ -21,8 +21,9 @@ use Rattle.bus_line.specs.Internal.Tracks.{Holds, Counts, Tracks, padded, settle
 use Rattle.bus_line.specs.Internal.Settled.{IsCalm}
 use Rattle.bus_line.proofs.DueMoreLemmas.{placed-more}
 use Rattle.bus_line.proofs.DueStreamLemmas.{at-flag, ones_after-last}
-use Rattle.bus_line.proofs.StepLemmas.{counts-kept, early-settled, data-start, holds-of}
-use Rattle.bus_line.proofs.SettleLemmas.{next-bit, length-front, mark-calm}
+use Rattle.bus_line.proofs.StepLemmas.{counts-kept, early-settled, data-start, holds-of, moved-counts}
+use Rattle.bus_line.proofs.WordLemmas.{length-front}
+use Rattle.bus_line.proofs.SettleLemmas.{next-bit, mark-calm}
 use Rattle.bus_line.proofs.AdvanceLemmas.{calm-placed}
 
 -- the bits of a flag as a number
@@ -39,121 +40,120 @@ unfolding bits_of
 no-bits x = refl
 
 pub flag-bits : (y : ℕ) → y % 256 ≡ 126 → bits_of 8 y ≡ flag
-flag-bits y e = sym (bits-low 8 y) ∙ (ap (bits_of 8) e ∙ bits-flag)
+flag-bits y is = sym (bits-low 8 y) ∙ (ap (bits_of 8) is ∙ bits-flag)
 
 pub flag-octet : (y : ℕ) → bits_of 8 y ≡ flag → y % 256 ≡ 126
-flag-octet y e = sym (number-bits 8 (y % 2 ^ 8) (omega arith)) ∙ (ap number (bits-low 8 y ∙ e) ∙ number-flag)
+flag-octet y is = sym (number-bits 8 (y % 2 ^ 8) (omega arith)) ∙ (ap number (bits-low 8 y ∙ is) ∙ number-flag)
 
 -- one flag more among bits
 pub flags-more : (k x : ℕ) → bits_of (8 * k) x ≡ flags k → x / 2 ^ (8 * k) % 256 ≡ 126 →
     bits_of (8 * (k + 1)) x ≡ flags (k + 1)
-flags-more k x are e =
-    let n : 8 * (k + 1) ≡ 8 * k + 8 = omega arith in
-    let m : suc k ≡ k + 1 = omega arith in
-    ap (λ (j : ℕ). bits_of j x) n
-    ∙ (bits-split (8 * k) 8 x
-    ∙ (ap (λ (z : List Bool). z ++ bits_of 8 (x / 2 ^ (8 * k))) are
-    ∙ (ap (λ (z : List Bool). flags k ++ z) (flag-bits (x / 2 ^ (8 * k)) e) ∙ ap flags m)))
+flags-more k x are next =
+    let size : 8 * (k + 1) ≡ 8 * k + 8 = omega arith in
+    let more : suc k ≡ k + 1 = omega arith in
+    ap (λ (j : ℕ). bits_of j x) size
+    ∙ (bits-split (8 * k) 8 x ∙ (rw (are, flag-bits (x / 2 ^ (8 * k)) next) (ap flags more)))
 
 -- all bits of a flag but the last
 abbrev opening : List Bool
 opening = false ∷ ones 6
 
-flag-length : (b : List Bool) (h : EndsInFlag b) → length b ≡ length h.front + 8
-flag-length b h = ap length h.all ∙ length-append h.front flag
+flag-length : (b : List Bool) (ends : EndsInFlag b) → length b ≡ length ends.front + 8
+flag-length b ends = ap length ends.all ∙ length-append ends.front flag
 
 -- what ends in a flag, before its last bit
-flag-split : (b : List Bool) (h : EndsInFlag b) → b ≡ (h.front ++ opening) ++ false ∷ []
-flag-split b h = h.all ∙ sym (append_assoc h.front opening (false ∷ []))
+flag-split : (b : List Bool) (ends : EndsInFlag b) → b ≡ (ends.front ++ opening) ++ false ∷ []
+flag-split b ends = ends.all ∙ sym (append_assoc ends.front opening (false ∷ []))
 
 -- it is the last mark
 pub flag-last : (b : List Bool) → EndsInFlag b → current b ≡ FlagAt (length b - 8)
-flag-last b h =
-    let u = h.front ++ opening in
-    let n = length-append h.front opening in
-    let e : ones_at_end u ≡ 6 = ones_after-last 0 h.front 6 in
-    let k : length u - 7 ≡ length b - 8 = omega (arith, n, flag-length b h) in
-    ap current (flag-split b h) ∙ ((at-flag 3 u e (omega (arith, n))).leaves ∙ ap FlagAt k)
+flag-last b ends =
+    let u = ends.front ++ opening in
+    let size = length-append ends.front opening in
+    let six : ones_at_end u ≡ 6 = ones_after-last 0 ends.front 6 in
+    let place : length u - 7 ≡ length b - 8 = omega (arith, size, flag-length b ends) in
+    ap current (flag-split b ends) ∙ ((at-flag 3 u six (omega (arith, size))).leaves ∙ ap FlagAt place)
 
 -- runs of ones in the flag after it
 run-here : (b : List Bool) → EndsInFlag b → ones_at_end b ≡ 0
-run-here b h = ap ones_at_end (flag-split b h) ∙ ones_after-last 0 (h.front ++ opening) 0
+run-here b ends = ap ones_at_end (flag-split b ends) ∙ ones_after-last 0 (ends.front ++ opening) 0
 
 front-of-flag : (i : ℕ) → i ≤ 6 → take (suc i) flag ≡ false ∷ ones i
-front-of-flag zero l = refl
-front-of-flag (suc zero) l = refl
-front-of-flag (suc (suc zero)) l = refl
-front-of-flag (suc (suc (suc zero))) l = refl
-front-of-flag (suc (suc (suc (suc zero)))) l = refl
-front-of-flag (suc (suc (suc (suc (suc zero))))) l = refl
-front-of-flag (suc (suc (suc (suc (suc (suc zero)))))) l = refl
-front-of-flag (suc (suc (suc (suc (suc (suc (suc i))))))) l = absurd (omega (arith, l))
+front-of-flag zero few = refl
+front-of-flag (suc zero) few = refl
+front-of-flag (suc (suc zero)) few = refl
+front-of-flag (suc (suc (suc zero))) few = refl
+front-of-flag (suc (suc (suc (suc zero)))) few = refl
+front-of-flag (suc (suc (suc (suc (suc zero))))) few = refl
+front-of-flag (suc (suc (suc (suc (suc (suc zero)))))) few = refl
+front-of-flag (suc (suc (suc (suc (suc (suc (suc i))))))) few = absurd (omega (arith, few))
 
 pub run-in-flag : (b : List Bool) → EndsInFlag b → (i : ℕ) → i ≤ 7 → ones_at_end (b ++ take i flag) ≡ i - 1
-run-in-flag b h zero l = ap ones_at_end (append-nil b) ∙ run-here b h
-run-in-flag b h (suc i) l =
-    ap (λ (x : List Bool). ones_at_end (b ++ x)) (front-of-flag i (omega (arith, l)))
+run-in-flag b ends zero within = ap ones_at_end (append-nil b) ∙ run-here b ends
+run-in-flag b ends (suc i) within =
+    ap (λ (x : List Bool). ones_at_end (b ++ x)) (front-of-flag i (omega (arith, within)))
     ∙ (ones_after-last 0 b i ∙ omega arith)
 
 pub flag-calm : (b : List Bool) → EndsInFlag b → IsCalm b flag 7
-flag-calm b h = λ i l.
-    let e = run-in-flag b h i (omega (arith, l)) in
-    ((λ six. omega (arith, e, six, l)), λ more. omega (arith, e, more, l))
+flag-calm b ends = λ i before.
+    let run = run-in-flag b ends i (omega (arith, before)) in
+    ((λ six. omega (arith, run, six, before)), λ more. omega (arith, run, more, before))
 
 -- flags after a flag end in one
 pub flags-end : (b : List Bool) (k : ℕ) → EndsInFlag b → EndsInFlag (b ++ flags k)
-flags-end b zero h = subst EndsInFlag (sym (append-nil b)) h
-flags-end b (suc k) h = record { front = b ++ flags k; all = sym (append_assoc b (flags k) flag) }
+flags-end b zero ends = subst EndsInFlag (sym (append-nil b)) ends
+flags-end b (suc k) ends = record { front = b ++ flags k; all = sym (append_assoc b (flags k) flag) }
 
 -- a flag decides nothing
 pub flag-due : (longest : ℕ) (b : List Bool) → EndsInFlag b → due_at longest (b ++ flag) (length b + 7) ≡ None
-flag-due longest b h =
+flag-due longest b ends =
     let u = b ++ opening in
-    let n : length u ≡ length b + 7 = length-append b opening in
-    let m = flag-length b h in
-    let e : ones_at_end u ≡ 6 = ones_after-last 0 b 6 in
+    let size : length u ≡ length b + 7 = length-append b opening in
+    let room = flag-length b ends in
+    let six : ones_at_end u ≡ 6 = ones_after-last 0 b 6 in
     let c : List Bool = u ++ false ∷ [] in
-    let s : b ++ flag ≡ c = sym (append_assoc b opening (false ∷ [])) in
+    let whole : b ++ flag ≡ c = sym (append_assoc b opening (false ∷ [])) in
     let kind : ℕ → Kind = λ p. class_of longest (slice_range c (p + 8) (length u - 7)) in
-    let last : current u ≡ FlagAt (length b - 8) = mark-calm b flag 7 7 (flag-calm b h) (omega arith) (omega arith)
-    ∙ flag-last b h in
-    ap (λ (x : List Bool). due_at longest x (length b + 7)) s
-    ∙ (ap (due_at longest c) (sym n)
-    ∙ ((at-flag longest u e (omega (arith, n, m))).answers
+    let last : current u ≡ FlagAt (length b - 8) = mark-calm b flag 7 7 (flag-calm b ends) (omega arith) (omega arith)
+    ∙ flag-last b ends in
+    ap (λ (x : List Bool). due_at longest x (length b + 7)) whole
+    ∙ (ap (due_at longest c) (sym size)
+    ∙ ((at-flag longest u six (omega (arith, size, room))).answers
     ∙ (ap (λ (x : Mark). piece_report kind x (length u - 7)) last
-    ∙ cond-false _ _ _ (le_false (length b - 8 + 8) (length u - 7) (omega (arith, n, m))))))
+    ∙ cond-false _ _ _ (le_false (length b - 8 + 8) (length u - 7) (omega (arith, size, room))))))
 
 pub flag-placed : (origin longest : ℕ) (b : List Bool) → EndsInFlag b → (i : ℕ) → i ≤ 7 →
     placed origin longest (b ++ take i flag) ≡ placed origin longest b
-flag-placed origin longest b h i l = calm-placed origin longest 7 b flag (flag-calm b h) i l (omega (arith, l))
+flag-placed origin longest b ends i within =
+    calm-placed origin longest 7 b flag (flag-calm b ends) i within (omega (arith, within))
 
 pub flag-adds : (origin longest : ℕ) (b : List Bool) → EndsInFlag b →
     placed origin longest (b ++ flag) ≡ placed origin longest b
-flag-adds origin longest b h =
+flag-adds origin longest b ends =
     let u = b ++ opening in
-    let n : length u ≡ length b + 7 = length-append b opening in
-    let s : b ++ flag ≡ u ++ false ∷ [] = sym (append_assoc b opening (false ∷ [])) in
+    let size : length u ≡ length b + 7 = length-append b opening in
+    let whole : b ++ flag ≡ u ++ false ∷ [] = sym (append_assoc b opening (false ∷ [])) in
     let none : due_at longest (u ++ false ∷ []) (length u) ≡ None =
-    ap (due_at longest (u ++ false ∷ [])) n
-    ∙ (ap (λ (x : List Bool). due_at longest x (length b + 7)) (sym s) ∙ flag-due longest b h) in
-    ap (placed origin longest) s
+    ap (due_at longest (u ++ false ∷ [])) size
+    ∙ (ap (λ (x : List Bool). due_at longest x (length b + 7)) (sym whole) ∙ flag-due longest b ends) in
+    ap (placed origin longest) whole
     ∙ (placed-more origin longest u false None (sym (ap (option_map (moved origin)) none))
-    ∙ (append-nil (placed origin longest u) ∙ flag-placed origin longest b h 7 (omega arith)))
+    ∙ (append-nil (placed origin longest u) ∙ flag-placed origin longest b ends 7 (omega arith)))
 
 -- nor does it settle anything
 flag-counts : {C : Type 0} (cost : ℕ) (d : LineState C) (b : List Bool) → EndsInFlag b → Counts cost d b → (i : ℕ) →
     i ≤ 8 → Counts cost d (b ++ take i flag)
-flag-counts cost d b h k zero l = subst (Counts cost d) (sym (append-nil b)) k
-flag-counts cost d b h k (suc i) l =
+flag-counts cost d b ends counts zero within = subst (Counts cost d) (sym (append-nil b)) counts
+flag-counts cost d b ends counts (suc i) within =
     let u = b ++ take i flag in
     let bit = get_or flag i false in
-    let m = flag-length b h in
-    let n : length u ≡ length b + i = length-front i b flag (omega (arith, l)) in
+    let room = flag-length b ends in
+    let size : length u ≡ length b + i = length-front i b flag (omega (arith, within)) in
     let last : current u ≡ FlagAt (length b - 8) =
-    mark-calm b flag 7 i (flag-calm b h) (omega (arith, l)) (omega (arith, l)) ∙ flag-last b h in
-    subst (Counts cost d) (sym (next-bit i b flag (omega (arith, l))))
-    (counts-kept cost d u bit (early-settled u bit (length b - 8) last (omega (arith, n, m, l)))
-    (flag-counts cost d b h k i (omega (arith, l))))
+    mark-calm b flag 7 i (flag-calm b ends) (omega (arith, within)) (omega (arith, within)) ∙ flag-last b ends in
+    rw (next-bit i b flag (omega (arith, within)))
+    (counts-kept cost d u bit (early-settled u bit (length b - 8) last (omega (arith, size, room, within)))
+    (flag-counts cost d b ends counts i (omega (arith, within))))
 
 two-flags : number (flag ++ flag) ≡ 32382
 unfolding number
@@ -161,16 +161,16 @@ two-flags = refl
 
 -- the last sixteen bits are two flags
 flag-last-bits : (b : List Bool) → EndsInFlag b → number (drop (length (b ++ flag)) (padded (b ++ flag))) ≡ 32382
-flag-last-bits b h =
-    let front : List Bool = replicate 16 false ++ h.front in
-    let n : length front ≡ length (b ++ flag) =
-    omega (arith, length-append (replicate 16 false) h.front, length-append b flag, flag-length b h) in
-    let s : padded (b ++ flag) ≡ front ++ (flag ++ flag) =
-    ap (λ (x : List Bool). replicate 16 false ++ (x ++ flag)) h.all
-    ∙ (ap (λ (x : List Bool). replicate 16 false ++ x) (append_assoc h.front flag flag)
-    ∙ sym (append_assoc (replicate 16 false) h.front (flag ++ flag))) in
-    ap (λ (x : List Bool). number (drop (length (b ++ flag)) x)) s
-    ∙ (ap number (drop_at front (flag ++ flag) (length (b ++ flag)) n) ∙ two-flags)
+flag-last-bits b ends =
+    let front : List Bool = replicate 16 false ++ ends.front in
+    let size : length front ≡ length (b ++ flag) =
+    omega (arith, length-append (replicate 16 false) ends.front, length-append b flag, flag-length b ends) in
+    let parts : padded (b ++ flag) ≡ front ++ (flag ++ flag) =
+    ap (λ (x : List Bool). replicate 16 false ++ (x ++ flag)) ends.all
+    ∙ (ap (λ (x : List Bool). replicate 16 false ++ x) (append_assoc ends.front flag flag)
+    ∙ sym (append_assoc (replicate 16 false) ends.front (flag ++ flag))) in
+    ap (λ (x : List Bool). number (drop (length (b ++ flag)) x)) parts
+    ∙ (ap number (drop_at front (flag ++ flag) (length (b ++ flag)) size) ∙ two-flags)
 
 -- the state after it
 pub flag-after : {C : Type 0} (folded : C → List ℕ → Type 0) (cost : ℕ) (d : LineState C) (b : List Bool)
@@ -178,35 +178,37 @@ pub flag-after : {C : Type 0} (folded : C → List ℕ → Type 0) (cost : ℕ) 
     → After folded cost
     (record d { place = place; last_bits = 32382; first = Some place; spent = record d.spent { shifted = shifted } })
     (b ++ flag)
-flag-after folded cost d b place shifted h t p =
-    let n = length-append b flag in
-    let m = flag-length b h in
+flag-after folded cost d b place shifted ends stands at =
+    let size = length-append b flag in
+    let room = flag-length b ends in
     let ended : EndsInFlag (b ++ flag) = record { front = b; all = refl } in
-    let e :
+    let tracks :
     Tracks folded cost
     (record d { place = place; last_bits = 32382; first = Some place; spent = record d.spent { shifted = shifted } })
     (b ++ flag) (FlagAt (length b)) =
     (let old : Holds folded d (settled_data b (length b - 8)) =
-    holds-of folded d b (length b - 8) (current b) (flag-last b h) t.piece in
-    let before : settled_data b (length b - 8) ≡ [] = data-start b (length b - 8) (omega (arith, m)) in
-    let none : settled_data (b ++ flag) (length b) ≡ [] = data-start (b ++ flag) (length b) (omega (arith, n)) in
-    let k = flag-counts cost d b h t.counts 8 (omega arith) in
+    holds-of folded d b (length b - 8) (current b) (flag-last b ends) stands.piece in
+    let before : settled_data b (length b - 8) ≡ [] = data-start b (length b - 8) (omega (arith, room)) in
+    let none : settled_data (b ++ flag) (length b) ≡ [] = data-start (b ++ flag) (length b) (omega (arith, size)) in
+    let here = stands.has_taken.place in
+    let counted = flag-counts cost d b ends stands.counts 8 (omega arith) in
     let empty : Holds folded d [] = subst (Holds folded d) before old in
     record {
-      has_taken = record { place = p ∙ omega (arith, t.has_taken.place, n); last_bits = sym (flag-last-bits b h) };
-      first = ap Some (p ∙ omega (arith, t.has_taken.place));
+      has_taken = record { place = at ∙ omega (arith, here, size); last_bits = sym (flag-last-bits b ends) };
+      first = ap Some (at ∙ omega (arith, here));
       piece =
           rw none
           (record {
             count = empty.count;
             partial = empty.partial;
-            held = λ l. absurd (omega (arith, l));
-            checked = λ l. absurd (omega (arith, l));
+            held = λ many. absurd (omega (arith, many));
+            checked = λ many. absurd (omega (arith, many));
           });
-      counts = record { settled = k.settled; filled = k.filled; paid = k.paid; copied = k.copied; handled = k.handled };
+      counts = moved-counts cost d (b ++ flag) place 32382 shifted (Some place) counted;
     }) in
-    let last : current (b ++ flag) ≡ FlagAt (length b) = flag-last (b ++ flag) ended ∙ ap FlagAt (omega (arith, n)) in
-    subst (Tracks folded cost _ (b ++ flag)) (sym last) e
+    let last : current (b ++ flag) ≡ FlagAt (length b) =
+    flag-last (b ++ flag) ended ∙ ap FlagAt (omega (arith, size)) in
+    subst (Tracks folded cost _ (b ++ flag)) (sym last) tracks
 
 -- many of them
 pub flags-after : {C : Type 0} (folded : C → List ℕ → Type 0) (cost : ℕ) (d : LineState C) (b : List Bool)
@@ -214,14 +216,14 @@ pub flags-after : {C : Type 0} (folded : C → List ℕ → Type 0) (cost : ℕ)
     → After folded cost
     (record d { place = place; last_bits = 32382; first = Some place; spent = record d.spent { shifted = shifted } })
     (b ++ flags k)
-flags-after folded cost d b zero place shifted some ends t p = absurd (omega (arith, some))
-flags-after folded cost d b (suc zero) place shifted some ends t p =
-    flag-after folded cost d b place shifted (ends some) t (omega (arith, p))
-flags-after folded cost d b (suc (suc k)) place shifted some ends t p =
-    let h = ends some in
-    let before = flags-after folded cost d b (suc k) (d.place + 8 * suc k) shifted (omega arith) (λ s. h) t refl in
+flags-after folded cost d b zero place shifted some ends stands at = absurd (omega (arith, some))
+flags-after folded cost d b (suc zero) place shifted some ends stands at =
+    flag-after folded cost d b place shifted (ends some) stands (omega (arith, at))
+flags-after folded cost d b (suc (suc k)) place shifted some ends stands at =
+    let end = ends some in
+    let before = flags-after _ _ d b (suc k) (d.place + 8 * suc k) shifted (omega arith) (λ some. end) stands refl in
     subst
     (After folded cost
     (record d { place = place; last_bits = 32382; first = Some place; spent = record d.spent { shifted = shifted } }))
     (append_assoc b (flags (suc k)) flag)
-    (flag-after folded cost _ (b ++ flags (suc k)) place shifted (flags-end b (suc k) h) before (omega (arith, p)))
+    (flag-after folded cost _ (b ++ flags (suc k)) place shifted (flags-end b (suc k) end) before (omega (arith, at)))

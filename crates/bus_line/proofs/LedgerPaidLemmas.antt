@@ -48,23 +48,23 @@ IsPaid longest b = copied longest b + open_stored longest b (current b) ≤ stor
 find : (bit : Bool) (run count : ℕ) → (f : Found) × IsFound bit run count f
 find true run count =
     elim (cases_eq run 6) [
-      | inl e ↦ (Seven, (refl, e))
-      | inr n ↦ elim (cases_eq run 14)
-          [ inl e ↦ (Fifteen, (refl, e)) | inr k ↦ (Other, ((λ e. absurd (cc)), λ e. (n, k))) ]
+      | inl six ↦ (Seven, (refl, six))
+      | inr not-six ↦ elim (cases_eq run 14)
+          [ inl more ↦ (Fifteen, (refl, more)) | inr less ↦ (Other, ((λ is. absurd (cc)), λ is. (not-six, less))) ]
     ]
 find false run count =
     elim (cases_eq run 6) [
-      | inl e ↦ elim (cases_lt 6 count)
-          [ inl l ↦ (Closing, (refl, e, l)) | inr l ↦ (Other, ((λ u v w. omega (arith, l, w)), λ e. absurd (cc))) ]
-      | inr n ↦ (Other, ((λ u v w. n v), λ e. absurd (cc)))
+      | inl six ↦ elim (cases_lt 6 count)
+          [ inl far ↦ (Closing, (refl, six, far)) | inr few ↦ (Other, ((λ _ _ far. omega arith), λ is. absurd (cc))) ]
+      | inr not-six ↦ (Other, ((λ is run long. not-six run), λ is. absurd (cc)))
     ]
 
 -- one bit more for the octets of the frames
 copied-more : (longest : ℕ) (b : List Bool) (bit : Bool) (due : Option Report) →
     due_at longest (b ++ bit ∷ []) (length b) ≡ due → copied longest (b ++ bit ∷ [])
     ≡ copied longest b + sum_by octet_count (option_to_list due)
-copied-more longest b bit due e =
-    ap (sum_by octet_count) (reports-more longest b bit ∙ ap (λ o. reports longest b ++ option_to_list o) e)
+copied-more longest b bit due is =
+    ap (sum_by octet_count) (reports-more longest b bit ∙ ap (λ o. reports longest b ++ option_to_list o) is)
     ∙ sum_by-append octet_count (reports longest b) (option_to_list due)
 
 -- and for those stored of a flag's piece
@@ -73,19 +73,19 @@ kept-more : (longest : ℕ) (b : List Bool) (bit : Bool) (p : ℕ) →
     + one_if (nat_le (p + 8) (length b - 8) && is_stored longest (b ++ bit ∷ []) (length b - 8))
 kept-more longest b bit p =
     let c = b ++ bit ∷ [] in
-    let n : length c ≡ suc (length b) = omega (arith, length_push b bit) in
-    ap (λ k. count_by (kept longest c p) (places k)) n
+    let size : length c ≡ suc (length b) = omega (arith, length_push b bit) in
+    ap (λ k. count_by (kept longest c p) (places k)) size
     ∙ one-place (kept longest c p) (kept longest b p) (length b)
-    (λ i l. ap (λ t. nat_le (p + 8) i && t) (is_stored-append longest b (bit ∷ []) i l (omega (arith, n))))
-    (λ i l. none-behind (nat_le (p + 8) i) _ (late c i (omega (arith, n, l))))
-    (λ i l. none-behind (nat_le (p + 8) i) _ (late b i l))
+    (λ i below. ap (λ t. nat_le (p + 8) i && t) (is_stored-append longest b (bit ∷ []) i below (omega (arith, size))))
+    (λ i below. none-behind (nat_le (p + 8) i) _ (late c i (omega (arith, size, below))))
+    (λ i below. none-behind (nat_le (p + 8) i) _ (late b i below))
   where
     none-behind : (x y : Bool) → y ≡ false → (x && y) ≡ false
-    none-behind true y h = h
-    none-behind false y h = refl
+    none-behind true y none = none
+    none-behind false y none = refl
 
     late : (d : List Bool) (i : ℕ) → length d ≤ i + 8 → is_stored longest d i ≡ false
-    late d i l = rw (is_settled-late d i l) refl
+    late d i past = rw (is_settled-late d i past) refl
 
 one-below : (x y : Bool) → one_if (x && y) ≤ one_if y
 one-below true y = omega arith
@@ -106,10 +106,10 @@ open-more longest b bit (FlagAt p) =
 -- a bit that changes no mark and closes no frame
 paid-kept : (longest : ℕ) (b : List Bool) (bit : Bool) → IsPaid longest b → current (b ++ bit ∷ []) ≡ current b →
     copied longest (b ++ bit ∷ []) ≡ copied longest b → IsPaid longest (b ++ bit ∷ [])
-paid-kept longest b bit h m k =
+paid-kept longest b bit paid mark copies =
     let c = b ++ bit ∷ [] in
-    let o = ap (open_stored longest c) m in
-    omega (arith, h, k, o, open-more longest b bit (current b), stored-more longest b bit)
+    let opened = ap (open_stored longest c) mark in
+    omega (arith, paid, copies, opened, open-more longest b bit (current b), stored-more longest b bit)
 
 no-octets : (mark : Mark) (m : ℕ) → sum_by octet_count (option_to_list (piece_report (λ p. Abort) mark m)) ≡ 0
 no-octets NoMark m = refl
@@ -127,9 +127,9 @@ no-octets (FlagAt p) m = choice (nat_lt (p + 8) m)
 paid-abort : (longest : ℕ) (b : List Bool) (bit : Bool) (a : ℕ) → IsPaid longest b →
     current (b ++ bit ∷ []) ≡ AbortAt a → copied longest (b ++ bit ∷ []) ≡ copied longest b →
     IsPaid longest (b ++ bit ∷ [])
-paid-abort longest b bit a h m k =
-    let o = ap (open_stored longest (b ++ bit ∷ [])) m in
-    omega (arith, h, k, o, stored-more longest b bit)
+paid-abort longest b bit a paid mark copies =
+    let opened = ap (open_stored longest (b ++ bit ∷ [])) mark in
+    omega (arith, paid, copies, opened, stored-more longest b bit)
 
 -- the octets of data that are a frame
 data-octets : (over short whole good : Bool) (fs : List ℕ) → let kind =
@@ -147,34 +147,33 @@ data-octets false false true true fs = inr (refl, refl, refl)
 closed-octets : (longest : ℕ) (b : List Bool) (bit : Bool) (p : ℕ) → current b ≡ FlagAt p → p + 15 < length b
     → kind_octets (class_of longest (slice_range (b ++ bit ∷ []) (p + 8) (length b - 7)))
     ≤ stored_from longest b (p + 8) + one_if (is_stored longest (b ++ bit ∷ []) (length b - 8))
-closed-octets longest b bit p e l =
+closed-octets longest b bit p mark long =
     let c = b ++ bit ∷ [] in
     let m = length b - 7 in
     let raw = slice_range c (p + 8) m in
     let same : raw ≡ slice_range b (p + 8) m = range-append b (bit ∷ []) (p + 8) m (omega arith) in
     let low : IsLow 0 raw =
-    subst (IsLow 0) (sym same) (low-from (slice_range b (p + 8) m) (current-low b p m e (omega arith))) in
-    let n : length c - 8 ≡ m = omega (arith, length_push b bit) in
-    let bits : settled_data c p ≡ data_so_far raw = ap (λ k. data_so_far (slice_range c (p + 8) k)) n in
-    let k = spelled-octets longest raw low in
-    elim k [
+    subst (IsLow 0) (sym same) (low-from (slice_range b (p + 8) m) (current-low b p m mark (omega arith))) in
+    let end : length c - 8 ≡ m = omega (arith, length_push b bit) in
+    let bits : settled_data c p ≡ data_so_far raw = ap (λ k. data_so_far (slice_range c (p + 8) k)) end in
+    elim (spelled-octets longest raw low) [
       | inl none ↦ omega (arith, none)
-      | inr f ↦
-          let s = stored_from-is longest b p e in
+      | inr frame ↦
+          let from = stored_from-is longest b p mark in
           elim (cases_Bool (is_inserted b (length b - 8))) [
-            | inl t ↦
-                let d = ap length (sym bits ∙ data-inserted b bit p e (omega arith) t) in
-                omega (arith, f.2, f.0, f.1, s, d)
-            | inr t ↦
-                let d = ap length (sym bits ∙ data-more b bit p e (omega arith) t) in
-                let g = length_push (settled_data b p) (get_or b (length b - 8) false) in
-                let settled = data-settled b bit p e (omega arith) t in
+            | inl is-inserted ↦
+                let size = ap length (sym bits ∙ data-inserted b bit p mark (omega arith) is-inserted) in
+                omega (arith, frame.2, frame.0, frame.1, from, size)
+            | inr is-data ↦
+                let size = ap length (sym bits ∙ data-more b bit p mark (omega arith) is-data) in
+                let grown = length_push (settled_data b p) (get_or b (length b - 8) false) in
+                let settled = data-settled b bit p mark (omega arith) is-data in
                 let now : is_stored longest c (length b - 8) ≡ true =
-                stores-now longest b bit p e (omega arith)
+                stores-now longest b bit p mark (omega arith)
                 ∙ and_from _ _ settled
-                (and_from _ _ (eq-eqb ((length (settled_data b p) + 1) % 8) 0 (omega (arith, f.1, d, g)))
-                (le-leb (length (settled_data b p) + 1) (8 * (longest + 2)) (omega (arith, f.0, d, g)))) in
-                omega (arith, f.2, f.0, f.1, s, d, g, ap one_if now)
+                (and_from _ _ (eq-eqb ((length (settled_data b p) + 1) % 8) 0 (omega (arith, frame.1, size, grown)))
+                (le-leb (length (settled_data b p) + 1) (8 * (longest + 2)) (omega (arith, frame.0, size, grown)))) in
+                omega (arith, frame.2, frame.0, frame.1, from, size, grown, ap one_if now)
           ]
     ]
   where
@@ -185,19 +184,19 @@ closed-octets longest b bit p e l =
     spelled-octets longest raw low =
         let d = data_so_far raw in
         elim (cases_Bool (ones_at_end raw == 5)) [
-          | inl t ↦
-              let u : unspelled raw ≡ None = low-unspelled raw low ∙ rw t refl in
-              inl (ap (λ o. kind_octets (class_of_read longest o)) u)
-          | inr t ↦
-              let u : unspelled raw ≡ Some d = low-unspelled raw low ∙ rw t refl in
+          | inl five ↦
+              let is : unspelled raw ≡ None = low-unspelled raw low ∙ rw five refl in
+              inl (ap (λ o. kind_octets (class_of_read longest o)) is)
+          | inr five ↦
+              let is : unspelled raw ≡ Some d = low-unspelled raw low ∙ rw five refl in
               let read : kind_octets (class_of longest raw) ≡ kind_octets (class_of_data longest d) =
-              ap (λ o. kind_octets (class_of_read longest o)) u in
+              ap (λ o. kind_octets (class_of_read longest o)) is in
               elim (data-octets (nat_lt (8 * (longest + 2)) (length d)) (nat_lt (length d) 32) (length d % 8 == 0)
               (is_good d) (octets d)) [
                 | inl none ↦ inl (read ∙ none)
-                | inr f ↦
-                    let most : length d ≤ 8 * (longest + 2) = let g = f.0 in grind (arith, nat_tests) in
-                    inr (most, eqb-true (length d % 8) 0 f.1, read ∙ (f.2 ∙ length-octets (length d / 8) d refl))
+                | inr full ↦
+                    let most : length d ≤ 8 * (longest + 2) = let few = full.0 in grind (arith, nat_tests) in
+                    inr (most, eqb-true (length d % 8) 0 full.1, read ∙ (full.2 ∙ length-octets (length d / 8) d refl))
               ]
         ]
 
@@ -205,12 +204,12 @@ piece-octets : (longest : ℕ) (b : List Bool) (bit : Bool) (mark : Mark) → cu
     → sum_by octet_count
     (option_to_list (piece_report (λ p. class_of longest (slice_range (b ++ bit ∷ []) (p + 8) (length b - 7))) mark
     (length b - 7))) ≤ open_stored longest b mark + one_if (is_stored longest (b ++ bit ∷ []) (length b - 8))
-piece-octets longest b bit NoMark e = omega arith
-piece-octets longest b bit (AbortAt a) e = omega arith
-piece-octets longest b bit (FlagAt p) e =
+piece-octets longest b bit NoMark mark = omega arith
+piece-octets longest b bit (AbortAt a) mark = omega arith
+piece-octets longest b bit (FlagAt p) mark =
     let kind = class_of longest (slice_range (b ++ bit ∷ []) (p + 8) (length b - 7)) in
     choice kind (nat_lt (p + 8) (length b - 7))
-    (λ t. closed-octets longest b bit p e (omega (arith, ltb-true (p + 8) (length b - 7) t)))
+    (λ begun. closed-octets longest b bit p mark (omega (arith, ltb-true (p + 8) (length b - 7) begun)))
   where
     choice : (kind : Kind) (t : Bool) →
         (t ≡ true → kind_octets kind ≤ stored_from longest b (p + 8)
@@ -218,8 +217,8 @@ piece-octets longest b bit (FlagAt p) e =
         → sum_by octet_count
         (option_to_list (if t then Some (record { kind = kind; first = p + 8; past = length b - 7 }) else None))
         ≤ stored_from longest b (p + 8) + one_if (is_stored longest (b ++ bit ∷ []) (length b - 8))
-    choice kind true h = omega (arith, h refl)
-    choice kind false h = omega arith
+    choice kind true most = omega (arith, most refl)
+    choice kind false most = omega arith
 
 paid-flag : (longest : ℕ) (b : List Bool) (bit : Bool) (due : Option Report) → IsPaid longest b → 6 < length b →
     current (b ++ bit ∷ []) ≡ FlagAt (length b - 7)
@@ -227,42 +226,41 @@ paid-flag : (longest : ℕ) (b : List Bool) (bit : Bool) (due : Option Report) �
     + sum_by octet_count
     (option_to_list (piece_report (λ p. class_of longest (slice_range (b ++ bit ∷ []) (p + 8) (length b - 7)))
     (current b) (length b - 7))) → IsPaid longest (b ++ bit ∷ [])
-paid-flag longest b bit due h l m k =
+paid-flag longest b bit due paid long mark copies =
     let c = b ++ bit ∷ [] in
-    let o = ap (open_stored longest c) m in
+    let opened = ap (open_stored longest c) mark in
     let none = none-behind longest c (length b - 7) (omega (arith, length_push b bit)) in
-    omega (arith, h, k, o, none, piece-octets longest b bit (current b) refl, stored-more longest b bit)
+    omega (arith, paid, copies, opened, none, piece-octets longest b bit (current b) refl, stored-more longest b bit)
 
 paid-step : (longest : ℕ) (b : List Bool) (bit : Bool) (f : Found) → IsFound bit (ones_at_end b) (length b) f →
     IsPaid longest b → IsPaid longest (b ++ bit ∷ [])
-paid-step longest b bit Closing f h =
-    let d = closing longest b bit f in
-    paid-flag longest b bit None h f.2 d.leaves (copied-more longest b bit _ d.answers)
-paid-step longest b bit Seven f h =
-    let d = seven longest b bit f in
-    paid-abort longest b bit (length b - 6) h d.leaves
-    (copied-more longest b bit _ d.answers ∙ omega (arith, no-octets (current b) (length b - 6)))
-paid-step longest b bit Fifteen f h =
-    let d = fifteen longest b bit f in
-    paid-kept longest b bit h d.leaves (copied-more longest b bit _ d.answers ∙ omega arith)
-paid-step longest b bit Other f h =
-    let d = other longest b bit f in
-    paid-kept longest b bit h d.leaves (copied-more longest b bit _ d.answers ∙ omega arith)
+paid-step longest b bit Closing found paid =
+    let decides = closing longest b bit found in
+    paid-flag longest b bit None paid found.2 decides.leaves (copied-more longest b bit _ decides.answers)
+paid-step longest b bit Seven found paid =
+    let decides = seven longest b bit found in
+    paid-abort longest b bit (length b - 6) paid decides.leaves
+    (copied-more longest b bit _ decides.answers ∙ omega (arith, no-octets (current b) (length b - 6)))
+paid-step longest b bit Fifteen found paid =
+    let decides = fifteen longest b bit found in
+    paid-kept longest b bit paid decides.leaves (copied-more longest b bit _ decides.answers ∙ omega arith)
+paid-step longest b bit Other found paid =
+    let decides = other longest b bit found in
+    paid-kept longest b bit paid decides.leaves (copied-more longest b bit _ decides.answers ∙ omega arith)
 
 paid-front : (longest : ℕ) (b : List Bool) (n : ℕ) → n ≤ length b → IsPaid longest (take n b)
-paid-front longest b zero h = omega arith
-paid-front longest b (suc n) h =
-    let ih = paid-front longest b n (omega arith) in
+paid-front longest b zero within = omega arith
+paid-front longest b (suc n) within =
+    let before = paid-front longest b n (omega arith) in
     let x = get_or b n false in
-    let e : suc n ≡ n + 1 = omega arith in
+    let next : suc n ≡ n + 1 = omega arith in
     let front = take n b in
-    let f = find x (ones_at_end front) (length front) in
-    subst (IsPaid longest) (sym (ap (λ k. take k b) e ∙ take_next b n false (omega arith)))
-    (paid-step longest front x f.0 f.1 ih)
+    let found = find x (ones_at_end front) (length front) in
+    rw (next, take_next b n false (omega arith)) (paid-step longest front x found.0 found.1 before)
 
 -- the octets of all frames are among those that were stored
 pub frames-paid : (longest : ℕ) (b : List Bool) → copied longest b ≤ stored longest b
 frames-paid longest b =
-    let h = subst (IsPaid longest) (take_all (length b) b (omega arith))
+    let paid = subst (IsPaid longest) (take_all (length b) b (omega arith))
     (paid-front longest b (length b) (omega arith)) in
-    omega (arith, h)
+    omega (arith, paid)

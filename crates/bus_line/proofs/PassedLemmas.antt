@@ -20,8 +20,8 @@ use Rattle.bus_line.proofs.FlagRunLemmas.{takes-behind}
 -- the bits after them are a number of as many bits
 pub below : (n x k : ℕ) → 8 * k ≤ n → x < 2 ^ n → x / 2 ^ (8 * k) < 2 ^ (n - 8 * k)
 below n x k within small =
-    let e : n ≡ n - 8 * k + 8 * k = omega (arith, within) in
-    shr_below x (n - 8 * k) (8 * k) (subst (λ (j : ℕ). x < 2 ^ j) e small)
+    let size : n ≡ n - 8 * k + 8 * k = omega (arith, within) in
+    shr_below x (n - 8 * k) (8 * k) (subst (λ (j : ℕ). x < 2 ^ j) size small)
 
 module _ {b : List Bool} {n x k rest left : ℕ} (past : IsPast b n x k rest left) where
   abbrev ahead : FlagsAhead b (bits_of n x) k
@@ -43,27 +43,27 @@ module _ {b : List Bool} {n x k rest left : ℕ} (past : IsPast b n x k rest lef
 
   pub stops-on : (t j : ℕ) → j ≡ 8 * k + t → StopsAt (b ++ flags k) (bits_of left rest) t → 1 ≤ t →
       TakesTo b (bits_of n x) j
-  stops-on t j e stops some =
+  stops-on t j count stops some =
       let behind : drop (8 * k) (bits_of n x) ≡ bits_of left rest =
       bits-behind (8 * k) n x within ∙ rw (past.bits, past.count) refl in
-      rw e (takes-behind b (bits_of n x) k t ahead (rw behind stops) some)
+      rw count (takes-behind b (bits_of n x) k t ahead (rw behind stops) some)
 
   pub more-on : (longest origin l o t j : ℕ) (rs : List Report) → j ≡ 8 * k + t → l ≡ longest → o ≡ origin →
       placed o l ((b ++ flags k) ++ bits_of t rest) ≡ placed o l (b ++ flags k) ++ rs
       → placed origin longest (b ++ bits_of j x) ≡ placed origin longest b ++ rs
-  more-on longest origin l o t j rs e same from is =
-      rw (e, list-behind t, ← flags-placed origin longest b k ahead.behind) (rw (same, from) at is)
+  more-on longest origin l o t j rs count same from is =
+      rw (count, list-behind t, ← flags-placed origin longest b k ahead.behind) (rw (same, from) at is)
 
   pub before-on : (longest origin l o t j : ℕ) → j ≡ 8 * k + t → l ≡ longest → o ≡ origin → 1 ≤ t →
       placed o l ((b ++ flags k) ++ bits_of (t - 1) rest) ≡ placed o l (b ++ flags k)
       → placed origin longest (b ++ bits_of (j - 1) x) ≡ placed origin longest b
-  before-on longest origin l o t j e same from some is =
-      more-on longest origin l o (t - 1) (j - 1) [] (omega (arith, e, some)) same from
+  before-on longest origin l o t j count same from some is =
+      more-on longest origin l o (t - 1) (j - 1) [] (omega (arith, count, some)) same from
       (is ∙ sym (append-nil (placed o l (b ++ flags k)))) ∙ append-nil (placed origin longest b)
 
   pub after-on : {C : Type 0} (folded : C → List ℕ → Type 0) (cost t j : ℕ) (d : LineState C) → j ≡ 8 * k + t →
       After folded cost d ((b ++ flags k) ++ bits_of t rest) → After folded cost d (b ++ bits_of j x)
-  after-on folded cost t j d e h = rw (e, list-behind t) h
+  after-on folded cost t j d count after = rw (count, list-behind t) after
 
   -- ---- where the flags are all
 
@@ -80,38 +80,38 @@ module _ {b : List Bool} {n x k rest left : ℕ} (past : IsPast b n x k rest lef
 
     pub before-all : (longest origin : ℕ) → placed origin longest (b ++ bits_of (n - 1) x) ≡ placed origin longest b
     before-all longest origin =
-        let l : 0 < k = omega (arith, all, some) in
+        let begun : 0 < k = omega (arith, all, some) in
         rw (← bits-front (n - 1) n x (omega arith), are-flags, ← all)
-        (flags-before origin longest b k l (ahead.behind l))
+        (flags-before origin longest b k begun (ahead.behind begun))
 
     pub after-all : {C : Type 0} (folded : C → List ℕ → Type 0) (cost : ℕ) (e : LineState C) →
         After folded cost e (b ++ flags k) → After folded cost e (b ++ bits_of n x)
-    after-all folded cost e h = rw are-flags h
+    after-all folded cost e after = rw are-flags after
 
   -- ---- how many would be taken
 
   word-behind : (w : ℕ) → IsWord w b (bits_of n x) → IsWord (w / 2 ^ (8 * k)) (b ++ flags k) (bits_of left rest)
-  word-behind w h =
-      let e : n ≡ 8 * k + left = omega (arith, within, past.count) in
-      word-part w (8 * k) b (bits_of n x) h
-      ∙ rw (← size-behind, e, list-behind left) refl
+  word-behind w word =
+      let size : n ≡ 8 * k + left = omega (arith, within, past.count) in
+      word-part w (8 * k) b (bits_of n x) word
+      ∙ rw (← size-behind, size, list-behind left) refl
 
   pub would-all : (w m : ℕ) → IsWord w b (bits_of n x) → m ≡ left → ((i : ℕ) → i < m → IsStop (w / 2 ^ (8 * k)) i → ⊥) →
       TakesTo b (bits_of n x) n
-  would-all w m word e calm = elim (cases_lt 0 left) [
-    | inl u ↦ stops-on left n (omega (arith, within, past.count))
+  would-all w m word all calm = elim (cases_lt 0 left) [
+    | inl more ↦ stops-on left n (omega (arith, within, past.count))
         (stops-behind-all (w / 2 ^ (8 * k)) left rest (b ++ flags k)
-        (is_calm (w / 2 ^ (8 * k)) left m rest (b ++ flags k) (word-behind w word) e calm)) u
-    | inr u ↦
-        let s : 8 * k ≡ n = omega (arith, within, past.count, u) in
-        subst (TakesTo b (bits_of n x)) s (takes-flags b (bits_of n x) k ahead (s ∙ sym (length-bits n x)))
+        (is_calm (w / 2 ^ (8 * k)) left m rest (b ++ flags k) (word-behind w word) all calm)) more
+    | inr none ↦
+        let whole : 8 * k ≡ n = omega (arith, within, past.count, none) in
+        subst (TakesTo b (bits_of n x)) whole (takes-flags b (bits_of n x) k ahead (whole ∙ sym (length-bits n x)))
   ]
 
   pub would-stop : (w m : ℕ) → IsWord w b (bits_of n x) → m ≤ left → m ≢ left →
       ((i : ℕ) → i < m → IsStop (w / 2 ^ (8 * k)) i → ⊥) → (m < left → IsStop (w / 2 ^ (8 * k)) m)
       → TakesTo b (bits_of n x) (8 * k + m + 1)
-  would-stop w m word l e calm stop =
-      let last = is_last (w / 2 ^ (8 * k)) left m rest (b ++ flags k) (word-behind w word) l e calm in
+  would-stop w m word at-most not-all calm stop =
+      let last = is_last (w / 2 ^ (8 * k)) left m rest (b ++ flags k) (word-behind w word) at-most not-all calm in
       stops-on (m + 1) (8 * k + m + 1) (omega arith)
       (stops-behind (w / 2 ^ (8 * k)) left m rest (b ++ flags k) last
       (stop (omega (arith, last.within, length-bits left rest)))) (omega arith)

@@ -1,21 +1,20 @@
 -- Bits that decide nothing, 56 at a time.
-use Rattle.std.proofs.Common.{◌≡◌, ◌≢◌, ℕ, zero, suc, ◌+◌, ◌-◌, ◌*◌, ◌/◌, ◌%◌, ◌^◌, ◌≤◌, ◌<◌, ◌==◌, Bool, true, List}
-use Rattle.std.proofs.Common.{[], ◌∷◌, ◌++◌, length, drop, replicate, None, refl, sym, ap, ◌∙◌, subst, arith, inl, inr}
-use Rattle.std.proofs.Common.{if◌then◌else◌}
+use Rattle.std.proofs.Common.{◌≡◌, ◌≢◌, ℕ, zero, suc, ◌+◌, ◌-◌, ◌*◌, ◌/◌, ◌%◌, ◌^◌, ◌≤◌, ◌<◌, Bool, true, List}
+use Rattle.std.proofs.Common.{[], ◌∷◌, ◌++◌, length, drop, replicate, None, refl, sym, ap, ◌∙◌, arith, inl, inr}
 use Rattle.std.specs.Prelude.{bit_and, bit_or}
 use Rattle.std.specs.Int.{bit_at, trailing_zeros, w64}
 use Rattle.std.specs.Int.Bits.{or_shifted_r}
 use Rattle.std.proofs.lemmas.Nat.{and_le_r}
 use Rattle.std.proofs.lemmas.Nat.{shr-shr, field_of}
 use Rattle.std.proofs.Math.Pow.{mod-mod-pow}
-use Rattle.std.proofs.lemmas.List.{length-drop, append-nil, append_assoc, replicate-append-replicate}
+use Rattle.std.proofs.lemmas.List.{append-nil, append_assoc, replicate-append-replicate}
 use Rattle.bus_bits.specs.Bits.{bits_from}
 use Rattle.bus_bits.proofs.BitLemmas.{bits-more}
 use Rattle.std.proofs.lemmas.Nat.Bits.{bit_at_and, bit_at-zero, bit_at_mask_inside, bit_at_mask_above}
 use Rattle.std.proofs.lemmas.Nat.Bits.{bit_at_mask_below, bit_at-trailing_zeros}
 use Rattle.std.proofs.lemmas.Bool.{cases_lt}
 use Rattle.bus_bits.specs.Octet.{bits_of, number}
-use Rattle.bus_bits.proofs.OctetLemmas.{bits-low, number-bits, number-lt}
+use Rattle.bus_bits.proofs.OctetLemmas.{bits-low, number-bits}
 use Rattle.bus_line.specs.Mark.{flag}
 use Rattle.bus_line.specs.Decides.{flags, EndsInFlag}
 use Rattle.bus_line.specs.Due.{placed}
@@ -28,7 +27,7 @@ use Rattle.bus_line.specs.Internal.Settled.{IsCalm, IsStop, IsWord, data_in_word
 use Rattle.bus_line.proofs.SettledDataLemmas.{six, six-ones, six-shr}
 use Rattle.bus_line.specs.Internal.LineState.{LineState}
 use Rattle.bus_line.specs.Internal.Tracks.{padded, HasTaken}
-use Rattle.bus_line.proofs.WordLemmas.{padded-length, word-made}
+use Rattle.bus_line.proofs.WordLemmas.{last-below, word-made}
 use Rattle.bus_line.proofs.AdvanceLemmas.{calm-before, calm-placed, calm-after}
 use Rattle.bus_line.proofs.SettleLemmas.{word-unsettled}
 use Rattle.bus_line.proofs.WordsLemmas.{flags-passed, shift-lags, shows-flag}
@@ -43,16 +42,16 @@ sixes w = bit_and (six w) 288230376151711740
 
 -- and finds none
 no-six-at : (w i : ℕ) → i < 56 → bit_at (sixes w) (2 + i) ≡ 0 → w / 2 ^ (2 + i) % 64 ≢ 63
-no-six-at w i l none m =
+no-six-at w i inside none ones =
     let mask : bit_at 288230376151711740 (2 + i) ≡ 1 =
-    bit_at_mask_inside 2 58 (2 + i) (omega arith) (omega (arith, l)) in
+    bit_at_mask_inside 2 58 (2 + i) (omega arith) (omega (arith, inside)) in
     let both = bit_at_and (six w) 288230376151711740 (2 + i) in
     let low : bit_at (six w) (2 + i) ≡ six (w / 2 ^ (2 + i)) % 2 = ap (λ (x : ℕ). x % 2) (six-shr w (2 + i)) in
-    let one = (six-ones (w / 2 ^ (2 + i))).1 m in
+    let one = (six-ones (w / 2 ^ (2 + i))).1 ones in
     omega (arith, mask, none, both, low, one)
 
 pub no-six : (w : ℕ) → sixes w ≡ 0 → (i : ℕ) → i < 56 → w / 2 ^ (2 + i) % 64 ≢ 63
-no-six w e i l = no-six-at w i l (ap (λ (x : ℕ). bit_at x (2 + i)) e ∙ bit_at-zero (2 + i))
+no-six w none i inside = no-six-at w i inside (ap (λ (x : ℕ). bit_at x (2 + i)) none ∙ bit_at-zero (2 + i))
 
 -- the first
 pub record IsFirstSix (w place : ℕ) : Type 0 where
@@ -76,24 +75,24 @@ first-six w some =
         | inr late ↦ late
       ];
       most = most;
-      none = λ i l. no-six-at w i (omega (arith, l, most)) (found.2 (2 + i) (omega (arith, l)));
+      none = λ i before. no-six-at w i (omega (arith, before, most)) (found.2 (2 + i) (omega (arith, before)));
     }
 
 -- so no bit comes after exactly six ones or exactly fourteen
 pub no-stop : (w behind n : ℕ) → behind ≡ w / 256 → ((i : ℕ) → i < n → behind / 2 ^ (2 + i) % 64 ≢ 63) → (i : ℕ) →
     i < n → IsStop w i → ⊥
-no-stop w behind n e none i l s =
+no-stop w behind n is none i inside stop =
     let at : behind / 2 ^ (2 + i) ≡ w / 2 ^ (10 + i) =
-    ap (λ (x : ℕ). x / 2 ^ (2 + i)) e ∙ (shr-shr w 8 (2 + i) ∙ ap (λ (j : ℕ). w / 2 ^ j) (omega arith)) in
-    elim s [
+    ap (λ (x : ℕ). x / 2 ^ (2 + i)) is ∙ (shr-shr w 8 (2 + i) ∙ ap (λ (j : ℕ). w / 2 ^ j) (omega arith)) in
+    elim stop [
       | inl six ↦
           let far : w / 2 ^ (10 + i) ≡ w / 2 ^ (9 + i) / 2 =
           ap (λ (j : ℕ). w / 2 ^ j) (omega arith) ∙ sym (shr-shr w (9 + i) 1) in
-          none i l (omega (arith, at, far, six))
+          none i inside (omega (arith, at, far, six))
       | inr more ↦
           let far : w / 2 ^ (10 + i) ≡ w / 2 ^ (1 + i) / 512 =
           ap (λ (j : ℕ). w / 2 ^ j) (omega arith) ∙ sym (shr-shr w (1 + i) 9) in
-          none i l (omega (arith, at, far, more))
+          none i inside (omega (arith, at, far, more))
     ]
 
 -- ---- the word of 56 new bits after sixteen others
@@ -105,108 +104,107 @@ word_of last_bits bits = last_bits + bits % 2 ^ 56 * 65536
 -- the machine's, but for the eight lowest bits
 pub word-behind : (last_bits bits : ℕ) → last_bits < 65536
     → bit_or (last_bits / 256) (bits * 256 % 18446744073709551616) ≡ word_of last_bits bits / 256
-word-behind last_bits bits l =
+word-behind last_bits bits small =
     let y : ℕ = bits % 2 ^ 56 in
-    let s : bits * 256 % 18446744073709551616 ≡ y * 2 ^ 8 = omega arith in
-    ap (bit_or (last_bits / 256)) s ∙ (or_shifted_r y 8 (last_bits / 256) (omega (arith, l)) ∙ omega (arith, l))
+    let shifted : bits * 256 % 18446744073709551616 ≡ y * 2 ^ 8 = omega arith in
+    rw shifted (or_shifted_r y 8 (last_bits / 256) (omega (arith, small)) ∙ omega (arith, small))
 
 -- and but for the eight highest
 pub word-front : (last_bits bits : ℕ) → last_bits < 65536 → bit_or last_bits (bits * 65536 % 18446744073709551616)
     ≡ word_of last_bits bits % 2 ^ 64
-word-front last_bits bits l =
+word-front last_bits bits small =
     let y : ℕ = bits % 2 ^ 48 in
-    let s : bits * 65536 % 18446744073709551616 ≡ y * 2 ^ 16 = omega arith in
-    ap (bit_or last_bits) s ∙ (or_shifted_r y 16 last_bits (omega (arith, l)) ∙ omega (arith, l))
+    let shifted : bits * 65536 % 18446744073709551616 ≡ y * 2 ^ 16 = omega arith in
+    rw shifted (or_shifted_r y 16 last_bits (omega (arith, small)) ∙ omega (arith, small))
 
 -- the data that it settles do not hang on these
 field : (w j n : ℕ) → j + n ≤ 64 → w % 2 ^ 64 / 2 ^ j % 2 ^ n ≡ w / 2 ^ j % 2 ^ n
-field w j n m =
-    let e : 64 ≡ (64 - j) + j = omega (arith, m) in
-    let f : 64 - j ≡ (64 - j - n) + n = omega (arith, m) in
-    ap (λ (x : ℕ). w % 2 ^ x / 2 ^ j % 2 ^ n) e
+field w j n inside =
+    let size : 64 ≡ (64 - j) + j = omega (arith, inside) in
+    let part : 64 - j ≡ (64 - j - n) + n = omega (arith, inside) in
+    ap (λ (x : ℕ). w % 2 ^ x / 2 ^ j % 2 ^ n) size
     ∙ (ap (λ (x : ℕ). x % 2 ^ n) (field_of w (64 - j) j)
-    ∙ (ap (λ (x : ℕ). w / 2 ^ j % 2 ^ x % 2 ^ n) f ∙ mod-mod-pow (w / 2 ^ j) (64 - j - n) n))
+    ∙ (ap (λ (x : ℕ). w / 2 ^ j % 2 ^ x % 2 ^ n) part ∙ mod-mod-pow (w / 2 ^ j) (64 - j - n) n))
 
 field-behind : (w s j n : ℕ) → s + j + n ≤ 64 → w % 2 ^ 64 / 2 ^ s / 2 ^ j % 2 ^ n ≡ w / 2 ^ s / 2 ^ j % 2 ^ n
-field-behind w s j n l =
+field-behind w s j n inside =
     ap (λ (x : ℕ). x % 2 ^ n) (shr-shr (w % 2 ^ 64) s j)
-    ∙ (field w (s + j) n l ∙ ap (λ (x : ℕ). x % 2 ^ n) (sym (shr-shr w s j)))
+    ∙ (field w (s + j) n inside ∙ ap (λ (x : ℕ). x % 2 ^ n) (sym (shr-shr w s j)))
 
 pub settled-behind : (w s k : ℕ) → s + k ≤ 56 → data_in_word (w % 2 ^ 64 / 2 ^ s) k ≡ data_in_word (w / 2 ^ s) k
-settled-behind w s zero l = refl
-settled-behind w s (suc k) l =
+settled-behind w s zero fits = refl
+settled-behind w s (suc k) fits =
     let x : ℕ = w % 2 ^ 64 / 2 ^ s in
-    let five : x / 2 ^ (3 + k) % 64 ≡ w / 2 ^ s / 2 ^ (3 + k) % 64 = field-behind w s (3 + k) 6 (omega (arith, l)) in
-    let bit : x / 2 ^ (8 + k) % 2 ≡ w / 2 ^ s / 2 ^ (8 + k) % 2 = field-behind w s (8 + k) 1 (omega (arith, l)) in
-    ap (λ (z : List Bool). z ++ (if x / 2 ^ (3 + k) % 64 == 31 then [] else (x / 2 ^ (8 + k) % 2 == 1) ∷ []))
-    (settled-behind w s k (omega (arith, l))) ∙ rw (five, bit) refl
+    let five : x / 2 ^ (3 + k) % 64 ≡ w / 2 ^ s / 2 ^ (3 + k) % 64 = field-behind w s (3 + k) 6 (omega (arith, fits)) in
+    let bit : x / 2 ^ (8 + k) % 2 ≡ w / 2 ^ s / 2 ^ (8 + k) % 2 = field-behind w s (8 + k) 1 (omega (arith, fits)) in
+    rw (settled-behind w s k (omega (arith, fits)), five, bit) refl
 
 pub settled-front : (w k : ℕ) → k ≤ 56 → data_in_word (w % 2 ^ 64) k ≡ data_in_word w k
-settled-front w k l =
+settled-front w k within =
     let none : w % 2 ^ 64 ≡ w % 2 ^ 64 / 2 ^ 0 = omega arith in
     let all : w / 2 ^ 0 ≡ w = omega arith in
     ap (λ (x : ℕ). data_in_word x k) none
-    ∙ (settled-behind w 0 k (omega (arith, l)) ∙ ap (λ (x : ℕ). data_in_word x k) all)
+    ∙ (settled-behind w 0 k (omega (arith, within)) ∙ ap (λ (x : ℕ). data_in_word x k) all)
 
 -- ---- 56 bits more of these octets
 
 from-more : (os : List ℕ) (from at : ℕ) → from ≤ at → bits_from os from (at + 56 - from)
     ≡ bits_from os from (at - from) ++ bits_from os at 56
-from-more os from at l =
-    let n : at + 56 - from ≡ (at - from) + 56 = omega (arith, l) in
-    let i : from + (at - from) ≡ at = omega (arith, l) in
-    ap (bits_from os from) n
-    ∙ (bits-more os from (at - from) 56 ∙ ap (λ (j : ℕ). bits_from os from (at - from) ++ bits_from os j 56) i)
+from-more os from at begun =
+    let size : at + 56 - from ≡ (at - from) + 56 = omega (arith, begun) in
+    let end : from + (at - from) ≡ at = omega (arith, begun) in
+    ap (bits_from os from) size
+    ∙ (bits-more os from (at - from) 56 ∙ ap (λ (j : ℕ). bits_from os from (at - from) ++ bits_from os j 56) end)
 
 no-bits-from : (os : List ℕ) (at : ℕ) → bits_from os at (at - at) ≡ []
 unfolding bits_from
-no-bits-from os at = let z : at - at ≡ 0 = omega arith in ap (bits_from os at) z
+no-bits-from os at = let none : at - at ≡ 0 = omega arith in ap (bits_from os at) none
 
 -- ones
 pub ones-none : (os : List ℕ) (at : ℕ) → bits_from os at (at - at) ≡ replicate (at - at) true
-ones-none os at = let z : 0 ≡ at - at = omega arith in no-bits-from os at ∙ ap (λ (n : ℕ). replicate n true) z
+ones-none os at = let none : 0 ≡ at - at = omega arith in no-bits-from os at ∙ ap (λ (n : ℕ). replicate n true) none
 
 ones-shown : (x : ℕ) → x * 256 % 18446744073709551616 ≡ 18446744073709551360 → bits_of 56 x ≡ replicate 56 true
 unfolding bits_of
-ones-shown x e = let low : x % 2 ^ 56 ≡ 72057594037927935 =
-    omega (arith, e) in sym (bits-low 56 x) ∙ ap (bits_of 56) low
+ones-shown x ones = let low : x % 2 ^ 56 ≡ 72057594037927935 =
+    omega (arith, ones) in sym (bits-low 56 x) ∙ ap (bits_of 56) low
 
 pub ones-more : (os : List ℕ) (from at x : ℕ) → from ≤ at → bits_from os from (at - from) ≡ replicate (at - from) true →
     bits_of 56 x ≡ bits_from os at 56 → x * 256 % 18446744073709551616 ≡ 18446744073709551360
     → bits_from os from (at + 56 - from) ≡ replicate (at + 56 - from) true
-ones-more os from at x l before next e =
-    let n : (at - from) + 56 ≡ at + 56 - from = omega (arith, l) in
-    from-more os from at l
+ones-more os from at x begun before next ones =
+    let size : (at - from) + 56 ≡ at + 56 - from = omega (arith, begun) in
+    from-more os from at begun
     ∙ (ap (λ (z : List Bool). z ++ bits_from os at 56) before
-    ∙ (ap (λ (z : List Bool). replicate (at - from) true ++ z) (sym next ∙ ones-shown x e)
-    ∙ (replicate-append-replicate (at - from) 56 true ∙ ap (λ (j : ℕ). replicate j true) n)))
+    ∙ (ap (λ (z : List Bool). replicate (at - from) true ++ z) (sym next ∙ ones-shown x ones)
+    ∙ (replicate-append-replicate (at - from) 56 true ∙ ap (λ (j : ℕ). replicate j true) size)))
 
 -- flags
 flags-shown : (x : ℕ) → x * 256 % 18446744073709551616 ≡ 9114861777597660672 → bits_of 56 x ≡ flags 7
 unfolding bits_of
-flags-shown x e = let low : x % 2 ^ 56 ≡ 35604928818740862 =
-    omega (arith, e) in sym (bits-low 56 x) ∙ ap (bits_of 56) low
+flags-shown x is = let low : x % 2 ^ 56 ≡ 35604928818740862 =
+    omega (arith, is) in sym (bits-low 56 x) ∙ ap (bits_of 56) low
 
 flags-append : (k j : ℕ) → flags k ++ flags j ≡ flags (k + j)
-flags-append k zero = let e : k ≡ k + 0 = omega arith in append-nil (flags k) ∙ ap flags e
+flags-append k zero = let sum : k ≡ k + 0 = omega arith in append-nil (flags k) ∙ ap flags sum
 flags-append k (suc j) =
-    let e : suc (k + j) ≡ k + suc j = omega arith in
-    sym (append_assoc (flags k) (flags j) flag) ∙ (ap (λ (z : List Bool). z ++ flag) (flags-append k j) ∙ ap flags e)
+    let sum : suc (k + j) ≡ k + suc j = omega arith in
+    sym (append_assoc (flags k) (flags j) flag) ∙ (ap (λ (z : List Bool). z ++ flag) (flags-append k j) ∙ ap flags sum)
 
 pub flags-none : (os : List ℕ) (at : ℕ) → AreFlags os at at
-flags-none os at = let z : 0 ≡ (at - at) / 8 =
-    omega arith in record { whole = omega arith; are = no-bits-from os at ∙ ap flags z }
+flags-none os at = let none : 0 ≡ (at - at) / 8 =
+    omega arith in record { whole = omega arith; are = no-bits-from os at ∙ ap flags none }
 
 pub flags-more : (os : List ℕ) (from at x : ℕ) → from ≤ at → AreFlags os from at → bits_of 56 x ≡ bits_from os at 56 →
     x * 256 % 18446744073709551616 ≡ 9114861777597660672 → AreFlags os from (at + 56)
-flags-more os from at x l before next e =
+flags-more os from at x begun before next is =
     let k : ℕ = (at - from) / 8 in
-    let n : k + 7 ≡ (at + 56 - from) / 8 = omega (arith, before.whole, l) in
+    let size : k + 7 ≡ (at + 56 - from) / 8 = omega (arith, before.whole, begun) in
     record {
-      whole = omega (arith, before.whole, l);
-      are = from-more os from at l
+      whole = omega (arith, before.whole, begun);
+      are = from-more os from at begun
           ∙ (ap (λ (z : List Bool). z ++ bits_from os at 56) before.are
-          ∙ (ap (λ (z : List Bool). flags k ++ z) (sym next ∙ flags-shown x e) ∙ (flags-append k 7 ∙ ap flags n)));
+          ∙ (ap (λ (z : List Bool). flags k ++ z) (sym next ∙ flags-shown x is) ∙ (flags-append k 7 ∙ ap flags size)));
     }
 
 -- ---- time fill
@@ -221,28 +219,29 @@ module _ {C : Type 0} (folded : C → List ℕ → Type 0) (cost : ℕ) (check :
       let next : LineWords = record w { place = w.place + 1 } in
       let e = state next check cells in
       let word : (b : List Bool) → After folded cost d b → IsWord 131071 b (true ∷ []) =
-      λ b h. word-made 65535 1 b (true ∷ []) (sym ones ∙ h.has_taken.last_bits) refl in
-      let none : (i : ℕ) → i < 1 → IsStop 131071 i → ⊥ = λ i l s. let z : i ≡ 0 =
-      omega (arith, l) in elim (subst (IsStop 131071) z s) [ inl x ↦ omega (arith, x) | inr x ↦ omega (arith, x) ] in
+      λ b stands. word-made 65535 1 b (true ∷ []) (sym ones ∙ stands.has_taken.last_bits) refl in
+      let none : (i : ℕ) → i < 1 → IsStop 131071 i → ⊥ = λ i before stop. let first : i ≡ 0 =
+      omega (arith, before) in
+      elim (rw first at stop) [ inl six ↦ omega (arith, six) | inr more ↦ omega (arith, more) ] in
       let calm : (b : List Bool) → After folded cost d b → IsCalm b (true ∷ []) 1 =
-      λ b h. calm-before 131071 1 b (true ∷ []) (word b h) (omega arith) none in
+      λ b stands. calm-before 131071 1 b (true ∷ []) (word b stands) (omega arith) none in
       let same : next ≡ record w { place = w.place + 1; last_bits = 131071 / 2 ^ 1 % 65536 } =
       ap (λ (x : ℕ). record w { place = w.place + 1; last_bits = x }) (ones ∙ omega arith) in
       let closed : first_in w.settles_at ≡ None = ap first_in idle in
       record {
         leads = record {
-          after = λ b h.
-              let lags = shift-lags folded cost w next check cells b (true ∷ []) 131071 1 same h (word b h)
+          after = λ b stands.
+              let lags = shift-lags folded cost w next check cells b (true ∷ []) 131071 1 same stands (word b stands)
               (omega arith) in
-              let few : IsCalm b (true ∷ []) 0 = λ i l. absurd (omega (arith, l)) in
-              let tracks = word-unsettled folded cost (2 ^ 62) 131071 1 None e b (true ∷ []) (word b h) (omega arith)
-              few lags closed refl (omega (arith, room)) in
-              calm-after folded cost 1 e b (true ∷ []) (calm b h) (omega arith) tracks;
+              let few : IsCalm b (true ∷ []) 0 = λ i before. absurd (omega (arith, before)) in
+              let tracks = word-unsettled folded cost (2 ^ 62) 131071 1 None e b (true ∷ []) (word b stands)
+              (omega arith) few lags closed refl (omega (arith, room)) in
+              calm-after folded cost 1 e b (true ∷ []) (calm b stands) (omega arith) tracks;
           longest = refl;
           origin = refl;
           place = refl;
         };
-        says = λ b h. calm-placed w.origin w.longest 1 b (true ∷ []) (calm b h) 1 (omega arith) (omega arith)
+        says = λ b stands. calm-placed w.origin w.longest 1 b (true ∷ []) (calm b stands) 1 (omega arith) (omega arith)
             ∙ sym (append-nil (placed w.origin w.longest b));
       }
 
@@ -250,83 +249,75 @@ module _ {C : Type 0} (folded : C → List ℕ → Type 0) (cost : ℕ) (check :
       → w.place + n ≤ 2 ^ 60 → Tells folded cost (state w check cells) (replicate n true) None
       (state (record w { place = w.place + n }) check cells)
   ones-tell zero w ones idle room =
-      let e : w.place ≡ w.place + 0 = omega arith in
-      subst (λ (p : ℕ). Tells folded cost (state w check cells) [] None (state (record w { place = p }) check cells)) e
-      (tells-none folded cost (state w check cells))
+      let end : w.place + 0 ≡ w.place = omega arith in
+      rw end (tells-none folded cost (state w check cells))
   ones-tell (suc n) w ones idle room =
       let next : LineWords = record w { place = w.place + 1 } in
-      let e : w.place + 1 + n ≡ w.place + suc n = omega arith in
+      let end : w.place + 1 + n ≡ w.place + suc n = omega arith in
       let rest = ones-tell n next (λ _. ones (omega arith)) idle (omega (arith, room)) in
-      subst (λ (p : ℕ). Tells folded cost (state w check cells) (replicate (suc n) true) None
-      (state (record w { place = p }) check cells)) e
+      rw (← end)
       (tells-more folded cost (one-more w (ones (omega arith)) idle (omega (arith, room))) rest)
 
   pub passed-ones : (old new : LineWords) (n : ℕ) → PassesOnes old n new → old.settles_at ≡ 2 ^ 62 →
       old.place + n ≤ 2 ^ 60 → Tells folded cost (state old check cells) (replicate n true) None (state new check cells)
-  passed-ones old new n p idle room =
-      subst (λ (w : LineWords). Tells folded cost (state old check cells) (replicate n true) None (state w check cells))
-      (sym p.new_is) (ones-tell n old p.behind idle room)
+  passed-ones old new n passed idle room = rw passed.new_is (ones-tell n old passed.behind idle room)
 
   -- flags after a flag
   pub passed-flags : (old new : LineWords) (k : ℕ) → PassesFlags old k new → IsWithin old →
       old.settles_at ≡ old.place + 8 → new.place ≤ 2 ^ 60 →
       Tells folded cost (state old check cells) (flags k) None (state new check cells)
-  passed-flags old new k p within flag fits =
+  passed-flags old new k passed within flag fits =
       let ends : (b : List Bool) → After folded cost (state old check cells) b → EndsInFlag b =
-      λ b h. (shows-flag folded cost old check cells b within h).ends flag in
+      λ b stands. (shows-flag folded cost old check cells b within stands).ends flag in
       record {
         leads = record {
-          after = λ b h. flags-passed folded cost old new check cells b k p (λ _. ends b h) fits h;
-          longest = kept-longest k p;
-          origin = kept-origin k p;
-          place = moved-place k p ∙ ap (λ (n : ℕ). old.place + n) (sym (flags-length k));
+          after = λ b stands. flags-passed folded cost old new check cells b k passed (λ _. ends b stands) fits stands;
+          longest = kept-longest k passed;
+          origin = kept-origin k passed;
+          place = moved-place k passed ∙ ap (λ (n : ℕ). old.place + n) (sym (flags-length k));
         };
-        says = λ b h. flags-placed old.origin old.longest b k (λ _. ends b h)
+        says = λ b stands. flags-placed old.origin old.longest b k (λ _. ends b stands)
             ∙ sym (append-nil (placed old.origin old.longest b));
       }
     where
       kept-longest : (k : ℕ) → PassesFlags old k new → new.longest ≡ old.longest
-      kept-longest zero p = ap (λ (w : LineWords). w.longest) (p.none refl)
-      kept-longest (suc k) p = ap (λ (w : LineWords). w.longest) (p.some (omega arith))
+      kept-longest zero passed = ap (λ (w : LineWords). w.longest) (passed.none refl)
+      kept-longest (suc k) passed = ap (λ (w : LineWords). w.longest) (passed.some (omega arith))
 
       kept-origin : (k : ℕ) → PassesFlags old k new → new.origin ≡ old.origin
-      kept-origin zero p = ap (λ (w : LineWords). w.origin) (p.none refl)
-      kept-origin (suc k) p = ap (λ (w : LineWords). w.origin) (p.some (omega arith))
+      kept-origin zero passed = ap (λ (w : LineWords). w.origin) (passed.none refl)
+      kept-origin (suc k) passed = ap (λ (w : LineWords). w.origin) (passed.some (omega arith))
 
       moved-place : (k : ℕ) → PassesFlags old k new → new.place ≡ old.place + 8 * k
-      moved-place zero p = ap (λ (w : LineWords). w.place) (p.none refl) ∙ omega arith
-      moved-place (suc k) p = ap (λ (w : LineWords). w.place) (p.some (omega arith))
+      moved-place zero passed = ap (λ (w : LineWords). w.place) (passed.none refl) ∙ omega arith
+      moved-place (suc k) passed = ap (λ (w : LineWords). w.place) (passed.some (omega arith))
 
 -- ---- data
 
 -- the word of the new bits
 pub word-is : (h x : ℕ) (b : List Bool) → h ≡ number (drop (length b) (padded b)) →
     IsWord (word_of h x) b (bits_of 56 x)
-word-is h x b e =
-    let n : x % 2 ^ 56 ≡ number (bits_of 56 x) = sym (number-bits 56 (x % 2 ^ 56) (omega arith))
+word-is h x b last =
+    let new : x % 2 ^ 56 ≡ number (bits_of 56 x) = sym (number-bits 56 (x % 2 ^ 56) (omega arith))
     ∙ ap number (bits-low 56 x) in
-    word-made h (x % 2 ^ 56) b (bits_of 56 x) e n
+    word-made h (x % 2 ^ 56) b (bits_of 56 x) last new
 
 pub last-bits-small : {C : Type 0} (d : LineState C) (b : List Bool) → HasTaken d b → d.last_bits < 65536
-last-bits-small d b h =
-    let k : length (drop (length b) (padded b)) ≡ 16 =
-    length-drop (length b) (padded b) ∙ omega (arith, padded-length b) in
-    let o : number (drop (length b) (padded b)) < 65536 = rw k at (number-lt (drop (length b) (padded b))) in
-    omega (arith, h.last_bits, o)
+last-bits-small d b taken = omega (arith, taken.last_bits, last-below b)
 
 -- the sixteen newest
 pub last-bits-next : (h x : ℕ) → h < 65536 → bit_or (h / 256) (x * 256 % 18446744073709551616) / 2 ^ 48
     ≡ word_of h x / 2 ^ 56 % 65536
-last-bits-next h x l = ap (λ (y : ℕ). y / 2 ^ 48) (word-behind h x l) ∙ omega (arith, l)
+last-bits-next h x small = ap (λ (y : ℕ). y / 2 ^ 48) (word-behind h x small) ∙ omega (arith, small)
 
 pub newest-front : (h x n : ℕ) → h < 65536 → n < 8
     → bit_or h (x * 65536 % 18446744073709551616) / 2 ^ n % 65536 ≡ word_of h x / 2 ^ n % 65536
-newest-front h x n l few =
-    ap (λ (y : ℕ). y / 2 ^ n % 65536) (word-front h x l) ∙ field (word_of h x) n 16 (omega (arith, few))
+newest-front h x n small few =
+    ap (λ (y : ℕ). y / 2 ^ n % 65536) (word-front h x small) ∙ field (word_of h x) n 16 (omega (arith, few))
 
 pub newest-behind : (h x n : ℕ) → h < 65536 → 8 ≤ n
     → bit_or (h / 256) (x * 256 % 18446744073709551616) / 2 ^ (n - 8) % 65536 ≡ word_of h x / 2 ^ n % 65536
-newest-behind h x n l many =
+newest-behind h x n small many =
     let all : 8 + (n - 8) ≡ n = omega (arith, many) in
-    ap (λ (y : ℕ). y / 2 ^ (n - 8) % 65536) (word-behind h x l)
+    ap (λ (y : ℕ). y / 2 ^ (n - 8) % 65536) (word-behind h x small)
     ∙ ap (λ (y : ℕ). y % 65536) (shr-shr (word_of h x) 8 (n - 8) ∙ ap (λ (j : ℕ). word_of h x / 2 ^ j) all)

@@ -1,13 +1,12 @@
 -- Bits of a piece, and the one after six ones.
-use Rattle.std.proofs.Common.{◌≡◌, ◌≢◌, ℕ, ◌+◌, ◌-◌, ◌*◌, ◌/◌, ◌%◌, ◌^◌, ◌≤◌, ◌<◌, ◌++◌, List, [], ◌∷◌, Bool, true}
-use Rattle.std.proofs.Common.{false, Option, None, ap, refl, sym, subst, ◌∙◌, length, length-append, take, get_or}
-use Rattle.std.proofs.Common.{arith}
+use Rattle.std.proofs.Common.{◌≡◌, ◌≢◌, ℕ, ◌+◌, ◌-◌, ◌*◌, ◌/◌, ◌%◌, ◌^◌, ◌≤◌, ◌<◌, ◌++◌, List, [], ◌∷◌, Bool, arith}
+use Rattle.std.proofs.Common.{false, true, Option, None, ap, refl, sym, subst, ◌∙◌, length, length-append, take, get_or}
 use Rattle.std.specs.Prelude.{bit_or}
 use Rattle.std.specs.Option.{option_map, option_to_list}
 use Rattle.std.proofs.lemmas.List.{append-nil, append_assoc, take_all}
 use Rattle.bus_bits.specs.Bits.{bits_from}
 use Rattle.bus_bits.specs.Octet.{bits_of}
-use Rattle.bus_bits.proofs.BitLemmas.{bits-more, bits-taken}
+use Rattle.bus_bits.proofs.BitLemmas.{bits-taken}
 use Rattle.bus_bits.proofs.OctetLemmas.{bits-front, length-bits}
 use Rattle.bus_line.specs.Report.{Report, moved}
 use Rattle.bus_line.specs.Due.{current, due_at, placed}
@@ -19,16 +18,16 @@ use Rattle.bus_line.specs.Internal.Tracks.{HasTaken, Tracks}
 use Rattle.bus_line.proofs.DueMoreLemmas.{placed-more}
 use Rattle.bus_line.proofs.AdvanceLemmas.{calm-after, calm-before, calm-placed, tracks-last}
 use Rattle.bus_line.proofs.QuietLemmas.{last-bits-small, no-stop, word-behind, word-is, word_of}
-use Rattle.bus_line.proofs.TellLemmas.{decide-more, last-bit, tells-more}
+use Rattle.bus_line.proofs.TellLemmas.{decide-more, joins, last-bit, tells-more}
 
 -- ---- calm bits
 
 -- of the lowest bits of a number, however many more there are
 pub calm-front : (b : List Bool) (x n m k : ℕ) → IsCalm b (bits_of n x) k → k ≤ n → k ≤ m → IsCalm b (bits_of m x) k
-calm-front b x n m k calm low lows = λ i l.
+calm-front b x n m k calm low lows = λ i below.
     let same : take i (bits_of m x) ≡ take i (bits_of n x) =
-    bits-front i m x (omega (arith, l, lows)) ∙ sym (bits-front i n x (omega (arith, l, low))) in
-    rw (same) (calm i l)
+    bits-front i m x (omega (arith, below, lows)) ∙ sym (bits-front i n x (omega (arith, below, low))) in
+    rw (same) (calm i below)
 
 -- of 56 bits, before the first after six ones
 pub calm-turn : {C : Type 0} (d : LineState C) (x m n : ℕ) (b : List Bool) → HasTaken d b →
@@ -52,17 +51,18 @@ module _ {C : Type 0} (folded : C → List ℕ → Type 0) (cost : ℕ) {old new
       let all : take (length bits) bits ≡ bits = take_all (length bits) bits (omega arith) in
       record {
         leads = record {
-          after = λ b h.
-              let t = subst (λ (z : List Bool). Tracks folded cost new (b ++ z) (current b)) (sym all) (tracks b h) in
+          after = λ b stands.
+              let settled =
+              subst (λ (z : List Bool). Tracks folded cost new (b ++ z) (current b)) (sym all) (tracks b stands) in
               subst (λ (z : List Bool). After folded cost new (b ++ z)) all
-              (calm-after folded cost (length bits) new b bits (calm b h) (omega arith) t);
+              (calm-after folded cost (length bits) new b bits (calm b stands) (omega arith) settled);
           longest = longest;
           origin = origin;
           place = place;
         };
-        says = λ b h.
+        says = λ b stands.
             ap (λ (z : List Bool). placed old.origin old.longest (b ++ z)) (sym all)
-            ∙ (calm-placed old.origin old.longest (length bits) b bits (calm b h) (length bits) (omega arith)
+            ∙ (calm-placed old.origin old.longest (length bits) b bits (calm b stands) (length bits) (omega arith)
             (omega arith) ∙ sym (append-nil (placed old.origin old.longest b)));
       }
 
@@ -81,11 +81,11 @@ module _ {C : Type 0} (folded : C → List ℕ → Type 0) (cost : ℕ) {old new
         longest = longest;
         origin = origin;
         place = place;
-        tracks = λ b h.
-            tracks-last folded cost n new b bits (calm b h) (omega (arith, some))
-            (subst (λ (z : List Bool). Tracks folded cost new (b ++ z) (current b)) (sym all) (tracks b h));
-        before = λ b h.
-            calm-placed old.origin old.longest n b bits (calm b h) n (omega arith) (omega arith);
+        tracks = λ b stands.
+            tracks-last folded cost n new b bits (calm b stands) (omega (arith, some))
+            (subst (λ (z : List Bool). Tracks folded cost new (b ++ z) (current b)) (sym all) (tracks b stands));
+        before = λ b stands.
+            calm-placed old.origin old.longest n b bits (calm b stands) n (omega arith) (omega arith);
       }
 
 -- ---- what the last of them decides
@@ -107,19 +107,19 @@ decided folded cost {old} {mid} {new} {bits} {report} reached longest origin pla
     record {
       tells = record {
         leads = record {
-          after = λ b h. subst (After folded cost new) (joined b) (after (b ++ front) last (reached.tracks b h));
+          after = λ b stands. rw (← joined b) (after (b ++ front) last (reached.tracks b stands));
           longest = longest ∙ reached.longest;
           origin = origin ∙ reached.origin;
           place = place ∙ reached.place;
         };
-        says = λ b h.
-            let due = answer (b ++ front) last (reached.tracks b h) in
+        says = λ b stands.
+            let due = answer (b ++ front) last (reached.tracks b stands) in
             let here : report ≡ option_map (moved old.origin)
             (due_at old.longest ((b ++ front) ++ last ∷ []) (length (b ++ front))) =
             rw (← reached.longest, ← reached.origin) due in
             ap (placed old.origin old.longest) (sym (joined b))
             ∙ (placed-more old.origin old.longest (b ++ front) last report here
-            ∙ ap (λ (z : List Report). z ++ option_to_list report) (reached.before b h));
+            ∙ ap (λ (z : List Report). z ++ option_to_list report) (reached.before b stands));
       };
       before = subst (DecideNothing folded cost old) (sym fewer) reached.before;
     }
@@ -130,9 +130,9 @@ decided folded cost {old} {mid} {new} {bits} {report} reached longest origin pla
 
     but-last : (bits front : List Bool) (last : Bool) → bits ≡ front ++ last ∷ [] → take (length bits - 1) bits ≡ front
     but-last bits front last all =
-        let n : length bits - 1 ≡ length front =
+        let size : length bits - 1 ≡ length front =
         omega (arith, ap length all, length-append front (last ∷ [])) in
-        ap (λ (k : ℕ). take k bits) n
+        ap (λ (k : ℕ). take k bits) size
         ∙ (ap (take (length front)) all ∙ take-front front (last ∷ []))
 
 -- ---- after bits that decide nothing
@@ -145,36 +145,31 @@ turn-bits os at x n same few =
 
 reaches-more : {C : Type 0} (folded : C → List ℕ → Type 0) (cost : ℕ) {a c e : LineState C} {xs ys : List Bool}
     → Tells folded cost a xs None c → Reaches folded cost c ys e → Reaches folded cost a (xs ++ ys) e
-reaches-more folded cost {a} {c} {e} {xs} {ys} p q =
-    let more : xs ++ ys ≡ (xs ++ q.front) ++ q.last ∷ [] =
-    ap (λ (z : List Bool). xs ++ z) q.all ∙ sym (append_assoc xs q.front (q.last ∷ [])) in
+reaches-more folded cost {a} {c} {e} {xs} {ys} quiet reached =
+    let more : xs ++ ys ≡ (xs ++ reached.front) ++ reached.last ∷ [] =
+    ap (λ (z : List Bool). xs ++ z) reached.all ∙ sym (append_assoc xs reached.front (reached.last ∷ [])) in
     record {
-      front = xs ++ q.front;
-      last = q.last;
+      front = xs ++ reached.front;
+      last = reached.last;
       all = more;
-      longest = q.longest ∙ p.leads.longest;
-      origin = q.origin ∙ p.leads.origin;
-      place = omega (arith, length-append xs ys, p.leads.place, q.place);
-      tracks = λ b h.
-          subst (λ (z : List Bool). Tracks folded cost e (z ++ q.last ∷ []) (current z))
-          (append_assoc b xs q.front) (q.tracks (b ++ xs) (p.leads.after b h));
-      before = decide-more folded cost p q.before;
+      longest = reached.longest ∙ quiet.leads.longest;
+      origin = reached.origin ∙ quiet.leads.origin;
+      place = omega (arith, length-append xs ys, quiet.leads.place, reached.place);
+      tracks = λ b stands.
+          rw (← append_assoc b xs reached.front) (reached.tracks (b ++ xs) (quiet.leads.after b stands));
+      before = decide-more folded cost quiet reached.before;
     }
 
 reaches-to-more : {C : Type 0} (folded : C → List ℕ → Type 0) (cost : ℕ) {a c : LineState C} {xs : List Bool}
     (e : LineState C) (ys : List Bool) (is_stop : Bool) → Tells folded cost a xs None c
     → ReachesTo folded cost c ys is_stop e → ReachesTo folded cost a (xs ++ ys) is_stop e
-reaches-to-more folded cost e ys true p q = reaches-more folded cost p q
-reaches-to-more folded cost e ys false p q = tells-more folded cost p q
+reaches-to-more folded cost e ys true quiet reached = reaches-more folded cost quiet reached
+reaches-to-more folded cost e ys false quiet reached = tells-more folded cost quiet reached
 
 pub reaches-on : {C : Type 0} (folded : C → List ℕ → Type 0) (cost : ℕ) (os : List ℕ) (from at : ℕ) → from ≤ at
     → {a c : LineState C} → Tells folded cost a (bits_from os from (at - from)) None c
     → (e : LineState C) (n m : ℕ) (is_stop : Bool) → m ≡ at - from + n
     → ReachesTo folded cost c (bits_from os at n) is_stop e → ReachesTo folded cost a (bits_from os from m) is_stop e
 reaches-on folded cost os from at begun {a} {c} quiet e n m is_stop count reached =
-    let i : at ≡ from + (at - from) = omega (arith, begun) in
-    let joined : bits_from os from (at - from) ++ bits_from os at n ≡ bits_from os from m =
-    ap (λ (j : ℕ). bits_from os from (at - from) ++ bits_from os j n) i
-    ∙ (sym (bits-more os from (at - from) n) ∙ ap (bits_from os from) (sym count)) in
-    subst (λ (z : List Bool). ReachesTo folded cost a z is_stop e) joined
+    rw (← joins folded cost os from at begun quiet n m count)
     (reaches-to-more folded cost e (bits_from os at n) is_stop quiet reached)

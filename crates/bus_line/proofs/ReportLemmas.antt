@@ -19,11 +19,11 @@ use Rattle.bus_line.proofs.DueLemmas.{class-due, due_at-is, due_at-report}
 use Rattle.bus_line.proofs.RisingLemmas.{one-is, same-rising}
 
 option-is : {Y : Type 0} (o : Option Y) (y : Y) → Contains (cons_option o []) y → o ≡ Some y
-option-is None y h = absurd (omega (arith, h.1))
-option-is (Some x) y h = ap Some (one-is x y h)
+option-is None y has = absurd (omega (arith, has.1))
+option-is (Some x) y has = ap Some (one-is x y has)
 
 option-has : {Y : Type 0} (o : Option Y) (y : Y) → o ≡ Some y → Contains (cons_option o []) y
-option-has o y h = rw h (0, omega arith, refl)
+option-has o y is = rw is (0, omega arith, refl)
 
 places-more : {Y : Type 0} (f : ℕ → Option Y) (n : ℕ) →
     filter_map f (places (suc n)) ≡ filter_map f (places n) ++ cons_option (f n) []
@@ -31,107 +31,108 @@ places-more f n = filter_map-append f (places n) (n ∷ [])
 
 pub places-has : {Y : Type 0} (f : ℕ → Option Y) (n i : ℕ) (y : Y) → i < n → f i ≡ Some y →
     Contains (filter_map f (places n)) y
-places-has f zero i y l h = absurd (omega arith)
-places-has f (suc n) i y l h =
+places-has f zero i y inside is = absurd (omega arith)
+places-has f (suc n) i y inside is =
     rw (places-more f n) (elim (cases_lt i n) [
-      | inl u ↦ Contains-append_left (filter_map f (places n)) _ y (places-has f n i y u h)
-      | inr u ↦ let e : i ≡ n = omega arith in Contains-append_right (filter_map f (places n)) _ y
-          (option-has (f n) y (ap f (sym e) ∙ h))
+      | inl below ↦ Contains-append_left (filter_map f (places n)) _ y (places-has f n i y below is)
+      | inr past ↦ let last : i ≡ n = omega arith in Contains-append_right (filter_map f (places n)) _ y
+          (option-has (f n) y (ap f (sym last) ∙ is))
     ])
 
 pub places-from : {Y : Type 0} (f : ℕ → Option Y) (n : ℕ) (y : Y) → Contains (filter_map f (places n)) y →
     (i : ℕ) × (i < n) × (f i ≡ Some y)
-places-from f zero y h = absurd (omega (arith, h.1))
-places-from f (suc n) y h =
+places-from f zero y has = absurd (omega (arith, has.1))
+places-from f (suc n) y has =
     elim (Contains-append_cases (filter_map f (places n)) (cons_option (f n) []) y
-    (subst (λ xs. Contains xs y) (places-more f n) h)) [
-      | inl u ↦ let s = places-from f n y u in (s.0, omega (arith, s.1), s.2)
-      | inr u ↦ (n, omega arith, option-is (f n) y u)
+    (subst (λ xs. Contains xs y) (places-more f n) has)) [
+      | inl front ↦ let found = places-from f n y front in (found.0, omega (arith, found.1), found.2)
+      | inr last ↦ (n, omega arith, option-is (f n) y last)
     ]
 
 rising-option : (f : ℕ → Option Report) (n : ℕ) → ((i : ℕ) (r : Report) → f i ≡ Some r → due r ≡ i) →
     AllPairs (λ r s. due r < due s) (filter_map f (places n)) → (o : Option Report) → f n ≡ o →
     AllPairs (λ r s. due r < due s) (filter_map f (places n) ++ cons_option o [])
-rising-option f n h up None e = rw (append-nil (filter_map f (places n))) up
-rising-option f n h up (Some s) e =
-    all_pairs_push (λ r s. due r < due s) (filter_map f (places n)) s up (λ k d l.
-    let w = places-from f n _ (Contains-get_or (filter_map f (places n)) k d l) in
-    omega (arith, w.1, h w.0 _ w.2, h n s e))
+rising-option f n dues up None is = rw (append-nil (filter_map f (places n))) up
+rising-option f n dues up (Some s) is =
+    all_pairs_push (λ r s. due r < due s) (filter_map f (places n)) s up (λ k d below.
+    let found = places-from f n _ (Contains-get_or (filter_map f (places n)) k d below) in
+    omega (arith, found.1, dues found.0 _ found.2, dues n s is))
 
 pub places-rising : (f : ℕ → Option Report) (n : ℕ) → ((i : ℕ) (r : Report) → f i ≡ Some r → due r ≡ i) →
     AllPairs (λ r s. due r < due s) (filter_map f (places n))
-places-rising f zero h = λ i j d l m. absurd (omega arith)
-places-rising f (suc n) h = rw (places-more f n) (rising-option f n h (places-rising f n h) (f n) refl)
+places-rising f zero dues = λ i j d l m. absurd (omega arith)
+places-rising f (suc n) dues = rw (places-more f n) (rising-option f n dues (places-rising f n dues) (f n) refl)
 
 -- one bit decides at most one report
 pub due-once : (longest : ℕ) (b : List Bool) (r s : Report) → IsReport longest b r → IsReport longest b s →
     due r ≡ due s → r ≡ s
-due-once longest b r s h k e = let x = due_at-is longest b r h in let y = due_at-is longest b s k in let z =
-    ap (due_at longest b) e in cc
+due-once longest b r s one other same =
+    let here = due_at-is longest b r one in let there = due_at-is longest b s other in
+    let at = ap (due_at longest b) same in cc
 
 pub due-within : (longest : ℕ) (b : List Bool) (r : Report) → IsReport longest b r → due r < length b
-due-within longest b _ (closed p m kind h f c) =
-    omega (arith, class-due longest _ kind (p + 8) m c, stands-within b m flag f (omega arith))
-due-within longest b _ (aborted p m h f) = omega (arith, stands-within b m (ones 7) f.0 (omega arith))
-due-within longest b _ (idle a f) = omega (arith, stands-within b a (ones 15) f.0 (omega arith))
+due-within longest b _ (closed p m kind piece end is-class) =
+    omega (arith, class-due longest _ kind (p + 8) m is-class, stands-within b m flag end (omega arith))
+due-within longest b _ (aborted p m piece end) = omega (arith, stands-within b m (ones 7) end.0 (omega arith))
+due-within longest b _ (idle a end) = omega (arith, stands-within b a (ones 15) end.0 (omega arith))
 
 pub reports-are : (longest : ℕ) (b : List Bool) → AreReports longest b (reports longest b)
 reports-are longest b = record {
   all = λ r. (
-    λ h. places-has (due_at longest b) (length b) (due r) r (due-within longest b r h) (due_at-is longest b r h),
-    λ h. let w = places-from (due_at longest b) (length b) r h in (due_at-report longest b w.0 r w.2).0,
+    λ is. places-has (due_at longest b) (length b) (due r) r (due-within longest b r is) (due_at-is longest b r is),
+    λ is. let found = places-from (due_at longest b) (length b) r is in (due_at-report longest b found.0 r found.2).0,
   );
-  rising = places-rising (due_at longest b) (length b) (λ i r h. (due_at-report longest b i r h).1);
+  rising = places-rising (due_at longest b) (length b) (λ i r is. (due_at-report longest b i r is).1);
 }
 
 pub reports-only : (longest : ℕ) (b : List Bool) (rs : List Report) → AreReports longest b rs → rs ≡ reports longest b
-reports-only longest b rs h =
-    let k = reports-are longest b in
-    same-rising due rs (reports longest b) h.rising k.rising (λ r c. (k.all r).0 ((h.all r).1 c))
-    (λ r c. (h.all r).0 ((k.all r).1 c))
+reports-only longest b rs are =
+    let computed = reports-are longest b in
+    same-rising due rs (reports longest b) are.rising computed.rising (λ r has. (computed.all r).0 ((are.all r).1 has))
+    (λ r has. (are.all r).0 ((computed.all r).1 has))
 
 -- the report that is due at a place is computed
 pub due-it : (longest : ℕ) (b : List Bool) (i : ℕ) (r : Report) →
     (IsReport longest b r × (due r ≡ i)) ↔ (due_at longest b i ≡ Some r)
 due-it longest b i r = (
-  λ h. ap (due_at longest b) (sym h.1) ∙ due_at-is longest b r h.0,
-  λ e. due_at-report longest b i r e,
+  λ is. ap (due_at longest b) (sym is.1) ∙ due_at-is longest b r is.0,
+  λ is. due_at-report longest b i r is,
 )
 
 -- a mark stands within the list
 mark-within : (b : List Bool) (q : ℕ) → IsMark b q → q < length b
-mark-within b q (inl h) = omega (arith, stands-within b q flag h (omega arith))
-mark-within b q (inr h) = omega (arith, stands-within b q (ones 7) h.0 (omega arith))
+mark-within b q (inl is-flag) = omega (arith, stands-within b q flag is-flag (omega arith))
+mark-within b q (inr is-abort) = omega (arith, stands-within b q (ones 7) is-abort.0 (omega arith))
 
 pub begun_by-Some : (mark : Mark) (n first : ℕ) → begun_by mark n ≡ Some first →
     (p : ℕ) × (mark ≡ FlagAt p) × (p + 8 < n) × (p + 8 ≡ first)
-begun_by-Some NoMark n first h = absurd (cc)
-begun_by-Some (AbortAt a) n first h = absurd (cc)
-begun_by-Some (FlagAt p) n first h = let x = cond_some _ _ _ h in (p, refl, ltb-true (p + 8) n x.0, x.1)
+begun_by-Some NoMark n first is = absurd (cc)
+begun_by-Some (AbortAt a) n first is = absurd (cc)
+begun_by-Some (FlagAt p) n first is = let parts = cond_some _ _ _ is in (p, refl, ltb-true (p + 8) n parts.0, parts.1)
 
 begun-to : (b : List Bool) (first : ℕ) → HasBegun b first → begun b ≡ Some first
-begun-to b first h =
-    let l : IsLastFlag b (length b) h.flag_at = record {
-      flag = h.opening;
-      below = omega (arith, h.behind, h.some);
-      greatest = λ q above mark. absurd (omega (arith, h.greatest q mark, above));
+begun-to b first has =
+    let last : IsLastFlag b (length b) has.flag_at = record {
+      flag = has.opening;
+      below = omega (arith, has.behind, has.some);
+      greatest = λ q above mark. absurd (omega (arith, has.greatest q mark, above));
     } in
-    ap (λ m. begun_by m (length b)) (last_mark-is b (length b) h.flag_at l)
-    ∙ (cond-true _ _ _ (lt-ltb (h.flag_at + 8) (length b) (omega (arith, h.behind, h.some))) ∙ ap Some (sym h.behind))
+    ap (λ m. begun_by m (length b)) (last_mark-is b (length b) has.flag_at last)
+    ∙ (cond-true _ _ _ (lt-ltb (has.flag_at + 8) _ (omega (arith, has.behind, has.some))) ∙ ap Some (sym has.behind))
 
 begun-from : (b : List Bool) (first : ℕ) → begun b ≡ Some first → HasBegun b first
-begun-from b first e =
-    let s = begun_by-Some (last_mark b (length b)) (length b) first e in
-    let l = last_mark-flag b (length b) s.0 s.1 in
+begun-from b first is =
+    let found = begun_by-Some (last_mark b (length b)) (length b) first is in
+    let last = last_mark-flag b (length b) found.0 found.1 in
     record {
-      flag_at = s.0;
-      opening = l.flag;
-      greatest = λ q mark. elim (cases_lt s.0 q) [
-        | inl u ↦ absurd (omega (arith, l.greatest q u mark, mark-within b q mark))
-        | inr u ↦ u
+      flag_at = found.0;
+      opening = last.flag;
+      greatest = λ q mark. elim (cases_lt found.0 q) [
+        | inl past ↦ absurd (omega (arith, last.greatest q past mark, mark-within b q mark))
+        | inr is ↦ is
       ];
-      behind = sym s.3;
-      some = omega (arith, s.2, s.3);
+      behind = sym found.3;
+      some = omega (arith, found.2, found.3);
     }
 
 -- where a piece has begun is computed

@@ -19,6 +19,7 @@ use Rattle.bus_line.proofs.SpellingLemmas.{unspelled-is}
 use Rattle.bus_line.proofs.RunLemmas.{IsLow, IsLow-start, spelled-low, ones_after-more}
 use Rattle.bus_line.proofs.DueMoreLemmas.{reports-more}
 use Rattle.bus_line.proofs.DueLemmas.{piece_report-is}
+use Rattle.bus_line.proofs.SpellingRawLemmas.{low-ones}
 use Rattle.bus_line.proofs.DueStreamLemmas.{at-flag, at-abort, at-idle, at-other}
 use Rattle.bus_line.proofs.SentLemmas.{data_sent, length-sent, raw-spelled, class-sent}
 
@@ -29,59 +30,65 @@ record Quiet (longest : ℕ) (b c : List Bool) (k : ℕ) : Type 0 where
   run : ones_at_end (b ++ c) ≡ k
 
 quiet-nil : (longest : ℕ) (b : List Bool) (k : ℕ) → ones_at_end b ≡ k → Quiet longest b [] k
-quiet-nil longest b k r = let e =
-    append-nil b in record { none = ap (reports longest) e; mark = ap current e; run = ap ones_at_end e ∙ r }
+quiet-nil longest b k run = record { none = rw append-nil; mark = rw append-nil; run = rw append-nil run }
 
 quiet-more : (longest : ℕ) (b c d : List Bool) (j k : ℕ) → Quiet longest b c j → Quiet longest (b ++ c) d k →
     Quiet longest b (c ++ d) k
-quiet-more longest b c d j k p q =
-    let a = append_assoc b c d in
+quiet-more longest b c d j k first more =
     record {
-      none = ap (reports longest) (sym a) ∙ (q.none ∙ p.none);
-      mark = ap current (sym a) ∙ (q.mark ∙ p.mark);
-      run = ap ones_at_end (sym a) ∙ q.run;
+      none = rw (← append_assoc b c d) (more.none ∙ first.none);
+      mark = rw (← append_assoc b c d) (more.mark ∙ first.mark);
+      run = rw (← append_assoc b c d) more.run;
     }
 
+-- neither six nor fourteen
+abbrev IsNeither : ℕ → Type 0
+IsNeither n = (n ≢ 6) × (n ≢ 14)
+
+few-neither : (n : ℕ) → n ≤ 5 → IsNeither n
+few-neither n few = (λ six. omega (arith, few, six), λ fourteen. omega (arith, few, fourteen))
+
+many-neither : (n : ℕ) → 15 ≤ n → IsNeither n
+many-neither n many = (λ six. omega (arith, many, six), λ fourteen. omega (arith, many, fourteen))
+
 -- a bit that decides nothing
-quiet-bit : (longest : ℕ) (b : List Bool) (x : Bool) → (x ≡ false → ones_at_end b ≢ 6) →
-    (x ≡ true → (ones_at_end b ≢ 6) × (ones_at_end b ≢ 14)) →
+quiet-bit : (longest : ℕ) (b : List Bool) (x : Bool) → IsNeither (ones_at_end b) →
     Quiet longest b (x ∷ []) (if x then suc (ones_at_end b) else 0)
-quiet-bit longest b x f t =
-    let o = at-other longest b x (λ e h l. f e h) t in
+quiet-bit longest b x neither =
+    let other = at-other longest b x (λ is six long. neither.0 six) (λ is. neither) in
     record {
       none = reports-more longest b x
-          ∙ (ap (λ y. reports longest b ++ option_to_list y) o.answers ∙ append-nil (reports longest b));
-      mark = o.leaves;
+          ∙ (ap (λ y. reports longest b ++ option_to_list y) other.answers ∙ append-nil (reports longest b));
+      mark = other.leaves;
       run = ones_after-more 0 b x;
     }
 
 -- bits without six ones in a row decide nothing
 quiet-low : (longest : ℕ) (b w : List Bool) → IsLow (ones_at_end b) w → Quiet longest b w (ones_after (ones_at_end b) w)
-quiet-low longest b [] h = quiet-nil longest b _ refl
-quiet-low longest b (true ∷ w) h =
-    let k = IsLow-start (suc (ones_at_end b)) w h in
-    let o = ones_after-more 0 b true in
-    let q = quiet-bit longest b true (λ e i. absurd (cc)) (λ e. (λ i. omega (arith, k, i), λ i. omega (arith, k, i))) in
-    let r = quiet-low longest (b ++ true ∷ []) w (subst (λ n. IsLow n w) (sym o) h) in
-    subst (λ n. Quiet longest b (true ∷ w) (ones_after n w)) o (quiet-more longest b (true ∷ []) w _ _ q r)
-quiet-low longest b (false ∷ w) h =
-    let o = ones_after-more 0 b false in
-    let q = quiet-bit longest b false (λ e i. omega (arith, h.0, i)) (λ e. absurd (cc)) in
-    let r = quiet-low longest (b ++ false ∷ []) w (subst (λ n. IsLow n w) (sym o) h.1) in
-    subst (λ n. Quiet longest b (false ∷ w) (ones_after n w)) o (quiet-more longest b (false ∷ []) w _ _ q r)
+quiet-low longest b [] low = quiet-nil longest b _ refl
+quiet-low longest b (true ∷ w) low =
+    let few = IsLow-start (suc (ones_at_end b)) w low in
+    let run = ones_after-more 0 b true in
+    let bit = quiet-bit longest b true (few-neither (ones_at_end b) (omega (arith, few))) in
+    let more = quiet-low longest (b ++ true ∷ []) w (subst (λ n. IsLow n w) (sym run) low) in
+    subst (λ n. Quiet longest b (true ∷ w) (ones_after n w)) run (quiet-more longest b (true ∷ []) w _ _ bit more)
+quiet-low longest b (false ∷ w) low =
+    let run = ones_after-more 0 b false in
+    let bit = quiet-bit longest b false (few-neither (ones_at_end b) low.0) in
+    let more = quiet-low longest (b ++ false ∷ []) w (subst (λ n. IsLow n w) (sym run) low.1) in
+    subst (λ n. Quiet longest b (false ∷ w) (ones_after n w)) run (quiet-more longest b (false ∷ []) w _ _ bit more)
 
 -- more ones, none of them the seventh or the fifteenth
 quiet-ones : (longest : ℕ) (b : List Bool) (j k : ℕ) → ones_at_end b ≡ j →
-    ((i : ℕ) → i < k → (j + i ≢ 6) × (j + i ≢ 14)) → Quiet longest b (ones k) (j + k)
-quiet-ones longest b j zero r h = quiet-nil longest b (j + zero) (r ∙ omega arith)
-quiet-ones longest b j (suc k) r h =
-    let z = h 0 (omega arith) in
-    let q = quiet-bit longest b true (λ e i. absurd (cc))
-    (λ e. (λ i. z.0 (omega (arith, i, r)), λ i. z.1 (omega (arith, i, r)))) in
-    let n : suc j + k ≡ j + suc k = omega arith in
-    let s = quiet-ones longest (b ++ true ∷ []) (suc j) k (q.run ∙ ap suc r)
-    (λ i l. let y = h (suc i) (omega arith) in (λ e. y.0 (omega (arith, e)), λ e. y.1 (omega (arith, e)))) in
-    subst (Quiet longest b (ones (suc k))) n (quiet-more longest b (true ∷ []) (ones k) _ _ q s)
+    ((i : ℕ) → i < k → IsNeither (j + i)) → Quiet longest b (ones k) (j + k)
+quiet-ones longest b j zero run neither = quiet-nil longest b (j + zero) (run ∙ omega arith)
+quiet-ones longest b j (suc k) run neither =
+    let here : j + 0 ≡ ones_at_end b = omega (arith, run) in
+    let bit = quiet-bit longest b true (subst IsNeither here (neither 0 (omega arith))) in
+    let size : suc j + k ≡ j + suc k = omega arith in
+    let more = quiet-ones longest (b ++ true ∷ []) (suc j) k (bit.run ∙ ap suc run)
+    (λ i below. let at : j + suc i ≡ suc j + i = omega arith in subst IsNeither at (neither (suc i) (omega arith))) in
+    subst (Quiet longest b (ones (suc k))) size (quiet-more longest b (true ∷ []) (ones k) _ _ bit more)
 
 -- the last mark has no piece that a mark at the end would end
 abbrev IsShut : List Bool → Type 0
@@ -94,12 +101,12 @@ record EndsFlag (b : List Bool) : Type 0 where
   room : 8 ≤ length b
 
 piece_report-shut : (kind : ℕ → Kind) (p m : ℕ) → m ≤ p + 8 → piece_report kind (FlagAt p) m ≡ None
-piece_report-shut kind p m h = let t : nat_lt (p + 8) m ≡ false =
-    grind (arith, nat_tests) in cond-false (nat_lt (p + 8) m) _ _ t
+piece_report-shut kind p m early = let none : nat_lt (p + 8) m ≡ false =
+    grind (arith, nat_tests) in cond-false (nat_lt (p + 8) m) _ _ none
 
 flag-shut : (b : List Bool) → EndsFlag b → IsShut b
-flag-shut b e kind = ap (λ x. piece_report kind x (length b)) e.mark
-    ∙ piece_report-shut kind (length b - 8) (length b) (omega (arith, e.room))
+flag-shut b ended kind = ap (λ x. piece_report kind x (length b)) ended.mark
+    ∙ piece_report-shut kind (length b - 8) (length b) (omega (arith, ended.room))
 
 -- a flag after any bits but six ones
 record FlagAdded (longest : ℕ) (b : List Bool) : Type 0 where
@@ -109,51 +116,46 @@ record FlagAdded (longest : ℕ) (b : List Bool) : Type 0 where
   ends : EndsFlag (b ++ flag)
   place : current (b ++ flag) ≡ FlagAt (length b)
 
-flag-added : (longest : ℕ) (b : List Bool) → ones_at_end b ≢ 6 → ones_at_end b ≢ 14 → FlagAdded longest b
-flag-added longest b h g =
-    let q = quiet-bit longest b false (λ e. h) (λ e. absurd (cc)) in
-    let s = quiet-ones longest (b ++ false ∷ []) 0 6 q.run
-    (λ i l. (λ e. omega (arith, e, l), λ e. omega (arith, e, l))) in
-    let w = quiet-more longest b (false ∷ []) (ones 6) _ _ q s in
+flag-added : (longest : ℕ) (b : List Bool) → IsNeither (ones_at_end b) → FlagAdded longest b
+flag-added longest b neither =
+    let first = quiet-bit longest b false neither in
+    let more = quiet-ones longest (b ++ false ∷ []) 0 6 first.run
+    (λ i below. few-neither (0 + i) (omega (arith, below))) in
+    let quiet = quiet-more longest b (false ∷ []) (ones 6) _ _ first more in
     let c = b ++ false ∷ ones 6 in
-    let six : ones_at_end (b ++ false ∷ ones 6) ≡ 6 = w.run ∙ omega arith in
-    let n : length (b ++ false ∷ ones 6) ≡ length b + 7 = length-append b (false ∷ ones 6) in
-    let m : length (b ++ false ∷ ones 6) - 7 ≡ length b = omega (arith, n) in
-    let f = at-flag longest c six (omega (arith, n)) in
+    let six : ones_at_end (b ++ false ∷ ones 6) ≡ 6 = quiet.run ∙ omega arith in
+    let size : length (b ++ false ∷ ones 6) ≡ length b + 7 = length-append b (false ∷ ones 6) in
+    let at : length (b ++ false ∷ ones 6) - 7 ≡ length b = omega (arith, size) in
+    let decides = at-flag longest c six (omega (arith, size)) in
     let whole : c ++ false ∷ [] ≡ b ++ flag = append_assoc b (false ∷ ones 6) (false ∷ []) in
     let all : length (b ++ flag) ≡ length b + 8 = length-append b flag in
-    let place : current (b ++ flag) ≡ FlagAt (length b) = ap current (sym whole) ∙ (f.leaves ∙ ap FlagAt m) in
-    let at : length b ≡ length (b ++ flag) - 8 = omega (arith, all) in
+    let place : current (b ++ flag) ≡ FlagAt (length b) = ap current (sym whole) ∙ (decides.leaves ∙ ap FlagAt at) in
+    let end : length b ≡ length (b ++ flag) - 8 = omega (arith, all) in
     record {
       adds =
           ap (reports longest) (sym whole)
           ∙ (reports-more longest c false
-          ∙ (ap (λ x. x ++ option_to_list (due_at longest (c ++ false ∷ []) (length c))) w.none
+          ∙ (ap (λ x. x ++ option_to_list (due_at longest (c ++ false ∷ []) (length c))) quiet.none
           ∙ ap (λ x. reports longest b ++ option_to_list x)
-          (f.answers
+          (decides.answers
           ∙ (ap (λ x. piece_report (λ p. class_of longest (slice_range x (p + 8) (length c - 7))) (current c)
           (length c - 7)) whole
-          ∙ (ap (λ k. piece_report (λ p. class_of longest (slice_range (b ++ flag) (p + 8) k)) (current c) k) m
+          ∙ (ap (λ k. piece_report (λ p. class_of longest (slice_range (b ++ flag) (p + 8) k)) (current c) k) at
           ∙ ap (λ x. piece_report (λ p. class_of longest (slice_range (b ++ flag) (p + 8) (length b))) x (length b))
-          w.mark)))));
+          quiet.mark)))));
       ends = record {
         run = ap ones_at_end (sym whole) ∙ ones_after-more 0 c false;
-        mark = place ∙ ap FlagAt at;
+        mark = place ∙ ap FlagAt end;
         room = omega (arith, all);
       };
       place = place;
     }
 
-low-run : (k : ℕ) (r : List Bool) → IsLow k r → ones_after k r ≤ 5
-low-run k [] h = h
-low-run k (true ∷ r) h = low-run (suc k) r h
-low-run k (false ∷ r) h = low-run 0 r h.1
-
 range-mid : (b r t : List Bool) → slice_range ((b ++ r) ++ t) (length b) (length b + length r) ≡ r
 range-mid b r t =
-    let e : (length b + length r) - length b ≡ length r = omega arith in
+    let size : (length b + length r) - length b ≡ length r = omega arith in
     ap (λ x. slice_range x (length b) (length b + length r)) (append_assoc b r t)
-    ∙ (ap (λ n. take n (drop (length b) (b ++ (r ++ t)))) e
+    ∙ (ap (λ n. take n (drop (length b) (b ++ (r ++ t)))) size
     ∙ (ap (take (length r)) (drop_at b (r ++ t) (length b) refl) ∙ take_at r t (length r) refl))
 
 -- raw bits of data and a flag, after a flag
@@ -164,38 +166,38 @@ record ContentAdded (longest : ℕ) (b d r : List Bool) : Type 0 where
 
 content-added : (longest : ℕ) (b d r : List Bool) → EndsFlag b → IsSpelledBy d r → 0 < length r →
     ContentAdded longest b d r
-content-added longest b d r e s some =
-    let low : IsLow (ones_at_end b) r = subst (λ n. IsLow n r) (sym e.run) (spelled-low d r s) in
-    let q = quiet-low longest b r low in
-    let few : ones_at_end (b ++ r) ≤ 5 = omega (arith, q.run, low-run (ones_at_end b) r low) in
-    let f = flag-added longest (b ++ r) (λ i. omega (arith, i, few)) (λ i. omega (arith, i, few)) in
+content-added longest b d r opened spelled some =
+    let low : IsLow (ones_at_end b) r = subst (λ n. IsLow n r) (sym opened.run) (spelled-low d r spelled) in
+    let quiet = quiet-low longest b r low in
+    let few : ones_at_end (b ++ r) ≤ 5 = omega (arith, quiet.run, low-ones (ones_at_end b) r low) in
+    let closed = flag-added longest (b ++ r) (few-neither (ones_at_end (b ++ r)) few) in
     let whole : (b ++ r) ++ flag ≡ b ++ (r ++ flag) = append_assoc b r flag in
-    let n : length (b ++ r) ≡ length b + length r = length-append b r in
-    let first : (length b - 8) + 8 ≡ length b = omega (arith, e.room) in
+    let size : length (b ++ r) ≡ length b + length r = length-append b r in
+    let first : (length b - 8) + 8 ≡ length b = omega (arith, opened.room) in
     let kind : ℕ → Kind = λ p. class_of longest (slice_range ((b ++ r) ++ flag) (p + 8) (length b + length r)) in
     let read : kind (length b - 8) ≡ class_of_data longest d =
     ap (λ i. class_of longest (slice_range ((b ++ r) ++ flag) i (length b + length r))) first
-    ∙ (ap (class_of longest) (range-mid b r flag) ∙ ap (class_of_read longest) (unspelled-is d r s)) in
+    ∙ (ap (class_of longest) (range-mid b r flag) ∙ ap (class_of_read longest) (unspelled-is d r spelled)) in
     let report : piece_report (λ p. class_of longest (slice_range ((b ++ r) ++ flag) (p + 8) (length (b ++ r))))
     (current (b ++ r)) (length (b ++ r))
     ≡ Some (record { kind = class_of_data longest d; first = length b; past = length b + length r }) =
-    ap (λ k. piece_report (λ p. class_of longest (slice_range ((b ++ r) ++ flag) (p + 8) k)) (current (b ++ r)) k) n
-    ∙ (ap (λ x. piece_report kind x (length b + length r)) (q.mark ∙ e.mark)
+    ap (λ k. piece_report (λ p. class_of longest (slice_range ((b ++ r) ++ flag) (p + 8) k)) (current (b ++ r)) k) size
+    ∙ (ap (λ x. piece_report kind x (length b + length r)) (quiet.mark ∙ opened.mark)
     ∙ (piece_report-is kind (length b - 8) (length b + length r) (omega (arith, first, some))
     ∙ (ap (λ (i : ℕ). Some (record { kind = kind (length b - 8); first = i; past = length b + length r })) first
     ∙ ap (λ (k : Kind). Some (record { kind = k; first = length b; past = length b + length r })) read))) in
     record {
       adds = ap (reports longest) (sym whole)
-          ∙ (f.adds ∙ (ap (λ x. reports longest (b ++ r) ++ option_to_list x) report
+          ∙ (closed.adds ∙ (ap (λ x. reports longest (b ++ r) ++ option_to_list x) report
           ∙ ap (λ x. x ++ record { kind = class_of_data longest d; first = length b; past = length b + length r } ∷ [])
-          q.none));
-      ends = subst EndsFlag whole f.ends;
+          quiet.none));
+      ends = subst EndsFlag whole closed.ends;
     }
 
 spelled-some : (d r : List Bool) → IsSpelledBy d r → 0 < length d → 0 < length r
-spelled-some _ _ (ends k l) h = h
-spelled-some _ _ (short k d r l s) h = omega (arith, length-append (ones k) (false ∷ r))
-spelled-some _ _ (five d r s) h = omega arith
+spelled-some _ _ (ends k few) some = some
+spelled-some _ _ (short k d r few spelled) some = omega (arith, length-append (ones k) (false ∷ r))
+spelled-some _ _ (five d r spelled) some = omega arith
 
 record FrameAdded (longest : ℕ) (b : List Bool) (os : List ℕ) : Type 0 where
   adds : reports longest (b ++ (raw_bits os ++ flag)) ≡ reports longest b ++ frame_at (length b) os ∷ []
@@ -203,18 +205,11 @@ record FrameAdded (longest : ℕ) (b : List Bool) (os : List ℕ) : Type 0 where
 
 frame-added : (longest : ℕ) (b : List Bool) (os : List ℕ) → EndsFlag b → CanBeRead longest (Frame os) →
     FrameAdded longest b os
-frame-added longest b os e h =
-    let s = raw-spelled os in
-    let c = content-added longest b (data_sent os) (raw_bits os) e s
-    (spelled-some (data_sent os) (raw_bits os) s (omega (arith, length-sent os))) in
-    record {
-      adds =
-          c.adds
-          ∙ ap (λ (k : Kind). reports longest b
-          ++ record { kind = k; first = length b; past = length b + length (raw_bits os) } ∷ [])
-          (class-sent longest os h);
-      ends = c.ends;
-    }
+frame-added longest b os opened readable =
+    let spelled = raw-spelled os in
+    let content = content-added longest b (data_sent os) (raw_bits os) opened spelled
+    (spelled-some (data_sent os) (raw_bits os) spelled (omega (arith, length-sent os))) in
+    record { adds = content.adds ∙ rw (class-sent longest os readable) refl; ends = content.ends }
 
 -- fifteen ones stand at the end, or more
 record EndsIdle (b : List Bool) : Type 0 where
@@ -223,7 +218,7 @@ record EndsIdle (b : List Bool) : Type 0 where
   mark : current b ≡ AbortAt abort
 
 idle-shut : (b : List Bool) → EndsIdle b → IsShut b
-idle-shut b e kind = ap (λ x. piece_report kind x (length b)) e.mark
+idle-shut b ended kind = ap (λ x. piece_report kind x (length b)) ended.mark
 
 record IdleAdded (longest : ℕ) (b : List Bool) : Type 0 where
   adds : reports longest (b ++ ones 15) ≡ reports longest b ++ idle_at (length b) ∷ []
@@ -231,43 +226,43 @@ record IdleAdded (longest : ℕ) (b : List Bool) : Type 0 where
 
 -- fifteen ones after a 0, or at the start
 idle-added : (longest : ℕ) (b : List Bool) → ones_at_end b ≡ 0 → IsShut b → IdleAdded longest b
-idle-added longest b z shut =
-    let p = quiet-ones longest b 0 6 z (λ i l. (λ e. omega (arith, e, l), λ e. omega (arith, e, l))) in
+idle-added longest b zero-run shut =
+    let six-more = quiet-ones longest b 0 6 zero-run (λ i below. few-neither (0 + i) (omega (arith, below))) in
     let c = b ++ ones 6 in
-    let six : ones_at_end (b ++ ones 6) ≡ 6 = p.run ∙ omega arith in
-    let n : length (b ++ ones 6) ≡ length b + 6 = length-append b (ones 6) in
-    let m : length (b ++ ones 6) - 6 ≡ length b = omega (arith, n) in
-    let a = at-abort longest c six in
+    let six : ones_at_end (b ++ ones 6) ≡ 6 = six-more.run ∙ omega arith in
+    let size : length (b ++ ones 6) ≡ length b + 6 = length-append b (ones 6) in
+    let at : length (b ++ ones 6) - 6 ≡ length b = omega (arith, size) in
+    let abort = at-abort longest c six in
     let none : piece_report (λ i. Kind.Abort) (current c) (length c - 6) ≡ None =
-    ap (piece_report (λ i. Kind.Abort) (current c)) m
-    ∙ (ap (λ x. piece_report (λ i. Kind.Abort) x (length b)) p.mark ∙ shut (λ i. Kind.Abort)) in
+    ap (piece_report (λ i. Kind.Abort) (current c)) at
+    ∙ (ap (λ x. piece_report (λ i. Kind.Abort) x (length b)) six-more.mark ∙ shut (λ i. Kind.Abort)) in
     let d = c ++ true ∷ [] in
     let seven : ones_at_end (c ++ true ∷ []) ≡ 7 = ones_after-more 0 c true ∙ ap suc six in
     let same : reports longest d ≡ reports longest b =
     reports-more longest c true
-    ∙ (ap (λ x. reports longest c ++ option_to_list x) (a.answers ∙ none)
-    ∙ (append-nil (reports longest c) ∙ p.none)) in
-    let q = quiet-ones longest d 7 7 seven (λ i l. (λ e. omega (arith, e, l), λ e. omega (arith, e, l))) in
-    let f = d ++ ones 7 in
-    let fourteen : ones_at_end (d ++ ones 7) ≡ 14 = q.run ∙ omega arith in
-    let k : length (d ++ ones 7) ≡ length b + 14 = omega (arith, length-append d (ones 7), length_push c true, n) in
-    let i = at-idle longest f fourteen in
-    let whole : f ++ true ∷ [] ≡ b ++ ones 15 =
+    ∙ (ap (λ x. reports longest c ++ option_to_list x) (abort.answers ∙ none)
+    ∙ (append-nil (reports longest c) ∙ six-more.none)) in
+    let seven-more = quiet-ones longest d 7 7 seven
+    (λ i below. (λ is. omega (arith, is, below), λ is. omega (arith, is, below))) in
+    let e = d ++ ones 7 in
+    let fourteen : ones_at_end (d ++ ones 7) ≡ 14 = seven-more.run ∙ omega arith in
+    let all : length (d ++ ones 7) ≡ length b + 14 =
+    omega (arith, length-append d (ones 7), length_push c true, size) in
+    let idle = at-idle longest e fourteen in
+    let whole : e ++ true ∷ [] ≡ b ++ ones 15 =
     append_assoc d (ones 7) (true ∷ []) ∙ (append_assoc c (true ∷ []) (ones 8) ∙ append_assoc b (ones 6) (ones 9)) in
-    let first : length f - 14 ≡ length b = omega (arith, k) in
-    let past : length f + 1 ≡ length b + 15 = omega (arith, k) in
+    let first : length e - 14 ≡ length b = omega (arith, all) in
+    let past : length e + 1 ≡ length b + 15 = omega (arith, all) in
     record {
       adds =
           ap (reports longest) (sym whole)
-          ∙ (reports-more longest f true
-          ∙ (ap (λ x. reports longest f ++ option_to_list x) i.answers
-          ∙ (ap (λ x. x ++ record { kind = Kind.Idle; first = length f - 14; past = length f + 1 } ∷ []) (q.none ∙ same)
-          ∙ (ap (λ (x : ℕ). reports longest b ++ record { kind = Kind.Idle; first = x; past = length f + 1 } ∷ []) first
-          ∙ ap (λ (x : ℕ). reports longest b ++ record { kind = Kind.Idle; first = length b; past = x } ∷ []) past))));
+          ∙ (reports-more longest e true
+          ∙ (ap (λ x. reports longest e ++ option_to_list x) idle.answers
+          ∙ rw (seven-more.none ∙ same, first, past) refl));
       ends = record {
-        run = omega (arith, ap ones_at_end whole, ones_after-more 0 f true, fourteen);
+        run = omega (arith, ap ones_at_end whole, ones_after-more 0 e true, fourteen);
         abort = length c - 6;
-        mark = ap current (sym whole) ∙ (i.leaves ∙ (q.mark ∙ a.leaves));
+        mark = ap current (sym whole) ∙ (idle.leaves ∙ (seven-more.mark ∙ abort.leaves));
       };
     }
 
@@ -276,12 +271,12 @@ record IdleGoesOn (longest : ℕ) (b : List Bool) : Type 0 where
   ends : EndsIdle (b ++ ones 15)
 
 idle-goes_on : (longest : ℕ) (b : List Bool) → EndsIdle b → IdleGoesOn longest b
-idle-goes_on longest b e =
-    let q = quiet-ones longest b (ones_at_end b) 15 refl
-    (λ i l. (λ x. omega (arith, x, e.run), λ x. omega (arith, x, e.run))) in
+idle-goes_on longest b ended =
+    let more = quiet-ones longest b (ones_at_end b) 15 refl
+    (λ i below. many-neither (ones_at_end b + i) (omega (arith, ended.run))) in
     record {
-      adds = q.none;
-      ends = record { run = omega (arith, q.run, e.run); abort = e.abort; mark = q.mark ∙ e.mark };
+      adds = more.none;
+      ends = record { run = omega (arith, more.run, ended.run); abort = ended.abort; mark = more.mark ∙ ended.mark };
     }
 
 -- ---- calls
@@ -298,81 +293,70 @@ record Added (longest : ℕ) (b : List Bool) (before : Option Call) (call : Call
   ends : EndsWith (Some call) (b ++ added before call)
 
 -- a flag, where no piece has begun
-lone-flag : (longest : ℕ) (b : List Bool) → ones_at_end b ≢ 6 → ones_at_end b ≢ 14 → IsShut b →
+lone-flag : (longest : ℕ) (b : List Bool) → IsNeither (ones_at_end b) → IsShut b →
     (reports longest (b ++ flag) ≡ reports longest b ++ []) × EndsFlag (b ++ flag)
-lone-flag longest b h g shut =
-    let f = flag-added longest b h g in
-    (f.adds ∙ ap (λ x. reports longest b ++ option_to_list x) (shut _), f.ends)
+lone-flag longest b neither shut =
+    let closed = flag-added longest b neither in
+    (closed.adds ∙ ap (λ x. reports longest b ++ option_to_list x) (shut _), closed.ends)
 
 -- a flag and a frame, where no piece has begun
-flag-frame : (longest : ℕ) (b : List Bool) (os : List ℕ) → ones_at_end b ≢ 6 → ones_at_end b ≢ 14 → IsShut b →
+flag-frame : (longest : ℕ) (b : List Bool) (os : List ℕ) → IsNeither (ones_at_end b) → IsShut b →
     CanBeRead longest (Frame os)
     → (reports longest (b ++ (flag ++ (raw_bits os ++ flag))) ≡ reports longest b ++ frame_at (length b + 8) os ∷ [])
     × EndsFlag (b ++ (flag ++ (raw_bits os ++ flag)))
-flag-frame longest b os h g shut r =
-    let l = lone-flag longest b h g shut in
-    let f = frame-added longest (b ++ flag) os l.1 r in
-    let e = append_assoc b flag (raw_bits os ++ flag) in (
-      ap (reports longest) (sym e)
-          ∙ (f.adds ∙ (ap (λ x. x ++ frame_at (length (b ++ flag)) os ∷ []) (l.0 ∙ append-nil (reports longest b))
-          ∙ ap (λ (n : ℕ). reports longest b ++ frame_at n os ∷ []) (length-append b flag))),
-      subst EndsFlag e f.ends,
+flag-frame longest b os neither shut readable =
+    let opened = lone-flag longest b neither shut in
+    let frame = frame-added longest (b ++ flag) os opened.1 readable in
+    let whole = append_assoc b flag (raw_bits os ++ flag) in (
+      ap (reports longest) (sym whole)
+          ∙ (frame.adds ∙ rw (opened.0 ∙ append-nil (reports longest b), length-append b flag) refl),
+      subst EndsFlag whole frame.ends,
     )
 
-start-run : (b : List Bool) → b ≡ [] → ones_at_end b ≡ 0
-start-run b e = ap ones_at_end e
-
-start-shut : (b : List Bool) → b ≡ [] → IsShut b
-start-shut b e kind = ap (λ x. piece_report kind (current x) (length x)) e
+-- after a call no piece has begun, and one bit more decides nothing
+at-rest : (before : Option Call) (b : List Bool) → EndsWith before b → IsNeither (ones_at_end b) × IsShut b
+at-rest None b start = rw start (few-neither 0 (omega arith), λ kind. refl)
+at-rest (Some Flag) b ended = (few-neither (ones_at_end b) (omega (arith, ended.run)), flag-shut b ended)
+at-rest (Some Idle) b ended = (many-neither (ones_at_end b) ended.run, idle-shut b ended)
+at-rest (Some (Frame ps)) b ended = (few-neither (ones_at_end b) (omega (arith, ended.run)), flag-shut b ended)
 
 step : (longest : ℕ) (before : Option Call) (call : Call) (b : List Bool) → EndsWith before b → CanBeRead longest call →
     Added longest b before call
-step longest None Flag b e r = let z = start-run b e in let f =
-    lone-flag longest b (λ i. omega (arith, i, z)) (λ i. omega (arith, i, z))
-    (start-shut b e) in record { adds = f.0; ends = f.1 }
-step longest (Some Flag) Flag b e r = let f =
-    lone-flag longest b (λ i. omega (arith, i, e.run)) (λ i. omega (arith, i, e.run))
-    (flag-shut b e) in record { adds = f.0; ends = f.1 }
-step longest (Some Idle) Flag b e r = let f =
-    lone-flag longest b (λ i. omega (arith, i, e.run)) (λ i. omega (arith, i, e.run))
-    (idle-shut b e) in record { adds = f.0; ends = f.1 }
-step longest (Some (Frame ps)) Flag b e r = let f =
-    lone-flag longest b (λ i. omega (arith, i, e.run)) (λ i. omega (arith, i, e.run))
-    (flag-shut b e) in record { adds = f.0; ends = f.1 }
-step longest None Idle b e r = let f =
-    idle-added longest b (start-run b e) (start-shut b e) in record { adds = f.adds; ends = f.ends }
-step longest (Some Flag) Idle b e r = let f =
-    idle-added longest b e.run (flag-shut b e) in record { adds = f.adds; ends = f.ends }
-step longest (Some Idle) Idle b e r = let f =
-    idle-goes_on longest b e in record { adds = f.adds ∙ sym (append-nil (reports longest b)); ends = f.ends }
-step longest (Some (Frame ps)) Idle b e r = let f =
-    idle-added longest b e.run (flag-shut b e) in record { adds = f.adds; ends = f.ends }
-step longest None (Frame os) b e r = let z = start-run b e in let f =
-    flag-frame longest b os (λ i. omega (arith, i, z)) (λ i. omega (arith, i, z)) (start-shut b e)
-    r in record { adds = f.0; ends = f.1 }
-step longest (Some Flag) (Frame os) b e r = let f =
-    frame-added longest b os e r in record { adds = f.adds; ends = f.ends }
-step longest (Some Idle) (Frame os) b e r = let f =
-    flag-frame longest b os (λ i. omega (arith, i, e.run)) (λ i. omega (arith, i, e.run)) (idle-shut b e)
-    r in record { adds = f.0; ends = f.1 }
-step longest (Some (Frame ps)) (Frame os) b e r = let f =
-    frame-added longest b os e r in record { adds = f.adds; ends = f.ends }
+step longest before Flag b ended readable =
+    let rest = at-rest before b ended in
+    let sent = lone-flag longest b rest.0 rest.1 in record { adds = sent.0; ends = sent.1 }
+step longest None Idle b start readable =
+    let sent = idle-added longest b (ap ones_at_end start) (at-rest None b start).1 in
+    record { adds = sent.adds; ends = sent.ends }
+step longest (Some Flag) Idle b ended readable =
+    let sent = idle-added longest b ended.run (flag-shut b ended) in record { adds = sent.adds; ends = sent.ends }
+step longest (Some Idle) Idle b ended readable =
+    let more = idle-goes_on longest b ended in
+    record { adds = more.adds ∙ sym (append-nil (reports longest b)); ends = more.ends }
+step longest (Some (Frame ps)) Idle b ended readable =
+    let sent = idle-added longest b ended.run (flag-shut b ended) in record { adds = sent.adds; ends = sent.ends }
+step longest None (Frame os) b start readable =
+    let rest = at-rest None b start in
+    let sent = flag-frame longest b os rest.0 rest.1 readable in record { adds = sent.0; ends = sent.1 }
+step longest (Some Flag) (Frame os) b ended readable =
+    let sent = frame-added longest b os ended readable in record { adds = sent.adds; ends = sent.ends }
+step longest (Some Idle) (Frame os) b ended readable =
+    let rest = at-rest (Some Idle) b ended in
+    let sent = flag-frame longest b os rest.0 rest.1 readable in record { adds = sent.0; ends = sent.1 }
+step longest (Some (Frame ps)) (Frame os) b ended readable =
+    let sent = frame-added longest b os ended readable in record { adds = sent.adds; ends = sent.ends }
 
 back : (longest : ℕ) (before : Option Call) (calls : List Call) (b : List Bool) → EndsWith before b →
     All (CanBeRead longest) calls
     → reports longest (b ++ line_behind before calls) ≡ reports longest b ++ read_behind (length b) before calls
-back longest before [] b e r = ap (reports longest) (append-nil b) ∙ sym (append-nil (reports longest b))
-back longest before (call ∷ calls) b e r =
-    let s = step longest before call b e (All-head (CanBeRead longest) call calls r) in
+back longest before [] b ended readable =
+    ap (reports longest) (append-nil b) ∙ sym (append-nil (reports longest b))
+back longest before (call ∷ calls) b ended readable =
+    let one = step longest before call b ended (All-head (CanBeRead longest) call calls readable) in
     let c = added before call in
-    let h = back longest (Some call) calls (b ++ c) s.ends (All-tail (CanBeRead longest) call calls r) in
+    let more = back longest (Some call) calls (b ++ c) one.ends (All-tail (CanBeRead longest) call calls readable) in
     ap (reports longest) (sym (append_assoc b c (line_behind (Some call) calls)))
-    ∙ (h
-    ∙ (ap (λ x. x ++ read_behind (length (b ++ c)) (Some call) calls) s.adds
-    ∙ (append_assoc (reports longest b) (read_of (length b) before call)
-    (read_behind (length (b ++ c)) (Some call) calls)
-    ∙ ap (λ (n : ℕ). reports longest b ++ (read_of (length b) before call ++ read_behind n (Some call) calls))
-    (length-append b c))))
+    ∙ (more ∙ rw (one.adds, length-append b c) (append_assoc (reports longest b) (read_of (length b) before call) _))
 
 pub line-is-read-back : LineIsReadBack
-line-is-read-back longest calls r = back longest None calls [] refl r
+line-is-read-back longest calls readable = back longest None calls [] refl readable

@@ -5,7 +5,7 @@ use Rattle.std.proofs.Common.{subst, arith, if◌then◌else◌, inl, inr, lengt
 use Rattle.std.specs.Prelude.{nat_le}
 use Rattle.std.proofs.Math.Nat.{mul-add, mul-zero}
 use Rattle.std.proofs.lemmas.Nat.{shr-shr}
-use Rattle.std.proofs.lemmas.List.{length_push, append_assoc, append-nil, length-take}
+use Rattle.std.proofs.lemmas.List.{length_push, append_assoc, append-nil}
 use Rattle.std.proofs.lemmas.Bool.{cases_Bool, cases_lt, false_from_ne_true, eqb-true}
 use Rattle.std.proofs.lemmas.Bool.Decides.{nat_tests}
 use Rattle.bus_bits.specs.Octet.{bits_of}
@@ -20,11 +20,11 @@ use Rattle.bus_line.specs.After.{After}
 use Rattle.bus_line.specs.Internal.Settled.{IsCalm, IsWord, LagsBy, data_in_word, octets_more}
 use Rattle.bus_line.proofs.LedgerSettledLemmas.{assembled-more, stored-more}
 use Rattle.bus_line.proofs.LedgerRankLemmas.{stores-now}
-use Rattle.bus_line.proofs.WordLemmas.{word-inserted, word-bit, word-next}
+use Rattle.bus_line.proofs.WordLemmas.{length-front, word-inserted, word-bit, word-next}
 use Rattle.bus_line.proofs.WholeLemmas.{take_next}
 use Rattle.bus_line.proofs.StepLemmas.{first-Some, none-holds, none-settled, early-settled, inserted-settled}
 use Rattle.bus_line.proofs.StepLemmas.{data-settled, stored-false, data-early, data-inserted, data-more, counts-kept}
-use Rattle.bus_line.proofs.StepLemmas.{holds-of, holds-for, stands-same, moved-holds}
+use Rattle.bus_line.proofs.StepLemmas.{holds-of, holds-for, stands-same, moved-counts, moved-holds}
 use Rattle.bus_line.proofs.DecideLemmas.{mark-kept}
 
 -- ---- what bits settle
@@ -38,29 +38,29 @@ record Settles (longest p : ℕ) (b c gained : List Bool) : Type 0 where
 
 -- no bits settle nothing
 settles-none : (longest p : ℕ) (b c : List Bool) → c ≡ b → Settles longest p b c []
-settles-none longest p b c e =
-    rw e (record { more = sym (append-nil (settled_data b p)); settled = omega arith; filled = refl })
+settles-none longest p b c same =
+    rw same (record { more = sym (append-nil (settled_data b p)); settled = omega arith; filled = refl })
 
 -- and bits after bits
 settles-both : (longest p : ℕ) (a b c x y : List Bool) → Settles longest p a b x → Settles longest p b c y →
     Settles longest p a c (x ++ y)
-settles-both longest p a b c x y h k = record {
-  more = k.more ∙ (ap (λ (z : List Bool). z ++ y) h.more ∙ append_assoc (settled_data a p) x y);
-  settled = omega (arith, h.settled, k.settled, length-append x y);
-  filled = omega (arith, h.filled, k.filled);
+settles-both longest p a b c x y first next = record {
+  more = next.more ∙ (ap (λ (z : List Bool). z ++ y) first.more ∙ append_assoc (settled_data a p) x y);
+  settled = omega (arith, first.settled, next.settled, length-append x y);
+  filled = omega (arith, first.filled, next.filled);
 }
 
 -- a bit that settles nothing
 settles-nothing : (longest p : ℕ) (b : List Bool) (bit : Bool) → is_settled (b ++ bit ∷ []) (length b - 8) ≡ false →
     settled_data (b ++ bit ∷ []) p ≡ settled_data b p → Settles longest p b (b ++ bit ∷ []) []
-settles-nothing longest p b bit f e =
-    let a : assembled (b ++ bit ∷ []) ≡ assembled b = assembled-more b bit ∙ rw f (omega arith) in
-    let s : stored longest (b ++ bit ∷ []) ≡ stored longest b =
-    stored-more longest b bit ∙ rw (stored-false longest (b ++ bit ∷ []) (length b - 8) f) (omega arith) in
+settles-nothing longest p b bit unsettled same =
+    let counted : assembled (b ++ bit ∷ []) ≡ assembled b = assembled-more b bit ∙ rw unsettled (omega arith) in
+    let kept : stored longest (b ++ bit ∷ []) ≡ stored longest b =
+    stored-more longest b bit ∙ rw (stored-false longest (b ++ bit ∷ []) (length b - 8) unsettled) (omega arith) in
     record {
-      more = e ∙ sym (append-nil (settled_data b p));
-      settled = omega (arith, a);
-      filled = omega (arith, s, ap (λ (z : List Bool). min (length z / 8) (longest + 2)) e);
+      more = same ∙ sym (append-nil (settled_data b p));
+      settled = omega (arith, counted);
+      filled = omega (arith, kept, ap (λ (z : List Bool). min (length z / 8) (longest + 2)) same);
     }
 
 -- the full octets of one bit more, as far as there is room
@@ -71,22 +71,22 @@ octet-step n k = grind (arith, nat_tests)
 -- a bit of data
 settles-data : (longest p : ℕ) (b : List Bool) (bit : Bool) → current b ≡ FlagAt p → p + 16 ≤ length b →
     is_inserted b (length b - 8) ≡ false → Settles longest p b (b ++ bit ∷ []) (get_or b (length b - 8) false ∷ [])
-settles-data longest p b bit h l f =
-    let t = data-settled b bit p h l f in
+settles-data longest p b bit mark late plain =
+    let settled = data-settled b bit p mark late plain in
     let x = get_or b (length b - 8) false in
-    let more = data-more b bit p h l f in
-    let n : length (settled_data (b ++ bit ∷ []) p) ≡ length (settled_data b p) + 1 =
+    let more = data-more b bit p mark late plain in
+    let size : length (settled_data (b ++ bit ∷ []) p) ≡ length (settled_data b p) + 1 =
     ap length more ∙ length_push (settled_data b p) x in
-    let s : stored longest (b ++ bit ∷ []) ≡ stored longest b
+    let filled : stored longest (b ++ bit ∷ []) ≡ stored longest b
     + (if (((length (settled_data b p) + 1) % 8 == 0) && nat_le (length (settled_data b p) + 1) (8 * (longest + 2)))
     then 1 else 0) =
     stored-more longest b bit ∙ ap (λ (y : Bool). stored longest b + (if y then 1 else 0))
-    (stores-now longest b bit p h l ∙ rw t refl) in
-    let o = octet-step (length (settled_data b p)) (longest + 2) in
+    (stores-now longest b bit p mark late ∙ rw settled refl) in
+    let octet = octet-step (length (settled_data b p)) (longest + 2) in
     record {
       more = more;
-      settled = assembled-more b bit ∙ rw t refl;
-      filled = omega (arith, s, o, n);
+      settled = assembled-more b bit ∙ rw settled refl;
+      filled = omega (arith, filled, octet, size);
     }
 
 -- what a word shows of the bit that eight later ones have followed
@@ -95,115 +95,108 @@ late_at w i = if w / 2 ^ (3 + i) % 64 == 31 then [] else (w / 2 ^ (8 + i) % 2 ==
 
 -- a test of a bit is that bit
 bit-is : (n : ℕ) (y : Bool) → n ≡ cond y 1 0 → (n == 1) ≡ y
-bit-is n true h = rw h refl
-bit-is n false h = rw h refl
+bit-is n true is = rw is refl
+bit-is n false is = rw is refl
 
 -- one bit more of the new ones
 pub next-bit : (i : ℕ) (b bits : List Bool) → i < length bits →
     b ++ take (suc i) bits ≡ (b ++ take i bits) ++ get_or bits i false ∷ []
-next-bit i b bits l =
-    let s : suc i ≡ i + 1 = omega arith in
-    ap (λ (j : ℕ). b ++ take j bits) s
-    ∙ (ap (λ (z : List Bool). b ++ z) (take_next bits i false l)
+next-bit i b bits inside =
+    let next : suc i ≡ i + 1 = omega arith in
+    ap (λ (j : ℕ). b ++ take j bits) next
+    ∙ (ap (λ (z : List Bool). b ++ z) (take_next bits i false inside)
     ∙ sym (append_assoc b (take i bits) (get_or bits i false ∷ [])))
 
-pub length-front : (i : ℕ) (b bits : List Bool) → i ≤ length bits → length (b ++ take i bits) ≡ length b + i
-length-front i b bits l = length-append b (take i bits) ∙ omega (arith, length-take i bits, l)
 
 -- a bit that comes late enough
 settles-late : (longest p w i : ℕ) (b bits : List Bool) (bit : Bool) → IsWord w b bits → i < length bits →
     current (b ++ take i bits) ≡ FlagAt p → p + 16 ≤ length b + i
     → Settles longest p (b ++ take i bits) ((b ++ take i bits) ++ bit ∷ []) (late_at w i)
-settles-late longest p w i b bits bit h l f far =
+settles-late longest p w i b bits bit word inside mark far =
     let u = b ++ take i bits in
-    let n : length (b ++ take i bits) ≡ length b + i = length-front i b bits (omega (arith, l)) in
+    let size : length (b ++ take i bits) ≡ length b + i = length-front i b bits (omega (arith, inside)) in
     let here : is_inserted (b ++ take i bits) (length (b ++ take i bits) - 8)
-    ≡ is_inserted (b ++ take i bits) (length b + i - 8) = ap (λ (j : ℕ). is_inserted u (j - 8)) n in
-    let s = word-inserted w i b bits h l (omega (arith, far)) in
-    let late : p + 16 ≤ length (b ++ take i bits) = omega (arith, n, far) in
+    ≡ is_inserted (b ++ take i bits) (length b + i - 8) = ap (λ (j : ℕ). is_inserted u (j - 8)) size in
+    let inserted-by = word-inserted w i b bits word inside (omega (arith, far)) in
+    let late : p + 16 ≤ length (b ++ take i bits) = omega (arith, size, far) in
     elim (cases_Bool (w / 2 ^ (3 + i) % 64 == 31)) [
-      | inl t ↦
-          let y : is_inserted u (length u - 8) ≡ true = here ∙ s.0 (eqb-true (w / 2 ^ (3 + i) % 64) 31 t) in
-          rw t (settles-nothing longest p u bit (inserted-settled u bit y) (data-inserted u bit p f late y))
-      | inr t ↦
-          let y : is_inserted u (length u - 8) ≡ false =
-          false_from_ne_true _ (λ q. absurd (let z = s.1 (sym here ∙ q) in grind (arith, nat_tests))) in
-          let v : w / 2 ^ (8 + i) % 2 ≡ cond (get_or u (length u - 8) false) 1 0 =
-          word-bit w i b bits h l (omega (arith, far)) ∙ ap (λ (j : ℕ). cond (get_or u (j - 8) false) 1 0) (sym n) in
-          rw (t, bit-is (w / 2 ^ (8 + i) % 2) (get_or u (length u - 8) false) v) (settles-data longest p u bit f late y)
+      | inl shown ↦
+          let inserted : is_inserted u (length u - 8) ≡ true =
+          here ∙ inserted-by.0 (eqb-true (w / 2 ^ (3 + i) % 64) 31 shown) in
+          rw shown
+          (settles-nothing longest p u bit (inserted-settled u bit inserted) (data-inserted u bit p mark late inserted))
+      | inr shown ↦
+          let inserted : is_inserted u (length u - 8) ≡ false =
+          false_from_ne_true _ (λ is. absurd (let shows = inserted-by.1 (sym here ∙ is) in grind (arith, nat_tests))) in
+          let same-bit : w / 2 ^ (8 + i) % 2 ≡ cond (get_or u (length u - 8) false) 1 0 =
+          word-bit w i b bits word inside (omega (arith, far)) ∙ rw size refl in
+          rw (shown, bit-is _ _ same-bit) (settles-data longest p u bit mark late inserted)
     ]
 
 -- ---- calm bits
 
 pub calm-less : (b bits : List Bool) (n m : ℕ) → m ≤ n → IsCalm b bits n → IsCalm b bits m
-calm-less b bits n m l h = λ i k. h i (omega (arith, l, k))
+calm-less b bits n m fewer calm = λ i before. calm i (omega (arith, fewer, before))
 
 -- they leave the last mark
 pub mark-calm : (b bits : List Bool) (n i : ℕ) → IsCalm b bits n → i ≤ n → i ≤ length bits →
     current (b ++ take i bits) ≡ current b
-mark-calm b bits n zero h l k = ap current (append-nil b)
-mark-calm b bits n (suc i) h l k =
-    let c = h i (omega (arith, l)) in
-    ap current (next-bit i b bits (omega (arith, k)))
-    ∙ (mark-kept (b ++ take i bits) (get_or bits i false) c.0 c.1
-    ∙ mark-calm b bits n i h (omega (arith, l)) (omega (arith, k)))
+mark-calm b bits n zero calm within inside = ap current (append-nil b)
+mark-calm b bits n (suc i) calm within inside =
+    let here = calm i (omega (arith, within)) in
+    ap current (next-bit i b bits (omega (arith, inside)))
+    ∙ (mark-kept (b ++ take i bits) (get_or bits i false) here.0 here.1
+    ∙ mark-calm b bits n i calm (omega (arith, within)) (omega (arith, inside)))
 
 -- where no flag was last they settle nothing, nor does the bit after them
 counts-none : {C : Type 0} (cost origin n : ℕ) (d : LineState C) (b bits : List Bool) → IsCalm b bits n →
     first_of origin (current b) ≡ None → Counts cost d b → (i : ℕ) → i ≤ n + 1 → i ≤ length bits →
     Counts cost d (b ++ take i bits)
-counts-none cost origin n d b bits h e k zero l m = subst (Counts cost d) (sym (append-nil b)) k
-counts-none cost origin n d b bits h e k (suc i) l m =
-    subst (Counts cost d) (sym (next-bit i b bits (omega (arith, m))))
+counts-none cost origin n d b bits calm none counts zero within inside = rw (append-nil b) counts
+counts-none cost origin n d b bits calm none counts (suc i) within inside =
+    rw (next-bit i b bits (omega (arith, inside)))
     (counts-kept cost d (b ++ take i bits) (get_or bits i false)
     (none-settled (b ++ take i bits) (get_or bits i false) origin
-    (ap (first_of origin) (mark-calm b bits n i h (omega (arith, l)) (omega (arith, m))) ∙ e))
-    (counts-none cost origin n d b bits h e k i (omega (arith, l)) (omega (arith, m))))
+    (ap (first_of origin) (mark-calm b bits n i calm (omega (arith, within)) (omega (arith, inside))) ∙ none))
+    (counts-none cost origin n d b bits calm none counts i (omega (arith, within)) (omega (arith, inside))))
 
 settled-shifted : (w skip i : ℕ) → skip ≤ i → late_at (w / 2 ^ skip) (i - skip) ≡ late_at w i
-settled-shifted w skip i l =
-    let a : skip + (3 + (i - skip)) ≡ 3 + i = omega (arith, l) in
-    let c : skip + (8 + (i - skip)) ≡ 8 + i = omega (arith, l) in
-    ap (λ (x : ℕ). if x % 64 == 31 then [] else (w / 2 ^ skip / 2 ^ (8 + (i - skip)) % 2 == 1) ∷ [])
-    (shr-shr w skip (3 + (i - skip)) ∙ ap (λ (j : ℕ). w / 2 ^ j) a)
-    ∙ ap (λ (x : ℕ). if w / 2 ^ (3 + i) % 64 == 31 then [] else (x % 2 == 1) ∷ [])
-    (shr-shr w skip (8 + (i - skip)) ∙ ap (λ (j : ℕ). w / 2 ^ j) c)
+settled-shifted w skip i past =
+    let five : skip + (3 + (i - skip)) ≡ 3 + i = omega (arith, past) in
+    let bit : skip + (8 + (i - skip)) ≡ 8 + i = omega (arith, past) in
+    rw (shr-shr w skip (3 + (i - skip)), five, shr-shr w skip (8 + (i - skip)), bit) refl
 
 -- and else those that come late enough settle what the word shows
 settles-calm : (longest p w n skip : ℕ) (b bits : List Bool) → current b ≡ FlagAt p → IsCalm b bits n →
     IsWord w b bits → skip ≡ p + 16 - length b → (i : ℕ) → i ≤ n + 1 → i ≤ length bits
     → Settles longest p b (b ++ take i bits) (data_in_word (w / 2 ^ skip) (i - skip))
-settles-calm longest p w n skip b bits f c h s zero l m =
-    let z : 0 - skip ≡ 0 = omega arith in
-    rw z (settles-none longest p b (b ++ []) (append-nil b))
-settles-calm longest p w n skip b bits f c h s (suc i) l m =
+settles-calm longest p w n skip b bits mark calm word skipped zero within inside =
+    let none : 0 - skip ≡ 0 = omega arith in
+    rw none (settles-none longest p b (b ++ []) (append-nil b))
+settles-calm longest p w n skip b bits mark calm word skipped (suc i) within inside =
     let u = b ++ take i bits in
     let x = get_or bits i false in
-    let k : length (b ++ take i bits) ≡ length b + i = length-front i b bits (omega (arith, m)) in
-    let flag : current (b ++ take i bits) ≡ FlagAt p = mark-calm b bits n i c (omega (arith, l)) (omega (arith, m))
-    ∙ f in
-    let before = settles-calm longest p w n skip b bits f c h s i (omega (arith, l)) (omega (arith, m)) in
-    let e = next-bit i b bits (omega (arith, m)) in
+    let size : length (b ++ take i bits) ≡ length b + i = length-front i b bits (omega (arith, inside)) in
+    let flag : current (b ++ take i bits) ≡ FlagAt p =
+    mark-calm b bits n i calm (omega (arith, within)) (omega (arith, inside)) ∙ mark in
+    let shown : List Bool = data_in_word (w / 2 ^ skip) (i - skip) in
+    let before =
+    settles-calm longest p w n skip b bits mark calm word skipped i (omega (arith, within)) (omega (arith, inside)) in
+    let next = next-bit i b bits (omega (arith, inside)) in
     elim (cases_lt i skip) [
-      | inl y ↦
-          let early : length (b ++ take i bits) < p + 16 = omega (arith, k, s, y) in
+      | inl soon ↦
+          let early : length (b ++ take i bits) < p + 16 = omega (arith, size, skipped, soon) in
           let one = settles-nothing longest p u x (early-settled u x p flag early) (data-early u x p early) in
-          let a : i - skip ≡ suc i - skip = omega (arith, y) in
-          let g : data_in_word (w / 2 ^ skip) (i - skip) ++ [] ≡ data_in_word (w / 2 ^ skip) (suc i - skip) =
-          append-nil (data_in_word (w / 2 ^ skip) (i - skip)) ∙ ap (data_in_word (w / 2 ^ skip)) a in
-          subst (Settles longest p b (b ++ take (suc i) bits)) g
-          (subst (λ (z : List Bool). Settles longest p b z (data_in_word (w / 2 ^ skip) (i - skip) ++ [])) (sym e)
-          (settles-both longest p b u (u ++ x ∷ []) (data_in_word (w / 2 ^ skip) (i - skip)) [] before one))
-      | inr y ↦
-          let one = settles-late longest p w i b bits x h (omega (arith, m)) flag (omega (arith, s, y)) in
-          let a : suc (i - skip) ≡ suc i - skip = omega (arith, y) in
-          let g : data_in_word (w / 2 ^ skip) (i - skip) ++ late_at w i ≡ data_in_word (w / 2 ^ skip) (suc i - skip) =
-          ap (λ (z : List Bool). data_in_word (w / 2 ^ skip) (i - skip) ++ z) (sym (settled-shifted w skip i y))
-          ∙ ap (data_in_word (w / 2 ^ skip)) a in
-          subst (Settles longest p b (b ++ take (suc i) bits)) g
-          (subst (λ (z : List Bool). Settles longest p b z (data_in_word (w / 2 ^ skip) (i - skip) ++ late_at w i))
-          (sym e)
-          (settles-both longest p b u (u ++ x ∷ []) (data_in_word (w / 2 ^ skip) (i - skip)) (late_at w i) before one))
+          let same : i - skip ≡ suc i - skip = omega (arith, soon) in
+          let gained = append-nil shown ∙ ap (data_in_word (w / 2 ^ skip)) same in
+          rw (next, ← gained) (settles-both longest p b u (u ++ x ∷ []) shown [] before one)
+      | inr past ↦
+          let far : p + 16 ≤ length b + i = omega (arith, skipped, past) in
+          let one = settles-late longest p w i b bits x word (omega (arith, inside)) flag far in
+          let same : suc (i - skip) ≡ suc i - skip = omega (arith, past) in
+          let gained : shown ++ late_at w i ≡ data_in_word (w / 2 ^ skip) (suc i - skip) =
+          rw (← settled-shifted w skip i past) (ap (data_in_word (w / 2 ^ skip)) same) in
+          rw (next, ← gained) (settles-both longest p b u (u ++ x ∷ []) shown (late_at w i) before one)
     ]
 
 -- ---- what the decoder tracks after them
@@ -221,24 +214,24 @@ tracks-settled : {C : Type 0} (folded : C → List ℕ → Type 0) (cost p : ℕ
           d.spent.folded + cost * octets_more d.longest (length (settled_data b p)) (length gained);
     }
     → Tracks folded cost e (b ++ bits) (current b)
-tracks-settled folded cost p d e b bits gained h f s l o q w first holds t =
+tracks-settled folded cost p d e b bits gained lags mark settles longest origin place last first holds spent =
     let n = octets_more d.longest (length (settled_data b p)) (length gained) in
     let more : length (settled_data (b ++ bits) p) ≡ length (settled_data b p) + length gained =
-    ap length s.more ∙ length-append (settled_data b p) gained in
+    ap length settles.more ∙ length-append (settled_data b p) gained in
     let full : stored d.longest (b ++ bits) ≡ stored d.longest b
-    + octets_more d.longest (length (settled_data b p)) (length gained) = omega (arith, s.filled, more) in
+    + octets_more d.longest (length (settled_data b p)) (length gained) = omega (arith, settles.filled, more) in
     record {
-      has_taken = stands-same d e (b ++ bits) q o w h.has_taken;
-      first = first ∙ (h.first ∙ ap (λ k. first_of k (current b)) (sym o));
-      piece = holds-for folded e (b ++ bits) p (current b) f (subst (Holds folded e) (sym s.more) holds);
-      counts = rw l (record {
-        settled = ap (λ (x : Spent). x.assembled) t ∙ omega (arith, h.counts.settled, s.settled);
-        filled = ap (λ (x : Spent). x.stored) t ∙ (ap (λ (m : ℕ). m + n) h.counts.filled ∙ sym full);
-        paid = ap (λ (x : Spent). x.folded) t
-            ∙ (ap (λ (m : ℕ). m + cost * n) h.counts.paid
+      has_taken = stands-same d e (b ++ bits) place origin last lags.has_taken;
+      first = first ∙ (lags.first ∙ ap (λ k. first_of k (current b)) (sym origin));
+      piece = holds-for folded e (b ++ bits) p (current b) mark (subst (Holds folded e) (sym settles.more) holds);
+      counts = rw longest (record {
+        settled = ap (λ (x : Spent). x.assembled) spent ∙ omega (arith, lags.counts.settled, settles.settled);
+        filled = ap (λ (x : Spent). x.stored) spent ∙ (ap (λ (m : ℕ). m + n) lags.counts.filled ∙ sym full);
+        paid = ap (λ (x : Spent). x.folded) spent
+            ∙ (ap (λ (m : ℕ). m + cost * n) lags.counts.paid
             ∙ (sym (mul-add cost (stored d.longest b) n) ∙ ap (λ (m : ℕ). cost * m) (sym full)));
-        copied = ap (λ (x : Spent). x.copied) t ∙ h.counts.copied;
-        handled = ap (λ (x : Spent). x.handled) t ∙ h.counts.handled;
+        copied = ap (λ (x : Spent). x.copied) spent ∙ lags.counts.copied;
+        handled = ap (λ (x : Spent). x.handled) spent ∙ lags.counts.handled;
       });
     }
 
@@ -250,32 +243,26 @@ pub spent-none : (s : Spent) (cost longest n : ℕ) →
       folded = s.folded + cost * octets_more longest n 0;
     }
 spent-none s cost longest n =
-    let z : octets_more longest n 0 ≡ 0 = omega arith in
-    let y = mul-zero cost in
-    let a : s.assembled + 0 ≡ s.assembled = omega arith in
-    let b : s.stored + 0 ≡ s.stored = omega arith in
-    let f : s.folded + cost * 0 ≡ s.folded = omega (arith, y) in
-    rw (z, a, b, f) refl
+    let none : octets_more longest n 0 ≡ 0 = omega arith in
+    let product = mul-zero cost in
+    let same-assembled : s.assembled + 0 ≡ s.assembled = omega arith in
+    let same-stored : s.stored + 0 ≡ s.stored = omega arith in
+    let same-folded : s.folded + cost * 0 ≡ s.folded = omega (arith, product) in
+    rw (none, same-assembled, same-stored, same-folded) refl
 
 -- the bits are among the last sixteen, and not yet settled
 pub lags-word : {C : Type 0} (folded : C → List ℕ → Type 0) (cost : ℕ) (d : LineState C) (b bits : List Bool)
     (w t place last_bits shifted : ℕ) → After folded cost d b → IsWord w b bits → t ≤ length bits
     → place ≡ d.place + t → last_bits ≡ w / 2 ^ t % 65536 → LagsBy folded cost
     (record d { place = place; last_bits = last_bits; spent = record d.spent { shifted = shifted } }) b (take t bits)
-lags-word folded cost d b bits w t place last_bits shifted h word l p e = record {
+lags-word folded cost d b bits w t place last_bits shifted stands word within at last = record {
   has_taken = record {
-    place = p ∙ omega (arith, h.has_taken.place, length-front t b bits l);
-    last_bits = e ∙ word-next w t b bits word l;
+    place = at ∙ omega (arith, stands.has_taken.place, length-front t b bits within);
+    last_bits = last ∙ word-next w t b bits word within;
   };
-  first = h.first;
-  piece = moved-holds folded d b place last_bits (record d.spent { shifted = shifted }) (current b) h.piece;
-  counts = record {
-    settled = h.counts.settled;
-    filled = h.counts.filled;
-    paid = h.counts.paid;
-    copied = h.counts.copied;
-    handled = h.counts.handled;
-  };
+  first = stands.first;
+  piece = moved-holds folded d b place last_bits (record d.spent { shifted = shifted }) (current b) stands.piece;
+  counts = moved-counts cost d b place last_bits shifted d.first stands.counts;
 }
 
 -- no flag was last, or all bits come too early after it
@@ -283,57 +270,55 @@ pub word-unsettled : {C : Type 0} (folded : C → List ℕ → Type 0) (cost at 
     (b bits : List Bool) → IsWord w b bits → t ≤ length bits → IsCalm b bits (t - 1) →
     LagsBy folded cost d b (take t bits)
     → d.first ≡ first → at ≡ settles_from first → d.place ≤ at → Tracks folded cost d (b ++ take t bits) (current b)
-word-unsettled folded cost at w t None d b bits h l c lags f s p =
-    let none : first_of d.origin (current b) ≡ None = sym lags.first ∙ f in
+word-unsettled folded cost at w t None d b bits word within calm lags opened settles-at early =
+    let none : first_of d.origin (current b) ≡ None = sym lags.first ∙ opened in
     record {
       has_taken = lags.has_taken;
       first = lags.first;
       piece = none-holds folded d (b ++ take t bits) d.origin (current b) none;
       counts =
-          counts-none cost d.origin (t - 1) d b bits c none lags.counts t (omega arith) l;
+          counts-none cost d.origin (t - 1) d b bits calm none lags.counts t (omega arith) within;
     }
-word-unsettled folded cost at w t (Some first) d b bits h l c lags f s p =
-    let q = first-Some d.origin first (current b) (sym lags.first ∙ f) in
-    let skip = q.0 + 16 - length b in
-    let z = settles-calm d.longest q.0 w (t - 1) skip b bits q.1 c h refl t (omega arith) l in
-    let e : t - skip ≡ 0 = omega (arith, lags.has_taken.place, length-front t b bits l, q.2, s, p) in
-    let none : settled_data b q.0 ++ [] ≡ settled_data b q.0 = append-nil (settled_data b q.0) in
-    tracks-settled folded cost q.0 d d b (take t bits) [] lags q.1
-    (subst (Settles d.longest q.0 b (b ++ take t bits)) (ap (data_in_word (w / 2 ^ skip)) e) z) refl refl refl refl
-    refl
-    (subst (Holds folded d) (sym none) (holds-of folded d b q.0 (current b) q.1 lags.piece))
-    (spent-none d.spent cost d.longest (length (settled_data b q.0)))
+word-unsettled folded cost at w t (Some first) d b bits word within calm lags opened settles-at early =
+    let flag = first-Some d.origin first (current b) (sym lags.first ∙ opened) in
+    let skip = flag.0 + 16 - length b in
+    let settles = settles-calm d.longest flag.0 w (t - 1) skip b bits flag.1 calm word refl t (omega arith) within in
+    let none-late : t - skip ≡ 0 =
+    omega (arith, lags.has_taken.place, length-front t b bits within, flag.2, settles-at, early) in
+    let held = holds-of folded d b flag.0 (current b) flag.1 lags.piece in
+    tracks-settled folded cost flag.0 d d b (take t bits) [] lags flag.1 (rw none-late at settles)
+    refl refl refl refl refl (rw (append-nil (settled_data b flag.0)) held)
+    (spent-none d.spent cost d.longest (length (settled_data b flag.0)))
 
 -- from there on data are appended
-pub word-settled : {C : Type 0} (folded : C → List ℕ → Type 0) (cost first w t late count data_bits : ℕ)
+pub word-settled : {C : Type 0} (folded : C → List ℕ → Type 0) (cost first w t late n x : ℕ)
     (d e : LineState C) (b bits : List Bool) → IsWord w b bits → t ≤ length bits → IsCalm b bits (t - 1) →
     LagsBy folded cost d b (take t bits)
     → d.first ≡ Some first → first + 8 < d.place → late ≡ min (d.place - (first + 8)) t
-    → bits_of count data_bits ≡ data_in_word (w / 2 ^ (t - late)) late
-    → ((bits : List Bool) → Holds folded d bits → Holds folded e (bits ++ bits_of count data_bits))
+    → bits_of n x ≡ data_in_word (w / 2 ^ (t - late)) late
+    → ((bits : List Bool) → Holds folded d bits → Holds folded e (bits ++ bits_of n x))
     → ((bits : List Bool) → Holds folded d bits →
     e.spent ≡ record d.spent {
-      assembled = d.spent.assembled + count;
-      stored = d.spent.stored + octets_more d.longest (length bits) count;
-      folded =
-          d.spent.folded + cost * octets_more d.longest (length bits) count;
+      assembled = d.spent.assembled + n;
+      stored = d.spent.stored + octets_more d.longest (length bits) n;
+      folded = d.spent.folded + cost * octets_more d.longest (length bits) n;
     })
     → e ≡ record d { data_bits = e.data_bits; partial = e.partial; octets = e.octets; check = e.check; spent = e.spent }
     → Tracks folded cost e (b ++ take t bits) (current b)
-word-settled folded cost first w t late count data_bits d e b bits h l c lags f far m value holds spent kept =
-    let s = first-Some d.origin first (current b) (sym lags.first ∙ f) in
-    let skip = s.0 + 16 - length b in
-    let held = holds-of folded d b s.0 (current b) s.1 lags.piece in
-    let n = length-front t b bits l in
-    let a : t - late ≡ s.0 + 16 - length b = omega (arith, lags.has_taken.place, n, s.2, far, m) in
-    let k : late ≡ t - (s.0 + 16 - length b) = omega (arith, lags.has_taken.place, n, s.2, far, m) in
-    let v : bits_of count data_bits ≡ data_in_word (w / 2 ^ skip) (t - skip) =
-    value ∙ (ap (λ (j : ℕ). data_in_word (w / 2 ^ j) late) a ∙ ap (data_in_word (w / 2 ^ skip)) k) in
-    let z = settles-calm d.longest s.0 w (t - 1) skip b bits s.1 c h refl t (omega arith) l in
-    let size : length (bits_of count data_bits) ≡ count = length-bits count data_bits in
-    tracks-settled folded cost s.0 d e b (take t bits) (bits_of count data_bits) lags s.1
-    (subst (Settles d.longest s.0 b (b ++ take t bits)) (sym v) z)
+word-settled folded cost first w t late n x d e b bits word within calm lags opened far is-late value holds spent kept =
+    let flag = first-Some d.origin first (current b) (sym lags.first ∙ opened) in
+    let skip = flag.0 + 16 - length b in
+    let held = holds-of folded d b flag.0 (current b) flag.1 lags.piece in
+    let front = length-front t b bits within in
+    let place = lags.has_taken.place in
+    let same-skip : t - late ≡ flag.0 + 16 - length b = omega (arith, place, front, flag.2, far, is-late) in
+    let same-late : late ≡ t - (flag.0 + 16 - length b) = omega (arith, place, front, flag.2, far, is-late) in
+    let same-data : bits_of n x ≡ data_in_word (w / 2 ^ skip) (t - skip) =
+    value ∙ (ap (λ (j : ℕ). data_in_word (w / 2 ^ j) late) same-skip ∙ ap (data_in_word (w / 2 ^ skip)) same-late) in
+    let settles = settles-calm d.longest flag.0 w (t - 1) skip b bits flag.1 calm word refl t (omega arith) within in
+    let size : length (bits_of n x) ≡ n = length-bits n x in
+    tracks-settled folded cost flag.0 d e b (take t bits) (bits_of n x) lags flag.1 (rw same-data settles)
     (ap (λ (x : LineState _). x.longest) kept) (ap (λ (x : LineState _). x.origin) kept)
     (ap (λ (x : LineState _). x.place) kept) (ap (λ (x : LineState _). x.last_bits) kept)
     (ap (λ (x : LineState _). x.first) kept)
-    (holds (settled_data b s.0) held) (rw size (spent (settled_data b s.0) held))
+    (holds (settled_data b flag.0) held) (rw size (spent (settled_data b flag.0) held))

@@ -1,6 +1,6 @@
 -- What is left of bits without the inserted 0s.
 use Rattle.std.proofs.Common.{◌≡◌, ◌≢◌, ℕ, zero, suc, ◌+◌, ◌-◌, ◌*◌, ◌/◌, ◌%◌, ◌^◌, ◌<◌, ◌≤◌, ◌==◌, Bool, List, [], ◌∷◌}
-use Rattle.std.proofs.Common.{◌++◌, refl, sym, ap, ◌∙◌, subst, arith, nat_eq, not, inl, inr}
+use Rattle.std.proofs.Common.{◌++◌, ◌⊎◌, refl, sym, ap, ◌∙◌, subst, arith, nat_eq, not, inl, inr}
 use Rattle.std.specs.Prelude.{bit_and, cond, count_ones, false, length, ◌↔◌}
 use lib.Lanes.{mask_l}
 use Rattle.std.proofs.lemmas.Simd.{ones-mask_l_cons}
@@ -24,66 +24,73 @@ use Rattle.bus_line.specs.Internal.Settled.{kept, data_in_word}
 -- the highest bit apart
 bits-back : (k n : ℕ) → bits_of (suc k) n ≡ bits_of k n ++ (n / 2 ^ k % 2 == 1) ∷ []
 unfolding bits_of
-bits-back zero n = let e : n ≡ n / 1 = omega arith in ap (λ (x : ℕ). (x % 2 == 1) ∷ []) e
+bits-back zero n = let whole : n ≡ n / 1 = omega arith in ap (λ (x : ℕ). (x % 2 == 1) ∷ []) whole
 bits-back (suc k) n =
-    let f : 1 + k ≡ suc k = omega arith in
+    let next : 1 + k ≡ suc k = omega arith in
     ap (λ (z : List Bool). (n % 2 == 1) ∷ z)
     (bits-back k (n / 2) ∙ ap (λ (x : ℕ). bits_of k (n / 2) ++ (x % 2 == 1) ∷ [])
-    (shr-shr n 1 k ∙ ap (λ (j : ℕ). n / 2 ^ j) f))
+    (shr-shr n 1 k ∙ ap (λ (j : ℕ). n / 2 ^ j) next))
 
 -- ---- which bits are kept
 
+marked-or-free : (s k : ℕ) → (bit_at s k ≡ 1) ⊎ (bit_at s k ≢ 1)
+marked-or-free s k =
+    elim (cases_lt (bit_at s k) 1) [
+      | inl none ↦ inr (λ one. omega (arith, none, one))
+      | inr some ↦ inl (let most = bit_at-lt s k in omega (arith, some, most))
+    ]
+
 -- a marked bit is not kept, and any other is
 kept-out : (x s k : ℕ) → bit_at s k ≡ 1 → kept x s (suc k) ≡ kept x s k
-kept-out x s k h = let t = eq-eqb _ _ h in rw t (append-nil (kept x s k))
+kept-out x s k marked = rw (eq-eqb _ _ marked) (append-nil (kept x s k))
 
 kept-in : (x s k : ℕ) → bit_at s k ≢ 1 → kept x s (suc k) ≡ kept x s k ++ (bit_at x k == 1) ∷ []
-kept-in x s k h = let f = ne_eqb _ _ h in rw f refl
+kept-in x s k free = rw (ne_eqb _ _ free) refl
 
 -- one bit more of each
 kept-both : (x y s t k i : ℕ) → bit_at y k ≡ bit_at x i → bit_at t k ≡ bit_at s i → kept y t k ≡ kept x s i →
     kept y t (suc k) ≡ kept x s (suc i)
-kept-both x y s t k i a b e =
-    elim (cases_lt (bit_at s i) 1) [
-      | inl l ↦ kept-in y t k (λ o. omega (arith, l, b, o))
-          ∙ (ap (λ (n : ℕ). kept y t k ++ (n == 1) ∷ []) a
-          ∙ (ap (λ (z : List Bool). z ++ (bit_at x i == 1) ∷ []) e ∙ sym (kept-in x s i (λ o. omega (arith, l, o)))))
-      | inr g ↦ kept-out y t k (let l = bit_at-lt s i in omega (arith, g, b, l))
-          ∙ (e ∙ sym (kept-out x s i (let l = bit_at-lt s i in omega (arith, g, l))))
+kept-both x y s t k i same-bit same-mark same =
+    elim (marked-or-free s i) [
+      | inl marked ↦ kept-out y t k (same-mark ∙ marked) ∙ (same ∙ sym (kept-out x s i marked))
+      | inr free ↦ kept-in y t k (λ one. free (sym same-mark ∙ one))
+          ∙ rw (same-bit, same) (sym (kept-in x s i free))
     ]
 
 -- only the bits count
 kept-same : (x y s t k : ℕ) → ((i : ℕ) → i < k → bit_at y i ≡ bit_at x i) →
     ((i : ℕ) → i < k → bit_at t i ≡ bit_at s i) → kept y t k ≡ kept x s k
-kept-same x y s t zero a b = refl
-kept-same x y s t (suc k) a b =
-    kept-both x y s t k k (a k (omega arith)) (b k (omega arith))
-    (kept-same x y s t k (λ i l. a i (omega (arith, l))) (λ i l. b i (omega (arith, l))))
+kept-same x y s t zero bits marks = refl
+kept-same x y s t (suc k) bits marks =
+    kept-both x y s t k k (bits k (omega arith)) (marks k (omega arith))
+    (kept-same x y s t k (λ i below. bits i (omega (arith, below))) (λ i below. marks i (omega (arith, below))))
 
 -- without the bit at place `j`, those above it one place lower
 abbrev Without : ℕ → ℕ → ℕ → ℕ → Type 0
 Without j k x y = (i : ℕ) → i < k → (i < j → bit_at y i ≡ bit_at x i) × (j ≤ i → bit_at y i ≡ bit_at x (suc i))
 
 less : (j k x y : ℕ) → Without j (suc k) x y → Without j k x y
-less j k x y h i l = h i (omega (arith, l))
+less j k x y without i below = without i (omega (arith, below))
 
 -- a marked bit can be taken out
 kept-last : (x y s t j k : ℕ) → j ≡ k → bit_at s j ≡ 1 → Without j k x y → Without j k s t →
     kept y t k ≡ kept x s (suc k)
-kept-last x y s t j k e h a b =
-    kept-same x y s t k (λ i l. (a i l).0 (omega (arith, e, l))) (λ i l. (b i l).0 (omega (arith, e, l)))
-    ∙ sym (kept-out x s k (ap (bit_at s) (sym e) ∙ h))
+kept-last x y s t j k last marked bits marks =
+    kept-same x y s t k (λ i below. (bits i below).0 (omega (arith, last, below)))
+    (λ i below. (marks i below).0 (omega (arith, last, below)))
+    ∙ sym (kept-out x s k (ap (bit_at s) (sym last) ∙ marked))
 
 kept-without : (x y s t j k : ℕ) → j ≤ k → bit_at s j ≡ 1 → Without j k x y → Without j k s t →
     kept y t k ≡ kept x s (suc k)
-kept-without x y s t j zero l h a b = kept-last x y s t j zero (omega (arith, l)) h a b
-kept-without x y s t j (suc k) l h a b =
+kept-without x y s t j zero within marked bits marks =
+    kept-last x y s t j zero (omega (arith, within)) marked bits marks
+kept-without x y s t j (suc k) within marked bits marks =
     elim (cases_lt j (suc k)) [
-      | inl m ↦
-          let n : j ≤ k = omega (arith, m) in
-          kept-both x y s t k (suc k) ((a k (omega arith)).1 n) ((b k (omega arith)).1 n)
-          (kept-without x y s t j k n h (less j k x y a) (less j k s t b))
-      | inr m ↦ kept-last x y s t j (suc k) (omega (arith, l, m)) h a b
+      | inl before ↦
+          let inside : j ≤ k = omega (arith, before) in
+          kept-both x y s t k (suc k) ((bits k (omega arith)).1 inside) ((marks k (omega arith)).1 inside)
+          (kept-without x y s t j k inside marked (less j k x y bits) (less j k s t marks))
+      | inr last ↦ kept-last x y s t j (suc k) (omega (arith, within, last)) marked bits marks
     ]
 
 -- where none is marked, all are kept
@@ -91,65 +98,57 @@ pub kept-all : (x k : ℕ) → kept x 0 k ≡ bits_of k x
 unfolding bits_of
 kept-all x zero = refl
 kept-all x (suc k) =
-    let z : bit_at 0 k ≢ 1 = λ o. omega (arith, bit_at-zero k, o) in
-    kept-in x 0 k z ∙ (ap (λ (l : List Bool). l ++ (bit_at x k == 1) ∷ []) (kept-all x k) ∙ sym (bits-back k x))
+    kept-in x 0 k (λ one. omega (arith, bit_at-zero k, one)) ∙ rw (kept-all x k) (sym (bits-back k x))
 
 -- marked bits do not matter
 kept-others : (x y s k : ℕ) → ((i : ℕ) → i < k → bit_at s i ≢ 1 → bit_at y i ≡ bit_at x i) → kept y s k ≡ kept x s k
-kept-others x y s zero h = refl
-kept-others x y s (suc k) h =
-    let rest = kept-others x y s k (λ i l. h i (omega (arith, l))) in
-    elim (cases_lt (bit_at s k) 1) [
-      | inl l ↦
-          let free : bit_at s k ≢ 1 = λ o. omega (arith, l, o) in
-          kept-in y s k free ∙ ap (λ (n : ℕ). kept y s k ++ (n == 1) ∷ []) (h k (omega arith) free)
-          ∙ ap (λ (z : List Bool). z ++ (bit_at x k == 1) ∷ []) rest ∙ sym (kept-in x s k free)
-      | inr g ↦
-          let out : bit_at s k ≡ 1 = let l = bit_at-lt s k in omega (arith, g, l) in
-          kept-out y s k out ∙ rest ∙ sym (kept-out x s k out)
+kept-others x y s zero same = refl
+kept-others x y s (suc k) same =
+    let rest = kept-others x y s k (λ i below. same i (omega (arith, below))) in
+    elim (marked-or-free s k) [
+      | inl marked ↦ kept-out y s k marked ∙ rest ∙ sym (kept-out x s k marked)
+      | inr free ↦ kept-in y s k free ∙ rw (same k (omega arith) free, rest) (sym (kept-in x s k free))
     ]
 
 -- an inserted 0 is no data, and any other bit is
 settled-inserted : (w k : ℕ) → w / 2 ^ (3 + k) % 64 ≡ 31 → data_in_word w (suc k) ≡ data_in_word w k
-settled-inserted w k h = let t = eq-eqb _ _ h in rw t (append-nil (data_in_word w k))
+settled-inserted w k inserted = rw (eq-eqb _ _ inserted) (append-nil (data_in_word w k))
 
 settled-bit : (w k : ℕ) → w / 2 ^ (3 + k) % 64 ≢ 31 →
     data_in_word w (suc k) ≡ data_in_word w k ++ (w / 2 ^ (8 + k) % 2 == 1) ∷ []
-settled-bit w k h = let f = ne_eqb _ _ h in rw f refl
+settled-bit w k plain = rw (ne_eqb _ _ plain) refl
 
 -- the inserted 0s marked, the data of the word are kept
 settled-kept : (w x s k : ℕ) → ((i : ℕ) → i < k → bit_at s i ≡ 1 ↔ w / 2 ^ (3 + i) % 64 ≡ 31) →
     ((i : ℕ) → i < k → bit_at x i ≡ bit_at w (8 + i)) → kept x s k ≡ data_in_word w k
-settled-kept w x s zero h e = refl
-settled-kept w x s (suc k) h e =
-    let here = h k (omega arith) in
-    let rest = settled-kept w x s k (λ i l. h i (omega (arith, l))) (λ i l. e i (omega (arith, l))) in
-    elim (cases_lt (bit_at s k) 1) [
-      | inl l ↦
-          kept-in x s k (λ o. omega (arith, l, o)) ∙ (ap (λ (n : ℕ). kept x s k ++ (n == 1) ∷ []) (e k (omega arith))
-          ∙ (ap (λ (z : List Bool). z ++ (bit_at w (8 + k) == 1) ∷ []) rest
-          ∙ sym (settled-bit w k (λ m. omega (arith, l, here.1 m)))))
-      | inr g ↦ let y = bit_at-lt s k in let o : bit_at s k ≡ 1 =
-          omega (arith, g, y) in kept-out x s k o ∙ (rest ∙ sym (settled-inserted w k (here.0 o)))
+settled-kept w x s zero marks bits = refl
+settled-kept w x s (suc k) marks bits =
+    let here = marks k (omega arith) in
+    let rest =
+    settled-kept w x s k (λ i below. marks i (omega (arith, below))) (λ i below. bits i (omega (arith, below))) in
+    elim (marked-or-free s k) [
+      | inl marked ↦ kept-out x s k marked ∙ (rest ∙ sym (settled-inserted w k (here.0 marked)))
+      | inr free ↦ kept-in x s k free
+          ∙ rw (bits k (omega arith), rest) (sym (settled-bit w k (λ inserted. free (here.1 inserted))))
     ]
 
 pub settled-word : (w s n : ℕ) → n ≤ 56 → ((i : ℕ) → i < 56 → bit_at s i ≡ 1 ↔ w / 2 ^ (3 + i) % 64 ≡ 31)
     → (kept (w / 256) (bit_and s (1 * 2 ^ n % 18446744073709551616 - 1)) n ≡ data_in_word w n)
     × (bit_and s (1 * 2 ^ n % 18446744073709551616 - 1) < 2 ^ n)
-settled-word w s n f h =
-    let m : ℕ = bit_and s (1 * 2 ^ n % 18446744073709551616 - 1) in
-    let k : 1 * 2 ^ n % 18446744073709551616 - 1 ≡ 2 ^ n - 1 = ap (λ (x : ℕ). x - 1) (one_shl n 64 (omega arith)) in
-    let e : bit_and s (1 * 2 ^ n % 18446744073709551616 - 1) ≡ s % 2 ^ n = ap (bit_and s) k ∙ and_mask s n in
-    let p = pow_pos n in (
-      settled-kept w (w / 256) m n
-          (λ i l.
-          let a : bit_at m i ≡ bit_at s i = bit_at_and s (1 * 2 ^ n % 18446744073709551616 - 1) i
-          ∙ (let o = ap (λ (x : ℕ). bit_at x i) k ∙ bit_at_ones n i l in let b =
-          bit_at-lt s i in omega (arith, o, b)) in
-          let g = h i (omega (arith, f, l)) in
-          ((λ x. g.0 (sym a ∙ x)), λ x. a ∙ g.1 x))
-          (λ i l. ap (λ (x : ℕ). x % 2) (shr-shr w 8 i)),
-      omega (arith, e, p),
+settled-word w s n few marks =
+    let ones : ℕ = 1 * 2 ^ n % 18446744073709551616 - 1 in
+    let mask : ones ≡ 2 ^ n - 1 = ap (λ (x : ℕ). x - 1) (one_shl n 64 (omega arith)) in
+    let low : bit_and s ones ≡ s % 2 ^ n = ap (bit_and s) mask ∙ and_mask s n in (
+      settled-kept w (w / 256) (bit_and s ones) n
+          (λ i below.
+          let one : bit_at ones i ≡ 1 = ap (λ (x : ℕ). bit_at x i) mask ∙ bit_at_ones n i below in
+          let both = bit_at_and s ones i in
+          let most = bit_at-lt s i in
+          let same : bit_at (bit_and s ones) i ≡ bit_at s i = omega (arith, both, one, most) in
+          let here = marks i (omega (arith, few, below)) in
+          ((λ marked. here.0 (sym same ∙ marked)), λ inserted. same ∙ here.1 inserted))
+          (λ i below. ap (λ (x : ℕ). x % 2) (shr-shr w 8 i)),
+      omega (arith, low, pow_pos n),
     )
 
 -- ---- the bits that are not marked
@@ -169,13 +168,13 @@ pub record AreMarked (x s n y t m : ℕ) : Type 0 where
   pub same : kept y t m ≡ kept x s n
 
 unmarked-at : (x s n i : ℕ) → n ≤ 56 → s < 2 ^ 64 → i < n → bit_at s i ≢ 1 → bit_at (unmarked x s n) i ≡ bit_at x i
-unmarked-at x s n i few below l free =
+unmarked-at x s n i few word inside free =
     let all : ℕ = 1 * 2 ^ n % 18446744073709551616 - 1 in
     let ones : bit_at all i ≡ 1 =
-    ap (λ (m : ℕ). bit_at (m - 1) i) (one_shl n 64 (omega (arith, few))) ∙ bit_at_ones n i l in
+    ap (λ (m : ℕ). bit_at (m - 1) i) (one_shl n 64 (omega (arith, few))) ∙ bit_at_ones n i inside in
     let low = bit_at_and x all i in
     let both = bit_at_and (bit_and x all) (MAX - s) i in
-    let other = bit_at_not w64 s i below (omega (arith, few, l)) in
+    let other = bit_at_not w64 s i word (omega (arith, few, inside)) in
     let bit = bit_at-lt s i in
     let mine = bit_at-lt x i in
     let zero : bit_at s i ≡ 0 = omega (arith, free, bit) in
@@ -191,7 +190,7 @@ unmarked-are x s n few below =
       small = omega (arith, and_le_l (bit_and x all) (MAX - s), low, mod_below x (2 ^ n) (pow_pos n));
       marked = below;
       zeros = and-not_self (bit_and x all) MAX s s refl (omega (arith, word)) refl;
-      same = kept-others x (unmarked x s n) s n (λ i l free. unmarked-at x s n i few word l free);
+      same = kept-others x (unmarked x s n) s n (λ i inside free. unmarked-at x s n i few word inside free);
     }
 
 -- ---- how many are kept
@@ -219,17 +218,15 @@ kept-trues x s zero = omega arith
 kept-trues x s (suc k) =
     let marks = ap trues (bits-back k s) ∙ trues-append (bits_of k s) ((s / 2 ^ k % 2 == 1) ∷ []) in
     let before = kept-trues x s k in
-    elim (cases_lt (bit_at s k) 1) [
-      | inl l ↦
-          let free : bit_at s k ≢ 1 = λ o. omega (arith, l, o) in
+    elim (marked-or-free s k) [
+      | inl marked ↦
+          let one : trues ((s / 2 ^ k % 2 == 1) ∷ []) ≡ 1 = rw (eq-eqb _ _ marked) refl in
+          let same = ap length (kept-out x s k marked) in
+          omega (arith, before, marks, one, same)
+      | inr free ↦
           let not-one : trues ((s / 2 ^ k % 2 == 1) ∷ []) ≡ 0 = rw (ne_eqb _ _ free) refl in
           let more = ap length (kept-in x s k free) ∙ length-append (kept x s k) ((bit_at x k == 1) ∷ []) in
           omega (arith, before, marks, not-one, more)
-      | inr g ↦
-          let out : bit_at s k ≡ 1 = let l = bit_at-lt s k in omega (arith, g, l) in
-          let one : trues ((s / 2 ^ k % 2 == 1) ∷ []) ≡ 1 = rw (eq-eqb _ _ out) refl in
-          let same = ap length (kept-out x s k out) in
-          omega (arith, before, marks, one, same)
     ]
 
 pub kept-length : (x s n : ℕ) → s < 2 ^ n → length (kept x s n) + count_ones s ≡ n
@@ -247,17 +244,17 @@ one_less s = (s + MAX) % 18446744073709551616
 -- a number by a place and those above and below it
 parts : (x j : ℕ) → x ≡ x / 2 ^ suc j * 2 ^ suc j + (bit_at x j * 2 ^ j + x % 2 ^ j)
 parts x j =
-    let e : 1 + j ≡ suc j = omega arith in
-    let low : x % 2 ^ suc j ≡ bit_at x j * 2 ^ j + x % 2 ^ j = ap (λ (k : ℕ). x % 2 ^ k) (sym e) ∙ mod-pow-add x 1 j in
+    let next : suc j ≡ 1 + j = omega arith in
+    let low : x % 2 ^ suc j ≡ bit_at x j * 2 ^ j + x % 2 ^ j = ap (λ (k : ℕ). x % 2 ^ k) next ∙ mod-pow-add x 1 j in
     sym (shr_split x (suc j)) ∙ ap (λ (r : ℕ). x / 2 ^ suc j * 2 ^ suc j + r) low
 
 none-below : (s j : ℕ) → ((i : ℕ) → i < j → bit_at s i ≡ 0) → s % 2 ^ j ≡ 0
-none-below s zero h = omega arith
-none-below s (suc j) h =
-    let e : 1 + j ≡ suc j = omega arith in
-    let here : bit_at s j ≡ 0 = h j (omega arith) in
-    let rest = none-below s j (λ i l. h i (omega (arith, l))) in
-    ap (λ (k : ℕ). s % 2 ^ k) (sym e) ∙ mod-pow-add s 1 j ∙ ap (λ (b : ℕ). b * 2 ^ j + s % 2 ^ j) here
+none-below s zero zeros = omega arith
+none-below s (suc j) zeros =
+    let next : suc j ≡ 1 + j = omega arith in
+    let here : bit_at s j ≡ 0 = zeros j (omega arith) in
+    let rest = none-below s j (λ i below. zeros i (omega (arith, below))) in
+    ap (λ (k : ℕ). s % 2 ^ k) next ∙ mod-pow-add s 1 j ∙ ap (λ (b : ℕ). b * 2 ^ j + s % 2 ^ j) here
     ∙ omega (arith, rest)
 
 -- the places above one lower, and those below as they are
@@ -271,8 +268,8 @@ lower a l m j k small little same i within = (
   (λ above.
       let left = bit_at_cat_high a j m i little above in
       let right = bit_at_cat_high a (suc j) l (suc i) small (omega (arith, above)) in
-      let e : i - j ≡ suc i - suc j = omega arith in
-      left ∙ ap (bit_at a) e ∙ sym right),
+      let same-place : i - j ≡ suc i - suc j = omega arith in
+      left ∙ ap (bit_at a) same-place ∙ sym right),
 )
 
 -- bits and marks by the place of the lowest mark: others above it, and the bits below it
@@ -307,29 +304,29 @@ marks_left s = bit_and s (one_less s) / 2
 
 -- the lowest mark gone, and its bit with it
 bits-left : (x s a b l j : ℕ) → s < 2 ^ 64 → ByPlace x s a b l j → bits_left x s ≡ a * 2 ^ j + l
-bits-left x s a b l j word h =
-    let p = pow_pos j in
+bits-left x s a b l j word parted =
+    let some = pow_pos j in
     let double = pow-suc 2 j in
-    let wide : l < 2 ^ suc j = omega (arith, h.small, double, p) in
-    let ones : 2 ^ j - 1 < 2 ^ suc j = omega (arith, double, p) in
-    let one : one_less s ≡ b * 2 ^ suc j + (2 ^ j - 1) = omega (arith, word, h.marks, p) in
+    let wide : l < 2 ^ suc j = omega (arith, parted.small, double, some) in
+    let ones : 2 ^ j - 1 < 2 ^ suc j = omega (arith, double, some) in
+    let less-one : one_less s ≡ b * 2 ^ suc j + (2 ^ j - 1) = omega (arith, word, parted.marks, some) in
     let low : bit_and x (one_less s) ≡ l =
-    ap (λ (n : ℕ). bit_and n (one_less s)) h.bits ∙ ap (bit_and (a * 2 ^ suc j + l)) one
-    ∙ and_block (suc j) a b l (2 ^ j - 1) wide ones ∙ ap (λ (n : ℕ). n * 2 ^ suc j + bit_and l (2 ^ j - 1)) h.zeros
-    ∙ omega (arith, and_mask l j, mod-eq_of_lt h.small) in
+    ap (λ (n : ℕ). bit_and n (one_less s)) parted.bits ∙ ap (bit_and (a * 2 ^ suc j + l)) less-one
+    ∙ and_block (suc j) a b l (2 ^ j - 1) wide ones
+    ∙ rw parted.zeros (omega (arith, and_mask l j, mod-eq_of_lt parted.small)) in
     let twice : a * 2 ^ suc j ≡ a * 2 ^ j * 2 = ap (λ (k : ℕ). a * k) double ∙ sym (mul_assoc a (2 ^ j) 2) in
-    omega (arith, low, h.bits, twice)
+    omega (arith, low, parted.bits, twice)
 
 marks-left : (x s a b l j : ℕ) → s < 2 ^ 64 → ByPlace x s a b l j → marks_left s ≡ b * 2 ^ j
-marks-left x s a b l j word h =
-    let p = pow_pos j in
+marks-left x s a b l j word parted =
+    let some = pow_pos j in
     let double = pow-suc 2 j in
-    let mark : 2 ^ j < 2 ^ suc j = omega (arith, double, p) in
-    let ones : 2 ^ j - 1 < 2 ^ suc j = omega (arith, double, p) in
-    let one : one_less s ≡ b * 2 ^ suc j + (2 ^ j - 1) = omega (arith, word, h.marks, p) in
+    let mark : 2 ^ j < 2 ^ suc j = omega (arith, double, some) in
+    let ones : 2 ^ j - 1 < 2 ^ suc j = omega (arith, double, some) in
+    let less-one : one_less s ≡ b * 2 ^ suc j + (2 ^ j - 1) = omega (arith, word, parted.marks, some) in
     let none : bit_and (2 ^ j) (2 ^ j - 1) ≡ 0 = and_mask (2 ^ j) j ∙ mod_self (2 ^ j) in
     let others : bit_and s (one_less s) ≡ bit_and b b * 2 ^ suc j + bit_and (2 ^ j) (2 ^ j - 1) =
-    ap (λ (n : ℕ). bit_and n (one_less s)) h.marks ∙ ap (bit_and (b * 2 ^ suc j + 2 ^ j)) one
+    ap (λ (n : ℕ). bit_and n (one_less s)) parted.marks ∙ ap (bit_and (b * 2 ^ suc j + 2 ^ j)) less-one
     ∙ and_block (suc j) b b (2 ^ j) (2 ^ j - 1) mark ones in
     let same : bit_and b b * 2 ^ suc j ≡ b * 2 ^ suc j = ap (λ (n : ℕ). n * 2 ^ suc j) (and_self b) in
     let twice : b * 2 ^ suc j ≡ b * 2 ^ j * 2 = ap (λ (k : ℕ). b * k) double ∙ sym (mul_assoc b (2 ^ j) 2) in
@@ -337,36 +334,37 @@ marks-left x s a b l j word h =
 
 left-small : (x a l j k : ℕ) → j ≤ k → x < 2 ^ suc k → x ≡ a * 2 ^ suc j + l → l < 2 ^ j → a * 2 ^ j + l < 2 ^ k
 left-small x a l j k within below is small =
-    let e : suc k ≡ (k - j) + suc j = omega arith in
+    let size : suc k ≡ (k - j) + suc j = omega arith in
     let double = pow-suc 2 j in
-    let above : x / 2 ^ suc j < 2 ^ (k - j) = shr_below x (k - j) (suc j) (rw e at below) in
+    let above : x / 2 ^ suc j < 2 ^ (k - j) = shr_below x (k - j) (suc j) (rw size at below) in
     let high : x / 2 ^ suc j ≡ a =
     ap (λ (n : ℕ). n / 2 ^ suc j) is ∙ shr_high a (suc j) l (omega (arith, small, double)) in
     let product : 2 ^ j * 2 ^ (k - j) ≡ 2 ^ k =
-    let f : j + (k - j) ≡ k = omega arith in sym (pow-add 2 j (k - j)) ∙ ap (λ (n : ℕ). 2 ^ n) f in
+    let sum : j + (k - j) ≡ k = omega arith in sym (pow-add 2 j (k - j)) ∙ ap (λ (n : ℕ). 2 ^ n) sum in
     let all = mul-add-lt a (2 ^ j) l (2 ^ (k - j)) (omega (arith, above, high)) small in
     omega (arith, all, product)
 
 out-are : (x s a b l j k : ℕ) → s < 2 ^ 64 → j ≤ k → bit_at s j ≡ 1 → x < 2 ^ suc k → s < 2 ^ suc k
     → ByPlace x s a b l j → AreMarked x s (suc k) (bits_left x s) (marks_left s) k
-out-are x s a b l j k word within one x-below s-below h =
-    let p = pow_pos j in
+out-are x s a b l j k word within one x-below s-below parted =
+    let some = pow_pos j in
     let double = pow-suc 2 j in
-    let wide : l < 2 ^ suc j = omega (arith, h.small, double, p) in
-    let mark : 2 ^ j < 2 ^ suc j = omega (arith, double, p) in
-    let bits = bits-left x s a b l j word h in
-    let marks : marks_left s ≡ b * 2 ^ j + 0 = marks-left x s a b l j word h ∙ sym (add-zero (b * 2 ^ j)) in
+    let wide : l < 2 ^ suc j = omega (arith, parted.small, double, some) in
+    let mark : 2 ^ j < 2 ^ suc j = omega (arith, double, some) in
+    let bits = bits-left x s a b l j word parted in
+    let marks : marks_left s ≡ b * 2 ^ j + 0 = marks-left x s a b l j word parted ∙ sym (add-zero (b * 2 ^ j)) in
     let none : (i : ℕ) → i < j → bit_at 0 i ≡ bit_at (2 ^ j) i =
-    λ i l. bit_at-zero i ∙ sym (bit_at-pow_other j i (λ e. omega (arith, e, l))) in
-    let kept-bits : Without j k (a * 2 ^ suc j + l) (a * 2 ^ j + l) = lower a l l j k wide h.small (λ i l. refl) in
-    let kept-marks : Without j k (b * 2 ^ suc j + 2 ^ j) (b * 2 ^ j + 0) = lower b (2 ^ j) 0 j k mark p none in
+    λ i below. bit_at-zero i ∙ sym (bit_at-pow_other j i (λ same. omega (arith, same, below))) in
+    let kept-bits : Without j k (a * 2 ^ suc j + l) (a * 2 ^ j + l) =
+    lower a l l j k wide parted.small (λ i below. refl) in
+    let kept-marks : Without j k (b * 2 ^ suc j + 2 ^ j) (b * 2 ^ j + 0) = lower b (2 ^ j) 0 j k mark some none in
     record {
-      small = rw bits (left-small x a l j k within x-below h.bits h.small);
+      small = rw bits (left-small x a l j k within x-below parted.bits parted.small);
       marked = omega (arith, and_le_l s (one_less s), s-below, pow-suc 2 k);
-      zeros = rw (bits, marks) (and_block j a b l 0 h.small p ∙ rw (h.zeros, and_zero_r l) (omega arith));
+      zeros = rw (bits, marks) (and_block j a b l 0 parted.small some ∙ rw (parted.zeros, and_zero_r l) (omega arith));
       same =
-          kept-without x (bits_left x s) s (marks_left s) j k within one (rw (bits, h.bits) kept-bits)
-          (rw (marks, h.marks) kept-marks);
+          kept-without x (bits_left x s) s (marks_left s) j k within one (rw (bits, parted.bits) kept-bits)
+          (rw (marks, parted.marks) kept-marks);
     }
 
 -- some bit is marked
@@ -375,16 +373,16 @@ some-out : (x s n : ℕ) → 0 < s → n ≤ 56 → x < 2 ^ n → s < 2 ^ n → 
 some-out x s zero some few x-below s-below clear = absurd (omega (arith, some, s-below))
 some-out x s (suc k) some few x-below s-below clear =
     let word : s < 2 ^ 64 = omega (arith, s-below, pow_below (suc k) 64 (omega (arith, few))) in
-    let t = bit_at-trailing_zeros w64 s some word in
+    let lowest = bit_at-trailing_zeros w64 s some word in
     let j : ℕ = trailing_zeros w64 s in
-    let e : suc k - 1 ≡ k = omega arith in
+    let left : suc k - 1 ≡ k = omega arith in
     let within : j ≤ k =
     elim (cases_lt k j) [
-      | inl g ↦ absurd (omega (arith, t.1, bit_at_above s (suc k) j s-below (omega (arith, g))))
-      | inr g ↦ g
+      | inl past ↦ absurd (omega (arith, lowest.1, bit_at_above s (suc k) j s-below (omega (arith, past))))
+      | inr within ↦ within
     ] in
-    let h = by_place x s j t.1 t.2 clear in
-    rw e (out-are x s (x / 2 ^ suc j) (s / 2 ^ suc j) (x % 2 ^ j) j k word within t.1 x-below s-below h)
+    let parted = by_place x s j lowest.1 lowest.2 clear in
+    rw left (out-are x s (x / 2 ^ suc j) (s / 2 ^ suc j) (x % 2 ^ j) j k word within lowest.1 x-below s-below parted)
 
 -- none is marked
 none-out : (x n : ℕ) → n ≤ 56 → x < 2 ^ n → AreMarked x 0 n (bits_left x 0) (marks_left 0) n
@@ -402,18 +400,18 @@ none-out x n few below =
 -- one step: the lowest marked bit is taken out, if there is one
 pub lowest-out : (x s n m : ℕ) → n ≤ 56 → x < 2 ^ n → s < 2 ^ n → bit_and x s ≡ 0 → m ≡ bool_byte (not (nat_eq s 0))
     → AreMarked x s n (bits_left x s) (marks_left s) (n - m)
-lowest-out x s n m few x-below s-below clear d =
+lowest-out x s n m few x-below s-below clear out =
     elim (cases_lt 0 s) [
-      | inl p ↦
-          let some : (s == 0) ≡ false = ne_eqb s 0 (λ z. omega (arith, p, z)) in
-          let e : n - m ≡ n - 1 = ap (λ (i : ℕ). n - i) (d ∙ ap (λ c. bool_byte (not c)) some) in
-          rw e (some-out x s n p few x-below s-below clear)
-      | inr g ↦
-          let z : 0 ≡ s = omega (arith, g) in
-          let e : n ≡ n - m =
-          let i : m ≡ 0 = d ∙ ap (λ (c : ℕ). bool_byte (not (nat_eq c 0))) (sym z) in omega (arith, i) in
-          subst (AreMarked x s n (bits_left x s) (marks_left s)) e
-          (subst (λ (i : ℕ). AreMarked x i n (bits_left x i) (marks_left i) n) z (none-out x n few x-below))
+      | inl some ↦
+          let not-zero : (s == 0) ≡ false = ne_eqb s 0 (λ is. omega (arith, some, is)) in
+          let left : n - m ≡ n - 1 = ap (λ (i : ℕ). n - i) (out ∙ ap (λ c. bool_byte (not c)) not-zero) in
+          rw left (some-out x s n some few x-below s-below clear)
+      | inr none ↦
+          let zero : 0 ≡ s = omega (arith, none) in
+          let none-out-of : m ≡ 0 = out ∙ ap (λ (c : ℕ). bool_byte (not (nat_eq c 0))) (sym zero) in
+          let left : n ≡ n - m = omega (arith, none-out-of) in
+          subst (AreMarked x s n (bits_left x s) (marks_left s)) left
+          (subst (λ (i : ℕ). AreMarked x i n (bits_left x i) (marks_left i) n) zero (none-out x n few x-below))
     ]
 
 -- the sum of the step has a word's bits

@@ -23,151 +23,156 @@ use Rattle.bus_line.proofs.SpellingRawLemmas.{settles-now, inserted-raw, current
 -- the flag of a place after it
 pub first-Some : (origin first : ℕ) (mark : Mark) → first_of origin mark ≡ Some first →
     (p : ℕ) × (mark ≡ FlagAt p) × (origin + (p + 8) ≡ first)
-first-Some origin first NoMark h = absurd (cc)
-first-Some origin first (AbortAt a) h = absurd (cc)
-first-Some origin first (FlagAt p) h = (p, refl, cc)
+first-Some origin first NoMark is = absurd (cc)
+first-Some origin first (AbortAt a) is = absurd (cc)
+first-Some origin first (FlagAt p) is = (p, refl, cc)
 
 -- where no flag was last, nothing belongs
 none-belongs : (origin i : ℕ) (mark : Mark) → first_of origin mark ≡ None → belongs mark i ≡ false
-none-belongs origin i NoMark h = refl
-none-belongs origin i (AbortAt a) h = refl
-none-belongs origin i (FlagAt p) h = absurd (cc)
+none-belongs origin i NoMark none = refl
+none-belongs origin i (AbortAt a) none = refl
+none-belongs origin i (FlagAt p) none = absurd (cc)
 
 pub none-holds : {C : Type 0} (folded : C → List ℕ → Type 0) (d : LineState C) (b : List Bool) (origin : ℕ)
     (mark : Mark) → first_of origin mark ≡ None → HoldsFor folded d b mark
-none-holds folded d b origin NoMark h = tt
-none-holds folded d b origin (AbortAt a) h = tt
-none-holds folded d b origin (FlagAt p) h = absurd (cc)
+none-holds folded d b origin NoMark none = tt
+none-holds folded d b origin (AbortAt a) none = tt
+none-holds folded d b origin (FlagAt p) none = absurd (cc)
 
 and-false : (x y z : Bool) → y ≡ false → (x && (y && z)) ≡ false
-and-false true y z h = rw h refl
-and-false false y z h = refl
+and-false true y z none = rw none refl
+and-false false y z none = refl
 
 -- a bit whose place belongs to no flag settles nothing
 pub none-settled : (b : List Bool) (bit : Bool) (origin : ℕ) → first_of origin (current b) ≡ None →
     is_settled (b ++ bit ∷ []) (length b - 8) ≡ false
-none-settled b bit origin h = settles-now b bit
+none-settled b bit origin none = settles-now b bit
     ∙ and-false (nat_le 8 (length b)) (belongs (current b) (length b - 8)) _
-    (none-belongs origin (length b - 8) (current b) h)
+    (none-belongs origin (length b - 8) (current b) none)
 
 -- a bit that comes too early after its flag does not either
 pub early-settled : (b : List Bool) (bit : Bool) (p : ℕ) → current b ≡ FlagAt p → length b < p + 16 →
     is_settled (b ++ bit ∷ []) (length b - 8) ≡ false
-early-settled b bit p h l =
+early-settled b bit p mark soon =
     let early : nat_le (p + 8) (length b - 8) ≡ false =
-    false_from_ne_true _
-    (λ t. absurd (omega (arith, leb-true (p + 8) (length b - 8) t, last_mark-flag-behind b p h))) in
+    false_from_ne_true _ (λ is. omega (arith, leb-true (p + 8) (length b - 8) is, flag-within b p mark)) in
     settles-now b bit ∙ and-false (nat_le 8 (length b)) (belongs (current b) (length b - 8)) _
-    (ap (λ m. belongs m (length b - 8)) h ∙ early)
+    (ap (λ m. belongs m (length b - 8)) mark ∙ early)
   where
-    last_mark-flag-behind : (b : List Bool) (p : ℕ) → current b ≡ FlagAt p → p + 8 ≤ length b
-    last_mark-flag-behind b p h = flag-fits b p (last_mark-flag b (length b) p h).flag
+    flag-within : (b : List Bool) (p : ℕ) → current b ≡ FlagAt p → p + 8 ≤ length b
+    flag-within b p mark = flag-fits b p (last_mark-flag b (length b) p mark).flag
 
 pub inserted-settled : (b : List Bool) (bit : Bool) → is_inserted b (length b - 8) ≡ true →
     is_settled (b ++ bit ∷ []) (length b - 8) ≡ false
-inserted-settled b bit h = settles-now b bit
-    ∙ last-false (nat_le 8 (length b)) (belongs (current b) (length b - 8)) (is_inserted b (length b - 8)) h
+inserted-settled b bit inserted = settles-now b bit
+    ∙ last-false (nat_le 8 (length b)) (belongs (current b) (length b - 8)) (is_inserted b (length b - 8)) inserted
   where
     last-false : (x y z : Bool) → z ≡ true → (x && (y && not z)) ≡ false
-    last-false true true z h = rw h refl
-    last-false true false z h = refl
-    last-false false y z h = refl
+    last-false true true z is = rw is refl
+    last-false true false z is = refl
+    last-false false y z is = refl
 
 pub data-settled : (b : List Bool) (bit : Bool) (p : ℕ) → current b ≡ FlagAt p → p + 16 ≤ length b →
     is_inserted b (length b - 8) ≡ false → is_settled (b ++ bit ∷ []) (length b - 8) ≡ true
-data-settled b bit p h l f =
+data-settled b bit p mark late plain =
     settles-now b bit
     ∙ and_from _ _ (le-leb 8 (length b) (omega arith))
-    (and_from _ _ (ap (λ m. belongs m (length b - 8)) h ∙ le-leb (p + 8) (length b - 8) (omega arith)) (rw f refl))
+    (and_from _ _ (rw mark (le-leb (p + 8) (length b - 8) (omega arith))) (rw plain refl))
 
 -- what the ledger counts, where nothing settles
 pub stored-false : (longest : ℕ) (c : List Bool) (i : ℕ) → is_settled c i ≡ false → is_stored longest c i ≡ false
-stored-false longest c i h = rw h refl
+stored-false longest c i unsettled = rw unsettled refl
 
 pub counts-kept : {C : Type 0} (cost : ℕ) (d : LineState C) (b : List Bool) (bit : Bool) →
     is_settled (b ++ bit ∷ []) (length b - 8) ≡ false → Counts cost d b → Counts cost d (b ++ bit ∷ [])
-counts-kept cost d b bit f k =
-    let a : assembled (b ++ bit ∷ []) ≡ assembled b = assembled-more b bit ∙ rw f (omega arith) in
-    let s : stored d.longest (b ++ bit ∷ []) ≡ stored d.longest b =
-    stored-more d.longest b bit ∙ rw (stored-false d.longest (b ++ bit ∷ []) (length b - 8) f) (omega arith) in
+counts-kept cost d b bit unsettled counts =
+    let same : assembled (b ++ bit ∷ []) ≡ assembled b = assembled-more b bit ∙ rw unsettled (omega arith) in
+    let kept : stored d.longest (b ++ bit ∷ []) ≡ stored d.longest b =
+    stored-more d.longest b bit ∙ rw (stored-false d.longest (b ++ bit ∷ []) (length b - 8) unsettled) (omega arith) in
     record {
-      settled = k.settled ∙ sym a;
-      filled = k.filled ∙ sym s;
-      paid = k.paid ∙ ap (λ n. cost * n) (sym s);
-      copied = k.copied;
-      handled = k.handled;
+      settled = counts.settled ∙ sym same;
+      filled = counts.filled ∙ sym kept;
+      paid = counts.paid ∙ ap (λ n. cost * n) (sym kept);
+      copied = counts.copied;
+      handled = counts.handled;
     }
 
 -- the raw bits after the flag, one more
 raw-more : (b : List Bool) (bit : Bool) (p : ℕ) → p + 16 ≤ length b →
     slice_range (b ++ bit ∷ []) (p + 8) (length (b ++ bit ∷ []) - 8)
     ≡ slice_range b (p + 8) (length b - 8) ++ get_or b (length b - 8) false ∷ []
-raw-more b bit p h =
-    let e : length (b ++ bit ∷ []) - 8 ≡ (length b - 8) + 1 = omega (arith, length_push b bit) in
-    rw e (range-more b bit (p + 8) (length b - 8) (omega arith) (omega arith))
+raw-more b bit p late =
+    let next : length (b ++ bit ∷ []) - 8 ≡ (length b - 8) + 1 = omega (arith, length_push b bit) in
+    rw next (range-more b bit (p + 8) (length b - 8) (omega arith) (omega arith))
 
 raw-none : (b : List Bool) (p : ℕ) → length b ≤ p + 16 → slice_range b (p + 8) (length b - 8) ≡ []
-raw-none b p h = let e : (length b - 8) - (p + 8) ≡ 0 = omega arith in ap (λ n. take n (drop (p + 8) b)) e
+raw-none b p early = let none : (length b - 8) - (p + 8) ≡ 0 = omega arith in ap (λ n. take n (drop (p + 8) b)) none
 
 pub data-early : (b : List Bool) (bit : Bool) (p : ℕ) → length b < p + 16 →
     settled_data (b ++ bit ∷ []) p ≡ settled_data b p
-data-early b bit p h =
+data-early b bit p early =
     ap data_so_far (raw-none (b ++ bit ∷ []) p (omega (arith, length_push b bit)) ∙ sym (raw-none b p (omega arith)))
 
 pub data-start : (b : List Bool) (p : ℕ) → length b ≤ p + 16 → settled_data b p ≡ []
-data-start b p h = ap data_so_far (raw-none b p h)
+data-start b p early = ap data_so_far (raw-none b p early)
 
 kept-data : (r : List Bool) (x : Bool) → (not x && (ones_at_end r == 5)) ≡ true →
     data_so_far (r ++ x ∷ []) ≡ data_so_far r
-kept-data r true h = absurd (cc)
-kept-data r false h = data_after-more 0 r false ∙ rw h refl
+kept-data r true inserted = absurd (cc)
+kept-data r false inserted = data_after-more 0 r false ∙ rw inserted refl
 
 more-data : (r : List Bool) (x : Bool) → (not x && (ones_at_end r == 5)) ≡ false →
     data_so_far (r ++ x ∷ []) ≡ data_so_far r ++ x ∷ []
-more-data r true h = data_after-more 0 r true
-more-data r false h = data_after-more 0 r false ∙ rw h refl
+more-data r true plain = data_after-more 0 r true
+more-data r false plain = data_after-more 0 r false ∙ rw plain refl
 
 -- the bit that is eight before the newest is an inserted 0 by the raw bits too
 inserted-here : (b : List Bool) (p : ℕ) → current b ≡ FlagAt p → p + 16 ≤ length b
     → is_inserted b (length b - 8)
     ≡ (not (get_or b (length b - 8) false) && (ones_at_end (slice_range b (p + 8) (length b - 8)) == 5))
-inserted-here b p h l = inserted-raw b p (length b - 8) (last_mark-flag b (length b) p h).flag (omega arith)
-    (omega arith) (current-low b p (length b - 8) h (omega arith))
+inserted-here b p mark late = inserted-raw b p (length b - 8) (last_mark-flag b (length b) p mark).flag (omega arith)
+    (omega arith) (current-low b p (length b - 8) mark (omega arith))
 
 pub data-inserted : (b : List Bool) (bit : Bool) (p : ℕ) → current b ≡ FlagAt p → p + 16 ≤ length b →
     is_inserted b (length b - 8) ≡ true → settled_data (b ++ bit ∷ []) p ≡ settled_data b p
-data-inserted b bit p h l t =
-    ap data_so_far (raw-more b bit p l) ∙ kept-data (slice_range b (p + 8) (length b - 8))
-    (get_or b (length b - 8) false) (sym (inserted-here b p h l) ∙ t)
+data-inserted b bit p mark late inserted =
+    ap data_so_far (raw-more b bit p late) ∙ kept-data (slice_range b (p + 8) (length b - 8))
+    (get_or b (length b - 8) false) (sym (inserted-here b p mark late) ∙ inserted)
 
 pub data-more : (b : List Bool) (bit : Bool) (p : ℕ) → current b ≡ FlagAt p → p + 16 ≤ length b →
     is_inserted b (length b - 8) ≡ false
     → settled_data (b ++ bit ∷ []) p ≡ settled_data b p ++ get_or b (length b - 8) false ∷ []
-data-more b bit p h l f =
-    ap data_so_far (raw-more b bit p l) ∙ more-data (slice_range b (p + 8) (length b - 8))
-    (get_or b (length b - 8) false) (sym (inserted-here b p h l) ∙ f)
+data-more b bit p mark late plain =
+    ap data_so_far (raw-more b bit p late) ∙ more-data (slice_range b (p + 8) (length b - 8))
+    (get_or b (length b - 8) false) (sym (inserted-here b p mark late) ∙ plain)
 
 pub holds-of : {C : Type 0} (folded : C → List ℕ → Type 0) (d : LineState C) (b : List Bool) (p : ℕ) (mark : Mark) →
     mark ≡ FlagAt p → HoldsFor folded d b mark → Holds folded d (settled_data b p)
-holds-of folded d b p mark h k = subst (HoldsFor folded d b) h k
+holds-of folded d b p mark is held = subst (HoldsFor folded d b) is held
 
 pub holds-for : {C : Type 0} (folded : C → List ℕ → Type 0) (d : LineState C) (b : List Bool) (p : ℕ) (mark : Mark) →
     mark ≡ FlagAt p → Holds folded d (settled_data b p) → HoldsFor folded d b mark
-holds-for folded d b p mark h k = subst (HoldsFor folded d b) (sym h) k
+holds-for folded d b p mark is held = subst (HoldsFor folded d b) (sym is) held
 
 -- from there on a piece is open
 pub settles-open : (at place : ℕ) (first : Option ℕ) → at ≡ settles_from first → place ≤ 2 ^ 60 → at < place →
     (f : ℕ) × (first ≡ Some f) × (f + 8 < place)
-settles-open at place None s p l = absurd (omega (arith, s, p, l))
-settles-open at place (Some f) s p l = (f, refl, omega (arith, s, l))
+settles-open at place None settles fits past = absurd (omega (arith, settles, fits, past))
+settles-open at place (Some f) settles fits past = (f, refl, omega (arith, settles, past))
 
 pub moved-holds : {C : Type 0} (folded : C → List ℕ → Type 0) (d : LineState C) (b : List Bool) (place last_bits : ℕ)
     (spent : Spent) (mark : Mark) → HoldsFor folded d b mark →
     HoldsFor folded (record d { place = place; last_bits = last_bits; spent = spent }) b mark
-moved-holds folded d b place last_bits spent NoMark h = h
-moved-holds folded d b place last_bits spent (AbortAt a) h = h
-moved-holds folded d b place last_bits spent (FlagAt p) h =
-    record { count = h.count; partial = h.partial; held = h.held; checked = h.checked }
+moved-holds folded d b place last_bits spent NoMark held = held
+moved-holds folded d b place last_bits spent (AbortAt a) held = held
+moved-holds folded d b place last_bits spent (FlagAt p) held =
+    record { count = held.count; partial = held.partial; held = held.held; checked = held.checked }
+
+pub moved-counts : {C : Type 0} (cost : ℕ) (d : LineState C) (b : List Bool) (place last_bits shifted : ℕ)
+    (first : Option ℕ) → Counts cost d b → let spent = record d.spent { shifted = shifted } in
+    Counts cost (record d { place = place; last_bits = last_bits; first = first; spent = spent }) b
+moved-counts cost d b place last_bits shifted first c =
+    record { settled = c.settled; filled = c.filled; paid = c.paid; copied = c.copied; handled = c.handled }
 
 none_last_bits : number (drop (length {A = Bool} []) (padded [])) ≡ 0
 unfolding number
@@ -178,20 +183,20 @@ pub fresh-tracks : {C : Type 0} (folded : C → List ℕ → Type 0) (cost shift
     d.place ≡ d.origin → d.last_bits ≡ 0 → d.first ≡ None →
     d.spent ≡ record { shifted = shifted; assembled = 0; folded = 0; stored = 0; copied = 0; handled = 0 } →
     Tracks folded cost d [] NoMark
-fresh-tracks folded cost shifted d p w f s = record {
-  has_taken = record { place = omega (arith, p); last_bits = w ∙ sym none_last_bits };
-  first = f;
+fresh-tracks folded cost shifted d place last first spent = record {
+  has_taken = record { place = omega (arith, place); last_bits = last ∙ sym none_last_bits };
+  first = first;
   piece = tt;
   counts = record {
-    settled = ap (λ (t : Spent). t.assembled) s;
-    filled = ap (λ (t : Spent). t.stored) s;
-    paid = ap (λ (t : Spent). t.folded) s ∙ sym (mul-zero cost);
-    copied = ap (λ (t : Spent). t.copied) s;
-    handled = ap (λ (t : Spent). t.handled) s;
+    settled = ap (λ (t : Spent). t.assembled) spent;
+    filled = ap (λ (t : Spent). t.stored) spent;
+    paid = ap (λ (t : Spent). t.folded) spent ∙ sym (mul-zero cost);
+    copied = ap (λ (t : Spent). t.copied) spent;
+    handled = ap (λ (t : Spent). t.handled) spent;
   };
 }
 
 pub stands-same : {C : Type 0} (d e : LineState C) (b : List Bool) → e.place ≡ d.place → e.origin ≡ d.origin →
     e.last_bits ≡ d.last_bits → HasTaken d b → HasTaken e b
-stands-same d e b p o w h =
-    record { place = p ∙ (h.place ∙ ap (λ n. n + length b) (sym o)); last_bits = w ∙ h.last_bits }
+stands-same d e b place origin last taken =
+    record { place = place ∙ (taken.place ∙ rw origin refl); last_bits = last ∙ taken.last_bits }

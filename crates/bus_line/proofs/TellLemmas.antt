@@ -18,73 +18,72 @@ pub tells-none : {C : Type 0} (folded : C → List ℕ → Type 0) (cost : ℕ) 
     Tells folded cost d [] None d
 tells-none folded cost d = record {
   leads = record {
-    after = λ b h. subst (After folded cost d) (sym (append-nil b)) h;
+    after = λ b stands. subst (After folded cost d) (sym (append-nil b)) stands;
     longest = refl;
     origin = refl;
     place = omega arith;
   };
-  says = λ b h. ap (placed d.origin d.longest) (append-nil b) ∙ sym (append-nil (placed d.origin d.longest b));
+  says = λ b stands. ap (placed d.origin d.longest) (append-nil b) ∙ sym (append-nil (placed d.origin d.longest b));
 }
 
 module _ {C : Type 0} (folded : C → List ℕ → Type 0) (cost : ℕ) {a c : LineState C} {xs : List Bool}
-    (p : Tells folded cost a xs None c) where
+    (quiet : Tells folded cost a xs None c) where
   silent : (b : List Bool) → After folded cost a b → placed a.origin a.longest (b ++ xs) ≡ placed a.origin a.longest b
-  silent b h = p.says b h ∙ append-nil (placed a.origin a.longest b)
+  silent b stands = quiet.says b stands ∙ append-nil (placed a.origin a.longest b)
 
   -- what stands after them, by the first decoder's place and longest frame
   behind : (ys : List Bool) (rs : List Report) (b : List Bool) →
       placed c.origin c.longest ((b ++ xs) ++ ys) ≡ placed c.origin c.longest (b ++ xs) ++ rs →
       placed a.origin a.longest (b ++ (xs ++ ys)) ≡ placed a.origin a.longest (b ++ xs) ++ rs
-  behind ys rs b e =
+  behind ys rs b is =
       ap (placed a.origin a.longest) (sym (append_assoc b xs ys))
-      ∙ subst (λ (s : ℕ). placed s a.longest ((b ++ xs) ++ ys) ≡ placed s a.longest (b ++ xs) ++ rs) p.leads.origin
-      (subst (λ (s : ℕ). placed c.origin s ((b ++ xs) ++ ys) ≡ placed c.origin s (b ++ xs) ++ rs) p.leads.longest e)
+      ∙ rw (← quiet.leads.origin, ← quiet.leads.longest) is
 
   -- bits that decide a report, or nothing
   pub tells-more : {e : LineState C} {ys : List Bool} {r : Option Report} → Tells folded cost c ys r e →
       Tells folded cost a (xs ++ ys) r e
-  tells-more {e} {ys} {r} q = record {
+  tells-more {e} {ys} {r} more = record {
     leads = record {
-      after = λ b h. subst (After folded cost e) (append_assoc b xs ys) (q.leads.after (b ++ xs) (p.leads.after b h));
-      longest = q.leads.longest ∙ p.leads.longest;
-      origin = q.leads.origin ∙ p.leads.origin;
-      place = omega (arith, length-append xs ys, p.leads.place, q.leads.place);
+      after = λ b stands. rw (← append_assoc b xs ys) (more.leads.after (b ++ xs) (quiet.leads.after b stands));
+      longest = more.leads.longest ∙ quiet.leads.longest;
+      origin = more.leads.origin ∙ quiet.leads.origin;
+      place = omega (arith, length-append xs ys, quiet.leads.place, more.leads.place);
     };
-    says = λ b h. behind ys (option_to_list r) b (q.says (b ++ xs) (p.leads.after b h))
-        ∙ ap (λ (z : List Report). z ++ option_to_list r) (silent b h);
+    says = λ b stands. behind ys (option_to_list r) b (more.says (b ++ xs) (quiet.leads.after b stands))
+        ∙ ap (λ (z : List Report). z ++ option_to_list r) (silent b stands);
   }
 
   -- more bits that decide nothing
   pub decide-more : {ys : List Bool} → DecideNothing folded cost c ys → DecideNothing folded cost a (xs ++ ys)
-  decide-more {ys} q = λ b h.
-      behind ys [] b (q (b ++ xs) (p.leads.after b h) ∙ sym (append-nil (placed c.origin c.longest (b ++ xs))))
-      ∙ (append-nil (placed a.origin a.longest (b ++ xs)) ∙ silent b h)
+  decide-more {ys} more = λ b stands.
+      behind ys [] b
+      (more (b ++ xs) (quiet.leads.after b stands) ∙ sym (append-nil (placed c.origin c.longest (b ++ xs))))
+      ∙ (append-nil (placed a.origin a.longest (b ++ xs)) ∙ silent b stands)
 
 -- what is not there
 pub is-none : {A : Type 0} (o : Option A) → is_some o ≡ false → o ≡ None
-is-none None e = refl
-is-none (Some x) e = absurd (true≢false e)
+is-none None is = refl
+is-none (Some x) is = absurd (true≢false is)
 
 -- bits of octets from bit `from` on and before bit `at`, and bits after them
-module _ {C : Type 0} (folded : C → List ℕ → Type 0) (cost : ℕ) (os : List ℕ) (from at : ℕ) (l : from ≤ at)
-    {a c : LineState C} (p : Tells folded cost a (bits_from os from (at - from)) None c) where
-  joined : (n m : ℕ) → m ≡ at - from + n → bits_from os from (at - from) ++ bits_from os at n ≡ bits_from os from m
-  joined n m e =
-      let i : at ≡ from + (at - from) = omega (arith, l) in
-      ap (λ (j : ℕ). bits_from os from (at - from) ++ bits_from os j n) i
-      ∙ (sym (bits-more os from (at - from) n) ∙ ap (bits_from os from) (sym e))
+module _ {C : Type 0} (folded : C → List ℕ → Type 0) (cost : ℕ) (os : List ℕ) (from at : ℕ) (begun : from ≤ at)
+    {a c : LineState C} (quiet : Tells folded cost a (bits_from os from (at - from)) None c) where
+  pub joins : (n m : ℕ) → m ≡ at - from + n → bits_from os from (at - from) ++ bits_from os at n ≡ bits_from os from m
+  joins n m count =
+      let there : at ≡ from + (at - from) = omega (arith, begun) in
+      ap (λ (j : ℕ). bits_from os from (at - from) ++ bits_from os j n) there
+      ∙ (sym (bits-more os from (at - from) n) ∙ ap (bits_from os from) (sym count))
 
   pub tells-on : {e : LineState C} {r : Option Report} (n m : ℕ) → m ≡ at - from + n →
       Tells folded cost c (bits_from os at n) r e → Tells folded cost a (bits_from os from m) r e
-  tells-on {e} {r} n m q t = subst (λ (z : List Bool). Tells folded cost a z r e) (joined n m q)
-      (tells-more folded cost p t)
+  tells-on {e} {r} n m count told = rw (← joins n m count) (tells-more folded cost quiet told)
 
   pub decide-on : (n m : ℕ) → m ≡ at - from + n → DecideNothing folded cost c (bits_from os at n) →
       DecideNothing folded cost a (bits_from os from m)
-  decide-on n m q t = subst (DecideNothing folded cost a) (joined n m q) (decide-more folded cost p t)
+  decide-on n m count told = subst (DecideNothing folded cost a) (joins n m count) (decide-more folded cost quiet told)
 
   pub place-on : c.place ≡ a.place + (at - from)
-  place-on = p.leads.place ∙ ap (λ (n : ℕ). a.place + n) (length-from os from (at - from))
+  place-on = quiet.leads.place ∙ ap (λ (n : ℕ). a.place + n) (length-from os from (at - from))
 
 -- a front of bits that decide nothing decides nothing
 placed-front : (origin longest : ℕ) (b c : List Bool) →
@@ -95,22 +94,22 @@ placed-front origin longest b c = ap (map (moved origin)) (reports-append longes
 none-before : (origin longest : ℕ) (b xs ys : List Bool) →
     placed origin longest ((b ++ xs) ++ ys) ≡ placed origin longest b →
     placed origin longest (b ++ xs) ≡ placed origin longest b
-none-before origin longest b xs ys e =
+none-before origin longest b xs ys is =
     let first = map (moved origin) (reports-append longest b xs).0 in
     let more = map (moved origin) (reports-append longest (b ++ xs) ys).0 in
     let one = placed-front origin longest b xs in
     let both : placed origin longest b ++ (first ++ more) ≡ placed origin longest b ++ [] =
     sym (append_assoc (placed origin longest b) first more)
     ∙ (ap (λ (z : List Report). z ++ more) (sym one)
-    ∙ (sym (placed-front origin longest (b ++ xs) ys) ∙ (e ∙ sym (append-nil (placed origin longest b))))) in
+    ∙ (sym (placed-front origin longest (b ++ xs) ys) ∙ (is ∙ sym (append-nil (placed origin longest b))))) in
     let none : length first + length more ≡ 0 = sym (length-append first more)
     ∙ ap length (append_cancel_left (placed origin longest b) (first ++ more) [] both) in
     one ∙ (ap (λ (z : List Report). placed origin longest b ++ z) (no-items first (omega (arith, none)))
     ∙ append-nil (placed origin longest b))
   where
     no-items : (rs : List Report) → length rs ≡ 0 → rs ≡ []
-    no-items [] e = refl
-    no-items (r ∷ rs) e = absurd (omega (arith, e))
+    no-items [] empty = refl
+    no-items (r ∷ rs) empty = absurd (omega (arith, empty))
 
 -- bits that decide nothing, as bits of which the last decides nothing
 pub advances-quiet : {C : Type 0} (folded : C → List ℕ → Type 0) (cost : ℕ) {a c : LineState C} {bits : List Bool}
@@ -140,17 +139,16 @@ advances-on folded cost os from at begun {a} {c} quiet n m count advances = reco
         (decide-on folded cost os from at begun quiet (n - 1) (m - 1) (omega (arith, count, some)) behind)
     | inr none ↦
         let all : at - from ≡ m = omega (arith, count, none) in
-        subst (λ (k : ℕ). DecideNothing folded cost a (take (length (bits_from os from k) - 1) (bits_from os from k)))
-        all (advances-quiet folded cost quiet).before
+        rw (← all) (advances-quiet folded cost quiet).before
   ];
 }
 
 -- what the last bit decides
 same-option : {A : Type 0} (o p : Option A) → option_to_list o ≡ option_to_list p → o ≡ p
-same-option None None e = refl
-same-option None (Some y) e = absurd (omega (arith, ap length e))
-same-option (Some x) None e = absurd (omega (arith, ap length e))
-same-option (Some x) (Some y) e = cc
+same-option None None same = refl
+same-option None (Some y) same = absurd (omega (arith, ap length same))
+same-option (Some x) None same = absurd (omega (arith, ap length same))
+same-option (Some x) (Some y) same = cc
 
 pub last-bit : (bits : List Bool) → 1 ≤ length bits
     → bits ≡ take (length bits - 1) bits ++ get_or bits (length bits - 1) false ∷ []
@@ -198,5 +196,5 @@ last-due folded cost {a} {c} {bits} {r} some advances b stands =
 pub tells-from : {C : Type 0} (folded : C → List ℕ → Type 0) (cost : ℕ) (os : List ℕ) (from n : ℕ) (d : LineState C) →
     n ≡ 0 → Tells folded cost d (bits_from os from n) None d
 unfolding bits_from
-tells-from folded cost os from n d e =
-    subst (λ (m : ℕ). Tells folded cost d (bits_from os from m) None d) (sym e) (tells-none folded cost d)
+tells-from folded cost os from n d none =
+    rw none (tells-none folded cost d)

@@ -6,7 +6,7 @@ use Rattle.bus_line.proofs.WordsLemmas.{kept-put}
 use Rattle.bus_line.proofs.line_words.LineWords.append.Goals as goal
 
 pub returns-clause-holds : goal.returns-clause-holds
-returns-clause-holds g c = λ bits h.
+returns-clause-holds g c = λ bits holds.
     let w = c.args.self.now in
     let d = state w c.args.check.now c.args.cells.now in
     let a = state c.begin.new.self c.begin.new.check c.args.cells.now in
@@ -14,10 +14,10 @@ returns-clause-holds g c = λ bits h.
     let n = c.args.more.count in
     let b = c.begin.new.self in
     append-holds _ d a e n c.args.more.bits (joined w.partial (w.data_bits % 8) c.args.more.bits)
-    ((w.data_bits % 8 + n) / 8) _ bits h c.requires.few c.requires.small refl refl
+    ((w.data_bits % 8 + n) / 8) _ bits holds c.requires.few c.requires.small refl refl
     (ap (λ (s : LineWords). s.data_bits) c.begin.ensures.kept)
     (ap (λ (s : LineWords). s.longest) c.begin.ensures.kept)
-    (c.begin.ensures.keeps c.args.cells.now bits h)
+    (c.begin.ensures.keeps c.args.cells.now bits holds)
     c.put_all.ensures.keeps
     (kept-put
     (record b {
@@ -29,15 +29,15 @@ returns-clause-holds g c = λ bits h.
     c.put_all.ensures.kept)
 
 pub returns-clause-spent : goal.returns-clause-spent
-returns-clause-spent g c = λ bits h.
+returns-clause-spent g c = λ bits holds.
     let w = c.args.self.now in
     let d = state w c.args.check.now c.args.cells.now in
     let a = state c.begin.new.self c.begin.new.check c.args.cells.now in
     let e = state c.put_all.new.self c.put_all.new.check c.put_all.new.cells in
     let n = c.args.more.count in
     append-spent _ _ d a e n (joined w.partial (w.data_bits % 8) c.args.more.bits) ((w.data_bits % 8 + n) / 8)
-    _ bits h refl (ap (λ (s : LineWords). s.longest) c.begin.ensures.kept)
-    (c.begin.ensures.keeps c.args.cells.now bits h)
+    _ bits holds refl (ap (λ (s : LineWords). s.longest) c.begin.ensures.kept)
+    (c.begin.ensures.keeps c.args.cells.now bits holds)
     c.put_all.ensures.spent
     (ap (λ (s : LineWords).
     record d.spent {

@@ -5,12 +5,12 @@ use Rattle.bus_line.proofs.TracksAppendLemmas.{none-yet, keeps-held, keeps-none}
 use Rattle.bus_line.proofs.line_words.LineWords.begin.Goals as goal
 
 pub returns-then-self-ge8-clause-keeps : goal.returns-then-self-ge8-clause-keeps
-returns-then-self-ge8-clause-keeps g c = λ cells bits h.
+returns-then-self-ge8-clause-keeps g c = λ cells bits holds.
     let d = state c.args.self.now c.args.check.now cells in
-    keeps-held _ d d bits h c.if-self-ge8.true refl refl refl
+    keeps-held _ d d bits holds c.if-self-ge8.true refl refl refl
 
 pub returns-clause-keeps : goal.returns-clause-keeps
-returns-clause-keeps g c = λ cells bits h.
+returns-clause-keeps g c = λ cells bits holds.
     let d = state c.args.self.now c.args.check.now cells in
-    subst (Keeps g.C.Check.folded _) (sym (none-yet _ d bits h c.if-self-ge8.false))
+    subst (Keeps g.C.Check.folded _) (sym (none-yet _ d bits holds c.if-self-ge8.false))
     (keeps-none _ _ refl c.fresh.ensures)
