@@ -1,5 +1,5 @@
 -- Octets after others, and the symbols that are gathered from them.
-use Rattle.std.proofs.Common.{◌≡◌, ℕ, ◌+◌, ◌-◌, List, [], ◌++◌, length, take, drop, Option, None, sym, ap, ◌∙◌, subst}
+use Rattle.std.proofs.Common.{◌≡◌, ℕ, ◌+◌, ◌-◌, List, [], ◌++◌, length, take, drop, Option, None, sym, ap, ◌∙◌}
 use Rattle.std.proofs.Common.{arith, append_assoc, append-nil}
 use Rattle.std.proofs.Math.Seq.{take-add}
 use Rattle.std.proofs.lemmas.List.{take_all, length-drop}
@@ -17,11 +17,7 @@ module _ {A : Type 0} (bits : List ℕ → List A) (fault : List ℕ → Option 
   -- no octets give no symbols
   pub none-given : (xs os : List ℕ) (all : List A) → all ≡ [] → fault xs ≡ None
       → (fault (xs ++ take 0 os) ≡ None) × (bits (xs ++ take 0 os) ≡ bits xs ++ all)
-  none-given xs os all e clean = (
-    ap fault (append-nil xs) ∙ clean,
-    ap bits (append-nil xs)
-        ∙ sym (ap (λ (z : List A). bits xs ++ z) e ∙ append-nil (bits xs)),
-  )
+  none-given xs os all none clean = rw (none, append-nil xs) (clean, sym (append-nil (bits xs)))
 
   -- more octets give more of them
   pub more-given : (xs os : List ℕ) (i n : ℕ) (had more all : List A) → all ≡ had ++ more
@@ -29,10 +25,7 @@ module _ {A : Type 0} (bits : List ℕ → List A) (fault : List ℕ → Option 
       → ((ys : List ℕ) → fault ys ≡ None → (fault (ys ++ take n (take (length os - i) (drop i os))) ≡ None)
       × (bits (ys ++ take n (take (length os - i) (drop i os))) ≡ bits ys ++ more))
       → (fault (xs ++ take (i + n) os) ≡ None) × (bits (xs ++ take (i + n) os) ≡ bits xs ++ all)
-  more-given xs os i n had more all e g given =
-      let h = given (xs ++ take i os) g.0 in
-      let is = octets-next xs os i n in (
-        subst (λ (ys : List ℕ). fault ys ≡ None) is h.0,
-        ap bits (sym is) ∙ h.1 ∙ ap (λ (z : List A). z ++ more) g.1 ∙ append_assoc (bits xs) had more
-            ∙ ap (λ (z : List A). bits xs ++ z) (sym e),
-      )
+  more-given xs os i n had more all both before given =
+      let now = given (xs ++ take i os) before.0 in
+      let joined = octets-next xs os i n in
+      rw (← joined, both) (now.0, now.1 ∙ rw before.1 (append_assoc (bits xs) had more))

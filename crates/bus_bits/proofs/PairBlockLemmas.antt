@@ -38,15 +38,15 @@ four-bits b =
 
 -- the first octets of a slice
 bits-front-octets : (os : List ℕ) (k : ℕ) → k ≤ length os → bits_from os 0 (8 * k) ≡ bits_of_octets (take k os)
-bits-front-octets os k l =
-    let long : length (take k os) ≡ k = omega (arith, length-take k os, l) in
+bits-front-octets os k within =
+    let long : length (take k os) ≡ k = omega (arith, length-take k os, within) in
     sym (bits-octets (take k os) os 0 0 (8 * k) refl (ap (λ (n : ℕ). 8 * n) (sym long))
     (λ i below. get_or-take k os i 0 (omega (arith, below, long)) ∙ ap (slice_index os) (omega arith)))
 
 -- and some that were written after them
 pub bits-stored : (os written : List ℕ) (from k n : ℕ) → k ≡ length written → n ≡ from + k → n ≤ length os
     → bits_from (put_mid from (n - from) os written) 0 (8 * n) ≡ bits_from os 0 (8 * from) ++ bits_of_octets written
-bits-stored os written from k n long e l =
+bits-stored os written from k n long sum room =
     let behind = drop (n - from) (drop from os) in
     let same : length (put_mid from (n - from) os written) ≡ length os =
     omega (
@@ -57,13 +57,14 @@ bits-stored os written from k n long e l =
       length-drop (n - from) (drop from os),
       length-drop from os,
       long,
-      e,
-      l,
+      sum,
+      room,
     ) in
-    bits-front-octets (put_mid from (n - from) os written) n (omega (arith, same, l))
-    ∙ (ap bits_of_octets (take-put_mid from (n - from) os written n (omega (arith, e, long)) (omega (arith, e, l)))
+    bits-front-octets (put_mid from (n - from) os written) n (omega (arith, same, room))
+    ∙ (ap bits_of_octets
+    (take-put_mid from (n - from) os written n (omega (arith, sum, long)) (omega (arith, sum, room)))
     ∙ (bits_of_octets-append (take from os) written
-    ∙ ap (λ bits. bits ++ bits_of_octets written) (sym (bits-front-octets os from (omega (arith, e, l))))))
+    ∙ rw (bits-front-octets os from (omega (arith, sum, room))) refl))
 
 -- octets more, whose pairs are parted
 pub pairs-parted : (os first second further others : List ℕ) (i j count : ℕ) (ones twos : List Bool)
@@ -80,13 +81,11 @@ pairs-parted os first second further others i j count ones twos before all parte
     ap (λ (n : ℕ). in_pairs (bits_from os 0 n)) all
     ∙ (ap in_pairs (bits-more os 0 (8 * i) count ∙ ap (λ (k : ℕ). bits_from os 0 (8 * i) ++ bits_from os k count) here)
     ∙ pairs-append (bits_from os 0 (8 * i)) (bits_from os (8 * i) count) even) in
-    grown
-    ∙ (ap (λ ps. ps ++ in_pairs (bits_from os (8 * i) count)) before
-    ∙ (ap (λ ps. zip (bits_from first 0 (4 * i)) (bits_from second 0 (4 * i)) ++ ps) parted
-    ∙ (sym (zip-append (bits_from first 0 (4 * i)) (bits_from second 0 (4 * i)) ones twos
-    (length-from first 0 (4 * i) ∙ sym (length-from second 0 (4 * i))))
-    ∙ (ap (λ bits. zip bits (bits_from second 0 (4 * i) ++ twos)) (sym one)
-    ∙ ap (zip (bits_from further 0 (4 * j))) (sym two)))))
+    rw (one, two)
+    (grown
+    ∙ rw (before, parted)
+    (sym (zip-append (bits_from first 0 (4 * i)) (bits_from second 0 (4 * i)) ones twos
+    (length-from first 0 (4 * i) ∙ sym (length-from second 0 (4 * i))))))
 
 -- sixteen octets in two numbers, each parted
 pub sixteen-parted : (os : List ℕ) (i low high a b c d : ℕ)
@@ -97,30 +96,28 @@ pub sixteen-parted : (os : List ℕ) (i low high a b c d : ℕ)
 sixteen-parted os i low high a b c d front behind one two =
     let here : 8 * i + 64 ≡ 8 * (i + 8) = omega arith in
     let even : length (bits_of 64 low) % 2 ≡ 0 = omega (arith, length-bits 64 low) in
-    ap in_pairs (bits-more os (8 * i) 64 64 ∙ (ap (λ (k : ℕ). bits_from os (8 * i) 64 ++ bits_from os k 64) here
-    ∙ (ap (λ bits. bits ++ bits_from os (8 * (i + 8)) 64) (sym front)
-    ∙ ap (λ bits. bits_of 64 low ++ bits) (sym behind))))
+    let all : bits_from os (8 * i) 128 ≡ bits_of 64 low ++ bits_of 64 high =
+    bits-more os (8 * i) 64 64 ∙ rw (here, front, behind) refl in
+    ap in_pairs all
     ∙ (pairs-append (bits_of 64 low) (bits_of 64 high) even
-    ∙ (ap (λ ps. ps ++ in_pairs (bits_of 64 high)) one
-    ∙ (ap (λ ps. zip (bits_of 32 a) (bits_of 32 c) ++ ps) two
-    ∙ sym (zip-append (bits_of 32 a) (bits_of 32 c) (bits_of 32 b) (bits_of 32 d)
-    (length-bits 32 a ∙ sym (length-bits 32 c))))))
+    ∙ rw (one, two)
+    (sym (zip-append (bits_of 32 a) (bits_of 32 c) (bits_of 32 b) (bits_of 32 d)
+    (length-bits 32 a ∙ sym (length-bits 32 c)))))
 
 -- an octet that was written after those before it
 pub octet-stored : (os : List ℕ) (i o : ℕ) → i < length os →
     bits_from (slice_set os i o) 0 (8 * (i + 1)) ≡ bits_from os 0 (8 * i) ++ bits_of 8 o
-octet-stored os i o l =
-    bits-front-octets (slice_set os i o) (i + 1) (omega (arith, length-set os i o, l))
-    ∙ (ap bits_of_octets (take_more_set os i o l)
+octet-stored os i o inside =
+    bits-front-octets (slice_set os i o) (i + 1) (omega (arith, length-set os i o, inside))
+    ∙ (ap bits_of_octets (take_more_set os i o inside)
     ∙ (bits_of_octets-push (take i os) o
-    ∙ ap (λ bits. bits ++ bits_of 8 o) (sym (bits-front-octets os i (omega (arith, l))))))
+    ∙ rw (bits-front-octets os i (omega (arith, inside))) refl))
 
 -- eight pairs more, an octet of either line
 pub pairs-stored : (first second : List ℕ) (i f s : ℕ) → i < length first → i < length second
     → zip (bits_from (slice_set first i f) 0 (8 * (i + 1))) (bits_from (slice_set second i s) 0 (8 * (i + 1)))
     ≡ zip (bits_from first 0 (8 * i)) (bits_from second 0 (8 * i)) ++ zip (bits_of 8 f) (bits_of 8 s)
-pairs-stored first second i f s l m =
-    ap (λ bits. zip bits (bits_from (slice_set second i s) 0 (8 * (i + 1)))) (octet-stored first i f l)
-    ∙ (ap (zip (bits_from first 0 (8 * i) ++ bits_of 8 f)) (octet-stored second i s m)
-    ∙ zip-append (bits_from first 0 (8 * i)) (bits_from second 0 (8 * i)) (bits_of 8 f) (bits_of 8 s)
+pairs-stored first second i f s inside-first inside-second =
+    rw (octet-stored first i f inside-first, octet-stored second i s inside-second)
+    (zip-append (bits_from first 0 (8 * i)) (bits_from second 0 (8 * i)) (bits_of 8 f) (bits_of 8 s)
     (length-from first 0 (8 * i) ∙ sym (length-from second 0 (8 * i))))

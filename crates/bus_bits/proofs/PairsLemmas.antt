@@ -25,9 +25,9 @@ pairs-length (a ∷ b ∷ d) = omega (arith, pairs-length d)
 
 pub pairs-append : (d e : List Bool) → length d % 2 ≡ 0 → in_pairs (d ++ e) ≡ in_pairs d ++ in_pairs e
 unfolding in_pairs
-pairs-append [] e h = refl
-pairs-append (a ∷ []) e h = absurd (omega (arith, h))
-pairs-append (a ∷ b ∷ d) e h = ap (λ (z : List (Bool × Bool)). (a, b) ∷ z) (pairs-append d e (omega (arith, h)))
+pairs-append [] e even = refl
+pairs-append (a ∷ []) e even = absurd (omega (arith, even))
+pairs-append (a ∷ b ∷ d) e even = rw (pairs-append d e (omega (arith, even))) refl
 
 -- the pairs of an octet, each bit by the division that reaches it
 pub pairs_of_octet : (o : ℕ)
@@ -39,43 +39,46 @@ pairs_of_octet o = ap in_pairs (bits_of_eight o)
 
 -- the mark of a digit has the lowest bit of a number, and the next
 digit_pair : (a b : ℕ) → b ≡ a / 2 → mark_pair (48 + a % 4) ≡ (a % 2 == 1, b % 2 == 1)
-digit_pair a b h =
-    both_ones ((48 + a % 4 - 48) % 2) (a % 2) ((48 + a % 4 - 48) / 2) (b % 2) (omega arith) (omega (arith, h))
+digit_pair a b half =
+    both_ones ((48 + a % 4 - 48) % 2) (a % 2) ((48 + a % 4 - 48) / 2) (b % 2) (omega arith) (omega (arith, half))
 
 pub four-marks : (o : ℕ) → in_pairs (bits_of 8 o)
     ≡ map (λ d. mark_pair (48 + d)) (o % 4 ∷ o / 4 % 4 ∷ o / 16 % 4 ∷ o / 64 % 4 ∷ [])
 four-marks o =
-    let a = digit_pair o (o / 2) refl in
-    let b = digit_pair (o / 4) (o / 8) (omega arith) in
-    let c = digit_pair (o / 16) (o / 32) (omega arith) in
-    let d = digit_pair (o / 64) (o / 128) (omega arith) in
-    sym (pairs_of_octet o) ∙ sym (four _ _ _ _ _ _ _ _ a b c d)
+    let first = digit_pair o (o / 2) refl in
+    let second = digit_pair (o / 4) (o / 8) (omega arith) in
+    let third = digit_pair (o / 16) (o / 32) (omega arith) in
+    let fourth = digit_pair (o / 64) (o / 128) (omega arith) in
+    sym (pairs_of_octet o) ∙ sym (four _ _ _ _ _ _ _ _ first second third fourth)
   where
     four : (p q r s t u v w : Bool × Bool) → p ≡ t → q ≡ u → r ≡ v → s ≡ w → p ∷ q ∷ r ∷ s ∷ [] ≡ t ∷ u ∷ v ∷ w ∷ []
-    four p q r s t u v w e f g h = cc
+    four p q r s t u v w first second third fourth = cc
+
+double : (k : ℕ) → 2 * suc k ≡ suc (suc (2 * k))
+double k = omega arith
 
 pub pairs-take : (k : ℕ) (d : List Bool) → take k (in_pairs d) ≡ in_pairs (take (2 * k) d)
 unfolding in_pairs
 pairs-take zero d = refl
-pairs-take (suc k) [] =
-    let e : 2 * suc k ≡ suc (suc (2 * k)) = omega arith in ap (λ (n : ℕ). in_pairs (take n [])) (sym e)
-pairs-take (suc k) (a ∷ []) =
-    let e : 2 * suc k ≡ suc (suc (2 * k)) = omega arith in ap (λ (n : ℕ). in_pairs (take n (a ∷ []))) (sym e)
-pairs-take (suc k) (a ∷ b ∷ d) =
-    let e : 2 * suc k ≡ suc (suc (2 * k)) = omega arith in
-    ap (λ (z : List (Bool × Bool)). (a, b) ∷ z) (pairs-take k d) ∙ ap (λ (n : ℕ). in_pairs (take n (a ∷ b ∷ d))) (sym e)
+pairs-take (suc k) [] = rw (double k) refl
+pairs-take (suc k) (a ∷ []) = rw (double k) refl
+pairs-take (suc k) (a ∷ b ∷ d) = rw (double k, pairs-take k d) refl
 
 -- as many pairs as are left, at most four, take as many bits of eight
 pub used-take : (left : ℕ) (d : List Bool) → length d ≡ 8 → take (2 * min left 4) d ≡ take (2 * left) d
-used-take left d h = elim (le_or_lt left 4) [
-  | inl l ↦ ap (λ (n : ℕ). take (2 * n) d) (omega (arith, l))
-  | inr g ↦ take_all (2 * min left 4) d (omega (arith, g, h)) ∙ sym (take_all (2 * left) d (omega (arith, g, h)))
+used-take left d eight = elim (le_or_lt left 4) [
+  | inl few ↦ ap (λ (n : ℕ). take (2 * n) d) (omega (arith, few))
+  | inr many ↦
+      take_all (2 * min left 4) d (omega (arith, many, eight))
+      ∙ sym (take_all (2 * left) d (omega (arith, many, eight)))
 ]
 
 pub used-drop : (left : ℕ) (d : List Bool) → length d ≡ 8 → drop (2 * min left 4) d ≡ drop (2 * left) d
-used-drop left d h = elim (le_or_lt left 4) [
-  | inl l ↦ ap (λ (n : ℕ). drop (2 * n) d) (omega (arith, l))
-  | inr g ↦ drop_all (2 * min left 4) d (omega (arith, g, h)) ∙ sym (drop_all (2 * left) d (omega (arith, g, h)))
+used-drop left d eight = elim (le_or_lt left 4) [
+  | inl few ↦ ap (λ (n : ℕ). drop (2 * n) d) (omega (arith, few))
+  | inr many ↦
+      drop_all (2 * min left 4) d (omega (arith, many, eight))
+      ∙ sym (drop_all (2 * left) d (omega (arith, many, eight)))
 ]
 
 -- ---- the bits of a body of pairs
@@ -85,24 +88,24 @@ paired c = record { bits = in_pairs c.bits; fault = c.fault }
 
 -- they are even in number
 even-wanted : (n : ℕ) (d : List Bool) → length d % 8 ≡ 0 → length (wanted (2 * n) d).bits % 2 ≡ 0
-even-wanted n d h = elim (same (pads (2 * n) d)) [
-  | inl t ↦ omega (
+even-wanted n d whole = elim (same (pads (2 * n) d)) [
+  | inl ones ↦ omega (
     arith,
-    ap (λ (c : Capture). length c.bits) (wanted-pads (2 * n) d t),
+    ap (λ (c : Capture). length c.bits) (wanted-pads (2 * n) d ones),
     length-take (2 * n / 8 * 8) d,
-    h,
+    whole,
   )
-  | inr f ↦ omega (arith, ap length (wanted-bits (2 * n) d f), length-take (2 * n) d, h)
+  | inr no-ones ↦ omega (arith, ap length (wanted-bits (2 * n) d no-ones), length-take (2 * n) d, whole)
 ]
 
 pub even-body : (n : ℕ) (xs : List ℕ) → length (packed_body (2 * n) xs).bits % 2 ≡ 0
 even-body n xs = even-wanted n (bits_of_octets xs) (by_eights xs)
 
 paired-grows : (c d : Capture) → length c.bits % 2 ≡ 0 → GrowsTo c d → GrowsTo (paired c) (paired d)
-paired-grows c d even g = (
-  in_pairs g.0,
-  ap in_pairs g.1 ∙ pairs-append c.bits g.0 even,
-  λ f h. ap paired (g.2 f h),
+paired-grows c d even grows = (
+  in_pairs grows.0,
+  ap in_pairs grows.1 ∙ pairs-append c.bits grows.0 even,
+  λ f is. ap paired (grows.2 f is),
 )
 
 pair-body-grows : (n : ℕ) (xs ys : List ℕ) → GrowsTo (pair_body n xs) (pair_body n (xs ++ ys))
@@ -112,15 +115,15 @@ pair-body-grows n xs ys =
 -- ---- a reader of the body
 
 to-bits : (n : ℕ) (xs : List ℕ) (left : ℕ) → PairsAfter n xs left → PackedAfter (2 * n) xs (2 * left)
-to-bits n xs left h = record {
-  clean = h.clean;
-  left_over = omega (arith, h.left_over, pairs-length (packed_body (2 * n) xs).bits, even-body n xs);
+to-bits n xs left after = record {
+  clean = after.clean;
+  left_over = omega (arith, after.left_over, pairs-length (packed_body (2 * n) xs).bits, even-body n xs);
 }
 
 from-bits : (n : ℕ) (xs : List ℕ) (left bits : ℕ) → PackedAfter (2 * n) xs bits → bits ≡ 2 * left → PairsAfter n xs left
-from-bits n xs left bits h e = record {
-  clean = h.clean;
-  left_over = omega (arith, h.left_over, pairs-length (packed_body (2 * n) xs).bits, even-body n xs, e);
+from-bits n xs left bits after twice = record {
+  clean = after.clean;
+  left_over = omega (arith, after.left_over, pairs-length (packed_body (2 * n) xs).bits, even-body n xs, twice);
 }
 
 pub pairs-new : (n : ℕ) → PairsAfter n [] n
@@ -128,55 +131,56 @@ pairs-new n = from-bits n [] n (2 * n) (packed-new (2 * n)) refl
 
 pub pairs-trailing : (n : ℕ) (xs : List ℕ) (o : ℕ) → PairsAfter n xs 0
     → pair_body n (xs ++ o ∷ []) ≡ record { bits = (pair_body n xs).bits; fault = Some trailing }
-pairs-trailing n xs o h = ap paired (packed-trailing (2 * n) xs o (to-bits n xs 0 h))
+pairs-trailing n xs o after = ap paired (packed-trailing (2 * n) xs o (to-bits n xs 0 after))
 
 pub pairs-pad : (n : ℕ) (xs : List ℕ) (o left : ℕ) → PairsAfter n xs left → 0 < left
     → list_any (λ b. b) (drop (2 * left) (bits_of 8 o)) ≡ true
     → pair_body n (xs ++ o ∷ []) ≡ record { bits = (pair_body n xs).bits; fault = Some pad_bits }
-pairs-pad n xs o left h p y = ap paired (packed-pad (2 * n) xs o (2 * left) (to-bits n xs left h) (omega (arith, p)) y)
+pairs-pad n xs o left after some ones =
+    ap paired (packed-pad (2 * n) xs o (2 * left) (to-bits n xs left after) (omega (arith, some)) ones)
 
 -- a reader that tests the bits past those of `used` pairs, as many as are left or four
 pub unused_ones : (left used o : ℕ) (bits : List Bool) → used ≡ min left 4 → bits ≡ bits_of 8 o
     → list_any (λ b. b) (take (8 - 2 * used) (drop (2 * used) bits)) ≡ list_any (λ b. b) (drop (2 * left) (bits_of 8 o))
-unused_ones left used o bits u e =
+unused_ones left used o bits fewest is =
     let d = bits_of 8 o in
-    ap (λ (x : List Bool). list_any (λ b. b) (take (8 - 2 * used) (drop (2 * used) x))) e
+    ap (λ (x : List Bool). list_any (λ b. b) (take (8 - 2 * used) (drop (2 * used) x))) is
     ∙ ap (list_any (λ b. b))
     (take_all (8 - 2 * used) (drop (2 * used) d) (omega (arith, length-drop (2 * used) d, length-bits 8 o)))
-    ∙ ap (λ (k : ℕ). list_any (λ b. b) (drop (2 * k) d)) u
+    ∙ ap (λ (k : ℕ). list_any (λ b. b) (drop (2 * k) d)) fewest
     ∙ ap (list_any (λ b. b)) (used-drop left d (length-bits 8 o))
 
 -- and gives these
 pub used_pairs : (left used o : ℕ) → used ≡ min left 4 →
     take used (in_pairs (bits_of 8 o)) ≡ in_pairs (take (2 * left) (bits_of 8 o))
-used_pairs left used o u =
+used_pairs left used o fewest =
     let d = bits_of 8 o in
-    pairs-take used d ∙ ap (λ (k : ℕ). in_pairs (take (2 * k) d)) u ∙ ap in_pairs (used-take left d (length-bits 8 o))
+    pairs-take used d ∙ rw fewest (ap in_pairs (used-take left d (length-bits 8 o)))
 
 pub pairs-more : (n : ℕ) (xs : List ℕ) (o left : ℕ) → PairsAfter n xs left → 0 < left
     → list_any (λ b. b) (drop (2 * left) (bits_of 8 o)) ≡ false
     → PairsAfter n (xs ++ o ∷ []) (left - 4)
     × ((pair_body n (xs ++ o ∷ [])).bits ≡ (pair_body n xs).bits ++ in_pairs (take (2 * left) (bits_of 8 o)))
-pairs-more n xs o left h p y =
-    let r = packed-more (2 * n) xs o (2 * left) (to-bits n xs left h) (omega (arith, p)) y in (
-      from-bits n (xs ++ o ∷ []) (left - 4) (2 * left - 8) r.0 (omega arith),
-      ap in_pairs r.1 ∙ pairs-append (packed_body (2 * n) xs).bits (take (2 * left) (bits_of 8 o)) (even-body n xs),
+pairs-more n xs o left after some no-ones =
+    let taken = packed-more (2 * n) xs o (2 * left) (to-bits n xs left after) (omega (arith, some)) no-ones in (
+      from-bits n (xs ++ o ∷ []) (left - 4) (2 * left - 8) taken.0 (omega arith),
+      ap in_pairs taken.1 ∙ pairs-append (packed_body (2 * n) xs).bits (take (2 * left) (bits_of 8 o)) (even-body n xs),
     )
 
 -- octets all of whose pairs are wanted
 pub pairs-taken : (n : ℕ) (xs os : List ℕ) (left : ℕ) → PairsAfter n xs left → 4 * length os ≤ left
     → PairsAfter n (xs ++ os) (left - 4 * length os)
     × ((pair_body n (xs ++ os)).bits ≡ (pair_body n xs).bits ++ in_pairs (bits_of_octets os))
-pairs-taken n xs os left h l =
-    let r = wholes-taken (2 * n) xs os (2 * left) (to-bits n xs left h) (omega (arith, l)) in (
-      from-bits n (xs ++ os) (left - 4 * length os) (2 * left - 8 * length os) r.0 (omega (arith, l)),
-      ap in_pairs r.1 ∙ pairs-append (packed_body (2 * n) xs).bits (bits_of_octets os) (even-body n xs),
+pairs-taken n xs os left after enough =
+    let taken = wholes-taken (2 * n) xs os (2 * left) (to-bits n xs left after) (omega (arith, enough)) in (
+      from-bits n (xs ++ os) (left - 4 * length os) (2 * left - 8 * length os) taken.0 (omega (arith, enough)),
+      ap in_pairs taken.1 ∙ pairs-append (packed_body (2 * n) xs).bits (bits_of_octets os) (even-body n xs),
     )
 
 -- ---- any cut of a capture
 
 letters-few : length (codes "TS2BITS2") ≤ 16
-letters-few = let e : length (codes "TS2BITS2") ≡ 8 = refl in omega arith
+letters-few = let eight : length (codes "TS2BITS2") ≡ 8 = refl in omega arith
 
 pub packed-pairs-grow : (xs ys : List ℕ) → GrowsTo (packed_pair_capture xs) (packed_pair_capture (xs ++ ys))
 unfolding packed_pair_capture

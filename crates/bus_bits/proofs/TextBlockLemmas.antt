@@ -1,5 +1,5 @@
 -- Bits of a text, packed into a block.
-use Rattle.std.proofs.Common.{◌≡◌, ℕ, zero, suc, ◌+◌, ◌-◌, ◌*◌, ◌/◌, ◌%◌, ◌^◌, ◌<◌, ◌≤◌, ◌==◌, Bool, true, false, cond}
+use Rattle.std.proofs.Common.{◌≡◌, ℕ, zero, suc, ◌+◌, ◌-◌, ◌*◌, ◌/◌, ◌%◌, ◌^◌, ◌<◌, ◌≤◌, ◌==◌, Bool, true, false}
 use Rattle.std.proofs.Common.{List, [], ◌∷◌, ◌++◌, length, take, drop, set, get_or, map, None, inl, inr, refl, sym, ap}
 use Rattle.std.proofs.Common.{◌∙◌, subst, arith, append_assoc, append-nil, length-append}
 use Rattle.std.specs.Prelude.{bit_and, bit_or, slice_index}
@@ -37,27 +37,25 @@ length-octets_of (suc k) n = length-append (octets_of k n) (n / 2 ^ (8 * k) % 25
     ∙ omega (arith, length-octets_of k n)
 
 octets-fewer : (k m n : ℕ) → k ≤ m → take k (octets_of m n) ≡ octets_of k n
-octets-fewer k zero n h =
-    let z : k ≡ 0 = omega (arith, h) in
-    rw z refl
-octets-fewer k (suc m) n h = elim (cases_lt m k) [
-  | inl l ↦
-      let e : k ≡ suc m = omega (arith, l, h) in
-      rw e (take_all (suc m) (octets_of (suc m) n) (omega (arith, length-octets_of (suc m) n)))
-  | inr l ↦
-      take-append-le k (octets_of m n) (n / 2 ^ (8 * m) % 256 ∷ []) (omega (arith, length-octets_of m n, l))
-      ∙ octets-fewer k m n (omega (arith, l))
+octets-fewer k zero n fewer =
+    let none : k ≡ 0 = omega (arith, fewer) in
+    rw none refl
+octets-fewer k (suc m) n fewer = elim (cases_lt m k) [
+  | inl more ↦
+      let last : k ≡ suc m = omega (arith, more, fewer) in
+      rw last (take_all (suc m) (octets_of (suc m) n) (omega (arith, length-octets_of (suc m) n)))
+  | inr within ↦
+      take-append-le k (octets_of m n) (n / 2 ^ (8 * m) % 256 ∷ []) (omega (arith, length-octets_of m n, within))
+      ∙ octets-fewer k m n (omega (arith, within))
 ]
 
 octets-bits : (k n : ℕ) → bits_of_octets (octets_of k n) ≡ bits_of (8 * k) n
 unfolding bits_of_octets bits_of
 octets-bits zero n = refl
 octets-bits (suc k) n =
-    let e : 8 * suc k ≡ 8 * k + 8 = omega arith in
+    let count : 8 * suc k ≡ 8 * k + 8 = omega arith in
     bits_of_octets-push (octets_of k n) (n / 2 ^ (8 * k) % 256)
-    ∙ (ap (λ (z : List Bool). z ++ bits_of 8 (n / 2 ^ (8 * k) % 256)) (octets-bits k n)
-    ∙ (ap (λ (z : List Bool). bits_of (8 * k) n ++ z) (bits-low 8 (n / 2 ^ (8 * k)))
-    ∙ (sym (bits-split (8 * k) 8 n) ∙ ap (λ (j : ℕ). bits_of j n) (sym e))))
+    ∙ rw (octets-bits k n, bits-low 8 (n / 2 ^ (8 * k)), count) (sym (bits-split (8 * k) 8 n))
 
 le-octets : (n : ℕ) → to_le_bytes w64 n ≡ octets_of 8 n
 le-octets n =
@@ -67,36 +65,35 @@ le-octets n =
 
 -- the first octets of a number have its lowest bits
 le-bits : (k n : ℕ) → k ≤ 8 → bits_of_octets (take k (to_le_bytes w64 n)) ≡ bits_of (8 * k) n
-le-bits k n l = ap (λ (os : List ℕ). bits_of_octets (take k os)) (le-octets n)
-    ∙ (ap bits_of_octets (octets-fewer k 8 n l) ∙ octets-bits k n)
+le-bits k n few = ap (λ (os : List ℕ). bits_of_octets (take k os)) (le-octets n)
+    ∙ (ap bits_of_octets (octets-fewer k 8 n few) ∙ octets-bits k n)
 
 -- ---- bits after others
 
 -- what the machine joins
 pub joined-is : (rest bits held count : ℕ) → rest < 2 ^ held → bits < 2 ^ count → held + count ≤ 64
     → bit_or rest (bits * 2 ^ held % 2 ^ 64) ≡ bits * 2 ^ held + rest
-joined-is rest bits held count l h f = ap (bit_or rest) (shl_whole bits count held 64 h (omega (arith, f)))
-    ∙ or_shifted_r bits held rest l
+joined-is rest bits held count small below fits =
+    rw (shl_whole bits count held 64 below (omega (arith, fits))) (or_shifted_r bits held rest small)
 
 joined-bits : (rest bits held count : ℕ) → rest < 2 ^ held →
     bits_of (held + count) (bits * 2 ^ held + rest) ≡ bits_of held rest ++ bits_of count bits
-joined-bits rest bits held count l =
+joined-bits rest bits held count small =
     bits-split held count (bits * 2 ^ held + rest)
-    ∙ (ap (λ (x : ℕ). bits_of held (bits * 2 ^ held + rest) ++ bits_of count x) (shr_high bits held rest l)
+    ∙ (ap (λ (x : ℕ). bits_of held (bits * 2 ^ held + rest) ++ bits_of count x) (shr_high bits held rest small)
     ∙ ap (λ (z : List Bool). z ++ bits_of count bits)
-    (sym (bits-low held (bits * 2 ^ held + rest)) ∙ ap (bits_of held) (mod_low bits held rest l)))
+    (sym (bits-low held (bits * 2 ^ held + rest)) ∙ ap (bits_of held) (mod_low bits held rest small)))
 
 -- what fills no octet is small
 pub rest-small : (rest bits held count joined : ℕ) → rest < 2 ^ held → bits < 2 ^ count →
     joined ≡ bits * 2 ^ held + rest
     → joined / 2 ^ ((held + count) / 8 * 8) < 2 ^ ((held + count) % 8)
-rest-small rest bits held count joined l h e =
+rest-small rest bits held count joined small below is =
     let all : held + count ≡ (held + count) % 8 + (held + count) / 8 * 8 = omega arith in
     let sum : 2 ^ held * 2 ^ count ≡ 2 ^ (held + count) = sym (pow-add 2 held count) in
-    let below : joined < 2 ^ (held + count) =
-    subst (λ (n : ℕ). n < 2 ^ (held + count)) (sym e)
-    (subst (λ (n : ℕ). bits * 2 ^ held + rest < n) sum (mul-add-lt bits (2 ^ held) rest (2 ^ count) h l)) in
-    shr_below joined ((held + count) % 8) ((held + count) / 8 * 8) (subst (λ (n : ℕ). joined < 2 ^ n) all below)
+    let total : joined < 2 ^ (held + count) =
+    rw (is, ← sum) (mul-add-lt bits (2 ^ held) rest (2 ^ count) below small) in
+    shr_below joined ((held + count) % 8) ((held + count) / 8 * 8) (subst (λ (n : ℕ). joined < 2 ^ n) all total)
 
 -- a block to which all octets of the joined bits were stored has both
 pub put-bits : (block after : List ℕ) (at rest bits held count joined : ℕ) →
@@ -105,9 +102,9 @@ pub put-bits : (block after : List ℕ) (at rest bits held count joined : ℕ) �
     → bits_of_octets (take (at + (held + count) / 8) after)
     ++ bits_of ((held + count) % 8) (joined / 2 ^ ((held + count) / 8 * 8))
     ≡ (bits_of_octets (take at block) ++ bits_of held rest) ++ bits_of count bits
-put-bits block after at rest bits held count joined stored room l f e =
+put-bits block after at rest bits held count joined stored room small fits is =
     let k : ℕ = (held + count) / 8 in
-    let few : k ≤ 8 = omega (arith, f) in
+    let few : k ≤ 8 = omega (arith, fits) in
     let turn : k * 8 ≡ 8 * k = omega arith in
     let all : held + count ≡ 8 * k + (held + count) % 8 = omega arith in
     let long : length (take at block) ≡ at = omega (arith, length-take at block, room) in
@@ -123,14 +120,11 @@ put-bits block after at rest bits held count joined stored room l f e =
     let both : bits_of (8 * k) joined ++ bits_of ((held + count) % 8) (joined / 2 ^ (8 * k))
     ≡ bits_of held rest ++ bits_of count bits =
     sym (bits-split (8 * k) ((held + count) % 8) joined)
-    ∙ (ap (λ (n : ℕ). bits_of n joined) (sym all)
-    ∙ (ap (bits_of (held + count)) e ∙ joined-bits rest bits held count l)) in
-    ap (λ (n : ℕ). bits_of_octets (take (at + k) after) ++ bits_of ((held + count) % 8) (joined / 2 ^ n)) turn
-    ∙ (ap (λ (z : List Bool). z ++ bits_of ((held + count) % 8) (joined / 2 ^ (8 * k))) octets
-    ∙ (append_assoc (bits_of_octets (take at block)) (bits_of (8 * k) joined)
+    ∙ rw (← all, is) (joined-bits rest bits held count small) in
+    rw (turn, octets)
+    (append_assoc (bits_of_octets (take at block)) (bits_of (8 * k) joined)
     (bits_of ((held + count) % 8) (joined / 2 ^ (8 * k)))
-    ∙ (ap (λ (z : List Bool). bits_of_octets (take at block) ++ z) both
-    ∙ sym (append_assoc (bits_of_octets (take at block)) (bits_of held rest) (bits_of count bits)))))
+    ∙ rw both (sym (append_assoc (bits_of_octets (take at block)) (bits_of held rest) (bits_of count bits))))
 
 -- the octet that is not full is stored at the end
 pub bits-stored : (block : List ℕ) (p : Packing) → p.filled < length block → p.held < 8
@@ -142,18 +136,16 @@ bits-stored block p room few =
     let same : take p.filled after ≡ take p.filled block = take-set-le p.filled block p.filled p.rest (omega arith) in
     let octets : bits_of_octets (take p.filled block) ≡ bits_from after 0 (8 * p.filled) =
     bits-octets (take p.filled block) after 0 0 (8 * p.filled) refl count
-    (λ k l. ap (λ (os : List ℕ). get_or os k 0) (sym same) ∙ front-item after p.filled k (omega (arith, l, long))) in
+    (λ k below. rw (← same) (front-item after p.filled k (omega (arith, below, long)))) in
     let last : slice_index after p.filled / 2 ^ 0 ≡ p.rest =
     omega (arith, get_or-set_same block p.filled p.rest 0 room) in
     let rest : bits_of p.held p.rest ≡ bits_from after (0 + 8 * p.filled) p.held =
     ap (bits_of p.held) (sym last) ∙ bits-in after p.filled 0 (0 + 8 * p.filled) p.held (omega arith)
     (omega (arith, few)) in
-    ap (λ (z : List Bool). z ++ bits_of p.held p.rest) octets
-    ∙ (ap (λ (z : List Bool). bits_from after 0 (8 * p.filled) ++ z) rest
-    ∙ sym (bits-more after 0 (8 * p.filled) p.held))
+    rw (octets, rest) (sym (bits-more after 0 (8 * p.filled) p.held))
   where
     front-item : (os : List ℕ) (n k : ℕ) → k < n → get_or (take n os) k 0 ≡ slice_index os (0 + k)
-    front-item os n k l = grind (arith, common_steps)
+    front-item os n k below = grind (arith, common_steps)
 
 -- ---- what octets of a text give
 
@@ -161,16 +153,16 @@ bits-stored block p room few =
 pub front-marks : (k count n : ℕ) (xs : List ℕ) → count ≤ k → bits_of k n ≡ map is_bit xs →
     ((i : ℕ) → i < count → bit_at n i ≡ 1) → list_all is_bit (take count xs) ≡ true
 unfolding bits_of
-front-marks k zero n xs l is h = refl
-front-marks zero (suc count) n xs l is h = absurd (omega (arith, l))
-front-marks (suc k) (suc count) n [] l is h = refl
-front-marks (suc k) (suc count) n (x ∷ xs) l is h =
-    let one : n % 2 ≡ 1 = omega (arith, h 0 (omega arith)) in
-    let first : is_bit x ≡ true = sym (ap (λ (z : List Bool). get_or z 0 true) is) ∙ ap (λ (m : ℕ). m == 1) one in
+front-marks k zero n xs few is ones = refl
+front-marks zero (suc count) n xs few is ones = absurd (omega (arith, few))
+front-marks (suc k) (suc count) n [] few is ones = refl
+front-marks (suc k) (suc count) n (x ∷ xs) few is ones =
+    let one : n % 2 ≡ 1 = omega (arith, ones 0 (omega arith)) in
+    let first : is_bit x ≡ true = sym (ap (λ (z : List Bool). get_or z 0 true) is) ∙ rw one refl in
     and_from (is_bit x) (list_all is_bit (take count xs)) first
-    (front-marks k count (n / 2) xs (omega (arith, l)) (ap (drop 1) is)
-    (λ i m. ap (λ (j : ℕ). j % 2) (shr-shr n 1 i ∙ ap (λ (j : ℕ). n / 2 ^ j) (omega arith))
-    ∙ h (i + 1) (omega (arith, m))))
+    (front-marks k count (n / 2) xs (omega (arith, few)) (ap (drop 1) is)
+    (λ i below. ap (λ (j : ℕ). j % 2) (shr-shr n 1 i ∙ ap (λ (j : ℕ). n / 2 ^ j) (omega arith))
+    ∙ ones (i + 1) (omega (arith, below))))
 
 -- more of the text is packed
 pub packed-more : (text block after : List ℕ) (p q : Packing) (n : ℕ) (bits : List Bool) → IsPacked text block p →
@@ -182,12 +174,12 @@ pub packed-more : (text block after : List ℕ) (p q : Packing) (n : ℕ) (bits 
     → (text_fault (ys ++ take n (take (length text - p.taken) (drop p.taken text))) ≡ None)
     × (text_bits (ys ++ take n (take (length text - p.taken) (drop p.taken text))) ≡ text_bits ys ++ bits))
     → IsPacked text after q
-packed-more text block after p q n bits h taken fits room few small are given = record {
+packed-more text block after p q n bits before taken fits room few small are given = record {
   enough = omega (
     arith,
     taken,
     fits,
-    h.enough,
+    before.enough,
     length-take (length text - p.taken) (drop p.taken text),
     length-drop p.taken text,
   );
@@ -198,14 +190,14 @@ packed-more text block after p q n bits h taken fits room few small are given = 
       subst (λ (m : ℕ). (text_fault (xs ++ take m text) ≡ None)
       × (text_bits (xs ++ take m text) ≡ text_bits xs ++ packed_bits after q)) (sym taken)
       (more-given text_bits text_fault xs text p.taken n (packed_bits block p) bits (packed_bits after q) are
-      (h.given xs clean) given);
+      (before.given xs clean) given);
 }
 
 -- no more than sixteen bits are ones in a row from the lowest
 pub ones-few : (n t : ℕ) → n < 2 ^ 16 → ((i : ℕ) → i < t → bit_at n i ≡ 1) → t ≤ 16
-ones-few n t small h = elim (cases_lt 16 t) [
-  | inl l ↦ absurd (omega (arith, h 16 l, small))
-  | inr l ↦ l
+ones-few n t small ones = elim (cases_lt 16 t) [
+  | inl more ↦ absurd (omega (arith, ones 16 more, small))
+  | inr within ↦ within
 ]
 
 -- the bits of the first of some octets, where all of these are bits
@@ -213,29 +205,29 @@ pub front-given : (os front : List ℕ) (k count ones : ℕ) (given : List Bool)
     bits_of k ones ≡ map (λ x. x == 49) front
     → list_all is_bit (take count front) ≡ true → given ≡ bits_of count ones → (ys : List ℕ) → text_fault ys ≡ None
     → (text_fault (ys ++ take count os) ≡ None) × (text_bits (ys ++ take count os) ≡ text_bits ys ++ given)
-front-given os front k count ones given same l is all are ys clean =
+front-given os front k count ones given same few is all are ys clean =
     let value : ℕ → Bool = λ x. x == 49 in
-    let front-same : take count front ≡ take count os = ap (take count) same ∙ take-take count k os l in
+    let front-same : take count front ≡ take count os = ap (take count) same ∙ take-take count k os few in
     let marks : list_all is_bit (take count os) ≡ true = ap (list_all is_bit) (sym front-same) ∙ all in
     let bits : given ≡ map value (take count os) =
-    are ∙ (sym (bits-front count k ones l)
+    are ∙ (sym (bits-front count k ones few)
     ∙ (ap (take count) is ∙ (take-map value count front ∙ ap (map value) front-same))) in
     text-given is_bit value os (take count os) count given (marks_text is_bit (take count os) marks)
     (all_kept is_bit (take count os) marks) bits ys clean
 
 unmarked : (n : ℕ) (xs : List ℕ) → bits_of 16 n ≡ map is_bit xs → bit_at n 0 ≡ 0 → is_bit (get_or xs 0 0) ≡ false
 unfolding bits_of
-unmarked n [] is h = refl
-unmarked n (x ∷ xs) is h =
-    let zero : n % 2 ≡ 0 = omega (arith, h) in
-    sym (ap (λ (z : List Bool). get_or z 0 true) is) ∙ ap (λ (m : ℕ). m == 1) zero
+unmarked n [] is unset = refl
+unmarked n (x ∷ xs) is unset =
+    let zero : n % 2 ≡ 0 = omega (arith, unset) in
+    sym (ap (λ (z : List Bool). get_or z 0 true) is) ∙ rw zero refl
 
 -- the octet at which no mark is 1 is no bit
 pub first-none : (text front : List ℕ) (at n : ℕ) → at < length text →
     front ≡ take 16 (take (length text - at) (drop at text)) → bits_of 16 n ≡ map is_bit front
     → bit_at n 0 ≡ 0 → is_bit (slice_index text at) ≡ false
-first-none text front at n l same is none =
-    let some : 0 < length text - at = omega (arith, l) in
+first-none text front at n inside same is none =
+    let some : 0 < length text - at = omega (arith, inside) in
     let place : at + 0 ≡ at = omega arith in
     let item : get_or front 0 0 ≡ slice_index text at =
     ap (λ (os : List ℕ). get_or os 0 0) same
@@ -249,30 +241,28 @@ pub bits-halves : (block : List Bool) (n : ℕ) → (block ++ bits_of 32 (bit_an
     ++ bits_of 32 (n / 4294967296) ≡ block ++ bits_of 64 n
 bits-halves block n =
     append_assoc block (bits_of 32 (bit_and n 4294967295)) (bits_of 32 (n / 4294967296))
-    ∙ ap (λ (z : List Bool). block ++ z) (ap (λ (m : ℕ). bits_of 32 m ++ bits_of 32 (n / 4294967296)) (and_mask n 32)
-    ∙ (ap (λ (z : List Bool). z ++ bits_of 32 (n / 4294967296)) (bits-low 32 n) ∙ sym (bits-split 32 32 n)))
+    ∙ rw (and_mask n 32, bits-low 32 n) (ap (λ (z : List Bool). block ++ z) (sym (bits-split 32 32 n)))
 
 -- one octet more that is skipped
 pub space-passed : (text block : List ℕ) (p : Packing) → p.taken < length text →
     is_space (slice_index text p.taken) ≡ true → IsPacked text block p
     → IsPacked text block (record p { taken = p.taken + 1 })
-space-passed text block p l s h = record {
-  enough = omega (arith, l);
-  room = h.room;
-  few = h.few;
-  small = h.small;
+space-passed text block p inside space packed = record {
+  enough = omega (arith, inside);
+  room = packed.room;
+  few = packed.few;
+  small = packed.small;
   given = λ xs clean.
       let x : ℕ = get_or text p.taken 0 in
-      let before = h.given xs clean in
-      let more = text-more (xs ++ take p.taken text) x before.0 (text_space x s) in
+      let before = packed.given xs clean in
+      let more = text-more (xs ++ take p.taken text) x before.0 (text_space x space) in
       let next : (xs ++ take p.taken text) ++ x ∷ [] ≡ xs ++ take (p.taken + 1) text =
       append_assoc xs (take p.taken text) (x ∷ [])
-      ∙ ap (λ (z : List ℕ). xs ++ z) (sym (take_more text p.taken 0 l)) in (
+      ∙ ap (λ (z : List ℕ). xs ++ z) (sym (take_more text p.taken 0 inside)) in (
         subst (λ (z : List ℕ). text_fault z ≡ None) next more.0,
         ap text_bits (sym next)
             ∙ (more.1
-            ∙ (ap (λ (b : Bool). text_bits (xs ++ take p.taken text) ++ cond b ((x == 49) ∷ []) []) (space-no-bit x s)
-            ∙ (append-nil (text_bits (xs ++ take p.taken text)) ∙ before.1))),
+            ∙ rw (space-no-bit x space) (append-nil (text_bits (xs ++ take p.taken text)) ∙ before.1)),
       );
 }
 
@@ -283,9 +273,9 @@ no-bits block = refl
 -- nothing is packed at first
 pub packed-none : (text block : List ℕ) → 1 ≤ length block →
     IsPacked text block (record { taken = 0; filled = 0; rest = 0; held = 0 })
-packed-none text block l = record {
+packed-none text block room = record {
   enough = omega arith;
-  room = omega (arith, l);
+  room = omega (arith, room);
   few = omega arith;
   small = omega arith;
   given = λ xs clean. none-given text_bits text_fault xs text

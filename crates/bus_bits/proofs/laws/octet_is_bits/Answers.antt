@@ -5,4 +5,4 @@ pub returns-clause-number : goal.returns-clause-number
 returns-clause-number c = number-bits 8
 
 pub returns-clause-bits : goal.returns-clause-bits
-returns-clause-bits c = λ b h. bits-number b 8 h
+returns-clause-bits c = λ b eight. bits-number b 8 eight

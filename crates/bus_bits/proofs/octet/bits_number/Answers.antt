@@ -25,23 +25,24 @@ loop-bit-init c = record { value = refl; place = refl }
 pub loop-bit-preserved : goal.loop-bit-preserved
 loop-bit-preserved c =
     let i = c.loop-bit.bit-index in
-    let p = c.loop-bit.place in
+    let place = c.loop-bit.place in
     let n = c.loop-bit.number in
     let xs = c.args.bits.now in
     let x = get_or xs i false in
     let f = c.from.result in
     let byte : f ≡ bool_byte x = c.from.ensures in
     let one : f < 2 ^ 1 = rw byte (byte_small x) in
-    let k : length (take i xs) ≡ p =
+    let size : length (take i xs) ≡ place =
     omega (arith, length-take i xs, c.loop-bit-test.true, c.loop-bit.invariant.place) in
-    let low : n < 2 ^ p = rw (c.loop-bit.invariant.value, ← k) (number-lt (take i xs)) in
-    let same : f * 2 ^ p % 2 ^ 64 ≡ f * 2 ^ p =
-    shl_whole f 1 p 64 one (omega (arith, c.requires, c.loop-bit-test.true, c.loop-bit.invariant.place)) in
-    let put : bit_or n (f * 2 ^ p) ≡ n + f * 2 ^ p = or_shifted_r f p n low ∙ omega arith in
+    let low : n < 2 ^ place = rw (c.loop-bit.invariant.value, ← size) (number-lt (take i xs)) in
+    let same : f * 2 ^ place % 2 ^ 64 ≡ f * 2 ^ place =
+    shl_whole f 1 place 64 one (omega (arith, c.requires, c.loop-bit-test.true, c.loop-bit.invariant.place)) in
+    let put : bit_or n (f * 2 ^ place) ≡ n + f * 2 ^ place = or_shifted_r f place n low ∙ omega arith in
     let next : number (take (i + 1) xs) ≡ number (take i xs) + number (x ∷ []) * 2 ^ length (take i xs) =
     ap number (take_more xs i false c.loop-bit-test.true) ∙ number-append (take i xs) (x ∷ []) in
     record {
-      value = ap (bit_or n) same ∙ put ∙ sym (next ∙ rw (number_one x, k, ← byte, ← c.loop-bit.invariant.value) refl);
+      value = ap (bit_or n) same ∙ put
+          ∙ sym (next ∙ rw (number_one x, size, ← byte, ← c.loop-bit.invariant.value) refl);
       place = omega (arith, c.loop-bit.invariant.place);
     }
 
@@ -49,5 +50,5 @@ pub returns-clause-small : goal.returns-clause-small
 returns-clause-small c =
     let i = c.loop-bit.bit-index in
     let xs = c.args.bits.now in
-    let k : length (take i xs) ≡ length xs = omega (arith, length-take i xs, c.loop-bit-test.false) in
-    rw (c.loop-bit.invariant.value, ← k) (number-lt (take i xs))
+    let size : length (take i xs) ≡ length xs = omega (arith, length-take i xs, c.loop-bit-test.false) in
+    rw (c.loop-bit.invariant.value, ← size) (number-lt (take i xs))

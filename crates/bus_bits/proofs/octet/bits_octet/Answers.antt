@@ -22,25 +22,25 @@ number_of_eight : (d : List Bool) → length d ≡ 8
     + 8 * bool_byte (get_or d 3 false) + 16 * bool_byte (get_or d 4 false) + 32 * bool_byte (get_or d 5 false)
     + 64 * bool_byte (get_or d 6 false) + 128 * bool_byte (get_or d 7 false)
     ≡ number d
-number_of_eight (s ∷ t ∷ u ∷ v ∷ w ∷ x ∷ y ∷ z ∷ []) h = weighed s t u v w x y z
-number_of_eight (s ∷ t ∷ u ∷ v ∷ w ∷ x ∷ y ∷ z ∷ a ∷ b) h = absurd (omega arith)
-number_of_eight (s ∷ t ∷ u ∷ v ∷ w ∷ x ∷ y ∷ []) h = absurd (omega arith)
-number_of_eight (s ∷ t ∷ u ∷ v ∷ w ∷ x ∷ []) h = absurd (omega arith)
-number_of_eight (s ∷ t ∷ u ∷ v ∷ w ∷ []) h = absurd (omega arith)
-number_of_eight (s ∷ t ∷ u ∷ v ∷ []) h = absurd (omega arith)
-number_of_eight (s ∷ t ∷ u ∷ []) h = absurd (omega arith)
-number_of_eight (s ∷ t ∷ []) h = absurd (omega arith)
-number_of_eight (s ∷ []) h = absurd (omega arith)
-number_of_eight [] h = absurd (omega arith)
+number_of_eight (s ∷ t ∷ u ∷ v ∷ w ∷ x ∷ y ∷ z ∷ []) eight = weighed s t u v w x y z
+number_of_eight (s ∷ t ∷ u ∷ v ∷ w ∷ x ∷ y ∷ z ∷ a ∷ b) eight = absurd (omega arith)
+number_of_eight (s ∷ t ∷ u ∷ v ∷ w ∷ x ∷ y ∷ []) eight = absurd (omega arith)
+number_of_eight (s ∷ t ∷ u ∷ v ∷ w ∷ x ∷ []) eight = absurd (omega arith)
+number_of_eight (s ∷ t ∷ u ∷ v ∷ w ∷ []) eight = absurd (omega arith)
+number_of_eight (s ∷ t ∷ u ∷ v ∷ []) eight = absurd (omega arith)
+number_of_eight (s ∷ t ∷ u ∷ []) eight = absurd (omega arith)
+number_of_eight (s ∷ t ∷ []) eight = absurd (omega arith)
+number_of_eight (s ∷ []) eight = absurd (omega arith)
+number_of_eight [] eight = absurd (omega arith)
 
 pub returns : goal.returns
 returns c =
-    let s = c.from.ensures in
-    let t = c.from-2.ensures in
-    let u = c.from-3.ensures in
-    let v = c.from-4.ensures in
-    let w = c.from-5.ensures in
-    let x = c.from-6.ensures in
-    let y = c.from-7.ensures in
-    let z = c.from-8.ensures in
-    rw (s, t, u, v, w, x, y, z) (number_of_eight c.args.b.now c.told-b)
+    let first = c.from.ensures in
+    let second = c.from-2.ensures in
+    let third = c.from-3.ensures in
+    let fourth = c.from-4.ensures in
+    let fifth = c.from-5.ensures in
+    let sixth = c.from-6.ensures in
+    let seventh = c.from-7.ensures in
+    let eighth = c.from-8.ensures in
+    rw (first, second, third, fourth, fifth, sixth, seventh, eighth) (number_of_eight c.args.b.now c.told-b)

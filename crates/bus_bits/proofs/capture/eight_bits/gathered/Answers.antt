@@ -10,6 +10,6 @@ returns c =
     ap (bits_of 8) c.packed.ensures
     ∙ gathered-bits bs c.from_le_bytes.result (record {
       long = c.told-octets;
-      small = All-from_get_or (λ b. b < 256) bs 0 (λ i l. c.fits-octets i);
+      small = All-from_get_or (λ b. b < 256) bs 0 (λ i inside. c.fits-octets i);
       value = c.from_le_bytes.ensures;
     }) c.requires

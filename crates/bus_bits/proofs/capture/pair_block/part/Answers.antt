@@ -1,4 +1,4 @@
-use Rattle.std.proofs.Common.{◌≡◌, ◌+◌, ◌*◌, ◌/◌, ◌++◌, ℕ, length, zip, slice_index, ap, ◌∙◌, refl, subst, arith}
+use Rattle.std.proofs.Common.{◌≡◌, ◌+◌, ◌*◌, ◌/◌, ◌++◌, length, slice_index, ap, ◌∙◌, refl, arith}
 use Rattle.bus_bits.specs.Octet.{bits_of}
 use Rattle.bus_bits.specs.Bits.{bits_from}
 use Rattle.bus_bits.specs.Packed.{in_pairs}
@@ -46,5 +46,4 @@ returns-clause-pairs c =
     let os = c.args.octets.now in
     let end : c.loop-at.at ≡ length os = omega (arith, c.loop-at.invariant.within, c.loop-at-test.false) in
     ap in_pairs (bits-whole os)
-    ∙ subst (λ (n : ℕ). in_pairs (bits_from os 0 (8 * n))
-    ≡ zip (bits_from c.loop-at.first 0 (4 * n)) (bits_from c.loop-at.second 0 (4 * n))) end c.loop-at.invariant.pairs
+    ∙ (rw end at c.loop-at.invariant.pairs)

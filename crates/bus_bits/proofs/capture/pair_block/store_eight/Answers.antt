@@ -1,5 +1,4 @@
-use Rattle.std.proofs.Common.{◌≡◌, ◌+◌, ◌*◌, ◌/◌, ◌%◌, ◌++◌, ◌∷◌, [], length, ap, ◌∙◌, refl, sym, arith, slice_index}
-use Rattle.bus_bits.specs.Octet.{bits_of, bits_of_octets}
+use Rattle.std.proofs.Common.{◌≡◌, ◌+◌, ◌*◌, ◌/◌, ◌%◌, ◌∷◌, [], length, ap, ◌∙◌, refl, sym, arith, slice_index}
 use Rattle.bus_bits.specs.Bits.{bits_from}
 use Rattle.bus_bits.proofs.OctetLemmas.{bits_of_octets-append}
 use Rattle.bus_bits.proofs.PairBlockLemmas.{bits-stored, four-bits}
@@ -14,12 +13,9 @@ returns-clause-bits c =
     ∷ high % 256 ∷ high / 256 % 256 ∷ high / 65536 % 256 ∷ high / 16777216 % 256 ∷ [] =
     rw (c.copy_from_slice.ensures.after, c.to_le_bytes.ensures, c.to_le_bytes-2.ensures) refl in
     let all : 8 * (from + 8) ≡ 8 * from + 64 = omega arith in
-    let last = bits_of_octets (high % 256 ∷ high / 256 % 256 ∷ high / 65536 % 256 ∷ high / 16777216 % 256 ∷ []) in
     let halves = bits_of_octets-append (low % 256 ∷ low / 256 % 256 ∷ low / 65536 % 256 ∷ low / 16777216 % 256 ∷ [])
     (high % 256 ∷ high / 256 % 256 ∷ high / 65536 % 256 ∷ high / 16777216 % 256 ∷ []) in
     ap (bits_from _ 0) (sym all)
     ∙ (bits-stored c.args.octets.now c.copy_from_slice.new.self from 8 (from + 8) (sym (ap length written)) refl
     c.requires
-    ∙ ap (λ bits. bits_from c.args.octets.now 0 (8 * from) ++ bits)
-    (ap bits_of_octets written
-    ∙ (halves ∙ (ap (λ bits. bits ++ last) (four-bits low) ∙ ap (λ bits. bits_of 32 low ++ bits) (four-bits high)))))
+    ∙ rw (written, halves, four-bits low, four-bits high) refl)

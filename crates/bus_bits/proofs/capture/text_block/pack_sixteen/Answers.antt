@@ -30,15 +30,15 @@ returns-then-marks-eq65535-clause-packed c =
     (all-front front 16 marks.result.bits (ap length chunk.same ∙ omega (arith, length-take 16 os, chunk.enough))
     c.if-marks-eq65535.true marks.ensures.bits) refl)
 
+-- no more than sixteen of sixteen marks are ones in a row
+ones-most : (n : ℕ) → n < 2 ^ 16 → trailing_ones w64 n ≤ 16
+ones-most n small =
+    ones-few n (trailing_ones w64 n) small (bit_at-trailing_ones w64 n (omega (arith, small))).2
+
 pub put_bits-requires-2-clause-few : goal.put_bits-requires-2-clause-few
 put_bits-requires-2-clause-few c =
     let marks = c.marks_of_sixteen-marks in
-    let ones = bit_at-trailing_ones w64 marks.result.bits (omega (arith, marks.ensures.few.1)) in
-    omega (
-      arith,
-      c.trailing_ones-count.ensures,
-      ones-few marks.result.bits (trailing_ones w64 marks.result.bits) marks.ensures.few.1 ones.2,
-    )
+    omega (arith, c.trailing_ones-count.ensures, ones-most marks.result.bits marks.ensures.few.1)
 
 pub returns-clause-packed : goal.returns-clause-packed
 returns-clause-packed c =
@@ -52,8 +52,9 @@ returns-clause-packed c =
     let chunk = c.in-Some.ensures.cases in
     let ones = bit_at-trailing_ones w64 marks.result.bits (omega (arith, marks.ensures.few.1)) in
     let each : (i : ℕ) → i < count → bit_at marks.result.bits i ≡ 1 =
-    λ i l. ones.2 i (omega (arith, l, c.trailing_ones-count.ensures)) in
-    let few : count ≤ 16 = ones-few marks.result.bits count marks.ensures.few.1 each in
+    λ i below. ones.2 i (omega (arith, below, c.trailing_ones-count.ensures)) in
+    let few : count ≤ 16 =
+    omega (arith, c.trailing_ones-count.ensures, ones-most marks.result.bits marks.ensures.few.1) in
     let mask : bit_and marks.result.ones (1 * 2 ^ count % 2 ^ 64 - 1) ≡ marks.result.ones % 2 ^ count =
     ap (λ (n : ℕ). bit_and marks.result.ones (n - 1)) (one_shl count 64 (omega (arith, few)))
     ∙ and_mask marks.result.ones count in
@@ -68,11 +69,10 @@ returns-clause-packed c =
 pub returns-clause-room : goal.returns-clause-room
 returns-clause-room c =
     let marks = c.marks_of_sixteen-marks in
-    let ones = bit_at-trailing_ones w64 marks.result.bits (omega (arith, marks.ensures.few.1)) in
     omega (
       arith,
       c.trailing_ones-count.ensures,
-      ones-few marks.result.bits (trailing_ones w64 marks.result.bits) marks.ensures.few.1 ones.2,
+      ones-most marks.result.bits marks.ensures.few.1,
       c.put_bits-2.ensures.count,
       c.put_bits-2.ensures.held,
       c.requires.packed.few,

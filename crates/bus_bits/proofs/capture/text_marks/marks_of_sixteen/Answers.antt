@@ -1,7 +1,6 @@
-use Rattle.std.proofs.Common.{◌<◌, ◌^◌, ℕ, List, Bool, eqb, map, sym, ap, subst, ◌∙◌, arith, w8}
+use Rattle.std.proofs.Common.{ℕ, List, Bool, eqb, map, ap, ◌∙◌, arith, w8}
 use Rattle.std.proofs.lemmas.List.{length-map}
 use Rattle.std.proofs.lemmas.Simd.{bitmask_splat, mask_l-lt}
-use lib.Lanes.{mask_l}
 use Rattle.bus_bits.specs.Octet.{bits_of}
 use Rattle.bus_bits.proofs.TextMarksLemmas.{bits-mask, all-octets}
 use Rattle.bus_bits.proofs.capture.text_marks.marks_of_sixteen.Goals as goal
@@ -19,8 +18,7 @@ pub returns-clause-few : goal.returns-clause-few
 returns-clause-few c =
     let os = c.args.octets.now in
     let marks : List Bool = map (λ (x : ℕ). eqb x 49) os in (
-      subst (λ (n : ℕ). n < 2 ^ 16) (sym (bitmask_splat w8 eqb os 16 49 c.told-octets (omega arith)))
-          (subst (λ (n : ℕ). mask_l marks < 2 ^ n) (length-map os (λ (x : ℕ). eqb x 49) ∙ c.told-octets)
-          (mask_l-lt marks)),
+      rw (bitmask_splat w8 eqb os 16 49 c.told-octets (omega arith))
+          (rw (length-map os (λ (x : ℕ). eqb x 49) ∙ c.told-octets) at (mask_l-lt marks)),
       c.bits_in_sixteen.ensures.few,
     )
