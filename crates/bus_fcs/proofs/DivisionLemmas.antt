@@ -29,59 +29,52 @@ length-step false d = ap length (step-false d)
 -- a step of a sum
 pub step-add : (x y : List Bool) → length x ≡ length y → step (add x y) ≡ add (step x) (step y)
 unfolding add step
-step-add [] [] h = refl
-step-add [] (b ∷ y) h = absurd (omega arith)
-step-add (a ∷ x) [] h = absurd (omega arith)
-step-add (false ∷ x) (false ∷ y) h = refl
-step-add (false ∷ x) (true ∷ y) h = add_left_comm rest x y
-step-add (true ∷ x) (false ∷ y) h =
-    let k : length x ≡ length y = omega arith in sym (add_assoc_of rest x y k)
-step-add (true ∷ x) (true ∷ y) h =
-    let k : length x ≡ length (add rest y) = omega (arith, length-add rest y) in
-    sym (add_assoc_of rest x (add rest y) k ∙ ap (λ (z : List Bool). add rest z) (add_left_comm x rest y)
+step-add [] [] same-length = refl
+step-add [] (b ∷ y) same-length = absurd (omega arith)
+step-add (a ∷ x) [] same-length = absurd (omega arith)
+step-add (false ∷ x) (false ∷ y) same-length = refl
+step-add (false ∷ x) (true ∷ y) same-length = add_left_comm rest x y
+step-add (true ∷ x) (false ∷ y) same-length = sym (add_assoc_of rest x y (omega arith))
+step-add (true ∷ x) (true ∷ y) same-length =
+    sym (add_assoc_of rest x (add rest y) (omega (arith, length-add rest y)) ∙ ap (add rest) (add_left_comm x rest y)
     ∙ add_again rest (add x y))
 
 pub same_length_step : (x y : List Bool) → length x ≡ length y → length (step x) ≡ length (step y)
-same_length_step [] [] h = refl
-same_length_step [] (b ∷ y) h = absurd (omega arith)
-same_length_step (a ∷ x) [] h = absurd (omega arith)
-same_length_step (a ∷ x) (b ∷ y) h = omega (arith, length-step a x, length-step b y)
+same_length_step [] [] same-length = refl
+same_length_step [] (b ∷ y) same-length = absurd (omega arith)
+same_length_step (a ∷ x) [] same-length = absurd (omega arith)
+same_length_step (a ∷ x) (b ∷ y) same-length = omega (arith, length-step a x, length-step b y)
 
 pub divided-add : (n : ℕ) (x y : List Bool) → length x ≡ length y →
     divided n (add x y) ≡ add (divided n x) (divided n y)
 unfolding divided
-divided-add zero x y h = refl
-divided-add (suc n) x y h =
-    ap (divided n) (step-add x y h) ∙ divided-add n (step x) (step y) (same_length_step x y h)
+divided-add zero x y same-length = refl
+divided-add (suc n) x y same-length =
+    ap (divided n) (step-add x y same-length) ∙ divided-add n (step x) (step y) (same_length_step x y same-length)
 
 -- the first law
 pub remainder_add : (x y : List Bool) → length x ≡ length y → remainder (add x y) ≡ add (remainder x) (remainder y)
 unfolding remainder add
-remainder_add x y h =
+remainder_add x y same-length =
     let long : List Bool → List Bool = λ z. replicate 16 false ++ z in
-    let k : length (long x) ≡ length (long y) = omega (arith) in
-    let n : length (add x y) ≡ length y = length-add x y in
-    ap (λ (m : ℕ). divided m (long (add x y))) n ∙ divided-add (length y) (long x) (long y) k
-    ∙ ap (λ (m : ℕ). add (divided m (long x)) (divided (length y) (long y))) (sym h)
+    rw (length-add x y, same-length) (divided-add (length y) (long x) (long y) (omega arith))
 
 pub step-append : (b : Bool) (d e : List Bool) → 16 ≤ length d → step (b ∷ d ++ e) ≡ step (b ∷ d) ++ e
 unfolding step add
-step-append true d e h = add-append rest d e h
-step-append false d e h = refl
+step-append true d e long = add-append rest d e long
+step-append false d e long = refl
 
 pub divided-append : (n : ℕ) (d e : List Bool) → n + 16 ≤ length d → divided n (d ++ e) ≡ divided n d ++ e
 unfolding divided
-divided-append zero d e h = refl
-divided-append (suc n) [] e h = absurd (omega arith)
-divided-append (suc n) (b ∷ d) e h =
-    let k : 16 ≤ length d = omega arith in
-    let m : n + 16 ≤ length (step (b ∷ d)) = omega (arith, length-step b d) in
-    ap (divided n) (step-append b d e k) ∙ divided-append n (step (b ∷ d)) e m
+divided-append zero d e long = refl
+divided-append (suc n) [] e long = absurd (omega arith)
+divided-append (suc n) (b ∷ d) e long =
+    rw (step-append b d e (omega arith)) (divided-append n (step (b ∷ d)) e (omega (arith, length-step b d)))
 
 pub length-divided : (n : ℕ) (d : List Bool) → length (divided n d) ≡ length d - n
 unfolding divided step
 length-divided zero d = omega arith
-length-divided (suc n) [] = length-divided n [] ∙ (omega arith)
+length-divided (suc n) [] = length-divided n [] ∙ omega arith
 length-divided (suc n) (b ∷ d) = length-divided n (step (b ∷ d)) ∙ omega (arith, length-step b d)
 
 pub length-remainder : (d : List Bool) → length (remainder d) ≡ 16
@@ -90,18 +83,16 @@ length-remainder d = length-divided (length d) (replicate 16 false ++ d) ∙ ome
 
 pub divided-sum : (m n : ℕ) (d : List Bool) → divided (m + n) d ≡ divided n (divided m d)
 unfolding divided
-divided-sum zero n d = let e : zero + n ≡ n = omega arith in ap (λ (k : ℕ). divided k d) e
-divided-sum (suc m) n d =
-    let e : suc m + n ≡ suc (m + n) = omega arith in ap (λ (k : ℕ). divided k d) e ∙ divided-sum m n (step d)
+divided-sum zero n d = let same : zero + n ≡ n = omega arith in rw same refl
+divided-sum (suc m) n d = let next : suc m + n ≡ suc (m + n) = omega arith in rw next (divided-sum m n (step d))
 
 -- a division goes on where it stopped
 pub remainder-append : (d e : List Bool) → remainder (d ++ e) ≡ divided (length e) (remainder d ++ e)
 unfolding remainder
 remainder-append d e =
     let long : List Bool = replicate 16 false ++ d in
-    let k : length d + 16 ≤ length long = omega arith in
-    ap (λ (m : ℕ). divided m (long ++ e)) (length-append d e) ∙ divided-sum (length d) (length e) (long ++ e)
-    ∙ ap (divided (length e)) (divided-append (length d) long e k)
+    rw (length-append d e) (divided-sum (length d) (length e) (long ++ e)
+    ∙ ap (divided (length e)) (divided-append (length d) long e (omega arith)))
 
 -- zeros before
 remainder-false : (d : List Bool) → remainder (false ∷ d) ≡ remainder d
@@ -115,36 +106,35 @@ remainder-zeros (suc k) d = remainder-false (replicate k false ++ d) ∙ remaind
 -- sixteen bits are their own remainder
 pub remainder_own : (w : List Bool) → length w ≡ 16 → remainder w ≡ w
 unfolding remainder divided step
-remainder_own w h = ap (λ (n : ℕ). divided n (replicate 16 false ++ w)) h
+remainder_own w sixteen = rw sixteen refl
 
 -- what a step makes zero was zero
 pub step_zero : (w : List Bool) → length w ≡ 16 → step (w ++ false ∷ []) ≡ replicate 16 false → w ≡ replicate 16 false
 unfolding step add
-step_zero [] h e = absurd (omega arith)
-step_zero (false ∷ w) h e =
-    ap {B = List Bool} (λ (z : List Bool). false ∷ z) ((same_from_push w (replicate 15 false) false false e).0)
-step_zero (true ∷ w) h e =
-    let k : length rest15 ≡ length w = omega arith in
-    let p : add rest15 w ++ true ∷ [] ≡ replicate 15 false ++ false ∷ [] =
-    sym (add-parts rest15 (true ∷ []) w (false ∷ []) k) ∙ e in
-    let q : true ≡ false = (same_from_push (add rest15 w) (replicate 15 false) true false p).1 in
+step_zero [] sixteen none = absurd (omega arith)
+step_zero (false ∷ w) sixteen none =
+    ap {B = List Bool} (λ (z : List Bool). false ∷ z) ((same_from_push w (replicate 15 false) false false none).0)
+step_zero (true ∷ w) sixteen none =
+    let ends : add rest15 w ++ true ∷ [] ≡ replicate 15 false ++ false ∷ [] =
+    sym (add-parts rest15 (true ∷ []) w (false ∷ []) (omega arith)) ∙ none in
+    let clash : true ≡ false = (same_from_push (add rest15 w) (replicate 15 false) true false ends).1 in
     cc
 
 pub step_false : (w z : List Bool) → length w ≡ 16 → step (w ++ false ∷ z) ≡ step (w ++ false ∷ []) ++ z
-step_false [] z h = absurd (omega arith)
-step_false (b ∷ w) z h =
-    let k : 16 ≤ length (w ++ false ∷ []) = omega (arith, length-append w (false ∷ [])) in
-    ap (λ (x : List Bool). step (b ∷ x)) (sym (append_assoc w (false ∷ []) z)) ∙ step-append b (w ++ false ∷ []) z k
+step_false [] z sixteen = absurd (omega arith)
+step_false (b ∷ w) z sixteen =
+    let long : 16 ≤ length (w ++ false ∷ []) = omega (arith, length-append w (false ∷ [])) in
+    ap (λ (x : List Bool). step (b ∷ x)) (sym (append_assoc w (false ∷ []) z)) ∙ step-append b (w ++ false ∷ []) z long
 
 pub length-step_false : (w : List Bool) → length w ≡ 16 → length (step (w ++ false ∷ [])) ≡ 16
-length-step_false [] h = absurd (omega arith)
-length-step_false (b ∷ w) h = length-step b (w ++ false ∷ []) ∙ omega (arith, length-append w (false ∷ []))
+length-step_false [] sixteen = absurd (omega arith)
+length-step_false (b ∷ w) sixteen = length-step b (w ++ false ∷ []) ∙ omega (arith, length-append w (false ∷ []))
 
 -- what a shift makes zero was zero
 pub divided_zero : (k : ℕ) (w : List Bool) → length w ≡ 16 → divided k (w ++ replicate k false) ≡ replicate 16 false →
     w ≡ replicate 16 false
 unfolding divided
-divided_zero zero w h e = sym (append-nil w) ∙ e
-divided_zero (suc k) w h e =
-    let p = ap (divided k) (step_false w (replicate k false) h) in
-    step_zero w h (divided_zero k (step (w ++ false ∷ [])) (length-step_false w h) (sym p ∙ e))
+divided_zero zero w sixteen none = sym (append-nil w) ∙ none
+divided_zero (suc k) w sixteen none =
+    let shifted = ap (divided k) (step_false w (replicate k false) sixteen) in
+    step_zero w sixteen (divided_zero k (step (w ++ false ∷ [])) (length-step_false w sixteen) (sym shifted ∙ none))

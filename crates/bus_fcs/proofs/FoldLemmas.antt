@@ -16,21 +16,20 @@ use Rattle.bus_fcs.proofs.RegisterLemmas.{state_more, turns_none, octet-first}
 state-word : (os before : List ℕ) (s : ℕ) → All (λ o. o < 256) os → IsStateAfter s before
     → IsStateAfter (crc_steps (8 * length os) (bit_xor s (word os))) (before ++ os)
 unfolding word
-state-word [] before s small h =
+state-word [] before s small is-state =
     let same : crc_steps 0 (bit_xor s 0) ≡ s = turns_none (bit_xor s 0) ∙ xor_zero_r s in
-    rw (same, append-nil before) h
-state-word (o ∷ os) before s small h =
+    rw (same, append-nil before) is-state
+state-word (o ∷ os) before s small is-state =
     let octet : o < 256 = All-head (λ n. n < 256) o os small in
-    let first = state_more s o before octet h in
+    let first = state_more s o before octet is-state in
     let others = All-tail (λ n. n < 256) o os small in
     let rest = state-word os (before ++ o ∷ []) (crc_steps 8 (bit_xor s o)) others first in
-    let same = octet-first (length os) s o (word os) octet in
-    rw same (rw append_assoc at rest)
+    rw (octet-first (length os) s o (word os) octet) (rw append_assoc at rest)
 
 -- the first of eight octets in one word
 word-first : (k : ℕ) (os : List ℕ) → k ≤ length os → All (λ o. o < 256) os → word os % 2 ^ (8 * k) ≡ word (take k os)
-word-first k os h small =
-    let long : length (take k os) ≡ k = omega (arith, length-take k os, h) in
+word-first k os within small =
+    let long : length (take k os) ≡ k = omega (arith, length-take k os, within) in
     let below = word-lt (take k os) (All-take (λ o. o < 256) k os small) in
     ap (λ (n : ℕ). word os % 2 ^ (8 * n)) (sym long)
     ∙ ap (λ (xs : List ℕ). word xs % 2 ^ (8 * length (take k os))) (sym (take-append-drop k os))
@@ -40,9 +39,9 @@ word-first k os h small =
 pub state-some : (k s w : ℕ) (os before : List ℕ) → k ≤ 7 → length os ≡ 8 → All (λ o. o < 256) os
     → w ≡ from_le_bytes w64 os → IsStateAfter s before
     → IsStateAfter (crc_steps (8 * k) (bit_xor s (w % 2 ^ (8 * k)))) (before ++ take k os)
-state-some k s w os before few eight small is h =
+state-some k s w os before few eight small is is-state =
     let long : length (take k os) ≡ k = omega (arith, length-take k os, eight, few) in
     let first : w % 2 ^ (8 * k) ≡ word (take k os) =
     ap (λ (n : ℕ). n % 2 ^ (8 * k)) (is ∙ word-eight os eight) ∙ word-first k os (omega (arith, eight, few)) small in
-    let all = state-word (take k os) before s (All-take (λ o. o < 256) k os small) h in
+    let all = state-word (take k os) before s (All-take (λ o. o < 256) k os small) is-state in
     rw first (rw long at all)

@@ -1,6 +1,6 @@
 -- The reflected register.
 use Rattle.std.proofs.Common.{◌≡◌, ◌↔◌, ℕ, zero, suc, ◌+◌, ◌-◌, ◌*◌, ◌/◌, ◌%◌, ◌^◌, ◌<◌, ◌≤◌, Bool, true, false, cond}
-use Rattle.std.proofs.Common.{not, List, [], ◌∷◌, ◌++◌, length, map, take, drop, replicate, refl, sym, ap, subst, ◌∙◌}
+use Rattle.std.proofs.Common.{not, List, [], ◌∷◌, ◌++◌, length, map, take, drop, replicate, refl, sym, ap, ◌∙◌}
 use Rattle.std.proofs.Common.{arith, append_assoc, length-append, bit_xor, inl, inr, ◌⊎◌}
 use Rattle.std.proofs.lemmas.List.{append-nil, length-replicate, length-map, take-append-drop, length-take, length-drop}
 use Rattle.std.proofs.lemmas.List.{replicate-append-replicate}
@@ -14,7 +14,8 @@ use Rattle.bus_fcs.specs.FrameCheck.{Good, fcs}
 use Rattle.bus_bits.specs.Octet.{bits_of, bits_of_octets, number}
 use Rattle.bus_fcs.specs.Internal.Register.{crc_step_of, crc_steps, register, IsStateAfter}
 use Rattle.bus_fcs.proofs.DivisionSumLemmas.{length-add, add_again, add_left_comm, add_comm, add-append, add-parts}
-use Rattle.bus_fcs.proofs.DivisionSumLemmas.{add-zeros, add_more_zeros, add_to_zeros, add_ones, add_self, same_from_add}
+use Rattle.bus_fcs.proofs.DivisionSumLemmas.{add-zeros, add_more_zeros, add_to_zeros, add_sixteen_ones, add_self}
+use Rattle.bus_fcs.proofs.DivisionSumLemmas.{same_from_add}
 use Rattle.bus_fcs.proofs.DivisionLemmas.{remainder_add, remainder-append, remainder-zeros, remainder_own, divided-add}
 use Rattle.bus_fcs.proofs.DivisionLemmas.{divided_zero, step_false, length-step_false, length-divided, rest}
 use Rattle.bus_fcs.proofs.LawsLemmas.{length-register, good-register, fcs-register}
@@ -31,42 +32,42 @@ ones = replicate 16 true
 pub register-append : (d o : List Bool) → length o ≤ 16 →
     register (d ++ o) ≡ divided (length o) (add o (register d) ++ zeros (length o))
 unfolding register
-register-append d o h =
+register-append d o short =
     let k = length d in
-    let r = length o in
-    let f : List Bool = d ++ zeros 16 in
-    let a : List Bool = zeros k ++ o in
-    let e : List Bool = add ones f in
-    let fit : length (zeros k) ≡ length d = length-replicate k false in
-    let long_f : length f ≡ length d + 16 = length-append d (zeros 16) in
-    let long_a : length a ≡ length d + length o = length-append (zeros k) o ∙ ap (λ (n : ℕ). n + length o) fit in
-    let long_e : length e ≡ length d + 16 = length-add ones f ∙ long_f in
-    let swap : zeros 16 ++ zeros r ≡ zeros r ++ zeros 16 =
-    replicate-append-replicate 16 r false ∙ (let n : 16 + r ≡ r + 16 = omega arith in ap zeros n)
-    ∙ sym (replicate-append-replicate r 16 false) in
-    let tail : add o (zeros r ++ zeros 16) ≡ o ++ zeros 16 =
-    add-append o (zeros r) (zeros 16) (omega (arith, length-replicate r false))
-    ∙ ap (λ (z : List Bool). z ++ zeros 16) (add_to_zeros o) in
-    let whole : add a (f ++ zeros r) ≡ (d ++ o) ++ zeros 16 =
-    ap (add a) (append_assoc d (zeros 16) (zeros r) ∙ ap (λ (z : List Bool). d ++ z) swap)
-    ∙ add-parts (zeros k) o d (zeros r ++ zeros 16) fit
-    ∙ (let z = add-zeros k d in let x : add (zeros k) d ++ add o (zeros r ++ zeros 16) ≡ d ++ (o ++ zeros 16) = cc in x)
-    ∙ sym (append_assoc d o (zeros 16)) in
-    let shift : add ones ((d ++ o) ++ zeros 16) ≡ add a e ++ zeros r =
-    ap (add ones) (sym whole) ∙ add_left_comm ones a (f ++ zeros r)
-    ∙ ap (add a) (add-append ones f (zeros r) (omega arith)) ∙ add-append a e (zeros r) (omega arith) in
-    let more : List Bool = o ++ zeros (16 - r) in
-    let long_more : length more ≡ 16 =
-    omega (arith, length-append o (zeros (16 - r)), length-replicate (16 - r) false) in
-    let same : length (zeros k ++ more) ≡ length e = omega (arith, length-append (zeros k) more) in
-    let sum : remainder (add a e) ≡ add o (remainder e) =
-    ap remainder (sym (add_more_zeros a (16 - r) e)
-    ∙ ap (λ (z : List Bool). add z e) (append_assoc (zeros k) o (zeros (16 - r))))
-    ∙ remainder_add (zeros k ++ more) e same
-    ∙ ap (λ (z : List Bool). add z (remainder e)) (remainder-zeros k more ∙ remainder_own more long_more)
-    ∙ add_more_zeros o (16 - r) (remainder e) in
-    ap remainder shift ∙ remainder-append (add a e) (zeros r)
-    ∙ (let n : length (zeros r) ≡ r = length-replicate r false in cc)
+    let count = length o in
+    let padded : List Bool = d ++ zeros 16 in
+    let placed : List Bool = zeros k ++ o in
+    let turned : List Bool = add ones padded in
+    let zeros-length : length (zeros k) ≡ length d = length-replicate k false in
+    let padded-length : length padded ≡ length d + 16 = length-append d (zeros 16) in
+    let placed-length : length placed ≡ length d + length o = rw (length-append (zeros k) o, zeros-length) refl in
+    let turned-length : length turned ≡ length d + 16 = length-add ones padded ∙ padded-length in
+    let swap : zeros 16 ++ zeros count ≡ zeros count ++ zeros 16 =
+    replicate-append-replicate 16 count false ∙ ap zeros (omega arith)
+    ∙ sym (replicate-append-replicate count 16 false) in
+    let tail : add o (zeros count ++ zeros 16) ≡ o ++ zeros 16 =
+    rw (add-append o (zeros count) (zeros 16) (omega (arith, length-replicate count false)), add_to_zeros o) refl in
+    let parts : add (zeros k) d ++ add o (zeros count ++ zeros 16) ≡ d ++ (o ++ zeros 16) =
+    rw (add-zeros k d, tail) refl in
+    let whole : add placed (padded ++ zeros count) ≡ (d ++ o) ++ zeros 16 =
+    ap (add placed) (append_assoc d (zeros 16) (zeros count) ∙ ap (λ (z : List Bool). d ++ z) swap)
+    ∙ add-parts (zeros k) o d (zeros count ++ zeros 16) zeros-length ∙ parts ∙ sym (append_assoc d o (zeros 16)) in
+    let shift : add ones ((d ++ o) ++ zeros 16) ≡ add placed turned ++ zeros count =
+    ap (add ones) (sym whole) ∙ add_left_comm ones placed (padded ++ zeros count)
+    ∙ ap (add placed) (add-append ones padded (zeros count) (omega arith))
+    ∙ add-append placed turned (zeros count) (omega arith) in
+    let more : List Bool = o ++ zeros (16 - count) in
+    let more-length : length more ≡ 16 =
+    omega (arith, length-append o (zeros (16 - count)), length-replicate (16 - count) false) in
+    let same-length : length (zeros k ++ more) ≡ length turned = omega (arith, length-append (zeros k) more) in
+    let sum : remainder (add placed turned) ≡ add o (remainder turned) =
+    ap remainder (sym (add_more_zeros placed (16 - count) turned)
+    ∙ ap (λ (z : List Bool). add z turned) (append_assoc (zeros k) o (zeros (16 - count))))
+    ∙ remainder_add (zeros k ++ more) turned same-length
+    ∙ ap (λ (z : List Bool). add z (remainder turned)) (remainder-zeros k more ∙ remainder_own more more-length)
+    ∙ add_more_zeros o (16 - count) (remainder turned) in
+    ap remainder shift ∙ remainder-append (add placed turned) (zeros count)
+    ∙ (let same : length (zeros count) ≡ count = length-replicate count false in cc)
 
 -- ---- good data, by the register after all of it
 
@@ -76,47 +77,48 @@ residue = divided 16 (ones ++ zeros 16)
 
 same_from_shift : (x y : List Bool) → length x ≡ 16 → length y ≡ 16 →
     divided 16 (x ++ zeros 16) ≡ divided 16 (y ++ zeros 16) → x ≡ y
-same_from_shift x y h k e =
-    let s : length x ≡ length y = h ∙ sym k in
-    let l : length (x ++ zeros 16) ≡ length (y ++ zeros 16) =
+same_from_shift x y x-sixteen y-sixteen shifted =
+    let same-length : length x ≡ length y = x-sixteen ∙ sym y-sixteen in
+    let padded : length (x ++ zeros 16) ≡ length (y ++ zeros 16) =
     omega (arith, length-append x (zeros 16), length-append y (zeros 16)) in
-    let n : length (add x y) ≡ 16 = length-add x y ∙ k in
-    let p : add x y ++ zeros 16 ≡ add (x ++ zeros 16) (y ++ zeros 16) =
+    let sixteen : length (add x y) ≡ 16 = length-add x y ∙ y-sixteen in
+    let parts : add x y ++ zeros 16 ≡ add (x ++ zeros 16) (y ++ zeros 16) =
     ap (λ (z : List Bool). add x y ++ z) (sym (add-zeros 16 (zeros 16)))
-    ∙ sym (add-parts x (zeros 16) y (zeros 16) s) in
-    let d : length (divided 16 (y ++ zeros 16)) ≡ 16 =
+    ∙ sym (add-parts x (zeros 16) y (zeros 16) same-length) in
+    let count : length (divided 16 (y ++ zeros 16)) ≡ 16 =
     length-divided 16 (y ++ zeros 16) ∙ omega (arith, length-append y (zeros 16)) in
-    let z : divided 16 (add x y ++ zeros 16) ≡ zeros 16 =
-    ap (divided 16) p ∙ divided-add 16 (x ++ zeros 16) (y ++ zeros 16) l
-    ∙ ap (λ (q : List Bool). add q (divided 16 (y ++ zeros 16))) e ∙ add_self (divided 16 (y ++ zeros 16))
-    ∙ ap zeros d in
-    same_from_add x y s (divided_zero 16 (add x y) n z ∙ ap zeros (sym k))
+    let none : divided 16 (add x y ++ zeros 16) ≡ zeros 16 =
+    rw (parts, divided-add 16 (x ++ zeros 16) (y ++ zeros 16) padded, shifted)
+    (add_self (divided 16 (y ++ zeros 16)) ∙ ap zeros count) in
+    same_from_add x y same-length (divided_zero 16 (add x y) sixteen none ∙ ap zeros (sym y-sixteen))
 
 -- with a tail of sixteen bits
 residue_at : (c t : List Bool) → 16 ≤ length c → length t ≡ 16 → Good (c ++ t) ↔ (register (c ++ t) ≡ residue)
-residue_at c t h k =
-    let g = good-register c t h k in
-    let s : add t (map not t) ≡ ones =
-    ap (add t) (sym (add_ones t)) ∙ add_left_comm t (replicate (length t) true) t
-    ∙ ap (add (replicate (length t) true)) (add_self t) ∙ ap (λ (n : ℕ). add (replicate n true) (zeros n)) k
-    ∙ add_to_zeros ones in
-    let r : register (c ++ t) ≡ divided 16 (add t (register c) ++ zeros 16) =
-    register-append c t (omega arith) ∙ ap (λ (n : ℕ). divided n (add t (register c) ++ zeros n)) k in (
-      (λ x. r ∙ (let y = g.0 x in let z : add t (register c) ≡ ones =
-          cc in ap (λ (q : List Bool). divided 16 (q ++ zeros 16)) z)),
-      (λ x. g.1 (
-          let y : add t (register c) ≡ ones =
-          same_from_shift (add t (register c)) ones (length-add t (register c) ∙ length-register c) refl (sym r ∙ x) in
-          sym (add_again t (register c)) ∙ ap (add t) y ∙ add_comm t ones k
-          ∙ ap (λ (n : ℕ). add (replicate n true) t) (sym k) ∙ add_ones t)),
+residue_at c t long sixteen =
+    let good = good-register c t long sixteen in
+    let inverted : add t (map not t) ≡ ones =
+    ap (add t) (sym (add_sixteen_ones t sixteen)) ∙ add_left_comm t ones t
+    ∙ ap (add ones) (add_self t ∙ ap zeros sixteen) ∙ add_to_zeros ones in
+    let after : register (c ++ t) ≡ divided 16 (add t (register c) ++ zeros 16) =
+    register-append c t (omega arith) ∙ ap (λ (n : ℕ). divided n (add t (register c) ++ zeros n)) sixteen in
+    let sum-length : length (add t (register c)) ≡ 16 = length-add t (register c) ∙ length-register c in (
+      (λ is-good.
+          let all : add t (register c) ≡ ones = rw (good.0 is-good) inverted in
+          after ∙ ap (λ (z : List Bool). divided 16 (z ++ zeros 16)) all),
+      (λ left.
+          let all : add t (register c) ≡ ones =
+          same_from_shift (add t (register c)) ones sum-length refl (sym after ∙ left) in
+          good.1 (sym (add_again t (register c)) ∙ ap (add t) all ∙ add_comm t ones sixteen
+          ∙ add_sixteen_ones t sixteen)),
     )
 
 pub good-residue : (d : List Bool) → 32 ≤ length d → Good d ↔ (register d ≡ residue)
-good-residue d h =
-    let n = length d - 16 in
-    let e = take-append-drop n d in
-    let P : List Bool → Type 0 = λ z. Good z ↔ (register z ≡ residue) in
-    subst P e (residue_at (take n d) (drop n d) (omega (arith, length-take n d)) (length-drop n d ∙ omega arith))
+good-residue d long =
+    let from = length d - 16 in
+    let whole = take-append-drop from d in
+    let split =
+    residue_at (take from d) (drop from d) (omega (arith, length-take from d)) (length-drop from d ∙ omega arith) in
+    rw whole at split
 
 -- ---- the register, as a number
 
@@ -131,44 +133,43 @@ bit_plus false b = refl
 
 pub number-add : (x y : List Bool) → length x ≤ length y → number (add x y) ≡ bit_xor (number x) (number y)
 unfolding number add
-number-add [] y h = refl
-number-add (a ∷ x) [] h = absurd (omega arith)
-number-add (a ∷ x) (b ∷ y) h =
-    let k : length x ≤ length y = omega arith in
-    ap (λ (n : ℕ). n * 2 + cond (plus a b) 1 0) (number-add x y k)
+number-add [] y within = refl
+number-add (a ∷ x) [] within = absurd (omega arith)
+number-add (a ∷ x) (b ∷ y) within =
+    ap (λ (n : ℕ). n * 2 + cond (plus a b) 1 0) (number-add x y (omega arith))
     ∙ ap (λ (n : ℕ). bit_xor (number x) (number y) * 2 + n) (sym (bit_plus a b))
     ∙ sym (xor_block 1 (number x) (number y) (cond a 1 0) (cond b 1 0) (bit_lt a) (bit_lt b))
 
 pub turn_even : (n : ℕ) → crc_step_of (n * 2 + 0) ≡ n
 unfolding crc_step_of
 turn_even n =
-    let e : (n * 2 + 0) % 2 ≡ 0 = omega arith in
-    let f : (n * 2 + 0) / 2 ≡ n = omega arith in
-    rw (e, f)
+    let low : (n * 2 + 0) % 2 ≡ 0 = omega arith in
+    let high : (n * 2 + 0) / 2 ≡ n = omega arith in
+    rw (low, high)
 
 pub turn_odd : (n : ℕ) → crc_step_of (n * 2 + 1) ≡ bit_xor n 0x8408
 unfolding crc_step_of
 turn_odd n =
-    let e : (n * 2 + 1) % 2 ≡ 1 = omega arith in
-    let f : (n * 2 + 1) / 2 ≡ n = omega arith in
-    rw (e, f)
+    let low : (n * 2 + 1) % 2 ≡ 1 = omega arith in
+    let high : (n * 2 + 1) / 2 ≡ n = omega arith in
+    rw (low, high)
 
 -- a shift of the bits is a turn of the number
 number_turn : (w : List Bool) → length w ≡ 16 → number (step (w ++ false ∷ [])) ≡ crc_step_of (number w)
 unfolding number step add
-number_turn [] h = absurd (omega arith)
-number_turn (false ∷ w) h = number-push w ∙ sym (turn_even (number w))
-number_turn (true ∷ w) h =
+number_turn [] sixteen = absurd (omega arith)
+number_turn (false ∷ w) sixteen = number-push w ∙ sym (turn_even (number w))
+number_turn (true ∷ w) sixteen =
     number-add rest (w ++ false ∷ []) (omega (arith, length-append w (false ∷ [])))
     ∙ ap (bit_xor 0x8408) (number-push w)
     ∙ xor_comm 0x8408 (number w) ∙ sym (turn_odd (number w))
 
 pub number_turns : (n : ℕ) (w : List Bool) → length w ≡ 16 → number (divided n (w ++ zeros n)) ≡ crc_steps n (number w)
 unfolding divided crc_steps
-number_turns zero w h = ap number (append-nil w)
-number_turns (suc n) w h =
-    ap (λ (z : List Bool). number (divided n z)) (step_false w (zeros n) h)
-    ∙ number_turns n (step (w ++ false ∷ [])) (length-step_false w h) ∙ ap (crc_steps n) (number_turn w h)
+number_turns zero w sixteen = ap number (append-nil w)
+number_turns (suc n) w sixteen =
+    rw (step_false w (zeros n) sixteen, ← number_turn w sixteen)
+    (number_turns n (step (w ++ false ∷ [])) (length-step_false w sixteen))
 
 -- ---- octets
 
@@ -176,18 +177,19 @@ number_turns (suc n) w h =
 pub state_more : (s o : ℕ) (os : List ℕ) → o < 256 → IsStateAfter s os →
     IsStateAfter (crc_steps 8 (bit_xor s o)) (os ++ o ∷ [])
 unfolding IsStateAfter
-state_more s o os h e =
-    let d = bits_of_octets os in
-    let b = bits_of 8 o in
-    let n : length b ≡ 8 = length-bits 8 o in
-    let r : register (bits_of_octets (os ++ o ∷ [])) ≡ divided 8 (add b (register d) ++ zeros 8) =
-    ap register (bits_of_octets-push os o) ∙ register-append d b (omega arith)
-    ∙ ap (λ (k : ℕ). divided k (add b (register d) ++ zeros k)) n in
-    let a : number (add b (register d)) ≡ bit_xor s o =
-    number-add b (register d) (omega (arith, length-register d)) ∙ (let i : number b ≡ o = number-bits 8 o h in cc)
-    ∙ xor_comm o s in
-    sym (ap number r ∙ number_turns 8 (add b (register d)) (length-add b (register d) ∙ length-register d)
-    ∙ ap (crc_steps 8) a)
+state_more s o os small is-state =
+    let before = register (bits_of_octets os) in
+    let octet-bits = bits_of 8 o in
+    let added = add octet-bits before in
+    let eight : length octet-bits ≡ 8 = length-bits 8 o in
+    let after : register (bits_of_octets (os ++ o ∷ [])) ≡ divided 8 (added ++ zeros 8) =
+    ap register (bits_of_octets-push os o) ∙ register-append (bits_of_octets os) octet-bits (omega arith)
+    ∙ ap (λ (k : ℕ). divided k (added ++ zeros k)) eight in
+    let sum : number added ≡ bit_xor s o =
+    number-add octet-bits before (omega (arith, length-register (bits_of_octets os)))
+    ∙ (let octet : number octet-bits ≡ o = number-bits 8 o small in cc) ∙ xor_comm o s in
+    let sixteen : length added ≡ 16 = length-add octet-bits before ∙ length-register (bits_of_octets os) in
+    sym (ap number after ∙ number_turns 8 added sixteen ∙ ap (crc_steps 8) sum)
 
 pub state_none : IsStateAfter 0xffff []
 unfolding IsStateAfter register remainder divided step add number bits_of_octets
@@ -202,13 +204,13 @@ residue_number = refl
 
 pub state_good : (s : ℕ) (os : List ℕ) → IsStateAfter s os → 4 ≤ length os → (s ≡ 0xf0b8) ↔ Good (bits_of_octets os)
 unfolding IsStateAfter
-state_good s os e h =
-    let d = bits_of_octets os in
-    let g = good-residue d (omega (arith, length-bits_of_octets os)) in (
-      (λ p.
-          g.1 (same_number (register d) residue (length-register d ∙ sym length_residue)
-          (sym e ∙ p ∙ sym residue_number))),
-      (λ p. e ∙ ap number (g.0 p) ∙ residue_number),
+state_good s os is-state long =
+    let bits = bits_of_octets os in
+    let good = good-residue bits (omega (arith, length-bits_of_octets os)) in (
+      (λ left.
+          good.1 (same_number (register bits) residue (length-register bits ∙ sym length_residue)
+          (sym is-state ∙ left ∙ sym residue_number))),
+      (λ is-good. is-state ∙ ap number (good.0 is-good) ∙ residue_number),
     )
 
 -- ---- the check bits
@@ -222,28 +224,31 @@ number-not (false ∷ w) = omega (arith, number-not w, pow-suc 2 (length w))
 pub state_trailer : (s lo hi : ℕ) (os : List ℕ) → IsStateAfter s os → lo < 256 → hi < 256 → hi * 256 + lo + s ≡ 65535
     → bits_of_octets (lo ∷ hi ∷ []) ≡ fcs (bits_of_octets os)
 unfolding IsStateAfter bits_of_octets
-state_trailer s lo hi os e a b n =
-    let w = register (bits_of_octets os) in
-    let l : length (bits_of 8 lo) ≡ 8 = length-bits 8 lo in
-    let m : length (bits_of 8 lo ++ bits_of 8 hi) ≡ 16 =
-    omega (arith, length-append (bits_of 8 lo) (bits_of 8 hi), length-bits 8 hi) in
-    let p : number (bits_of 8 lo ++ bits_of 8 hi) ≡ lo + hi * 256 =
+state_trailer s lo hi os is-state lo-small hi-small sum =
+    let after = register (bits_of_octets os) in
+    let octets = bits_of 8 lo ++ bits_of 8 hi in
+    let octets-length : length octets ≡ 16 =
+    omega (arith, length-append (bits_of 8 lo) (bits_of 8 hi), length-bits 8 lo, length-bits 8 hi) in
+    let value : number octets ≡ lo + hi * 256 =
     number-append (bits_of 8 lo) (bits_of 8 hi)
-    ∙ (let x = number-bits 8 lo a in let y = number-bits 8 hi b in cc) in
-    let q : number (map not w) + number w + 1 ≡ 65536 =
-    number-not w ∙ ap (λ (k : ℕ). 2 ^ k) (length-register (bits_of_octets os)) in
-    let r : number (bits_of 8 lo ++ bits_of 8 hi) ≡ number (map not w) = omega arith in
-    let d : length (bits_of 8 lo ++ bits_of 8 hi) ≡ length (map not w) =
-    m ∙ sym (length-map w not ∙ length-register (bits_of_octets os)) in
+    ∙ (let lo-bits = length-bits 8 lo in
+    let low = number-bits 8 lo lo-small in
+    let high = number-bits 8 hi hi-small in
+    cc) in
+    let inverted : number (map not after) + number after + 1 ≡ 65536 =
+    number-not after ∙ ap (λ (k : ℕ). 2 ^ k) (length-register (bits_of_octets os)) in
+    let same : number octets ≡ number (map not after) = omega arith in
+    let same-length : length octets ≡ length (map not after) =
+    octets-length ∙ sym (length-map after not ∙ length-register (bits_of_octets os)) in
     ap (λ (z : List Bool). bits_of 8 lo ++ z) (append-nil (bits_of 8 hi))
-    ∙ same_number (bits_of 8 lo ++ bits_of 8 hi) (map not w) d r ∙ sym (fcs-register (bits_of_octets os))
+    ∙ same_number octets (map not after) same-length same ∙ sym (fcs-register (bits_of_octets os))
 
 -- ---- eight turns at once
 
 below_two : (r : ℕ) → r < 2 → (r ≡ 0) ⊎ (r ≡ 1)
-below_two zero h = inl refl
-below_two (suc zero) h = inr refl
-below_two (suc (suc r)) h = absurd (omega arith)
+below_two zero small = inl refl
+below_two (suc zero) small = inr refl
+below_two (suc (suc r)) small = absurd (omega arith)
 
 bit_cases : (n : ℕ) → (n % 2 ≡ 0) ⊎ (n % 2 ≡ 1)
 bit_cases n = below_two (n % 2) (omega arith)
@@ -253,22 +258,23 @@ xor_right a b p = xor_assoc a b p ∙ ap (bit_xor a) (xor_comm b p) ∙ sym (xor
 
 xor_both : (a b p : ℕ) → bit_xor a b ≡ bit_xor (bit_xor a p) (bit_xor b p)
 xor_both a b p =
-    let e : bit_xor p (bit_xor b p) ≡ b =
+    let twice : bit_xor p (bit_xor b p) ≡ b =
     ap (bit_xor p) (xor_comm b p) ∙ sym (xor_assoc p p b) ∙ ap (λ (n : ℕ). bit_xor n b) (xor_self p) in
-    sym (xor_assoc a p (bit_xor b p) ∙ ap (bit_xor a) e)
+    sym (xor_assoc a p (bit_xor b p) ∙ ap (bit_xor a) twice)
 
 pub crc_step-xor : (a b : ℕ) → crc_step_of (bit_xor a b) ≡ bit_xor (crc_step_of a) (crc_step_of b)
 unfolding crc_step_of
 crc_step-xor a b =
-    let h : bit_xor a b / 2 ≡ bit_xor (a / 2) (b / 2) = xor_shr a b 1 in
-    let l : bit_xor a b % 2 ≡ bit_xor (a % 2) (b % 2) = xor_mod a b 1 in
+    let high : bit_xor a b / 2 ≡ bit_xor (a / 2) (b / 2) = xor_shr a b 1 in
+    let low : bit_xor a b % 2 ≡ bit_xor (a % 2) (b % 2) = xor_mod a b 1 in
     elim (bit_cases a) [
-      | inl p ↦ elim (bit_cases b)
-          [ inl q ↦ rw (l, h, p, q) refl | inr q ↦ rw (l, h, p, q) (xor_assoc (a / 2) (b / 2) 0x8408) ]
-      | inr p ↦ elim (bit_cases b) [
-        | inl q ↦ rw (l, h, p, q) (xor_right (a / 2) (b / 2) 0x8408)
-        | inr q ↦ rw (l, h, p, q)
-            (xor_both (a / 2) (b / 2) 0x8408)
+      | inl a-even ↦ elim (bit_cases b) [
+        | inl b-even ↦ rw (low, high, a-even, b-even) refl
+        | inr b-odd ↦ rw (low, high, a-even, b-odd) (xor_assoc (a / 2) (b / 2) 0x8408)
+      ]
+      | inr a-odd ↦ elim (bit_cases b) [
+        | inl b-even ↦ rw (low, high, a-odd, b-even) (xor_right (a / 2) (b / 2) 0x8408)
+        | inr b-odd ↦ rw (low, high, a-odd, b-odd) (xor_both (a / 2) (b / 2) 0x8408)
       ]
     ]
 
@@ -281,16 +287,15 @@ turns_shift : (n h : ℕ) → crc_steps n (h * 2 ^ n) ≡ h
 unfolding crc_steps
 turns_shift zero h = omega arith
 turns_shift (suc n) h =
-    let e : h * 2 ^ suc n ≡ h * 2 ^ n * 2 + 0 =
+    let doubled : h * 2 ^ suc n ≡ h * 2 ^ n * 2 + 0 =
     ap (λ (k : ℕ). h * k) (pow-suc 2 n) ∙ sym (mul_assoc h (2 ^ n) 2) ∙ sym (add-zero (h * 2 ^ n * 2)) in
-    ap (λ (k : ℕ). crc_steps n (crc_step_of k)) e ∙ ap (crc_steps n) (turn_even (h * 2 ^ n)) ∙ turns_shift n h
+    rw (doubled, turn_even (h * 2 ^ n)) (turns_shift n h)
 
 -- steps one after the other
 steps-sum : (m n s : ℕ) → crc_steps (m + n) s ≡ crc_steps n (crc_steps m s)
 unfolding crc_steps
-steps-sum zero n s = let e : zero + n ≡ n = omega arith in ap (λ (k : ℕ). crc_steps k s) e
-steps-sum (suc m) n s =
-    let e : suc m + n ≡ suc (m + n) = omega arith in ap (λ (k : ℕ). crc_steps k s) e ∙ steps-sum m n (crc_step_of s)
+steps-sum zero n s = let same : zero + n ≡ n = omega arith in rw same refl
+steps-sum (suc m) n s = let next : suc m + n ≡ suc (m + n) = omega arith in rw next (steps-sum m n (crc_step_of s))
 
 -- zeros in front only take steps
 steps-past : (k m h : ℕ) → crc_steps (k + m) (h * 2 ^ k) ≡ crc_steps m h
@@ -302,22 +307,21 @@ split n s = xor_shifted (s / 2 ^ n) n (s % 2 ^ n) (mod_below s (2 ^ n) (pow_pos 
 
 pub turns_split : (n s : ℕ) → crc_steps n s ≡ bit_xor (s / 2 ^ n) (crc_steps n (s % 2 ^ n))
 turns_split n s =
-    ap (crc_steps n) (sym (split n s)) ∙ crc_steps-xor n (s / 2 ^ n * 2 ^ n) (s % 2 ^ n)
-    ∙ ap (λ (k : ℕ). bit_xor k (crc_steps n (s % 2 ^ n))) (turns_shift n (s / 2 ^ n))
+    ap (crc_steps n) (sym (split n s))
+    ∙ rw (crc_steps-xor n (s / 2 ^ n * 2 ^ n) (s % 2 ^ n), turns_shift n (s / 2 ^ n)) refl
 
 pub turns_octet : (s o : ℕ) → o < 256 → crc_steps 8 (bit_xor s o) ≡ bit_xor (s / 256) (crc_steps 8 (bit_xor s o % 256))
-turns_octet s o h =
-    let z : o / 256 ≡ 0 = omega arith in
-    let e : bit_xor s o / 256 ≡ s / 256 =
-    xor_shr s o 8 ∙ ap (bit_xor (s / 256)) z ∙ xor_zero_r (s / 256) in
-    turns_split 8 (bit_xor s o) ∙ ap (λ (k : ℕ). bit_xor k (crc_steps 8 (bit_xor s o % 256))) e
+turns_octet s o small =
+    let none : o / 256 ≡ 0 = omega arith in
+    let high : bit_xor s o / 256 ≡ s / 256 =
+    xor_shr s o 8 ∙ ap (bit_xor (s / 256)) none ∙ xor_zero_r (s / 256) in
+    turns_split 8 (bit_xor s o) ∙ rw high refl
 
 -- one turn more
 pub turns_more : (n s : ℕ) → crc_steps (n + 1) s ≡ crc_step_of (crc_steps n s)
 unfolding crc_steps
 turns_more zero s = refl
-turns_more (suc n) s = let e : suc n + 1 ≡ suc (n + 1) =
-    omega arith in ap (λ (k : ℕ). crc_steps k s) e ∙ turns_more n (crc_step_of s)
+turns_more (suc n) s = let next : suc n + 1 ≡ suc (n + 1) = omega arith in rw next (turns_more n (crc_step_of s))
 
 pub turns_none : (s : ℕ) → crc_steps 0 s ≡ s
 unfolding crc_steps
@@ -328,13 +332,12 @@ turns_none s = refl
 -- the highest octet of some, where those below it are known
 higher : (k m n z : ℕ) → crc_steps (k + m) (n % 2 ^ k) ≡ z
     → crc_steps (k + m) (n % 2 ^ (8 + k)) ≡ bit_xor z (crc_steps m (n / 2 ^ k % 256))
-higher k m n z h =
+higher k m n z below =
     let o : ℕ = n / 2 ^ k % 256 in
     let apart : n % 2 ^ (8 + k) ≡ bit_xor (n % 2 ^ k) (o * 2 ^ k) =
     mod-pow-add n 8 k ∙ sym (xor_shifted o k (n % 2 ^ k) (mod_below n (2 ^ k) (pow_pos k)))
     ∙ xor_comm (o * 2 ^ k) (n % 2 ^ k) in
-    ap (crc_steps (k + m)) apart ∙ crc_steps-xor (k + m) (n % 2 ^ k) (o * 2 ^ k)
-    ∙ ap (λ (x : ℕ). bit_xor x (crc_steps (k + m) (o * 2 ^ k))) h ∙ ap (bit_xor z) (steps-past k m o)
+    rw (apart, crc_steps-xor (k + m) (n % 2 ^ k) (o * 2 ^ k), below, steps-past k m o) refl
 
 -- each of seven octets takes its own steps and those of the octets that follow it
 pub seven-octets : (n : ℕ) → crc_steps 56 (n % 2 ^ 56)
@@ -348,46 +351,43 @@ seven-octets n =
 
 -- the lowest bits of a sum, shifted up until the others are out, of 56
 shifted-out : (n x : ℕ) → n ≤ 56 → (x * 2 ^ (56 - n)) % 2 ^ 64 % 2 ^ 56 ≡ x % 2 ^ n * 2 ^ (56 - n)
-shifted-out n x h =
+shifted-out n x fits =
     let k : ℕ = 56 - n in
-    let y : ℕ = x * 2 ^ k in
+    let shifted : ℕ = x * 2 ^ k in
     let whole : n + k ≡ 56 = omega arith in
-    let none : y % 2 ^ k ≡ 0 = ap (λ (z : ℕ). z % 2 ^ k) (sym (add-zero y)) ∙ mod_low x k 0 (pow_pos k) in
-    ap (λ (z : ℕ). z % 2 ^ 56) (mod-pow-add y 8 56)
-    ∙ mod_low (y / 2 ^ 56 % 2 ^ 8) 56 (y % 2 ^ 56) (omega arith) ∙ ap (λ (j : ℕ). y % 2 ^ j) (sym whole)
-    ∙ mod-pow-add y n k
-    ∙ ap (λ (z : ℕ). z % 2 ^ n * 2 ^ k + y % 2 ^ k) (shl-shr x k) ∙ omega (arith, none)
+    let none : shifted % 2 ^ k ≡ 0 =
+    ap (λ (z : ℕ). z % 2 ^ k) (sym (add-zero shifted)) ∙ mod_low x k 0 (pow_pos k) in
+    ap (λ (z : ℕ). z % 2 ^ 56) (mod-pow-add shifted 8 56)
+    ∙ mod_low (shifted / 2 ^ 56 % 2 ^ 8) 56 (shifted % 2 ^ 56) (omega arith)
+    ∙ ap (λ (j : ℕ). shifted % 2 ^ j) (sym whole) ∙ mod-pow-add shifted n k
+    ∙ ap (λ (z : ℕ). z % 2 ^ n * 2 ^ k + shifted % 2 ^ k) (shl-shr x k) ∙ omega (arith, none)
 
 -- the steps for the lowest bits of a word, by those of 56 bits
 pub some-bits : (n s w : ℕ) → n ≤ 56
     → bit_xor (s / 2 ^ n) (crc_steps 56 ((bit_xor w s * 2 ^ (56 - n)) % 2 ^ 64 % 2 ^ 56))
     ≡ crc_steps n (bit_xor s (w % 2 ^ n))
-some-bits n s w h =
+some-bits n s w fits =
     let k : ℕ = 56 - n in
-    let x : ℕ = bit_xor w s in
+    let both : ℕ = bit_xor w s in
     let high : ℕ = s / 2 ^ n * 2 ^ n in
     let whole : 56 ≡ k + n = omega arith in
-    let past : crc_steps 56 (x % 2 ^ n * 2 ^ k) ≡ crc_steps n (x % 2 ^ n) =
-    ap (λ (j : ℕ). crc_steps j (x % 2 ^ n * 2 ^ k)) whole ∙ steps-past k n (x % 2 ^ n) in
-    let sum : bit_xor (s % 2 ^ n) (w % 2 ^ n) ≡ x % 2 ^ n =
+    let past : crc_steps 56 (both % 2 ^ n * 2 ^ k) ≡ crc_steps n (both % 2 ^ n) =
+    ap (λ (j : ℕ). crc_steps j (both % 2 ^ n * 2 ^ k)) whole ∙ steps-past k n (both % 2 ^ n) in
+    let sum : bit_xor (s % 2 ^ n) (w % 2 ^ n) ≡ both % 2 ^ n =
     sym (xor_mod s w n) ∙ ap (λ (j : ℕ). j % 2 ^ n) (xor_comm s w) in
-    let apart : bit_xor s (w % 2 ^ n) ≡ bit_xor high (x % 2 ^ n) =
+    let apart : bit_xor s (w % 2 ^ n) ≡ bit_xor high (both % 2 ^ n) =
     ap (λ (j : ℕ). bit_xor j (w % 2 ^ n)) (sym (split n s)) ∙ xor_assoc high (s % 2 ^ n) (w % 2 ^ n)
     ∙ ap (bit_xor high) sum in
-    let stepped : crc_steps n (bit_xor s (w % 2 ^ n)) ≡ bit_xor (s / 2 ^ n) (crc_steps n (x % 2 ^ n)) =
-    ap (crc_steps n) apart ∙ crc_steps-xor n high (x % 2 ^ n)
-    ∙ ap (λ (j : ℕ). bit_xor j (crc_steps n (x % 2 ^ n))) (turns_shift n (s / 2 ^ n)) in
-    ap (λ (j : ℕ). bit_xor (s / 2 ^ n) (crc_steps 56 j)) (shifted-out n x h) ∙ ap (bit_xor (s / 2 ^ n)) past
-    ∙ sym stepped
+    rw (shifted-out n both fits, past, apart, crc_steps-xor n high (both % 2 ^ n), turns_shift n (s / 2 ^ n)) refl
 
 -- one octet more, and a word of those that follow it
 pub octet-first : (n s o w : ℕ) → o < 256
     → crc_steps (8 * suc n) (bit_xor s (w * 256 + o)) ≡ crc_steps (8 * n) (bit_xor (crc_steps 8 (bit_xor s o)) w)
-octet-first n s o w h =
+octet-first n s o w small =
     let after : ℕ = crc_steps 8 (bit_xor s o) in
     let whole : 8 * suc n ≡ 8 + 8 * n = omega arith in
     let apart : bit_xor s (w * 256 + o) ≡ bit_xor (bit_xor s o) (w * 256) =
-    ap (bit_xor s) (sym (xor_shifted w 8 o h) ∙ xor_comm (w * 256) o) ∙ sym (xor_assoc s o (w * 256)) in
+    ap (bit_xor s) (sym (xor_shifted w 8 o small) ∙ xor_comm (w * 256) o) ∙ sym (xor_assoc s o (w * 256)) in
     ap (λ (j : ℕ). crc_steps j (bit_xor s (w * 256 + o))) whole ∙ steps-sum 8 (8 * n) (bit_xor s (w * 256 + o))
     ∙ ap (λ (j : ℕ). crc_steps (8 * n) (crc_steps 8 j)) apart
     ∙ ap (crc_steps (8 * n)) (crc_steps-xor 8 (bit_xor s o) (w * 256) ∙ ap (bit_xor after) (turns_shift 8 w))

@@ -10,17 +10,17 @@ use Rattle.bus_fcs.specs.declared.table.TheConstants.{SLICES}
 -- each table has what the steps make of every octet
 table_is : (k : ℕ) → k ≤ 6 → take 256 (drop (256 * k) SLICES) ≡ map (crc_steps (8 * k + 8)) (range_with_len 0 256)
 unfolding crc_steps crc_step_of
-table_is zero h = refl
-table_is (suc zero) h = refl
-table_is (suc (suc zero)) h = refl
-table_is (suc (suc (suc zero))) h = refl
-table_is (suc (suc (suc (suc zero)))) h = refl
-table_is (suc (suc (suc (suc (suc zero))))) h = refl
-table_is (suc (suc (suc (suc (suc (suc zero)))))) h = refl
-table_is (suc (suc (suc (suc (suc (suc (suc k))))))) h = absurd (omega arith)
+table_is zero small = refl
+table_is (suc zero) small = refl
+table_is (suc (suc zero)) small = refl
+table_is (suc (suc (suc zero))) small = refl
+table_is (suc (suc (suc (suc zero)))) small = refl
+table_is (suc (suc (suc (suc (suc zero))))) small = refl
+table_is (suc (suc (suc (suc (suc (suc zero)))))) small = refl
+table_is (suc (suc (suc (suc (suc (suc (suc k))))))) small = absurd (omega arith)
 
 pub table_at : (k i : ℕ) → k ≤ 6 → i < 256 → get_or SLICES (256 * k + i) 0 ≡ crc_steps (8 * k + 8) i
-table_at k i h l =
-    sym (get_or-take 256 (drop (256 * k) SLICES) i 0 l ∙ get_or-drop (256 * k) SLICES i 0)
-    ∙ ap (λ (t : List ℕ). get_or t i 0) (table_is k h)
-    ∙ get_or-map-range_with_len (crc_steps (8 * k + 8)) 0 256 i i 0 l (omega arith)
+table_at k i small octet =
+    sym (get_or-take 256 (drop (256 * k) SLICES) i 0 octet ∙ get_or-drop (256 * k) SLICES i 0)
+    ∙ ap (λ (t : List ℕ). get_or t i 0) (table_is k small)
+    ∙ get_or-map-range_with_len (crc_steps (8 * k + 8)) 0 256 i i 0 octet (omega arith)
