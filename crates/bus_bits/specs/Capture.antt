@@ -1,7 +1,8 @@
 -- The bits of a capture: those before the first fault, and the fault.
-use Rattle.std.specs.Prelude.{◌≡◌, ◌≤◌, ◌<◌, ◌⊎◌, ℕ, ◌+◌, ◌-◌, ◌/◌, ◌%◌, ◌^◌, ◌==◌, ◌||◌, Bool, false, List, ◌++◌}
+use Rattle.std.specs.Prelude.{◌≡◌, ◌≤◌, ◌<◌, ◌⊎◌, ℕ, ◌+◌, ◌-◌, ◌/◌, ◌%◌, ◌==◌, ◌||◌, Bool, false, List, ◌++◌}
 use Rattle.std.specs.Prelude.{length, slice_index, map, filter, take, take_while, nat_lt, if◌then◌else◌, Option, Some}
 use Rattle.std.specs.Prelude.{None}
+use Rattle.bus_bits.specs.Limits.{most_places}
 
 -- why a capture can't be read on
 pub data CaptureFault : Type 0 where
@@ -105,8 +106,8 @@ text_pair_capture xs = record { bits = text_pairs xs; fault = text_pairs_fault x
 -- no bit has the place 2^60, where the first has the place of the origin
 abbrev pub capped : {A : Type 0} → ℕ → CaptureOf A → CaptureOf A
 capped origin c =
-    if nat_lt (2 ^ 60 - origin) (length c.bits)
-    then record { bits = take (2 ^ 60 - origin) c.bits; fault = Some place_limit } else c
+    if nat_lt (most_places - origin) (length c.bits)
+    then record { bits = take (most_places - origin) c.bits; fault = Some place_limit } else c
 
 -- however a text is cut, its bits are the same
 abbrev pub TextGrows : Type 0

@@ -1,8 +1,9 @@
 -- Packed captures: a head of sixteen octets, and the bits by eights, the least significant of an octet first.
-use Rattle.std.specs.Prelude.{◌≡◌, ℕ, ◌+◌, ◌-◌, ◌*◌, ◌/◌, ◌%◌, ◌^◌, ◌<◌, ◌==◌, Bool, List, [], ◌∷◌, ◌++◌, length, map}
+use Rattle.std.specs.Prelude.{◌≡◌, ℕ, ◌+◌, ◌-◌, ◌*◌, ◌/◌, ◌%◌, ◌<◌, ◌==◌, Bool, List, [], ◌∷◌, ◌++◌, length, map}
 use Rattle.std.specs.Prelude.{take, drop, codes, slice_range, nat_lt, if◌then◌else◌, Option, Some, None}
 use Rattle.std.specs.Int.{w64, from_le_bytes, next_multiple_of}
 use Rattle.std.specs.List.{list_any, starts_with}
+use Rattle.bus_bits.specs.Limits.{most_places}
 use Rattle.bus_bits.specs.Octet.{bits_of, bits_of_octets}
 use Rattle.bus_bits.specs.Capture.{CaptureOf, Capture, PairCapture, CaptureFault, magic, too_many, pad_bits, trailing}
 use Rattle.bus_bits.specs.Capture.{short_head, short_body, GrowsTo, mark_pair}
@@ -28,7 +29,7 @@ head_bits xs = from_le_bytes w64 (slice_range xs 8 16)
 -- the fault of a head that is to begin with these letters
 abbrev pub head_fault_by : List ℕ → List ℕ → Option CaptureFault
 head_fault_by letters xs =
-    if starts_with (λ x y. x == y) xs letters then (if nat_lt (2 ^ 60) (head_bits xs) then Some too_many else None)
+    if starts_with (λ x y. x == y) xs letters then (if nat_lt (most_places) (head_bits xs) then Some too_many else None)
     else Some magic
 
 -- of one line

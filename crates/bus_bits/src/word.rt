@@ -3,6 +3,7 @@
 ghost use Rattle.std.specs.Prelude.{◌≡◌, ◌+◌, ◌*◌, ◌/◌, ◌%◌, ◌≤◌, ◌<◌, ◌^◌, ℕ, length, slice_index};
 ghost use Rattle.bus_bits.specs.Octet.{bits_of};
 ghost use Rattle.bus_bits.specs.Bits.{bits_from};
+ghost use Rattle.bus_bits.specs.Word.{IsWordOf};
 
 use std::cmp::min;
 
@@ -18,10 +19,8 @@ pub struct Word {
 pub fn word_at(octets: &[u8], at: usize, end: usize) -> Word
     requires some { at < end }
     requires within { end ≤ 8 * length octets.now }
-    ensures some { 1 ≤ result.count }
-    ensures few { result.count ≤ 48 }
+    ensures word { IsWordOf result.count result.bits }
     ensures within { at + result.count ≤ end }
-    ensures small { result.bits < 2 ^ result.count }
     ensures bits { (m : ℕ) → m ≤ result.count → bits_of m result.bits ≡ bits_from octets.now at m }
 {
     let count = min(end - at, 48);

@@ -32,17 +32,17 @@ fn take_some<C: Check, W: Write>(
     run: &mut CaptureRun<Analyser<C>>,
     w: &mut W,
 ) -> Result<usize, ToolFault>
-    requires sound { IsSound (one_tap C.folded C.COST) run.old }
+    requires sound { IsSound (one_tap C.check) run.old }
     requires some { at < end }
     requires within { end ≤ 8 * length octets.now }
     ensures within { IfOk result (λ n. (1 ≤ n) × (at + n ≤ end)) }
     ensures taken { (start : Option (List ℕ)) (b : List Bool) →
-        Watches (one_tap C.folded C.COST) start (W.contents w.old) run.old b → MatchResult result
-        (λ n. Watches (one_tap C.folded C.COST) start (W.contents w.new) run.new (b ++ bits_from octets.now at n))
-        (λ fault. Halts (one_tap C.folded C.COST) start (W.contents w.new) run.new
+        Watches (one_tap C.check) start (W.contents w.old) run.old b → MatchResult result
+        (λ n. Watches (one_tap C.check) start (W.contents w.new) run.new (b ++ bits_from octets.now at n))
+        (λ fault. Halts (one_tap C.check) start (W.contents w.new) run.new
         (b ++ bits_from octets.now at (end - at)) fault) }
-    ensures same { IsSame (one_tap C.folded C.COST) run.old run.new }
-    ensures sound { IsSound (one_tap C.folded C.COST) run.new }
+    ensures same { IsSame (one_tap C.check) run.old run.new }
+    ensures sound { IsSound (one_tap C.check) run.new }
 {
     Analyser::<C>::laws();
     let taken = match run.analyser.scan(octets, at, end) {
@@ -63,15 +63,15 @@ fn take_bits<C: Check, W: Write>(
     run: &mut CaptureRun<Analyser<C>>,
     w: &mut W,
 ) -> Result<(), ToolFault>
-    requires sound { IsSound (one_tap C.folded C.COST) run.old }
+    requires sound { IsSound (one_tap C.check) run.old }
     requires within { end ≤ 8 * length octets.now }
     ensures taken { (start : Option (List ℕ)) (b : List Bool) →
-        Watches (one_tap C.folded C.COST) start (W.contents w.old) run.old b → MatchResult result
-        (λ _. Watches (one_tap C.folded C.COST) start (W.contents w.new) run.new (b ++ bits_from octets.now 0 end))
-        (λ fault. Halts (one_tap C.folded C.COST) start (W.contents w.new) run.new
+        Watches (one_tap C.check) start (W.contents w.old) run.old b → MatchResult result
+        (λ _. Watches (one_tap C.check) start (W.contents w.new) run.new (b ++ bits_from octets.now 0 end))
+        (λ fault. Halts (one_tap C.check) start (W.contents w.new) run.new
         (b ++ bits_from octets.now 0 end) fault) }
-    ensures same { IsSame (one_tap C.folded C.COST) run.old run.new }
-    ensures sound { IsSound (one_tap C.folded C.COST) run.new }
+    ensures same { IsSame (one_tap C.check) run.old run.new }
+    ensures sound { IsSound (one_tap C.check) run.new }
 {
     let mut at = 0;
     while at < end {
@@ -88,15 +88,15 @@ fn take_eight<C: Check, W: Write>(
     run: &mut CaptureRun<Analyser<C>>,
     w: &mut W,
 ) -> Result<usize, ToolFault>
-    requires { IsSound (one_tap C.folded C.COST) run.old }
+    requires { IsSound (one_tap C.check) run.old }
     ensures enough { IfOk result (λ n. n ≤ length text.now) }
     ensures taken { (start : Option (List ℕ)) (xs : List ℕ) →
-        FollowsOctets (one_tap C.folded C.COST) start (W.contents w.old) run.old xs → MatchResult result
-        (λ n. FollowsOctets (one_tap C.folded C.COST) start (W.contents w.new) run.new (xs ++ take n text.now))
+        FollowsOctets (one_tap C.check) start (W.contents w.old) run.old xs → MatchResult result
+        (λ n. FollowsOctets (one_tap C.check) start (W.contents w.new) run.new (xs ++ take n text.now))
         (λ fault. (n : ℕ) × (n ≤ length text.now)
-        × Stops (one_tap C.folded C.COST) true start (W.contents w.new) run.new (xs ++ take n text.now) fault) }
-    ensures same { IsSame (one_tap C.folded C.COST) run.old run.new }
-    ensures sound { IsSound (one_tap C.folded C.COST) run.new }
+        × Stops (one_tap C.check) true start (W.contents w.new) run.new (xs ++ take n text.now) fault) }
+    ensures same { IsSame (one_tap C.check) run.old run.new }
+    ensures sound { IsSound (one_tap C.check) run.new }
 {
     Analyser::<C>::laws();
     let Some(eight) = TextBits::eight(text) else {
@@ -113,17 +113,17 @@ fn take_block<C: Check, W: Write, const N: usize>(
     run: &mut CaptureRun<Analyser<C>>,
     w: &mut W,
 ) -> Result<usize, ToolFault>
-    requires sound { IsSound (one_tap C.folded C.COST) run.old }
+    requires sound { IsSound (one_tap C.check) run.old }
     requires some { 1 ≤ N }
     requires few { 8 * N < 2 ^ 64 }
     ensures enough { IfOk result (λ n. n ≤ length text.now) }
     ensures taken { (start : Option (List ℕ)) (xs : List ℕ) →
-        FollowsOctets (one_tap C.folded C.COST) start (W.contents w.old) run.old xs → MatchResult result
-        (λ n. FollowsOctets (one_tap C.folded C.COST) start (W.contents w.new) run.new (xs ++ take n text.now))
+        FollowsOctets (one_tap C.check) start (W.contents w.old) run.old xs → MatchResult result
+        (λ n. FollowsOctets (one_tap C.check) start (W.contents w.new) run.new (xs ++ take n text.now))
         (λ fault. (n : ℕ) × (n ≤ length text.now)
-        × Stops (one_tap C.folded C.COST) true start (W.contents w.new) run.new (xs ++ take n text.now) fault) }
-    ensures same { IsSame (one_tap C.folded C.COST) run.old run.new }
-    ensures sound { IsSound (one_tap C.folded C.COST) run.new }
+        × Stops (one_tap C.check) true start (W.contents w.new) run.new (xs ++ take n text.now) fault) }
+    ensures same { IsSame (one_tap C.check) run.old run.new }
+    ensures sound { IsSound (one_tap C.check) run.new }
 {
     Analyser::<C>::laws();
     let mut block = [0; N];
@@ -141,7 +141,7 @@ impl<C: Check> Tap for Analyser<C> {
 
     type Few = ArrayVec<bool, 8>;
 
-    ghost tap = { one_tap C.folded C.COST };
+    ghost tap = { one_tap C.check };
 
     fn new(
         alloc: Global,

@@ -1,6 +1,7 @@
 //! Follows the bits of one capture.
 
 ghost use Rattle.std.specs.Io.KnownBytes.{Appends};
+ghost use Rattle.bus_bits.specs.Limits.{most_places};
 ghost use Rattle.bus_capture.specs.Internal.Watching.{printed};
 ghost use Rattle.std.specs.Prelude.{◌≡◌, ◌+◌, ◌≤◌, ◌<◌, ◌^◌, ◌⊎◌, ℕ, List, [], ◌∷◌, ◌++◌, Option, MatchResult, IfOk};
 ghost use Rattle.std.specs.Prelude.{length};
@@ -41,7 +42,7 @@ impl<T: Tap> CaptureRun<T> {
         requires some { 1 ≤ count }
         requires few { count ≤ 48 }
         requires small { T.tap.fits count word }
-        requires room { (count ≡ 1) ⊎ (T.tap.watch.place self.old.analyser + count ≤ 2 ^ 60) }
+        requires room { (count ≡ 1) ⊎ (T.tap.watch.place self.old.analyser + count ≤ most_places) }
         ensures within { IfOk result (λ n. (1 ≤ n) × (n ≤ count)) }
         ensures taken { (start : Option (List ℕ)) (b : List T.Symbol) →
             Watches T.tap start (W.contents w.old) self.old b → MatchResult result

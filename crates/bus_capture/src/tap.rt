@@ -4,6 +4,7 @@ ghost use Rattle.std.specs.Prelude.{◌≡◌, ◌+◌, ◌<◌, ◌≤◌, ◌^
 ghost use Rattle.std.specs.Prelude.{Option, Some, None, Err, MatchResult, IsErr, IfOk, OnOk, OnErr, IsTrue, slice_get};
 ghost use Rattle.std.specs.Option.{ForSome, option_to_list};
 ghost use Rattle.bus_bits.specs.Capture.{bad_mark};
+ghost use Rattle.bus_bits.specs.Limits.{most_places};
 ghost use Rattle.bus_bits.specs.Packed.{head_fault_of, packed_fault_of};
 ghost use Rattle.bus_watch.specs.History.{KeptFrame, history, tally};
 ghost use Rattle.bus_watch.specs.Seen.{SeenReport};
@@ -54,7 +55,7 @@ pub trait Tap: Drop {
         origin: u64,
     ) -> Result<Self, NewFault>
         ensures depth { (result ≡ Err NewFault.DepthRange) ↔ ((depth < 1) ⊎ (1024 < depth)) }
-        ensures origin { (result ≡ Err NewFault.Origin) ↔ ((1 ≤ depth) × (depth ≤ 1024) × (2 ^ 60 < origin)) }
+        ensures origin { (result ≡ Err NewFault.Origin) ↔ ((1 ≤ depth) × (depth ≤ 1024) × (most_places < origin)) }
         ensures made { IfOk result (λ a. IsMade tap.watch dictionary depth origin a) };
 
     /// Takes up to `count` symbols: all of them, or those up to the first that may decide a report.
@@ -63,7 +64,7 @@ pub trait Tap: Drop {
         requires some { 1 ≤ count }
         requires few { count ≤ 48 }
         requires small { tap.fits count word }
-        ensures limit { IsErr result ↔ (2 ^ 60 < tap.watch.place self.old + count) }
+        ensures limit { IsErr result ↔ (most_places < tap.watch.place self.old + count) }
         ensures within { IfOk result (λ n. (1 ≤ n) × (n ≤ count)) }
         ensures sees { IfOk result (λ n. Leads tap.watch self.old (tap.symbols n word) (tap.heard self.new) self.new) }
         ensures unchanged { OnErr result (self.new ≡ self.old) };

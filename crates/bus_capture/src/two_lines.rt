@@ -42,17 +42,17 @@ fn take_pairs<C: Check, W: Write>(
     run: &mut CaptureRun<PairAnalyser<C>>,
     w: &mut W,
 ) -> Result<(), ToolFault>
-    requires sound { IsSound (pair_tap C.folded C.COST) run.old }
+    requires sound { IsSound (pair_tap C.check) run.old }
     requires enough { (count ≤ 8 * length first.now) × (count ≤ 8 * length second.now) }
     requires few { count ≤ 2048 }
     ensures taken { (start : Option (List ℕ)) (b : List (Bool × Bool)) →
-        Watches (pair_tap C.folded C.COST) start (W.contents w.old) run.old b → MatchResult result
-        (λ _. Watches (pair_tap C.folded C.COST) start (W.contents w.new) run.new
+        Watches (pair_tap C.check) start (W.contents w.old) run.old b → MatchResult result
+        (λ _. Watches (pair_tap C.check) start (W.contents w.new) run.new
         (b ++ zip (bits_from first.now 0 count) (bits_from second.now 0 count)))
-        (λ fault. Halts (pair_tap C.folded C.COST) start (W.contents w.new) run.new
+        (λ fault. Halts (pair_tap C.check) start (W.contents w.new) run.new
         (b ++ zip (bits_from first.now 0 count) (bits_from second.now 0 count)) fault) }
-    ensures same { IsSame (pair_tap C.folded C.COST) run.old run.new }
-    ensures sound { IsSound (pair_tap C.folded C.COST) run.new }
+    ensures same { IsSame (pair_tap C.check) run.old run.new }
+    ensures sound { IsSound (pair_tap C.check) run.new }
 {
     PairAnalyser::<C>::laws();
     run.teller.cut = None;
@@ -100,7 +100,7 @@ impl<C: Check> Tap for PairAnalyser<C> {
 
     type Few = ArrayVec<(bool, bool), 4>;
 
-    ghost tap = { pair_tap C.folded C.COST };
+    ghost tap = { pair_tap C.check };
 
     fn new(
         alloc: Global,

@@ -24,8 +24,7 @@ abbrev pub bad : ℕ → Asked
 bad before = record { calls = []; fault = Some (BadLine (text_line before)) }
 
 then_nothing_at : (f : Option ToolFault) (cs : List Call) → unless_fault f cs nothing ≡ record { calls = cs; fault = f }
-then_nothing_at None cs = ap (λ (l : List Call). let a : Asked = record { calls = l; fault = None } in a)
-    (append-nil cs)
+then_nothing_at None cs = rw append-nil refl
 then_nothing_at (Some e) cs = refl
 
 pub then-nothing : (a : Asked) → and_then a nothing ≡ a
@@ -34,8 +33,7 @@ then-nothing a = then_nothing_at a.fault a.calls
 inner_assoc : (g : Option ToolFault) (cs bs : List Call) (c : Asked)
     → unless_fault g (cs ++ bs) c
     ≡ record { calls = cs ++ (unless_fault g bs c).calls; fault = (unless_fault g bs c).fault }
-inner_assoc None cs bs c = ap (λ (l : List Call). let a : Asked = record { calls = l; fault = c.fault } in a)
-    (append_assoc cs bs c.calls)
+inner_assoc None cs bs c = rw append_assoc refl
 inner_assoc (Some e) cs bs c = refl
 
 outer_assoc : (f : Option ToolFault) (cs : List Call) (b c : Asked) →
@@ -47,22 +45,22 @@ pub then-assoc : (a b c : Asked) → and_then (and_then a b) c ≡ and_then a (a
 then-assoc a b c = outer_assoc a.fault a.calls b c
 
 first_clean_at : (f : Option ToolFault) (cs : List Call) (b : Asked) → (unless_fault f cs b).fault ≡ None → f ≡ None
-first_clean_at None cs b h = refl
-first_clean_at (Some e) cs b h = h
+first_clean_at None cs b clean = refl
+first_clean_at (Some e) cs b clean = clean
 
 -- no fault in both is none in the first
 pub first_clean : (a b : Asked) → (and_then a b).fault ≡ None → a.fault ≡ None
-first_clean a b h = first_clean_at a.fault a.calls b h
+first_clean a b clean = first_clean_at a.fault a.calls b clean
 
 -- after no fault
 pub then-clean : (a b : Asked) → a.fault ≡ None → and_then a b ≡ record { calls = a.calls ++ b.calls; fault = b.fault }
-then-clean a b h = ap (λ f. unless_fault f a.calls b) h
+then-clean a b clean = rw clean refl
 
 -- after a fault
 pub then-fault : (a b : Asked) (e : ToolFault) → a.fault ≡ Some e → and_then a b ≡ a
-then-fault a b e h =
-    ap (λ f. unless_fault f a.calls b) h
-    ∙ ap (λ (f : Option ToolFault). let x : Asked = record { calls = a.calls; fault = f } in x) (sym h)
+then-fault a b e stopped =
+    ap (λ f. unless_fault f a.calls b) stopped
+    ∙ ap (λ (f : Option ToolFault). let x : Asked = record { calls = a.calls; fault = f } in x) (sym stopped)
 
 -- ---- lines
 
@@ -71,9 +69,9 @@ pub asked-append : (n : ℕ) (ls ms : List (List ℕ)) → asked_behind n (ls ++
 unfolding asked_behind
 asked-append n [] ms = ap (λ k. asked_behind k ms) (sym (add-zero n))
 asked-append n (l ∷ ls) ms =
-    let k : n + 1 + length ls ≡ n + length (l ∷ ls) = omega arith in
+    let count : n + 1 + length ls ≡ n + length (l ∷ ls) = omega arith in
     ap (and_then (line_asked n l)) (asked-append (n + 1) ls ms)
-    ∙ (ap (λ j. and_then (line_asked n l) (and_then (asked_behind (n + 1) ls) (asked_behind j ms))) k
+    ∙ (ap (λ j. and_then (line_asked n l) (and_then (asked_behind (n + 1) ls) (asked_behind j ms))) count
     ∙ sym (then-assoc (line_asked n l) (asked_behind (n + 1) ls) (asked_behind (n + length (l ∷ ls)) ms)))
 
 pub asked-one : (n : ℕ) (l : List ℕ) → asked_behind n (l ∷ []) ≡ line_asked n l
@@ -105,40 +103,34 @@ strip_least l = elim (ends_with_byte 13 l) as (λ b. length l ≤ length (if b t
 ]
 
 pub long_is : (l : List ℕ) → 600 < length (strip_last 13 l) → is_long l ≡ true
-long_is l h = let n : ℕ = length (strip_last 13 l) in test n h
+long_is l long = test (length (strip_last 13 l)) long
   where
     test : (n : ℕ) → 600 < n → nat_lt 600 n ≡ true
-    test n h = grind (arith, nat_tests)
+    test n above = grind (arith, nat_tests)
 
 pub short_is : (l : List ℕ) → length (strip_last 13 l) ≤ 600 → is_long l ≡ false
-short_is l h = test (length (strip_last 13 l)) h
+short_is l short = test (length (strip_last 13 l)) short
   where
     test : (n : ℕ) → n ≤ 600 → nat_lt 600 n ≡ false
-    test n h = grind (arith, nat_tests)
+    test n within = grind (arith, nat_tests)
 
 is_above : (n : ℕ) → nat_lt 600 n ≡ true → 600 < n
-is_above n h = grind (arith, nat_tests)
+is_above n above = grind (arith, nat_tests)
 
 long-more : (l : List ℕ) (x : ℕ) → is_long l ≡ true → is_long (l ++ x ∷ []) ≡ true
-long-more l x h =
-    let here = is_above (length (strip_last 13 l)) h in
+long-more l x long =
+    let here = is_above (length (strip_last 13 l)) long in
     long_is (l ++ x ∷ []) (omega (arith, here, strip_most l, strip_least (l ++ x ∷ []), length-append l (x ∷ [])))
 
 long-asked : (n : ℕ) (l : List ℕ) → is_long l ≡ true → line_asked n l ≡ bad n
 unfolding line_call
-long-asked n l h = rw h refl
+long-asked n l long = rw long refl
 
 open-long : (n : ℕ) (l : List ℕ) → is_long l ≡ true → open_asked n l ≡ bad n
-open-long n l h =
-    ap (λ (b : Bool). let a :
-    Asked = record { calls = []; fault = if b then Some (BadLine (text_line n)) else None } in
-    a) h
+open-long n l long = rw long refl
 
 open-short : (n : ℕ) (l : List ℕ) → is_long l ≡ false → open_asked n l ≡ nothing
-open-short n l h =
-    ap (λ (b : Bool). let a :
-    Asked = record { calls = []; fault = if b then Some (BadLine (text_line n)) else None } in
-    a) h
+open-short n l short = rw short refl
 
 -- what is asked for after a line that stands open
 abbrev after_open : ℕ → List ℕ → List ℕ → Asked
@@ -148,15 +140,15 @@ after_open n line ys = and_then (asked_behind n (ended_behind line ys))
 -- a line that is too long stays so, however it goes on
 long-stays : (n : ℕ) (line ys : List ℕ) → is_long line ≡ true → after_open n line ys ≡ bad n
 unfolding asked_behind ended_behind open_behind
-long-stays n line [] h = open-long (n + 0) line h ∙ ap bad (add-zero n)
-long-stays n line (x ∷ ys) h =
+long-stays n line [] long = open-long (n + 0) line long ∙ ap bad (add-zero n)
+long-stays n line (x ∷ ys) long =
     elim (x == 10) as
     (λ b. and_then (asked_behind n (if b then line ∷ ended_behind [] ys else ended_behind (line ++ x ∷ []) ys))
     (open_asked (n + length (if b then line ∷ ended_behind [] ys else ended_behind (line ++ x ∷ []) ys))
     (if b then open_behind [] ys else open_behind (line ++ x ∷ []) ys)) ≡ bad n) [
       | true ↦ ap (λ (a : Asked). and_then (and_then a (asked_behind (n + 1) (ended_behind [] ys)))
-          (open_asked (n + length (line ∷ ended_behind [] ys)) (open_behind [] ys))) (long-asked n line h)
-      | false ↦ long-stays n (line ++ x ∷ []) ys (long-more line x h)
+          (open_asked (n + length (line ∷ ended_behind [] ys)) (open_behind [] ys))) (long-asked n line long)
+      | false ↦ long-stays n (line ++ x ∷ []) ys (long-more line x long)
     ]
 
 -- ---- more octets
@@ -168,28 +160,29 @@ so_far-is xs = refl
 
 -- a line that is not too long asks for nothing while it stands open
 pub so_far-short : (xs : List ℕ) → is_long (open_line xs) ≡ false → asked_so_far xs ≡ asked_behind 0 (ended_lines xs)
-so_far-short xs h =
-    let a = asked_behind 0 (ended_lines xs) in
-    so_far-is xs ∙ (ap (and_then a) (open-short (length (ended_lines xs)) (open_line xs) h) ∙ then-nothing a)
+so_far-short xs short =
+    let ended = asked_behind 0 (ended_lines xs) in
+    so_far-is xs
+    ∙ (ap (and_then ended) (open-short (length (ended_lines xs)) (open_line xs) short) ∙ then-nothing ended)
 
 pub so_far-long : (xs : List ℕ) → is_long (open_line xs) ≡ true →
     asked_so_far xs ≡ and_then (asked_behind 0 (ended_lines xs)) (bad (length (ended_lines xs)))
-so_far-long xs h = so_far-is xs ∙ ap (and_then (asked_behind 0 (ended_lines xs)))
-    (open-long (length (ended_lines xs)) (open_line xs) h)
+so_far-long xs long = so_far-is xs ∙ ap (and_then (asked_behind 0 (ended_lines xs)))
+    (open-long (length (ended_lines xs)) (open_line xs) long)
 
 -- no fault so far is none in the lines that ended
 pub ended_clean : (xs : List ℕ) → (asked_so_far xs).fault ≡ None → (asked_behind 0 (ended_lines xs)).fault ≡ None
-ended_clean xs h =
+ended_clean xs clean =
     first_clean (asked_behind 0 (ended_lines xs)) (open_asked (length (ended_lines xs)) (open_line xs))
-    (ap (λ (a : Asked). a.fault) (sym (so_far-is xs)) ∙ h)
+    (rw so_far-is at clean)
 
 -- and then the calls are theirs
 pub ended_calls : (xs : List ℕ) → (asked_so_far xs).fault ≡ None →
     (asked_so_far xs).calls ≡ (asked_behind 0 (ended_lines xs)).calls
-ended_calls xs h =
-    let a = asked_behind 0 (ended_lines xs) in
-    let o = open_asked (length (ended_lines xs)) (open_line xs) in
-    ap (λ (x : Asked). x.calls) (so_far-is xs ∙ then-clean a o (ended_clean xs h)) ∙ append-nil a.calls
+ended_calls xs clean =
+    let ended = asked_behind 0 (ended_lines xs) in
+    let last = open_asked (length (ended_lines xs)) (open_line xs) in
+    ap (λ (a : Asked). a.calls) (so_far-is xs ∙ then-clean ended last (ended_clean xs clean)) ∙ append-nil ended.calls
 
 -- LF after an open line
 pub lf-asked : (xs : List ℕ) → asked_so_far (xs ++ 10 ∷ [])
@@ -202,40 +195,33 @@ lf-asked xs =
 so_far-both : (xs ys : List ℕ) → asked_so_far (xs ++ ys)
     ≡ and_then (asked_behind 0 (ended_lines xs)) (after_open (length (ended_lines xs)) (open_line xs) ys)
 so_far-both xs ys =
-    let e = ended_lines xs in
-    let f = ended_behind (open_line xs) ys in
-    let o = open_behind (open_line xs) ys in
-    so_far-is (xs ++ ys)
-    ∙ (ap (λ (l : List (List ℕ)). and_then (asked_behind 0 l) (open_asked (length l) (open_line (xs ++ ys))))
-    (ended-append xs ys)
-    ∙ (ap (λ (l : List ℕ). and_then (asked_behind 0 (e ++ f)) (open_asked (length (e ++ f)) l)) (open-append xs ys)
-    ∙ (ap (λ (k : ℕ). and_then (asked_behind 0 (e ++ f)) (open_asked k o)) (length-append e f)
-    ∙ (ap (λ (a : Asked). and_then a (open_asked (length e + length f) o))
-    (asked-append 0 e f ∙ ap (λ (k : ℕ). and_then (asked_behind 0 e) (asked_behind k f)) (zero-add (length e)))
-    ∙ then-assoc (asked_behind 0 e) (asked_behind (length e) f) (open_asked (length e + length f) o)))))
+    let ended = ended_lines xs in
+    let more = ended_behind (open_line xs) ys in
+    let last = open_behind (open_line xs) ys in
+    rw (so_far-is (xs ++ ys), ended-append xs ys, open-append xs ys, length-append ended more)
+    (rw (asked-append 0 ended more, zero-add (length ended)) (then-assoc (asked_behind 0 ended)
+    (asked_behind (length ended) more) (open_asked (length ended + length more) last)))
+
+-- What the lines that ended and `more` ask for is more than what was asked for so far, and nothing new where the open
+-- line is too long.
+grows : (xs : List ℕ) (whole more : Asked) → whole ≡ and_then (asked_behind 0 (ended_lines xs)) more
+    → (is_long (open_line xs) ≡ true → more ≡ bad (length (ended_lines xs)))
+    → (c : Asked) × (whole ≡ and_then (asked_so_far xs) c)
+grows xs whole more is stops = cases (is_long (open_line xs)) refl
+  where
+    cases : (b : Bool) → is_long (open_line xs) ≡ b → (c : Asked) × (whole ≡ and_then (asked_so_far xs) c)
+    cases true long =
+        let same : whole ≡ asked_so_far xs =
+        is ∙ (ap (and_then (asked_behind 0 (ended_lines xs))) (stops long) ∙ sym (so_far-long xs long)) in
+        (nothing, same ∙ sym (then-nothing (asked_so_far xs)))
+    cases false short = (more, is ∙ ap (λ (a : Asked). and_then a more) (sym (so_far-short xs short)))
 
 -- more octets ask for more, and for nothing new after a fault
 pub so_far-grows : (xs ys : List ℕ) → (c : Asked) × (asked_so_far (xs ++ ys) ≡ and_then (asked_so_far xs) c)
-so_far-grows xs ys = cases (is_long (open_line xs)) refl
-  where
-    cases : (b : Bool) → is_long (open_line xs) ≡ b → (c : Asked)
-        × (asked_so_far (xs ++ ys) ≡ and_then (asked_so_far xs) c)
-    cases true h =
-        let n = length (ended_lines xs) in
-        let a = asked_behind 0 (ended_lines xs) in
-        let same : asked_so_far (xs ++ ys) ≡ asked_so_far xs =
-        so_far-both xs ys ∙ (ap (and_then a) (long-stays n (open_line xs) ys h ∙ sym (open-long n (open_line xs) h))
-        ∙ sym (so_far-is xs)) in
-        (nothing, same ∙ sym (then-nothing (asked_so_far xs)))
-    cases false h =
-        let n = length (ended_lines xs) in
-        let a = asked_behind 0 (ended_lines xs) in
-        let first : asked_so_far xs ≡ a = so_far-is xs
-        ∙ (ap (and_then a) (open-short n (open_line xs) h) ∙ then-nothing a) in (
-          after_open n (open_line xs) ys,
-          so_far-both xs ys
-              ∙ ap (λ (z : Asked). and_then z (after_open n (open_line xs) ys)) (sym first),
-        )
+so_far-grows xs ys =
+    let n = length (ended_lines xs) in
+    grows xs (asked_so_far (xs ++ ys)) (after_open n (open_line xs) ys) (so_far-both xs ys)
+    (long-stays n (open_line xs) ys)
 
 last-asked : (n : ℕ) (l : List ℕ) → asked_behind n (last_line l) ≡ line_asked n l
 unfolding asked_behind line_call
@@ -247,32 +233,16 @@ pub in_all-is : (xs : List ℕ) → asked_in_all xs
     ≡ and_then (asked_behind 0 (ended_lines xs)) (line_asked (length (ended_lines xs)) (open_line xs))
 unfolding asked_in_all
 in_all-is xs =
-    let e = ended_lines xs in
-    asked-append 0 e (last_line (open_line xs))
-    ∙ ap (and_then (asked_behind 0 e)) (last-asked (0 + length e) (open_line xs)
-    ∙ ap (λ (k : ℕ). line_asked k (open_line xs)) (zero-add (length e)))
+    let ended = ended_lines xs in
+    asked-append 0 ended (last_line (open_line xs))
+    ∙ ap (and_then (asked_behind 0 ended)) (last-asked (0 + length ended) (open_line xs)
+    ∙ ap (λ (k : ℕ). line_asked k (open_line xs)) (zero-add (length ended)))
 
 -- and asks for more
 pub in_all-grows : (xs : List ℕ) → (c : Asked) × (asked_in_all xs ≡ and_then (asked_so_far xs) c)
-in_all-grows xs = cases (is_long (open_line xs)) refl
-  where
-    cases : (b : Bool) → is_long (open_line xs) ≡ b → (c : Asked) × (asked_in_all xs ≡ and_then (asked_so_far xs) c)
-    cases true h =
-        let n = length (ended_lines xs) in
-        let a = asked_behind 0 (ended_lines xs) in
-        let same : asked_in_all xs ≡ asked_so_far xs =
-        in_all-is xs ∙ (ap (and_then a) (long-asked n (open_line xs) h ∙ sym (open-long n (open_line xs) h))
-        ∙ sym (so_far-is xs)) in
-        (nothing, same ∙ sym (then-nothing (asked_so_far xs)))
-    cases false h =
-        let n = length (ended_lines xs) in
-        let a = asked_behind 0 (ended_lines xs) in
-        let first : asked_so_far xs ≡ a = so_far-is xs
-        ∙ (ap (and_then a) (open-short n (open_line xs) h) ∙ then-nothing a) in (
-          line_asked n (open_line xs),
-          in_all-is xs
-              ∙ ap (λ (z : Asked). and_then z (line_asked n (open_line xs))) (sym first),
-        )
+in_all-grows xs =
+    let n = length (ended_lines xs) in
+    grows xs (asked_in_all xs) (line_asked n (open_line xs)) (in_all-is xs) (long-asked n (open_line xs))
 
 -- octets that follow, and then the end
 pub all-grows : (xs ys : List ℕ) → (c : Asked) × (asked_in_all (xs ++ ys) ≡ and_then (asked_so_far xs) c)
@@ -291,11 +261,11 @@ pub text-append : (before cs ds : List Call) → text_behind before (cs ++ ds)
 unfolding text_behind
 text-append before [] ds = ap (λ (b : List Call). text_behind b ds) (sym (append-nil before))
 text-append before (c ∷ cs) ds =
-    let g = bits_text (gain before c) in
-    ap (λ (l : List ℕ). g ++ l) (text-append (before ++ c ∷ []) cs ds)
-    ∙ (ap (λ (b : List Call). g ++ (text_behind (before ++ c ∷ []) cs ++ text_behind b ds))
+    let gained = bits_text (gain before c) in
+    ap (λ (l : List ℕ). gained ++ l) (text-append (before ++ c ∷ []) cs ds)
+    ∙ (ap (λ (b : List Call). gained ++ (text_behind (before ++ c ∷ []) cs ++ text_behind b ds))
     (append_assoc before (c ∷ []) cs)
-    ∙ sym (append_assoc g (text_behind (before ++ c ∷ []) cs) (text_behind (before ++ c ∷ cs) ds)))
+    ∙ sym (append_assoc gained (text_behind (before ++ c ∷ []) cs) (text_behind (before ++ c ∷ cs) ds)))
 
 pub text-push : (cs : List Call) (c : Call) → encode_text (cs ++ c ∷ []) ≡ encode_text cs ++ bits_text (gain cs c)
 unfolding text_behind

@@ -20,18 +20,18 @@ use Rattle.bus_text.specs.declared.fault.ToolFault.{ToolFault}
 use Rattle.bus_text.specs.declared.fault.ToolFault.TheVariants.{Read, ReadsLimit, Write, BadLine, FrameLength}
 use Rattle.bus_text.proofs.KnownBytesLemmas.{appends_nothing, appends_both, appends_kept, part_out}
 use Rattle.bus_encode.proofs.LinesLemmas.{ended-by_lf, open-by_lf, ended-by_other, open-by_other}
-use Rattle.bus_encode.proofs.EncodeLemmas.{bad, is_long, long_is, short_is, then-nothing, then-clean, then-fault}
-use Rattle.bus_encode.proofs.EncodeLemmas.{then-text, so_far-short, so_far-long, ended_clean, ended_calls, lf-asked}
-use Rattle.bus_encode.proofs.EncodeLemmas.{asked-push, so_far-grows, in_all-is, all-grows, text-push}
+use Rattle.bus_encode.proofs.EncodeLemmas.{bad, is_long, long_is, short_is, nothing, then-nothing, then-clean}
+use Rattle.bus_encode.proofs.EncodeLemmas.{then-fault, then-text, so_far-short, so_far-long, ended_clean, ended_calls}
+use Rattle.bus_encode.proofs.EncodeLemmas.{lf-asked, asked-push, so_far-grows, in_all-is, all-grows, text-push}
 
 pub none_takes : (start : Option (List ℕ)) (line : List ℕ) (number : ℕ) (e : EncoderState) → line ≡ [] → number ≡ 1 →
     AfterCalls e [] → Takes start start line number e 0 []
 unfolding asked_so_far asked_behind ended_lines open_line rsplit_once text_behind
-none_takes start line number e l n a = record {
-  here = l;
-  lines = n;
+none_takes start line number e empty first after = record {
+  here = empty;
+  lines = first;
   clean = refl;
-  done = record { after = a; out = appends_nothing start; count = refl };
+  done = record { after = after; out = appends_nothing start; count = refl };
 }
 
 -- ---- one call
@@ -41,18 +41,18 @@ pub put_encoded : (start before now : Option (List ℕ)) (e f : EncoderState) (w
     → AfterCalls f (calls ++ call ∷ []) → bytes ≡ bits_text (gain calls call) → text ≡ bytes → size ≡ length bytes →
     Appends before now text
     → HasEncoded start now f (written + size) (calls ++ call ∷ [])
-put_encoded start before now e f written size calls call bytes text d after is same n out =
+put_encoded start before now e f written size calls call bytes text encoded after is same count out =
     let more = text-push calls call in
-    let here = subst (λ (l : List ℕ). Appends before now l) (same ∙ is) out in
+    let here = rw (same, is) at out in
     record {
       after = after;
-      out = subst (λ (l : List ℕ). Appends start now l) (sym more)
-          (appends_both start before now (encode_text calls) (bits_text (gain calls call)) d.out here);
+      out = rw more
+          (appends_both start before now (encode_text calls) (bits_text (gain calls call)) encoded.out here);
       count =
           omega (
             arith,
-            d.count,
-            n,
+            encoded.count,
+            count,
             ap length is,
             ap length more,
             length-append (encode_text calls) (bits_text (gain calls call)),
@@ -64,17 +64,22 @@ pub put_halts : (start before now : Option (List ℕ)) (e : EncoderState) (writt
     → bytes ≡ bits_text (gain calls call) → text ≡ bytes → sent < length text → Appends before now (take sent text)
     → (written + sent ≤ length (encode_text (calls ++ call ∷ [])))
     × Appends start now (take (written + sent) (encode_text (calls ++ call ∷ [])))
-put_halts start before now e written sent calls call bytes text d is same few out =
+put_halts start before now e written sent calls call bytes text encoded is same few out =
     let more = text-push calls call in
-    let here = subst (λ (l : List ℕ). Appends before now (take sent l)) (same ∙ is) out in
+    let here = rw (same, is) at out in
     let short : sent ≤ length (bits_text (gain calls call)) = omega (arith, few, ap length same, ap length is) in
     let whole : (encode_text calls ++ bits_text (gain calls call)) ++ [] ≡ encode_text (calls ++ call ∷ []) =
     append-nil (encode_text calls ++ bits_text (gain calls call)) ∙ sym more in (
-      omega (arith, d.count, short, ap length more, length-append (encode_text calls) (bits_text (gain calls call))),
-      subst (λ (l : List ℕ). Appends start now (take (written + sent) l)) whole
-          (part_out start before now (encode_text calls) (bits_text (gain calls call)) [] written sent d.out d.count
-          short
-          here),
+      omega (
+        arith,
+        encoded.count,
+        short,
+        ap length more,
+        length-append (encode_text calls) (bits_text (gain calls call)),
+      ),
+      rw (← whole)
+          (part_out start before now (encode_text calls) (bits_text (gain calls call)) [] written sent encoded.out
+          encoded.count short here),
     )
 
 -- ---- an octet that is not LF
@@ -83,48 +88,37 @@ pub other_takes : (start now : Option (List ℕ)) (line new : List ℕ) (number 
     (xs : List ℕ) → (x == 10) ≡ false → new ≡ line ++ x ∷ []
     → length (strip_last 13 new) ≤ 600 → Takes start now line number e written xs →
     Takes start now new number e written (xs ++ x ∷ [])
-other_takes start now line new number x e written xs h is fits t =
-    let ended = ended-by_other xs x h in
+other_takes start now line new number x e written xs other is fits taken =
+    let ended = ended-by_other xs x other in
     let here : new ≡ open_line (xs ++ x ∷ []) =
-    is ∙ (ap (λ (l : List ℕ). l ++ x ∷ []) t.here ∙ sym (open-by_other xs x h)) in
+    is ∙ (ap (λ (l : List ℕ). l ++ x ∷ []) taken.here ∙ sym (open-by_other xs x other)) in
     let short : is_long (open_line (xs ++ x ∷ [])) ≡ false = ap is_long (sym here) ∙ short_is new fits in
     record {
       here = here;
-      lines = t.lines ∙ ap (λ (ls : List (List ℕ)). text_line (length ls)) (sym ended);
-      clean = ap (λ (a : Asked). a.fault) (so_far-short (xs ++ x ∷ []) short)
-          ∙ (ap (λ (ls : List (List ℕ)). (asked_behind 0 ls).fault) ended ∙ ended_clean xs t.clean);
-      done = subst (λ (ls : List (List ℕ)). HasEncoded start now e written (asked_behind 0 ls).calls) (sym ended)
-          t.done;
+      lines = rw ended taken.lines;
+      clean = rw (so_far-short (xs ++ x ∷ []) short, ended) (ended_clean xs taken.clean);
+      done = rw ended taken.done;
     }
 
 pub long_halts : (start now : Option (List ℕ)) (line : List ℕ) (number x : ℕ) (e : EncoderState) (written : ℕ)
     (xs : List ℕ) (fault : ToolFault) → (x == 10) ≡ false → fault ≡ BadLine number
     → 600 < length (strip_last 13 (line ++ x ∷ [])) → Takes start now line number e written xs →
     EncodeHalts start now written (asked_so_far (xs ++ x ∷ [])) fault
-long_halts start now line number x e written xs fault h f long t =
-    let a = asked_behind 0 (ended_lines xs) in
+long_halts start now line number x e written xs fault other is-fault long taken =
+    let ended = asked_behind 0 (ended_lines xs) in
     let here : line ++ x ∷ [] ≡ open_line (xs ++ x ∷ []) =
-    ap (λ (l : List ℕ). l ++ x ∷ []) t.here ∙ sym (open-by_other xs x h) in
+    ap (λ (l : List ℕ). l ++ x ∷ []) taken.here ∙ sym (open-by_other xs x other) in
     let is_so : is_long (open_line (xs ++ x ∷ [])) ≡ true = ap is_long (sym here) ∙ long_is (line ++ x ∷ []) long in
     let is : asked_so_far (xs ++ x ∷ [])
-    ≡ record { calls = a.calls ++ []; fault = Some (BadLine (text_line (length (ended_lines xs)))) } =
+    ≡ record { calls = ended.calls ++ []; fault = Some (BadLine (text_line (length (ended_lines xs)))) } =
     so_far-long (xs ++ x ∷ []) is_so
-    ∙ (ap (λ (ls : List (List ℕ)). and_then (asked_behind 0 ls) (bad (length ls))) (ended-by_other xs x h)
-    ∙ then-clean a (bad (length (ended_lines xs))) (ended_clean xs t.clean)) in
-    let text : a.calls ++ [] ≡ a.calls = append-nil a.calls in
-    let out = subst (λ (cs : List Call). Appends start now (encode_text cs)) (sym text) t.done.out in
-    let count : written ≡ length (encode_text (a.calls ++ [])) =
-    t.done.count ∙ ap (λ (cs : List Call). length (encode_text cs)) (sym text) in
-    let here_halts :
-    EncodeHalts start now written
-    (record { calls = a.calls ++ []; fault = Some (BadLine (text_line (length (ended_lines xs)))) })
-    (BadLine number) =
-    (ap (λ (n : ℕ). let o : Option ToolFault = Some (BadLine n) in o) (sym t.lines), out, count) in
-    subst (λ (z : ToolFault). EncodeHalts start now written (asked_so_far (xs ++ x ∷ [])) z) (sym f)
-    (subst (λ (z : Asked). EncodeHalts start now written z (BadLine number)) (sym is) here_halts)
+    ∙ (ap (λ (ls : List (List ℕ)). and_then (asked_behind 0 ls) (bad (length ls))) (ended-by_other xs x other)
+    ∙ then-clean ended (bad (length (ended_lines xs))) (ended_clean xs taken.clean)) in
+    let text : ended.calls ++ [] ≡ ended.calls = append-nil ended.calls in
+    rw (is-fault, is) (rw taken.lines refl, rw text taken.done.out, rw text taken.done.count)
 
 pub not_lf : (x : ℕ) → x ≢ 10 → (x == 10) ≡ false
-not_lf x h = grind (arith, nat_tests)
+not_lf x other = grind (arith, nat_tests)
 
 pub push_cases : (start now : Option (List ℕ)) (line new : List ℕ) (number same x : ℕ) (e : EncoderState) (written : ℕ)
     (xs : List ℕ) (r : Result (Unit {0}) ToolFault) → (x == 10) ≡ false
@@ -133,11 +127,10 @@ pub push_cases : (start now : Option (List ℕ)) (line new : List ℕ) (number s
     (λ fault. (fault ≡ BadLine number) × (600 < length (strip_last 13 (line ++ x ∷ []))))
     → MatchResult r (λ _. Takes start now new same e written (xs ++ x ∷ []))
     (λ fault. EncodeHalts start now written (asked_so_far (xs ++ x ∷ [])) fault)
-push_cases start now line new number same x e written xs (Ok u) h fits t pushed =
-    subst (λ (n : ℕ). Takes start now new n e written (xs ++ x ∷ [])) (sym pushed.1)
-    (other_takes start now line new number x e written xs h pushed.0 fits t)
-push_cases start now line new number same x e written xs (Err fault) h fits t refused =
-    long_halts start now line number x e written xs fault h refused.0 refused.1 t
+push_cases start now line new number same x e written xs (Ok u) other fits taken pushed =
+    rw pushed.1 (other_takes start now line new number x e written xs other pushed.0 fits taken)
+push_cases start now line new number same x e written xs (Err fault) other fits taken refused =
+    long_halts start now line number x e written xs fault other refused.0 refused.1 taken
 
 -- ---- LF
 
@@ -145,9 +138,9 @@ push_cases start now line new number same x e written xs (Err fault) h fits t re
 pub one_is : (start now : Option (List ℕ)) (line : List ℕ) (number : ℕ) (e : EncoderState) (written : ℕ) (xs : List ℕ) →
     Takes start now line number e written xs
     → one_asked (line_call number (strip_last 13 line)) ≡ line_asked (length (ended_lines xs)) (open_line xs)
-one_is start now line number e written xs t =
-    ap (λ (n : ℕ). one_asked (line_call n (strip_last 13 line))) t.lines
-    ∙ ap (λ (l : List ℕ). one_asked (line_call (text_line (length (ended_lines xs))) (strip_last 13 l))) t.here
+one_is start now line number e written xs taken =
+    ap (λ (n : ℕ). one_asked (line_call n (strip_last 13 line))) taken.lines
+    ∙ ap (λ (l : List ℕ). one_asked (line_call (text_line (length (ended_lines xs))) (strip_last 13 l))) taken.here
 
 abbrev pub behind : List Call → Asked → Asked
 behind calls one = record { calls = calls ++ one.calls; fault = one.fault }
@@ -156,36 +149,32 @@ lf_is : (xs : List ℕ) (one : Asked) → (asked_so_far xs).fault ≡ None →
     one ≡ line_asked (length (ended_lines xs)) (open_line xs)
     → asked_so_far (xs ++ 10 ∷ []) ≡ behind (asked_behind 0 (ended_lines xs)).calls one
 lf_is xs one clean is =
-    let a = asked_behind 0 (ended_lines xs) in
-    lf-asked xs ∙ (then-clean a (line_asked (length (ended_lines xs)) (open_line xs)) (ended_clean xs clean)
-    ∙ ap (behind a.calls) (sym is))
+    let ended = asked_behind 0 (ended_lines xs) in
+    lf-asked xs ∙ (then-clean ended (line_asked (length (ended_lines xs)) (open_line xs)) (ended_clean xs clean)
+    ∙ ap (behind ended.calls) (sym is))
 
 push_is : (xs : List ℕ) (one : Asked) → (asked_so_far xs).fault ≡ None →
     one ≡ line_asked (length (ended_lines xs)) (open_line xs)
     → asked_behind 0 (ended_lines (xs ++ 10 ∷ [])) ≡ behind (asked_behind 0 (ended_lines xs)).calls one
 push_is xs one clean is =
-    let a = asked_behind 0 (ended_lines xs) in
     ap (asked_behind 0) (ended-by_lf xs)
-    ∙ (asked-push (ended_lines xs) (open_line xs)
-    ∙ (then-clean a (line_asked (length (ended_lines xs)) (open_line xs)) (ended_clean xs clean)
-    ∙ ap (behind a.calls) (sym is)))
+    ∙ (asked-push (ended_lines xs) (open_line xs) ∙ (sym (lf-asked xs) ∙ lf_is xs one clean is))
 
 pub lf_takes : (start before now : Option (List ℕ)) (line new : List ℕ) (number next : ℕ) (e f : EncoderState)
     (written more : ℕ) (xs : List ℕ) → Takes start before line number e written xs
     → Ends start now f more (asked_behind 0 (ended_lines xs)).calls (one_asked (line_call number (strip_last 13 line)))
     (Ok tt) → new ≡ [] → next ≡ number + 1
     → Takes start now new next f more (xs ++ 10 ∷ [])
-lf_takes start before now line new number next e f written more xs t ends empty is =
+lf_takes start before now line new number next e f written more xs taken ends empty is =
     let one = one_asked (line_call number (strip_last 13 line)) in
-    let same = one_is start before line number e written xs t in
+    let same = one_is start before line number e written xs taken in
     let count : length (ended_lines (xs ++ 10 ∷ [])) ≡ length (ended_lines xs) + 1 =
     ap length (ended-by_lf xs) ∙ length-append (ended_lines xs) (open_line xs ∷ []) in
     record {
       here = empty ∙ sym (open-by_lf xs);
-      lines = omega (arith, is, t.lines, count);
-      clean = ap (λ (a : Asked). a.fault) (lf_is xs one t.clean same) ∙ ends.0;
-      done = subst (λ (cs : List Call). HasEncoded start now f more cs)
-          (sym (ap (λ (a : Asked). a.calls) (push_is xs one t.clean same))) ends.1;
+      lines = omega (arith, is, taken.lines, count);
+      clean = rw (lf_is xs one taken.clean same) ends.0;
+      done = rw (push_is xs one taken.clean same) ends.1;
     }
 
 pub lf_halts : (start before now : Option (List ℕ)) (line : List ℕ) (number : ℕ) (e f : EncoderState) (written more : ℕ)
@@ -193,10 +182,9 @@ pub lf_halts : (start before now : Option (List ℕ)) (line : List ℕ) (number 
     → Ends start now f more (asked_behind 0 (ended_lines xs)).calls (one_asked (line_call number (strip_last 13 line)))
     (Err fault)
     → EncodeHalts start now more (asked_so_far (xs ++ 10 ∷ [])) fault
-lf_halts start before now line number e f written more xs fault t ends =
+lf_halts start before now line number e f written more xs fault taken ends =
     let one = one_asked (line_call number (strip_last 13 line)) in
-    subst (λ (a : Asked). EncodeHalts start now more a fault)
-    (sym (lf_is xs one t.clean (one_is start before line number e written xs t))) ends
+    rw (lf_is xs one taken.clean (one_is start before line number e written xs taken)) ends
 
 -- ---- more octets
 
@@ -207,53 +195,51 @@ part_more : (start now : Option (List ℕ)) (sent : ℕ) (text rest whole : List
 part_more start now sent text rest whole is few out =
     let part : take sent whole ≡ take sent text = ap (take sent) is ∙ take-append-le sent text rest few in (
       omega (arith, ap length is, few, length-append text rest),
-      subst (λ (l : List ℕ). Appends start now l) (sym part) out,
+      rw part out,
     )
 
 -- what stopped, stops with more after it
 pub halts-then : (start now : Option (List ℕ)) (written : ℕ) (a c : Asked) (e : ToolFault) →
     EncodeHalts start now written a e → EncodeHalts start now written (and_then a c) e
-halts-then start now written a c (BadLine n) h =
-    subst (λ (z : Asked). EncodeHalts start now written z (BadLine n)) (sym (then-fault a c (BadLine n) h.0)) h
-halts-then start now written a c (FrameLength n) h =
-    subst (λ (z : Asked). EncodeHalts start now written z (FrameLength n)) (sym (then-fault a c (FrameLength n) h.0)) h
-halts-then start now written a c (Write sent) h =
+halts-then start now written a c (BadLine n) halts =
+    rw (then-fault a c (BadLine n) halts.0) halts
+halts-then start now written a c (FrameLength n) halts =
+    rw (then-fault a c (FrameLength n) halts.0) halts
+halts-then start now written a c (Write sent) halts =
     let more = then-text a c in
-    part_more start now sent (encode_text a.calls) more.0 (encode_text (and_then a c).calls) more.1 h.0 h.1
-halts-then start now written a c _ h = absurd h
+    part_more start now sent (encode_text a.calls) more.0 (encode_text (and_then a c).calls) more.1 halts.0 halts.1
+halts-then start now written a c _ halts = absurd halts
 
 -- what stopped in the middle of some octets stops them all
 pub middle_halts : (start now : Option (List ℕ)) (written x i : ℕ) (xs ys : List ℕ) (e : ToolFault) → i < length ys →
     x ≡ get_or ys i 0
     → EncodeHalts start now written (asked_so_far ((xs ++ take i ys) ++ x ∷ [])) e →
     EncodeHalts start now written (asked_so_far (xs ++ ys)) e
-middle_halts start now written x i xs ys e h is s =
+middle_halts start now written x i xs ys e inside is halts =
     let front = (xs ++ take i ys) ++ x ∷ [] in
     let whole : front ++ drop (i + 1) ys ≡ xs ++ ys = grind (arith, common_steps) in
     let more = so_far-grows front (drop (i + 1) ys) in
-    subst (λ (l : List ℕ). EncodeHalts start now written (asked_so_far l) e) whole
-    (subst (λ (a : Asked). EncodeHalts start now written a e) (sym more.1)
-    (halts-then start now written (asked_so_far front) more.0 e s))
+    rw (← whole, more.1) (halts-then start now written (asked_so_far front) more.0 e halts)
 
 -- all of them
 pub all_octets : (i : ℕ) (ys : List ℕ) → length ys ≤ i → take i ys ≡ ys
-all_octets i ys h = grind (arith, common_steps)
+all_octets i ys all = grind (arith, common_steps)
 
 -- ---- the end of the reading
 
 pub halts_finishes : (reads : ℕ) (after start now : Option (List ℕ)) (written : ℕ) (xs : List ℕ) (a : Asked)
     (e : ToolFault) → Asks after xs a → EncodeHalts start now written a e
     → EncodeFinishes reads after start now written xs (Err e)
-halts_finishes reads after start now written xs a Read asks h = absurd h
-halts_finishes reads after start now written xs a ReadsLimit asks h = absurd h
-halts_finishes reads after start now written xs a _ asks h = (a, asks, h)
+halts_finishes reads after start now written xs a Read asks halts = absurd halts
+halts_finishes reads after start now written xs a ReadsLimit asks halts = absurd halts
+halts_finishes reads after start now written xs a _ asks halts = (a, asks, halts)
 
 pub end_finishes : (reads : ℕ) (after start before now : Option (List ℕ)) (line : List ℕ) (number : ℕ)
     (e f : EncoderState) (written more : ℕ) (xs : List ℕ) (r : Result (Unit {0}) ToolFault)
     → IsAtEnd after → Takes start before line number e written xs
     → Ends start now f more (asked_behind 0 (ended_lines xs)).calls (one_asked (line_call number (strip_last 13 line)))
     r → EncodeFinishes reads after start now more xs r
-end_finishes reads after start before now line number e f written more xs r at t ends = cases r ends
+end_finishes reads after start before now line number e f written more xs r at taken ends = cases r ends
   where
     one : Asked
     one = one_asked (line_call number (strip_last 13 line))
@@ -261,151 +247,131 @@ end_finishes reads after start before now line number e f written more xs r at t
     is : asked_in_all xs ≡ behind (asked_behind 0 (ended_lines xs)).calls
         (one_asked (line_call number (strip_last 13 line)))
     is =
-        let a = asked_behind 0 (ended_lines xs) in
-        in_all-is xs ∙ (then-clean a (line_asked (length (ended_lines xs)) (open_line xs)) (ended_clean xs t.clean)
-        ∙ ap (behind a.calls) (sym (one_is start before line number e written xs t)))
+        in_all-is xs ∙ (sym (lf-asked xs)
+        ∙ lf_is xs one taken.clean (one_is start before line number e written xs taken))
 
     cases : (r : Result (Unit {0}) ToolFault) →
         Ends start now f more (asked_behind 0 (ended_lines xs)).calls
         (one_asked (line_call number (strip_last 13 line)))
         r → EncodeFinishes reads after start now more xs r
-    cases (Ok u) s =
-        let calls = ap (λ (a : Asked). a.calls) is in (
-          at,
-          ap (λ (a : Asked). a.fault) is ∙ s.0,
-          subst (λ (cs : List Call). Appends start now (encode_text cs)) (sym calls) s.1.out,
-          s.1.count ∙ ap (λ (cs : List Call). length (encode_text cs)) (sym calls),
-        )
-    cases (Err fault) s =
+    cases (Ok u) ended = (at, rw is ended.0, rw is ended.1.out, rw is ended.1.count)
+    cases (Err fault) ended =
         halts_finishes reads after start now more xs (asked_in_all xs) fault (inr (at, refl))
-        (subst (λ (a : Asked). EncodeHalts start now more a fault) (sym is) s)
+        (rw is ended)
 
 -- no fault in the octets so far
 pub clean_so_far : (start now : Option (List ℕ)) (line : List ℕ) (number : ℕ) (e : EncoderState) (written : ℕ)
     (xs : List ℕ) → Takes start now line number e written xs
     → ((asked_so_far xs).fault ≡ None) × Appends start now (encode_text (asked_so_far xs).calls)
     × (written ≡ length (encode_text (asked_so_far xs).calls))
-clean_so_far start now line number e written xs t =
-    let calls = ended_calls xs t.clean in (
-      t.clean,
-      subst (λ (cs : List Call). Appends start now (encode_text cs)) (sym calls) t.done.out,
-      t.done.count ∙ ap (λ (cs : List Call). length (encode_text cs)) (sym calls),
-    )
+clean_so_far start now line number e written xs taken =
+    let calls = ended_calls xs taken.clean in
+    (taken.clean, rw calls taken.done.out, rw calls taken.done.count)
 
 -- ---- the flush
 
 pub flushed : (reads : ℕ) (after start now then : Option (List ℕ)) (written : ℕ) (xs : List ℕ)
     (r : Result (Unit {0}) ToolFault) → Keeps now then → EncodeFinishes reads after start now written xs r →
     Encodes reads after start then xs r
-flushed reads after start now then written xs (Ok u) k f = (f.0, f.1, appends_kept start now then _ f.2 k)
-flushed reads after start now then written xs (Err Read) k f = (f.0, appends_kept start now then _ f.1 k)
-flushed reads after start now then written xs (Err ReadsLimit) k f = (f.0, f.1, appends_kept start now then _ f.2 k)
-flushed reads after start now then written xs (Err (BadLine n)) k f =
-    (f.0, f.1, f.2.0, appends_kept start now then _ f.2.1 k)
-flushed reads after start now then written xs (Err (FrameLength n)) k f =
-    (f.0, f.1, f.2.0, appends_kept start now then _ f.2.1 k)
-flushed reads after start now then written xs (Err (Write n)) k f =
-    (f.0, f.1, f.2.0, appends_kept start now then _ f.2.1 k)
-flushed reads after start now then written xs (Err _) k f = absurd f.2
+flushed reads after start now then written xs (Ok u) kept ends =
+    (ends.0, ends.1, appends_kept start now then _ ends.2 kept)
+flushed reads after start now then written xs (Err Read) kept ends =
+    (ends.0, appends_kept start now then _ ends.1 kept)
+flushed reads after start now then written xs (Err ReadsLimit) kept ends =
+    (ends.0, ends.1, appends_kept start now then _ ends.2 kept)
+flushed reads after start now then written xs (Err (BadLine n)) kept ends =
+    (ends.0, ends.1, ends.2.0, appends_kept start now then _ ends.2.1 kept)
+flushed reads after start now then written xs (Err (FrameLength n)) kept ends =
+    (ends.0, ends.1, ends.2.0, appends_kept start now then _ ends.2.1 kept)
+flushed reads after start now then written xs (Err (Write n)) kept ends =
+    (ends.0, ends.1, ends.2.0, appends_kept start now then _ ends.2.1 kept)
+flushed reads after start now then written xs (Err _) kept ends = absurd ends.2
 
--- all of a text is its first part
-whole_part : (start now : Option (List ℕ)) (written : ℕ) (text : List ℕ) → written ≡ length text →
-    Appends start now text → (written ≤ length text) × Appends start now (take written text)
-whole_part start now written text n out =
-    let all : take written text ≡ text = all_octets written text (omega (arith, n)) in
-    (omega (arith, n), subst (λ (l : List ℕ). Appends start now l) (sym all) out)
+-- a flush that fails kept all of the text that went out
+fails : (reads : ℕ) (after start now then : Option (List ℕ)) (written : ℕ) (xs : List ℕ) (a : Asked) → Asks after xs a
+    → written ≡ length (encode_text a.calls) → Appends start now (encode_text a.calls) → Keeps now then
+    → Encodes reads after start then xs (Err (Write written))
+fails reads after start now then written xs a asks count out kept =
+    let all : take written (encode_text a.calls) ≡ encode_text a.calls =
+    all_octets written (encode_text a.calls) (omega (arith, count)) in
+    (a, asks, omega (arith, count), rw all (appends_kept start now then (encode_text a.calls) out kept))
 
 pub flush_fails : (reads : ℕ) (after start now then : Option (List ℕ)) (written : ℕ) (xs : List ℕ)
     (r : Result (Unit {0}) ToolFault) → ((n : ℕ) → r ≡ Err (Write n) → ⊥) → Keeps now then
     → EncodeFinishes reads after start now written xs r → Encodes reads after start then xs (Err (Write written))
-flush_fails reads after start now then written xs (Ok u) uncut k f =
-    let p = whole_part start then written (encode_text (asked_in_all xs).calls) f.3
-    (appends_kept start now then _ f.2 k) in
-    (asked_in_all xs, inr (f.0, refl), p.0, p.1)
-flush_fails reads after start now then written xs (Err Read) uncut k f =
-    let p = whole_part start then written (encode_text (asked_so_far xs).calls) f.2
-    (appends_kept start now then _ f.1 k) in
-    (asked_so_far xs, inl refl, p.0, p.1)
-flush_fails reads after start now then written xs (Err ReadsLimit) uncut k f =
-    let p = whole_part start then written (encode_text (asked_so_far xs).calls) f.3
-    (appends_kept start now then _ f.2 k) in
-    (asked_so_far xs, inl refl, p.0, p.1)
-flush_fails reads after start now then written xs (Err (BadLine n)) uncut k f =
-    let p = whole_part start then written (encode_text f.0.calls) f.2.2 (appends_kept start now then _ f.2.1 k) in
-    (f.0, f.1, p.0, p.1)
-flush_fails reads after start now then written xs (Err (FrameLength n)) uncut k f =
-    let p = whole_part start then written (encode_text f.0.calls) f.2.2 (appends_kept start now then _ f.2.1 k) in
-    (f.0, f.1, p.0, p.1)
-flush_fails reads after start now then written xs (Err (Write n)) uncut k f = absurd (uncut n refl)
-flush_fails reads after start now then written xs (Err _) uncut k f = absurd f.2
+flush_fails reads after start now then written xs (Ok u) uncut kept ends =
+    fails reads after start now then written xs (asked_in_all xs) (inr (ends.0, refl)) ends.3 ends.2 kept
+flush_fails reads after start now then written xs (Err Read) uncut kept ends =
+    fails reads after start now then written xs (asked_so_far xs) (inl refl) ends.2 ends.1 kept
+flush_fails reads after start now then written xs (Err ReadsLimit) uncut kept ends =
+    fails reads after start now then written xs (asked_so_far xs) (inl refl) ends.3 ends.2 kept
+flush_fails reads after start now then written xs (Err (BadLine n)) uncut kept ends =
+    fails reads after start now then written xs ends.0 ends.1 ends.2.2 ends.2.1 kept
+flush_fails reads after start now then written xs (Err (FrameLength n)) uncut kept ends =
+    fails reads after start now then written xs ends.0 ends.1 ends.2.2 ends.2.1 kept
+flush_fails reads after start now then written xs (Err (Write n)) uncut kept ends = absurd (uncut n refl)
+flush_fails reads after start now then written xs (Err _) uncut kept ends = absurd ends.2
 
 -- ---- from what a call read to all that its reader had
 
 front_is : (all xs ys : List ℕ) → all ≡ xs ++ ys → take (length xs) all ≡ xs
-front_is all xs ys e = grind (arith, common_steps)
+front_is all xs ys is = grind (arith, common_steps)
 
 -- all octets ask for what those asked for that were read, and more
 asks_all : (all xs ys : List ℕ) (a : Asked) → all ≡ xs ++ ys → Asks (Some ys) xs a →
     (c : Asked) × (asked_in_all all ≡ and_then a c)
-asks_all all xs ys a e (inl is) =
-    let more = all-grows xs ys in
-    (more.0, ap asked_in_all e ∙ (more.1 ∙ ap (λ (z : Asked). and_then z more.0) (sym is)))
-asks_all all xs ys a e (inr is) =
-    let same : all ≡ xs = e ∙ (ap (λ (l : List ℕ). xs ++ l) is.0 ∙ append-nil xs) in
-    let none : Asked = record { calls = []; fault = None } in
-    (none, ap asked_in_all same ∙ (sym is.1 ∙ sym (alone a)))
-  where
-    alone : (a : Asked) → and_then a (record { calls = []; fault = None }) ≡ a
-    alone a = then-nothing a
+asks_all all xs ys a split (inl is) = let more = all-grows xs ys in (more.0, rw (split, is) more.1)
+asks_all all xs ys a split (inr is) =
+    let same : all ≡ xs = split ∙ (ap (λ (l : List ℕ). xs ++ l) is.0 ∙ append-nil xs) in
+    (nothing, ap asked_in_all same ∙ (sym is.1 ∙ sym (then-nothing a)))
 
 fault_at : (all xs ys : List ℕ) (start now : Option (List ℕ)) (a : Asked) (f : ToolFault) → all ≡ xs ++ ys →
     Asks (Some ys) xs a → a.fault ≡ Some f → Appends start now (encode_text a.calls)
     → ((asked_in_all all).fault ≡ Some f) × Appends start now (encode_text (asked_in_all all).calls)
-fault_at all xs ys start now a f e asks h out =
-    let more = asks_all all xs ys a e asks in
-    let is : asked_in_all all ≡ a = more.1 ∙ then-fault a more.0 f h in
-    (ap (λ (z : Asked). z.fault) is ∙ h, subst (λ (z : Asked). Appends start now (encode_text z.calls)) (sym is) out)
+fault_at all xs ys start now a f split asks is-fault out =
+    let more = asks_all all xs ys a split asks in
+    let same : asked_in_all all ≡ a = more.1 ∙ then-fault a more.0 f is-fault in
+    (rw same is-fault, rw same out)
 
 short_at : (all xs ys : List ℕ) (start now : Option (List ℕ)) → all ≡ xs ++ ys → (asked_so_far xs).fault ≡ None →
     Appends start now (encode_text (asked_so_far xs).calls)
     → (k : ℕ) × ((asked_so_far (take k all)).fault ≡ None)
     × Appends start now (encode_text (asked_so_far (take k all)).calls)
-short_at all xs ys start now e h out =
-    let P : List ℕ → Type 0 = λ l. ((asked_so_far l).fault ≡ None)
-    × Appends start now (encode_text (asked_so_far l).calls) in
-    let at = subst P (sym (front_is all xs ys e)) (h, out) in
-    (length xs, at.0, at.1)
+short_at all xs ys start now split clean out =
+    let front = front_is all xs ys split in (length xs, rw front clean, rw front out)
 
 written_at : (all xs ys : List ℕ) (start now : Option (List ℕ)) (a : Asked) (written : ℕ) → all ≡ xs ++ ys →
     Asks (Some ys) xs a → written ≤ length (encode_text a.calls)
     → Appends start now (take written (encode_text a.calls)) → (written ≤ length (encode_text (asked_in_all all).calls))
     × Appends start now (take written (encode_text (asked_in_all all).calls))
-written_at all xs ys start now a written e asks few out =
-    let more = asks_all all xs ys a e asks in
+written_at all xs ys start now a written split asks few out =
+    let more = asks_all all xs ys a split asks in
     let text = then-text a more.0 in
     part_more start now written (encode_text a.calls) text.0 (encode_text (asked_in_all all).calls)
     (ap (λ (z : Asked). encode_text z.calls) more.1 ∙ text.1) few out
 
 encodes_at : (reads : ℕ) (all xs ys : List ℕ) (start now : Option (List ℕ)) (r : Result (Unit {0}) ToolFault) →
     all ≡ xs ++ ys → Encodes reads (Some ys) start now xs r → EncodesAll start now all r
-encodes_at reads all xs ys start now (Ok u) e s =
-    let same : xs ≡ all = sym (append-nil xs) ∙ ap (λ (l : List ℕ). xs ++ l) (sym s.0) ∙ sym e in
-    let P : List ℕ → Type 0 = λ l. ((asked_in_all l).fault ≡ None)
-    × Appends start now (encode_text (asked_in_all l).calls) in
-    subst P same (s.1, s.2)
-encodes_at reads all xs ys start now (Err (BadLine n)) e s = fault_at all xs ys start now s.0 (BadLine n) e s.1 s.2 s.3
-encodes_at reads all xs ys start now (Err (FrameLength n)) e s =
-    fault_at all xs ys start now s.0 (FrameLength n) e s.1 s.2 s.3
-encodes_at reads all xs ys start now (Err Read) e s = short_at all xs ys start now e s.0 s.1
-encodes_at reads all xs ys start now (Err ReadsLimit) e s = short_at all xs ys start now e s.1 s.2
-encodes_at reads all xs ys start now (Err (Write written)) e s =
-    written_at all xs ys start now s.0 written e s.1 s.2 s.3
-encodes_at reads all xs ys start now (Err _) e s = absurd s
+encodes_at reads all xs ys start now (Ok u) split encodes =
+    let same : xs ≡ all = sym (append-nil xs) ∙ ap (λ (l : List ℕ). xs ++ l) (sym encodes.0) ∙ sym split in
+    (rw (← same) encodes.1, rw (← same) encodes.2)
+encodes_at reads all xs ys start now (Err (BadLine n)) split encodes =
+    fault_at all xs ys start now encodes.0 (BadLine n) split encodes.1 encodes.2 encodes.3
+encodes_at reads all xs ys start now (Err (FrameLength n)) split encodes =
+    fault_at all xs ys start now encodes.0 (FrameLength n) split encodes.1 encodes.2 encodes.3
+encodes_at reads all xs ys start now (Err Read) split encodes =
+    short_at all xs ys start now split encodes.0 encodes.1
+encodes_at reads all xs ys start now (Err ReadsLimit) split encodes =
+    short_at all xs ys start now split encodes.1 encodes.2
+encodes_at reads all xs ys start now (Err (Write written)) split encodes =
+    written_at all xs ys start now encodes.0 written split encodes.1 encodes.2 encodes.3
+encodes_at reads all xs ys start now (Err _) split encodes = absurd encodes
 
 -- what a call answered is what all octets of a reader that tells give
 pub known_encodes : (reads : ℕ) (before after start now : Option (List ℕ)) (xs : List ℕ)
     (r : Result (Unit {0}) ToolFault) → Consumes before after xs
     → Encodes reads after start now xs r → IfSome before (λ all. EncodesAll start now all r)
-known_encodes reads None after start now xs r p s = tt
-known_encodes reads (Some all) None start now xs r p s = absurd p
-known_encodes reads (Some all) (Some ys) start now xs r p s = encodes_at reads all xs ys start now r p s
+known_encodes reads None after start now xs r read encodes = tt
+known_encodes reads (Some all) None start now xs r read encodes = absurd read
+known_encodes reads (Some all) (Some ys) start now xs r read encodes =
+    encodes_at reads all xs ys start now r read encodes

@@ -18,8 +18,8 @@ one-longer xs x = omega (arith, length_push xs x)
 
 -- the last c below a place that the list has
 rfind-append : (c : ℕ) (xs ys : List ℕ) (n : ℕ) → n ≤ length xs → rfind_below c (xs ++ ys) n ≡ rfind_below c xs n
-rfind-append c xs ys zero h = refl
-rfind-append c xs ys (suc n) h =
+rfind-append c xs ys zero within = refl
+rfind-append c xs ys (suc n) within =
     let rest = rfind-append c xs ys n (omega arith) in
     let here = get_or_append_left xs ys 0 n (omega arith) in
     rw (here, rest) refl
@@ -33,8 +33,8 @@ rfind-within c xs (suc n) =
     ]
   where
     wider : (r : Option ℕ) → IfSome r (λ k. k < n) → IfSome r (λ k. k < suc n)
-    wider None h = tt
-    wider (Some k) h = omega arith
+    wider None below = tt
+    wider (Some k) below = omega arith
 
 -- what stands after the place, if there is one
 abbrev behind_place : List ℕ → Option ℕ → List ℕ
@@ -42,8 +42,8 @@ behind_place xs r = behind_last xs (option_map (λ i. (take i xs, drop (i + 1) x
 
 behind-push : (xs : List ℕ) (x : ℕ) (r : Option ℕ) → IfSome r (λ k. k < length xs) →
     behind_place (xs ++ x ∷ []) r ≡ behind_place xs r ++ x ∷ []
-behind-push xs x None h = refl
-behind-push xs x (Some k) h = drop-append-le (k + 1) xs (x ∷ []) (omega arith)
+behind-push xs x None below = refl
+behind-push xs x (Some k) below = drop-append-le (k + 1) xs (x ∷ []) (omega arith)
 
 open-push : (xs : List ℕ) (x : ℕ) → open_line (xs ++ x ∷ []) ≡ (if x == 10 then [] else open_line xs ++ x ∷ [])
 unfolding open_line rsplit_once
@@ -80,8 +80,8 @@ lines-more xs n =
     one false = refl
 
 lines-append : (xs ys : List ℕ) (n : ℕ) → n ≤ length xs → lines_below (xs ++ ys) n ≡ lines_below xs n
-lines-append xs ys zero h = refl
-lines-append xs ys (suc n) h =
+lines-append xs ys zero within = refl
+lines-append xs ys (suc n) within =
     let rest = lines-append xs ys n (omega arith) in
     let here = get_or_append_left xs ys 0 n (omega arith) in
     let front = take-append-le n xs ys (omega arith) in
@@ -114,11 +114,10 @@ open-by_lf xs = open-push xs 10
 
 -- another octet does not
 pub ended-by_other : (xs : List ℕ) (x : ℕ) → (x == 10) ≡ false → ended_lines (xs ++ x ∷ []) ≡ ended_lines xs
-ended-by_other xs x h = ended-push xs x
-    ∙ (ap (λ (b : Bool). ended_lines xs ++ (if b then open_line xs ∷ [] else [])) h ∙ append-nil (ended_lines xs))
+ended-by_other xs x other = rw (ended-push xs x, other) (append-nil (ended_lines xs))
 
 pub open-by_other : (xs : List ℕ) (x : ℕ) → (x == 10) ≡ false → open_line (xs ++ x ∷ []) ≡ open_line xs ++ x ∷ []
-open-by_other xs x h = open-push xs x ∙ ap (λ (b : Bool). if b then [] else open_line xs ++ x ∷ []) h
+open-by_other xs x other = rw (open-push xs x, other) refl
 
 -- ---- a walk over the octets
 

@@ -37,9 +37,7 @@ impl CallBits {
 }
 
 impl BitSink for CallBits {
-    ghost taken = { λ sink. Some sink.bits.items };
-
-    ghost refusals = { λ sink. sink.refused };
+    ghost sink = { record { taken = λ sink. Some sink.bits.items; refusals = λ sink. sink.refused } };
 
     fn refused(&self) -> u64 {
         self.refused

@@ -2,6 +2,7 @@
 use Rattle.std.proofs.Common.{◌≡◌, ◌≤◌, ◌++◌, ℕ, List, Bool, true, [], length, take, Option, Some, None, Result, Ok}
 use Rattle.std.proofs.Common.{Err, IsErrAnd, inl, inr, refl, arith, length-take}
 use Rattle.std.proofs.lemmas.Bool.{cases_lt}
+use Rattle.bus_line.specs.BitSink.{BitSinkView}
 use Rattle.bus_line.specs.Line.{Call, Frame, added, gain}
 use Rattle.bus_line.specs.Internal.EncoderState.{EncoderState}
 use Rattle.bus_line.specs.Encoding.{AfterCalls, Calls, Refused}
@@ -9,16 +10,13 @@ use Rattle.bus_line.specs.declared.fault.EncodeFault.{EncodeFault}
 use Rattle.bus_line.specs.declared.fault.EncodeFault.TheVariants.{Ended, LengthRange, Sink}
 use Rattle.bus_examples.specs.declared.sending.FrameBits.{FrameBits}
 
-abbrev pub bits_taken : FrameBits → Option (List Bool)
-bits_taken sink = Some sink.bits.items
-
-abbrev pub bits_refused : FrameBits → ℕ
-bits_refused sink = sink.refused
+abbrev pub bits_sink : BitSinkView FrameBits
+bits_sink = record { taken = λ sink. Some sink.bits.items; refusals = λ sink. sink.refused }
 
 -- an empty sink has room for a call of at most 2492 bits
 never_refused : (call : Call) (written : ℕ) (old new : EncoderState) (before after : FrameBits) → AfterCalls old [] →
     length (added None call) ≤ 2492
-    → before.bits.items ≡ [] → before.refused ≡ 0 → Refused bits_taken bits_refused call written old new before after →
+    → before.bits.items ≡ [] → before.refused ≡ 0 → Refused bits_sink call written old new before after →
     ⊥
 never_refused call written old new before after start fits empty none r =
     let within = r.within [] start in
@@ -35,7 +33,7 @@ pub only_length : (octets : List ℕ) (old new : EncoderState) (before after : F
     (r : Result (Unit {0}) EncodeFault) (e : EncodeFault) → r ≡ Err e → AfterCalls old []
     → (length octets ≤ 256 → (last : Option Call) → length (added last (Frame octets)) ≤ 2492) →
     before.bits.items ≡ [] → before.refused ≡ 0
-    → Calls bits_taken bits_refused (Frame octets) r old new before after → e ≡ LengthRange
+    → Calls bits_sink (Frame octets) r old new before after → e ≡ LengthRange
 only_length octets old new before after r Ended is start fits empty none calls =
     absurd (let ended : old.ended ≡ true = calls.ended.0 is in let going = start.going in cc)
 only_length octets old new before after r LengthRange is start fits empty none calls = refl

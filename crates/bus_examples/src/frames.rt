@@ -1,7 +1,8 @@
 //! Frames alone: a decoder over a buffer of bits.
 
-ghost use Rattle.std.specs.Prelude.{◌≡◌, ◌≢◌, ◌<◌, ◌^◌, ◌↔◌, ℕ, List, IsErr, IfOk, length};
+ghost use Rattle.std.specs.Prelude.{◌≡◌, ◌≢◌, ◌<◌, ◌↔◌, ℕ, List, IsErr, IfOk, length};
 ghost use Rattle.std.specs.Option.{option_map, option_to_list};
+ghost use Rattle.bus_bits.specs.Limits.{most_places};
 ghost use Rattle.bus_line.specs.Due.{placed};
 ghost use Rattle.bus_line.specs.Shown.{reported};
 ghost use Rattle.bus_examples.specs.Frames.{frame_count};
@@ -56,7 +57,7 @@ fn frames_in(event: Option<Event>) -> usize
 ///
 /// `Places`: there are more than 2^60 bits.
 pub fn count_frames<C: Check>(bits: &[bool]) -> Result<usize, CountFault>
-    ensures limit { IsErr result ↔ (2 ^ 60 < length bits.now) }
+    ensures limit { IsErr result ↔ (most_places < length bits.now) }
     ensures made { (fault : LineFault) → result ≢ Err (New fault) }
     ensures count { IfOk result (λ count. count ≡ frame_count (placed 0 256 bits.now)) }
 {

@@ -1,8 +1,9 @@
 //! Bit by bit, as an interrupt or a loop hands them in.
 
-ghost use Rattle.std.specs.Prelude.{◌≡◌, ◌≤◌, ◌^◌, ◌↔◌, Bool, List, [], ◌∷◌, ◌++◌, IsErr, IfOk, OnOk, OnErr, length};
+ghost use Rattle.std.specs.Prelude.{◌≡◌, ◌≤◌, ◌↔◌, Bool, List, [], ◌∷◌, ◌++◌, IsErr, IfOk, OnOk, OnErr, length};
 ghost use Rattle.std.specs.Prelude.{Option, option_and_then};
 ghost use Rattle.std.specs.Option.{option_to_list};
+ghost use Rattle.bus_bits.specs.Limits.{most_places};
 ghost use Rattle.bus_line.specs.After.{After, Led};
 ghost use Rattle.bus_line.specs.Due.{due_at};
 ghost use Rattle.bus_line.specs.Shown.{shown};
@@ -35,10 +36,10 @@ pub fn closes_frame_of<C: Check>(
     station: u8,
     bit: bool,
 ) -> Result<bool, PlaceLimit>
-    ensures limit { IsErr result ↔ (2 ^ 60 ≤ decoder.old.place) }
-    ensures closes { IfOk result (λ closes. (b : List Bool) → After C.folded C.COST decoder.old b →
+    ensures limit { IsErr result ↔ (most_places ≤ decoder.old.place) }
+    ensures closes { IfOk result (λ closes. (b : List Bool) → After C.check decoder.old b →
         closes ≡ closes_for station (due_at decoder.old.longest (b ++ bit ∷ []) (length b))) }
-    ensures leads { OnOk result (Led C.folded C.COST decoder.old (bit ∷ []) decoder.new) }
+    ensures leads { OnOk result (Led C.check decoder.old (bit ∷ []) decoder.new) }
     ensures unchanged { OnErr result (decoder.new ≡ decoder.old) }
 {
     Ok(is_frame_of(decoder.push(bit)?, station))
@@ -58,13 +59,13 @@ fn station_without_answer(verdict: Option<Verdict>) -> Option<u8>
 ///
 /// Refuses as [`PlaceLimit`], with nothing changed, where the bit's place would be 2^60.
 pub fn unanswered<C: Check>(analyser: &mut Analyser<C>, bit: bool) -> Result<Option<u8>, PlaceLimit>
-    ensures limit { IsErr result ↔ (2 ^ 60 ≤ analyser.old.decoder.place) }
-    ensures station { IfOk result (λ station. (b : List Bool) → IsAfter C.folded C.COST analyser.old b →
+    ensures limit { IsErr result ↔ (most_places ≤ analyser.old.decoder.place) }
+    ensures station { IfOk result (λ station. (b : List Bool) → IsAfter C.check analyser.old b →
         station ≡ option_and_then (λ s. unanswered_in s.verdict) (seen_at analyser.old.journal.dictionary
         (line analyser.old (b ++ bit ∷ [])) analyser.old.decoder.place)) }
     ensures sees { IfOk result (λ station. (seen : Option SeenReport)
         × (station ≡ option_and_then (λ s. unanswered_in s.verdict) seen)
-        × Sees C.folded C.COST analyser.old (bit ∷ []) (option_to_list seen) analyser.new) }
+        × Sees C.check analyser.old (bit ∷ []) (option_to_list seen) analyser.new) }
     ensures unchanged { OnErr result (analyser.new ≡ analyser.old) }
 {
     let Some(seen) = analyser.push(bit)? else {

@@ -17,9 +17,7 @@ pub struct FrameBits {
 }
 
 impl BitSink for FrameBits {
-    ghost taken = { λ sink. Some sink.bits.items };
-
-    ghost refusals = { λ sink. sink.refused };
+    ghost sink = { record { taken = λ sink. Some sink.bits.items; refusals = λ sink. sink.refused } };
 
     fn refused(&self) -> u64 {
         self.refused

@@ -1,6 +1,7 @@
 //! Commands and replies: an analyser with a dictionary, and a log of what it sees.
 
-ghost use Rattle.std.specs.Prelude.{◌≡◌, ◌<◌, ◌≤◌, ◌^◌, IfOk, IfErr, OnOk, length};
+ghost use Rattle.std.specs.Prelude.{◌≡◌, ◌<◌, ◌≤◌, IfOk, IfErr, OnOk, length};
+ghost use Rattle.bus_bits.specs.Limits.{most_places};
 ghost use Rattle.bus_watch.specs.Headline.{Fails, all_seen};
 ghost use Rattle.bus_examples.specs.Watching.{run_fault};
 ghost use Rattle.bus_examples.specs.declared.watching.WatchFault.TheVariants.{New, Feed};
@@ -55,7 +56,7 @@ pub fn watch(
 ) -> Result<ReportLog, WatchFault>
     ensures seen { IfOk result (λ log. log.reports ≡ all_seen dictionary 0 bits.now) }
     ensures room { IfOk result (λ log. log.room ≡ room) }
-    ensures within_limits { OnOk result ((length bits.now ≤ 2 ^ 60)
+    ensures within_limits { OnOk result ((length bits.now ≤ most_places)
         × (length (all_seen dictionary 0 bits.now) ≤ room)) }
     ensures fails { IfErr result (λ fault. Fails 16 0 (length bits.now) (λ consumed.
         room < length (all_seen dictionary 0 bits.now)) (run_fault fault)) }

@@ -1,8 +1,9 @@
 -- What the check by tables has folded.
 use Rattle.std.specs.Prelude.{ℕ, List}
+use Rattle.bus_fcs.specs.Check.{CheckView}
 use Rattle.bus_fcs.specs.declared.octet_check.OctetCheck.{OctetCheck}
 use Rattle.bus_fcs.specs.Internal.Register.{IsStateAfter}
 
--- the check is that of these octets, the first one first
-abbrev pub HasFolded : OctetCheck → List ℕ → Type 0
-HasFolded check octets = IsStateAfter check.state octets
+-- the check is that of these octets, the first one first, of which each cost one unit
+abbrev pub by_tables : CheckView OctetCheck
+by_tables = record { folded = λ check octets. IsStateAfter check.state octets; cost = 1 }

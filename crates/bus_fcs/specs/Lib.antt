@@ -1,3 +1,4 @@
+pub mod Check
 pub mod Division
 pub mod FrameCheck
 pub mod Folded

@@ -16,7 +16,7 @@ pub struct BitCheck {
 impl Check for BitCheck {
     ghost use Rattle.std.proofs.Common.{rules};
 
-    ghost folded = { λ check octets. IsStateAfter check.state octets };
+    ghost check = { record { folded = λ check octets. IsStateAfter check.state octets; cost = 8 } };
 
     ghost COST = { 8 };
 
@@ -42,6 +42,8 @@ impl Check for BitCheck {
     fn trailer(&self) -> [u8; 2] {
         trailer_of(self.state)
     }
+
+    ghost cost_is = { Prim.search rules };
 
     ghost cost_in_range = { Prim.search rules };
 }

@@ -1,6 +1,7 @@
 //! The frame check by tables.
 
 ghost use Rattle.std.specs.Prelude.{◌≡◌, ◌+◌, ◌-◌, ◌*◌, ◌%◌, ◌^◌, ◌≤◌, ℕ, List, [], ◌∷◌, ◌++◌, bit_xor};
+ghost use Rattle.bus_fcs.specs.Folded.{by_tables};
 ghost use Rattle.bus_fcs.specs.Internal.Register.{IsStateAfter, crc_steps};
 
 use crate::check::Check;
@@ -53,7 +54,7 @@ fn state_after_some(state: u16, octets: u64, count: usize) -> u16
 impl Check for OctetCheck {
     ghost use Rattle.std.proofs.Common.{rules};
 
-    ghost folded = { λ check octets. IsStateAfter check.state octets };
+    ghost check = { by_tables };
 
     ghost COST = { 1 };
 
@@ -82,6 +83,8 @@ impl Check for OctetCheck {
     fn trailer(&self) -> [u8; 2] {
         trailer_of(self.state)
     }
+
+    ghost cost_is = { Prim.search rules };
 
     ghost cost_in_range = { Prim.search rules };
 }

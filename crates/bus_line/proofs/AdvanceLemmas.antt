@@ -10,6 +10,7 @@ use Rattle.std.proofs.lemmas.List.{append-nil}
 use Rattle.std.proofs.lemmas.Bool.{cases_lt}
 use Rattle.bus_bits.specs.Octet.{bits_of}
 use Rattle.bus_bits.proofs.OctetLemmas.{number-bits, length-bits, bits-front}
+use Rattle.bus_fcs.specs.Check.{CheckView}
 use Rattle.bus_line.specs.Report.{Report, moved}
 use Rattle.bus_line.specs.Due.{current, due_at, placed}
 use Rattle.bus_line.specs.Internal.LineState.{LineState}
@@ -60,11 +61,11 @@ calm-placed origin longest n b bits calm (suc i) within inside =
     (omega (arith, inside))))
 
 -- what is settled with the mark before them is so with theirs
-pub calm-after : {C : Type 0} (folded : C → List ℕ → Type 0) (cost n : ℕ) (d : LineState C) (b bits : List Bool) →
-    IsCalm b bits n → n ≤ length bits → Tracks folded cost d (b ++ take n bits) (current b) →
-    After folded cost d (b ++ take n bits)
-calm-after folded cost n d b bits calm within tracks =
-    subst (Tracks folded cost d (b ++ take n bits)) (sym (mark-calm b bits n n calm (omega arith) within)) tracks
+pub calm-after : {C : Type 0} (view : CheckView C) (n : ℕ) (d : LineState C) (b bits : List Bool) →
+    IsCalm b bits n → n ≤ length bits → Tracks view d (b ++ take n bits) (current b) →
+    After view d (b ++ take n bits)
+calm-after view n d b bits calm within tracks =
+    subst (Tracks view d (b ++ take n bits)) (sym (mark-calm b bits n n calm (omega arith) within)) tracks
 
 -- ---- the bit after calm bits
 
@@ -73,10 +74,10 @@ last-list : (n : ℕ) (b bits : List Bool) → n < length bits →
 last-list n b bits inside = let next : n + 1 ≡ suc n = omega arith in rw next (next-bit n b bits inside)
 
 -- is still to be decided
-pub tracks-last : {C : Type 0} (folded : C → List ℕ → Type 0) (cost n : ℕ) (d : LineState C) (b bits : List Bool) →
-    IsCalm b bits n → n < length bits → Tracks folded cost d (b ++ take (n + 1) bits) (current b)
-    → Tracks folded cost d ((b ++ take n bits) ++ get_or bits n false ∷ []) (current (b ++ take n bits))
-tracks-last folded cost n d b bits calm inside tracks =
+pub tracks-last : {C : Type 0} (view : CheckView C) (n : ℕ) (d : LineState C) (b bits : List Bool) →
+    IsCalm b bits n → n < length bits → Tracks view d (b ++ take (n + 1) bits) (current b)
+    → Tracks view d ((b ++ take n bits) ++ get_or bits n false ∷ []) (current (b ++ take n bits))
+tracks-last view n d b bits calm inside tracks =
     rw (← last-list n b bits inside, mark-calm b bits n n calm (omega arith) (omega (arith, inside))) tracks
 
 -- what it decides
@@ -102,10 +103,10 @@ last-placed origin longest n b bits o calm inside is =
       calm-placed origin longest n b bits calm n (omega arith) (omega (arith, inside)),
     ) refl
 
-pub after-last : {C : Type 0} (folded : C → List ℕ → Type 0) (cost n : ℕ) (d : LineState C) (b bits : List Bool) →
-    n < length bits → After folded cost d ((b ++ take n bits) ++ get_or bits n false ∷ []) →
-    After folded cost d (b ++ take (n + 1) bits)
-after-last folded cost n d b bits inside after = rw (last-list n b bits inside) after
+pub after-last : {C : Type 0} (view : CheckView C) (n : ℕ) (d : LineState C) (b bits : List Bool) →
+    n < length bits → After view d ((b ++ take n bits) ++ get_or bits n false ∷ []) →
+    After view d (b ++ take (n + 1) bits)
+after-last view n d b bits inside after = rw (last-list n b bits inside) after
 
 -- ---- all together
 
@@ -134,15 +135,15 @@ all-placed longest origin w n x b run =
     )
     (sym (append-nil (placed origin longest b)))
 
-pub all-after : {C : Type 0} (folded : C → List ℕ → Type 0) (cost w n x t : ℕ) (e : LineState C) (b : List Bool) →
+pub all-after : {C : Type 0} (view : CheckView C) (w n x t : ℕ) (e : LineState C) (b : List Bool) →
     Calm w n x b → t ≡ n
-    → (IsCalm b (bits_of n x) (t - 1) → Tracks folded cost e (b ++ take t (bits_of n x)) (current b)) →
-    After folded cost e (b ++ bits_of n x)
-all-after folded cost w n x t e b run all tracks =
+    → (IsCalm b (bits_of n x) (t - 1) → Tracks view e (b ++ take t (bits_of n x)) (current b)) →
+    After view e (b ++ bits_of n x)
+all-after view w n x t e b run all tracks =
     let size = length-bits n x in
     let settled = tracks (calm-less b (bits_of n x) n (t - 1) (omega (arith, all)) run.calm) in
     rw (← bits-front n n x (omega arith))
-    (calm-after folded cost n e b (bits_of n x) run.calm (omega (arith, size)) (rw all at settled))
+    (calm-after view n e b (bits_of n x) run.calm (omega (arith, size)) (rw all at settled))
 
 -- a run of calm bits that a stop ends
 pub record Last (w n m x : ℕ) (b : List Bool) : Type 0 where
@@ -170,13 +171,13 @@ but_last b n m x = b ++ take m (bits_of n x)
 abbrev pub last_of : ℕ → ℕ → ℕ → Bool
 last_of n m x = get_or (bits_of n x) m false
 
-pub last-tracks : {C : Type 0} (folded : C → List ℕ → Type 0) (cost w n m x t : ℕ) (e : LineState C) (b : List Bool) →
+pub last-tracks : {C : Type 0} (view : CheckView C) (w n m x t : ℕ) (e : LineState C) (b : List Bool) →
     Last w n m x b → t ≡ m + 1
-    → (IsCalm b (bits_of n x) (t - 1) → Tracks folded cost e (b ++ take t (bits_of n x)) (current b)) →
-    Tracks folded cost e (but_last b n m x ++ last_of n m x ∷ []) (current (but_last b n m x))
-last-tracks folded cost w n m x t e b last end tracks =
+    → (IsCalm b (bits_of n x) (t - 1) → Tracks view e (b ++ take t (bits_of n x)) (current b)) →
+    Tracks view e (but_last b n m x ++ last_of n m x ∷ []) (current (but_last b n m x))
+last-tracks view w n m x t e b last end tracks =
     let settled = tracks (calm-less b (bits_of n x) m (t - 1) (omega (arith, end)) last.calm) in
-    tracks-last folded cost m e b (bits_of n x) last.calm last.within (rw end at settled)
+    tracks-last view m e b (bits_of n x) last.calm last.within (rw end at settled)
 
 pub last-answer : (longest origin l o w n m x : ℕ) (b : List Bool) (r : Option Report) → Last w n m x b → l ≡ longest →
     o ≡ origin
@@ -191,11 +192,11 @@ pub last-more : (longest origin w n m x : ℕ) (b : List Bool) (r : Option Repor
 last-more longest origin w n m x b r last is =
     rw (← last.front) (last-placed origin longest m b (bits_of n x) r last.calm last.within (rw (← last.front) at is))
 
-pub last-after : {C : Type 0} (folded : C → List ℕ → Type 0) (cost w n m x : ℕ) (e : LineState C) (b : List Bool) →
-    Last w n m x b → After folded cost e (but_last b n m x ++ last_of n m x ∷ []) →
-    After folded cost e (b ++ bits_of (m + 1) x)
-last-after folded cost w n m x e b last after =
-    rw (← last.front) (after-last folded cost m e b (bits_of n x) last.within after)
+pub last-after : {C : Type 0} (view : CheckView C) (w n m x : ℕ) (e : LineState C) (b : List Bool) →
+    Last w n m x b → After view e (but_last b n m x ++ last_of n m x ∷ []) →
+    After view e (b ++ bits_of (m + 1) x)
+last-after view w n m x e b last after =
+    rw (← last.front) (after-last view m e b (bits_of n x) last.within after)
 
 -- nothing is due at calm bits
 pub calm-before-last : (longest origin w n i x : ℕ) (b : List Bool) → Calm w n x b → i ≤ n →
@@ -215,9 +216,9 @@ last-before longest origin w n m x b last =
 -- ---- what bits taken at once do
 
 -- the lowest bits of x lead from old to new after the bits b, and the last of them decides this report, if it is one
-pub record Behind {C : Type 0} (folded : C → List ℕ → Type 0) (cost : ℕ) (old : LineState C) (b : List Bool) (n x : ℕ)
+pub record Behind {C : Type 0} (view : CheckView C) (old : LineState C) (b : List Bool) (n x : ℕ)
     (report : Option Report) (new : LineState C) : Type 0 where
-  pub after : After folded cost new (b ++ bits_of n x)
+  pub after : After view new (b ++ bits_of n x)
   pub says : placed old.origin old.longest (b ++ bits_of n x)
       ≡ placed old.origin old.longest b ++ option_to_list report
   pub before : placed old.origin old.longest (b ++ bits_of (n - 1) x) ≡ placed old.origin old.longest b
@@ -226,17 +227,17 @@ front-bits : (n x : ℕ) → take (length (bits_of n x) - 1) (bits_of n x) ≡ b
 front-bits n x =
     ap (λ (k : ℕ). take (k - 1) (bits_of n x)) (length-bits n x) ∙ bits-front (n - 1) n x (omega arith)
 
-pub front-decides-nothing : {C : Type 0} (folded : C → List ℕ → Type 0) (cost n x : ℕ) (d : LineState C)
-    → DecideNothing folded cost d (take (length (bits_of n x) - 1) (bits_of n x))
-    → DecideNothing folded cost d (bits_of (n - 1) x)
-front-decides-nothing folded cost n x d before = subst (DecideNothing folded cost d) (front-bits n x) before
+pub front-decides-nothing : {C : Type 0} (view : CheckView C) (n x : ℕ) (d : LineState C)
+    → DecideNothing view d (take (length (bits_of n x) - 1) (bits_of n x))
+    → DecideNothing view d (bits_of (n - 1) x)
+front-decides-nothing view n x d before = subst (DecideNothing view d) (front-bits n x) before
 
 -- after any bits
-pub advances-behind : {C : Type 0} (folded : C → List ℕ → Type 0) (cost n x : ℕ) (old new : LineState C)
+pub advances-behind : {C : Type 0} (view : CheckView C) (n x : ℕ) (old new : LineState C)
     (report : Option Report) → new.longest ≡ old.longest → new.origin ≡ old.origin → new.place ≡ old.place + n
-    → ((b : List Bool) → After folded cost old b → Behind folded cost old b n x report new)
-    → Advances folded cost old (bits_of n x) report new
-advances-behind folded cost n x old new report longest origin place behind = record {
+    → ((b : List Bool) → After view old b → Behind view old b n x report new)
+    → Advances view old (bits_of n x) report new
+advances-behind view n x old new report longest origin place behind = record {
   tells = record {
     leads = record {
       after = λ b stands. (behind b stands).after;
@@ -250,26 +251,26 @@ advances-behind folded cost n x old new report longest origin place behind = rec
 }
 
 -- calm bits, once they are settled
-pub behind-calm : {C : Type 0} (folded : C → List ℕ → Type 0) (cost w n x t : ℕ) (old new : LineState C)
+pub behind-calm : {C : Type 0} (view : CheckView C) (w n x t : ℕ) (old new : LineState C)
     (b : List Bool) → Calm w n x b → t ≡ n
-    → (IsCalm b (bits_of n x) (t - 1) → Tracks folded cost new (b ++ take t (bits_of n x)) (current b))
-    → Behind folded cost old b n x None new
-behind-calm folded cost w n x t old new b calm all tracks = record {
-  after = all-after folded cost w n x t new b calm all tracks;
+    → (IsCalm b (bits_of n x) (t - 1) → Tracks view new (b ++ take t (bits_of n x)) (current b))
+    → Behind view old b n x None new
+behind-calm view w n x t old new b calm all tracks = record {
+  after = all-after view w n x t new b calm all tracks;
   says = all-placed old.longest old.origin w n x b calm;
   before = calm-before-last old.longest old.origin w n (n - 1) x b calm (omega arith);
 }
 
 -- calm bits and the one after them, once that is decided
-pub behind-last : {C : Type 0} (folded : C → List ℕ → Type 0) (cost w n m x : ℕ) (old settled new : LineState C)
+pub behind-last : {C : Type 0} (view : CheckView C) (w n m x : ℕ) (old settled new : LineState C)
     (b : List Bool) (report : Option Report) → Last w n m x b
     → settled.longest ≡ old.longest → settled.origin ≡ old.origin
     → report ≡ option_map (moved settled.origin)
     (due_at settled.longest (but_last b n m x ++ last_of n m x ∷ []) (length (but_last b n m x)))
-    → After folded cost new (but_last b n m x ++ last_of n m x ∷ [])
-    → Behind folded cost old b (m + 1) x report new
-behind-last folded cost w n m x old settled new b report last longest origin answer after = record {
-  after = last-after folded cost w n m x new b last after;
+    → After view new (but_last b n m x ++ last_of n m x ∷ [])
+    → Behind view old b (m + 1) x report new
+behind-last view w n m x old settled new b report last longest origin answer after = record {
+  after = last-after view w n m x new b last after;
   says = last-more old.longest old.origin w n m x b report last
       (last-answer old.longest old.origin settled.longest settled.origin w n m x b report last longest origin answer);
   before = last-before old.longest old.origin w n m x b last;

@@ -9,6 +9,7 @@ use Rattle.std.proofs.lemmas.Bool.{false_from_ne_true, eqb-true}
 use Rattle.std.proofs.lemmas.Bool.Decides.{nat_tests}
 use Rattle.bus_bits.specs.Octet.{octets, bits_of_octets}
 use Rattle.bus_fcs.specs.FrameCheck.{Good, is_good}
+use Rattle.bus_fcs.specs.Check.{CheckView}
 use Rattle.bus_line.specs.Internal.Run.{ones_after, ones_at_end, data_so_far}
 use Rattle.bus_line.specs.Mark.{flag, IsFlag}
 use Rattle.bus_line.specs.Report.{Frame, Damaged, Overlong, class_of_data}
@@ -58,10 +59,10 @@ pub record IsClosed {C : Type 0} (folded : C → List ℕ → Type 0) (d : LineS
   pub fewer : 5 ≤ ones_at_end raw → d.last_bits / 8 % 32 ≡ 31
   pub holds : Holds folded d (data_so_far raw)
 
-pub is_closed : {C : Type 0} (folded : C → List ℕ → Type 0) (cost : ℕ) (d : LineState C) (b : List Bool) (bit : Bool)
-    (p : ℕ) → Tracks folded cost d (b ++ bit ∷ []) (current b) → current b ≡ FlagAt p → p + 15 < length b
-    → IsClosed folded d (slice_range (b ++ bit ∷ []) (p + 8) (length b - 7))
-is_closed folded cost d b bit p tracks last some =
+pub is_closed : {C : Type 0} (view : CheckView C) (d : LineState C) (b : List Bool) (bit : Bool)
+    (p : ℕ) → Tracks view d (b ++ bit ∷ []) (current b) → current b ≡ FlagAt p → p + 15 < length b
+    → IsClosed view.folded d (slice_range (b ++ bit ∷ []) (p + 8) (length b - 7))
+is_closed view d b bit p tracks last some =
     let m = length b - 7 in
     let same : slice_range (b ++ bit ∷ []) (p + 8) m ≡ slice_range b (p + 8) m =
     range-append b (bit ∷ []) (p + 8) m (omega arith) in
@@ -69,13 +70,13 @@ is_closed folded cost d b bit p tracks last some =
     let shown = last-bits-five d.last_bits b bit (omega arith) tracks.has_taken.last_bits in
     let run : ones_at_end (take m b) ≡ ones_at_end (slice_range (b ++ bit ∷ []) (p + 8) m) =
     piece-ones b p m (last_mark-flag b (length b) p last).flag (omega arith) ∙ ap ones_at_end (sym same) in
-    let held : Holds folded d (settled_data (b ++ bit ∷ []) p) =
-    subst (HoldsFor folded d (b ++ bit ∷ [])) last tracks.piece in
+    let held : Holds view.folded d (settled_data (b ++ bit ∷ []) p) =
+    subst (HoldsFor view.folded d (b ++ bit ∷ [])) last tracks.piece in
     record {
       low = subst (IsLow 0) (sym same) (low-from (slice_range b (p + 8) m) (current-low b p m last (omega arith)));
       five = λ is. omega (arith, run, shown.0 is);
       fewer = λ is. shown.1 (omega (arith, run, is));
-      holds = subst (λ k. Holds folded d (data_so_far (slice_range (b ++ bit ∷ []) (p + 8) k))) end held;
+      holds = subst (λ k. Holds view.folded d (data_so_far (slice_range (b ++ bit ∷ []) (p + 8) k))) end held;
     }
 
 -- five ones before the flag

@@ -5,6 +5,7 @@ use Rattle.std.specs.List.{slice_range}
 use Rattle.std.specs.Prelude.{drop}
 use Rattle.std.proofs.lemmas.List.{length_push}
 use Rattle.bus_bits.specs.Octet.{number}
+use Rattle.bus_fcs.specs.Check.{CheckView}
 use Rattle.bus_line.specs.Internal.Run.{ones_after, ones_at_end}
 use Rattle.bus_line.specs.Report.{Abort, Idle}
 use Rattle.bus_line.specs.Due.{Mark, FlagAt, AbortAt, current, class_of, piece_report, due_at}
@@ -57,10 +58,10 @@ unfolding number
 none_number = refl
 
 -- a flag has come: nothing of its piece is there yet
-pub tracks-flag : {C : Type 0} (folded : C → List ℕ → Type 0) (cost : ℕ) (d : LineState C) (c : List Bool) (mark : Mark)
-    (p : ℕ) → Tracks folded cost d c mark → p + 8 ≡ length c
-    → Tracks folded cost (record d { first = Some d.place; data_bits = 0; partial = 0 }) c (FlagAt p)
-tracks-flag folded cost d c mark p tracks end =
+pub tracks-flag : {C : Type 0} (view : CheckView C) (d : LineState C) (c : List Bool) (mark : Mark)
+    (p : ℕ) → Tracks view d c mark → p + 8 ≡ length c
+    → Tracks view (record d { first = Some d.place; data_bits = 0; partial = 0 }) c (FlagAt p)
+tracks-flag view d c mark p tracks end =
     let none : settled_data c p ≡ [] = data-start c p (omega (arith, end)) in
     record {
       has_taken = record { place = tracks.has_taken.place; last_bits = tracks.has_taken.last_bits };
@@ -83,10 +84,10 @@ tracks-flag folded cost d c mark p tracks end =
     }
 
 -- an abort has come: no piece is open
-pub tracks-abort : {C : Type 0} (folded : C → List ℕ → Type 0) (cost : ℕ) (d : LineState C) (c : List Bool)
-    (mark : Mark) (a : ℕ) → Tracks folded cost d c mark
-    → Tracks folded cost (record d { first = None }) c (AbortAt a)
-tracks-abort folded cost d c mark a tracks = record {
+pub tracks-abort : {C : Type 0} (view : CheckView C) (d : LineState C) (c : List Bool)
+    (mark : Mark) (a : ℕ) → Tracks view d c mark
+    → Tracks view (record d { first = None }) c (AbortAt a)
+tracks-abort view d c mark a tracks = record {
   has_taken = record { place = tracks.has_taken.place; last_bits = tracks.has_taken.last_bits };
   first = refl;
   piece = tt;

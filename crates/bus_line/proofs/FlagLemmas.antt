@@ -9,6 +9,7 @@ use Rattle.std.proofs.lemmas.Bool.{cond-false}
 use Rattle.bus_bits.specs.Octet.{number, bits_of}
 use Rattle.bus_bits.proofs.OctetLemmas.{bits-low, bits-split, number-bits}
 use Rattle.bus_bits.proofs.CaptureLemmas.{le_false}
+use Rattle.bus_fcs.specs.Check.{CheckView}
 use Rattle.bus_line.specs.Spelling.{ones}
 use Rattle.bus_line.specs.Mark.{flag}
 use Rattle.bus_line.specs.Decides.{flags, EndsInFlag}
@@ -173,26 +174,26 @@ flag-last-bits b ends =
     ∙ (ap number (drop_at front (flag ++ flag) (length (b ++ flag)) size) ∙ two-flags)
 
 -- the state after it
-pub flag-after : {C : Type 0} (folded : C → List ℕ → Type 0) (cost : ℕ) (d : LineState C) (b : List Bool)
-    (place shifted : ℕ) → EndsInFlag b → After folded cost d b → place ≡ d.place + 8
-    → After folded cost
+pub flag-after : {C : Type 0} (view : CheckView C) (d : LineState C) (b : List Bool)
+    (place shifted : ℕ) → EndsInFlag b → After view d b → place ≡ d.place + 8
+    → After view
     (record d { place = place; last_bits = 32382; first = Some place; spent = record d.spent { shifted = shifted } })
     (b ++ flag)
-flag-after folded cost d b place shifted ends stands at =
+flag-after view d b place shifted ends stands at =
     let size = length-append b flag in
     let room = flag-length b ends in
     let ended : EndsInFlag (b ++ flag) = record { front = b; all = refl } in
     let tracks :
-    Tracks folded cost
+    Tracks view
     (record d { place = place; last_bits = 32382; first = Some place; spent = record d.spent { shifted = shifted } })
     (b ++ flag) (FlagAt (length b)) =
-    (let old : Holds folded d (settled_data b (length b - 8)) =
-    holds-of folded d b (length b - 8) (current b) (flag-last b ends) stands.piece in
+    (let old : Holds view.folded d (settled_data b (length b - 8)) =
+    holds-of view.folded d b (length b - 8) (current b) (flag-last b ends) stands.piece in
     let before : settled_data b (length b - 8) ≡ [] = data-start b (length b - 8) (omega (arith, room)) in
     let none : settled_data (b ++ flag) (length b) ≡ [] = data-start (b ++ flag) (length b) (omega (arith, size)) in
     let here = stands.has_taken.place in
-    let counted = flag-counts cost d b ends stands.counts 8 (omega arith) in
-    let empty : Holds folded d [] = subst (Holds folded d) before old in
+    let counted = flag-counts view.cost d b ends stands.counts 8 (omega arith) in
+    let empty : Holds view.folded d [] = subst (Holds view.folded d) before old in
     record {
       has_taken = record { place = at ∙ omega (arith, here, size); last_bits = sym (flag-last-bits b ends) };
       first = ap Some (at ∙ omega (arith, here));
@@ -204,26 +205,26 @@ flag-after folded cost d b place shifted ends stands at =
             held = λ many. absurd (omega (arith, many));
             checked = λ many. absurd (omega (arith, many));
           });
-      counts = moved-counts cost d (b ++ flag) place 32382 shifted (Some place) counted;
+      counts = moved-counts view.cost d (b ++ flag) place 32382 shifted (Some place) counted;
     }) in
     let last : current (b ++ flag) ≡ FlagAt (length b) =
     flag-last (b ++ flag) ended ∙ ap FlagAt (omega (arith, size)) in
-    subst (Tracks folded cost _ (b ++ flag)) (sym last) tracks
+    subst (Tracks view _ (b ++ flag)) (sym last) tracks
 
 -- many of them
-pub flags-after : {C : Type 0} (folded : C → List ℕ → Type 0) (cost : ℕ) (d : LineState C) (b : List Bool)
-    (k place shifted : ℕ) → 0 < k → (0 < k → EndsInFlag b) → After folded cost d b → place ≡ d.place + 8 * k
-    → After folded cost
+pub flags-after : {C : Type 0} (view : CheckView C) (d : LineState C) (b : List Bool)
+    (k place shifted : ℕ) → 0 < k → (0 < k → EndsInFlag b) → After view d b → place ≡ d.place + 8 * k
+    → After view
     (record d { place = place; last_bits = 32382; first = Some place; spent = record d.spent { shifted = shifted } })
     (b ++ flags k)
-flags-after folded cost d b zero place shifted some ends stands at = absurd (omega (arith, some))
-flags-after folded cost d b (suc zero) place shifted some ends stands at =
-    flag-after folded cost d b place shifted (ends some) stands (omega (arith, at))
-flags-after folded cost d b (suc (suc k)) place shifted some ends stands at =
+flags-after view d b zero place shifted some ends stands at = absurd (omega (arith, some))
+flags-after view d b (suc zero) place shifted some ends stands at =
+    flag-after view d b place shifted (ends some) stands (omega (arith, at))
+flags-after view d b (suc (suc k)) place shifted some ends stands at =
     let end = ends some in
-    let before = flags-after _ _ d b (suc k) (d.place + 8 * suc k) shifted (omega arith) (λ some. end) stands refl in
+    let before = flags-after _ d b (suc k) (d.place + 8 * suc k) shifted (omega arith) (λ some. end) stands refl in
     subst
-    (After folded cost
+    (After view
     (record d { place = place; last_bits = 32382; first = Some place; spent = record d.spent { shifted = shifted } }))
     (append_assoc b (flags (suc k)) flag)
-    (flag-after folded cost _ (b ++ flags (suc k)) place shifted (flags-end b (suc k) end) before (omega (arith, at)))
+    (flag-after view _ (b ++ flags (suc k)) place shifted (flags-end b (suc k) end) before (omega (arith, at)))

@@ -8,6 +8,7 @@ use Rattle.std.proofs.lemmas.Bool.{cases_lt}
 use Rattle.std.proofs.Math.Seq.{take-append-add}
 use Rattle.bus_bits.specs.Octet.{bits_of}
 use Rattle.bus_bits.proofs.OctetLemmas.{length-bits, bits-split, bits-front}
+use Rattle.bus_fcs.specs.Check.{CheckView}
 use Rattle.bus_line.specs.Mark.{flag}
 use Rattle.bus_line.specs.Decides.{flags, EndsInFlag, MayDecideAt}
 use Rattle.bus_line.specs.Due.{current, placed}
@@ -93,17 +94,17 @@ flags-then b bits k are i past =
 -- ---- whether there are any
 
 -- the decoder's place tells whether a flag ended there
-pub mark-told : {C : Type 0} (folded : C → List ℕ → Type 0) (cost : ℕ) (d : LineState C) (at : ℕ) (b : List Bool) →
-    After folded cost d b → at ≡ settles_from d.first → EndsInFlag b → at ≡ d.place + 8
-mark-told folded cost d at b stands settles ends =
+pub mark-told : {C : Type 0} (view : CheckView C) (d : LineState C) (at : ℕ) (b : List Bool) →
+    After view d b → at ≡ settles_from d.first → EndsInFlag b → at ≡ d.place + 8
+mark-told view d at b stands settles ends =
     let size : length b ≡ length ends.front + 8 = ap length ends.all ∙ length-append ends.front flag in
     let first : d.first ≡ Some (d.origin + (length b - 8 + 8)) =
     stands.first ∙ ap (first_of d.origin) (flag-last b ends) in
     settles ∙ (ap settles_from first ∙ omega (arith, stands.has_taken.place, size))
 
-pub mark-is : {C : Type 0} (folded : C → List ℕ → Type 0) (cost : ℕ) (d : LineState C) (at : ℕ) (b : List Bool) →
-    After folded cost d b → at ≡ settles_from d.first → d.place ≤ 2 ^ 60 → at ≡ d.place + 8 → EndsInFlag b
-mark-is folded cost d at b after settles fits at-flag = found d.first refl
+pub mark-is : {C : Type 0} (view : CheckView C) (d : LineState C) (at : ℕ) (b : List Bool) →
+    After view d b → at ≡ settles_from d.first → d.place ≤ 2 ^ 60 → at ≡ d.place + 8 → EndsInFlag b
+mark-is view d at b after settles fits at-flag = found d.first refl
   where
     found : (first : Option ℕ) → d.first ≡ first → EndsInFlag b
     found None opened = absurd (omega (arith, ap settles_from opened, settles, fits, at-flag))

@@ -13,54 +13,46 @@ use Rattle.bus_line.specs.Internal.Inserting.{raw_after, run_after}
 use Rattle.bus_line.specs.Told.{told}
 use Rattle.bus_line.specs.Internal.StuffingWriter.{Sent, Cut}
 use Rattle.bus_line.specs.declared.encoder.stuffing_writer.StuffingWriter.{StuffingWriter}
-
--- ---- what a sink was told
-
-pub told-nil : (t : Option (List Bool)) → t ≡ told t []
-told-nil None = refl
-told-nil (Some xs) = ap Some (sym (append-nil xs))
-
-pub told-more : (t : Option (List Bool)) (xs ys : List Bool) → told (told t xs) ys ≡ told t (xs ++ ys)
-told-more None xs ys = refl
-told-more (Some zs) xs ys = ap Some (append_assoc zs xs ys)
+use Rattle.bus_line.specs.BitSink.{BitSinkView}
+use Rattle.bus_line.proofs.ToldLemmas.{told-nil, told-more}
 
 take-both : (xs ys : List Bool) (k : ℕ) → take (length xs + k) (xs ++ ys) ≡ xs ++ take k ys
 take-both [] ys k = ap (λ n. take n ys) (omega arith)
 take-both (x ∷ xs) ys k = let e : length (x ∷ xs) + k ≡ suc (length xs + k) =
     omega arith in rw e (ap (λ l. x ∷ l) (take-both xs ys k))
 
-module _ {S : Type 0} (taken : S → Option (List Bool)) (refusals : S → ℕ) where
-  pub sent-nil : (a : StuffingWriter) (s : S) → Sent taken refusals [] a a s s
-  sent-nil a s = record { took = told-nil (taken s); kept = refl; written = omega arith }
+module _ {S : Type 0} (sink : BitSinkView S) where
+  pub sent-nil : (a : StuffingWriter) (s : S) → Sent sink [] a a s s
+  sent-nil a s = record { took = told-nil (sink.taken s); kept = refl; written = omega arith }
 
-  pub sent-more : (xs ys : List Bool) (a b c : StuffingWriter) (s t u : S) → Sent taken refusals xs a b s t →
-      Sent taken refusals ys b c t u → Sent taken refusals (xs ++ ys) a c s u
+  pub sent-more : (xs ys : List Bool) (a b c : StuffingWriter) (s t u : S) → Sent sink xs a b s t →
+      Sent sink ys b c t u → Sent sink (xs ++ ys) a c s u
   sent-more xs ys a b c s t u p q = record {
-    took = q.took ∙ (ap (λ z. told z ys) p.took ∙ told-more (taken s) xs ys);
+    took = q.took ∙ (ap (λ z. told z ys) p.took ∙ told-more (sink.taken s) xs ys);
     kept = q.kept ∙ p.kept;
     written = omega (arith, p.written, q.written, length-append xs ys);
   }
 
   -- the bits in front went out, and then the sink refused one
-  pub cut-behind : (xs ys : List Bool) (a b c : StuffingWriter) (s t u : S) → Sent taken refusals xs a b s t →
-      Cut taken refusals ys b c t u → Cut taken refusals (xs ++ ys) a c s u
+  pub cut-behind : (xs ys : List Bool) (a b c : StuffingWriter) (s t u : S) → Sent sink xs a b s t →
+      Cut sink ys b c t u → Cut sink (xs ++ ys) a c s u
   cut-behind xs ys a b c s t u p q = record {
     count = length xs + q.count;
     within = omega (arith, length-append xs ys, q.within);
     took =
         q.took ∙ (ap (λ z. told z (take q.count ys)) p.took
-        ∙ (told-more (taken s) xs (take q.count ys) ∙ ap (told (taken s)) (sym (take-both xs ys q.count))));
+        ∙ (told-more (sink.taken s) xs (take q.count ys) ∙ ap (told (sink.taken s)) (sym (take-both xs ys q.count))));
     failed = q.failed ∙ ap (λ n. n + 1) p.kept;
     written = omega (arith, p.written, q.written);
   }
 
   -- more bits would have come after the one that was refused
-  pub cut-before : (xs ys : List Bool) (a b : StuffingWriter) (s t : S) → Cut taken refusals xs a b s t →
-      Cut taken refusals (xs ++ ys) a b s t
+  pub cut-before : (xs ys : List Bool) (a b : StuffingWriter) (s t : S) → Cut sink xs a b s t →
+      Cut sink (xs ++ ys) a b s t
   cut-before xs ys a b s t q = record {
     count = q.count;
     within = omega (arith, length-append xs ys, q.within);
-    took = q.took ∙ ap (told (taken s)) (sym (take-append-le q.count xs ys (omega (arith, q.within))));
+    took = q.took ∙ ap (told (sink.taken s)) (sym (take-append-le q.count xs ys (omega (arith, q.within))));
     failed = q.failed;
     written = q.written;
   }
@@ -131,30 +123,30 @@ pub next-of : {X : Type 0} (xs : List X) (i : ℕ) (d : X) → i < length xs →
 next-of xs i d h = split_at xs i d (get_or xs i d) h refl
     ∙ sym (append_assoc (take i xs) (get_or xs i d ∷ []) (drop (i + 1) xs))
 
-module _ {S : Type 0} (taken : S → Option (List Bool)) (refusals : S → ℕ) where
+module _ {S : Type 0} (sink : BitSinkView S) where
   -- data d, and after it e
   pub data-sent : (k : ℕ) (d e : List Bool) (a b c : StuffingWriter) (s t u : S) →
-      Sent taken refusals (raw_after k d) a b s t → b.run ≡ run_after k d →
-      Sent taken refusals (raw_after b.run e) b c t u → Sent taken refusals (raw_after k (d ++ e)) a c s u
+      Sent sink (raw_after k d) a b s t → b.run ≡ run_after k d →
+      Sent sink (raw_after b.run e) b c t u → Sent sink (raw_after k (d ++ e)) a c s u
   data-sent k d e a b c s t u p r q =
-      subst (λ z. Sent taken refusals z a c s u) (sym (raw-append k d e))
-      (sent-more taken refusals _ _ a b c s t u p (subst (λ n. Sent taken refusals (raw_after n e) b c t u) r q))
+      subst (λ z. Sent sink z a c s u) (sym (raw-append k d e))
+      (sent-more sink _ _ a b c s t u p (subst (λ n. Sent sink (raw_after n e) b c t u) r q))
 
   pub data-cut-before : (k : ℕ) (d e : List Bool) (a b : StuffingWriter) (s t : S) →
-      Cut taken refusals (raw_after k d) a b s t → Cut taken refusals (raw_after k (d ++ e)) a b s t
+      Cut sink (raw_after k d) a b s t → Cut sink (raw_after k (d ++ e)) a b s t
   data-cut-before k d e a b s t q =
-      subst (λ z. Cut taken refusals z a b s t) (sym (raw-append k d e)) (cut-before taken refusals _ _ a b s t q)
+      subst (λ z. Cut sink z a b s t) (sym (raw-append k d e)) (cut-before sink _ _ a b s t q)
 
   pub data-cut-behind : (k : ℕ) (d e : List Bool) (a b c : StuffingWriter) (s t u : S) →
-      Sent taken refusals (raw_after k d) a b s t → b.run ≡ run_after k d →
-      Cut taken refusals (raw_after b.run e) b c t u → Cut taken refusals (raw_after k (d ++ e)) a c s u
+      Sent sink (raw_after k d) a b s t → b.run ≡ run_after k d →
+      Cut sink (raw_after b.run e) b c t u → Cut sink (raw_after k (d ++ e)) a c s u
   data-cut-behind k d e a b c s t u p r q =
-      subst (λ z. Cut taken refusals z a c s u) (sym (raw-append k d e))
-      (cut-behind taken refusals _ _ a b c s t u p (subst (λ n. Cut taken refusals (raw_after n e) b c t u) r q))
+      subst (λ z. Cut sink z a c s u) (sym (raw-append k d e))
+      (cut-behind sink _ _ a b c s t u p (subst (λ n. Cut sink (raw_after n e) b c t u) r q))
 
   pub data-cut : (k : ℕ) (d e f : List Bool) (a b c : StuffingWriter) (s t u : S) →
-      Sent taken refusals (raw_after k d) a b s t → b.run ≡ run_after k d →
-      Cut taken refusals (raw_after b.run e) b c t u → Cut taken refusals (raw_after k ((d ++ e) ++ f)) a c s u
+      Sent sink (raw_after k d) a b s t → b.run ≡ run_after k d →
+      Cut sink (raw_after b.run e) b c t u → Cut sink (raw_after k ((d ++ e) ++ f)) a c s u
   data-cut k d e f a b c s t u p r q = data-cut-before k (d ++ e) f a c s u (data-cut-behind k d e a b c s t u p r q)
 
 pub octets-next : (os : List ℕ) (i : ℕ) → i < length os →

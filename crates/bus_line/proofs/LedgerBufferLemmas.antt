@@ -5,6 +5,7 @@ use Rattle.std.specs.Prelude.{nat_lt, if◌then◌else◌}
 use Rattle.std.proofs.lemmas.Bool.Decides.{nat_tests}
 use Rattle.std.proofs.lemmas.List.{length-take}
 use Rattle.bus_bits.specs.Octet.{octets}
+use Rattle.bus_fcs.specs.Check.{CheckView}
 use Rattle.bus_line.specs.Due.{Mark, NoMark, FlagAt, AbortAt, current, begun_by}
 use Rattle.bus_line.specs.Ledger.{stored_from, stored_behind, stored_open}
 use Rattle.bus_line.specs.Internal.LineState.{LineState}
@@ -32,21 +33,21 @@ none-behind-mark longest origin b (AbortAt a) e f = sym (ap (λ m. stored_behind
 none-behind-mark longest origin b (FlagAt p) e f = absurd (cc)
 
 -- before the first octet none is stored
-pub none-stored : {C : Type 0} (folded : C → List ℕ → Type 0) (cost : ℕ) (d : LineState C) (b : List Bool) →
-    After folded cost d b → d.data_bits < 8 → 0 ≡ stored_open d.longest b
-none-stored folded cost d b h l = by_mark (current b) refl h.piece
+pub none-stored : {C : Type 0} (view : CheckView C) (d : LineState C) (b : List Bool) →
+    After view d b → d.data_bits < 8 → 0 ≡ stored_open d.longest b
+none-stored view d b h l = by_mark (current b) refl h.piece
   where
-    by_mark : (m : Mark) → current b ≡ m → HoldsFor folded d b m → 0 ≡ stored_open d.longest b
+    by_mark : (m : Mark) → current b ≡ m → HoldsFor view.folded d b m → 0 ≡ stored_open d.longest b
     by_mark NoMark e k = none-behind-mark d.longest d.origin b NoMark e refl
     by_mark (AbortAt a) e k = none-behind-mark d.longest d.origin b (AbortAt a) e refl
     by_mark (FlagAt p) e k = omega (arith, stored-behind-flag d.longest b p e, k.count, l)
 
 -- from then on those that are held
-pub held-stored : {C : Type 0} (folded : C → List ℕ → Type 0) (cost : ℕ) (d : LineState C) (b : List Bool) (first : ℕ) →
-    After folded cost d b → d.first ≡ Some first → 8 ≤ d.data_bits → length d.octets ≡ stored_open d.longest b
-held-stored folded cost d b first h f l = by_mark (current b) refl h.piece (sym h.first ∙ f)
+pub held-stored : {C : Type 0} (view : CheckView C) (d : LineState C) (b : List Bool) (first : ℕ) →
+    After view d b → d.first ≡ Some first → 8 ≤ d.data_bits → length d.octets ≡ stored_open d.longest b
+held-stored view d b first h f l = by_mark (current b) refl h.piece (sym h.first ∙ f)
   where
-    by_mark : (m : Mark) → current b ≡ m → HoldsFor folded d b m → first_of d.origin m ≡ Some first →
+    by_mark : (m : Mark) → current b ≡ m → HoldsFor view.folded d b m → first_of d.origin m ≡ Some first →
         length d.octets ≡ stored_open d.longest b
     by_mark NoMark e k g = absurd (cc)
     by_mark (AbortAt a) e k g = absurd (cc)

@@ -256,7 +256,8 @@ paid-front longest b (suc n) within =
     let next : suc n ≡ n + 1 = omega arith in
     let front = take n b in
     let found = find x (ones_at_end front) (length front) in
-    rw (next, take_next b n false (omega arith)) (paid-step longest front x found.0 found.1 before)
+    subst (IsPaid longest) (sym (ap (λ k. take k b) next ∙ take_next b n false (omega arith)))
+    (paid-step longest front x found.0 found.1 before)
 
 -- the octets of all frames are among those that were stored
 pub frames-paid : (longest : ℕ) (b : List Bool) → copied longest b ≤ stored longest b

@@ -62,7 +62,8 @@ rank-data b p (suc m) mark room =
     let before = rank-data b p m mark (omega arith) in
     elim (cases_lt m (p + 8)) [
       | inl early ↦
-          let none = ap one_if (and_left _ _ (lt-leb (p + 8) m early)) in
+          let none : one_if (nat_le (p + 8) m && is_settled b m) ≡ 0 =
+          ap one_if (and_left _ _ (lt-leb (p + 8) m early)) in
           let short = ap (λ r. length (data_so_far r)) (range-none b (p + 8) m (omega arith)) in
           let still = ap (λ r. length (data_so_far r)) (range-none b (p + 8) (suc m) (omega arith)) in
           omega (arith, count-more f m, before, none, short, still)
@@ -123,7 +124,6 @@ pub count-none : (f : ℕ → Bool) (n : ℕ) → ((i : ℕ) → i < n → f i �
 count-none f zero none = refl
 count-none f (suc n) none =
     omega (arith, count-more f n, count-none f n (λ i below. none i (omega arith)), ap one_if (none n (omega arith)))
-
 
 -- a place that is not settled
 rank-still : (b : List Bool) (m : ℕ) (mark : Mark) → last_mark b (suc m) ≡ mark → is_settled b m ≡ false →

@@ -40,7 +40,6 @@ one-stored limit rank =
     uneven : ((rank + 1) % 8 == 0) ≡ false → (rank + 1) / 8 ≡ rank / 8
     uneven odd = let not-whole : (rank + 1) % 8 ≢ 0 = grind (arith, nat_tests) in omega (arith, not-whole)
 
-
 stored-ranked : (longest : ℕ) (b : List Bool) (p m : ℕ) → current b ≡ FlagAt p → m ≤ length b →
     count_by (kept longest b p) (places m) ≡ min (longest + 2) (count_by (ranked b p) (places m) / 8)
 stored-ranked longest b p zero mark within = omega arith
@@ -68,7 +67,6 @@ stored-ranked longest b p (suc m) mark within =
   where
     both : (x y z : Bool) → x ≡ true → y ≡ true → (x && (y && z)) ≡ z
     both x y z first second = rw (first, second) refl
-
 
     unranked : ranked b p m ≡ false → kept longest b p m ≡ false
     unranked no-rank = unranked-by (nat_le (p + 8) m) (is_settled b m) _ no-rank

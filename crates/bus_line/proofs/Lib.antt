@@ -38,6 +38,7 @@ pub mod LedgerPaidLemmas
 pub mod SuffixLemmas
 pub mod CutLemmas
 pub mod OwnedBitsLemmas
+pub mod ToldLemmas
 pub mod InsertingLemmas
 pub mod EncoderLemmas
 pub mod SentLemmas

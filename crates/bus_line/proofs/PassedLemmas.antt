@@ -5,6 +5,7 @@ use Rattle.std.proofs.lemmas.Bool.{cases_lt}
 use Rattle.std.proofs.lemmas.Nat.{shr_below}
 use Rattle.bus_bits.specs.Octet.{bits_of}
 use Rattle.bus_bits.proofs.OctetLemmas.{length-bits, bits-split, bits-front}
+use Rattle.bus_fcs.specs.Check.{CheckView}
 use Rattle.bus_line.specs.Decides.{flags}
 use Rattle.bus_line.specs.Report.{Report}
 use Rattle.bus_line.specs.Due.{placed}
@@ -61,9 +62,9 @@ module _ {b : List Bool} {n x k rest left : ℕ} (past : IsPast b n x k rest lef
       more-on longest origin l o (t - 1) (j - 1) [] (omega (arith, count, some)) same from
       (is ∙ sym (append-nil (placed o l (b ++ flags k)))) ∙ append-nil (placed origin longest b)
 
-  pub after-on : {C : Type 0} (folded : C → List ℕ → Type 0) (cost t j : ℕ) (d : LineState C) → j ≡ 8 * k + t →
-      After folded cost d ((b ++ flags k) ++ bits_of t rest) → After folded cost d (b ++ bits_of j x)
-  after-on folded cost t j d count after = rw (count, list-behind t) after
+  pub after-on : {C : Type 0} (view : CheckView C) (t j : ℕ) (d : LineState C) → j ≡ 8 * k + t →
+      After view d ((b ++ flags k) ++ bits_of t rest) → After view d (b ++ bits_of j x)
+  after-on view t j d count after = rw (count, list-behind t) after
 
   -- ---- where the flags are all
 
@@ -84,9 +85,9 @@ module _ {b : List Bool} {n x k rest left : ℕ} (past : IsPast b n x k rest lef
         rw (← bits-front (n - 1) n x (omega arith), are-flags, ← all)
         (flags-before origin longest b k begun (ahead.behind begun))
 
-    pub after-all : {C : Type 0} (folded : C → List ℕ → Type 0) (cost : ℕ) (e : LineState C) →
-        After folded cost e (b ++ flags k) → After folded cost e (b ++ bits_of n x)
-    after-all folded cost e after = rw are-flags after
+    pub after-all : {C : Type 0} (view : CheckView C) (e : LineState C) →
+        After view e (b ++ flags k) → After view e (b ++ bits_of n x)
+    after-all view e after = rw are-flags after
 
   -- ---- how many would be taken
 

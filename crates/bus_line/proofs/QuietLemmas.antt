@@ -15,6 +15,7 @@ use Rattle.std.proofs.lemmas.Nat.Bits.{bit_at_mask_below, bit_at-trailing_zeros}
 use Rattle.std.proofs.lemmas.Bool.{cases_lt}
 use Rattle.bus_bits.specs.Octet.{bits_of, number}
 use Rattle.bus_bits.proofs.OctetLemmas.{bits-low, number-bits}
+use Rattle.bus_fcs.specs.Check.{CheckView}
 use Rattle.bus_line.specs.Mark.{flag}
 use Rattle.bus_line.specs.Decides.{flags, EndsInFlag}
 use Rattle.bus_line.specs.Due.{placed}
@@ -210,20 +211,20 @@ flags-more os from at x begun before next is =
 -- ---- time fill
 
 -- where no piece is open, one after sixteen of them decides nothing
-module _ {C : Type 0} (folded : C → List ℕ → Type 0) (cost : ℕ) (check : C) (cells : List ℕ) where
+module _ {C : Type 0} (view : CheckView C) (check : C) (cells : List ℕ) where
   one-more : (w : LineWords) → w.last_bits ≡ 65535 → w.settles_at ≡ 2 ^ 62 → w.place + 1 ≤ 2 ^ 60 →
-      Tells folded cost (state w check cells) (true ∷ []) None (state (record w { place = w.place + 1 }) check cells)
+      Tells view (state w check cells) (true ∷ []) None (state (record w { place = w.place + 1 }) check cells)
   unfolding number
   one-more w ones idle room =
       let d = state w check cells in
       let next : LineWords = record w { place = w.place + 1 } in
       let e = state next check cells in
-      let word : (b : List Bool) → After folded cost d b → IsWord 131071 b (true ∷ []) =
+      let word : (b : List Bool) → After view d b → IsWord 131071 b (true ∷ []) =
       λ b stands. word-made 65535 1 b (true ∷ []) (sym ones ∙ stands.has_taken.last_bits) refl in
       let none : (i : ℕ) → i < 1 → IsStop 131071 i → ⊥ = λ i before stop. let first : i ≡ 0 =
       omega (arith, before) in
       elim (rw first at stop) [ inl six ↦ omega (arith, six) | inr more ↦ omega (arith, more) ] in
-      let calm : (b : List Bool) → After folded cost d b → IsCalm b (true ∷ []) 1 =
+      let calm : (b : List Bool) → After view d b → IsCalm b (true ∷ []) 1 =
       λ b stands. calm-before 131071 1 b (true ∷ []) (word b stands) (omega arith) none in
       let same : next ≡ record w { place = w.place + 1; last_bits = 131071 / 2 ^ 1 % 65536 } =
       ap (λ (x : ℕ). record w { place = w.place + 1; last_bits = x }) (ones ∙ omega arith) in
@@ -231,12 +232,12 @@ module _ {C : Type 0} (folded : C → List ℕ → Type 0) (cost : ℕ) (check :
       record {
         leads = record {
           after = λ b stands.
-              let lags = shift-lags folded cost w next check cells b (true ∷ []) 131071 1 same stands (word b stands)
+              let lags = shift-lags view w next check cells b (true ∷ []) 131071 1 same stands (word b stands)
               (omega arith) in
               let few : IsCalm b (true ∷ []) 0 = λ i before. absurd (omega (arith, before)) in
-              let tracks = word-unsettled folded cost (2 ^ 62) 131071 1 None e b (true ∷ []) (word b stands)
+              let tracks = word-unsettled view (2 ^ 62) 131071 1 None e b (true ∷ []) (word b stands)
               (omega arith) few lags closed refl (omega (arith, room)) in
-              calm-after folded cost 1 e b (true ∷ []) (calm b stands) (omega arith) tracks;
+              calm-after view 1 e b (true ∷ []) (calm b stands) (omega arith) tracks;
           longest = refl;
           origin = refl;
           place = refl;
@@ -246,32 +247,32 @@ module _ {C : Type 0} (folded : C → List ℕ → Type 0) (cost : ℕ) (check :
       }
 
   pub ones-tell : (n : ℕ) (w : LineWords) → (0 < n → w.last_bits ≡ 65535) → w.settles_at ≡ 2 ^ 62
-      → w.place + n ≤ 2 ^ 60 → Tells folded cost (state w check cells) (replicate n true) None
+      → w.place + n ≤ 2 ^ 60 → Tells view (state w check cells) (replicate n true) None
       (state (record w { place = w.place + n }) check cells)
   ones-tell zero w ones idle room =
       let end : w.place + 0 ≡ w.place = omega arith in
-      rw end (tells-none folded cost (state w check cells))
+      rw end (tells-none view (state w check cells))
   ones-tell (suc n) w ones idle room =
       let next : LineWords = record w { place = w.place + 1 } in
       let end : w.place + 1 + n ≡ w.place + suc n = omega arith in
       let rest = ones-tell n next (λ _. ones (omega arith)) idle (omega (arith, room)) in
       rw (← end)
-      (tells-more folded cost (one-more w (ones (omega arith)) idle (omega (arith, room))) rest)
+      (tells-more view (one-more w (ones (omega arith)) idle (omega (arith, room))) rest)
 
   pub passed-ones : (old new : LineWords) (n : ℕ) → PassesOnes old n new → old.settles_at ≡ 2 ^ 62 →
-      old.place + n ≤ 2 ^ 60 → Tells folded cost (state old check cells) (replicate n true) None (state new check cells)
+      old.place + n ≤ 2 ^ 60 → Tells view (state old check cells) (replicate n true) None (state new check cells)
   passed-ones old new n passed idle room = rw passed.new_is (ones-tell n old passed.behind idle room)
 
   -- flags after a flag
   pub passed-flags : (old new : LineWords) (k : ℕ) → PassesFlags old k new → IsWithin old →
       old.settles_at ≡ old.place + 8 → new.place ≤ 2 ^ 60 →
-      Tells folded cost (state old check cells) (flags k) None (state new check cells)
+      Tells view (state old check cells) (flags k) None (state new check cells)
   passed-flags old new k passed within flag fits =
-      let ends : (b : List Bool) → After folded cost (state old check cells) b → EndsInFlag b =
-      λ b stands. (shows-flag folded cost old check cells b within stands).ends flag in
+      let ends : (b : List Bool) → After view (state old check cells) b → EndsInFlag b =
+      λ b stands. (shows-flag view old check cells b within stands).ends flag in
       record {
         leads = record {
-          after = λ b stands. flags-passed folded cost old new check cells b k passed (λ _. ends b stands) fits stands;
+          after = λ b stands. flags-passed view old new check cells b k passed (λ _. ends b stands) fits stands;
           longest = kept-longest k passed;
           origin = kept-origin k passed;
           place = moved-place k passed ∙ ap (λ (n : ℕ). old.place + n) (sym (flags-length k));

@@ -8,6 +8,7 @@ use Rattle.bus_bits.specs.Bits.{bits_from}
 use Rattle.bus_bits.specs.Octet.{bits_of}
 use Rattle.bus_bits.proofs.BitLemmas.{bits-taken}
 use Rattle.bus_bits.proofs.OctetLemmas.{bits-front, length-bits}
+use Rattle.bus_fcs.specs.Check.{CheckView}
 use Rattle.bus_line.specs.Report.{Report, moved}
 use Rattle.bus_line.specs.Due.{current, due_at, placed}
 use Rattle.bus_line.specs.After.{Advances, After, DecideNothing, Tells}
@@ -40,22 +41,22 @@ calm-turn d x m n b taken none low lows =
     let within : m ≤ length (bits_of 56 x) = omega (arith, low, length-bits 56 x) in
     calm-front b x 56 n m (calm-before w m b (bits_of 56 x) word within (no-stop w _ m behind none)) low lows
 
-module _ {C : Type 0} (folded : C → List ℕ → Type 0) (cost : ℕ) {old new : LineState C} {bits : List Bool}
+module _ {C : Type 0} (view : CheckView C) {old new : LineState C} {bits : List Bool}
     (longest : new.longest ≡ old.longest) (origin : new.origin ≡ old.origin)
     (place : new.place ≡ old.place + length bits) where
   -- which all are settled
-  pub reached-all : ((b : List Bool) → After folded cost old b → IsCalm b bits (length bits)) →
-      ((b : List Bool) → After folded cost old b → Tracks folded cost new (b ++ bits) (current b)) →
-      Tells folded cost old bits None new
+  pub reached-all : ((b : List Bool) → After view old b → IsCalm b bits (length bits)) →
+      ((b : List Bool) → After view old b → Tracks view new (b ++ bits) (current b)) →
+      Tells view old bits None new
   reached-all calm tracks =
       let all : take (length bits) bits ≡ bits = take_all (length bits) bits (omega arith) in
       record {
         leads = record {
           after = λ b stands.
               let settled =
-              subst (λ (z : List Bool). Tracks folded cost new (b ++ z) (current b)) (sym all) (tracks b stands) in
-              subst (λ (z : List Bool). After folded cost new (b ++ z)) all
-              (calm-after folded cost (length bits) new b bits (calm b stands) (omega arith) settled);
+              subst (λ (z : List Bool). Tracks view new (b ++ z) (current b)) (sym all) (tracks b stands) in
+              subst (λ (z : List Bool). After view new (b ++ z)) all
+              (calm-after view (length bits) new b bits (calm b stands) (omega arith) settled);
           longest = longest;
           origin = origin;
           place = place;
@@ -68,9 +69,9 @@ module _ {C : Type 0} (folded : C → List ℕ → Type 0) (cost : ℕ) {old new
 
   -- and one after them
   pub reached-last : 1 ≤ length bits →
-      ((b : List Bool) → After folded cost old b → IsCalm b bits (length bits - 1)) →
-      ((b : List Bool) → After folded cost old b → Tracks folded cost new (b ++ bits) (current b)) →
-      Reaches folded cost old bits new
+      ((b : List Bool) → After view old b → IsCalm b bits (length bits - 1)) →
+      ((b : List Bool) → After view old b → Tracks view new (b ++ bits) (current b)) →
+      Reaches view old bits new
   reached-last some calm tracks =
       let n : ℕ = length bits - 1 in
       let all : take (n + 1) bits ≡ bits = take_all (n + 1) bits (omega (arith, some)) in
@@ -82,23 +83,23 @@ module _ {C : Type 0} (folded : C → List ℕ → Type 0) (cost : ℕ) {old new
         origin = origin;
         place = place;
         tracks = λ b stands.
-            tracks-last folded cost n new b bits (calm b stands) (omega (arith, some))
-            (subst (λ (z : List Bool). Tracks folded cost new (b ++ z) (current b)) (sym all) (tracks b stands));
+            tracks-last view n new b bits (calm b stands) (omega (arith, some))
+            (subst (λ (z : List Bool). Tracks view new (b ++ z) (current b)) (sym all) (tracks b stands));
         before = λ b stands.
             calm-placed old.origin old.longest n b bits (calm b stands) n (omega arith) (omega arith);
       }
 
 -- ---- what the last of them decides
 
-pub decided : {C : Type 0} (folded : C → List ℕ → Type 0) (cost : ℕ) {old mid new : LineState C} {bits : List Bool}
-    {report : Option Report} → Reaches folded cost old bits mid
+pub decided : {C : Type 0} (view : CheckView C) {old mid new : LineState C} {bits : List Bool}
+    {report : Option Report} → Reaches view old bits mid
     → new.longest ≡ mid.longest → new.origin ≡ mid.origin → new.place ≡ mid.place
-    → ((b : List Bool) (bit : Bool) → Tracks folded cost mid (b ++ bit ∷ []) (current b) →
+    → ((b : List Bool) (bit : Bool) → Tracks view mid (b ++ bit ∷ []) (current b) →
     report ≡ option_map (moved mid.origin) (due_at mid.longest (b ++ bit ∷ []) (length b)))
-    → ((b : List Bool) (bit : Bool) → Tracks folded cost mid (b ++ bit ∷ []) (current b) →
-    After folded cost new (b ++ bit ∷ []))
-    → Advances folded cost old bits report new
-decided folded cost {old} {mid} {new} {bits} {report} reached longest origin place answer after =
+    → ((b : List Bool) (bit : Bool) → Tracks view mid (b ++ bit ∷ []) (current b) →
+    After view new (b ++ bit ∷ []))
+    → Advances view old bits report new
+decided view {old} {mid} {new} {bits} {report} reached longest origin place answer after =
     let front = reached.front in
     let last = reached.last in
     let joined : (b : List Bool) → (b ++ front) ++ last ∷ [] ≡ b ++ bits =
@@ -121,7 +122,7 @@ decided folded cost {old} {mid} {new} {bits} {report} reached longest origin pla
             ∙ (placed-more old.origin old.longest (b ++ front) last report here
             ∙ ap (λ (z : List Report). z ++ option_to_list report) (reached.before b stands));
       };
-      before = subst (DecideNothing folded cost old) (sym fewer) reached.before;
+      before = subst (DecideNothing view old) (sym fewer) reached.before;
     }
   where
     take-front : (xs ys : List Bool) → take (length xs) (xs ++ ys) ≡ xs
@@ -143,9 +144,9 @@ pub turn-bits : (os : List ℕ) (at x n : ℕ) → bits_of 56 x ≡ bits_from os
 turn-bits os at x n same few =
     sym (bits-front n 56 x few) ∙ (ap (take n) same ∙ bits-taken os at 56 n few)
 
-reaches-more : {C : Type 0} (folded : C → List ℕ → Type 0) (cost : ℕ) {a c e : LineState C} {xs ys : List Bool}
-    → Tells folded cost a xs None c → Reaches folded cost c ys e → Reaches folded cost a (xs ++ ys) e
-reaches-more folded cost {a} {c} {e} {xs} {ys} quiet reached =
+reaches-more : {C : Type 0} (view : CheckView C) {a c e : LineState C} {xs ys : List Bool}
+    → Tells view a xs None c → Reaches view c ys e → Reaches view a (xs ++ ys) e
+reaches-more view {a} {c} {e} {xs} {ys} quiet reached =
     let more : xs ++ ys ≡ (xs ++ reached.front) ++ reached.last ∷ [] =
     ap (λ (z : List Bool). xs ++ z) reached.all ∙ sym (append_assoc xs reached.front (reached.last ∷ [])) in
     record {
@@ -157,19 +158,19 @@ reaches-more folded cost {a} {c} {e} {xs} {ys} quiet reached =
       place = omega (arith, length-append xs ys, quiet.leads.place, reached.place);
       tracks = λ b stands.
           rw (← append_assoc b xs reached.front) (reached.tracks (b ++ xs) (quiet.leads.after b stands));
-      before = decide-more folded cost quiet reached.before;
+      before = decide-more view quiet reached.before;
     }
 
-reaches-to-more : {C : Type 0} (folded : C → List ℕ → Type 0) (cost : ℕ) {a c : LineState C} {xs : List Bool}
-    (e : LineState C) (ys : List Bool) (is_stop : Bool) → Tells folded cost a xs None c
-    → ReachesTo folded cost c ys is_stop e → ReachesTo folded cost a (xs ++ ys) is_stop e
-reaches-to-more folded cost e ys true quiet reached = reaches-more folded cost quiet reached
-reaches-to-more folded cost e ys false quiet reached = tells-more folded cost quiet reached
+reaches-to-more : {C : Type 0} (view : CheckView C) {a c : LineState C} {xs : List Bool}
+    (e : LineState C) (ys : List Bool) (is_stop : Bool) → Tells view a xs None c
+    → ReachesTo view c ys is_stop e → ReachesTo view a (xs ++ ys) is_stop e
+reaches-to-more view e ys true quiet reached = reaches-more view quiet reached
+reaches-to-more view e ys false quiet reached = tells-more view quiet reached
 
-pub reaches-on : {C : Type 0} (folded : C → List ℕ → Type 0) (cost : ℕ) (os : List ℕ) (from at : ℕ) → from ≤ at
-    → {a c : LineState C} → Tells folded cost a (bits_from os from (at - from)) None c
+pub reaches-on : {C : Type 0} (view : CheckView C) (os : List ℕ) (from at : ℕ) → from ≤ at
+    → {a c : LineState C} → Tells view a (bits_from os from (at - from)) None c
     → (e : LineState C) (n m : ℕ) (is_stop : Bool) → m ≡ at - from + n
-    → ReachesTo folded cost c (bits_from os at n) is_stop e → ReachesTo folded cost a (bits_from os from m) is_stop e
-reaches-on folded cost os from at begun {a} {c} quiet e n m is_stop count reached =
-    rw (← joins folded cost os from at begun quiet n m count)
-    (reaches-to-more folded cost e (bits_from os at n) is_stop quiet reached)
+    → ReachesTo view c (bits_from os at n) is_stop e → ReachesTo view a (bits_from os from m) is_stop e
+reaches-on view os from at begun {a} {c} quiet e n m is_stop count reached =
+    rw (← joins view os from at begun quiet n m count)
+    (reaches-to-more view e (bits_from os at n) is_stop quiet reached)

@@ -11,6 +11,7 @@ use Rattle.std.proofs.lemmas.Bool.Decides.{nat_tests}
 use Rattle.bus_bits.specs.Octet.{bits_of}
 use Rattle.bus_bits.proofs.OctetLemmas.{length-bits}
 use Rattle.bus_bits.specs.declared.spent.Spent.{Spent}
+use Rattle.bus_fcs.specs.Check.{CheckView}
 use Rattle.bus_line.specs.Due.{FlagAt, current}
 use Rattle.bus_line.specs.Ledger.{is_settled, is_inserted, assembled, stored}
 use Rattle.bus_line.specs.Internal.LineState.{LineState}
@@ -107,7 +108,6 @@ next-bit i b bits inside =
     ∙ (ap (λ (z : List Bool). b ++ z) (take_next bits i false inside)
     ∙ sym (append_assoc b (take i bits) (get_or bits i false ∷ [])))
 
-
 -- a bit that comes late enough
 settles-late : (longest p w i : ℕ) (b bits : List Bool) (bit : Bool) → IsWord w b bits → i < length bits →
     current (b ++ take i bits) ≡ FlagAt p → p + 16 ≤ length b + i
@@ -202,19 +202,19 @@ settles-calm longest p w n skip b bits mark calm word skipped (suc i) within ins
 -- ---- what the decoder tracks after them
 
 -- data are appended, or none
-tracks-settled : {C : Type 0} (folded : C → List ℕ → Type 0) (cost p : ℕ) (d e : LineState C)
-    (b bits gained : List Bool) → LagsBy folded cost d b bits → current b ≡ FlagAt p →
+tracks-settled : {C : Type 0} (view : CheckView C) (p : ℕ) (d e : LineState C)
+    (b bits gained : List Bool) → LagsBy view d b bits → current b ≡ FlagAt p →
     Settles d.longest p b (b ++ bits) gained
     → e.longest ≡ d.longest → e.origin ≡ d.origin → e.place ≡ d.place → e.last_bits ≡ d.last_bits → e.first ≡ d.first
-    → Holds folded e (settled_data b p ++ gained)
+    → Holds view.folded e (settled_data b p ++ gained)
     → e.spent ≡ record d.spent {
       assembled = d.spent.assembled + length gained;
       stored = d.spent.stored + octets_more d.longest (length (settled_data b p)) (length gained);
       folded =
-          d.spent.folded + cost * octets_more d.longest (length (settled_data b p)) (length gained);
+          d.spent.folded + view.cost * octets_more d.longest (length (settled_data b p)) (length gained);
     }
-    → Tracks folded cost e (b ++ bits) (current b)
-tracks-settled folded cost p d e b bits gained lags mark settles longest origin place last first holds spent =
+    → Tracks view e (b ++ bits) (current b)
+tracks-settled view p d e b bits gained lags mark settles longest origin place last first holds spent =
     let n = octets_more d.longest (length (settled_data b p)) (length gained) in
     let more : length (settled_data (b ++ bits) p) ≡ length (settled_data b p) + length gained =
     ap length settles.more ∙ length-append (settled_data b p) gained in
@@ -223,13 +223,13 @@ tracks-settled folded cost p d e b bits gained lags mark settles longest origin 
     record {
       has_taken = stands-same d e (b ++ bits) place origin last lags.has_taken;
       first = first ∙ (lags.first ∙ ap (λ k. first_of k (current b)) (sym origin));
-      piece = holds-for folded e (b ++ bits) p (current b) mark (subst (Holds folded e) (sym settles.more) holds);
+      piece = holds-for view.folded e (b ++ bits) p (current b) mark (rw settles.more holds);
       counts = rw longest (record {
         settled = ap (λ (x : Spent). x.assembled) spent ∙ omega (arith, lags.counts.settled, settles.settled);
         filled = ap (λ (x : Spent). x.stored) spent ∙ (ap (λ (m : ℕ). m + n) lags.counts.filled ∙ sym full);
         paid = ap (λ (x : Spent). x.folded) spent
-            ∙ (ap (λ (m : ℕ). m + cost * n) lags.counts.paid
-            ∙ (sym (mul-add cost (stored d.longest b) n) ∙ ap (λ (m : ℕ). cost * m) (sym full)));
+            ∙ (ap (λ (m : ℕ). m + view.cost * n) lags.counts.paid
+            ∙ (sym (mul-add view.cost (stored d.longest b) n) ∙ ap (λ (m : ℕ). view.cost * m) (sym full)));
         copied = ap (λ (x : Spent). x.copied) spent ∙ lags.counts.copied;
         handled = ap (λ (x : Spent). x.handled) spent ∙ lags.counts.handled;
       });
@@ -251,64 +251,64 @@ spent-none s cost longest n =
     rw (none, same-assembled, same-stored, same-folded) refl
 
 -- the bits are among the last sixteen, and not yet settled
-pub lags-word : {C : Type 0} (folded : C → List ℕ → Type 0) (cost : ℕ) (d : LineState C) (b bits : List Bool)
-    (w t place last_bits shifted : ℕ) → After folded cost d b → IsWord w b bits → t ≤ length bits
-    → place ≡ d.place + t → last_bits ≡ w / 2 ^ t % 65536 → LagsBy folded cost
+pub lags-word : {C : Type 0} (view : CheckView C) (d : LineState C) (b bits : List Bool)
+    (w t place last_bits shifted : ℕ) → After view d b → IsWord w b bits → t ≤ length bits
+    → place ≡ d.place + t → last_bits ≡ w / 2 ^ t % 65536 → LagsBy view
     (record d { place = place; last_bits = last_bits; spent = record d.spent { shifted = shifted } }) b (take t bits)
-lags-word folded cost d b bits w t place last_bits shifted stands word within at last = record {
+lags-word view d b bits w t place last_bits shifted stands word within at last = record {
   has_taken = record {
     place = at ∙ omega (arith, stands.has_taken.place, length-front t b bits within);
     last_bits = last ∙ word-next w t b bits word within;
   };
   first = stands.first;
-  piece = moved-holds folded d b place last_bits (record d.spent { shifted = shifted }) (current b) stands.piece;
-  counts = moved-counts cost d b place last_bits shifted d.first stands.counts;
+  piece = moved-holds view.folded d b place last_bits (record d.spent { shifted = shifted }) (current b) stands.piece;
+  counts = moved-counts view.cost d b place last_bits shifted d.first stands.counts;
 }
 
 -- no flag was last, or all bits come too early after it
-pub word-unsettled : {C : Type 0} (folded : C → List ℕ → Type 0) (cost at w t : ℕ) (first : Option ℕ) (d : LineState C)
+pub word-unsettled : {C : Type 0} (view : CheckView C) (at w t : ℕ) (first : Option ℕ) (d : LineState C)
     (b bits : List Bool) → IsWord w b bits → t ≤ length bits → IsCalm b bits (t - 1) →
-    LagsBy folded cost d b (take t bits)
-    → d.first ≡ first → at ≡ settles_from first → d.place ≤ at → Tracks folded cost d (b ++ take t bits) (current b)
-word-unsettled folded cost at w t None d b bits word within calm lags opened settles-at early =
+    LagsBy view d b (take t bits)
+    → d.first ≡ first → at ≡ settles_from first → d.place ≤ at → Tracks view d (b ++ take t bits) (current b)
+word-unsettled view at w t None d b bits word within calm lags opened settles-at early =
     let none : first_of d.origin (current b) ≡ None = sym lags.first ∙ opened in
     record {
       has_taken = lags.has_taken;
       first = lags.first;
-      piece = none-holds folded d (b ++ take t bits) d.origin (current b) none;
+      piece = none-holds view.folded d (b ++ take t bits) d.origin (current b) none;
       counts =
-          counts-none cost d.origin (t - 1) d b bits calm none lags.counts t (omega arith) within;
+          counts-none view.cost d.origin (t - 1) d b bits calm none lags.counts t (omega arith) within;
     }
-word-unsettled folded cost at w t (Some first) d b bits word within calm lags opened settles-at early =
+word-unsettled view at w t (Some first) d b bits word within calm lags opened settles-at early =
     let flag = first-Some d.origin first (current b) (sym lags.first ∙ opened) in
     let skip = flag.0 + 16 - length b in
     let settles = settles-calm d.longest flag.0 w (t - 1) skip b bits flag.1 calm word refl t (omega arith) within in
     let none-late : t - skip ≡ 0 =
     omega (arith, lags.has_taken.place, length-front t b bits within, flag.2, settles-at, early) in
-    let held = holds-of folded d b flag.0 (current b) flag.1 lags.piece in
-    tracks-settled folded cost flag.0 d d b (take t bits) [] lags flag.1 (rw none-late at settles)
+    let held = holds-of view.folded d b flag.0 (current b) flag.1 lags.piece in
+    tracks-settled view flag.0 d d b (take t bits) [] lags flag.1 (rw none-late at settles)
     refl refl refl refl refl (rw (append-nil (settled_data b flag.0)) held)
-    (spent-none d.spent cost d.longest (length (settled_data b flag.0)))
+    (spent-none d.spent view.cost d.longest (length (settled_data b flag.0)))
 
 -- from there on data are appended
-pub word-settled : {C : Type 0} (folded : C → List ℕ → Type 0) (cost first w t late n x : ℕ)
+pub word-settled : {C : Type 0} (view : CheckView C) (first w t late n x : ℕ)
     (d e : LineState C) (b bits : List Bool) → IsWord w b bits → t ≤ length bits → IsCalm b bits (t - 1) →
-    LagsBy folded cost d b (take t bits)
+    LagsBy view d b (take t bits)
     → d.first ≡ Some first → first + 8 < d.place → late ≡ min (d.place - (first + 8)) t
     → bits_of n x ≡ data_in_word (w / 2 ^ (t - late)) late
-    → ((bits : List Bool) → Holds folded d bits → Holds folded e (bits ++ bits_of n x))
-    → ((bits : List Bool) → Holds folded d bits →
+    → ((bits : List Bool) → Holds view.folded d bits → Holds view.folded e (bits ++ bits_of n x))
+    → ((bits : List Bool) → Holds view.folded d bits →
     e.spent ≡ record d.spent {
       assembled = d.spent.assembled + n;
       stored = d.spent.stored + octets_more d.longest (length bits) n;
-      folded = d.spent.folded + cost * octets_more d.longest (length bits) n;
+      folded = d.spent.folded + view.cost * octets_more d.longest (length bits) n;
     })
     → e ≡ record d { data_bits = e.data_bits; partial = e.partial; octets = e.octets; check = e.check; spent = e.spent }
-    → Tracks folded cost e (b ++ take t bits) (current b)
-word-settled folded cost first w t late n x d e b bits word within calm lags opened far is-late value holds spent kept =
+    → Tracks view e (b ++ take t bits) (current b)
+word-settled view first w t late n x d e b bits word within calm lags opened far is-late value holds spent kept =
     let flag = first-Some d.origin first (current b) (sym lags.first ∙ opened) in
     let skip = flag.0 + 16 - length b in
-    let held = holds-of folded d b flag.0 (current b) flag.1 lags.piece in
+    let held = holds-of view.folded d b flag.0 (current b) flag.1 lags.piece in
     let front = length-front t b bits within in
     let place = lags.has_taken.place in
     let same-skip : t - late ≡ flag.0 + 16 - length b = omega (arith, place, front, flag.2, far, is-late) in
@@ -317,7 +317,7 @@ word-settled folded cost first w t late n x d e b bits word within calm lags ope
     value ∙ (ap (λ (j : ℕ). data_in_word (w / 2 ^ j) late) same-skip ∙ ap (data_in_word (w / 2 ^ skip)) same-late) in
     let settles = settles-calm d.longest flag.0 w (t - 1) skip b bits flag.1 calm word refl t (omega arith) within in
     let size : length (bits_of n x) ≡ n = length-bits n x in
-    tracks-settled folded cost flag.0 d e b (take t bits) (bits_of n x) lags flag.1 (rw same-data settles)
+    tracks-settled view flag.0 d e b (take t bits) (bits_of n x) lags flag.1 (rw same-data settles)
     (ap (λ (x : LineState _). x.longest) kept) (ap (λ (x : LineState _). x.origin) kept)
     (ap (λ (x : LineState _). x.place) kept) (ap (λ (x : LineState _). x.last_bits) kept)
     (ap (λ (x : LineState _). x.first) kept)

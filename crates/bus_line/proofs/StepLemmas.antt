@@ -8,6 +8,7 @@ use Rattle.std.proofs.lemmas.List.{length_push}
 use Rattle.std.proofs.lemmas.Bool.{false_from_ne_true, leb-true, le-leb, and_from}
 use Rattle.bus_bits.specs.Octet.{number}
 use Rattle.bus_bits.specs.declared.spent.Spent.{Spent}
+use Rattle.bus_fcs.specs.Check.{CheckView}
 use Rattle.bus_line.specs.Internal.Run.{ones_at_end, data_so_far}
 use Rattle.bus_line.specs.Due.{Mark, NoMark, FlagAt, AbortAt, current}
 use Rattle.bus_line.specs.Ledger.{is_settled, belongs, is_inserted, assembled, is_stored, stored}
@@ -77,7 +78,8 @@ pub data-settled : (b : List Bool) (bit : Bool) (p : ℕ) → current b ≡ Flag
 data-settled b bit p mark late plain =
     settles-now b bit
     ∙ and_from _ _ (le-leb 8 (length b) (omega arith))
-    (and_from _ _ (rw mark (le-leb (p + 8) (length b - 8) (omega arith))) (rw plain refl))
+    (and_from _ _ (ap (λ m. belongs m (length b - 8)) mark ∙ le-leb (p + 8) (length b - 8) (omega arith))
+    (rw plain refl))
 
 -- what the ledger counts, where nothing settles
 pub stored-false : (longest : ℕ) (c : List Bool) (i : ℕ) → is_settled c i ≡ false → is_stored longest c i ≡ false
@@ -179,18 +181,18 @@ unfolding number
 none_last_bits = refl
 
 -- before the first bit
-pub fresh-tracks : {C : Type 0} (folded : C → List ℕ → Type 0) (cost shifted : ℕ) (d : LineState C) →
+pub fresh-tracks : {C : Type 0} (view : CheckView C) (shifted : ℕ) (d : LineState C) →
     d.place ≡ d.origin → d.last_bits ≡ 0 → d.first ≡ None →
     d.spent ≡ record { shifted = shifted; assembled = 0; folded = 0; stored = 0; copied = 0; handled = 0 } →
-    Tracks folded cost d [] NoMark
-fresh-tracks folded cost shifted d place last first spent = record {
+    Tracks view d [] NoMark
+fresh-tracks view shifted d place last first spent = record {
   has_taken = record { place = omega (arith, place); last_bits = last ∙ sym none_last_bits };
   first = first;
   piece = tt;
   counts = record {
     settled = ap (λ (t : Spent). t.assembled) spent;
     filled = ap (λ (t : Spent). t.stored) spent;
-    paid = ap (λ (t : Spent). t.folded) spent ∙ sym (mul-zero cost);
+    paid = ap (λ (t : Spent). t.folded) spent ∙ sym (mul-zero view.cost);
     copied = ap (λ (t : Spent). t.copied) spent;
     handled = ap (λ (t : Spent). t.handled) spent;
   };

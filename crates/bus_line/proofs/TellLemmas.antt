@@ -7,6 +7,7 @@ use Rattle.std.proofs.lemmas.List.{append-nil, append_assoc, append_cancel_left,
 use Rattle.std.proofs.lemmas.List.{take-append-drop, take_all, take_more}
 use Rattle.bus_bits.specs.Bits.{bits_from}
 use Rattle.bus_bits.proofs.BitLemmas.{bits-more, front-from, length-from}
+use Rattle.bus_fcs.specs.Check.{CheckView}
 use Rattle.bus_line.specs.Report.{Report, moved}
 use Rattle.bus_line.specs.Due.{due_at, placed, reports}
 use Rattle.bus_line.specs.Internal.LineState.{LineState}
@@ -14,11 +15,11 @@ use Rattle.bus_line.specs.After.{Advances, After, DecideNothing, Tells}
 use Rattle.bus_line.proofs.DueMoreLemmas.{placed-more, reports-append}
 
 -- no bits
-pub tells-none : {C : Type 0} (folded : C → List ℕ → Type 0) (cost : ℕ) (d : LineState C) →
-    Tells folded cost d [] None d
-tells-none folded cost d = record {
+pub tells-none : {C : Type 0} (view : CheckView C) (d : LineState C) →
+    Tells view d [] None d
+tells-none view d = record {
   leads = record {
-    after = λ b stands. subst (After folded cost d) (sym (append-nil b)) stands;
+    after = λ b stands. subst (After view d) (sym (append-nil b)) stands;
     longest = refl;
     origin = refl;
     place = omega arith;
@@ -26,9 +27,9 @@ tells-none folded cost d = record {
   says = λ b stands. ap (placed d.origin d.longest) (append-nil b) ∙ sym (append-nil (placed d.origin d.longest b));
 }
 
-module _ {C : Type 0} (folded : C → List ℕ → Type 0) (cost : ℕ) {a c : LineState C} {xs : List Bool}
-    (quiet : Tells folded cost a xs None c) where
-  silent : (b : List Bool) → After folded cost a b → placed a.origin a.longest (b ++ xs) ≡ placed a.origin a.longest b
+module _ {C : Type 0} (view : CheckView C) {a c : LineState C} {xs : List Bool}
+    (quiet : Tells view a xs None c) where
+  silent : (b : List Bool) → After view a b → placed a.origin a.longest (b ++ xs) ≡ placed a.origin a.longest b
   silent b stands = quiet.says b stands ∙ append-nil (placed a.origin a.longest b)
 
   -- what stands after them, by the first decoder's place and longest frame
@@ -40,8 +41,8 @@ module _ {C : Type 0} (folded : C → List ℕ → Type 0) (cost : ℕ) {a c : L
       ∙ rw (← quiet.leads.origin, ← quiet.leads.longest) is
 
   -- bits that decide a report, or nothing
-  pub tells-more : {e : LineState C} {ys : List Bool} {r : Option Report} → Tells folded cost c ys r e →
-      Tells folded cost a (xs ++ ys) r e
+  pub tells-more : {e : LineState C} {ys : List Bool} {r : Option Report} → Tells view c ys r e →
+      Tells view a (xs ++ ys) r e
   tells-more {e} {ys} {r} more = record {
     leads = record {
       after = λ b stands. rw (← append_assoc b xs ys) (more.leads.after (b ++ xs) (quiet.leads.after b stands));
@@ -54,7 +55,7 @@ module _ {C : Type 0} (folded : C → List ℕ → Type 0) (cost : ℕ) {a c : L
   }
 
   -- more bits that decide nothing
-  pub decide-more : {ys : List Bool} → DecideNothing folded cost c ys → DecideNothing folded cost a (xs ++ ys)
+  pub decide-more : {ys : List Bool} → DecideNothing view c ys → DecideNothing view a (xs ++ ys)
   decide-more {ys} more = λ b stands.
       behind ys [] b
       (more (b ++ xs) (quiet.leads.after b stands) ∙ sym (append-nil (placed c.origin c.longest (b ++ xs))))
@@ -66,8 +67,8 @@ is-none None is = refl
 is-none (Some x) is = absurd (true≢false is)
 
 -- bits of octets from bit `from` on and before bit `at`, and bits after them
-module _ {C : Type 0} (folded : C → List ℕ → Type 0) (cost : ℕ) (os : List ℕ) (from at : ℕ) (begun : from ≤ at)
-    {a c : LineState C} (quiet : Tells folded cost a (bits_from os from (at - from)) None c) where
+module _ {C : Type 0} (view : CheckView C) (os : List ℕ) (from at : ℕ) (begun : from ≤ at)
+    {a c : LineState C} (quiet : Tells view a (bits_from os from (at - from)) None c) where
   pub joins : (n m : ℕ) → m ≡ at - from + n → bits_from os from (at - from) ++ bits_from os at n ≡ bits_from os from m
   joins n m count =
       let there : at ≡ from + (at - from) = omega (arith, begun) in
@@ -75,12 +76,12 @@ module _ {C : Type 0} (folded : C → List ℕ → Type 0) (cost : ℕ) (os : Li
       ∙ (sym (bits-more os from (at - from) n) ∙ ap (bits_from os from) (sym count))
 
   pub tells-on : {e : LineState C} {r : Option Report} (n m : ℕ) → m ≡ at - from + n →
-      Tells folded cost c (bits_from os at n) r e → Tells folded cost a (bits_from os from m) r e
-  tells-on {e} {r} n m count told = rw (← joins n m count) (tells-more folded cost quiet told)
+      Tells view c (bits_from os at n) r e → Tells view a (bits_from os from m) r e
+  tells-on {e} {r} n m count told = rw (← joins n m count) (tells-more view quiet told)
 
-  pub decide-on : (n m : ℕ) → m ≡ at - from + n → DecideNothing folded cost c (bits_from os at n) →
-      DecideNothing folded cost a (bits_from os from m)
-  decide-on n m count told = subst (DecideNothing folded cost a) (joins n m count) (decide-more folded cost quiet told)
+  pub decide-on : (n m : ℕ) → m ≡ at - from + n → DecideNothing view c (bits_from os at n) →
+      DecideNothing view a (bits_from os from m)
+  decide-on n m count told = subst (DecideNothing view a) (joins n m count) (decide-more view quiet told)
 
   pub place-on : c.place ≡ a.place + (at - from)
   place-on = quiet.leads.place ∙ ap (λ (n : ℕ). a.place + n) (length-from os from (at - from))
@@ -112,9 +113,9 @@ none-before origin longest b xs ys is =
     no-items (r ∷ rs) empty = absurd (omega (arith, empty))
 
 -- bits that decide nothing, as bits of which the last decides nothing
-pub advances-quiet : {C : Type 0} (folded : C → List ℕ → Type 0) (cost : ℕ) {a c : LineState C} {bits : List Bool}
-    → Tells folded cost a bits None c → Advances folded cost a bits None c
-advances-quiet folded cost {a} {c} {bits} quiet = record {
+pub advances-quiet : {C : Type 0} (view : CheckView C) {a c : LineState C} {bits : List Bool}
+    → Tells view a bits None c → Advances view a bits None c
+advances-quiet view {a} {c} {bits} quiet = record {
   tells = quiet;
   before = λ b stands.
       let front = take (length bits - 1) bits in
@@ -122,24 +123,24 @@ advances-quiet folded cost {a} {c} {bits} quiet = record {
       let all : (b ++ front) ++ last ≡ b ++ bits =
       append_assoc b front last ∙ ap (λ (z : List Bool). b ++ z) (take-append-drop (length bits - 1) bits) in
       none-before a.origin a.longest b front last
-      (ap (placed a.origin a.longest) all ∙ silent folded cost quiet b stands);
+      (ap (placed a.origin a.longest) all ∙ silent view quiet b stands);
 }
 
 -- bits after those, of which the last may decide a report
-pub advances-on : {C : Type 0} (folded : C → List ℕ → Type 0) (cost : ℕ) (os : List ℕ) (from at : ℕ) → from ≤ at
-    → {a c e : LineState C} {r : Option Report} → Tells folded cost a (bits_from os from (at - from)) None c
+pub advances-on : {C : Type 0} (view : CheckView C) (os : List ℕ) (from at : ℕ) → from ≤ at
+    → {a c e : LineState C} {r : Option Report} → Tells view a (bits_from os from (at - from)) None c
     → (n m : ℕ) → m ≡ at - from + n
-    → Advances folded cost c (bits_from os at n) r e → Advances folded cost a (bits_from os from m) r e
-advances-on folded cost os from at begun {a} {c} quiet n m count advances = record {
-  tells = tells-on folded cost os from at begun quiet n m count advances.tells;
+    → Advances view c (bits_from os at n) r e → Advances view a (bits_from os from m) r e
+advances-on view os from at begun {a} {c} quiet n m count advances = record {
+  tells = tells-on view os from at begun quiet n m count advances.tells;
   before = elim (cases_lt 0 n) [
     | inl some ↦
-        let behind = subst (DecideNothing folded cost c) (front-from os at n) advances.before in
-        subst (DecideNothing folded cost a) (sym (front-from os from m))
-        (decide-on folded cost os from at begun quiet (n - 1) (m - 1) (omega (arith, count, some)) behind)
+        let behind = subst (DecideNothing view c) (front-from os at n) advances.before in
+        subst (DecideNothing view a) (sym (front-from os from m))
+        (decide-on view os from at begun quiet (n - 1) (m - 1) (omega (arith, count, some)) behind)
     | inr none ↦
         let all : at - from ≡ m = omega (arith, count, none) in
-        rw (← all) (advances-quiet folded cost quiet).before
+        rw (← all) (advances-quiet view quiet).before
   ];
 }
 
@@ -159,22 +160,22 @@ last-bit bits some =
     ∙ take_more bits before false (omega (arith, some))
 
 -- of a bit alone
-pub bit-due : {C : Type 0} (folded : C → List ℕ → Type 0) (cost : ℕ) {a c : LineState C} {bit : Bool}
-    {r : Option Report} → Tells folded cost a (bit ∷ []) r c
-    → (b : List Bool) → After folded cost a b
+pub bit-due : {C : Type 0} (view : CheckView C) {a c : LineState C} {bit : Bool}
+    {r : Option Report} → Tells view a (bit ∷ []) r c
+    → (b : List Bool) → After view a b
     → r ≡ option_map (moved a.origin) (due_at a.longest (b ++ bit ∷ []) (length b))
-bit-due folded cost {a} {c} {bit} {r} told b stands =
+bit-due view {a} {c} {bit} {r} told b stands =
     let due = option_map (moved a.origin) (due_at a.longest (b ++ bit ∷ []) (length b)) in
     let before = placed a.origin a.longest b in
     same-option r due (append_cancel_left before (option_to_list r) (option_to_list due)
     (sym (told.says b stands) ∙ placed-more a.origin a.longest b bit due refl))
 
 -- of several
-pub last-due : {C : Type 0} (folded : C → List ℕ → Type 0) (cost : ℕ) {a c : LineState C} {bits : List Bool}
-    {r : Option Report} → 1 ≤ length bits → Advances folded cost a bits r c
-    → (b : List Bool) → After folded cost a b
+pub last-due : {C : Type 0} (view : CheckView C) {a c : LineState C} {bits : List Bool}
+    {r : Option Report} → 1 ≤ length bits → Advances view a bits r c
+    → (b : List Bool) → After view a b
     → r ≡ option_map (moved a.origin) (due_at a.longest (b ++ bits) (length b + length bits - 1))
-last-due folded cost {a} {c} {bits} {r} some advances b stands =
+last-due view {a} {c} {bits} {r} some advances b stands =
     let front = take (length bits - 1) bits in
     let last = get_or bits (length bits - 1) false in
     let before = placed a.origin a.longest b in
@@ -193,8 +194,8 @@ last-due folded cost {a} {c} {bits} {r} some advances b stands =
     ∙ ap (due_at a.longest (b ++ bits)) place)
 
 -- no bits of octets
-pub tells-from : {C : Type 0} (folded : C → List ℕ → Type 0) (cost : ℕ) (os : List ℕ) (from n : ℕ) (d : LineState C) →
-    n ≡ 0 → Tells folded cost d (bits_from os from n) None d
+pub tells-from : {C : Type 0} (view : CheckView C) (os : List ℕ) (from n : ℕ) (d : LineState C) →
+    n ≡ 0 → Tells view d (bits_from os from n) None d
 unfolding bits_from
-tells-from folded cost os from n d none =
-    rw none (tells-none folded cost d)
+tells-from view os from n d none =
+    rw none (tells-none view d)

@@ -11,6 +11,7 @@ use Rattle.std.proofs.lemmas.List.{append_assoc, length-take, length-drop, take_
 use Rattle.bus_bits.specs.Octet.{number, bits_of, octets}
 use Rattle.bus_bits.specs.declared.spent.Spent.{Spent}
 use Rattle.bus_bits.proofs.OctetLemmas.{number-append, number-bits, number-lt, length-bits, octets-push, octets-append}
+use Rattle.bus_fcs.specs.Check.{CheckView}
 use Rattle.bus_line.specs.Internal.LineState.{LineState}
 use Rattle.bus_line.specs.Internal.Tracks.{Holds}
 use Rattle.bus_line.specs.Internal.Settled.{octets_more, octets_of, gain, Keeps}
@@ -233,25 +234,25 @@ append-holds folded d a e n bits j k t got holds few small is-joined is-full sam
     (rw (← is-full, ← is-joined)
     (keeps (octets got) (keeps-set folded a (a.data_bits + n) (j / 2 ^ (8 * k)) t (octets got) before)))
 
-pub append-spent : {C : Type 0} (folded : C → List ℕ → Type 0) (cost : ℕ) (d a e : LineState C) (n j k : ℕ) (t : Spent)
-    (got : List Bool) → Holds folded d got
-    → k ≡ (d.data_bits % 8 + n) / 8 → a.longest ≡ d.longest → Keeps folded a (octets got) → ((os : List ℕ)
-    → Keeps folded (record a { data_bits = a.data_bits + n; partial = j / 2 ^ (8 * k); spent = t }) os
+pub append-spent : {C : Type 0} (view : CheckView C) (d a e : LineState C) (n j k : ℕ) (t : Spent)
+    (got : List Bool) → Holds view.folded d got
+    → k ≡ (d.data_bits % 8 + n) / 8 → a.longest ≡ d.longest → Keeps view.folded a (octets got) → ((os : List ℕ)
+    → Keeps view.folded (record a { data_bits = a.data_bits + n; partial = j / 2 ^ (8 * k); spent = t }) os
     → e.spent ≡ record t {
       stored = t.stored + gain (a.longest + 2) (length os) k;
-      folded = t.folded + cost * gain (a.longest + 2) (length os) k;
+      folded = t.folded + view.cost * gain (a.longest + 2) (length os) k;
     })
     → t ≡ record d.spent { assembled = d.spent.assembled + n }
     → e.spent ≡ record d.spent {
       assembled = d.spent.assembled + n;
       stored = d.spent.stored + octets_more d.longest (length got) n;
       folded =
-          d.spent.folded + cost * octets_more d.longest (length got) n;
+          d.spent.folded + view.cost * octets_more d.longest (length got) n;
     }
-append-spent folded cost d a e n j k t got holds is-full longest before spent is-spent =
+append-spent view d a e n j k t got holds is-full longest before spent is-spent =
     let gained : gain (a.longest + 2) (length (octets got)) k ≡ octets_more d.longest (length got) n =
-    rw (longest, is-full) (gain-more folded d n got holds) in
-    spent (octets got) (keeps-set folded a (a.data_bits + n) (j / 2 ^ (8 * k)) t (octets got) before)
+    rw (longest, is-full) (gain-more view.folded d n got holds) in
+    spent (octets got) (keeps-set view.folded a (a.data_bits + n) (j / 2 ^ (8 * k)) t (octets got) before)
     ∙ rw (gained, is-spent) refl
 
 pub keeps-none : {C : Type 0} (folded : C → List ℕ → Type 0) (e : LineState C) → e.octets ≡ [] → folded e.check [] →

@@ -84,7 +84,6 @@ field-more n k = let next : suc k ≡ 1 + k = omega arith in ap (λ (j : ℕ). n
 place-bit : (p : List Bool) (m k : ℕ) → number (drop m p) / 2 ^ k % 2 ≡ cond (get_or p (m + k) false) 1 0
 place-bit p m k = number-bit k (drop m p) ∙ ap (λ (x : Bool). cond x 1 0) (get_or-drop m p k false)
 
-
 -- at least so many ones before a place show in as many bits
 pub run-least : (k m : ℕ) (p : List Bool) → m + k ≤ length p →
     (number (drop m p) % 2 ^ k + 1 ≡ 2 ^ k → k ≤ ones_at_end (take (m + k) p))

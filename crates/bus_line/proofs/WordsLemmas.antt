@@ -6,6 +6,7 @@ use Rattle.std.proofs.lemmas.Bool.{eqb-true}
 use Rattle.std.specs.Prelude.{nat_lt}
 use Rattle.bus_bits.specs.Octet.{bits_of}
 use Rattle.bus_bits.proofs.CaptureLemmas.{lt_true}
+use Rattle.bus_fcs.specs.Check.{CheckView}
 use Rattle.bus_line.specs.Decides.{flags, EndsInFlag}
 use Rattle.std.specs.Option.{option_map}
 use Rattle.bus_line.specs.Report.{Abort, moved}
@@ -59,28 +60,28 @@ aborts origin at past end place (FlagAt q) opened is-end within fits late some =
     rw (begun, first, is-end) refl
 
 -- whether a flag ended at the last bit
-pub shows-flag : {C : Type 0} (folded : C → List ℕ → Type 0) (cost : ℕ) (w : LineWords) (check : C) (cells : List ℕ)
-    (b : List Bool) → IsWithin w → After folded cost (state w check cells) b → ShowsFlag w b
-shows-flag folded cost w check cells b within stands =
+pub shows-flag : {C : Type 0} (view : CheckView C) (w : LineWords) (check : C) (cells : List ℕ)
+    (b : List Bool) → IsWithin w → After view (state w check cells) b → ShowsFlag w b
+shows-flag view w check cells b within stands =
     let settles = settles-told w.settles_at within.settles_late in
     record {
-      ends = λ at. mark-is folded cost (state w check cells) w.settles_at b stands settles within.place_fits at;
-      told = λ ends. mark-told folded cost (state w check cells) w.settles_at b stands settles ends;
+      ends = λ at. mark-is view (state w check cells) w.settles_at b stands settles within.place_fits at;
+      told = λ ends. mark-told view (state w check cells) w.settles_at b stands settles ends;
     }
 
 -- where flags lead
-pub flags-passed : {C : Type 0} (folded : C → List ℕ → Type 0) (cost : ℕ) (old new : LineWords) (check : C)
+pub flags-passed : {C : Type 0} (view : CheckView C) (old new : LineWords) (check : C)
     (cells : List ℕ) (b : List Bool) (k : ℕ) → PassesFlags old k new → (0 < k → EndsInFlag b) → new.place ≤ 2 ^ 60 →
-    After folded cost (state old check cells) b → After folded cost (state new check cells) (b ++ flags k)
-flags-passed folded cost old new check cells b zero passed ends fits stands =
+    After view (state old check cells) b → After view (state new check cells) (b ++ flags k)
+flags-passed view old new check cells b zero passed ends fits stands =
     rw (append-nil b, passed.none refl) stands
-flags-passed folded cost old new check cells b (suc k) passed ends fits stands =
+flags-passed view old new check cells b (suc k) passed ends fits stands =
     let is = passed.some (omega arith) in
     let place : new.place ≡ old.place + 8 * suc k = ap (λ (w : LineWords). w.place) is in
     let first : first_in (old.place + 8 * suc k + 8) ≡ Some (old.place + 8 * suc k) =
     first-at (old.place + 8 * suc k) (omega (arith, place, fits)) in
     let d = state old check cells in
-    let tracks = flags-after folded cost d b (suc k) (old.place + 8 * suc k) (old.place + 8 * suc k - old.origin)
+    let tracks = flags-after view d b (suc k) (old.place + 8 * suc k) (old.place + 8 * suc k - old.origin)
     (omega arith) ends stands refl in
     rw (is, first) tracks
 
@@ -126,11 +127,11 @@ settled-one w plain = shows (w / 2 ^ (1 - 1) / 2 ^ (3 + 0) % 64 == 31) refl
     shows false is = ap (λ (x : ℕ). (x == 1) ∷ []) (omega arith)
 
 -- bits that are the last ones now
-pub shift-lags : {C : Type 0} (folded : C → List ℕ → Type 0) (cost : ℕ) (old new : LineWords) (check : C)
+pub shift-lags : {C : Type 0} (view : CheckView C) (old new : LineWords) (check : C)
     (cells : List ℕ) (b bits : List Bool) (w t : ℕ) →
     new ≡ record old { place = old.place + t; last_bits = w / 2 ^ t % 65536 }
-    → After folded cost (state old check cells) b → IsWord w b bits → t ≤ length bits →
-    LagsBy folded cost (state new check cells) b (take t bits)
-shift-lags folded cost old new check cells b bits w t is stands word within =
-    rw is (lags-word folded cost (state old check cells) b bits w t (old.place + t) (w / 2 ^ t % 65536)
+    → After view (state old check cells) b → IsWord w b bits → t ≤ length bits →
+    LagsBy view (state new check cells) b (take t bits)
+shift-lags view old new check cells b bits w t is stands word within =
+    rw is (lags-word view (state old check cells) b bits w t (old.place + t) (w / 2 ^ t % 65536)
     (old.place + t - old.origin) stands word within refl refl)

@@ -2,6 +2,7 @@
 use Rattle.std.specs.Prelude.{◌≡◌, ℕ, ◌+◌, ◌-◌, ◌<◌, ◌≤◌, Bool, List, [], ◌∷◌, ◌++◌, length, take, Option, Some}
 use Rattle.std.specs.Option.{option_to_list}
 use Rattle.bus_bits.specs.Octet.{octets}
+use Rattle.bus_fcs.specs.Check.{CheckView}
 use Rattle.bus_line.specs.Decides.{MayDecideAt}
 use Rattle.bus_line.specs.Due.{current, placed}
 use Rattle.bus_line.specs.Report.{Report}
@@ -11,8 +12,8 @@ use Rattle.bus_line.specs.declared.piece.Piece.TheVariants as piece
 use Rattle.bus_line.specs.Internal.Tracks.{Tracks}
 
 -- a decoder may stand after the bits b
-abbrev pub After : {C : Type 0} → (C → List ℕ → Type 0) → ℕ → LineState C → List Bool → Type 0
-After folded cost d b = Tracks folded cost d b (current b)
+abbrev pub After : {C : Type 0} → CheckView C → LineState C → List Bool → Type 0
+After view d b = Tracks view d b (current b)
 
 -- a frame that is answered stands in the buffer
 abbrev pub ShowsHeld : {C : Type 0} → LineState C → Option Piece → Type 0
@@ -20,39 +21,39 @@ ShowsHeld d (Some (piece.Frame span octets)) = octets.now ≡ d.octets
 ShowsHeld d answer = Unit {0}
 
 -- a bit leads from old to new, with this answer
-pub record Pushed {C : Type 0} (folded : C → List ℕ → Type 0) (cost : ℕ) (old : LineState C) (bit : Bool)
+pub record Pushed {C : Type 0} (view : CheckView C) (old : LineState C) (bit : Bool)
     (answer : Option Piece) (new : LineState C) : Type 0 where
-  pub after : (b : List Bool) → After folded cost old b → After folded cost new (b ++ bit ∷ [])
+  pub after : (b : List Bool) → After view old b → After view new (b ++ bit ∷ [])
   pub longest : new.longest ≡ old.longest
   pub origin : new.origin ≡ old.origin
   pub place : new.place ≡ old.place + 1
   pub held : ShowsHeld new answer
 
 -- these bits lead from old to new
-pub record Led {C : Type 0} (folded : C → List ℕ → Type 0) (cost : ℕ) (old : LineState C) (bits : List Bool)
+pub record Led {C : Type 0} (view : CheckView C) (old : LineState C) (bits : List Bool)
     (new : LineState C) : Type 0 where
-  pub after : (b : List Bool) → After folded cost old b → After folded cost new (b ++ bits)
+  pub after : (b : List Bool) → After view old b → After view new (b ++ bits)
   pub longest : new.longest ≡ old.longest
   pub origin : new.origin ≡ old.origin
   pub place : new.place ≡ old.place + length bits
 
 -- these bits lead from old to new, and decide this report and no other; where it is none they decide nothing
-pub record Tells {C : Type 0} (folded : C → List ℕ → Type 0) (cost : ℕ) (old : LineState C) (bits : List Bool)
+pub record Tells {C : Type 0} (view : CheckView C) (old : LineState C) (bits : List Bool)
     (report : Option Report) (new : LineState C) : Type 0 where
-  pub leads : Led folded cost old bits new
-  pub says : (b : List Bool) → After folded cost old b
+  pub leads : Led view old bits new
+  pub says : (b : List Bool) → After view old b
       → placed old.origin old.longest (b ++ bits) ≡ placed old.origin old.longest b ++ option_to_list report
 
 -- these bits decide no report
-abbrev pub DecideNothing : {C : Type 0} → (C → List ℕ → Type 0) → ℕ → LineState C → List Bool → Type 0
-DecideNothing folded cost d bits =
-    (b : List Bool) → After folded cost d b → placed d.origin d.longest (b ++ bits) ≡ placed d.origin d.longest b
+abbrev pub DecideNothing : {C : Type 0} → CheckView C → LineState C → List Bool → Type 0
+DecideNothing view d bits =
+    (b : List Bool) → After view d b → placed d.origin d.longest (b ++ bits) ≡ placed d.origin d.longest b
 
 -- these bits lead from old to new; the last of them decides this report, if it is one, and no other decides a report
-pub record Advances {C : Type 0} (folded : C → List ℕ → Type 0) (cost : ℕ) (old : LineState C) (bits : List Bool)
+pub record Advances {C : Type 0} (view : CheckView C) (old : LineState C) (bits : List Bool)
     (report : Option Report) (new : LineState C) : Type 0 where
-  pub tells : Tells folded cost old bits report new
-  pub before : DecideNothing folded cost old (take (length bits - 1) bits)
+  pub tells : Tells view old bits report new
+  pub before : DecideNothing view old (take (length bits - 1) bits)
 
 -- a frame has no more octets than the longest and its check
 abbrev pub FitsFrame : ℕ → Option Piece → Type 0

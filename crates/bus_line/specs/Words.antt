@@ -1,6 +1,7 @@
 -- A decoder's words, and the decoder that they make with a check and octets beside them.
 use Rattle.std.specs.Prelude.{◌≢◌, ◌==◌, ℕ, ◌+◌, ◌-◌, ◌*◌, ◌≤◌, ◌^◌, List, take, Option, Some, None, if◌then◌else◌}
 pub use Rattle.bus_line.specs.Internal.LineState.{LineState}
+use Rattle.bus_bits.specs.Limits.{most_places}
 use Rattle.bus_line.specs.declared.line_words.LineWords.{LineWords}
 
 -- the first place of the open piece, by the place after which each bit settles one of it
@@ -52,7 +53,7 @@ pub record IsWithin (w : LineWords) : Type 0 where
   pub longest_least : 3 ≤ w.longest
   pub longest_most : w.longest ≤ 256
   pub room : w.len ≤ w.longest + 2
-  pub place_fits : w.place ≤ 2 ^ 60
+  pub place_fits : w.place ≤ most_places
   pub begins : w.origin ≤ w.place
   pub settles_late : 8 ≤ w.settles_at
   pub settles : w.settles_at ≢ 2 ^ 62 → w.settles_at ≤ w.place + 8

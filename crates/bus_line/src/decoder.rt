@@ -18,6 +18,8 @@ ghost use Rattle.std.specs.Prelude.{IfOk, OnErr, length, Some, None};
 ghost use Rattle.std.specs.Option.{option_map, option_to_list};
 ghost use Rattle.std.specs.Borrow.{sem};
 ghost use Rattle.std.specs.Io.BufRead.{Rests};
+ghost use Rattle.bus_bits.specs.Limits.{most_places};
+ghost use Rattle.bus_bits.specs.Word.{IsWordOf};
 ghost use Rattle.bus_line.specs.Due.{due_at, begun, placed};
 ghost use Rattle.bus_line.specs.Ledger.{stored_open, IsLedger};
 ghost use Rattle.bus_bits.specs.Bits.{bits_from};
@@ -80,8 +82,8 @@ impl<C: Check> LineDecoder<C> {
     /// `LongestRange`, and else `Origin`, where these are out of range.
     pub fn new(longest: usize, origin: u64) -> Result<Self, LineFault>
         ensures range { (result ≡ Err LineFault.LongestRange) ↔ ((longest < 3) ⊎ (256 < longest)) }
-        ensures origin { (result ≡ Err LineFault.Origin) ↔ ((3 ≤ longest) × (longest ≤ 256) × (2 ^ 60 < origin)) }
-        ensures after { IfOk result (λ d. After C.folded C.COST d []) }
+        ensures origin { (result ≡ Err LineFault.Origin) ↔ ((3 ≤ longest) × (longest ≤ 256) × (most_places < origin)) }
+        ensures after { IfOk result (λ d. After C.check d []) }
         ensures given { IfOk result (λ d. (d.longest ≡ longest) × (d.origin ≡ origin) × (d.place ≡ origin)) }
     {
         let words = LineWords::new(longest, origin)?;
@@ -100,18 +102,16 @@ impl<C: Check> LineDecoder<C> {
     /// place 2^60 or a later one.
     #[inline(always)]
     pub fn take(&mut self, bits: u64, count: u32) -> Result<Taken, PlaceLimit>
-        requires some { 1 ≤ count }
-        requires few { count ≤ 48 }
-        requires small { bits < 2 ^ count }
-        ensures limit { IsErr result ↔ (2 ^ 60 < self.old.place + count) }
+        requires word { IsWordOf count bits }
+        ensures limit { IsErr result ↔ (most_places < self.old.place + count) }
         ensures within { IfOk result (λ t. (1 ≤ t.count) × (t.count ≤ count)) }
-        ensures stops { IfOk result (λ t. (b : List Bool) → After C.folded C.COST self.old b →
+        ensures stops { IfOk result (λ t. (b : List Bool) → After C.check self.old b →
             TakesTo b (bits_of count bits) t.count) }
-        ensures answer { IfOk result (λ t. (b : List Bool) → After C.folded C.COST self.old b →
+        ensures answer { IfOk result (λ t. (b : List Bool) → After C.check self.old b →
             option_map (reported self.new.octets) t.event
             ≡ option_map (moved self.old.origin)
             (due_at self.old.longest (b ++ bits_of t.count bits) (length b + t.count - 1))) }
-        ensures advances { IfOk result (λ t. Advances C.folded C.COST self.old (bits_of t.count bits)
+        ensures advances { IfOk result (λ t. Advances C.check self.old (bits_of t.count bits)
             (option_map (reported self.new.octets) t.event) self.new) }
         ensures unchanged { OnErr result (self.new ≡ self.old) }
     {
@@ -134,15 +134,15 @@ impl<C: Check> LineDecoder<C> {
     pub fn scan(&mut self, octets: &[u8], at: usize, end: usize) -> Result<Scanned, PlaceLimit>
         requires some { at < end }
         requires enough { end ≤ 8 * length octets.now }
-        ensures limit { IsErr result ↔ (2 ^ 60 ≤ self.old.place) }
+        ensures limit { IsErr result ↔ (most_places ≤ self.old.place) }
         ensures count { IfOk result (λ s. (1 ≤ s.count) × (s.count ≤ end - at)) }
-        ensures fits { IfOk result (λ s. self.old.place + s.count ≤ 2 ^ 60) }
-        ensures all { IfOk result (λ s. s.event ≡ None → s.count < end - at → self.new.place ≡ 2 ^ 60) }
-        ensures answer { IfOk result (λ s. (b : List Bool) → After C.folded C.COST self.old b →
+        ensures fits { IfOk result (λ s. self.old.place + s.count ≤ most_places) }
+        ensures all { IfOk result (λ s. s.event ≡ None → s.count < end - at → self.new.place ≡ most_places) }
+        ensures answer { IfOk result (λ s. (b : List Bool) → After C.check self.old b →
             option_map (reported self.new.octets) s.event
             ≡ option_map (moved self.old.origin)
             (due_at self.old.longest (b ++ bits_from octets.now at s.count) (length b + s.count - 1))) }
-        ensures advances { IfOk result (λ s. Advances C.folded C.COST self.old (bits_from octets.now at s.count)
+        ensures advances { IfOk result (λ s. Advances C.check self.old (bits_from octets.now at s.count)
             (option_map (reported self.new.octets) s.event) self.new) }
         ensures unchanged { OnErr result (self.new ≡ self.old) }
     {
@@ -157,11 +157,9 @@ impl<C: Check> LineDecoder<C> {
     /// `count`, or those up to the first that may decide a report. Nothing changes.
     #[inline(always)]
     pub fn would_take(&self, bits: u64, count: u32) -> u32
-        requires some { 1 ≤ count }
-        requires few { count ≤ 48 }
-        requires small { bits < 2 ^ count }
+        requires word { IsWordOf count bits }
         ensures within { (1 ≤ result) × (result ≤ count) }
-        ensures stops { (b : List Bool) → After C.folded C.COST self.now b → TakesTo b (bits_of count bits) result }
+        ensures stops { (b : List Bool) → After C.check self.now b → TakesTo b (bits_of count bits) result }
     {
         let passed = 8 * self.words.flags_ahead(bits, count);
         let left = count - passed;
@@ -178,15 +176,16 @@ impl<C: Check> LineDecoder<C> {
     ///
     /// Refuses as [`PlaceLimit`], with nothing changed, where the bit's place would be 2^60.
     pub fn push(&mut self, bit: bool) -> Result<Option<Piece<'_>>, PlaceLimit>
-        ensures limit { IsErr result ↔ (2 ^ 60 ≤ self.old.place) }
-        ensures answer { IfOk result (λ o. (b : List Bool) → After C.folded C.COST self.old b →
+        ensures limit { IsErr result ↔ (most_places ≤ self.old.place) }
+        ensures answer { IfOk result (λ o. (b : List Bool) → After C.check self.old b →
             shown o ≡ option_map (moved self.old.origin) (due_at self.old.longest (b ++ bit ∷ []) (length b))) }
-        ensures more { IfOk result (λ o. (b : List Bool) → After C.folded C.COST self.old b →
+        ensures more { IfOk result (λ o. (b : List Bool) → After C.check self.old b →
             placed self.old.origin self.old.longest (b ++ bit ∷ [])
             ≡ placed self.old.origin self.old.longest b ++ option_to_list (shown o)) }
         ensures fits { IfOk result (λ o. FitsFrame self.old.longest o) }
+        // What becomes of the decoder: `new`, once the octets that are lent have been given back.
         ensures* rests { sem 𝓛 (Rests (the_row C.row C.Check) self.entry (λ new.
-            IfOk result (λ o. Pushed C.folded C.COST self.old bit o new) × OnErr result (new ≡ self.old))) }
+            IfOk result (λ o. Pushed C.check self.old bit o new) × OnErr result (new ≡ self.old))) }
     {
         if self.words.place >= PLACES {
             return Err(PlaceLimit);
@@ -224,7 +223,7 @@ impl<C: Check> LineDecoder<C> {
     /// and 0 where no piece is open.
     pub fn buffered(&self) -> usize
         ensures bound { result ≤ self.now.longest + 2 }
-        ensures stored { (b : List Bool) → After C.folded C.COST self.now b →
+        ensures stored { (b : List Bool) → After C.check self.now b →
             result ≡ stored_open self.now.longest b }
     {
         if self.words.settles_at == NEVER {
@@ -239,8 +238,8 @@ impl<C: Check> LineDecoder<C> {
     /// The place of the next bit: the origin and the bits so far.
     pub fn place(&self) -> u64
         ensures value { result ≡ self.now.place }
-        ensures fits { result ≤ 2 ^ 60 }
-        ensures after { (b : List Bool) → After C.folded C.COST self.now b → result ≡ self.now.origin + length b }
+        ensures fits { result ≤ most_places }
+        ensures after { (b : List Bool) → After C.check self.now b → result ≡ self.now.origin + length b }
     {
         self.words.place
     }
@@ -248,8 +247,8 @@ impl<C: Check> LineDecoder<C> {
     /// The steps so far.
     pub fn spent(&self) -> Spent
         ensures value { result ≡ self.now.spent }
-        ensures ledger { (b : List Bool) → After C.folded C.COST self.now b →
-            IsLedger C.COST self.now.longest b result }
+        ensures ledger { (b : List Bool) → After C.check self.now b →
+            IsLedger C.check.cost self.now.longest b result }
     {
         Spent {
             shifted: self.words.place - self.words.origin,
@@ -262,7 +261,7 @@ impl<C: Check> LineDecoder<C> {
 
     /// The first place of a piece that has begun and is not ended yet.
     pub fn begun(&self) -> Option<u64>
-        ensures after { (b : List Bool) → After C.folded C.COST self.now b →
+        ensures after { (b : List Bool) → After C.check self.now b →
             result ≡ option_map (λ first. self.now.origin + first) (begun b) }
     {
         self.words.begun()

@@ -1,7 +1,8 @@
 //! What a decoder holds but for octets.
 
-ghost use Rattle.std.specs.Prelude.{◌≡◌, ◌+◌, ◌-◌, ◌≤◌, ◌<◌, ◌^◌, ◌↔◌, ◌⊎◌, List, Bool, IfOk, IsTrue, length};
+ghost use Rattle.std.specs.Prelude.{◌≡◌, ◌+◌, ◌-◌, ◌≤◌, ◌<◌, ◌↔◌, ◌⊎◌, List, Bool, IfOk, IsTrue, length};
 ghost use Rattle.std.specs.Option.{option_map};
+ghost use Rattle.bus_bits.specs.Limits.{most_places};
 ghost use Rattle.bus_line.specs.Due.{begun, current};
 ghost use Rattle.bus_line.specs.Internal.Tracks.{first_of};
 ghost use Rattle.bus_line.specs.Words.{first_in, fresh_words, IsWithin};
@@ -56,7 +57,7 @@ impl LineWords {
     /// `LongestRange`, and else `Origin`, where these are out of range.
     pub fn new(longest: usize, origin: u64) -> Result<Self, LineFault>
         ensures range { (result ≡ Err LineFault.LongestRange) ↔ ((longest < 3) ⊎ (256 < longest)) }
-        ensures origin { (result ≡ Err LineFault.Origin) ↔ ((3 ≤ longest) × (longest ≤ 256) × (2 ^ 60 < origin)) }
+        ensures origin { (result ≡ Err LineFault.Origin) ↔ ((3 ≤ longest) × (longest ≤ 256) × (most_places < origin)) }
         ensures within { IfOk result IsWithin }
         ensures value { IfOk result (λ w. w ≡ fresh_words longest origin) }
     {

@@ -1,6 +1,7 @@
 //! Parts of lines.
 
 ghost use Rattle.std.specs.Prelude.{◌+◌, ◌++◌, ◌≤◌, length};
+ghost use Rattle.bus_line.specs.Limits.{most_octets};
 ghost use Rattle.bus_line.specs.Shown.{kind_with, reported, span_of};
 ghost use Rattle.bus_text.specs.Listing.{cause_word, line_number, span_text, report_word};
 ghost use Rattle.bus_text.specs.HeadText.{station_text};
@@ -69,7 +70,7 @@ fn push_cause<const N: usize>(text: &mut Text<N>, cause: Cause)
 #[inline(always)]
 fn push_word<const N: usize>(text: &mut Text<N>, kind: EventKind, octets: &[u8])
     requires room { length text.old + 524 ≤ N }
-    requires held { length octets.now ≤ 258 }
+    requires held { length octets.now ≤ most_octets }
     ensures { Adds text.old (report_word (kind_with octets.now kind)) 522 text.new }
 {
     match kind {
@@ -97,7 +98,7 @@ pub(crate) fn push_front<const N: usize>(
     octets: &[u8],
 )
     requires room { length text.old + 566 ≤ N }
-    requires held { length octets.now ≤ 258 }
+    requires held { length octets.now ≤ most_octets }
     ensures { Adds text.old
         (span_text (span_of (reported octets.now event.now)) ++ report_word (reported octets.now event.now).kind)
         564 text.new }

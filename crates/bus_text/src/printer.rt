@@ -2,6 +2,7 @@
 
 ghost use Rattle.std.specs.Prelude.{◌≡◌, ◌+◌, ℕ, List, [], ◌∷◌, ◌++◌, ◌≤◌, length, option_map, codes};
 ghost use Rattle.std.specs.Option.{option_to_list};
+ghost use Rattle.bus_line.specs.Limits.{most_octets};
 ghost use Rattle.bus_line.specs.Shown.{kind_with};
 ghost use Rattle.bus_watch.specs.Shown.{found_on};
 ghost use Rattle.bus_watch.specs.Seen.{type_of};
@@ -128,7 +129,7 @@ impl Printer {
         page: &mut Page,
     )
         requires room { HasRoomFor 964 page.old }
-        requires held { length octets.now ≤ 258 }
+        requires held { length octets.now ≤ most_octets }
         ensures { Prints page.old (listing self.now dictionary.now (found_on line octets.now finding.now ∷ [])) 964
             page.new }
     {
@@ -163,7 +164,7 @@ impl Printer {
         page: &mut Page,
     )
         requires room { HasRoomFor 640 page.old }
-        requires held { length octets.now ≤ 258 }
+        requires held { length octets.now ≤ most_octets }
         ensures { Prints page.old
             (text_of self.now.filter
             (report_line self.now.heads dictionary.now (found_on line octets.now finding.now) ∷ [])) 629

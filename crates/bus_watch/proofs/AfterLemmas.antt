@@ -4,6 +4,7 @@ use Rattle.std.proofs.Common.{subst, append-nil}
 use Rattle.std.specs.Option.{option_to_list}
 use Rattle.std.proofs.lemmas.List.{map-append}
 use Rattle.bus_bits.specs.declared.spent.Spent.{Spent}
+use Rattle.bus_fcs.specs.Check.{CheckView}
 use Rattle.bus_line.specs.Report.{Report}
 use Rattle.bus_line.specs.Due.{reports, placed}
 use Rattle.bus_line.specs.Ledger.{IsLedger as IsLineLedger}
@@ -21,10 +22,10 @@ use Rattle.bus_watch.proofs.SeenLemmas.{seen-more}
 use Rattle.bus_watch.proofs.AnalyserViewLemmas.{octets-moved, steps-moved, heard-octets, heard-steps}
 
 -- bits that decide nothing
-pub hears-none : {C : Type 0} (folded : C → List ℕ → Type 0) (cost : ℕ) (on : Option Line) (old new : LineState C)
+pub hears-none : {C : Type 0} (view : CheckView C) (on : Option Line) (old new : LineState C)
     (j k : JournalState) (bits : List Bool)
-    → Advances folded cost old bits None new → k ≡ j → Hears folded cost on old j bits None new k
-hears-none folded cost on old new j k bits advances same = record {
+    → Advances view old bits None new → k ≡ j → Hears view on old j bits None new k
+hears-none view on old new j k bits advances same = record {
   report = None;
   advances = advances;
   keeps = λ hs kept. subst (Keeps k) (sym (append-nil hs)) (subst (λ i. Keeps i hs) (sym same) kept);
@@ -34,14 +35,14 @@ hears-none folded cost on old new j k bits advances same = record {
 }
 
 -- bits the last of which decides a report; what is seen of it was kept
-pub hears-some : {C : Type 0} (folded : C → List ℕ → Type 0) (cost : ℕ) (on : Option Line) (old new : LineState C)
+pub hears-some : {C : Type 0} (view : CheckView C) (on : Option Line) (old new : LineState C)
     (j k : JournalState) (bits : List Bool) (report : Report) (told : Option SeenReport)
-    → Advances folded cost old bits (Some report) new
+    → Advances view old bits (Some report) new
     → ((hs : List Heard) → Keeps j hs → Keeps k (hs ++ heard_on on report ∷ []))
     → ((hs : List Heard) → Keeps j hs → told ≡ Some (seen_of j.dictionary hs (heard_on on report)))
     → k.dictionary ≡ j.dictionary → k.depth ≡ j.depth
-    → Hears folded cost on old j bits told new k
-hears-some folded cost on old new j k bits report told advances keeps says dictionary depth = record {
+    → Hears view on old j bits told new k
+hears-some view on old new j k bits report told advances keeps says dictionary depth = record {
   report = Some report;
   advances = advances;
   keeps = keeps;
@@ -53,16 +54,16 @@ hears-some folded cost on old new j k bits report told advances keeps says dicti
 }
 
 -- bits that were heard lead an analyser of one line on
-pub sees-heard : {C : Type 0} (folded : C → List ℕ → Type 0) (cost : ℕ) (old new : AnalyserState C) (bits : List Bool)
+pub sees-heard : {C : Type 0} (view : CheckView C) (old new : AnalyserState C) (bits : List Bool)
     (told : Option SeenReport)
-    → Hears folded cost None old.decoder old.journal bits told new.decoder new.journal →
-    Sees folded cost old bits (option_to_list told) new
-sees-heard folded cost old new bits told hears =
+    → Hears view None old.decoder old.journal bits told new.decoder new.journal →
+    Sees view old bits (option_to_list told) new
+sees-heard view old new bits told hears =
     let led = hears.advances.tells.leads in
     let same : (bs : List Bool) → line new bs ≡ line old bs = λ bs.
     ap (λ o. of_line (placed o (longest_of new.journal.dictionary) bs)) led.origin
     ∙ ap (λ d. of_line (placed old.decoder.origin (longest_of d) bs)) hears.dictionary in
-    let grown : (b : List Bool) → IsAfter folded cost old b →
+    let grown : (b : List Bool) → IsAfter view old b →
     line old (b ++ bits) ≡ line old b ++ heard_option None hears.report = λ b reached.
     let before = placed old.decoder.origin (longest_of old.journal.dictionary) b in
     let more : placed old.decoder.origin (longest_of old.journal.dictionary) (b ++ bits)
@@ -82,11 +83,11 @@ sees-heard folded cost old new bits told hears =
     }
 
 -- the steps of the decoder, and those of the journal
-pub ledger-is : {C : Type 0} (folded : C → List ℕ → Type 0) (cost : ℕ) (a : AnalyserState C) (b : List Bool)
-    (d j : Spent) → IsAfter folded cost a b
-    → IsLineLedger cost a.decoder.longest b d → j.copied ≡ a.journal.copied → j.handled ≡ a.journal.handled
-    → IsLedger cost (longest_of a.journal.dictionary) b (record d { copied = j.copied; handled = j.handled })
-ledger-is folded cost a b d j reached ledger copied handled =
+pub ledger-is : {C : Type 0} (view : CheckView C) (a : AnalyserState C) (b : List Bool)
+    (d j : Spent) → IsAfter view a b
+    → IsLineLedger view.cost a.decoder.longest b d → j.copied ≡ a.journal.copied → j.handled ≡ a.journal.handled
+    → IsLedger view.cost (longest_of a.journal.dictionary) b (record d { copied = j.copied; handled = j.handled })
+ledger-is view a b d j reached ledger copied handled =
     let rs = placed a.decoder.origin (longest_of a.journal.dictionary) b in
     record {
       bits = ledger.bits;
@@ -100,9 +101,9 @@ ledger-is folded cost a b d j reached ledger copied handled =
     }
 
 -- where nothing is reported, nothing is seen
-pub seen-before : {C : Type 0} (folded : C → List ℕ → Type 0) (cost : ℕ) (a : AnalyserState C) (bits : List Bool)
-    → DecideNothing folded cost a.decoder bits
-    → (b : List Bool) → IsAfter folded cost a b → seen_after a (b ++ bits) ≡ seen_after a b
-seen-before folded cost a bits calm b reached =
+pub seen-before : {C : Type 0} (view : CheckView C) (a : AnalyserState C) (bits : List Bool)
+    → DecideNothing view a.decoder bits
+    → (b : List Bool) → IsAfter view a b → seen_after a (b ++ bits) ≡ seen_after a b
+seen-before view a bits calm b reached =
     let same : line a (b ++ bits) ≡ line a b = ap of_line (rw (← reached.longest) (calm b reached.decoder)) in
     ap (seen a.journal.dictionary) same

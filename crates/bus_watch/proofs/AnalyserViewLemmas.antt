@@ -5,6 +5,7 @@ use Rattle.std.specs.List.{filter_map, cons_option, sum_by}
 use Rattle.std.specs.Option.{option_map}
 use Rattle.std.proofs.lemmas.List.{length-map, length-append}
 use Rattle.std.proofs.lemmas.List.Sums.{count_by-le-length, length-filter, sum_by-le, sum_by-append}
+use Rattle.bus_fcs.specs.Check.{CheckView}
 use Rattle.bus_line.specs.Report.{Report, Kind, Frame, moved}
 use Rattle.bus_line.specs.Due.{places, reports, placed, due_at}
 use Rattle.bus_line.specs.Ledger.{octet_count}
@@ -126,10 +127,10 @@ heard-steps on (r ∷ rs) =
     ∙ (ap (λ n. handled (r ∷ []) + n) (heard-steps on rs) ∙ sym (sum_by-append steps (r ∷ []) rs))
 
 -- after at most 2^60 bits all counters have room
-pub room : {C : Type 0} (folded : C → List ℕ → Type 0) (cost : ℕ) (a : AnalyserState C) (b : List Bool) → FramesStored →
+pub room : {C : Type 0} (view : CheckView C) (a : AnalyserState C) (b : List Bool) → FramesStored →
     StoredPaid → AssembledWithin
-    → IsAfter folded cost a b → length b ≤ 2 ^ 60 → HasRoom a.journal
-room folded cost a b frames paid within reached few =
+    → IsAfter view a b → length b ≤ 2 ^ 60 → HasRoom a.journal
+room view a b frames paid within reached few =
     let longest = longest_of a.journal.dictionary in
     let rs = placed a.decoder.origin longest b in
     room-of a.journal (line a b) reached.journal

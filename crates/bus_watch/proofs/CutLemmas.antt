@@ -1,4 +1,4 @@
--- What is seen behind a cut.
+-- What is seen after a cut.
 use Rattle.std.proofs.Common.{◌≡◌, ℕ, ◌+◌, Bool, true, false, List, [], ◌∷◌, ◌++◌, length, map, Option, None}
 use Rattle.std.proofs.Common.{option_map, refl, sym, ap, ◌∙◌, append_assoc, arith}
 use Rattle.std.proofs.lemmas.List.{append-nil, map-append}
@@ -18,7 +18,7 @@ use Rattle.bus_watch.proofs.TalkLemmas.{pending-idle, pending-talk, decided-idle
 both-cons : {A : Type 0} (x y : A) (xs ys : List A) → x ≡ y → xs ≡ ys → x ∷ xs ≡ y ∷ ys
 both-cons x y xs ys heads tails = rw (heads, tails) refl
 
--- what is seen of reports behind others
+-- what is seen of reports after others
 abbrev behind : List FrameType → List Heard → List Heard → List SeenReport
 behind d before [] = []
 behind d before (h ∷ hs) = seen_of d before h ∷ behind d (before ++ h ∷ []) hs

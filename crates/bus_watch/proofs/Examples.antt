@@ -59,7 +59,7 @@ call_and_reply :
 unfolding is_good remainder divided step add ends_inverted octets number
 call_and_reply = refl
 
--- a reply that begins as many bits behind the call as its window has
+-- a reply that begins as many bits after the call as its window has
 reply_in_time :
     seen (calls_within (Some 16))
     (of_line
@@ -181,7 +181,7 @@ idle_from first past = record { kind = Idle; first = first; past = past }
 abbrev both : List ℕ → List ℕ → List (Bool × Bool)
 both first second = zip (text_bits first) (text_bits second)
 
--- two lines: the call on the first, its reply on the second behind it
+-- two lines: the call on the first, its reply on the second after it
 answered_on_second :
     seen calls
     (merged 0 3

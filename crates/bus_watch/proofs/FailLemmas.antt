@@ -8,6 +8,7 @@ use Rattle.bus_line.specs.Due.{reports, placed}
 use Rattle.bus_line.specs.Laws.{ReportsGrow}
 use Rattle.bus_dictionary.specs.Entry.{FrameType}
 use Rattle.bus_dictionary.specs.Dictionary.{longest_of}
+use Rattle.bus_watch.specs.Sink.{SinkView}
 use Rattle.bus_watch.specs.Heard.{Heard, heard_on, of_line}
 use Rattle.bus_watch.specs.Seen.{SeenReport, heard_in, seen}
 use Rattle.bus_watch.specs.Laws.{SeenAreReports}
@@ -74,11 +75,11 @@ seen-within are grow d origin n b =
     )
 
 -- a full log lacks one report at least
-pub log-lacks : {S : Type 0} (taken : S → Option (List SeenReport)) → SeenAreReports → ReportsGrow →
+pub log-lacks : {S : Type 0} (sink : SinkView S) → SeenAreReports → ReportsGrow →
     (d : List FrameType) (origin room : ℕ) (b : List Bool) (s t : S) (consumed : ℕ) (rs : List SeenReport)
-    → taken s ≡ Some [] → taken t ≡ Some rs → length rs ≡ room → StoppedAt taken d origin b s t consumed →
+    → sink.taken s ≡ Some [] → sink.taken t ≡ Some rs → length rs ≡ room → StoppedAt sink d origin b s t consumed →
     room < length (all_seen d origin b)
-log-lacks taken are grow d origin room b s t consumed rs start end full stopped =
+log-lacks sink are grow d origin room b s t consumed rs start end full stopped =
     let took : Some rs ≡ Some (all_seen d origin (take (consumed - 1) b)) = sym end ∙ (stopped.took ∙ rw start refl) in
     let same : rs ≡ all_seen d origin (take (consumed - 1) b) = cc in
     omega (

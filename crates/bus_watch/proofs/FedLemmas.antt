@@ -8,21 +8,16 @@ use Rattle.std.proofs.lemmas.List.{take-append-le, take-append-drop, take-take, 
 use Rattle.std.proofs.Math.Seq.{take-append-add}
 use Rattle.bus_bits.specs.Octet.{number, bits_of}
 use Rattle.bus_bits.proofs.OctetLemmas.{bits-number, bits-front}
+use Rattle.bus_fcs.specs.Check.{CheckView}
 use Rattle.bus_watch.specs.Seen.{SeenReport, seen}
-use Rattle.bus_watch.specs.Sink.{told}
+use Rattle.bus_line.specs.Told.{told}
+use Rattle.bus_line.proofs.ToldLemmas.{told-nil, told-more}
+use Rattle.bus_watch.specs.Sink.{SinkView}
 use Rattle.bus_dictionary.specs.Dictionary.{longest_of}
 use Rattle.bus_watch.specs.Watch.{Watch, Leads, seen_by}
 use Rattle.bus_watch.specs.After.{AnalyserState, IsAfter, Sees, seen_after}
 use Rattle.bus_watch.specs.Laws.{joined, Runs, ended, called}
 use Rattle.bus_watch.specs.Fed.{FedBy, Fed, Refused, RefusedAt}
-
-pub told-nil : (t : Option (List SeenReport)) → t ≡ told t []
-told-nil None = refl
-told-nil (Some xs) = ap Some (sym (append-nil xs))
-
-pub told-more : (t : Option (List SeenReport)) (xs ys : List SeenReport) → told (told t xs) ys ≡ told t (xs ++ ys)
-told-more None xs ys = refl
-told-more (Some zs) xs ys = ap Some (append_assoc zs xs ys)
 
 -- the first bits of a word are those of the list that it was made of
 pub word-front : (bits : List Bool) (w most n : ℕ) → w ≡ number (take most bits) → most ≤ length bits → n ≤ most →
@@ -120,35 +115,36 @@ module _ {A X : Type 0} {w : Watch A X} where
         seen-on b (joined pieces) (joined tolds) leads reached rest.1,
       )
 
-  module _ {S : Type 0} {taken : S → Option (List SeenReport)} where
-    pub fed-nil : {a : A} {s : S} → FedBy w taken a [] a s s
-    fed-nil {a} {s} = record { seen = []; sees = leads-nil w a; took = told-nil (taken s) }
+  module _ {S : Type 0} {sink : SinkView S} where
+    pub fed-nil : {a : A} {s : S} → FedBy w sink a [] a s s
+    fed-nil {a} {s} = record { seen = []; sees = leads-nil w a; took = told-nil (sink.taken s) }
 
-    pub fed-more : {a b c : A} {xs ys : List X} {s t u : S} → FedBy w taken a xs b s t → FedBy w taken b ys c t u →
-        FedBy w taken a (xs ++ ys) c s u
+    pub fed-more : {a b c : A} {xs ys : List X} {s t u : S} → FedBy w sink a xs b s t → FedBy w sink b ys c t u →
+        FedBy w sink a (xs ++ ys) c s u
     fed-more {s = s} first next = record {
       seen = first.seen ++ next.seen;
       sees = leads-more first.sees next.sees;
-      took = next.took ∙ (ap (λ z. told z next.seen) first.took ∙ told-more (taken s) first.seen next.seen);
+      took = next.took ∙ (ap (λ z. told z next.seen) first.took ∙ told-more (sink.taken s) first.seen next.seen);
     }
 
 -- of one line
-module _ {C : Type 0} {folded : C → List ℕ → Type 0} {cost : ℕ} {S : Type 0} {taken : S → Option (List SeenReport)}
+module _ {C : Type 0} {view : CheckView C} {S : Type 0} {sink : SinkView S}
   where
     -- the first bits of a list, in a word, and what was handed over
     pub fed-word : (a c : AnalyserState C) (bits : List Bool) (w most n : ℕ) (o : Option SeenReport) (s t : S) →
         w ≡ number (take most bits) → most ≤ length bits → n ≤ most
-        → Sees folded cost a (bits_of n w) (option_to_list o) c → taken t ≡ told (taken s) (option_to_list o) →
-        Fed folded cost taken a (take n bits) c s t
+        → Sees view a (bits_of n w) (option_to_list o) c → sink.taken t ≡ told (sink.taken s) (option_to_list o) →
+        Fed view sink a (take n bits) c s t
     fed-word a c bits w most n o s t word within front sees took =
         record { seen = option_to_list o; sees = rw (← word-front bits w most n word within front) sees; took = took }
 
     -- or was not
     pub refused-word : (a c : AnalyserState C) (bits : List Bool) (w most n : ℕ) (o : Option SeenReport) (s t : S) →
         w ≡ number (take most bits) → most ≤ length bits → 1 ≤ n → n ≤ most
-        → Sees folded cost a (bits_of n w) (option_to_list o) c →
-        ((b : List Bool) → IsAfter folded cost a b → seen_after a (b ++ bits_of (n - 1) w) ≡ seen_after a b)
-        → (lost : SeenReport) × (o ≡ Some lost) × (taken t ≡ taken s) → Refused folded cost taken a (take n bits) c s t
+        → Sees view a (bits_of n w) (option_to_list o) c →
+        ((b : List Bool) → IsAfter view a b → seen_after a (b ++ bits_of (n - 1) w) ≡ seen_after a b)
+        → (lost : SeenReport) × (o ≡ Some lost) × (sink.taken t ≡ sink.taken s)
+        → Refused view sink a (take n bits) c s t
     refused-word a c bits w most n o s t word within some front sees calm lost =
         let count : length (take n bits) ≡ n = omega (arith, length-take n bits, within, front) in
         let but_last : take (length (take n bits) - 1) (take n bits) ≡ bits_of (n - 1) w =
@@ -161,11 +157,11 @@ module _ {C : Type 0} {folded : C → List ℕ → Type 0} {cost : ℕ} {S : Typ
           sees = rw (← word-front bits w most n word within front) (rw lost.1 at sees);
           front = λ b reached. ap (λ z. seen_after a (b ++ z)) but_last
               ∙ (calm b reached ∙ sym (append-nil (seen_after a b)));
-          took = lost.2 ∙ told-nil (taken s);
+          took = lost.2 ∙ told-nil (sink.taken s);
         }
 
-    pub refused-after : {a b c : AnalyserState C} {xs ys : List Bool} {s t u : S} → Fed folded cost taken a xs b s t →
-        Refused folded cost taken b ys c t u → Refused folded cost taken a (xs ++ ys) c s u
+    pub refused-after : {a b c : AnalyserState C} {xs ys : List Bool} {s t u : S} → Fed view sink a xs b s t →
+        Refused view sink b ys c t u → Refused view sink a (xs ++ ys) c s u
     refused-after {a} {b} {c} {xs} {ys} {s} fed next = record {
       seen = fed.seen ++ next.seen;
       lost = next.lost;
@@ -173,14 +169,14 @@ module _ {C : Type 0} {folded : C → List ℕ → Type 0} {cost : ℕ} {S : Typ
       sees = rw (append_assoc fed.seen next.seen (next.lost ∷ [])) (leads-more fed.sees next.sees);
       front = λ bs reached. front-more bs ys next.seen fed.sees reached next.some
           (next.front (bs ++ xs) (fed.sees.is_after bs reached));
-      took = next.took ∙ (ap (λ z. told z next.seen) fed.took ∙ told-more (taken s) fed.seen next.seen);
+      took = next.took ∙ (ap (λ z. told z next.seen) fed.took ∙ told-more (sink.taken s) fed.seen next.seen);
     }
 
-    -- a refusal at some of the bits behind those that were fed
+    -- a refusal at some of the bits after those that were fed
     pub refused_at-after : {a b c : AnalyserState C} {xs ys : List Bool} (rest all : List Bool) {n consumed : ℕ}
         {s t u : S} → all ≡ (xs ++ ys) ++ rest → n ≡ length xs
-        → Fed folded cost taken a xs b s t → RefusedAt folded cost taken b ys consumed c t u →
-        RefusedAt folded cost taken a all (n + consumed) c s u
+        → Fed view sink a xs b s t → RefusedAt view sink b ys consumed c t u →
+        RefusedAt view sink a all (n + consumed) c s u
     refused_at-after {xs = xs} {ys} rest all {n} {consumed} whole count fed next =
         let within : n + consumed ≤ length (xs ++ ys) = omega (arith, length-append xs ys, count, next.within) in
         let first : take (n + consumed) all ≡ xs ++ take consumed ys =

@@ -4,12 +4,14 @@ use Rattle.std.proofs.Common.{get_or, Bor, Option, refl, sym, ap, ◌∙◌, sub
 use Rattle.std.proofs.Common.{length-take}
 use Rattle.std.proofs.lemmas.List.{take_more, flat_map_more, take-take, take-append-drop}
 use Rattle.std.proofs.lemmas.Grind.{flat_map-append}
+use Rattle.bus_fcs.specs.Check.{CheckView}
 use Rattle.bus_line.specs.Due.{placed, reports}
 use Rattle.bus_line.specs.Laws.{ReportsAre}
 use Rattle.bus_line.specs.Ledger.{stored_open}
 use Rattle.bus_dictionary.specs.Dictionary.{longest_of}
 use Rattle.bus_watch.specs.Heard.{of_line}
-use Rattle.bus_watch.specs.Sink.{told}
+use Rattle.bus_line.specs.Told.{told}
+use Rattle.bus_watch.specs.Sink.{SinkView}
 use Rattle.bus_watch.specs.Seen.{SeenReport, heard_in}
 use Rattle.bus_watch.specs.History.{history}
 use Rattle.bus_watch.specs.Ledger.{IsLedger, total}
@@ -39,26 +41,26 @@ runs-alike w start end _ _ (called a c e xs told pieces tolds leads runs) =
     }
 
 -- what the getters answer that a usage is made of
-pub record Answers {C : Type 0} (folded : C → List ℕ → Type 0) (cost : ℕ) (e : AnalyserState C) (u : Usage) :
+pub record Answers {C : Type 0} (view : CheckView C) (e : AnalyserState C) (u : Usage) :
     Type 0 where
   pub room : u.buffered ≤ longest_of e.journal.dictionary + 2
-  pub buffered : (b : List Bool) → IsAfter folded cost e b →
+  pub buffered : (b : List Bool) → IsAfter view e b →
       u.buffered ≡ stored_open (longest_of e.journal.dictionary) b
-  pub kept : (b : List Bool) → IsAfter folded cost e b → u.history_len ≡ length (history e.journal.depth (line e b))
+  pub kept : (b : List Bool) → IsAfter view e b → u.history_len ≡ length (history e.journal.depth (line e b))
   pub deep : u.history_len ≤ e.journal.depth
-  pub ledger : (b : List Bool) → IsAfter folded cost e b → IsLedger cost (longest_of e.journal.dictionary) b u.spent
-  pub seventeen : (b : List Bool) → IsAfter folded cost e b → total u.spent ≤ 17 * length b
-  pub four : (b : List Bool) → IsAfter folded cost e b → total u.spent ≤ 4 * length b
-  pub three : cost ≡ 1 → (b : List Bool) → IsAfter folded cost e b → total u.spent ≤ 3 * length b
+  pub ledger : (b : List Bool) → IsAfter view e b → IsLedger view.cost (longest_of e.journal.dictionary) b u.spent
+  pub seventeen : (b : List Bool) → IsAfter view e b → total u.spent ≤ 17 * length b
+  pub four : (b : List Bool) → IsAfter view e b → total u.spent ≤ 4 * length b
+  pub three : view.cost ≡ 1 → (b : List Bool) → IsAfter view e b → total u.spent ≤ 3 * length b
 
-pub whole-run : {C : Type 0} (folded : C → List ℕ → Type 0) (cost : ℕ) (e : AnalyserState C) (u : Usage) →
-    AnyCut folded cost → ReportsAre → SeenAreReports → Answers folded cost e u → WholeRun folded cost e u
-whole-run folded cost e u cut are in-order answers = λ start pieces tolds new runs.
-    let alike = runs-alike (one_line folded cost) start e pieces tolds runs in
+pub whole-run : {C : Type 0} (view : CheckView C) (e : AnalyserState C) (u : Usage) →
+    AnyCut view → ReportsAre → SeenAreReports → Answers view e u → WholeRun view e u
+whole-run view e u cut are in-order answers = λ start pieces tolds new runs.
+    let alike = runs-alike (one_line view) start e pieces tolds runs in
     let both = cut start e pieces tolds new runs in
     let is_after = both.0 in
     let b = joined pieces in
-    let all_told = both.1 ∙ sym (same-seen (one_line folded cost) start e b alike.dictionary alike.origin) in
+    let all_told = both.1 ∙ sym (same-seen (one_line view) start e b alike.dictionary alike.origin) in
     rw (← alike.dictionary, ← alike.depth, ← alike.origin)
     (record {
       told = all_told;
@@ -113,31 +115,31 @@ pieces-at ps i d inside =
     ∙ ap (λ bs. bs ++ bits_in (drop (i + 1) ps)) (pieces-more ps i d inside))
 
 -- what was fed to a new analyser is a whole run
-pub fed-headline : {C S : Type 0} (folded : C → List ℕ → Type 0) (cost : ℕ) (taken : S → Option (List SeenReport))
+pub fed-headline : {C S : Type 0} (view : CheckView C) (sink : SinkView S)
     (a e : AnalyserState C) (b : List Bool) (s t : S) (u : Usage)
-    → IsAfter folded cost a [] → (f : Fed folded cost taken a b e s t) → WholeRun folded cost e u →
-    Headline cost a.journal.dictionary a.journal.depth a.decoder.origin b f.seen e.journal.history u
-fed-headline folded cost taken a e b s t u new fed whole =
+    → IsAfter view a [] → (f : Fed view sink a b e s t) → WholeRun view e u →
+    Headline view.cost a.journal.dictionary a.journal.depth a.decoder.origin b f.seen e.journal.history u
+fed-headline view sink a e b s t u new fed whole =
     let d = a.journal.dictionary in
     let depth = a.journal.depth in
     let origin = a.decoder.origin in
     let headline = whole a (b ∷ []) (fed.seen ∷ []) new (called a e e b fed.seen [] [] fed.sees (ended e)) in
-    subst (λ x. Headline cost d depth origin x fed.seen e.journal.history u) (append-nil b)
-    (subst (λ y. Headline cost d depth origin (b ++ []) y e.journal.history u) (append-nil fed.seen) headline)
+    subst (λ x. Headline view.cost d depth origin x fed.seen e.journal.history u) (append-nil b)
+    (subst (λ y. Headline view.cost d depth origin (b ++ []) y e.journal.history u) (append-nil fed.seen) headline)
 
 -- what a new analyser saw of all it was fed
-pub fed-seen : {C S : Type 0} (folded : C → List ℕ → Type 0) (cost : ℕ) (taken : S → Option (List SeenReport))
+pub fed-seen : {C S : Type 0} (view : CheckView C) (sink : SinkView S)
     (a e : AnalyserState C) (b : List Bool) (s t : S)
-    → IsAfter folded cost a [] → (f : Fed folded cost taken a b e s t) →
+    → IsAfter view a [] → (f : Fed view sink a b e s t) →
     f.seen ≡ all_seen a.journal.dictionary a.decoder.origin b
-fed-seen folded cost taken a e b s t new fed = sym (fed.sees.seen [] new)
+fed-seen view sink a e b s t new fed = sym (fed.sees.seen [] new)
 
 -- where a sink refused a report of what a new analyser was fed
-pub stopped : {C S : Type 0} (folded : C → List ℕ → Type 0) (cost : ℕ) (taken : S → Option (List SeenReport))
+pub stopped : {C S : Type 0} (view : CheckView C) (sink : SinkView S)
     (a e : AnalyserState C) (b : List Bool) (s t : S) (consumed : ℕ)
-    → IsAfter folded cost a [] → RefusedAt folded cost taken a b consumed e s t →
-    StoppedAt taken a.journal.dictionary a.decoder.origin b s t consumed
-stopped folded cost taken a e b s t consumed new at =
+    → IsAfter view a [] → RefusedAt view sink a b consumed e s t →
+    StoppedAt sink a.journal.dictionary a.decoder.origin b s t consumed
+stopped view sink a e b s t consumed new at =
     let refused = at.refused in
     let d = a.journal.dictionary in
     let origin = a.decoder.origin in
@@ -149,7 +151,7 @@ stopped folded cost taken a e b s t consumed new at =
     record {
       some = at.some;
       within = at.within;
-      took = refused.took ∙ ap (told (taken s)) (sym before);
+      took = refused.took ∙ ap (told (sink.taken s)) (sym before);
       lost = refused.lost;
       refused = refused.sees.seen [] new ∙ ap (λ xs. xs ++ refused.lost ∷ []) (sym before);
     }

@@ -7,7 +7,7 @@ use Rattle.std.proofs.Math.ListN.{drop_of_length-le}
 use Rattle.circular_buffer.specs.Buffer.{keep_last}
 use Rattle.bus_watch.specs.Internal.HistoryView.{from_oldest}
 
--- the place behind that of the oldest, round the end
+-- the place after that of the oldest, round the end
 abbrev pub IsNext : ℕ → ℕ → ℕ → Type 0
 IsNext n oldest next = ((oldest + 1 < n) × (next ≡ oldest + 1)) ⊎ ((oldest + 1 ≡ n) × (next ≡ 0))
 

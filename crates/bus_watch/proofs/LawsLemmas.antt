@@ -7,6 +7,7 @@ use Rattle.std.proofs.lemmas.List.{map-append, append_cancel_left}
 use Rattle.std.proofs.lemmas.List.Elements.{filter_map-append, All-map, Contains-get_or}
 use Rattle.std.proofs.lemmas.Bool.{ne_eqb, eq-eqb}
 use Rattle.std.proofs.lemmas.List.Folds.{find-append}
+use Rattle.bus_fcs.specs.Check.{CheckView}
 use Rattle.bus_line.specs.Report.{Report, Kind, Frame, Damaged, Overlong, Abort, Idle, due, due_by, moved}
 use Rattle.bus_line.specs.Laws.{OneMore, DueIsIt}
 use Rattle.bus_line.specs.Due.{placed, reports, due_at}
@@ -140,11 +141,11 @@ same-told (Some s) None same = absurd (omega (arith, ap length same))
 same-told (Some s) (Some t) same = cc
 
 -- what a bit adds is what is seen at its place
-pub answer-is : {C : Type 0} (folded : C → List ℕ → Type 0) (cost : ℕ) (a : AnalyserState C) (b : List Bool)
-    (bit : Bool) (o : Option SeenReport) → SeenGrows → IsAfter folded cost a b
+pub answer-is : {C : Type 0} (view : CheckView C) (a : AnalyserState C) (b : List Bool)
+    (bit : Bool) (o : Option SeenReport) → SeenGrows → IsAfter view a b
     → seen_after a (b ++ bit ∷ []) ≡ seen_after a b ++ option_to_list o →
     o ≡ seen_at a.journal.dictionary (line a (b ++ bit ∷ [])) a.decoder.place
-answer-is folded cost a b bit o grows reached adds =
+answer-is view a b bit o grows reached adds =
     let d = a.journal.dictionary in
     let rs = line a (b ++ bit ∷ []) in
     let at : o ≡ seen_at d rs (a.decoder.origin + length b) =

@@ -11,12 +11,14 @@ use Rattle.bus_bits.specs.Octet.{number, bits_of}
 use Rattle.bus_bits.proofs.OctetLemmas.{number-lt, number-append}
 use Rattle.bus_watch.specs.Heard.{firsts, seconds, pairs_of}
 use Rattle.bus_watch.specs.Seen.{SeenReport}
-use Rattle.bus_watch.specs.Sink.{told, SinkTook}
+use Rattle.bus_line.specs.Told.{told}
+use Rattle.bus_watch.specs.Sink.{SinkView, SinkTook}
 use Rattle.bus_watch.specs.Watch.{Watch, Leads, seen_by}
 use Rattle.bus_watch.specs.Fed.{FedBy, RefusedBy, Lacks, none, took, refused, Offered}
 use Rattle.bus_watch.proofs.SinkLemmas.{took-none, took-more}
 use Rattle.bus_watch.proofs.MergedLemmas.{length-firsts, length-seconds}
-use Rattle.bus_watch.proofs.FedLemmas.{told-nil, told-more, word-front, leads-more, front-more}
+use Rattle.bus_line.proofs.ToldLemmas.{told-nil, told-more}
+use Rattle.bus_watch.proofs.FedLemmas.{word-front, leads-more, front-more}
 
 lacks-more : {xs ys us vs : List SeenReport} {m n : ℕ} → Lacks xs us m → Lacks ys vs n →
     Lacks (xs ++ ys) (us ++ vs) (n + m)
@@ -32,32 +34,32 @@ lacks-none _ _ _ none zero = refl
 lacks-none _ _ n (took s ss ts _ rest) zero = ap (λ l. s ∷ l) (lacks-none ss ts n rest zero)
 lacks-none _ _ _ (refused s ss ts k rest) zero = absurd (omega (arith, zero))
 
-module _ {S : Type 0} {taken : S → Option (List SeenReport)} {room : S → Option ℕ} {refusals : S → ℕ} where
-  pub offered-more : {xs ys : List SeenReport} {m n : ℕ} {s t u : S} → Offered taken room refusals xs m s t →
-      Offered taken room refusals ys n t u → Offered taken room refusals (xs ++ ys) (n + m) s u
+module _ {S : Type 0} {sink : SinkView S} where
+  pub offered-more : {xs ys : List SeenReport} {m n : ℕ} {s t u : S} → Offered sink xs m s t →
+      Offered sink ys n t u → Offered sink (xs ++ ys) (n + m) s u
   offered-more {s = s} first second = record {
     took_of = first.took_of ++ second.took_of;
     lacks = lacks-more first.lacks second.lacks;
     took = second.took ∙ (ap (λ z. told z second.took_of) first.took
-        ∙ told-more (taken s) first.took_of second.took_of);
-    sink = took-more second.took_of first.sink second.sink second.took;
+        ∙ told-more (sink.taken s) first.took_of second.took_of);
+    counts = took-more second.took_of first.counts second.counts second.took;
   }
 
-  pub offered-none : {s : S} → Offered taken room refusals [] 0 s s
-  offered-none {s = s} = record { took_of = []; lacks = none; took = told-nil (taken s); sink = took-none }
+  pub offered-none : {s : S} → Offered sink [] 0 s s
+  offered-none {s = s} = record { took_of = []; lacks = none; took = told-nil (sink.taken s); counts = took-none }
 
   pub fed-offered : {A X : Type 0} {w : Watch A X} {a c : A} {xs : List X} {s t : S} {all : List SeenReport} →
-      Leads w a xs all c → Offered taken room refusals all 0 s t → FedBy w taken a xs c s t
+      Leads w a xs all c → Offered sink all 0 s t → FedBy w sink a xs c s t
   fed-offered {s = s} {all = all} sees offered = record {
     seen = all;
     sees = sees;
-    took = offered.took ∙ ap (told (taken s)) (lacks-none all offered.took_of 0 offered.lacks refl);
+    took = offered.took ∙ ap (told (sink.taken s)) (lacks-none all offered.took_of 0 offered.lacks refl);
   }
 
   pub refused-offered : {A X : Type 0} {w : Watch A X} {n : ℕ} {a c : A} {xs : List X} {s t : S}
       {all : List SeenReport} → 0 < length xs → 0 < n → Leads w a xs all c
       → ((b : List X) → w.is_after a b → seen_by w a (b ++ take (length xs - 1) xs) ≡ seen_by w a b) →
-      Offered taken room refusals all n s t → RefusedBy w taken n a xs c s t
+      Offered sink all n s t → RefusedBy w sink n a xs c s t
   refused-offered {w = w} {a = a} {all = all} some some_refused sees calm offered = record {
     seen = [];
     at_last = all;
@@ -71,26 +73,26 @@ module _ {S : Type 0} {taken : S → Option (List SeenReport)} {room : S → Opt
   }
 
 -- a sink's answer to the one report that it is offered
-module _ {S : Type 0} (taken : S → Option (List SeenReport)) (room : S → Option ℕ) (refusals : S → ℕ) where
+module _ {S : Type 0} (sink : SinkView S) where
   pub offered-one : {T E : Type 0} (answer : Result T E) (x : SeenReport) (s t : S)
-      → OnOk answer (taken t ≡ told (taken s) (x ∷ [])) → OnOk answer (SinkTook taken room refusals 0 s t) →
-      OnOk answer (Offered taken room refusals (x ∷ []) 0 s t)
-  offered-one (Ok y) x s t more sink =
-      record { took_of = x ∷ []; lacks = took x [] [] 0 none; took = more; sink = sink }
-  offered-one (Err e) x s t more sink = tt
+      → OnOk answer (sink.taken t ≡ told (sink.taken s) (x ∷ [])) → OnOk answer (SinkTook sink 0 s t) →
+      OnOk answer (Offered sink (x ∷ []) 0 s t)
+  offered-one (Ok y) x s t more counts =
+      record { took_of = x ∷ []; lacks = took x [] [] 0 none; took = more; counts = counts }
+  offered-one (Err e) x s t more counts = tt
 
   pub offered-not : {T E : Type 0} (answer : Result T E) (x : SeenReport) (s t : S)
-      → OnErr answer (taken t ≡ taken s) → OnErr answer (SinkTook taken room refusals 1 s t) →
-      OnErr answer (Offered taken room refusals (x ∷ []) 1 s t)
-  offered-not (Ok y) x s t same sink = tt
-  offered-not (Err e) x s t same sink =
-      record { took_of = []; lacks = refused x [] [] 0 none; took = same ∙ told-nil (taken s); sink = sink }
+      → OnErr answer (sink.taken t ≡ sink.taken s) → OnErr answer (SinkTook sink 1 s t) →
+      OnErr answer (Offered sink (x ∷ []) 1 s t)
+  offered-not (Ok y) x s t same counts = tt
+  offered-not (Err e) x s t same counts =
+      record { took_of = []; lacks = refused x [] [] 0 none; took = same ∙ told-nil (sink.taken s); counts = counts }
 
--- a refusal behind what was fed
-pub refused-behind : {A X S : Type 0} {w : Watch A X} {taken : S → Option (List SeenReport)} {n : ℕ} {a b c : A}
-    {xs ys : List X} {s t u : S} → FedBy w taken a xs b s t → RefusedBy w taken n b ys c t u →
-    RefusedBy w taken n a (xs ++ ys) c s u
-refused-behind {taken = taken} {xs = xs} {ys = ys} {s = s} fed next = record {
+-- a refusal after what was fed
+pub refused-behind : {A X S : Type 0} {w : Watch A X} {sink : SinkView S} {n : ℕ} {a b c : A}
+    {xs ys : List X} {s t u : S} → FedBy w sink a xs b s t → RefusedBy w sink n b ys c t u →
+    RefusedBy w sink n a (xs ++ ys) c s u
+refused-behind {sink = sink} {xs = xs} {ys = ys} {s = s} fed next = record {
   seen = fed.seen ++ next.seen;
   at_last = next.at_last;
   of_last = next.of_last;
@@ -102,8 +104,8 @@ refused-behind {taken = taken} {xs = xs} {ys = ys} {s = s} fed next = record {
       (next.front (bs ++ xs) (fed.sees.is_after bs reached));
   took =
       next.took ∙ (ap (λ z. told z (next.seen ++ next.of_last)) fed.took
-      ∙ (told-more (taken s) fed.seen (next.seen ++ next.of_last)
-      ∙ ap (told (taken s)) (sym (append_assoc fed.seen next.seen next.of_last))));
+      ∙ (told-more (sink.taken s) fed.seen (next.seen ++ next.of_last)
+      ∙ ap (told (sink.taken s)) (sym (append_assoc fed.seen next.seen next.of_last))));
 }
 
 pub either-way : {T E P Q R : Type 0} (answer : Result T E) → (P → R) → (Q → R) → OnOk answer P → OnErr answer Q → R

@@ -2,6 +2,7 @@
 use Rattle.std.proofs.Common.{◌≡◌, ℕ, ◌+◌, ◌-◌, ◌*◌, ◌≤◌, Bool, List, [], ◌∷◌, ◌++◌, length, map, take, Option, sym, ap}
 use Rattle.std.proofs.Common.{◌∙◌, subst, append-nil, arith, length-take}
 use Rattle.std.proofs.lemmas.List.{take-take}
+use Rattle.bus_fcs.specs.Check.{CheckView}
 use Rattle.bus_line.specs.Due.{reports}
 use Rattle.bus_line.specs.Laws.{ReportsAre}
 use Rattle.bus_line.specs.Ledger.{stored_open}
@@ -15,40 +16,41 @@ use Rattle.bus_watch.specs.Pairs.{PairState, IsAfterPairs, two_lines, lines}
 use Rattle.bus_watch.specs.Laws.{AnyCutOfPairs, SeenAreReports, MergedIsMerged, joined, ended, called}
 use Rattle.bus_watch.specs.PairHeadline.{PairHeadline, StoppedAtPair, WholePairRun, all_seen_on_both}
 use Rattle.bus_watch.specs.Fed.{FedBy, RefusedByAt}
-use Rattle.bus_watch.specs.Sink.{told}
+use Rattle.bus_line.specs.Told.{told}
+use Rattle.bus_watch.specs.Sink.{SinkView}
 use Rattle.bus_watch.specs.declared.pair.usage.PairUsage.{PairUsage}
 use Rattle.bus_watch.proofs.FedLemmas.{same-seen}
 use Rattle.bus_watch.proofs.HeadlineLemmas.{runs-alike}
 
 -- what the getters answer that a usage is made of
-pub record Answers {C : Type 0} (folded : C → List ℕ → Type 0) (cost : ℕ) (e : PairState C) (u : PairUsage) :
+pub record Answers {C : Type 0} (view : CheckView C) (e : PairState C) (u : PairUsage) :
     Type 0 where
   pub first_room : u.first_buffered ≤ longest_of e.journal.dictionary + 2
   pub second_room : u.second_buffered ≤ longest_of e.journal.dictionary + 2
-  pub first_buffered : (ps : List (Bool × Bool)) → IsAfterPairs folded cost e ps →
+  pub first_buffered : (ps : List (Bool × Bool)) → IsAfterPairs view e ps →
       u.first_buffered ≡ stored_open (longest_of e.journal.dictionary) (firsts ps)
-  pub second_buffered : (ps : List (Bool × Bool)) → IsAfterPairs folded cost e ps →
+  pub second_buffered : (ps : List (Bool × Bool)) → IsAfterPairs view e ps →
       u.second_buffered ≡ stored_open (longest_of e.journal.dictionary) (seconds ps)
-  pub kept : (ps : List (Bool × Bool)) → IsAfterPairs folded cost e ps →
+  pub kept : (ps : List (Bool × Bool)) → IsAfterPairs view e ps →
       u.history_len ≡ length (history e.journal.depth (lines e ps))
   pub deep : u.history_len ≤ e.journal.depth
-  pub ledger : (ps : List (Bool × Bool)) → IsAfterPairs folded cost e ps →
-      IsPairLedger cost (longest_of e.journal.dictionary) ps u.spent
-  pub seventeen : (ps : List (Bool × Bool)) → IsAfterPairs folded cost e ps → total u.spent ≤ 17 * (2 * length ps)
-  pub four : (ps : List (Bool × Bool)) → IsAfterPairs folded cost e ps → total u.spent ≤ 4 * (2 * length ps)
-  pub three : cost ≡ 1 → (ps : List (Bool × Bool)) → IsAfterPairs folded cost e ps → total u.spent ≤ 3 * (2 * length ps)
+  pub ledger : (ps : List (Bool × Bool)) → IsAfterPairs view e ps →
+      IsPairLedger view.cost (longest_of e.journal.dictionary) ps u.spent
+  pub seventeen : (ps : List (Bool × Bool)) → IsAfterPairs view e ps → total u.spent ≤ 17 * (2 * length ps)
+  pub four : (ps : List (Bool × Bool)) → IsAfterPairs view e ps → total u.spent ≤ 4 * (2 * length ps)
+  pub three : view.cost ≡ 1 → (ps : List (Bool × Bool)) → IsAfterPairs view e ps → total u.spent ≤ 3 * (2 * length ps)
 
-pub whole-pair-run : {C : Type 0} (folded : C → List ℕ → Type 0) (cost : ℕ) (e : PairState C) (u : PairUsage) →
-    AnyCutOfPairs folded cost → ReportsAre → SeenAreReports → MergedIsMerged → Answers folded cost e u →
-    WholePairRun folded cost e u
-whole-pair-run folded cost e u cut are in-order sides answers = λ start pieces tolds new runs.
-    let alike = runs-alike (two_lines folded cost) start e pieces tolds runs in
+pub whole-pair-run : {C : Type 0} (view : CheckView C) (e : PairState C) (u : PairUsage) →
+    AnyCutOfPairs view → ReportsAre → SeenAreReports → MergedIsMerged → Answers view e u →
+    WholePairRun view e u
+whole-pair-run view e u cut are in-order sides answers = λ start pieces tolds new runs.
+    let alike = runs-alike (two_lines view) start e pieces tolds runs in
     let both = cut start e pieces tolds new runs in
     let is_after = both.0 in
     let ps = joined pieces in
     let longest = longest_of e.journal.dictionary in
     let origin = e.first.origin in
-    let all_told = both.1 ∙ sym (same-seen (two_lines folded cost) start e ps alike.dictionary alike.origin) in
+    let all_told = both.1 ∙ sym (same-seen (two_lines view) start e ps alike.dictionary alike.origin) in
     let all_heard = ap (map heard_in) all_told ∙ in-order e.journal.dictionary (merged origin longest ps) in
     let merges = sides longest origin ps in
     rw (← alike.dictionary, ← alike.depth, ← alike.origin)
@@ -72,25 +74,25 @@ whole-pair-run folded cost e u cut are in-order sides answers = λ start pieces 
     })
 
 -- what was fed to a new analyser is a whole run
-pub fed-pair-headline : {C S : Type 0} (folded : C → List ℕ → Type 0) (cost : ℕ) (taken : S → Option (List SeenReport))
+pub fed-pair-headline : {C S : Type 0} (view : CheckView C) (sink : SinkView S)
     (a e : PairState C) (ps : List (Bool × Bool)) (s t : S) (u : PairUsage)
-    → IsAfterPairs folded cost a [] → (f : FedBy (two_lines folded cost) taken a ps e s t) →
-    WholePairRun folded cost e u
-    → PairHeadline cost a.journal.dictionary a.journal.depth a.first.origin ps f.seen e.journal.history u
-fed-pair-headline folded cost taken a e ps s t u new fed whole =
+    → IsAfterPairs view a [] → (f : FedBy (two_lines view) sink a ps e s t) →
+    WholePairRun view e u
+    → PairHeadline view.cost a.journal.dictionary a.journal.depth a.first.origin ps f.seen e.journal.history u
+fed-pair-headline view sink a e ps s t u new fed whole =
     let d = a.journal.dictionary in
     let depth = a.journal.depth in
     let origin = a.first.origin in
     let headline = whole a (ps ∷ []) (fed.seen ∷ []) new (called a e e ps fed.seen [] [] fed.sees (ended e)) in
-    subst (λ x. PairHeadline cost d depth origin x fed.seen e.journal.history u) (append-nil ps)
-    (subst (λ y. PairHeadline cost d depth origin (ps ++ []) y e.journal.history u) (append-nil fed.seen) headline)
+    subst (λ x. PairHeadline view.cost d depth origin x fed.seen e.journal.history u) (append-nil ps)
+    (subst (λ y. PairHeadline view.cost d depth origin (ps ++ []) y e.journal.history u) (append-nil fed.seen) headline)
 
 -- where a sink refused reports of what a new analyser was fed
-pub stopped-at-pair : {C S : Type 0} (folded : C → List ℕ → Type 0) (cost : ℕ) (taken : S → Option (List SeenReport))
+pub stopped-at-pair : {C S : Type 0} (view : CheckView C) (sink : SinkView S)
     (a e : PairState C) (ps : List (Bool × Bool)) (s t : S) (n consumed : ℕ)
-    → IsAfterPairs folded cost a [] → RefusedByAt (two_lines folded cost) taken n a ps consumed e s t
-    → StoppedAtPair taken n a.journal.dictionary a.first.origin ps s t consumed
-stopped-at-pair folded cost taken a e ps s t n consumed new at =
+    → IsAfterPairs view a [] → RefusedByAt (two_lines view) sink n a ps consumed e s t
+    → StoppedAtPair sink n a.journal.dictionary a.first.origin ps s t consumed
+stopped-at-pair view sink a e ps s t n consumed new at =
     let refused = at.refused in
     let d = a.journal.dictionary in
     let origin = a.first.origin in
@@ -107,5 +109,5 @@ stopped-at-pair folded cost taken a e ps s t n consumed new at =
       seen = refused.sees.seen [] new ∙ ap (λ xs. xs ++ refused.at_last) (sym before);
       some_refused = refused.some_refused;
       lacks = refused.lacks;
-      took = refused.took ∙ ap (λ xs. told (taken s) (xs ++ refused.of_last)) (sym before);
+      took = refused.took ∙ ap (λ xs. told (sink.taken s) (xs ++ refused.of_last)) (sym before);
     }

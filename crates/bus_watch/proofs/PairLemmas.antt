@@ -14,6 +14,7 @@ use mir.Val.{bool_byte}
 use Rattle.bus_bits.specs.Octet.{bits_of}
 use Rattle.bus_bits.specs.declared.spent.Spent.{Spent}
 use Rattle.bus_bits.proofs.OctetLemmas.{length-bits, bits-front, bits-low, one_bit}
+use Rattle.bus_fcs.specs.Check.{CheckView}
 use Rattle.bus_line.specs.Report.{Report, due, moved}
 use Rattle.bus_line.specs.Decides.{MayDecideAt}
 use Rattle.bus_line.specs.Due.{reports, placed, places, due_at}
@@ -116,10 +117,10 @@ merged-length origin longest ps =
     )
 
 -- all counters have room for a pair's first report
-pub room-first : {C : Type 0} (folded : C → List ℕ → Type 0) (cost : ℕ) (a : PairState C) (ps : List (Bool × Bool)) →
+pub room-first : {C : Type 0} (view : CheckView C) (a : PairState C) (ps : List (Bool × Bool)) →
     FramesStored → StoredPaid → AssembledWithin
-    → IsAfterPairs folded cost a ps → length ps ≤ 2 ^ 60 → HasRoom a.journal
-room-first folded cost a ps frames paid within reached few =
+    → IsAfterPairs view a ps → length ps ≤ 2 ^ 60 → HasRoom a.journal
+room-first view a ps frames paid within reached few =
     let o = a.first.origin in
     let longest = longest_of a.journal.dictionary in
     room-of a.journal (lines a ps) reached.journal
@@ -139,13 +140,13 @@ few-option None = omega arith
 few-option (Some x) = omega arith
 
 -- and then for its second
-pub room-second : {C : Type 0} (folded : C → List ℕ → Type 0) (cost : ℕ) (a : PairState C) (d : LineState C)
+pub room-second : {C : Type 0} (view : CheckView C) (a : PairState C) (d : LineState C)
     (j : JournalState) (bits : List Bool) (s : Option SeenReport) (ps : List (Bool × Bool)) → FramesStored →
     StoredPaid →
     AssembledWithin
-    → Hears folded cost (Some First) a.first a.journal bits s d j → IsAfterPairs folded cost a ps →
+    → Hears view (Some First) a.first a.journal bits s d j → IsAfterPairs view a ps →
     length ps + length bits ≤ 2 ^ 60 → HasRoom j
-room-second folded cost a d j bits s ps frames paid within first reached few =
+room-second view a d j bits s ps frames paid within first reached few =
     let o = a.first.origin in
     let longest = longest_of a.journal.dictionary in
     let b = firsts ps in
@@ -229,7 +230,7 @@ filter-all place (s ∷ ss) here =
     let is : (due s.report == place) ≡ true = eq-eqb (due s.report) place (here 0 (heard_in s) (omega arith)) in
     rw is (ap (λ xs. s ∷ xs) (filter-all place ss (λ i d inside. here (suc i) d (omega (arith, inside)))))
 
--- more reports are seen behind those before
+-- more reports are seen after those before
 seen-on : (d : List FrameType) (hs more : List Heard) → (rest : List SeenReport)
     × (seen d (hs ++ more) ≡ seen d hs ++ rest)
 seen-on d hs [] = ([], ap (seen d) (append-nil hs) ∙ sym (append-nil (seen d hs)))
@@ -267,11 +268,11 @@ pairs-grow stays it = λ d longest origin ps p.
     ∙ ap (λ hs. seen d (merged origin longest ps) ++ all_seen_at d hs place) (sym grown))
 
 -- what a pair adds is what is seen at its place
-pub answer-pair : {C : Type 0} (folded : C → List ℕ → Type 0) (cost : ℕ) (a : PairState C) (ps : List (Bool × Bool))
-    (p : Bool × Bool) (told : List SeenReport) → PairsGrow → IsAfterPairs folded cost a ps
+pub answer-pair : {C : Type 0} (view : CheckView C) (a : PairState C) (ps : List (Bool × Bool))
+    (p : Bool × Bool) (told : List SeenReport) → PairsGrow → IsAfterPairs view a ps
     → seen_after_pairs a (ps ++ p ∷ []) ≡ seen_after_pairs a ps ++ told →
     told ≡ all_seen_at a.journal.dictionary (lines a (ps ++ p ∷ [])) a.first.place
-answer-pair folded cost a ps p told grows reached adds =
+answer-pair view a ps p told grows reached adds =
     let d = a.journal.dictionary in
     let hs = lines a (ps ++ p ∷ []) in
     append_cancel_left (seen_after_pairs a ps) _ _ (sym adds ∙ grows d (longest_of d) a.first.origin ps p)
@@ -299,11 +300,11 @@ handled-of_one : (on : Line) (origin longest : ℕ) (b : List Bool) →
 handled-of_one on origin longest b = heard-steps (Some on) (placed origin longest b)
     ∙ steps-moved origin (reports longest b)
 
-pub pair-ledger : {C : Type 0} (folded : C → List ℕ → Type 0) (cost : ℕ) (a : PairState C) (ps : List (Bool × Bool))
-    (d e j : Spent) → IsAfterPairs folded cost a ps
-    → IsLineLedger cost a.first.longest (firsts ps) d → IsLineLedger cost a.second.longest (seconds ps) e →
+pub pair-ledger : {C : Type 0} (view : CheckView C) (a : PairState C) (ps : List (Bool × Bool))
+    (d e j : Spent) → IsAfterPairs view a ps
+    → IsLineLedger view.cost a.first.longest (firsts ps) d → IsLineLedger view.cost a.second.longest (seconds ps) e →
     j.copied ≡ a.journal.copied → j.handled ≡ a.journal.handled
-    → IsPairLedger cost (longest_of a.journal.dictionary) ps
+    → IsPairLedger view.cost (longest_of a.journal.dictionary) ps
     (record {
       shifted = d.shifted + e.shifted;
       assembled = d.assembled + e.assembled;
@@ -312,7 +313,7 @@ pub pair-ledger : {C : Type 0} (folded : C → List ℕ → Type 0) (cost : ℕ)
       copied = j.copied;
       handled = j.handled;
     })
-pair-ledger folded cost a ps d e j reached first second copied_is handled_is =
+pair-ledger view a ps d e j reached first second copied_is handled_is =
     let longest = longest_of a.journal.dictionary in
     let o = a.first.origin in
     let kept : j.copied ≡ copied longest (firsts ps) + copied longest (seconds ps) =
@@ -334,8 +335,8 @@ pair-ledger folded cost a ps d e j reached first second copied_is handled_is =
     record {
       first = record d { copied = copied longest (firsts ps); handled = handled (reports longest (firsts ps)) };
       second = record e { copied = copied longest (seconds ps); handled = handled (reports longest (seconds ps)) };
-      first_is = line-ledger cost longest (firsts ps) d (rw (← reached.longest) first);
-      second_is = line-ledger cost longest (seconds ps) e (rw (← reached.longest_second) second);
+      first_is = line-ledger view.cost longest (firsts ps) d (rw (← reached.longest) first);
+      second_is = line-ledger view.cost longest (seconds ps) e (rw (← reached.longest_second) second);
       sum = rw (kept, told) refl;
     }
 
@@ -386,14 +387,14 @@ counts-within cost longest b d paid within cost_within ledger =
     )
 
 -- and two decoders no more than twice their places
-pub both-within : {C : Type 0} (folded : C → List ℕ → Type 0) (cost : ℕ) (a : PairState C) (ps : List (Bool × Bool))
-    (d e : Spent) → StoredPaid → AssembledWithin → cost ≤ 8 → IsAfterPairs folded cost a ps
-    → IsLineLedger cost a.first.longest (firsts ps) d → IsLineLedger cost a.second.longest (seconds ps) e
+pub both-within : {C : Type 0} (view : CheckView C) (a : PairState C) (ps : List (Bool × Bool))
+    (d e : Spent) → StoredPaid → AssembledWithin → view.cost ≤ 8 → IsAfterPairs view a ps
+    → IsLineLedger view.cost a.first.longest (firsts ps) d → IsLineLedger view.cost a.second.longest (seconds ps) e
     → (d.shifted + e.shifted ≤ 2 * a.first.place) × (d.assembled + e.assembled ≤ 2 * a.first.place)
     × (d.folded + e.folded ≤ 2 * a.first.place) × (d.stored + e.stored ≤ 2 * a.first.place)
-both-within folded cost a ps d e paid within cost_within reached first second =
-    let one = counts-within cost a.first.longest (firsts ps) d paid within cost_within first in
-    let two = counts-within cost a.second.longest (seconds ps) e paid within cost_within second in
+both-within view a ps d e paid within cost_within reached first second =
+    let one = counts-within view.cost a.first.longest (firsts ps) d paid within cost_within first in
+    let two = counts-within view.cost a.second.longest (seconds ps) e paid within cost_within second in
     let few : length (firsts ps) + length (seconds ps) ≤ 2 * a.first.place =
     omega (arith, reached.first.has_taken.place, length-firsts ps, length-seconds ps) in (
       omega (arith, one.0, two.0, few),

@@ -11,6 +11,7 @@ use Rattle.bus_bits.specs.Octet.{bits_of}
 use Rattle.bus_bits.proofs.BitLemmas.{bits-more, length-from}
 use Rattle.bus_bits.proofs.OctetLemmas.{bits-front, length-bits}
 use Rattle.bus_bits.proofs.PairWordsLemmas.{zip-append}
+use Rattle.bus_fcs.specs.Check.{CheckView}
 use Rattle.bus_line.specs.Due.{reports, placed}
 use Rattle.bus_line.specs.Laws.{OneMore, ReportsGrow, DueStays, FramesStored, StoredPaid, AssembledWithin}
 use Rattle.bus_line.specs.Ledger.{octet_count}
@@ -33,7 +34,7 @@ use Rattle.bus_watch.proofs.AnalyserViewLemmas.{heard-octets, line-length, octet
 use Rattle.bus_watch.proofs.PairLemmas.{copied-adds, few-option, firsts-of, firsts-zip, length-pairs, lowest}
 use Rattle.bus_watch.proofs.PairLemmas.{of_one-octets, seconds-of, seconds-zip}
 
--- ---- bits one behind the other
+-- ---- bits one after the other
 
 pub bits-none : (os : List ℕ) (i : ℕ) → bits_from os i (i - i) ≡ []
 unfolding bits_from
@@ -49,14 +50,14 @@ bits-met os from i n before =
 
 -- ---- many reports of one line
 
-module _ {C : Type 0} (folded : C → List ℕ → Type 0) (cost : ℕ) (on : Option Line) where
+module _ {C : Type 0} (view : CheckView C) (on : Option Line) where
   pub hears-nothing : (d : LineState C) (j : JournalState) (told : List SeenReport → Type 0) → told [] →
-      HearsMany folded cost on d j [] d j told
+      HearsMany view on d j [] d j told
   hears-nothing d j told nothing_told = record {
     reports = [];
     seen_now = [];
     led = record {
-      after = λ b reached. subst (After folded cost d) (sym (append-nil b)) reached;
+      after = λ b reached. subst (After view d) (sym (append-nil b)) reached;
       longest = refl;
       origin = refl;
       place = omega arith;
@@ -72,7 +73,7 @@ module _ {C : Type 0} (folded : C → List ℕ → Type 0) (cost : ℕ) (on : Op
 
   -- one report at most
   abbrev hears-one : (d e : LineState C) (j k : JournalState) (xs : List Bool) (s : Option SeenReport) → 0 < length xs →
-      Hears folded cost on d j xs s e k → HearsMany folded cost on d j xs e k (λ _. Unit {0})
+      Hears view on d j xs s e k → HearsMany view on d j xs e k (λ _. Unit {0})
   hears-one d e j k xs s some hears = record {
     reports = option_to_list hears.report;
     seen_now = option_to_list s;
@@ -88,9 +89,9 @@ module _ {C : Type 0} (folded : C → List ℕ → Type 0) (cost : ℕ) (on : Op
 
   pub hears-more : (a b c : LineState C) (i j k : JournalState) (xs ys : List Bool) (s : Option SeenReport)
       (told further : List SeenReport → Type 0)
-      → 1 ≤ length ys → (first : HearsMany folded cost on a i xs b j told) → Hears folded cost on b j ys s c k →
+      → 1 ≤ length ys → (first : HearsMany view on a i xs b j told) → Hears view on b j ys s c k →
       further (first.seen_now ++ option_to_list s)
-      → HearsMany folded cost on a i (xs ++ ys) c k further
+      → HearsMany view on a i (xs ++ ys) c k further
   hears-more a b c i j k xs ys s told further some first next all_told =
       let rs = option_to_list next.report in
       let led = next.advances.tells.leads in
@@ -102,7 +103,7 @@ module _ {C : Type 0} (folded : C → List ℕ → Type 0) (cost : ℕ) (on : Op
         reports = first.reports ++ rs;
         seen_now = first.seen_now ++ option_to_list s;
         led = record {
-          after = λ bs reached. subst (After folded cost c) (append_assoc bs xs ys)
+          after = λ bs reached. subst (After view c) (append_assoc bs xs ys)
               (led.after (bs ++ xs) (first.led.after bs reached));
           longest = led.longest ∙ first.led.longest;
           origin = led.origin ∙ first.led.origin;
@@ -139,7 +140,7 @@ module _ {C : Type 0} (folded : C → List ℕ → Type 0) (cost : ℕ) (on : Op
 
   -- a report more, and the journal is as far as the line still
   pub reaches-more : (d e : LineState C) (j k : JournalState) (xs : List Bool) (s : Option SeenReport) →
-      Reaches folded cost d j → Hears folded cost on d j xs s e k → Reaches folded cost e k
+      Reaches view d j → Hears view on d j xs s e k → Reaches view e k
   reaches-more d e j k xs s reaches hears =
       let rs = option_to_list hears.report in
       let led = hears.advances.tells.leads in
@@ -171,10 +172,10 @@ module _ {C : Type 0} (folded : C → List ℕ → Type 0) (cost : ℕ) (on : Op
       }
 
 -- all counters have room then
-pub reaches-room : {C : Type 0} (folded : C → List ℕ → Type 0) (cost : ℕ) (d : LineState C) (j : JournalState) →
+pub reaches-room : {C : Type 0} (view : CheckView C) (d : LineState C) (j : JournalState) →
     FramesStored → StoredPaid → AssembledWithin
-    → Reaches folded cost d j → d.place ≤ 2 ^ 60 → HasRoom j
-reaches-room folded cost d j frames paid within reaches place =
+    → Reaches view d j → d.place ≤ 2 ^ 60 → HasRoom j
+reaches-room view d j frames paid within reaches place =
     let few : length reaches.bits ≤ 2 ^ 60 = omega (arith, reaches.after.has_taken.place, place) in
     room-of j reaches.heard reaches.keeps
     (omega (
@@ -189,10 +190,10 @@ reaches-room folded cost d j frames paid within reaches place =
     (omega (arith, reaches.count, line-length d.origin d.longest reaches.bits, few))
 
 -- the first line of two stands so
-pub pairs-reach : {C : Type 0} (folded : C → List ℕ → Type 0) (cost : ℕ) (a : PairState C) (ps : List (Bool × Bool)) →
+pub pairs-reach : {C : Type 0} (view : CheckView C) (a : PairState C) (ps : List (Bool × Bool)) →
     FramesStored → StoredPaid → AssembledWithin
-    → IsAfterPairs folded cost a ps → length ps ≤ 2 ^ 60 → Reaches folded cost a.first a.journal
-pairs-reach folded cost a ps frames paid within reached few =
+    → IsAfterPairs view a ps → length ps ≤ 2 ^ 60 → Reaches view a.first a.journal
+pairs-reach view a ps frames paid within reached few =
     let o = a.first.origin in
     let longest = longest_of a.journal.dictionary in
     let same : placed o longest (firsts ps) ≡ placed o a.first.longest (firsts ps) =
@@ -225,12 +226,12 @@ pairs-reach folded cost a ps frames paid within reached few =
 
 -- ---- the second line's last bit is the first at which it reports
 
-module _ {C : Type 0} (folded : C → List ℕ → Type 0) (cost : ℕ) (old new : PairState C) (j : JournalState)
+module _ {C : Type 0} (view : CheckView C) (old new : PairState C) (j : JournalState)
     (zs : List (Bool × Bool)) (xs ys : List Bool) (t : Option SeenReport) (told : List SeenReport → Type 0)
     (stays : DueStays) (more : OneMore) (grow : ReportsGrow) (some : 0 < length zs)
     (firsts_are : xs ≡ firsts zs) (seconds_are : ys ≡ seconds zs)
-    (first : HearsMany folded cost (Some First) old.first old.journal xs new.first j told)
-    (second : Hears folded cost (Some Second) old.second j ys t new.second new.journal) where
+    (first : HearsMany view (Some First) old.first old.journal xs new.first j told)
+    (second : Hears view (Some Second) old.second j ys t new.second new.journal) where
   abbrev all-but : List (Bool × Bool)
   all-but = take (length zs - 1) zs
 
@@ -253,7 +254,7 @@ module _ {C : Type 0} (folded : C → List ℕ → Type 0) (cost : ℕ) (old new
   abbrev first-lines : List Heard
   first-lines = map (heard_on (Some First)) first.reports
 
-  lines-more : (ps : List (Bool × Bool)) → IsAfterPairs folded cost old ps →
+  lines-more : (ps : List (Bool × Bool)) → IsAfterPairs view old ps →
       lines old (ps ++ zs) ≡ (lines old ps ++ first-lines) ++ heard_option (Some Second) second.report
   lines-more ps reached =
       let o = old.first.origin in
@@ -272,7 +273,7 @@ module _ {C : Type 0} (folded : C → List ℕ → Type 0) (cost : ℕ) (old new
       second_adds
       ∙ sym (append_assoc (lines old ps) first-lines (heard_option (Some Second) second.report)))
 
-  pub sees-scanned : SeesPairs folded cost old zs (first.seen_now ++ option_to_list t) new
+  pub sees-scanned : SeesPairs view old zs (first.seen_now ++ option_to_list t) new
   sees-scanned =
       let d = second.dictionary ∙ first.dictionary in
       let second_led = second.advances.tells.leads in
@@ -313,26 +314,26 @@ low-front : (n x : ℕ) → n ≤ 48 → take (length (low-bits n x) - 1) (low-b
 low-front n x few = ap (λ k. take (k - 1) (low-bits n x)) (length-bits n (x % (1 * 2 ^ n % 2 ^ 64)))
     ∙ (ap (take (n - 1)) (lowest n x few) ∙ bits-front (n - 1) n x (omega arith))
 
-pub sees-words : {C : Type 0} (folded : C → List ℕ → Type 0) (cost n x y : ℕ) (old new : PairState C)
+pub sees-words : {C : Type 0} (view : CheckView C) (n x y : ℕ) (old new : PairState C)
     (j : JournalState) (s t : Option SeenReport) → DueStays → OneMore → ReportsGrow → 1 ≤ n → n ≤ 48
-    → Hears folded cost (Some First) old.first old.journal (low-bits n x) s new.first j
-    → Hears folded cost (Some Second) old.second j (low-bits n y) t new.second new.journal
-    → SeesPairs folded cost old (pairs_of n x y) (option_to_list s ++ option_to_list t) new
-sees-words folded cost n x y old new j s t stays more grow some few first second =
+    → Hears view (Some First) old.first old.journal (low-bits n x) s new.first j
+    → Hears view (Some Second) old.second j (low-bits n y) t new.second new.journal
+    → SeesPairs view old (pairs_of n x y) (option_to_list s ++ option_to_list t) new
+sees-words view n x y old new j s t stays more grow some few first second =
     let some_bits : 0 < length (low-bits n x) = omega (arith, some, length-bits n (x % (1 * 2 ^ n % 2 ^ 64))) in
-    sees-scanned folded cost old new j (pairs_of n x y) (low-bits n x) (low-bits n y) t (λ _. Unit {0})
+    sees-scanned view old new j (pairs_of n x y) (low-bits n x) (low-bits n y) t (λ _. Unit {0})
     stays more grow (omega (arith, some, length-pairs n x y)) (lowest n x few ∙ sym (firsts-of n x y))
     (lowest n y few ∙ sym (seconds-of n x y))
-    (hears-one folded cost (Some First) old.first new.first old.journal j (low-bits n x) s some_bits first) second
+    (hears-one view (Some First) old.first new.first old.journal j (low-bits n x) s some_bits first) second
 
 -- all but the last bits add nothing
-pub words-before : {C : Type 0} (folded : C → List ℕ → Type 0) (cost n x y : ℕ) (a : PairState C) → DueStays → OneMore →
+pub words-before : {C : Type 0} (view : CheckView C) (n x y : ℕ) (a : PairState C) → DueStays → OneMore →
     ReportsGrow → n ≤ 48
-    → DecideNothing folded cost a.first (take (length (low-bits n x) - 1) (low-bits n x))
-    → DecideNothing folded cost a.second (take (length (low-bits n y) - 1) (low-bits n y))
-    → (ps : List (Bool × Bool)) → IsAfterPairs folded cost a ps →
+    → DecideNothing view a.first (take (length (low-bits n x) - 1) (low-bits n x))
+    → DecideNothing view a.second (take (length (low-bits n y) - 1) (low-bits n y))
+    → (ps : List (Bool × Bool)) → IsAfterPairs view a ps →
     seen_after_pairs a (ps ++ pairs_of (n - 1) x y) ≡ seen_after_pairs a ps
-words-before folded cost n x y a stays more grow few first second ps reached =
+words-before view n x y a stays more grow few first second ps reached =
     let o = a.first.origin in
     let longest = longest_of a.journal.dictionary in
     let first_quiet : placed o longest (firsts ps ++ firsts (pairs_of (n - 1) x y)) ≡ placed o longest (firsts ps) =
@@ -357,16 +358,16 @@ length-zipped os ys i n = sym (length-firsts (zip (bits_from os i n) (bits_from 
     ∙ (ap length (firsts-from os ys i n) ∙ length-from os i n)
 
 -- the second line takes bits of which only the last may decide a report, and the first as many
-pub leads-scanned : {C : Type 0} (folded : C → List ℕ → Type 0) (cost : ℕ) (old new : PairState C) (j : JournalState)
+pub leads-scanned : {C : Type 0} (view : CheckView C) (old new : PairState C) (j : JournalState)
     (os ys : List ℕ) (i n : ℕ) (t : Option SeenReport) (told further : List SeenReport → Type 0)
     → DueStays → OneMore → ReportsGrow → 1 ≤ n
-    → (first : HearsMany folded cost (Some First) old.first old.journal (bits_from os i n) new.first j told)
-    → Hears folded cost (Some Second) old.second j (bits_from ys i n) t new.second new.journal
+    → (first : HearsMany view (Some First) old.first old.journal (bits_from os i n) new.first j told)
+    → Hears view (Some Second) old.second j (bits_from ys i n) t new.second new.journal
     → further (first.seen_now ++ option_to_list t)
-    → LeadsTold (two_lines folded cost) old (zip (bits_from os i n) (bits_from ys i n)) new further
-leads-scanned folded cost old new j os ys i n t told further stays more grow some first second all_told = record {
+    → LeadsTold (two_lines view) old (zip (bits_from os i n) (bits_from ys i n)) new further
+leads-scanned view old new j os ys i n t told further stays more grow some first second all_told = record {
   seen = first.seen_now ++ option_to_list t;
-  sees = sees-scanned folded cost old new j (zip (bits_from os i n) (bits_from ys i n)) (bits_from os i n)
+  sees = sees-scanned view old new j (zip (bits_from os i n) (bits_from ys i n)) (bits_from os i n)
       (bits_from ys i n) t told stays more grow (omega (arith, length-zipped os ys i n, some))
       (sym (firsts-from os ys i n)) (sym (seconds-from os ys i n)) first second;
   few = omega (
@@ -381,7 +382,7 @@ leads-scanned folded cost old new j os ys i n t told further stays more grow som
   told = all_told;
 }
 
--- the pairs so far, and those behind them
+-- the pairs so far, and those after them
 pub zip-met : (os ys : List ℕ) (i n : ℕ) → zip (bits_from os 0 (i + n)) (bits_from ys 0 (i + n))
     ≡ zip (bits_from os 0 i) (bits_from ys 0 i) ++ zip (bits_from os i n) (bits_from ys i n)
 zip-met os ys i n =
@@ -407,13 +408,13 @@ leads-further w a b c xs ys told last further first next both = record {
 }
 
 -- no pair is taken, and nothing is found at the last one any more
-pub leads-nowhere : {C : Type 0} (folded : C → List ℕ → Type 0) (cost : ℕ) (a : PairState C) (os ys : List ℕ)
+pub leads-nowhere : {C : Type 0} (view : CheckView C) (a : PairState C) (os ys : List ℕ)
     (told : List SeenReport → Type 0) → told []
-    → LeadsTold (two_lines folded cost) a (zip (bits_from os 0 0) (bits_from ys 0 0))
+    → LeadsTold (two_lines view) a (zip (bits_from os 0 0) (bits_from ys 0 0))
     (record a { found_first = None; found_second = None }) told
 unfolding bits_from
-leads-nowhere folded cost a os ys told nothing_told =
-    let same = leads-nil (two_lines folded cost) a in
+leads-nowhere view a os ys told nothing_told =
+    let same = leads-nil (two_lines view) a in
     record {
       seen = [];
       sees = record {

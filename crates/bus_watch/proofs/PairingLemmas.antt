@@ -9,7 +9,7 @@ use Rattle.bus_watch.specs.Talk.{command_on, pending}
 use Rattle.bus_watch.proofs.JournalStateLemmas.{damage-quiet}
 use Rattle.bus_watch.proofs.TalkLemmas.{pending-talk}
 
--- none waits behind damage
+-- none waits after damage
 pub waiting-damage : (d : List FrameType) (hs : List Heard) (r : Heard) → is_damage r.report.kind ≡ true →
     None ≡ pending d (hs ++ r ∷ [])
 waiting-damage d hs r damage =

@@ -1,6 +1,7 @@
 -- The lists of bits after which an analyser may stand, and what more bits do.
 use Rattle.std.specs.Prelude.{◌≡◌, ℕ, Bool, List, Option}
 use Rattle.std.specs.Option.{option_map, option_to_list}
+use Rattle.bus_fcs.specs.Check.{CheckView}
 use Rattle.bus_line.specs.Due.{placed}
 use Rattle.bus_line.specs.Internal.LineState.{LineState}
 use Rattle.bus_line.specs.After.{After}
@@ -31,16 +32,16 @@ abbrev pub heard : {C : Type 0} → AnalyserState C → List SeenReport
 heard a = option_to_list (option_map (found a.decoder.octets) a.finding)
 
 -- an analyser may stand after the bits b
-pub record IsAfter {C : Type 0} (folded : C → List ℕ → Type 0) (cost : ℕ) (a : AnalyserState C)
+pub record IsAfter {C : Type 0} (view : CheckView C) (a : AnalyserState C)
     (b : List Bool) : Type 0 where
-  pub decoder : After folded cost a.decoder b
+  pub decoder : After view a.decoder b
   pub longest : a.decoder.longest ≡ longest_of a.journal.dictionary
   pub journal : Keeps a.journal (line a b)
 
 -- one line
-abbrev pub one_line : {C : Type 0} → (C → List ℕ → Type 0) → ℕ → Watch (AnalyserState C) Bool
-one_line folded cost = record {
-  is_after = IsAfter folded cost;
+abbrev pub one_line : {C : Type 0} → CheckView C → Watch (AnalyserState C) Bool
+one_line view = record {
+  is_after = IsAfter view;
   dictionary = λ a. a.journal.dictionary;
   depth = λ a. a.journal.depth;
   origin = λ a. a.decoder.origin;
@@ -49,6 +50,6 @@ one_line folded cost = record {
 }
 
 -- these bits lead from old to new, and this is seen at them
-abbrev pub Sees : {C : Type 0} → (C → List ℕ → Type 0) → ℕ → AnalyserState C → List Bool → List SeenReport
+abbrev pub Sees : {C : Type 0} → CheckView C → AnalyserState C → List Bool → List SeenReport
     → AnalyserState C → Type 0
-Sees folded cost old bits told new = Leads (one_line folded cost) old bits told new
+Sees view old bits told new = Leads (one_line view) old bits told new

@@ -12,7 +12,7 @@ abbrev pub CutLosesNothing : Type 0
 CutLosesNothing = (d : List FrameType) (before behind : List Heard) → pending d before ≡ None →
     seen d (before ++ behind) ≡ seen d before ++ seen d behind
 
--- where one waits, its verdict, at the first report behind that is no idle line, and no more
+-- where one waits, its verdict, at the first report after it that is no idle line, and no more
 pub record LosesOne (d : List FrameType) (before idles rest : List Heard) (h : Heard) : Type 0 where
   pub others : List SeenReport
   pub whole : seen d (before ++ (idles ++ h ∷ rest)) ≡ seen d before

@@ -1,8 +1,10 @@
 -- The headline: what a whole run comes to, from a new analyser on.
-use Rattle.std.specs.Prelude.{◌≡◌, ℕ, ◌+◌, ◌-◌, ◌*◌, ◌≤◌, ◌<◌, ◌^◌, ◌⊎◌, Bool, List, [], ◌∷◌, ◌++◌, length, map, take}
+use Rattle.std.specs.Prelude.{◌≡◌, ℕ, ◌+◌, ◌-◌, ◌*◌, ◌≤◌, ◌<◌, ◌⊎◌, Bool, List, [], ◌∷◌, ◌++◌, length, map, take}
 use Rattle.std.specs.Prelude.{Option}
 use Rattle.std.specs.Borrow.{Bor}
 use Rattle.std.specs.List.{flat_map}
+use Rattle.bus_bits.specs.Limits.{most_places}
+use Rattle.bus_fcs.specs.Check.{CheckView}
 use Rattle.bus_line.specs.Due.{placed}
 use Rattle.bus_line.specs.Ledger.{stored_open}
 use Rattle.bus_line.specs.Report.{Report, AreReports, moved}
@@ -12,7 +14,8 @@ use Rattle.bus_watch.specs.Heard.{of_line}
 use Rattle.bus_watch.specs.Seen.{SeenReport, heard_in, seen}
 use Rattle.bus_watch.specs.History.{KeptFrame, history}
 use Rattle.bus_watch.specs.Ledger.{IsLedger, total}
-use Rattle.bus_watch.specs.Sink.{told}
+use Rattle.bus_line.specs.Told.{told}
+use Rattle.bus_watch.specs.Sink.{SinkView}
 use Rattle.bus_watch.specs.After.{AnalyserState, IsAfter, one_line}
 use Rattle.bus_watch.specs.Laws.{joined, Runs}
 use Rattle.bus_watch.specs.declared.usage.Usage.{Usage}
@@ -54,40 +57,40 @@ abbrev pub kept_frames : {C : Type 0} → AnalyserState C → List KeptFrame
 kept_frames a = a.journal.history
 
 -- the headline of any run of calls that leads from an analyser that took no bit to this one
-abbrev pub WholeRun : {C : Type 0} → (C → List ℕ → Type 0) → ℕ → AnalyserState C → Usage → Type 0
-WholeRun {C} folded cost end usage =
+abbrev pub WholeRun : {C : Type 0} → CheckView C → AnalyserState C → Usage → Type 0
+WholeRun {C} view end usage =
     (start : AnalyserState C) (pieces : List (List Bool)) (tolds : List (List SeenReport))
-    → IsAfter folded cost start [] → Runs (one_line folded cost) start pieces tolds end
-    → Headline cost start.journal.dictionary start.journal.depth start.decoder.origin
+    → IsAfter view start [] → Runs (one_line view) start pieces tolds end
+    → Headline view.cost start.journal.dictionary start.journal.depth start.decoder.origin
     (joined pieces) (joined tolds) (kept_frames end) usage
 
--- the bits of pieces that are lent, one behind the other
+-- the bits of pieces that are lent, one after the other
 abbrev pub bits_in : List (Bor (List Bool)) → List Bool
 bits_in pieces = flat_map (λ p. p.now) pieces
 
 -- a sink refused the report that the last of the first `consumed` bits decides, and took all those before
 pub record StoppedAt
-    {S : Type 0} (taken : S → Option (List SeenReport)) (d : List FrameType) (origin : ℕ) (b : List Bool)
+    {S : Type 0} (sink : SinkView S) (d : List FrameType) (origin : ℕ) (b : List Bool)
     (before after : S) (consumed : ℕ) : Type 0 where
   pub some : 0 < consumed
   pub within : consumed ≤ length b
-  pub took : taken after ≡ told (taken before) (all_seen d origin (take (consumed - 1) b))
+  pub took : sink.taken after ≡ told (sink.taken before) (all_seen d origin (take (consumed - 1) b))
   pub lost : SeenReport
   pub refused : all_seen d origin (take consumed b) ≡ all_seen d origin (take (consumed - 1) b) ++ lost ∷ []
 
 -- an analyser can be made with this depth and this origin
 abbrev pub CanBeMade : ℕ → ℕ → Type 0
-CanBeMade depth origin = (1 ≤ depth) × (depth ≤ 1024) × (origin ≤ 2 ^ 60)
+CanBeMade depth origin = (1 ≤ depth) × (depth ≤ 1024) × (origin ≤ most_places)
 
 -- when a run over `count` bits fails. No two cases hold at once, but that want of memory may come in place of a fault
 -- of `Feed`; and a run that is Ok is in none of them but that one
 abbrev pub Fails : ℕ → ℕ → ℕ → (ℕ → Type 0) → RunFault → Type 0
 Fails depth origin count Stopped (New DepthRange) = (depth < 1) ⊎ (1024 < depth)
-Fails depth origin count Stopped (New Origin) = (1 ≤ depth) × (depth ≤ 1024) × (2 ^ 60 < origin)
+Fails depth origin count Stopped (New Origin) = (1 ≤ depth) × (depth ≤ 1024) × (most_places < origin)
 Fails depth origin count Stopped (New Memory) = CanBeMade depth origin
-Fails depth origin count Stopped (Feed PlaceLimit) = CanBeMade depth origin × (2 ^ 60 < origin + count)
+Fails depth origin count Stopped (Feed PlaceLimit) = CanBeMade depth origin × (most_places < origin + count)
 Fails depth origin count Stopped (Feed (Sink consumed)) =
-    CanBeMade depth origin × (origin + count ≤ 2 ^ 60) × Stopped consumed
+    CanBeMade depth origin × (origin + count ≤ most_places) × Stopped consumed
 
 -- a fact of each fault but that of a sink
 abbrev pub UnlessStopped : Type 0 → RunFault → Type 0

@@ -4,6 +4,7 @@ use Rattle.std.specs.Prelude.{filter_map, length, sum_by, Some}
 use Rattle.std.specs.List.{flat_map}
 use Rattle.std.specs.Option.{option_to_list}
 use Rattle.bus_bits.specs.declared.spent.Spent.{Spent}
+use Rattle.bus_fcs.specs.Check.{CheckView}
 use Rattle.bus_line.specs.Report.{Report, Frame, due}
 use Rattle.bus_line.specs.Due.{placed, due_at}
 use Rattle.bus_line.specs.Ledger.{octet_count}
@@ -68,17 +69,17 @@ StepsWithinThree =
     (longest : ℕ) (b : List Bool) (spent : Spent) → IsLedger 1 longest b spent
     → (spent.folded ≡ spent.stored) × (total spent ≤ 3 * length b)
 
--- lists, one behind the other
+-- lists, one after the other
 abbrev pub joined : {X : Type 0} → List (List X) → List X
 joined xss = flat_map (λ xs. xs) xss
 
--- calls one behind the other: what each took, and what it answered or told its sink
+-- calls one after the other: what each took, and what it answered or told its sink
 pub data Runs {A X : Type 0} (w : Watch A X) : A → List (List X) → List (List SeenReport) → A → Type 0 where
   ended : (a : A) → Runs w a [] [] a
   called : (a c e : A) (xs : List X) (told : List SeenReport) (pieces : List (List X)) (tolds : List (List SeenReport))
       → Leads w a xs told c → Runs w c pieces tolds e → Runs w a (xs ∷ pieces) (told ∷ tolds) e
 
--- however a list is cut into calls, what they tell, one behind the other, is what is seen of the whole list, and the
+-- however a list is cut into calls, what they tell, one after the other, is what is seen of the whole list, and the
 -- analyser stands after it
 abbrev pub IsAnyCut : {A X : Type 0} → Watch A X → Type 0
 IsAnyCut {A} {X} w = (start end : A) (pieces : List (List X)) (tolds : List (List SeenReport))
@@ -86,12 +87,12 @@ IsAnyCut {A} {X} w = (start end : A) (pieces : List (List X)) (tolds : List (Lis
     → w.is_after end (joined pieces) × (joined tolds ≡ seen_by w start (joined pieces))
 
 -- of one line
-abbrev pub AnyCut : {C : Type 0} → (C → List ℕ → Type 0) → ℕ → Type 0
-AnyCut folded cost = IsAnyCut (one_line folded cost)
+abbrev pub AnyCut : {C : Type 0} → CheckView C → Type 0
+AnyCut view = IsAnyCut (one_line view)
 
 -- of two
-abbrev pub AnyCutOfPairs : {C : Type 0} → (C → List ℕ → Type 0) → ℕ → Type 0
-AnyCutOfPairs folded cost = IsAnyCut (two_lines folded cost)
+abbrev pub AnyCutOfPairs : {C : Type 0} → CheckView C → Type 0
+AnyCutOfPairs view = IsAnyCut (two_lines view)
 
 -- the frame octets of what one bit more closes: those of the frame whose closing flag it ends, and none else
 abbrev pub closed_octets : ℕ → List Bool → Bool → ℕ

@@ -1,5 +1,6 @@
 -- The headline for two lines: what a whole run comes to, from a new analyser on.
 use Rattle.std.specs.Prelude.{◌≡◌, ℕ, ◌+◌, ◌-◌, ◌*◌, ◌≤◌, ◌<◌, Bool, List, [], ◌++◌, length, map, take, Option}
+use Rattle.bus_fcs.specs.Check.{CheckView}
 use Rattle.bus_line.specs.Ledger.{stored_open}
 use Rattle.bus_line.specs.Report.{Report, AreReports, moved}
 use Rattle.bus_dictionary.specs.Entry.{FrameType}
@@ -9,7 +10,8 @@ use Rattle.bus_watch.specs.Seen.{SeenReport, heard_in, seen}
 use Rattle.bus_watch.specs.Fed.{Lacks}
 use Rattle.bus_watch.specs.History.{KeptFrame, history}
 use Rattle.bus_watch.specs.Ledger.{IsPairLedger, total}
-use Rattle.bus_watch.specs.Sink.{told}
+use Rattle.bus_line.specs.Told.{told}
+use Rattle.bus_watch.specs.Sink.{SinkView}
 use Rattle.bus_watch.specs.Pairs.{PairState, IsAfterPairs, two_lines}
 use Rattle.bus_watch.specs.Laws.{joined, Runs}
 use Rattle.bus_watch.specs.declared.line.Line.TheVariants.{First, Second}
@@ -48,16 +50,16 @@ pub record PairHeadline
   pub three : cost ≡ 1 → total usage.spent ≤ 3 * (2 * length ps)
 
 -- the headline of any run of calls that leads from an analyser that took no pair to this one
-abbrev pub WholePairRun : {C : Type 0} → (C → List ℕ → Type 0) → ℕ → PairState C → PairUsage → Type 0
-WholePairRun {C} folded cost end usage =
+abbrev pub WholePairRun : {C : Type 0} → CheckView C → PairState C → PairUsage → Type 0
+WholePairRun {C} view end usage =
     (start : PairState C) (pieces : List (List (Bool × Bool))) (tolds : List (List SeenReport))
-    → IsAfterPairs folded cost start [] → Runs (two_lines folded cost) start pieces tolds end
-    → PairHeadline cost start.journal.dictionary start.journal.depth start.first.origin
+    → IsAfterPairs view start [] → Runs (two_lines view) start pieces tolds end
+    → PairHeadline view.cost start.journal.dictionary start.journal.depth start.first.origin
     (joined pieces) (joined tolds) end.journal.history usage
 
 -- a sink refused so many of the reports that the last of the first `consumed` pairs decides, and took all others
 pub record StoppedAtPair
-    {S : Type 0} (taken : S → Option (List SeenReport)) (refusals : ℕ) (d : List FrameType) (origin : ℕ)
+    {S : Type 0} (sink : SinkView S) (refusals : ℕ) (d : List FrameType) (origin : ℕ)
     (ps : List (Bool × Bool)) (before after : S) (consumed : ℕ) : Type 0 where
   pub some : 0 < consumed
   pub within : consumed ≤ length ps
@@ -67,4 +69,4 @@ pub record StoppedAtPair
       ≡ all_seen_on_both d origin (take (consumed - 1) ps) ++ at_last
   pub some_refused : 0 < refusals
   pub lacks : Lacks at_last of_last refusals
-  pub took : taken after ≡ told (taken before) (all_seen_on_both d origin (take (consumed - 1) ps) ++ of_last)
+  pub took : sink.taken after ≡ told (sink.taken before) (all_seen_on_both d origin (take (consumed - 1) ps) ++ of_last)

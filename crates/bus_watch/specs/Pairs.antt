@@ -1,6 +1,7 @@
 -- The lists of pairs of bits after which an analyser of two lines may stand, and what more pairs do.
 use Rattle.std.specs.Prelude.{◌≡◌, ℕ, ◌+◌, ◌-◌, ◌<◌, ◌⊎◌, Bool, List, ◌++◌, length, Option, Some, option_map}
 use Rattle.std.specs.Option.{option_to_list}
+use Rattle.bus_fcs.specs.Check.{CheckView}
 use Rattle.bus_line.specs.Decides.{MayDecideAt}
 use Rattle.bus_line.specs.Internal.LineState.{LineState}
 use Rattle.bus_line.specs.After.{After}
@@ -48,19 +49,19 @@ abbrev pub heard_pair : {C : Type 0} → PairState C → List SeenReport
 heard_pair a = option_to_list (seen_on a First) ++ option_to_list (seen_on a Second)
 
 -- an analyser of two lines may stand after these pairs
-pub record IsAfterPairs {C : Type 0} (folded : C → List ℕ → Type 0) (cost : ℕ) (a : PairState C)
+pub record IsAfterPairs {C : Type 0} (view : CheckView C) (a : PairState C)
     (ps : List (Bool × Bool)) : Type 0 where
-  pub first : After folded cost a.first (firsts ps)
-  pub second : After folded cost a.second (seconds ps)
+  pub first : After view a.first (firsts ps)
+  pub second : After view a.second (seconds ps)
   pub origin : a.second.origin ≡ a.first.origin
   pub longest : a.first.longest ≡ longest_of a.journal.dictionary
   pub longest_second : a.second.longest ≡ longest_of a.journal.dictionary
   pub journal : Keeps a.journal (lines a ps)
 
 -- two lines
-abbrev pub two_lines : {C : Type 0} → (C → List ℕ → Type 0) → ℕ → Watch (PairState C) (Bool × Bool)
-two_lines folded cost = record {
-  is_after = IsAfterPairs folded cost;
+abbrev pub two_lines : {C : Type 0} → CheckView C → Watch (PairState C) (Bool × Bool)
+two_lines view = record {
+  is_after = IsAfterPairs view;
   dictionary = λ a. a.journal.dictionary;
   depth = λ a. a.journal.depth;
   origin = λ a. a.first.origin;
@@ -69,11 +70,11 @@ two_lines folded cost = record {
 }
 
 -- these pairs lead from old to new, and this is seen at them
-abbrev pub SeesPairs : {C : Type 0} → (C → List ℕ → Type 0) → ℕ → PairState C → List (Bool × Bool) → List SeenReport
+abbrev pub SeesPairs : {C : Type 0} → CheckView C → PairState C → List (Bool × Bool) → List SeenReport
     → PairState C → Type 0
-SeesPairs folded cost old pairs told new = Leads (two_lines folded cost) old pairs told new
+SeesPairs view old pairs told new = Leads (two_lines view) old pairs told new
 
--- of these bits of two lines, behind those of b and c, so many are taken: all, or those up to the first that may
+-- of these bits of two lines, after those of b and c, so many are taken: all, or those up to the first that may
 -- decide a report on either line
 pub record TakesPairsTo (b c xs ys : List Bool) (count : ℕ) : Type 0 where
   pub first : (i : ℕ) → i + 1 < count → MayDecideAt b xs i → ⊥

@@ -2,6 +2,7 @@
 use Rattle.std.specs.Prelude.{ℕ, ◌+◌, ◌≤◌, Bool, List, length, Option, Some, None, option_map}
 use Rattle.std.specs.Borrow.{Bor}
 use Rattle.bus_bits.specs.declared.span.Span.{Span}
+use Rattle.bus_line.specs.Limits.{most_octets}
 use Rattle.bus_line.specs.Shown.{report_of, reported}
 use Rattle.bus_line.specs.Due.{begun}
 use Rattle.bus_line.specs.Ledger.{octet_count}
@@ -44,7 +45,7 @@ found octets f = found_on None octets f
 -- a frame has no more octets than are kept of one
 abbrev pub IsKeepable : Option Seen → Type 0
 IsKeepable None = Unit {0}
-IsKeepable (Some s) = octet_count (report_of s.piece) ≤ 258
+IsKeepable (Some s) = octet_count (report_of s.piece) ≤ most_octets
 
 -- a kept frame of the only line that is lent
 abbrev pub kept_option : Option (Bor Kept) → Option KeptFrame

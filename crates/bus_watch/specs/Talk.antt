@@ -57,7 +57,7 @@ command_on line d span standing = if may_wait line then command d span standing 
 abbrev pub waits : List FrameType → Heard → Option Pending
 waits d h = option_and_then (command_on h.line d (span_of h.report)) (standing_of d h.report.kind)
 
--- how many bits behind a command its answer may begin, if its entry says so
+-- how many bits after a command its answer may begin, if its entry says so
 abbrev pub window_of : Option FrameType → Option ℕ
 window_of None = None
 window_of (Some e) = e.window

@@ -5,6 +5,8 @@ ghost use Rattle.std.specs.Prelude.{IfOk, OnErr, IsTrue, false, length, Some, Er
 ghost use Rattle.std.specs.Option.{option_map, option_to_list};
 ghost use Rattle.std.specs.Borrow.{sem};
 ghost use Rattle.std.specs.Io.BufRead.{Rests};
+ghost use Rattle.bus_bits.specs.Limits.{most_places};
+ghost use Rattle.bus_bits.specs.Word.{IsWordOf};
 ghost use Rattle.bus_line.specs.After.{TakesTo};
 ghost use Rattle.bus_line.specs.Due.{begun};
 ghost use Rattle.bus_line.specs.Ledger.{stored_open};
@@ -51,7 +53,7 @@ impl<C: Check> Model for Analyser<C> {
 
     ghost view = { analyser_state };
 
-    ghost invariant = { IsWithin C.folded C.COST };
+    ghost invariant = { IsWithin C.check };
 }
 
 impl<C: Check> Analyser<C> {
@@ -78,8 +80,8 @@ impl<C: Check> Analyser<C> {
         origin: u64,
     ) -> Result<Self, NewFault>
         ensures depth { (result ≡ Err NewFault.DepthRange) ↔ ((depth < 1) ⊎ (1024 < depth)) }
-        ensures origin { (result ≡ Err NewFault.Origin) ↔ ((1 ≤ depth) × (depth ≤ 1024) × (2 ^ 60 < origin)) }
-        ensures is_after { IfOk result (λ a. IsAfter C.folded C.COST a []) }
+        ensures origin { (result ≡ Err NewFault.Origin) ↔ ((1 ≤ depth) × (depth ≤ 1024) × (most_places < origin)) }
+        ensures is_after { IfOk result (λ a. IsAfter C.check a []) }
         ensures given { IfOk result
             (λ a. (a.journal.dictionary ≡ dictionary) × (a.journal.depth ≡ depth) × (a.decoder.origin ≡ origin)
             × (a.decoder.place ≡ origin)) }
@@ -113,16 +115,14 @@ impl<C: Check> Analyser<C> {
     /// place 2^60 or a later one.
     #[inline(always)]
     pub fn take(&mut self, bits: u64, count: u32) -> Result<u32, PlaceLimit>
-        requires some { 1 ≤ count }
-        requires few { count ≤ 48 }
-        requires small { bits < 2 ^ count }
-        ensures limit { IsErr result ↔ (2 ^ 60 < self.old.decoder.place + count) }
+        requires word { IsWordOf count bits }
+        ensures limit { IsErr result ↔ (most_places < self.old.decoder.place + count) }
         ensures within { IfOk result (λ n. (1 ≤ n) × (n ≤ count)) }
-        ensures stops { IfOk result (λ n. (b : List Bool) → IsAfter C.folded C.COST self.old b →
+        ensures stops { IfOk result (λ n. (b : List Bool) → IsAfter C.check self.old b →
             TakesTo b (bits_of count bits) n) }
-        ensures sees { IfOk result (λ n. Sees C.folded C.COST self.old (bits_of n bits)
+        ensures sees { IfOk result (λ n. Sees C.check self.old (bits_of n bits)
             (heard self.new) self.new) }
-        ensures before { IfOk result (λ n. (b : List Bool) → IsAfter C.folded C.COST self.old b →
+        ensures before { IfOk result (λ n. (b : List Bool) → IsAfter C.check self.old b →
             seen_after self.old (b ++ bits_of (n - 1) bits) ≡ seen_after self.old b) }
         ensures unchanged { OnErr result (self.new ≡ self.old) }
     {
@@ -143,14 +143,14 @@ impl<C: Check> Analyser<C> {
     pub fn scan(&mut self, octets: &[u8], at: usize, end: usize) -> Result<usize, PlaceLimit>
         requires some { at < end }
         requires enough { end ≤ 8 * length octets.now }
-        ensures limit { IsErr result ↔ (2 ^ 60 ≤ self.old.decoder.place) }
+        ensures limit { IsErr result ↔ (most_places ≤ self.old.decoder.place) }
         ensures within { IfOk result (λ n. (1 ≤ n) × (n ≤ end - at)) }
-        ensures fits { IfOk result (λ n. self.old.decoder.place + n ≤ 2 ^ 60) }
+        ensures fits { IfOk result (λ n. self.old.decoder.place + n ≤ most_places) }
         ensures all { IfOk result (λ n. n < end - at →
-            (self.new.decoder.place ≡ 2 ^ 60) ⊎ (self.new.finding ≢ None)) }
-        ensures sees { IfOk result (λ n. Sees C.folded C.COST self.old (bits_from octets.now at n)
+            (self.new.decoder.place ≡ most_places) ⊎ (self.new.finding ≢ None)) }
+        ensures sees { IfOk result (λ n. Sees C.check self.old (bits_from octets.now at n)
             (heard self.new) self.new) }
-        ensures before { IfOk result (λ n. (b : List Bool) → IsAfter C.folded C.COST self.old b →
+        ensures before { IfOk result (λ n. (b : List Bool) → IsAfter C.check self.old b →
             seen_after self.old (b ++ bits_from octets.now at (n - 1)) ≡ seen_after self.old b) }
         ensures unchanged { OnErr result (self.new ≡ self.old) }
     {
@@ -195,13 +195,14 @@ impl<C: Check> Analyser<C> {
     ///
     /// Refuses as [`PlaceLimit`], with nothing changed, where the bit's place would be 2^60.
     pub fn push(&mut self, bit: bool) -> Result<Option<Seen<'_>>, PlaceLimit>
-        ensures limit { IsErr result ↔ (2 ^ 60 ≤ self.old.decoder.place) }
-        ensures answer { IfOk result (λ o. (b : List Bool) → IsAfter C.folded C.COST self.old b →
+        ensures limit { IsErr result ↔ (most_places ≤ self.old.decoder.place) }
+        ensures answer { IfOk result (λ o. (b : List Bool) → IsAfter C.check self.old b →
             shown_option o ≡ seen_at self.old.journal.dictionary
             (line self.old (b ++ bit ∷ [])) self.old.decoder.place) }
         ensures fits { IfOk result IsKeepable }
+        // What becomes of the analyser: `new`, once the octets that are lent have been given back.
         ensures* rests { sem 𝓛 (Rests (the_row C.row C.Check) self.entry (λ new.
-            IfOk result (λ o. Sees C.folded C.COST self.old (bit ∷ []) (option_to_list (shown_option o)) new)
+            IfOk result (λ o. Sees C.check self.old (bit ∷ []) (option_to_list (shown_option o)) new)
             × OnErr result (new ≡ self.old))) }
     {
         seen_grows();
@@ -212,7 +213,7 @@ impl<C: Check> Analyser<C> {
     /// A frame of the history, of which the oldest has the number 0.
     pub fn history(&self, i: usize) -> Option<&Kept>
         ensures lent { kept_option result ≡ slice_get self.now.journal.history i }
-        ensures value { (b : List Bool) → IsAfter C.folded C.COST self.now b →
+        ensures value { (b : List Bool) → IsAfter C.check self.now b →
             kept_option result ≡ slice_get (history self.now.journal.depth (line self.now b)) i }
     {
         match self.journal.kept(i) {
@@ -223,7 +224,7 @@ impl<C: Check> Analyser<C> {
 
     /// How many frames the history has: at most its depth, which is at most 1024.
     pub fn history_len(&self) -> usize
-        ensures value { (b : List Bool) → IsAfter C.folded C.COST self.now b →
+        ensures value { (b : List Bool) → IsAfter C.check self.now b →
             result ≡ length (history self.now.journal.depth (line self.now b)) }
         ensures depth { result ≤ self.now.journal.depth }
         ensures bound { self.now.journal.depth ≤ 1024 }
@@ -233,7 +234,7 @@ impl<C: Check> Analyser<C> {
 
     /// How many verdicts named a station.
     pub fn tally(&self, station: u8) -> Counts
-        ensures { (b : List Bool) → IsAfter C.folded C.COST self.now b →
+        ensures { (b : List Bool) → IsAfter C.check self.now b →
             result ≡ tally self.now.journal.dictionary (line self.now b) station }
     {
         self.journal.counts(station)
@@ -241,9 +242,9 @@ impl<C: Check> Analyser<C> {
 
     /// What has begun and is not decided yet.
     pub fn ending(&self) -> Ending
-        ensures begun { (b : List Bool) → IsAfter C.folded C.COST self.now b →
+        ensures begun { (b : List Bool) → IsAfter C.check self.now b →
             result.begun ≡ begun_span self.now.decoder.origin b }
-        ensures pending { (b : List Bool) → IsAfter C.folded C.COST self.now b →
+        ensures pending { (b : List Bool) → IsAfter C.check self.now b →
             result.pending ≡ pending self.now.journal.dictionary (line self.now b) }
     {
         Ending {
@@ -263,7 +264,7 @@ impl<C: Check> Analyser<C> {
     /// frame and two, and 0 where no piece is open.
     pub fn buffered(&self) -> usize
         ensures bound { result ≤ longest_of self.now.journal.dictionary + 2 }
-        ensures stored { (b : List Bool) → IsAfter C.folded C.COST self.now b →
+        ensures stored { (b : List Bool) → IsAfter C.check self.now b →
             result ≡ stored_open (longest_of self.now.journal.dictionary) b }
     {
         self.decoder.buffered()
@@ -276,11 +277,11 @@ impl<C: Check> Analyser<C> {
     /// forty bits, the three of any other report once for eight. So all come to at most four for each
     /// bit, and to at most three with a check that costs one.
     pub fn spent(&self) -> Spent
-        ensures ledger { (b : List Bool) → IsAfter C.folded C.COST self.now b →
-            IsLedger C.COST (longest_of self.now.journal.dictionary) b result }
-        ensures seventeen { (b : List Bool) → IsAfter C.folded C.COST self.now b → total result ≤ 17 * length b }
-        ensures four { (b : List Bool) → IsAfter C.folded C.COST self.now b → total result ≤ 4 * length b }
-        ensures three { C.COST ≡ 1 → (b : List Bool) → IsAfter C.folded C.COST self.now b →
+        ensures ledger { (b : List Bool) → IsAfter C.check self.now b →
+            IsLedger C.check.cost (longest_of self.now.journal.dictionary) b result }
+        ensures seventeen { (b : List Bool) → IsAfter C.check self.now b → total result ≤ 17 * length b }
+        ensures four { (b : List Bool) → IsAfter C.check self.now b → total result ≤ 4 * length b }
+        ensures three { C.check.cost ≡ 1 → (b : List Bool) → IsAfter C.check self.now b →
             (result.folded ≡ result.stored) × (total result ≤ 3 * length b) }
     {
         steps_are_bounded();
@@ -295,7 +296,7 @@ impl<C: Check> Analyser<C> {
     /// Whether `count` bits more have places below 2^60.
     #[inline(always)]
     pub fn has_room(&self, count: u32) -> bool
-        ensures { IsTrue result ↔ (self.now.decoder.place + count ≤ 2 ^ 60) }
+        ensures { IsTrue result ↔ (self.now.decoder.place + count ≤ most_places) }
     {
         self.place() + u64::from(count) <= PLACES
     }
@@ -303,7 +304,7 @@ impl<C: Check> Analyser<C> {
     /// The place of the next bit: the origin and the bits so far.
     pub(crate) fn place(&self) -> u64
         ensures value { result ≡ self.now.decoder.place }
-        ensures fits { result ≤ 2 ^ 60 }
+        ensures fits { result ≤ most_places }
     {
         self.decoder.place()
     }

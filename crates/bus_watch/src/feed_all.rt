@@ -1,6 +1,7 @@
 //! Many pieces at once.
 
 ghost use Rattle.std.specs.Prelude.{◌≡◌, ◌+◌, ◌-◌, ◌≤◌, ◌<◌, ◌^◌, ◌↔◌, IsErrOf, IsTrue, IfErr, OnOk, length};
+ghost use Rattle.bus_bits.specs.Limits.{most_places};
 ghost use Rattle.bus_watch.specs.Fed.{Fed, RefusedAt, ForSink};
 ghost use Rattle.bus_watch.specs.Sink.{SinkTook};
 ghost use Rattle.bus_watch.specs.Headline.{bits_in};
@@ -27,24 +28,24 @@ fn fits(pieces: &[&[bool]], places: u64) -> bool
 }
 
 impl<C: Check> Analyser<C> {
-    /// Takes the bits of some pieces, one piece behind the other, as [`Analyser::feed`] takes those of
+    /// Takes the bits of some pieces, one piece after the other, as [`Analyser::feed`] takes those of
     /// one: the places of all bits are looked at first, and `consumed` counts from the first piece on.
     pub fn feed_all<S: ReportSink>(
         &mut self,
         pieces: &[&[bool]],
         sink: &mut S,
     ) -> Result<(), FeedFault>
-        requires { S.refusals sink.old < 2 ^ 64 - 1 }
+        requires { S.sink.refusals sink.old < 2 ^ 64 - 1 }
         ensures limit { IsErrOf result FeedFault.PlaceLimit ↔
-            (2 ^ 60 < self.old.decoder.place + length (bits_in pieces.now)) }
+            (most_places < self.old.decoder.place + length (bits_in pieces.now)) }
         ensures unchanged { IsErrOf result FeedFault.PlaceLimit → (self.new ≡ self.old) × (sink.new ≡ sink.old) }
         ensures fed { OnOk result (
-            Fed C.folded C.COST S.taken self.old (bits_in pieces.now) self.new sink.old sink.new) }
-        ensures none_refused { OnOk result (SinkTook S.taken S.room S.refusals 0 sink.old sink.new) }
+            Fed C.check S.sink self.old (bits_in pieces.now) self.new sink.old sink.new) }
+        ensures none_refused { OnOk result (SinkTook S.sink 0 sink.old sink.new) }
         ensures refused { IfErr result (λ fault. ForSink fault (λ consumed.
-            RefusedAt C.folded C.COST S.taken self.old (bits_in pieces.now) consumed self.new sink.old sink.new)) }
+            RefusedAt C.check S.sink self.old (bits_in pieces.now) consumed self.new sink.old sink.new)) }
         ensures one_refused { IfErr result (λ fault. ForSink fault (λ consumed.
-            SinkTook S.taken S.room S.refusals 1 sink.old sink.new)) }
+            SinkTook S.sink 1 sink.old sink.new)) }
     {
         if !fits(pieces, PLACES - self.place()) {
             return Err(FeedFault::PlaceLimit);

@@ -3,7 +3,9 @@
 ghost use Rattle.std.specs.Prelude.{◌≡◌, ◌+◌, ◌-◌, ◌*◌, ◌≤◌, ◌<◌, ◌^◌, ◌↔◌, ◌⊎◌, ◌≢◌, List, Bool, None, IsErr, IfOk};
 ghost use Rattle.std.specs.Prelude.{OnErr, length, option_copied};
 ghost use Rattle.bus_bits.specs.Bits.{bits_from};
+ghost use Rattle.bus_bits.specs.Limits.{most_places};
 ghost use Rattle.bus_bits.specs.Octet.{bits_of};
+ghost use Rattle.bus_bits.specs.Word.{IsWordOf};
 ghost use Rattle.bus_line.specs.After.{After, TakesTo};
 ghost use Rattle.bus_watch.specs.Internal.Hears.{fresh, Hears, Reached, told_on};
 ghost use Rattle.bus_watch.specs.Internal.JournalState.{journal_state, HasRoom};
@@ -37,16 +39,14 @@ pub(crate) fn hear<C: Check>(
     bits: u64,
     count: u32,
 ) -> Result<Intake<u32>, PlaceLimit>
-    requires some { 1 ≤ count }
-    requires few { count ≤ 48 }
-    requires small { bits < 2 ^ count }
-    requires reached { Reached C.folded C.COST decoder.old }
-    requires room { decoder.old.place + count ≤ 2 ^ 60 → HasRoom (journal_state journal.old) }
-    ensures limit { IsErr result ↔ (2 ^ 60 < decoder.old.place + count) }
+    requires word { IsWordOf count bits }
+    requires reached { Reached C.check decoder.old }
+    requires room { decoder.old.place + count ≤ most_places → HasRoom (journal_state journal.old) }
+    ensures limit { IsErr result ↔ (most_places < decoder.old.place + count) }
     ensures within { IfOk result (λ t. (1 ≤ t.count) × (t.count ≤ count)) }
-    ensures stops { IfOk result (λ t. (b : List Bool) → After C.folded C.COST decoder.old b →
+    ensures stops { IfOk result (λ t. (b : List Bool) → After C.check decoder.old b →
         TakesTo b (bits_of count bits) t.count) }
-    ensures hears { IfOk result (λ t. Hears C.folded C.COST line decoder.old (journal_state journal.old)
+    ensures hears { IfOk result (λ t. Hears C.check line decoder.old (journal_state journal.old)
         (bits_of t.count bits) (told_on line decoder.new.octets t.is_decided journal.new.last)
         decoder.new (journal_state journal.new)) }
     ensures unchanged { OnErr result ((decoder.new ≡ decoder.old) × (journal.new ≡ journal.old)) }
@@ -76,14 +76,14 @@ pub(crate) fn hear_octets<C: Check>(
 ) -> Result<Intake<usize>, PlaceLimit>
     requires some { at < end }
     requires enough { end ≤ 8 * length octets.now }
-    requires reached { Reached C.folded C.COST decoder.old }
-    requires room { decoder.old.place < 2 ^ 60 → HasRoom (journal_state journal.old) }
-    ensures limit { IsErr result ↔ (2 ^ 60 ≤ decoder.old.place) }
+    requires reached { Reached C.check decoder.old }
+    requires room { decoder.old.place < most_places → HasRoom (journal_state journal.old) }
+    ensures limit { IsErr result ↔ (most_places ≤ decoder.old.place) }
     ensures within { IfOk result (λ t. (1 ≤ t.count) × (t.count ≤ end - at)) }
-    ensures fits { IfOk result (λ t. decoder.old.place + t.count ≤ 2 ^ 60) }
+    ensures fits { IfOk result (λ t. decoder.old.place + t.count ≤ most_places) }
     ensures all { IfOk result (λ t. t.count < end - at →
-        (decoder.new.place ≡ 2 ^ 60) ⊎ (fresh t.is_decided journal.new.last ≢ None)) }
-    ensures hears { IfOk result (λ t. Hears C.folded C.COST line decoder.old (journal_state journal.old)
+        (decoder.new.place ≡ most_places) ⊎ (fresh t.is_decided journal.new.last ≢ None)) }
+    ensures hears { IfOk result (λ t. Hears C.check line decoder.old (journal_state journal.old)
         (bits_from octets.now at t.count) (told_on line decoder.new.octets t.is_decided journal.new.last)
         decoder.new (journal_state journal.new)) }
     ensures unchanged { OnErr result ((decoder.new ≡ decoder.old) × (journal.new ≡ journal.old)) }
@@ -114,7 +114,7 @@ pub(crate) fn fresh(journal: &Journal, is_decided: bool) -> Option<&Finding>
 
 /// The piece that has begun on a line, up to the place of the next bit.
 pub(crate) fn begun_span<C: Check>(decoder: &LineDecoder<C>) -> Option<Span>
-    ensures { (b : List Bool) → After C.folded C.COST decoder.now b → result ≡ begun_span decoder.now.origin b }
+    ensures { (b : List Bool) → After C.check decoder.now b → result ≡ begun_span decoder.now.origin b }
 {
     let past = decoder.place();
     decoder.begun().map(|first| Span { first, past })

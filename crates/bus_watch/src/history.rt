@@ -2,6 +2,7 @@
 
 ghost use Rattle.std.specs.Prelude.{◌≡◌, ◌≤◌, [], ◌∷◌, ◌++◌, IfOk, length, map, option_copied, slice_get};
 ghost use Rattle.circular_buffer.specs.Buffer.{keep_last};
+ghost use Rattle.bus_line.specs.Limits.{most_octets};
 
 use crate::kept::Kept;
 use crate::line::Line;
@@ -46,7 +47,7 @@ impl History {
     /// Copies a frame, in place of the oldest where there is no room for one more.
     #[inline(always)]
     pub(crate) fn put(&mut self, line: Line, span: Span, octets: &[u8])
-        requires { length octets.now ≤ 258 }
+        requires { length octets.now ≤ most_octets }
         ensures items { map kept_pair self.new.items
             ≡ keep_last self.old.capacity
             (map kept_pair self.old.items ++ record { line = line; span = span; octets = octets.now } ∷ []) }

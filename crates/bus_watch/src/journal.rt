@@ -2,6 +2,7 @@
 
 ghost use Rattle.std.specs.Prelude.{◌≡◌, ◌≢◌, ◌+◌, ◌≤◌, ◌<◌, ◌^◌, List, ℕ, Option, [], ◌∷◌, ◌++◌, IfOk, length};
 ghost use Rattle.std.specs.Prelude.{replicate, true, Some, None, slice_get, option_copied, option_map};
+ghost use Rattle.bus_line.specs.Limits.{most_octets};
 
 mod keep;
 mod verdict;
@@ -81,7 +82,7 @@ impl Journal {
     #[inline(always)]
     pub(crate) fn take(&mut self, line: Option<Line>, event: Event, octets: &[u8])
         requires whole { IsWhole event.kind octets.now }
-        requires fits { length octets.now ≤ 258 }
+        requires fits { length octets.now ≤ most_octets }
         requires room { HasRoom (journal_state self.old) }
         ensures enters { Enters (journal_state self.old) (heard_on line (reported octets.now event))
             (found_on line octets.now self.new.last) (journal_state self.new) }
@@ -96,7 +97,7 @@ impl Journal {
     #[inline(never)]
     fn take_of_one(&mut self, event: Event, octets: &[u8])
         requires whole { IsWhole event.kind octets.now }
-        requires fits { length octets.now ≤ 258 }
+        requires fits { length octets.now ≤ most_octets }
         requires room { HasRoom (journal_state self.old) }
         ensures enters { Enters (journal_state self.old) (heard_on None (reported octets.now event))
             (found_on None octets.now self.new.last) (journal_state self.new) }
@@ -108,7 +109,7 @@ impl Journal {
     #[inline(never)]
     fn take_of_two(&mut self, line: Line, event: Event, octets: &[u8])
         requires whole { IsWhole event.kind octets.now }
-        requires fits { length octets.now ≤ 258 }
+        requires fits { length octets.now ≤ most_octets }
         requires room { HasRoom (journal_state self.old) }
         ensures enters { Enters (journal_state self.old) (heard_on (Some line) (reported octets.now event))
             (found_on (Some line) octets.now self.new.last) (journal_state self.new) }
@@ -120,7 +121,7 @@ impl Journal {
     #[inline(always)]
     fn enter(&mut self, line: Option<Line>, event: Event, octets: &[u8])
         requires whole { IsWhole event.kind octets.now }
-        requires fits { length octets.now ≤ 258 }
+        requires fits { length octets.now ≤ most_octets }
         requires room { HasRoom (journal_state self.old) }
         ensures enters { Enters (journal_state self.old) (heard_on line (reported octets.now event))
             (found_on line octets.now self.new.last) (journal_state self.new) }
@@ -144,7 +145,7 @@ impl Journal {
     #[inline(always)]
     fn frame(&mut self, line: Option<Line>, span: Span, octets: &[u8])
         requires at_least { 4 ≤ length octets.now }
-        requires at_most { length octets.now ≤ 258 }
+        requires at_most { length octets.now ≤ most_octets }
         requires room { HasRoom (journal_state self.old) }
         ensures enters { Enters (journal_state self.old)
             (heard_on line (record { kind = Frame octets.now; first = span.first; past = span.past }))

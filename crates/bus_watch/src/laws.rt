@@ -33,7 +33,7 @@ pub fn pairs_grow()
 
 /// Where a list of reports is cut in two and each part is watched by itself, what is seen is the same, but where a
 /// command waits at the cut: then its verdict is lost, and with it whether its answer is a stray. Bits may be cut right
-/// behind a flag up to which no command waits, and watched again from that flag on; cut inside a frame, they lose it.
+/// after a flag up to which no command waits, and watched again from that flag on; cut inside a frame, they lose it.
 pub fn cut_loses_a_verdict()
     ensures nothing { CutLosesNothing }
     ensures verdict { CutLosesVerdict }
@@ -68,10 +68,10 @@ pub fn one_bit_is_bounded()
 /// For every list of bits, however it is cut into calls of `push`, `take`, `feed` and `feed_all`, what
 /// they tell is what is seen of the whole list, in order.
 pub fn any_cut<C: Check>()
-    ensures { AnyCut C.folded C.COST }
+    ensures { AnyCut C.check }
 {}
 
 /// The same for every list of pairs of bits.
 pub fn any_cut_of_pairs<C: Check>()
-    ensures { AnyCutOfPairs C.folded C.COST }
+    ensures { AnyCutOfPairs C.check }
 {}

@@ -2,6 +2,7 @@
 
 ghost use Rattle.std.specs.Prelude.{◌≡◌, ◌≤◌};
 ghost use Rattle.bus_line.specs.Ledger.{octet_count};
+ghost use Rattle.bus_line.specs.Limits.{most_octets};
 ghost use Rattle.bus_watch.specs.Shown.{shown};
 ghost use Rattle.bus_watch.specs.LoggedReport.{logged_report};
 
@@ -43,7 +44,7 @@ pub struct LoggedReport {
 impl LoggedReport {
     /// A copy of what is seen.
     pub fn of(seen: &Seen<'_>) -> Self
-        requires { octet_count (shown seen.now).report ≤ 258 }
+        requires { octet_count (shown seen.now).report ≤ most_octets }
         ensures { logged_report result ≡ shown seen.now }
     {
         let piece = match seen.piece {

@@ -2,6 +2,7 @@
 
 ghost use Rattle.std.specs.Prelude.{◌≡◌, ◌+◌, ◌-◌, ◌<◌, ◌≤◌, ◌^◌, ◌↔◌, [], ◌∷◌, ◌++◌, length, IfOk, IsErr, OnOk, OnErr};
 ghost use Rattle.bus_line.specs.Ledger.{octet_count};
+ghost use Rattle.bus_line.specs.Limits.{most_octets};
 ghost use Rattle.bus_watch.specs.LoggedReport.{logged_reports};
 ghost use Rattle.bus_watch.specs.Shown.{shown};
 
@@ -59,13 +60,9 @@ impl ReportLog {
 }
 
 impl ReportSink for ReportLog {
-    ghost use Rattle.std.specs.Prelude.{Some};
+    ghost use Rattle.bus_watch.specs.LogState.{log_sink};
 
-    ghost taken = { λ log. Some log.reports };
-
-    ghost room = { λ log. Some log.room };
-
-    ghost refusals = { λ log. log.refusals };
+    ghost sink = { log_sink };
 
     fn refused(&self) -> u64 {
         self.refusals
@@ -74,7 +71,7 @@ impl ReportSink for ReportLog {
     /// Takes a report, or refuses it, exactly where the log is full.
     fn take(&mut self, seen: &Seen<'_>) -> Result<(), SinkRefused>
         requires count { self.old.refusals < 2 ^ 64 - 1 }
-        requires fits { octet_count (shown seen.now).report ≤ 258 }
+        requires fits { octet_count (shown seen.now).report ≤ most_octets }
         ensures exact { IsErr result ↔ (length self.old.reports ≡ self.old.room) }
         ensures taken { OnOk result (self.new.reports ≡ self.old.reports ++ shown seen.now ∷ []) }
         ensures counted { OnOk result (self.new.refusals ≡ self.old.refusals) }

@@ -1,10 +1,12 @@
 //! Whole runs: all bits from first to last.
 
 ghost use Rattle.std.specs.Prelude.{◌≡◌, ◌+◌, ◌-◌, ◌<◌, ◌≤◌, ◌^◌, List, IfOk, IfErr, OnOk, length};
+ghost use Rattle.bus_bits.specs.Limits.{most_places};
 ghost use Rattle.bus_watch.specs.Headline.{Headline, Fails, StoppedAt, CanBeMade, UnlessStopped, all_seen, bits_in};
 ghost use Rattle.bus_watch.specs.Headline.{kept_frames};
 ghost use Rattle.bus_watch.specs.Seen.{SeenReport};
-ghost use Rattle.bus_watch.specs.Sink.{told, SinkTook};
+ghost use Rattle.bus_line.specs.Told.{told};
+ghost use Rattle.bus_watch.specs.Sink.{SinkTook};
 ghost use Rattle.bus_watch.specs.After.{IsAfter};
 
 use crate::analyser::Analyser;
@@ -27,7 +29,7 @@ pub struct Run<C: Check> {
     pub usage: Usage,
 }
 
-/// Makes an analyser and hands it the bits of all pieces, one piece behind the other.
+/// Makes an analyser and hands it the bits of all pieces, one piece after the other.
 ///
 /// The headline: however the bits are cut into pieces, the sink is told exactly what is seen of all
 /// of them; the frame buffer and the history are within their bounds; and the steps are those of the
@@ -48,16 +50,18 @@ pub fn run_all<C: Check, S: ReportSink>(
     pieces: &[&[bool]],
     sink: &mut S,
 ) -> Result<Run<C>, RunFault>
-    requires { S.refusals sink.old < 2 ^ 64 - 1 }
+    requires { S.sink.refusals sink.old < 2 ^ 64 - 1 }
     ensures headline { IfOk result (λ run.
-        (reports : List SeenReport) × (S.taken sink.new ≡ told (S.taken sink.old) reports)
-        × Headline C.COST dictionary depth origin (bits_in pieces.now) reports (kept_frames run.analyser) run.usage) }
-    ensures is_after { IfOk result (λ run. IsAfter C.folded C.COST run.analyser (bits_in pieces.now)) }
-    ensures within_limits { OnOk result (CanBeMade depth origin × (origin + length (bits_in pieces.now) ≤ 2 ^ 60)) }
-    ensures none_refused { OnOk result (SinkTook S.taken S.room S.refusals 0 sink.old sink.new) }
+        (reports : List SeenReport) × (S.sink.taken sink.new ≡ told (S.sink.taken sink.old) reports)
+        × Headline C.check.cost dictionary depth origin (bits_in pieces.now) reports (kept_frames run.analyser)
+        run.usage) }
+    ensures is_after { IfOk result (λ run. IsAfter C.check run.analyser (bits_in pieces.now)) }
+    ensures within_limits { OnOk result (CanBeMade depth origin
+        × (origin + length (bits_in pieces.now) ≤ most_places)) }
+    ensures none_refused { OnOk result (SinkTook S.sink 0 sink.old sink.new) }
     ensures fails { IfErr result (Fails depth origin (length (bits_in pieces.now)) (λ consumed.
-        SinkTook S.taken S.room S.refusals 1 sink.old sink.new
-        × StoppedAt S.taken dictionary origin (bits_in pieces.now) sink.old sink.new consumed)) }
+        SinkTook S.sink 1 sink.old sink.new
+        × StoppedAt S.sink dictionary origin (bits_in pieces.now) sink.old sink.new consumed)) }
     ensures untouched { IfErr result (UnlessStopped (sink.new ≡ sink.old)) }
 {
     let mut analyser = match Analyser::new(alloc, dictionary, depth, origin) {
@@ -92,7 +96,7 @@ pub fn reports_of(
 ) -> Result<ReportLog, RunFault>
     ensures reports { IfOk result (λ log. log.reports ≡ all_seen dictionary origin bits.now) }
     ensures room { IfOk result (λ log. log.room ≡ room) }
-    ensures within_limits { OnOk result ((origin + length bits.now ≤ 2 ^ 60)
+    ensures within_limits { OnOk result ((origin + length bits.now ≤ most_places)
         × (length (all_seen dictionary origin bits.now) ≤ room)) }
     ensures fails { IfErr result (Fails 1 origin (length bits.now) (λ consumed.
         room < length (all_seen dictionary origin bits.now))) }

@@ -29,7 +29,7 @@ impl<C: Check> Analyser<C> {
     /// exactly what is seen of these bits; the frame buffer and the history hold what they have to and
     /// no more than their bounds; and the steps are those of the ledger, at most seventeen for each bit.
     pub fn usage(&self) -> Usage
-        ensures headline { WholeRun C.folded C.COST self.now result }
+        ensures headline { WholeRun C.check self.now result }
         ensures buffer_bound { result.buffered ≤ longest_of self.now.journal.dictionary + 2 }
         ensures history_bound { result.history_len ≤ self.now.journal.depth }
     {

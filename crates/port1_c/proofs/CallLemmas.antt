@@ -1,6 +1,7 @@
 -- The bits of a frame in a sink with room for them.
 use Rattle.std.proofs.Common.{◌≡◌, ℕ, ◌≤◌, Bool, true, List, [], ◌++◌, length, take, Option, None, Some, Result, Err}
 use Rattle.std.proofs.Common.{ap, ◌∙◌, arith, length-take}
+use Rattle.bus_line.specs.BitSink.{BitSinkView}
 use Rattle.bus_line.specs.Line.{Frame, added, gain, raw_bits}
 use Rattle.bus_line.specs.Mark.{flag}
 use Rattle.bus_line.specs.Internal.EncoderState.{EncoderState}
@@ -11,11 +12,8 @@ use Rattle.bus_bits.specs.Bits.{bits_from}
 use Rattle.port1_c.specs.declared.call_bits.CallBits.{CallBits}
 use Rattle.bus_bits.proofs.BitLemmas.{length-from}
 
-abbrev pub taken : CallBits → Option (List Bool)
-taken sink = Some (bits_from sink.octets 0 sink.count)
-
-abbrev pub refusals : CallBits → ℕ
-refusals sink = sink.refused
+abbrev pub bits_sink : BitSinkView CallBits
+bits_sink = record { taken = λ sink. Some (bits_from sink.octets 0 sink.count); refusals = λ sink. sink.refused }
 
 none-yet : (sink : CallBits) → sink.count ≡ 0 → bits_from sink.octets 0 sink.count ≡ []
 unfolding bits_from
@@ -24,7 +22,7 @@ none-yet sink e = ap (λ (n : ℕ). bits_from sink.octets 0 n) e
 module _ (octets : List ℕ) (old new : EncoderState) (before after : CallBits) (first : AfterCalls old [])
     (empty : before.count ≡ 0) where
   -- a frame that was written
-  pub frame-taken : Encoded taken refusals (Frame octets) old new before after →
+  pub frame-taken : Encoded bits_sink (Frame octets) old new before after →
       bits_from after.octets 0 after.count ≡ flag ++ (raw_bits octets ++ flag)
   frame-taken e =
       let t = e.took [] first in
@@ -33,7 +31,7 @@ module _ (octets : List ℕ) (old new : EncoderState) (before after : CallBits) 
       b ∙ ap (λ bits. bits ++ gain [] (Frame octets)) (none-yet before empty)
 
   never-refused : (written : ℕ) → before.refused ≡ 0 → length (added None (Frame octets)) ≤ 2492 →
-      Refused taken refusals (Frame octets) written old new before after → ⊥
+      Refused bits_sink (Frame octets) written old new before after → ⊥
   never-refused written none fits r =
       let within = r.within [] first in
       let t = r.took [] first in
@@ -55,7 +53,7 @@ module _ (octets : List ℕ) (old new : EncoderState) (before after : CallBits) 
   -- there is room for it
   pub never-fails : (r : Result (Unit {0}) EncodeFault) (e : EncodeFault) → r ≡ Err e → before.refused ≡ 0 →
       length (added None (Frame octets)) ≤ 2492 → (HasBadLength (Frame octets) → ⊥)
-      → Calls taken refusals (Frame octets) r old new before after → ⊥
+      → Calls bits_sink (Frame octets) r old new before after → ⊥
   never-fails r Ended is none fits sized calls =
       let ended : old.ended ≡ true = calls.ended.0 is in
       let going = first.going in

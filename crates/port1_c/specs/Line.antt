@@ -1,7 +1,7 @@
 -- What a C caller's memory says of a decoder and of a report.
 use Rattle.std.specs.Prelude.{◌≡◌, ◌≢◌, ◌≤◌, ◌==◌, not, ℕ, Bool, List, Option, Some, None, if◌then◌else◌}
 use Rattle.bus_fcs.specs.declared.octet_check.OctetCheck.{OctetCheck}
-use Rattle.bus_fcs.specs.Folded.{HasFolded}
+use Rattle.bus_fcs.specs.Folded.{by_tables}
 use Rattle.bus_line.specs.After as line
 use Rattle.bus_line.specs.Words.{IsWithin, LineState, state}
 use Rattle.bus_line.specs.Report.{Report, Kind}
@@ -27,7 +27,7 @@ held l = state l.words (check_of l) l.octets
 
 -- the memory may hold a decoder after the bits b
 abbrev pub LineAfter : Port1Line → List Bool → Type 0
-LineAfter l b = line.After HasFolded 1 (held l) b
+LineAfter l b = line.After by_tables (held l) b
 
 -- a number that stands for a bit
 abbrev pub bit_told : ℕ → Bool
@@ -59,8 +59,8 @@ pub record IsCoded (r : Port1Report) : Type 0 where
 
 -- these bits lead from old to new, and decide just this report, if it is one
 abbrev pub Tells : LineState OctetCheck → List Bool → Port1Report → LineState OctetCheck → Type 0
-Tells old bits r new = line.Tells HasFolded 1 old bits (report_told r new.octets) new
+Tells old bits r new = line.Tells by_tables old bits (report_told r new.octets) new
 
 -- these bits lead from old to new; the last of them decides this report, if it is one, and no other decides a report
 abbrev pub Advances : LineState OctetCheck → List Bool → Port1Report → LineState OctetCheck → Type 0
-Advances old bits r new = line.Advances HasFolded 1 old bits (report_told r new.octets) new
+Advances old bits r new = line.Advances by_tables old bits (report_told r new.octets) new

@@ -1,7 +1,8 @@
 //! Bits into the decoder that a caller's memory holds, with a report told in plain numbers.
 
-ghost use Rattle.std.specs.Prelude.{◌≡◌, ◌≢◌, ◌-◌, ◌*◌, ◌≤◌, ◌<◌, ◌^◌, ◌↔◌, ◌⊎◌, IsTrue, length};
+ghost use Rattle.std.specs.Prelude.{◌≡◌, ◌≢◌, ◌-◌, ◌*◌, ◌≤◌, ◌<◌, ◌↔◌, ◌⊎◌, IsTrue, length};
 ghost use Rattle.bus_bits.specs.Bits.{bits_from};
+ghost use Rattle.bus_bits.specs.Limits.{most_places};
 ghost use Rattle.bus_bits.specs.Octet.{bits_of};
 ghost use Rattle.port1_c.specs.Line.{Advances, IsCoded, Sound, held};
 ghost use Rattle.port1_c.specs.declared.status.TheConstants.{OK, PLACE_LIMIT, BAD_STATE};
@@ -39,7 +40,8 @@ pub(crate) fn feed(
     ensures bound { (at.old ≤ at.new) × (at.new ≤ end) }
     ensures some { result < BAD_STATE → report.new.kind ≢ 0 → at.old < at.new }
     ensures all { result ≡ OK → report.new.kind ≡ 0 → at.new ≡ end }
-    ensures limit { result ≡ PLACE_LIMIT → (report.new.kind ≡ 0) × (at.new < end) × (line.new.words.place ≡ 2 ^ 60) }
+    ensures limit { result ≡ PLACE_LIMIT → (report.new.kind ≡ 0) × (at.new < end)
+        × (line.new.words.place ≡ most_places) }
     ensures coded { result < BAD_STATE → IsCoded report.new }
     ensures advances { result < BAD_STATE →
         Advances (held line.old) (bits_from octets.now at.old (at.new - at.old)) report.new (held line.new) }
@@ -88,7 +90,7 @@ pub(crate) fn feed_octet(
     ensures bound { at.new ≤ 8 }
     ensures some { result < BAD_STATE → report.new.kind ≢ 0 → at.old < at.new }
     ensures all { result ≡ OK → report.new.kind ≡ 0 → at.new ≡ 8 }
-    ensures limit { result ≡ PLACE_LIMIT → (report.new.kind ≡ 0) × (at.new < 8) × (line.new.words.place ≡ 2 ^ 60) }
+    ensures limit { result ≡ PLACE_LIMIT → (report.new.kind ≡ 0) × (at.new < 8) × (line.new.words.place ≡ most_places) }
     ensures coded { result < BAD_STATE → IsCoded report.new }
     ensures advances { result < BAD_STATE → Advances (held line.old) (bits_of at.new octet) report.new (held line.new) }
     ensures sound { result < BAD_STATE → Sound line.new }

@@ -34,9 +34,10 @@ impl CallBits {
 }
 
 impl BitSink for CallBits {
-    ghost taken = { λ sink. Some (bits_from sink.octets 0 sink.count) };
-
-    ghost refusals = { λ sink. sink.refused };
+    ghost sink = { record {
+      taken = λ sink. Some (bits_from sink.octets 0 sink.count);
+      refusals = λ sink. sink.refused;
+    } };
 
     fn refused(&self) -> u64 {
         self.refused

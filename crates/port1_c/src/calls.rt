@@ -1,8 +1,9 @@
 //! What C calls.
 
-ghost use Rattle.std.specs.Prelude.{◌≡◌, ◌≢◌, ◌+◌, ◌-◌, ◌*◌, ◌≤◌, ◌<◌, ◌^◌, ◌↔◌, ◌⊎◌, List, Bool, ◌∷◌, []};
+ghost use Rattle.std.specs.Prelude.{◌≡◌, ◌≢◌, ◌+◌, ◌-◌, ◌*◌, ◌≤◌, ◌<◌, ◌↔◌, ◌⊎◌, List, Bool, ◌∷◌, []};
 ghost use Rattle.std.specs.Prelude.{IsTrue, length};
 ghost use Rattle.std.specs.Option.{option_map};
+ghost use Rattle.bus_bits.specs.Limits.{most_places};
 ghost use Rattle.bus_line.specs.Due.{begun};
 ghost use Rattle.bus_bits.specs.Bits.{bits_from};
 ghost use Rattle.port1_c.specs.Bits.{high_first};
@@ -22,7 +23,7 @@ use bus_line::{LineFault, LineWords};
 #[unsafe(no_mangle)]
 pub extern "C" fn port1_line_init(line: &mut Port1Line, longest: u64, origin: u64) -> u32
     ensures longest { (result ≡ BAD_LENGTH) ↔ ((longest < 3) ⊎ (256 < longest)) }
-    ensures origin { (result ≡ PLACE_LIMIT) ↔ ((3 ≤ longest) × (longest ≤ 256) × (2 ^ 60 < origin)) }
+    ensures origin { (result ≡ PLACE_LIMIT) ↔ ((3 ≤ longest) × (longest ≤ 256) × (most_places < origin)) }
     ensures status { result ≤ PLACE_LIMIT }
     ensures sound { result ≡ OK → Sound line.new }
     ensures stands { result ≡ OK → LineAfter line.new [] }
@@ -48,7 +49,7 @@ pub extern "C" fn port1_line_init(line: &mut Port1Line, longest: u64, origin: u6
 #[unsafe(no_mangle)]
 pub extern "C" fn port1_line_push(line: &mut Port1Line, bit: u8, report: &mut Port1Report) -> u32
     ensures status { (result ≡ OK) ⊎ (result ≡ PLACE_LIMIT) ⊎ (result ≡ BAD_STATE) }
-    ensures limit { Sound line.old → (result ≡ PLACE_LIMIT ↔ 2 ^ 60 ≤ line.old.words.place) }
+    ensures limit { Sound line.old → (result ≡ PLACE_LIMIT ↔ most_places ≤ line.old.words.place) }
     ensures state { Sound line.old → result ≢ BAD_STATE }
     ensures refused { result ≢ BAD_STATE → Sound line.old }
     ensures kept { result ≢ OK → (line.new ≡ line.old) × (report.new ≡ report.old) }
@@ -100,7 +101,8 @@ pub extern "C" fn port1_line_feed(
     ensures bound { result < BAD_STATE → (at.old ≤ at.new) × (at.new ≤ end) }
     ensures some { result < BAD_STATE → report.new.kind ≢ 0 → at.old < at.new }
     ensures all { result ≡ OK → report.new.kind ≡ 0 → at.new ≡ end }
-    ensures limit { result ≡ PLACE_LIMIT → (report.new.kind ≡ 0) × (at.new < end) × (line.new.words.place ≡ 2 ^ 60) }
+    ensures limit { result ≡ PLACE_LIMIT → (report.new.kind ≡ 0) × (at.new < end)
+        × (line.new.words.place ≡ most_places) }
     ensures advances { result < BAD_STATE →
         Advances (held line.old) (bits_from octets.now at.old (at.new - at.old)) report.new (held line.new) }
 {
@@ -134,7 +136,7 @@ pub extern "C" fn port1_line_feed_high_first(
     ensures bound { result < BAD_STATE → (at.old ≤ at.new) × (at.new ≤ 8) }
     ensures some { result < BAD_STATE → report.new.kind ≢ 0 → at.old < at.new }
     ensures all { result ≡ OK → report.new.kind ≡ 0 → at.new ≡ 8 }
-    ensures limit { result ≡ PLACE_LIMIT → (report.new.kind ≡ 0) × (at.new < 8) × (line.new.words.place ≡ 2 ^ 60) }
+    ensures limit { result ≡ PLACE_LIMIT → (report.new.kind ≡ 0) × (at.new < 8) × (line.new.words.place ≡ most_places) }
     ensures advances { result < BAD_STATE →
         Advances (held line.old) (high_first octet at.old (at.new - at.old)) report.new (held line.new) }
 {

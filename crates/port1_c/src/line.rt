@@ -2,6 +2,7 @@
 
 ghost use Rattle.std.specs.Prelude.{◌≡◌, ◌+◌, ◌-◌, ◌*◌, ◌≤◌, ◌<◌, ◌^◌, ◌↔◌, IsErr, IfOk, OnErr, ◌∷◌, [], length};
 ghost use Rattle.bus_bits.specs.Bits.{bits_from};
+ghost use Rattle.bus_bits.specs.Limits.{most_places};
 ghost use Rattle.bus_bits.specs.Octet.{bits_of};
 ghost use Rattle.port1_c.specs.Line.{Advances, IsCoded, Sound, Tells, held};
 
@@ -28,10 +29,10 @@ impl Port1Line {
         requires sound { Sound self.old }
         requires some { at < end }
         requires within { end ≤ 8 * length octets.now }
-        ensures limit { IsErr result ↔ (2 ^ 60 ≤ self.old.words.place) }
+        ensures limit { IsErr result ↔ (most_places ≤ self.old.words.place) }
         ensures kept { OnErr result (self.new ≡ self.old) }
         ensures count { IfOk result (λ t. (1 ≤ t.count) × (t.count ≤ end - at)) }
-        ensures all { IfOk result (λ t. t.report.kind ≡ 0 → t.count < end - at → self.new.words.place ≡ 2 ^ 60) }
+        ensures all { IfOk result (λ t. t.report.kind ≡ 0 → t.count < end - at → self.new.words.place ≡ most_places) }
         ensures coded { IfOk result (λ t. IsCoded t.report) }
         ensures advances { IfOk result (λ t.
             Advances (held self.old) (bits_from octets.now at t.count) t.report (held self.new)) }
@@ -60,7 +61,7 @@ impl Port1Line {
         requires some { 1 ≤ count }
         requires few { count ≤ 8 }
         requires small { bits < 2 ^ count }
-        ensures limit { IsErr result ↔ (2 ^ 60 < self.old.words.place + count) }
+        ensures limit { IsErr result ↔ (most_places < self.old.words.place + count) }
         ensures kept { OnErr result (self.new ≡ self.old) }
         ensures count { IfOk result (λ t. (1 ≤ t.count) × (t.count ≤ count)) }
         ensures coded { IfOk result (λ t. IsCoded t.report) }
@@ -87,7 +88,7 @@ impl Port1Line {
     #[inline(always)]
     pub(crate) fn push(&mut self, bit: bool) -> Result<Port1Report, PlaceLimit>
         requires sound { Sound self.old }
-        ensures limit { IsErr result ↔ (2 ^ 60 ≤ self.old.words.place) }
+        ensures limit { IsErr result ↔ (most_places ≤ self.old.words.place) }
         ensures kept { OnErr result (self.new ≡ self.old) }
         ensures coded { IfOk result IsCoded }
         ensures tells { IfOk result (λ r. Tells (held self.old) (bit ∷ []) r (held self.new)) }

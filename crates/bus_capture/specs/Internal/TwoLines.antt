@@ -2,6 +2,7 @@
 use Rattle.std.specs.Prelude.{ℕ, ◌<◌, ◌^◌, Bool, List}
 use Rattle.bus_bits.specs.Packed.{PairsAfter, pair_head_fault}
 use Rattle.bus_bits.specs.declared.capture.pair_words.PairWords.{PairWords}
+use Rattle.bus_fcs.specs.Check.{CheckView}
 use Rattle.bus_watch.specs.Heard.{pairs_of}
 use Rattle.bus_watch.specs.Pairs as pairs
 use Rattle.bus_watch.specs.Pairs.{PairState}
@@ -9,9 +10,9 @@ use Rattle.bus_capture.specs.Captures.{form_of_two}
 use Rattle.bus_capture.specs.Internal.Headed.{IsHeaded}
 use Rattle.bus_capture.specs.Internal.Taps.{TapView}
 
-abbrev pub pair_tap : {C : Type 0} → (C → List ℕ → Type 0) → ℕ → TapView (PairState C) (Bool × Bool) PairWords ℕ
-pair_tap folded cost = record {
-  watch = pairs.two_lines folded cost;
+abbrev pub pair_tap : {C : Type 0} → CheckView C → TapView (PairState C) (Bool × Bool) PairWords ℕ
+pair_tap view = record {
+  watch = pairs.two_lines view;
   form = form_of_two;
   heard = λ a. pairs.heard_pair a;
   symbols = λ n word. pairs_of n word.first word.second;

@@ -1,5 +1,6 @@
 -- What is known while the bits of a capture are followed, or its pairs of bits.
-use Rattle.std.specs.Prelude.{◌≡◌, ℕ, ◌+◌, ◌-◌, ◌*◌, ◌<◌, ◌≤◌, ◌^◌, List, [], ◌++◌, length, take, Option, Some, None}
+use Rattle.std.specs.Prelude.{◌≡◌, ℕ, ◌+◌, ◌-◌, ◌*◌, ◌<◌, ◌≤◌, List, [], ◌++◌, length, take, Option, Some, None}
+use Rattle.bus_bits.specs.Limits.{most_places}
 use Rattle.bus_dictionary.specs.Entry.{FrameType}
 use Rattle.bus_dictionary.specs.Dictionary.{longest_of}
 use Rattle.bus_watch.specs.Heard.{Heard}
@@ -36,7 +37,7 @@ IsCutIn start now text fault = ⊥
 
 -- of what has the place `origin` first, that with a place below 2^60
 abbrev pub within : {X : Type 0} → ℕ → List X → List X
-within origin b = take (2 ^ 60 - origin) b
+within origin b = take (most_places - origin) b
 
 -- the reports of these
 abbrev pub heard_by : {A X : Type 0} → Watch A X → A → List X → List Heard
@@ -45,7 +46,7 @@ heard_by w a b = w.hears (w.origin a) (longest_of (w.dictionary a)) b
 module _ {A X N B : Type 0} (t : TapView A X N B) where
   -- the place bounds the counts, and the octets of the lines: at a place there are two reports at most
   pub record IsSound (run : CaptureRun A) : Type 0 where
-    pub places : t.watch.place run.analyser ≤ 2 ^ 60
+    pub places : t.watch.place run.analyser ≤ most_places
     pub counts : IsFew (2 * t.watch.place run.analyser) run.teller.summary
     pub octets : run.teller.page.written + length run.teller.page.text ≤ 2048 * t.watch.place run.analyser
 
@@ -90,6 +91,7 @@ module _ {A X N B : Type 0} (t : TapView A X N B) where
   -- why the following of these bits stopped: only those with a place were followed, or the writer was cut off
   abbrev pub Halts : Option (List ℕ) → Option (List ℕ) → CaptureRun A → List X → ToolFault → Type 0
   Halts start now run b PlaceLimit =
-      (2 ^ 60 - t.watch.origin run.analyser < length b) × Watches start now run (within (t.watch.origin run.analyser) b)
+      (most_places - t.watch.origin run.analyser < length b)
+      × Watches start now run (within (t.watch.origin run.analyser) b)
   Halts start now run b (Write sent) = IsCutOff start now run (within (t.watch.origin run.analyser) b) sent
   Halts start now run b fault = ⊥

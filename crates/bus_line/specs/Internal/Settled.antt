@@ -2,6 +2,7 @@
 use Rattle.std.specs.Prelude.{◌≡◌, ◌≢◌, ℕ, zero, suc, ◌+◌, ◌-◌, ◌*◌, ◌/◌, ◌%◌, ◌^◌, ◌<◌, ◌==◌, ◌⊎◌, Bool, List, [], ◌∷◌}
 use Rattle.std.specs.Prelude.{◌++◌, length, take, drop, min, if◌then◌else◌}
 use Rattle.bus_bits.specs.Octet.{number}
+use Rattle.bus_fcs.specs.Check.{CheckView}
 use Rattle.bus_line.specs.Internal.Run.{ones_at_end}
 use Rattle.bus_line.specs.Due.{current}
 use Rattle.bus_line.specs.Internal.LineState.{LineState}
@@ -31,12 +32,12 @@ kept bits marks zero = []
 kept bits marks (suc k) = kept bits marks k ++ (if marks / 2 ^ k % 2 == 1 then [] else (bits / 2 ^ k % 2 == 1) ∷ [])
 
 -- more bits were taken, and not yet settled
-pub record LagsBy {C : Type 0} (folded : C → List ℕ → Type 0) (cost : ℕ) (d : LineState C)
+pub record LagsBy {C : Type 0} (view : CheckView C) (d : LineState C)
     (b bits : List Bool) : Type 0 where
   pub has_taken : HasTaken d (b ++ bits)
   pub first : d.first ≡ first_of d.origin (current b)
-  pub piece : HoldsFor folded d b (current b)
-  pub counts : Counts cost d b
+  pub piece : HoldsFor view.folded d b (current b)
+  pub counts : Counts view.cost d b
 
 -- how many more of the first `limit` there are where `k` come after `n`
 abbrev pub gain : ℕ → ℕ → ℕ → ℕ

@@ -2,6 +2,7 @@
 use Rattle.std.specs.Prelude.{◌≡◌, ℕ, ◌+◌, ◌-◌, ◌*◌, ◌/◌, ◌≤◌, Bool, false, List, ◌++◌, length, take, drop, replicate}
 use Rattle.std.specs.Prelude.{slice_range, Option, Some, None}
 use Rattle.bus_bits.specs.Octet.{number, octets}
+use Rattle.bus_fcs.specs.Check.{CheckView}
 use Rattle.bus_line.specs.Internal.Run.{data_so_far}
 use Rattle.bus_line.specs.Due.{Mark, NoMark, FlagAt, AbortAt}
 use Rattle.bus_line.specs.Ledger.{assembled, stored}
@@ -47,9 +48,9 @@ pub record HasTaken {C : Type 0} (d : LineState C) (b : List Bool) : Type 0 wher
   pub last_bits : d.last_bits ≡ number (drop (length b) (padded b))
 
 -- the bits b were taken and settled, and this mark was the last
-pub record Tracks {C : Type 0} (folded : C → List ℕ → Type 0) (cost : ℕ) (d : LineState C) (b : List Bool)
+pub record Tracks {C : Type 0} (view : CheckView C) (d : LineState C) (b : List Bool)
     (mark : Mark) : Type 0 where
   pub has_taken : HasTaken d b
   pub first : d.first ≡ first_of d.origin mark
-  pub piece : HoldsFor folded d b mark
-  pub counts : Counts cost d b
+  pub piece : HoldsFor view.folded d b mark
+  pub counts : Counts view.cost d b

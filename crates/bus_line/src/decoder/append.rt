@@ -21,13 +21,13 @@ impl LineWords {
         requires few { more.count ≤ 56 }
         requires small { more.bits < 2 ^ more.count }
         requires room { self.old.assembled + more.count ≤ self.old.place - self.old.origin }
-        ensures holds { (bits : List Bool) → Holds C.folded (state self.old check.old cells.old) bits →
-            Holds C.folded (state self.new check.new cells.new) (bits ++ bits_of more.count more.bits) }
-        ensures spent { (bits : List Bool) → Holds C.folded (state self.old check.old cells.old) bits →
+        ensures holds { (bits : List Bool) → Holds C.check.folded (state self.old check.old cells.old) bits →
+            Holds C.check.folded (state self.new check.new cells.new) (bits ++ bits_of more.count more.bits) }
+        ensures spent { (bits : List Bool) → Holds C.check.folded (state self.old check.old cells.old) bits →
             (state self.new check.new cells.new).spent ≡ record (state self.old check.old cells.old).spent {
               assembled = self.old.assembled + more.count;
               stored = self.old.stored + octets_more self.old.longest (length bits) more.count;
-              folded = self.old.folded + C.COST * octets_more self.old.longest (length bits) more.count;
+              folded = self.old.folded + C.check.cost * octets_more self.old.longest (length bits) more.count;
             } }
         ensures kept { self.new
             ≡ record self.old {
@@ -63,13 +63,13 @@ impl LineWords {
         requires few { more.count ≤ 8 }
         requires small { more.bits < 2 ^ more.count }
         requires room { self.old.assembled + more.count ≤ self.old.place - self.old.origin }
-        ensures holds { (bits : List Bool) → Holds C.folded (state self.old check.old cells.old) bits →
-            Holds C.folded (state self.new check.new cells.new) (bits ++ bits_of more.count more.bits) }
-        ensures spent { (bits : List Bool) → Holds C.folded (state self.old check.old cells.old) bits →
+        ensures holds { (bits : List Bool) → Holds C.check.folded (state self.old check.old cells.old) bits →
+            Holds C.check.folded (state self.new check.new cells.new) (bits ++ bits_of more.count more.bits) }
+        ensures spent { (bits : List Bool) → Holds C.check.folded (state self.old check.old cells.old) bits →
             (state self.new check.new cells.new).spent ≡ record (state self.old check.old cells.old).spent {
               assembled = self.old.assembled + more.count;
               stored = self.old.stored + octets_more self.old.longest (length bits) more.count;
-              folded = self.old.folded + C.COST * octets_more self.old.longest (length bits) more.count;
+              folded = self.old.folded + C.check.cost * octets_more self.old.longest (length bits) more.count;
             } }
         ensures kept { self.new
             ≡ record self.old {
@@ -99,13 +99,13 @@ impl LineWords {
         requires within { IsWithin self.old }
         requires bit { bit ≤ 1 }
         requires room { self.old.assembled + 1 ≤ self.old.place - self.old.origin }
-        ensures holds { (bits : List Bool) → Holds C.folded (state self.old check.old cells.old) bits →
-            Holds C.folded (state self.new check.new cells.new) (bits ++ bits_of 1 bit) }
-        ensures spent { (bits : List Bool) → Holds C.folded (state self.old check.old cells.old) bits →
+        ensures holds { (bits : List Bool) → Holds C.check.folded (state self.old check.old cells.old) bits →
+            Holds C.check.folded (state self.new check.new cells.new) (bits ++ bits_of 1 bit) }
+        ensures spent { (bits : List Bool) → Holds C.check.folded (state self.old check.old cells.old) bits →
             (state self.new check.new cells.new).spent ≡ record (state self.old check.old cells.old).spent {
               assembled = self.old.assembled + 1;
               stored = self.old.stored + octets_more self.old.longest (length bits) 1;
-              folded = self.old.folded + C.COST * octets_more self.old.longest (length bits) 1;
+              folded = self.old.folded + C.check.cost * octets_more self.old.longest (length bits) 1;
             } }
         ensures kept { self.new
             ≡ record self.old {
@@ -136,8 +136,9 @@ impl LineWords {
     #[inline(always)]
     fn begin<C: Check>(&mut self, check: &mut C)
         requires within { IsWithin self.old }
-        ensures keeps { (cells : List ℕ) (bits : List Bool) → Holds C.folded (state self.old check.old cells) bits →
-            Keeps C.folded (state self.new check.new cells) (octets bits) }
+        ensures keeps { (cells : List ℕ) (bits : List Bool) →
+            Holds C.check.folded (state self.old check.old cells) bits →
+            Keeps C.check.folded (state self.new check.new cells) (octets bits) }
         ensures kept { self.new ≡ record self.old { len = self.new.len } }
         ensures within { IsWithin self.new }
     {
@@ -155,13 +156,13 @@ impl LineWords {
         requires within { IsWithin self.old }
         requires few { count ≤ 7 }
         requires room { self.old.stored + count ≤ self.old.assembled }
-        ensures keeps { (os : List ℕ) → Keeps C.folded (state self.old check.old cells.old) os →
-            Keeps C.folded (state self.new check.new cells.new) (os ++ octets_of count joined) }
-        ensures spent { (os : List ℕ) → Keeps C.folded (state self.old check.old cells.old) os →
+        ensures keeps { (os : List ℕ) → Keeps C.check.folded (state self.old check.old cells.old) os →
+            Keeps C.check.folded (state self.new check.new cells.new) (os ++ octets_of count joined) }
+        ensures spent { (os : List ℕ) → Keeps C.check.folded (state self.old check.old cells.old) os →
             (state self.new check.new cells.new).spent
             ≡ record (state self.old check.old cells.old).spent {
               stored = self.old.stored + gain (self.old.longest + 2) (length os) count;
-              folded = self.old.folded + C.COST * gain (self.old.longest + 2) (length os) count;
+              folded = self.old.folded + C.check.cost * gain (self.old.longest + 2) (length os) count;
             } }
         ensures kept { self.new
             ≡ record self.old { folded = self.new.folded; stored = self.new.stored; len = self.new.len } }
@@ -183,13 +184,13 @@ impl LineWords {
         requires within { IsWithin self.old }
         requires few { count ≤ 1 }
         requires room { self.old.stored + count ≤ self.old.assembled }
-        ensures keeps { (os : List ℕ) → Keeps C.folded (state self.old check.old cells.old) os →
-            Keeps C.folded (state self.new check.new cells.new) (os ++ octets_of count joined) }
-        ensures spent { (os : List ℕ) → Keeps C.folded (state self.old check.old cells.old) os →
+        ensures keeps { (os : List ℕ) → Keeps C.check.folded (state self.old check.old cells.old) os →
+            Keeps C.check.folded (state self.new check.new cells.new) (os ++ octets_of count joined) }
+        ensures spent { (os : List ℕ) → Keeps C.check.folded (state self.old check.old cells.old) os →
             (state self.new check.new cells.new).spent
             ≡ record (state self.old check.old cells.old).spent {
               stored = self.old.stored + gain (self.old.longest + 2) (length os) count;
-              folded = self.old.folded + C.COST * gain (self.old.longest + 2) (length os) count;
+              folded = self.old.folded + C.check.cost * gain (self.old.longest + 2) (length os) count;
             } }
         ensures kept { self.new
             ≡ record self.old { folded = self.new.folded; stored = self.new.stored; len = self.new.len } }
@@ -206,13 +207,13 @@ impl LineWords {
     fn put_one<C: Check>(&mut self, check: &mut C, cells: &mut [u8; 272], joined: u64)
         requires within { IsWithin self.old }
         requires room { self.old.stored + 1 ≤ self.old.assembled }
-        ensures keeps { (os : List ℕ) → Keeps C.folded (state self.old check.old cells.old) os →
-            Keeps C.folded (state self.new check.new cells.new) (os ++ octets_of 1 joined) }
-        ensures spent { (os : List ℕ) → Keeps C.folded (state self.old check.old cells.old) os →
+        ensures keeps { (os : List ℕ) → Keeps C.check.folded (state self.old check.old cells.old) os →
+            Keeps C.check.folded (state self.new check.new cells.new) (os ++ octets_of 1 joined) }
+        ensures spent { (os : List ℕ) → Keeps C.check.folded (state self.old check.old cells.old) os →
             (state self.new check.new cells.new).spent
             ≡ record (state self.old check.old cells.old).spent {
               stored = self.old.stored + gain (self.old.longest + 2) (length os) 1;
-              folded = self.old.folded + C.COST * gain (self.old.longest + 2) (length os) 1;
+              folded = self.old.folded + C.check.cost * gain (self.old.longest + 2) (length os) 1;
             } }
         ensures kept { self.new
             ≡ record self.old { folded = self.new.folded; stored = self.new.stored; len = self.new.len } }
@@ -250,11 +251,11 @@ impl LineWords {
         requires room { self.old.len + count ≤ self.old.longest + 2 }
         requires counted { self.old.stored + count ≤ self.old.assembled }
         ensures octets { take self.new.len cells.new ≡ take self.old.len cells.old ++ take count octets.now }
-        ensures folded { (os : List ℕ) → C.folded check.old os →
-            C.folded check.new (os ++ take count octets.now) }
+        ensures folded { (os : List ℕ) → C.check.folded check.old os →
+            C.check.folded check.new (os ++ take count octets.now) }
         ensures value { self.new
             ≡ record self.old {
-              folded = self.old.folded + C.COST * count;
+              folded = self.old.folded + C.check.cost * count;
               stored = self.old.stored + count;
               len = self.old.len + count;
             } }

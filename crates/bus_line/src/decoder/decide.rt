@@ -26,12 +26,12 @@ impl LineWords {
         requires within { IsWithin self.old }
         requires some { self.old.origin < self.old.place }
         ensures answer { (cells : List ℕ) (b : List Bool) (bit : Bool) →
-            Tracks C.folded C.COST (state self.old check.now cells) (b ++ bit ∷ []) (current b) →
+            Tracks C.check (state self.old check.now cells) (b ++ bit ∷ []) (current b) →
             option_map (reported (state self.new check.now cells).octets) result
             ≡ option_map (moved self.old.origin) (due_at self.old.longest (b ++ bit ∷ []) (length b)) }
         ensures after { (cells : List ℕ) (b : List Bool) (bit : Bool) →
-            Tracks C.folded C.COST (state self.old check.now cells) (b ++ bit ∷ []) (current b) →
-            After C.folded C.COST (state self.new check.now cells) (b ++ bit ∷ []) }
+            Tracks C.check (state self.old check.now cells) (b ++ bit ∷ []) (current b) →
+            After C.check (state self.new check.now cells) (b ++ bit ∷ []) }
         ensures longest { self.new.longest ≡ self.old.longest }
         ensures origin { self.new.origin ≡ self.old.origin }
         ensures place { self.new.place ≡ self.old.place }
@@ -47,12 +47,12 @@ impl LineWords {
         requires within { IsWithin self.old }
         requires some { self.old.origin < self.old.place }
         ensures answer { (cells : List ℕ) (b : List Bool) (bit : Bool) →
-            Tracks C.folded C.COST (state self.old check.now cells) (b ++ bit ∷ []) (current b) →
+            Tracks C.check (state self.old check.now cells) (b ++ bit ∷ []) (current b) →
             option_map (reported (state self.new check.now cells).octets) result
             ≡ option_map (moved self.old.origin) (due_at self.old.longest (b ++ bit ∷ []) (length b)) }
         ensures after { (cells : List ℕ) (b : List Bool) (bit : Bool) →
-            Tracks C.folded C.COST (state self.old check.now cells) (b ++ bit ∷ []) (current b) →
-            After C.folded C.COST (state self.new check.now cells) (b ++ bit ∷ []) }
+            Tracks C.check (state self.old check.now cells) (b ++ bit ∷ []) (current b) →
+            After C.check (state self.new check.now cells) (b ++ bit ∷ []) }
         ensures longest { self.new.longest ≡ self.old.longest }
         ensures origin { self.new.origin ≡ self.old.origin }
         ensures place { self.new.place ≡ self.old.place }
@@ -88,7 +88,7 @@ impl LineWords {
     fn closed<C: Check>(&self, check: &C, past: u64) -> Option<Event>
         requires { IsWithin self.now }
         ensures { (cells : List ℕ) (b : List Bool) (bit : Bool) →
-            Tracks C.folded C.COST (state self.now check.now cells) (b ++ bit ∷ []) (current b) →
+            Tracks C.check (state self.now check.now cells) (b ++ bit ∷ []) (current b) →
             7 ≤ length b → past ≡ self.now.origin + (length b - 7) →
             option_map (reported (state self.now check.now cells).octets) result
             ≡ option_map (moved self.now.origin)
@@ -128,7 +128,7 @@ impl LineWords {
     fn class<C: Check>(&self, check: &C) -> EventKind
         requires { IsWithin self.now }
         ensures { (cells : List ℕ) (b : List Bool) (bit : Bool) (p : ℕ) →
-            Tracks C.folded C.COST (state self.now check.now cells) (b ++ bit ∷ []) (current b) →
+            Tracks C.check (state self.now check.now cells) (b ++ bit ∷ []) (current b) →
             current b ≡ FlagAt p → p + 15 < length b →
             kind_with (state self.now check.now cells).octets result
             ≡ class_of self.now.longest (slice_range (b ++ bit ∷ []) (p + 8) (length b - 7)) }

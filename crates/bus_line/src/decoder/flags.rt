@@ -1,6 +1,7 @@
 //! Flags one after another, which decide nothing.
 
 ghost use Rattle.std.specs.Prelude.{◌≡◌, ◌≢◌, ◌+◌, ◌-◌, ◌*◌, ◌/◌, ◌≤◌, ◌<◌, ◌^◌, List, Bool, true, false, ◌++◌, ℕ};
+ghost use Rattle.bus_bits.specs.Limits.{most_places};
 ghost use Rattle.bus_bits.specs.Octet.{bits_of};
 ghost use Rattle.bus_line.specs.Mark.{flag};
 ghost use Rattle.bus_line.specs.Decides.{flags, EndsInFlag};
@@ -68,7 +69,7 @@ impl LineWords {
     pub(crate) fn past_flags(&mut self, bits: u64, count: u32) -> Rest
         requires within { IsWithin self.old }
         requires few { count ≤ 48 }
-        requires room { self.old.place + count ≤ 2 ^ 60 }
+        requires room { self.old.place + count ≤ most_places }
         ensures flags { 8 * result.flags ≤ count }
         ensures count { result.count ≡ count - 8 * result.flags }
         ensures small { bits < 2 ^ count → result.bits < 2 ^ result.count }
@@ -101,7 +102,7 @@ impl LineWords {
     fn take_flags(&mut self, count: u32)
         requires within { IsWithin self.old }
         requires few { count ≤ 6 }
-        requires room { self.old.place + 8 * count ≤ 2 ^ 60 }
+        requires room { self.old.place + 8 * count ≤ most_places }
         ensures passes { PassesFlags self.old count self.new }
         ensures longest { self.new.longest ≡ self.old.longest }
         ensures origin { self.new.origin ≡ self.old.origin }

@@ -2,6 +2,7 @@
 
 ghost use Rattle.std.specs.Prelude.{◌≡◌, ◌+◌, ◌-◌, ◌*◌, ◌/◌, ◌%◌, ◌≤◌, ◌<◌, ◌^◌, List, Bool, ◌++◌, length, ℕ};
 ghost use Rattle.bus_bits.specs.Bits.{bits_from};
+ghost use Rattle.bus_bits.specs.Limits.{most_places};
 ghost use Rattle.bus_bits.specs.Octet.{bits_of};
 ghost use Rattle.bus_line.specs.Due.{current};
 ghost use Rattle.bus_line.specs.Internal.Settled.{IsCalm};
@@ -57,9 +58,9 @@ impl LineWords {
         requires within { IsWithin self.old }
         requires some { from + 64 ≤ end }
         requires enough { end ≤ 8 * length octets.now }
-        requires room { self.old.place + (end - from) ≤ 2 ^ 60 }
+        requires room { self.old.place + (end - from) ≤ most_places }
         ensures count { (1 ≤ result.count) × (result.count ≤ end - from) }
-        ensures reaches { ReachesTo C.folded C.COST (state self.old check.old cells.old)
+        ensures reaches { ReachesTo C.check (state self.old check.old cells.old)
             (bits_from octets.now from result.count) result.is_stop (state self.new check.new cells.new) }
         ensures within { IsWithin self.new }
         ensures cells { length cells.new ≡ 272 }
@@ -107,9 +108,9 @@ impl LineWords {
         requires within { IsWithin self.old }
         requires some { from + 64 ≤ end }
         requires enough { end ≤ 8 * length octets.now }
-        requires room { self.old.place + (end - from) ≤ 2 ^ 60 }
+        requires room { self.old.place + (end - from) ≤ most_places }
         ensures count { (1 ≤ result.count) × (result.count ≤ end - from) }
-        ensures reaches { ReachesTo C.folded C.COST (state self.old check.old cells.old)
+        ensures reaches { ReachesTo C.check (state self.old check.old cells.old)
             (bits_from octets.now from result.count) result.is_stop (state self.new check.new cells.new) }
         ensures within { IsWithin self.new }
         ensures cells { length cells.new ≡ 272 }
@@ -135,9 +136,9 @@ impl LineWords {
     #[inline(always)]
     fn take_turn<C: Check>(&mut self, check: &mut C, cells: &mut [u8; 272], bits: u64) -> Reached
         requires within { IsWithin self.old }
-        requires room { self.old.place + 56 ≤ 2 ^ 60 }
+        requires room { self.old.place + 56 ≤ most_places }
         ensures count { (1 ≤ result.count) × (result.count ≤ 56) }
-        ensures reaches { ReachesTo C.folded C.COST (state self.old check.old cells.old)
+        ensures reaches { ReachesTo C.check (state self.old check.old cells.old)
             (bits_of result.count bits) result.is_stop (state self.new check.new cells.new) }
         ensures within { IsWithin self.new }
         ensures cells { length cells.new ≡ 272 }
@@ -161,10 +162,10 @@ impl LineWords {
     #[inline(always)]
     fn take_seven<C: Check>(&mut self, check: &mut C, cells: &mut [u8; 272], bits: u64)
         requires within { IsWithin self.old }
-        requires room { self.old.place + 56 ≤ 2 ^ 60 }
-        ensures tracks { (b : List Bool) → After C.folded C.COST (state self.old check.old cells.old) b →
+        requires room { self.old.place + 56 ≤ most_places }
+        ensures tracks { (b : List Bool) → After C.check (state self.old check.old cells.old) b →
             IsCalm b (bits_of 56 bits) 55 →
-            Tracks C.folded C.COST (state self.new check.new cells.new) (b ++ bits_of 56 bits) (current b) }
+            Tracks C.check (state self.new check.new cells.new) (b ++ bits_of 56 bits) (current b) }
         ensures longest { self.new.longest ≡ self.old.longest }
         ensures origin { self.new.origin ≡ self.old.origin }
         ensures place { self.new.place ≡ self.old.place + 56 }
@@ -188,10 +189,10 @@ impl LineWords {
         requires within { IsWithin self.old }
         requires some { 1 ≤ count }
         requires few { count ≤ 56 }
-        requires room { self.old.place + count ≤ 2 ^ 60 }
-        ensures tracks { (b : List Bool) → After C.folded C.COST (state self.old check.old cells.old) b →
+        requires room { self.old.place + count ≤ most_places }
+        ensures tracks { (b : List Bool) → After C.check (state self.old check.old cells.old) b →
             IsCalm b (bits_of count bits) (count - 1) →
-            Tracks C.folded C.COST (state self.new check.new cells.new) (b ++ bits_of count bits) (current b) }
+            Tracks C.check (state self.new check.new cells.new) (b ++ bits_of count bits) (current b) }
         ensures longest { self.new.longest ≡ self.old.longest }
         ensures origin { self.new.origin ≡ self.old.origin }
         ensures place { self.new.place ≡ self.old.place + count }

@@ -4,6 +4,7 @@ ghost use Rattle.std.specs.Prelude.{◌≡◌, ◌≢◌, ◌+◌, ◌-◌, ◌*
 ghost use Rattle.std.specs.Prelude.{IfOk, OnErr, None, length, ℕ, replicate};
 ghost use Rattle.std.specs.Option.{option_map};
 ghost use Rattle.bus_bits.specs.Bits.{bits_from};
+ghost use Rattle.bus_bits.specs.Limits.{most_places};
 ghost use Rattle.bus_bits.specs.Octet.{bits_of};
 
 use crate::decoder::quiet::{flags_end, has_six, ones_end};
@@ -40,10 +41,10 @@ impl LineWords {
         requires within { IsWithin self.old }
         requires some { at < end }
         requires enough { end ≤ 8 * length octets.now }
-        ensures limit { IsErr result ↔ (2 ^ 60 ≤ self.old.place) }
+        ensures limit { IsErr result ↔ (most_places ≤ self.old.place) }
         ensures count { IfOk result (λ s. (1 ≤ s.count) × (s.count ≤ end - at)) }
-        ensures all { IfOk result (λ s. s.event ≡ None → s.count < end - at → self.new.place ≡ 2 ^ 60) }
-        ensures advances { IfOk result (λ s. Advances C.folded C.COST (state self.old check.old cells.old)
+        ensures all { IfOk result (λ s. s.event ≡ None → s.count < end - at → self.new.place ≡ most_places) }
+        ensures advances { IfOk result (λ s. Advances C.check (state self.old check.old cells.old)
             (bits_from octets.now at s.count)
             (option_map (reported (state self.new check.new cells.new).octets) s.event)
             (state self.new check.new cells.new)) }
@@ -73,11 +74,11 @@ impl LineWords {
         requires within { IsWithin self.old }
         requires some { from ≤ end }
         requires enough { end ≤ 8 * length octets.now }
-        requires room { self.old.place + (end - from) ≤ 2 ^ 60 }
+        requires room { self.old.place + (end - from) ≤ most_places }
         ensures count { result.count ≤ end - from }
         ensures some { from < end → 1 ≤ result.count }
         ensures all { result.event ≡ None → result.count ≡ end - from }
-        ensures advances { Advances C.folded C.COST (state self.old check.old cells.old)
+        ensures advances { Advances C.check (state self.old check.old cells.old)
             (bits_from octets.now from result.count)
             (option_map (reported (state self.new check.new cells.new).octets) result.event)
             (state self.new check.new cells.new) }
@@ -115,9 +116,9 @@ impl LineWords {
         requires within { IsWithin self.old }
         requires some { from < end }
         requires enough { end ≤ 8 * length octets.now }
-        requires room { self.old.place + (end - from) ≤ 2 ^ 60 }
+        requires room { self.old.place + (end - from) ≤ most_places }
         ensures count { (1 ≤ result.count) × (result.count ≤ end - from) }
-        ensures advances { Advances C.folded C.COST (state self.old check.old cells.old)
+        ensures advances { Advances C.check (state self.old check.old cells.old)
             (bits_from octets.now from result.count)
             (option_map (reported (state self.new check.new cells.new).octets) result.event)
             (state self.new check.new cells.new) }
@@ -154,9 +155,9 @@ impl LineWords {
         requires within { IsWithin self.old }
         requires some { from ≤ end }
         requires enough { end ≤ 8 * length octets.now }
-        requires room { self.old.place + (end - from) ≤ 2 ^ 60 }
+        requires room { self.old.place + (end - from) ≤ most_places }
         ensures within { (from ≤ result) × (result ≤ end) }
-        ensures tells { Tells C.folded C.COST (state self.old check.old cells.old)
+        ensures tells { Tells C.check (state self.old check.old cells.old)
             (bits_from octets.now from (result - from)) None (state self.new check.new cells.new) }
         ensures sound { IsWithin self.new }
         ensures cells { length cells.new ≡ 272 }
@@ -190,9 +191,9 @@ impl LineWords {
         requires open { self.old.settles_at ≤ self.old.place }
         requires some { from ≤ end }
         requires enough { end ≤ 8 * length octets.now }
-        requires room { self.old.place + (end - from) ≤ 2 ^ 60 }
+        requires room { self.old.place + (end - from) ≤ most_places }
         ensures within { (from ≤ result) × (result ≤ end) }
-        ensures tells { Tells C.folded C.COST (state self.old check.old cells.old)
+        ensures tells { Tells C.check (state self.old check.old cells.old)
             (bits_from octets.now from (result - from)) None (state self.new check.new cells.new) }
         ensures sound { IsWithin self.new }
         ensures cells { length cells.new ≡ 272 }
@@ -212,9 +213,9 @@ impl LineWords {
     fn take_data<C: Check>(&mut self, check: &mut C, cells: &mut [u8; 272], bits: u64) -> bool
         requires within { IsWithin self.old }
         requires open { self.old.settles_at ≤ self.old.place }
-        requires room { self.old.place + 56 ≤ 2 ^ 60 }
+        requires room { self.old.place + 56 ≤ most_places }
         ensures none { result ≡ false → (self.new ≡ self.old) × (check.new ≡ check.old) × (cells.new ≡ cells.old) }
-        ensures tells { result ≡ true → Tells C.folded C.COST (state self.old check.old cells.old) (bits_of 56 bits)
+        ensures tells { result ≡ true → Tells C.check (state self.old check.old cells.old) (bits_of 56 bits)
             None (state self.new check.new cells.new) }
         ensures open { self.new.settles_at ≤ self.new.place }
         ensures within { IsWithin self.new }
@@ -238,7 +239,7 @@ impl LineWords {
         requires idle { self.old.settles_at ≡ 2 ^ 62 }
         requires some { from ≤ end }
         requires enough { end ≤ 8 * length octets.now }
-        requires room { self.old.place + (end - from) ≤ 2 ^ 60 }
+        requires room { self.old.place + (end - from) ≤ most_places }
         ensures within { (from ≤ result) × (result ≤ end) }
         ensures bits { bits_from octets.now from (result - from) ≡ replicate (result - from) true }
         ensures passes { PassesOnes self.old (result - from) self.new }
@@ -260,7 +261,7 @@ impl LineWords {
         requires flag { self.old.settles_at ≡ self.old.place + 8 }
         requires some { from ≤ end }
         requires enough { end ≤ 8 * length octets.now }
-        requires room { self.old.place + (end - from) ≤ 2 ^ 60 }
+        requires room { self.old.place + (end - from) ≤ most_places }
         ensures within { (from ≤ result) × (result ≤ end) }
         ensures flags { AreFlags octets.now from result }
         ensures passes { PassesFlags self.old ((result - from) / 8) self.new }

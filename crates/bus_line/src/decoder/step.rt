@@ -3,7 +3,9 @@
 ghost use Rattle.std.specs.Prelude.{◌≡◌, ◌+◌, ◌-◌, ◌/◌, ◌%◌, ◌≤◌, ◌<◌, ◌^◌, ◌↔◌, List, Bool, [], ◌∷◌, ◌++◌, IsErr};
 ghost use Rattle.std.specs.Prelude.{IfOk, OnErr, ℕ, length, take};
 ghost use Rattle.std.specs.Option.{option_map};
+ghost use Rattle.bus_bits.specs.Limits.{most_places};
 ghost use Rattle.bus_bits.specs.Octet.{bits_of};
+ghost use Rattle.bus_bits.specs.Word.{IsWordOf};
 ghost use Rattle.bus_line.specs.Due.{current, due_at};
 
 use crate::decoder::settled::data_in_word;
@@ -38,12 +40,10 @@ impl LineWords {
         count: u32,
     ) -> Result<Taken, PlaceLimit>
         requires within { IsWithin self.old }
-        requires some { 1 ≤ count }
-        requires few { count ≤ 48 }
-        requires small { bits < 2 ^ count }
-        ensures limit { IsErr result ↔ (2 ^ 60 < self.old.place + count) }
+        requires word { IsWordOf count bits }
+        ensures limit { IsErr result ↔ (most_places < self.old.place + count) }
         ensures count { IfOk result (λ t. (1 ≤ t.count) × (t.count ≤ count)) }
-        ensures advances { IfOk result (λ t. Advances C.folded C.COST (state self.old check.old cells.old)
+        ensures advances { IfOk result (λ t. Advances C.check (state self.old check.old cells.old)
             (bits_of t.count bits) (option_map (reported (state self.new check.new cells.new).octets) t.event)
             (state self.new check.new cells.new)) }
         ensures unchanged { OnErr result ((self.new ≡ self.old) × (check.new ≡ check.old)
@@ -71,9 +71,9 @@ impl LineWords {
         requires some { 1 ≤ count }
         requires few { count ≤ 8 }
         requires small { bits < 2 ^ count }
-        ensures limit { IsErr result ↔ (2 ^ 60 < self.old.place + count) }
+        ensures limit { IsErr result ↔ (most_places < self.old.place + count) }
         ensures count { IfOk result (λ t. (1 ≤ t.count) × (t.count ≤ count)) }
-        ensures advances { IfOk result (λ t. Advances C.folded C.COST (state self.old check.old cells.old)
+        ensures advances { IfOk result (λ t. Advances C.check (state self.old check.old cells.old)
             (bits_of t.count bits) (option_map (reported (state self.new check.new cells.new).octets) t.event)
             (state self.new check.new cells.new)) }
         ensures unchanged { OnErr result ((self.new ≡ self.old) × (check.new ≡ check.old)
@@ -98,15 +98,13 @@ impl LineWords {
         count: u32,
     ) -> Taken
         requires within { IsWithin self.old }
-        requires some { 1 ≤ count }
-        requires few { count ≤ 48 }
-        requires small { bits < 2 ^ count }
-        requires room { self.old.place + count ≤ 2 ^ 60 }
+        requires word { IsWordOf count bits }
+        requires room { self.old.place + count ≤ most_places }
         ensures some { 1 ≤ result.count }
         ensures count { result.count ≤ count }
-        ensures stops { (b : List Bool) → After C.folded C.COST (state self.old check.old cells.old) b →
+        ensures stops { (b : List Bool) → After C.check (state self.old check.old cells.old) b →
             TakesTo b (bits_of count bits) result.count }
-        ensures advances { Advances C.folded C.COST (state self.old check.old cells.old) (bits_of result.count bits)
+        ensures advances { Advances C.check (state self.old check.old cells.old) (bits_of result.count bits)
             (option_map (reported (state self.new check.new cells.new).octets) result.event)
             (state self.new check.new cells.new) }
         ensures within { IsWithin self.new }
@@ -134,15 +132,13 @@ impl LineWords {
         count: u32,
     ) -> Taken
         requires within { IsWithin self.old }
-        requires some { 1 ≤ count }
-        requires few { count ≤ 48 }
-        requires small { bits < 2 ^ count }
-        requires room { self.old.place + count ≤ 2 ^ 60 }
+        requires word { IsWordOf count bits }
+        requires room { self.old.place + count ≤ most_places }
         ensures some { 1 ≤ result.count }
         ensures count { result.count ≤ count }
-        ensures stops { (b : List Bool) → After C.folded C.COST (state self.old check.old cells.old) b →
+        ensures stops { (b : List Bool) → After C.check (state self.old check.old cells.old) b →
             StopsAt b (bits_of count bits) result.count }
-        ensures advances { Advances C.folded C.COST (state self.old check.old cells.old) (bits_of result.count bits)
+        ensures advances { Advances C.check (state self.old check.old cells.old) (bits_of result.count bits)
             (option_map (reported (state self.new check.new cells.new).octets) result.event)
             (state self.new check.new cells.new) }
         ensures within { IsWithin self.new }
@@ -177,10 +173,10 @@ impl LineWords {
         requires some { 1 ≤ count }
         requires few { count ≤ 8 }
         requires small { bits < 2 ^ count }
-        requires room { self.old.place + count ≤ 2 ^ 60 }
+        requires room { self.old.place + count ≤ most_places }
         ensures some { 1 ≤ result.count }
         ensures count { result.count ≤ count }
-        ensures advances { Advances C.folded C.COST (state self.old check.old cells.old) (bits_of result.count bits)
+        ensures advances { Advances C.check (state self.old check.old cells.old) (bits_of result.count bits)
             (option_map (reported (state self.new check.new cells.new).octets) result.event)
             (state self.new check.new cells.new) }
         ensures within { IsWithin self.new }
@@ -207,7 +203,7 @@ impl LineWords {
     fn shift(&mut self, word: u64, count: u64)
         requires within { IsWithin self.old }
         requires few { count ≤ 48 }
-        requires room { self.old.place + count ≤ 2 ^ 60 }
+        requires room { self.old.place + count ≤ most_places }
         ensures value { self.new
             ≡ record self.old { place = self.old.place + count; last_bits = word / 2 ^ count % 65536 } }
         ensures within { IsWithin self.new }
@@ -225,8 +221,8 @@ impl LineWords {
         requires room { self.old.assembled + count ≤ self.old.place - self.old.origin }
         ensures tracks { (b bits : List Bool) → IsWord word b bits → count ≤ length bits →
             IsCalm b bits (count - 1) →
-            LagsBy C.folded C.COST (state self.old check.old cells.old) b (take count bits) →
-            Tracks C.folded C.COST (state self.new check.new cells.new) (b ++ take count bits) (current b) }
+            LagsBy C.check (state self.old check.old cells.old) b (take count bits) →
+            Tracks C.check (state self.new check.new cells.new) (b ++ take count bits) (current b) }
         ensures longest { self.new.longest ≡ self.old.longest }
         ensures origin { self.new.origin ≡ self.old.origin }
         ensures place { self.new.place ≡ self.old.place }
@@ -254,8 +250,8 @@ impl LineWords {
         requires room { self.old.assembled + count ≤ self.old.place - self.old.origin }
         ensures tracks { (b bits : List Bool) → IsWord word b bits → count ≤ length bits →
             IsCalm b bits (count - 1) →
-            LagsBy C.folded C.COST (state self.old check.old cells.old) b (take count bits) →
-            Tracks C.folded C.COST (state self.new check.new cells.new) (b ++ take count bits) (current b) }
+            LagsBy C.check (state self.old check.old cells.old) b (take count bits) →
+            Tracks C.check (state self.new check.new cells.new) (b ++ take count bits) (current b) }
         ensures longest { self.new.longest ≡ self.old.longest }
         ensures origin { self.new.origin ≡ self.old.origin }
         ensures place { self.new.place ≡ self.old.place }
@@ -281,12 +277,12 @@ impl LineWords {
         bit: bool,
     ) -> Result<Option<Event>, PlaceLimit>
         requires within { IsWithin self.old }
-        ensures limit { IsErr result ↔ (2 ^ 60 ≤ self.old.place) }
+        ensures limit { IsErr result ↔ (most_places ≤ self.old.place) }
         ensures answer { IfOk result (λ o. (b : List Bool) →
-            After C.folded C.COST (state self.old check.old cells.old) b →
+            After C.check (state self.old check.old cells.old) b →
             option_map (reported (state self.new check.new cells.new).octets) o
             ≡ option_map (moved self.old.origin) (due_at self.old.longest (b ++ bit ∷ []) (length b))) }
-        ensures tells { IfOk result (λ o. Tells C.folded C.COST (state self.old check.old cells.old) (bit ∷ [])
+        ensures tells { IfOk result (λ o. Tells C.check (state self.old check.old cells.old) (bit ∷ [])
             (option_map (reported (state self.new check.new cells.new).octets) o)
             (state self.new check.new cells.new)) }
         ensures unchanged { OnErr result ((self.new ≡ self.old) × (check.new ≡ check.old)
@@ -312,8 +308,8 @@ impl LineWords {
         requires within { IsWithin self.old }
         requires room { self.old.assembled + 1 ≤ self.old.place - self.old.origin }
         ensures tracks { (b bits : List Bool) → IsWord word b bits → 1 ≤ length bits →
-            LagsBy C.folded C.COST (state self.old check.old cells.old) b (take 1 bits) →
-            Tracks C.folded C.COST (state self.new check.new cells.new) (b ++ take 1 bits) (current b) }
+            LagsBy C.check (state self.old check.old cells.old) b (take 1 bits) →
+            Tracks C.check (state self.new check.new cells.new) (b ++ take 1 bits) (current b) }
         ensures longest { self.new.longest ≡ self.old.longest }
         ensures origin { self.new.origin ≡ self.old.origin }
         ensures place { self.new.place ≡ self.old.place }

@@ -1,8 +1,9 @@
 //! Bits of octets by turns.
 
-ghost use Rattle.std.specs.Prelude.{◌≡◌, ◌+◌, ◌-◌, ◌*◌, ◌≤◌, ◌<◌, ◌^◌, length};
+ghost use Rattle.std.specs.Prelude.{◌≡◌, ◌+◌, ◌-◌, ◌*◌, ◌≤◌, ◌<◌, length};
 ghost use Rattle.std.specs.Option.{option_map};
 ghost use Rattle.bus_bits.specs.Bits.{bits_from};
+ghost use Rattle.bus_bits.specs.Limits.{most_places};
 
 use crate::line_words::{LineWords, NEVER};
 use crate::scanned::Scanned;
@@ -27,9 +28,9 @@ impl LineWords {
         requires within { IsWithin self.old }
         requires some { from < end }
         requires enough { end ≤ 8 * length octets.now }
-        requires room { self.old.place + (end - from) ≤ 2 ^ 60 }
+        requires room { self.old.place + (end - from) ≤ most_places }
         ensures count { (1 ≤ result.count) × (result.count ≤ end - from) }
-        ensures advances { Advances C.folded C.COST (state self.old check.old cells.old)
+        ensures advances { Advances C.check (state self.old check.old cells.old)
             (bits_from octets.now from result.count)
             (option_map (reported (state self.new check.new cells.new).octets) result.event)
             (state self.new check.new cells.new) }
@@ -55,9 +56,9 @@ impl LineWords {
         requires within { IsWithin self.old }
         requires some { from < end }
         requires enough { end ≤ 8 * length octets.now }
-        requires room { self.old.place + (end - from) ≤ 2 ^ 60 }
+        requires room { self.old.place + (end - from) ≤ most_places }
         ensures count { (1 ≤ result.count) × (result.count ≤ end - from) }
-        ensures advances { Advances C.folded C.COST (state self.old check.old cells.old)
+        ensures advances { Advances C.check (state self.old check.old cells.old)
             (bits_from octets.now from result.count)
             (option_map (reported (state self.new check.new cells.new).octets) result.event)
             (state self.new check.new cells.new) }
@@ -96,9 +97,9 @@ impl LineWords {
         requires within { IsWithin self.old }
         requires some { from < end }
         requires enough { end ≤ 8 * length octets.now }
-        requires room { self.old.place + (end - from) ≤ 2 ^ 60 }
+        requires room { self.old.place + (end - from) ≤ most_places }
         ensures count { (1 ≤ result.count) × (result.count ≤ end - from) }
-        ensures advances { Advances C.folded C.COST (state self.old check.old cells.old)
+        ensures advances { Advances C.check (state self.old check.old cells.old)
             (bits_from octets.now from result.count)
             (option_map (reported (state self.new check.new cells.new).octets) result.event)
             (state self.new check.new cells.new) }
@@ -126,9 +127,9 @@ impl LineWords {
         requires within { IsWithin self.old }
         requires some { from + 64 ≤ end }
         requires enough { end ≤ 8 * length octets.now }
-        requires room { self.old.place + (end - from) ≤ 2 ^ 60 }
+        requires room { self.old.place + (end - from) ≤ most_places }
         ensures count { (1 ≤ result.count) × (result.count ≤ end - from) }
-        ensures advances { Advances C.folded C.COST (state self.old check.old cells.old)
+        ensures advances { Advances C.check (state self.old check.old cells.old)
             (bits_from octets.now from result.count)
             (option_map (reported (state self.new check.new cells.new).octets) result.event)
             (state self.new check.new cells.new) }
@@ -163,9 +164,9 @@ impl LineWords {
         requires within { IsWithin self.old }
         requires some { from + 64 ≤ end }
         requires enough { end ≤ 8 * length octets.now }
-        requires room { self.old.place + (end - from) ≤ 2 ^ 60 }
+        requires room { self.old.place + (end - from) ≤ most_places }
         ensures count { (1 ≤ result.count) × (result.count ≤ end - from) }
-        ensures advances { Advances C.folded C.COST (state self.old check.old cells.old)
+        ensures advances { Advances C.check (state self.old check.old cells.old)
             (bits_from octets.now from result.count)
             (option_map (reported (state self.new check.new cells.new).octets) result.event)
             (state self.new check.new cells.new) }

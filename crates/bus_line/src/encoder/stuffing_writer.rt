@@ -28,10 +28,10 @@ impl StuffingWriter {
 
     /// Sends a bit as it is.
     fn send<S: BitSink>(&mut self, bit: bool, sink: &mut S) -> Result<(), SinkRefused>
-        requires refusals { S.refusals sink.old < 2 ^ 64 - 1 }
+        requires refusals { S.sink.refusals sink.old < 2 ^ 64 - 1 }
         requires room { self.old.written + 1 < 2 ^ 64 }
-        ensures sent { OnOk result (Sent S.taken S.refusals (bit ∷ []) self.old self.new sink.old sink.new) }
-        ensures cut { OnErr result (Cut S.taken S.refusals (bit ∷ []) self.old self.new sink.old sink.new) }
+        ensures sent { OnOk result (Sent S.sink (bit ∷ []) self.old self.new sink.old sink.new) }
+        ensures cut { OnErr result (Cut S.sink (bit ∷ []) self.old self.new sink.old sink.new) }
         ensures run { self.new.run ≡ self.old.run }
     {
         sink.put(bit)?;
@@ -45,10 +45,10 @@ impl StuffingWriter {
         bits: &[bool],
         sink: &mut S,
     ) -> Result<(), SinkRefused>
-        requires refusals { S.refusals sink.old < 2 ^ 64 - 1 }
+        requires refusals { S.sink.refusals sink.old < 2 ^ 64 - 1 }
         requires room { self.old.written + length bits.now < 2 ^ 64 }
-        ensures sent { OnOk result (Sent S.taken S.refusals bits.now self.old self.new sink.old sink.new) }
-        ensures cut { OnErr result (Cut S.taken S.refusals bits.now self.old self.new sink.old sink.new) }
+        ensures sent { OnOk result (Sent S.sink bits.now self.old self.new sink.old sink.new) }
+        ensures cut { OnErr result (Cut S.sink bits.now self.old self.new sink.old sink.new) }
         ensures run { self.new.run ≡ self.old.run }
     {
         for bit in bits {
@@ -60,12 +60,12 @@ impl StuffingWriter {
     /// Sends a bit of data, and then a 0 where it is the fifth 1 in a row (ISO/IEC 13239,
     /// transparency).
     fn send_data<S: BitSink>(&mut self, bit: bool, sink: &mut S) -> Result<(), SinkRefused>
-        requires refusals { S.refusals sink.old < 2 ^ 64 - 1 }
+        requires refusals { S.sink.refusals sink.old < 2 ^ 64 - 1 }
         requires room { self.old.written + 2 < 2 ^ 64 }
         ensures sent { OnOk result
-            (Sent S.taken S.refusals (raw_after self.old.run (bit ∷ [])) self.old self.new sink.old sink.new) }
+            (Sent S.sink (raw_after self.old.run (bit ∷ [])) self.old self.new sink.old sink.new) }
         ensures cut { OnErr result
-            (Cut S.taken S.refusals (raw_after self.old.run (bit ∷ [])) self.old self.new sink.old sink.new) }
+            (Cut S.sink (raw_after self.old.run (bit ∷ [])) self.old self.new sink.old sink.new) }
         ensures run { OnOk result (self.new.run ≡ run_after self.old.run (bit ∷ [])) }
     {
         self.send(bit, sink)?;
@@ -83,12 +83,12 @@ impl StuffingWriter {
 
     /// Sends the bits of an octet as data, the least significant first.
     fn send_octet<S: BitSink>(&mut self, octet: u8, sink: &mut S) -> Result<(), SinkRefused>
-        requires refusals { S.refusals sink.old < 2 ^ 64 - 1 }
+        requires refusals { S.sink.refusals sink.old < 2 ^ 64 - 1 }
         requires room { self.old.written + 16 < 2 ^ 64 }
         ensures sent { OnOk result
-            (Sent S.taken S.refusals (raw_after self.old.run (bits_of 8 octet)) self.old self.new sink.old sink.new) }
+            (Sent S.sink (raw_after self.old.run (bits_of 8 octet)) self.old self.new sink.old sink.new) }
         ensures cut { OnErr result
-            (Cut S.taken S.refusals (raw_after self.old.run (bits_of 8 octet)) self.old self.new sink.old sink.new) }
+            (Cut S.sink (raw_after self.old.run (bits_of 8 octet)) self.old self.new sink.old sink.new) }
         ensures run { OnOk result (self.new.run ≡ run_after self.old.run (bits_of 8 octet)) }
     {
         let bits = octet_bits(octet);
@@ -104,13 +104,13 @@ impl StuffingWriter {
         octets: &[u8],
         sink: &mut S,
     ) -> Result<(), SinkRefused>
-        requires refusals { S.refusals sink.old < 2 ^ 64 - 1 }
+        requires refusals { S.sink.refusals sink.old < 2 ^ 64 - 1 }
         requires room { self.old.written + 16 * length octets.now < 2 ^ 64 }
         ensures sent { OnOk result
-            (Sent S.taken S.refusals
+            (Sent S.sink
             (raw_after self.old.run (bits_of_octets octets.now)) self.old self.new sink.old sink.new) }
         ensures cut { OnErr result
-            (Cut S.taken S.refusals
+            (Cut S.sink
             (raw_after self.old.run (bits_of_octets octets.now)) self.old self.new sink.old sink.new) }
         ensures run { OnOk result (self.new.run ≡ run_after self.old.run (bits_of_octets octets.now)) }
     {

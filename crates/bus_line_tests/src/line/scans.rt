@@ -188,13 +188,13 @@ const SCANNED: [ScanRow; 9] = [
         first: 136,
         want: "",
     },
-    // an open piece, and behind the cut eight flags
+    // an open piece, and after the cut eight flags
     ScanRow {
         words: &[(FLAG, 1), ("0", 16), (FLAG, 8), ("0", 8)],
         first: 24,
         want: "8 24 damaged short",
     },
-    // the second flag ends 56 bits behind the first, or 104
+    // the second flag ends 56 bits after the first, or 104
     ScanRow {
         words: &[(FLAG, 1), ("0", 48), (FLAG, 1), ("0", 72), (FLAG, 1)],
         first: 144,

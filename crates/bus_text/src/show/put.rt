@@ -2,6 +2,7 @@
 
 ghost use Rattle.std.specs.Prelude.{◌≡◌, ◌≤◌, ◌++◌, length, take, codes, OnOk, IfOk, IfErr};
 ghost use Rattle.std.specs.Io.KnownBytes.{Appends};
+ghost use Rattle.bus_line.specs.Limits.{most_octets};
 ghost use Rattle.bus_text.specs.Pages.{Puts};
 ghost use Rattle.bus_text.specs.Show.{frame_text, shown_text};
 ghost use Rattle.bus_text.specs.HeadText.{head_text};
@@ -18,7 +19,7 @@ use std::io::Write;
 /// The first line: the octets, and whether their check is good.
 fn frame_line(octets: &[u8]) -> FrameLine
     requires at_least { 4 ≤ length octets.now }
-    requires at_most { length octets.now ≤ 258 }
+    requires at_most { length octets.now ≤ most_octets }
     ensures { result ≡ frame_text octets.now }
 {
     let mut line = FrameLine::new();
@@ -50,7 +51,7 @@ fn put_front<W: Write>(
     w: &mut W,
 ) -> Result<u128, ShortWrite>
     requires at_least { 4 ≤ length octets.now }
-    requires at_most { length octets.now ≤ 258 }
+    requires at_most { length octets.now ≤ most_octets }
     ensures put { Puts (W.contents w.old) (W.contents w.new)
         (frame_text octets.now ++ (head_text standing dictionary.now ++ codes "\n")) result }
     ensures few { IfOk result (λ sent. sent ≤ 1280) }
@@ -66,7 +67,7 @@ fn put_lines<W: Write>(
     w: &mut W,
 ) -> Result<u128, ShortWrite>
     requires at_least { 4 ≤ length octets.now }
-    requires at_most { length octets.now ≤ 258 }
+    requires at_most { length octets.now ≤ most_octets }
     ensures { Puts (W.contents w.old) (W.contents w.new) (shown_text octets.now dictionary.now) result }
 {
     let standing = Standing::read(octets, dictionary);
@@ -87,7 +88,7 @@ pub fn put_frame<W: Write>(
     w: &mut W,
 ) -> Result<(), ShortWrite>
     requires at_least { 4 ≤ length octets.now }
-    requires at_most { length octets.now ≤ 258 }
+    requires at_most { length octets.now ≤ most_octets }
     ensures whole { OnOk result (Appends (W.contents w.old) (W.contents w.new) (shown_text octets.now dictionary.now)) }
     ensures part { IfErr result
         (λ cut. Appends (W.contents w.old) (W.contents w.new) (take cut.sent (shown_text octets.now dictionary.now))) }

@@ -3,6 +3,7 @@ use Rattle.std.specs.Prelude.{◌≡◌, ℕ, ◌+◌, ◌≤◌, ◌^◌, Bool,
 use Rattle.std.specs.Prelude.{option_map}
 use Rattle.std.specs.List.{sum_by}
 use Rattle.std.specs.Option.{option_to_list}
+use Rattle.bus_fcs.specs.Check.{CheckView}
 use Rattle.bus_line.specs.Report.{Report}
 use Rattle.bus_line.specs.Due.{placed}
 use Rattle.bus_line.specs.Ledger.{octet_count}
@@ -17,9 +18,9 @@ use Rattle.bus_watch.specs.declared.finding.Finding.{Finding}
 use Rattle.bus_watch.specs.declared.line.Line.{Line}
 
 -- a decoder stands after some list of bits
-pub record Reached {C : Type 0} (folded : C → List ℕ → Type 0) (cost : ℕ) (d : LineState C) : Type 0 where
+pub record Reached {C : Type 0} (view : CheckView C) (d : LineState C) : Type 0 where
   pub bits : List Bool
-  pub after : After folded cost d bits
+  pub after : After view d bits
 
 -- what the last report was found to be, if the last bits decided it
 abbrev pub fresh : Bool → Finding → Option Finding
@@ -36,11 +37,11 @@ heard_option line o = map (heard_on line) (option_to_list o)
 
 -- these bits on a line lead a decoder and a journal on; the last of them decides what is told, and no other decides a
 -- report
-pub record Hears {C : Type 0} (folded : C → List ℕ → Type 0) (cost : ℕ) (line : Option Line) (old : LineState C)
+pub record Hears {C : Type 0} (view : CheckView C) (line : Option Line) (old : LineState C)
     (before : JournalState) (bits : List Bool) (told : Option SeenReport)
     (new : LineState C) (after : JournalState) : Type 0 where
   pub report : Option Report
-  pub advances : Advances folded cost old bits report new
+  pub advances : Advances view old bits report new
   pub keeps : (hs : List Heard) → Keeps before hs → Keeps after (hs ++ heard_option line report)
   pub seen : (hs : List Heard) → Keeps before hs
       → seen before.dictionary (hs ++ heard_option line report) ≡ seen before.dictionary hs ++ option_to_list told
@@ -48,13 +49,13 @@ pub record Hears {C : Type 0} (folded : C → List ℕ → Type 0) (cost : ℕ) 
   pub depth : after.depth ≡ before.depth
 
 -- these bits on a line lead a decoder and a journal on, and what is seen at all of them was told
-pub record HearsMany {C : Type 0} (folded : C → List ℕ → Type 0) (cost : ℕ) (line : Option Line) (old : LineState C)
+pub record HearsMany {C : Type 0} (view : CheckView C) (line : Option Line) (old : LineState C)
     (before : JournalState) (bits : List Bool) (new : LineState C) (after : JournalState)
     (is_told : List SeenReport → Type 0) : Type 0 where
   pub reports : List Report
   pub seen_now : List SeenReport
-  pub led : Led folded cost old bits new
-  pub grows : (b : List Bool) → After folded cost old b
+  pub led : Led view old bits new
+  pub grows : (b : List Bool) → After view old b
       → placed old.origin old.longest (b ++ bits) ≡ placed old.origin old.longest b ++ reports
   pub keeps : (hs : List Heard) → Keeps before hs → Keeps after (hs ++ map (heard_on line) reports)
   pub seen : (hs : List Heard) → Keeps before hs
@@ -66,10 +67,10 @@ pub record HearsMany {C : Type 0} (folded : C → List ℕ → Type 0) (cost : �
 
 -- a decoder stands after some list of bits, and a journal after what is heard on its line in these and after no more of
 -- another line than 2^60 bits may hold
-pub record Reaches {C : Type 0} (folded : C → List ℕ → Type 0) (cost : ℕ) (d : LineState C) (j : JournalState)
+pub record Reaches {C : Type 0} (view : CheckView C) (d : LineState C) (j : JournalState)
     : Type 0 where
   pub bits : List Bool
-  pub after : After folded cost d bits
+  pub after : After view d bits
   pub heard : List Heard
   pub keeps : Keeps j heard
   pub copied : copied_of heard ≤ sum_by octet_count (placed d.origin d.longest bits) + 2 ^ 60

@@ -1,5 +1,6 @@
 -- The fields of an analyser of two lines, as they are seen, and what always holds of them.
 use Rattle.std.specs.Prelude.{ℕ, ◌≤◌, Bool, List}
+use Rattle.bus_fcs.specs.Check.{CheckView}
 use Rattle.bus_watch.specs.Internal.JournalState.{journal_state}
 use Rattle.bus_watch.specs.Pairs.{PairState, IsAfterPairs}
 use Rattle.bus_watch.specs.declared.pair.analyser.PairAnalyser.TheInside.{Inside}
@@ -14,7 +15,7 @@ pair_state a = record {
 }
 
 -- it stands after some list of pairs
-pub record IsWithin {C : Type 0} (folded : C → List ℕ → Type 0) (cost : ℕ) (a : Inside C) : Type 0 where
+pub record IsWithin {C : Type 0} (view : CheckView C) (a : Inside C) : Type 0 where
   pub depth : a.journal.history.capacity ≤ 1024
   pub pairs : List (Bool × Bool)
-  pub reached : IsAfterPairs folded cost (pair_state a) pairs
+  pub reached : IsAfterPairs view (pair_state a) pairs

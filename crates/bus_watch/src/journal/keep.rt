@@ -2,6 +2,7 @@
 
 ghost use Rattle.std.specs.Prelude.{◌≡◌, ◌+◌, ◌≤◌, ◌<◌, ◌^◌, [], ◌∷◌, ◌++◌, length, map};
 ghost use Rattle.circular_buffer.specs.Buffer.{keep_last};
+ghost use Rattle.bus_line.specs.Limits.{most_octets};
 
 use crate::journal::Journal;
 use crate::line::{Line, kept_line};
@@ -13,7 +14,7 @@ impl Journal {
     /// Copies a frame into the history, in place of the oldest where that is full.
     #[inline(always)]
     pub(crate) fn keep(&mut self, line: Option<Line>, span: Span, octets: &[u8])
-        requires fits { length octets.now ≤ 258 }
+        requires fits { length octets.now ≤ most_octets }
         requires copied { self.old.spent.copied + length octets.now < 2 ^ 64 }
         requires handled { self.old.spent.handled + 1 < 2 ^ 64 }
         ensures history { map kept_pair self.new.history.items

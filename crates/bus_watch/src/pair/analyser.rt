@@ -5,7 +5,9 @@ ghost use Rattle.std.specs.Prelude.{IfOk, OnErr, IsTrue, length, take, ℕ, Some
 ghost use Rattle.std.specs.Option.{option_map};
 ghost use Rattle.std.specs.Borrow.{sem};
 ghost use Rattle.std.specs.Io.BufRead.{Rests};
+ghost use Rattle.bus_bits.specs.Limits.{most_places};
 ghost use Rattle.bus_bits.specs.Octet.{bits_of};
+ghost use Rattle.bus_bits.specs.Word.{IsWordOf};
 ghost use Rattle.bus_dictionary.specs.Dictionary.{longest_of};
 ghost use Rattle.bus_line.specs.After.{After};
 ghost use Rattle.bus_line.specs.Decides.{MayDecideAt};
@@ -62,7 +64,7 @@ impl<C: Check> Model for PairAnalyser<C> {
 
     ghost view = { pair_state };
 
-    ghost invariant = { IsWithin C.folded C.COST };
+    ghost invariant = { IsWithin C.check };
 }
 
 /// A line takes all these bits, of which only the last may decide a report, and the journal that report;
@@ -75,15 +77,13 @@ fn hear_all<C: Check>(
     bits: u64,
     count: u32,
 ) -> Option<Finding>
-    requires some { 1 ≤ count }
-    requires few { count ≤ 48 }
-    requires small { bits < 2 ^ count }
-    requires place { decoder.old.place + count ≤ 2 ^ 60 }
-    requires reached { Reached C.folded C.COST decoder.old }
-    requires calm { (b : List Bool) → After C.folded C.COST decoder.old b → (i : ℕ) → i + 1 < count →
+    requires word { IsWordOf count bits }
+    requires place { decoder.old.place + count ≤ most_places }
+    requires reached { Reached C.check decoder.old }
+    requires calm { (b : List Bool) → After C.check decoder.old b → (i : ℕ) → i + 1 < count →
         MayDecideAt b (bits_of count bits) i → ⊥ }
     requires room { HasRoom (journal_state journal.old) }
-    ensures { Hears C.folded C.COST (Some line) decoder.old (journal_state journal.old) (bits_of count bits)
+    ensures { Hears C.check (Some line) decoder.old (journal_state journal.old) (bits_of count bits)
         (option_map (found_on (Some line) decoder.new.octets) result) decoder.new (journal_state journal.new) }
 {
     match hear(decoder, journal, Some(line), bits, count) {
@@ -120,8 +120,8 @@ impl<C: Check> PairAnalyser<C> {
         origin: u64,
     ) -> Result<Self, NewFault>
         ensures depth { (result ≡ Err NewFault.DepthRange) ↔ ((depth < 1) ⊎ (1024 < depth)) }
-        ensures origin { (result ≡ Err NewFault.Origin) ↔ ((1 ≤ depth) × (depth ≤ 1024) × (2 ^ 60 < origin)) }
-        ensures is_after { IfOk result (λ a. IsAfterPairs C.folded C.COST a []) }
+        ensures origin { (result ≡ Err NewFault.Origin) ↔ ((1 ≤ depth) × (depth ≤ 1024) × (most_places < origin)) }
+        ensures is_after { IfOk result (λ a. IsAfterPairs C.check a []) }
         ensures given { IfOk result
             (λ a. (a.journal.dictionary ≡ dictionary) × (a.journal.depth ≡ depth) × (a.first.origin ≡ origin)
             × (a.first.place ≡ origin)) }
@@ -160,16 +160,15 @@ impl<C: Check> PairAnalyser<C> {
     /// Refuses as [`PlaceLimit`], with nothing changed, where one of the `count` pairs would have the
     /// place 2^60 or a later one.
     pub fn take(&mut self, first: u64, second: u64, count: u32) -> Result<u32, PlaceLimit>
-        requires some { 1 ≤ count }
-        requires few { count ≤ 48 }
-        requires small { (first < 2 ^ count) × (second < 2 ^ count) }
-        ensures limit { IsErr result ↔ (2 ^ 60 < self.old.first.place + count) }
+        requires first { IsWordOf count first }
+        requires second { IsWordOf count second }
+        ensures limit { IsErr result ↔ (most_places < self.old.first.place + count) }
         ensures within { IfOk result (λ n. (1 ≤ n) × (n ≤ count)) }
-        ensures stops { IfOk result (λ n. (ps : List (Bool × Bool)) → IsAfterPairs C.folded C.COST self.old ps →
+        ensures stops { IfOk result (λ n. (ps : List (Bool × Bool)) → IsAfterPairs C.check self.old ps →
             TakesPairsTo (firsts ps) (seconds ps) (bits_of count first) (bits_of count second) n) }
         ensures sees { IfOk result (λ n.
-            SeesPairs C.folded C.COST self.old (pairs_of n first second) (heard_pair self.new) self.new) }
-        ensures before { IfOk result (λ n. (ps : List (Bool × Bool)) → IsAfterPairs C.folded C.COST self.old ps →
+            SeesPairs C.check self.old (pairs_of n first second) (heard_pair self.new) self.new) }
+        ensures before { IfOk result (λ n. (ps : List (Bool × Bool)) → IsAfterPairs C.check self.old ps →
             seen_after_pairs self.old (ps ++ pairs_of (n - 1) first second) ≡ seen_after_pairs self.old ps) }
         ensures unchanged { OnErr result (self.new ≡ self.old) }
     {
@@ -251,13 +250,14 @@ impl<C: Check> PairAnalyser<C> {
     ///
     /// Refuses as [`PlaceLimit`], with nothing changed, where the pair's place would be 2^60.
     pub fn push(&mut self, first: bool, second: bool) -> Result<PairSeen<'_>, PlaceLimit>
-        ensures limit { IsErr result ↔ (2 ^ 60 ≤ self.old.first.place) }
-        ensures answer { IfOk result (λ o. (ps : List (Bool × Bool)) → IsAfterPairs C.folded C.COST self.old ps →
+        ensures limit { IsErr result ↔ (most_places ≤ self.old.first.place) }
+        ensures answer { IfOk result (λ o. (ps : List (Bool × Bool)) → IsAfterPairs C.check self.old ps →
             shown_pair o ≡ all_seen_at self.old.journal.dictionary
             (lines self.old (ps ++ (first, second) ∷ [])) self.old.first.place) }
         ensures fits { IfOk result (λ o. IsKeepable o.first × IsKeepable o.second) }
+        // What becomes of the analyser: `new`, once the octets that are lent have been given back.
         ensures* rests { sem 𝓛 (Rests (the_row C.row C.Check) self.entry (λ new.
-            IfOk result (λ o. SeesPairs C.folded C.COST self.old ((first, second) ∷ []) (shown_pair o) new)
+            IfOk result (λ o. SeesPairs C.check self.old ((first, second) ∷ []) (shown_pair o) new)
             × OnErr result (new ≡ self.old))) }
     {
         pairs_grow();
@@ -268,7 +268,7 @@ impl<C: Check> PairAnalyser<C> {
     /// A frame of the history, of which the oldest has the number 0.
     pub fn history(&self, i: usize) -> Option<&PairKept>
         ensures lent { kept_pair_option result ≡ slice_get self.now.journal.history i }
-        ensures value { (ps : List (Bool × Bool)) → IsAfterPairs C.folded C.COST self.now ps →
+        ensures value { (ps : List (Bool × Bool)) → IsAfterPairs C.check self.now ps →
             kept_pair_option result ≡ slice_get (history self.now.journal.depth (lines self.now ps)) i }
     {
         self.journal.kept(i)
@@ -276,7 +276,7 @@ impl<C: Check> PairAnalyser<C> {
 
     /// How many frames the history has: at most its depth, which is at most 1024.
     pub fn history_len(&self) -> usize
-        ensures value { (ps : List (Bool × Bool)) → IsAfterPairs C.folded C.COST self.now ps →
+        ensures value { (ps : List (Bool × Bool)) → IsAfterPairs C.check self.now ps →
             result ≡ length (history self.now.journal.depth (lines self.now ps)) }
         ensures depth { result ≤ self.now.journal.depth }
         ensures bound { self.now.journal.depth ≤ 1024 }
@@ -286,7 +286,7 @@ impl<C: Check> PairAnalyser<C> {
 
     /// How many verdicts named a station.
     pub fn tally(&self, station: u8) -> Counts
-        ensures { (ps : List (Bool × Bool)) → IsAfterPairs C.folded C.COST self.now ps →
+        ensures { (ps : List (Bool × Bool)) → IsAfterPairs C.check self.now ps →
             result ≡ tally self.now.journal.dictionary (lines self.now ps) station }
     {
         self.journal.counts(station)
@@ -294,11 +294,11 @@ impl<C: Check> PairAnalyser<C> {
 
     /// What has begun and is not decided yet.
     pub fn ending(&self) -> PairEnding
-        ensures first { (ps : List (Bool × Bool)) → IsAfterPairs C.folded C.COST self.now ps →
+        ensures first { (ps : List (Bool × Bool)) → IsAfterPairs C.check self.now ps →
             result.first ≡ begun_span self.now.first.origin (firsts ps) }
-        ensures second { (ps : List (Bool × Bool)) → IsAfterPairs C.folded C.COST self.now ps →
+        ensures second { (ps : List (Bool × Bool)) → IsAfterPairs C.check self.now ps →
             result.second ≡ begun_span self.now.first.origin (seconds ps) }
-        ensures pending { (ps : List (Bool × Bool)) → IsAfterPairs C.folded C.COST self.now ps →
+        ensures pending { (ps : List (Bool × Bool)) → IsAfterPairs C.check self.now ps →
             result.pending ≡ pending self.now.journal.dictionary (lines self.now ps) }
     {
         PairEnding {
@@ -319,7 +319,7 @@ impl<C: Check> PairAnalyser<C> {
     /// frame and two, and 0 where no piece is open.
     pub fn buffered(&self, line: Line) -> usize
         ensures bound { result ≤ longest_of self.now.journal.dictionary + 2 }
-        ensures stored { (ps : List (Bool × Bool)) → IsAfterPairs C.folded C.COST self.now ps →
+        ensures stored { (ps : List (Bool × Bool)) → IsAfterPairs C.check self.now ps →
             result ≡ stored_open (longest_of self.now.journal.dictionary) (bits_on line ps) }
     {
         match line {
@@ -331,13 +331,13 @@ impl<C: Check> PairAnalyser<C> {
     /// The steps so far: those of both lines' ledgers, added up, at most seventeen for each bit of either
     /// line; in fact at most four, and at most three with a check that costs one.
     pub fn spent(&self) -> Spent
-        ensures ledger { (ps : List (Bool × Bool)) → IsAfterPairs C.folded C.COST self.now ps →
-            IsPairLedger C.COST (longest_of self.now.journal.dictionary) ps result }
-        ensures seventeen { (ps : List (Bool × Bool)) → IsAfterPairs C.folded C.COST self.now ps →
+        ensures ledger { (ps : List (Bool × Bool)) → IsAfterPairs C.check self.now ps →
+            IsPairLedger C.check.cost (longest_of self.now.journal.dictionary) ps result }
+        ensures seventeen { (ps : List (Bool × Bool)) → IsAfterPairs C.check self.now ps →
             total result ≤ 17 * (2 * length ps) }
-        ensures four { (ps : List (Bool × Bool)) → IsAfterPairs C.folded C.COST self.now ps →
+        ensures four { (ps : List (Bool × Bool)) → IsAfterPairs C.check self.now ps →
             total result ≤ 4 * (2 * length ps) }
-        ensures three { C.COST ≡ 1 → (ps : List (Bool × Bool)) → IsAfterPairs C.folded C.COST self.now ps →
+        ensures three { C.check.cost ≡ 1 → (ps : List (Bool × Bool)) → IsAfterPairs C.check self.now ps →
             (result.folded ≡ result.stored) × (total result ≤ 3 * (2 * length ps)) }
     {
         steps_are_bounded();
@@ -359,7 +359,7 @@ impl<C: Check> PairAnalyser<C> {
 
     /// Whether `count` pairs more have places below 2^60.
     pub fn has_room(&self, count: u32) -> bool
-        ensures { IsTrue result ↔ (self.now.first.place + count ≤ 2 ^ 60) }
+        ensures { IsTrue result ↔ (self.now.first.place + count ≤ most_places) }
     {
         self.place() + u64::from(count) <= PLACES
     }
@@ -367,7 +367,7 @@ impl<C: Check> PairAnalyser<C> {
     /// The place of the next pair: the origin and the pairs so far.
     pub(crate) fn place(&self) -> u64
         ensures value { result ≡ self.now.first.place }
-        ensures fits { result ≤ 2 ^ 60 }
+        ensures fits { result ≤ most_places }
     {
         self.first.place()
     }

@@ -2,6 +2,7 @@
 
 ghost use Rattle.std.specs.Prelude.{◌≡◌, ◌+◌, ◌-◌, ◌≤◌, ◌<◌, ◌^◌, ◌↔◌, ℕ, IsErrOf, IfErr, OnOk, OnErr, length, take};
 ghost use Rattle.std.specs.Option.{option_to_list};
+ghost use Rattle.bus_bits.specs.Limits.{most_places};
 ghost use Rattle.bus_bits.specs.Octet.{number};
 ghost use Rattle.bus_watch.specs.Fed.{FedBy, RefusedBy, RefusedByAt, ForSink, Offered};
 ghost use Rattle.bus_watch.specs.Heard.{firsts, seconds};
@@ -42,12 +43,12 @@ fn pair_words(pairs: &[(bool, bool)]) -> PairWords
 
 /// Offers a sink a report of a line, if there is one.
 fn offer<S: PairSink>(line: Line, seen: Option<Seen<'_>>, sink: &mut S) -> Result<(), SinkRefused>
-    requires count { S.refusals sink.old < 2 ^ 64 - 1 }
+    requires count { S.sink.refusals sink.old < 2 ^ 64 - 1 }
     requires fits { IsKeepable seen }
     ensures ok { OnOk result
-        (Offered S.taken S.room S.refusals (option_to_list (shown_option_on line seen.entry)) 0 sink.old sink.new) }
+        (Offered S.sink (option_to_list (shown_option_on line seen.entry)) 0 sink.old sink.new) }
     ensures err { OnErr result
-        (Offered S.taken S.room S.refusals (option_to_list (shown_option_on line seen.entry)) 1 sink.old sink.new) }
+        (Offered S.sink (option_to_list (shown_option_on line seen.entry)) 1 sink.old sink.new) }
 {
     match seen {
         None => Ok(()),
@@ -57,12 +58,12 @@ fn offer<S: PairSink>(line: Line, seen: Option<Seen<'_>>, sink: &mut S) -> Resul
 
 /// Offers a sink what is seen at a pair, the second line's report also where the first was refused.
 fn offer_both<S: PairSink>(seen: PairSeen<'_>, sink: &mut S) -> Result<(), SinkRefused>
-    requires count { S.refusals sink.old < 2 ^ 64 - 2 }
+    requires count { S.sink.refusals sink.old < 2 ^ 64 - 2 }
     requires first_fits { IsKeepable seen.first }
     requires second_fits { IsKeepable seen.second }
-    ensures ok { OnOk result (Offered S.taken S.room S.refusals (shown_pair seen.entry) 0 sink.old sink.new) }
+    ensures ok { OnOk result (Offered S.sink (shown_pair seen.entry) 0 sink.old sink.new) }
     ensures err { OnErr result ((n : ℕ) × (0 < n) × (n ≤ 2)
-        × Offered S.taken S.room S.refusals (shown_pair seen.entry) n sink.old sink.new) }
+        × Offered S.sink (shown_pair seen.entry) n sink.old sink.new) }
 {
     match offer(Line::First, seen.first, sink) {
         Ok(()) => offer(Line::Second, seen.second, sink),
@@ -87,15 +88,15 @@ impl<C: Check> PairAnalyser<C> {
         pairs: &[(bool, bool)],
         sink: &mut S,
     ) -> Result<(), FeedFault>
-        requires { S.refusals sink.old < 2 ^ 64 - 2 }
-        ensures limit { IsErrOf result FeedFault.PlaceLimit ↔ (2 ^ 60 < self.old.first.place + length pairs.now) }
+        requires { S.sink.refusals sink.old < 2 ^ 64 - 2 }
+        ensures limit { IsErrOf result FeedFault.PlaceLimit ↔ (most_places < self.old.first.place + length pairs.now) }
         ensures unchanged { IsErrOf result FeedFault.PlaceLimit → (self.new ≡ self.old) × (sink.new ≡ sink.old) }
         ensures fed { OnOk result
-            (FedBy (two_lines C.folded C.COST) S.taken self.old pairs.now self.new sink.old sink.new) }
-        ensures none_refused { OnOk result (SinkTook S.taken S.room S.refusals 0 sink.old sink.new) }
+            (FedBy (two_lines C.check) S.sink self.old pairs.now self.new sink.old sink.new) }
+        ensures none_refused { OnOk result (SinkTook S.sink 0 sink.old sink.new) }
         ensures refused { IfErr result (λ fault. ForSink fault (λ consumed.
-            (n : ℕ) × (n ≤ 2) × SinkTook S.taken S.room S.refusals n sink.old sink.new
-            × RefusedByAt (two_lines C.folded C.COST) S.taken n self.old pairs.now consumed self.new
+            (n : ℕ) × (n ≤ 2) × SinkTook S.sink n sink.old sink.new
+            × RefusedByAt (two_lines C.check) S.sink n self.old pairs.now consumed self.new
             sink.old sink.new)) }
     {
         if pairs.len() as u64 > PLACES - self.place() {
@@ -116,15 +117,15 @@ impl<C: Check> PairAnalyser<C> {
     /// report, and hands the sink what is seen at the last of them.
     fn feed_some<S: PairSink>(&mut self, pairs: &[(bool, bool)], sink: &mut S) -> FedSome
         requires some { 0 < length pairs.now }
-        requires place { self.old.first.place + length pairs.now ≤ 2 ^ 60 }
-        requires refusals { S.refusals sink.old < 2 ^ 64 - 2 }
+        requires place { self.old.first.place + length pairs.now ≤ most_places }
+        requires refusals { S.sink.refusals sink.old < 2 ^ 64 - 2 }
         ensures within { (1 ≤ result.count) × (result.count ≤ length pairs.now) }
-        ensures fed { OnOk result.told (FedBy (two_lines C.folded C.COST) S.taken
+        ensures fed { OnOk result.told (FedBy (two_lines C.check) S.sink
             self.old (take result.count pairs.now) self.new sink.old sink.new) }
-        ensures none_refused { OnOk result.told (SinkTook S.taken S.room S.refusals 0 sink.old sink.new) }
+        ensures none_refused { OnOk result.told (SinkTook S.sink 0 sink.old sink.new) }
         ensures refused { OnErr result.told ((n : ℕ) × (n ≤ 2)
-            × SinkTook S.taken S.room S.refusals n sink.old sink.new
-            × RefusedBy (two_lines C.folded C.COST) S.taken n
+            × SinkTook S.sink n sink.old sink.new
+            × RefusedBy (two_lines C.check) S.sink n
             self.old (take result.count pairs.now) self.new sink.old sink.new) }
     {
         let most = min(pairs.len(), 48);

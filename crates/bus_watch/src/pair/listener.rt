@@ -1,6 +1,7 @@
 //! Who hears of the reports of two lines.
 
 ghost use Rattle.std.specs.Prelude.{ℕ, ◌+◌, ◌≤◌, List, [], ◌∷◌, ◌++◌, length, Some};
+ghost use Rattle.bus_line.specs.Limits.{most_octets};
 ghost use Rattle.bus_dictionary.specs.Entry.{FrameType};
 ghost use Rattle.bus_watch.specs.Seen.{SeenReport};
 ghost use Rattle.bus_watch.specs.Shown.{found_on};
@@ -28,7 +29,7 @@ pub trait PairListener<X> {
         out: &mut X,
     )
         requires room { has_room self.old 1 }
-        requires fits { length octets.now ≤ 258 }
+        requires fits { length octets.now ≤ most_octets }
         ensures heard { hears dictionary.now self.old out.old
             (found_on (Some line) octets.now finding.now ∷ []) self.new out.new }
         ensures left { (more : ℕ) → has_room self.old (1 + more) → has_room self.new more };

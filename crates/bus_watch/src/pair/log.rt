@@ -3,6 +3,7 @@
 ghost use Rattle.std.specs.Prelude.{◌≡◌, ◌+◌, ◌-◌, ◌<◌, ◌≤◌, ◌^◌, ◌↔◌, [], ◌∷◌, ◌++◌, length, IfOk, IsErr, OnOk, OnErr};
 ghost use Rattle.std.specs.Prelude.{Some};
 ghost use Rattle.bus_line.specs.Ledger.{octet_count};
+ghost use Rattle.bus_line.specs.Limits.{most_octets};
 ghost use Rattle.bus_watch.specs.LoggedReport.{logged_pairs};
 ghost use Rattle.bus_watch.specs.Shown.{shown_on};
 
@@ -70,13 +71,9 @@ impl PairLog {
 }
 
 impl PairSink for PairLog {
-    ghost use Rattle.std.specs.Prelude.{Some};
+    ghost use Rattle.bus_watch.specs.LogState.{log_sink};
 
-    ghost taken = { λ log. Some log.reports };
-
-    ghost room = { λ log. Some log.room };
-
-    ghost refusals = { λ log. log.refusals };
+    ghost sink = { log_sink };
 
     fn refused(&self) -> u64 {
         self.refusals
@@ -85,7 +82,7 @@ impl PairSink for PairLog {
     /// Takes a report of a line, or refuses it, exactly where the log is full.
     fn take(&mut self, line: Line, seen: &Seen<'_>) -> Result<(), SinkRefused>
         requires count { self.old.refusals < 2 ^ 64 - 1 }
-        requires fits { octet_count (shown_on (Some line) seen.now).report ≤ 258 }
+        requires fits { octet_count (shown_on (Some line) seen.now).report ≤ most_octets }
         ensures exact { IsErr result ↔ (length self.old.reports ≡ self.old.room) }
         ensures taken { OnOk result (self.new.reports ≡ self.old.reports ++ shown_on (Some line) seen.now ∷ []) }
         ensures counted { OnOk result (self.new.refusals ≡ self.old.refusals) }

@@ -1,11 +1,13 @@
 //! Whole runs over two lines: all pairs of bits from first to last.
 
 ghost use Rattle.std.specs.Prelude.{◌≡◌, ◌+◌, ◌-◌, ◌<◌, ◌≤◌, ◌^◌, ℕ, List, IfOk, IfErr, OnOk, length};
+ghost use Rattle.bus_bits.specs.Limits.{most_places};
 ghost use Rattle.bus_watch.specs.Headline.{Fails, CanBeMade, UnlessStopped};
 ghost use Rattle.bus_watch.specs.PairHeadline.{PairHeadline, StoppedAtPair};
 ghost use Rattle.bus_watch.specs.Pairs.{IsAfterPairs};
 ghost use Rattle.bus_watch.specs.Seen.{SeenReport};
-ghost use Rattle.bus_watch.specs.Sink.{told, SinkTook};
+ghost use Rattle.bus_line.specs.Told.{told};
+ghost use Rattle.bus_watch.specs.Sink.{SinkTook};
 
 use crate::fault::RunFault;
 use crate::pair::analyser::PairAnalyser;
@@ -44,16 +46,16 @@ pub fn run_pairs<C: Check, S: PairSink>(
     pairs: &[(bool, bool)],
     sink: &mut S,
 ) -> Result<PairRun<C>, RunFault>
-    requires { S.refusals sink.old < 2 ^ 64 - 2 }
+    requires { S.sink.refusals sink.old < 2 ^ 64 - 2 }
     ensures headline { IfOk result (λ run.
-        (reports : List SeenReport) × (S.taken sink.new ≡ told (S.taken sink.old) reports)
-        × PairHeadline C.COST dictionary depth origin pairs.now reports run.analyser.journal.history run.usage) }
-    ensures is_after { IfOk result (λ run. IsAfterPairs C.folded C.COST run.analyser pairs.now) }
-    ensures within_limits { OnOk result (CanBeMade depth origin × (origin + length pairs.now ≤ 2 ^ 60)) }
-    ensures none_refused { OnOk result (SinkTook S.taken S.room S.refusals 0 sink.old sink.new) }
+        (reports : List SeenReport) × (S.sink.taken sink.new ≡ told (S.sink.taken sink.old) reports)
+        × PairHeadline C.check.cost dictionary depth origin pairs.now reports run.analyser.journal.history run.usage) }
+    ensures is_after { IfOk result (λ run. IsAfterPairs C.check run.analyser pairs.now) }
+    ensures within_limits { OnOk result (CanBeMade depth origin × (origin + length pairs.now ≤ most_places)) }
+    ensures none_refused { OnOk result (SinkTook S.sink 0 sink.old sink.new) }
     ensures fails { IfErr result (Fails depth origin (length pairs.now) (λ consumed.
-        (n : ℕ) × (n ≤ 2) × SinkTook S.taken S.room S.refusals n sink.old sink.new
-        × StoppedAtPair S.taken n dictionary origin pairs.now sink.old sink.new consumed)) }
+        (n : ℕ) × (n ≤ 2) × SinkTook S.sink n sink.old sink.new
+        × StoppedAtPair S.sink n dictionary origin pairs.now sink.old sink.new consumed)) }
     ensures untouched { IfErr result (UnlessStopped (sink.new ≡ sink.old)) }
 {
     let mut analyser = match PairAnalyser::new(alloc, dictionary, depth, origin) {

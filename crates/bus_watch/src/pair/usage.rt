@@ -33,7 +33,7 @@ impl<C: Check> PairAnalyser<C> {
     /// what they have to and no more than their bounds; and the steps are those of both lines' ledgers, at
     /// most seventeen for each bit of either line.
     pub fn usage(&self) -> PairUsage
-        ensures headline { WholePairRun C.folded C.COST self.now result }
+        ensures headline { WholePairRun C.check self.now result }
         ensures first_bound { result.first_buffered ≤ longest_of self.now.journal.dictionary + 2 }
         ensures second_bound { result.second_buffered ≤ longest_of self.now.journal.dictionary + 2 }
         ensures history_bound { result.history_len ≤ self.now.journal.depth }

@@ -31,9 +31,7 @@ impl Counter {
 impl ReportSink for Counter {
     ghost use Rattle.std.specs.Prelude.{None};
 
-    ghost taken = { λ s. None };
-
-    ghost refusals = { λ s. s.refusals };
+    ghost sink = { record { taken = λ s. None; room = λ s. None; refusals = λ s. s.refusals } };
 
     fn refused(&self) -> u64 {
         self.refusals

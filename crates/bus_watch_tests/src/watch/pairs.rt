@@ -190,9 +190,7 @@ fn push_seen_on(text: &mut String, line: Line, seen: &Seen<'_>) -> Result<(), Al
 impl PairSink for PairCollector {
     ghost use Rattle.std.specs.Prelude.{None};
 
-    ghost taken = { λ s. None };
-
-    ghost refusals = { λ s. s.refusals };
+    ghost sink = { record { taken = λ s. None; room = λ s. None; refusals = λ s. s.refusals } };
 
     fn refused(&self) -> u64 {
         self.refusals

@@ -36,9 +36,7 @@ impl Collector {
 impl ReportSink for Collector {
     ghost use Rattle.std.specs.Prelude.{None};
 
-    ghost taken = { λ s. None };
-
-    ghost refusals = { λ s. s.refusals };
+    ghost sink = { record { taken = λ s. None; room = λ s. None; refusals = λ s. s.refusals } };
 
     fn refused(&self) -> u64 {
         self.refusals

@@ -9,7 +9,7 @@ use Rattle.bus_capture.proofs.one_line.take_bits.Goals as goal
 
 pub loop-at-init : goal.loop-at-init
 loop-at-init g c =
-    let tap = one_tap g.C.Check.folded g.C.Check.COST in
+    let tap = one_tap g.C.Check.check in
     record {
       within = omega arith;
       sound = c.requires.sound;
@@ -22,7 +22,7 @@ pub returns-in_err-at-clause-taken : goal.returns-in_err-at-clause-taken
 returns-in_err-at-clause-taken g c =
     let failed = err_from_is_err_and c.from_residual.result c.from_residual.ensures.1 in
     rw (failed.1, failed.2) (λ start b followed.
-    let tap = one_tap g.C.Check.folded g.C.Check.COST in
+    let tap = one_tap g.C.Check.check in
     let os = c.args.octets.now in
     let at = c.loop-at.at in
     let all : at + (c.args.end - at) ≡ c.args.end = omega (arith, c.loop-at.invariant.within) in
@@ -33,7 +33,7 @@ returns-in_err-at-clause-taken g c =
 
 pub loop-at-preserved : goal.loop-at-preserved
 loop-at-preserved g c =
-    let tap = one_tap g.C.Check.folded g.C.Check.COST in
+    let tap = one_tap g.C.Check.check in
     let os = c.args.octets.now in
     let at = c.loop-at.at in
     let n = c.in_ok-at.field-0 in
@@ -51,5 +51,5 @@ pub returns-clause-taken : goal.returns-clause-taken
 returns-clause-taken g c = λ start b followed.
     let os = c.args.octets.now in
     let end : c.loop-at.at ≡ c.args.end = omega (arith, c.loop-at.invariant.within, c.loop-at-test.false) in
-    subst (λ (n : ℕ). Watches (one_tap g.C.Check.folded g.C.Check.COST) start (g.W.Write.contents c.loop-at.w)
+    subst (λ (n : ℕ). Watches (one_tap g.C.Check.check) start (g.W.Write.contents c.loop-at.w)
     c.loop-at.run (b ++ bits_from os 0 n)) end (c.loop-at.invariant.followed start b followed)

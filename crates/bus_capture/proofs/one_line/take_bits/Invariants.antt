@@ -8,11 +8,11 @@ use Rattle.bus_capture.proofs.one_line.take_bits.Given as goal
 abbrev pub invariant-loop-at : goal.invariant-loop-at
 invariant-loop-at g l = record {
   within : l.at ≤ l.fn.end;
-  sound : IsSound (one_tap g.C.Check.folded g.C.Check.COST) l.run;
-  same : IsSame (one_tap g.C.Check.folded g.C.Check.COST) l.initial.run l.run;
+  sound : IsSound (one_tap g.C.Check.check) l.run;
+  same : IsSame (one_tap g.C.Check.check) l.initial.run l.run;
   followed : (start : Option (List ℕ)) (b : List Bool) →
-      Watches (one_tap g.C.Check.folded g.C.Check.COST) start (g.W.Write.contents l.initial.w) l.initial.run b
-      → Watches (one_tap g.C.Check.folded g.C.Check.COST) start (g.W.Write.contents l.w) l.run
+      Watches (one_tap g.C.Check.check) start (g.W.Write.contents l.initial.w) l.initial.run b
+      → Watches (one_tap g.C.Check.check) start (g.W.Write.contents l.w) l.run
       (b ++ bits_from l.octets 0 l.at);
 }
 

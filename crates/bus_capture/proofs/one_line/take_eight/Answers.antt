@@ -13,7 +13,7 @@ pub returns-in_err-take_bits-clause-taken : goal.returns-in_err-take_bits-clause
 returns-in_err-take_bits-clause-taken g c =
     let failed = err_from_is_err_and c.from_residual.result c.from_residual.ensures.1 in
     rw (failed.1, failed.2) (λ start xs followed.
-    let tap = one_tap g.C.Check.folded g.C.Check.COST in
+    let tap = one_tap g.C.Check.check in
     let eight = c.in-Some.eight in
     let b = (tap.form.text xs).bits in
     let given = c.in-Some.ensures.given eight refl xs followed.clean in
@@ -33,7 +33,7 @@ returns-in_err-take_bits-clause-taken g c =
 
 pub returns-clause-taken : goal.returns-clause-taken
 returns-clause-taken g c = λ start xs followed.
-    let tap = one_tap g.C.Check.folded g.C.Check.COST in
+    let tap = one_tap g.C.Check.check in
     let eight = c.in-Some.eight in
     let b = (tap.form.text xs).bits in
     let given = c.in-Some.ensures.given eight refl xs followed.clean in

@@ -17,7 +17,7 @@ use Rattle.bus_capture.proofs.one_line.take_some.Goals as goal
 pub returns-in-Err-clause-taken : goal.returns-in-Err-clause-taken
 returns-in-Err-clause-taken g c =
     λ start b followed.
-    let tap = one_tap g.C.Check.folded g.C.Check.COST in
+    let tap = one_tap g.C.Check.check in
     let os = c.args.octets.now in
     let left = c.args.end - c.args.at in
     halted tap c.laws.ensures start _ c.args.run.now _ b (bits_from os c.args.at left)
@@ -29,7 +29,7 @@ pub returns-in_err-tell-clause-taken : goal.returns-in_err-tell-clause-taken
 returns-in_err-tell-clause-taken g c =
     let failed = err_from_is_err_and c.from_residual.result c.from_residual.ensures.1 in
     rw (failed.1, failed.2) (λ start b followed.
-    let tap = one_tap g.C.Check.folded g.C.Check.COST in
+    let tap = one_tap g.C.Check.check in
     let os = c.args.octets.now in
     let n = c.in-Ok.taken in
     let x = bits_from os c.args.at n in
@@ -45,7 +45,7 @@ returns-in_err-tell-clause-taken g c =
 
 pub returns-in_err-tell-clause-sound : goal.returns-in_err-tell-clause-sound
 returns-in_err-tell-clause-sound g c =
-    let tap = one_tap g.C.Check.folded g.C.Check.COST in
+    let tap = one_tap g.C.Check.check in
     let n = c.in-Ok.taken in
     let place = c.args.run.now.analyser.decoder.place in
     let next = ap (λ (a : AnalyserState g.row.C.Denot). a.decoder.place) c.in_err-tell.ensures.analyser
@@ -56,7 +56,7 @@ returns-in_err-tell-clause-sound g c =
 pub returns-in_ok-tell-clause-taken : goal.returns-in_ok-tell-clause-taken
 returns-in_ok-tell-clause-taken g c =
     λ start b followed.
-    let tap = one_tap g.C.Check.folded g.C.Check.COST in
+    let tap = one_tap g.C.Check.check in
     let x = bits_from c.args.octets.now c.args.at c.in-Ok.taken in
     let told = tap.heard c.scan.new.self in
     let here = c.in-Ok.ensures.sees in
@@ -71,7 +71,7 @@ returns-in_ok-tell-clause-taken g c =
 
 pub returns-in_ok-tell-clause-sound : goal.returns-in_ok-tell-clause-sound
 returns-in_ok-tell-clause-sound g c =
-    let tap = one_tap g.C.Check.folded g.C.Check.COST in
+    let tap = one_tap g.C.Check.check in
     let n = c.in-Ok.taken in
     let place = c.args.run.now.analyser.decoder.place in
     let next = ap (λ (a : AnalyserState g.row.C.Denot). a.decoder.place) c.in_ok-tell.ensures.analyser
@@ -82,14 +82,14 @@ returns-in_ok-tell-clause-sound g c =
 pub returns-else-is_decided-clause-taken : goal.returns-else-is_decided-clause-taken
 returns-else-is_decided-clause-taken g c =
     λ start b followed.
-    let tap = one_tap g.C.Check.folded g.C.Check.COST in
+    let tap = one_tap g.C.Check.check in
     let x = bits_from c.args.octets.now c.args.at c.in-Ok.taken in
     unheard tap start _ c.args.run.now _ b x (tap.heard c.scan.new.self) refl
     (c.is_decided.ensures.0 c.if-is_decided.false) followed c.in-Ok.ensures.sees
 
 pub returns-else-is_decided-clause-sound : goal.returns-else-is_decided-clause-sound
 returns-else-is_decided-clause-sound g c =
-    let tap = one_tap g.C.Check.folded g.C.Check.COST in
+    let tap = one_tap g.C.Check.check in
     let n = c.in-Ok.taken in
     let place = c.args.run.now.analyser.decoder.place in
     let next = c.in-Ok.ensures.sees.place ∙ ap (λ (k : ℕ). place + k) (length-from c.args.octets.now c.args.at n) in

@@ -12,7 +12,7 @@ use Rattle.bus_capture.proofs.two_lines.take_pairs.Goals as goal
 
 pub returns-in-Some-clause-taken : goal.returns-in-Some-clause-taken
 returns-in-Some-clause-taken g c = λ start b followed.
-    let tap = pair_tap g.C.Check.folded g.C.Check.COST in
+    let tap = pair_tap g.C.Check.check in
     let n = c.scan-taken.result in
     let os = c.args.first.now in
     let ys = c.args.second.now in
@@ -26,7 +26,7 @@ returns-in-Some-clause-taken g c = λ start b followed.
 
 pub returns-in-Some-clause-sound : goal.returns-in-Some-clause-sound
 returns-in-Some-clause-sound g c =
-    let tap = pair_tap g.C.Check.folded g.C.Check.COST in
+    let tap = pair_tap g.C.Check.check in
     let n = c.scan-taken.result in
     let os = c.args.first.now in
     let ys = c.args.second.now in
@@ -36,7 +36,7 @@ returns-in-Some-clause-sound g c =
 
 pub returns-then-taken-count-clause-sound : goal.returns-then-taken-count-clause-sound
 returns-then-taken-count-clause-sound g c =
-    let tap = pair_tap g.C.Check.folded g.C.Check.COST in
+    let tap = pair_tap g.C.Check.check in
     let n = c.scan-taken.result in
     let os = c.args.first.now in
     let ys = c.args.second.now in
@@ -46,7 +46,7 @@ returns-then-taken-count-clause-sound g c =
 
 pub returns-then-taken-count-clause-taken : goal.returns-then-taken-count-clause-taken
 returns-then-taken-count-clause-taken g c = λ start b before.
-    let tap = pair_tap g.C.Check.folded g.C.Check.COST in
+    let tap = pair_tap g.C.Check.check in
     let n = c.scan-taken.result in
     let os = c.args.first.now in
     let ys = c.args.second.now in
@@ -65,7 +65,7 @@ returns-then-taken-count-clause-taken g c = λ start b before.
 
 pub returns-clause-taken : goal.returns-clause-taken
 returns-clause-taken g c = λ start b followed.
-    let tap = pair_tap g.C.Check.folded g.C.Check.COST in
+    let tap = pair_tap g.C.Check.check in
     let n = c.scan-taken.result in
     let os = c.args.first.now in
     let ys = c.args.second.now in
@@ -80,7 +80,7 @@ returns-clause-taken g c = λ start b followed.
 
 pub returns-clause-sound : goal.returns-clause-sound
 returns-clause-sound g c =
-    let tap = pair_tap g.C.Check.folded g.C.Check.COST in
+    let tap = pair_tap g.C.Check.check in
     let n = c.scan-taken.result in
     let os = c.args.first.now in
     let ys = c.args.second.now in

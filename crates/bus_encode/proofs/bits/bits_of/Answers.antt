@@ -9,25 +9,26 @@ use Rattle.bus_encode.proofs.bits.bits_of.Goals.{in-Flag, in-Idle, in-Frame}
 pub unreachable-requires : goal.unreachable-requires
 unreachable-requires c = elim c.match-order.branch [
   | in-Flag w ↦
-      let r = w.flag-outcome in
-      never_fails Flag c.args.encoder.now r.new.self c.new-sink.result r.new.sink r.result c.in-Err.field-0
+      let outcome = w.flag-outcome in
+      never_fails Flag c.args.encoder.now outcome.new.self c.new-sink.result outcome.new.sink outcome.result
+      c.in-Err.field-0
       (sym w.outcome-is ∙ c.in-Err.is) c.requires.going flag_fits
-      c.new-sink.ensures.0 c.new-sink.ensures.1 (λ bad. bad) r.ensures
+      c.new-sink.ensures.0 c.new-sink.ensures.1 (λ bad. bad) outcome.ensures
   | in-Idle w ↦
-      let r = w.idle-outcome in
-      never_fails Idle c.args.encoder.now r.new.self c.new-sink.result r.new.sink r.result c.in-Err.field-0
+      let outcome = w.idle-outcome in
+      never_fails Idle c.args.encoder.now outcome.new.self c.new-sink.result outcome.new.sink outcome.result
+      c.in-Err.field-0
       (sym w.outcome-is ∙ c.in-Err.is) c.requires.going idle_fits
-      c.new-sink.ensures.0 c.new-sink.ensures.1 (λ bad. bad) r.ensures
+      c.new-sink.ensures.0 c.new-sink.ensures.1 (λ bad. bad) outcome.ensures
   | in-Frame w ↦
-      let r = w.frame-outcome in
+      let outcome = w.frame-outcome in
       let octets = w.deref.result.now in
-      let sized : IsSized (Frame octets) =
-      subst (λ (l : List ℕ). IsSized (Frame l)) (sym w.deref.ensures.0)
-      (subst (λ (o : Order). IsSized (call_of o)) w.in-Frame.is c.requires.sized) in
-      never_fails (Frame octets) c.args.encoder.now r.new.self c.new-sink.result r.new.sink r.result c.in-Err.field-0
-      (sym w.outcome-is ∙ c.in-Err.is) c.requires.going (r.ensures.bound sized.1)
+      let sized : IsSized (Frame octets) = rw w.deref.ensures.0 (rw w.in-Frame.is at c.requires.sized) in
+      never_fails (Frame octets) c.args.encoder.now outcome.new.self c.new-sink.result outcome.new.sink outcome.result
+      c.in-Err.field-0
+      (sym w.outcome-is ∙ c.in-Err.is) c.requires.going (outcome.ensures.bound sized.1)
       c.new-sink.ensures.0 c.new-sink.ensures.1
       (λ bad. elim bad
       [ inl few ↦ absurd (omega (arith, few, sized.0)) | inr many ↦ absurd (omega (arith, many, sized.1)) ])
-      r.ensures.calls
+      outcome.ensures.calls
 ]

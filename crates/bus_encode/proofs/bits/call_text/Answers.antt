@@ -3,5 +3,5 @@ use Rattle.bus_encode.proofs.bits.call_text.Goals as goal
 
 pub returns-clause-going : goal.returns-clause-going
 returns-clause-going c =
-    let s = some_calls c.args.encoder.now c.requires.going in
-    (c.bits_of-bits.ensures.after s.0 s.1).going
+    let stands = some_calls c.args.encoder.now c.requires.going in
+    (c.bits_of-bits.ensures.after stands.0 stands.1).going

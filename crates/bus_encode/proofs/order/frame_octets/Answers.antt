@@ -7,17 +7,17 @@ use Rattle.bus_encode.proofs.order.frame_octets.Goals.{then-count-lt2-via-else-c
 pub returns-then-not-is_hex-clause-octets : goal.returns-then-not-is_hex-clause-octets
 returns-then-not-is_hex-clause-octets c =
     no_frame c.args.number c.args.digits.now (λ some even all.
-    let t : c.is_hex.result ≡ true = c.is_hex.ensures.1 (some, even, all) in
-    cc t)
+    let hex : c.is_hex.result ≡ true = c.is_hex.ensures.1 (some, even, all) in
+    cc hex)
 
 pub returns-then-count-lt2-clause-octets : goal.returns-then-count-lt2-clause-octets
 returns-then-count-lt2-clause-octets c =
-    let s = c.args.digits.now in
+    let digits = c.args.digits.now in
     let is = c.is_hex.ensures.0 c.if-not-is_hex.false in
     elim c.then-count-lt2.branch [
-      | then-count-lt2-via-then-count-lt2 w ↦ too_short c.args.number s is.0 is.1 is.2
+      | then-count-lt2-via-then-count-lt2 w ↦ too_short c.args.number digits is.0 is.1 is.2
           (omega (arith, w.if-count-lt2.true))
-      | then-count-lt2-via-else-count-lt2+then-count-gt-MOST w ↦ too_long c.args.number s is.1 is.2
+      | then-count-lt2-via-else-count-lt2+then-count-gt-MOST w ↦ too_long c.args.number digits is.1 is.2
           (omega (arith, w.if-count-gt-MOST.true))
     ]
 

@@ -50,7 +50,7 @@ loop-bit-preserved g c =
     ∙ ap (λ (n : ℕ). c.loop-bit.count + n) (sym counted) in
     record {
       after =
-          subst (After g.C.Check.folded g.C.Check.COST c.take.new.self) (sym next)
+          subst (After g.C.Check.check c.take.new.self) (sym next)
           (tells.leads.after (take i bits) inv.after);
       origin = tells.leads.origin ∙ inv.origin;
       longest = tells.leads.longest ∙ inv.longest;

@@ -6,7 +6,7 @@ use Rattle.bus_examples.proofs.frames.count_frames.Given as goal
 
 abbrev pub invariant-loop-bit : goal.invariant-loop-bit
 invariant-loop-bit g l = record {
-  after : After g.C.Check.folded g.C.Check.COST l.decoder (take l.bit-index l.bits);
+  after : After g.C.Check.check l.decoder (take l.bit-index l.bits);
   origin : l.decoder.origin ≡ 0;
   longest : l.decoder.longest ≡ 256;
   count : l.count ≡ frame_count (placed 0 256 (take l.bit-index l.bits));

@@ -1,6 +1,6 @@
 use Rattle.std.proofs.Common.{◌≡◌, ◌<◌, ◌≤◌, ◌^◌, ◌+◌, ◌↔◌, length, Err, Some, [], refl, ap, ◌∙◌, inl, inr, arith}
 use Rattle.std.proofs.lemmas.Bool.{cases_lt}
-use Rattle.bus_watch.specs.LogState.{LogState}
+use Rattle.bus_watch.specs.LogState.{LogState, log_sink}
 use Rattle.bus_watch.specs.Headline.{all_seen}
 use Rattle.bus_watch.specs.declared.fault.FeedFault.TheVariants.{PlaceLimit}
 use Rattle.bus_watch.proofs.HeadlineLemmas.{fed-seen, stopped}
@@ -17,7 +17,7 @@ seen_all c =
     let start : c.in-Ok.log.reports ≡ [] = ap (λ (log : LogState). log.reports) c.in-Ok.ensures in
     let all : fed.seen ≡ all_seen c.args.dictionary 0 c.args.bits.now =
     rw (← given.0, ← given.2)
-    (fed-seen _ _ (λ log. Some log.reports) c.in_ok-analyser.analyser c.feed.new.self c.args.bits.now c.in-Ok.log
+    (fed-seen _ log_sink c.in_ok-analyser.analyser c.feed.new.self c.args.bits.now c.in-Ok.log
     c.feed.new.sink c.in_ok-analyser.ensures.is_after fed) in
     same fed.took ∙ rw start all
 
@@ -33,11 +33,11 @@ returns-in_err-feed-clause-fails c =
     let room : c.in-Ok.log.room ≡ c.args.room = ap (λ (log : LogState). log.room) c.in-Ok.ensures in
     let fails = feed-fails c.feed.result fault 16 0 (length c.args.bits.now) _ c.in_err-feed.was can limit
     (for-sink fault
-    (λ consumed at sink. rw (← given.0, ← given.2)
-    (log-lacks (λ log. Some log.reports) c.seen_grows.ensures.reports c.reports_grow.ensures.grow _ _ c.args.room
+    (λ consumed at counts. rw (← given.0, ← given.2)
+    (log-lacks log_sink c.seen_grows.ensures.reports c.reports_grow.ensures.grow _ _ c.args.room
     c.args.bits.now c.in-Ok.log c.feed.new.sink consumed c.feed.new.sink.reports start refl
-    (sink.full (omega arith) ∙ (same sink.same_room ∙ room))
-    (stopped _ _ (λ log. Some log.reports) c.in_ok-analyser.analyser c.feed.new.self c.args.bits.now c.in-Ok.log
+    (counts.full (omega arith) ∙ (same counts.same_room ∙ room))
+    (stopped _ log_sink c.in_ok-analyser.analyser c.feed.new.self c.args.bits.now c.in-Ok.log
     c.feed.new.sink consumed c.in_ok-analyser.ensures.is_after at)))
     c.in_err-feed.ensures.refused c.in_err-feed.ensures.one_refused) in
     if_err c.from_residual-in_err-feed.result (Feed fault) _ fails c.from_residual-in_err-feed.ensures.1

@@ -9,5 +9,5 @@ returns g c =
     let os = c.args.octets.now in
     let whole : take c.loop-octet.octet-index os ≡ os =
     take_all c.loop-octet.octet-index os (omega (arith, c.loop-octet-test.false)) in
-    let folded = subst (λ (xs : List ℕ). g.C.Check.folded c.loop-octet.check xs) whole c.loop-octet.invariant in
+    let folded = subst (λ (xs : List ℕ). g.C.Check.check.folded c.loop-octet.check xs) whole c.loop-octet.invariant in
     same_test c.is_good.result (bits_of_octets os) (c.is_good.ensures os folded c.requires)

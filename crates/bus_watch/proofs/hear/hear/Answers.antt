@@ -35,8 +35,7 @@ take-requires-in-Some-clause-room g c =
 
 pub returns-clause-hears : goal.returns-clause-hears
 returns-clause-hears g c =
-    let folded = g.C.Check.folded in
-    let cost = g.C.Check.COST in
+    let view = g.C.Check.check in
     let taken = c.in_ok-taken in
     let bits = bits_of c.in_ok-taken.taken.count c.args.bits in
     let old = c.args.decoder.now in
@@ -49,17 +48,17 @@ returns-clause-hears g c =
           let event = w.in-Some.event in
           let after = journal_state w.take-in-Some.new.self in
           let last = w.take-in-Some.new.self.last in
-          let advances = subst (λ o. Advances folded cost old bits (option_map (reported octets) o) new)
+          let advances = subst (λ o. Advances view old bits (option_map (reported octets) o) new)
           w.in-Some.is taken.ensures.advances in
           let enters = subst
           (λ (os : List ℕ). Enters before (heard_on line (reported os event)) (found_on line os last) after)
           w.octets.ensures.value w.take-in-Some.ensures.enters in
           rw (w.journal-is, c.is_some.ensures, w.in-Some.is)
-          (hears-some folded cost line old new before after bits (reported octets event) (told_on line octets true last)
+          (hears-some view line old new before after bits (reported octets event) (told_on line octets true last)
           advances enters.keeps (λ hs kept. ap Some (enters.says hs kept)) enters.dictionary enters.depth)
       | in_default w ↦
-          let advances = subst (λ o. Advances folded cost old bits (option_map (reported octets) o) new)
+          let advances = subst (λ o. Advances view old bits (option_map (reported octets) o) new)
           w.in_default.is taken.ensures.advances in
           rw (w.journal-is, c.is_some.ensures, w.in_default.is)
-          (hears-none folded cost line old new before before bits advances refl)
+          (hears-none view line old new before before bits advances refl)
     ]

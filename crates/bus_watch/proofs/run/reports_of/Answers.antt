@@ -1,5 +1,5 @@
 use Rattle.std.proofs.Common.{◌≡◌, ◌<◌, ◌^◌, ◌+◌, ◌↔◌, ℕ, length, Err, Some, [], refl, ap, ◌∙◌, arith}
-use Rattle.bus_watch.specs.LogState.{LogState}
+use Rattle.bus_watch.specs.LogState.{LogState, log_sink}
 use Rattle.bus_watch.specs.Sink.{SinkTook}
 use Rattle.bus_watch.specs.declared.fault.FeedFault.TheVariants.{PlaceLimit}
 use Rattle.bus_watch.proofs.HeadlineLemmas.{stopped}
@@ -20,11 +20,10 @@ returns-clause-fails c =
     let room : c.in-Ok-new.log.room ≡ c.args.room = ap (λ (log : LogState). log.room) c.in-Ok-new.ensures in
     feed-fails c.feed.result c.in-Err-feed.fault 1 c.args.origin (length c.args.bits.now) _ c.in-Err-feed.is can limit
     (for-sink c.in-Err-feed.fault
-    (λ consumed at (sink : SinkTook (λ (log : LogState). Some log.reports) (λ log. Some log.room) (λ log. log.refusals)
-    1 c.in-Ok-new.log c.feed.new.sink). rw (← given.0, ← given.2)
-    (log-lacks (λ log. Some log.reports) c.seen_grows.ensures.reports c.reports_grow.ensures.grow _ _ c.args.room
+    (λ consumed at (counts : SinkTook log_sink 1 c.in-Ok-new.log c.feed.new.sink). rw (← given.0, ← given.2)
+    (log-lacks log_sink c.seen_grows.ensures.reports c.reports_grow.ensures.grow _ _ c.args.room
     c.args.bits.now c.in-Ok-new.log c.feed.new.sink consumed c.feed.new.sink.reports start refl
-    (sink.full (omega arith) ∙ (same-number _ _ sink.same_room ∙ room))
-    (stopped _ _ (λ log. Some log.reports) c.in-Ok.analyser c.feed.new.self c.args.bits.now c.in-Ok-new.log
+    (counts.full (omega arith) ∙ (same-number _ _ counts.same_room ∙ room))
+    (stopped _ log_sink c.in-Ok.analyser c.feed.new.self c.args.bits.now c.in-Ok-new.log
     c.feed.new.sink consumed c.in-Ok.ensures.is_after at)))
     c.in-Err-feed.ensures.refused c.in-Err-feed.ensures.one_refused)

@@ -9,7 +9,7 @@ pub returns-in-Ok-feed_all-clause-headline : goal.returns-in-Ok-feed_all-clause-
 returns-in-Ok-feed_all-clause-headline g c =
     let given = c.in-Ok.ensures.given in
     let fed = c.in-Ok-feed_all.ensures.fed in
-    let headline = fed-headline g.C.Check.folded g.C.Check.COST g.S.ReportSink.taken c.in-Ok.analyser
+    let headline = fed-headline g.C.Check.check g.S.ReportSink.sink c.in-Ok.analyser
     c.feed_all.new.self _ _ _ c.usage-usage.result c.in-Ok.ensures.is_after fed c.usage-usage.ensures.headline in
     (fed.seen, fed.took, rw (← given.0, ← given.1, ← given.2) headline)
 
@@ -29,7 +29,7 @@ returns-in-Err-feed_all-clause-fails g c =
     (λ consumed one at. (
       one,
       rw (← given.0, ← given.2)
-          (stopped g.C.Check.folded g.C.Check.COST g.S.ReportSink.taken c.in-Ok.analyser c.feed_all.new.self _ _ _
+          (stopped g.C.Check.check g.S.ReportSink.sink c.in-Ok.analyser c.feed_all.new.self _ _ _
           consumed
           c.in-Ok.ensures.is_after at),
     ))

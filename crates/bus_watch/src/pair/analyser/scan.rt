@@ -1,9 +1,11 @@
 //! Many pairs of bits at once, from octets of both lines.
 
-ghost use Rattle.std.specs.Prelude.{◌≡◌, ◌+◌, ◌-◌, ◌*◌, ◌≤◌, ◌<◌, ◌^◌, ℕ, List, Option, None, Some, length, min, zip};
+ghost use Rattle.std.specs.Prelude.{◌≡◌, ◌+◌, ◌-◌, ◌*◌, ◌≤◌, ◌<◌, ℕ, List, Option, None, Some, length, min, zip};
 ghost use Rattle.std.specs.Prelude.{option_copied};
 ghost use Rattle.std.specs.Option.{option_to_list, option_map};
 ghost use Rattle.bus_bits.specs.Bits.{bits_from};
+ghost use Rattle.bus_bits.specs.Limits.{most_places};
+ghost use Rattle.bus_line.specs.Limits.{most_octets};
 ghost use Rattle.bus_watch.specs.Internal.Hears.{HearsMany, Reaches};
 ghost use Rattle.bus_watch.specs.Internal.JournalState.{journal_state};
 ghost use Rattle.bus_watch.specs.Shown.{found_on};
@@ -34,7 +36,7 @@ fn tell<X, L: PairListener<X>>(
     out: &mut X,
 )
     requires room { L.has_room listener.old 1 }
-    requires fits { length octets.now ≤ 258 }
+    requires fits { length octets.now ≤ most_octets }
     ensures heard { L.hears dictionary.now listener.old out.old
         (option_to_list (option_map (found_on (Some line) octets.now) (option_copied finding.entry)))
         listener.new out.new }
@@ -59,14 +61,14 @@ fn follow<C: Check, X, L: PairListener<X>>(
 )
     requires some { from ≤ past }
     requires enough { past ≤ 8 * length octets.now }
-    requires places { decoder.old.place + (past - from) ≤ 2 ^ 60 }
-    requires reaches { Reaches C.folded C.COST decoder.old (journal_state journal.old) }
+    requires places { decoder.old.place + (past - from) ≤ most_places }
+    requires reaches { Reaches C.check decoder.old (journal_state journal.old) }
     requires room { L.has_room listener.old (past - from) }
-    ensures hears { HearsMany C.folded C.COST (Some Line.First) decoder.old (journal_state journal.old)
+    ensures hears { HearsMany C.check (Some Line.First) decoder.old (journal_state journal.old)
         (bits_from octets.now from (past - from)) decoder.new (journal_state journal.new)
         (λ ss. L.hears journal.old.dictionary listener.old out.old ss listener.new out.new) }
     ensures left { (more : ℕ) → L.has_room listener.old (past - from + more) → L.has_room listener.new more }
-    ensures reaches { Reaches C.folded C.COST decoder.new (journal_state journal.new) }
+    ensures reaches { Reaches C.check decoder.new (journal_state journal.new) }
 {
     settled_places();
     let mut at = from;
@@ -105,8 +107,8 @@ impl<C: Check> PairAnalyser<C> {
     ) -> usize
         requires enough { (count ≤ 8 * length first.now) × (count ≤ 8 * length second.now) }
         requires room { L.has_room listener.old (2 * count) }
-        ensures taken { result ≡ min count (2 ^ 60 - self.old.first.place) }
-        ensures told { LeadsTold (two_lines C.folded C.COST) self.old
+        ensures taken { result ≡ min count (most_places - self.old.first.place) }
+        ensures told { LeadsTold (two_lines C.check) self.old
             (zip (bits_from first.now 0 result) (bits_from second.now 0 result)) self.new
             (λ ss. L.hears self.old.journal.dictionary listener.old out.old ss listener.new out.new) }
         ensures none { (self.new.found_first ≡ None) × (self.new.found_second ≡ None) }
@@ -135,10 +137,10 @@ impl<C: Check> PairAnalyser<C> {
     ) -> usize
         requires some { from < end }
         requires enough { (end ≤ 8 * length first.now) × (end ≤ 8 * length second.now) }
-        requires places { self.old.first.place + (end - from) ≤ 2 ^ 60 }
+        requires places { self.old.first.place + (end - from) ≤ most_places }
         requires room { L.has_room listener.old (2 * (end - from)) }
         ensures within { (from < result) × (result ≤ end) }
-        ensures told { LeadsTold (two_lines C.folded C.COST) self.old
+        ensures told { LeadsTold (two_lines C.check) self.old
             (zip (bits_from first.now from (result - from)) (bits_from second.now from (result - from))) self.new
             (λ ss. L.hears self.old.journal.dictionary listener.old out.old ss listener.new out.new) }
         ensures left { L.has_room listener.new (2 * (end - result)) }

@@ -112,9 +112,7 @@ struct Comparing<'a> {
 impl PairSink for Comparing<'_> {
     ghost use Rattle.std.specs.Prelude.{None};
 
-    ghost taken = { λ s. None };
-
-    ghost refusals = { λ s. 0 };
+    ghost sink = { record { taken = λ s. None; room = λ s. None; refusals = λ s. 0 } };
 
     fn refused(&self) -> u64 {
         0

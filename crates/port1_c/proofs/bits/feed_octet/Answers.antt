@@ -1,5 +1,5 @@
 use Rattle.std.proofs.Common.{◌≡◌, ℕ, None, subst, sym, arith}
-use Rattle.bus_fcs.specs.Folded.{HasFolded}
+use Rattle.bus_fcs.specs.Folded.{by_tables}
 use Rattle.bus_line.specs.After as line
 use Rattle.bus_bits.specs.Octet.{bits_of}
 use Rattle.port1_c.specs.Line.{Tells, held}
@@ -7,13 +7,13 @@ use Rattle.port1_c.specs.declared.line.Port1Line.{Port1Line}
 use Rattle.port1_c.proofs.TellLemmas.{advances-octet, tells-first, tells-none}
 use Rattle.port1_c.proofs.bits.feed_octet.Goals as goal
 
-none-taken : (c : goal.After-feed) → line.Tells HasFolded 1 (held c.args.line.now) (bits_of c.args.at.now c.args.octet)
+none-taken : (c : goal.After-feed) → line.Tells by_tables (held c.args.line.now) (bits_of c.args.at.now c.args.octet)
     None (held c.take_short.new.self)
 none-taken c =
     let old = held c.args.line.now in
-    subst (λ (l : Port1Line). line.Tells HasFolded 1 old (bits_of c.args.at.now c.args.octet) None (held l))
+    subst (λ (l : Port1Line). line.Tells by_tables old (bits_of c.args.at.now c.args.octet) None (held l))
     (sym c.in_default.ensures.kept)
-    (subst (λ (n : ℕ). line.Tells HasFolded 1 old (bits_of n c.args.octet) None old) (sym c.requires.start)
+    (subst (λ (n : ℕ). line.Tells by_tables old (bits_of n c.args.octet) None old) (sym c.requires.start)
     (tells-first c.args.octet old))
 
 pub returns-in_default-clause-advances : goal.returns-in_default-clause-advances
@@ -23,7 +23,7 @@ returns-in_default-clause-advances c = λ sound.
     fed.new.report fed.ensures.bound.0 (fed.ensures.advances sound)
 
 some-taken : (c : goal.After-feed-2) →
-    line.Tells HasFolded 1 (held c.args.line.now) (bits_of c.in-Ok.told.count c.args.octet) None
+    line.Tells by_tables (held c.args.line.now) (bits_of c.in-Ok.told.count c.args.octet) None
     (held c.take_short.new.self)
 some-taken c =
     let old = held c.args.line.now in

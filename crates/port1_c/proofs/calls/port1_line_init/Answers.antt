@@ -1,5 +1,5 @@
 use Rattle.std.proofs.Common.{◌-◌, [], replicate, refl, sym, subst}
-use Rattle.bus_fcs.specs.Folded.{HasFolded}
+use Rattle.bus_fcs.specs.Folded.{by_tables}
 use Rattle.bus_line.specs.Words.{fresh_words, state}
 use Rattle.bus_line.specs.declared.line_words.LineWords.{LineWords}
 use Rattle.bus_line.proofs.StepLemmas.{fresh-tracks}
@@ -11,5 +11,5 @@ returns-in-Ok-clause-stands c = λ _.
     let octets = replicate 272 0 in
     let origin = c.args.origin in
     subst (λ (w : LineWords). LineAfter (record { words = w; octets = octets }) []) (sym c.in-Ok.ensures.value)
-    (fresh-tracks HasFolded 1 (origin - origin)
+    (fresh-tracks by_tables (origin - origin)
     (state (fresh_words c.args.longest origin) (record { state = 0 }) octets) refl refl refl refl)

@@ -12,7 +12,7 @@ pub returns-in_err-take_bits-clause-taken : goal.returns-in_err-take_bits-clause
 returns-in_err-take_bits-clause-taken g c =
     let failed = err_from_is_err_and c.from_residual.result c.from_residual.ensures.1 in
     rw (failed.1, failed.2) (λ start xs followed.
-    let tap = one_tap g.C.Check.folded g.C.Check.COST in
+    let tap = one_tap g.C.Check.check in
     let count = c.whole-count.result in
     let whole = take count c.args.octets.now in
     let b = (tap.form.packed xs).bits in
@@ -31,7 +31,7 @@ returns-in_err-take_bits-clause-taken g c =
 
 pub returns-clause-taken : goal.returns-clause-taken
 returns-clause-taken g c = λ start xs followed.
-    let tap = one_tap g.C.Check.folded g.C.Check.COST in
+    let tap = one_tap g.C.Check.check in
     let whole = take c.whole-count.result c.args.octets.now in
     let b = (tap.form.packed xs).bits in
     let read = octets-read packed_capture packed_body head_fault PackedAfter

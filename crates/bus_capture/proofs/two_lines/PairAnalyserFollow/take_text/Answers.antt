@@ -10,7 +10,7 @@ pub returns-in_err-take_pairs-clause-taken : goal.returns-in_err-take_pairs-clau
 returns-in_err-take_pairs-clause-taken g c =
     let failed = err_from_is_err_and c.from_residual.result c.from_residual.ensures.1 in
     rw (failed.1, failed.2) (λ start xs followed.
-    let tap = pair_tap g.C.Check.folded g.C.Check.COST in
+    let tap = pair_tap g.C.Check.check in
     let next = c.part-next.result in
     let b = (tap.form.text xs).bits in
     let given = c.part-next.ensures.given xs followed.clean in
@@ -28,7 +28,7 @@ returns-in_err-take_pairs-clause-taken g c =
 
 pub returns-clause-taken : goal.returns-clause-taken
 returns-clause-taken g c = λ start xs followed.
-    let tap = pair_tap g.C.Check.folded g.C.Check.COST in
+    let tap = pair_tap g.C.Check.check in
     let next = c.part-next.result in
     let b = (tap.form.text xs).bits in
     let given = c.part-next.ensures.given xs followed.clean in

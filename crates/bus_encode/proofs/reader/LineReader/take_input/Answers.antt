@@ -35,11 +35,11 @@ returns-in-Err g c =
 
 pub returns-in_err-take_all : goal.returns-in_err-take_all
 returns-in_err-take_all g c =
-    let p = err_from_is_err_and c.from_residual.result c.from_residual.ensures.1 in
+    let raised = err_from_is_err_and c.from_residual.result c.from_residual.ensures.1 in
     let before = c.loop-turn.invariant.taken in
     let start = g.W.Write.contents c.args.w.now in
     let xs = before.0 ++ take c.in-Ok.count c.read.new.buf in
-    rw (p.1, p.2) (
+    rw (raised.1, raised.2) (
       xs,
       consumes_both _ _ _ before.0 _ before.1 c.in-Ok.ensures.bytes.0,
       halts_finishes c.args.reads (g.R.Read.remaining c.read.new.self) start (g.W.Write.contents c.take_all.new.w)

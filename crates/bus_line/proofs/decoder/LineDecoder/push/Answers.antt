@@ -12,16 +12,15 @@ use Rattle.bus_line.proofs.decoder.LineDecoder.push.Goals as goal
 
 pub returns : goal.returns
 returns g c =
-    let folded = g.C.Check.folded in
-    let cost = g.C.Check.COST in
+    let view = g.C.Check.check in
     let old = c.args.self.now in
     let taken = c.advance-taken in
     let new = line_state (record { words = taken.new.self; check = taken.new.check; cells = taken.new.cells }) in
     let report = option_map (reported new.octets) taken.result.event in
     let one : bits_of taken.result.count c.from.result ≡ c.args.bit ∷ [] =
     one_bit c.from.result taken.result.count c.args.bit c.from.ensures taken.ensures.some taken.ensures.count in
-    let told : Tells folded cost old (c.args.bit ∷ []) report new = rw (← c.self.view_is)
-    (subst (λ (bits : List Bool). Tells folded cost (line_state c.self.inside) bits report new)
+    let told : Tells view old (c.args.bit ∷ []) report new = rw (← c.self.view_is)
+    (subst (λ (bits : List Bool). Tells view (line_state c.self.inside) bits report new)
     one taken.ensures.advances.tells) in
     let here = ap (λ (s : LineState g.row.C.Denot). s.place) c.self.view_is in
     let below : old.place < 2 ^ 60 = omega (arith, here, c.if-self-ge-PLACES.false) in (
@@ -41,7 +40,7 @@ returns g c =
       ),
       record {
         limit = ((λ e. absurd (cc)), (λ far. absurd (omega (arith, below, far))));
-        answer = λ b stands. c.lent.ensures.shows ∙ bit-due _ _ told b stands;
+        answer = λ b stands. c.lent.ensures.shows ∙ bit-due _ told b stands;
         more = λ b stands.
             told.says b stands
             ∙ ap (λ o. placed old.origin old.longest b ++ option_to_list o) (sym c.lent.ensures.shows);

@@ -15,7 +15,7 @@ returns-clause-answer g c = rw (← c.self.view_is) (
     let taken = c.advance in
     let count = length-bits taken.result.count c.args.bits in
     let some : 1 ≤ length (bits_of taken.result.count c.args.bits) = omega (arith, count, taken.ensures.some) in
-    rw count at (last-due _ _ some taken.ensures.advances))
+    rw count at (last-due _ some taken.ensures.advances))
 
 pub returns-clause-advances : goal.returns-clause-advances
 returns-clause-advances g c = rw (← c.self.view_is) c.advance.ensures.advances

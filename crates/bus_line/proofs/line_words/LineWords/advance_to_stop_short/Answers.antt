@@ -11,8 +11,7 @@ use Rattle.bus_line.proofs.line_words.LineWords.advance_to_stop_short.Goals as g
 
 pub returns-then-calm-count-clause-advances : goal.returns-then-calm-count-clause-advances
 returns-then-calm-count-clause-advances g c =
-    let folded = g.C.Check.folded in
-    let cost = g.C.Check.COST in
+    let view = g.C.Check.check in
     let old = state c.args.self.now c.args.check.now c.args.cells.now in
     let shifted = state c.shift.new.self c.args.check.now c.args.cells.now in
     let settled = c.settle_short in
@@ -24,23 +23,22 @@ returns-then-calm-count-clause-advances g c =
     let origin = settled.ensures.origin ∙ ap (λ (w : LineWords). w.origin) value in
     let moved-on = ap (λ (w : LineWords). w.place) value in
     let place : new.place ≡ old.place + n = omega (arith, settled.ensures.place, moved-on, c.from.ensures) in
-    advances-behind folded cost n x old new _ longest origin place (λ b stands.
+    advances-behind view n x old new _ longest origin place (λ b stands.
     let word = word-joined old n x b stands.has_taken (omega (arith, c.requires.few)) c.requires.small in
     let calm = is_calm _ n c.calm_bits-calm.result x b word c.if-calm-count.true c.calm_bits-calm.ensures.calm in
     let taken = c.from-then-calm-count.result in
     let within : taken ≤ length (bits_of n x) = omega (arith, c.from-then-calm-count.ensures, length-bits n x) in
     let within-shifted : c.from.result ≤ length (bits_of n x) = omega (arith, c.from.ensures, length-bits n x) in
-    let lags = subst (λ (j : ℕ). LagsBy folded cost shifted b (take j (bits_of n x)))
+    let lags = subst (λ (j : ℕ). LagsBy view shifted b (take j (bits_of n x)))
     (c.from.ensures ∙ sym c.from-then-calm-count.ensures)
-    (shift-lags _ _ c.args.self.now c.shift.new.self c.args.check.now c.args.cells.now b (bits_of n x) _ _
+    (shift-lags _ c.args.self.now c.shift.new.self c.args.check.now c.args.cells.now b (bits_of n x) _ _
     value stands word within-shifted) in
-    behind-calm folded cost _ n x taken old new b calm c.from-then-calm-count.ensures
+    behind-calm view _ n x taken old new b calm c.from-then-calm-count.ensures
     (λ calm-so-far. settled.ensures.tracks b (bits_of n x) word within calm-so-far lags))
 
 pub returns-clause-advances : goal.returns-clause-advances
 returns-clause-advances g c =
-    let folded = g.C.Check.folded in
-    let cost = g.C.Check.COST in
+    let view = g.C.Check.check in
     let old = state c.args.self.now c.args.check.now c.args.cells.now in
     let shifted = state c.shift-2.new.self c.args.check.now c.args.cells.now in
     let settled = c.settle_short-2 in
@@ -55,7 +53,7 @@ returns-clause-advances g c =
     let moved-on = ap (λ (w : LineWords). w.place) value in
     let place : new.place ≡ old.place + (m + 1) =
     omega (arith, c.decide.ensures.place, settled.ensures.place, moved-on, c.from-2.ensures) in
-    advances-behind folded cost (m + 1) x old new _
+    advances-behind view (m + 1) x old new _
     (c.decide.ensures.longest ∙ longest) (c.decide.ensures.origin ∙ origin) place (λ b stands.
     let word = word-joined old n x b stands.has_taken (omega (arith, c.requires.few)) c.requires.small in
     let calm = c.calm_bits-calm.ensures.calm in
@@ -63,13 +61,13 @@ returns-clause-advances g c =
     let taken = c.from-3.result in
     let within : taken ≤ length (bits_of n x) = omega (arith, c.from-3.ensures, last.within) in
     let within-shifted : c.from-2.result ≤ length (bits_of n x) = omega (arith, c.from-2.ensures, last.within) in
-    let lags = subst (λ (j : ℕ). LagsBy folded cost shifted b (take j (bits_of n x)))
+    let lags = subst (λ (j : ℕ). LagsBy view shifted b (take j (bits_of n x)))
     (c.from-2.ensures ∙ sym c.from-3.ensures)
-    (shift-lags _ _ c.args.self.now c.shift-2.new.self c.args.check.now c.args.cells.now b (bits_of n x) _ _
+    (shift-lags _ c.args.self.now c.shift-2.new.self c.args.check.now c.args.cells.now b (bits_of n x) _ _
     value stands word within-shifted) in
-    let tracks = last-tracks _ _ _ n m x taken mid b last c.from-3.ensures
+    let tracks = last-tracks _ _ n m x taken mid b last c.from-3.ensures
     (λ calm-so-far. settled.ensures.tracks b (bits_of n x) word within calm-so-far lags) in
     let front = but_last b n m x in
-    behind-last folded cost _ n m x old mid new b _ last longest origin
+    behind-last view _ n m x old mid new b _ last longest origin
     (c.decide.ensures.answer settled.new.cells front (last_of n m x) tracks)
     (c.decide.ensures.after settled.new.cells front (last_of n m x) tracks))

@@ -20,7 +20,7 @@ returns-then-held-lt7-clause-holds g c = λ bits holds.
     (ap (λ (s : LineWords). s.data_bits) c.begin.ensures.kept)
     (ap (λ (s : LineWords). s.longest) c.begin.ensures.kept)
     (c.begin.ensures.keeps c.args.cells.now bits holds)
-    (λ os p. subst (Keeps g.C.Check.folded e) (sym (append-nil os)) (record { held = p.held; checked = p.checked }))
+    (λ os kept. rw (append-nil os) (record { held = kept.held; checked = kept.checked }))
     (ap (λ (r : ℕ). record a { data_bits = a.data_bits + 1; partial = r; spent = spent }) (sym whole))
 
 pub returns-clause-holds : goal.returns-clause-holds
@@ -47,7 +47,7 @@ returns-clause-spent g c = λ bits holds.
     let d = state w c.args.check.now c.args.cells.now in
     let a = state c.begin.new.self c.begin.new.check c.args.cells.now in
     let e = state c.put_one.new.self c.put_one.new.check c.put_one.new.cells in
-    append-spent _ _ d a e 1 (joined w.partial (w.data_bits % 8) c.args.bit) 1 _ bits holds
+    append-spent _ d a e 1 (joined w.partial (w.data_bits % 8) c.args.bit) 1 _ bits holds
     (omega (arith, c.if-held-lt7.false)) (ap (λ (s : LineWords). s.longest) c.begin.ensures.kept)
     (c.begin.ensures.keeps c.args.cells.now bits holds)
     c.put_one.ensures.spent

@@ -35,7 +35,7 @@ returns-clause-spent g c = λ bits holds.
     let a = state c.begin.new.self c.begin.new.check c.args.cells.now in
     let e = state c.put_short.new.self c.put_short.new.check c.put_short.new.cells in
     let n = c.args.more.count in
-    append-spent _ _ d a e n (joined w.partial (w.data_bits % 8) c.args.more.bits) ((w.data_bits % 8 + n) / 8)
+    append-spent _ d a e n (joined w.partial (w.data_bits % 8) c.args.more.bits) ((w.data_bits % 8 + n) / 8)
     _ bits holds refl (ap (λ (s : LineWords). s.longest) c.begin.ensures.kept)
     (c.begin.ensures.keeps c.args.cells.now bits holds)
     c.put_short.ensures.spent

@@ -12,5 +12,5 @@ returns-then-self-ge8-clause-keeps g c = λ cells bits holds.
 pub returns-clause-keeps : goal.returns-clause-keeps
 returns-clause-keeps g c = λ cells bits holds.
     let d = state c.args.self.now c.args.check.now cells in
-    subst (Keeps g.C.Check.folded _) (sym (none-yet _ d bits holds c.if-self-ge8.false))
+    subst (Keeps g.C.Check.check.folded _) (sym (none-yet _ d bits holds c.if-self-ge8.false))
     (keeps-none _ _ refl c.fresh.ensures)

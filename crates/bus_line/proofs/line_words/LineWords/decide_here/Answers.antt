@@ -32,11 +32,11 @@ returns-in-Closing-clause-after g c = λ cells b bit tracks.
     let found : IsFound bit (ones_at_end b) (length b) Closing =
     found-here (state c.args.self.now c.args.check.now cells) _ refl b bit tracks.has_taken Closing
     c.in-Closing.ensures.found in
-    subst (Tracks g.C.Check.folded g.C.Check.COST _ bits) (sym (closing 3 b bit found).leaves)
+    subst (Tracks g.C.Check.check _ bits) (sym (closing 3 b bit found).leaves)
     (subst (λ (o : Option ℕ).
-    Tracks g.C.Check.folded g.C.Check.COST (record d { first = o; data_bits = 0; partial = 0 }) bits
+    Tracks g.C.Check.check (record d { first = o; data_bits = 0; partial = 0 }) bits
     (FlagAt (length b - 7))) (sym (first-at d.place c.requires.within.place_fits))
-    (tracks-flag _ _ d bits (current b) (length b - 7) tracks (omega (arith, size, found.2))))
+    (tracks-flag _ d bits (current b) (length b - 7) tracks (omega (arith, size, found.2))))
 
 pub returns-in-Seven-clause-answer : goal.returns-in-Seven-clause-answer
 returns-in-Seven-clause-answer g c = λ cells b bit tracks.
@@ -57,8 +57,8 @@ returns-in-Seven-clause-after g c = λ cells b bit tracks.
     let found : IsFound bit (ones_at_end b) (length b) Seven =
     found-here (state c.args.self.now c.args.check.now cells) _ refl b bit tracks.has_taken Seven
     c.in-Seven.ensures.found in
-    subst (Tracks g.C.Check.folded g.C.Check.COST _ bits) (sym (seven 3 b bit found).leaves)
-    (tracks-abort _ _ d bits (current b) (length b - 6) tracks)
+    subst (Tracks g.C.Check.check _ bits) (sym (seven 3 b bit found).leaves)
+    (tracks-abort _ d bits (current b) (length b - 6) tracks)
 
 pub returns-in-Fifteen-clause-answer : goal.returns-in-Fifteen-clause-answer
 returns-in-Fifteen-clause-answer g c = λ cells b bit tracks.
@@ -77,7 +77,7 @@ returns-in-Fifteen-clause-answer g c = λ cells b bit tracks.
 
 pub returns-in-Fifteen-clause-after : goal.returns-in-Fifteen-clause-after
 returns-in-Fifteen-clause-after g c = λ cells b bit tracks.
-    subst (Tracks g.C.Check.folded g.C.Check.COST (state c.args.self.now c.args.check.now cells) (b ++ bit ∷ []))
+    subst (Tracks g.C.Check.check (state c.args.self.now c.args.check.now cells) (b ++ bit ∷ []))
     (sym (fifteen 3 b bit
     (found-here (state c.args.self.now c.args.check.now cells) _ refl b bit tracks.has_taken Fifteen
     c.in-Fifteen.ensures.found)).leaves) tracks
@@ -96,5 +96,5 @@ returns-in-Other-clause-after g c = λ cells b bit tracks.
     let found : IsFound bit (ones_at_end b) (length b) Other =
     found-here (state c.args.self.now c.args.check.now cells) _ refl b bit tracks.has_taken Other
     c.in-Other.ensures.found in
-    subst (Tracks g.C.Check.folded g.C.Check.COST (state c.args.self.now c.args.check.now cells) (b ++ bit ∷ []))
+    subst (Tracks g.C.Check.check (state c.args.self.now c.args.check.now cells) (b ++ bit ∷ []))
     (sym (other 3 b bit found).leaves) tracks

@@ -9,7 +9,7 @@ invariant-loop-at g l = record {
   begun : l.from ≤ l.at;
   ends : l.at ≤ l.end;
   opened : l.self.settles_at ≤ l.self.place;
-  tells : Tells g.C.Check.folded g.C.Check.COST (state l.fn.self l.fn.check l.fn.cells)
+  tells : Tells g.C.Check.check (state l.fn.self l.fn.check l.fn.cells)
       (bits_from l.octets l.from (l.at - l.from)) None (state l.self l.check l.cells);
   within : IsWithin l.self;
   cells : length l.cells ≡ 272;

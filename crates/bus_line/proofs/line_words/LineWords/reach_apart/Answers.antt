@@ -11,7 +11,7 @@ pub loop-at-init : goal.loop-at-init
 loop-at-init g c = record {
   begun = omega arith;
   ends = omega (arith, c.requires.some);
-  tells = tells-from g.C.Check.folded g.C.Check.COST c.args.octets.now c.args.from (c.args.from - c.args.from)
+  tells = tells-from g.C.Check.check c.args.octets.now c.args.from (c.args.from - c.args.from)
       (state c.args.self.now c.args.check.now c.args.cells.now) (omega arith);
   within = c.requires.within;
   cells = c.told-cells;
@@ -25,13 +25,12 @@ take_turn-turn-requires-clause-room g c =
       c.requires.room,
       now.begun,
       c.loop-at-test.true,
-      place-on g.C.Check.folded g.C.Check.COST c.args.octets.now c.args.from c.loop-at.at now.begun now.tells,
+      place-on g.C.Check.check c.args.octets.now c.args.from c.loop-at.at now.begun now.tells,
     )
 
 pub returns-then-turn-clause-reaches : goal.returns-then-turn-clause-reaches
 returns-then-turn-clause-reaches g c =
-    let folded = g.C.Check.folded in
-    let cost = g.C.Check.COST in
+    let view = g.C.Check.check in
     let os = c.args.octets.now in
     let now = c.loop-at.invariant in
     let turn = c.take_turn-turn in
@@ -40,16 +39,15 @@ returns-then-turn-clause-reaches g c =
     let new = state turn.new.self turn.new.check turn.new.cells in
     let bits = turn-bits os c.loop-at.at c.seven_octets_at.result n c.seven_octets_at.ensures
     (omega (arith, turn.ensures.count)) in
-    let reached = subst (λ (z : List Bool). ReachesTo folded cost old z true new) bits
-    (subst (λ (stop : Bool). ReachesTo folded cost old (bits_of n c.seven_octets_at.result) stop new) c.if-turn.true
+    let reached = subst (λ (z : List Bool). ReachesTo view old z true new) bits
+    (subst (λ (stop : Bool). ReachesTo view old (bits_of n c.seven_octets_at.result) stop new) c.if-turn.true
     turn.ensures.reaches) in
-    reaches-on folded cost os c.args.from c.loop-at.at now.begun now.tells new n (c.loop-at.at + n - c.args.from) true
+    reaches-on view os c.args.from c.loop-at.at now.begun now.tells new n (c.loop-at.at + n - c.args.from) true
     (omega (arith, now.begun)) reached
 
 pub loop-at-preserved : goal.loop-at-preserved
 loop-at-preserved g c =
-    let folded = g.C.Check.folded in
-    let cost = g.C.Check.COST in
+    let view = g.C.Check.check in
     let os = c.args.octets.now in
     let now = c.loop-at.invariant in
     let turn = c.take_turn-turn in
@@ -58,13 +56,13 @@ loop-at-preserved g c =
     let new = state turn.new.self turn.new.check turn.new.cells in
     let bits = turn-bits os c.loop-at.at c.seven_octets_at.result n c.seven_octets_at.ensures
     (omega (arith, turn.ensures.count)) in
-    let quiet = subst (λ (z : List Bool). Tells folded cost old z None new) bits
-    (subst (λ (stop : Bool). ReachesTo folded cost old (bits_of n c.seven_octets_at.result) stop new) c.if-turn.false
+    let quiet = subst (λ (z : List Bool). Tells view old z None new) bits
+    (subst (λ (stop : Bool). ReachesTo view old (bits_of n c.seven_octets_at.result) stop new) c.if-turn.false
     turn.ensures.reaches) in
     record {
       begun = omega (arith, now.begun);
       ends = omega (arith, c.loop-at-test.true, turn.ensures.count);
-      tells = tells-on folded cost os c.args.from c.loop-at.at now.begun now.tells n (c.loop-at.at + n - c.args.from)
+      tells = tells-on view os c.args.from c.loop-at.at now.begun now.tells n (c.loop-at.at + n - c.args.from)
           (omega (arith, now.begun)) quiet;
       within = turn.ensures.within;
       cells = turn.ensures.cells;

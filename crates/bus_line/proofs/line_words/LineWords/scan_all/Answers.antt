@@ -12,7 +12,7 @@ pub loop-at-init : goal.loop-at-init
 loop-at-init g c = record {
   begun = omega arith;
   ends = c.requires.some;
-  tells = tells-from g.C.Check.folded g.C.Check.COST c.args.octets.now c.args.from (c.args.from - c.args.from)
+  tells = tells-from g.C.Check.check c.args.octets.now c.args.from (c.args.from - c.args.from)
       (state c.args.self.now c.args.check.now c.args.cells.now) (omega arith);
   within = c.requires.within;
   cells = c.told-cells;
@@ -26,7 +26,7 @@ scan_next-scanned-requires-clause-room g c =
       c.requires.room,
       now.begun,
       now.ends,
-      place-on g.C.Check.folded g.C.Check.COST c.args.octets.now c.args.from c.loop-at.at now.begun now.tells,
+      place-on g.C.Check.check c.args.octets.now c.args.from c.loop-at.at now.begun now.tells,
     )
 
 pub returns-then-is_some-clause-advances : goal.returns-then-is_some-clause-advances
@@ -35,7 +35,7 @@ returns-then-is_some-clause-advances g c =
     let scanned = c.scan_next-scanned in
     let n = scanned.result.count in
     let count : c.loop-at.at + n - c.args.from ≡ c.loop-at.at - c.args.from + n = omega (arith, now.begun) in
-    advances-on g.C.Check.folded g.C.Check.COST c.args.octets.now c.args.from c.loop-at.at now.begun now.tells
+    advances-on g.C.Check.check c.args.octets.now c.args.from c.loop-at.at now.begun now.tells
     n (c.loop-at.at + n - c.args.from) count scanned.ensures.advances
 
 pub loop-at-preserved : goal.loop-at-preserved
@@ -49,13 +49,13 @@ loop-at-preserved g c =
     is-none scanned.result.event (sym c.is_some.ensures ∙ c.if-is_some.false) in
     let told = ap (option_map (reported new.octets)) none in
     let bits = bits_from c.args.octets.now c.loop-at.at n in
-    let quiet = subst (λ (r : Option Report). Tells g.C.Check.folded g.C.Check.COST old bits r new)
+    let quiet = subst (λ (r : Option Report). Tells g.C.Check.check old bits r new)
     told scanned.ensures.advances.tells in
     let count : c.loop-at.at + n - c.args.from ≡ c.loop-at.at - c.args.from + n = omega (arith, now.begun) in
     record {
       begun = omega (arith, now.begun);
       ends = omega (arith, now.ends, scanned.ensures.count);
-      tells = tells-on g.C.Check.folded g.C.Check.COST c.args.octets.now c.args.from c.loop-at.at now.begun now.tells
+      tells = tells-on g.C.Check.check c.args.octets.now c.args.from c.loop-at.at now.begun now.tells
           n (c.loop-at.at + n - c.args.from) count quiet;
       within = scanned.ensures.within;
       cells = scanned.ensures.cells;
@@ -63,12 +63,11 @@ loop-at-preserved g c =
 
 pub returns-clause-advances : goal.returns-clause-advances
 returns-clause-advances g c =
-    let folded = g.C.Check.folded in
-    let cost = g.C.Check.COST in
+    let view = g.C.Check.check in
     let now = c.loop-at.invariant in
     let old = state c.args.self.now c.args.check.now c.args.cells.now in
     let new = state c.loop-at.self c.loop-at.check c.loop-at.cells in
     let end : c.loop-at.at ≡ c.args.end = omega (arith, now.ends, c.loop-at-test.false) in
-    advances-quiet folded cost
-    (subst (λ (n : ℕ). Tells folded cost old (bits_from c.args.octets.now c.args.from (n - c.args.from)) None new)
+    advances-quiet view
+    (subst (λ (n : ℕ). Tells view old (bits_from c.args.octets.now c.args.from (n - c.args.from)) None new)
     end now.tells)

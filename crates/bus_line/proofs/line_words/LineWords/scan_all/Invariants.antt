@@ -8,7 +8,7 @@ abbrev pub invariant-loop-at : goal.invariant-loop-at
 invariant-loop-at g l = record {
   begun : l.from ≤ l.at;
   ends : l.at ≤ l.end;
-  tells : Tells g.C.Check.folded g.C.Check.COST (state l.fn.self l.fn.check l.fn.cells)
+  tells : Tells g.C.Check.check (state l.fn.self l.fn.check l.fn.cells)
       (bits_from l.octets l.from (l.at - l.from)) None (state l.self l.check l.cells);
   within : IsWithin l.self;
   cells : length l.cells ≡ 272;

@@ -8,28 +8,26 @@ use Rattle.bus_line.proofs.line_words.LineWords.scan_open.Goals as goal
 
 pub returns-then-reached-clause-advances : goal.returns-then-reached-clause-advances
 returns-then-reached-clause-advances g c =
-    let folded = g.C.Check.folded in
-    let cost = g.C.Check.COST in
+    let view = g.C.Check.check in
     let check = c.args.check.now in
     let cells = c.args.cells.now in
     let reached = c.reach-reached in
     let mid = state reached.new.self reached.new.check reached.new.cells in
     let bits = bits_from c.args.octets.now c.args.from reached.result.count in
-    let stopped = subst (λ (stop : Bool). ReachesTo folded cost (state c.args.self.now check cells) bits stop mid)
+    let stopped = subst (λ (stop : Bool). ReachesTo view (state c.args.self.now check cells) bits stop mid)
     c.if-reached.true reached.ensures.reaches in
     let decision = c.decide_here-event.ensures in
-    decided folded cost stopped decision.longest decision.origin decision.place
+    decided view stopped decision.longest decision.origin decision.place
     (decision.answer reached.new.cells) (decision.after reached.new.cells)
 
 pub returns-else-reached-clause-advances : goal.returns-else-reached-clause-advances
 returns-else-reached-clause-advances g c =
-    let folded = g.C.Check.folded in
-    let cost = g.C.Check.COST in
+    let view = g.C.Check.check in
     let check = c.args.check.now in
     let cells = c.args.cells.now in
     let reached = c.reach-reached in
     let mid = state reached.new.self reached.new.check reached.new.cells in
     let bits = bits_from c.args.octets.now c.args.from reached.result.count in
-    advances-quiet folded cost
-    (subst (λ (stop : Bool). ReachesTo folded cost (state c.args.self.now check cells) bits stop mid)
+    advances-quiet view
+    (subst (λ (stop : Bool). ReachesTo view (state c.args.self.now check cells) bits stop mid)
     c.if-reached.false reached.ensures.reaches)

@@ -7,15 +7,14 @@ use Rattle.bus_line.proofs.line_words.LineWords.scan_piece.Goals as goal
 
 pub returns-then-past-from-clause-advances : goal.returns-then-past-from-clause-advances
 returns-then-past-from-clause-advances g c =
-    let folded = g.C.Check.folded in
-    let cost = g.C.Check.COST in
+    let view = g.C.Check.check in
     let old = c.args.self.now in
     let passed = c.pass_flags-past in
     let check = c.args.check.now in
     let cells = c.args.cells.now in
     let count = (passed.result - c.args.from) / 8 in
-    advances-quiet folded cost
-    (subst (λ (z : List Bool). Tells folded cost (state old check cells) z None (state passed.new.self check cells))
+    advances-quiet view
+    (subst (λ (z : List Bool). Tells view (state old check cells) z None (state passed.new.self check cells))
     (sym passed.ensures.flags.are)
-    (passed-flags folded cost check cells old passed.new.self count passed.ensures.passes c.requires.within
+    (passed-flags view check cells old passed.new.self count passed.ensures.passes c.requires.within
     c.if-self.true passed.ensures.sound.place_fits))

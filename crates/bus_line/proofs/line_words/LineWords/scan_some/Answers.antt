@@ -29,13 +29,12 @@ returns-then-is_some-clause-advances g c =
     let count : n ≡ from + n - from = omega arith in
     let same : bits_of n c.word_at-word.result.bits ≡ bits_from os from (from + n - from) =
     c.word_at-word.ensures.bits n taken.ensures.count ∙ ap (bits_from os from) count in
-    subst (λ (bits : List Bool). Advances g.C.Check.folded g.C.Check.COST old bits report new)
+    subst (λ (bits : List Bool). Advances g.C.Check.check old bits report new)
     same taken.ensures.advances
 
 pub returns-clause-advances : goal.returns-clause-advances
 returns-clause-advances g c =
-    let folded = g.C.Check.folded in
-    let cost = g.C.Check.COST in
+    let view = g.C.Check.check in
     let os = c.args.octets.now in
     let from = c.args.from in
     let taken = c.advance-taken in
@@ -48,12 +47,12 @@ returns-clause-advances g c =
     let same : bits_of n c.word_at-word.result.bits ≡ bits_from os from (at - from) =
     c.word_at-word.ensures.bits n taken.ensures.count ∙ ap (bits_from os from) count in
     let none = is-none taken.result.event (sym c.is_some.ensures ∙ c.if-is_some.false) in
-    let first : Tells folded cost old (bits_from os from (at - from)) None mid =
-    subst (λ (report : Option Report). Tells folded cost old (bits_from os from (at - from)) report mid)
+    let first : Tells view old (bits_from os from (at - from)) None mid =
+    subst (λ (report : Option Report). Tells view old (bits_from os from (at - from)) report mid)
     (ap (option_map (reported mid.octets)) none)
-    (subst (λ (bits : List Bool). Tells folded cost old bits (option_map (reported mid.octets) taken.result.event) mid)
+    (subst (λ (bits : List Bool). Tells view old bits (option_map (reported mid.octets) taken.result.event) mid)
     same taken.ensures.advances.tells) in
     let more = past.result - at in
-    advances-quiet folded cost
-    (tells-on folded cost os from at (omega arith) first more (past.result - from) (omega (arith, past.ensures.within))
+    advances-quiet view
+    (tells-on view os from at (omega arith) first more (past.result - from) (omega (arith, past.ensures.within))
     past.ensures.tells)

@@ -15,21 +15,20 @@ returns-then-past-from-clause-advances g c =
     let new = state scanned.new.self scanned.new.check scanned.new.cells in
     let bits = bits_from c.args.octets.now c.args.from scanned.result.count in
     let report = option_map (reported new.octets) scanned.result.event in
-    subst (λ (words : LineWords). Advances g.C.Check.folded g.C.Check.COST
+    subst (λ (words : LineWords). Advances g.C.Check.check
     (state words c.args.check.now c.args.cells.now) bits report new)
     (c.pass_ones-past.ensures.none c.if-past-from.true) scanned.ensures.advances
 
 pub returns-clause-advances : goal.returns-clause-advances
 returns-clause-advances g c =
-    let folded = g.C.Check.folded in
-    let cost = g.C.Check.COST in
+    let view = g.C.Check.check in
     let old = c.args.self.now in
     let passed = c.pass_ones-past in
     let check = c.args.check.now in
     let cells = c.args.cells.now in
     let count = passed.result - c.args.from in
-    advances-quiet folded cost
-    (subst (λ (z : List Bool). Tells folded cost (state old check cells) z None (state passed.new.self check cells))
+    advances-quiet view
+    (subst (λ (z : List Bool). Tells view (state old check cells) z None (state passed.new.self check cells))
     (sym passed.ensures.bits)
-    (passed-ones folded cost check cells old passed.new.self count passed.ensures.passes c.if-self-ne-NEVER.false
+    (passed-ones view check cells old passed.new.self count passed.ensures.passes c.if-self-ne-NEVER.false
     (omega (arith, c.requires.room, passed.ensures.within))))

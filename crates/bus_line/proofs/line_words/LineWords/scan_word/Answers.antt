@@ -11,5 +11,5 @@ returns-clause-advances g c =
     let old = state c.args.self.now c.args.check.now c.args.cells.now in
     let new = state taken.new.self taken.new.check taken.new.cells in
     let report = option_map (reported new.octets) taken.result.event in
-    subst (λ (bits : List Bool). Advances g.C.Check.folded g.C.Check.COST old bits report new)
+    subst (λ (bits : List Bool). Advances g.C.Check.check old bits report new)
     (c.word_at-word.ensures.bits taken.result.count taken.ensures.count) taken.ensures.advances

@@ -10,7 +10,7 @@ use Rattle.bus_line.proofs.line_words.LineWords.settle_short.Goals as goal
 pub returns-then-self-clause-tracks : goal.returns-then-self-clause-tracks
 returns-then-self-clause-tracks g c = λ b bits word within calm lags.
     let self = c.args.self.now in
-    word-unsettled _ _ self.settles_at c.args.word c.args.count (first_in self.settles_at) _ b bits
+    word-unsettled _ self.settles_at c.args.word c.args.count (first_in self.settles_at) _ b bits
     word within calm lags refl (settles-told self.settles_at c.requires.within.settles_late) c.if-self.true
 
 pub returns-clause-tracks : goal.returns-clause-tracks
@@ -24,7 +24,7 @@ returns-clause-tracks g c = λ b bits word within calm lags.
     let at : self.settles_at ≡ opened.0 + 8 = told ∙ ap settles_from opened.1 in
     let late : c.min-late.result ≡ min (self.place - (opened.0 + 8)) c.args.count =
     c.min-late.ensures ∙ (least (self.place - self.settles_at) c.args.count ∙ omega (arith, at)) in
-    word-settled _ _ opened.0 c.args.word c.args.count c.min-late.result c.data_in_word.result.count
+    word-settled _ opened.0 c.args.word c.args.count c.min-late.result c.data_in_word.result.count
     c.data_in_word.result.bits d e b bits word within calm lags opened.1 opened.2 late
     c.data_in_word.ensures.value c.append_short.ensures.holds c.append_short.ensures.spent
     (kept-state self c.append_short.new.self c.append_short.new.check c.args.check.now c.append_short.new.cells

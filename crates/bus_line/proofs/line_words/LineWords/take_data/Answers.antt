@@ -33,7 +33,7 @@ returns-clause-tells g c = λ _.
     let began = settles-open old.settles_at mid.place (first_in old.settles_at) told c.requires.room
     (omega (arith, c.requires.open)) in
     let at : old.settles_at ≡ began.0 + 8 = told ∙ ap settles_from began.1 in
-    let calm : (b : List Bool) → After g.C.Check.folded g.C.Check.COST d b → Calm w 56 x b = λ b h.
+    let calm : (b : List Bool) → After g.C.Check.check d b → Calm w 56 x b = λ b h.
     let small = last-bits-small d b h.has_taken in
     is_calm w 56 56 x b (word-is old.last_bits x b h.has_taken.last_bits) refl
     (no-stop w behind 56 (word-behind old.last_bits x small) (c.has_six.ensures c.if-has_six.false)) in
@@ -45,13 +45,13 @@ returns-clause-tells g c = λ _.
             let n : 56 ≤ length (bits_of 56 x) = omega (arith, length-bits 56 x) in
             let next = ap (λ (y : ℕ). record old { place = old.place + 56; last_bits = y })
             (last-bits-next old.last_bits x small) in
-            let lags = shift-lags _ _ old mid c.args.check.now c.args.cells.now b (bits_of 56 x) w 56 next h word n in
+            let lags = shift-lags _ old mid c.args.check.now c.args.cells.now b (bits_of 56 x) w 56 next h word n in
             let shift : w ≡ w / 2 ^ (56 - 56) = omega arith in
             let value = settled.ensures.value
             ∙ (ap (λ (y : ℕ). data_in_word y 56) (word-front old.last_bits x small)
             ∙ (settled-front w 56 (omega arith) ∙ ap (λ (y : ℕ). data_in_word y 56) shift)) in
-            all-after _ _ w 56 x 56 e b (calm b h) refl (λ q.
-            word-settled _ _ began.0 w 56 56 settled.result.count settled.result.bits
+            all-after _ w 56 x 56 e b (calm b h) refl (λ q.
+            word-settled _ began.0 w 56 56 settled.result.count settled.result.bits
             (state mid c.args.check.now c.args.cells.now) e b (bits_of 56 x) word n q lags began.1 began.2
             (omega (arith, at, c.requires.open)) value c.append.ensures.holds c.append.ensures.spent
             (kept-state mid new c.append.new.check c.args.check.now c.append.new.cells c.args.cells.now

@@ -17,8 +17,7 @@ use Rattle.bus_line.proofs.line_words.LineWords.take_seven.Goals as goal
 
 pub returns-clause-tracks : goal.returns-clause-tracks
 returns-clause-tracks g c = λ b stands calm.
-    let folded = g.C.Check.folded in
-    let cost = g.C.Check.COST in
+    let view = g.C.Check.check in
     let old = c.args.self.now in
     let x = c.args.bits in
     let w : ℕ = word_of old.last_bits x in
@@ -33,7 +32,7 @@ returns-clause-tracks g c = λ b stands calm.
     let within : 56 ≤ length (bits_of 56 x) = omega (arith, length-bits 56 x) in
     let next = ap (λ (y : ℕ). record old { place = old.place + 56; last_bits = y })
     (last-bits-next old.last_bits x small) in
-    let lags = shift-lags _ _ old mid c.args.check.now c.args.cells.now b (bits_of 56 x) w 56 next stands word within in
+    let lags = shift-lags _ old mid c.args.check.now c.args.cells.now b (bits_of 56 x) w 56 next stands word within in
     let told = settles-told old.settles_at c.requires.within.settles_late in
     let opened = settles-open old.settles_at mid.place (first_in old.settles_at) told c.requires.room
     (omega (arith, c.if-self.false)) in
@@ -42,8 +41,8 @@ returns-clause-tracks g c = λ b stands calm.
     let value = settled.ensures.value
     ∙ (ap (λ (y : ℕ). data_in_word y 56) (word-front old.last_bits x small)
     ∙ (settled-front w 56 (omega arith) ∙ ap (λ (y : ℕ). data_in_word y 56) whole)) in
-    subst (λ (z : List Bool). Tracks folded cost e (b ++ z) (current b)) (bits-front 56 56 x (omega arith))
-    (word-settled _ _ opened.0 w 56 56 settled.result.count settled.result.bits d e b (bits_of 56 x) word within calm
+    subst (λ (z : List Bool). Tracks view e (b ++ z) (current b)) (bits-front 56 56 x (omega arith))
+    (word-settled _ opened.0 w 56 56 settled.result.count settled.result.bits d e b (bits_of 56 x) word within calm
     lags opened.1 opened.2 (omega (arith, at, c.if-self.false)) value c.append.ensures.holds c.append.ensures.spent
     (kept-state mid new c.append.new.check c.args.check.now c.append.new.cells c.args.cells.now
     c.append.ensures.kept))

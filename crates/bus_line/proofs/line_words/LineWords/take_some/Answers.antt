@@ -17,8 +17,7 @@ use Rattle.bus_line.proofs.line_words.LineWords.take_some.Goals as goal
 
 pub returns-then-self-clause-tracks : goal.returns-then-self-clause-tracks
 returns-then-self-clause-tracks g c = λ b stands calm.
-    let folded = g.C.Check.folded in
-    let cost = g.C.Check.COST in
+    let view = g.C.Check.check in
     let old = c.args.self.now in
     let x = c.args.bits in
     let n = c.args.count in
@@ -29,16 +28,15 @@ returns-then-self-clause-tracks g c = λ b stands calm.
     let word = word-is old.last_bits x b stands.has_taken.last_bits in
     let within : n ≤ length (bits_of 56 x) = omega (arith, c.requires.few, length-bits 56 x) in
     let next = ap (λ (y : ℕ). record old { place = old.place + n; last_bits = y }) (c.newest-self.ensures small) in
-    let lags = shift-lags _ _ old mid c.args.check.now c.args.cells.now b (bits_of 56 x) w n next stands word within in
+    let lags = shift-lags _ old mid c.args.check.now c.args.cells.now b (bits_of 56 x) w n next stands word within in
     let wide = calm-front b x n 56 (n - 1) calm (omega arith) (omega (arith, c.requires.few)) in
-    subst (λ (z : List Bool). Tracks folded cost d (b ++ z) (current b)) (bits-front n 56 x c.requires.few)
-    (word-unsettled _ _ old.settles_at w n (first_in old.settles_at) d b (bits_of 56 x) word within wide lags refl
+    subst (λ (z : List Bool). Tracks view d (b ++ z) (current b)) (bits-front n 56 x c.requires.few)
+    (word-unsettled _ old.settles_at w n (first_in old.settles_at) d b (bits_of 56 x) word within wide lags refl
     (settles-told old.settles_at c.requires.within.settles_late) c.if-self.true)
 
 pub returns-clause-tracks : goal.returns-clause-tracks
 returns-clause-tracks g c = λ b stands calm.
-    let folded = g.C.Check.folded in
-    let cost = g.C.Check.COST in
+    let view = g.C.Check.check in
     let old = c.args.self.now in
     let x = c.args.bits in
     let n = c.args.count in
@@ -51,7 +49,7 @@ returns-clause-tracks g c = λ b stands calm.
     let word = word-is old.last_bits x b stands.has_taken.last_bits in
     let within : n ≤ length (bits_of 56 x) = omega (arith, c.requires.few, length-bits 56 x) in
     let next = ap (λ (y : ℕ). record old { place = old.place + n; last_bits = y }) (c.newest-self.ensures small) in
-    let lags = shift-lags _ _ old mid c.args.check.now c.args.cells.now b (bits_of 56 x) w n next stands word within in
+    let lags = shift-lags _ old mid c.args.check.now c.args.cells.now b (bits_of 56 x) w n next stands word within in
     let wide = calm-front b x n 56 (n - 1) calm (omega arith) (omega (arith, c.requires.few)) in
     let told = settles-told old.settles_at c.requires.within.settles_late in
     let opened = settles-open old.settles_at (old.place + n) (first_in old.settles_at) told c.requires.room
@@ -64,8 +62,8 @@ returns-clause-tracks g c = λ b stands calm.
     ∙ (ap (λ (y : ℕ). data_in_word (y / 2 ^ (n - c.min-late.result)) c.min-late.result)
     (word-front old.last_bits x small)
     ∙ settled-behind w (n - c.min-late.result) c.min-late.result (omega (arith, most, c.requires.few))) in
-    subst (λ (z : List Bool). Tracks folded cost e (b ++ z) (current b)) (bits-front n 56 x c.requires.few)
-    (word-settled _ _ opened.0 w n c.min-late.result c.data_in_turn.result.count c.data_in_turn.result.bits d e b
+    subst (λ (z : List Bool). Tracks view e (b ++ z) (current b)) (bits-front n 56 x c.requires.few)
+    (word-settled _ opened.0 w n c.min-late.result c.data_in_turn.result.count c.data_in_turn.result.bits d e b
     (bits_of 56 x) word within wide lags opened.1 opened.2 late value c.append.ensures.holds c.append.ensures.spent
     (kept-state mid new c.append.new.check c.args.check.now c.append.new.cells c.args.cells.now
     c.append.ensures.kept))

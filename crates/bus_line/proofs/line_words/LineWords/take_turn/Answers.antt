@@ -14,7 +14,7 @@ returns-in_default-clause-reaches g c =
     let x = c.args.bits in
     let long = length-bits 56 x in
     let none = c.first_six.ensures.none c.in_default.is in
-    reached-all _ _ taken.longest taken.origin (omega (arith, taken.place, long))
+    reached-all _ taken.longest taken.origin (omega (arith, taken.place, long))
     (λ b stands.
     subst (IsCalm b (bits_of 56 x)) (sym long)
     (calm-turn d x 56 56 b stands.has_taken none (omega arith) (omega arith)))
@@ -32,7 +32,7 @@ returns-clause-reaches g c =
     let few : m + 1 - 1 ≡ m = omega arith in
     let calm : (b : List Bool) → HasTaken d b → IsCalm b (bits_of (m + 1) x) m =
     λ b taken. calm-turn d x m (m + 1) b taken some.1 (omega (arith, some.0)) (omega arith) in
-    reached-last _ _ taken.longest taken.origin (omega (arith, taken.place, long)) (omega (arith, long))
+    reached-last _ taken.longest taken.origin (omega (arith, taken.place, long)) (omega (arith, long))
     (λ b stands.
     subst (λ (k : ℕ). IsCalm b (bits_of (m + 1) x) (k - 1)) (sym long)
     (subst (IsCalm b (bits_of (m + 1) x)) (sym few) (calm b stands.has_taken)))

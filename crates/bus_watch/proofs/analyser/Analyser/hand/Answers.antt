@@ -9,12 +9,12 @@ returns-in-None-clause-none_refused g c = took-none
 
 pub returns-in-Some-clause-none_refused : goal.returns-in-Some-clause-none_refused
 returns-in-Some-clause-none_refused g c =
-    took-one g.S.ReportSink.taken g.S.ReportSink.room g.S.ReportSink.refusals c.take.result c.args.sink.now
+    took-one g.S.ReportSink.sink c.take.result c.args.sink.now
     c.take.new.self c.take.ensures.counted c.take.ensures.same_room c.take.ensures.within
 
 pub returns-in-Some-clause-one_refused : goal.returns-in-Some-clause-one_refused
 returns-in-Some-clause-one_refused g c =
-    refused-one g.S.ReportSink.taken g.S.ReportSink.room g.S.ReportSink.refusals c.take.result c.args.sink.now
+    refused-one g.S.ReportSink.sink c.take.result c.args.sink.now
     c.take.new.self c.take.ensures.not_taken c.take.ensures.refused c.take.ensures.same_room c.take.ensures.full
 
 pub returns-in-Some-clause-lost : goal.returns-in-Some-clause-lost

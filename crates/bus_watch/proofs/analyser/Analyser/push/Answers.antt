@@ -13,7 +13,7 @@ returns g c =
     let within = c.in_ok-take.ensures.within in
     let one : bits_of n c.from.result ≡ c.args.bit ∷ [] =
     one_bit c.from.result n c.args.bit c.from.ensures within.0 within.1 in
-    let sees : Sees g.C.Check.folded g.C.Check.COST c.args.self.now (c.args.bit ∷ [])
+    let sees : Sees g.C.Check.check c.args.self.now (c.args.bit ∷ [])
     (option_to_list (shown_option c.lent.result)) c.take.new.self =
     rw (← one, c.lent.ensures.shown) c.in_ok-take.ensures.sees in (
       (refl, (λ _. tt), (sees, tt)),
@@ -22,7 +22,7 @@ returns g c =
           (λ same. absurd (cc)),
           (λ far. absurd (let refused = c.in_ok-take.ensures.limit.1 (omega (arith, far)) in cc)),
         );
-        answer = λ b reached. answer-is g.C.Check.folded g.C.Check.COST c.args.self.now b c.args.bit
+        answer = λ b reached. answer-is g.C.Check.check c.args.self.now b c.args.bit
             (shown_option c.lent.result) c.seen_grows.ensures.grows reached (sees.seen b reached);
         fits = c.lent.ensures.fits;
         rests = tt;

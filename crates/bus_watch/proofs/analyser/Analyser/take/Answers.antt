@@ -14,7 +14,7 @@ use Rattle.bus_watch.proofs.analyser.Analyser.take.Goals as goal
 
 pub hear-requires-clause-room : goal.hear-requires-clause-room
 hear-requires-clause-room g c = λ place.
-    room g.C.Check.folded g.C.Check.COST _ c.self.invariant.bits c.settled_places.ensures.frames
+    room g.C.Check.check _ c.self.invariant.bits c.settled_places.ensures.frames
     c.settled_places.ensures.paid c.settled_places.ensures.within c.self.invariant.reached
     (omega (arith, place, c.self.invariant.reached.decoder.has_taken.place))
 
@@ -28,7 +28,7 @@ invariant_of-self-2 g c =
       journal = journal_state c.hear.new.journal;
       finding = fresh c.in_ok-intake.intake.is_decided c.hear.new.journal.last;
     } in
-    let sees = sees-heard g.C.Check.folded g.C.Check.COST (analyser_state c.self.inside) new x _ h in
+    let sees = sees-heard g.C.Check.check (analyser_state c.self.inside) new x _ h in
     record {
       depth = omega (arith, c.self.invariant.depth, h.depth);
       longest = h.advances.tells.leads.longest ∙ c.self.invariant.longest ∙ ap longest_of (sym h.dictionary);
@@ -46,8 +46,8 @@ returns-clause-sees g c =
       journal = journal_state c.hear.new.journal;
       finding = fresh c.in_ok-intake.intake.is_decided c.hear.new.journal.last;
     } in
-    subst (λ a. Sees g.C.Check.folded g.C.Check.COST a x (option_to_list told) new) c.self.view_is
-    (sees-heard g.C.Check.folded g.C.Check.COST (analyser_state c.self.inside) new x told c.in_ok-intake.ensures.hears)
+    subst (λ a. Sees g.C.Check.check a x (option_to_list told) new) c.self.view_is
+    (sees-heard g.C.Check.check (analyser_state c.self.inside) new x told c.in_ok-intake.ensures.hears)
 
 pub returns-clause-before : goal.returns-clause-before
 returns-clause-before g c =
@@ -58,13 +58,13 @@ returns-clause-before g c =
     let front : take (length all - 1) all ≡ x = ap (λ k. take (k - 1) all) (length-bits n c.args.bits)
     ∙ bits-front (n - 1) n c.args.bits (omega arith) in
     let hears = c.in_ok-intake.ensures.hears in
-    let before = subst (DecideNothing g.C.Check.folded g.C.Check.COST d) front hears.advances.before in
-    subst (λ a. (b : List Bool) → IsAfter g.C.Check.folded g.C.Check.COST a b → seen_after a (b ++ x) ≡ seen_after a b)
+    let before = subst (DecideNothing g.C.Check.check d) front hears.advances.before in
+    subst (λ a. (b : List Bool) → IsAfter g.C.Check.check a b → seen_after a (b ++ x) ≡ seen_after a b)
     c.self.view_is
-    (seen-before g.C.Check.folded g.C.Check.COST (analyser_state c.self.inside) x before)
+    (seen-before g.C.Check.check (analyser_state c.self.inside) x before)
 
 pub returns-clause-stops : goal.returns-clause-stops
 returns-clause-stops g c =
-    subst (λ a. (b : List Bool) → IsAfter g.C.Check.folded g.C.Check.COST a b →
+    subst (λ a. (b : List Bool) → IsAfter g.C.Check.check a b →
     TakesTo b (bits_of c.args.count c.args.bits) c.in_ok-intake.intake.count) c.self.view_is
     (λ b s. c.in_ok-intake.ensures.stops b s.decoder)

@@ -3,7 +3,7 @@ use Rattle.bus_watch.proofs.analyser.Analyser.usage.Goals as goal
 
 pub returns-clause-headline : goal.returns-clause-headline
 returns-clause-headline g c =
-    whole-run g.C.Check.folded g.C.Check.COST c.args.self.now
+    whole-run g.C.Check.check c.args.self.now
     (record { buffered = c.buffered.result; history_len = c.history_len.result; spent = c.spent.result })
     c.any_cut.ensures c.reports_are.ensures.are c.seen_grows.ensures.reports (record {
       room = c.buffered.ensures.bound;

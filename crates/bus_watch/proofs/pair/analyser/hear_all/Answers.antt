@@ -23,9 +23,9 @@ returns g c =
     let told : told_on line os c.in-Ok.intake.is_decided c.hear.new.journal.last
     ≡ option_map (found_on line os) c.copied.result =
     ap (option_map (found_on line os)) (sym c.fresh.ensures ∙ sym c.copied.ensures) in
-    subst (λ (k : ℕ). Hears g.C.Check.folded g.C.Check.COST line c.args.decoder.now (journal_state c.args.journal.now)
+    subst (λ (k : ℕ). Hears g.C.Check.check line c.args.decoder.now (journal_state c.args.journal.now)
     (bits_of k x) (option_map (found_on line os) c.copied.result) c.hear.new.decoder
     (journal_state c.hear.new.journal)) all
-    (subst (λ (t : Option SeenReport). Hears g.C.Check.folded g.C.Check.COST line c.args.decoder.now
+    (subst (λ (t : Option SeenReport). Hears g.C.Check.check line c.args.decoder.now
     (journal_state c.args.journal.now) (bits_of h x) t c.hear.new.decoder (journal_state c.hear.new.journal)) told
     c.in-Ok.ensures.hears)

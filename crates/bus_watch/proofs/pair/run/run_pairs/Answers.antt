@@ -8,7 +8,7 @@ pub returns-in-Ok-feed-clause-headline : goal.returns-in-Ok-feed-clause-headline
 returns-in-Ok-feed-clause-headline g c =
     let given = c.in-Ok.ensures.given in
     let fed = c.in-Ok-feed.ensures.fed in
-    let headline = fed-pair-headline g.C.Check.folded g.C.Check.COST g.S.PairSink.taken c.in-Ok.analyser c.feed.new.self
+    let headline = fed-pair-headline g.C.Check.check g.S.PairSink.sink c.in-Ok.analyser c.feed.new.self
     _ _ _ c.usage-usage.result c.in-Ok.ensures.is_after fed c.usage-usage.ensures.headline in
     (fed.seen, fed.took, rw (← given.0, ← given.1, ← given.2) headline)
 
@@ -30,7 +30,7 @@ returns-in-Err-feed-clause-fails g c =
       refused.1,
       refused.2,
       rw (← given.0, ← given.2)
-          (stopped-at-pair g.C.Check.folded g.C.Check.COST g.S.PairSink.taken c.in-Ok.analyser c.feed.new.self _ _ _
+          (stopped-at-pair g.C.Check.check g.S.PairSink.sink c.in-Ok.analyser c.feed.new.self _ _ _
           refused.0 consumed c.in-Ok.ensures.is_after refused.3),
     ))
     c.in-Err-feed.ensures.refused c.in-Err-feed.ensures.refused)

@@ -1,7 +1,7 @@
 use Rattle.std.proofs.Common.{◌≡◌, ◌∷◌, [], ◌∙◌, ℕ, Option, sym, ap, subst}
 use Rattle.std.specs.Option.{option_map}
 use Rattle.bus_fcs.specs.declared.octet_check.OctetCheck.{OctetCheck}
-use Rattle.bus_fcs.specs.Folded.{HasFolded}
+use Rattle.bus_fcs.specs.Folded.{by_tables}
 use Rattle.bus_line.specs.After as line
 use Rattle.bus_line.specs.Report.{Report}
 use Rattle.bus_line.specs.Shown.{reported}
@@ -23,4 +23,4 @@ returns-in-Ok-Some-clause-tells c =
     ap (option_map (reported new.octets)) c.in-Ok-Some.field-0-is ∙ sym (c.of_event.ensures.tells new.octets) in
     subst (λ (k : OctetCheck). Tells (held old) bits report (state words k octets)) (sym register)
     (subst (λ (k : OctetCheck). Tells (state old.words k old.octets) bits report new) c.with_register-check.ensures
-    (subst (λ (o : Option Report). line.Tells HasFolded 1 start bits o new) same c.in-Ok-Some.ensures.tells))
+    (subst (λ (o : Option Report). line.Tells by_tables start bits o new) same c.in-Ok-Some.ensures.tells))

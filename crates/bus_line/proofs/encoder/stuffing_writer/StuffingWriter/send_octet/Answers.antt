@@ -22,9 +22,9 @@ returns-in_err-send_data-clause-cut g c =
     sym c.octet_bits-bits.ensures ∙ next-of bits i false
     (omega (arith, ap length c.octet_bits-bits.ensures, length-bits 8 c.args.octet)) in
     on_err c.from_residual.result
-    (subst (λ z. Cut g.S.BitSink.taken g.S.BitSink.refusals (raw_after c.args.self.now.run z) c.args.self.now
+    (subst (λ z. Cut g.S.BitSink.sink (raw_after c.args.self.now.run z) c.args.self.now
     c.send_data.new.self c.args.sink.now c.send_data.new.sink) (sym parts)
-    (data-cut g.S.BitSink.taken g.S.BitSink.refusals _ (take i bits) _ _ _ c.loop-bit.self _ _ c.loop-bit.sink _
+    (data-cut g.S.BitSink.sink _ (take i bits) _ _ _ c.loop-bit.self _ _ c.loop-bit.sink _
     c.loop-bit.invariant.sent c.loop-bit.invariant.run c.in_err-send_data.ensures.cut))
 
 pub loop-bit-preserved : goal.loop-bit-preserved
@@ -34,7 +34,7 @@ loop-bit-preserved g c =
     let next : take (i + 1) bits ≡ take i bits ++ get_or bits i false ∷ [] =
     take_next bits i false (omega (arith, ap length c.octet_bits-bits.ensures, length-bits 8 c.args.octet)) in
     rw next (record {
-      sent = data-sent g.S.BitSink.taken g.S.BitSink.refusals _ (take i bits) _ _ c.loop-bit.self _ _ c.loop-bit.sink _
+      sent = data-sent g.S.BitSink.sink _ (take i bits) _ _ c.loop-bit.self _ _ c.loop-bit.sink _
           c.loop-bit.invariant.sent c.loop-bit.invariant.run c.in_ok-send_data.ensures.sent;
       run = c.in_ok-send_data.ensures.run
           ∙ (ap (λ n. run_after n (get_or bits i false ∷ [])) c.loop-bit.invariant.run

@@ -6,7 +6,7 @@ use Rattle.bus_line.proofs.encoder.stuffing_writer.StuffingWriter.send_octet.Giv
 -- the bits so far went out
 abbrev pub invariant-loop-bit : goal.invariant-loop-bit
 invariant-loop-bit g l = record {
-  sent : Sent g.S.BitSink.taken g.S.BitSink.refusals (raw_after l.fn.self.run (take l.bit-index l.bit-items)) l.fn.self
+  sent : Sent g.S.BitSink.sink (raw_after l.fn.self.run (take l.bit-index l.bit-items)) l.fn.self
       l.self l.fn.sink l.sink;
   run : l.self.run ≡ run_after l.fn.self.run (take l.bit-index l.bit-items);
 }

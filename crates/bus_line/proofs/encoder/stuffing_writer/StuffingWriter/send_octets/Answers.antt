@@ -11,7 +11,7 @@ use Rattle.bus_line.proofs.encoder.stuffing_writer.StuffingWriter.send_octets.Go
 pub loop-octet-init : goal.loop-octet-init
 unfolding bits_of_octets
 loop-octet-init g c =
-    record { sent = sent-nil g.S.BitSink.taken g.S.BitSink.refusals c.args.self.now c.args.sink.now; run = refl }
+    record { sent = sent-nil g.S.BitSink.sink c.args.self.now c.args.sink.now; run = refl }
 
 pub send_octet-requires-clause-room : goal.send_octet-requires-clause-room
 send_octet-requires-clause-room g c =
@@ -29,9 +29,9 @@ returns-in_err-send_octet-clause-cut g c =
     let i = c.loop-octet.octet-index in
     let os = c.args.octets.now in
     on_err c.from_residual.result
-    (subst (λ z. Cut g.S.BitSink.taken g.S.BitSink.refusals (raw_after c.args.self.now.run z) c.args.self.now
+    (subst (λ z. Cut g.S.BitSink.sink (raw_after c.args.self.now.run z) c.args.self.now
     c.send_octet.new.self c.args.sink.now c.send_octet.new.sink) (sym (octets-split os i c.loop-octet-test.true))
-    (data-cut g.S.BitSink.taken g.S.BitSink.refusals _ (bits_of_octets (take i os)) _ _ _ c.loop-octet.self _ _
+    (data-cut g.S.BitSink.sink _ (bits_of_octets (take i os)) _ _ _ c.loop-octet.self _ _
     c.loop-octet.sink _ c.loop-octet.invariant.sent c.loop-octet.invariant.run c.in_err-send_octet.ensures.cut))
 
 pub loop-octet-preserved : goal.loop-octet-preserved
@@ -39,7 +39,7 @@ loop-octet-preserved g c =
     let i = c.loop-octet.octet-index in
     let os = c.args.octets.now in
     rw (octets-next os i c.loop-octet-test.true) (record {
-      sent = data-sent g.S.BitSink.taken g.S.BitSink.refusals _ (bits_of_octets (take i os)) _ _ c.loop-octet.self _ _
+      sent = data-sent g.S.BitSink.sink _ (bits_of_octets (take i os)) _ _ c.loop-octet.self _ _
           c.loop-octet.sink _ c.loop-octet.invariant.sent c.loop-octet.invariant.run c.in_ok-send_octet.ensures.sent;
       run = c.in_ok-send_octet.ensures.run
           ∙ (ap (λ n. run_after n (bits_of 8 (get_or os i 0))) c.loop-octet.invariant.run

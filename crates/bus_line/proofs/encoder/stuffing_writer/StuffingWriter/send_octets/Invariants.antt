@@ -7,7 +7,7 @@ use Rattle.bus_line.proofs.encoder.stuffing_writer.StuffingWriter.send_octets.Gi
 -- the octets so far went out
 abbrev pub invariant-loop-octet : goal.invariant-loop-octet
 invariant-loop-octet g l = record {
-  sent : Sent g.S.BitSink.taken g.S.BitSink.refusals
+  sent : Sent g.S.BitSink.sink
       (raw_after l.fn.self.run (bits_of_octets (take l.octet-index l.octets))) l.fn.self l.self l.fn.sink l.sink;
   run : l.self.run ≡ run_after l.fn.self.run (bits_of_octets (take l.octet-index l.octets));
 }

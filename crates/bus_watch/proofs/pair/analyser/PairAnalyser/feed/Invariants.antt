@@ -8,9 +8,9 @@ use Rattle.bus_watch.proofs.pair.analyser.PairAnalyser.feed.Given as goal
 abbrev pub invariant-loop-consumed : goal.invariant-loop-consumed
 invariant-loop-consumed g l = record {
   within : l.consumed ≤ length l.fn.pairs;
-  fed : FedBy (two_lines g.C.Check.folded g.C.Check.COST) g.S.PairSink.taken l.fn.self (take l.consumed l.fn.pairs)
+  fed : FedBy (two_lines g.C.Check.check) g.S.PairSink.sink l.fn.self (take l.consumed l.fn.pairs)
       l.self l.fn.sink l.sink;
-  sink : SinkTook g.S.PairSink.taken g.S.PairSink.room g.S.PairSink.refusals 0 l.fn.sink l.sink;
+  sink : SinkTook g.S.PairSink.sink 0 l.fn.sink l.sink;
 }
 
 abbrev pub decreases-loop-consumed : goal.decreases-loop-consumed

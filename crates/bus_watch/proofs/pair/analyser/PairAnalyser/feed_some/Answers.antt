@@ -19,7 +19,7 @@ front g c i within =
     words-front c.args.pairs.now words.result.first words.result.second c.min-most.result i words.ensures.first
     words.ensures.second (most g c) (omega (arith, within, c.in-Ok.ensures.within.1))
 
-sees : (g : Over) (c : goal.After-offer_both g) → SeesPairs g.C.Check.folded g.C.Check.COST c.args.self.now
+sees : (g : Over) (c : goal.After-offer_both g) → SeesPairs g.C.Check.check c.args.self.now
     (take c.in-Ok.count c.args.pairs.now) (shown_pair c.seen.result) c.take.new.self
 sees g c = rw (← front g c c.in-Ok.count (omega arith), c.seen.ensures.shown) c.in-Ok.ensures.sees
 
@@ -28,7 +28,7 @@ returns-clause-fed g c =
     on_ok_weaker c.offer_both.result (λ offered. fed-offered (sees g c) offered) c.offer_both.ensures.ok
 
 pub returns-clause-none_refused : goal.returns-clause-none_refused
-returns-clause-none_refused g c = on_ok_weaker c.offer_both.result (λ offered. offered.sink) c.offer_both.ensures.ok
+returns-clause-none_refused g c = on_ok_weaker c.offer_both.result (λ offered. offered.counts) c.offer_both.ensures.ok
 
 pub returns-clause-refused : goal.returns-clause-refused
 returns-clause-refused g c =
@@ -39,7 +39,7 @@ returns-clause-refused g c =
     ≡ pairs_of (n - 1) c.pair_words-words.result.first c.pair_words-words.result.second =
     ap (λ i. take (i - 1) (take n ps)) count ∙ (take-take (n - 1) n ps (omega arith)
     ∙ sym (front g c (n - 1) (omega arith))) in
-    let calm : (b : List (Bool × Bool)) → IsAfterPairs g.C.Check.folded g.C.Check.COST c.args.self.now b
+    let calm : (b : List (Bool × Bool)) → IsAfterPairs g.C.Check.check c.args.self.now b
     → seen_after_pairs c.args.self.now (b ++ take (length (take n ps) - 1) (take n ps))
     ≡ seen_after_pairs c.args.self.now b =
     rw but_last c.in-Ok.ensures.before in
@@ -48,7 +48,7 @@ returns-clause-refused g c =
     (λ offered. (
       offered.0,
       offered.2,
-      offered.3.sink,
+      offered.3.counts,
       refused-offered some offered.1 (sees g c) calm offered.3,
     ))
     c.offer_both.ensures.err

@@ -12,7 +12,7 @@ returns g c =
     let one : pairs_of n c.from.result c.from-2.result ≡ (c.args.first, c.args.second) ∷ [] =
     one_pair n c.from.result c.from-2.result c.args.first c.args.second c.from.ensures c.from-2.ensures within.0
     within.1 in
-    let sees : SeesPairs g.C.Check.folded g.C.Check.COST c.args.self.now ((c.args.first, c.args.second) ∷ [])
+    let sees : SeesPairs g.C.Check.check c.args.self.now ((c.args.first, c.args.second) ∷ [])
     (shown_pair c.seen.result) c.take.new.self =
     rw (← one, c.seen.ensures.shown) c.in_ok-take.ensures.sees in (
       (refl, (λ _. tt), (sees, tt)),
@@ -21,7 +21,7 @@ returns g c =
           (λ same. absurd (cc)),
           (λ far. absurd (let refused = c.in_ok-take.ensures.limit.1 (omega (arith, far)) in cc)),
         );
-        answer = λ ps reached. answer-pair g.C.Check.folded g.C.Check.COST c.args.self.now ps
+        answer = λ ps reached. answer-pair g.C.Check.check c.args.self.now ps
             (c.args.first, c.args.second) (shown_pair c.seen.result) c.pairs_grow.ensures.grows reached
             (sees.seen ps reached);
         fits = (c.seen.ensures.first_fits, c.seen.ensures.second_fits);

@@ -11,12 +11,12 @@ pub loop-at-init : goal.loop-at-init
 loop-at-init g c = record {
   within = omega arith;
   told =
-      subst (λ (a : PairState g.row.C.Denot). LeadsTold (two_lines g.C.Check.folded g.C.Check.COST) a
+      subst (λ (a : PairState g.row.C.Denot). LeadsTold (two_lines g.C.Check.check) a
       (zip (bits_from c.args.first.now 0 0) (bits_from c.args.second.now 0 0))
       (record (pair_state c.self.inside) { found_first = None; found_second = None })
       (λ ss. g.L.PairListener.hears a.journal.dictionary c.args.listener.now c.args.out.now ss c.args.listener.now
       c.args.out.now)) c.self.view_is
-      (leads-nowhere g.C.Check.folded g.C.Check.COST (pair_state c.self.inside) c.args.first.now c.args.second.now _
+      (leads-nowhere g.C.Check.check (pair_state c.self.inside) c.args.first.now c.args.second.now _
       (g.met.L.PairListener.hears_none c.self.inside.journal.dictionary c.args.listener.now c.args.out.now));
   room = g.met.L.PairListener.has_less c.args.listener.now (2 * c.args.count) (2 * (c.min-end.result - 0))
       (omega (arith, c.min-end.ensures ∙ least c.args.count (2 ^ 60 - c.place-places.result))) c.requires.room;
@@ -46,12 +46,12 @@ loop-at-preserved g c =
     record {
       within = scanned.ensures.within.1;
       told =
-          subst (λ (k : ℕ). LeadsTold (two_lines g.C.Check.folded g.C.Check.COST) c.args.self.now
+          subst (λ (k : ℕ). LeadsTold (two_lines g.C.Check.check) c.args.self.now
           (zip (bits_from c.args.first.now 0 k) (bits_from c.args.second.now 0 k)) scanned.new.self
           (λ ss. g.L.PairListener.hears c.args.self.now.journal.dictionary c.args.listener.now c.args.out.now ss
           scanned.new.listener scanned.new.out)) met
           (rw (zip-met c.args.first.now c.args.second.now i n)
-          (leads-further (two_lines g.C.Check.folded g.C.Check.COST) c.args.self.now c.loop-at.self scanned.new.self _ _
+          (leads-further (two_lines g.C.Check.check) c.args.self.now c.loop-at.self scanned.new.self _ _
           _ _ _ before last
           (λ ss ts first next. g.met.L.PairListener.hears_more c.args.self.now.journal.dictionary c.args.listener.now
           c.loop-at.listener scanned.new.listener

@@ -8,7 +8,7 @@ use Rattle.bus_watch.proofs.pair.analyser.PairAnalyser.scan.Given as goal
 abbrev pub invariant-loop-at : goal.invariant-loop-at
 invariant-loop-at g l = record {
   within : l.at ≤ l.end;
-  told : LeadsTold (two_lines g.C.Check.folded g.C.Check.COST) l.fn.self
+  told : LeadsTold (two_lines g.C.Check.check) l.fn.self
       (zip (bits_from l.fn.first 0 l.at) (bits_from l.fn.second 0 l.at)) l.self
       (λ ss. g.L.PairListener.hears l.fn.self.journal.dictionary l.fn.listener l.fn.out ss l.listener l.out);
   room : g.L.PairListener.has_room l.listener (2 * (l.end - l.at));

@@ -27,7 +27,7 @@ pub follow-requires-clause-reaches : goal.follow-requires-clause-reaches
 follow-requires-clause-reaches g c =
     let ps = c.self.invariant.pairs in
     let reached = c.self.invariant.reached in
-    pairs-reach g.C.Check.folded g.C.Check.COST (pair_state c.self.inside) ps c.settled_places.ensures.frames
+    pairs-reach g.C.Check.check (pair_state c.self.inside) ps c.settled_places.ensures.frames
     c.settled_places.ensures.paid c.settled_places.ensures.within reached
     (omega (
       arith,
@@ -53,7 +53,7 @@ take-requires-clause-whole g c =
 pub take-requires-clause-room : goal.take-requires-clause-room
 take-requires-clause-room g c =
     let n = c.in-Ok.scanned.count in
-    reaches-room g.C.Check.folded g.C.Check.COST c.follow.new.decoder (journal_state c.follow.new.journal)
+    reaches-room g.C.Check.check c.follow.new.decoder (journal_state c.follow.new.journal)
     c.settled_places.ensures.frames c.settled_places.ensures.paid c.settled_places.ensures.within
     c.follow.ensures.reaches
     (omega (
@@ -118,11 +118,10 @@ pairs-taken g c =
 -- the journal takes it
 leads-on : (g : Over) (c : goal.After-tell g) (told : List SeenReport → Type 0) →
     told (c.follow.ensures.hears.seen_now ++ option_to_list (last-seen g c))
-    → LeadsTold (two_lines g.C.Check.folded g.C.Check.COST) (pair_state c.self.inside) (pairs-taken g c)
+    → LeadsTold (two_lines g.C.Check.check) (pair_state c.self.inside) (pairs-taken g c)
     (with-report g c) told
 leads-on g c told all_told =
-    let folded = g.C.Check.folded in
-    let cost = g.C.Check.COST in
+    let view = g.C.Check.check in
     let n = c.in-Ok.scanned.count in
     let all : c.args.from + n - c.args.from ≡ n = omega arith in
     let bits = bits_from c.args.second.now c.args.from n in
@@ -132,15 +131,15 @@ leads-on g c told all_told =
     let event = c.in-Some.event in
     let before = journal_state c.follow.new.journal in
     let after = journal_state c.take.new.self in
-    let advances = subst (λ o. Advances folded cost old bits (option_map (reported octets) o) new)
+    let advances = subst (λ o. Advances view old bits (option_map (reported octets) o) new)
     c.in-Some.is c.in-Ok.ensures.advances in
     let enters = subst
     (λ (os : List ℕ). Enters before (heard_on (Some Second) (reported os event))
     (found_on (Some Second) os c.take.new.self.last) after)
     c.octets-octets.ensures.value c.take.ensures.enters in
-    let heard = hears-some folded cost (Some Second) old new before after bits (reported octets event) (last-seen g c)
+    let heard = hears-some view (Some Second) old new before after bits (reported octets event) (last-seen g c)
     advances enters.keeps (λ hs kept. ap Some (enters.says hs kept)) enters.dictionary enters.depth in
-    leads-scanned folded cost (pair_state c.self.inside) (with-report g c) before
+    leads-scanned view (pair_state c.self.inside) (with-report g c) before
     c.args.first.now c.args.second.now c.args.from (c.args.from + n - c.args.from) (last-seen g c) _ told
     c.reports_grow.ensures.stays c.reports_grow.ensures.more c.reports_grow.ensures.grow
     (omega (arith, c.in-Ok.ensures.count)) c.follow.ensures.hears (rw all heard) all_told
@@ -161,7 +160,7 @@ returns-in-Some-clause-told g c =
     let told : g.L.PairListener.hears c.self.inside.journal.dictionary c.follow.new.listener c.follow.new.out
     (option_to_list last) c.tell.new.listener c.tell.new.out =
     rw (← dictionary, ← c.last.ensures, ← c.octets-octets.ensures.value) c.tell.ensures.heard in
-    subst (λ (a : PairState g.row.C.Denot). LeadsTold (two_lines g.C.Check.folded g.C.Check.COST) a (pairs-taken g c)
+    subst (λ (a : PairState g.row.C.Denot). LeadsTold (two_lines g.C.Check.check) a (pairs-taken g c)
     (with-report g c)
     (λ ss. g.L.PairListener.hears a.journal.dictionary c.args.listener.now c.args.out.now ss c.tell.new.listener
     c.tell.new.out)) c.self.view_is
@@ -186,21 +185,20 @@ pairs-passed g c =
     zip (bits_from c.args.first.now c.args.from n) (bits_from c.args.second.now c.args.from n)
 
 passes-on : (g : Over) (c : goal.In_default g) (told : List SeenReport → Type 0) → told c.follow.ensures.hears.seen_now
-    → LeadsTold (two_lines g.C.Check.folded g.C.Check.COST) (pair_state c.self.inside) (pairs-passed g c)
+    → LeadsTold (two_lines g.C.Check.check) (pair_state c.self.inside) (pairs-passed g c)
     (without-report g c) told
 passes-on g c told all_told =
-    let folded = g.C.Check.folded in
-    let cost = g.C.Check.COST in
+    let view = g.C.Check.check in
     let n = c.in-Ok.scanned.count in
     let all : c.args.from + n - c.args.from ≡ n = omega arith in
     let bits = bits_from c.args.second.now c.args.from n in
     let old = c.self.inside.second in
     let new = c.scan.new.self in
     let journal = journal_state c.follow.new.journal in
-    let advances = subst (λ o. Advances folded cost old bits (option_map (reported new.octets) o) new)
+    let advances = subst (λ o. Advances view old bits (option_map (reported new.octets) o) new)
     c.in_default.is c.in-Ok.ensures.advances in
-    let heard = hears-none folded cost (Some Second) old new journal journal bits advances refl in
-    leads-scanned folded cost (pair_state c.self.inside) (without-report g c) journal
+    let heard = hears-none view (Some Second) old new journal journal bits advances refl in
+    leads-scanned view (pair_state c.self.inside) (without-report g c) journal
     c.args.first.now c.args.second.now c.args.from (c.args.from + n - c.args.from) None _ told
     c.reports_grow.ensures.stays c.reports_grow.ensures.more c.reports_grow.ensures.grow
     (omega (arith, c.in-Ok.ensures.count)) c.follow.ensures.hears (rw all heard)
@@ -215,7 +213,7 @@ invariant_of-self-in_default g c = record {
 
 pub returns-in_default-clause-told : goal.returns-in_default-clause-told
 returns-in_default-clause-told g c =
-    subst (λ (a : PairState g.row.C.Denot). LeadsTold (two_lines g.C.Check.folded g.C.Check.COST) a (pairs-passed g c)
+    subst (λ (a : PairState g.row.C.Denot). LeadsTold (two_lines g.C.Check.check) a (pairs-passed g c)
     (without-report g c)
     (λ ss. g.L.PairListener.hears a.journal.dictionary c.args.listener.now c.args.out.now ss c.follow.new.listener
     c.follow.new.out)) c.self.view_is

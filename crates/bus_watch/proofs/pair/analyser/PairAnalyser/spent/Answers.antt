@@ -8,7 +8,7 @@ use Rattle.bus_watch.proofs.pair.analyser.PairAnalyser.spent.Goals as goal
 pub overflow_add-result : goal.overflow_add-result
 overflow_add-result g c =
     let reached = c.self.invariant.reached in
-    let within = both-within g.C.Check.folded g.C.Check.COST (pair_state c.self.inside) c.self.invariant.pairs
+    let within = both-within g.C.Check.check (pair_state c.self.inside) c.self.invariant.pairs
     c.spent-first.result c.spent-second.result c.settled_places.ensures.paid c.settled_places.ensures.within
     g.met.C.Check.cost_in_range.1 reached (c.spent-first.ensures.ledger _ reached.first)
     (c.spent-second.ensures.ledger _ reached.second) in
@@ -18,7 +18,7 @@ overflow_add-result g c =
 pub overflow_add-result-2 : goal.overflow_add-result-2
 overflow_add-result-2 g c =
     let reached = c.self.invariant.reached in
-    let within = both-within g.C.Check.folded g.C.Check.COST (pair_state c.self.inside) c.self.invariant.pairs
+    let within = both-within g.C.Check.check (pair_state c.self.inside) c.self.invariant.pairs
     c.spent-first.result c.spent-second.result c.settled_places.ensures.paid c.settled_places.ensures.within
     g.met.C.Check.cost_in_range.1 reached (c.spent-first.ensures.ledger _ reached.first)
     (c.spent-second.ensures.ledger _ reached.second) in
@@ -28,7 +28,7 @@ overflow_add-result-2 g c =
 pub overflow_add-result-3 : goal.overflow_add-result-3
 overflow_add-result-3 g c =
     let reached = c.self.invariant.reached in
-    let within = both-within g.C.Check.folded g.C.Check.COST (pair_state c.self.inside) c.self.invariant.pairs
+    let within = both-within g.C.Check.check (pair_state c.self.inside) c.self.invariant.pairs
     c.spent-first.result c.spent-second.result c.settled_places.ensures.paid c.settled_places.ensures.within
     g.met.C.Check.cost_in_range.1 reached (c.spent-first.ensures.ledger _ reached.first)
     (c.spent-second.ensures.ledger _ reached.second) in
@@ -38,7 +38,7 @@ overflow_add-result-3 g c =
 pub overflow_add-result-4 : goal.overflow_add-result-4
 overflow_add-result-4 g c =
     let reached = c.self.invariant.reached in
-    let within = both-within g.C.Check.folded g.C.Check.COST (pair_state c.self.inside) c.self.invariant.pairs
+    let within = both-within g.C.Check.check (pair_state c.self.inside) c.self.invariant.pairs
     c.spent-first.result c.spent-second.result c.settled_places.ensures.paid c.settled_places.ensures.within
     g.met.C.Check.cost_in_range.1 reached (c.spent-first.ensures.ledger _ reached.first)
     (c.spent-second.ensures.ledger _ reached.second) in
@@ -49,14 +49,14 @@ pub returns-clause-ledger : goal.returns-clause-ledger
 returns-clause-ledger g c = λ ps reached.
     let inside = rw (← c.self.view_is) at reached in
     rw (← c.self.view_is)
-    (pair-ledger g.C.Check.folded g.C.Check.COST (pair_state c.self.inside) ps c.spent-first.result
+    (pair-ledger g.C.Check.check (pair_state c.self.inside) ps c.spent-first.result
     c.spent-second.result c.spent-journal.result inside
     (c.spent-first.ensures.ledger _ inside.first) (c.spent-second.ensures.ledger _ inside.second)
     (ap (λ (x : Spent). x.copied) c.spent-journal.ensures) (ap (λ (x : Spent). x.handled) c.spent-journal.ensures))
 
 pub returns-clause-four : goal.returns-clause-four
 returns-clause-four g c = λ ps reached.
-    pair-four g.C.Check.COST _ ps _ c.steps_are_bounded.ensures.four g.met.C.Check.cost_in_range.1
+    pair-four g.C.Check.check.cost _ ps _ c.steps_are_bounded.ensures.four g.met.C.Check.cost_in_range.1
     (returns-clause-ledger g c ps reached)
 
 pub returns-clause-three : goal.returns-clause-three

@@ -16,14 +16,14 @@ hear_all-self-inside-requires-clause-calm g c = λ b reached i before decides.
     let fewer = c.min-taken.ensures ∙ least c.would_take-first_takes.result c.would_take-second_takes.result in
     (c.would_take-first_takes.ensures.stops b reached).before i (omega (arith, before, fewer))
     (decides-front b i n c.args.count c.args.first
-    (omega (arith, fewer, c.would_take-first_takes.ensures.within, c.requires.few))
+    (omega (arith, fewer, c.would_take-first_takes.ensures.within, c.requires.first.few))
     (omega (arith, fewer, c.would_take-first_takes.ensures.within)) (omega (arith, before)) decides)
 
 pub hear_all-self-inside-requires-clause-room : goal.hear_all-self-inside-requires-clause-room
 hear_all-self-inside-requires-clause-room g c =
     let ps = c.self.invariant.pairs in
     let place = c.has_room.ensures.0 c.if-not-has_room.false in
-    room-first g.C.Check.folded g.C.Check.COST (pair_state c.self.inside) ps c.settled_places.ensures.frames
+    room-first g.C.Check.check (pair_state c.self.inside) ps c.settled_places.ensures.frames
     c.settled_places.ensures.paid c.settled_places.ensures.within c.self.invariant.reached
     (omega (
       arith,
@@ -39,7 +39,7 @@ hear_all-self-inside-requires-2-clause-calm g c = λ b reached i before decides.
     let fewer = c.min-taken.ensures ∙ least c.would_take-first_takes.result c.would_take-second_takes.result in
     (c.would_take-second_takes.ensures.stops b reached).before i (omega (arith, before, fewer))
     (decides-front b i n c.args.count c.args.second
-    (omega (arith, fewer, c.would_take-second_takes.ensures.within, c.requires.few))
+    (omega (arith, fewer, c.would_take-second_takes.ensures.within, c.requires.first.few))
     (omega (arith, fewer, c.would_take-second_takes.ensures.within)) (omega (arith, before)) decides)
 
 pub hear_all-self-inside-requires-2-clause-room : goal.hear_all-self-inside-requires-2-clause-room
@@ -48,7 +48,7 @@ hear_all-self-inside-requires-2-clause-room g c =
     let n = c.min-taken.result in
     let fewer = c.min-taken.ensures ∙ least c.would_take-first_takes.result c.would_take-second_takes.result in
     let place = c.has_room.ensures.0 c.if-not-has_room.false in
-    room-second g.C.Check.folded g.C.Check.COST (pair_state c.self.inside) c.hear_all-self-inside.new.decoder
+    room-second g.C.Check.check (pair_state c.self.inside) c.hear_all-self-inside.new.decoder
     (journal_state c.hear_all-self-inside.new.journal) _ _ ps c.settled_places.ensures.frames
     c.settled_places.ensures.paid c.settled_places.ensures.within
     c.hear_all-self-inside.ensures c.self.invariant.reached
@@ -91,11 +91,11 @@ invariant_of-self g c =
           c.hear_all-self-inside.result;
       found_second = c.hear_all-self-inside-2.result;
     } in
-    let sees = sees-words g.C.Check.folded g.C.Check.COST n c.args.first c.args.second (pair_state c.self.inside) new
+    let sees = sees-words g.C.Check.check n c.args.first c.args.second (pair_state c.self.inside) new
     (journal_state c.hear_all-self-inside.new.journal) _ _ c.reports_grow.ensures.stays c.reports_grow.ensures.more
     c.reports_grow.ensures.grow
     (omega (arith, fewer, c.would_take-first_takes.ensures.within, c.would_take-second_takes.ensures.within))
-    (omega (arith, fewer, c.would_take-first_takes.ensures.within, c.requires.few)) first second in
+    (omega (arith, fewer, c.would_take-first_takes.ensures.within, c.requires.first.few)) first second in
     record {
       depth = omega (arith, c.self.invariant.depth, first.depth, second.depth);
       pairs = c.self.invariant.pairs ++ pairs_of n c.args.first c.args.second;
@@ -106,18 +106,18 @@ pub returns-clause-sees : goal.returns-clause-sees
 returns-clause-sees g c =
     let fewer = c.min-taken.ensures ∙ least c.would_take-first_takes.result c.would_take-second_takes.result in
     rw (← c.self.view_is)
-    (sees-words g.C.Check.folded g.C.Check.COST c.min-taken.result c.args.first c.args.second
+    (sees-words g.C.Check.check c.min-taken.result c.args.first c.args.second
     (pair_state c.self.inside) _ (journal_state c.hear_all-self-inside.new.journal) _ _ c.reports_grow.ensures.stays
     c.reports_grow.ensures.more c.reports_grow.ensures.grow
     (omega (arith, fewer, c.would_take-first_takes.ensures.within, c.would_take-second_takes.ensures.within))
-    (omega (arith, fewer, c.would_take-first_takes.ensures.within, c.requires.few)) c.hear_all-self-inside.ensures
+    (omega (arith, fewer, c.would_take-first_takes.ensures.within, c.requires.first.few)) c.hear_all-self-inside.ensures
     c.hear_all-self-inside-2.ensures)
 
 pub returns-clause-before : goal.returns-clause-before
 returns-clause-before g c =
     let fewer = c.min-taken.ensures ∙ least c.would_take-first_takes.result c.would_take-second_takes.result in
     rw (← c.self.view_is)
-    (words-before g.C.Check.folded g.C.Check.COST c.min-taken.result c.args.first c.args.second
+    (words-before g.C.Check.check c.min-taken.result c.args.first c.args.second
     (pair_state c.self.inside) c.reports_grow.ensures.stays c.reports_grow.ensures.more c.reports_grow.ensures.grow
-    (omega (arith, fewer, c.would_take-first_takes.ensures.within, c.requires.few))
+    (omega (arith, fewer, c.would_take-first_takes.ensures.within, c.requires.first.few))
     c.hear_all-self-inside.ensures.advances.before c.hear_all-self-inside-2.ensures.advances.before)

@@ -3,7 +3,7 @@ use Rattle.bus_watch.proofs.pair.analyser.PairAnalyser.usage.Goals as goal
 
 pub returns-clause-headline : goal.returns-clause-headline
 returns-clause-headline g c =
-    whole-pair-run g.C.Check.folded g.C.Check.COST c.args.self.now
+    whole-pair-run g.C.Check.check c.args.self.now
     (record {
       first_buffered = c.buffered.result;
       second_buffered = c.buffered-2.result;

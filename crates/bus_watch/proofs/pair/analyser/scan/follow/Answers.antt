@@ -13,7 +13,7 @@ loop-at-init g c = record {
   some = omega arith;
   within = c.requires.some;
   hears = rw (bits-none c.args.octets.now c.args.from)
-      (hears-nothing g.C.Check.folded g.C.Check.COST (Some First) c.args.decoder.now (journal_state c.args.journal.now)
+      (hears-nothing g.C.Check.check (Some First) c.args.decoder.now (journal_state c.args.journal.now)
       _
       (g.met.L.PairListener.hears_none c.args.journal.now.dictionary c.args.listener.now c.args.out.now));
   left = λ more room. room;
@@ -22,7 +22,7 @@ loop-at-init g c = record {
 
 pub hear_octets-requires-clause-room : goal.hear_octets-requires-clause-room
 hear_octets-requires-clause-room g c = λ below.
-    reaches-room g.C.Check.folded g.C.Check.COST c.loop-at.decoder (journal_state c.loop-at.journal)
+    reaches-room g.C.Check.check c.loop-at.decoder (journal_state c.loop-at.journal)
     c.settled_places.ensures.frames c.settled_places.ensures.paid c.settled_places.ensures.within
     c.loop-at.invariant.reaches (omega (arith, below))
 
@@ -63,7 +63,7 @@ loop-at-preserved g c =
       some = omega (arith, before.some);
       within = omega (arith, c.in-Ok.ensures.within.1, c.loop-at-test.true);
       hears = rw (bits-met c.args.octets.now c.args.from i n before.some)
-          (hears-more g.C.Check.folded g.C.Check.COST (Some First) c.args.decoder.now c.loop-at.decoder
+          (hears-more g.C.Check.check (Some First) c.args.decoder.now c.loop-at.decoder
           c.hear_octets.new.decoder
           (journal_state c.args.journal.now) (journal_state c.loop-at.journal)
           (journal_state c.hear_octets.new.journal)
@@ -78,7 +78,7 @@ loop-at-preserved g c =
           c.tell.ensures.left left
           (g.met.L.PairListener.has_less c.loop-at.listener (c.args.past - i + more) (1 + left)
           (omega (arith, c.in-Ok.ensures.within, c.loop-at-test.true)) (before.left more room));
-      reaches = reaches-more g.C.Check.folded g.C.Check.COST (Some First) c.loop-at.decoder
+      reaches = reaches-more g.C.Check.check (Some First) c.loop-at.decoder
           c.hear_octets.new.decoder
           (journal_state c.loop-at.journal) (journal_state c.hear_octets.new.journal)
           (bits_from c.args.octets.now i n) last before.reaches heard;
