@@ -17,7 +17,7 @@ may be the text of a file, as above.
 import re
 import shlex
 from pathlib import Path
-from typing import Dict, Iterator, List, NamedTuple, Optional, Set
+from typing import Dict, Iterable, Iterator, List, NamedTuple, Optional, Set
 
 TOLD_BY = re.compile(r"^# told-by: (\w+) ([\w:]+)$", re.MULTILINE)
 
@@ -46,13 +46,16 @@ class Change(NamedTuple):
     old: str
     new: str
 
-    def make(self, top: Path) -> None:
-        """Makes it in a work tree. A ValueError where the old text does not stand in the file exactly once."""
-        path = top / self.file
-        text = path.read_text(encoding="utf-8")
+    def made_in(self, text: str) -> str:
+        """The text of the file with it. A ValueError where the old text does not stand there exactly once."""
         if text.count(self.old) != 1:
             raise ValueError(f"{self.file} has it {text.count(self.old)} times: {self.old}")
-        path.write_text(text.replace(self.old, self.new), encoding="utf-8")
+        return text.replace(self.old, self.new)
+
+    def make(self, top: Path) -> None:
+        """Makes it in a work tree, or raises a ValueError likewise."""
+        path = top / self.file
+        path.write_text(self.made_in(path.read_text(encoding="utf-8")), encoding="utf-8")
 
 
 class Edit(NamedTuple):
@@ -78,6 +81,18 @@ def edit_of(path: Path) -> Edit:
         elif key == "new":
             changes.append(Change(file, old, rest[1:]))
     return Edit(f"{crate}/{path.stem}", text, changes)
+
+
+def misfits(edits: Iterable[Edit], top: Path) -> Iterator[str]:
+    """The edits that do not fit the files of a work tree, each with its first change that does not."""
+    for edit in edits:
+        texts: Dict[Path, str] = {}
+        try:
+            for change in edit.changes:
+                text = texts.get(change.file) or (top / change.file).read_text(encoding="utf-8")
+                texts[change.file] = change.made_in(text)
+        except (OSError, ValueError) as fault:
+            yield f"{edit.name}: {fault}"
 
 
 def tests_told(text: str) -> List[Test]:
