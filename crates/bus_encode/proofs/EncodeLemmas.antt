@@ -60,7 +60,7 @@ then-clean a b clean = rw clean refl
 pub then-fault : (a b : Asked) (e : ToolFault) → a.fault ≡ Some e → and_then a b ≡ a
 then-fault a b e stopped =
     ap (λ f. unless_fault f a.calls b) stopped
-    ∙ ap (λ (f : Option ToolFault). let x : Asked = record { calls = a.calls; fault = f } in x) (sym stopped)
+    ∙ ap {B = Asked} (λ (f : Option ToolFault). record { calls = a.calls; fault = f }) (sym stopped)
 
 -- ---- lines
 
@@ -70,9 +70,8 @@ unfolding asked_behind
 asked-append n [] ms = ap (λ k. asked_behind k ms) (sym (add-zero n))
 asked-append n (l ∷ ls) ms =
     let count : n + 1 + length ls ≡ n + length (l ∷ ls) = omega arith in
-    ap (and_then (line_asked n l)) (asked-append (n + 1) ls ms)
-    ∙ (ap (λ j. and_then (line_asked n l) (and_then (asked_behind (n + 1) ls) (asked_behind j ms))) count
-    ∙ sym (then-assoc (line_asked n l) (asked_behind (n + 1) ls) (asked_behind (n + length (l ∷ ls)) ms)))
+    rw (asked-append (n + 1) ls ms, count)
+    (sym (then-assoc (line_asked n l) (asked_behind (n + 1) ls) (asked_behind (n + length (l ∷ ls)) ms)))
 
 pub asked-one : (n : ℕ) (l : List ℕ) → asked_behind n (l ∷ []) ≡ line_asked n l
 unfolding asked_behind
@@ -81,9 +80,7 @@ asked-one n l = then-nothing (line_asked n l)
 -- one line more
 pub asked-push : (ls : List (List ℕ)) (l : List ℕ) → asked_behind 0 (ls ++ l ∷ [])
     ≡ and_then (asked_behind 0 ls) (line_asked (length ls) l)
-asked-push ls l =
-    asked-append 0 ls (l ∷ []) ∙ ap (and_then (asked_behind 0 ls))
-    (asked-one (0 + length ls) l ∙ ap (λ k. line_asked k l) (zero-add (length ls)))
+asked-push ls l = rw (asked-append 0 ls (l ∷ []), asked-one (0 + length ls) l, zero-add (length ls)) refl
 
 -- ---- lines that are too long
 
@@ -129,9 +126,6 @@ long-asked n l long = rw long refl
 open-long : (n : ℕ) (l : List ℕ) → is_long l ≡ true → open_asked n l ≡ bad n
 open-long n l long = rw long refl
 
-open-short : (n : ℕ) (l : List ℕ) → is_long l ≡ false → open_asked n l ≡ nothing
-open-short n l short = rw short refl
-
 -- what is asked for after a line that stands open
 abbrev after_open : ℕ → List ℕ → List ℕ → Asked
 after_open n line ys = and_then (asked_behind n (ended_behind line ys))
@@ -160,15 +154,11 @@ so_far-is xs = refl
 
 -- a line that is not too long asks for nothing while it stands open
 pub so_far-short : (xs : List ℕ) → is_long (open_line xs) ≡ false → asked_so_far xs ≡ asked_behind 0 (ended_lines xs)
-so_far-short xs short =
-    let ended = asked_behind 0 (ended_lines xs) in
-    so_far-is xs
-    ∙ (ap (and_then ended) (open-short (length (ended_lines xs)) (open_line xs) short) ∙ then-nothing ended)
+so_far-short xs short = rw (so_far-is xs, short) (then-nothing (asked_behind 0 (ended_lines xs)))
 
 pub so_far-long : (xs : List ℕ) → is_long (open_line xs) ≡ true →
     asked_so_far xs ≡ and_then (asked_behind 0 (ended_lines xs)) (bad (length (ended_lines xs)))
-so_far-long xs long = so_far-is xs ∙ ap (and_then (asked_behind 0 (ended_lines xs)))
-    (open-long (length (ended_lines xs)) (open_line xs) long)
+so_far-long xs long = rw (so_far-is xs, long) refl
 
 -- no fault so far is none in the lines that ended
 pub ended_clean : (xs : List ℕ) → (asked_so_far xs).fault ≡ None → (asked_behind 0 (ended_lines xs)).fault ≡ None
@@ -234,9 +224,8 @@ pub in_all-is : (xs : List ℕ) → asked_in_all xs
 unfolding asked_in_all
 in_all-is xs =
     let ended = ended_lines xs in
-    asked-append 0 ended (last_line (open_line xs))
-    ∙ ap (and_then (asked_behind 0 ended)) (last-asked (0 + length ended) (open_line xs)
-    ∙ ap (λ (k : ℕ). line_asked k (open_line xs)) (zero-add (length ended)))
+    rw (asked-append 0 ended (last_line (open_line xs)), zero-add (length ended))
+    (ap (and_then (asked_behind 0 ended)) (last-asked (length ended) (open_line xs)))
 
 -- and asks for more
 pub in_all-grows : (xs : List ℕ) → (c : Asked) × (asked_in_all xs ≡ and_then (asked_so_far xs) c)
@@ -248,11 +237,8 @@ in_all-grows xs =
 pub all-grows : (xs ys : List ℕ) → (c : Asked) × (asked_in_all (xs ++ ys) ≡ and_then (asked_so_far xs) c)
 all-grows xs ys =
     let more = so_far-grows xs ys in
-    let whole = in_all-grows (xs ++ ys) in (
-      and_then more.0 whole.0,
-      whole.1
-          ∙ (ap (λ (a : Asked). and_then a whole.0) more.1 ∙ then-assoc (asked_so_far xs) more.0 whole.0),
-    )
+    let whole = in_all-grows (xs ++ ys) in
+    (and_then more.0 whole.0, rw (whole.1, more.1) (then-assoc (asked_so_far xs) more.0 whole.0))
 
 -- ---- text
 
@@ -261,11 +247,9 @@ pub text-append : (before cs ds : List Call) → text_behind before (cs ++ ds)
 unfolding text_behind
 text-append before [] ds = ap (λ (b : List Call). text_behind b ds) (sym (append-nil before))
 text-append before (c ∷ cs) ds =
-    let gained = bits_text (gain before c) in
-    ap (λ (l : List ℕ). gained ++ l) (text-append (before ++ c ∷ []) cs ds)
-    ∙ (ap (λ (b : List Call). gained ++ (text_behind (before ++ c ∷ []) cs ++ text_behind b ds))
-    (append_assoc before (c ∷ []) cs)
-    ∙ sym (append_assoc gained (text_behind (before ++ c ∷ []) cs) (text_behind (before ++ c ∷ cs) ds)))
+    rw (text-append (before ++ c ∷ []) cs ds, append_assoc before (c ∷ []) cs)
+    (sym (append_assoc (bits_text (gain before c)) (text_behind (before ++ c ∷ []) cs)
+    (text_behind (before ++ c ∷ cs) ds)))
 
 pub text-push : (cs : List Call) (c : Call) → encode_text (cs ++ c ∷ []) ≡ encode_text cs ++ bits_text (gain cs c)
 unfolding text_behind

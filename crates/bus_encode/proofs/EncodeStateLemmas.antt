@@ -1,7 +1,7 @@
 -- The steps of a session.
 use Rattle.std.proofs.Common.{◌≡◌, ◌≢◌, ℕ, ◌+◌, ◌<◌, ◌≤◌, ◌==◌, true, false, List, [], ◌∷◌, ◌++◌, length, get_or, take}
 use Rattle.std.proofs.Common.{drop, Option, Some, None, Result, Ok, Err, IfSome, MatchResult, inl, inr, refl, sym, ap}
-use Rattle.std.proofs.Common.{subst, ◌∙◌, arith, length-append}
+use Rattle.std.proofs.Common.{◌∙◌, arith, length-append}
 use Rattle.std.specs.Io.KnownBytes.{Appends, Consumes, Keeps, IsAtEnd}
 use Rattle.std.specs.Io.BufRead.{strip_last}
 use Rattle.std.specs.Path.{rsplit_once}
@@ -138,9 +138,7 @@ push_cases start now line new number same x e written xs (Err fault) other fits 
 pub one_is : (start now : Option (List ℕ)) (line : List ℕ) (number : ℕ) (e : EncoderState) (written : ℕ) (xs : List ℕ) →
     Takes start now line number e written xs
     → one_asked (line_call number (strip_last 13 line)) ≡ line_asked (length (ended_lines xs)) (open_line xs)
-one_is start now line number e written xs taken =
-    ap (λ (n : ℕ). one_asked (line_call n (strip_last 13 line))) taken.lines
-    ∙ ap (λ (l : List ℕ). one_asked (line_call (text_line (length (ended_lines xs))) (strip_last 13 l))) taken.here
+one_is start now line number e written xs taken = rw (taken.lines, taken.here) refl
 
 abbrev pub behind : List Call → Asked → Asked
 behind calls one = record { calls = calls ++ one.calls; fault = one.fault }
@@ -149,16 +147,14 @@ lf_is : (xs : List ℕ) (one : Asked) → (asked_so_far xs).fault ≡ None →
     one ≡ line_asked (length (ended_lines xs)) (open_line xs)
     → asked_so_far (xs ++ 10 ∷ []) ≡ behind (asked_behind 0 (ended_lines xs)).calls one
 lf_is xs one clean is =
-    let ended = asked_behind 0 (ended_lines xs) in
-    lf-asked xs ∙ (then-clean ended (line_asked (length (ended_lines xs)) (open_line xs)) (ended_clean xs clean)
-    ∙ ap (behind ended.calls) (sym is))
+    rw (lf-asked xs, is) (then-clean (asked_behind 0 (ended_lines xs))
+    (line_asked (length (ended_lines xs)) (open_line xs)) (ended_clean xs clean))
 
 push_is : (xs : List ℕ) (one : Asked) → (asked_so_far xs).fault ≡ None →
     one ≡ line_asked (length (ended_lines xs)) (open_line xs)
     → asked_behind 0 (ended_lines (xs ++ 10 ∷ [])) ≡ behind (asked_behind 0 (ended_lines xs)).calls one
 push_is xs one clean is =
-    ap (asked_behind 0) (ended-by_lf xs)
-    ∙ (asked-push (ended_lines xs) (open_line xs) ∙ (sym (lf-asked xs) ∙ lf_is xs one clean is))
+    rw (ended-by_lf xs, asked-push (ended_lines xs) (open_line xs), ← lf-asked xs) (lf_is xs one clean is)
 
 pub lf_takes : (start before now : Option (List ℕ)) (line new : List ℕ) (number next : ℕ) (e f : EncoderState)
     (written more : ℕ) (xs : List ℕ) → Takes start before line number e written xs

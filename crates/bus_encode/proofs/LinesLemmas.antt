@@ -48,14 +48,8 @@ behind-push xs x (Some k) below = drop-append-le (k + 1) xs (x ∷ []) (omega ar
 open-push : (xs : List ℕ) (x : ℕ) → open_line (xs ++ x ∷ []) ≡ (if x == 10 then [] else open_line xs ++ x ∷ [])
 unfolding open_line rsplit_once
 open-push xs x =
-    ap (λ n. behind_place (xs ++ x ∷ []) (rfind_below 10 (xs ++ x ∷ []) n)) (one-longer xs x)
-    ∙ (ap
-    (λ y. behind_place (xs ++ x ∷ [])
-    (if y == 10 then Some (length xs) else rfind_below 10 (xs ++ x ∷ []) (length xs)))
-    (get_or_push xs x 0 (length xs) refl)
-    ∙ (ap (λ r. behind_place (xs ++ x ∷ []) (if x == 10 then Some (length xs) else r))
-    (rfind-append 10 xs (x ∷ []) (length xs) (omega arith))
-    ∙ cases (x == 10)))
+    rw (one-longer xs x, get_or_push xs x 0 (length xs) refl, rfind-append 10 xs (x ∷ []) (length xs) (omega arith))
+    (cases (x == 10))
   where
     cases : (b : Bool) → behind_place (xs ++ x ∷ []) (if b then Some (length xs) else rfind_below 10 xs (length xs))
         ≡ (if b then [] else behind_place xs (rfind_below 10 xs (length xs)) ++ x ∷ [])
@@ -85,11 +79,7 @@ lines-append xs ys (suc n) within =
     let rest = lines-append xs ys n (omega arith) in
     let here = get_or_append_left xs ys 0 n (omega arith) in
     let front = take-append-le n xs ys (omega arith) in
-    lines-more (xs ++ ys) n
-    ∙ (ap (λ ls. ls ++ (if get_or (xs ++ ys) n 0 == 10 then open_line (take n (xs ++ ys)) ∷ [] else [])) rest
-    ∙ (ap (λ y. lines_below xs n ++ (if y == 10 then open_line (take n (xs ++ ys)) ∷ [] else [])) here
-    ∙ (ap (λ l. lines_below xs n ++ (if get_or xs n 0 == 10 then open_line l ∷ [] else [])) front
-    ∙ sym (lines-more xs n))))
+    rw (lines-more (xs ++ ys) n, rest, here, front) (sym (lines-more xs n))
 
 ended-push : (xs : List ℕ) (x : ℕ) → ended_lines (xs ++ x ∷ [])
     ≡ ended_lines xs ++ (if x == 10 then open_line xs ∷ [] else [])
@@ -97,13 +87,8 @@ unfolding ended_lines
 ended-push xs x =
     let n = length xs in
     let front : take n (xs ++ x ∷ []) ≡ xs = take-append-le n xs (x ∷ []) (omega arith) ∙ take_all n xs (omega arith) in
-    ap (lines_below (xs ++ x ∷ [])) (one-longer xs x)
-    ∙ (lines-more (xs ++ x ∷ []) n
-    ∙ (ap (λ ls. ls ++ (if get_or (xs ++ x ∷ []) n 0 == 10 then open_line (take n (xs ++ x ∷ [])) ∷ [] else []))
-    (lines-append xs (x ∷ []) n (omega arith))
-    ∙ (ap (λ y. lines_below xs n ++ (if y == 10 then open_line (take n (xs ++ x ∷ [])) ∷ [] else []))
-    (get_or_push xs x 0 n refl)
-    ∙ ap (λ l. lines_below xs n ++ (if x == 10 then open_line l ∷ [] else [])) front)))
+    rw (one-longer xs x, lines-more (xs ++ x ∷ []) n, lines-append xs (x ∷ []) n (omega arith))
+    (rw (get_or_push xs x 0 n refl, front) refl)
 
 -- LF ends the open line
 pub ended-by_lf : (xs : List ℕ) → ended_lines (xs ++ 10 ∷ []) ≡ ended_lines xs ++ open_line xs ∷ []
@@ -136,13 +121,10 @@ pub ended-append : (xs ys : List ℕ) → ended_lines (xs ++ ys) ≡ ended_lines
 unfolding ended_behind
 ended-append xs [] = ap ended_lines (append-nil xs) ∙ sym (append-nil (ended_lines xs))
 ended-append xs (y ∷ ys) =
-    ap ended_lines (sym (append_assoc xs (y ∷ []) ys))
-    ∙ (ended-append (xs ++ y ∷ []) ys
-    ∙ (ap (λ ls. ls ++ ended_behind (open_line (xs ++ y ∷ [])) ys) (ended-push xs y)
-    ∙ (ap (λ l. (ended_lines xs ++ (if y == 10 then open_line xs ∷ [] else [])) ++ ended_behind l ys) (open-push xs y)
-    ∙ (append_assoc (ended_lines xs) (if y == 10 then open_line xs ∷ [] else [])
+    rw (← append_assoc xs (y ∷ []) ys, ended-append (xs ++ y ∷ []) ys, ended-push xs y, open-push xs y)
+    (append_assoc (ended_lines xs) (if y == 10 then open_line xs ∷ [] else [])
     (ended_behind (if y == 10 then [] else open_line xs ++ y ∷ []) ys)
-    ∙ ap (λ ls. ended_lines xs ++ ls) (cases (y == 10))))))
+    ∙ ap (λ ls. ended_lines xs ++ ls) (cases (y == 10)))
   where
     cases : (b : Bool) → (if b then open_line xs ∷ [] else [])
         ++ ended_behind (if b then [] else open_line xs ++ y ∷ []) ys
@@ -154,10 +136,7 @@ pub open-append : (xs ys : List ℕ) → open_line (xs ++ ys) ≡ open_behind (o
 unfolding open_behind
 open-append xs [] = ap open_line (append-nil xs)
 open-append xs (y ∷ ys) =
-    ap open_line (sym (append_assoc xs (y ∷ []) ys))
-    ∙ (open-append (xs ++ y ∷ []) ys
-    ∙ (ap (λ l. open_behind l ys) (open-push xs y)
-    ∙ cases (y == 10)))
+    rw (← append_assoc xs (y ∷ []) ys, open-append (xs ++ y ∷ []) ys, open-push xs y) (cases (y == 10))
   where
     cases : (b : Bool) → open_behind (if b then [] else open_line xs ++ y ∷ []) ys
         ≡ (if b then open_behind [] ys else open_behind (open_line xs ++ y ∷ []) ys)

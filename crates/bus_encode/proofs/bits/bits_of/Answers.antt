@@ -1,7 +1,6 @@
-use Rattle.std.proofs.Common.{ℕ, List, inl, inr, sym, ◌∙◌, subst, arith}
+use Rattle.std.proofs.Common.{inl, inr, sym, ◌∙◌, arith}
 use Rattle.bus_line.specs.Line.{Flag, Idle, Frame}
-use Rattle.bus_encode.specs.Internal.EncodeState.{call_of, IsSized}
-use Rattle.bus_encode.specs.declared.order.Order.{Order}
+use Rattle.bus_encode.specs.Internal.EncodeState.{IsSized}
 use Rattle.bus_encode.proofs.OrderLemmas.{never_fails, flag_fits, idle_fits}
 use Rattle.bus_encode.proofs.bits.bits_of.Goals as goal
 use Rattle.bus_encode.proofs.bits.bits_of.Goals.{in-Flag, in-Idle, in-Frame}

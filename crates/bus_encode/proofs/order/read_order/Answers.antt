@@ -1,4 +1,4 @@
-use Rattle.std.proofs.Common.{◌≡◌, Bool, true, false, List, ℕ, length, take, drop, codes, sym, ap, ◌∙◌}
+use Rattle.std.proofs.Common.{◌≡◌, Bool, List, ℕ, length, take, drop, codes, sym, ap, ◌∙◌}
 use Rattle.std.proofs.lemmas.Result.{err_from_is_err_and}
 use Rattle.bus_encode.specs.Encode.{is_word}
 use Rattle.bus_encode.proofs.OrderLemmas.{call-none, call-flag, call-idle, call-other, call-frame}
@@ -13,6 +13,10 @@ word_is line word text result b is-word told is = rw (← is-word, ← told) is
 front_is : (line word text : List ℕ) (b : Bool) → text ≡ word → is_word text (take (length text) line) ≡ b
     → is_word word (take (length word) line) ≡ b
 front_is line word text b is-word told = rw (← is-word) told
+
+-- and what stands behind that front
+rest_is : (line word text rest : List ℕ) → text ≡ word → rest ≡ drop (length text) line → rest ≡ drop (length word) line
+rest_is line word text rest is-word told = told ∙ ap (λ (w : List ℕ). drop (length w) line) is-word
 
 pub returns-then-is_empty-clause-value : goal.returns-then-is_empty-clause-value
 returns-then-is_empty-clause-value c =
@@ -41,8 +45,7 @@ returns-clause-value c =
     let flag = word_is c.args.line.now (codes "flag") _ _ _ c.as_slice.ensures c.eq.ensures c.if-eq.false in
     let idle = word_is c.args.line.now (codes "idle") _ _ _ c.as_slice-2.ensures c.eq-2.ensures c.if-eq-2.false in
     let frame = front_is c.args.line.now (codes "frame ") _ _ c.as_slice-3.ensures c.in-Some.ensures.cases.0 in
-    let rest : c.in-Some.digits.now ≡ drop 6 c.args.line.now =
-    c.in-Some.ensures.cases.1 ∙ ap (λ (t : List ℕ). drop (length t) c.args.line.now) c.as_slice-3.ensures in
+    let rest = rest_is c.args.line.now (codes "frame ") _ _ c.as_slice-3.ensures c.in-Some.ensures.cases.1 in
     let read =
     call-frame c.args.number c.args.line.now c.requires (sym c.is_empty.ensures ∙ c.if-is_empty.false) flag idle
     frame in
@@ -54,8 +57,7 @@ returns-in_err-frame_octets-clause-value c =
     let flag = word_is c.args.line.now (codes "flag") _ _ _ c.as_slice.ensures c.eq.ensures c.if-eq.false in
     let idle = word_is c.args.line.now (codes "idle") _ _ _ c.as_slice-2.ensures c.eq-2.ensures c.if-eq-2.false in
     let frame = front_is c.args.line.now (codes "frame ") _ _ c.as_slice-3.ensures c.in-Some.ensures.cases.0 in
-    let rest : c.in-Some.digits.now ≡ drop 6 c.args.line.now =
-    c.in-Some.ensures.cases.1 ∙ ap (λ (t : List ℕ). drop (length t) c.args.line.now) c.as_slice-3.ensures in
+    let rest = rest_is c.args.line.now (codes "frame ") _ _ c.as_slice-3.ensures c.in-Some.ensures.cases.1 in
     let read =
     call-frame c.args.number c.args.line.now c.requires (sym c.is_empty.ensures ∙ c.if-is_empty.false) flag idle
     frame in

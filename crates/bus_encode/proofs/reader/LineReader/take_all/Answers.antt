@@ -1,6 +1,5 @@
-use Rattle.std.proofs.Common.{ℕ, List, ◌++◌, take, subst, rules}
+use Rattle.std.proofs.Common.{◌++◌, take, rules}
 use Rattle.std.proofs.lemmas.Result.{err_from_is_err_and}
-use Rattle.bus_encode.specs.Internal.EncodeState.{Takes}
 use Rattle.bus_encode.proofs.EncodeStateLemmas.{middle_halts, all_octets}
 use Rattle.bus_encode.proofs.reader.LineReader.take_all.Goals as goal
 

@@ -1,8 +1,7 @@
-use Rattle.std.proofs.Common.{◌≡◌, ◌+◌, ℕ, [], ◌∷◌, ◌++◌, sym, ap, subst, ◌∙◌}
+use Rattle.std.proofs.Common.{◌≡◌, ◌+◌, ap, ◌∙◌}
 use Rattle.std.proofs.lemmas.Result.{err_from_is_err_and}
 use Rattle.bus_encode.specs.Lines.{ended_lines}
-use Rattle.bus_encode.specs.Encode.{asked_behind, asked_so_far}
-use Rattle.bus_encode.specs.Internal.EncodeState.{Takes, EncodeHalts}
+use Rattle.bus_encode.specs.Encode.{asked_behind}
 use Rattle.bus_encode.specs.declared.line.OpenLine.{OpenLine}
 use Rattle.bus_encode.proofs.EncodeStateLemmas.{not_lf, push_cases, lf_takes, lf_halts}
 use Rattle.bus_encode.proofs.reader.LineReader.take_one.Goals as goal
