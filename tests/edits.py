@@ -11,7 +11,9 @@ changes:
     # shown-by: port1 list --bits <<< 0111111000
 
 The input is a file or a folder of the repository, or a text, or it is empty. Words are quoted as for a shell, and one
-may be the text of a file, as above.
+may be the text of a file, as above, or a text of lines:
+
+    # shown-by: port1 show --dict "$(printf 'version = 1\\nframe = []')" 108300fde5
 """
 
 import re
@@ -101,7 +103,10 @@ def tests_told(text: str) -> List[Test]:
 
 
 def word_of(word: str, top: Path) -> str:
-    """A word, or the text of the file that it names."""
+    """A word, or the text of the file that it names, or the lines that it has."""
+    lines = re.fullmatch(r"\$\(printf '([^'%]*)'\)", word)
+    if lines:
+        return lines[1].replace("\\n", "\n")
     match = re.fullmatch(r"\$\(cat (\S+)\)", word)
     return (top / match[1]).read_text(encoding="utf-8").rstrip("\n") if match else word
 
