@@ -10,8 +10,8 @@ changes:
     # shown-by: port1 list --dict "$(cat examples/call-and-reply.toml)" < examples/one-call.ts2
     # shown-by: port1 list --bits <<< 0111111000
 
-The input is a file or a folder of the repository, or a text, or it is empty. Words are quoted as for a shell, and one
-may be the text of a file, as above, or a text of lines:
+The input is a file of the repository, or a text, or it is empty. Words are quoted as for a shell, and one may be the
+text of a file, as above, or a text of lines:
 
     # shown-by: port1 show --dict "$(printf 'version = 1\\nframe = []')" 108300fde5
 """

@@ -2,7 +2,7 @@
 
 use crate::fakes::{Counted, Faltering, Narrow, Pieces, Repeated};
 use crate::tests::worked::{
-    CALL, CALL_AND_REPLY, CALLS, FLAG, IDLE, NONE, joined, of_text, run_over,
+    CALL, CALL_AND_REPLY, CALL_AND_REPLY_TEXT, CALLS, FLAG, IDLE, NONE, joined, of_text, run_over,
 };
 use crate::{Options, Summary, ToolFault, list_capture};
 use bus_dictionary::DictFault;
@@ -94,6 +94,19 @@ fn flushes(rt: HostRuntime) {
     let mut reader = pieces(capture.as_slice(), 1, 107);
     let ending = list_capture(rt.alloc(), &of_text(Some(CALLS)), &mut reader, &mut writer);
     assert_eq!(rt; ending, Err(ToolFault::Write { written: 126 }));
+}
+
+/// An error of a reader is a fault, and no end of the capture: at the first read, within a frame, and after all octets.
+#[test]
+fn failing_reads(rt: HostRuntime) {
+    let capture = joined(rt.alloc(), &CALL_AND_REPLY).expect(&rt, "memory");
+    for (fails_at, text) in [(1, ""), (20, ""), (107, CALL_AND_REPLY_TEXT)] {
+        let mut reader = pieces(capture.as_slice(), 1, fails_at);
+        let mut out = Vec::new(rt.alloc());
+        let ending = list_capture(rt.alloc(), &of_text(Some(CALLS)), &mut reader, &mut out);
+        assert_eq!(rt; ending, Err(ToolFault::Read), "read {fails_at}");
+        assert_eq!(rt; out.as_slice(), text.as_bytes(), "read {fails_at}");
+    }
 }
 
 /// The dictionary is judged first, then the depth, then the origin, each before reader and writer
