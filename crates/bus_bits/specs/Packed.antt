@@ -29,7 +29,7 @@ head_bits xs = from_le_bytes w64 (slice_range xs 8 16)
 -- the fault of a head that is to begin with these letters
 abbrev pub head_fault_by : List ℕ → List ℕ → Option CaptureFault
 head_fault_by letters xs =
-    if starts_with (λ x y. x == y) xs letters then (if nat_lt (most_places) (head_bits xs) then Some too_many else None)
+    if starts_with (λ x y. x == y) xs letters then (if nat_lt most_places (head_bits xs) then Some too_many else None)
     else Some magic
 
 -- of one line

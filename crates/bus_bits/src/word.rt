@@ -56,7 +56,7 @@ fn cut(number: u64, behind: usize, count: usize) -> Word
 }
 
 /// These octets as a number, the first lowest.
-#[inline(always)]
+#[inline]
 fn few(octets: &[u8]) -> u64
     requires { length octets.now < 8 }
     ensures { bits_of 64 result ≡ bits_from octets.now 0 64 }

@@ -31,7 +31,7 @@ use std::cmp::min;
 use std::io::Write;
 
 /// How many octets of either line are taken at once.
-const BLOCK: usize = 256;
+const BLOCK: usize = 1024;
 
 /// Takes pairs of bits of these octets, the first so many, and tells what is seen at them.
 #[inline(never)]
@@ -44,7 +44,7 @@ fn take_pairs<C: Check, W: Write>(
 ) -> Result<(), ToolFault>
     requires sound { IsSound (pair_tap C.check) run.old }
     requires enough { (count ≤ 8 * length first.now) × (count ≤ 8 * length second.now) }
-    requires few { count ≤ 2048 }
+    requires few { count ≤ 8192 }
     ensures taken { (start : Option (List ℕ)) (b : List (Bool × Bool)) →
         Watches (pair_tap C.check) start (W.contents w.old) run.old b → MatchResult result
         (λ _. Watches (pair_tap C.check) start (W.contents w.new) run.new

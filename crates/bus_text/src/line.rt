@@ -53,7 +53,7 @@ pub(crate) fn push_span<const N: usize>(text: &mut Text<N>, places: &mut Places,
 }
 
 /// Appends why a piece is damaged, in one word.
-#[inline(always)]
+#[inline(never)]
 fn push_cause<const N: usize>(text: &mut Text<N>, cause: Cause)
     requires { length text.old + 16 ≤ N }
     ensures { Adds text.old (cause_word cause) 9 text.new }

@@ -1,5 +1,5 @@
 -- What the proofs know of one line.
-use Rattle.std.specs.Prelude.{ℕ, ◌<◌, ◌^◌, Bool, List}
+use Rattle.std.specs.Prelude.{ℕ, ◌<◌, ◌^◌, Bool}
 use Rattle.bus_bits.specs.Octet.{bits_of}
 use Rattle.bus_bits.specs.Packed.{PackedAfter, head_fault}
 use Rattle.bus_fcs.specs.Check.{CheckView}

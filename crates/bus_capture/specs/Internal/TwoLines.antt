@@ -1,5 +1,5 @@
 -- What the proofs know of two lines.
-use Rattle.std.specs.Prelude.{ℕ, ◌<◌, ◌^◌, Bool, List}
+use Rattle.std.specs.Prelude.{ℕ, ◌<◌, ◌^◌, Bool}
 use Rattle.bus_bits.specs.Packed.{PairsAfter, pair_head_fault}
 use Rattle.bus_bits.specs.declared.capture.pair_words.PairWords.{PairWords}
 use Rattle.bus_fcs.specs.Check.{CheckView}

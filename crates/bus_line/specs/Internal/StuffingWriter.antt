@@ -1,5 +1,5 @@
 -- What went out of one call.
-use Rattle.std.specs.Prelude.{◌≡◌, ℕ, ◌+◌, ◌<◌, Bool, List, length, take, Option}
+use Rattle.std.specs.Prelude.{◌≡◌, ℕ, ◌+◌, ◌<◌, Bool, List, length, take}
 use Rattle.bus_line.specs.declared.encoder.stuffing_writer.StuffingWriter.{StuffingWriter}
 use Rattle.bus_line.specs.Told.{told}
 use Rattle.bus_line.specs.BitSink.{BitSinkView}

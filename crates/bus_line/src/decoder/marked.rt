@@ -13,6 +13,25 @@ pub(crate) struct Marked {
 }
 
 impl Marked {
+    /// The lowest `count` of these bits, without those that are marked.
+    #[inline(always)]
+    pub(crate) fn of(bits: u64, marks: u64, count: u64) -> Marked
+        requires few { count ≤ 56 }
+        requires marked { marks < 2 ^ count }
+        ensures same { kept result.bits result.marks result.count ≡ kept bits marks count }
+        ensures count { result.count ≡ count }
+        ensures small { result.bits < 2 ^ result.count }
+        ensures marked { result.marks < 2 ^ result.count }
+        ensures zeros { bit_and result.bits result.marks ≡ 0 }
+    {
+        let all = (1 << count) - 1;
+        Marked {
+            bits: bits & all & !marks,
+            marks,
+            count,
+        }
+    }
+
     /// The bits without the lowest that is marked, if there is one, found without a branch, since
     /// the line's data decide whether one is.
     #[inline(always)]

@@ -43,7 +43,7 @@ pub(crate) fn first_six(word: u64) -> Option<u64>
 }
 
 /// Where ones end that are looked for 56 at a time, and not in the last 63 bits.
-#[inline(always)]
+#[inline(never)]
 pub(crate) fn ones_end(octets: &[u8], from: usize, end: usize) -> usize
     requires some { from ≤ end }
     requires enough { end ≤ 8 * length octets.now }
@@ -61,7 +61,7 @@ pub(crate) fn ones_end(octets: &[u8], from: usize, end: usize) -> usize
 }
 
 /// Where flags end that are looked for seven at a time, and not in the last 63 bits.
-#[inline(always)]
+#[inline(never)]
 pub(crate) fn flags_end(octets: &[u8], from: usize, end: usize) -> usize
     requires some { from ≤ end }
     requires enough { end ≤ 8 * length octets.now }

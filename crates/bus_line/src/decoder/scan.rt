@@ -104,7 +104,7 @@ impl LineWords {
 
     /// Takes up to 48 bits, or those of them up to the first that may decide a report; and if that decides none, those
     /// after them that decide nothing, as many as come at once.
-    #[inline(always)]
+    #[inline]
     pub(crate) fn scan_some<C: Check>(
         &mut self,
         check: &mut C,
@@ -168,6 +168,22 @@ impl LineWords {
         if self.settles_at <= self.place {
             return self.pass_data(check, cells, octets, from, end);
         }
+        self.pass_fill::<C>(octets, from, end)
+    }
+
+    /// Takes time fill, 56 bits at a time where 64 are left: ones where no piece is open, or flags after a flag.
+    #[inline(always)]
+    pub(crate) fn pass_fill<C: Check>(&mut self, octets: &[u8], from: usize, end: usize) -> usize
+        requires within { IsWithin self.old }
+        requires some { from ≤ end }
+        requires enough { end ≤ 8 * length octets.now }
+        requires room { self.old.place + (end - from) ≤ most_places }
+        ensures within { (from ≤ result) × (result ≤ end) }
+        ensures tells { (check : C) (cells : List ℕ) → Tells C.check (state self.old check cells)
+            (bits_from octets.now from (result - from)) None (state self.new check cells) }
+        ensures none { result ≡ from → self.new ≡ self.old }
+        ensures sound { IsWithin self.new }
+    {
         if self.settles_at == NEVER {
             return self.pass_ones(octets, from, end);
         }
@@ -265,6 +281,7 @@ impl LineWords {
         ensures within { (from ≤ result) × (result ≤ end) }
         ensures flags { AreFlags octets.now from result }
         ensures passes { PassesFlags self.old ((result - from) / 8) self.new }
+        ensures none { result ≡ from → self.new ≡ self.old }
         ensures sound { IsWithin self.new }
     {
         let at = flags_end(octets, from, end);

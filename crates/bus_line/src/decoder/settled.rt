@@ -58,13 +58,7 @@ fn destuffed(bits: u64, inserted: u64, count: u64) -> Data
     ensures few { result.count ≤ count }
     ensures small { result.bits < 2 ^ result.count }
 {
-    let all = (1 << count) - 1;
-    let mut left = Marked {
-        bits: bits & all & !inserted,
-        marks: inserted,
-        count,
-    }
-    .without_lowest();
+    let mut left = Marked::of(bits, inserted, count).without_lowest();
     while left.marks != 0 {
         left = left.without_lowest();
     }
@@ -84,16 +78,11 @@ fn destuffed_turn(bits: u64, inserted: u64, count: u64) -> Data
     ensures few { result.count ≤ count }
     ensures small { result.bits < 2 ^ result.count }
 {
-    let all = (1 << count) - 1;
-    let mut left = Marked {
-        bits: bits & all & !inserted,
-        marks: inserted,
-        count,
-    }
-    .without_lowest()
-    .without_lowest()
-    .without_lowest()
-    .without_lowest();
+    let mut left = Marked::of(bits, inserted, count)
+        .without_lowest()
+        .without_lowest()
+        .without_lowest()
+        .without_lowest();
     while left.marks != 0 {
         left = left.without_lowest();
     }

@@ -121,6 +121,31 @@ impl LineWords {
         }
     }
 
+    /// Takes bits as [`LineWords::advance`] does, in a function of its own.
+    #[inline(never)]
+    pub(crate) fn advance_apart<C: Check>(
+        &mut self,
+        check: &mut C,
+        cells: &mut [u8; 272],
+        bits: u64,
+        count: u32,
+    ) -> Taken
+        requires within { IsWithin self.old }
+        requires word { IsWordOf count bits }
+        requires room { self.old.place + count ≤ most_places }
+        ensures some { 1 ≤ result.count }
+        ensures count { result.count ≤ count }
+        ensures stops { (b : List Bool) → After C.check (state self.old check.old cells.old) b →
+            TakesTo b (bits_of count bits) result.count }
+        ensures advances { Advances C.check (state self.old check.old cells.old) (bits_of result.count bits)
+            (option_map (reported (state self.new check.new cells.new).octets) result.event)
+            (state self.new check.new cells.new) }
+        ensures within { IsWithin self.new }
+        ensures cells { length cells.new ≡ 272 }
+    {
+        self.advance(check, cells, bits, count)
+    }
+
     /// Takes the bits up to the first after exactly six ones or exactly fourteen, or all of them, and answers
     /// what the last of them decides.
     #[inline(always)]

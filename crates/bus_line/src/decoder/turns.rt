@@ -1,11 +1,11 @@
 //! Bits of octets by turns.
 
-ghost use Rattle.std.specs.Prelude.{◌≡◌, ◌+◌, ◌-◌, ◌*◌, ◌≤◌, ◌<◌, length};
+ghost use Rattle.std.specs.Prelude.{◌≡◌, ◌+◌, ◌-◌, ◌*◌, ◌≤◌, ◌<◌, true, length};
 ghost use Rattle.std.specs.Option.{option_map};
 ghost use Rattle.bus_bits.specs.Bits.{bits_from};
 ghost use Rattle.bus_bits.specs.Limits.{most_places};
 
-use crate::line_words::{LineWords, NEVER};
+use crate::line_words::LineWords;
 use crate::scanned::Scanned;
 use bus_bits::{seven_octets_at, word_at};
 use bus_fcs::Check;
@@ -65,16 +65,10 @@ impl LineWords {
         ensures within { IsWithin self.new }
         ensures cells { length cells.new ≡ 272 }
     {
-        if end - from < 64 {
-            return self.scan_word(check, cells, octets, from, end);
+        if self.begins_piece(octets, from, end) {
+            return self.scan_open(check, cells, octets, from, end);
         }
-        if self.settles_at <= self.place + 8 {
-            return self.scan_piece(check, cells, octets, from, end);
-        }
-        if self.settles_at != NEVER {
-            return self.scan_word(check, cells, octets, from, end);
-        }
-        let past = self.pass_ones(octets, from, end);
+        let past = self.pass_fill::<C>(octets, from, end);
         if past == from {
             return self.scan_word(check, cells, octets, from, end);
         }
@@ -82,6 +76,19 @@ impl LineWords {
             count: past - from,
             event: None,
         }
+    }
+
+    /// Whether 64 bits are left, and the last mark is a flag that no other follows directly.
+    #[inline(always)]
+    fn begins_piece(&self, octets: &[u8], from: usize, end: usize) -> bool
+        requires within { IsWithin self.now }
+        requires some { from ≤ end }
+        requires enough { end ≤ 8 * length octets.now }
+        ensures { result ≡ true → from + 64 ≤ end }
+    {
+        end - from >= 64
+            && self.settles_at <= self.place + 8
+            && !self.is_flag_ahead(seven_octets_at(octets, from))
     }
 
     /// Takes up to 48 bits, or those of them up to the first that may decide a report.
@@ -107,48 +114,11 @@ impl LineWords {
         ensures cells { length cells.new ≡ 272 }
     {
         let word = word_at(octets, from, end);
-        let taken = self.advance(check, cells, word.bits, word.count);
+        let taken = self.advance_apart(check, cells, word.bits, word.count);
         Scanned {
             count: taken.count as usize,
             event: taken.event,
         }
-    }
-
-    /// Takes bits after a flag: flags directly after it, or those of the piece that it opens.
-    #[inline(always)]
-    fn scan_piece<C: Check>(
-        &mut self,
-        check: &mut C,
-        cells: &mut [u8; 272],
-        octets: &[u8],
-        from: usize,
-        end: usize,
-    ) -> Scanned
-        requires within { IsWithin self.old }
-        requires some { from + 64 ≤ end }
-        requires enough { end ≤ 8 * length octets.now }
-        requires room { self.old.place + (end - from) ≤ most_places }
-        ensures count { (1 ≤ result.count) × (result.count ≤ end - from) }
-        ensures advances { Advances C.check (state self.old check.old cells.old)
-            (bits_from octets.now from result.count)
-            (option_map (reported (state self.new check.new cells.new).octets) result.event)
-            (state self.new check.new cells.new) }
-        ensures within { IsWithin self.new }
-        ensures cells { length cells.new ≡ 272 }
-    {
-        if self.settles_at == self.place + 8 {
-            let past = self.pass_flags(octets, from, end);
-            if past > from {
-                return Scanned {
-                    count: past - from,
-                    event: None,
-                };
-            }
-            if self.is_flag_ahead(seven_octets_at(octets, from)) {
-                return self.scan_word(check, cells, octets, from, end);
-            }
-        }
-        self.scan_open(check, cells, octets, from, end)
     }
 
     /// Takes bits of the piece that the last flag opens.

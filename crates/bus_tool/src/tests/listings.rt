@@ -1,8 +1,9 @@
 //! Captures by honest and by failing readers and writers.
 
-use crate::fakes::{Counted, Faltering, Narrow, Pieces, Repeated};
+use crate::fakes::{Counted, Faltering, Fixed, Narrow, Pieces, Repeated};
 use crate::tests::worked::{
-    CALL, CALL_AND_REPLY, CALL_AND_REPLY_TEXT, CALLS, FLAG, IDLE, NONE, joined, of_text, run_over,
+    CALL, CALL_AND_REPLY, CALL_AND_REPLY_TEXT, CALLS, FLAG, IDLE, NONE, REPLY, joined, of_text,
+    run_over,
 };
 use crate::{Options, Summary, ToolFault, list_capture};
 use bus_dictionary::DictFault;
@@ -107,6 +108,20 @@ fn failing_reads(rt: HostRuntime) {
         assert_eq!(rt; ending, Err(ToolFault::Read), "read {fails_at}");
         assert_eq!(rt; out.as_slice(), text.as_bytes(), "read {fails_at}");
     }
+}
+
+/// A writer that takes nothing of what is left is a fault, and no end of the text.
+#[test]
+fn full_writer(rt: HostRuntime) {
+    let parts = [
+        FLAG, CALL, FLAG, REPLY, FLAG, CALL, FLAG, REPLY, FLAG, CALL, FLAG, REPLY, FLAG,
+    ];
+    let capture = joined(rt.alloc(), &parts).expect(&rt, "memory");
+    let mut reader = capture.as_slice();
+    let mut writer = Fixed::new();
+    let ending = list_capture(rt.alloc(), &of_text(Some(CALLS)), &mut reader, &mut writer);
+    assert_eq!(rt; ending, Err(ToolFault::Write { written: 256 }));
+    assert_eq!(rt; writer.out.len(), 256);
 }
 
 /// The dictionary is judged first, then the depth, then the origin, each before reader and writer

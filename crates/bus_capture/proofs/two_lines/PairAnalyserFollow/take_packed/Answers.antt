@@ -16,7 +16,7 @@ take_all-requires-clause-sixteens g c =
     omega (
       arith,
       length-take count c.args.octets.now,
-      least (length c.args.octets.now) 512,
+      least (length c.args.octets.now) 2048,
       c.min.ensures,
       c.whole-count.ensures.within,
       c.whole-count.ensures.sixteens,

@@ -1,22 +1,14 @@
-use Rattle.std.proofs.Common.{ℕ, sym, ap, ◌∙◌}
+use Rattle.std.proofs.Common.{ℕ, sym, ap, ◌∙◌, arith}
 use Rattle.bus_line.specs.Internal.Settled.{kept}
-use Rattle.bus_line.proofs.SettledKeptLemmas.{kept-all, unmarked-are}
+use Rattle.bus_line.proofs.SettledKeptLemmas.{kept-all}
 use Rattle.bus_line.proofs.decoder.settled.destuffed.Goals as goal
-
-pub without_lowest-left-requires-clause-small : goal.without_lowest-left-requires-clause-small
-without_lowest-left-requires-clause-small c =
-    (unmarked-are c.args.bits c.args.inserted c.args.count c.requires.few c.requires.marked).small
-
-pub without_lowest-left-requires-clause-zeros : goal.without_lowest-left-requires-clause-zeros
-without_lowest-left-requires-clause-zeros c =
-    (unmarked-are c.args.bits c.args.inserted c.args.count c.requires.few c.requires.marked).zeros
 
 pub loop-left-init : goal.loop-left-init
 loop-left-init c =
     let first = c.without_lowest-left.ensures in
-    let all = unmarked-are c.args.bits c.args.inserted c.args.count c.requires.few c.requires.marked in
+    let all = c.of.ensures in
     record {
-      few = first.few;
+      few = omega (arith, first.few, all.count);
       small = first.small;
       marked = first.marked;
       zeros = first.zeros;

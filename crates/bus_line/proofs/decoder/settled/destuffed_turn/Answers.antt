@@ -3,16 +3,8 @@ use Rattle.std.specs.Prelude.{count_ones}
 use Rattle.bus_bits.specs.Octet.{bits_of}
 use Rattle.bus_bits.proofs.OctetLemmas.{length-bits}
 use Rattle.bus_line.specs.Internal.Settled.{kept}
-use Rattle.bus_line.proofs.SettledKeptLemmas.{kept-all, kept-length, unmarked-are}
+use Rattle.bus_line.proofs.SettledKeptLemmas.{kept-all, kept-length}
 use Rattle.bus_line.proofs.decoder.settled.destuffed_turn.Goals as goal
-
-pub without_lowest-requires-clause-small : goal.without_lowest-requires-clause-small
-without_lowest-requires-clause-small c =
-    (unmarked-are c.args.bits c.args.inserted c.args.count c.requires.few c.requires.marked).small
-
-pub without_lowest-requires-clause-zeros : goal.without_lowest-requires-clause-zeros
-without_lowest-requires-clause-zeros c =
-    (unmarked-are c.args.bits c.args.inserted c.args.count c.requires.few c.requires.marked).zeros
 
 pub loop-left-init : goal.loop-left-init
 loop-left-init c =
@@ -20,9 +12,9 @@ loop-left-init c =
     let two = c.without_lowest-2.ensures in
     let three = c.without_lowest-3.ensures in
     let four = c.without_lowest-left.ensures in
-    let all = unmarked-are c.args.bits c.args.inserted c.args.count c.requires.few c.requires.marked in
+    let all = c.of.ensures in
     record {
-      few = omega (arith, one.few, two.few, three.few, four.few);
+      few = omega (arith, all.count, one.few, two.few, three.few, four.few);
       small = four.small;
       marked = four.marked;
       zeros = four.zeros;

@@ -1,7 +1,6 @@
-use Rattle.std.proofs.Common.{◌≡◌, ◌+◌, ◌-◌, ◌*◌, ◌/◌, ◌%◌, ◌^◌, ℕ, append-nil, sym, ap, subst, refl, arith}
+use Rattle.std.proofs.Common.{◌≡◌, ◌+◌, ◌-◌, ◌*◌, ◌/◌, ◌%◌, ◌^◌, ℕ, append-nil, sym, ap, refl, arith}
 use Rattle.bus_line.specs.Words.{state}
 use Rattle.bus_line.specs.declared.line_words.LineWords.{LineWords}
-use Rattle.bus_line.specs.Internal.Settled.{Keeps}
 use Rattle.bus_line.proofs.TracksAppendLemmas.{append-holds, append-spent, joined}
 use Rattle.bus_line.proofs.WordsLemmas.{kept-put}
 use Rattle.bus_line.proofs.line_words.LineWords.append_one.Goals as goal

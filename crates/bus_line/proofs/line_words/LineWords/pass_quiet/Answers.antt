@@ -1,7 +1,5 @@
-use Rattle.std.proofs.Common.{◌-◌, ◌/◌, List, Bool, None, sym, subst, arith}
-use Rattle.bus_line.specs.After.{Tells}
+use Rattle.std.proofs.Common.{◌-◌, arith}
 use Rattle.bus_line.specs.Words.{state}
-use Rattle.bus_line.proofs.QuietLemmas.{passed-flags, passed-ones}
 use Rattle.bus_line.proofs.TellLemmas.{tells-from}
 use Rattle.bus_line.proofs.line_words.LineWords.pass_quiet.Goals as goal
 
@@ -10,33 +8,5 @@ returns-then-end-from-lt64-clause-tells g c =
     tells-from g.C.Check.check c.args.octets.now c.args.from (c.args.from - c.args.from)
     (state c.args.self.now c.args.check.now c.args.cells.now) (omega arith)
 
-pub returns-then-self-eq-NEVER-clause-tells : goal.returns-then-self-eq-NEVER-clause-tells
-returns-then-self-eq-NEVER-clause-tells g c =
-    let view = g.C.Check.check in
-    let old = c.args.self.now in
-    let new = c.pass_ones.new.self in
-    let check = c.args.check.now in
-    let cells = c.args.cells.now in
-    let count = c.pass_ones.result - c.args.from in
-    subst (λ (z : List Bool). Tells view (state old check cells) z None (state new check cells))
-    (sym c.pass_ones.ensures.bits)
-    (passed-ones view check cells old new count c.pass_ones.ensures.passes c.if-self-eq-NEVER.true
-    (omega (arith, c.requires.room, c.pass_ones.ensures.within)))
-
-pub returns-then-self-2-clause-tells : goal.returns-then-self-2-clause-tells
-returns-then-self-2-clause-tells g c =
-    let view = g.C.Check.check in
-    let old = c.args.self.now in
-    let new = c.pass_flags.new.self in
-    let check = c.args.check.now in
-    let cells = c.args.cells.now in
-    let count = (c.pass_flags.result - c.args.from) / 8 in
-    subst (λ (z : List Bool). Tells view (state old check cells) z None (state new check cells))
-    (sym c.pass_flags.ensures.flags.are)
-    (passed-flags view check cells old new count c.pass_flags.ensures.passes c.requires.within c.if-self-2.true
-    c.pass_flags.ensures.sound.place_fits)
-
 pub returns-clause-tells : goal.returns-clause-tells
-returns-clause-tells g c =
-    tells-from g.C.Check.check c.args.octets.now c.args.from (c.args.from - c.args.from)
-    (state c.args.self.now c.args.check.now c.args.cells.now) (omega arith)
+returns-clause-tells g c = c.pass_fill.ensures.tells c.args.check.now c.args.cells.now

@@ -1,34 +1,23 @@
-use Rattle.std.proofs.Common.{◌-◌, List, Bool, None, sym, subst, arith}
+use Rattle.std.proofs.Common.{subst}
 use Rattle.std.specs.Option.{option_map}
 use Rattle.bus_bits.specs.Bits.{bits_from}
-use Rattle.bus_line.specs.After.{Advances, Tells}
+use Rattle.bus_line.specs.After.{Advances}
 use Rattle.bus_line.specs.Shown.{reported}
 use Rattle.bus_line.specs.Words.{state}
 use Rattle.bus_line.specs.declared.line_words.LineWords.{LineWords}
-use Rattle.bus_line.proofs.QuietLemmas.{passed-ones}
 use Rattle.bus_line.proofs.TellLemmas.{advances-quiet}
 use Rattle.bus_line.proofs.line_words.LineWords.scan_turns.Goals as goal
 
 pub returns-then-past-from-clause-advances : goal.returns-then-past-from-clause-advances
 returns-then-past-from-clause-advances g c =
-    let scanned = c.scan_word-then-past-from in
+    let scanned = c.scan_word in
     let new = state scanned.new.self scanned.new.check scanned.new.cells in
     let bits = bits_from c.args.octets.now c.args.from scanned.result.count in
     let report = option_map (reported new.octets) scanned.result.event in
     subst (λ (words : LineWords). Advances g.C.Check.check
     (state words c.args.check.now c.args.cells.now) bits report new)
-    (c.pass_ones-past.ensures.none c.if-past-from.true) scanned.ensures.advances
+    (c.pass_fill-past.ensures.none c.if-past-from.true) scanned.ensures.advances
 
 pub returns-clause-advances : goal.returns-clause-advances
 returns-clause-advances g c =
-    let view = g.C.Check.check in
-    let old = c.args.self.now in
-    let passed = c.pass_ones-past in
-    let check = c.args.check.now in
-    let cells = c.args.cells.now in
-    let count = passed.result - c.args.from in
-    advances-quiet view
-    (subst (λ (z : List Bool). Tells view (state old check cells) z None (state passed.new.self check cells))
-    (sym passed.ensures.bits)
-    (passed-ones view check cells old passed.new.self count passed.ensures.passes c.if-self-ne-NEVER.false
-    (omega (arith, c.requires.room, passed.ensures.within))))
+    advances-quiet g.C.Check.check (c.pass_fill-past.ensures.tells c.args.check.now c.args.cells.now)

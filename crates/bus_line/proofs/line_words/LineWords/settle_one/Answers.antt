@@ -1,9 +1,8 @@
-use Rattle.std.proofs.Common.{◌≡◌, ◌+◌, ◌-◌, ◌/◌, ◌++◌, List, Bool, min, length, append-nil, sym, subst, ◌∙◌, ap, refl}
+use Rattle.std.proofs.Common.{◌≡◌, ◌+◌, ◌-◌, ◌/◌, min, length, append-nil, sym, ◌∙◌, ap, refl}
 use Rattle.std.proofs.Common.{arith}
 use Rattle.std.proofs.lemmas.Nat.{and_mask}
 use Rattle.bus_bits.specs.Octet.{bits_of}
 use Rattle.bus_line.specs.Words.{first_in, state}
-use Rattle.bus_line.specs.Internal.Tracks.{Holds}
 use Rattle.bus_line.proofs.StepLemmas.{settles-open}
 use Rattle.bus_line.proofs.FlagLemmas.{no-bits}
 use Rattle.bus_line.proofs.SettleLemmas.{spent-none, word-unsettled, word-settled}
