@@ -33,6 +33,7 @@ use crate::piece::Piece;
 use crate::place_limit::PlaceLimit;
 use crate::scanned::Scanned;
 use crate::taken::Taken;
+use crate::way::ByTurns;
 use bus_bits::Spent;
 use bus_fcs::Check;
 use std::marker::Model;
@@ -149,7 +150,7 @@ impl<C: Check> LineDecoder<C> {
         // The `?` parts the two cases for the proof.
         let scanned = self
             .words
-            .scan::<C, true>(&mut self.check, &mut self.cells, octets, at, end)?;
+            .scan::<C, ByTurns>(&mut self.check, &mut self.cells, octets, at, end)?;
         Ok(scanned)
     }
 

@@ -9,7 +9,7 @@ ghost use Rattle.port1_c.specs.Line.{Advances, IsCoded, Sound, Tells, held};
 use crate::bits::Told;
 use crate::report::Port1Report;
 use bus_fcs::OctetCheck;
-use bus_line::{LineWords, PlaceLimit};
+use bus_line::{ByWords, LineWords, PlaceLimit};
 
 /// A decoder between two calls. Its layout is that of `include/port1.h`.
 #[repr(C)]
@@ -41,7 +41,7 @@ impl Port1Line {
         let mut check = OctetCheck::with_register(self.words.register);
         match self
             .words
-            .scan::<OctetCheck, false>(&mut check, &mut self.octets, octets, at, end)
+            .scan::<OctetCheck, ByWords>(&mut check, &mut self.octets, octets, at, end)
         {
             Ok(scanned) => {
                 self.words.register = check.register();

@@ -12,6 +12,7 @@ use crate::decoder::settled::data_in_word;
 use crate::line_words::{LineWords, NEVER, PLACES};
 use crate::place_limit::PlaceLimit;
 use crate::scanned::Scanned;
+use crate::way::Way;
 use bus_bits::{seven_octets_at, word_at};
 use bus_fcs::Check;
 use std::cmp::min;
@@ -26,11 +27,12 @@ impl LineWords {
     /// Takes bits as [`LineDecoder::scan`](crate::LineDecoder::scan) does, with the octets of the piece and
     /// their check in the caller's hands. The first [`LineWords::len`] of the cells are then the octets.
     ///
-    /// With `TURNS` it is quicker on a processor of 64 bits, and twice the code; without, it is what firmware needs.
+    /// [`ByTurns`](crate::ByTurns) is the quicker way on a processor of 64 bits, [`ByWords`](crate::ByWords) what firmware
+    /// needs.
     ///
     /// Refuses as [`PlaceLimit`], with nothing changed, where the first bit's place would be 2^60.
     #[inline(always)]
-    pub fn scan<C: Check, const TURNS: bool>(
+    pub fn scan<C: Check, W: Way>(
         &mut self,
         check: &mut C,
         cells: &mut [u8; 272],
@@ -58,12 +60,12 @@ impl LineWords {
             return Err(PlaceLimit);
         }
         let count = min((end - at) as u64, room) as usize;
-        Ok(self.scan_all::<C, TURNS>(check, cells, octets, at, at + count))
+        Ok(self.scan_all::<C, W>(check, cells, octets, at, at + count))
     }
 
     /// Takes bits up to the first that decides a report, or all, which have places.
     #[inline(always)]
-    fn scan_all<C: Check, const TURNS: bool>(
+    fn scan_all<C: Check, W: Way>(
         &mut self,
         check: &mut C,
         cells: &mut [u8; 272],
@@ -87,7 +89,7 @@ impl LineWords {
     {
         let mut at = from;
         while at < end {
-            let scanned = self.scan_next::<C, TURNS>(check, cells, octets, at, end);
+            let scanned = W::advance(self, check, cells, octets, at, end);
             at += scanned.count;
             if scanned.event.is_some() {
                 return Scanned {
@@ -104,7 +106,7 @@ impl LineWords {
 
     /// Takes up to 48 bits, or those of them up to the first that may decide a report; and if that decides none, those
     /// after them that decide nothing, as many as come at once.
-    #[inline]
+    #[inline(always)]
     pub(crate) fn scan_some<C: Check>(
         &mut self,
         check: &mut C,

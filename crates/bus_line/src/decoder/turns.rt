@@ -15,37 +15,9 @@ impl LineWords {
     ghost use Rattle.bus_line.specs.Shown.{reported};
     ghost use Rattle.bus_line.specs.After.{Advances};
 
-    /// Takes at least one bit, and those after it up to the first that may decide a report, as many as come at once.
-    #[inline(always)]
-    pub(crate) fn scan_next<C: Check, const TURNS: bool>(
-        &mut self,
-        check: &mut C,
-        cells: &mut [u8; 272],
-        octets: &[u8],
-        from: usize,
-        end: usize,
-    ) -> Scanned
-        requires within { IsWithin self.old }
-        requires some { from < end }
-        requires enough { end ≤ 8 * length octets.now }
-        requires room { self.old.place + (end - from) ≤ most_places }
-        ensures count { (1 ≤ result.count) × (result.count ≤ end - from) }
-        ensures advances { Advances C.check (state self.old check.old cells.old)
-            (bits_from octets.now from result.count)
-            (option_map (reported (state self.new check.new cells.new).octets) result.event)
-            (state self.new check.new cells.new) }
-        ensures within { IsWithin self.new }
-        ensures cells { length cells.new ≡ 272 }
-    {
-        if TURNS {
-            return self.scan_turns(check, cells, octets, from, end);
-        }
-        self.scan_some(check, cells, octets, from, end)
-    }
-
     /// Takes bits as [`LineWords::scan_some`] does: by turns of 56 where the last mark is a flag.
     #[inline(always)]
-    fn scan_turns<C: Check>(
+    pub(crate) fn scan_turns<C: Check>(
         &mut self,
         check: &mut C,
         cells: &mut [u8; 272],

@@ -6,7 +6,7 @@ use super::random_lists::{state_of, traffic};
 use super::text::push_report;
 use bus_bits::bits_octet;
 use bus_fcs::{Check, OctetCheck};
-use bus_line::{LineDecoder, LineWords, PlaceLimit, Scanned};
+use bus_line::{ByWords, LineDecoder, LineWords, PlaceLimit, Scanned};
 use std::alloc::Global;
 use std::process::Abort;
 
@@ -52,7 +52,7 @@ impl Both {
         assert!(rt; self.words.are_sound(), "words of a decoder");
         let other = self
             .words
-            .scan::<OctetCheck, false>(&mut self.check, &mut self.cells, octets, at, end);
+            .scan::<OctetCheck, ByWords>(&mut self.check, &mut self.cells, octets, at, end);
         assert_eq!(rt; answer, other, "without turns");
         answer
     }

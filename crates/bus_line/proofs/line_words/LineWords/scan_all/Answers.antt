@@ -18,8 +18,8 @@ loop-at-init g c = record {
   cells = c.told-cells;
 }
 
-pub scan_next-scanned-requires-clause-room : goal.scan_next-scanned-requires-clause-room
-scan_next-scanned-requires-clause-room g c =
+pub advance-scanned-requires-clause-room : goal.advance-scanned-requires-clause-room
+advance-scanned-requires-clause-room g c =
     let now = c.loop-at.invariant in
     omega (
       arith,
@@ -32,7 +32,7 @@ scan_next-scanned-requires-clause-room g c =
 pub returns-then-is_some-clause-advances : goal.returns-then-is_some-clause-advances
 returns-then-is_some-clause-advances g c =
     let now = c.loop-at.invariant in
-    let scanned = c.scan_next-scanned in
+    let scanned = c.advance-scanned in
     let n = scanned.result.count in
     let count : c.loop-at.at + n - c.args.from ≡ c.loop-at.at - c.args.from + n = omega (arith, now.begun) in
     advances-on g.C.Check.check c.args.octets.now c.args.from c.loop-at.at now.begun now.tells
@@ -41,10 +41,10 @@ returns-then-is_some-clause-advances g c =
 pub loop-at-preserved : goal.loop-at-preserved
 loop-at-preserved g c =
     let now = c.loop-at.invariant in
-    let scanned = c.scan_next-scanned in
+    let scanned = c.advance-scanned in
     let n = scanned.result.count in
     let old = state c.loop-at.self c.loop-at.check c.loop-at.cells in
-    let new = state scanned.new.self scanned.new.check scanned.new.cells in
+    let new = state scanned.new.words scanned.new.check scanned.new.cells in
     let none : scanned.result.event ≡ None =
     is-none scanned.result.event (sym c.is_some.ensures ∙ c.if-is_some.false) in
     let told = ap (option_map (reported new.octets)) none in
