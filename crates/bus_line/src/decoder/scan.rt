@@ -27,8 +27,8 @@ impl LineWords {
     /// Takes bits as [`LineDecoder::scan`](crate::LineDecoder::scan) does, with the octets of the piece and
     /// their check in the caller's hands. The first [`LineWords::len`] of the cells are then the octets.
     ///
-    /// [`ByTurns`](crate::ByTurns) is the quicker way on a processor of 64 bits, [`ByWords`](crate::ByWords) what firmware
-    /// needs.
+    /// [`ByTurns`](crate::ByTurns) is the quicker way on a processor of 64 bits, [`ByWords`](crate::ByWords) what
+    /// firmware needs.
     ///
     /// Refuses as [`PlaceLimit`], with nothing changed, where the first bit's place would be 2^60.
     #[inline(always)]
