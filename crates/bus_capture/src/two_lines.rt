@@ -214,6 +214,9 @@ impl<C: Check> Follow for PairAnalyser<C> {
         pairs_are_head_and_body();
         Self::laws();
         let count = body.whole(min(octets.len(), 2 * BLOCK));
+        if count == 0 {
+            return Ok(0);
+        }
         let whole = &octets[..count];
         let mut first = [0; BLOCK];
         let mut second = [0; BLOCK];
