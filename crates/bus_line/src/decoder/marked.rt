@@ -13,7 +13,7 @@ pub(crate) struct Marked {
 }
 
 impl Marked {
-    /// The lowest `count` of these bits, without those that are marked.
+    /// The lowest `count` of these bits. Those that are marked stay among them, as 0s.
     #[inline(always)]
     pub(crate) fn of(bits: u64, marks: u64, count: u64) -> Marked
         requires few { count ≤ 56 }

@@ -42,7 +42,8 @@ pub(crate) fn first_six(word: u64) -> Option<u64>
     Some(u64::from(six.trailing_zeros()) - 2)
 }
 
-/// Where ones end that are looked for 56 at a time, and not in the last 63 bits.
+/// Where ones end that are looked for 56 at a time, and not in the last 63 bits. A call for each row
+/// of them costs nothing beside it, and its caller stays small enough to be inlined.
 #[inline(never)]
 pub(crate) fn ones_end(octets: &[u8], from: usize, end: usize) -> usize
     requires some { from ≤ end }
@@ -60,7 +61,8 @@ pub(crate) fn ones_end(octets: &[u8], from: usize, end: usize) -> usize
     at
 }
 
-/// Where flags end that are looked for seven at a time, and not in the last 63 bits.
+/// Where flags end that are looked for seven at a time, and not in the last 63 bits; no part of its
+/// caller, as `ones_end`.
 #[inline(never)]
 pub(crate) fn flags_end(octets: &[u8], from: usize, end: usize) -> usize
     requires some { from ≤ end }

@@ -110,7 +110,7 @@ fn failing_reads(rt: HostRuntime) {
     }
 }
 
-/// A writer that takes nothing of what is left is a fault, and no end of the text.
+/// A writer that is full takes nothing of what is left: a fault of the writer, with what it took.
 #[test]
 fn full_writer(rt: HostRuntime) {
     let parts = [
