@@ -4,8 +4,8 @@ An edit may name a test that tells it from the right body, in a comment, which `
 
     # told-by: CRATE TEST
 
-TEST is the path of a test of that crate, as `line::scans::scans`. Or it names a command whose output or status it
-changes:
+TEST is the path of a test of that crate, as `line::scans::scans`. Or it names a command whose output, fault or status
+it changes:
 
     # shown-by: port1 list --dict "$(cat examples/call-and-reply.toml)" < examples/one-call.ts2
     # shown-by: port1 list --bits <<< 0111111000
