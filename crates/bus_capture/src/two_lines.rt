@@ -197,6 +197,10 @@ impl<C: Check> Follow for PairAnalyser<C> {
         w: &mut W,
     ) -> Result<usize, ToolFault> {
         Self::laws();
+        // Fewer octets fill no octet of a line, and do not pay for clearing the blocks.
+        if octets.len() < 8 {
+            return Ok(0);
+        }
         let mut first = [0; BLOCK];
         let mut second = [0; BLOCK];
         let next = TextPairs::part(octets, &mut first, &mut second);
