@@ -166,3 +166,10 @@ fn types_that_ask(rt: HostRuntime) {
     assert!(rt; !asks_for_answer(&dictionary, 128));
     assert!(rt; !asks_for_answer(&dictionary, 7));
 }
+
+/// What the README says of memory, in octets.
+#[test]
+fn sizes(rt: HostRuntime) {
+    assert_eq!(rt; size_of::<LineDecoder<OctetCheck>>(), 368);
+    assert_eq!(rt; size_of::<Analyser<OctetCheck>>(), 10832);
+}
