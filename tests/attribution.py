@@ -20,6 +20,7 @@ from pathlib import Path
 from typing import Dict, Iterator, List, NamedTuple, Optional, Tuple
 
 from contracts import CLAUSE, FUNCTION, header_of
+from edits import named_bodies
 
 IMPL = re.compile(r"impl(?:<.*?>)? (?:(\w+)(?:<[^{]*?>)? for )?(\w+)")
 
@@ -281,9 +282,9 @@ def fault_of(named: Optional[Named], crate: Crate) -> Optional[str]:
 
 
 def unnamed_edits(crates: Path) -> Iterator[str]:
-    """The must-fail edits that name nothing that is there."""
+    """The must-fail edits, and such wrong bodies as name a clause, that name nothing that is there."""
     every = crates_of(crates)
-    for edit in sorted(crates.glob("*/must-fail/*.edit")):
+    for edit in named_bodies(crates):
         crate = edit.parent.parent.name
         fault = fault_of(named_by(edit.read_text(encoding="utf-8")), every[crate])
         if fault is not None:

@@ -1,4 +1,4 @@
-"""The must-fail edits: files with a line `file: NAME`, and then pairs of lines `old: TEXT` and `new: TEXT`.
+"""Wrong bodies: files with a line `file: NAME`, and then pairs of lines `old: TEXT` and `new: TEXT`.
 
 An edit may name a test that tells it from the right body, in a comment, which `rt` does not read:
 
@@ -22,6 +22,8 @@ from pathlib import Path
 from typing import Dict, Iterable, Iterator, List, NamedTuple, Optional, Set
 
 TOLD_BY = re.compile(r"^# told-by: (\w+) ([\w:]+)$", re.MULTILINE)
+
+REFUSED_BY = "# refused-by: "
 
 SHOWN_BY = re.compile(r"^# shown-by: port1 (.*)$", re.MULTILINE)
 
@@ -69,7 +71,7 @@ class Edit(NamedTuple):
 
 
 def edit_of(path: Path) -> Edit:
-    """The edit of a file crates/CRATE/must-fail/NAME.edit."""
+    """The edit of a file crates/CRATE/FOLDER/NAME.edit."""
     crate = path.parent.parent.name
     text = path.read_text(encoding="utf-8")
     file, old = Path(), ""
@@ -83,6 +85,12 @@ def edit_of(path: Path) -> Edit:
         elif key == "new":
             changes.append(Change(file, old, rest[1:]))
     return Edit(f"{crate}/{path.stem}", text, changes)
+
+
+def named_bodies(crates: Path) -> List[Path]:
+    """The must-fail edits, and those of wrong-bodies that name a clause as they do."""
+    others = [path for path in crates.glob("*/wrong-bodies/*.edit") if REFUSED_BY in path.read_text(encoding="utf-8")]
+    return sorted([*crates.glob("*/must-fail/*.edit"), *others])
 
 
 def misfits(edits: Iterable[Edit], top: Path) -> Iterator[str]:
@@ -136,7 +144,7 @@ def test_of(file: str, name: str) -> Iterator[Test]:
 def unknown_tests(crates: Path, tests: Dict[str, Set[str]]) -> Iterator[str]:
     """The edits that name a test which is not there, where these are the tests of each file."""
     every = {test for file, names in tests.items() for name in names for test in test_of(file, name)}
-    for path in sorted(crates.glob("*/must-fail/*.edit")):
+    for path in named_bodies(crates):
         for test in tests_told(path.read_text(encoding="utf-8")):
             if test not in every:
                 yield f"{path.parent.parent.name}/{path.stem}: no test {test.crate} {test.path}"

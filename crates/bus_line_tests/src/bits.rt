@@ -1,5 +1,6 @@
 //! Captures, octet by octet.
 
+use crate::expect::{holds, same};
 use bus_bits::{
     BadMark, EightBits, HeadFault, PackedBits, PackedFault, PackedHead, Spent, TextBits, TextBlock,
     Word, bits_octet, octet_bits, seven_octets_at, word_at,
@@ -17,15 +18,25 @@ fn text_stops_at_a_bad_mark(rt: HostRuntime) {
     for octet in b"01111110 " {
         let bit = text.step(*octet).expect(&rt, "no bad mark");
         let want = if *octet == b' ' { None } else { given.next() };
-        assert_eq!(rt; bit, want.map(|octet| *octet == b'1'), "octet {octet}");
+        same(
+            &rt,
+            bit,
+            want.map(|octet| *octet == b'1'),
+            format_args!("octet {octet}"),
+        );
     }
-    assert_eq!(rt; given.len(), 0);
-    assert_eq!(rt; text.step(b'2'), Err(BadMark));
-    assert_eq!(rt; text.step(b'\t'), Ok(None));
+    same(&rt, given.len(), 0, "bits left over");
+    same(&rt, text.step(b'2'), Err(BadMark), "a bad mark");
+    same(&rt, text.step(b'\t'), Ok(None), "a tab");
 }
 
 fn check_eight(rt: &impl Abort, octets: &[u8], want: Option<EightBits>) {
-    assert_eq!(rt; TextBits::eight(octets), want, "{octets:?}");
+    same(
+        rt,
+        TextBits::eight(octets),
+        want,
+        format_args!("{octets:?}"),
+    );
 }
 
 #[test]
@@ -48,7 +59,7 @@ fn eight_bits_are_an_octet(rt: HostRuntime) {
 
 #[test]
 fn octets_are_eight_bits(rt: HostRuntime) {
-    assert_eq!(rt; TextBits::of_eight(b"00100110"), Some(0x64));
+    same(&rt, TextBits::of_eight(b"00100110"), Some(0x64), "00100110");
     for text in [
         b"00100112",
         b"0010011 ",
@@ -57,7 +68,12 @@ fn octets_are_eight_bits(rt: HostRuntime) {
         b"0010011\xb0",
         b"x0100110",
     ] {
-        assert_eq!(rt; TextBits::of_eight(text), None);
+        same(
+            &rt,
+            TextBits::of_eight(text),
+            None,
+            format_args!("{text:?}"),
+        );
     }
 }
 
@@ -85,8 +101,9 @@ const OCTETS: [OctetRow; 3] = [
 #[test]
 fn octets_are_their_bits(rt: HostRuntime) {
     for row in &OCTETS {
-        assert_eq!(rt; octet_bits(row.octet), row.bits, "octet {}", row.octet);
-        assert_eq!(rt; bits_octet(&row.bits), row.octet, "octet {}", row.octet);
+        let case = format_args!("octet {}", row.octet);
+        same(&rt, octet_bits(row.octet), row.bits, &case);
+        same(&rt, bits_octet(&row.bits), row.octet, &case);
     }
 }
 
@@ -160,20 +177,13 @@ const WORDS: [WordRow; 6] = [
 #[test]
 fn words_are_cut_out(rt: HostRuntime) {
     for row in &WORDS {
+        let case = format_args!("bits {} to {}", row.at, row.end);
         assert!(rt;
             row.at < row.end && row.end <= 8 * row.octets.len(),
-            "bits {} to {}",
-            row.at,
-            row.end
+            "bits of octets"
         );
         let Word { bits, count } = word_at(row.octets, row.at, row.end);
-        assert_eq!(rt;
-            (bits, count),
-            (row.word.bits, row.word.count),
-            "bits {} to {}",
-            row.at,
-            row.end
-        );
+        same(&rt, (bits, count), (row.word.bits, row.word.count), &case);
     }
 }
 
@@ -187,8 +197,13 @@ const SEVENS: [(usize, u64); 3] = [
 #[test]
 fn seven_octets_are_cut_out(rt: HostRuntime) {
     for (at, want) in SEVENS {
-        assert!(rt; NINE.len() == 9 && at <= 8);
-        assert_eq!(rt; seven_octets_at(NINE, at) % (1 << 56), want, "from {at}");
+        assert!(rt; NINE.len() == 9 && at <= 8, "nine octets");
+        same(
+            &rt,
+            seven_octets_at(NINE, at) % (1 << 56),
+            want,
+            format_args!("from {at}"),
+        );
     }
 }
 
@@ -202,7 +217,7 @@ fn steps_are_added(rt: HostRuntime) {
         copied: 16,
         handled: 32,
     };
-    assert_eq!(rt; spent.total(), 63);
+    same(&rt, spent.total(), 63, "the sum of the steps");
 }
 
 /// A text in front of an octet that is no bit, and its bits in a block.
@@ -273,14 +288,9 @@ fn check_block(rt: &impl Abort, row: &PackRow, other: u8) {
     let octets = before_others(rt, row.text, other);
     let mut block = [0xff; 32];
     let TextBlock { count, taken } = TextBits::pack(&octets, &mut block);
-    assert_eq!(rt; count, row.bits, "{}", row.text);
-    assert_eq!(rt; taken, row.text.len(), "{}", row.text);
-    assert_eq!(rt;
-        block.get(..row.block.len()),
-        Some(row.block),
-        "{}",
-        row.text
-    );
+    same(rt, count, row.bits, row.text);
+    same(rt, taken, row.text.len(), row.text);
+    same(rt, block.get(..row.block.len()), Some(row.block), row.text);
 }
 
 #[test]
@@ -294,7 +304,7 @@ fn texts_are_packed(rt: HostRuntime) {
 
 fn check_head(rt: &impl Abort, head: &[u8; 16], want: Result<u64, HeadFault>) {
     let bits = PackedHead::read(head).map(|head| head.bits);
-    assert_eq!(rt; bits, want, "{head:?}");
+    same(rt, bits, want, format_args!("{head:?}"));
 }
 
 #[test]
@@ -316,33 +326,56 @@ fn packed_bits_are_given(rt: HostRuntime) {
     let mut given = BITS.iter();
     for octet in front {
         for bit in packed.step(octet).expect(&rt, "bits").as_slice() {
-            assert_eq!(rt;
+            same(
+                &rt,
                 given.next().copied(),
                 Some(if *bit { b'1' } else { b'0' }),
-                "octet {octet}"
+                format_args!("octet {octet}"),
             );
         }
     }
-    assert_eq!(rt; packed.left(), 1);
-    assert_eq!(rt; packed.finish(), Err(PackedFault::ShortBody));
-    assert_eq!(rt; packed.step(0x02).err(), Some(PackedFault::PadBits));
-    assert_eq!(rt; packed.left(), 1);
-    assert_eq!(rt;
-        packed.step(0x00).expect(&rt, "a bit").as_slice(),
-        &[false][..]
+    same(&rt, packed.left(), 1, "bits left");
+    same(
+        &rt,
+        packed.finish(),
+        Err(PackedFault::ShortBody),
+        "the end where a bit is left",
     );
-    assert_eq!(rt; packed.finish(), Ok(()));
-    assert_eq!(rt; packed.step(0x00).err(), Some(PackedFault::Trailing));
+    same(
+        &rt,
+        packed.step(0x02).err(),
+        Some(PackedFault::PadBits),
+        "an unused one",
+    );
+    same(&rt, packed.left(), 1, "bits left");
+    same(
+        &rt,
+        packed.step(0x00).expect(&rt, "a bit").as_slice(),
+        &[false][..],
+        "the last bit",
+    );
+    same(&rt, packed.finish(), Ok(()), "the end");
+    same(
+        &rt,
+        packed.step(0x00).err(),
+        Some(PackedFault::Trailing),
+        "an octet too many",
+    );
 }
 
 #[test]
 fn whole_octets_are_taken(rt: HostRuntime) {
     let mut packed = PackedBits::new(PackedHead { bits: 57 });
-    assert_eq!(rt; packed.whole(3), 3);
-    assert_eq!(rt; packed.whole(8), 7);
-    assert!(rt; packed.left() >= 56);
+    same(&rt, packed.whole(3), 3, "whole octets in three");
+    same(&rt, packed.whole(8), 7, "whole octets in eight");
+    assert!(rt; packed.left() >= 56, "seven octets");
     packed.take_all(&[0x7e, 0x10, 0x83, 0x00, 0x7d, 0xcb, 0xfd]);
-    assert_eq!(rt; packed.left(), 1);
-    assert_eq!(rt; packed.whole(1), 0);
-    assert_eq!(rt; packed.step(0x02).err(), Some(PackedFault::PadBits));
+    same(&rt, packed.left(), 1, "bits left");
+    same(&rt, packed.whole(1), 0, "whole octets in one");
+    same(
+        &rt,
+        packed.step(0x02).err(),
+        Some(PackedFault::PadBits),
+        "an unused one",
+    );
 }

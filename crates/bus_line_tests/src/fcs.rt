@@ -1,5 +1,6 @@
 //! Values from outside, by both checks.
 
+use crate::expect::{holds, same};
 use bus_bits::Spent;
 use bus_fcs::{BitCheck, Check, OctetCheck, fcs_is_good};
 
@@ -45,8 +46,9 @@ fn trailers(rt: HostRuntime) {
         (&[0x10, 0x83, 0x81, 0x01, 0x02], [0x6e, 0x1f]),
     ];
     for (octets, want) in cases {
-        assert_eq!(rt; folded::<BitCheck>(octets).trailer(), want, "{octets:?}");
-        assert_eq!(rt; folded::<OctetCheck>(octets).trailer(), want, "{octets:?}");
+        let case = format_args!("{octets:?}");
+        same(&rt, folded::<BitCheck>(octets).trailer(), want, &case);
+        same(&rt, folded::<OctetCheck>(octets).trailer(), want, &case);
     }
 }
 
@@ -63,16 +65,9 @@ fn registers(rt: HostRuntime) {
     for (count, register) in cases {
         let want = (!register).to_le_bytes();
         let octets = &FRAME[..count.min(FRAME.len())];
-        assert_eq!(rt;
-            folded::<BitCheck>(octets).trailer(),
-            want,
-            "{count} octets"
-        );
-        assert_eq!(rt;
-            folded::<OctetCheck>(octets).trailer(),
-            want,
-            "{count} octets"
-        );
+        let case = format_args!("{count} octets");
+        same(&rt, folded::<BitCheck>(octets).trailer(), want, &case);
+        same(&rt, folded::<OctetCheck>(octets).trailer(), want, &case);
     }
 }
 
@@ -84,12 +79,18 @@ fn each_octet_at_each_place(rt: HostRuntime) {
             let mut octets = [0; 8];
             octets[place] = octet;
             let want = (!register_of(&octets[..7])).to_le_bytes();
-            assert_eq!(rt; folded::<BitCheck>(&octets[..7]).trailer(), want);
-            assert_eq!(rt; folded::<OctetCheck>(&octets[..7]).trailer(), want);
+            let case = format_args!("{octet} at {place}");
+            same(&rt, folded::<BitCheck>(&octets[..7]).trailer(), want, &case);
+            same(
+                &rt,
+                folded::<OctetCheck>(&octets[..7]).trailer(),
+                want,
+                &case,
+            );
             let mut at_once = OctetCheck::fresh();
             let mut spent = Spent::zero();
             at_once.fold_some(&octets, 7, &mut spent);
-            assert_eq!(rt; at_once.trailer(), want, "{octet} at {place}");
+            same(&rt, at_once.trailer(), want, &case);
         }
     }
 }
@@ -110,23 +111,29 @@ fn cost_of<C: Check>(count: usize) -> u64 {
 #[test]
 fn costs(rt: HostRuntime) {
     for (count, by_bits, by_octets) in [(0, 0, 0), (1, 8, 1), (7, 56, 7)] {
-        assert_eq!(rt; cost_of::<BitCheck>(count), by_bits);
-        assert_eq!(rt; cost_of::<OctetCheck>(count), by_octets);
+        same(&rt, cost_of::<BitCheck>(count), by_bits, "units by bits");
+        same(
+            &rt,
+            cost_of::<OctetCheck>(count),
+            by_octets,
+            "units by octets",
+        );
     }
     let mut at_once = OctetCheck::fresh();
     let mut spent = Spent::zero();
     at_once.fold_some(&[0x55; 8], 7, &mut spent);
-    assert_eq!(rt; spent.folded, 7);
+    same(&rt, spent.folded, 7, "units of seven octets at once");
 }
 
 /// A frame is good, and with the octets of its check exchanged it is not.
 #[test]
 fn good_and_exchanged(rt: HostRuntime) {
     for (octets, want) in [(FRAME, true), ([0x10, 0x83, 0x00, 0xe5, 0xfd], false)] {
-        assert_eq!(rt; folded::<BitCheck>(&octets).is_good(), want, "{octets:?}");
-        assert_eq!(rt; folded::<OctetCheck>(&octets).is_good(), want, "{octets:?}");
-        assert_eq!(rt; fcs_is_good::<BitCheck>(&octets), want, "{octets:?}");
-        assert_eq!(rt; fcs_is_good::<OctetCheck>(&octets), want, "{octets:?}");
+        let case = format_args!("{octets:?}");
+        same(&rt, folded::<BitCheck>(&octets).is_good(), want, &case);
+        same(&rt, folded::<OctetCheck>(&octets).is_good(), want, &case);
+        same(&rt, fcs_is_good::<BitCheck>(&octets), want, &case);
+        same(&rt, fcs_is_good::<OctetCheck>(&octets), want, &case);
     }
 }
 
@@ -138,8 +145,9 @@ fn changes_within_sixteen_bits(rt: HostRuntime) {
     for place in 0..25u32 {
         for rest in 0..32768u64 {
             let octets = (frame ^ ((2 * rest + 1) << place)).to_le_bytes();
-            assert!(rt; !folded::<BitCheck>(&octets[..5]).is_good(), "{octets:?}");
-            assert!(rt; !folded::<OctetCheck>(&octets[..5]).is_good(), "{octets:?}");
+            let case = format_args!("{octets:?}");
+            holds(&rt, !folded::<BitCheck>(&octets[..5]).is_good(), &case);
+            holds(&rt, !folded::<OctetCheck>(&octets[..5]).is_good(), &case);
         }
     }
 }

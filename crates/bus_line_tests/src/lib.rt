@@ -5,6 +5,8 @@
 #[cfg(test)]
 mod bits;
 #[cfg(test)]
+mod expect;
+#[cfg(test)]
 mod fcs;
 #[cfg(test)]
 mod line;

@@ -1,5 +1,6 @@
 //! Captures of two lines, octet by octet.
 
+use crate::expect::same;
 use bus_bits::{
     BadMark, EightPairs, HeadFault, PackedFault, PackedHead, PackedPairs, PairHead, PartedText,
     TextPairs,
@@ -63,12 +64,22 @@ const MARKS: [MarkRow; 11] = [
 fn marks_are_pairs(rt: HostRuntime) {
     let mut text = TextPairs::new();
     for row in &MARKS {
-        assert_eq!(rt; text.step(row.octet), row.want, "octet {}", row.octet);
+        same(
+            &rt,
+            text.step(row.octet),
+            row.want,
+            format_args!("octet {}", row.octet),
+        );
     }
 }
 
 fn check_eight(rt: &impl Abort, octets: &[u8], want: Option<EightPairs>) {
-    assert_eq!(rt; TextPairs::eight(octets), want, "{octets:?}");
+    same(
+        rt,
+        TextPairs::eight(octets),
+        want,
+        format_args!("{octets:?}"),
+    );
 }
 
 #[test]
@@ -165,9 +176,9 @@ fn texts_are_parted(rt: HostRuntime) {
             &mut first,
             &mut second,
         );
-        assert_eq!(rt; (filled, taken), (row.filled, row.taken), "{}", row.text);
-        assert_eq!(rt; first, row.first, "{}", row.text);
-        assert_eq!(rt; second, row.second, "{}", row.text);
+        same(&rt, (filled, taken), (row.filled, row.taken), row.text);
+        same(&rt, first, row.first, row.text);
+        same(&rt, second, row.second, row.text);
     }
 }
 
@@ -199,15 +210,15 @@ const HEADS: [HeadRow; 4] = [
 #[test]
 fn heads_of_pairs_are_read(rt: HostRuntime) {
     for row in &HEADS {
-        assert_eq!(rt;
+        same(
+            &rt,
             PairHead::read(row.head).map(|head| head.pairs),
             row.want,
-            "{:?}",
-            row.head
+            format_args!("{:?}", row.head),
         );
     }
     let other = PackedHead::read(b"TS2BITS2\x0f\0\0\0\0\0\0\0");
-    assert_eq!(rt; other.err(), Some(HeadFault::Magic));
+    same(&rt, other.err(), Some(HeadFault::Magic), "another head");
 }
 
 #[test]
@@ -216,22 +227,46 @@ fn packed_pairs_are_given(rt: HostRuntime) {
     let each = [(false, false), (true, false), (false, true), (true, true)];
     let mut packed = PackedPairs::new(PairHead { pairs: 15 });
     for _ in 0..3 {
-        assert_eq!(rt;
+        same(
+            &rt,
             packed.step(0xe4).expect(&rt, "four pairs").as_slice(),
-            &each[..]
+            &each[..],
+            "four pairs",
         );
     }
-    assert_eq!(rt; packed.left(), 3);
-    assert_eq!(rt; packed.finish(), Err(PackedFault::ShortBody));
-    assert_eq!(rt; packed.step(0xbf).err(), Some(PackedFault::PadBits));
-    assert_eq!(rt; packed.step(0x7f).err(), Some(PackedFault::PadBits));
-    assert_eq!(rt; packed.left(), 3);
-    assert_eq!(rt;
-        packed.step(0x24).expect(&rt, "three pairs").as_slice(),
-        &each[..3]
+    same(&rt, packed.left(), 3, "pairs left");
+    same(
+        &rt,
+        packed.finish(),
+        Err(PackedFault::ShortBody),
+        "the end where pairs are left",
     );
-    assert_eq!(rt; packed.finish(), Ok(()));
-    assert_eq!(rt; packed.step(0).err(), Some(PackedFault::Trailing));
+    same(
+        &rt,
+        packed.step(0xbf).err(),
+        Some(PackedFault::PadBits),
+        "octet bf",
+    );
+    same(
+        &rt,
+        packed.step(0x7f).err(),
+        Some(PackedFault::PadBits),
+        "octet 7f",
+    );
+    same(&rt, packed.left(), 3, "pairs left");
+    same(
+        &rt,
+        packed.step(0x24).expect(&rt, "three pairs").as_slice(),
+        &each[..3],
+        "the last three pairs",
+    );
+    same(&rt, packed.finish(), Ok(()), "the end");
+    same(
+        &rt,
+        packed.step(0).err(),
+        Some(PackedFault::Trailing),
+        "an octet too many",
+    );
 }
 
 /// An octet of a packed capture of two lines, and its pairs.
@@ -270,10 +305,20 @@ fn octets_are_four_pairs(rt: HostRuntime) {
     let mut packed = PackedPairs::new(PairHead { pairs: 17 });
     for row in &PAIRS {
         let pairs = packed.step(row.octet).expect(&rt, "four pairs");
-        assert_eq!(rt; pairs.as_slice(), &row.pairs[..], "octet {}", row.octet);
+        same(
+            &rt,
+            pairs.as_slice(),
+            &row.pairs[..],
+            format_args!("octet {}", row.octet),
+        );
     }
-    assert_eq!(rt; packed.left(), 1);
-    assert_eq!(rt; packed.finish(), Err(PackedFault::ShortBody));
+    same(&rt, packed.left(), 1, "pairs left");
+    same(
+        &rt,
+        packed.finish(),
+        Err(PackedFault::ShortBody),
+        "the end where pairs are left",
+    );
 }
 
 #[test]
@@ -286,12 +331,22 @@ fn sixteen_octets_are_parted(rt: HostRuntime) {
     let mut packed = PackedPairs::new(PairHead { pairs: 65 });
     let mut first = [0xff; 9];
     let mut second = [0xff; 9];
-    assert_eq!(rt; packed.whole(15), 0);
-    assert_eq!(rt; packed.whole(40), 16);
+    same(&rt, packed.whole(15), 0, "whole octets in 15");
+    same(&rt, packed.whole(40), 16, "whole octets in 40");
     if packed.left() >= 64 {
         packed.take_all(&octets, &mut first, &mut second);
     }
-    assert_eq!(rt; first, [0xfa, 0, 0x0a, 0xf0, 0x01, 0x08, 0xaa, 0, 0xff]);
-    assert_eq!(rt; second, [0x0c, 0x0f, 0x0c, 0, 0x10, 0x80, 0xcc, 0, 0xff]);
-    assert_eq!(rt; packed.left(), 1);
+    same(
+        &rt,
+        first,
+        [0xfa, 0, 0x0a, 0xf0, 0x01, 0x08, 0xaa, 0, 0xff],
+        "the first line",
+    );
+    same(
+        &rt,
+        second,
+        [0x0c, 0x0f, 0x0c, 0, 0x10, 0x80, 0xcc, 0, 0xff],
+        "the second line",
+    );
+    same(&rt, packed.left(), 1, "pairs left");
 }

@@ -100,6 +100,14 @@ fn kind_arg<'a>(alloc: Global) -> Arg<'a> {
         .help(help::KIND)
 }
 
+fn hex_arg<'a>(alloc: Global) -> Arg<'a> {
+    Arg::new(alloc, "hex")
+        .value_name("HEX")
+        .required(true)
+        .action(ArgAction::Set)
+        .help("The octets of the frame, its check among them, two digits each")
+}
+
 fn list_command<'a>(alloc: Global) -> Result<Command<'a>, Error> {
     Ok(
         Command::new(alloc, "list")
@@ -131,16 +139,11 @@ fn check_command<'a>(alloc: Global) -> Result<Command<'a>, Error> {
 }
 
 fn show_command<'a>(alloc: Global) -> Result<Command<'a>, Error> {
-    let hex = Arg::new(alloc, "hex")
-        .value_name("HEX")
-        .required(true)
-        .action(ArgAction::Set)
-        .help("The octets of the frame, its check among them, two digits each");
     Ok(
         Command::new(alloc, "show")
             .about("Shows what one frame is")
             .arg(dictionary_arg(alloc))?
-            .arg(hex)?
+            .arg(hex_arg(alloc))?
             .after_help(help::SHOW),
     )
 }

@@ -3,6 +3,7 @@
 use super::rows::{WORKED, row_of};
 use super::text::push_report;
 use super::{bits_of, take_some};
+use crate::expect::{holds, same};
 use bus_bits::Spent;
 use bus_fcs::{BitCheck, Check, OctetCheck};
 use bus_line::{LineDecoder, Piece};
@@ -80,16 +81,17 @@ fn heard_alike(
     let room = longest.saturating_add(2);
     for size in [1, 7, 8, 48] {
         let by_words = hear::<OctetCheck>(rt, alloc, bits, longest, origin, size);
-        assert_eq!(rt;
+        same(
+            rt,
             by_bits.reports.as_str(),
             by_words.reports.as_str(),
-            "{size}"
+            size,
         );
-        assert_eq!(rt; by_bits.places.as_str(), by_words.places.as_str(), "{size}");
-        assert_eq!(rt; single.spent, by_words.spent, "{size}");
-        assert!(rt; by_words.most <= room, "{size}");
+        same(rt, by_bits.places.as_str(), by_words.places.as_str(), size);
+        same(rt, single.spent, by_words.spent, size);
+        holds(rt, by_words.most <= room, size);
     }
-    assert!(rt; by_bits.most <= room);
+    holds(rt, by_bits.most <= room, "octets in the buffer");
     by_bits
 }
 
@@ -100,8 +102,8 @@ fn worked_lists_bit_by_bit(rt: HostRuntime) {
         let row = row_of(&rt, line);
         let bits = bits_of(&rt, rt.alloc(), row.bits);
         let heard = heard_alike(&rt, rt.alloc(), &bits, 3, 0);
-        assert_eq!(rt; heard.reports.as_str(), row.reports, "{}", row.case);
-        assert_eq!(rt; heard.places.as_str(), row.places, "{}", row.case);
+        same(&rt, heard.reports.as_str(), row.reports, row.case);
+        same(&rt, heard.places.as_str(), row.places, row.case);
     }
 }
 
@@ -159,7 +161,7 @@ fn worked_frames(rt: HostRuntime) {
         let text = format!(in rt.alloc(); "01111110 {bits} 01111110").expect(&rt, "memory");
         let bits = bits_of(&rt, rt.alloc(), &text);
         let heard = heard_alike(&rt, rt.alloc(), &bits, 5, origin);
-        assert_eq!(rt; heard.reports.as_str(), want, "{case}");
+        same(&rt, heard.reports.as_str(), want, case);
     }
 }
 
@@ -175,8 +177,13 @@ fn octets_of_a_frame(rt: HostRuntime) {
             push_report(&rt, &mut told, &piece);
         }
     }
-    assert_eq!(rt; told.as_str(), "8 49 frame 108300fde5");
-    assert_eq!(rt; decoder.octets(), [0x10, 0x83, 0x00, 0xfd, 0xe5].as_slice());
+    same(&rt, told.as_str(), "8 49 frame 108300fde5", "the report");
+    same(
+        &rt,
+        decoder.octets(),
+        [0x10, 0x83, 0x00, 0xfd, 0xe5].as_slice(),
+        "the octets of the frame",
+    );
 }
 
 /// Each case with its bits and the octets that stand in the buffer after the last of them: eight later bits settle
@@ -217,7 +224,7 @@ fn octets_in_the_buffer(rt: HostRuntime) {
         for bit in &bits {
             decoder.push(*bit).expect(&rt, "a place");
         }
-        assert_eq!(rt; decoder.buffered(), want, "{case}");
+        same(&rt, decoder.buffered(), want, case);
     }
 }
 
@@ -266,16 +273,18 @@ fn steps(rt: HostRuntime) {
     for (case, bits, [shifted, assembled, by_bits, by_octets, stored]) in STEPS {
         let bits = bits_of(&rt, rt.alloc(), bits);
         let slow = hear::<BitCheck>(&rt, rt.alloc(), &bits, 3, 0, 1);
-        assert_eq!(rt;
+        same(
+            &rt,
             slow.spent,
             steps_of([shifted, assembled, by_bits, stored]),
-            "{case}"
+            case,
         );
         let fast = hear::<OctetCheck>(&rt, rt.alloc(), &bits, 3, 0, 48);
-        assert_eq!(rt;
+        same(
+            &rt,
             fast.spent,
             steps_of([shifted, assembled, by_octets, stored]),
-            "{case}"
+            case,
         );
     }
 }
@@ -292,6 +301,11 @@ fn heard_from_later_on(rt: HostRuntime) {
         let heard_bits = bits.get(missing..).unwrap_or_default();
         let heard = heard_alike(&rt, rt.alloc(), heard_bits, 3, missing as u64);
         let want = "57 98 frame 108380f561, 106 148 frame ff83095a3b";
-        assert_eq!(rt; heard.reports.as_str(), want, "without {missing} bits");
+        same(
+            &rt,
+            heard.reports.as_str(),
+            want,
+            format_args!("without {missing} bits"),
+        );
     }
 }

@@ -1,6 +1,7 @@
 //! The memory that `reports_whole` asks for, and its answer where that is refused. `tests/memory` runs these tests with
 //! each request refused in turn, and counts the requests.
 
+use crate::expect::{holds, same};
 use bus_line::{OwnedPiece, reports_whole};
 use std::alloc::{AllocError, Global};
 use std::process::Abort;
@@ -40,7 +41,7 @@ fn list(rt: &impl Abort) -> [bool; BITS] {
             place = place.saturating_add(1);
         }
     }
-    assert_eq!(rt; place, BITS);
+    same(rt, place, BITS, "all bits taken");
     bits
 }
 
@@ -57,10 +58,15 @@ fn reports_at_last(rt: &impl Abort, alloc: Global, bits: &[bool]) -> Vec<OwnedPi
 #[test]
 fn each_report(rt: HostRuntime) {
     let reports = reports_at_last(&rt, rt.alloc(), &list(&rt));
-    assert_eq!(rt; reports.len(), PLACES.len());
+    same(&rt, reports.len(), PLACES.len(), "how many reports");
     for (report, (first, past)) in reports.iter().zip(PLACES) {
         let span = report.as_piece().span();
-        assert_eq!(rt; (span.first, span.past), (first, past), "{first} to {past}");
+        same(
+            &rt,
+            (span.first, span.past),
+            (first, past),
+            format_args!("{first} to {past}"),
+        );
     }
 }
 
@@ -68,5 +74,5 @@ fn each_report(rt: HostRuntime) {
 #[test]
 fn no_report(rt: HostRuntime) {
     let reports = reports_at_last(&rt, rt.alloc(), &[false; 100_000]);
-    assert!(rt; reports.is_empty());
+    holds(&rt, reports.is_empty(), "no report");
 }

@@ -1,6 +1,7 @@
 //! Long lists of random traffic by calls of every size.
 
 use super::{bits_of, take_some};
+use crate::expect::holds;
 use bus_bits::Spent;
 use bus_fcs::OctetCheck;
 use bus_line::{LineDecoder, OwnedPiece, reports_whole};
@@ -113,12 +114,13 @@ fn random_lists(rt: HostRuntime) {
         let bits = traffic(&rt, alloc, seed);
         assert!(&rt; bits.len() >= BITS && bits.len() <= 6000, "a list");
         let reports = reports_whole(alloc, &bits, LONGEST).expect(&rt, "memory");
-        assert!(&rt; reports.len() > 50, "reports");
+        holds(&rt, reports.len() > 50, "reports");
         let states = states_of(&rt, alloc, &bits);
         for size in 1..=48 {
-            assert!(&rt;
+            holds(
+                &rt,
                 agrees(&rt, &bits, &reports, &states, size),
-                "seed {seed}, {size} bits"
+                format_args!("seed {seed}, {size} bits"),
             );
         }
     }

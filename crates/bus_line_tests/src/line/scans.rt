@@ -4,6 +4,7 @@
 use super::bits_of;
 use super::random_lists::{state_of, traffic};
 use super::text::push_report;
+use crate::expect::{holds, same};
 use bus_bits::bits_octet;
 use bus_fcs::{Check, OctetCheck};
 use bus_line::{ByWords, LineDecoder, LineWords, PlaceLimit, Scanned};
@@ -53,31 +54,37 @@ impl Both {
         let other = self
             .words
             .scan::<OctetCheck, ByWords>(&mut self.check, &mut self.cells, octets, at, end);
-        assert_eq!(rt; answer, other, "without turns");
+        same(rt, answer, other, "without turns");
         answer
     }
 
     /// Both say the same of themselves.
     fn check_alike(&self, rt: &impl Abort) {
         let octets = self.cells.get(..self.words.len as usize);
-        assert_eq!(rt; octets, Some(self.decoder.octets()), "without turns");
+        same(rt, octets, Some(self.decoder.octets()), "without turns");
         assert!(rt; self.words.are_sound(), "words of a decoder");
-        assert_eq!(rt; self.words.begun(), self.decoder.begun(), "without turns");
+        same(
+            rt,
+            self.words.begun(),
+            self.decoder.begun(),
+            "without turns",
+        );
         let spent = self.decoder.spent();
-        assert_eq!(rt;
+        same(
+            rt,
             [
                 self.words.place,
                 self.words.assembled,
                 self.words.stored,
-                self.words.folded
+                self.words.folded,
             ],
             [
                 self.decoder.place(),
                 spent.assembled,
                 spent.stored,
-                spent.folded
+                spent.folded,
             ],
-            "without turns"
+            "without turns",
         );
     }
 }
@@ -110,15 +117,16 @@ fn scan_some(
     let scanned = &both.decoder;
     let mut last = None;
     for bit in bits[at..end].iter().take(answer.count) {
-        assert!(rt; last.is_none(), "a report before the last bit");
+        holds(rt, last.is_none(), "a report before the last bit");
         last = taken.take(u64::from(*bit), 1).expect(rt, "a place").event;
     }
-    assert!(rt; answer.event == last, "another report");
-    assert!(rt; scanned.octets() == taken.octets(), "other octets");
-    assert!(rt; scanned.place() == taken.place(), "another place");
-    assert!(rt;
+    holds(rt, answer.event == last, "another report");
+    holds(rt, scanned.octets() == taken.octets(), "other octets");
+    holds(rt, scanned.place() == taken.place(), "another place");
+    holds(
+        rt,
         state_of(scanned) == state_of(taken),
-        "another ledger, buffer or open piece"
+        "another ledger, buffer or open piece",
     );
     answer.count
 }
@@ -146,7 +154,7 @@ fn scan_all(
         }
         at = at.wrapping_add(count);
     }
-    assert!(rt; at == bits.len(), "all bits");
+    holds(rt, at == bits.len(), "all bits");
     many
 }
 
@@ -162,7 +170,7 @@ fn scans(rt: HostRuntime) {
             many = many.wrapping_add(scan_all(&rt, &octets, bits, from, *longest, *size));
         }
     }
-    assert!(&rt; many > 5000, "calls that take many bits");
+    holds(&rt, many > 5000, "calls that take many bits");
 }
 
 /// Words with how often each comes, how many of their bits a first call gets, and their reports where the longest
@@ -292,7 +300,7 @@ fn push_scanned(
             push_report(rt, text, &event.with_octets(both.decoder.octets()));
         }
     }
-    assert_eq!(rt; at, end);
+    same(rt, at, end, "bits scanned");
 }
 
 #[test]
@@ -305,7 +313,12 @@ fn scanned_reports(rt: HostRuntime) {
         let mut text = String::new(alloc);
         push_scanned(&rt, &mut text, &mut both, &octets, 0, row.first);
         push_scanned(&rt, &mut text, &mut both, &octets, row.first, bits.len());
-        assert_eq!(rt; text.as_str(), row.want, "{} bits", bits.len());
+        same(
+            &rt,
+            text.as_str(),
+            row.want,
+            format_args!("{} bits", bits.len()),
+        );
     }
 }
 
@@ -323,11 +336,14 @@ fn at_the_place_limit(rt: HostRuntime) {
                 event: None,
             }),
         };
-        assert_eq!(rt; answer, want, "{room} places");
+        let case = format_args!("{room} places");
+        same(&rt, answer, want, &case);
         let taken = room.min(128);
-        assert_eq!(rt;
+        same(
+            &rt,
             both.decoder.place(),
-            far.wrapping_sub(room).wrapping_add(taken)
+            far.wrapping_sub(room).wrapping_add(taken),
+            &case,
         );
     }
 }

@@ -1,6 +1,7 @@
 //! How many bits a decoder takes with one call.
 
 use super::bits_of;
+use crate::expect::same;
 use bus_fcs::OctetCheck;
 use bus_line::LineDecoder;
 use std::alloc::Global;
@@ -79,21 +80,20 @@ fn taken_behind(rt: &impl Abort, alloc: Global, row: &Behind) -> u32 {
         decoder.push(*before).expect(rt, "a place");
     }
     let place = decoder.place();
-    assert_eq!(rt;
+    let case = format_args!("{} after {}", row.bits, row.before);
+    same(
+        rt,
         decoder.would_take(row.bits % (1 << 48), 48),
         row.taken,
-        "{} after {}",
-        row.bits,
-        row.before
+        &case,
     );
     let taken = decoder.take(row.bits % (1 << 48), 48).expect(rt, "a place");
     let count = taken.count;
-    assert_eq!(rt;
+    same(
+        rt,
         decoder.place(),
         place.wrapping_add(u64::from(count)),
-        "{} after {}",
-        row.bits,
-        row.before
+        &case,
     );
     count
 }
@@ -104,7 +104,12 @@ fn taken_behind(rt: &impl Abort, alloc: Global, row: &Behind) -> u32 {
 fn bits_at_once(rt: HostRuntime) {
     for row in BEHIND {
         let count = taken_behind(&rt, rt.alloc(), &row);
-        assert_eq!(rt; count, row.taken, "{} after {}", row.bits, row.before);
+        same(
+            &rt,
+            count,
+            row.taken,
+            format_args!("{} after {}", row.bits, row.before),
+        );
     }
 }
 
@@ -119,17 +124,10 @@ fn at_the_place_limit(rt: HostRuntime) {
                 "a decoder",
             );
             let refused = decoder.take(0, count).is_err();
-            assert_eq!(&rt;
-                refused,
-                u64::from(count) > room,
-                "{count} bits, {room} places"
-            );
+            let case = format_args!("{count} bits, {room} places");
+            same(&rt, refused, u64::from(count) > room, &case);
             let taken = if refused { 0 } else { u64::from(count) };
-            assert_eq!(&rt;
-                decoder.place(),
-                far - room + taken,
-                "{count} bits, {room} places"
-            );
+            same(&rt, decoder.place(), far - room + taken, &case);
         }
     }
 }
