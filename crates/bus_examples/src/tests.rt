@@ -8,6 +8,7 @@ use bus_fcs::{BitCheck, Check, OctetCheck};
 use bus_line::{EncodeFault, LineDecoder};
 use bus_watch::{Analyser, FeedFault, LoggedPiece};
 use std::alloc::Global;
+use std::fmt::{Debug, Display};
 use std::process::Abort;
 
 /// Example types only: their numbers and names are made up and stand for no real frame type.
@@ -59,10 +60,13 @@ fn calls(rt: &impl Abort, alloc: Global) -> Dictionary {
 #[test]
 fn frames_of_a_buffer(rt: HostRuntime) {
     let three = bits_of(&rt, rt.alloc(), THREE);
-    assert_eq!(rt; count_frames::<OctetCheck>(&three), Ok(3));
     let call = bits_of(&rt, rt.alloc(), CALL);
-    assert_eq!(rt; count_frames::<BitCheck>(&call), Ok(1));
-    assert_eq!(rt; count_frames::<OctetCheck>(&[]), Ok(0));
+    let counts = [
+        count_frames::<OctetCheck>(&three),
+        count_frames::<BitCheck>(&call),
+        count_frames::<OctetCheck>(&[]),
+    ];
+    same(&rt, counts, [Ok(3), Ok(1), Ok(0)], "three, one and none");
 }
 
 /// Frames of so many octets, all 0, of which the longest has 256: their checks as they are sent, and how many are
@@ -84,11 +88,8 @@ fn longest_frames(rt: HostRuntime) {
             bits.extend_from_slice(&bits_of(&rt, rt.alloc(), text))
                 .expect(&rt, "memory");
         }
-        assert_eq!(rt;
-            count_frames::<OctetCheck>(&bits),
-            Ok(want),
-            "{octets} octets"
-        );
+        let count = count_frames::<OctetCheck>(&bits);
+        same(&rt, count, Ok(want), format_args!("{octets} octets"));
     }
 }
 
@@ -108,9 +109,13 @@ fn frames_of<C: Check>(rt: &impl Abort, bits: &[bool], station: u8) -> (usize, u
 #[test]
 fn frame_of_a_station(rt: HostRuntime) {
     let three = bits_of(&rt, rt.alloc(), THREE);
-    assert_eq!(rt; frames_of::<OctetCheck>(&rt, &three, 16), (105, 2));
-    assert_eq!(rt; frames_of::<BitCheck>(&rt, &three, 255), (155, 1));
-    assert_eq!(rt; frames_of::<OctetCheck>(&rt, &three, 17), (0, 0));
+    let found = [
+        frames_of::<OctetCheck>(&rt, &three, 16),
+        frames_of::<BitCheck>(&rt, &three, 255),
+        frames_of::<OctetCheck>(&rt, &three, 17),
+    ];
+    let want = [(105, 2), (155, 1), (0, 0)];
+    same(&rt, found, want, "stations 16, 255 and 17");
 }
 
 /// The station that a list shows to have no answer, and at which place.
@@ -129,9 +134,13 @@ fn silent(rt: &impl Abort, alloc: Global, text: &str) -> Option<(usize, u8)> {
 
 #[test]
 fn station_without_answer(rt: HostRuntime) {
-    assert_eq!(rt; silent(&rt, rt.alloc(), THREE), None);
-    assert_eq!(rt; silent(&rt, rt.alloc(), CALL), None);
-    assert_eq!(rt; silent(&rt, rt.alloc(), TWICE), Some((105, 16)));
+    let found = [
+        silent(&rt, rt.alloc(), THREE),
+        silent(&rt, rt.alloc(), CALL),
+        silent(&rt, rt.alloc(), TWICE),
+    ];
+    let want = [None, None, Some((105, 16))];
+    same(&rt, found, want, "an answer, one call and two calls");
 }
 
 /// All reports in a log with room for them; with less, the first that it refuses ends the run.
@@ -139,32 +148,36 @@ fn station_without_answer(rt: HostRuntime) {
 fn all_that_is_seen(rt: HostRuntime) {
     let three = bits_of(&rt, rt.alloc(), THREE);
     let log = watch(rt.alloc(), calls(&rt, rt.alloc()), &three, 3).expect(&rt, "a log");
-    assert_eq!(rt; log.reports().len(), 3);
+    same(&rt, log.reports().len(), 3, "how many reports are logged");
     let reply = log.reports().get(1).expect(&rt, "a report");
-    assert!(rt; reply.verdict.is_some());
-    assert!(rt; matches!(reply.piece, LoggedPiece::Frame(_)));
+    holds(&rt, reply.verdict.is_some(), "the reply has a verdict");
+    let is_frame = matches!(reply.piece, LoggedPiece::Frame(_));
+    holds(&rt, is_frame, "the reply is a frame");
     let fault = watch(rt.alloc(), calls(&rt, rt.alloc()), &three, 2).err();
-    assert_eq!(rt;
-        fault,
-        Some(WatchFault::Feed(FeedFault::Sink { consumed: 156 }))
-    );
+    let want = WatchFault::Feed(FeedFault::Sink { consumed: 156 });
+    same(&rt, fault, Some(want), "a log of two reports");
 }
 
 #[test]
 fn bits_of_a_frame(rt: HostRuntime) {
     let sent = frame_bits(&[0x10, 0x83, 0x00]).expect(&rt, "bits");
     let call = bits_of(&rt, rt.alloc(), CALL);
-    assert!(rt; sent.bits.as_slice() == call.as_slice());
-    assert_eq!(rt; frame_bits(&[0x10]).err(), Some(EncodeFault::LengthRange));
-    assert_eq!(rt; frame_bits(&[0; 257]).err(), Some(EncodeFault::LengthRange));
+    let are_same = sent.bits.as_slice() == call.as_slice();
+    holds(&rt, are_same, "the bits of a call");
+    let faults = [frame_bits(&[0x10]).err(), frame_bits(&[0; 257]).err()];
+    let refused = Some(EncodeFault::LengthRange);
+    same(&rt, faults, [refused; 2], "too short and too long");
 }
 
 #[test]
 fn types_that_ask(rt: HostRuntime) {
     let dictionary = calls(&rt, rt.alloc());
-    assert!(rt; asks_for_answer(&dictionary, 0));
-    assert!(rt; !asks_for_answer(&dictionary, 128));
-    assert!(rt; !asks_for_answer(&dictionary, 7));
+    let asks = [
+        asks_for_answer(&dictionary, 0),
+        asks_for_answer(&dictionary, 128),
+        asks_for_answer(&dictionary, 7),
+    ];
+    same(&rt, asks, [true, false, false], "types 0, 128 and 7");
 }
 
 /// What the README says of memory, in octets.
@@ -172,4 +185,14 @@ fn types_that_ask(rt: HostRuntime) {
 fn sizes(rt: HostRuntime) {
     assert_eq!(rt; size_of::<LineDecoder<OctetCheck>>(), 368);
     assert_eq!(rt; size_of::<Analyser<OctetCheck>>(), 10832);
+}
+
+/// Ends the test where it got something else than it wants; the case says what, and of which row.
+fn same<T: PartialEq + Debug + Drop>(rt: &impl Abort, got: T, want: T, case: impl Display + Drop) {
+    assert_eq!(rt; got, want, "{case}");
+}
+
+/// Ends the test where a fact does not hold in this case.
+fn holds(rt: &impl Abort, fact: bool, case: impl Display + Drop) {
+    assert!(rt; fact, "{case}");
 }

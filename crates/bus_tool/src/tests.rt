@@ -1,6 +1,7 @@
 //! Worked examples of listings, lines and the program.
 
 mod encodes;
+mod expect;
 mod listings;
 mod program;
 mod shows;

@@ -5,4 +5,6 @@
 #[cfg(test)]
 mod dictionary;
 #[cfg(test)]
+mod expect;
+#[cfg(test)]
 mod watch;

@@ -11,8 +11,12 @@ mod table;
 mod text;
 mod traffic;
 
-use bus_watch::Counts;
-use std::alloc::{AllocError, Global};
+use crate::dictionary::{CALLS, POLLS, WITHIN, read};
+use crate::expect::same;
+use bus_fcs::Check;
+use bus_watch::{Analyser, Counts};
+use std::alloc::Global;
+use std::fmt::Display;
 use std::process::Abort;
 
 /// The bits of a word, in the order sent: a flag, a group of bits, or a frame as it is sent between
@@ -43,51 +47,6 @@ fn sent(word: &str) -> &str {
     }
 }
 
-/// The types of one example dictionary; its longest frame has three octets.
-const CALLS: &str = r#"version = 1
-[[frame]]
-type = 0
-name = "call"
-length = 0
-answered = true
-[[frame]]
-type = 128
-name = "reply"
-length = 0
-[[frame]]
-type = 9
-name = "notice"
-length = 0
-"#;
-
-/// The first type with a window of sixteen bits, and its answer.
-const WITHIN: &str = r#"version = 2
-[[frame]]
-type = 0
-name = "call"
-length = 0
-answered = true
-window = 16
-[[frame]]
-type = 128
-name = "reply"
-length = 0
-"#;
-
-/// The types of another.
-const STATES: &str = r#"version = 1
-[[frame]]
-type = 1
-name = "poll"
-length = 1
-answered = true
-[[frame]]
-type = 129
-name = "state"
-length = 2
-bits = [ { at = 9, name = "flash" }, { at = 0, name = "call1" }, { at = 7, name = "ped" } ]
-"#;
-
 /// No verdict.
 const NONE: Counts = Counts {
     answered: 0,
@@ -102,35 +61,44 @@ const DAMAGED: [bool; 24] = [
     false, false, false, true, true, true, true, true, true, false,
 ];
 
-/// Appends the bits of a text of `0` and `1`. All else in it is space.
-fn push_bits(bits: &mut Vec<bool>, text: &str) -> Result<(), AllocError> {
-    for character in text.bytes() {
-        match character {
-            b'0' => bits.push(false)?,
-            b'1' => bits.push(true)?,
-            _ => {}
-        }
-    }
-    Ok(())
-}
-
-/// The bits of words, one after the other.
-fn bits_of(alloc: Global, words: &str) -> Result<Vec<bool>, AllocError> {
+/// The bits of words, one after the other. All but `0` and `1` in them is space.
+fn bits_of(rt: &impl Abort, alloc: Global, words: &str) -> Vec<bool> {
     let mut bits = Vec::new(alloc);
     for word in words.split_whitespace() {
-        push_bits(&mut bits, sent(word))?;
+        for mark in sent(word).bytes() {
+            if mark == b'0' || mark == b'1' {
+                bits.push(mark == b'1').expect(rt, "memory");
+            }
+        }
     }
-    Ok(bits)
+    bits
 }
 
-/// These texts, a semicolon and a space between each two.
-fn joined(rt: &impl Abort, alloc: Global, texts: &[&str]) -> String {
-    let mut all = String::new(alloc);
+/// An analyser of the dictionary of a text, with a history of `depth` frames, whose first bit has the place `origin`.
+fn new_analyser<C: Check>(
+    rt: &impl Abort,
+    alloc: Global,
+    text: &str,
+    depth: usize,
+    origin: u64,
+) -> Analyser<C> {
+    Analyser::new(alloc, read(rt, alloc, text), depth, origin).expect(rt, "an analyser")
+}
+
+/// Ends the test where a sink has other than these texts, a semicolon and a space between each two.
+fn check_told(
+    rt: &impl Abort,
+    alloc: Global,
+    got: &str,
+    texts: &[&str],
+    case: impl Display + Drop,
+) {
+    let mut want = String::new(alloc);
     for text in texts {
-        if !all.is_empty() {
-            all.push_str("; ").expect(rt, "memory");
+        if !want.is_empty() {
+            want.push_str("; ").expect(rt, "memory");
         }
-        all.push_str(text).expect(rt, "memory");
+        want.push_str(text).expect(rt, "memory");
     }
-    all
+    same(rt, got, want.as_str(), case);
 }

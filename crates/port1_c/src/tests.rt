@@ -1,5 +1,6 @@
 //! Calls of the library on worked bits. What is wanted is what the rules of the line and `include/port1.h` say.
 
+mod expect;
 mod feeds;
 mod pairs;
 mod refusals;

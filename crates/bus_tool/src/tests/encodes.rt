@@ -1,7 +1,10 @@
 //! Lines that are encoded, where no run of the program can show it.
 
 use crate::fakes::{Fixed, Narrow, Repeated};
+use crate::tests::expect::{holds, same};
 use crate::{ToolFault, encode_frames};
+use std::alloc::Global;
+use std::process::Abort;
 
 /// Three calls: two frames, and an idle between them.
 const THREE: &[u8] = b"frame 108300\nidle\nframe 1083fe\n";
@@ -19,35 +22,40 @@ fn endless_reader(rt: HostRuntime) {
         calls: 0,
     };
     let mut out = Vec::new(rt.alloc());
-    assert_eq!(rt;
-        encode_frames(20, &mut reader, &mut out),
-        Err(ToolFault::ReadsLimit)
-    );
-    assert!(rt; out.is_empty());
-    assert_eq!(rt; reader.calls, 20);
+    let ending = encode_frames(20, &mut reader, &mut out);
+    same(&rt, ending, Err(ToolFault::ReadsLimit), "an endless reader");
+    holds(&rt, out.is_empty(), "nothing is written");
+    same(&rt, reader.calls, 20, "the reads of an endless reader");
 }
 
+/// Encodes lines into a writer whose flush may fail: how it is to end, and how many flushes are wanted.
+fn check_flushes(
+    rt: &impl Abort,
+    alloc: Global,
+    octets: &[u8],
+    fails: bool,
+    want: Result<(), ToolFault>,
+    flushes: u64,
+) {
+    let case = format_args!("{octets:?}, fails: {fails}");
+    let mut writer = Narrow::new(alloc, 1000, fails);
+    let mut reader = octets;
+    let ending = encode_frames(100, &mut reader, &mut writer);
+    same(rt, ending, want, &case);
+    same(rt, writer.flushes, flushes, &case);
+}
+
+/// Once after the text, also before a fault of a line, whose place a failing flush takes.
 #[test]
 fn flushes(rt: HostRuntime) {
-    // Once after the text, also before a fault of a line, whose place a failing flush takes.
-    let cases: [(&[u8], bool, Result<(), ToolFault>, u64); 6] = [
-        (b"", true, Ok(()), 0),
-        (b"\n", true, Ok(()), 0),
-        (b"x", true, Err(ToolFault::BadLine(1)), 0),
-        (THREE, false, Ok(()), 1),
-        (b"flag\nx", false, Err(ToolFault::BadLine(2)), 1),
-        (b"flag\nx", true, Err(ToolFault::Write { written: 9 }), 1),
-    ];
-    for (octets, fails, want, flushes) in cases {
-        let mut writer = Narrow::new(rt.alloc(), 1000, fails);
-        let mut reader = octets;
-        assert_eq!(rt;
-            encode_frames(100, &mut reader, &mut writer),
-            want,
-            "{octets:?}, fails: {fails}"
-        );
-        assert_eq!(rt; writer.flushes, flushes, "{octets:?}, fails: {fails}");
-    }
+    let alloc = rt.alloc();
+    let written = Err(ToolFault::Write { written: 9 });
+    check_flushes(&rt, alloc, b"", true, Ok(()), 0);
+    check_flushes(&rt, alloc, b"\n", true, Ok(()), 0);
+    check_flushes(&rt, alloc, b"x", true, Err(ToolFault::BadLine(1)), 0);
+    check_flushes(&rt, alloc, THREE, false, Ok(()), 1);
+    check_flushes(&rt, alloc, b"flag\nx", false, Err(ToolFault::BadLine(2)), 1);
+    check_flushes(&rt, alloc, b"flag\nx", true, written, 1);
 }
 
 /// To be run with each request for memory refused in turn: there is none.
@@ -55,6 +63,8 @@ fn flushes(rt: HostRuntime) {
 fn takes_no_memory(rt: HostRuntime) {
     let mut reader = THREE;
     let mut writer = Fixed::new();
-    assert_eq!(rt; encode_frames(100, &mut reader, &mut writer), Ok(()));
-    assert_eq!(rt; writer.out.as_slice(), THREE_TEXT.as_bytes());
+    let ending = encode_frames(100, &mut reader, &mut writer);
+    let text = writer.out.as_slice();
+    same(&rt, ending, Ok(()), "three lines");
+    same(&rt, text, THREE_TEXT.as_bytes(), "the text of three lines");
 }

@@ -1,6 +1,7 @@
 //! Captures by honest and by failing readers and writers.
 
 use crate::fakes::{Counted, Faltering, Fixed, Narrow, Pieces, Repeated};
+use crate::tests::expect::{holds, same};
 use crate::tests::worked::{
     CALL, CALL_AND_REPLY, CALL_AND_REPLY_TEXT, CALLS, FLAG, IDLE, NONE, REPLY, joined, of_text,
     run_over,
@@ -8,6 +9,8 @@ use crate::tests::worked::{
 use crate::{Options, Summary, ToolFault, list_capture};
 use bus_dictionary::DictFault;
 use std::alloc::{AllocError, Global};
+use std::fmt::Display;
+use std::process::Abort;
 
 /// A reader of so many octets a call, which fails at one of them if that is not 0.
 fn pieces(rest: &[u8], piece: usize, fails_at: u64) -> Pieces<'_> {
@@ -31,70 +34,90 @@ pub fn spaced(alloc: Global, capture: &[u8], spaces: usize) -> Result<Vec<u8>, A
     Ok(wide)
 }
 
+/// Lists or checks these octets without end: what is written when the reads are used up.
+fn check_endless(
+    rt: &impl Abort,
+    alloc: Global,
+    two: bool,
+    checks: bool,
+    octets: &[u8],
+    text: &str,
+) {
+    let case = format_args!("an endless reader, two: {two}, checks: {checks}");
+    let options = Options {
+        reads: 20,
+        two,
+        ..of_text(None)
+    };
+    let mut reader = Repeated {
+        octets,
+        left: u64::MAX,
+        calls: 0,
+    };
+    let mut out = Vec::new(alloc);
+    let ending = run_over(checks, alloc, &options, &mut reader, &mut out);
+    same(rt, ending, Err(ToolFault::ReadsLimit), &case);
+    same(rt, out.as_slice(), text.as_bytes(), &case);
+    same(rt, reader.calls, 20, &case);
+}
+
 #[test]
 fn endless_reader(rt: HostRuntime) {
-    for (two, checks, octets, text) in [
-        (false, false, b"1", "0 15 idle\n"),
-        (false, true, b"1", ""),
-        (true, false, b"3", "1 0 15 idle\n2 0 15 idle\n"),
-        (true, true, b"3", ""),
-    ] {
-        let options = Options {
-            reads: 20,
-            two,
-            ..of_text(None)
-        };
-        let mut reader = Repeated {
-            octets,
-            left: u64::MAX,
-            calls: 0,
-        };
-        let mut out = Vec::new(rt.alloc());
-        let ending = run_over(checks, rt.alloc(), &options, &mut reader, &mut out);
-        assert_eq!(rt; ending, Err(ToolFault::ReadsLimit));
-        assert_eq!(rt; out.as_slice(), text.as_bytes());
-        assert_eq!(rt; reader.calls, 20);
-    }
+    let alloc = rt.alloc();
+    check_endless(&rt, alloc, false, false, b"1", "0 15 idle\n");
+    check_endless(&rt, alloc, false, true, b"1", "");
+    check_endless(&rt, alloc, true, false, b"3", "1 0 15 idle\n2 0 15 idle\n");
+    check_endless(&rt, alloc, true, true, b"3", "");
+}
+
+/// The fault of a capture whose octet at this place is no mark.
+fn bad_mark(at: u128) -> Option<ToolFault> {
+    Some(ToolFault::BadMark { at })
+}
+
+/// The fault of a writer that failed after so many octets.
+fn cut_after(written: u128) -> Option<ToolFault> {
+    Some(ToolFault::Write { written })
+}
+
+/// Lists a capture of these parts into a writer whose flush may fail: the fault that is wanted, and how many flushes.
+fn check_flushes(
+    rt: &impl Abort,
+    alloc: Global,
+    parts: &[&str],
+    fails: bool,
+    want: Option<ToolFault>,
+    flushes: u64,
+) {
+    let case = format_args!("{parts:?}, fails: {fails}");
+    let capture = joined(alloc, parts).expect(rt, "memory");
+    let mut writer = Narrow::new(alloc, 1000, fails);
+    let mut reader = capture.as_slice();
+    let ending = list_capture(alloc, &of_text(Some(CALLS)), &mut reader, &mut writer);
+    same(rt, ending.err(), want, &case);
+    same(rt, writer.flushes, flushes, &case);
 }
 
 /// Once after a text that is not empty, also before a fault, whose place a failing flush takes.
 #[test]
 fn flushes(rt: HostRuntime) {
-    let cases: [(&[&str], bool, Option<ToolFault>, u64); 8] = [
-        (&[], true, None, 0),
-        (&["2"], true, Some(ToolFault::BadMark { at: 0 }), 0),
-        (&[FLAG, CALL, FLAG], false, None, 1),
-        (
-            &CALL_AND_REPLY,
-            true,
-            Some(ToolFault::Write { written: 126 }),
-            1,
-        ),
-        (&[IDLE, "2"], false, Some(ToolFault::BadMark { at: 15 }), 1),
-        (
-            &[IDLE, "2"],
-            true,
-            Some(ToolFault::Write { written: 10 }),
-            1,
-        ),
-        // The only line is that of the end.
-        (&[FLAG, "0"], false, None, 1),
-        (&[FLAG, "0"], true, Some(ToolFault::Write { written: 9 }), 1),
-    ];
-    for (parts, fails, want, flushes) in cases {
-        let capture = joined(rt.alloc(), parts).expect(&rt, "memory");
-        let mut writer = Narrow::new(rt.alloc(), 1000, fails);
-        let mut reader = capture.as_slice();
-        let ending = list_capture(rt.alloc(), &of_text(Some(CALLS)), &mut reader, &mut writer);
-        assert_eq!(rt; ending.err(), want, "{parts:?}");
-        assert_eq!(rt; writer.flushes, flushes, "{parts:?}");
-    }
+    let alloc = rt.alloc();
+    check_flushes(&rt, alloc, &[], true, None, 0);
+    check_flushes(&rt, alloc, &["2"], true, bad_mark(0), 0);
+    check_flushes(&rt, alloc, &[FLAG, CALL, FLAG], false, None, 1);
+    check_flushes(&rt, alloc, &CALL_AND_REPLY, true, cut_after(126), 1);
+    check_flushes(&rt, alloc, &[IDLE, "2"], false, bad_mark(15), 1);
+    check_flushes(&rt, alloc, &[IDLE, "2"], true, cut_after(10), 1);
+    // The only line is that of the end.
+    check_flushes(&rt, alloc, &[FLAG, "0"], false, None, 1);
+    check_flushes(&rt, alloc, &[FLAG, "0"], true, cut_after(9), 1);
     // The error of a reader after a line gives way to that of the flush, too.
-    let capture = joined(rt.alloc(), &CALL_AND_REPLY).expect(&rt, "memory");
-    let mut writer = Narrow::new(rt.alloc(), 1000, true);
+    let capture = joined(alloc, &CALL_AND_REPLY).expect(&rt, "memory");
+    let mut writer = Narrow::new(alloc, 1000, true);
     let mut reader = pieces(capture.as_slice(), 1, 107);
-    let ending = list_capture(rt.alloc(), &of_text(Some(CALLS)), &mut reader, &mut writer);
-    assert_eq!(rt; ending, Err(ToolFault::Write { written: 126 }));
+    let ending = list_capture(alloc, &of_text(Some(CALLS)), &mut reader, &mut writer);
+    let case = "a failing read and flush";
+    same(&rt, ending.err(), cut_after(126), case);
 }
 
 /// An error of a reader is a fault, and no end of the capture: at the first read, within a frame, and after all octets.
@@ -102,11 +125,12 @@ fn flushes(rt: HostRuntime) {
 fn failing_reads(rt: HostRuntime) {
     let capture = joined(rt.alloc(), &CALL_AND_REPLY).expect(&rt, "memory");
     for (fails_at, text) in [(1, ""), (20, ""), (107, CALL_AND_REPLY_TEXT)] {
+        let case = format_args!("read {fails_at}");
         let mut reader = pieces(capture.as_slice(), 1, fails_at);
         let mut out = Vec::new(rt.alloc());
         let ending = list_capture(rt.alloc(), &of_text(Some(CALLS)), &mut reader, &mut out);
-        assert_eq!(rt; ending, Err(ToolFault::Read), "read {fails_at}");
-        assert_eq!(rt; out.as_slice(), text.as_bytes(), "read {fails_at}");
+        same(&rt, ending, Err(ToolFault::Read), &case);
+        same(&rt, out.as_slice(), text.as_bytes(), &case);
     }
 }
 
@@ -120,77 +144,68 @@ fn full_writer(rt: HostRuntime) {
     let mut reader = capture.as_slice();
     let mut writer = Fixed::new();
     let ending = list_capture(rt.alloc(), &of_text(Some(CALLS)), &mut reader, &mut writer);
-    assert_eq!(rt; ending, Err(ToolFault::Write { written: 256 }));
-    assert_eq!(rt; writer.out.len(), 256);
+    same(&rt, ending.err(), cut_after(256), "a full writer");
+    same(&rt, writer.out.len(), 256, "what a full writer took");
 }
 
-/// The dictionary is judged first, then the depth, then the origin, each before reader and writer
-/// are called.
+/// Lists and checks under options of which one is refused with this fault, before reader and writer are called.
+fn check_judged(
+    rt: &impl Abort,
+    alloc: Global,
+    dictionary: Option<&str>,
+    depth: usize,
+    origin: u64,
+    fault: &ToolFault,
+) {
+    let options = Options {
+        depth,
+        origin,
+        ..of_text(dictionary)
+    };
+    for checks in [false, true] {
+        let case = format_args!("depth {depth}, origin {origin}, checks: {checks}");
+        let mut reader = pieces(b"2", 1, 0);
+        let mut writer = Narrow::new(alloc, 0, true);
+        let ending = run_over(checks, alloc, &options, &mut reader, &mut writer);
+        same(rt, ending.as_ref().err(), Some(fault), &case);
+        same(rt, reader.calls, 0, &case);
+        same(rt, writer.flushes, 0, &case);
+    }
+}
+
+/// The dictionary is judged first, then the depth, then the origin.
 #[test]
 fn judged_before(rt: HostRuntime) {
+    let alloc = rt.alloc();
     let past = (1 << 60) + 1;
-    let cases = [
-        (
-            Some("version"),
-            0,
-            past,
-            ToolFault::Dictionary(DictFault::NotToml),
-        ),
-        (Some(""), 16, 0, ToolFault::Dictionary(DictFault::Version)),
-        (
-            Some("version = 1"),
-            16,
-            0,
-            ToolFault::Dictionary(DictFault::NoFrames),
-        ),
-        (None, 0, past, ToolFault::Depth),
-        (Some(CALLS), 1025, 0, ToolFault::Depth),
-        (Some(CALLS), 1024, past, ToolFault::Origin),
-        (None, 1, past, ToolFault::Origin),
-    ];
-    for (dictionary, depth, origin, fault) in &cases {
-        for checks in [false, true] {
-            let options = Options {
-                depth: *depth,
-                origin: *origin,
-                ..of_text(*dictionary)
-            };
-            let mut reader = pieces(b"2", 1, 0);
-            let mut writer = Narrow::new(rt.alloc(), 0, true);
-            let ending = run_over(checks, rt.alloc(), &options, &mut reader, &mut writer);
-            assert_eq!(rt;
-                ending.as_ref().err(),
-                Some(fault),
-                "depth {depth}, origin {origin}"
-            );
-            assert_eq!(rt; reader.calls, 0, "depth {depth}, origin {origin}");
-            assert_eq!(rt; writer.flushes, 0, "depth {depth}, origin {origin}");
-        }
-    }
+    let not_toml = ToolFault::Dictionary(DictFault::NotToml);
+    let version = ToolFault::Dictionary(DictFault::Version);
+    let no_frames = ToolFault::Dictionary(DictFault::NoFrames);
+    check_judged(&rt, alloc, Some("version"), 0, past, &not_toml);
+    check_judged(&rt, alloc, Some(""), 16, 0, &version);
+    check_judged(&rt, alloc, Some("version = 1"), 16, 0, &no_frames);
+    check_judged(&rt, alloc, None, 0, past, &ToolFault::Depth);
+    check_judged(&rt, alloc, Some(CALLS), 1025, 0, &ToolFault::Depth);
+    check_judged(&rt, alloc, Some(CALLS), 1024, past, &ToolFault::Origin);
+    check_judged(&rt, alloc, None, 1, past, &ToolFault::Origin);
 }
 
 /// Both lines of a place are told, and the text is flushed once, also where a mark after it is bad.
 #[test]
 fn flushes_of_two_lines(rt: HostRuntime) {
-    let bad = ToolFault::BadMark { at: 15 };
-    let cases = [
-        (false, Some(bad), 24),
-        (true, Some(ToolFault::Write { written: 24 }), 24),
-    ];
-    for (fails, want, octets) in cases {
-        let options = Options {
-            two: true,
-            ..of_text(None)
-        };
+    let options = Options {
+        two: true,
+        ..of_text(None)
+    };
+    for fails in [false, true] {
+        let case = format_args!("two lines, fails: {fails}");
         let mut reader: &[u8] = b"3333333333333334";
         let mut writer = Narrow::new(rt.alloc(), 1000, fails);
         let ending = list_capture(rt.alloc(), &options, &mut reader, &mut writer);
-        assert_eq!(rt; ending.err(), want, "fails: {fails}");
-        assert_eq!(rt;
-            (writer.out.len(), writer.flushes),
-            (octets, 1),
-            "fails: {fails}"
-        );
+        let want = if fails { cut_after(24) } else { bad_mark(15) };
+        same(&rt, ending.err(), want, &case);
+        same(&rt, writer.out.len(), 24, &case);
+        same(&rt, writer.flushes, 1, &case);
     }
 }
 
@@ -209,11 +224,12 @@ fn one_failing_write(rt: HostRuntime) {
         damaged: 998,
         ..NONE
     };
+    let options = Options {
+        two: true,
+        ..of_text(None)
+    };
     for (fails_at, want) in [(0, Ok(all)), (1, Err(ToolFault::Write { written: 0 }))] {
-        let options = Options {
-            two: true,
-            ..of_text(None)
-        };
+        let case = format_args!("write {fails_at}");
         let mut reader = capture.as_slice();
         let mut writer = Faltering {
             octets: 0,
@@ -221,56 +237,61 @@ fn one_failing_write(rt: HostRuntime) {
             fails_at,
         };
         let ending = list_capture(rt.alloc(), &options, &mut reader, &mut writer);
-        assert_eq!(rt; ending, want, "write {fails_at}");
-        assert_eq!(rt; writer.octets > 0, fails_at == 0, "write {fails_at}");
-        assert_eq!(rt; writer.writes == 1, fails_at == 1, "write {fails_at}");
+        same(&rt, ending, want, &case);
+        same(&rt, writer.octets > 0, fails_at == 0, &case);
+        same(&rt, writer.writes == 1, fails_at == 1, &case);
     }
 }
 
 /// A call, and the flag after it.
 const CALL_AND_FLAG: &[u8] = b"00001000 11000001 00000000 101111101 10100111 01111110";
 
-/// To be run with each request for memory refused in turn. A refusal comes before the first read
-/// and write, and the next attempt succeeds. The first of the calls has no flag before it. As marks of
-/// two lines the capture says the same of the first line, and nothing of the second.
-#[test]
-fn refused_memory(rt: HostRuntime) {
+/// Lists or checks that call 1100 times. Two attempts: a refusal of memory comes before the first read and write.
+fn check_attempts(
+    rt: &impl Abort,
+    alloc: Global,
+    checks: bool,
+    two: bool,
+    case: impl Display + Copy + Drop,
+) {
+    let options = Options {
+        depth: 1024,
+        two,
+        ..of_text(Some(CALLS))
+    };
     let want = Summary {
         frames: 1099,
         missing: 1098,
         ..NONE
     };
-    for (checks, two) in [(false, false), (true, false), (false, true), (true, true)] {
-        let mut is_refused = false;
-        for _attempt in 0..2 {
-            let mut reader = Repeated {
-                octets: CALL_AND_FLAG,
-                left: 1100,
-                calls: 0,
-            };
-            let mut writer = Counted::new();
-            let options = Options {
-                depth: 1024,
-                two,
-                ..of_text(Some(CALLS))
-            };
-            let ending = run_over(checks, rt.alloc(), &options, &mut reader, &mut writer);
-            if ending == Err(ToolFault::Memory) {
-                assert!(rt; !is_refused, "checks: {checks}, two lines: {two}");
-                assert_eq!(rt;
-                    (reader.calls, writer),
-                    (0, Counted::new()),
-                    "checks: {checks}, two lines: {two}"
-                );
-                is_refused = true;
-            } else {
-                assert_eq!(rt; ending, Ok(want), "checks: {checks}, two lines: {two}");
-                assert_eq!(rt;
-                    (reader.calls, writer.flushes),
-                    (1101, 1),
-                    "checks: {checks}, two lines: {two}"
-                );
-            }
+    let mut is_refused = false;
+    for _attempt in 0..2 {
+        let mut reader = Repeated {
+            octets: CALL_AND_FLAG,
+            left: 1100,
+            calls: 0,
+        };
+        let mut writer = Counted::new();
+        let ending = run_over(checks, alloc, &options, &mut reader, &mut writer);
+        if ending == Err(ToolFault::Memory) {
+            holds(rt, !is_refused, case);
+            same(rt, reader.calls, 0, case);
+            same(rt, writer, Counted::new(), case);
+            is_refused = true;
+        } else {
+            same(rt, ending, Ok(want), case);
+            same(rt, [reader.calls, writer.flushes], [1101, 1], case);
         }
     }
+}
+
+/// To be run with each request for memory refused in turn. The next attempt succeeds. The first of the calls has no
+/// flag before it. As marks of two lines the capture says the same of the first line, and nothing of the second.
+#[test]
+fn refused_memory(rt: HostRuntime) {
+    let alloc = rt.alloc();
+    check_attempts(&rt, alloc, false, false, "a line is listed");
+    check_attempts(&rt, alloc, true, false, "a line is checked");
+    check_attempts(&rt, alloc, false, true, "two lines are listed");
+    check_attempts(&rt, alloc, true, true, "two lines are checked");
 }

@@ -2,6 +2,7 @@
 
 use crate::fakes::{Fixed, Narrow};
 use crate::run;
+use crate::tests::expect::{holds, same};
 use crate::tests::worked::{
     CALL_ON_FIRST, CALL_TEXT, CALLS, ONE_CALL_TEXT, PACKED, PACKED_TWO, REPLY_ON_SECOND,
     TWO_LINES_REPORT, TWO_LINES_TEXT, marked,
@@ -17,21 +18,16 @@ const SHOWN_CALL: &str = "frame 108300fde5 good\nstation 16 type 0 call\n";
 /// Runs the program over an input: its status, what it writes, and what it tells.
 fn see(rt: &impl Abort, alloc: Global, words: &[&str], input: &[u8], want: (u8, &str, &str)) {
     let (status, text, told) = want;
+    let case = format_args!("{words:?}");
     let mut reader = input;
     let mut out = Vec::new(alloc);
     let mut err = Vec::new(alloc);
     let got = run(alloc, words, &mut reader, &mut out, &mut err);
-    assert_eq!(rt;
-        std::str::from_utf8(err.as_slice()).ok(),
-        Some(told),
-        "{words:?}"
-    );
-    assert_eq!(rt;
-        std::str::from_utf8(out.as_slice()).ok(),
-        Some(text),
-        "{words:?}"
-    );
-    assert_eq!(rt; got, status, "{words:?}");
+    let faults = std::str::from_utf8(err.as_slice()).ok();
+    let written = std::str::from_utf8(out.as_slice()).ok();
+    same(rt, faults, Some(told), &case);
+    same(rt, written, Some(text), &case);
+    same(rt, got, status, &case);
 }
 
 /// No words at all list a text capture, `encode` writes bits, and `check` tells the place of a bad mark.
@@ -65,93 +61,86 @@ fn two_lines(rt: HostRuntime) {
     see(&rt, rt.alloc(), &["check"], &PACKED_TWO, (2, "", told));
 }
 
+/// Runs the program over an input into a writer that soon is full, and into one that fails to flush.
+fn check_writers(rt: &impl Abort, alloc: Global, words: &[&str], input: &[u8]) {
+    for (room, fails_flush) in [(5, false), (10000, true)] {
+        let case = format_args!("{words:?}, room for {room}");
+        let mut writer = Narrow::new(alloc, room, fails_flush);
+        let mut reader = input;
+        let mut err = Vec::new(alloc);
+        let got = run(alloc, words, &mut reader, &mut writer, &mut err);
+        same(rt, got, 2, &case);
+        same(rt, err.as_slice(), b"port1: write failed\n", &case);
+        same(rt, writer.flushes, u64::from(fails_flush), &case);
+    }
+}
+
 /// A write that fails is not followed by a flush, and a text that was written by just one.
 #[test]
 fn writers_fail(rt: HostRuntime) {
-    let cases: [(&[&str], &[u8]); 8] = [
-        (&["--help"], IDLE),
-        (&["--version"], IDLE),
-        (&["list", "--bits"], IDLE),
-        (&["check", "--bits"], IDLE),
-        (&["list", "--bits", "--two"], IDLE),
-        (&["check", "--bits", "--two"], IDLE),
-        (&["show", "108300fde5"], IDLE),
-        (&["encode"], b"idle\n"),
-    ];
-    for (words, input) in cases {
-        for (room, fails_flush) in [(5, false), (10000, true)] {
-            let mut writer = Narrow::new(rt.alloc(), room, fails_flush);
-            let mut reader = input;
-            let mut err = Vec::new(rt.alloc());
-            let got = run(rt.alloc(), words, &mut reader, &mut writer, &mut err);
-            assert_eq!(rt; got, 2, "{words:?}");
-            assert_eq!(rt; err.as_slice(), "port1: write failed\n".as_bytes());
-            assert_eq!(rt; writer.flushes, u64::from(fails_flush), "{words:?}");
-        }
-    }
+    let alloc = rt.alloc();
+    check_writers(&rt, alloc, &["--help"], IDLE);
+    check_writers(&rt, alloc, &["--version"], IDLE);
+    check_writers(&rt, alloc, &["list", "--bits"], IDLE);
+    check_writers(&rt, alloc, &["check", "--bits"], IDLE);
+    check_writers(&rt, alloc, &["list", "--bits", "--two"], IDLE);
+    check_writers(&rt, alloc, &["check", "--bits", "--two"], IDLE);
+    check_writers(&rt, alloc, &["show", "108300fde5"], IDLE);
+    check_writers(&rt, alloc, &["encode"], b"idle\n");
+}
+
+/// Runs the program where nobody takes its faults: what it writes in spite of them.
+fn check_deaf(rt: &impl Abort, alloc: Global, words: &[&str], text: &str) {
+    let case = format_args!("{words:?}");
+    let mut deaf = Narrow::new(alloc, 0, true);
+    let mut reader: &[u8] = b"01111110 00001000110000010000000010111110110100111 01111110 x";
+    let mut out = Vec::new(alloc);
+    let got = run(alloc, words, &mut reader, &mut out, &mut deaf);
+    same(rt, got, 2, &case);
+    same(rt, out.as_slice(), text.as_bytes(), &case);
 }
 
 /// That faults can't be told changes neither the status nor the lines before them.
 #[test]
 fn deaf_faults(rt: HostRuntime) {
-    let cases: [(&[&str], &str); 3] = [
-        (&["list", "--bits", "--dict", CALLS], CALL_TEXT),
-        (&["nonsense"], ""),
-        (&["list", "--kind", "nonsense"], ""),
-    ];
-    for (words, text) in cases {
-        let mut deaf = Narrow::new(rt.alloc(), 0, true);
-        let mut reader: &[u8] = b"01111110 00001000110000010000000010111110110100111 01111110 x";
-        let mut out = Vec::new(rt.alloc());
-        let got = run(rt.alloc(), words, &mut reader, &mut out, &mut deaf);
-        assert_eq!(rt; got, 2, "{words:?}");
-        assert_eq!(rt; out.as_slice(), text.as_bytes(), "{words:?}");
+    let listed = ["list", "--bits", "--dict", CALLS];
+    check_deaf(&rt, rt.alloc(), &listed, CALL_TEXT);
+    check_deaf(&rt, rt.alloc(), &["nonsense"], "");
+    check_deaf(&rt, rt.alloc(), &["list", "--kind", "nonsense"], "");
+}
+
+/// Runs the program twice, of which one attempt may be refused memory: nothing is read or written then.
+fn check_attempts(rt: &impl Abort, alloc: Global, words: &[&str], capture: &[u8], text: &str) {
+    let case = format_args!("{words:?}");
+    let mut is_refused = false;
+    for _attempt in 0..2 {
+        let mut reader = capture;
+        let mut writer = Fixed::new();
+        let mut told = Fixed::new();
+        let status = run(alloc, words, &mut reader, &mut writer, &mut told);
+        if status == 2 {
+            holds(rt, !is_refused, &case);
+            same(rt, reader.len(), capture.len(), &case);
+            holds(rt, writer.out.is_empty(), &case);
+            same(rt, told.out.as_slice(), b"port1: no memory\n", &case);
+            is_refused = true;
+        } else {
+            same(rt, status, 0, &case);
+            same(rt, writer.out.as_slice(), text.as_bytes(), &case);
+            holds(rt, told.out.is_empty(), &case);
+        }
     }
 }
 
-/// To be run with each request for memory refused in turn. Nothing is read or written then, and the
-/// next attempt succeeds.
+/// To be run with each request for memory refused in turn. The next attempt succeeds.
 #[test]
 fn refused_memory(rt: HostRuntime) {
-    let cases: [(&[&str], &[u8], &str); 3] = [
-        (
-            &["list", "--dict", CALLS, "--origin", "0"],
-            &PACKED,
-            ONE_CALL_TEXT,
-        ),
-        (
-            &["list", "--two", "--dict", CALLS, "--kind", "pending"],
-            &PACKED_TWO,
-            "1 8 49 pending station 16 type 0\n",
-        ),
-        (
-            &["show", "--dict", CALLS, "108300fde5"],
-            &PACKED,
-            SHOWN_CALL,
-        ),
-    ];
-    for (words, capture, text) in cases {
-        let mut is_refused = false;
-        for _attempt in 0..2 {
-            let mut reader = capture;
-            let mut writer = Fixed::new();
-            let mut told = Fixed::new();
-            let status = run(rt.alloc(), words, &mut reader, &mut writer, &mut told);
-            if status == 2 {
-                assert!(rt; !is_refused, "{words:?}");
-                assert_eq!(rt; reader.len(), capture.len(), "{words:?}");
-                assert!(rt; writer.out.is_empty(), "{words:?}");
-                assert_eq!(rt;
-                    told.out.as_slice(),
-                    "port1: no memory\n".as_bytes(),
-                    "{words:?}"
-                );
-                is_refused = true;
-            } else {
-                assert_eq!(rt; status, 0, "{words:?}");
-                assert_eq!(rt; writer.out.as_slice(), text.as_bytes(), "{words:?}");
-                assert!(rt; told.out.is_empty(), "{words:?}");
-            }
-        }
-    }
+    let alloc = rt.alloc();
+    let listed = ["list", "--dict", CALLS, "--origin", "0"];
+    let pending = ["list", "--two", "--dict", CALLS, "--kind", "pending"];
+    let pending_text = "1 8 49 pending station 16 type 0\n";
+    let shown = ["show", "--dict", CALLS, "108300fde5"];
+    check_attempts(&rt, alloc, &listed, &PACKED, ONE_CALL_TEXT);
+    check_attempts(&rt, alloc, &pending, &PACKED_TWO, pending_text);
+    check_attempts(&rt, alloc, &shown, &PACKED, SHOWN_CALL);
 }

@@ -1,6 +1,7 @@
 //! Frames that are typed, with memory refused.
 
 use crate::fakes::Fixed;
+use crate::tests::expect::{holds, same};
 use crate::tests::worked::STATES;
 use crate::{ToolFault, show_frame};
 
@@ -8,12 +9,10 @@ use crate::{ToolFault, show_frame};
 #[test]
 fn takes_no_memory(rt: HostRuntime) {
     let mut writer = Fixed::new();
-    assert_eq!(rt;
-        show_frame(rt.alloc(), None, "1013ccb8", &mut writer),
-        Ok(())
-    );
+    let ending = show_frame(rt.alloc(), None, "1013ccb8", &mut writer);
+    same(&rt, ending, Ok(()), "a frame that is typed");
     let text = "frame 1013ccb8 good\ncontrol 19\n";
-    assert_eq!(rt; writer.out.as_slice(), text.as_bytes());
+    same(&rt, writer.out.as_slice(), text.as_bytes(), "what is shown");
 }
 
 /// To be run with each request for memory refused in turn. Nothing is written then, and the next
@@ -25,12 +24,14 @@ fn refused_memory(rt: HostRuntime) {
         let mut writer = Fixed::new();
         let ending = show_frame(rt.alloc(), Some(STATES), "10830174f4", &mut writer);
         if ending == Err(ToolFault::Memory) {
-            assert!(rt; !is_refused && writer.out.is_empty());
+            holds(&rt, !is_refused, "the next attempt has memory");
+            holds(&rt, writer.out.is_empty(), "nothing is written");
             is_refused = true;
         } else {
-            assert_eq!(rt; ending, Ok(()));
+            same(&rt, ending, Ok(()), "a frame of a dictionary");
             let text = "frame 10830174f4 good\nstation 16 type 1 length\n";
-            assert_eq!(rt; writer.out.as_slice(), text.as_bytes());
+            let shown = writer.out.as_slice();
+            same(&rt, shown, text.as_bytes(), "what is shown of its frame");
         }
     }
 }

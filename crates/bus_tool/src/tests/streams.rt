@@ -4,12 +4,16 @@ ghost use Rattle.std.specs.Prelude.{◌≤◌};
 
 use crate::arguments::{READS, Request, read_arguments};
 use crate::fakes::{Counted, Pieces, Repeated};
+use crate::tests::expect::{holds, same};
 use crate::tests::listings::spaced;
 use crate::tests::worked::{
     ANSWERED, CALL_AND_REPLY, CALL_AND_REPLY_REPORT, CALL_AND_REPLY_TEXT, CALLS, joined, of_text,
     run_over,
 };
 use crate::{Options, ToolFault, encode_frames, run};
+use std::alloc::Global;
+use std::fmt::Display;
+use std::process::Abort;
 
 /// The octets of the input that is read.
 const OCTETS: usize = 5406;
@@ -96,34 +100,72 @@ fn by_pieces(rest: &[u8], piece: usize) -> Pieces<'_> {
     }
 }
 
+/// Checks or lists a capture of 5406 octets, with as many reads as the row grants.
+fn check_capture_reads(
+    rt: &impl Abort,
+    alloc: Global,
+    row: ReadsRow,
+    capture: &[u8],
+    checks: bool,
+    text: &str,
+    case: impl Display + Copy + Drop,
+) {
+    let options = Options {
+        reads: row.reads,
+        ..of_text(Some(CALLS))
+    };
+    let mut reader = by_pieces(capture, row.piece);
+    let mut out = Vec::new(alloc);
+    let ending = run_over(checks, alloc, &options, &mut reader, &mut out);
+    let want = if row.is_enough {
+        Ok(ANSWERED)
+    } else {
+        Err(ToolFault::ReadsLimit)
+    };
+    same(rt, ending, want, case);
+    same(rt, reader.calls, row.calls, case);
+    if row.is_enough || row.octets() == OCTETS && !checks {
+        same(rt, out.as_slice(), text.as_bytes(), case);
+    } else if checks {
+        holds(rt, out.is_empty(), case);
+    }
+}
+
 #[test]
 fn reads_of_captures(rt: HostRuntime) {
-    let capture = joined(rt.alloc(), &CALL_AND_REPLY).expect(&rt, "memory");
-    let wide = spaced(rt.alloc(), capture.as_slice(), 50).expect(&rt, "memory");
-    assert_eq!(rt; wide.len(), OCTETS);
+    let alloc = rt.alloc();
+    let capture = joined(alloc, &CALL_AND_REPLY).expect(&rt, "memory");
+    let wide = spaced(alloc, &capture, 50).expect(&rt, "memory");
+    same(&rt, wide.len(), OCTETS, "how many octets the capture has");
     for row in GRANTED {
-        for (checks, text) in [(false, CALL_AND_REPLY_TEXT), (true, CALL_AND_REPLY_REPORT)] {
-            let options = Options {
-                reads: row.reads,
-                ..of_text(Some(CALLS))
-            };
-            let mut reader = by_pieces(wide.as_slice(), row.piece);
-            let mut out = Vec::new(rt.alloc());
-            let ending = run_over(checks, rt.alloc(), &options, &mut reader, &mut out);
-            let want = if row.is_enough {
-                Ok(ANSWERED)
-            } else {
-                Err(ToolFault::ReadsLimit)
-            };
-            assert_eq!(rt; ending, want, "{}", row.reads);
-            assert_eq!(rt; reader.calls, row.calls, "{}", row.reads);
-            if row.is_enough || row.octets() == OCTETS && !checks {
-                assert_eq!(rt; out.as_slice(), text.as_bytes(), "{}", row.reads);
-            } else if checks {
-                assert!(rt; out.is_empty(), "{}", row.reads);
-            }
-        }
+        let case = format_args!("{} reads of a capture", row.reads);
+        check_capture_reads(&rt, alloc, row, &wide, false, CALL_AND_REPLY_TEXT, &case);
+        check_capture_reads(&rt, alloc, row, &wide, true, CALL_AND_REPLY_REPORT, &case);
     }
+}
+
+/// Encodes lines of 5406 octets, with as many reads as the row grants.
+fn check_line_reads(
+    rt: &impl Abort,
+    row: ReadsRow,
+    lines: &[u8],
+    case: impl Display + Copy + Drop,
+) {
+    let mut reader = by_pieces(lines, row.piece);
+    let mut writer = Counted::new();
+    let ending = encode_frames(row.reads, &mut reader, &mut writer);
+    let want = if row.is_enough {
+        Ok(())
+    } else {
+        Err(ToolFault::ReadsLimit)
+    };
+    same(rt, ending, want, case);
+    same(rt, reader.calls, row.calls, case);
+    // A line has five octets, with an empty one after it, and its text nine with the LF.
+    let texts = (row.octets() as u64 + 1) / 6;
+    same(rt, writer.octets, 9 * texts, case);
+    same(rt, writer.empty_writes, 0, case);
+    same(rt, writer.flushes, u64::from(texts > 0), case);
 }
 
 #[test]
@@ -132,27 +174,10 @@ fn reads_of_lines(rt: HostRuntime) {
     for _line in 0..901 {
         lines.extend_from_slice(b"flag\n\n").expect(&rt, "memory");
     }
-    assert_eq!(rt; lines.len(), OCTETS);
+    same(&rt, lines.len(), OCTETS, "how many octets the lines have");
     for row in GRANTED {
-        let mut reader = by_pieces(lines.as_slice(), row.piece);
-        let mut writer = Counted::new();
-        let ending = encode_frames(row.reads, &mut reader, &mut writer);
-        let want = if row.is_enough {
-            Ok(())
-        } else {
-            Err(ToolFault::ReadsLimit)
-        };
-        assert_eq!(rt; ending, want, "{}", row.reads);
-        assert_eq!(rt; reader.calls, row.calls, "{}", row.reads);
-        // A line has five octets, with an empty one after it, and its text nine with the LF.
-        let texts = (row.octets() as u64 + 1) / 6;
-        assert_eq!(rt; writer.octets, 9 * texts, "{}", row.reads);
-        assert_eq!(rt;
-            (writer.empty_writes, writer.flushes),
-            (0, u64::from(texts > 0)),
-            "{}",
-            row.reads
-        );
+        let case = format_args!("{} reads of lines", row.reads);
+        check_line_reads(&rt, row, &lines, &case);
     }
 }
 
@@ -168,31 +193,32 @@ fn reads_of(request: &Request<'_>) -> u64 {
 /// The program grants 2^40 reads.
 #[test]
 fn reads_of_the_program(rt: HostRuntime) {
-    assert_eq!(rt; READS, 1099511627776);
+    same(&rt, READS, 1099511627776, "the reads that are granted");
     let none = read_arguments(rt.alloc(), &[]).expect(&rt, "memory");
     let list = read_arguments(rt.alloc(), &["list"]).expect(&rt, "memory");
     let check = read_arguments(rt.alloc(), &["check"]).expect(&rt, "memory");
     let reads = [reads_of(&none), reads_of(&list), reads_of(&check)];
-    assert_eq!(rt; reads, [1099511627776; 3]);
+    same(&rt, reads, [1099511627776; 3], "the reads of each command");
+}
+
+/// Runs the program over 2^20 empty lines, of which each read gives one.
+fn check_many_reads(rt: &impl Abort, alloc: Global, words: &[&str], case: &str) {
+    let mut reader = Repeated {
+        octets: b"\n",
+        left: 1 << 20,
+        calls: 0,
+    };
+    let mut out = Counted::new();
+    let mut told = Counted::new();
+    let status = run(alloc, words, &mut reader, &mut out, &mut told);
+    same(rt, status, 0, case);
+    same(rt, reader.calls, (1 << 20) + 1, case);
 }
 
 /// More reads than other bounds would let pass.
 #[test]
 fn many_reads_of_the_program(rt: HostRuntime) {
-    let cases: [&[&str]; 3] = [&["list", "--bits"], &["check", "--bits"], &["encode"]];
-    for words in cases {
-        let mut reader = Repeated {
-            octets: b"\n",
-            left: 1 << 20,
-            calls: 0,
-        };
-        let mut out = Counted::new();
-        let mut told = Counted::new();
-        assert_eq!(rt;
-            run(rt.alloc(), words, &mut reader, &mut out, &mut told),
-            0,
-            "{words:?}"
-        );
-        assert_eq!(rt; reader.calls, (1 << 20) + 1, "{words:?}");
-    }
+    check_many_reads(&rt, rt.alloc(), &["list", "--bits"], "list");
+    check_many_reads(&rt, rt.alloc(), &["check", "--bits"], "check");
+    check_many_reads(&rt, rt.alloc(), &["encode"], "encode");
 }

@@ -1,6 +1,7 @@
 //! Which summaries are clean.
 
 use crate::Summary;
+use crate::tests::expect::holds;
 use crate::tests::worked::NONE;
 
 /// Only these five make a line unclean.
@@ -30,9 +31,9 @@ const CLEAN: [Summary; 6] = [
 #[test]
 fn clean(rt: HostRuntime) {
     for summary in UNCLEAN {
-        assert!(rt; !summary.is_clean(), "{summary:?}");
+        holds(&rt, !summary.is_clean(), format_args!("{summary:?}"));
     }
     for summary in CLEAN {
-        assert!(rt; summary.is_clean(), "{summary:?}");
+        holds(&rt, summary.is_clean(), format_args!("{summary:?}"));
     }
 }

@@ -2,6 +2,7 @@
 //! is called as often as a program can count.
 
 use crate::ToolFault;
+use crate::tests::expect::same;
 
 #[test]
 fn faults(rt: HostRuntime) {
@@ -11,6 +12,6 @@ fn faults(rt: HostRuntime) {
         (ToolFault::ReadsLimit, "too many reads"),
     ] {
         let shown = format!(in rt.alloc(); "{fault}").expect(&rt, "memory");
-        assert_eq!(rt; shown.as_str(), text);
+        same(&rt, shown.as_str(), text, "the text of a fault");
     }
 }

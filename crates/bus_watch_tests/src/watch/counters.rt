@@ -1,8 +1,8 @@
 //! The counted steps of worked lists.
 
-use super::{CALLS, bits_of};
+use super::{CALLS, bits_of, new_analyser};
+use crate::expect::same;
 use bus_bits::Spent;
-use bus_dictionary::Dictionary;
 use bus_fcs::{BitCheck, Check, OctetCheck};
 use bus_line::Span;
 use bus_watch::{Analyser, Counts};
@@ -87,14 +87,13 @@ const ROWS: [Row; 5] = [
 
 /// Pushes the bits of words.
 fn push_words<C: Check>(rt: &impl Abort, alloc: Global, analyser: &mut Analyser<C>, words: &str) {
-    for bit in &bits_of(alloc, words).expect(rt, "memory") {
+    for bit in &bits_of(rt, alloc, words) {
         let _ = analyser.push(*bit).expect(rt, "a place");
     }
 }
 
 fn counted<C: Check>(rt: &impl Abort, alloc: Global, words: &str) -> Spent {
-    let dictionary = Dictionary::read(alloc, CALLS).expect(rt, "a dictionary");
-    let mut analyser = Analyser::<C>::new(alloc, dictionary, 2, 0).expect(rt, "an analyser");
+    let mut analyser = new_analyser::<C>(rt, alloc, CALLS, 2, 0);
     push_words(rt, alloc, &mut analyser, words);
     analyser.spent()
 }
@@ -103,11 +102,10 @@ fn counted<C: Check>(rt: &impl Abort, alloc: Global, words: &str) -> Spent {
 #[test]
 fn steps(rt: HostRuntime) {
     for row in &ROWS {
-        assert_eq!(rt; counted::<BitCheck>(&rt, rt.alloc(), row.bits), row.by_bits);
-        assert_eq!(rt;
-            counted::<OctetCheck>(&rt, rt.alloc(), row.bits),
-            row.by_octets
-        );
+        let by_bits = counted::<BitCheck>(&rt, rt.alloc(), row.bits);
+        same(&rt, by_bits, row.by_bits, row.bits);
+        let by_octets = counted::<OctetCheck>(&rt, rt.alloc(), row.bits);
+        same(&rt, by_octets, row.by_octets, row.bits);
     }
     let totals: [(&str, u128, u128); 3] = [
         ("flag call flag reply flag", 298, 228),
@@ -115,14 +113,10 @@ fn steps(rt: HostRuntime) {
         ("flag 00001000 1111111 11111111", 44, 44),
     ];
     for (words, by_bits, by_octets) in totals {
-        assert_eq!(rt;
-            counted::<BitCheck>(&rt, rt.alloc(), words).total(),
-            by_bits
-        );
-        assert_eq!(rt;
-            counted::<OctetCheck>(&rt, rt.alloc(), words).total(),
-            by_octets
-        );
+        let counted_by_bits = counted::<BitCheck>(&rt, rt.alloc(), words);
+        same(&rt, counted_by_bits.total(), by_bits, words);
+        let counted_by_octets = counted::<OctetCheck>(&rt, rt.alloc(), words);
+        same(&rt, counted_by_octets.total(), by_octets, words);
     }
 }
 
@@ -144,7 +138,7 @@ const LAST_CALL: Span = Span {
 
 fn check_kept(rt: &impl Abort, analyser: &Analyser<OctetCheck>, index: usize, want: Span) {
     let kept = analyser.history(index).expect(rt, "a frame");
-    assert_eq!(rt; kept.span, want, "frame {index}");
+    same(rt, kept.span, want, format_args!("frame {index}"));
 }
 
 /// The first command that is kept.
@@ -161,14 +155,19 @@ const MISSED: Counts = Counts {
 };
 
 fn check_long_run(rt: &impl Abort, analyser: &Analyser<OctetCheck>) {
-    assert_eq!(rt; analyser.history_len(), 1024);
+    same(rt, analyser.history_len(), 1024, "how many frames are kept");
     check_kept(rt, analyser, 0, SECOND_CALL);
     check_kept(rt, analyser, 1023, LAST_CALL);
-    assert_eq!(rt; analyser.tally(16), MISSED);
+    same(rt, analyser.tally(16), MISSED, "the tally of station 16");
     let pending = analyser.ending().pending.expect(rt, "a command");
-    assert_eq!(rt; pending.span, LAST_CALL);
-    assert_eq!(rt; analyser.spent(), OF_MANY_CALLS);
-    assert_eq!(rt; analyser.spent().total(), 112758);
+    same(
+        rt,
+        pending.span,
+        LAST_CALL,
+        "the span of the pending command",
+    );
+    same(rt, analyser.spent(), OF_MANY_CALLS, "the steps");
+    same(rt, analyser.spent().total(), 112758, "the sum of the steps");
 }
 
 /// A command 1025 times, each but the last missed by its answer: the deepest history, which has 1024
@@ -176,8 +175,7 @@ fn check_long_run(rt: &impl Abort, analyser: &Analyser<OctetCheck>) {
 #[test]
 fn long_run(rt: HostRuntime) {
     let alloc = rt.alloc();
-    let dictionary = Dictionary::read(alloc, CALLS).expect(&rt, "a dictionary");
-    let mut analyser = Analyser::new(alloc, dictionary, 1024, 0).expect(&rt, "an analyser");
+    let mut analyser = new_analyser(&rt, alloc, CALLS, 1024, 0);
     push_words(&rt, alloc, &mut analyser, "flag");
     for _ in 0..1025u64 {
         push_words(&rt, alloc, &mut analyser, "call flag");

@@ -4,6 +4,7 @@
 use super::limits::{analyser_of, dictionary_of};
 use super::traffic::{BITS, OCTETS, ROUNDS, octets_of, round_of};
 use super::{Counts, DAMAGED};
+use crate::expect::{holds, same};
 use bus_bits::bits_number;
 use bus_dictionary::Dictionary;
 use bus_fcs::{BitCheck, Check, OctetCheck};
@@ -55,23 +56,44 @@ fn take_bits<C: Check>(rt: &impl Abort, analyser: &mut Analyser<C>) {
     analyser
         .feed_all(&[&DAMAGED, &[], &DAMAGED], &mut sink)
         .expect(rt, "room");
-    assert_eq!(rt; sink.count, 3);
-    assert_eq!(rt; analyser.take(0, 9).expect(rt, "a place"), 9);
+    same(rt, sink.count, 3, "the reports of damage");
+    let taken = analyser.take(0, 9).expect(rt, "a place");
+    same(rt, taken, 9, "the zeros taken");
 }
 
 /// Each call that asks what stands after them.
 fn ask<C: Check>(rt: &impl Abort, analyser: &Analyser<C>) {
-    assert_eq!(rt; analyser.history_len(), 0);
-    assert!(rt; analyser.history(0).is_none());
-    assert_eq!(rt; analyser.tally(16).spoilt, 0);
+    same(rt, analyser.history_len(), 0, "how many frames are kept");
+    holds(rt, analyser.history(0).is_none(), "no frame is kept");
+    same(
+        rt,
+        analyser.tally(16).spoilt,
+        0,
+        "the spoilt answers of station 16",
+    );
     let begun = Span {
         first: 96,
         past: 105,
     };
-    assert_eq!(rt; analyser.ending().begun, Some(begun));
-    assert_eq!(rt; analyser.dictionary().longest(), 256);
-    assert_eq!(rt; analyser.usage().spent, analyser.spent());
-    assert_eq!(rt; analyser.usage().buffered, analyser.buffered());
+    same(rt, analyser.ending().begun, Some(begun), "the piece begun");
+    same(
+        rt,
+        analyser.dictionary().longest(),
+        256,
+        "the longest frame without a dictionary",
+    );
+    same(
+        rt,
+        analyser.usage().spent,
+        analyser.spent(),
+        "the steps in the usage",
+    );
+    same(
+        rt,
+        analyser.usage().buffered,
+        analyser.buffered(),
+        "the octets in the usage",
+    );
 }
 
 fn check_memory<C: Check>(rt: &impl Abort, alloc: Global) {
@@ -149,14 +171,19 @@ fn take_rounds(rt: &impl Abort, analyser: &mut Analyser<OctetCheck>) {
         take_round(rt, analyser, &bits);
         scan_round(rt, analyser, &octets);
     }
-    assert_eq!(rt; sink.count, 8 * ROUNDS);
+    same(
+        rt,
+        sink.count,
+        8 * ROUNDS,
+        "the reports of the rounds that were fed",
+    );
     let want = Counts {
         answered: 4 * ROUNDS,
         missing: 4 * ROUNDS,
         spoilt: 4 * ROUNDS,
         late: 0,
     };
-    assert_eq!(rt; analyser.tally(16), want);
+    same(rt, analyser.tally(16), want, "the tally of station 16");
 }
 
 /// The requests of the dictionary alone. Where memory is refused to the first attempt, the second reads it.
@@ -166,14 +193,14 @@ fn read(rt: HostRuntime) {
         Some(dictionary) => dictionary,
         None => dictionary_of(&rt, rt.alloc()).expect(&rt, "memory"),
     };
-    assert_eq!(rt; dictionary.longest(), 3);
+    same(&rt, dictionary.longest(), 3, "the longest frame");
 }
 
 /// Those of the dictionary and of an analyser.
 #[test]
 fn made(rt: HostRuntime) {
     let analyser = analyser_at_last(&rt, rt.alloc());
-    assert_eq!(rt; analyser.history_len(), 0);
+    same(&rt, analyser.history_len(), 0, "how many frames are kept");
 }
 
 /// They are as many where each call that takes bits takes 10^5 of them.

@@ -14,14 +14,15 @@ use super::limits::FAR;
 use super::rows::{DAMAGE, FRAMES};
 use super::table::row_of;
 use super::text::{push_ending, push_seen};
-use super::{CALLS, NONE, bits_of};
+use super::{CALLS, NONE, bits_of, read};
+use crate::expect::{holds, same};
 use bus_bits::{Span, Spent, bits_number};
 use bus_dictionary::Dictionary;
 use bus_fcs::{BitCheck, Check, OctetCheck};
 use bus_line::PlaceLimit;
 use bus_watch::{
-    Counts, Ending, FeedFault, Line, NewFault, PairAnalyser, PairEnding, PairSink, Pending, Seen,
-    SinkRefused,
+    Counts, Ending, FeedFault, Line, NewFault, PairAnalyser, PairEnding, PairSink, PairUsage,
+    Pending, Seen, SinkRefused,
 };
 use std::alloc::{AllocError, Global};
 use std::process::Abort;
@@ -133,21 +134,23 @@ struct TwoLines {
     pairs: Vec<(bool, bool)>,
 }
 
+/// The pairs of the bits of two lines, as many on both.
+fn pairs_of(rt: &impl Abort, alloc: Global, first: &[bool], second: &[bool]) -> Vec<(bool, bool)> {
+    let mut pairs = Vec::new(alloc);
+    for (bit, other) in first.iter().zip(second) {
+        pairs.push((*bit, *other)).expect(rt, "memory");
+    }
+    pairs
+}
+
 /// The lists of these words, the shorter going on with one bit value.
 fn two_lines(rt: &impl Abort, alloc: Global, first: &str, second: &str, rest: bool) -> TwoLines {
-    let mut first = bits_of(alloc, first).expect(rt, "bits");
-    let mut second = bits_of(alloc, second).expect(rt, "bits");
+    let mut first = bits_of(rt, alloc, first);
+    let mut second = bits_of(rt, alloc, second);
     let length = first.len().max(second.len());
-    for _ in first.len()..length {
-        first.push(rest).expect(rt, "memory");
-    }
-    for _ in second.len()..length {
-        second.push(rest).expect(rt, "memory");
-    }
-    let mut pairs = Vec::new(alloc);
-    for (one, other) in first.iter().zip(second.iter()) {
-        pairs.push((*one, *other)).expect(rt, "memory");
-    }
+    first.resize(length, rest).expect(rt, "memory");
+    second.resize(length, rest).expect(rt, "memory");
+    let pairs = pairs_of(rt, alloc, &first, &second);
     TwoLines {
         first,
         second,
@@ -209,10 +212,19 @@ impl PairSink for PairCollector {
     }
 }
 
+/// An analyser of a dictionary, with a history of `depth` frames.
+fn new_analyser<C: Check>(
+    rt: &impl Abort,
+    alloc: Global,
+    dictionary: Dictionary,
+    depth: usize,
+) -> PairAnalyser<C> {
+    PairAnalyser::new(alloc, dictionary, depth, 0).expect(rt, "an analyser")
+}
+
 /// An analyser of the example dictionary of calls, with a history of two frames.
 fn analyser<C: Check>(rt: &impl Abort, alloc: Global) -> PairAnalyser<C> {
-    let dictionary = Dictionary::read(alloc, CALLS).expect(rt, "a dictionary");
-    PairAnalyser::new(alloc, dictionary, 2, 0).expect(rt, "an analyser")
+    new_analyser(rt, alloc, read(rt, alloc, CALLS), 2)
 }
 
 /// Feeds pairs to a sink whose count of refusals has room for two more.
@@ -307,27 +319,41 @@ fn check_row<C: Check>(rt: &impl Abort, alloc: Global, row: &PairRow) {
     let lines = two_lines(rt, alloc, row.first, row.second, true);
     let mut one_by_one = analyser::<C>(rt, alloc);
     let text = pushed(rt, alloc, &mut one_by_one, &lines.pairs);
-    assert_eq!(rt; text.as_str(), row.want);
-    assert_eq!(rt; one_by_one.ending(), row.ending, "{}", row.first);
-    assert_eq!(rt; one_by_one.tally(16), row.tally, "{}", row.first);
-    assert_eq!(rt; one_by_one.tally(17), NONE, "{}", row.first);
+    same(rt, text.as_str(), row.want, row.first);
+    same(rt, one_by_one.ending(), row.ending, row.first);
+    same(rt, one_by_one.tally(16), row.tally, row.first);
+    same(rt, one_by_one.tally(17), NONE, row.first);
     for size in [1, 5, 8, 48] {
+        let case = format_args!("{size} pairs at most a call");
         let mut by_words = analyser::<C>(rt, alloc);
         let text = taken(rt, alloc, &mut by_words, &lines, size);
-        assert_eq!(rt; text.as_str(), row.want, "{size}");
-        assert_eq!(rt; by_words.ending(), row.ending, "{size}");
-        assert_eq!(rt; by_words.usage(), one_by_one.usage(), "{size}");
+        same(rt, text.as_str(), row.want, &case);
+        same(rt, by_words.ending(), row.ending, &case);
+        same(rt, by_words.usage(), one_by_one.usage(), &case);
     }
     for cut in 0..=lines.pairs.len() {
-        let (front, rest) = lines.pairs.split_at_checked(cut).expect(rt, "a cut");
-        let mut fed = analyser::<C>(rt, alloc);
-        let mut sink = PairCollector::new(alloc, [0, 0]);
-        feed(rt, &mut fed, front, &mut sink).expect(rt, "room");
-        feed(rt, &mut fed, rest, &mut sink).expect(rt, "room");
-        assert_eq!(rt; sink.text.as_str(), row.want, "{cut}");
-        assert_eq!(rt; fed.usage(), one_by_one.usage(), "{cut}");
-        assert!(rt; !sink.lacks);
+        check_cut::<C>(rt, alloc, row, &lines.pairs, cut, one_by_one.usage());
     }
+}
+
+/// The pairs of a row, fed in two lists.
+fn check_cut<C: Check>(
+    rt: &impl Abort,
+    alloc: Global,
+    row: &PairRow,
+    pairs: &[(bool, bool)],
+    cut: usize,
+    usage: PairUsage,
+) {
+    let (front, rest) = pairs.split_at_checked(cut).expect(rt, "a cut");
+    let mut fed = analyser::<C>(rt, alloc);
+    let mut sink = PairCollector::new(alloc, [0, 0]);
+    feed(rt, &mut fed, front, &mut sink).expect(rt, "room");
+    feed(rt, &mut fed, rest, &mut sink).expect(rt, "room");
+    let case = format_args!("cut at {cut}");
+    same(rt, sink.text.as_str(), row.want, &case);
+    same(rt, fed.usage(), usage, &case);
+    holds(rt, !sink.lacks, &case);
 }
 
 /// Each row by calls of every kind, with both checks.
@@ -347,15 +373,12 @@ fn check_first(rt: &impl Abort, alloc: Global, line: &str) {
         return;
     }
     let row = row_of(rt, alloc, line);
-    let dictionary = row.dictionary(rt, alloc);
-    let mut analyser = PairAnalyser::<OctetCheck>::new(alloc, dictionary, 16, 0).expect(
-        rt,
-        "an analyser",
-    );
+    let dictionary = read(rt, alloc, row.dictionary);
+    let mut analyser = new_analyser::<OctetCheck>(rt, alloc, dictionary, 16);
     let mut text = String::new(alloc);
     for bit in &row.bits {
         let seen = analyser.push(*bit, false).expect(rt, "a place");
-        assert!(rt; seen.second.is_none(), "{line}");
+        holds(rt, seen.second.is_none(), line);
         if let Some(first) = &seen.first {
             push_seen(&mut text, first).expect(rt, "text");
         }
@@ -370,8 +393,8 @@ fn check_first(rt: &impl Abort, alloc: Global, line: &str) {
         pending,
     };
     push_ending(&mut text, ending).expect(rt, "text");
-    assert_eq!(rt; text.as_str(), row.want, "{line}");
-    assert_eq!(rt; second, None, "{line}");
+    same(rt, text.as_str(), row.want, line);
+    same(rt, second, None, line);
 }
 
 #[test]
@@ -428,8 +451,27 @@ fn steps_of_two_lines(rt: HostRuntime) {
         let lines = two_lines(&rt, alloc, row.first, row.second, true);
         let mut analyser = analyser::<OctetCheck>(&rt, alloc);
         pushed(&rt, alloc, &mut analyser, &lines.pairs);
-        assert_eq!(rt; analyser.spent(), row.spent, "{}", row.second);
+        same(&rt, analyser.spent(), row.spent, row.second);
     }
+}
+
+fn check_kept(
+    rt: &impl Abort,
+    analyser: &PairAnalyser<OctetCheck>,
+    index: usize,
+    line: Line,
+    span: Span,
+    octets: &[u8],
+) {
+    let frame = analyser.history(index).expect(rt, "a frame");
+    same(rt, frame.line, line, "the line of a kept frame");
+    same(rt, frame.kept.span, span, "the span of a kept frame");
+    same(
+        rt,
+        frame.kept.octets.as_slice(),
+        octets,
+        "the octets of a kept frame",
+    );
 }
 
 /// The last two of three frames, with their lines.
@@ -445,25 +487,23 @@ fn history_of_two_lines(rt: HostRuntime) {
     );
     let mut analyser = analyser::<OctetCheck>(&rt, alloc);
     pushed(&rt, alloc, &mut analyser, &lines.pairs);
-    assert_eq!(rt; analyser.history_len(), 2);
-    let reply = analyser.history(0).expect(&rt, "a frame");
-    assert_eq!(rt; reply.line, Line::Second);
-    assert_eq!(rt; reply.kept.span, Span { first: 8, past: 49 });
-    assert_eq!(rt;
-        reply.kept.octets.as_slice(),
-        [0x10, 0x83, 0x80, 0xf5, 0x61].as_slice()
+    same(&rt, analyser.history_len(), 2, "how many frames are kept");
+    let reply = [0x10, 0x83, 0x80, 0xf5, 0x61];
+    let span = Span { first: 8, past: 49 };
+    check_kept(&rt, &analyser, 0, Line::Second, span, &reply);
+    let notice = [0xff, 0x83, 0x09, 0x5a, 0x3b];
+    let span = Span {
+        first: 57,
+        past: 99,
+    };
+    check_kept(&rt, &analyser, 1, Line::First, span, &notice);
+    holds(&rt, analyser.history(2).is_none(), "no third frame is kept");
+    same(
+        &rt,
+        analyser.dictionary().longest(),
+        3,
+        "the longest frame of the dictionary",
     );
-    let notice = analyser.history(1).expect(&rt, "a frame");
-    assert_eq!(rt; notice.line, Line::First);
-    assert_eq!(rt;
-        notice.kept.span,
-        Span {
-            first: 57,
-            past: 99
-        }
-    );
-    assert!(rt; analyser.history(2).is_none());
-    assert_eq!(rt; analyser.dictionary().longest(), 3);
 }
 
 fn new_at(
@@ -472,8 +512,7 @@ fn new_at(
     depth: usize,
     origin: u64,
 ) -> Result<PairAnalyser<OctetCheck>, NewFault> {
-    let dictionary = Dictionary::read(alloc, CALLS).expect(rt, "a dictionary");
-    PairAnalyser::new(alloc, dictionary, depth, origin)
+    PairAnalyser::new(alloc, read(rt, alloc, CALLS), depth, origin)
 }
 
 /// The depths and origins that are refused, and the last places.
@@ -481,27 +520,41 @@ fn new_at(
 fn limits_of_two_lines(rt: HostRuntime) {
     let alloc = rt.alloc();
     for depth in [0, 1025] {
-        assert_eq!(rt;
-            new_at(&rt, alloc, depth, 0).err(),
+        let fault = new_at(&rt, alloc, depth, 0).err();
+        same(
+            &rt,
+            fault,
             Some(NewFault::DepthRange),
-            "depth {depth}"
+            format_args!("depth {depth}"),
         );
     }
     let past_all = (1 << 60) + 1;
-    assert_eq!(rt;
-        new_at(&rt, alloc, 1, past_all).err(),
-        Some(NewFault::Origin)
+    let fault = new_at(&rt, alloc, 1, past_all).err();
+    same(
+        &rt,
+        fault,
+        Some(NewFault::Origin),
+        "an origin past all places",
     );
     let mut analyser = new_at(&rt, alloc, 1, (1 << 60) - 3).expect(&rt, "an analyser");
     let mut sink = PairCollector::new(alloc, [0, 0]);
     let pairs = [(true, false); 4];
     let fault = feed(&rt, &mut analyser, &pairs, &mut sink).err();
-    assert_eq!(rt; fault, Some(FeedFault::PlaceLimit));
-    assert_eq!(rt; analyser.take(0, 0, 4).err(), Some(PlaceLimit));
-    assert_eq!(rt; analyser.spent().shifted, 0);
+    same(&rt, fault, Some(FeedFault::PlaceLimit), "four pairs fed");
+    same(
+        &rt,
+        analyser.take(0, 0, 4).err(),
+        Some(PlaceLimit),
+        "four pairs taken",
+    );
+    same(&rt, analyser.spent().shifted, 0, "the bits of four pairs");
     feed(&rt, &mut analyser, &pairs[..3], &mut sink).expect(&rt, "room");
-    assert_eq!(rt; analyser.spent().shifted, 6);
-    assert!(rt; analyser.push(true, true).is_err());
+    same(&rt, analyser.spent().shifted, 6, "the bits of three pairs");
+    holds(
+        &rt,
+        analyser.push(true, true).is_err(),
+        "a fourth pair is refused",
+    );
 }
 
 /// Pairs are taken up to the place before 2^60, and no more.
@@ -511,21 +564,14 @@ fn last_taken_pairs(rt: HostRuntime) {
     for room in [0u64, 1, 3, 48] {
         let origin = FAR.wrapping_sub(room);
         let mut analyser = new_at(&rt, alloc, 1, origin).expect(&rt, "an analyser");
+        let case = format_args!("{room} places to take");
         for _ in 0..room {
-            assert!(rt; analyser.has_room(1), "{room} places");
-            assert!(rt; analyser.push(true, false).is_ok(), "{room} places");
+            holds(&rt, analyser.has_room(1), &case);
+            holds(&rt, analyser.push(true, false).is_ok(), &case);
         }
-        assert_eq!(rt;
-            analyser.spent().shifted,
-            room.saturating_mul(2),
-            "{room} places"
-        );
-        assert!(rt; !analyser.has_room(1), "{room} places");
-        assert_eq!(rt;
-            analyser.take(0, 0, 1).err(),
-            Some(PlaceLimit),
-            "{room} places"
-        );
+        same(&rt, analyser.spent().shifted, room.saturating_mul(2), &case);
+        holds(&rt, !analyser.has_room(1), &case);
+        same(&rt, analyser.take(0, 0, 1).err(), Some(PlaceLimit), &case);
     }
 }
 
@@ -539,11 +585,8 @@ fn last_scanned_pairs(rt: HostRuntime) {
         let mut heard = 0;
         let taken = analyser.scan(&[0xff], &[0xff], 8, &mut Hearer, &mut heard);
         let want = room.min(8);
-        assert_eq!(rt; (taken as u64, heard), (want, 0), "{room} places");
-        assert_eq!(rt;
-            analyser.spent().shifted,
-            want.saturating_mul(2),
-            "{room} places"
-        );
+        let case = format_args!("{room} places to scan");
+        same(&rt, (taken as u64, heard), (want, 0), &case);
+        same(&rt, analyser.spent().shifted, want.saturating_mul(2), &case);
     }
 }

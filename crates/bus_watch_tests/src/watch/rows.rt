@@ -3,8 +3,8 @@
 use super::sinks::{Collector, run};
 use super::table::{Row, pushed, row_of, taken};
 use super::text::push_ending;
-use super::{CALLS, NONE, WITHIN, bits_of};
-use bus_dictionary::Dictionary;
+use super::{CALLS, NONE, WITHIN, bits_of, new_analyser, read};
+use crate::expect::{holds, same};
 use bus_fcs::{BitCheck, Check, OctetCheck};
 use bus_line::Span;
 use bus_watch::{Analyser, Counts};
@@ -48,7 +48,7 @@ pub(super) const FRAMES: &str = "\
     calls: flag call flag flag flag reply flag => \
         8 49 frame 108300fde5 station 16 type 0; \
         73 114 frame 108380f561 station 16 type 128, answered 8 49 station 16 type 0\n\
-    states: flag type-1 flag => 8 48 frame 10830174f4 station 16 type 1 length";
+    polls: flag type-1 flag => 8 48 frame 10830174f4 station 16 type 1 length";
 
 /// Flags alone, damage, aborts and idles.
 pub(super) const DAMAGE: &str = "\
@@ -75,12 +75,13 @@ pub(super) const DAMAGE: &str = "\
 fn check_bits<C: Check>(rt: &impl Abort, alloc: Global, row: &Row) {
     let mut analyser = row.analyser::<C>(rt, alloc);
     let text = pushed(rt, alloc, &mut analyser, &row.bits);
-    assert_eq!(rt; text.as_str(), row.want);
+    same(rt, text.as_str(), row.want, "pushed one by one");
     for size in [1, 5, 8, 48] {
+        let case = format_args!("{size} bits at most a call");
         let mut by_words = row.analyser::<C>(rt, alloc);
         let text = taken(rt, alloc, &mut by_words, &row.bits, size);
-        assert_eq!(rt; text.as_str(), row.want, "{size}");
-        assert_eq!(rt; by_words.usage(), analyser.usage(), "{size}");
+        same(rt, text.as_str(), row.want, &case);
+        same(rt, by_words.usage(), analyser.usage(), &case);
     }
 }
 
@@ -105,11 +106,16 @@ fn damage(rt: HostRuntime) {
 /// The bits as a run of two pieces.
 fn check_cut<C: Check>(rt: &impl Abort, alloc: Global, row: &Row, cut: usize) {
     let (front, rest) = row.bits.split_at_checked(cut).expect(rt, "a cut");
-    let dictionary = row.dictionary(rt, alloc);
+    let dictionary = read(rt, alloc, row.dictionary);
     let mut sink = Collector::new(alloc, 0);
     let run = run::<C>(rt, alloc, dictionary, &[front, rest], &mut sink).expect(rt, "a run");
     push_ending(&mut sink.text, run.analyser.ending()).expect(rt, "text");
-    assert_eq!(rt; sink.text.as_str(), row.want, "{cut}");
+    same(
+        rt,
+        sink.text.as_str(),
+        row.want,
+        format_args!("cut at {cut}"),
+    );
 }
 
 fn check_cuts(rt: &impl Abort, alloc: Global, line: &str) {
@@ -139,12 +145,10 @@ fn check_tally<C: Check>(
     words: &str,
     want: Counts,
 ) {
-    let dictionary = Dictionary::read(alloc, dictionary).expect(rt, "a dictionary");
-    let mut analyser = Analyser::<C>::new(alloc, dictionary, 2, 0).expect(rt, "an analyser");
-    let bits = bits_of(alloc, words).expect(rt, "bits");
-    pushed(rt, alloc, &mut analyser, &bits);
-    assert_eq!(rt; analyser.tally(16), want, "{words}");
-    assert_eq!(rt; analyser.tally(17), NONE, "{words}");
+    let mut analyser = new_analyser::<C>(rt, alloc, dictionary, 2, 0);
+    pushed(rt, alloc, &mut analyser, &bits_of(rt, alloc, words));
+    same(rt, analyser.tally(16), want, words);
+    same(rt, analyser.tally(17), NONE, words);
 }
 
 fn check_tallies<C: Check>(rt: &impl Abort, alloc: Global) {
@@ -201,8 +205,13 @@ fn check_kept<C: Check>(
     octets: &[u8],
 ) {
     let kept = analyser.history(index).expect(rt, "a frame");
-    assert_eq!(rt; kept.span, span);
-    assert_eq!(rt; kept.octets.as_slice(), octets);
+    same(rt, kept.span, span, "the span of a kept frame");
+    same(
+        rt,
+        kept.octets.as_slice(),
+        octets,
+        "the octets of a kept frame",
+    );
 }
 
 const REPLY_SPAN: Span = Span {
@@ -216,11 +225,10 @@ const NOTICE_SPAN: Span = Span {
 };
 
 fn check_history<C: Check>(rt: &impl Abort, alloc: Global) {
-    let dictionary = Dictionary::read(alloc, CALLS).expect(rt, "a dictionary");
-    let mut analyser = Analyser::<C>::new(alloc, dictionary, 2, 100).expect(rt, "an analyser");
-    let bits = bits_of(alloc, "flag call flag reply flag notice flag").expect(rt, "bits");
+    let mut analyser = new_analyser::<C>(rt, alloc, CALLS, 2, 100);
+    let bits = bits_of(rt, alloc, "flag call flag reply flag notice flag");
     pushed(rt, alloc, &mut analyser, &bits);
-    assert_eq!(rt; analyser.history_len(), 2);
+    same(rt, analyser.history_len(), 2, "how many frames are kept");
     check_kept(
         rt,
         &analyser,
@@ -235,8 +243,13 @@ fn check_history<C: Check>(rt: &impl Abort, alloc: Global) {
         NOTICE_SPAN,
         &[0xff, 0x83, 0x09, 0x5a, 0x3b],
     );
-    assert!(rt; analyser.history(2).is_none());
-    assert_eq!(rt; analyser.dictionary().longest(), 3);
+    holds(rt, analyser.history(2).is_none(), "no third frame is kept");
+    same(
+        rt,
+        analyser.dictionary().longest(),
+        3,
+        "the longest frame of the dictionary",
+    );
 }
 
 /// The last two of three frames, from place 100 on.

@@ -1,9 +1,9 @@
 //! Logs of reports, and whole runs.
 
 use super::limits::FAR;
-use super::{CALLS, bits_of};
+use super::{CALLS, bits_of, read};
+use crate::expect::{holds, same};
 use bus_bits::Spent;
-use bus_dictionary::Dictionary;
 use bus_fcs::{BitCheck, Check, OctetCheck};
 use bus_line::Span;
 use bus_watch::{
@@ -20,10 +20,11 @@ fn check_frame(rt: &impl Abort, log: &ReportLog, index: usize, span: Span, octet
     let LoggedPiece::Frame(frame) = &report.piece else {
         panic!(rt; "no frame");
     };
-    assert_eq!(rt; frame.span, span, "report {index}");
-    assert_eq!(rt; frame.octets.as_slice(), octets, "report {index}");
-    assert!(rt; !report.stray, "report {index}");
-    assert_eq!(rt; report.verdict.is_some(), index == 1, "report {index}");
+    let case = format_args!("report {index}");
+    same(rt, frame.span, span, &case);
+    same(rt, frame.octets.as_slice(), octets, &case);
+    holds(rt, !report.stray, &case);
+    same(rt, report.verdict.is_some(), index == 1, &case);
 }
 
 /// The place `bits` after `origin`.
@@ -36,7 +37,7 @@ fn behind(origin: u64, first: u64, past: u64) -> Span {
 
 /// The three frames of a log, the first bit of whose list has the place `origin`.
 fn check_log(rt: &impl Abort, log: &ReportLog, origin: u64) {
-    assert_eq!(rt; log.reports().len(), 3);
+    same(rt, log.reports().len(), 3, "how many reports there are");
     let call = behind(origin, 8, 49);
     check_frame(rt, log, 0, call, &[0x10, 0x83, 0x00, 0xfd, 0xe5]);
     let reply = behind(origin, 57, 98);
@@ -46,18 +47,13 @@ fn check_log(rt: &impl Abort, log: &ReportLog, origin: u64) {
 }
 
 fn check_listed(rt: &impl Abort, alloc: Global, origin: u64, room: usize) {
-    let bits = bits_of(alloc, THREE).expect(rt, "memory");
-    let log = reports_of(
-        alloc,
-        Dictionary::read(alloc, CALLS).expect(rt, "a dictionary"),
-        origin,
-        &bits,
-        room,
-    )
-    .expect(rt, "reports");
+    let bits = bits_of(rt, alloc, THREE);
+    let dictionary = read(rt, alloc, CALLS);
+    let log = reports_of(alloc, dictionary, origin, &bits, room).expect(rt, "reports");
     check_log(rt, &log, origin);
-    assert_eq!(rt; log.room(), room, "{room} from {origin}");
-    assert_eq!(rt; log.refused(), 0, "{room} from {origin}");
+    let case = format_args!("room for {room} from {origin}");
+    same(rt, log.room(), room, &case);
+    same(rt, log.refused(), 0, &case);
 }
 
 /// All reports of a list, in a log with just the room for them, with more, and at the last place.
@@ -69,10 +65,15 @@ fn listed(rt: HostRuntime) {
 }
 
 fn check_unlisted(rt: &impl Abort, alloc: Global, origin: u64, room: usize, want: RunFault) {
-    let bits = bits_of(alloc, THREE).expect(rt, "memory");
-    let dictionary = Dictionary::read(alloc, CALLS).expect(rt, "a dictionary");
+    let bits = bits_of(rt, alloc, THREE);
+    let dictionary = read(rt, alloc, CALLS);
     let fault = reports_of(alloc, dictionary, origin, &bits, room).err();
-    assert_eq!(rt; fault, Some(want), "{room} from {origin}");
+    same(
+        rt,
+        fault,
+        Some(want),
+        format_args!("room for {room} from {origin}"),
+    );
 }
 
 /// Each reason why the reports of a list are not given.
@@ -105,10 +106,10 @@ fn usage_of(folded: u64) -> Usage {
 }
 
 fn check_run<C: Check>(rt: &impl Abort, alloc: Global, folded: u64) {
-    let bits = bits_of(alloc, THREE).expect(rt, "memory");
+    let bits = bits_of(rt, alloc, THREE);
     let (front, rest) = bits.split_at_checked(68).expect(rt, "too few bits");
     let mut log = ReportLog::new(alloc, 3).expect(rt, "a log");
-    let dictionary = Dictionary::read(alloc, CALLS).expect(rt, "a dictionary");
+    let dictionary = read(rt, alloc, CALLS);
     let run = run_all::<C, ReportLog>(
         alloc,
         dictionary,
@@ -118,8 +119,13 @@ fn check_run<C: Check>(rt: &impl Abort, alloc: Global, folded: u64) {
         &mut log,
     ).expect(rt, "a run");
     check_log(rt, &log, 0);
-    assert_eq!(rt; run.usage, usage_of(folded));
-    assert_eq!(rt; run.analyser.usage(), run.usage);
+    same(rt, run.usage, usage_of(folded), "the usage of the run");
+    same(
+        rt,
+        run.analyser.usage(),
+        run.usage,
+        "the usage of its analyser",
+    );
 }
 
 /// The same bits in three pieces, one of them empty.
@@ -131,9 +137,9 @@ fn whole_runs(rt: HostRuntime) {
 
 /// A run into a log with room for one report.
 fn check_fault(rt: &impl Abort, alloc: Global, depth: usize, origin: u64, want: RunFault) {
-    let bits = bits_of(alloc, THREE).expect(rt, "memory");
+    let bits = bits_of(rt, alloc, THREE);
     let mut log = ReportLog::new(alloc, 1).expect(rt, "a log");
-    let dictionary = Dictionary::read(alloc, CALLS).expect(rt, "a dictionary");
+    let dictionary = read(rt, alloc, CALLS);
     let run = run_all::<OctetCheck, ReportLog>(
         alloc,
         dictionary,
@@ -142,7 +148,12 @@ fn check_fault(rt: &impl Abort, alloc: Global, depth: usize, origin: u64, want: 
         &[&bits],
         &mut log,
     );
-    assert_eq!(rt; run.err(), Some(want), "{depth} from {origin}");
+    same(
+        rt,
+        run.err(),
+        Some(want),
+        format_args!("depth {depth} from {origin}"),
+    );
 }
 
 /// Each reason why a run ends early.

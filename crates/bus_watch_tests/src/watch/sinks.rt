@@ -1,7 +1,8 @@
 //! Sinks that collect what they take, and refuse where a test wants it.
 
 use super::text::push_seen;
-use super::{CALLS, bits_of, joined};
+use super::{CALLS, NONE, bits_of, check_told, new_analyser, read};
+use crate::expect::{holds, same};
 use bus_dictionary::Dictionary;
 use bus_fcs::{BitCheck, Check, OctetCheck};
 use bus_watch::{
@@ -126,48 +127,44 @@ const REFUSALS: [Refusal; 3] = [
 
 fn check_refusal<C: Check>(rt: &impl Abort, alloc: Global, bits: &[bool], row: &Refusal) {
     let (refuses, consumed) = (row.refuses, row.consumed);
-    let dictionary = Dictionary::read(alloc, CALLS).expect(rt, "a dictionary");
-    let mut analyser = Analyser::<C>::new(alloc, dictionary, 2, 0).expect(rt, "an analyser");
+    let mut analyser = new_analyser::<C>(rt, alloc, CALLS, 2, 0);
     let mut sink = Collector::new(alloc, refuses);
+    let case = format_args!("report {refuses} is refused");
     let fault = feed(rt, &mut analyser, bits, &mut sink).err();
-    assert_eq!(rt; fault, Some(FeedFault::Sink { consumed }), "{refuses}");
-    assert_eq!(rt; sink.refused(), 1, "{refuses}");
-    let told = joined(rt, alloc, row.told);
-    assert_eq!(rt; sink.text.as_str(), told.as_str(), "{refuses}");
+    same(rt, fault, Some(FeedFault::Sink { consumed }), &case);
+    same(rt, sink.refused(), 1, &case);
+    check_told(rt, alloc, sink.text.as_str(), row.told, &case);
     let counts = Counts {
         answered: row.answered,
-        missing: 0,
-        spoilt: 0,
-        late: 0,
+        ..NONE
     };
-    assert_eq!(rt; analyser.tally(16), counts, "{refuses}");
+    same(rt, analyser.tally(16), counts, &case);
     for bit in bits.iter().skip(consumed) {
         feed(rt, &mut analyser, &[*bit], &mut sink).expect(rt, "room");
     }
-    let all = joined(rt, alloc, row.all);
-    assert_eq!(rt; sink.text.as_str(), all.as_str(), "{refuses}");
-    assert!(rt; !sink.lacks);
+    check_told(rt, alloc, sink.text.as_str(), row.all, &case);
+    holds(rt, !sink.lacks, "memory for a text");
 }
 
 /// The same list as a run of two pieces: the bits that are consumed count from the first piece on.
 fn check_run<C: Check>(rt: &impl Abort, alloc: Global, bits: &[bool], row: &Refusal) {
     let (refuses, consumed) = (row.refuses, row.consumed);
     let (front, rest) = bits.split_at_checked(70).expect(rt, "too few bits");
-    let dictionary = Dictionary::read(alloc, CALLS).expect(rt, "a dictionary");
     let mut sink = Collector::new(alloc, refuses);
+    let dictionary = read(rt, alloc, CALLS);
     let fault = run::<C>(rt, alloc, dictionary, &[front, rest], &mut sink).err();
+    let case = format_args!("report {refuses} of two pieces is refused");
     let want = RunFault::Feed(FeedFault::Sink { consumed });
-    assert_eq!(rt; fault, Some(want), "{refuses}");
-    let told = joined(rt, alloc, row.told);
-    assert_eq!(rt; sink.text.as_str(), told.as_str(), "{refuses}");
+    same(rt, fault, Some(want), &case);
+    check_told(rt, alloc, sink.text.as_str(), row.told, &case);
 }
 
 /// Sinks that refuse one report of three frames, with both checks.
 #[test]
 fn refusing_sinks(rt: HostRuntime) {
     let alloc = rt.alloc();
-    let bits = bits_of(alloc, "flag call flag reply flag notice flag").expect(&rt, "memory");
-    assert_eq!(rt; bits.len(), 156);
+    let bits = bits_of(&rt, alloc, "flag call flag reply flag notice flag");
+    same(&rt, bits.len(), 156, "how many bits the frames have");
     for row in &REFUSALS {
         check_refusal::<BitCheck>(&rt, alloc, &bits, row);
         check_refusal::<OctetCheck>(&rt, alloc, &bits, row);

@@ -1,9 +1,8 @@
 //! Worked lists as lines of text: a dictionary, the words of a list, and what is seen of it.
 
 use super::text::{push_ending, push_seen};
-use super::{CALLS, STATES, WITHIN, bits_of};
+use super::{CALLS, POLLS, WITHIN, bits_of, new_analyser};
 use bus_bits::bits_number;
-use bus_dictionary::Dictionary;
 use bus_fcs::Check;
 use bus_watch::Analyser;
 use std::alloc::Global;
@@ -12,28 +11,24 @@ use std::process::Abort;
 /// What a line of a table says.
 #[derive(Drop)]
 pub(super) struct Row<'a> {
-    dictionary: &'static str,
+    /// The text of its dictionary.
+    pub(super) dictionary: &'static str,
     pub(super) bits: Vec<bool>,
     /// What is seen of the bits, and what is open or pending at their end.
     pub(super) want: &'a str,
 }
 
 impl Row<'_> {
-    /// The dictionary of the row.
-    pub(super) fn dictionary(&self, rt: &impl Abort, alloc: Global) -> Dictionary {
-        Dictionary::read(alloc, self.dictionary).expect(rt, "a dictionary")
-    }
-
     /// A new analyser for the row, with a history of sixteen frames.
     pub(super) fn analyser<C: Check>(&self, rt: &impl Abort, alloc: Global) -> Analyser<C> {
-        Analyser::new(alloc, self.dictionary(rt, alloc), 16, 0).expect(rt, "an analyser")
+        new_analyser(rt, alloc, self.dictionary, 16, 0)
     }
 }
 
 /// The example dictionary of this name.
 fn dictionary_named(name: &str) -> &'static str {
     match name {
-        "states" => STATES,
+        "polls" => POLLS,
         "within" => WITHIN,
         _ => CALLS,
     }
@@ -45,7 +40,7 @@ pub(super) fn row_of<'a>(rt: &impl Abort, alloc: Global, line: &'a str) -> Row<'
     let (name, words) = list.split_once(':').expect(rt, "a dictionary");
     Row {
         dictionary: dictionary_named(name),
-        bits: bits_of(alloc, words).expect(rt, "bits"),
+        bits: bits_of(rt, alloc, words),
         want: want.trim(),
     }
 }

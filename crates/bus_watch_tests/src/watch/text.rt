@@ -14,21 +14,18 @@ fn outcome_word(outcome: Outcome) -> &'static str {
     }
 }
 
-fn piece_word(piece: &Piece) -> (Span, &'static str) {
+fn piece_word(piece: &Piece) -> &'static str {
     match piece {
-        Piece::Frame { span, .. } => (*span, "frame"),
-        Piece::Damaged { span, cause } => (
-            *span,
-            match cause {
-                Cause::Unstuffed => "unstuffed",
-                Cause::Short => "short",
-                Cause::Unaligned => "unaligned",
-                Cause::Fcs => "fcs",
-            },
-        ),
-        Piece::Overlong { span } => (*span, "overlong"),
-        Piece::Abort { span } => (*span, "abort"),
-        Piece::Idle { span } => (*span, "idle"),
+        Piece::Frame { .. } => "frame",
+        Piece::Damaged { cause, .. } => match cause {
+            Cause::Unstuffed => "unstuffed",
+            Cause::Short => "short",
+            Cause::Unaligned => "unaligned",
+            Cause::Fcs => "fcs",
+        },
+        Piece::Overlong { .. } => "overlong",
+        Piece::Abort { .. } => "abort",
+        Piece::Idle { .. } => "idle",
     }
 }
 
@@ -86,8 +83,8 @@ pub(super) fn push_ending(text: &mut String, ending: Ending) -> Result<(), Alloc
 
 /// What is seen, after what the text has.
 pub(super) fn push_seen(text: &mut String, seen: &Seen) -> Result<(), AllocError> {
-    let (span, word) = piece_word(&seen.piece);
-    let (first, past) = (span.first, span.past);
+    let word = piece_word(&seen.piece);
+    let Span { first, past } = seen.piece.span();
     push_break(text)?;
     write!(text, "{first} {past} {word}")?;
     if let Piece::Frame { octets, .. } = seen.piece {

@@ -1,5 +1,6 @@
 //! A line with a report of each kind, taken bit by bit, in cuts of any size and octet by octet.
 
+use super::expect::{holds, same};
 use super::worked::{
     ABORT, CALL, CALL_OCTETS, DAMAGED, FLAG, FRAME, IDLE, NONE, OK, OVERLONG, UNTOLD, bits_of,
     high_first, memory, octets_of, push_bits,
@@ -9,6 +10,7 @@ use crate::{
     port1_line_push,
 };
 use std::alloc::Global;
+use std::fmt::Display;
 use std::process::Abort;
 
 /// The causes of damage.
@@ -43,19 +45,19 @@ const TRAFFIC: [&str; 15] = [
 /// How many bits these are.
 const BITS: usize = 265;
 
-/// Kind, cause, and the places: of the first bit, past the last, and of the next bit to take.
-type Told = (u32, u32, u64, u64, u64);
+/// Kind and cause, and the places: of the first bit, past the last, and of the next bit to take.
+type Told = ([u32; 2], [u64; 3]);
 
 /// What they decide, where the first bit has the place 1000.
 const TOLD: [Told; 8] = [
-    (FRAME, 0, 1008, 1049, 1057),
-    (DAMAGED, SHORT, 1057, 1081, 1089),
-    (DAMAGED, FCS, 1089, 1121, 1129),
-    (DAMAGED, UNALIGNED, 1129, 1162, 1170),
-    (DAMAGED, UNSTUFFED, 1170, 1178, 1186),
-    (OVERLONG, 0, 1186, 1234, 1242),
-    (ABORT, 0, 1242, 1250, 1257),
-    (IDLE, 0, 1250, 1265, 1265),
+    ([FRAME, 0], [1008, 1049, 1057]),
+    ([DAMAGED, SHORT], [1057, 1081, 1089]),
+    ([DAMAGED, FCS], [1089, 1121, 1129]),
+    ([DAMAGED, UNALIGNED], [1129, 1162, 1170]),
+    ([DAMAGED, UNSTUFFED], [1170, 1178, 1186]),
+    ([OVERLONG, 0], [1186, 1234, 1242]),
+    ([ABORT, 0], [1242, 1250, 1257]),
+    ([IDLE, 0], [1250, 1265, 1265]),
 ];
 
 /// How many bits a call gets at most.
@@ -64,7 +66,8 @@ const SIZES: [usize; 10] = [1, 5, 8, 9, 24, 48, 55, 64, 65, 1000];
 /// A decoder of frames up to three octets.
 fn decoder(rt: &impl Abort) -> Port1Line {
     let mut line = memory(0xa5);
-    assert_eq!(rt; port1_line_init(&mut line, 3, 1000), OK);
+    let status = port1_line_init(&mut line, 3, 1000);
+    same(rt, status, OK, "the status of a new decoder");
     line
 }
 
@@ -74,17 +77,13 @@ fn note(rt: &impl Abort, told: &mut Vec<Told>, line: &Port1Line, report: &Port1R
         return;
     }
     if report.kind == FRAME {
-        assert_eq!(rt; line.words.len, 5);
-        assert_eq!(rt; &line.octets[..5], &CALL_OCTETS[..]);
+        let octets = &line.octets[..5];
+        same(rt, line.words.len, 5, "how many octets a frame has");
+        same(rt, octets, &CALL_OCTETS[..], "the octets of a frame");
     }
-    told.push((
-        report.kind,
-        report.cause,
-        report.first,
-        report.past,
-        line.words.place,
-    ))
-    .expect(rt, "memory");
+    let places = [report.first, report.past, line.words.place];
+    told.push(([report.kind, report.cause], places))
+        .expect(rt, "memory");
 }
 
 /// Pushes bits, of which any other number than 0 is a 1.
@@ -94,14 +93,21 @@ fn pushed(rt: &impl Abort, alloc: Global, bits: &[bool]) -> Vec<Told> {
     for bit in bits {
         let mut report = UNTOLD;
         let status = port1_line_push(&mut line, if *bit { 4 } else { 0 }, &mut report);
-        assert_eq!(rt; status, OK);
+        same(rt, status, OK, "the status of a push");
         note(rt, &mut told, &line, &report);
     }
     told
 }
 
 /// Feeds octets from a bit on, up to `size` bits at a time.
-fn fed(rt: &impl Abort, alloc: Global, octets: &[u8], from: usize, size: usize) -> Vec<Told> {
+fn fed(
+    rt: &impl Abort,
+    alloc: Global,
+    octets: &[u8],
+    from: usize,
+    size: usize,
+    case: impl Display + Copy + Drop,
+) -> Vec<Told> {
     assert!(rt; octets.len() < 100, "a short line");
     let bits = 8 * octets.len();
     let mut line = decoder(rt);
@@ -114,11 +120,11 @@ fn fed(rt: &impl Abort, alloc: Global, octets: &[u8], from: usize, size: usize) 
         let mut report = UNTOLD;
         let end = at.saturating_add(size).min(bits);
         let status = port1_line_feed(&mut line, octets, &mut at, end, &mut report);
-        assert_eq!(rt; status, OK, "{size} bits from {from} on");
-        assert!(rt; report.kind != NONE || at == end, "bits are left");
+        same(rt, status, OK, case);
+        holds(rt, report.kind != NONE || at == end, case);
         note(rt, &mut told, &line, &report);
     }
-    assert_eq!(rt; at, bits, "{size} bits from {from} on");
+    same(rt, at, bits, case);
     told
 }
 
@@ -144,6 +150,7 @@ fn fed_alone(
     bits: &[bool],
     from: usize,
     is_lowest_first: bool,
+    case: impl Display + Copy + Drop,
 ) -> Vec<Told> {
     let mut line = decoder(rt);
     let mut told = Vec::new(alloc);
@@ -153,14 +160,14 @@ fn fed_alone(
         for _ in 0..8u64 {
             let mut report = UNTOLD;
             let status = feed_eight(&mut line, eight, is_lowest_first, &mut at, &mut report);
-            assert_eq!(rt; status, OK, "from bit {from} on");
-            assert!(rt; report.kind != NONE || at == 8, "bits are left");
+            same(rt, status, OK, case);
+            holds(rt, report.kind != NONE || at == 8, case);
             note(rt, &mut told, &line, &report);
             if at == 8 {
                 break;
             }
         }
-        assert_eq!(rt; at, 8, "from bit {from} on");
+        same(rt, at, 8, case);
         at = 0;
     }
     told
@@ -173,7 +180,7 @@ fn shifted(rt: &impl Abort, alloc: Global, shift: usize) -> Vec<bool> {
     bits.extend_from_slice(&bits_of(rt, alloc, &TRAFFIC))
         .expect(rt, "memory");
     push_bits(rt, &mut bits, false, (8 * 34 - BITS).saturating_sub(shift));
-    assert_eq!(rt; bits.len(), 8 * 34);
+    same(rt, bits.len(), 8 * 34, "the bits of 34 octets");
     bits
 }
 
@@ -181,8 +188,8 @@ fn shifted(rt: &impl Abort, alloc: Global, shift: usize) -> Vec<bool> {
 fn pushed_bits(rt: HostRuntime) {
     let bits = bits_of(&rt, rt.alloc(), &TRAFFIC);
     let told = pushed(&rt, rt.alloc(), &bits);
-    assert_eq!(rt; bits.len(), BITS);
-    assert_eq!(rt; told.as_slice(), &TOLD[..]);
+    same(&rt, bits.len(), BITS, "how many bits the traffic has");
+    same(&rt, told.as_slice(), &TOLD[..], "what pushed bits decide");
 }
 
 #[test]
@@ -191,12 +198,9 @@ fn fed_in_cuts(rt: HostRuntime) {
         let bits = shifted(&rt, rt.alloc(), shift);
         let octets = octets_of(&rt, rt.alloc(), &bits);
         for size in SIZES {
-            let told = fed(&rt, rt.alloc(), &octets, shift, size);
-            assert_eq!(rt;
-                told.as_slice(),
-                &TOLD[..],
-                "{size} bits from bit {shift} on"
-            );
+            let case = format_args!("{size} bits from bit {shift} on");
+            let told = fed(&rt, rt.alloc(), &octets, shift, size, &case);
+            same(&rt, told.as_slice(), &TOLD[..], &case);
         }
     }
 }
@@ -206,12 +210,9 @@ fn fed_by_octets(rt: HostRuntime) {
     for shift in 0..8usize {
         let bits = shifted(&rt, rt.alloc(), shift);
         for is_lowest_first in [true, false] {
-            let told = fed_alone(&rt, rt.alloc(), &bits, shift, is_lowest_first);
-            assert_eq!(rt;
-                told.as_slice(),
-                &TOLD[..],
-                "lowest first {is_lowest_first}, from bit {shift} on"
-            );
+            let case = format_args!("lowest first {is_lowest_first}, from bit {shift} on");
+            let told = fed_alone(&rt, rt.alloc(), &bits, shift, is_lowest_first, &case);
+            same(&rt, told.as_slice(), &TOLD[..], &case);
         }
     }
 }

@@ -1,7 +1,9 @@
 //! A command and what becomes of it.
 
+use super::expect::same;
 use super::worked::{ABORT, BAD_ARGUMENT, CALL_OCTETS, DAMAGED, FRAME, IDLE, NONE, OK, OVERLONG};
 use crate::{Port1Entry, Port1Pair, Port1Report, Port1Seen, port1_pair_init, port1_pair_take};
+use std::fmt::Display;
 use std::process::Abort;
 
 /// How a frame stands to the table, 0 for a piece that is no frame.
@@ -22,7 +24,7 @@ const SPOILT: u32 = 4;
 const REPLY_OCTETS: [u8; 5] = [0x10, 0x83, 0x80, 0xf5, 0x61];
 
 /// Where the command stands.
-const CALLED: (u64, u64) = (8, 49);
+const CALLED: [u64; 2] = [8, 49];
 
 /// A table of the types 0, which asks for an answer within 16 bits, and 128, with no information in either.
 fn table() -> [Port1Entry; 129] {
@@ -60,24 +62,24 @@ const UNSEEN: Port1Seen = Port1Seen {
 };
 
 /// Standing, verdict and stray.
-fn said(seen: &Port1Seen) -> (u32, u32, u32) {
-    (seen.standing, seen.verdict, seen.stray)
+fn said(seen: &Port1Seen) -> [u32; 3] {
+    [seen.standing, seen.verdict, seen.stray]
 }
 
 /// All of a pairing.
-fn kept(pair: &Port1Pair) -> (u64, u64, u32, u8, u8, u16) {
-    (
+fn kept(pair: &Port1Pair) -> [u64; 6] {
+    [
         pair.first,
         pair.past,
-        pair.waits,
-        pair.station,
-        pair.ftype,
-        pair.spare,
-    )
+        u64::from(pair.waits),
+        u64::from(pair.station),
+        u64::from(pair.ftype),
+        u64::from(pair.spare),
+    ]
 }
 
 /// A pairing in which the command of [`CALLED`] waits, of the only line.
-fn waiting(rt: &impl Abort, entries: &[Port1Entry]) -> Port1Pair {
+fn waiting(rt: &impl Abort) -> Port1Pair {
     let mut pair = Port1Pair {
         first: 9,
         past: 9,
@@ -86,23 +88,31 @@ fn waiting(rt: &impl Abort, entries: &[Port1Entry]) -> Port1Pair {
         ftype: 9,
         spare: 9,
     };
-    assert_eq!(rt; port1_pair_init(&mut pair), OK);
-    assert_eq!(rt; kept(&pair), (0, 0, 0, 0, 0, 0));
+    let status = port1_pair_init(&mut pair);
+    same(rt, status, OK, "the status of a new pairing");
+    same(rt, kept(&pair), [0; 6], "a new pairing");
     let report = Port1Report {
         kind: FRAME,
         cause: 0,
-        first: CALLED.0,
-        past: CALLED.1,
+        first: CALLED[0],
+        past: CALLED[1],
     };
     let mut seen = UNSEEN;
-    let status = port1_pair_take(&mut pair, entries, 0, &report, &CALL_OCTETS, &mut seen);
-    assert_eq!(rt; (status, said(&seen)), (OK, (KNOWN, 0, 0)));
-    assert_eq!(rt; (seen.station, seen.control, seen.ftype), (16, 0, 0));
-    assert_eq!(rt;
-        (pair.first, pair.past, pair.waits),
-        (CALLED.0, CALLED.1, 1)
+    let status = port1_pair_take(&mut pair, &table(), 0, &report, &CALL_OCTETS, &mut seen);
+    same(rt, status, OK, "the status of a command");
+    same(rt, said(&seen), [KNOWN, 0, 0], "what is seen of a command");
+    same(
+        rt,
+        [seen.station, seen.control, seen.ftype],
+        [16, 0, 0],
+        "the frame of a command",
     );
-    assert_eq!(rt; (pair.station, pair.ftype), (16, 0));
+    same(
+        rt,
+        kept(&pair),
+        [CALLED[0], CALLED[1], 1, 16, 0, 0],
+        "a command that waits",
+    );
     pair
 }
 
@@ -111,15 +121,15 @@ type Behind = (u32, u32, u64);
 
 /// What comes after the command, how many of the table's entries there are, then standing, verdict and stray, and
 /// whether the command still waits. The window ends where the first bit is that of place 65.
-const VERDICTS: [(Behind, usize, (u32, u32, u32), u32); 8] = [
-    ((FRAME, 0, 57), 129, (KNOWN, ANSWERED, 0), 0),
-    ((FRAME, 0, 65), 129, (KNOWN, ANSWERED, 0), 0),
-    ((FRAME, 0, 66), 129, (KNOWN, LATE, 0), 0),
-    ((FRAME, 0, 65), 128, (UNKNOWN, MISSING, 1), 0),
-    ((DAMAGED, 4, 65), 129, (0, SPOILT, 0), 0),
-    ((OVERLONG, 0, 65), 129, (0, SPOILT, 0), 0),
-    ((ABORT, 0, 65), 129, (0, SPOILT, 0), 0),
-    ((IDLE, 0, 65), 129, (0, 0, 0), 1),
+const VERDICTS: [(Behind, usize, [u32; 4]); 8] = [
+    ((FRAME, 0, 57), 129, [KNOWN, ANSWERED, 0, 0]),
+    ((FRAME, 0, 65), 129, [KNOWN, ANSWERED, 0, 0]),
+    ((FRAME, 0, 66), 129, [KNOWN, LATE, 0, 0]),
+    ((FRAME, 0, 65), 128, [UNKNOWN, MISSING, 1, 0]),
+    ((DAMAGED, 4, 65), 129, [0, SPOILT, 0, 0]),
+    ((OVERLONG, 0, 65), 129, [0, SPOILT, 0, 0]),
+    ((ABORT, 0, 65), 129, [0, SPOILT, 0, 0]),
+    ((IDLE, 0, 65), 129, [0, 0, 0, 1]),
 ];
 
 fn report_of(behind: Behind) -> Port1Report {
@@ -132,69 +142,68 @@ fn report_of(behind: Behind) -> Port1Report {
     }
 }
 
+/// Takes a report after the command: what comes of it. What becomes of the command tells which it is.
+fn check_taken(
+    rt: &impl Abort,
+    entries: &[Port1Entry],
+    line: u32,
+    report: &Port1Report,
+    octets: &[u8],
+    want: [u32; 4],
+    case: impl Display + Copy + Drop,
+) {
+    let mut pair = waiting(rt);
+    let mut seen = UNSEEN;
+    let status = port1_pair_take(&mut pair, entries, line, report, octets, &mut seen);
+    same(rt, status, OK, case);
+    let [standing, verdict, stray] = said(&seen);
+    same(rt, [standing, verdict, stray, pair.waits], want, case);
+    if verdict != 0 {
+        same(rt, [seen.first, seen.past], CALLED, case);
+        same(rt, [seen.command_station, seen.command_type], [16, 0], case);
+    }
+}
+
 #[test]
 fn verdicts(rt: HostRuntime) {
     let entries = table();
-    for (behind, count, want, waits) in VERDICTS {
-        let mut pair = waiting(&rt, &entries);
-        let mut seen = UNSEEN;
-        let report = report_of(behind);
+    for (behind, count, want) in VERDICTS {
+        let case = format_args!("kind {} at {}", behind.0, behind.2);
         let entries = &entries[..count.min(129)];
-        let status = port1_pair_take(&mut pair, entries, 0, &report, &REPLY_OCTETS, &mut seen);
-        assert_eq!(rt;
-            (status, said(&seen), pair.waits),
-            (OK, want, waits),
-            "kind {} at {}",
-            behind.0,
-            behind.2
+        check_taken(
+            &rt,
+            entries,
+            0,
+            &report_of(behind),
+            &REPLY_OCTETS,
+            want,
+            &case,
         );
-        if want.1 != 0 {
-            assert_eq!(rt;
-                (seen.first, seen.past),
-                CALLED,
-                "kind {} at {}",
-                behind.0,
-                behind.2
-            );
-            assert_eq!(rt;
-                (seen.command_station, seen.command_type),
-                (16, 0),
-                "kind {} at {}",
-                behind.0,
-                behind.2
-            );
-        }
     }
 }
 
 /// A frame of two lines: its line, whether it is the answer or else the command, and what is seen of it after the
 /// command.
-const OF_TWO: [(u32, bool, (u32, u32, u32), u32); 4] = [
-    (1, true, (KNOWN, MISSING, 1), 0),
-    (2, true, (KNOWN, ANSWERED, 0), 0),
-    (1, false, (KNOWN, MISSING, 0), 1),
-    (2, false, (KNOWN, MISSING, 0), 0),
+const OF_TWO: [(u32, bool, [u32; 4]); 4] = [
+    (1, true, [KNOWN, MISSING, 1, 0]),
+    (2, true, [KNOWN, ANSWERED, 0, 0]),
+    (1, false, [KNOWN, MISSING, 0, 1]),
+    (2, false, [KNOWN, MISSING, 0, 0]),
 ];
 
 /// Commands wait on the first line alone, and answers come on the second alone.
 #[test]
 fn two_lines(rt: HostRuntime) {
     let entries = table();
-    for (line, is_answer, want, waits) in OF_TWO {
-        let mut pair = waiting(&rt, &entries);
-        let mut seen = UNSEEN;
+    let report = report_of((FRAME, 0, 65));
+    for (line, is_answer, want) in OF_TWO {
+        let case = format_args!("line {line}, an answer: {is_answer}");
         let octets = if is_answer {
             &REPLY_OCTETS
         } else {
             &CALL_OCTETS
         };
-        let report = report_of((FRAME, 0, 65));
-        let status = port1_pair_take(&mut pair, &entries, line, &report, octets, &mut seen);
-        assert_eq!(rt;
-            (status, said(&seen), pair.waits),
-            (OK, want, waits),
-            "line {line}, {is_answer}"
-        );
+        check_taken(&rt, &entries, line, &report, octets, want, &case);
     }
 }
 
@@ -209,29 +218,27 @@ const REFUSED: [(u32, u32, u32, usize); 7] = [
     (0, DAMAGED, 5, 0),
 ];
 
+/// A report that is refused changes nothing.
+fn check_refused(
+    rt: &impl Abort,
+    line: u32,
+    report: &Port1Report,
+    octets: &[u8],
+    case: impl Display + Copy + Drop,
+) {
+    let mut pair = waiting(rt);
+    let mut seen = UNSEEN;
+    let status = port1_pair_take(&mut pair, &table(), line, report, octets, &mut seen);
+    same(rt, status, BAD_ARGUMENT, case);
+    same(rt, kept(&pair), kept(&waiting(rt)), case);
+    same(rt, said(&seen), said(&UNSEEN), case);
+}
+
 #[test]
 fn refused_reports(rt: HostRuntime) {
-    let entries = table();
     for (line, kind, cause, count) in REFUSED {
-        let mut pair = waiting(&rt, &entries);
-        let mut seen = UNSEEN;
-        let report = report_of((kind, cause, 65));
+        let case = format_args!("line {line}, kind {kind}, cause {cause}");
         let octets = &REPLY_OCTETS[..count.min(5)];
-        let status = port1_pair_take(&mut pair, &entries, line, &report, octets, &mut seen);
-        assert_eq!(rt;
-            status,
-            BAD_ARGUMENT,
-            "line {line}, kind {kind}, cause {cause}"
-        );
-        assert_eq!(rt;
-            kept(&pair),
-            kept(&waiting(&rt, &entries)),
-            "line {line}, kind {kind}, cause {cause}"
-        );
-        assert_eq!(rt;
-            said(&seen),
-            said(&UNSEEN),
-            "line {line}, kind {kind}, cause {cause}"
-        );
+        check_refused(&rt, line, &report_of((kind, cause, 65)), octets, &case);
     }
 }

@@ -1,5 +1,6 @@
 //! Bits that are sent, and what the calls that send refuse.
 
+use super::expect::same;
 use super::worked::{
     BAD_ARGUMENT, BAD_LENGTH, BAD_STATE, CALL, FLAG, NO_ROOM, OK, bits_of, octets_of, push_bits,
 };
@@ -8,6 +9,7 @@ use crate::{
     port1_sender_init,
 };
 use std::alloc::Global;
+use std::fmt::Display;
 use std::process::Abort;
 
 /// What is asked for.
@@ -16,11 +18,11 @@ enum Ask {
     Flag,
     Idle,
     Align,
-    Frame(&'static [u8]),
+    /// The frame of [`CALL`].
+    Frame,
+    ShortFrame,
+    LongFrame,
 }
-
-/// Address, control octet and information.
-const FRAME_SENT: Ask = Ask::Frame(&[0x10, 0x83, 0x00]);
 
 /// Asks for something, and gives the status.
 fn call(
@@ -34,7 +36,9 @@ fn call(
         Ask::Flag => port1_send_flag(sender, octets, at, bits),
         Ask::Idle => port1_send_idle(sender, octets, at, bits),
         Ask::Align => port1_send_align(sender, octets, at, bits),
-        Ask::Frame(frame) => port1_send_frame(sender, frame, octets, at, bits),
+        Ask::Frame => port1_send_frame(sender, &[0x10, 0x83, 0x00], octets, at, bits),
+        Ask::ShortFrame => port1_send_frame(sender, &[0x10], octets, at, bits),
+        Ask::LongFrame => port1_send_frame(sender, &[0; 257], octets, at, bits),
     }
 }
 
@@ -42,9 +46,9 @@ fn call(
 /// before it only where none was sent last, and fifteen ones for each bit of the last octet end it.
 const SENT: [(Ask, usize, u32); 7] = [
     (Ask::Flag, 8, 1),
-    (FRAME_SENT, 49, 1),
+    (Ask::Frame, 49, 1),
     (Ask::Idle, 15, 0),
-    (FRAME_SENT, 57, 1),
+    (Ask::Frame, 57, 1),
     (Ask::Align, 60, 0),
     (Ask::Flag, 8, 1),
     (Ask::Align, 0, 1),
@@ -72,20 +76,19 @@ fn wanted(rt: &impl Abort, alloc: Global, bit: bool) -> Vec<u8> {
 /// Sends all of them into these octets but the last, which is no room.
 fn send_all(rt: &impl Abort, octets: &mut [u8; 26]) {
     let mut sender = Port1Sender { behind_flag: 9 };
-    assert_eq!(rt; port1_sender_init(&mut sender), OK);
+    let status = port1_sender_init(&mut sender);
+    same(rt, status, OK, "the status of a new sender");
     let mut at = FROM;
     let mut past = FROM;
     for (what, count, behind_flag) in SENT {
         let mut bits = 999;
         let status = call(&mut sender, what, &mut octets[..LENGTH], &mut at, &mut bits);
         past = past.wrapping_add(count);
-        assert_eq!(rt;
-            (status, bits, at, sender.behind_flag),
-            (OK, count, past, behind_flag),
-            "{what:?}"
-        );
+        let case = format_args!("{what:?} up to bit {past}");
+        same(rt, [status, sender.behind_flag], [OK, behind_flag], &case);
+        same(rt, [bits, at], [count, past], &case);
     }
-    assert_eq!(rt; at, 8 * LENGTH);
+    same(rt, at, 8 * LENGTH, "where the last bit ends");
 }
 
 /// Bits are put where 0s or 1s stood, and all others stay.
@@ -95,7 +98,8 @@ fn sent_bits(rt: HostRuntime) {
         let mut octets = [if bit { 0xff } else { 0 }; 26];
         send_all(&rt, &mut octets);
         let want = wanted(&rt, rt.alloc(), bit);
-        assert_eq!(rt; want.as_slice(), &octets[..], "into bits {bit}");
+        let case = format_args!("into bits {bit}");
+        same(&rt, want.as_slice(), &octets[..], case);
     }
 }
 
@@ -117,40 +121,40 @@ const ASKED: [Asked; 21] = [
     (Ask::Align, 1, 1, 1, NO_ROOM, 15),
     (Ask::Align, 1, 0, 1, BAD_ARGUMENT, 999),
     (Ask::Align, 2, 2, 1, BAD_STATE, 999),
-    (FRAME_SENT, 0, 8, 7, OK, 57),
-    (FRAME_SENT, 0, 8, 8, NO_ROOM, 57),
-    (FRAME_SENT, 1, 8, 15, OK, 49),
-    (FRAME_SENT, 1, 8, 16, NO_ROOM, 49),
-    (FRAME_SENT, 2, 8, 65, BAD_ARGUMENT, 999),
-    (FRAME_SENT, 0xffff_ffff, 8, 0, BAD_STATE, 999),
-    (Ask::Frame(&[0x10]), 0, 8, 0, BAD_LENGTH, 999),
-    (Ask::Frame(&[0; 257]), 0, 8, 0, BAD_LENGTH, 999),
+    (Ask::Frame, 0, 8, 7, OK, 57),
+    (Ask::Frame, 0, 8, 8, NO_ROOM, 57),
+    (Ask::Frame, 1, 8, 15, OK, 49),
+    (Ask::Frame, 1, 8, 16, NO_ROOM, 49),
+    (Ask::Frame, 2, 8, 65, BAD_ARGUMENT, 999),
+    (Ask::Frame, 0xffff_ffff, 8, 0, BAD_STATE, 999),
+    (Ask::ShortFrame, 0, 8, 0, BAD_LENGTH, 999),
+    (Ask::LongFrame, 0, 8, 0, BAD_LENGTH, 999),
 ];
 
-/// A refusal changes nothing, but that want of room tells the bits.
+/// Asks for something, of which a refusal changes nothing, but that want of room tells the bits.
+fn check_asked(rt: &impl Abort, asked: Asked, case: impl Display + Copy + Drop) {
+    let (what, behind_flag, count, from, want, told) = asked;
+    let mut sender = Port1Sender { behind_flag };
+    let mut octets = [0x96; 8];
+    let mut at = from;
+    let mut bits = 999;
+    let room = &mut octets[..count.min(8)];
+    let status = call(&mut sender, what, room, &mut at, &mut bits);
+    same(rt, status, want, case);
+    same(rt, bits, told, case);
+    if want == OK {
+        same(rt, at, from.wrapping_add(told), case);
+    } else {
+        same(rt, at, from, case);
+        same(rt, sender.behind_flag, behind_flag, case);
+        same(rt, octets, [0x96; 8], case);
+    }
+}
+
 #[test]
 fn refused_sends(rt: HostRuntime) {
-    for (what, behind_flag, count, from, want, told) in ASKED {
-        let mut sender = Port1Sender { behind_flag };
-        let mut octets = [0x96; 8];
-        let mut at = from;
-        let mut bits = 999;
-        let room = &mut octets[..count.min(8)];
-        assert_eq!(rt;
-            call(&mut sender, what, room, &mut at, &mut bits),
-            want,
-            "{what:?} at {from}"
-        );
-        assert_eq!(rt; bits, told, "{what:?} at {from}");
-        if want == OK {
-            assert_eq!(rt; at, from.wrapping_add(told), "{what:?} at {from}");
-        } else {
-            assert_eq!(rt;
-                (at, sender.behind_flag),
-                (from, behind_flag),
-                "{what:?} at {from}"
-            );
-            assert_eq!(rt; octets, [0x96; 8], "{what:?} at {from}");
-        }
+    for asked in ASKED {
+        let case = format_args!("{:?} at {}", asked.0, asked.3);
+        check_asked(&rt, asked, &case);
     }
 }

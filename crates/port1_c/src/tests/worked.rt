@@ -54,8 +54,13 @@ pub(super) const UNTOLD: Port1Report = Port1Report {
 };
 
 /// The four numbers of a report.
-pub(super) fn numbers(report: &Port1Report) -> (u32, u32, u64, u64) {
-    (report.kind, report.cause, report.first, report.past)
+pub(super) fn numbers(report: &Port1Report) -> [u64; 4] {
+    [
+        u64::from(report.kind),
+        u64::from(report.cause),
+        report.first,
+        report.past,
+    ]
 }
 
 /// A line's memory with this number everywhere, which is no decoder.

@@ -3,6 +3,9 @@
 ghost use Rattle.std.specs.Prelude.{◌-◌, ◌<◌};
 
 use super::super::bits_of;
+use super::{new_analyser, pairs_of};
+use crate::expect::same;
+use bus_bits::bits_number;
 use bus_dictionary::Dictionary;
 use bus_fcs::{Check, OctetCheck};
 use bus_line::{OwnedPiece, Piece, reports_whole};
@@ -50,6 +53,18 @@ pub(super) fn side_of(rt: &impl Abort, alloc: Global, bits: Vec<bool>, longest: 
 /// A report, and the line that it is of.
 type OnLine<'a> = (Line, Piece<'a>);
 
+/// Appends the report of a line that is due at one place, if there is one.
+fn push_due<'a>(
+    rt: &impl Abort,
+    all: &mut Vec<OnLine<'a>>,
+    line: Line,
+    due: &'a Option<OwnedPiece>,
+) {
+    if let Some(owned) = due {
+        all.push((line, owned.as_piece())).expect(rt, "memory");
+    }
+}
+
 /// The reports of both lines by due place, the first line's first.
 fn merged<'a>(
     rt: &impl Abort,
@@ -59,14 +74,8 @@ fn merged<'a>(
 ) -> Vec<OnLine<'a>> {
     let mut all = Vec::new(alloc);
     for (one, other) in first.due.iter().zip(second.due.iter()) {
-        if let Some(owned) = one {
-            all.push((Line::First, owned.as_piece()))
-                .expect(rt, "memory");
-        }
-        if let Some(owned) = other {
-            all.push((Line::Second, owned.as_piece()))
-                .expect(rt, "memory");
-        }
+        push_due(rt, &mut all, Line::First, one);
+        push_due(rt, &mut all, Line::Second, other);
     }
     all
 }
@@ -183,7 +192,7 @@ pub(super) fn hears<C: Check>(
         assert!(rt; bits.len() <= 10000 && others.len() <= 10000);
         assert!(rt; count <= 8 * bits.len() && count <= 8 * others.len());
         let taken = analyser.scan(&bits, &others, count, &mut listener, &mut heard);
-        assert_eq!(rt; taken, count);
+        same(rt, taken, count, "how many pairs are scanned");
     }
     !listener.differs && listener.taken == due.len() && heard == due.len() as u64
 }
@@ -192,10 +201,8 @@ pub(super) fn hears<C: Check>(
 fn octets_from(rt: &impl Abort, alloc: Global, bits: &[bool], from: usize) -> Vec<u8> {
     let mut octets = Vec::new(alloc);
     for eight in bits.get(from..).expect(rt, "a bit").chunks(8) {
-        let mut octet = 0;
-        for (at, bit) in eight.iter().enumerate() {
-            octet |= u8::from(*bit) << (at & 7);
-        }
+        assert!(rt; eight.len() <= 8);
+        let [octet, ..] = bits_number(eight).to_le_bytes();
         octets.push(octet).expect(rt, "memory");
     }
     octets
@@ -209,10 +216,7 @@ pub(super) fn tells<C: Check>(
     first: &Side,
     second: &Side,
 ) -> bool {
-    let mut pairs = Vec::new(alloc);
-    for (bit, other) in first.bits.iter().zip(second.bits.iter()) {
-        pairs.push((*bit, *other)).expect(rt, "memory");
-    }
+    let pairs = pairs_of(rt, alloc, &first.bits, &second.bits);
     let due = merged(rt, alloc, first, second);
     let mut sink = Comparing {
         due: &due,
@@ -225,7 +229,7 @@ pub(super) fn tells<C: Check>(
 
 /// An analyser without a dictionary.
 fn plain_analyser(rt: &impl Abort, alloc: Global) -> PairAnalyser<OctetCheck> {
-    PairAnalyser::new(alloc, Dictionary::empty(alloc), 1, 0).expect(rt, "an analyser")
+    new_analyser(rt, alloc, Dictionary::empty(alloc), 1)
 }
 
 /// The first of the second line's lists beside which the two lines differ from their merged reports.
@@ -259,7 +263,7 @@ fn list_of(rt: &impl Abort, alloc: Global, before: &[bool], pattern: u32, count:
 
 /// Each list of `count` bits after these.
 fn sides(rt: &impl Abort, alloc: Global, before: &str, count: u32) -> Vec<Side> {
-    let before = bits_of(alloc, before).expect(rt, "memory");
+    let before = bits_of(rt, alloc, before);
     let patterns: u32 = 1 << count.min(16);
     let mut sides = Vec::new(alloc);
     for pattern in 0..patterns {
@@ -277,7 +281,12 @@ fn none_differs(rt: &impl Abort, alloc: Global, first: &str, second: &str, count
     let seconds = sides(rt, alloc, second, count);
     for (pattern, side) in firsts.iter().enumerate() {
         let found = differing_second(rt, alloc, side, &seconds);
-        assert_eq!(rt; found, None, "{count} pairs, {pattern} behind {first}");
+        same(
+            rt,
+            found,
+            None,
+            format_args!("{count} pairs, {pattern} behind {first}"),
+        );
     }
 }
 

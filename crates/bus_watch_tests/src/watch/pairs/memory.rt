@@ -4,6 +4,7 @@
 use super::super::limits::dictionary_of;
 use super::super::traffic::{BITS, ROUNDS, octets_of, round_of};
 use super::super::{Counts, DAMAGED};
+use crate::expect::{holds, same};
 use bus_bits::bits_number;
 use bus_dictionary::Dictionary;
 use bus_fcs::{BitCheck, Check, OctetCheck};
@@ -60,18 +61,26 @@ fn take_pairs<C: Check>(rt: &impl Abort, analyser: &mut PairAnalyser<C>) {
         assert!(rt; sink.refused() < u64::MAX - 1);
         analyser.feed(&[(bit, bit)], &mut sink).expect(rt, "room");
     }
-    assert_eq!(rt; sink.first, 1);
-    assert_eq!(rt; sink.second, 1);
-    assert_eq!(rt; analyser.take(0, 0, 9).expect(rt, "a place"), 9);
+    same(rt, sink.first, 1, "the reports of the first line");
+    same(rt, sink.second, 1, "the reports of the second line");
+    let taken = analyser.take(0, 0, 9).expect(rt, "a place");
+    same(rt, taken, 9, "the pairs of zeros taken");
 }
 
 /// Each call that asks what stands after them.
 fn ask<C: Check>(rt: &impl Abort, analyser: &PairAnalyser<C>) {
-    assert_eq!(rt; analyser.history_len(), 0);
-    assert!(rt; analyser.history(0).is_none());
-    assert!(rt; analyser.finding(Line::First).is_none());
-    assert!(rt; analyser.finding(Line::Second).is_none());
-    assert_eq!(rt; analyser.tally(16).spoilt, 0);
+    same(rt, analyser.history_len(), 0, "how many frames are kept");
+    holds(rt, analyser.history(0).is_none(), "no frame is kept");
+    let first = analyser.finding(Line::First);
+    holds(rt, first.is_none(), "nothing is found on the first line");
+    let second = analyser.finding(Line::Second);
+    holds(rt, second.is_none(), "nothing is found on the second line");
+    same(
+        rt,
+        analyser.tally(16).spoilt,
+        0,
+        "the spoilt answers of station 16",
+    );
     let begun = Some(Span {
         first: 48,
         past: 57,
@@ -81,12 +90,24 @@ fn ask<C: Check>(rt: &impl Abort, analyser: &PairAnalyser<C>) {
         second: begun,
         pending: None,
     };
-    assert_eq!(rt; analyser.ending(), want);
+    same(rt, analyser.ending(), want, "the pieces begun");
     let usage = analyser.usage();
-    assert_eq!(rt; usage.first_buffered, analyser.buffered(Line::First));
-    assert_eq!(rt; usage.second_buffered, analyser.buffered(Line::Second));
-    assert_eq!(rt; usage.spent, analyser.spent());
-    assert_eq!(rt; analyser.spent().shifted, 114);
+    let first = analyser.buffered(Line::First);
+    same(
+        rt,
+        usage.first_buffered,
+        first,
+        "the octets of the first line",
+    );
+    let second = analyser.buffered(Line::Second);
+    same(
+        rt,
+        usage.second_buffered,
+        second,
+        "the octets of the second line",
+    );
+    same(rt, usage.spent, analyser.spent(), "the steps in the usage");
+    same(rt, analyser.spent().shifted, 114, "the bits of both lines");
 }
 
 fn check_memory<C: Check>(rt: &impl Abort, alloc: Global, dictionary: Dictionary, depth: usize) {
@@ -95,7 +116,7 @@ fn check_memory<C: Check>(rt: &impl Abort, alloc: Global, dictionary: Dictionary
             take_pairs(rt, &mut analyser);
             ask(rt, &analyser);
         }
-        Err(fault) => assert_eq!(rt; fault, NewFault::Memory),
+        Err(fault) => same(rt, fault, NewFault::Memory, "why there is no analyser"),
     }
 }
 
@@ -229,24 +250,29 @@ fn take_rounds(rt: &impl Abort, analyser: &mut PairAnalyser<OctetCheck>) {
         analyser.feed(&round.pairs, &mut sink).expect(rt, "room");
         take_round(rt, analyser, &round);
         let count = analyser.scan(&first, &second, BITS, &mut Hearer, &mut heard);
-        assert_eq!(rt; count, BITS);
+        same(rt, count, BITS, "how many pairs are scanned");
     }
     let told = sink.first.saturating_add(sink.second);
-    assert_eq!(rt; (told, heard), (11 * ROUNDS, 11 * ROUNDS));
+    same(
+        rt,
+        (told, heard),
+        (11 * ROUNDS, 11 * ROUNDS),
+        "the reports told and heard",
+    );
     let want = Counts {
         answered: 4 * ROUNDS,
         missing: 4 * ROUNDS,
         spoilt: 4 * ROUNDS,
         late: 0,
     };
-    assert_eq!(rt; analyser.tally(16), want);
+    same(rt, analyser.tally(16), want, "the tally of station 16");
 }
 
 /// The requests of the dictionary and of an analyser.
 #[test]
 fn made(rt: HostRuntime) {
     let analyser = analyser_at_last(&rt, rt.alloc());
-    assert_eq!(rt; analyser.history_len(), 0);
+    same(&rt, analyser.history_len(), 0, "how many frames are kept");
 }
 
 /// They are as many where each call that takes pairs takes 10^5 of them.

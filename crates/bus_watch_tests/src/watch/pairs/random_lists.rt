@@ -1,9 +1,11 @@
 //! Long lists of random traffic on two lines by calls of every kind and size.
 
-use super::super::CALLS;
+use super::super::{CALLS, read};
 use super::every_list::{differing_place, hears, side_of, tells};
-use super::{PairCollector, TwoLines, feed, push_seen_on, take_some, two_lines};
-use bus_dictionary::Dictionary;
+use super::{
+    PairCollector, TwoLines, feed, new_analyser, pairs_of, push_seen_on, take_some, two_lines,
+};
+use crate::expect::{holds, same};
 use bus_fcs::OctetCheck;
 use bus_watch::{Line, PairAnalyser, PairEnding, PairUsage};
 use std::alloc::Global;
@@ -83,31 +85,24 @@ fn state_of(analyser: &PairAnalyser<OctetCheck>) -> State {
 
 /// An analyser of the example dictionary of calls, with a history of five frames.
 fn analyser(rt: &impl Abort, alloc: Global) -> PairAnalyser<OctetCheck> {
-    let dictionary = Dictionary::read(alloc, CALLS).expect(rt, "a dictionary");
-    PairAnalyser::new(alloc, dictionary, 5, 0).expect(rt, "an analyser")
+    new_analyser(rt, alloc, read(rt, alloc, CALLS), 5)
 }
 
-/// As many pairs of a part as there is room for, and at most so many.
-fn push_part(rt: &impl Abort, lines: &mut TwoLines, part: &TwoLines, most: usize) {
-    for pair in part.pairs.iter().take(most) {
-        if lines.pairs.len() < PAIRS {
-            lines.first.push(pair.0).expect(rt, "memory");
-            lines.second.push(pair.1).expect(rt, "memory");
-            lines.pairs.push(*pair).expect(rt, "memory");
-        }
+/// Appends the first `count` of these bits, or all where they are fewer.
+fn push_some(rt: &impl Abort, all: &mut Vec<bool>, bits: &[bool], count: usize) {
+    for bit in bits.iter().take(count) {
+        all.push(*bit).expect(rt, "memory");
     }
 }
 
 /// Parts and beginnings of parts, one after the other; the same seed gives the same lists.
 fn traffic(rt: &impl Abort, alloc: Global, seed: u64) -> TwoLines {
-    let mut lines = TwoLines {
-        first: Vec::new(alloc),
-        second: Vec::new(alloc),
-        pairs: Vec::new(alloc),
-    };
+    let mut first = Vec::new(alloc);
+    let mut second = Vec::new(alloc);
     let mut state = seed;
     for _ in 0..PAIRS {
-        if lines.pairs.len() >= PAIRS {
+        let room = PAIRS.saturating_sub(first.len());
+        if room == 0 {
             break;
         }
         state = state
@@ -116,9 +111,16 @@ fn traffic(rt: &impl Abort, alloc: Global, seed: u64) -> TwoLines {
         let part = &PARTS[(state >> 48) as usize % PARTS.len()];
         let rest = (state >> 45) % 2 == 1;
         let part = two_lines(rt, alloc, part.first, part.second, rest);
-        push_part(rt, &mut lines, &part, (state >> 33) as usize % 256);
+        let count = room.min((state >> 33) as usize % 256);
+        push_some(rt, &mut first, &part.first, count);
+        push_some(rt, &mut second, &part.second, count);
     }
-    lines
+    let pairs = pairs_of(rt, alloc, &first, &second);
+    TwoLines {
+        first,
+        second,
+        pairs,
+    }
 }
 
 /// The frames of the history, with their lines.
@@ -166,10 +168,7 @@ fn one_run(rt: &impl Abort, alloc: Global, lines: &TwoLines) -> OneRun {
 
 /// Whether the analyser says the same of itself as after so many pairs of the one run.
 fn stands_at(analyser: &PairAnalyser<OctetCheck>, run: &OneRun, taken: usize) -> bool {
-    match taken.checked_sub(1) {
-        Some(at) => run.states.get(at) == Some(&state_of(analyser)),
-        None => false,
-    }
+    run.states.get(taken.wrapping_sub(1)) == Some(&state_of(analyser))
 }
 
 /// Calls of `take` of up to `size` pairs see the same, and the analyser stands the same after each.
@@ -177,6 +176,7 @@ fn check_taken(rt: &impl Abort, alloc: Global, lines: &TwoLines, run: &OneRun, s
     let mut analyser = analyser(rt, alloc);
     let mut text = String::new(alloc);
     let mut taken: usize = 0;
+    let case = format_args!("{size} pairs at most are taken with a call");
     for _ in &lines.pairs {
         if taken >= lines.pairs.len() {
             break;
@@ -185,12 +185,12 @@ fn check_taken(rt: &impl Abort, alloc: Global, lines: &TwoLines, run: &OneRun, s
         let second = lines.second.get(taken..).expect(rt, "bits");
         let count = take_some(rt, &mut text, &mut analyser, first, second, size);
         taken = taken.saturating_add(count);
-        assert!(rt; stands_at(&analyser, run, taken), "{size}");
+        holds(rt, stands_at(&analyser, run, taken), &case);
     }
-    assert_eq!(rt; taken, lines.pairs.len(), "{size}");
-    assert_eq!(rt; text.as_str(), run.text.as_str(), "{size}");
+    same(rt, taken, lines.pairs.len(), &case);
+    same(rt, text.as_str(), run.text.as_str(), &case);
     let history = history_of(rt, alloc, &analyser);
-    assert_eq!(rt; history.as_str(), run.history.as_str(), "{size}");
+    same(rt, history.as_str(), run.history.as_str(), &case);
 }
 
 /// The same with calls of `feed` of up to `size` pairs.
@@ -198,36 +198,38 @@ fn check_fed(rt: &impl Abort, alloc: Global, lines: &TwoLines, run: &OneRun, siz
     let mut analyser = analyser(rt, alloc);
     let mut sink = PairCollector::new(alloc, [0, 0]);
     let mut fed: usize = 0;
+    let case = format_args!("{size} pairs at most are fed with a call");
     for some in lines.pairs.chunks(size.max(1)) {
         feed(rt, &mut analyser, some, &mut sink).expect(rt, "room");
         fed = fed.saturating_add(some.len());
-        assert!(rt; stands_at(&analyser, run, fed), "{size}");
+        holds(rt, stands_at(&analyser, run, fed), &case);
     }
-    assert!(rt; !sink.lacks);
-    assert_eq!(rt; fed, lines.pairs.len(), "{size}");
-    assert_eq!(rt; sink.text.as_str(), run.text.as_str(), "{size}");
+    holds(rt, !sink.lacks, &case);
+    same(rt, fed, lines.pairs.len(), &case);
+    same(rt, sink.text.as_str(), run.text.as_str(), &case);
     let history = history_of(rt, alloc, &analyser);
-    assert_eq!(rt; history.as_str(), run.history.as_str(), "{size}");
+    same(rt, history.as_str(), run.history.as_str(), &case);
+}
+
+/// Pairs that are pushed, fed and scanned decide the reports of both lists, merged.
+fn check_merged(rt: &impl Abort, alloc: Global, seed: u64) {
+    let TwoLines { first, second, .. } = traffic(rt, alloc, seed);
+    let first = side_of(rt, alloc, first, 3);
+    let second = side_of(rt, alloc, second, 3);
+    let case = format_args!("seed {seed}");
+    let found = differing_place(rt, &mut analyser(rt, alloc), &first, &second);
+    same(rt, found, None, &case);
+    let is_told = tells(rt, alloc, &mut analyser(rt, alloc), &first, &second);
+    holds(rt, is_told, &case);
+    let is_heard = hears(rt, alloc, &mut analyser(rt, alloc), &first, &second);
+    holds(rt, is_heard, &case);
 }
 
 /// The reports are those of both whole lists, merged.
 #[test]
 fn merged_reports(rt: HostRuntime) {
-    let alloc = rt.alloc();
-    for seed in 1..=4u64 {
-        let TwoLines { first, second, .. } = traffic(&rt, alloc, seed);
-        let first = side_of(&rt, alloc, first, 3);
-        let second = side_of(&rt, alloc, second, 3);
-        let mut pushed = analyser(&rt, alloc);
-        let found = differing_place(&rt, &mut pushed, &first, &second);
-        assert_eq!(rt; found, None, "seed {seed}");
-        let mut fed = analyser(&rt, alloc);
-        assert!(rt; tells(&rt, alloc, &mut fed, &first, &second), "seed {seed}");
-        let mut scanned = analyser(&rt, alloc);
-        assert!(rt;
-            hears(&rt, alloc, &mut scanned, &first, &second),
-            "seed {seed}"
-        );
+    for seed in 1..=4 {
+        check_merged(&rt, rt.alloc(), seed);
     }
 }
 
@@ -238,7 +240,7 @@ fn calls_of_every_size(rt: HostRuntime) {
     let mut text = String::new(alloc);
     for seed in 1..=4u64 {
         let lines = traffic(&rt, alloc, seed);
-        assert_eq!(rt; lines.pairs.len(), PAIRS);
+        same(&rt, lines.pairs.len(), PAIRS, "how many pairs a list has");
         let run = one_run(&rt, alloc, &lines);
         text.push_str(&run.text).expect(&rt, "memory");
         for size in 1..=48u32 {
@@ -248,6 +250,6 @@ fn calls_of_every_size(rt: HostRuntime) {
         check_fed(&rt, alloc, &lines, &run, PAIRS);
     }
     for word in ["answered", "missing", "spoilt", "stray", "overlong", "idle"] {
-        assert!(rt; text.contains(word), "{word}");
+        holds(&rt, text.contains(word), word);
     }
 }

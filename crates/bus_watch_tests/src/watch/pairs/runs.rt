@@ -1,10 +1,10 @@
 //! Whole runs over two lines, into a log.
 
-use super::super::CALLS;
 use super::super::limits::FAR;
+use super::super::{CALLS, read};
 use super::{TwoLines, two_lines};
+use crate::expect::{holds, same};
 use bus_bits::Span;
-use bus_dictionary::Dictionary;
 use bus_fcs::OctetCheck;
 use bus_watch::{
     FeedFault, Line, LoggedPiece, NewFault, PairLog, PairRun, PairSink, RunFault, run_pairs,
@@ -25,7 +25,7 @@ fn run(
     origin: u64,
     log: &mut PairLog,
 ) -> Result<PairRun<OctetCheck>, RunFault> {
-    let dictionary = Dictionary::read(alloc, CALLS).expect(rt, "a dictionary");
+    let dictionary = read(rt, alloc, CALLS);
     let pairs = call_beside_reply(rt, alloc).pairs;
     assert!(rt; log.refused() < u64::MAX - 1);
     run_pairs(alloc, dictionary, depth, origin, &pairs, log)
@@ -45,21 +45,33 @@ fn both_are_logged(rt: HostRuntime) {
     let alloc = rt.alloc();
     let mut log = PairLog::new(alloc, 2).expect(&rt, "a log");
     let done = run(&rt, alloc, 2, 100, &mut log).expect(&rt, "a run");
-    assert_eq!(rt; done.usage.history_len, 2);
-    assert_eq!(rt; done.analyser.usage(), done.usage);
+    same(&rt, done.usage.history_len, 2, "how many frames are kept");
+    same(
+        &rt,
+        done.analyser.usage(),
+        done.usage,
+        "the usage of the analyser",
+    );
     let span = Span {
         first: 108,
         past: 149,
     };
     let lines = [Line::First, Line::Second];
-    assert_eq!(rt; log.reports().len(), lines.len());
+    same(
+        &rt,
+        log.reports().len(),
+        lines.len(),
+        "how many reports are logged",
+    );
     for (report, line) in log.reports().iter().zip(lines) {
-        assert_eq!(rt; report.line, line, "{line:?}");
-        assert_eq!(rt; frame_of(&report.logged.piece), Some((span, 5)), "{line:?}");
-        assert_eq!(rt;
+        let case = format_args!("the report of line {line:?}");
+        same(&rt, report.line, line, &case);
+        same(&rt, frame_of(&report.logged.piece), Some((span, 5)), &case);
+        same(
+            &rt,
             report.logged.verdict.is_some(),
             line == Line::Second,
-            "{line:?}"
+            &case,
         );
     }
 }
@@ -116,9 +128,16 @@ const FAULTS: [FaultRow; 6] = [
 fn faults_of_runs(rt: HostRuntime) {
     let alloc = rt.alloc();
     for row in &FAULTS {
-        let mut log = PairLog::new(alloc, row.room).expect(&rt, "a log");
-        let ended = run(&rt, alloc, row.depth, row.origin, &mut log);
-        assert_eq!(rt; ended.err(), Some(row.want), "{}", row.room);
-        assert!(rt; log.reports().len() <= log.room(), "{}", row.room);
+        let FaultRow {
+            room,
+            depth,
+            origin,
+            want,
+        } = *row;
+        let mut log = PairLog::new(alloc, room).expect(&rt, "a log");
+        let ended = run(&rt, alloc, depth, origin, &mut log);
+        let case = format_args!("room for {room}, depth {depth} from {origin}");
+        same(&rt, ended.err(), Some(want), &case);
+        holds(&rt, log.reports().len() <= log.room(), &case);
     }
 }

@@ -1,7 +1,8 @@
 //! Sinks that refuse reports of either line, or of both at one place, and what they take afterwards.
 
-use super::super::{NONE, joined};
+use super::super::{NONE, check_told};
 use super::{PairCollector, TwoLines, analyser, feed, pushed, two_lines};
+use crate::expect::{holds, same};
 use bus_fcs::{BitCheck, Check, OctetCheck};
 use bus_watch::{Counts, FeedFault, PairAnalyser, PairSink};
 use std::alloc::Global;
@@ -98,23 +99,19 @@ fn check_refusal<C: Check>(rt: &impl Abort, alloc: Global, lines: &TwoLines, row
         let rest = lines.pairs.get(before..).expect(rt, "pairs");
         let fault = feed(rt, &mut fed, rest, &mut sink).err();
         let consumed = stop.wrapping_sub(before);
-        assert_eq!(rt;
-            fault,
-            Some(FeedFault::Sink { consumed }),
-            "up to pair {stop}"
-        );
+        let case = format_args!("up to pair {stop}");
+        same(rt, fault, Some(FeedFault::Sink { consumed }), &case);
         if before == 0 {
-            assert_eq!(rt; sink.refused(), row.refusals, "up to pair {stop}");
-            let told = joined(rt, alloc, row.told);
-            assert_eq!(rt; sink.text.as_str(), told.as_str(), "up to pair {stop}");
+            same(rt, sink.refused(), row.refusals, &case);
+            check_told(rt, alloc, sink.text.as_str(), row.told, &case);
         }
         before = *stop;
     }
     let rest = lines.pairs.get(before..).expect(rt, "pairs");
     feed(rt, &mut fed, rest, &mut sink).expect(rt, "room");
-    let all = joined(rt, alloc, row.all);
-    assert_eq!(rt; sink.text.as_str(), all.as_str());
-    assert!(rt; !sink.lacks);
+    let case = "what is told of all pairs";
+    check_told(rt, alloc, sink.text.as_str(), row.all, case);
+    holds(rt, !sink.lacks, "memory for a text");
     check_unharmed(rt, alloc, &fed, lines);
 }
 
@@ -127,13 +124,28 @@ fn check_unharmed<C: Check>(
 ) {
     let mut one_by_one = analyser::<C>(rt, alloc);
     pushed(rt, alloc, &mut one_by_one, &lines.pairs);
-    assert_eq!(rt; fed.usage(), one_by_one.usage());
-    assert_eq!(rt; fed.ending(), one_by_one.ending());
+    same(
+        rt,
+        fed.usage(),
+        one_by_one.usage(),
+        "the usage after refusals",
+    );
+    same(
+        rt,
+        fed.ending(),
+        one_by_one.ending(),
+        "the ending after refusals",
+    );
     let tally = Counts {
         answered: 1,
         ..NONE
     };
-    assert_eq!(rt; fed.tally(16), tally);
+    same(
+        rt,
+        fed.tally(16),
+        tally,
+        "the tally of station 16 after refusals",
+    );
 }
 
 /// Two reports at one place, where the second is offered also if the first was refused, and one on
@@ -148,7 +160,12 @@ fn refusing_sinks(rt: HostRuntime) {
         "flag reply flag reply flag",
         false,
     );
-    assert_eq!(rt; lines.pairs.len(), 107);
+    same(
+        &rt,
+        lines.pairs.len(),
+        107,
+        "how many pairs the frames have",
+    );
     for row in &PAIR_REFUSALS {
         check_refusal::<BitCheck>(&rt, alloc, &lines, row);
         check_refusal::<OctetCheck>(&rt, alloc, &lines, row);
