@@ -37,13 +37,53 @@ def is_built(made: Path, top: Path, crate: str) -> bool:
     return made.is_file() and made.stat().st_mtime >= newest
 
 
+def library_of(top: Path, crate: str) -> Path:
+    """Where `rt` builds a library of the repository."""
+    return top / "crates" / crate / "out" / "rlib" / f"{crate}.rlib"
+
+
+def are_left_by_gate(top: Path, crates: Sequence[str]) -> bool:
+    """Whether these libraries are such as `rt ci` leaves: as new as their sources, and at least one without a stamp."""
+    libraries = [library_of(top, crate) for crate in crates]
+    has_stamps = all((library.parent / "stamp").is_file() for library in libraries)
+    return not has_stamps and all(is_built(library / "format", top, library.stem) for library in libraries)
+
+
+def words_of_archive(archive: Path, top: Path) -> List[str]:
+    """The command that builds an archive, crates/NAME/out/FILE, in the crate's folder.
+
+    `rt lib` does, and proves the libraries below anew that have no stamp, which takes some ten minutes of a processor.
+    Those that `rt ci` leaves are proved and have none. So `rattle` is given these by the words that `rt` has for them;
+    it proves the crate itself.
+    """
+    crate = archive.parent.parent.name
+    below = crates_of(top, crate)[1:]
+    if not are_left_by_gate(top, below):
+        return ["rt", "lib"]
+    page = subprocess.run(["rt", "doc"], stdout=subprocess.PIPE, check=True, text=True).stdout.strip()
+    kit = Path(page).parent
+    used = {"std": kit / "rlibs" / "std.rlib"}
+    for name in libraries_of(top)[crate]:
+        used[name] = library_of(top, name) if name in below else kit / "rlibs" / f"{name}.rlib"
+    folders = [kit / "rlibs", *(library_of(top, name).parent for name in below)]
+    return [
+        str(kit / "bin" / "rattle"), "build", "--crate-name", crate, "src/lib.rt", "--crate-type", "staticlib",
+        *(word for name, library in used.items() for word in ("--extern", f"{name}={library}")),
+        *(word for folder in folders for word in ("-L", f"dependency={folder}")),
+        "--antt-project", str(kit / "rattle" / "logic" / "antt-project.json"),
+        "--logic-built", str(kit / "logic_built"),
+        "--toolchain", str(kit / "toolchain"), "-o", f"out/{archive.name}",
+    ]
+
+
 def problems_of_build(made: Path, top: Path, words: Sequence[str]) -> List[str]:
     """Builds a file, crates/NAME/out/FILE, by a command in the crate's folder, where it is missing or old."""
     folder = made.parent.parent
     if is_built(made, top, folder.name):
         return []
-    command = " ".join(words)
+    command = " ".join([Path(words[0]).name, *words[1:2]])
     print(f"{made} is missing or old: `{command}` builds it", flush=True)
+    made.parent.mkdir(exist_ok=True)
     ran = subprocess.run(
         words,
         cwd=folder,

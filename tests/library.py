@@ -1,9 +1,9 @@
 """Compiles the header and the examples in C against the C library, and compares what they do with the program.
 
 The archive is crates/port1_c/out/libport1_c.a, found from the program's place. `rt ci` proves the crate and leaves no
-archive, so where it is missing, or older than a source, it is built by `rt lib`, which takes some minutes where nothing
-was kept. All is compiled by `cc` as C99 and by `c++`, and the sources also by the other compilers of COMPILERS that
-are installed. It takes `nm` and `size`, too.
+archive, so where it is missing, or older than a source, it is built, over the libraries that `rt ci` left or else by
+`rt lib`, which takes some minutes where nothing was kept. All is compiled by `cc` as C99 and by `c++`, and the sources
+also by the other compilers of COMPILERS that are installed. It takes `nm` and `size`, too.
 """
 
 import os
@@ -20,7 +20,7 @@ from itertools import zip_longest
 from pathlib import Path
 from typing import Callable, Dict, Iterator, List, NamedTuple, Sequence, Tuple, TypeVar, Union
 
-from built import problems_of_build
+from built import problems_of_build, words_of_archive
 from header import Layout, Sources, results_of_header
 from version import version_of
 
@@ -485,7 +485,7 @@ def results_of_library(program: Path, top: Path = TOP) -> Iterator[Result]:
     yield from results_of_header(top)
     archive = program.parent.parent.parent / "port1_c" / "out" / "libport1_c.a"
     try:
-        problems = problems_of_build(archive, top, ["rt", "lib"])
+        problems = problems_of_build(archive, top, words_of_archive(archive, top))
         yield "library: the archive", problems
         if not problems:
             with tempfile.TemporaryDirectory(prefix="port1-") as folder:
