@@ -5,7 +5,7 @@ use Rattle.std.proofs.lemmas.List.{nil_from_length}
 use Rattle.std.specs.Io.KnownBytes.{Appends}
 use Rattle.bus_bits.specs.Capture.{CaptureOf}
 use Rattle.bus_dictionary.specs.Entry.{FrameType}
-use Rattle.bus_watch.specs.History.{history, tally}
+use Rattle.bus_talk.specs.History.{history, tally}
 use Rattle.bus_watch.specs.Watch.{seen_by}
 use Rattle.bus_capture.specs.Captures.{Form, capture, whole_capture, reports_heard, reports_seen, HasFault}
 use Rattle.bus_text.specs.CheckText.{check_text}

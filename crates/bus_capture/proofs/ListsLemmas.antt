@@ -5,8 +5,8 @@ use Rattle.std.specs.Io.KnownBytes.{Appends}
 use Rattle.bus_bits.specs.Capture.{CaptureOf}
 use Rattle.bus_dictionary.specs.Entry.{FrameType}
 use Rattle.bus_dictionary.specs.Dictionary.{longest_of}
-use Rattle.bus_watch.specs.Seen.{SeenReport, seen}
-use Rattle.bus_watch.specs.Talk.{pending}
+use Rattle.bus_talk.specs.Seen.{SeenReport, seen}
+use Rattle.bus_talk.specs.Talk.{pending}
 use Rattle.bus_watch.specs.Watch.{seen_by}
 use Rattle.bus_capture.specs.Captures.{Form, capture, whole_capture, reports_heard, reports_seen, HasFault}
 use Rattle.bus_text.specs.Given.{printer_of}

@@ -6,7 +6,7 @@ use Rattle.bus_dictionary.specs.Entry.{FrameType}
 use Rattle.bus_text.specs.declared.printer.Printer.{Printer}
 use Rattle.bus_bits.specs.Capture.{CaptureOf, CaptureFault, capped}
 use Rattle.bus_dictionary.specs.Dictionary.{longest_of}
-use Rattle.bus_watch.specs.Seen.{seen}
+use Rattle.bus_talk.specs.Seen.{seen}
 use Rattle.bus_watch.specs.Watch.{seen_by}
 use Rattle.bus_capture.specs.Captures.{unplaced, unplaced_whole, IsSameFault}
 use Rattle.bus_capture.specs.Internal.Taps.{TapView, TapLaws}

@@ -1,7 +1,7 @@
 -- What is seen of more symbols.
 use Rattle.std.proofs.Common.{◌≡◌, ℕ, List, [], ◌∷◌, ◌++◌, sym, ap, ◌∙◌, append_assoc, append-nil}
 use Rattle.bus_dictionary.specs.Entry.{FrameType}
-use Rattle.bus_watch.specs.Seen.{SeenReport, seen}
+use Rattle.bus_talk.specs.Seen.{SeenReport, seen}
 use Rattle.bus_capture.specs.Captures.{Form}
 use Rattle.bus_capture.specs.Internal.Taps.{SeenOn}
 

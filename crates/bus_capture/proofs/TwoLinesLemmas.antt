@@ -6,11 +6,11 @@ use mir.Val.{bool_byte}
 use Rattle.bus_bits.specs.Octet.{bits_of}
 use Rattle.bus_bits.specs.Packed.{packed_pair_capture, packed_pair_whole, pair_body, in_pairs, pair_head_fault}
 use Rattle.bus_bits.proofs.OctetLemmas.{one_bit}
-use Rattle.bus_watch.specs.Heard.{pairs_of, firsts}
-use Rattle.bus_watch.specs.Seen.{SeenReport}
-use Rattle.bus_watch.specs.Shown.{found, found_on}
-use Rattle.bus_watch.specs.declared.finding.Finding.{Finding}
-use Rattle.bus_watch.specs.declared.line.Line.{Line}
+use Rattle.bus_talk.specs.Heard.{pairs_of, firsts}
+use Rattle.bus_talk.specs.Seen.{SeenReport}
+use Rattle.bus_talk.specs.Shown.{found, found_on}
+use Rattle.bus_talk.specs.declared.finding.Finding.{Finding}
+use Rattle.bus_talk.specs.declared.line.Line.{Line}
 use Rattle.bus_text.specs.Summary.{summary_of}
 use Rattle.bus_text.proofs.SummaryLemmas.{summary-more}
 use Rattle.bus_capture.proofs.HeadedLemmas.{whole-bits}

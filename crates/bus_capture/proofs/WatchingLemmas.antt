@@ -8,8 +8,8 @@ use Rattle.std.proofs.Math.Seq.{take-add, drop-append_seam}
 use Rattle.std.proofs.lemmas.List.{take_all, take-append-le, take-append-drop}
 use Rattle.bus_dictionary.specs.Entry.{FrameType}
 use Rattle.bus_dictionary.specs.Dictionary.{longest_of}
-use Rattle.bus_watch.specs.Seen.{SeenReport, seen}
-use Rattle.bus_watch.specs.Talk.{pending}
+use Rattle.bus_talk.specs.Seen.{SeenReport, seen}
+use Rattle.bus_talk.specs.Talk.{pending}
 use Rattle.bus_watch.specs.Watch.{Leads, seen_by}
 use Rattle.bus_text.specs.Listing.{ending_text}
 use Rattle.bus_text.specs.Summary.{summary_of}

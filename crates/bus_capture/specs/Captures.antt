@@ -7,10 +7,10 @@ use Rattle.bus_bits.specs.Packed.{packed_capture, packed_whole, packed_pair_capt
 use Rattle.bus_dictionary.specs.Entry.{FrameType}
 use Rattle.bus_dictionary.specs.Dictionary.{longest_of}
 use Rattle.bus_line.specs.Due as line
-use Rattle.bus_watch.specs.Heard.{Heard, of_line, firsts, seconds, merged}
-use Rattle.bus_watch.specs.Seen.{SeenReport, seen}
-use Rattle.bus_watch.specs.Shown.{begun_span}
-use Rattle.bus_watch.specs.declared.pending.Pending.{Pending}
+use Rattle.bus_talk.specs.Heard.{Heard, of_line, firsts, seconds, merged}
+use Rattle.bus_talk.specs.Seen.{SeenReport, seen}
+use Rattle.bus_talk.specs.Shown.{begun_span}
+use Rattle.bus_talk.specs.declared.pending.Pending.{Pending}
 use Rattle.bus_text.specs.Listing.{Line, ending_lines, pair_ending_lines}
 use Rattle.bus_text.specs.declared.fault.ToolFault.{ToolFault}
 use Rattle.bus_text.specs.declared.fault.ToolFault.TheVariants.{BadMark, Magic, TooMany, PadBits, Trailing, PlaceLimit}

@@ -3,7 +3,7 @@ use Rattle.std.specs.Prelude.{◌≡◌, ℕ, ◌≤◌, List, [], length, Optio
 use Rattle.std.specs.Io.KnownBytes.{Appends, IsAtEnd}
 use Rattle.bus_bits.specs.Capture.{CaptureFault}
 use Rattle.bus_dictionary.specs.Entry.{FrameType}
-use Rattle.bus_watch.specs.History.{history, tally}
+use Rattle.bus_talk.specs.History.{history, tally}
 use Rattle.bus_capture.specs.Captures.{Form, HasFault, IsSameFault, form_of_one, form_of_two, reports_heard}
 use Rattle.bus_capture.specs.Captures.{reports_seen}
 use Rattle.bus_text.specs.CheckText.{check_text}

@@ -4,7 +4,7 @@ use Rattle.std.specs.Prelude.{Err}
 use Rattle.std.specs.Io.KnownBytes.{Appends, IsAtEnd}
 use Rattle.bus_bits.specs.Capture.{CaptureOf, CaptureFault}
 use Rattle.bus_dictionary.specs.Entry.{FrameType}
-use Rattle.bus_watch.specs.Talk.{pending}
+use Rattle.bus_talk.specs.Talk.{pending}
 use Rattle.bus_capture.specs.Captures.{Form, capture, form_of_one, form_of_two, reports_heard, reports_seen}
 use Rattle.bus_capture.specs.Captures.{whole_capture}
 use Rattle.bus_capture.specs.Captures.{IsSameFault, HasFault}

@@ -1,7 +1,7 @@
 //! The report of a check.
 
 ghost use Rattle.std.specs.Prelude.{◌+◌, ◌*◌, ◌++◌, ◌<◌, ◌≤◌, ◌^◌, ℕ, List, Option, MatchResult, OnOk, length};
-ghost use Rattle.bus_watch.specs.History.{history, tally};
+ghost use Rattle.bus_talk.specs.History.{history, tally};
 ghost use Rattle.bus_text.specs.CheckText.{tallies_text, history_text, check_text};
 ghost use Rattle.bus_text.specs.Put.{Cuts};
 ghost use Rattle.bus_text.specs.Pages.{Pages};

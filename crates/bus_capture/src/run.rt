@@ -5,7 +5,7 @@ ghost use Rattle.bus_bits.specs.Limits.{most_places};
 ghost use Rattle.bus_capture.specs.Internal.Watching.{printed};
 ghost use Rattle.std.specs.Prelude.{◌≡◌, ◌+◌, ◌≤◌, ◌<◌, ◌^◌, ◌⊎◌, ℕ, List, [], ◌∷◌, ◌++◌, Option, MatchResult, IfOk};
 ghost use Rattle.std.specs.Prelude.{length};
-ghost use Rattle.bus_watch.specs.Seen.{SeenReport};
+ghost use Rattle.bus_talk.specs.Seen.{SeenReport};
 ghost use Rattle.bus_text.specs.Summary.{summary_of};
 ghost use Rattle.bus_text.specs.Put.{Cuts};
 ghost use Rattle.bus_text.specs.Pages.{Pages};

@@ -8,7 +8,7 @@ ghost use Rattle.bus_line.specs.After.{After, Led};
 ghost use Rattle.bus_line.specs.Due.{due_at};
 ghost use Rattle.bus_line.specs.Shown.{shown};
 ghost use Rattle.bus_watch.specs.After.{IsAfter, Sees, line};
-ghost use Rattle.bus_watch.specs.Seen.{SeenReport, seen_at};
+ghost use Rattle.bus_talk.specs.Seen.{SeenReport, seen_at};
 ghost use Rattle.bus_examples.specs.Live.{closes_for, unanswered_in};
 
 use bus_fcs::Check;

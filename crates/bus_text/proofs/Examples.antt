@@ -8,9 +8,9 @@ use Rattle.bus_fcs.specs.Division.{add, step, divided, remainder}
 use Rattle.bus_fcs.specs.FrameCheck.{ends_inverted, is_good}
 use Rattle.bus_line.specs.Due.{placed}
 use Rattle.bus_dictionary.specs.Entry.{FrameType}
-use Rattle.bus_watch.specs.Heard.{Heard, of_line}
-use Rattle.bus_watch.specs.Seen.{seen}
-use Rattle.bus_watch.specs.History.{tally, history}
+use Rattle.bus_talk.specs.Heard.{Heard, of_line}
+use Rattle.bus_talk.specs.Seen.{seen}
+use Rattle.bus_talk.specs.History.{tally, history}
 use Rattle.bus_text.specs.Listing.{listing, text_of}
 use Rattle.bus_text.specs.CheckText.{check_text, tallies_text}
 use Rattle.bus_text.specs.Summary.{summary_of}

@@ -12,7 +12,7 @@ use crate::number::push_octet_number;
 use crate::places::Places;
 use crate::text::Text;
 use bus_line::{Cause, Event, EventKind, Span};
-use bus_watch::Line;
+use bus_talk::Line;
 
 /// A line of a frame that is shown; the longest is shorter.
 pub(crate) type FrameLine = Text<640>;

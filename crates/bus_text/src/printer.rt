@@ -4,8 +4,8 @@ ghost use Rattle.std.specs.Prelude.{◌≡◌, ◌+◌, ℕ, List, [], ◌∷◌
 ghost use Rattle.std.specs.Option.{option_to_list};
 ghost use Rattle.bus_line.specs.Limits.{most_octets};
 ghost use Rattle.bus_line.specs.Shown.{kind_with};
-ghost use Rattle.bus_watch.specs.Shown.{found_on};
-ghost use Rattle.bus_watch.specs.Seen.{type_of};
+ghost use Rattle.bus_talk.specs.Shown.{found_on};
+ghost use Rattle.bus_talk.specs.Seen.{type_of};
 ghost use Rattle.bus_text.specs.Given.{printer_of};
 ghost use Rattle.bus_text.specs.Kinds.{kind_word};
 ghost use Rattle.bus_text.specs.Listing.{report_kind, report_line, outcome_kind, frame_line, verdict_line, begun_line};
@@ -23,7 +23,7 @@ use crate::page::Page;
 use crate::text::Text;
 use bus_dictionary::{Dictionary, Standing};
 use bus_line::{EventKind, Span};
-use bus_watch::{Ending, Finding, Line, Outcome, PairEnding, Pending, Verdict};
+use bus_talk::{Ending, Finding, Line, Outcome, PairEnding, Pending, Verdict};
 
 /// Puts the lines of what is seen on a page.
 #[derive(Clone, Copy)]

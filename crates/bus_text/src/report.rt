@@ -13,7 +13,7 @@ use crate::page::Page;
 use crate::put::ShortWrite;
 use crate::summary::Summary;
 use crate::text::Text;
-use bus_watch::{Counts, Kept, Line};
+use bus_talk::{Counts, Kept, Line};
 use std::io::Write;
 
 /// Appends a word, a number and the end of the line.

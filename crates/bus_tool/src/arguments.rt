@@ -1,13 +1,17 @@
 //! The command line.
 
+ghost use Rattle.std.specs.Prelude.{◌≡◌, ◌^◌, IfOk};
+ghost use Rattle.bus_serve.specs.Serves.{Grants};
+
 mod help;
 
+use bus_serve::Request;
 use bus_text::{Kind, Options};
 use clap::{Arg, ArgAction, ArgMatches, Command, Error, value_parser};
 use std::alloc::Global;
 
 /// How often a reader is called at most.
-pub const READS: u64 = 1 << 40;
+const READS: u64 = 1 << 40;
 
 /// How many frames the history keeps where only lines are wanted.
 const LISTED_DEPTH: usize = 1;
@@ -15,24 +19,8 @@ const LISTED_DEPTH: usize = 1;
 /// How many frames a check tells at its end, unless it is said.
 const CHECKED_DEPTH: usize = 16;
 
-/// What the program is to do.
-#[derive(Clone, Copy, Debug)]
-pub enum Request<'a> {
-    /// List the capture that is read.
-    List(Options<'a>),
-    /// Check the capture that is read.
-    Check(Options<'a>),
-    /// Show the frame that `hex` has, by the dictionary of a text.
-    Show {
-        dictionary: Option<&'a str>,
-        hex: &'a str,
-    },
-    /// Encode the lines that are read.
-    Encode,
-}
-
 /// Why the words ask for nothing that can be done.
-#[derive(Debug, Drop)]
+#[derive(Drop)]
 pub enum Refusal {
     /// The words are no command line, or ask for a help text.
     Arguments(Error),
@@ -171,7 +159,9 @@ fn whole_command<'a>(alloc: Global) -> Result<Command<'a>, Error> {
 }
 
 /// A listing of a text capture of one line, with every line of text, without a dictionary.
-fn plain_listing<'a>() -> Options<'a> {
+fn plain_listing<'a>() -> Options<'a>
+    ensures { result.reads ≡ 2 ^ 40 }
+{
     Options {
         dictionary: None,
         text: true,
@@ -185,7 +175,9 @@ fn plain_listing<'a>() -> Options<'a> {
     }
 }
 
-fn list_options<'a>(found: &ArgMatches<'a>) -> Result<Options<'a>, Refusal> {
+fn list_options<'a>(found: &ArgMatches<'a>) -> Result<Options<'a>, Refusal>
+    ensures { IfOk result (λ o. o.reads ≡ 2 ^ 40) }
+{
     let kind = match found.get_str("kind") {
         None => None,
         Some(word) => Some(Kind::read(word).ok_or(Refusal::Kind)?),
@@ -202,7 +194,9 @@ fn list_options<'a>(found: &ArgMatches<'a>) -> Result<Options<'a>, Refusal> {
     })
 }
 
-fn check_options<'a>(found: &ArgMatches<'a>) -> Options<'a> {
+fn check_options<'a>(found: &ArgMatches<'a>) -> Options<'a>
+    ensures { result.reads ≡ 2 ^ 40 }
+{
     Options {
         dictionary: found.get_str("dict"),
         text: found.get_flag("bits"),
@@ -224,8 +218,13 @@ fn parse<'a>(alloc: Global, words: &'a [&'a str]) -> Result<ArgMatches<'a>, Erro
 ///
 /// - `Arguments`: what the words have wrong, or a help text, as `clap` tells them.
 /// - `Kind`: no kind of line is named so. The rest of the words was judged before.
-pub fn read_arguments<'a>(alloc: Global, words: &'a [&'a str]) -> Result<Request<'a>, Refusal> {
-    let found = parse(alloc, words).map_err(Refusal::Arguments)?;
+pub fn read_arguments<'a>(alloc: Global, words: &'a [&'a str]) -> Result<Request<'a>, Refusal>
+    ensures { IfOk result (Grants (2 ^ 40)) }
+{
+    let found = match parse(alloc, words) {
+        Ok(found) => found,
+        Err(error) => return Err(Refusal::Arguments(error)),
+    };
     match found.subcommand() {
         Some(("list", listed)) => Ok(Request::List(list_options(listed)?)),
         Some(("check", checked)) => Ok(Request::Check(check_options(checked))),
@@ -234,7 +233,7 @@ pub fn read_arguments<'a>(alloc: Global, words: &'a [&'a str]) -> Result<Request
             // It is there: it is required.
             hex: shown.get_str("hex").unwrap_or(""),
         }),
-        Some(("encode", _)) => Ok(Request::Encode),
+        Some(("encode", _)) => Ok(Request::Encode { reads: READS }),
         _ => Ok(Request::List(plain_listing())),
     }
 }

@@ -1,5 +1,5 @@
 -- More bits lead an analyser on.
-use Rattle.std.proofs.Common.{◌≡◌, ℕ, Bool, List, [], ◌∷◌, ◌++◌, Option, Some, None, sym, ap, ◌∙◌}
+use Rattle.std.proofs.Common.{◌≡◌, Bool, List, [], ◌∷◌, ◌++◌, Option, Some, None, sym, ap, ◌∙◌}
 use Rattle.std.proofs.Common.{subst, append-nil}
 use Rattle.std.specs.Option.{option_to_list}
 use Rattle.std.proofs.lemmas.List.{map-append}
@@ -11,14 +11,14 @@ use Rattle.bus_line.specs.Ledger.{IsLedger as IsLineLedger}
 use Rattle.bus_line.specs.Internal.LineState.{LineState}
 use Rattle.bus_line.specs.After.{Advances, DecideNothing}
 use Rattle.bus_dictionary.specs.Dictionary.{longest_of}
-use Rattle.bus_watch.specs.Heard.{Heard, heard_on, of_line}
-use Rattle.bus_watch.specs.Seen.{SeenReport, seen_of, seen}
-use Rattle.bus_watch.specs.declared.line.Line.{Line}
-use Rattle.bus_watch.specs.Internal.JournalState.{JournalState, Keeps}
+use Rattle.bus_talk.specs.Heard.{Heard, heard_on, of_line}
+use Rattle.bus_talk.specs.Seen.{SeenReport, seen_of, seen}
+use Rattle.bus_talk.specs.declared.line.Line.{Line}
+use Rattle.bus_talk.specs.Journal.{JournalState, Keeps}
 use Rattle.bus_watch.specs.Internal.Hears.{Hears, heard_option}
 use Rattle.bus_watch.specs.After.{AnalyserState, IsAfter, Sees, line, seen_after}
-use Rattle.bus_watch.specs.Ledger.{IsLedger}
-use Rattle.bus_watch.proofs.SeenLemmas.{seen-more}
+use Rattle.bus_talk.specs.Ledger.{IsLedger}
+use Rattle.bus_talk.proofs.SeenLemmas.{seen-more}
 use Rattle.bus_watch.proofs.AnalyserViewLemmas.{octets-moved, steps-moved, heard-octets, heard-steps}
 
 -- bits that decide nothing

@@ -16,16 +16,16 @@ use Rattle.bus_line.specs.declared.event.EventKind.{EventKind}
 use Rattle.bus_line.specs.declared.event.EventKind.TheVariants as event
 use Rattle.bus_dictionary.specs.Entry.{FrameType}
 use Rattle.bus_dictionary.specs.Dictionary.{longest_of}
-use Rattle.bus_watch.specs.Talk.{is_idle, talk, neighbours, verdict_on, verdicts}
-use Rattle.bus_watch.specs.History.{tally, verdicts_of}
-use Rattle.bus_watch.specs.Heard.{Heard, heard_on}
-use Rattle.bus_watch.specs.declared.line.Line.{Line}
-use Rattle.bus_watch.specs.Ledger.{kind_steps, steps, handled, handled_of, copied_of}
-use Rattle.bus_watch.specs.Internal.JournalState.{JournalState, Keeps, HasRoom, IsWhole}
+use Rattle.bus_talk.specs.Talk.{is_idle, talk, neighbours, verdict_on, verdicts}
+use Rattle.bus_talk.specs.History.{tally, verdicts_of}
+use Rattle.bus_talk.specs.Heard.{Heard, heard_on}
+use Rattle.bus_talk.specs.declared.line.Line.{Line}
+use Rattle.bus_talk.specs.Ledger.{kind_steps, steps, handled, handled_of, copied_of}
+use Rattle.bus_talk.specs.Journal.{JournalState, Keeps, HasRoom, IsWhole}
 use Rattle.bus_watch.specs.After.{AnalyserState, IsAfter, line}
-use Rattle.bus_watch.specs.declared.outcome.Outcome.{Outcome}
-use Rattle.bus_watch.specs.declared.outcome.Outcome.TheVariants.{Answered, Late, Missing, Spoilt}
-use Rattle.bus_watch.specs.declared.counts.Counts.{Counts}
+use Rattle.bus_talk.specs.declared.outcome.Outcome.{Outcome}
+use Rattle.bus_talk.specs.declared.outcome.Outcome.TheVariants.{Answered, Late, Missing, Spoilt}
+use Rattle.bus_talk.specs.declared.counts.Counts.{Counts}
 
 length-places : (n : ℕ) → length (places n) ≡ n
 length-places zero = refl

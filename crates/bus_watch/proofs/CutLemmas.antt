@@ -7,13 +7,13 @@ use Rattle.bus_line.specs.Report.{Report, moved}
 use Rattle.bus_line.specs.Due.{reports, placed}
 use Rattle.bus_line.specs.Suffix.{CutAtFlag}
 use Rattle.bus_dictionary.specs.Entry.{FrameType}
-use Rattle.bus_watch.specs.Heard.{Heard, heard_on, of_line}
-use Rattle.bus_watch.specs.Talk.{talk, is_idle, begins, verdict, pending, standing_of}
-use Rattle.bus_watch.specs.Seen.{SeenReport, seen, seen_of, decided, is_stray}
+use Rattle.bus_talk.specs.Heard.{Heard, heard_on, of_line}
+use Rattle.bus_talk.specs.Talk.{talk, is_idle, begins, verdict, pending, standing_of}
+use Rattle.bus_talk.specs.Seen.{SeenReport, seen, seen_of, decided, is_stray}
 use Rattle.bus_watch.specs.Cut.{CutLosesNothing, CutLosesVerdict, FlagLosesNothing}
-use Rattle.bus_watch.specs.declared.verdict.Verdict.{Verdict}
-use Rattle.bus_watch.proofs.SeenLemmas.{seen-more}
-use Rattle.bus_watch.proofs.TalkLemmas.{pending-idle, pending-talk, decided-idle, decided-talk}
+use Rattle.bus_talk.specs.declared.verdict.Verdict.{Verdict}
+use Rattle.bus_talk.proofs.SeenLemmas.{seen-more}
+use Rattle.bus_talk.proofs.TalkLemmas.{pending-idle, pending-talk, decided-idle, decided-talk}
 
 both-cons : {A : Type 0} (x y : A) (xs ys : List A) → x ≡ y → xs ≡ ys → x ∷ xs ≡ y ∷ ys
 both-cons x y xs ys heads tails = rw (heads, tails) refl

@@ -1,6 +1,6 @@
 -- When a run fails.
 use Rattle.std.proofs.Common.{◌≡◌, ℕ, ◌+◌, ◌-◌, ◌≤◌, ◌<◌, ◌^◌, ◌↔◌, ◌⊎◌, Bool, List, [], ◌∷◌, ◌++◌, length, take, drop}
-use Rattle.std.proofs.Common.{Result, Ok, Err, Some, None, Option, refl, sym, ap, ◌∙◌, inl, inr, arith, length-append}
+use Rattle.std.proofs.Common.{Result, Ok, Err, Some, None, refl, sym, ap, ◌∙◌, inl, inr, arith, length-append}
 use Rattle.std.proofs.lemmas.Bool.{cases_lt}
 use Rattle.std.proofs.lemmas.List.{length-map, take-append-drop}
 use Rattle.bus_line.specs.Report.{moved}
@@ -8,9 +8,9 @@ use Rattle.bus_line.specs.Due.{reports, placed}
 use Rattle.bus_line.specs.Laws.{ReportsGrow}
 use Rattle.bus_dictionary.specs.Entry.{FrameType}
 use Rattle.bus_dictionary.specs.Dictionary.{longest_of}
-use Rattle.bus_watch.specs.Sink.{SinkView}
-use Rattle.bus_watch.specs.Heard.{Heard, heard_on, of_line}
-use Rattle.bus_watch.specs.Seen.{SeenReport, heard_in, seen}
+use Rattle.bus_talk.specs.Sink.{SinkView}
+use Rattle.bus_talk.specs.Heard.{Heard, heard_on, of_line}
+use Rattle.bus_talk.specs.Seen.{SeenReport, heard_in, seen}
 use Rattle.bus_watch.specs.Laws.{SeenAreReports}
 use Rattle.bus_watch.specs.Fed.{ForSink}
 use Rattle.bus_watch.specs.Headline.{Fails, StoppedAt, CanBeMade, all_seen}

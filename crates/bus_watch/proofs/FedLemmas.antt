@@ -1,6 +1,6 @@
 -- Feeding some bits, and then more.
 use Rattle.std.proofs.Common.{◌≡◌, ℕ, ◌+◌, ◌-◌, ◌<◌, ◌≤◌, Bool, List, [], ◌∷◌, ◌++◌, length, take, drop, Option, Some}
-use Rattle.std.proofs.Common.{None, Result, Ok, Err, OnOk, OnErr, true, false, refl, sym, ap, ◌∙◌, append_assoc}
+use Rattle.std.proofs.Common.{Result, Ok, Err, OnOk, OnErr, true, false, refl, sym, ap, ◌∙◌, append_assoc}
 use Rattle.std.proofs.Common.{append-nil, arith, length-append, subst}
 use Rattle.std.specs.Option.{option_to_list}
 use Rattle.std.specs.Result.{is_err}
@@ -9,10 +9,10 @@ use Rattle.std.proofs.Math.Seq.{take-append-add}
 use Rattle.bus_bits.specs.Octet.{number, bits_of}
 use Rattle.bus_bits.proofs.OctetLemmas.{bits-number, bits-front}
 use Rattle.bus_fcs.specs.Check.{CheckView}
-use Rattle.bus_watch.specs.Seen.{SeenReport, seen}
+use Rattle.bus_talk.specs.Seen.{SeenReport, seen}
 use Rattle.bus_line.specs.Told.{told}
 use Rattle.bus_line.proofs.ToldLemmas.{told-nil, told-more}
-use Rattle.bus_watch.specs.Sink.{SinkView}
+use Rattle.bus_talk.specs.Sink.{SinkView}
 use Rattle.bus_dictionary.specs.Dictionary.{longest_of}
 use Rattle.bus_watch.specs.Watch.{Watch, Leads, seen_by}
 use Rattle.bus_watch.specs.After.{AnalyserState, IsAfter, Sees, seen_after}

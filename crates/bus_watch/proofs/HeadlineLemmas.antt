@@ -1,6 +1,6 @@
 -- What a whole run comes to.
 use Rattle.std.proofs.Common.{◌≡◌, ℕ, ◌+◌, ◌-◌, ◌*◌, ◌≤◌, ◌<◌, Bool, List, [], ◌∷◌, ◌++◌, length, map, take, drop}
-use Rattle.std.proofs.Common.{get_or, Bor, Option, refl, sym, ap, ◌∙◌, subst, append-nil, arith, length-append}
+use Rattle.std.proofs.Common.{get_or, Bor, refl, sym, ap, ◌∙◌, subst, append-nil, arith, length-append}
 use Rattle.std.proofs.Common.{length-take}
 use Rattle.std.proofs.lemmas.List.{take_more, flat_map_more, take-take, take-append-drop}
 use Rattle.std.proofs.lemmas.Grind.{flat_map-append}
@@ -9,12 +9,12 @@ use Rattle.bus_line.specs.Due.{placed, reports}
 use Rattle.bus_line.specs.Laws.{ReportsAre}
 use Rattle.bus_line.specs.Ledger.{stored_open}
 use Rattle.bus_dictionary.specs.Dictionary.{longest_of}
-use Rattle.bus_watch.specs.Heard.{of_line}
+use Rattle.bus_talk.specs.Heard.{of_line}
 use Rattle.bus_line.specs.Told.{told}
-use Rattle.bus_watch.specs.Sink.{SinkView}
-use Rattle.bus_watch.specs.Seen.{SeenReport, heard_in}
-use Rattle.bus_watch.specs.History.{history}
-use Rattle.bus_watch.specs.Ledger.{IsLedger, total}
+use Rattle.bus_talk.specs.Sink.{SinkView}
+use Rattle.bus_talk.specs.Seen.{SeenReport, heard_in}
+use Rattle.bus_talk.specs.History.{history}
+use Rattle.bus_talk.specs.Ledger.{IsLedger, total}
 use Rattle.bus_watch.specs.Watch.{Watch}
 use Rattle.bus_watch.specs.After.{AnalyserState, IsAfter, line, one_line}
 use Rattle.bus_watch.specs.Laws.{AnyCut, SeenAreReports, Runs, ended, called, joined}

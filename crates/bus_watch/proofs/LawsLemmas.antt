@@ -13,15 +13,15 @@ use Rattle.bus_line.specs.Laws.{OneMore, DueIsIt}
 use Rattle.bus_line.specs.Due.{placed, reports, due_at}
 use Rattle.bus_dictionary.specs.Entry.{FrameType}
 use Rattle.bus_dictionary.specs.Dictionary.{longest_of}
-use Rattle.bus_watch.specs.Talk.{verdicts}
-use Rattle.bus_watch.specs.Heard.{Heard, heard_on, of_line}
-use Rattle.bus_watch.specs.Seen.{SeenReport, heard_in, decided, seen_of, seen, seen_at}
+use Rattle.bus_talk.specs.Talk.{verdicts}
+use Rattle.bus_talk.specs.Heard.{Heard, heard_on, of_line}
+use Rattle.bus_talk.specs.Seen.{SeenReport, heard_in, decided, seen_of, seen, seen_at}
 use Rattle.bus_watch.specs.After.{AnalyserState, IsAfter, line, seen_after}
 use Rattle.bus_watch.specs.Laws.{SeenGrows}
-use Rattle.bus_watch.proofs.TalkLemmas.{verdicts-more}
-use Rattle.bus_watch.specs.declared.verdict.Verdict.{Verdict}
-use Rattle.bus_watch.proofs.LedgerLemmas.{DueBelow}
-use Rattle.bus_watch.proofs.SeenLemmas.{seen-more}
+use Rattle.bus_talk.proofs.TalkLemmas.{verdicts-more}
+use Rattle.bus_talk.specs.declared.verdict.Verdict.{Verdict}
+use Rattle.bus_talk.proofs.LedgerLemmas.{DueBelow}
+use Rattle.bus_talk.proofs.SeenLemmas.{seen-more}
 use Rattle.bus_line.proofs.DueMoreLemmas.{map-option}
 
 -- what holds of no reports, and stays with one more, holds of all

@@ -1,13 +1,7 @@
-pub mod TalkLemmas
-pub mod JournalStateLemmas
-pub mod HistoryLemmas
-pub mod SeenLemmas
 pub mod CutLemmas
 pub mod AnalyserViewLemmas
 pub mod AfterLemmas
-pub mod LedgerLemmas
 pub mod LawsLemmas
-pub mod SinkLemmas
 pub mod FedLemmas
 pub mod HeadlineLemmas
 pub mod FailLemmas
@@ -18,5 +12,3 @@ pub mod PairScanLemmas
 pub mod OrderLemmas
 pub mod PairFedLemmas
 pub mod PairHeadlineLemmas
-mod Examples
-pub mod PairingLemmas

@@ -1,6 +1,6 @@
 -- Feeding pairs of bits, and what a sink refused of what is seen at one place.
 use Rattle.std.proofs.Common.{◌≡◌, ℕ, ◌+◌, ◌-◌, ◌*◌, ◌%◌, ◌^◌, ◌<◌, ◌≤◌, Bool, List, [], ◌∷◌, ◌++◌, length, take, zip}
-use Rattle.std.proofs.Common.{Option, Result, Ok, Err, OnOk, OnErr, refl, sym, ap, ◌∙◌, append_assoc, append-nil, arith}
+use Rattle.std.proofs.Common.{Result, Ok, Err, OnOk, OnErr, refl, sym, ap, ◌∙◌, append_assoc, append-nil, arith}
 use Rattle.std.proofs.Common.{length-append, subst, true, false}
 use Rattle.std.specs.Prelude.{bit_or}
 use Rattle.std.specs.List.{take-map}
@@ -9,13 +9,13 @@ use Rattle.std.proofs.lemmas.Nat.{shl_whole}
 use mir.Val.{bool_byte}
 use Rattle.bus_bits.specs.Octet.{number, bits_of}
 use Rattle.bus_bits.proofs.OctetLemmas.{number-lt, number-append}
-use Rattle.bus_watch.specs.Heard.{firsts, seconds, pairs_of}
-use Rattle.bus_watch.specs.Seen.{SeenReport}
+use Rattle.bus_talk.specs.Heard.{firsts, seconds, pairs_of}
+use Rattle.bus_talk.specs.Seen.{SeenReport}
 use Rattle.bus_line.specs.Told.{told}
-use Rattle.bus_watch.specs.Sink.{SinkView, SinkTook}
+use Rattle.bus_talk.specs.Sink.{SinkView, SinkTook}
 use Rattle.bus_watch.specs.Watch.{Watch, Leads, seen_by}
 use Rattle.bus_watch.specs.Fed.{FedBy, RefusedBy, Lacks, none, took, refused, Offered}
-use Rattle.bus_watch.proofs.SinkLemmas.{took-none, took-more}
+use Rattle.bus_talk.proofs.SinkLemmas.{took-none, took-more}
 use Rattle.bus_watch.proofs.MergedLemmas.{length-firsts, length-seconds}
 use Rattle.bus_line.proofs.ToldLemmas.{told-nil, told-more}
 use Rattle.bus_watch.proofs.FedLemmas.{word-front, leads-more, front-more}

@@ -1,5 +1,5 @@
 -- What a whole run over two lines comes to.
-use Rattle.std.proofs.Common.{◌≡◌, ℕ, ◌+◌, ◌-◌, ◌*◌, ◌≤◌, Bool, List, [], ◌∷◌, ◌++◌, length, map, take, Option, sym, ap}
+use Rattle.std.proofs.Common.{◌≡◌, ℕ, ◌+◌, ◌-◌, ◌*◌, ◌≤◌, Bool, List, [], ◌∷◌, ◌++◌, length, map, take, sym, ap}
 use Rattle.std.proofs.Common.{◌∙◌, subst, append-nil, arith, length-take}
 use Rattle.std.proofs.lemmas.List.{take-take}
 use Rattle.bus_fcs.specs.Check.{CheckView}
@@ -7,17 +7,17 @@ use Rattle.bus_line.specs.Due.{reports}
 use Rattle.bus_line.specs.Laws.{ReportsAre}
 use Rattle.bus_line.specs.Ledger.{stored_open}
 use Rattle.bus_dictionary.specs.Dictionary.{longest_of}
-use Rattle.bus_watch.specs.Heard.{firsts, seconds, merged, of_side}
-use Rattle.bus_watch.specs.History.{history}
-use Rattle.bus_watch.specs.Seen.{SeenReport, heard_in}
-use Rattle.bus_watch.specs.declared.line.Line.TheVariants.{First, Second}
-use Rattle.bus_watch.specs.Ledger.{IsPairLedger, total}
+use Rattle.bus_talk.specs.Heard.{firsts, seconds, merged, of_side}
+use Rattle.bus_talk.specs.History.{history}
+use Rattle.bus_talk.specs.Seen.{heard_in}
+use Rattle.bus_talk.specs.declared.line.Line.TheVariants.{First, Second}
+use Rattle.bus_talk.specs.Ledger.{IsPairLedger, total}
 use Rattle.bus_watch.specs.Pairs.{PairState, IsAfterPairs, two_lines, lines}
 use Rattle.bus_watch.specs.Laws.{AnyCutOfPairs, SeenAreReports, MergedIsMerged, joined, ended, called}
 use Rattle.bus_watch.specs.PairHeadline.{PairHeadline, StoppedAtPair, WholePairRun, all_seen_on_both}
 use Rattle.bus_watch.specs.Fed.{FedBy, RefusedByAt}
 use Rattle.bus_line.specs.Told.{told}
-use Rattle.bus_watch.specs.Sink.{SinkView}
+use Rattle.bus_talk.specs.Sink.{SinkView}
 use Rattle.bus_watch.specs.declared.pair.usage.PairUsage.{PairUsage}
 use Rattle.bus_watch.proofs.FedLemmas.{same-seen}
 use Rattle.bus_watch.proofs.HeadlineLemmas.{runs-alike}

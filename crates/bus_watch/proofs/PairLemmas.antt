@@ -24,21 +24,21 @@ use Rattle.bus_line.specs.Internal.LineState.{LineState}
 use Rattle.bus_line.specs.After.{TakesTo}
 use Rattle.bus_dictionary.specs.Entry.{FrameType}
 use Rattle.bus_dictionary.specs.Dictionary.{longest_of}
-use Rattle.bus_watch.specs.Heard.{Heard, heard_on, firsts, seconds, pairs_of, heard_at, merged}
-use Rattle.bus_watch.specs.Seen.{SeenReport, heard_in, seen, all_seen_at}
-use Rattle.bus_watch.specs.Internal.JournalState.{JournalState, HasRoom}
+use Rattle.bus_talk.specs.Heard.{Heard, heard_on, firsts, seconds, pairs_of, heard_at, merged}
+use Rattle.bus_talk.specs.Seen.{SeenReport, heard_in, seen, all_seen_at}
+use Rattle.bus_talk.specs.Journal.{JournalState, HasRoom}
 use Rattle.bus_watch.specs.Internal.Hears.{Hears, heard_option}
-use Rattle.bus_watch.specs.Ledger.{steps, handled, handled_of, copied_of, total, plus, IsLedger, IsPairLedger}
+use Rattle.bus_talk.specs.Ledger.{steps, handled, handled_of, copied_of, total, plus, IsLedger, IsPairLedger}
 use Rattle.bus_watch.specs.Pairs.{PairState, IsAfterPairs, TakesPairsTo, lines, seen_after_pairs}
 use Rattle.bus_watch.specs.Laws.{PairsGrow, StepsWithinFour, StepsWithinThree}
-use Rattle.bus_watch.specs.declared.line.Line.{Line}
-use Rattle.bus_watch.specs.declared.line.Line.TheVariants.{First, Second}
+use Rattle.bus_talk.specs.declared.line.Line.{Line}
+use Rattle.bus_talk.specs.declared.line.Line.TheVariants.{First, Second}
 use Rattle.bus_watch.proofs.MergedLemmas.{added, merged-more, merged-adds, of_one, length-firsts, length-seconds}
 use Rattle.bus_watch.proofs.AnalyserViewLemmas.{room-of, heard-octets, heard-steps, octets-moved, steps-moved}
 use Rattle.bus_watch.proofs.AnalyserViewLemmas.{line-length}
-use Rattle.bus_watch.proofs.LedgerLemmas.{cost-within}
+use Rattle.bus_talk.proofs.LedgerLemmas.{cost-within}
 use Rattle.bus_watch.proofs.LawsLemmas.{seen-reports, due-moved}
-use Rattle.bus_watch.proofs.SeenLemmas.{seen-more}
+use Rattle.bus_talk.proofs.SeenLemmas.{seen-more}
 
 -- the bits of pairs that were made of two lists
 pub firsts-zip : (b c : List Bool) → length b ≡ length c → firsts (zip b c) ≡ b

@@ -18,16 +18,16 @@ use Rattle.bus_line.specs.Ledger.{octet_count}
 use Rattle.bus_line.specs.Internal.LineState.{LineState}
 use Rattle.bus_line.specs.After.{After, DecideNothing}
 use Rattle.bus_dictionary.specs.Dictionary.{longest_of}
-use Rattle.bus_watch.specs.Heard.{Heard, heard_on, firsts, seconds, pairs_of, merged}
-use Rattle.bus_watch.specs.Seen.{SeenReport, seen}
-use Rattle.bus_watch.specs.Ledger.{copied_of}
-use Rattle.bus_watch.specs.Internal.JournalState.{JournalState, Keeps, HasRoom}
+use Rattle.bus_talk.specs.Heard.{Heard, heard_on, firsts, seconds, pairs_of, merged}
+use Rattle.bus_talk.specs.Seen.{SeenReport, seen}
+use Rattle.bus_talk.specs.Ledger.{copied_of}
+use Rattle.bus_talk.specs.Journal.{JournalState, Keeps, HasRoom}
 use Rattle.bus_watch.specs.Internal.Hears.{Hears, HearsMany, Reaches, heard_option}
 use Rattle.bus_watch.specs.Pairs.{PairState, IsAfterPairs, SeesPairs, lines, seen_after_pairs, two_lines}
 use Rattle.bus_watch.specs.Watch.{LeadsTold, Watch}
 use Rattle.bus_watch.proofs.FedLemmas.{leads-more, leads-nil}
-use Rattle.bus_watch.specs.declared.line.Line.{Line}
-use Rattle.bus_watch.specs.declared.line.Line.TheVariants.{First, Second}
+use Rattle.bus_talk.specs.declared.line.Line.{Line}
+use Rattle.bus_talk.specs.declared.line.Line.TheVariants.{First, Second}
 use Rattle.bus_watch.proofs.MergedLemmas.{firsts-append, length-firsts, length-seconds, merged-adds, merged-led}
 use Rattle.bus_watch.proofs.MergedLemmas.{merged-quiet, seconds-append}
 use Rattle.bus_watch.proofs.AnalyserViewLemmas.{heard-octets, line-length, octets-moved, room-of}

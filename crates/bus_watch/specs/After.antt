@@ -1,17 +1,17 @@
 -- The lists of bits after which an analyser may stand, and what more bits do.
-use Rattle.std.specs.Prelude.{◌≡◌, ℕ, Bool, List, Option}
+use Rattle.std.specs.Prelude.{◌≡◌, Bool, List, Option}
 use Rattle.std.specs.Option.{option_map, option_to_list}
 use Rattle.bus_fcs.specs.Check.{CheckView}
 use Rattle.bus_line.specs.Due.{placed}
 use Rattle.bus_line.specs.Internal.LineState.{LineState}
 use Rattle.bus_line.specs.After.{After}
 use Rattle.bus_dictionary.specs.Dictionary.{longest_of}
-use Rattle.bus_watch.specs.declared.finding.Finding.{Finding}
-use Rattle.bus_watch.specs.Heard.{Heard, of_line}
-use Rattle.bus_watch.specs.Seen.{SeenReport, seen}
-use Rattle.bus_watch.specs.Shown.{found}
+use Rattle.bus_talk.specs.declared.finding.Finding.{Finding}
+use Rattle.bus_talk.specs.Heard.{Heard, of_line}
+use Rattle.bus_talk.specs.Seen.{SeenReport, seen}
+use Rattle.bus_talk.specs.Shown.{found}
 use Rattle.bus_watch.specs.Watch.{Watch, Leads}
-use Rattle.bus_watch.specs.Internal.JournalState.{JournalState, Keeps}
+use Rattle.bus_talk.specs.Journal.{JournalState, Keeps}
 
 -- what contracts see of an analyser
 pub record AnalyserState (C : Type 0) : Type 0 where

@@ -3,9 +3,9 @@ use Rattle.std.specs.Prelude.{◌≡◌, ℕ, ◌+◌, Bool, false, List, [], �
 use Rattle.bus_line.specs.Mark.{flag}
 use Rattle.bus_line.specs.Due.{placed}
 use Rattle.bus_dictionary.specs.Entry.{FrameType}
-use Rattle.bus_watch.specs.Heard.{Heard, of_line}
-use Rattle.bus_watch.specs.Talk.{talk, is_idle, begins, verdict, pending}
-use Rattle.bus_watch.specs.Seen.{SeenReport, seen, seen_of}
+use Rattle.bus_talk.specs.Heard.{Heard, of_line}
+use Rattle.bus_talk.specs.Talk.{talk, is_idle, begins, verdict, pending}
+use Rattle.bus_talk.specs.Seen.{SeenReport, seen, seen_of}
 
 -- where no command waits, nothing
 abbrev pub CutLosesNothing : Type 0

@@ -1,6 +1,5 @@
 -- The headline: what a whole run comes to, from a new analyser on.
 use Rattle.std.specs.Prelude.{◌≡◌, ℕ, ◌+◌, ◌-◌, ◌*◌, ◌≤◌, ◌<◌, ◌⊎◌, Bool, List, [], ◌∷◌, ◌++◌, length, map, take}
-use Rattle.std.specs.Prelude.{Option}
 use Rattle.std.specs.Borrow.{Bor}
 use Rattle.std.specs.List.{flat_map}
 use Rattle.bus_bits.specs.Limits.{most_places}
@@ -10,12 +9,12 @@ use Rattle.bus_line.specs.Ledger.{stored_open}
 use Rattle.bus_line.specs.Report.{Report, AreReports, moved}
 use Rattle.bus_dictionary.specs.Entry.{FrameType}
 use Rattle.bus_dictionary.specs.Dictionary.{longest_of}
-use Rattle.bus_watch.specs.Heard.{of_line}
-use Rattle.bus_watch.specs.Seen.{SeenReport, heard_in, seen}
-use Rattle.bus_watch.specs.History.{KeptFrame, history}
-use Rattle.bus_watch.specs.Ledger.{IsLedger, total}
+use Rattle.bus_talk.specs.Heard.{of_line}
+use Rattle.bus_talk.specs.Seen.{SeenReport, heard_in, seen}
+use Rattle.bus_talk.specs.History.{KeptFrame, history}
+use Rattle.bus_talk.specs.Ledger.{IsLedger, total}
 use Rattle.bus_line.specs.Told.{told}
-use Rattle.bus_watch.specs.Sink.{SinkView}
+use Rattle.bus_talk.specs.Sink.{SinkView}
 use Rattle.bus_watch.specs.After.{AnalyserState, IsAfter, one_line}
 use Rattle.bus_watch.specs.Laws.{joined, Runs}
 use Rattle.bus_watch.specs.declared.usage.Usage.{Usage}

@@ -1,9 +1,4 @@
 -- What proofs and private functions speak of: the state behind a contract, and what holds of it between two steps.
-pub mod Counted
-pub mod JournalState
 pub mod Hears
 pub mod AnalyserView
 pub mod PairView
-pub mod LogView
-pub mod HistoryState
-pub mod HistoryView

@@ -9,14 +9,14 @@ use Rattle.bus_line.specs.Report.{Report, Frame, due}
 use Rattle.bus_line.specs.Due.{placed, due_at}
 use Rattle.bus_line.specs.Ledger.{octet_count}
 use Rattle.bus_dictionary.specs.Entry.{FrameType}
-use Rattle.bus_watch.specs.Talk.{verdicts}
-use Rattle.bus_watch.specs.Heard.{Heard, of_line, firsts, seconds, merged, of_side}
-use Rattle.bus_watch.specs.Seen.{SeenReport, heard_in, seen, seen_at, all_seen_at}
-use Rattle.bus_watch.specs.Ledger.{IsLedger, IsPairLedger, total}
+use Rattle.bus_talk.specs.Talk.{verdicts}
+use Rattle.bus_talk.specs.Heard.{Heard, of_line, firsts, seconds, merged, of_side}
+use Rattle.bus_talk.specs.Seen.{SeenReport, heard_in, seen, seen_at, all_seen_at}
+use Rattle.bus_talk.specs.Ledger.{IsLedger, IsPairLedger, total}
 use Rattle.bus_watch.specs.Watch.{Watch, Leads, seen_by}
 use Rattle.bus_watch.specs.After.{one_line}
 use Rattle.bus_watch.specs.Pairs.{two_lines}
-use Rattle.bus_watch.specs.declared.line.Line.TheVariants.{First, Second}
+use Rattle.bus_talk.specs.declared.line.Line.TheVariants.{First, Second}
 
 -- one bit more adds what is seen at it, if it decides a report
 abbrev pub SeenGrows : Type 0

@@ -1,20 +1,20 @@
 -- The headline for two lines: what a whole run comes to, from a new analyser on.
-use Rattle.std.specs.Prelude.{◌≡◌, ℕ, ◌+◌, ◌-◌, ◌*◌, ◌≤◌, ◌<◌, Bool, List, [], ◌++◌, length, map, take, Option}
+use Rattle.std.specs.Prelude.{◌≡◌, ℕ, ◌+◌, ◌-◌, ◌*◌, ◌≤◌, ◌<◌, Bool, List, [], ◌++◌, length, map, take}
 use Rattle.bus_fcs.specs.Check.{CheckView}
 use Rattle.bus_line.specs.Ledger.{stored_open}
 use Rattle.bus_line.specs.Report.{Report, AreReports, moved}
 use Rattle.bus_dictionary.specs.Entry.{FrameType}
 use Rattle.bus_dictionary.specs.Dictionary.{longest_of}
-use Rattle.bus_watch.specs.Heard.{firsts, seconds, merged, of_side}
-use Rattle.bus_watch.specs.Seen.{SeenReport, heard_in, seen}
+use Rattle.bus_talk.specs.Heard.{firsts, seconds, merged, of_side}
+use Rattle.bus_talk.specs.Seen.{SeenReport, heard_in, seen}
 use Rattle.bus_watch.specs.Fed.{Lacks}
-use Rattle.bus_watch.specs.History.{KeptFrame, history}
-use Rattle.bus_watch.specs.Ledger.{IsPairLedger, total}
+use Rattle.bus_talk.specs.History.{KeptFrame, history}
+use Rattle.bus_talk.specs.Ledger.{IsPairLedger, total}
 use Rattle.bus_line.specs.Told.{told}
-use Rattle.bus_watch.specs.Sink.{SinkView}
+use Rattle.bus_talk.specs.Sink.{SinkView}
 use Rattle.bus_watch.specs.Pairs.{PairState, IsAfterPairs, two_lines}
 use Rattle.bus_watch.specs.Laws.{joined, Runs}
-use Rattle.bus_watch.specs.declared.line.Line.TheVariants.{First, Second}
+use Rattle.bus_talk.specs.declared.line.Line.TheVariants.{First, Second}
 use Rattle.bus_watch.specs.declared.pair.usage.PairUsage.{PairUsage}
 
 -- what is seen of these pairs, the first of which has the place `origin`, by the dictionary d

@@ -6,14 +6,14 @@ use Rattle.bus_line.specs.Decides.{MayDecideAt}
 use Rattle.bus_line.specs.Internal.LineState.{LineState}
 use Rattle.bus_line.specs.After.{After}
 use Rattle.bus_dictionary.specs.Dictionary.{longest_of}
-use Rattle.bus_watch.specs.Heard.{Heard, firsts, seconds, merged}
-use Rattle.bus_watch.specs.Seen.{SeenReport, seen}
-use Rattle.bus_watch.specs.Shown.{found_on}
+use Rattle.bus_talk.specs.Heard.{Heard, firsts, seconds, merged}
+use Rattle.bus_talk.specs.Seen.{SeenReport, seen}
+use Rattle.bus_talk.specs.Shown.{found_on}
 use Rattle.bus_watch.specs.Watch.{Watch, Leads}
-use Rattle.bus_watch.specs.Internal.JournalState.{JournalState, Keeps}
-use Rattle.bus_watch.specs.declared.finding.Finding.{Finding}
-use Rattle.bus_watch.specs.declared.line.Line.{Line}
-use Rattle.bus_watch.specs.declared.line.Line.TheVariants.{First, Second}
+use Rattle.bus_talk.specs.Journal.{JournalState, Keeps}
+use Rattle.bus_talk.specs.declared.finding.Finding.{Finding}
+use Rattle.bus_talk.specs.declared.line.Line.{Line}
+use Rattle.bus_talk.specs.declared.line.Line.TheVariants.{First, Second}
 
 -- what contracts see of an analyser of two lines
 pub record PairState (C : Type 0) : Type 0 where

@@ -2,8 +2,8 @@
 use Rattle.std.specs.Prelude.{◌≡◌, ℕ, ◌+◌, ◌*◌, ◌≤◌, List, ◌++◌, length}
 use Rattle.bus_dictionary.specs.Entry.{FrameType}
 use Rattle.bus_dictionary.specs.Dictionary.{longest_of}
-use Rattle.bus_watch.specs.Heard.{Heard}
-use Rattle.bus_watch.specs.Seen.{SeenReport, seen}
+use Rattle.bus_talk.specs.Heard.{Heard}
+use Rattle.bus_talk.specs.Seen.{SeenReport, seen}
 
 -- of analysers A that take X: after which lists one may stand, what it was given, the place of the next X, and what is
 -- heard of a list by an origin and a longest frame

@@ -14,21 +14,16 @@ ghost use Rattle.bus_bits.specs.Bits.{bits_from};
 ghost use Rattle.bus_bits.specs.Octet.{bits_of};
 ghost use Rattle.bus_dictionary.specs.Dictionary.{longest_of};
 
-use crate::counts::Counts;
-use crate::ending::Ending;
 use crate::fault::NewFault;
 use crate::feed::PLACES;
-use crate::finding::Finding;
 use crate::hear::{begun_span, fresh, hear, hear_octets};
-use crate::journal::Journal;
-use crate::kept::Kept;
 use crate::laws::{seen_grows, steps_are_bounded};
-use crate::seen::Seen;
 use bus_bits::Spent;
 use bus_dictionary::Dictionary;
 use bus_fcs::Check;
 use bus_line::laws::settled_places;
 use bus_line::{LineDecoder, LineFault, PlaceLimit};
+use bus_talk::{Counts, Ending, Finding, Journal, Kept, Seen};
 use std::alloc::Global;
 use std::marker::Model;
 
@@ -59,11 +54,11 @@ impl<C: Check> Model for Analyser<C> {
 impl<C: Check> Analyser<C> {
     ghost use Rattle.bus_watch.specs.contracts.analyser.Analyser.{the_row};
     ghost use Rattle.bus_watch.specs.After.{IsAfter, Sees, heard, line, seen_after};
-    ghost use Rattle.bus_watch.specs.Seen.{seen_at};
-    ghost use Rattle.bus_watch.specs.Shown.{shown_option, found, kept_option, begun_span, IsKeepable};
-    ghost use Rattle.bus_watch.specs.History.{history, tally};
-    ghost use Rattle.bus_watch.specs.Talk.{pending};
-    ghost use Rattle.bus_watch.specs.Ledger.{IsLedger, total};
+    ghost use Rattle.bus_talk.specs.Seen.{seen_at};
+    ghost use Rattle.bus_talk.specs.Shown.{shown_option, found, kept_option, begun_span, IsKeepable};
+    ghost use Rattle.bus_talk.specs.History.{history, tally};
+    ghost use Rattle.bus_talk.specs.Talk.{pending};
+    ghost use Rattle.bus_talk.specs.Ledger.{IsLedger, total};
 
     /// An analyser that took no bit, whose first bit has the place `origin`.
     ///

@@ -8,16 +8,14 @@ ghost use Rattle.bus_bits.specs.Octet.{bits_of};
 ghost use Rattle.bus_bits.specs.Word.{IsWordOf};
 ghost use Rattle.bus_line.specs.After.{After, TakesTo};
 ghost use Rattle.bus_watch.specs.Internal.Hears.{fresh, Hears, Reached, told_on};
-ghost use Rattle.bus_watch.specs.Internal.JournalState.{journal_state, HasRoom};
-ghost use Rattle.bus_watch.specs.Shown.{begun_span};
+ghost use Rattle.bus_talk.specs.Journal.{HasRoom};
+ghost use Rattle.bus_talk.specs.Shown.{begun_span};
 
-use crate::finding::Finding;
-use crate::journal::Journal;
-use crate::line::Line;
 use bus_bits::Span;
 use bus_fcs::Check;
 use bus_line::laws::{frame_is_spelled, reports_are};
 use bus_line::{LineDecoder, PlaceLimit};
+use bus_talk::{Finding, Journal, Line};
 
 /// What a line took in at once.
 #[derive(Clone, Copy)]
@@ -41,14 +39,14 @@ pub(crate) fn hear<C: Check>(
 ) -> Result<Intake<u32>, PlaceLimit>
     requires word { IsWordOf count bits }
     requires reached { Reached C.check decoder.old }
-    requires room { decoder.old.place + count ≤ most_places → HasRoom (journal_state journal.old) }
+    requires room { decoder.old.place + count ≤ most_places → HasRoom journal.old }
     ensures limit { IsErr result ↔ (most_places < decoder.old.place + count) }
     ensures within { IfOk result (λ t. (1 ≤ t.count) × (t.count ≤ count)) }
     ensures stops { IfOk result (λ t. (b : List Bool) → After C.check decoder.old b →
         TakesTo b (bits_of count bits) t.count) }
-    ensures hears { IfOk result (λ t. Hears C.check line decoder.old (journal_state journal.old)
+    ensures hears { IfOk result (λ t. Hears C.check line decoder.old journal.old
         (bits_of t.count bits) (told_on line decoder.new.octets t.is_decided journal.new.last)
-        decoder.new (journal_state journal.new)) }
+        decoder.new journal.new) }
     ensures unchanged { OnErr result ((decoder.new ≡ decoder.old) × (journal.new ≡ journal.old)) }
 {
     let taken = decoder.take(bits, count)?;
@@ -77,15 +75,15 @@ pub(crate) fn hear_octets<C: Check>(
     requires some { at < end }
     requires enough { end ≤ 8 * length octets.now }
     requires reached { Reached C.check decoder.old }
-    requires room { decoder.old.place < most_places → HasRoom (journal_state journal.old) }
+    requires room { decoder.old.place < most_places → HasRoom journal.old }
     ensures limit { IsErr result ↔ (most_places ≤ decoder.old.place) }
     ensures within { IfOk result (λ t. (1 ≤ t.count) × (t.count ≤ end - at)) }
     ensures fits { IfOk result (λ t. decoder.old.place + t.count ≤ most_places) }
     ensures all { IfOk result (λ t. t.count < end - at →
         (decoder.new.place ≡ most_places) ⊎ (fresh t.is_decided journal.new.last ≢ None)) }
-    ensures hears { IfOk result (λ t. Hears C.check line decoder.old (journal_state journal.old)
+    ensures hears { IfOk result (λ t. Hears C.check line decoder.old journal.old
         (bits_from octets.now at t.count) (told_on line decoder.new.octets t.is_decided journal.new.last)
-        decoder.new (journal_state journal.new)) }
+        decoder.new journal.new) }
     ensures unchanged { OnErr result ((decoder.new ≡ decoder.old) × (journal.new ≡ journal.old)) }
 {
     let scanned = decoder.scan(octets, at, end)?;

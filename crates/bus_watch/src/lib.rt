@@ -14,50 +14,22 @@
 #![tactic(auto)]
 
 mod analyser;
-mod counts;
-mod ending;
 mod fault;
 mod feed;
 mod feed_all;
-mod finding;
 mod hear;
-mod history;
-mod journal;
-mod kept;
 pub mod laws;
-mod line;
-mod logged_report;
-mod outcome;
 mod pair;
-mod pairing;
-mod pending;
-mod report_log;
-mod report_sink;
 mod run;
-mod seen;
 mod usage;
-mod verdict;
 
 pub use analyser::Analyser;
-pub use bus_bits::Span;
-pub use bus_line::SinkRefused;
-pub use counts::Counts;
-pub use ending::Ending;
-pub use fault::{FeedFault, NewFault, RunFault};
-pub use finding::Finding;
-pub use kept::Kept;
-pub use line::Line;
-pub use logged_report::{LoggedPiece, LoggedReport};
-pub use outcome::Outcome;
-pub use pair::{
-    PairAnalyser, PairEnding, PairKept, PairListener, PairLog, PairLogged, PairRun, PairSeen,
-    PairSink, PairUsage, run_pairs,
+pub use bus_talk::{
+    Counts, Ending, Finding, Kept, Line, LoggedPiece, LoggedReport, Outcome, PairEnding, PairKept,
+    PairLog, PairLogged, PairSink, Pairing, Pending, ReportLog, ReportSink, Seen, SinkRefused,
+    Span, Verdict,
 };
-pub use pairing::Pairing;
-pub use pending::Pending;
-pub use report_log::ReportLog;
-pub use report_sink::ReportSink;
+pub use fault::{FeedFault, NewFault, RunFault};
+pub use pair::{PairAnalyser, PairListener, PairRun, PairSeen, PairUsage, run_pairs};
 pub use run::{Run, reports_of, run_all};
-pub use seen::Seen;
 pub use usage::Usage;
-pub use verdict::Verdict;

@@ -6,15 +6,15 @@ use Rattle.bus_dictionary.specs.Entry.{FrameType}
 use Rattle.bus_dictionary.specs.declared.rules.Rule.{Rule}
 use Rattle.bus_dictionary.specs.declared.standing.Standing.{Standing}
 use Rattle.bus_dictionary.specs.declared.standing.Standing.TheVariants as standing
-use Rattle.bus_watch.specs.Heard.{Heard}
-use Rattle.bus_watch.specs.Seen.{SeenReport}
-use Rattle.bus_watch.specs.Talk.{pending}
-use Rattle.bus_watch.specs.declared.line.Line.{Line}
-use Rattle.bus_watch.specs.declared.line.Line.TheVariants.{First, Second}
-use Rattle.bus_watch.specs.declared.outcome.Outcome.{Outcome}
-use Rattle.bus_watch.specs.declared.outcome.Outcome.TheVariants.{Answered, Late, Missing, Spoilt}
-use Rattle.bus_watch.specs.declared.pending.Pending.{Pending}
-use Rattle.bus_watch.specs.declared.verdict.Verdict.{Verdict}
+use Rattle.bus_talk.specs.Heard.{Heard}
+use Rattle.bus_talk.specs.Seen.{SeenReport}
+use Rattle.bus_talk.specs.Talk.{pending}
+use Rattle.bus_talk.specs.declared.line.Line.{Line}
+use Rattle.bus_talk.specs.declared.line.Line.TheVariants.{First, Second}
+use Rattle.bus_talk.specs.declared.outcome.Outcome.{Outcome}
+use Rattle.bus_talk.specs.declared.outcome.Outcome.TheVariants.{Answered, Late, Missing, Spoilt}
+use Rattle.bus_talk.specs.declared.pending.Pending.{Pending}
+use Rattle.bus_talk.specs.declared.verdict.Verdict.{Verdict}
 use Rattle.port1_c.specs.Line.{kind_told}
 use Rattle.port1_c.specs.declared.entry.Port1Entry.{Port1Entry}
 use Rattle.port1_c.specs.declared.pair.Port1Pair.{Port1Pair}

@@ -1,8 +1,8 @@
 //! What C calls to pair commands with answers.
 
 ghost use Rattle.std.specs.Prelude.{◌≡◌, ◌≢◌, ◌<◌, ◌↔◌, ◌⊎◌, List, [], ◌∷◌, ◌++◌, Some, IsSome, IfSome};
-ghost use Rattle.bus_watch.specs.Heard.{Heard};
-ghost use Rattle.bus_watch.specs.Seen.{seen_of};
+ghost use Rattle.bus_talk.specs.Heard.{Heard};
+ghost use Rattle.bus_talk.specs.Seen.{seen_of};
 ghost use Rattle.port1_c.specs.Pair.{CanBeReport, IsCodedSeen, PairAfter, entries_told, heard_told, line_told};
 ghost use Rattle.port1_c.specs.Pair.{no_reports, seen_told};
 ghost use Rattle.port1_c.specs.declared.status.TheConstants.{OK, BAD_ARGUMENT};
@@ -12,7 +12,7 @@ use crate::pair::Port1Pair;
 use crate::report::Port1Report;
 use crate::seen::Port1Seen;
 use crate::status::{BAD_ARGUMENT, OK};
-use bus_watch::Line;
+use bus_talk::Line;
 
 /// The line of a number, if it is that of one.
 fn line_of(number: u32) -> Option<Option<Line>>

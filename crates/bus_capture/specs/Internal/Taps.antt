@@ -2,7 +2,7 @@
 use Rattle.std.specs.Prelude.{◌≡◌, ℕ, ◌+◌, ◌<◌, ◌≤◌, List, [], ◌++◌, length, take, Some, None}
 use Rattle.bus_bits.specs.Capture.{CaptureOf, GrowsTo, capped, short_head}
 use Rattle.bus_dictionary.specs.Entry.{FrameType}
-use Rattle.bus_watch.specs.Seen.{SeenReport, seen}
+use Rattle.bus_talk.specs.Seen.{SeenReport, seen}
 use Rattle.bus_watch.specs.Watch.{Watch}
 use Rattle.bus_capture.specs.Captures.{Form}
 

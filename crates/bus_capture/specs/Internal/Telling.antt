@@ -1,7 +1,7 @@
 -- What is known while reports are told one after another.
 use Rattle.std.specs.Prelude.{◌≡◌, ℕ, ◌+◌, ◌*◌, ◌<◌, ◌≤◌, ◌^◌, List, ◌++◌, length, Option, Some, None}
 use Rattle.bus_dictionary.specs.Entry.{FrameType}
-use Rattle.bus_watch.specs.Seen.{SeenReport}
+use Rattle.bus_talk.specs.Seen.{SeenReport}
 use Rattle.bus_text.specs.Counting.{IsFew}
 use Rattle.bus_text.specs.Pages.{Pages}
 use Rattle.bus_text.specs.Put.{Cuts}

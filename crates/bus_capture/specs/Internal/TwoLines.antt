@@ -3,7 +3,7 @@ use Rattle.std.specs.Prelude.{ℕ, ◌<◌, ◌^◌, Bool}
 use Rattle.bus_bits.specs.Packed.{PairsAfter, pair_head_fault}
 use Rattle.bus_bits.specs.declared.capture.pair_words.PairWords.{PairWords}
 use Rattle.bus_fcs.specs.Check.{CheckView}
-use Rattle.bus_watch.specs.Heard.{pairs_of}
+use Rattle.bus_talk.specs.Heard.{pairs_of}
 use Rattle.bus_watch.specs.Pairs as pairs
 use Rattle.bus_watch.specs.Pairs.{PairState}
 use Rattle.bus_capture.specs.Captures.{form_of_two}

@@ -3,10 +3,10 @@ use Rattle.std.specs.Prelude.{◌≡◌, ℕ, ◌+◌, ◌-◌, ◌*◌, ◌<◌
 use Rattle.bus_bits.specs.Limits.{most_places}
 use Rattle.bus_dictionary.specs.Entry.{FrameType}
 use Rattle.bus_dictionary.specs.Dictionary.{longest_of}
-use Rattle.bus_watch.specs.Heard.{Heard}
-use Rattle.bus_watch.specs.Seen.{SeenReport}
-use Rattle.bus_watch.specs.Talk.{pending}
-use Rattle.bus_watch.specs.History.{history, tally}
+use Rattle.bus_talk.specs.Heard.{Heard}
+use Rattle.bus_talk.specs.Seen.{SeenReport}
+use Rattle.bus_talk.specs.Talk.{pending}
+use Rattle.bus_talk.specs.History.{history, tally}
 use Rattle.bus_watch.specs.Watch.{Watch, seen_by}
 use Rattle.bus_text.specs.Listing.{Line, listing, ending_text}
 use Rattle.bus_text.specs.Summary.{summary_of}

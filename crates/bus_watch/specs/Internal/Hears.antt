@@ -9,13 +9,13 @@ use Rattle.bus_line.specs.Due.{placed}
 use Rattle.bus_line.specs.Ledger.{octet_count}
 use Rattle.bus_line.specs.Internal.LineState.{LineState}
 use Rattle.bus_line.specs.After.{Advances, After, Led}
-use Rattle.bus_watch.specs.Heard.{Heard, heard_on}
-use Rattle.bus_watch.specs.Seen.{SeenReport, seen}
-use Rattle.bus_watch.specs.Shown.{found_on}
-use Rattle.bus_watch.specs.Ledger.{copied_of}
-use Rattle.bus_watch.specs.Internal.JournalState.{JournalState, Keeps}
-use Rattle.bus_watch.specs.declared.finding.Finding.{Finding}
-use Rattle.bus_watch.specs.declared.line.Line.{Line}
+use Rattle.bus_talk.specs.Heard.{Heard, heard_on}
+use Rattle.bus_talk.specs.Seen.{SeenReport, seen}
+use Rattle.bus_talk.specs.Shown.{found_on}
+use Rattle.bus_talk.specs.Ledger.{copied_of}
+use Rattle.bus_talk.specs.Journal.{JournalState, Keeps}
+use Rattle.bus_talk.specs.declared.finding.Finding.{Finding}
+use Rattle.bus_talk.specs.declared.line.Line.{Line}
 
 -- a decoder stands after some list of bits
 pub record Reached {C : Type 0} (view : CheckView C) (d : LineState C) : Type 0 where

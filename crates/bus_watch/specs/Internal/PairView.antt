@@ -1,7 +1,6 @@
 -- The fields of an analyser of two lines, as they are seen, and what always holds of them.
-use Rattle.std.specs.Prelude.{ℕ, ◌≤◌, Bool, List}
+use Rattle.std.specs.Prelude.{◌≤◌, Bool, List}
 use Rattle.bus_fcs.specs.Check.{CheckView}
-use Rattle.bus_watch.specs.Internal.JournalState.{journal_state}
 use Rattle.bus_watch.specs.Pairs.{PairState, IsAfterPairs}
 use Rattle.bus_watch.specs.declared.pair.analyser.PairAnalyser.TheInside.{Inside}
 
@@ -9,13 +8,13 @@ abbrev pub pair_state : {C : Type 0} → Inside C → PairState C
 pair_state a = record {
   first = a.first;
   second = a.second;
-  journal = journal_state a.journal;
+  journal = a.journal;
   found_first = a.found_first;
   found_second = a.found_second;
 }
 
 -- it stands after some list of pairs
 pub record IsWithin {C : Type 0} (view : CheckView C) (a : Inside C) : Type 0 where
-  pub depth : a.journal.history.capacity ≤ 1024
+  pub depth : a.journal.depth ≤ 1024
   pub pairs : List (Bool × Bool)
   pub reached : IsAfterPairs view (pair_state a) pairs

@@ -12,29 +12,23 @@ ghost use Rattle.bus_dictionary.specs.Dictionary.{longest_of};
 ghost use Rattle.bus_line.specs.After.{After};
 ghost use Rattle.bus_line.specs.Decides.{MayDecideAt};
 ghost use Rattle.bus_watch.specs.Internal.Hears.{Hears, Reached};
-ghost use Rattle.bus_watch.specs.Internal.JournalState.{journal_state, HasRoom};
+ghost use Rattle.bus_talk.specs.Journal.{HasRoom};
 ghost use Rattle.bus_watch.specs.PairShown.{shown_option_on};
-ghost use Rattle.bus_watch.specs.Shown.{found_on, begun_span, IsKeepable};
+ghost use Rattle.bus_talk.specs.Shown.{found_on, begun_span, IsKeepable};
 
 mod scan;
 
-use crate::counts::Counts;
 use crate::fault::NewFault;
 use crate::feed::PLACES;
-use crate::finding::Finding;
 use crate::hear::{begun_span, fresh, hear};
-use crate::journal::Journal;
 use crate::laws::{pairs_grow, steps_are_bounded};
-use crate::line::Line;
-use crate::pair::ending::PairEnding;
-use crate::pair::kept::PairKept;
 use crate::pair::seen::PairSeen;
-use crate::seen::Seen;
 use bus_bits::Spent;
 use bus_dictionary::Dictionary;
 use bus_fcs::Check;
 use bus_line::laws::{reports_grow, settled_places};
 use bus_line::{LineDecoder, LineFault, PlaceLimit};
+use bus_talk::{Counts, Finding, Journal, Line, PairEnding, PairKept, Seen};
 use std::alloc::Global;
 use std::cmp::min;
 use std::marker::Model;
@@ -82,9 +76,9 @@ fn hear_all<C: Check>(
     requires reached { Reached C.check decoder.old }
     requires calm { (b : List Bool) → After C.check decoder.old b → (i : ℕ) → i + 1 < count →
         MayDecideAt b (bits_of count bits) i → ⊥ }
-    requires room { HasRoom (journal_state journal.old) }
-    ensures { Hears C.check (Some line) decoder.old (journal_state journal.old) (bits_of count bits)
-        (option_map (found_on (Some line) decoder.new.octets) result) decoder.new (journal_state journal.new) }
+    requires room { HasRoom journal.old }
+    ensures { Hears C.check (Some line) decoder.old journal.old (bits_of count bits)
+        (option_map (found_on (Some line) decoder.new.octets) result) decoder.new journal.new }
 {
     match hear(decoder, journal, Some(line), bits, count) {
         Ok(intake) => fresh(journal, intake.is_decided).copied(),
@@ -96,13 +90,13 @@ impl<C: Check> PairAnalyser<C> {
     ghost use Rattle.bus_watch.specs.contracts.pair.analyser.PairAnalyser.{the_row};
     ghost use Rattle.bus_watch.specs.Pairs.{IsAfterPairs, SeesPairs, TakesPairsTo, lines, seen_after_pairs, heard_pair};
     ghost use Rattle.bus_watch.specs.Pairs.{found_at, octets_on, seen_on};
-    ghost use Rattle.bus_watch.specs.Seen.{all_seen_at};
-    ghost use Rattle.bus_watch.specs.Shown.{kept_pair_option};
+    ghost use Rattle.bus_talk.specs.Seen.{all_seen_at};
+    ghost use Rattle.bus_talk.specs.Shown.{kept_pair_option};
     ghost use Rattle.bus_watch.specs.PairShown.{shown_pair};
-    ghost use Rattle.bus_watch.specs.History.{history, tally};
-    ghost use Rattle.bus_watch.specs.Ledger.{IsPairLedger, total};
-    ghost use Rattle.bus_watch.specs.Talk.{pending};
-    ghost use Rattle.bus_watch.specs.Heard.{firsts, seconds, bits_on, pairs_of};
+    ghost use Rattle.bus_talk.specs.History.{history, tally};
+    ghost use Rattle.bus_talk.specs.Ledger.{IsPairLedger, total};
+    ghost use Rattle.bus_talk.specs.Talk.{pending};
+    ghost use Rattle.bus_talk.specs.Heard.{firsts, seconds, bits_on, pairs_of};
     ghost use Rattle.bus_line.specs.Ledger.{stored_open};
 
     /// An analyser that took no pair of bits, whose first pair has the place `origin`.

@@ -5,22 +5,20 @@ ghost use Rattle.std.specs.Option.{option_to_list};
 ghost use Rattle.bus_bits.specs.Limits.{most_places};
 ghost use Rattle.bus_bits.specs.Octet.{number};
 ghost use Rattle.bus_watch.specs.Fed.{FedBy, RefusedBy, RefusedByAt, ForSink, Offered};
-ghost use Rattle.bus_watch.specs.Heard.{firsts, seconds};
+ghost use Rattle.bus_talk.specs.Heard.{firsts, seconds};
 ghost use Rattle.bus_watch.specs.PairShown.{shown_option_on, shown_pair};
 ghost use Rattle.bus_watch.specs.Pairs.{two_lines};
-ghost use Rattle.bus_watch.specs.Shown.{IsKeepable};
-ghost use Rattle.bus_watch.specs.Sink.{SinkTook};
+ghost use Rattle.bus_talk.specs.Shown.{IsKeepable};
+ghost use Rattle.bus_talk.specs.Sink.{SinkTook};
 
 use crate::fault::FeedFault;
 use crate::feed::{FedSome, PLACES};
-use crate::line::Line;
 use crate::pair::analyser::PairAnalyser;
 use crate::pair::seen::PairSeen;
-use crate::pair::sink::PairSink;
-use crate::seen::Seen;
 use bus_bits::PairWords;
 use bus_fcs::Check;
 use bus_line::{PlaceLimit, SinkRefused};
+use bus_talk::{Line, PairSink, Seen};
 use std::cmp::min;
 
 /// The first bits of these pairs in one number, and the second ones in another, the first pair's lowest.

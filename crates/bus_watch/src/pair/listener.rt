@@ -3,12 +3,11 @@
 ghost use Rattle.std.specs.Prelude.{ℕ, ◌+◌, ◌≤◌, List, [], ◌∷◌, ◌++◌, length, Some};
 ghost use Rattle.bus_line.specs.Limits.{most_octets};
 ghost use Rattle.bus_dictionary.specs.Entry.{FrameType};
-ghost use Rattle.bus_watch.specs.Seen.{SeenReport};
-ghost use Rattle.bus_watch.specs.Shown.{found_on};
+ghost use Rattle.bus_talk.specs.Seen.{SeenReport};
+ghost use Rattle.bus_talk.specs.Shown.{found_on};
 
-use crate::finding::Finding;
-use crate::line::Line;
 use bus_dictionary::Dictionary;
+use bus_talk::{Finding, Line};
 
 /// Hears what is seen on two lines, one report after another, and refuses none. What it writes to, an `X`, is lent to
 /// it for each report.

@@ -5,16 +5,16 @@ ghost use Rattle.bus_bits.specs.Limits.{most_places};
 ghost use Rattle.bus_watch.specs.Headline.{Fails, CanBeMade, UnlessStopped};
 ghost use Rattle.bus_watch.specs.PairHeadline.{PairHeadline, StoppedAtPair};
 ghost use Rattle.bus_watch.specs.Pairs.{IsAfterPairs};
-ghost use Rattle.bus_watch.specs.Seen.{SeenReport};
+ghost use Rattle.bus_talk.specs.Seen.{SeenReport};
 ghost use Rattle.bus_line.specs.Told.{told};
-ghost use Rattle.bus_watch.specs.Sink.{SinkTook};
+ghost use Rattle.bus_talk.specs.Sink.{SinkTook};
 
 use crate::fault::RunFault;
 use crate::pair::analyser::PairAnalyser;
-use crate::pair::sink::PairSink;
 use crate::pair::usage::PairUsage;
 use bus_dictionary::Dictionary;
 use bus_fcs::Check;
+use bus_talk::PairSink;
 use std::alloc::Global;
 
 /// What is there after a whole run over two lines.

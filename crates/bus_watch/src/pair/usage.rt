@@ -5,11 +5,11 @@ ghost use Rattle.bus_dictionary.specs.Dictionary.{longest_of};
 ghost use Rattle.bus_watch.specs.PairHeadline.{WholePairRun};
 
 use crate::laws::{any_cut_of_pairs, pairs_grow, seen_grows};
-use crate::line::Line;
 use crate::pair::analyser::PairAnalyser;
 use bus_bits::Spent;
 use bus_fcs::Check;
 use bus_line::laws::reports_are;
+use bus_talk::Line;
 
 /// What an analyser of two lines holds, and the steps that it took, after some pairs of bits.
 #[derive(Clone, Copy, Debug, PartialEq, Eq)]

@@ -1,7 +1,7 @@
 use Rattle.std.proofs.Common.{◌≡◌, List, ◌++◌, take, subst, arith}
 use Rattle.std.proofs.lemmas.List.{take_all}
 use Rattle.std.proofs.lemmas.Result.{err_from_is_err_and}
-use Rattle.bus_watch.specs.History.{KeptFrame, history}
+use Rattle.bus_talk.specs.History.{KeptFrame, history}
 use Rattle.bus_text.specs.CheckText.{history_text}
 use Rattle.bus_text.specs.Pages.{Pages}
 use Rattle.bus_capture.specs.Internal.Watching.{heard_by}

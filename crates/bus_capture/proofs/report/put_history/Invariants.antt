@@ -1,6 +1,6 @@
 use Rattle.std.proofs.Common.{ℕ, ◌+◌, ◌*◌, ◌≤◌, List, ◌++◌, length, take, Option}
 use Rattle.bus_capture.specs.Internal.Watching.{heard_by}
-use Rattle.bus_watch.specs.History.{history}
+use Rattle.bus_talk.specs.History.{history}
 use Rattle.bus_text.specs.CheckText.{history_text}
 use Rattle.bus_text.specs.Pages.{Pages}
 use Rattle.bus_capture.proofs.report.put_history.Given as goal

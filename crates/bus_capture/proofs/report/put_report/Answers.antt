@@ -1,7 +1,7 @@
 use Rattle.std.proofs.Common.{ℕ, List, ◌++◌, MatchResult, subst}
 use Rattle.std.proofs.lemmas.Result.{err_from_is_err_and}
 use Rattle.bus_capture.specs.Internal.Watching.{heard_by}
-use Rattle.bus_watch.specs.History.{history, tally}
+use Rattle.bus_talk.specs.History.{history, tally}
 use Rattle.bus_text.specs.CheckText.{summary_text, tallies_text, history_text}
 use Rattle.bus_text.specs.Put.{Cuts}
 use Rattle.bus_text.specs.Pages.{Pages}

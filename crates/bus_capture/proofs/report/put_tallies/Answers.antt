@@ -1,7 +1,7 @@
 use Rattle.std.proofs.Common.{rules, ◌≡◌, ◌+◌, ◌++◌, sym, ap, ◌∙◌, subst, arith, append-nil}
 use Rattle.std.proofs.lemmas.Result.{err_from_is_err_and}
 use Rattle.bus_capture.specs.Internal.Watching.{heard_by}
-use Rattle.bus_watch.specs.History.{tally}
+use Rattle.bus_talk.specs.History.{tally}
 use Rattle.bus_text.specs.CheckText.{tallies_text}
 use Rattle.bus_text.specs.Pages.{Pages}
 use Rattle.bus_capture.proofs.ReportLemmas.{tallies-none, pages-tally, cuts-tally}

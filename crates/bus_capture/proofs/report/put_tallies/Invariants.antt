@@ -1,6 +1,6 @@
 use Rattle.std.proofs.Common.{ℕ, ◌+◌, ◌*◌, ◌≤◌, List, ◌++◌, length, Option}
 use Rattle.bus_capture.specs.Internal.Watching.{heard_by}
-use Rattle.bus_watch.specs.History.{tally}
+use Rattle.bus_talk.specs.History.{tally}
 use Rattle.bus_text.specs.CheckText.{tallies_text}
 use Rattle.bus_text.specs.Pages.{Pages}
 use Rattle.bus_capture.proofs.report.put_tallies.Given as goal

@@ -1,7 +1,7 @@
 use Rattle.std.proofs.Common.{◌≡◌, ◌++◌, Some, ◌∙◌, subst}
 use Rattle.std.specs.Option.{option_map, option_to_list}
 use Rattle.bus_text.specs.Summary.{summary_of}
-use Rattle.bus_watch.specs.Shown.{found_on}
+use Rattle.bus_talk.specs.Shown.{found_on}
 use Rattle.bus_watch.specs.Pairs.{octets_on}
 use Rattle.bus_capture.proofs.TwoLinesLemmas.{counted-on}
 use Rattle.bus_capture.proofs.two_lines.count_on.Goals as goal

@@ -2,7 +2,7 @@ use Rattle.std.proofs.Common.{Some, subst}
 use Rattle.std.specs.Option.{option_map, option_to_list}
 use Rattle.bus_text.specs.Adds.{Prints}
 use Rattle.bus_text.specs.Listing.{listing}
-use Rattle.bus_watch.specs.Shown.{found_on}
+use Rattle.bus_talk.specs.Shown.{found_on}
 use Rattle.bus_watch.specs.Pairs.{octets_on}
 use Rattle.bus_capture.proofs.PutLemmas.{nothing-listed}
 use Rattle.bus_capture.proofs.two_lines.put_on.Goals as goal

@@ -6,9 +6,9 @@ use Rattle.bus_line.specs.After.{Advances}
 use Rattle.bus_line.specs.Report.{moved}
 use Rattle.bus_line.specs.Due.{due_at}
 use Rattle.bus_line.specs.Shown.{reported}
-use Rattle.bus_watch.specs.Heard.{heard_on}
-use Rattle.bus_watch.specs.Shown.{found_on}
-use Rattle.bus_watch.specs.Internal.JournalState.{Enters, journal_state}
+use Rattle.bus_talk.specs.Heard.{heard_on}
+use Rattle.bus_talk.specs.Shown.{found_on}
+use Rattle.bus_talk.specs.Journal.{Enters}
 use Rattle.bus_watch.specs.Internal.Hears.{told_on}
 use Rattle.bus_watch.proofs.AfterLemmas.{hears-none, hears-some}
 use Rattle.bus_watch.proofs.AnalyserViewLemmas.{whole}
@@ -42,11 +42,11 @@ returns-clause-hears g c =
     let new = c.scan.new.self in
     let octets = new.octets in
     let line = c.args.line in
-    let before = journal_state c.args.journal.now in
+    let before = c.args.journal.now in
     elim c.match-scanned.branch [
       | in-Some w ↦
           let event = w.in-Some.event in
-          let after = journal_state w.take.new.self in
+          let after = w.take.new.self in
           let last = w.take.new.self.last in
           let advances = subst (λ o. Advances view old bits (option_map (reported octets) o) new)
           w.in-Some.is scanned.ensures.advances in

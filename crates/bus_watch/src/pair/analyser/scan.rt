@@ -7,22 +7,19 @@ ghost use Rattle.bus_bits.specs.Bits.{bits_from};
 ghost use Rattle.bus_bits.specs.Limits.{most_places};
 ghost use Rattle.bus_line.specs.Limits.{most_octets};
 ghost use Rattle.bus_watch.specs.Internal.Hears.{HearsMany, Reaches};
-ghost use Rattle.bus_watch.specs.Internal.JournalState.{journal_state};
-ghost use Rattle.bus_watch.specs.Shown.{found_on};
+ghost use Rattle.bus_talk.specs.Shown.{found_on};
 ghost use Rattle.bus_watch.specs.Watch.{LeadsTold};
 ghost use Rattle.bus_watch.specs.Pairs.{two_lines};
 
 use crate::feed::PLACES;
-use crate::finding::Finding;
 use crate::hear::{fresh, hear_octets};
-use crate::journal::Journal;
-use crate::line::Line;
 use crate::pair::analyser::PairAnalyser;
 use crate::pair::listener::PairListener;
 use bus_dictionary::Dictionary;
 use bus_fcs::Check;
 use bus_line::laws::{frame_is_spelled, reports_are, reports_grow, settled_places};
 use bus_line::{LineDecoder, PlaceLimit};
+use bus_talk::{Finding, Journal, Line};
 use std::cmp::min;
 
 /// Tells a listener what a report of a line was found to be, if there was one.
@@ -62,13 +59,13 @@ fn follow<C: Check, X, L: PairListener<X>>(
     requires some { from ≤ past }
     requires enough { past ≤ 8 * length octets.now }
     requires places { decoder.old.place + (past - from) ≤ most_places }
-    requires reaches { Reaches C.check decoder.old (journal_state journal.old) }
+    requires reaches { Reaches C.check decoder.old journal.old }
     requires room { L.has_room listener.old (past - from) }
-    ensures hears { HearsMany C.check (Some Line.First) decoder.old (journal_state journal.old)
-        (bits_from octets.now from (past - from)) decoder.new (journal_state journal.new)
+    ensures hears { HearsMany C.check (Some Line.First) decoder.old journal.old
+        (bits_from octets.now from (past - from)) decoder.new journal.new
         (λ ss. L.hears journal.old.dictionary listener.old out.old ss listener.new out.new) }
     ensures left { (more : ℕ) → L.has_room listener.old (past - from + more) → L.has_room listener.new more }
-    ensures reaches { Reaches C.check decoder.new (journal_state journal.new) }
+    ensures reaches { Reaches C.check decoder.new journal.new }
 {
     settled_places();
     let mut at = from;

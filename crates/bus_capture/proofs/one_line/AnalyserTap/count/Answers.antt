@@ -1,7 +1,7 @@
 use Rattle.std.proofs.Common.{◌≡◌, ◌+◌, ◌++◌, subst, arith}
 use Rattle.std.specs.Option.{option_map, option_to_list}
 use Rattle.bus_text.specs.Summary.{summary_of}
-use Rattle.bus_watch.specs.Shown.{found}
+use Rattle.bus_talk.specs.Shown.{found}
 use Rattle.bus_capture.specs.Internal.TellingLaws.{few-within}
 use Rattle.bus_capture.proofs.one_line.AnalyserTap.count.Goals as goal
 

@@ -3,8 +3,8 @@ use Rattle.bus_bits.proofs.OctetLemmas.{length-bits, bits-front}
 use Rattle.bus_bits.specs.Packed.{PackedAfter, packed_capture, packed_body, head_fault}
 use Rattle.std.specs.Option.{option_to_list}
 use Rattle.bus_line.specs.Due.{placed}
-use Rattle.bus_watch.specs.Heard.{of_line}
-use Rattle.bus_watch.specs.Seen.{seen_at}
+use Rattle.bus_talk.specs.Heard.{of_line}
+use Rattle.bus_talk.specs.Seen.{seen_at}
 use Rattle.bus_capture.specs.Captures.{form_of_one}
 use Rattle.bus_capture.proofs.HeadedLemmas.{head-clean}
 use Rattle.bus_capture.proofs.SeenOnLemmas.{seen-on}

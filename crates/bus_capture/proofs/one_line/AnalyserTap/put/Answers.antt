@@ -2,7 +2,7 @@ use Rattle.std.proofs.Common.{subst}
 use Rattle.std.specs.Option.{option_map, option_to_list}
 use Rattle.bus_text.specs.Adds.{Prints}
 use Rattle.bus_text.specs.Listing.{listing}
-use Rattle.bus_watch.specs.Shown.{found}
+use Rattle.bus_talk.specs.Shown.{found}
 use Rattle.bus_capture.proofs.PutLemmas.{nothing-listed}
 use Rattle.bus_capture.proofs.one_line.AnalyserTap.put.Goals as goal
 

@@ -1,7 +1,7 @@
 use Rattle.std.proofs.Common.{◌≡◌, ◌+◌, ◌++◌, ◌∷◌, [], Some, None, length, refl, sym, ap, ◌∙◌, subst, arith}
 use Rattle.std.proofs.Common.{length-append}
 use Rattle.bus_text.proofs.PagesLemmas.{cut-short, cuts-more, pages-printed}
-use Rattle.bus_watch.specs.Shown.{found_on}
+use Rattle.bus_talk.specs.Shown.{found_on}
 use Rattle.bus_capture.specs.Internal.Telling.{IsOut}
 use Rattle.bus_capture.specs.Internal.Watching.{printed}
 use Rattle.bus_capture.proofs.TellingLemmas.{not-cut}

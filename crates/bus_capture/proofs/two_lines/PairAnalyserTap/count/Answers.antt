@@ -2,7 +2,7 @@ use Rattle.std.proofs.Common.{◌+◌, ◌++◌, ap, ◌∙◌, append_assoc, ar
 use Rattle.std.specs.Option.{option_to_list}
 use Rattle.bus_text.specs.Summary.{summary_of}
 use Rattle.bus_watch.specs.Pairs.{seen_on}
-use Rattle.bus_watch.specs.declared.line.Line.TheVariants.{First, Second}
+use Rattle.bus_talk.specs.declared.line.Line.TheVariants.{First, Second}
 use Rattle.bus_capture.specs.Internal.TellingLaws.{few-within}
 use Rattle.bus_capture.proofs.two_lines.PairAnalyserTap.count.Goals as goal
 

@@ -1,8 +1,8 @@
 use Rattle.std.proofs.Common.{[], ◌∷◌, ◌++◌, ◌+◌, length, refl, sym}
 use Rattle.bus_watch.proofs.PairLemmas.{length-pairs, pairs-front}
 use Rattle.bus_bits.specs.Packed.{PairsAfter, packed_pair_capture, pair_body, pair_head_fault}
-use Rattle.bus_watch.specs.Heard.{merged}
-use Rattle.bus_watch.specs.Seen.{all_seen_at}
+use Rattle.bus_talk.specs.Heard.{merged}
+use Rattle.bus_talk.specs.Seen.{all_seen_at}
 use Rattle.bus_capture.specs.Captures.{form_of_two}
 use Rattle.bus_capture.proofs.HeadedLemmas.{head-clean}
 use Rattle.bus_capture.proofs.SeenOnLemmas.{seen-on}

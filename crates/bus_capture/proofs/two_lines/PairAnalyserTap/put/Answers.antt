@@ -2,7 +2,7 @@ use Rattle.std.proofs.Common.{arith}
 use Rattle.std.specs.Option.{option_to_list}
 use Rattle.bus_text.proofs.ListingLemmas.{listing-append, put-behind}
 use Rattle.bus_watch.specs.Pairs.{seen_on}
-use Rattle.bus_watch.specs.declared.line.Line.TheVariants.{First, Second}
+use Rattle.bus_talk.specs.declared.line.Line.TheVariants.{First, Second}
 use Rattle.bus_capture.proofs.two_lines.PairAnalyserTap.put.Goals as goal
 
 pub returns : goal.returns

@@ -1,7 +1,7 @@
 use Rattle.std.proofs.Common.{◌≡◌, ◌++◌, ◌∙◌, sym, ap, codes, append_assoc, arith, rules}
 use Rattle.std.proofs.lemmas.Grind.{common_steps}
 use Rattle.bus_line.specs.Shown.{reported, span_of}
-use Rattle.bus_watch.specs.Shown.{found_on}
+use Rattle.bus_talk.specs.Shown.{found_on}
 use Rattle.bus_text.specs.Listing.{line_number, report_line, report_word, span_text, head_part}
 use Rattle.bus_text.proofs.ListingLemmas.{put-dropped, put-left}
 use Rattle.bus_text.proofs.printer.Printer.put_report.Goals as goal

@@ -1,5 +1,5 @@
 use Rattle.std.proofs.Common.{arith}
-use Rattle.bus_watch.proofs.SinkLemmas.{took-none, took-after}
+use Rattle.bus_talk.proofs.SinkLemmas.{took-none, took-after}
 use Rattle.bus_watch.proofs.FedLemmas.{fed-nil, fed-more, refused-after, next, next-within, at-ok, at-err}
 use Rattle.bus_watch.proofs.analyser.Analyser.feed.Goals as goal
 

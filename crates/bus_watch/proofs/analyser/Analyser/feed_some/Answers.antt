@@ -1,7 +1,7 @@
 use Rattle.std.proofs.Common.{length, arith, option_map}
 use Rattle.std.proofs.lemmas.Result.{on_ok_weaker, on_err_weaker}
 use Rattle.bus_bits.proofs.OctetLemmas.{least}
-use Rattle.bus_watch.specs.Shown.{found}
+use Rattle.bus_talk.specs.Shown.{found}
 use Rattle.bus_watch.proofs.FedLemmas.{fed-word, refused-word}
 use Rattle.bus_watch.proofs.analyser.Analyser.feed_some.Goals as goal
 

@@ -1,7 +1,7 @@
 use Rattle.std.proofs.Common.{ap, sym, ◌∙◌, option_map, option_copied}
 use Rattle.std.proofs.lemmas.Result.{on_err_weaker}
-use Rattle.bus_watch.specs.Shown.{found}
-use Rattle.bus_watch.proofs.SinkLemmas.{took-none, took-one, refused-one}
+use Rattle.bus_talk.specs.Shown.{found}
+use Rattle.bus_talk.proofs.SinkLemmas.{took-none, took-one, refused-one}
 use Rattle.bus_watch.proofs.analyser.Analyser.hand.Goals as goal
 
 pub returns-in-None-clause-none_refused : goal.returns-in-None-clause-none_refused

@@ -1,29 +1,28 @@
-use Rattle.std.proofs.Common.{◌≡◌, List, Some, None, sym, ap, ◌∙◌, subst, slice_get, option_copied}
+use Rattle.std.proofs.Common.{◌≡◌, List, Some, None, ap, ◌∙◌, subst, slice_get}
 use Rattle.bus_line.specs.Due.{placed}
 use Rattle.bus_dictionary.specs.Dictionary.{longest_of}
-use Rattle.bus_watch.specs.History.{KeptFrame, kept_frame}
+use Rattle.bus_talk.specs.History.{KeptFrame, kept_frame}
+use Rattle.bus_talk.specs.Shown.{kept_pair_option}
+use Rattle.bus_talk.proofs.JournalStateLemmas.{history-at}
 use Rattle.bus_watch.specs.After.{AnalyserState}
-use Rattle.bus_watch.proofs.JournalStateLemmas.{history-at, history-none}
 use Rattle.bus_watch.proofs.analyser.Analyser.history.Goals as goal
 
 pub returns-in-Some-clause-lent : goal.returns-in-Some-clause-lent
 returns-in-Some-clause-lent g c =
     let d = c.self.inside.decoder in
     let j = c.self.inside.journal in
-    let items = j.history.items in
-    let at = sym (subst (λ r. option_copied r ≡ slice_get items c.args.i) c.in-Some.is c.kept.ensures) in
+    let at = subst (λ r. kept_pair_option r ≡ slice_get j.history c.args.i) c.in-Some.is c.kept.ensures in
     rw (c.frame.ensures)
     (subst (λ (a : AnalyserState g.row.C.Denot). Some (kept_frame c.in-Some.kept.now.kept)
     ≡ slice_get a.journal.history c.args.i) c.self.view_is
-    (history-at items j.history.capacity (placed d.origin (longest_of j.dictionary) c.self.invariant.bits) c.args.i
+    (history-at j.history j.depth (placed d.origin (longest_of j.dictionary) c.self.invariant.bits) c.args.i
     c.in-Some.kept.now c.self.invariant.reached.journal.history at))
 
 pub returns-in-None-clause-lent : goal.returns-in-None-clause-lent
 returns-in-None-clause-lent g c =
-    let items = c.self.inside.journal.history.items in
-    let at = sym (subst (λ r. option_copied r ≡ slice_get items c.args.i) c.in-None.is c.kept.ensures) in
-    subst (λ (a : AnalyserState g.row.C.Denot). None ≡ slice_get a.journal.history c.args.i) c.self.view_is
-    (history-none items c.args.i at)
+    let kept = c.self.inside.journal.history in
+    let at = subst (λ r. kept_pair_option r ≡ slice_get kept c.args.i) c.in-None.is c.kept.ensures in
+    subst (λ (a : AnalyserState g.row.C.Denot). None ≡ slice_get a.journal.history c.args.i) c.self.view_is at
 
 pub returns-in-Some-clause-value : goal.returns-in-Some-clause-value
 returns-in-Some-clause-value g c = λ _ reached. returns-in-Some-clause-lent g c

@@ -2,7 +2,7 @@ use Rattle.std.proofs.Common.{◌≡◌, [], ◌∷◌, refl, arith}
 use Rattle.std.specs.Option.{option_to_list}
 use Rattle.bus_bits.specs.Octet.{bits_of}
 use Rattle.bus_bits.proofs.OctetLemmas.{one_bit}
-use Rattle.bus_watch.specs.Shown.{shown_option}
+use Rattle.bus_talk.specs.Shown.{shown_option}
 use Rattle.bus_watch.specs.After.{Sees}
 use Rattle.bus_watch.proofs.LawsLemmas.{answer-is}
 use Rattle.bus_watch.proofs.analyser.Analyser.push.Goals as goal

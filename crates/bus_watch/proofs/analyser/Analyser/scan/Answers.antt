@@ -4,7 +4,6 @@ use Rattle.bus_bits.specs.Bits.{bits_from}
 use Rattle.bus_bits.proofs.BitLemmas.{front-from}
 use Rattle.bus_dictionary.specs.Dictionary.{longest_of}
 use Rattle.bus_line.specs.After.{DecideNothing}
-use Rattle.bus_watch.specs.Internal.JournalState.{journal_state}
 use Rattle.bus_watch.specs.Internal.AnalyserView.{analyser_state}
 use Rattle.bus_watch.specs.Internal.Hears.{fresh, told_on}
 use Rattle.bus_watch.specs.After.{AnalyserState, IsAfter, Sees, seen_after}
@@ -25,7 +24,7 @@ invariant_of-self-2 g c =
     let new : AnalyserState g.row.C.Denot =
     record {
       decoder = c.hear_octets.new.decoder;
-      journal = journal_state c.hear_octets.new.journal;
+      journal = c.hear_octets.new.journal;
       finding = fresh c.in_ok-intake.intake.is_decided c.hear_octets.new.journal.last;
     } in
     let sees = sees-heard g.C.Check.check (analyser_state c.self.inside) new x _ h in
@@ -47,7 +46,7 @@ returns-clause-sees g c =
     let new : AnalyserState g.row.C.Denot =
     record {
       decoder = c.hear_octets.new.decoder;
-      journal = journal_state c.hear_octets.new.journal;
+      journal = c.hear_octets.new.journal;
       finding = fresh c.in_ok-intake.intake.is_decided c.hear_octets.new.journal.last;
     } in
     subst (λ a. Sees g.C.Check.check a x (option_to_list told) new) c.self.view_is

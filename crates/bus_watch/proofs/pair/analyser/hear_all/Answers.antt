@@ -2,9 +2,8 @@ use Rattle.std.proofs.Common.{◌≡◌, ℕ, Option, Some, ap, sym, ◌∙◌, 
 use Rattle.std.specs.Option.{option_map}
 use Rattle.bus_bits.specs.Octet.{bits_of}
 use Rattle.bus_bits.proofs.OctetLemmas.{length-bits}
-use Rattle.bus_watch.specs.Seen.{SeenReport}
-use Rattle.bus_watch.specs.Shown.{found_on}
-use Rattle.bus_watch.specs.Internal.JournalState.{journal_state}
+use Rattle.bus_talk.specs.Seen.{SeenReport}
+use Rattle.bus_talk.specs.Shown.{found_on}
 use Rattle.bus_watch.specs.Internal.Hears.{Hears, told_on}
 use Rattle.bus_watch.proofs.PairLemmas.{takes-all-of}
 use Rattle.bus_watch.proofs.pair.analyser.hear_all.Goals as goal
@@ -23,9 +22,9 @@ returns g c =
     let told : told_on line os c.in-Ok.intake.is_decided c.hear.new.journal.last
     ≡ option_map (found_on line os) c.copied.result =
     ap (option_map (found_on line os)) (sym c.fresh.ensures ∙ sym c.copied.ensures) in
-    subst (λ (k : ℕ). Hears g.C.Check.check line c.args.decoder.now (journal_state c.args.journal.now)
+    subst (λ (k : ℕ). Hears g.C.Check.check line c.args.decoder.now c.args.journal.now
     (bits_of k x) (option_map (found_on line os) c.copied.result) c.hear.new.decoder
-    (journal_state c.hear.new.journal)) all
+    c.hear.new.journal) all
     (subst (λ (t : Option SeenReport). Hears g.C.Check.check line c.args.decoder.now
-    (journal_state c.args.journal.now) (bits_of h x) t c.hear.new.decoder (journal_state c.hear.new.journal)) told
+    c.args.journal.now (bits_of h x) t c.hear.new.decoder c.hear.new.journal) told
     c.in-Ok.ensures.hears)

@@ -3,7 +3,7 @@ use Rattle.std.proofs.Common.{arith}
 use Rattle.std.proofs.lemmas.List.{take_more, length-take}
 use Rattle.bus_bits.specs.Octet.{number}
 use Rattle.bus_bits.proofs.OctetLemmas.{number-lt}
-use Rattle.bus_watch.specs.Heard.{firsts, seconds}
+use Rattle.bus_talk.specs.Heard.{firsts, seconds}
 use Rattle.bus_watch.proofs.MergedLemmas.{length-firsts, length-seconds, firsts-append, seconds-append}
 use Rattle.bus_watch.proofs.PairFedLemmas.{word-more}
 use Rattle.bus_watch.proofs.pair.feed.pair_words.Goals as goal

@@ -1,6 +1,6 @@
 use Rattle.std.proofs.Common.{◌≡◌, take}
 use Rattle.bus_bits.specs.Octet.{number}
-use Rattle.bus_watch.specs.Heard.{firsts, seconds}
+use Rattle.bus_talk.specs.Heard.{firsts, seconds}
 use Rattle.bus_watch.proofs.pair.feed.pair_words.Given as goal
 
 -- the numbers of the pairs so far

@@ -1,5 +1,5 @@
 use Rattle.std.proofs.Common.{arith}
-use Rattle.bus_watch.proofs.SinkLemmas.{took-none, took-after}
+use Rattle.bus_talk.proofs.SinkLemmas.{took-none, took-after}
 use Rattle.bus_watch.proofs.FedLemmas.{fed-nil, fed-more, next, next-within, at-ok, at-err}
 use Rattle.bus_watch.proofs.PairFedLemmas.{refused-behind}
 use Rattle.bus_watch.proofs.pair.analyser.PairAnalyser.feed.Goals as goal

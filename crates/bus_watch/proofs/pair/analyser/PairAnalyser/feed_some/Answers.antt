@@ -2,7 +2,7 @@ use Rattle.std.proofs.Common.{◌≡◌, ◌-◌, ◌<◌, ◌≤◌, ◌++◌, 
 use Rattle.std.proofs.lemmas.List.{length-take, take-take}
 use Rattle.std.proofs.lemmas.Result.{on_ok_weaker, on_err_weaker}
 use Rattle.bus_bits.proofs.OctetLemmas.{least}
-use Rattle.bus_watch.specs.Heard.{pairs_of}
+use Rattle.bus_talk.specs.Heard.{pairs_of}
 use Rattle.bus_watch.specs.PairShown.{shown_pair}
 use Rattle.bus_watch.specs.Pairs.{IsAfterPairs, SeesPairs, seen_after_pairs}
 use Rattle.bus_watch.proofs.PairFedLemmas.{words-front, fed-offered, refused-offered}

@@ -1,5 +1,5 @@
 use Rattle.std.proofs.Common.{◌≡◌, [], ◌∷◌, refl, arith}
-use Rattle.bus_watch.specs.Heard.{pairs_of}
+use Rattle.bus_talk.specs.Heard.{pairs_of}
 use Rattle.bus_watch.specs.PairShown.{shown_pair}
 use Rattle.bus_watch.specs.Pairs.{SeesPairs}
 use Rattle.bus_watch.proofs.PairLemmas.{one_pair, answer-pair}

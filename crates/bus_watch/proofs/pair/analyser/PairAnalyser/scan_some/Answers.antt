@@ -7,15 +7,15 @@ use Rattle.bus_line.specs.After.{Advances}
 use Rattle.bus_line.specs.Report.{moved}
 use Rattle.bus_line.specs.Due.{due_at}
 use Rattle.bus_line.specs.Shown.{reported}
-use Rattle.bus_watch.specs.Heard.{heard_on, seconds}
-use Rattle.bus_watch.specs.Seen.{SeenReport}
-use Rattle.bus_watch.specs.Shown.{found_on}
+use Rattle.bus_talk.specs.Heard.{heard_on, seconds}
+use Rattle.bus_talk.specs.Seen.{SeenReport}
+use Rattle.bus_talk.specs.Shown.{found_on}
 use Rattle.bus_watch.specs.Internal.Hears.{told_on}
-use Rattle.bus_watch.specs.Internal.JournalState.{Enters, journal_state}
+use Rattle.bus_talk.specs.Journal.{Enters}
 use Rattle.bus_watch.specs.Internal.PairView.{pair_state}
 use Rattle.bus_watch.specs.Pairs.{PairState, two_lines}
 use Rattle.bus_watch.specs.Watch.{LeadsTold}
-use Rattle.bus_watch.specs.declared.line.Line.TheVariants.{Second}
+use Rattle.bus_talk.specs.declared.line.Line.TheVariants.{Second}
 use Rattle.bus_watch.proofs.AfterLemmas.{hears-none, hears-some}
 use Rattle.bus_watch.proofs.AnalyserViewLemmas.{whole}
 use Rattle.bus_watch.proofs.PairScanLemmas.{leads-scanned, pairs-reach, reaches-room}
@@ -53,7 +53,7 @@ take-requires-clause-whole g c =
 pub take-requires-clause-room : goal.take-requires-clause-room
 take-requires-clause-room g c =
     let n = c.in-Ok.scanned.count in
-    reaches-room g.C.Check.check c.follow.new.decoder (journal_state c.follow.new.journal)
+    reaches-room g.C.Check.check c.follow.new.decoder c.follow.new.journal
     c.settled_places.ensures.frames c.settled_places.ensures.paid c.settled_places.ensures.within
     c.follow.ensures.reaches
     (omega (
@@ -105,7 +105,7 @@ abbrev with-report : (g : Over) (c : goal.After-tell g) → PairState g.row.C.De
 with-report g c = record {
   first = c.follow.new.decoder;
   second = c.scan.new.self;
-  journal = journal_state c.take.new.self;
+  journal = c.take.new.self;
   found_first = c.self.inside.found_first;
   found_second = c.self.inside.found_second;
 }
@@ -129,8 +129,8 @@ leads-on g c told all_told =
     let new = c.scan.new.self in
     let octets = new.octets in
     let event = c.in-Some.event in
-    let before = journal_state c.follow.new.journal in
-    let after = journal_state c.take.new.self in
+    let before = c.follow.new.journal in
+    let after = c.take.new.self in
     let advances = subst (λ o. Advances view old bits (option_map (reported octets) o) new)
     c.in-Some.is c.in-Ok.ensures.advances in
     let enters = subst
@@ -174,7 +174,7 @@ abbrev without-report : (g : Over) (c : goal.In_default g) → PairState g.row.C
 without-report g c = record {
   first = c.follow.new.decoder;
   second = c.scan.new.self;
-  journal = journal_state c.follow.new.journal;
+  journal = c.follow.new.journal;
   found_first = c.self.inside.found_first;
   found_second = c.self.inside.found_second;
 }
@@ -194,7 +194,7 @@ passes-on g c told all_told =
     let bits = bits_from c.args.second.now c.args.from n in
     let old = c.self.inside.second in
     let new = c.scan.new.self in
-    let journal = journal_state c.follow.new.journal in
+    let journal = c.follow.new.journal in
     let advances = subst (λ o. Advances view old bits (option_map (reported new.octets) o) new)
     c.in_default.is c.in-Ok.ensures.advances in
     let heard = hears-none view (Some Second) old new journal journal bits advances refl in

@@ -1,8 +1,7 @@
-use Rattle.std.proofs.Common.{◌-◌, ◌*◌, ◌%◌, ◌^◌, ◌++◌, sym, ap, ◌∙◌, arith}
+use Rattle.std.proofs.Common.{◌*◌, ◌%◌, ◌^◌, ◌++◌, sym, ap, ◌∙◌, arith}
 use Rattle.bus_bits.specs.Octet.{bits_of}
 use Rattle.bus_bits.proofs.OctetLemmas.{length-bits, least}
-use Rattle.bus_watch.specs.Heard.{firsts, seconds, pairs_of}
-use Rattle.bus_watch.specs.Internal.JournalState.{journal_state}
+use Rattle.bus_talk.specs.Heard.{firsts, seconds, pairs_of}
 use Rattle.bus_watch.specs.Internal.PairView.{pair_state}
 use Rattle.bus_watch.specs.Pairs.{PairState}
 use Rattle.bus_watch.proofs.PairLemmas.{decides-front, takes-least, room-first, room-second}
@@ -49,7 +48,7 @@ hear_all-self-inside-requires-2-clause-room g c =
     let fewer = c.min-taken.ensures ∙ least c.would_take-first_takes.result c.would_take-second_takes.result in
     let place = c.has_room.ensures.0 c.if-not-has_room.false in
     room-second g.C.Check.check (pair_state c.self.inside) c.hear_all-self-inside.new.decoder
-    (journal_state c.hear_all-self-inside.new.journal) _ _ ps c.settled_places.ensures.frames
+    c.hear_all-self-inside.new.journal _ _ ps c.settled_places.ensures.frames
     c.settled_places.ensures.paid c.settled_places.ensures.within
     c.hear_all-self-inside.ensures c.self.invariant.reached
     (omega (
@@ -86,13 +85,13 @@ invariant_of-self g c =
     record {
       first = c.hear_all-self-inside.new.decoder;
       second = c.hear_all-self-inside-2.new.decoder;
-      journal = journal_state c.hear_all-self-inside-2.new.journal;
+      journal = c.hear_all-self-inside-2.new.journal;
       found_first =
           c.hear_all-self-inside.result;
       found_second = c.hear_all-self-inside-2.result;
     } in
     let sees = sees-words g.C.Check.check n c.args.first c.args.second (pair_state c.self.inside) new
-    (journal_state c.hear_all-self-inside.new.journal) _ _ c.reports_grow.ensures.stays c.reports_grow.ensures.more
+    c.hear_all-self-inside.new.journal _ _ c.reports_grow.ensures.stays c.reports_grow.ensures.more
     c.reports_grow.ensures.grow
     (omega (arith, fewer, c.would_take-first_takes.ensures.within, c.would_take-second_takes.ensures.within))
     (omega (arith, fewer, c.would_take-first_takes.ensures.within, c.requires.first.few)) first second in
@@ -107,7 +106,7 @@ returns-clause-sees g c =
     let fewer = c.min-taken.ensures ∙ least c.would_take-first_takes.result c.would_take-second_takes.result in
     rw (← c.self.view_is)
     (sees-words g.C.Check.check c.min-taken.result c.args.first c.args.second
-    (pair_state c.self.inside) _ (journal_state c.hear_all-self-inside.new.journal) _ _ c.reports_grow.ensures.stays
+    (pair_state c.self.inside) _ c.hear_all-self-inside.new.journal _ _ c.reports_grow.ensures.stays
     c.reports_grow.ensures.more c.reports_grow.ensures.grow
     (omega (arith, fewer, c.would_take-first_takes.ensures.within, c.would_take-second_takes.ensures.within))
     (omega (arith, fewer, c.would_take-first_takes.ensures.within, c.requires.first.few)) c.hear_all-self-inside.ensures

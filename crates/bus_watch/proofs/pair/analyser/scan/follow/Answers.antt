@@ -3,8 +3,7 @@ use Rattle.std.specs.Option.{option_to_list}
 use Rattle.bus_bits.specs.Bits.{bits_from}
 use Rattle.bus_bits.proofs.BitLemmas.{length-from}
 use Rattle.bus_watch.specs.Internal.Hears.{told_on}
-use Rattle.bus_watch.specs.Internal.JournalState.{journal_state}
-use Rattle.bus_watch.specs.declared.line.Line.TheVariants.{First}
+use Rattle.bus_talk.specs.declared.line.Line.TheVariants.{First}
 use Rattle.bus_watch.proofs.PairScanLemmas.{bits-met, bits-none, hears-nothing, hears-more, reaches-more, reaches-room}
 use Rattle.bus_watch.proofs.pair.analyser.scan.follow.Goals as goal
 
@@ -13,7 +12,7 @@ loop-at-init g c = record {
   some = omega arith;
   within = c.requires.some;
   hears = rw (bits-none c.args.octets.now c.args.from)
-      (hears-nothing g.C.Check.check (Some First) c.args.decoder.now (journal_state c.args.journal.now)
+      (hears-nothing g.C.Check.check (Some First) c.args.decoder.now c.args.journal.now
       _
       (g.met.L.PairListener.hears_none c.args.journal.now.dictionary c.args.listener.now c.args.out.now));
   left = λ more room. room;
@@ -22,7 +21,7 @@ loop-at-init g c = record {
 
 pub hear_octets-requires-clause-room : goal.hear_octets-requires-clause-room
 hear_octets-requires-clause-room g c = λ below.
-    reaches-room g.C.Check.check c.loop-at.decoder (journal_state c.loop-at.journal)
+    reaches-room g.C.Check.check c.loop-at.decoder c.loop-at.journal
     c.settled_places.ensures.frames c.settled_places.ensures.paid c.settled_places.ensures.within
     c.loop-at.invariant.reaches (omega (arith, below))
 
@@ -65,8 +64,8 @@ loop-at-preserved g c =
       hears = rw (bits-met c.args.octets.now c.args.from i n before.some)
           (hears-more g.C.Check.check (Some First) c.args.decoder.now c.loop-at.decoder
           c.hear_octets.new.decoder
-          (journal_state c.args.journal.now) (journal_state c.loop-at.journal)
-          (journal_state c.hear_octets.new.journal)
+          c.args.journal.now c.loop-at.journal
+          c.hear_octets.new.journal
           (bits_from c.args.octets.now c.args.from (i - c.args.from)) (bits_from c.args.octets.now i n) last _ _
           (omega (arith, length-from c.args.octets.now i n, c.in-Ok.ensures.within.0)) before.hears heard
           (g.met.L.PairListener.hears_more c.args.journal.now.dictionary c.args.listener.now c.loop-at.listener
@@ -80,7 +79,7 @@ loop-at-preserved g c =
           (omega (arith, c.in-Ok.ensures.within, c.loop-at-test.true)) (before.left more room));
       reaches = reaches-more g.C.Check.check (Some First) c.loop-at.decoder
           c.hear_octets.new.decoder
-          (journal_state c.loop-at.journal) (journal_state c.hear_octets.new.journal)
+          c.loop-at.journal c.hear_octets.new.journal
           (bits_from c.args.octets.now i n) last before.reaches heard;
     }
 
