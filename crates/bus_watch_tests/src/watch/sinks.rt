@@ -1,10 +1,11 @@
 //! Sinks that collect what they take, and refuse where a test wants it.
 
-use super::text::push_seen;
-use super::{CALLS, NONE, bits_of, check_told, new_analyser, read};
+use super::{bits_of, new_analyser, read};
 use crate::expect::{holds, same};
 use bus_dictionary::Dictionary;
 use bus_fcs::{BitCheck, Check, OctetCheck};
+use bus_rows::{CALLS, joined};
+use bus_seen::{NONE, push_seen};
 use bus_watch::{
     Analyser, Counts, FeedFault, ReportSink, Run, RunFault, Seen, SinkRefused, run_all,
 };
@@ -133,7 +134,12 @@ fn check_refusal<C: Check>(rt: &impl Abort, alloc: Global, bits: &[bool], row: &
     let fault = feed(rt, &mut analyser, bits, &mut sink).err();
     same(rt, fault, Some(FeedFault::Sink { consumed }), &case);
     same(rt, sink.refused(), 1, &case);
-    check_told(rt, alloc, sink.text.as_str(), row.told, &case);
+    same(
+        rt,
+        sink.text.as_str(),
+        joined(alloc, row.told).expect(rt, "memory").as_str(),
+        &case,
+    );
     let counts = Counts {
         answered: row.answered,
         ..NONE
@@ -142,7 +148,12 @@ fn check_refusal<C: Check>(rt: &impl Abort, alloc: Global, bits: &[bool], row: &
     for bit in bits.iter().skip(consumed) {
         feed(rt, &mut analyser, &[*bit], &mut sink).expect(rt, "room");
     }
-    check_told(rt, alloc, sink.text.as_str(), row.all, &case);
+    same(
+        rt,
+        sink.text.as_str(),
+        joined(alloc, row.all).expect(rt, "memory").as_str(),
+        &case,
+    );
     holds(rt, !sink.lacks, "memory for a text");
 }
 
@@ -156,7 +167,12 @@ fn check_run<C: Check>(rt: &impl Abort, alloc: Global, bits: &[bool], row: &Refu
     let case = format_args!("report {refuses} of two pieces is refused");
     let want = RunFault::Feed(FeedFault::Sink { consumed });
     same(rt, fault, Some(want), &case);
-    check_told(rt, alloc, sink.text.as_str(), row.told, &case);
+    same(
+        rt,
+        sink.text.as_str(),
+        joined(alloc, row.told).expect(rt, "memory").as_str(),
+        &case,
+    );
 }
 
 /// Sinks that refuse one report of three frames, with both checks.

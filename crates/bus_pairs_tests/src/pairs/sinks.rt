@@ -1,9 +1,10 @@
 //! Sinks that refuse reports of either line, or of both at one place, and what they take afterwards.
 
-use super::super::{NONE, check_told};
 use super::{PairCollector, TwoLines, analyser, feed, pushed, two_lines};
 use crate::expect::{holds, same};
 use bus_fcs::{BitCheck, Check, OctetCheck};
+use bus_rows::joined;
+use bus_seen::NONE;
 use bus_watch::{Counts, FeedFault, PairAnalyser, PairSink};
 use std::alloc::Global;
 use std::process::Abort;
@@ -103,14 +104,24 @@ fn check_refusal<C: Check>(rt: &impl Abort, alloc: Global, lines: &TwoLines, row
         same(rt, fault, Some(FeedFault::Sink { consumed }), &case);
         if before == 0 {
             same(rt, sink.refused(), row.refusals, &case);
-            check_told(rt, alloc, sink.text.as_str(), row.told, &case);
+            same(
+                rt,
+                sink.text.as_str(),
+                joined(alloc, row.told).expect(rt, "memory").as_str(),
+                &case,
+            );
         }
         before = *stop;
     }
     let rest = lines.pairs.get(before..).expect(rt, "pairs");
     feed(rt, &mut fed, rest, &mut sink).expect(rt, "room");
     let case = "what is told of all pairs";
-    check_told(rt, alloc, sink.text.as_str(), row.all, case);
+    same(
+        rt,
+        sink.text.as_str(),
+        joined(alloc, row.all).expect(rt, "memory").as_str(),
+        case,
+    );
     holds(rt, !sink.lacks, "memory for a text");
     check_unharmed(rt, alloc, &fed, lines);
 }
