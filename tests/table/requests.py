@@ -11,7 +11,7 @@ LINE = "bus_line_tests"
 DICTIONARIES = "bus_dictionary_tests"
 WATCH = "bus_watch_tests"
 PAIRS = "bus_pairs_tests"
-TOOL = "bus_tool"
+TOOL = "bus_tool_tests"
 
 
 @dataclass(frozen=True)
@@ -69,9 +69,9 @@ ASKING = [
     Asking(PAIRS, "pairs::memory::made", 1, dictionaries=1, tries_again=True),
     Asking(PAIRS, "pairs::memory::many_pairs", 1, dictionaries=1, tries_again=True),
     Asking(PAIRS, "pairs::memory::refused_memory", 1, dictionaries=1),
-    Asking(TOOL, "tests::encodes::takes_no_memory", 0),
-    Asking(TOOL, "tests::shows::takes_no_memory", 0),
-    Asking(TOOL, "tests::shows::refused_memory"),
-    Asking(TOOL, "tests::listings::refused_memory"),
-    Asking(TOOL, "tests::program::refused_memory"),
+    Asking(TOOL, "encodes::takes_no_memory", 0),
+    Asking(TOOL, "shows::takes_no_memory", 0),
+    Asking(TOOL, "shows::refused_memory"),
+    Asking(TOOL, "listings::refused_memory"),
+    Asking(TOOL, "program::refused_memory"),
 ]

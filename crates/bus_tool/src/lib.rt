@@ -10,6 +10,4 @@ pub use bus_text::{Kind, Options, Summary, ToolFault, show_frame};
 pub use program::run;
 
 #[cfg(test)]
-mod fakes;
-#[cfg(test)]
 mod tests;
