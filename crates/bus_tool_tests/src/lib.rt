@@ -1,5 +1,5 @@
-//! Tests of the public calls of `bus_tool`: worked examples of listings, lines and the program. They stand apart so that
-//! what has the command line is proved without them.
+//! Tests of the public calls of `bus_tool`: worked examples of listings, lines and the program. They stand apart so
+//! that what has the command line is proved without them.
 #![tactic(auto)]
 
 #[cfg(test)]
