@@ -7,6 +7,7 @@ use bus_rows::joined;
 use bus_seen::NONE;
 use bus_watch::{Counts, FeedFault, PairAnalyser, PairSink};
 use std::alloc::Global;
+use std::fmt::Display;
 use std::process::Abort;
 
 const TOLD_CALL: &str = "8 49 frame 108300fde5 station 16 type 0 on 1";
@@ -91,6 +92,18 @@ const PAIR_REFUSALS: [PairRefusal; 8] = [
     },
 ];
 
+/// Ends the test where a sink has other than these texts.
+fn check_told(
+    rt: &impl Abort,
+    alloc: Global,
+    sink: &PairCollector,
+    texts: &[&str],
+    case: impl Display + Drop,
+) {
+    let want = joined(alloc, texts).expect(rt, "memory");
+    same(rt, sink.text.as_str(), want.as_str(), case);
+}
+
 /// Feeding stops after each place at which a report is refused, and goes on from there.
 fn check_refusal<C: Check>(rt: &impl Abort, alloc: Global, lines: &TwoLines, row: &PairRefusal) {
     let mut fed = analyser::<C>(rt, alloc);
@@ -104,24 +117,14 @@ fn check_refusal<C: Check>(rt: &impl Abort, alloc: Global, lines: &TwoLines, row
         same(rt, fault, Some(FeedFault::Sink { consumed }), &case);
         if before == 0 {
             same(rt, sink.refused(), row.refusals, &case);
-            same(
-                rt,
-                sink.text.as_str(),
-                joined(alloc, row.told).expect(rt, "memory").as_str(),
-                &case,
-            );
+            check_told(rt, alloc, &sink, row.told, &case);
         }
         before = *stop;
     }
     let rest = lines.pairs.get(before..).expect(rt, "pairs");
     feed(rt, &mut fed, rest, &mut sink).expect(rt, "room");
     let case = "what is told of all pairs";
-    same(
-        rt,
-        sink.text.as_str(),
-        joined(alloc, row.all).expect(rt, "memory").as_str(),
-        case,
-    );
+    check_told(rt, alloc, &sink, row.all, case);
     holds(rt, !sink.lacks, "memory for a text");
     check_unharmed(rt, alloc, &fed, lines);
 }
