@@ -8,8 +8,10 @@ from dataclasses import dataclass
 from typing import Optional
 
 LINE = "bus_line_tests"
+DICTIONARIES = "bus_dictionary_tests"
 WATCH = "bus_watch_tests"
-TOOL = "bus_tool"
+PAIRS = "bus_pairs_tests"
+TOOL = "bus_tool_tests"
 
 
 @dataclass(frozen=True)
@@ -54,8 +56,8 @@ ASKING = [
     Asking(LINE, "line::memory::no_report", 0),
     Asking(LINE, "line::memory::each_report", EACH_REPORT, tries_again=True),
     DICTIONARY,
-    Asking(WATCH, "dictionary::limits::empty_takes_no_memory", 0),
-    Asking(WATCH, "dictionary::limits::refused_memory"),
+    Asking(DICTIONARIES, "dictionary::limits::empty_takes_no_memory", 0),
+    Asking(DICTIONARIES, "dictionary::limits::refused_memory"),
     # two analysers without a dictionary, and each of their calls
     Asking(WATCH, "watch::memory::one_request", 2),
     Asking(WATCH, "watch::memory::made", 1, dictionaries=1, tries_again=True),
@@ -63,13 +65,13 @@ ASKING = [
     # two, each of which then takes 2^20 bits of one piece
     Asking(WATCH, "watch::limits::refused_memory", 2, dictionaries=2),
     # six of two lines, of three depths
-    Asking(WATCH, "watch::pairs::memory::one_request", 6),
-    Asking(WATCH, "watch::pairs::memory::made", 1, dictionaries=1, tries_again=True),
-    Asking(WATCH, "watch::pairs::memory::many_pairs", 1, dictionaries=1, tries_again=True),
-    Asking(WATCH, "watch::pairs::memory::refused_memory", 1, dictionaries=1),
-    Asking(TOOL, "tests::encodes::takes_no_memory", 0),
-    Asking(TOOL, "tests::shows::takes_no_memory", 0),
-    Asking(TOOL, "tests::shows::refused_memory"),
-    Asking(TOOL, "tests::listings::refused_memory"),
-    Asking(TOOL, "tests::program::refused_memory"),
+    Asking(PAIRS, "pairs::memory::one_request", 6),
+    Asking(PAIRS, "pairs::memory::made", 1, dictionaries=1, tries_again=True),
+    Asking(PAIRS, "pairs::memory::many_pairs", 1, dictionaries=1, tries_again=True),
+    Asking(PAIRS, "pairs::memory::refused_memory", 1, dictionaries=1),
+    Asking(TOOL, "encodes::takes_no_memory", 0),
+    Asking(TOOL, "shows::takes_no_memory", 0),
+    Asking(TOOL, "shows::refused_memory"),
+    Asking(TOOL, "listings::refused_memory"),
+    Asking(TOOL, "program::refused_memory"),
 ]

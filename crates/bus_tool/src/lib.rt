@@ -8,8 +8,3 @@ pub use bus_capture::{check_capture, list_capture};
 pub use bus_encode::encode_frames;
 pub use bus_text::{Kind, Options, Summary, ToolFault, show_frame};
 pub use program::run;
-
-#[cfg(test)]
-mod fakes;
-#[cfg(test)]
-mod tests;

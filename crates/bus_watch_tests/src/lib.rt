@@ -1,9 +1,6 @@
-//! Tests of the public calls of `bus_dictionary` and `bus_watch`. They stand apart so that the gate proves each library
-//! once.
+//! Tests of the public calls of `bus_watch` on one line. They stand apart so that the gate proves the library once.
 #![tactic(auto)]
 
-#[cfg(test)]
-mod dictionary;
 #[cfg(test)]
 mod expect;
 #[cfg(test)]

@@ -1,10 +1,11 @@
 //! The counted steps of worked lists.
 
-use super::{CALLS, bits_of, new_analyser};
+use super::{bits_of, new_analyser};
 use crate::expect::same;
 use bus_bits::Spent;
 use bus_fcs::{BitCheck, Check, OctetCheck};
 use bus_line::Span;
+use bus_rows::CALLS;
 use bus_watch::{Analyser, Counts};
 use std::alloc::Global;
 use std::process::Abort;

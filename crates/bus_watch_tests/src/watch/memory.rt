@@ -1,15 +1,15 @@
 //! An analyser asks for memory once, for its history. `tests/memory` runs these tests with each request refused in
 //! turn, and counts the requests.
 
-use super::limits::{analyser_of, dictionary_of};
-use super::traffic::{BITS, OCTETS, ROUNDS, octets_of, round_of};
-use super::{Counts, DAMAGED};
+use super::limits::analyser_of;
 use crate::expect::{holds, same};
 use bus_bits::bits_number;
 use bus_dictionary::Dictionary;
 use bus_fcs::{BitCheck, Check, OctetCheck};
 use bus_line::Span;
-use bus_watch::{Analyser, NewFault, ReportSink, Seen, SinkRefused};
+use bus_rows::{CALLS, DAMAGED, ROUND_BITS, ROUND_OCTETS, ROUNDS, round_octets, round_of};
+use bus_seen::calls_if_memory;
+use bus_watch::{Analyser, Counts, NewFault, ReportSink, Seen, SinkRefused};
 use std::alloc::Global;
 use std::process::Abort;
 
@@ -127,13 +127,13 @@ fn analyser_at_last(rt: &impl Abort, alloc: Global) -> Analyser<OctetCheck> {
 const ROUND: &str =
     "flag call flag reply flag call flag call flag short flag short short flag 0000";
 
-fn push_round(rt: &impl Abort, analyser: &mut Analyser<OctetCheck>, bits: &[bool; BITS]) {
+fn push_round(rt: &impl Abort, analyser: &mut Analyser<OctetCheck>, bits: &[bool; ROUND_BITS]) {
     for bit in bits {
         let _ = analyser.push(*bit).expect(rt, "a place");
     }
 }
 
-fn take_round(rt: &impl Abort, analyser: &mut Analyser<OctetCheck>, bits: &[bool; BITS]) {
+fn take_round(rt: &impl Abort, analyser: &mut Analyser<OctetCheck>, bits: &[bool; ROUND_BITS]) {
     let mut rest: &[bool] = bits;
     for _ in bits {
         if rest.is_empty() {
@@ -148,21 +148,21 @@ fn take_round(rt: &impl Abort, analyser: &mut Analyser<OctetCheck>, bits: &[bool
     }
 }
 
-fn scan_round(rt: &impl Abort, analyser: &mut Analyser<OctetCheck>, octets: &[u8; OCTETS]) {
+fn scan_round(rt: &impl Abort, analyser: &mut Analyser<OctetCheck>, octets: &[u8; ROUND_OCTETS]) {
     let mut at: usize = 0;
-    for _ in 0..BITS {
-        if at >= BITS {
+    for _ in 0..ROUND_BITS {
+        if at >= ROUND_BITS {
             break;
         }
-        let taken = analyser.scan(octets, at, BITS).expect(rt, "a place");
+        let taken = analyser.scan(octets, at, ROUND_BITS).expect(rt, "a place");
         at = at.saturating_add(taken);
     }
 }
 
 /// Each call that takes many bits, over as many rounds; each is to see all reports of each.
 fn take_rounds(rt: &impl Abort, analyser: &mut Analyser<OctetCheck>) {
-    let bits = round_of(rt, ROUND);
-    let octets = octets_of(&bits);
+    let bits = round_of(ROUND).expect(rt, "a round");
+    let octets = round_octets(&bits);
     let mut sink = Counter::new();
     for _ in 0..ROUNDS {
         push_round(rt, analyser, &bits);
@@ -189,9 +189,9 @@ fn take_rounds(rt: &impl Abort, analyser: &mut Analyser<OctetCheck>) {
 /// The requests of the dictionary alone. Where memory is refused to the first attempt, the second reads it.
 #[test]
 fn read(rt: HostRuntime) {
-    let dictionary = match dictionary_of(&rt, rt.alloc()) {
+    let dictionary = match calls_if_memory(rt.alloc()).expect(&rt, "a dictionary") {
         Some(dictionary) => dictionary,
-        None => dictionary_of(&rt, rt.alloc()).expect(&rt, "memory"),
+        None => Dictionary::read(rt.alloc(), CALLS).expect(&rt, "memory"),
     };
     same(&rt, dictionary.longest(), 3, "the longest frame");
 }

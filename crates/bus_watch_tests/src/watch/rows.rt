@@ -1,78 +1,19 @@
 //! Worked lists: what is seen, the end and the tally, however the bits are cut.
 
 use super::sinks::{Collector, run};
-use super::table::{Row, pushed, row_of, taken};
-use super::text::push_ending;
-use super::{CALLS, NONE, WITHIN, bits_of, new_analyser, read};
+use super::table::{WorkedList, pushed, taken, worked_list};
+use super::{bits_of, new_analyser, read};
 use crate::expect::{holds, same};
 use bus_fcs::{BitCheck, Check, OctetCheck};
 use bus_line::Span;
+use bus_rows::{CALLS, DAMAGE, FRAMES, WITHIN};
+use bus_seen::{NONE, push_ending};
 use bus_watch::{Analyser, Counts};
 use std::alloc::Global;
 use std::process::Abort;
 
-/// Frames, and how they stand to the dictionary.
-pub(super) const FRAMES: &str = "\
-    calls: =>\n\
-    calls: flag call flag => \
-        8 49 frame 108300fde5 station 16 type 0; pending 8 49 station 16 type 0\n\
-    calls: flag call flag reply flag => \
-        8 49 frame 108300fde5 station 16 type 0; \
-        57 98 frame 108380f561 station 16 type 128, answered 8 49 station 16 type 0\n\
-    calls: flag notice flag => 8 50 frame ff83095a3b station 255 type 9\n\
-    calls: flag call-to-all flag => 8 50 frame ff83009ba6 station 255 type 0\n\
-    calls: flag call flag idle => \
-        8 49 frame 108300fde5 station 16 type 0; 57 72 idle; \
-        pending 8 49 station 16 type 0\n\
-    calls: flag call flag call flag short flag => \
-        8 49 frame 108300fde5 station 16 type 0; \
-        57 98 frame 108300fde5 station 16 type 0, missing 8 49 station 16 type 0; \
-        106 130 short, spoilt 57 98 station 16 type 0\n\
-    calls: flag call flag idle flag type-254 flag => \
-        8 49 frame 108300fde5 station 16 type 0; 57 72 idle; \
-        80 122 frame 1083fe0cfb station 16 type 254 unknown, \
-        missing 8 49 station 16 type 0, stray\n\
-    calls: flag reply flag => 8 49 frame 108380f561 station 16 type 128, stray\n\
-    calls: flag untyped flag control-19 flag => \
-        8 40 frame 1083452c station 16 untyped; \
-        48 80 frame 1013ccb8 station 16 control 19\n\
-    within: flag call flag reply flag => \
-        8 49 frame 108300fde5 station 16 type 0; \
-        57 98 frame 108380f561 station 16 type 128, answered 8 49 station 16 type 0\n\
-    within: flag call flag flag reply flag => \
-        8 49 frame 108300fde5 station 16 type 0; \
-        65 106 frame 108380f561 station 16 type 128, answered 8 49 station 16 type 0\n\
-    within: flag call flag flag flag reply flag => \
-        8 49 frame 108300fde5 station 16 type 0; \
-        73 114 frame 108380f561 station 16 type 128, late 8 49 station 16 type 0\n\
-    calls: flag call flag flag flag reply flag => \
-        8 49 frame 108300fde5 station 16 type 0; \
-        73 114 frame 108380f561 station 16 type 128, answered 8 49 station 16 type 0\n\
-    polls: flag type-1 flag => 8 48 frame 10830174f4 station 16 type 1 length";
-
-/// Flags alone, damage, aborts and idles.
-pub(super) const DAMAGE: &str = "\
-    calls: flag =>\n\
-    calls: 011111101111110 =>\n\
-    calls: 1111110 call flag =>\n\
-    calls: 1111110 1111110 =>\n\
-    calls: idle => 0 15 idle\n\
-    calls: flag 00011111 flag => 8 16 unstuffed\n\
-    calls: flag short flag => 8 32 short\n\
-    calls: flag short 00000000 flag => 8 40 fcs\n\
-    calls: flag short 000000000 flag => 8 41 unaligned\n\
-    calls: flag short 0000000000000000 flag => 8 48 fcs\n\
-    calls: flag short short flag => 8 56 overlong\n\
-    calls: flag short short 11111 flag => 8 61 unstuffed\n\
-    calls: flag short short 1111111 => 8 56 abort\n\
-    calls: flag 00001000 1111111 => 8 16 abort\n\
-    calls: flag 00001000 1111111 11111111 => 8 16 abort; 16 31 idle\n\
-    calls: flag 00001000 11000001 10000000 101111101 10100111 flag => 8 49 fcs\n\
-    calls: flag 00001000 11000001 00000000 10100111 101111101 flag => 8 49 fcs\n\
-    calls: flag 00001 => begun 8 13";
-
 /// The bits pushed one by one, and taken by words: both count the same steps.
-fn check_bits<C: Check>(rt: &impl Abort, alloc: Global, row: &Row) {
+fn check_bits<C: Check>(rt: &impl Abort, alloc: Global, row: &WorkedList) {
     let mut analyser = row.analyser::<C>(rt, alloc);
     let text = pushed(rt, alloc, &mut analyser, &row.bits);
     same(rt, text.as_str(), row.want, "pushed one by one");
@@ -87,7 +28,7 @@ fn check_bits<C: Check>(rt: &impl Abort, alloc: Global, row: &Row) {
 
 fn check_bits_of_each(rt: &impl Abort, alloc: Global, table: &str) {
     for line in table.lines() {
-        let row = row_of(rt, alloc, line);
+        let row = worked_list(rt, alloc, line);
         check_bits::<BitCheck>(rt, alloc, &row);
         check_bits::<OctetCheck>(rt, alloc, &row);
     }
@@ -104,7 +45,7 @@ fn damage(rt: HostRuntime) {
 }
 
 /// The bits as a run of two pieces.
-fn check_cut<C: Check>(rt: &impl Abort, alloc: Global, row: &Row, cut: usize) {
+fn check_cut<C: Check>(rt: &impl Abort, alloc: Global, row: &WorkedList, cut: usize) {
     let (front, rest) = row.bits.split_at_checked(cut).expect(rt, "a cut");
     let dictionary = read(rt, alloc, row.dictionary);
     let mut sink = Collector::new(alloc, 0);
@@ -119,7 +60,7 @@ fn check_cut<C: Check>(rt: &impl Abort, alloc: Global, row: &Row, cut: usize) {
 }
 
 fn check_cuts(rt: &impl Abort, alloc: Global, line: &str) {
-    let row = row_of(rt, alloc, line);
+    let row = worked_list(rt, alloc, line);
     for cut in 0..=row.bits.len() {
         check_cut::<BitCheck>(rt, alloc, &row, cut);
         check_cut::<OctetCheck>(rt, alloc, &row, cut);

@@ -1,11 +1,11 @@
 //! Logs of reports, and whole runs.
 
-use super::limits::FAR;
-use super::{CALLS, bits_of, read};
+use super::{bits_of, read};
 use crate::expect::{holds, same};
 use bus_bits::Spent;
 use bus_fcs::{BitCheck, Check, OctetCheck};
 use bus_line::Span;
+use bus_rows::{CALLS, FAR};
 use bus_watch::{
     FeedFault, LoggedPiece, NewFault, ReportLog, ReportSink, RunFault, Usage, reports_of, run_all,
 };

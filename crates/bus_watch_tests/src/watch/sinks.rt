@@ -1,14 +1,16 @@
 //! Sinks that collect what they take, and refuse where a test wants it.
 
-use super::text::push_seen;
-use super::{CALLS, NONE, bits_of, check_told, new_analyser, read};
+use super::{bits_of, new_analyser, read};
 use crate::expect::{holds, same};
 use bus_dictionary::Dictionary;
 use bus_fcs::{BitCheck, Check, OctetCheck};
+use bus_rows::{CALLS, joined};
+use bus_seen::{NONE, push_seen};
 use bus_watch::{
     Analyser, Counts, FeedFault, ReportSink, Run, RunFault, Seen, SinkRefused, run_all,
 };
 use std::alloc::Global;
+use std::fmt::Display;
 use std::process::Abort;
 
 /// Collects the texts of what it takes, and refuses report number `refuses`, counted from 1.
@@ -125,6 +127,18 @@ const REFUSALS: [Refusal; 3] = [
     },
 ];
 
+/// Ends the test where a sink has other than these texts.
+fn check_told(
+    rt: &impl Abort,
+    alloc: Global,
+    sink: &Collector,
+    texts: &[&str],
+    case: impl Display + Drop,
+) {
+    let want = joined(alloc, texts).expect(rt, "memory");
+    same(rt, sink.text.as_str(), want.as_str(), case);
+}
+
 fn check_refusal<C: Check>(rt: &impl Abort, alloc: Global, bits: &[bool], row: &Refusal) {
     let (refuses, consumed) = (row.refuses, row.consumed);
     let mut analyser = new_analyser::<C>(rt, alloc, CALLS, 2, 0);
@@ -133,7 +147,7 @@ fn check_refusal<C: Check>(rt: &impl Abort, alloc: Global, bits: &[bool], row: &
     let fault = feed(rt, &mut analyser, bits, &mut sink).err();
     same(rt, fault, Some(FeedFault::Sink { consumed }), &case);
     same(rt, sink.refused(), 1, &case);
-    check_told(rt, alloc, sink.text.as_str(), row.told, &case);
+    check_told(rt, alloc, &sink, row.told, &case);
     let counts = Counts {
         answered: row.answered,
         ..NONE
@@ -142,7 +156,7 @@ fn check_refusal<C: Check>(rt: &impl Abort, alloc: Global, bits: &[bool], row: &
     for bit in bits.iter().skip(consumed) {
         feed(rt, &mut analyser, &[*bit], &mut sink).expect(rt, "room");
     }
-    check_told(rt, alloc, sink.text.as_str(), row.all, &case);
+    check_told(rt, alloc, &sink, row.all, &case);
     holds(rt, !sink.lacks, "memory for a text");
 }
 
@@ -156,7 +170,7 @@ fn check_run<C: Check>(rt: &impl Abort, alloc: Global, bits: &[bool], row: &Refu
     let case = format_args!("report {refuses} of two pieces is refused");
     let want = RunFault::Feed(FeedFault::Sink { consumed });
     same(rt, fault, Some(want), &case);
-    check_told(rt, alloc, sink.text.as_str(), row.told, &case);
+    check_told(rt, alloc, &sink, row.told, &case);
 }
 
 /// Sinks that refuse one report of three frames, with both checks.

@@ -1,16 +1,17 @@
-//! Worked lists as lines of text: a dictionary, the words of a list, and what is seen of it.
+//! Worked lists, and what is seen of their bits by calls of several sizes.
 
-use super::text::{push_ending, push_seen};
-use super::{CALLS, POLLS, WITHIN, bits_of, new_analyser};
+use super::{bits_of, new_analyser};
 use bus_bits::bits_number;
 use bus_fcs::Check;
+use bus_rows::row_of;
+use bus_seen::{push_ending, push_seen};
 use bus_watch::Analyser;
 use std::alloc::Global;
 use std::process::Abort;
 
-/// What a line of a table says.
+/// A worked list.
 #[derive(Drop)]
-pub(super) struct Row<'a> {
+pub(super) struct WorkedList<'a> {
     /// The text of its dictionary.
     pub(super) dictionary: &'static str,
     pub(super) bits: Vec<bool>,
@@ -18,30 +19,20 @@ pub(super) struct Row<'a> {
     pub(super) want: &'a str,
 }
 
-impl Row<'_> {
-    /// A new analyser for the row, with a history of sixteen frames.
+impl WorkedList<'_> {
+    /// A new analyser for the list, with a history of sixteen frames.
     pub(super) fn analyser<C: Check>(&self, rt: &impl Abort, alloc: Global) -> Analyser<C> {
         new_analyser(rt, alloc, self.dictionary, 16, 0)
     }
 }
 
-/// The example dictionary of this name.
-fn dictionary_named(name: &str) -> &'static str {
-    match name {
-        "polls" => POLLS,
-        "within" => WITHIN,
-        _ => CALLS,
-    }
-}
-
-/// Reads a line such as `calls: flag call flag => 8 49 frame ..`.
-pub(super) fn row_of<'a>(rt: &impl Abort, alloc: Global, line: &'a str) -> Row<'a> {
-    let (list, want) = line.split_once("=>").expect(rt, "what is seen");
-    let (name, words) = list.split_once(':').expect(rt, "a dictionary");
-    Row {
-        dictionary: dictionary_named(name),
-        bits: bits_of(rt, alloc, words),
-        want: want.trim(),
+/// The list of a line of a table.
+pub(super) fn worked_list<'a>(rt: &impl Abort, alloc: Global, line: &'a str) -> WorkedList<'a> {
+    let row = row_of(line).expect(rt, "a row");
+    WorkedList {
+        dictionary: row.dictionary,
+        bits: bits_of(rt, alloc, row.words),
+        want: row.want,
     }
 }
 

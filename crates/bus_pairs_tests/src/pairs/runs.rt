@@ -1,11 +1,10 @@
 //! Whole runs over two lines, into a log.
 
-use super::super::limits::FAR;
-use super::super::{CALLS, read};
-use super::{TwoLines, two_lines};
+use super::{TwoLines, read, two_lines};
 use crate::expect::{holds, same};
 use bus_bits::Span;
 use bus_fcs::OctetCheck;
+use bus_rows::{CALLS, FAR};
 use bus_watch::{
     FeedFault, Line, LoggedPiece, NewFault, PairLog, PairRun, PairSink, RunFault, run_pairs,
 };

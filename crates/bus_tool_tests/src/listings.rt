@@ -1,13 +1,13 @@
 //! Captures by honest and by failing readers and writers.
 
+use crate::expect::{holds, same};
 use crate::fakes::{Counted, Faltering, Fixed, Narrow, Pieces, Repeated};
-use crate::tests::expect::{holds, same};
-use crate::tests::worked::{
-    CALL, CALL_AND_REPLY, CALL_AND_REPLY_TEXT, CALLS, FLAG, IDLE, NONE, REPLY, joined, of_text,
-    run_over,
+use crate::worked::{
+    CALL, CALL_AND_REPLY, CALL_AND_REPLY_TEXT, FLAG, IDLE, NONE, REPLY, joined, of_text, run_over,
 };
-use crate::{Options, Summary, ToolFault, list_capture};
 use bus_dictionary::DictFault;
+use bus_rows::CALLS;
+use bus_tool::{Options, Summary, ToolFault, list_capture};
 use std::alloc::{AllocError, Global};
 use std::fmt::Display;
 use std::process::Abort;

@@ -1,8 +1,8 @@
 //! Which summaries are clean.
 
-use crate::Summary;
-use crate::tests::expect::holds;
-use crate::tests::worked::NONE;
+use crate::expect::holds;
+use crate::worked::NONE;
+use bus_tool::Summary;
 
 /// Only these five make a line unclean.
 const UNCLEAN: [Summary; 5] = [

@@ -1,9 +1,9 @@
 //! Frames that are typed, with memory refused.
 
+use crate::expect::{holds, same};
 use crate::fakes::Fixed;
-use crate::tests::expect::{holds, same};
-use crate::tests::worked::STATES;
-use crate::{ToolFault, show_frame};
+use bus_rows::POLLS;
+use bus_tool::{ToolFault, show_frame};
 
 /// To be run with each request for memory refused in turn: without a dictionary there is none.
 #[test]
@@ -22,7 +22,7 @@ fn refused_memory(rt: HostRuntime) {
     let mut is_refused = false;
     for _attempt in 0..2 {
         let mut writer = Fixed::new();
-        let ending = show_frame(rt.alloc(), Some(STATES), "10830174f4", &mut writer);
+        let ending = show_frame(rt.alloc(), Some(POLLS), "10830174f4", &mut writer);
         if ending == Err(ToolFault::Memory) {
             holds(&rt, !is_refused, "the next attempt has memory");
             holds(&rt, writer.out.is_empty(), "nothing is written");

@@ -2,15 +2,14 @@
 
 ghost use Rattle.std.specs.Prelude.{◌≤◌};
 
-use crate::arguments::{READS, Request, read_arguments};
+use crate::expect::{holds, same};
 use crate::fakes::{Counted, Pieces, Repeated};
-use crate::tests::expect::{holds, same};
-use crate::tests::listings::spaced;
-use crate::tests::worked::{
-    ANSWERED, CALL_AND_REPLY, CALL_AND_REPLY_REPORT, CALL_AND_REPLY_TEXT, CALLS, joined, of_text,
-    run_over,
+use crate::listings::spaced;
+use crate::worked::{
+    ANSWERED, CALL_AND_REPLY, CALL_AND_REPLY_REPORT, CALL_AND_REPLY_TEXT, joined, of_text, run_over,
 };
-use crate::{Options, ToolFault, encode_frames, run};
+use bus_rows::CALLS;
+use bus_tool::{Options, ToolFault, encode_frames, run};
 use std::alloc::Global;
 use std::fmt::Display;
 use std::process::Abort;
@@ -179,26 +178,6 @@ fn reads_of_lines(rt: HostRuntime) {
         let case = format_args!("{} reads of lines", row.reads);
         check_line_reads(&rt, row, &lines, &case);
     }
-}
-
-/// How many reads are granted, by a command that reads a capture.
-fn reads_of(request: &Request<'_>) -> u64 {
-    match request {
-        Request::List(options) => options.reads,
-        Request::Check(options) => options.reads,
-        _ => 0,
-    }
-}
-
-/// The program grants 2^40 reads.
-#[test]
-fn reads_of_the_program(rt: HostRuntime) {
-    same(&rt, READS, 1099511627776, "the reads that are granted");
-    let none = read_arguments(rt.alloc(), &[]).expect(&rt, "memory");
-    let list = read_arguments(rt.alloc(), &["list"]).expect(&rt, "memory");
-    let check = read_arguments(rt.alloc(), &["check"]).expect(&rt, "memory");
-    let reads = [reads_of(&none), reads_of(&list), reads_of(&check)];
-    same(&rt, reads, [1099511627776; 3], "the reads of each command");
 }
 
 /// Runs the program over 2^20 empty lines, of which each read gives one.

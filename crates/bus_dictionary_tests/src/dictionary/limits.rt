@@ -1,8 +1,9 @@
 //! Large dictionaries, and what refused memory leaves.
 
-use super::{CALLS, POLLS, entry_of, read};
+use super::{entry_of, read};
 use crate::expect::{holds, same};
 use bus_dictionary::{BitName, DictFault, Dictionary, Standing, set_names};
+use bus_rows::POLLS;
 use std::alloc::Global;
 use std::process::Abort;
 

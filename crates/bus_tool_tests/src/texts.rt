@@ -1,8 +1,8 @@
 //! The texts of faults that no run of the program reaches: its words keep these bounds, and a reader
 //! is called as often as a program can count.
 
-use crate::ToolFault;
-use crate::tests::expect::same;
+use crate::expect::same;
+use bus_tool::ToolFault;
 
 #[test]
 fn faults(rt: HostRuntime) {

@@ -10,22 +10,29 @@ mod runs;
 mod sinks;
 
 use self::memory::Hearer;
-use super::limits::FAR;
-use super::rows::{DAMAGE, FRAMES};
-use super::table::row_of;
-use super::text::{push_ending, push_seen};
-use super::{CALLS, NONE, bits_of, read};
 use crate::expect::{holds, same};
 use bus_bits::{Span, Spent, bits_number};
 use bus_dictionary::Dictionary;
 use bus_fcs::{BitCheck, Check, OctetCheck};
 use bus_line::PlaceLimit;
+use bus_rows::{CALLS, DAMAGE, FAR, FRAMES, row_of};
+use bus_seen::{NONE, push_ending, push_seen};
 use bus_watch::{
     Counts, Ending, FeedFault, Line, NewFault, PairAnalyser, PairEnding, PairSink, PairUsage,
     Pending, Seen, SinkRefused,
 };
 use std::alloc::{AllocError, Global};
 use std::process::Abort;
+
+/// The dictionary of a text.
+fn read(rt: &impl Abort, alloc: Global, text: &str) -> Dictionary {
+    Dictionary::read(alloc, text).expect(rt, "a dictionary")
+}
+
+/// The bits of words.
+fn bits_of(rt: &impl Abort, alloc: Global, words: &str) -> Vec<bool> {
+    bus_rows::bits_of(alloc, words).expect(rt, "memory")
+}
 
 /// The words of two lists of bits, and what is seen of them with the example dictionary of calls. The
 /// shorter list goes on with ones.
@@ -372,11 +379,11 @@ fn check_first(rt: &impl Abort, alloc: Global, line: &str) {
     if line.contains("answered") || line.contains("late") {
         return;
     }
-    let row = row_of(rt, alloc, line);
+    let row = row_of(line).expect(rt, "a row");
     let dictionary = read(rt, alloc, row.dictionary);
     let mut analyser = new_analyser::<OctetCheck>(rt, alloc, dictionary, 16);
     let mut text = String::new(alloc);
-    for bit in &row.bits {
+    for bit in &bits_of(rt, alloc, row.words) {
         let seen = analyser.push(*bit, false).expect(rt, "a place");
         holds(rt, seen.second.is_none(), line);
         if let Some(first) = &seen.first {

@@ -1,11 +1,13 @@
 //! Sinks that refuse reports of either line, or of both at one place, and what they take afterwards.
 
-use super::super::{NONE, check_told};
 use super::{PairCollector, TwoLines, analyser, feed, pushed, two_lines};
 use crate::expect::{holds, same};
 use bus_fcs::{BitCheck, Check, OctetCheck};
+use bus_rows::joined;
+use bus_seen::NONE;
 use bus_watch::{Counts, FeedFault, PairAnalyser, PairSink};
 use std::alloc::Global;
+use std::fmt::Display;
 use std::process::Abort;
 
 const TOLD_CALL: &str = "8 49 frame 108300fde5 station 16 type 0 on 1";
@@ -90,6 +92,18 @@ const PAIR_REFUSALS: [PairRefusal; 8] = [
     },
 ];
 
+/// Ends the test where a sink has other than these texts.
+fn check_told(
+    rt: &impl Abort,
+    alloc: Global,
+    sink: &PairCollector,
+    texts: &[&str],
+    case: impl Display + Drop,
+) {
+    let want = joined(alloc, texts).expect(rt, "memory");
+    same(rt, sink.text.as_str(), want.as_str(), case);
+}
+
 /// Feeding stops after each place at which a report is refused, and goes on from there.
 fn check_refusal<C: Check>(rt: &impl Abort, alloc: Global, lines: &TwoLines, row: &PairRefusal) {
     let mut fed = analyser::<C>(rt, alloc);
@@ -103,14 +117,14 @@ fn check_refusal<C: Check>(rt: &impl Abort, alloc: Global, lines: &TwoLines, row
         same(rt, fault, Some(FeedFault::Sink { consumed }), &case);
         if before == 0 {
             same(rt, sink.refused(), row.refusals, &case);
-            check_told(rt, alloc, sink.text.as_str(), row.told, &case);
+            check_told(rt, alloc, &sink, row.told, &case);
         }
         before = *stop;
     }
     let rest = lines.pairs.get(before..).expect(rt, "pairs");
     feed(rt, &mut fed, rest, &mut sink).expect(rt, "room");
     let case = "what is told of all pairs";
-    check_told(rt, alloc, sink.text.as_str(), row.all, case);
+    check_told(rt, alloc, &sink, row.all, case);
     holds(rt, !sink.lacks, "memory for a text");
     check_unharmed(rt, alloc, &fed, lines);
 }

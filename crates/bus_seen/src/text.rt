@@ -2,7 +2,7 @@
 
 use bus_dictionary::Standing;
 use bus_line::{Cause, Piece, Span};
-use bus_watch::{Ending, Outcome, Seen, Verdict};
+use bus_talk::{Ending, Outcome, Seen, Verdict};
 use std::alloc::{AllocError, Global};
 
 fn outcome_word(outcome: Outcome) -> &'static str {
@@ -64,7 +64,7 @@ fn push_break(text: &mut String) -> Result<(), AllocError> {
 }
 
 /// What is open and what is pending at the end, after what the text has.
-pub(super) fn push_ending(text: &mut String, ending: Ending) -> Result<(), AllocError> {
+pub fn push_ending(text: &mut String, ending: Ending) -> Result<(), AllocError> {
     if let Some(Span { first, past }) = ending.begun {
         push_break(text)?;
         write!(text, "begun {first} {past}")?;
@@ -82,7 +82,7 @@ pub(super) fn push_ending(text: &mut String, ending: Ending) -> Result<(), Alloc
 }
 
 /// What is seen, after what the text has.
-pub(super) fn push_seen(text: &mut String, seen: &Seen) -> Result<(), AllocError> {
+pub fn push_seen(text: &mut String, seen: &Seen) -> Result<(), AllocError> {
     let word = piece_word(&seen.piece);
     let Span { first, past } = seen.piece.span();
     push_break(text)?;

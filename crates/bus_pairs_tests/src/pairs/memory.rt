@@ -1,16 +1,16 @@
 //! An analyser of two lines asks for memory once, for its history. `tests/memory` runs these tests with each request
 //! refused in turn, and counts the requests.
 
-use super::super::limits::dictionary_of;
-use super::super::traffic::{BITS, ROUNDS, octets_of, round_of};
-use super::super::{Counts, DAMAGED};
 use crate::expect::{holds, same};
 use bus_bits::bits_number;
 use bus_dictionary::Dictionary;
 use bus_fcs::{BitCheck, Check, OctetCheck};
 use bus_line::Span;
+use bus_rows::{DAMAGED, ROUND_BITS, ROUNDS, round_octets, round_of};
+use bus_seen::calls_if_memory;
 use bus_watch::{
-    Finding, Line, NewFault, PairAnalyser, PairEnding, PairListener, PairSink, Seen, SinkRefused,
+    Counts, Finding, Line, NewFault, PairAnalyser, PairEnding, PairListener, PairSink, Seen,
+    SinkRefused,
 };
 use std::alloc::Global;
 use std::process::Abort;
@@ -134,7 +134,7 @@ fn one_request(rt: HostRuntime) {
 #[test]
 fn refused_memory(rt: HostRuntime) {
     let alloc = rt.alloc();
-    if let Some(dictionary) = dictionary_of(&rt, alloc) {
+    if let Some(dictionary) = calls_if_memory(alloc).expect(&rt, "a dictionary") {
         check_memory::<OctetCheck>(&rt, alloc, dictionary, 16);
     }
 }
@@ -168,7 +168,8 @@ impl PairListener<u64> for Hearer {
 
 /// An analyser of the example, unless memory is refused.
 fn analyser_of(rt: &impl Abort, alloc: Global) -> Option<PairAnalyser<OctetCheck>> {
-    match PairAnalyser::new(alloc, dictionary_of(rt, alloc)?, 1, 0) {
+    let dictionary = calls_if_memory(alloc).expect(rt, "a dictionary")?;
+    match PairAnalyser::new(alloc, dictionary, 1, 0) {
         Ok(analyser) => Some(analyser),
         Err(NewFault::Memory) => None,
         Err(_) => panic!(rt; "no analyser"),
@@ -193,16 +194,16 @@ const SECOND: &str = "ones-57 flag reply flag short flag";
 /// The bits of both lines in a round, and their pairs.
 #[derive(Drop)]
 struct Round {
-    first: [bool; BITS],
-    second: [bool; BITS],
-    pairs: [(bool, bool); BITS],
+    first: [bool; ROUND_BITS],
+    second: [bool; ROUND_BITS],
+    pairs: [(bool, bool); ROUND_BITS],
 }
 
 /// The round of these words.
 fn round_of_two(rt: &impl Abort, first: &str, second: &str) -> Round {
-    let first = round_of(rt, first);
-    let second = round_of(rt, second);
-    let mut pairs = [(true, true); BITS];
+    let first = round_of(first).expect(rt, "a round");
+    let second = round_of(second).expect(rt, "a round");
+    let mut pairs = [(true, true); ROUND_BITS];
     for (pair, (one, other)) in pairs.iter_mut().zip(first.iter().zip(&second)) {
         *pair = (*one, *other);
     }
@@ -221,11 +222,11 @@ fn push_round(rt: &impl Abort, analyser: &mut PairAnalyser<OctetCheck>, round: &
 
 fn take_round(rt: &impl Abort, analyser: &mut PairAnalyser<OctetCheck>, round: &Round) {
     let mut at: usize = 0;
-    for _ in 0..BITS {
-        if at >= BITS {
+    for _ in 0..ROUND_BITS {
+        if at >= ROUND_BITS {
             break;
         }
-        let past = at.saturating_add(48).min(BITS);
+        let past = at.saturating_add(48).min(ROUND_BITS);
         let count = past.saturating_sub(at);
         assert!(rt; at < past && 1 <= count && count <= 48, "a word");
         let first = bits_number(&round.first[at..past]);
@@ -240,8 +241,8 @@ fn take_round(rt: &impl Abort, analyser: &mut PairAnalyser<OctetCheck>, round: &
 /// Each call that takes many pairs, over as many rounds; each is to see all reports of each.
 fn take_rounds(rt: &impl Abort, analyser: &mut PairAnalyser<OctetCheck>) {
     let round = round_of_two(rt, FIRST, SECOND);
-    let first = octets_of(&round.first);
-    let second = octets_of(&round.second);
+    let first = round_octets(&round.first);
+    let second = round_octets(&round.second);
     let mut sink = Counter::new();
     let mut heard = 0;
     for _ in 0..ROUNDS {
@@ -249,8 +250,8 @@ fn take_rounds(rt: &impl Abort, analyser: &mut PairAnalyser<OctetCheck>) {
         assert!(rt; sink.refused() == 0);
         analyser.feed(&round.pairs, &mut sink).expect(rt, "room");
         take_round(rt, analyser, &round);
-        let count = analyser.scan(&first, &second, BITS, &mut Hearer, &mut heard);
-        same(rt, count, BITS, "how many pairs are scanned");
+        let count = analyser.scan(&first, &second, ROUND_BITS, &mut Hearer, &mut heard);
+        same(rt, count, ROUND_BITS, "how many pairs are scanned");
     }
     let told = sink.first.saturating_add(sink.second);
     same(

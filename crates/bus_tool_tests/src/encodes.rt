@@ -1,8 +1,8 @@
 //! Lines that are encoded, where no run of the program can show it.
 
+use crate::expect::{holds, same};
 use crate::fakes::{Fixed, Narrow, Repeated};
-use crate::tests::expect::{holds, same};
-use crate::{ToolFault, encode_frames};
+use bus_tool::{ToolFault, encode_frames};
 use std::alloc::Global;
 use std::process::Abort;
 

@@ -1,6 +1,6 @@
 //! Captures, dictionaries and texts of worked examples.
 
-use crate::{Options, Summary, ToolFault, check_capture, list_capture};
+use bus_tool::{Options, Summary, ToolFault, check_capture, list_capture};
 use std::alloc::{AllocError, Global};
 use std::io::{Read, Write};
 
@@ -81,37 +81,6 @@ station 16 answered 1 missing 0 spoilt 0 late 0
 last 1 8 49 108300fde5
 last 2 65 106 108380f561
 ";
-
-/// A dictionary whose longest frame has three octets.
-pub const CALLS: &str = r#"version = 1
-[[frame]]
-type = 0
-name = "call"
-length = 0
-answered = true
-[[frame]]
-type = 128
-name = "reply"
-length = 0
-[[frame]]
-type = 9
-name = "notice"
-length = 0
-"#;
-
-/// A dictionary with names for bits, whose longest frame has five octets.
-pub const STATES: &str = r#"version = 1
-[[frame]]
-type = 1
-name = "poll"
-length = 1
-answered = true
-[[frame]]
-type = 129
-name = "state"
-length = 2
-bits = [ { at = 9, name = "flash" }, { at = 0, name = "call1" }, { at = 7, name = "ped" } ]
-"#;
 
 /// A packed capture of one call: 57 bits, a flag, the frame and a flag.
 pub const PACKED: [u8; 24] = [

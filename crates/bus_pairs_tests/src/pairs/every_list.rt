@@ -2,8 +2,7 @@
 
 ghost use Rattle.std.specs.Prelude.{◌-◌, ◌<◌};
 
-use super::super::bits_of;
-use super::{new_analyser, pairs_of};
+use super::{bits_of, new_analyser, pairs_of};
 use crate::expect::same;
 use bus_bits::bits_number;
 use bus_dictionary::Dictionary;

@@ -1,0 +1,11 @@
+//! Tests of the public calls of `bus_bits` and `bus_fcs`. They stand apart so that the gate proves each library once.
+#![tactic(auto)]
+
+#[cfg(test)]
+mod bits;
+#[cfg(test)]
+mod expect;
+#[cfg(test)]
+mod fcs;
+#[cfg(test)]
+mod pairs;

@@ -1,0 +1,13 @@
+//! What the tests of several crates share: dictionaries' texts, worked lists as words, and the bits of words. Nothing
+//! of what is tested is in it, so that it is proved beside that.
+#![tactic(auto)]
+
+mod dictionaries;
+mod round;
+mod table;
+mod words;
+
+pub use dictionaries::{CALLS, POLLS, WITHIN};
+pub use round::{DAMAGED, ROUND_BITS, ROUND_OCTETS, ROUNDS, round_octets, round_of};
+pub use table::{DAMAGE, FRAMES, Row, row_of};
+pub use words::{FAR, bits_of, joined};
