@@ -1,6 +1,8 @@
 use Rattle.std.proofs.Common.{◌≤◌, ◌^◌, List, [], ◌∷◌, ◌++◌, sym, ap, ◌∙◌, arith}
-use Rattle.bus_capture.proofs.CapturesLemmas.{followed-fits}
-use Rattle.bus_capture.proofs.SessionsPackedLemmas.{octets-taken}
+use Rattle.bus_bits.specs.Capture.{CaptureOf}
+use Rattle.bus_bits.specs.Packed.{packed_fault_of}
+use Rattle.bus_capture.proofs.CapturesLemmas.{fault-in, followed-fits}
+use Rattle.bus_capture.proofs.SessionsPackedLemmas.{faulty-stops, octets-taken}
 use Rattle.bus_capture.proofs.packed.take_octet.Goals as goal
 
 pub returns-in-Ok-clause-taken : goal.returns-in-Ok-clause-taken
@@ -16,3 +18,15 @@ returns-in-Ok-clause-taken g c =
     (b ++ c.as_slice.result.now) c.take_symbols.result low
     given.0 (given.1 ∙ ap (λ (x : List g.row.T-Symbol.Denot). b ++ x) (sym c.as_slice.ensures))
     (c.take_symbols.ensures.taken start b followed.bits)
+
+pub returns-in-Err-clause-taken : goal.returns-in-Err-clause-taken
+returns-in-Err-clause-taken g c =
+    λ start xs followed.
+    let tap = g.T.Tap.tap in
+    let more = tap.form.packed (xs ++ c.args.octet ∷ []) in
+    let b = (tap.form.packed xs).bits in
+    let is = c.in-Err.ensures xs followed.read in
+    faulty-stops tap start _ c.args.run.now _ c.body_fault.result
+    (fault-in tap c.laws.ensures start _ c.args.run.now more b (packed_fault_of c.in-Err.fault) c.body_fault.result
+    c.requires c.body_fault.ensures (ap (λ (d : CaptureOf g.row.T-Symbol.Denot). d.bits) is)
+    (ap (λ (d : CaptureOf g.row.T-Symbol.Denot). d.fault) is) followed.bits)

@@ -2,6 +2,7 @@ use Rattle.std.proofs.Common.{List, ℕ, false, subst, arith}
 use Rattle.std.proofs.lemmas.Result.{err_from_is_err_and}
 use Rattle.bus_capture.specs.Internal.Sessions.{FollowsBody, Stops}
 use Rattle.bus_capture.proofs.SessionsPackedLemmas.{first-octet, none-read}
+use Rattle.bus_capture.proofs.WatchingLemmas.{same-both}
 use Rattle.bus_capture.proofs.packed.take_some.Goals as goal
 
 pub returns-in_err-take_octet-clause-taken : goal.returns-in_err-take_octet-clause-taken
@@ -28,3 +29,21 @@ returns-clause-taken g c = λ start xs followed.
     subst (FollowsBody tap start (g.W.Write.contents c.take_octet.new.w) c.take_octet.new.body c.take_octet.new.run)
     (first-octet xs c.args.octets.now c.requires.some)
     (c.in_ok-take_octet.ensures.taken start xs here)
+
+pub returns-in_err-taken-clause-taken : goal.returns-in_err-taken-clause-taken
+returns-in_err-taken-clause-taken g c =
+    let failed = err_from_is_err_and c.from_residual.result c.from_residual.ensures.1 in
+    rw (failed.1, failed.2) c.in_err-taken.ensures.taken
+
+pub returns-then-taken-gt0-clause-taken : goal.returns-then-taken-gt0-clause-taken
+returns-then-taken-gt0-clause-taken g c = c.in_ok-taken.ensures.taken
+
+pub returns-in_err-take_octet-clause-same : goal.returns-in_err-take_octet-clause-same
+returns-in_err-take_octet-clause-same g c =
+    same-both g.T.Tap.tap c.args.run.now c.take_packed.new.run c.take_octet.new.run c.take_packed.ensures.same
+    c.take_octet.ensures.same
+
+pub returns-clause-same : goal.returns-clause-same
+returns-clause-same g c =
+    same-both g.T.Tap.tap c.args.run.now c.take_packed.new.run c.take_octet.new.run c.take_packed.ensures.same
+    c.take_octet.ensures.same

@@ -1,6 +1,7 @@
 use Rattle.std.proofs.Common.{◌++◌, refl}
 use Rattle.std.proofs.lemmas.Result.{err_from_is_err_and}
 use Rattle.bus_text.specs.Pages.{Pages}
+use Rattle.bus_text.proofs.PagesLemmas.{cuts-more}
 use Rattle.bus_capture.specs.Internal.Watching.{lines, last_lines}
 use Rattle.bus_capture.proofs.WatchingLemmas.{pages-ended, pages-unended}
 use Rattle.bus_capture.proofs.run.CaptureRun.end.Goals as goal
@@ -42,3 +43,11 @@ returns-in_err-close g c =
           turned
     ] in
     c.in_err-close.ensures.closed start text page)
+
+pub returns-in_err-make_room : goal.returns-in_err-make_room
+returns-in_err-make_room g c =
+    let failed = err_from_is_err_and c.from_residual.result c.from_residual.ensures.1 in
+    rw (failed.1, failed.2) (λ start b followed.
+    let tap = g.T.Tap.tap in
+    cuts-more start _ (lines tap c.args.self b) (last_lines tap c.args.self b) c.in_err-make_room.field-0.0.sent
+    (c.in_err-make_room.ensures.turned start (lines tap c.args.self b) followed.page))

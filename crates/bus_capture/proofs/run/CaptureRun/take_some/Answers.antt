@@ -5,7 +5,7 @@ use Rattle.bus_text.specs.Pages.{Pages}
 use Rattle.bus_text.specs.declared.fault.ToolFault.TheVariants as fault
 use Rattle.bus_dictionary.specs.Entry.{FrameType}
 use Rattle.bus_capture.specs.Internal.Watching.{lines, printed}
-use Rattle.bus_capture.proofs.WatchingLemmas.{watched, halted, halts-word, cut-off, sound-next, below}
+use Rattle.bus_capture.proofs.WatchingLemmas.{unheard, watched, halted, halts-word, cut-off, sound-next, below}
 use Rattle.bus_capture.proofs.run.CaptureRun.take_some.Goals as goal
 
 pub returns-in-Err-clause-taken : goal.returns-in-Err-clause-taken
@@ -77,3 +77,21 @@ returns-in_ok-tell-clause-sound g c =
     ∙ ap (λ k. place + k) (c.laws.ensures.long n c.args.word) in
     sound-next tap c.args.self.now _ n within.0 next (omega (arith, most, within.1))
     (c.in_ok-tell.ensures.few (2 * place) c.requires.sound.counts) c.in_ok-tell.ensures.octets c.requires.sound
+
+pub tell-requires-clause-few : goal.tell-requires-clause-few
+tell-requires-clause-few g c =
+    let tap = g.T.Tap.tap in
+    let place = tap.watch.place c.args.self.now.analyser in
+    let most = below (place + c.args.count) c.in-Ok.ensures.limit.1 in
+    (2 * place, c.requires.sound.counts, omega (arith, most, c.requires.some))
+
+pub tell-requires-clause-sent : goal.tell-requires-clause-sent
+tell-requires-clause-sent g c = omega (arith, c.requires.sound.octets, c.requires.sound.places)
+
+pub returns-else-is_decided-clause-taken : goal.returns-else-is_decided-clause-taken
+returns-else-is_decided-clause-taken g c =
+    λ start b followed.
+    let tap = g.T.Tap.tap in
+    unheard tap start _ c.args.self.now (record c.args.self.now { analyser = c.take.new.self }) b
+    (tap.symbols c.in-Ok.taken c.args.word) (tap.heard c.take.new.self) refl
+    (c.is_decided.ensures.0 c.if-is_decided.false) followed c.in-Ok.ensures.sees

@@ -1,10 +1,11 @@
 use Rattle.std.proofs.Common.{◌≡◌, ◌+◌, ◌++◌, ◌∷◌, [], Some, None, length, refl, sym, ap, ◌∙◌, subst, arith}
-use Rattle.std.proofs.Common.{length-append}
+use Rattle.std.proofs.Common.{append-nil, length-append}
 use Rattle.bus_text.proofs.PagesLemmas.{cut-short, cuts-more, pages-printed}
 use Rattle.bus_talk.specs.Shown.{found_on}
 use Rattle.bus_capture.specs.Internal.Telling.{IsOut}
 use Rattle.bus_capture.specs.Internal.Watching.{printed}
-use Rattle.bus_capture.proofs.TellingLemmas.{not-cut}
+use Rattle.bus_capture.proofs.TellingLemmas.{not-both, not-cut, not-none, still-cut}
+use Rattle.bus_capture.specs.Internal.TellingLaws.{few-within}
 use Rattle.bus_capture.proofs.TwoLinesLemmas.{counted-on}
 use Rattle.bus_capture.proofs.teller.TellerPairListener.hear.Goals as goal
 
@@ -41,8 +42,8 @@ returns-in-Err-clause-heard g c =
             cuts-more start _ text more c.in-Err.cut.sent (c.in-Err.ensures.turned start text before),
             omega (arith, short, length-append text more),
           );
-      stays = λ sent cut. absurd (cc);
-      counted = λ all is whole. absurd (cc);
+      stays = λ sent cut. absurd (not-both c.args.self.now.cut sent none cut);
+      counted = λ all is whole. absurd (not-both (Some c.in-Err.cut) c.in-Err.cut whole refl);
       few = λ most few. c.count.ensures.few most few;
       octets = omega (arith, ap (λ page. page.written + length page.text) same);
     }
@@ -66,3 +67,26 @@ returns-clause-heard g c =
       few = λ most few. c.count.ensures.few most few;
       octets = omega (arith, c.put.ensures.len, c.put.ensures.written, c.in_default-make_room.ensures.sum);
     }
+
+pub returns-then-is_some-clause-heard : goal.returns-then-is_some-clause-heard
+returns-then-is_some-clause-heard g c =
+    let cut = c.if-is_some.ensures in
+    record {
+      printer = refl;
+      out = λ start text so-far. still-cut start _ c.args.self.now.page c.args.self.now.cut text _ cut so-far;
+      stays = λ sent is. is;
+      counted = λ all is none. absurd (not-none c.args.self.now.cut cut none);
+      few = λ most few. few-within most (most + 1) c.args.self.now.summary (omega arith) few;
+      octets = omega arith;
+    }
+
+pub returns-in_default-clause-heard : goal.returns-in_default-clause-heard
+returns-in_default-clause-heard g c = record {
+  printer = refl;
+  out = λ start text so-far. rw (c.in_default.is, append-nil text) so-far;
+  stays = λ sent cut. cut;
+  counted = λ all is whole. c.count.ensures.counted all c.args.octets.now is
+      ∙ counted-on all c.args.line c.args.octets.now c.args.finding.now;
+  few = λ most few. c.count.ensures.few most few;
+  octets = omega arith;
+}

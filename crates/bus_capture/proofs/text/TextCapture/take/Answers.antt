@@ -18,9 +18,6 @@ loop-taken-init g c = record {
       (sym (append-nil xs)) (record { clean = followed.clean; bits = followed.bits });
 }
 
-pub take_text-requires : goal.take_text-requires
-take_text-requires g c = c.loop-taken.invariant.sound
-
 pub returns-in_err-many-clause-taken : goal.returns-in_err-many-clause-taken
 returns-in_err-many-clause-taken g c =
     let failed = err_from_is_err_and c.from_residual.result c.from_residual.ensures.1 in
@@ -54,9 +51,6 @@ loop-taken-preserved-then-many-gt0 g c = record {
       (octets-next xs os i c.in_ok-many.many)
       (c.in_ok-many.ensures.taken start (xs ++ take i os) (c.loop-taken.invariant.front start xs followed));
 }
-
-pub take_one-requires : goal.take_one-requires
-take_one-requires g c = c.take_text.ensures.sound
 
 pub returns-in_err-take_one-clause-taken : goal.returns-in_err-take_one-clause-taken
 returns-in_err-take_one-clause-taken g c =
