@@ -1,5 +1,5 @@
-//! What the program can be asked for, and what it does: a request is served by one of the public calls, whose ending is a
-//! status. Words, and what they ask for, are another crate's.
+//! What the program can be asked for, and what it does: a request is served by one of the public calls, whose ending is
+//! a status. Words, and what they ask for, are another crate's.
 #![tactic(auto)]
 
 mod request;

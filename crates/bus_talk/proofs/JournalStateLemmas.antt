@@ -191,7 +191,8 @@ idle-quiet d Abort idle = absurd (cc)
 -- what a piece that is no frame changes
 pub keeps-damage : (old new : JournalState) (rs : List Heard) (r : Heard) → Keeps old rs →
     is_damage r.report.kind ≡ true
-    → new ≡ record old { waiting = None; tally = new.tally; last = new.last; handled = new.handled } → new.handled ≡ old.handled + 3 →
+    → new ≡ record old { waiting = None; tally = new.tally; last = new.last; handled = new.handled }
+    → new.handled ≡ old.handled + 3 →
     Counted (option_map (verdict old.dictionary None) old.waiting) old.tally new.tally → Keeps new (rs ++ r ∷ [])
 keeps-damage old new rs r kept damage is three_steps verdict_counted =
     let quiet = damage-quiet old.dictionary r.report.kind damage in
@@ -210,7 +211,8 @@ keeps-damage old new rs r kept damage is three_steps verdict_counted =
 
 -- and what an idle changes
 pub keeps-idle : (old new : JournalState) (rs : List Heard) (r : Heard) → Keeps old rs → is_idle r.report.kind ≡ true
-    → new ≡ record old { last = new.last; handled = new.handled } → new.handled ≡ old.handled + 3 → Keeps new (rs ++ r ∷ [])
+    → new ≡ record old { last = new.last; handled = new.handled } → new.handled ≡ old.handled + 3
+    → Keeps new (rs ++ r ∷ [])
 keeps-idle old new rs r kept idle is three_steps =
     let quiet = idle-quiet old.dictionary r.report.kind idle in
     let j : JournalState = record old { last = new.last; handled = new.handled } in

@@ -1,5 +1,5 @@
-//! What the reports of a line say of the talk on it: which frames are commands and which answer them (NEMA TS 2, section
-//! 3.3), the verdicts of each station, the last frames, and who is told.
+//! What the reports of a line say of the talk on it: which frames are commands and which answer them (NEMA TS 2,
+//! section 3.3), the verdicts of each station, the last frames, and who is told.
 //!
 //! [`Pairing`] pairs commands with answers by rules in any memory; [`Journal`] also keeps the verdicts and the last
 //! frames. Both are given reports, of one line or of two in the order in which they are decided, and know nothing of
