@@ -1,5 +1,5 @@
 -- The bits of a frame in a sink with room for them.
-use Rattle.std.proofs.Common.{◌≡◌, ℕ, ◌≤◌, Bool, true, List, [], ◌++◌, length, take, Option, None, Some, Result, Err}
+use Rattle.std.proofs.Common.{◌≡◌, ℕ, ◌≤◌, true, List, [], ◌++◌, length, take, None, Some, Result, Err}
 use Rattle.std.proofs.Common.{ap, ◌∙◌, arith, length-take}
 use Rattle.bus_line.specs.BitSink.{BitSinkView}
 use Rattle.bus_line.specs.Line.{Frame, added, gain, raw_bits}

@@ -1,6 +1,6 @@
 -- Bits of one octet.
 use Rattle.std.proofs.Common.{◌≡◌, ℕ, zero, suc, ◌+◌, ◌-◌, ◌*◌, ◌/◌, ◌%◌, ◌^◌, ◌≤◌, ◌==◌, List, Bool, [], ◌∷◌, ◌++◌}
-use Rattle.std.proofs.Common.{take, drop, length, refl, ap, sym, ◌∙◌, arith, w8}
+use Rattle.std.proofs.Common.{take, drop, refl, ap, sym, ◌∙◌, arith, w8}
 use Rattle.std.specs.Prelude.{slice_index}
 use Rattle.std.proofs.Math.Seq.{drop-append_seam}
 use mathlib.Core.List.{reverse_aux}
@@ -8,7 +8,7 @@ use Rattle.std.specs.Int.{reverse_bits, reverse_bits_onto}
 use Rattle.bus_bits.specs.Octet.{bits_of}
 use Rattle.bus_bits.specs.Bits.{bits_from}
 use Rattle.bus_bits.proofs.OctetLemmas.{bits-front, bits-split, length-bits}
-use Rattle.bus_bits.proofs.BitLemmas.{bits-in, front-from, length-from}
+use Rattle.bus_bits.proofs.BitLemmas.{bits-in}
 use Rattle.port1_c.specs.Bits.{high_first}
 
 -- an octet alone, from any of its bits on

@@ -1,4 +1,4 @@
-use Rattle.std.proofs.Common.{◌≡◌, ◌≤◌, ◌*◌, ◌-◌, ◌%◌, length, inl, inr, refl, arith}
+use Rattle.std.proofs.Common.{◌≤◌, ◌*◌, ◌-◌, ◌%◌, length, inl, inr, refl, arith}
 use Rattle.port1_c.proofs.SendLemmas.{follows-idles, follows-no-idles, idles-count, idles-gain, sends-all, sends-none}
 use Rattle.port1_c.specs.Send.{idles}
 use Rattle.port1_c.proofs.send.port1_send_align.Goals as goal
