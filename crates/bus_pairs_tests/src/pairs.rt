@@ -143,11 +143,7 @@ struct TwoLines {
 
 /// The pairs of the bits of two lines, as many on both.
 fn pairs_of(rt: &impl Abort, alloc: Global, first: &[bool], second: &[bool]) -> Vec<(bool, bool)> {
-    let mut pairs = Vec::new(alloc);
-    for (bit, other) in first.iter().zip(second) {
-        pairs.push((*bit, *other)).expect(rt, "memory");
-    }
-    pairs
+    bus_rows::pairs_of(alloc, first, second).expect(rt, "memory")
 }
 
 /// The lists of these words, the shorter going on with one bit value.

@@ -8,6 +8,6 @@ mod table;
 mod words;
 
 pub use dictionaries::{CALLS, POLLS, WITHIN};
-pub use round::{DAMAGED, ROUND_BITS, ROUND_OCTETS, ROUNDS, round_octets, round_of};
+pub use round::{DAMAGED, ROUND_BITS, ROUND_OCTETS, ROUNDS, round_octets, round_of, round_pairs};
 pub use table::{DAMAGE, FRAMES, Row, row_of};
-pub use words::{FAR, bits_of, joined};
+pub use words::{FAR, bits_of, bits_of_pattern, joined, octets_of, pairs_of};

@@ -43,3 +43,15 @@ pub fn round_octets(bits: &[bool; ROUND_BITS]) -> [u8; ROUND_OCTETS] {
     }
     octets
 }
+
+/// The pairs of two rounds.
+pub fn round_pairs(
+    first: &[bool; ROUND_BITS],
+    second: &[bool; ROUND_BITS],
+) -> [(bool, bool); ROUND_BITS] {
+    let mut pairs = [(true, true); ROUND_BITS];
+    for (pair, (one, other)) in pairs.iter_mut().zip(first.iter().zip(second)) {
+        *pair = (*one, *other);
+    }
+    pairs
+}

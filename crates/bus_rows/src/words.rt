@@ -57,3 +57,44 @@ pub fn joined(alloc: Global, texts: &[&str]) -> Result<String, AllocError> {
     }
     Ok(all)
 }
+
+/// The lowest `count` bits of `pattern`, sixteen at most, the lowest first, after these.
+pub fn bits_of_pattern(
+    alloc: Global,
+    before: &[bool],
+    pattern: u32,
+    count: u32,
+) -> Result<Vec<bool>, AllocError> {
+    let mut bits = Vec::new(alloc);
+    bits.extend_from_slice(before)?;
+    for at in 0..count.min(16) {
+        bits.push(pattern >> at & 1 == 1)?;
+    }
+    Ok(bits)
+}
+
+/// The pairs of the bits of two lines, as many as the shorter has.
+pub fn pairs_of(
+    alloc: Global,
+    first: &[bool],
+    second: &[bool],
+) -> Result<Vec<(bool, bool)>, AllocError> {
+    let mut pairs = Vec::new(alloc);
+    for (bit, other) in first.iter().zip(second) {
+        pairs.push((*bit, *other))?;
+    }
+    Ok(pairs)
+}
+
+/// These bits in octets, the first of each lowest; the last may lack bits, which are then 0.
+pub fn octets_of(alloc: Global, bits: &[bool]) -> Result<Vec<u8>, AllocError> {
+    let mut octets = Vec::new(alloc);
+    for eight in bits.chunks(8) {
+        let mut octet: u8 = 0;
+        for bit in eight.iter().rev() {
+            octet = octet << 1 | u8::from(*bit);
+        }
+        octets.push(octet)?;
+    }
+    Ok(octets)
+}

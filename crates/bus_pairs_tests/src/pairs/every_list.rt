@@ -4,10 +4,10 @@ ghost use Rattle.std.specs.Prelude.{◌-◌, ◌<◌};
 
 use super::{bits_of, new_analyser, pairs_of};
 use crate::expect::same;
-use bus_bits::bits_number;
 use bus_dictionary::Dictionary;
 use bus_fcs::{Check, OctetCheck};
 use bus_line::{OwnedPiece, Piece, reports_whole};
+use bus_rows::{bits_of_pattern, octets_of};
 use bus_watch::{Finding, Line, PairAnalyser, PairListener, PairSink, Seen, SinkRefused};
 use std::alloc::Global;
 use std::process::Abort;
@@ -198,13 +198,7 @@ pub(super) fn hears<C: Check>(
 
 /// These bits from one on in octets, the first the lowest.
 fn octets_from(rt: &impl Abort, alloc: Global, bits: &[bool], from: usize) -> Vec<u8> {
-    let mut octets = Vec::new(alloc);
-    for eight in bits.get(from..).expect(rt, "a bit").chunks(8) {
-        assert!(rt; eight.len() <= 8);
-        let [octet, ..] = bits_number(eight).to_le_bytes();
-        octets.push(octet).expect(rt, "memory");
-    }
-    octets
+    octets_of(alloc, bits.get(from..).expect(rt, "a bit")).expect(rt, "memory")
 }
 
 /// Whether the pairs, all fed at once, tell the merged reports in order and nothing else.
@@ -250,23 +244,13 @@ fn differing_second(
     None
 }
 
-/// The lowest `count` bits of `pattern`, the lowest first, after these.
-fn list_of(rt: &impl Abort, alloc: Global, before: &[bool], pattern: u32, count: u32) -> Vec<bool> {
-    let mut bits = Vec::new(alloc);
-    bits.extend_from_slice(before).expect(rt, "memory");
-    for at in 0..count.min(16) {
-        bits.push(pattern >> at & 1 == 1).expect(rt, "memory");
-    }
-    bits
-}
-
 /// Each list of `count` bits after these.
 fn sides(rt: &impl Abort, alloc: Global, before: &str, count: u32) -> Vec<Side> {
     let before = bits_of(rt, alloc, before);
     let patterns: u32 = 1 << count.min(16);
     let mut sides = Vec::new(alloc);
     for pattern in 0..patterns {
-        let bits = list_of(rt, alloc, &before, pattern, count);
+        let bits = bits_of_pattern(alloc, &before, pattern, count).expect(rt, "memory");
         sides
             .push(side_of(rt, alloc, bits, 256))
             .expect(rt, "memory");

@@ -6,7 +6,7 @@ use bus_bits::bits_number;
 use bus_dictionary::Dictionary;
 use bus_fcs::{BitCheck, Check, OctetCheck};
 use bus_line::Span;
-use bus_rows::{DAMAGED, ROUND_BITS, ROUNDS, round_octets, round_of};
+use bus_rows::{DAMAGED, ROUND_BITS, ROUNDS, round_octets, round_of, round_pairs};
 use bus_seen::calls_if_memory;
 use bus_watch::{
     Counts, Finding, Line, NewFault, PairAnalyser, PairEnding, PairListener, PairSink, Seen,
@@ -203,10 +203,7 @@ struct Round {
 fn round_of_two(rt: &impl Abort, first: &str, second: &str) -> Round {
     let first = round_of(first).expect(rt, "a round");
     let second = round_of(second).expect(rt, "a round");
-    let mut pairs = [(true, true); ROUND_BITS];
-    for (pair, (one, other)) in pairs.iter_mut().zip(first.iter().zip(&second)) {
-        *pair = (*one, *other);
-    }
+    let pairs = round_pairs(&first, &second);
     Round {
         first,
         second,

@@ -90,9 +90,8 @@ fn analyser(rt: &impl Abort, alloc: Global) -> PairAnalyser<OctetCheck> {
 
 /// Appends the first `count` of these bits, or all where they are fewer.
 fn push_some(rt: &impl Abort, all: &mut Vec<bool>, bits: &[bool], count: usize) {
-    for bit in bits.iter().take(count) {
-        all.push(*bit).expect(rt, "memory");
-    }
+    let some = bits.get(..count).unwrap_or(bits);
+    all.extend_from_slice(some).expect(rt, "memory");
 }
 
 /// Parts and beginnings of parts, one after the other; the same seed gives the same lists.
