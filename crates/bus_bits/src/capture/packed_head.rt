@@ -81,7 +81,7 @@ fn read_count(head: &[u8; 16], letters: &[u8; 8]) -> Result<u64, HeadFault>
 fn count(head: &[u8; 16]) -> u64
     ensures { result ≡ head_bits head.now }
 {
-    u64::from_le_bytes([
-        head[8], head[9], head[10], head[11], head[12], head[13], head[14], head[15],
-    ])
+    let mut octets = [0; 8];
+    octets.copy_from_slice(&head[8..]);
+    u64::from_le_bytes(octets)
 }
