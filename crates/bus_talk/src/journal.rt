@@ -23,7 +23,8 @@ use std::marker::Model;
 /// What is kept of the reports so far: the command that waits, the verdicts for each station, and
 /// the last frames.
 ///
-/// It takes memory once, for the history, when it is made.
+/// It is given the reports of one line, or of two in the order in which they are decided. It takes memory once, for
+/// the history, when it is made.
 #[derive(Drop)]
 pub struct Journal {
     dictionary: Dictionary,
@@ -71,7 +72,7 @@ impl Journal {
     ghost use Rattle.bus_talk.specs.Talk.{is_idle};
     ghost use Rattle.bus_dictionary.specs.Standing.{standing};
 
-    /// A journal of no reports, whose history has room for `depth` frames.
+    /// A journal of no reports, whose history keeps `depth` frames, one or more. Fails only where memory was refused.
     pub fn new(alloc: Global, dictionary: Dictionary, depth: usize) -> Result<Self, AllocError>
         requires { 1 ≤ depth }
         ensures keeps { IfOk result (λ j. Keeps j []) }
@@ -88,9 +89,11 @@ impl Journal {
         })
     }
 
-    /// Takes a report of a line, a frame with these octets, and keeps what follows from it as the last.
-    /// `line` is `None` where there is one line. Every caller passes a constant, so that `enter` is compiled
-    /// once for one line and once for two.
+    /// Takes a report of a line, a frame with these octets; [`Journal::last`] returns what follows from it. `line` is
+    /// `None` where there is one line.
+    ///
+    /// A frame has 4 to 258 octets, and the counters have room for the steps and the verdict of one report more.
+    // Every caller passes a constant line, so that `enter` is compiled once for one line and once for two.
     #[inline(always)]
     pub fn take(&mut self, line: Option<Line>, event: Event, octets: &[u8])
         requires whole { IsWhole event.kind octets.now }
@@ -145,7 +148,7 @@ impl Journal {
         }
     }
 
-    /// What the last report was found to be.
+    /// What the last report was found to be; before the first it says nothing.
     #[inline(always)]
     pub fn last(&self) -> &Finding
         ensures { result.now ≡ self.now.last }
@@ -232,7 +235,7 @@ impl Journal {
         self.history.get(i)
     }
 
-    /// How many frames the history has.
+    /// How many frames the history has: at most its depth.
     pub fn kept_len(&self) -> usize
         ensures value { result ≡ length self.now.history }
         ensures within { result ≤ self.now.depth }
@@ -261,11 +264,22 @@ impl Journal {
         &self.dictionary
     }
 
-    /// The steps that are counted here: `copied` and `handled`.
+    /// The steps that are counted here: `copied` and `handled`; the others are 0.
     pub fn spent(&self) -> Spent
-        ensures copied { result.copied ≡ self.now.copied }
-        ensures handled { result.handled ≡ self.now.handled }
+        ensures { result
+            ≡ record {
+              shifted = 0;
+              assembled = 0;
+              folded = 0;
+              stored = 0;
+              copied = self.now.copied;
+              handled = self.now.handled;
+            } }
     {
-        self.spent
+        Spent {
+            copied: self.spent.copied,
+            handled: self.spent.handled,
+            ..Spent::zero()
+        }
     }
 }

@@ -1,4 +1,5 @@
 use Rattle.std.proofs.Common.{ap, arith}
+use Rattle.bus_bits.specs.declared.spent.Spent.{Spent}
 use Rattle.bus_watch.specs.Pairs.{PairState}
 use Rattle.bus_watch.specs.Internal.PairView.{pair_state}
 use Rattle.bus_watch.proofs.PairLemmas.{pair-ledger, pair-four, pair-three, pair-seventeen, both-within}
@@ -51,7 +52,7 @@ returns-clause-ledger g c = λ ps reached.
     (pair-ledger g.C.Check.check (pair_state c.self.inside) ps c.spent-first.result
     c.spent-second.result c.spent-journal.result inside
     (c.spent-first.ensures.ledger _ inside.first) (c.spent-second.ensures.ledger _ inside.second)
-    c.spent-journal.ensures.copied c.spent-journal.ensures.handled)
+    (ap (λ (x : Spent). x.copied) c.spent-journal.ensures) (ap (λ (x : Spent). x.handled) c.spent-journal.ensures))
 
 pub returns-clause-four : goal.returns-clause-four
 returns-clause-four g c = λ ps reached.
