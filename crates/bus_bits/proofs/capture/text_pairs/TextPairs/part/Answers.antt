@@ -1,8 +1,9 @@
-use Rattle.std.proofs.Common.{◌-◌, ◌*◌, length, drop, zip, refl, ◌∙◌, arith}
-use Rattle.std.proofs.lemmas.List.{length-take, length-drop, length-set}
+use Rattle.std.proofs.Common.{◌-◌, ◌*◌, ℕ, List, length, take, drop, zip, refl, sym, ◌∙◌, subst, inl, inr, arith}
+use Rattle.std.proofs.lemmas.Bool.{false≢true}
+use Rattle.std.proofs.lemmas.List.{length-take, length-drop, length-set, take_rest}
 use Rattle.bus_bits.specs.Octet.{bits_of}
 use Rattle.bus_bits.specs.Bits.{bits_from}
-use Rattle.bus_bits.specs.Capture.{text_pairs, text_pairs_fault}
+use Rattle.bus_bits.specs.Capture.{EightPairsIn, text_pairs, text_pairs_fault}
 use Rattle.bus_bits.proofs.GatherLemmas.{none-given, more-given}
 use Rattle.bus_bits.proofs.PairBlockLemmas.{pairs-stored}
 use Rattle.bus_bits.proofs.capture.text_pairs.TextPairs.part.Goals as goal
@@ -39,3 +40,14 @@ loop-filled-preserved c =
       first = length-set first at eight.first ∙ before.first;
       second = length-set second at eight.second ∙ before.second;
     }
+
+pub returns-in_default-clause-most : goal.returns-in_default-clause-most
+returns-in_default-clause-most c = λ room n which there.
+    let os = c.args.text.now in
+    let i = c.loop-filled.taken in
+    let part : List ℕ = take (length os - i) (drop i os) in
+    let here = subst (λ (xs : List ℕ). EightPairsIn n xs) (sym (take_rest os i)) there in
+    false≢true (c.in_default.ensures.some.1 (elim which [
+      | inl is ↦ inl (subst (λ (k : ℕ). EightPairsIn k part) is here)
+      | inr is ↦ inr (subst (λ (k : ℕ). EightPairsIn k part) is here)
+    ]))
