@@ -15,7 +15,7 @@
  *     bit that it was told, and touches no other bit;
  *   - after port1_pair_init, and as long as only port1_pair_take writes the pairing, with one table, each call
  *     that returns PORT1_OK tells the standing, the verdict and the stray of the definitions
- *     (crates/bus_watch/specs/Seen.antt) for the reports taken so far, by numbers that are named below;
+ *     (crates/bus_talk/specs/Seen.antt) for the reports taken so far, by numbers that are named below;
  *   - where a call refuses, with PORT1_BAD_STATE, PORT1_BAD_ARGUMENT, PORT1_BAD_LENGTH or PORT1_NO_ROOM,
  *     nothing has changed but what is said there.
  *
