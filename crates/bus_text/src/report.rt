@@ -1,6 +1,7 @@
 //! The parts of the report of a check.
 
 ghost use Rattle.std.specs.Prelude.{◌≡◌, ◌+◌, ◌++◌, ◌<◌, ◌≤◌, ◌^◌, ℕ, List, Option, MatchResult, OnOk, length};
+ghost use Rattle.std.specs.Prelude.{decimal};
 ghost use Rattle.bus_text.specs.CheckText.{count_text, summary_text, tally_line, has_none, tally_text, last_text};
 ghost use Rattle.bus_text.specs.Put.{Cuts};
 ghost use Rattle.bus_text.specs.Pages.{HasRoomFor, Pages};
@@ -15,6 +16,16 @@ use crate::summary::Summary;
 use crate::text::Text;
 use bus_talk::{Counts, Kept, Line};
 use std::io::Write;
+
+/// Appends a name and a number.
+fn push_named<const N: usize>(text: &mut Text<N>, name: &str, n: u64)
+    requires room { length text.old + 30 ≤ N }
+    requires short { length name.now ≤ 10 }
+    ensures { Adds text.old (name.now ++ decimal n) 30 text.new }
+{
+    text.push_str(name);
+    push_number(text, n);
+}
 
 /// Appends a word, a number and the end of the line.
 fn push_count<const N: usize>(text: &mut Text<N>, word: &str, count: u64)
@@ -52,14 +63,10 @@ fn push_tally<const N: usize>(text: &mut Text<N>, station: u8, counts: Counts)
 {
     text.push_str("station ");
     push_octet_number(text, station);
-    text.push_str(" answered ");
-    push_number(text, counts.answered);
-    text.push_str(" missing ");
-    push_number(text, counts.missing);
-    text.push_str(" spoilt ");
-    push_number(text, counts.spoilt);
-    text.push_str(" late ");
-    push_number(text, counts.late);
+    push_named(text, " answered ", counts.answered);
+    push_named(text, " missing ", counts.missing);
+    push_named(text, " spoilt ", counts.spoilt);
+    push_named(text, " late ", counts.late);
     text.push(b'\n');
 }
 
