@@ -11,7 +11,7 @@ use bus_dictionary::Standing;
 use bus_line::{Event, EventKind};
 
 /// One report, and what follows from it for the talk on the line, without the octets of a frame, which
-/// [`Analyser::octets`](crate::Analyser::octets) lends.
+/// whoever decoded it lends, as `LineDecoder::octets` of `bus_line` does.
 #[derive(Clone, Copy, Debug, PartialEq, Eq)]
 pub struct Finding {
     /// The report itself, with its bit places.
