@@ -1,6 +1,6 @@
 pub mod TalkLemmas
-pub mod JournalStateLemmas
 pub mod HistoryLemmas
+pub mod JournalStateLemmas
 pub mod SeenLemmas
 pub mod LedgerLemmas
 pub mod SinkLemmas

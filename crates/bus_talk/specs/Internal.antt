@@ -1,7 +1,5 @@
 -- What proofs and private functions speak of: the state behind a contract, and what holds of it between two steps.
 pub mod Damage
 pub mod Counted
-pub mod HistoryState
-pub mod HistoryView
 pub mod JournalView
 pub mod LogView

@@ -9,7 +9,6 @@ mod verdict;
 
 use crate::counts::Counts;
 use crate::finding::Finding;
-use crate::history::History;
 use crate::line::Line;
 use crate::pair_kept::PairKept;
 use crate::pairing::{command, is_stray};
@@ -17,6 +16,7 @@ use crate::pending::Pending;
 use bus_bits::{Span, Spent};
 use bus_dictionary::{Dictionary, Standing};
 use bus_line::{Event, EventKind};
+use circular_buffer::HeapCircularBuffer;
 use std::alloc::{AllocError, Global};
 use std::marker::Model;
 
@@ -31,7 +31,7 @@ pub struct Journal {
     waiting: Option<Pending>,
     /// By station.
     tally: [Counts; 256],
-    history: History,
+    history: HeapCircularBuffer<PairKept>,
     /// What the last report was found to be; before the first it says nothing.
     last: Finding,
     /// The steps `copied` and `handled`; the others are counted elsewhere.
@@ -43,11 +43,11 @@ impl Model for Journal {
 
     ghost Value = { JournalState };
 
-    ghost use Rattle.bus_talk.specs.Internal.JournalView.{journal_state, HasEveryStation};
+    ghost use Rattle.bus_talk.specs.Internal.JournalView.{journal_state, IsJournal};
 
     ghost view = { journal_state };
 
-    ghost invariant = { HasEveryStation };
+    ghost invariant = { IsJournal };
 }
 
 /// No verdict for any station.
@@ -78,7 +78,7 @@ impl Journal {
         ensures keeps { IfOk result (λ j. Keeps j []) }
         ensures given { IfOk result (λ j. (j.dictionary ≡ dictionary) × (j.depth ≡ depth)) }
     {
-        let history = History::new(alloc, depth)?;
+        let history = HeapCircularBuffer::with_capacity(alloc, depth)?;
         Ok(Journal {
             dictionary,
             waiting: None,

@@ -9,7 +9,6 @@
 mod counts;
 mod ending;
 mod finding;
-mod history;
 mod journal;
 mod kept;
 mod line;

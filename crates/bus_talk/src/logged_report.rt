@@ -1,6 +1,6 @@
 //! A report of a log.
 
-ghost use Rattle.std.specs.Prelude.{◌≡◌, ◌≤◌};
+ghost use Rattle.std.specs.Prelude.{◌≡◌, ◌≤◌, length};
 ghost use Rattle.bus_line.specs.Ledger.{octet_count};
 ghost use Rattle.bus_line.specs.Limits.{most_octets};
 ghost use Rattle.bus_talk.specs.Shown.{shown};
@@ -9,7 +9,7 @@ ghost use Rattle.bus_talk.specs.LoggedReport.{logged_report};
 use crate::kept::Kept;
 use crate::seen::Seen;
 use crate::verdict::Verdict;
-use bus_bits::Span;
+use bus_bits::{Span, Spent};
 use bus_dictionary::Standing;
 use bus_line::{Cause, Piece};
 
@@ -41,6 +41,17 @@ pub struct LoggedReport {
     pub stray: bool,
 }
 
+/// A copy of a frame. Its octets are no steps of an analyser.
+fn copied(span: Span, octets: &[u8]) -> Kept
+    requires { length octets.now ≤ most_octets }
+    ensures span { result.span ≡ span }
+    ensures octets { result.octets.items ≡ octets.now }
+{
+    let mut kept = Kept::blank();
+    kept.put(span, octets, &mut Spent::zero());
+    kept
+}
+
 impl LoggedReport {
     /// A copy of what is seen.
     pub fn of(seen: &Seen<'_>) -> Self
@@ -48,7 +59,7 @@ impl LoggedReport {
         ensures { logged_report result ≡ shown seen.now }
     {
         let piece = match seen.piece {
-            Piece::Frame { span, octets } => LoggedPiece::Frame(Kept::of(span, octets)),
+            Piece::Frame { span, octets } => LoggedPiece::Frame(copied(span, octets)),
             Piece::Damaged { span, cause } => LoggedPiece::Damaged { span, cause },
             Piece::Overlong { span } => LoggedPiece::Overlong { span },
             Piece::Abort { span } => LoggedPiece::Abort { span },

@@ -1,7 +1,7 @@
-//! Lines that are encoded, where no run of the program can show it.
+//! Lines that are encoded.
 
 use crate::expect::{holds, same};
-use crate::fakes::{Fixed, Narrow, Repeated};
+use crate::fakes::{Fixed, Narrow, Pieces, Repeated};
 use bus_tool::{ToolFault, encode_frames};
 use std::alloc::Global;
 use std::process::Abort;
@@ -26,6 +26,57 @@ fn endless_reader(rt: HostRuntime) {
     same(&rt, ending, Err(ToolFault::ReadsLimit), "an endless reader");
     holds(&rt, out.is_empty(), "nothing is written");
     same(&rt, reader.calls, 20, "the reads of an endless reader");
+}
+
+/// What the lines before the refused one give.
+#[test]
+fn refused_lines(rt: HostRuntime) {
+    for (lines, want, text) in [
+        ("frame 10", ToolFault::FrameLength(1), ""),
+        ("flag\nframes 1083", ToolFault::BadLine(2), "01111110\n"),
+    ] {
+        let mut reader = lines.as_bytes();
+        let mut writer = Fixed::new();
+        same(
+            &rt,
+            encode_frames(100, &mut reader, &mut writer),
+            Err(want),
+            lines,
+        );
+        same(&rt, writer.out.as_slice(), text.as_bytes(), lines);
+    }
+}
+
+/// An error of a reader is a fault, and no end of a line, at whichever read of one octet.
+#[test]
+fn failing_reads(rt: HostRuntime) {
+    for fails_at in 1..=32u64 {
+        let mut reader = Pieces {
+            rest: THREE,
+            piece: 1,
+            calls: 0,
+            fails_at,
+        };
+        let mut writer = Fixed::new();
+        let length = match fails_at {
+            0..=13 => 0,
+            14..=18 => 58,
+            19..=31 => 74,
+            _ => THREE_TEXT.len(),
+        };
+        same(
+            &rt,
+            encode_frames(100, &mut reader, &mut writer),
+            Err(ToolFault::Read),
+            fails_at,
+        );
+        same(
+            &rt,
+            writer.out.as_slice(),
+            &THREE_TEXT.as_bytes()[..length.min(THREE_TEXT.len())],
+            fails_at,
+        );
+    }
 }
 
 /// Encodes lines into a writer whose flush may fail: how it is to end, and how many flushes are wanted.

@@ -3,11 +3,12 @@
 use crate::expect::{holds, same};
 use crate::fakes::{Counted, Faltering, Fixed, Narrow, Pieces, Repeated};
 use crate::worked::{
-    CALL, CALL_AND_REPLY, CALL_AND_REPLY_TEXT, FLAG, IDLE, NONE, REPLY, joined, of_text, run_over,
+    CALL, CALL_AND_REPLY, CALL_AND_REPLY_TEXT, CALL_TEXT, FLAG, IDLE, MISSING_AND_SPOILT_REPORT,
+    NONE, ONE_CALL_TEXT, PACKED, REPLY, joined, of_text, run_over,
 };
 use bus_dictionary::DictFault;
 use bus_rows::CALLS;
-use bus_tool::{Options, Summary, ToolFault, list_capture};
+use bus_tool::{Options, Summary, ToolFault, check_capture, list_capture};
 use std::alloc::{AllocError, Global};
 use std::fmt::Display;
 use std::process::Abort;
@@ -120,18 +121,112 @@ fn flushes(rt: HostRuntime) {
     same(&rt, ending.err(), cut_after(126), case);
 }
 
-/// An error of a reader is a fault, and no end of the capture: at the first read, within a frame, and after all octets.
+/// What of a call and its reply is listed before this read of one octet fails.
+fn listed_before(read: u64) -> &'static str {
+    match read {
+        0..=57 => "",
+        58..=106 => CALL_TEXT,
+        _ => CALL_AND_REPLY_TEXT,
+    }
+}
+
+/// An error of a reader is a fault, and no end of the capture, at whichever read: before a report no line is written, and
+/// a check writes none at all.
 #[test]
 fn failing_reads(rt: HostRuntime) {
-    let capture = joined(rt.alloc(), &CALL_AND_REPLY).expect(&rt, "memory");
-    for (fails_at, text) in [(1, ""), (20, ""), (107, CALL_AND_REPLY_TEXT)] {
-        let case = format_args!("read {fails_at}");
-        let mut reader = pieces(capture.as_slice(), 1, fails_at);
-        let mut out = Vec::new(rt.alloc());
-        let ending = list_capture(rt.alloc(), &of_text(Some(CALLS)), &mut reader, &mut out);
-        same(&rt, ending, Err(ToolFault::Read), &case);
-        same(&rt, out.as_slice(), text.as_bytes(), &case);
+    let alloc = rt.alloc();
+    let capture = joined(alloc, &CALL_AND_REPLY).expect(&rt, "memory");
+    for fails_at in 1..=107u64 {
+        for (checks, text) in [(false, listed_before(fails_at)), (true, "")] {
+            let case = format_args!("read {fails_at}, checks: {checks}");
+            let mut reader = pieces(capture.as_slice(), 1, fails_at);
+            let mut out = Vec::new(alloc);
+            let ending = run_over(checks, alloc, &of_text(Some(CALLS)), &mut reader, &mut out);
+            same(&rt, ending, Err(ToolFault::Read), &case);
+            same(&rt, out.as_slice(), text.as_bytes(), &case);
+        }
     }
+}
+
+/// Lists a capture of these parts into a writer with this room, which is too small for the text.
+fn check_narrow(rt: &impl Abort, alloc: Global, parts: &[&str], text: &str, room: usize) {
+    let capture = joined(alloc, parts).expect(rt, "memory");
+    let mut reader = capture.as_slice();
+    let mut writer = Narrow::new(alloc, room, false);
+    let ending = list_capture(alloc, &of_text(Some(CALLS)), &mut reader, &mut writer);
+    same(rt, ending.err(), cut_after(room as u128), room);
+    same(
+        rt,
+        writer.out.as_slice(),
+        &text.as_bytes()[..room.min(text.len())],
+        room,
+    );
+}
+
+/// A writer that is full after so many octets took just these.
+#[test]
+fn narrow_writers(rt: HostRuntime) {
+    let alloc = rt.alloc();
+    check_narrow(&rt, alloc, &[FLAG, CALL, FLAG], ONE_CALL_TEXT, 12);
+    for room in 0..CALL_AND_REPLY_TEXT.len() {
+        check_narrow(&rt, alloc, &CALL_AND_REPLY, CALL_AND_REPLY_TEXT, room);
+    }
+}
+
+/// A packed capture, by pieces of every size, and cut short at every octet.
+#[test]
+fn packed_pieces(rt: HostRuntime) {
+    let alloc = rt.alloc();
+    let options = Options {
+        text: false,
+        ..of_text(Some(CALLS))
+    };
+    for size in 1..=PACKED.len() {
+        let mut out = Vec::new(alloc);
+        let ending = list_capture(alloc, &options, &mut pieces(&PACKED, size, 0), &mut out);
+        same(&rt, ending, Ok(Summary { frames: 1, ..NONE }), size);
+        same(&rt, out.as_slice(), ONE_CALL_TEXT.as_bytes(), size);
+    }
+    for size in 0..PACKED.len() {
+        let mut out = Vec::new(alloc);
+        let mut reader = &PACKED[..size];
+        let ending = list_capture(alloc, &options, &mut reader, &mut out);
+        let want = if size < 16 {
+            ToolFault::ShortHead
+        } else {
+            ToolFault::ShortBody
+        };
+        same(&rt, ending, Err(want), size);
+        holds(&rt, out.is_empty(), size);
+    }
+}
+
+/// A call without an answer, and one whose answer may be destroyed: the report, and a summary that is not clean.
+#[test]
+fn missing_and_spoilt(rt: HostRuntime) {
+    let alloc = rt.alloc();
+    let parts = [
+        FLAG,
+        CALL,
+        FLAG,
+        CALL,
+        FLAG,
+        "000000000000000000000000",
+        FLAG,
+    ];
+    let capture = joined(alloc, &parts).expect(&rt, "memory");
+    let mut reader = capture.as_slice();
+    let mut out = Vec::new(alloc);
+    let summary = check_capture(alloc, &of_text(Some(CALLS)), &mut reader, &mut out).expect(
+        &rt, "a report",
+    );
+    holds(&rt, !summary.is_clean(), "a summary that is not clean");
+    same(
+        &rt,
+        out.as_slice(),
+        MISSING_AND_SPOILT_REPORT.as_bytes(),
+        "the report",
+    );
 }
 
 /// A writer that is full takes nothing of what is left: a fault of the writer, with what it took.

@@ -13,6 +13,9 @@ use std::process::Abort;
 
 const IDLE: &[u8] = b"11111111 1111111\n";
 
+/// One call between flags.
+const CALL: &[u8] = b"01111110 00001000110000010000000010111110110100111 01111110\n";
+
 /// What is shown of the frame of that call.
 const SHOWN_CALL: &str = "frame 108300fde5 good\nstation 16 type 0 call\n";
 
@@ -34,7 +37,13 @@ fn see(rt: &impl Abort, alloc: Global, words: &[&str], input: &[u8], want: (u8, 
 /// No words at all list a text capture, `encode` writes bits, and `check` tells the place of a bad mark.
 #[test]
 fn stored_runs(rt: HostRuntime) {
-    see(&rt, rt.alloc(), &[], IDLE, (0, "0 15 idle\n", ""));
+    see(
+        &rt,
+        rt.alloc(),
+        &[],
+        CALL,
+        (0, "8 49 frame 108300fde5\n", ""),
+    );
     see(
         &rt,
         rt.alloc(),

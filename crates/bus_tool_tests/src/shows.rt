@@ -1,9 +1,28 @@
-//! Frames that are typed, with memory refused.
+//! Frames that are typed.
 
 use crate::expect::{holds, same};
 use crate::fakes::Fixed;
 use bus_rows::POLLS;
 use bus_tool::{ToolFault, show_frame};
+
+/// Frames with a good check and with a bad one, and what is no frame.
+#[test]
+fn shown(rt: HostRuntime) {
+    let head = "station 16 type 129 state\n0 call1\n9 flash\n";
+    for (hex, check) in [("10838101026e1f", "good"), ("1083810102ffff", "bad")] {
+        let mut writer = Fixed::new();
+        let want = format!(in rt.alloc(); "frame {hex} {check}\n{head}").expect(&rt, "memory");
+        let ending = show_frame(rt.alloc(), Some(POLLS), hex, &mut writer);
+        same(&rt, ending, Ok(()), hex);
+        same(&rt, writer.out.as_slice(), want.as_bytes(), hex);
+    }
+    for (hex, want) in [("10835", ToolFault::Hex), ("108345", ToolFault::FrameSize)] {
+        let mut writer = Fixed::new();
+        let ending = show_frame(rt.alloc(), Some(POLLS), hex, &mut writer);
+        same(&rt, ending, Err(want), hex);
+        holds(&rt, writer.out.is_empty(), hex);
+    }
+}
 
 /// To be run with each request for memory refused in turn: without a dictionary there is none.
 #[test]

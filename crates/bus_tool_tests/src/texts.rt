@@ -1,8 +1,22 @@
-//! The texts of faults that no run of the program reaches: its words keep these bounds, and a reader
-//! is called as often as a program can count.
+//! Words of kinds, and the texts of faults that no run of the program reaches: its words keep these bounds, and a
+//! reader is called as often as a program can count.
 
 use crate::expect::same;
-use bus_tool::ToolFault;
+use bus_tool::{Kind, ToolFault};
+
+#[test]
+fn kinds(rt: HostRuntime) {
+    for (word, kind) in [
+        ("frame", Some(Kind::Frame)),
+        ("late", Some(Kind::Late)),
+        ("open", Some(Kind::Begun)),
+        ("begun", None),
+        ("Frame", None),
+        ("", None),
+    ] {
+        same(&rt, Kind::read(word), kind, word);
+    }
+}
 
 #[test]
 fn faults(rt: HostRuntime) {

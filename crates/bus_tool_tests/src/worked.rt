@@ -50,6 +50,22 @@ last 8 49 108300fde5
 last 57 98 108380f561
 ";
 
+pub const MISSING_AND_SPOILT_REPORT: &str = "\
+frames 2
+damaged 1
+overlong 0
+aborts 0
+idles 0
+strays 0
+answered 0
+missing 1
+spoilt 1
+late 0
+station 16 answered 0 missing 1 spoilt 1 late 0
+last 8 49 108300fde5
+last 57 98 108300fde5
+";
+
 /// Fifty-seven ones, as many bits as a call and its flags have.
 pub const REST: &str = "111111111111111 111111111111111 111111111111111 111111111111";
 

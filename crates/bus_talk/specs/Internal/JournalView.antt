@@ -1,5 +1,5 @@
 -- A journal's fields, as they are seen, and what always holds of them.
-use Rattle.std.specs.Prelude.{◌≡◌, length, map}
+use Rattle.std.specs.Prelude.{◌≡◌, ◌≤◌, length, map}
 use Rattle.bus_talk.specs.History.{kept_pair}
 use Rattle.bus_talk.specs.Journal.{JournalState}
 use Rattle.bus_talk.specs.declared.journal.Journal.TheInside.{Inside}
@@ -16,6 +16,7 @@ journal_state j = record {
   handled = j.spent.handled;
 }
 
--- each station has its counts
-abbrev pub HasEveryStation : Inside → Type 0
-HasEveryStation j = length j.tally ≡ 256
+-- each station has its counts, and the history room for a frame
+pub record IsJournal (j : Inside) : Type 0 where
+  pub stations : length j.tally ≡ 256
+  pub depth : 1 ≤ j.history.capacity

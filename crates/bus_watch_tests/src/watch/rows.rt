@@ -1,8 +1,8 @@
 //! Worked lists: what is seen, the end and the tally, however the bits are cut.
 
-use super::sinks::{Collector, run};
+use super::sinks::{Collector, feed};
 use super::table::{WorkedList, pushed, taken, worked_list};
-use super::{bits_of, new_analyser, read};
+use super::{bits_of, new_analyser};
 use crate::expect::{holds, same};
 use bus_fcs::{BitCheck, Check, OctetCheck};
 use bus_line::Span;
@@ -44,19 +44,16 @@ fn damage(rt: HostRuntime) {
     check_bits_of_each(&rt, rt.alloc(), DAMAGE);
 }
 
-/// The bits as a run of two pieces.
+/// The bits fed in two pieces.
 fn check_cut<C: Check>(rt: &impl Abort, alloc: Global, row: &WorkedList, cut: usize) {
+    let case = format_args!("cut at {cut}");
     let (front, rest) = row.bits.split_at_checked(cut).expect(rt, "a cut");
-    let dictionary = read(rt, alloc, row.dictionary);
+    let mut analyser = row.analyser::<C>(rt, alloc);
     let mut sink = Collector::new(alloc, 0);
-    let run = run::<C>(rt, alloc, dictionary, &[front, rest], &mut sink).expect(rt, "a run");
-    push_ending(&mut sink.text, run.analyser.ending()).expect(rt, "text");
-    same(
-        rt,
-        sink.text.as_str(),
-        row.want,
-        format_args!("cut at {cut}"),
-    );
+    same(rt, feed(rt, &mut analyser, front, &mut sink), Ok(()), &case);
+    same(rt, feed(rt, &mut analyser, rest, &mut sink), Ok(()), &case);
+    push_ending(&mut sink.text, analyser.ending()).expect(rt, "text");
+    same(rt, sink.text.as_str(), row.want, &case);
 }
 
 fn check_cuts(rt: &impl Abort, alloc: Global, line: &str) {
@@ -67,7 +64,7 @@ fn check_cuts(rt: &impl Abort, alloc: Global, line: &str) {
     }
 }
 
-/// Every list, cut at every place.
+/// Every list, fed in two pieces that are cut at every place.
 #[test]
 fn any_cut(rt: HostRuntime) {
     let alloc = rt.alloc();
@@ -156,17 +153,17 @@ fn check_kept<C: Check>(
 }
 
 const REPLY_SPAN: Span = Span {
-    first: 157,
-    past: 198,
+    first: 57,
+    past: 98,
 };
 
 const NOTICE_SPAN: Span = Span {
-    first: 206,
-    past: 248,
+    first: 106,
+    past: 148,
 };
 
 fn check_history<C: Check>(rt: &impl Abort, alloc: Global) {
-    let mut analyser = new_analyser::<C>(rt, alloc, CALLS, 2, 100);
+    let mut analyser = new_analyser::<C>(rt, alloc, CALLS, 2, 0);
     let bits = bits_of(rt, alloc, "flag call flag reply flag notice flag");
     pushed(rt, alloc, &mut analyser, &bits);
     same(rt, analyser.history_len(), 2, "how many frames are kept");
@@ -193,7 +190,7 @@ fn check_history<C: Check>(rt: &impl Abort, alloc: Global) {
     );
 }
 
-/// The last two of three frames, from place 100 on.
+/// The last two of three frames.
 #[test]
 fn history(rt: HostRuntime) {
     check_history::<BitCheck>(&rt, rt.alloc());
