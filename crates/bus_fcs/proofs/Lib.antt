@@ -5,4 +5,3 @@ pub mod LawsLemmas
 pub mod RegisterLemmas
 pub mod TableLemmas
 mod Examples
-pub mod FoldLemmas

@@ -291,16 +291,6 @@ turns_shift (suc n) h =
     ap (λ (k : ℕ). h * k) (pow-suc 2 n) ∙ sym (mul_assoc h (2 ^ n) 2) ∙ sym (add-zero (h * 2 ^ n * 2)) in
     rw (doubled, turn_even (h * 2 ^ n)) (turns_shift n h)
 
--- steps one after the other
-steps-sum : (m n s : ℕ) → crc_steps (m + n) s ≡ crc_steps n (crc_steps m s)
-unfolding crc_steps
-steps-sum zero n s = let same : zero + n ≡ n = omega arith in rw same refl
-steps-sum (suc m) n s = let next : suc m + n ≡ suc (m + n) = omega arith in rw next (steps-sum m n (crc_step_of s))
-
--- zeros in front only take steps
-steps-past : (k m h : ℕ) → crc_steps (k + m) (h * 2 ^ k) ≡ crc_steps m h
-steps-past k m h = steps-sum k m (h * 2 ^ k) ∙ ap (crc_steps m) (turns_shift k h)
-
 -- the lowest bits apart, which alone take the steps
 split : (n s : ℕ) → bit_xor (s / 2 ^ n * 2 ^ n) (s % 2 ^ n) ≡ s
 split n s = xor_shifted (s / 2 ^ n) n (s % 2 ^ n) (mod_below s (2 ^ n) (pow_pos n)) ∙ shr_split s n
@@ -326,68 +316,3 @@ turns_more (suc n) s = let next : suc n + 1 ≡ suc (n + 1) = omega arith in rw 
 pub turns_none : (s : ℕ) → crc_steps 0 s ≡ s
 unfolding crc_steps
 turns_none s = refl
-
--- ---- many octets at once
-
--- the highest octet of some, where those below it are known
-higher : (k m n z : ℕ) → crc_steps (k + m) (n % 2 ^ k) ≡ z
-    → crc_steps (k + m) (n % 2 ^ (8 + k)) ≡ bit_xor z (crc_steps m (n / 2 ^ k % 256))
-higher k m n z below =
-    let o : ℕ = n / 2 ^ k % 256 in
-    let apart : n % 2 ^ (8 + k) ≡ bit_xor (n % 2 ^ k) (o * 2 ^ k) =
-    mod-pow-add n 8 k ∙ sym (xor_shifted o k (n % 2 ^ k) (mod_below n (2 ^ k) (pow_pos k)))
-    ∙ xor_comm (o * 2 ^ k) (n % 2 ^ k) in
-    rw (apart, crc_steps-xor (k + m) (n % 2 ^ k) (o * 2 ^ k), below, steps-past k m o) refl
-
--- each of seven octets takes its own steps and those of the octets that follow it
-pub seven-octets : (n : ℕ) → crc_steps 56 (n % 2 ^ 56)
-    ≡ (let two = bit_xor (crc_steps 56 (n % 256)) (crc_steps 48 (n / 2 ^ 8 % 256)) in
-    let four = bit_xor (bit_xor two (crc_steps 40 (n / 2 ^ 16 % 256))) (crc_steps 32 (n / 2 ^ 24 % 256)) in
-    let six = bit_xor (bit_xor four (crc_steps 24 (n / 2 ^ 32 % 256))) (crc_steps 16 (n / 2 ^ 40 % 256)) in
-    bit_xor six (crc_steps 8 (n / 2 ^ 48 % 256)))
-seven-octets n =
-    let four = higher 24 32 n _ (higher 16 40 n _ (higher 8 48 n _ refl)) in
-    higher 48 8 n _ (higher 40 16 n _ (higher 32 24 n _ four))
-
--- the lowest bits of a sum, shifted up until the others are out, of 56
-shifted-out : (n x : ℕ) → n ≤ 56 → (x * 2 ^ (56 - n)) % 2 ^ 64 % 2 ^ 56 ≡ x % 2 ^ n * 2 ^ (56 - n)
-shifted-out n x fits =
-    let k : ℕ = 56 - n in
-    let shifted : ℕ = x * 2 ^ k in
-    let whole : n + k ≡ 56 = omega arith in
-    let none : shifted % 2 ^ k ≡ 0 =
-    ap (λ (z : ℕ). z % 2 ^ k) (sym (add-zero shifted)) ∙ mod_low x k 0 (pow_pos k) in
-    ap (λ (z : ℕ). z % 2 ^ 56) (mod-pow-add shifted 8 56)
-    ∙ mod_low (shifted / 2 ^ 56 % 2 ^ 8) 56 (shifted % 2 ^ 56) (omega arith)
-    ∙ ap (λ (j : ℕ). shifted % 2 ^ j) (sym whole) ∙ mod-pow-add shifted n k
-    ∙ ap (λ (z : ℕ). z % 2 ^ n * 2 ^ k + shifted % 2 ^ k) (shl-shr x k) ∙ omega (arith, none)
-
--- the steps for the lowest bits of a word, by those of 56 bits
-pub some-bits : (n s w : ℕ) → n ≤ 56
-    → bit_xor (s / 2 ^ n) (crc_steps 56 ((bit_xor w s * 2 ^ (56 - n)) % 2 ^ 64 % 2 ^ 56))
-    ≡ crc_steps n (bit_xor s (w % 2 ^ n))
-some-bits n s w fits =
-    let k : ℕ = 56 - n in
-    let both : ℕ = bit_xor w s in
-    let high : ℕ = s / 2 ^ n * 2 ^ n in
-    let whole : 56 ≡ k + n = omega arith in
-    let past : crc_steps 56 (both % 2 ^ n * 2 ^ k) ≡ crc_steps n (both % 2 ^ n) =
-    ap (λ (j : ℕ). crc_steps j (both % 2 ^ n * 2 ^ k)) whole ∙ steps-past k n (both % 2 ^ n) in
-    let sum : bit_xor (s % 2 ^ n) (w % 2 ^ n) ≡ both % 2 ^ n =
-    sym (xor_mod s w n) ∙ ap (λ (j : ℕ). j % 2 ^ n) (xor_comm s w) in
-    let apart : bit_xor s (w % 2 ^ n) ≡ bit_xor high (both % 2 ^ n) =
-    ap (λ (j : ℕ). bit_xor j (w % 2 ^ n)) (sym (split n s)) ∙ xor_assoc high (s % 2 ^ n) (w % 2 ^ n)
-    ∙ ap (bit_xor high) sum in
-    rw (shifted-out n both fits, past, apart, crc_steps-xor n high (both % 2 ^ n), turns_shift n (s / 2 ^ n)) refl
-
--- one octet more, and a word of those that follow it
-pub octet-first : (n s o w : ℕ) → o < 256
-    → crc_steps (8 * suc n) (bit_xor s (w * 256 + o)) ≡ crc_steps (8 * n) (bit_xor (crc_steps 8 (bit_xor s o)) w)
-octet-first n s o w small =
-    let after : ℕ = crc_steps 8 (bit_xor s o) in
-    let whole : 8 * suc n ≡ 8 + 8 * n = omega arith in
-    let apart : bit_xor s (w * 256 + o) ≡ bit_xor (bit_xor s o) (w * 256) =
-    ap (bit_xor s) (sym (xor_shifted w 8 o small) ∙ xor_comm (w * 256) o) ∙ sym (xor_assoc s o (w * 256)) in
-    ap (λ (j : ℕ). crc_steps j (bit_xor s (w * 256 + o))) whole ∙ steps-sum 8 (8 * n) (bit_xor s (w * 256 + o))
-    ∙ ap (λ (j : ℕ). crc_steps (8 * n) (crc_steps 8 j)) apart
-    ∙ ap (crc_steps (8 * n)) (crc_steps-xor 8 (bit_xor s o) (w * 256) ∙ ap (bit_xor after) (turns_shift 8 w))

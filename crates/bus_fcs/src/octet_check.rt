@@ -1,14 +1,14 @@
-//! The frame check by tables.
+//! The frame check by a table.
 
 ghost use Rattle.std.specs.Prelude.{◌≡◌, ◌+◌, ◌-◌, ◌*◌, ◌%◌, ◌^◌, ◌≤◌, ℕ, List, [], ◌∷◌, ◌++◌, bit_xor};
 ghost use Rattle.bus_fcs.specs.Folded.{by_tables};
 ghost use Rattle.bus_fcs.specs.Internal.Register.{IsStateAfter, crc_steps};
 
 use crate::check::Check;
-use crate::register::{INITIAL, crc_octet, crc_seven, is_residue, trailer_of};
+use crate::register::{INITIAL, crc_octet, is_residue, trailer_of};
 use bus_bits::Spent;
 
-/// Works by tables of 256 values: one unit of work an octet.
+/// Works by a table of 256 values: one unit of work an octet.
 #[derive(Drop)]
 pub struct OctetCheck {
     state: u16,
@@ -36,19 +36,7 @@ fn state_after(state: u16, octet: u8) -> u16
     ensures { (octets : List ℕ) → IsStateAfter state octets → IsStateAfter result (octets ++ octet ∷ []) }
 {
     let place = (state ^ octet as u16) & 0xff;
-    (state >> 8) ^ crc_octet(u64::from(place), 0)
-}
-
-/// The register after the first `count` of eight octets more. The others are shifted out, so that no branch depends
-/// on how many there are: 0s come before the wanted ones, and a register of 0 stays 0 over these.
-#[inline(always)]
-fn state_after_some(state: u16, octets: u64, count: usize) -> u16
-    requires few { count ≤ 7 }
-    ensures { result ≡ crc_steps (8 * count) (bit_xor state (octets % 2 ^ (8 * count))) }
-{
-    let bits = 8 * count;
-    let wanted = (octets ^ u64::from(state)) << (56 - bits);
-    (u64::from(state) >> bits) as u16 ^ crc_seven(wanted)
+    (state >> 8) ^ crc_octet(place as u8)
 }
 
 impl Check for OctetCheck {
@@ -68,12 +56,6 @@ impl Check for OctetCheck {
     fn fold(&mut self, octet: u8, spent: &mut Spent) {
         self.state = state_after(self.state, octet);
         spent.tick_folded();
-    }
-
-    #[inline(always)]
-    fn fold_some(&mut self, octets: &[u8; 8], count: usize, spent: &mut Spent) {
-        self.state = state_after_some(self.state, u64::from_le_bytes(*octets), count);
-        spent.folded += count as u64;
     }
 
     fn is_good(&self) -> bool {

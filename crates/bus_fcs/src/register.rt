@@ -5,7 +5,7 @@ ghost use Rattle.bus_bits.specs.Octet.{bits_of_octets};
 ghost use Rattle.bus_fcs.specs.FrameCheck.{Good, fcs};
 ghost use Rattle.bus_fcs.specs.Internal.Register.{crc_step_of, crc_steps, IsStateAfter};
 
-use crate::table::SLICES;
+use crate::table::TABLE;
 
 /// The register before the first octet.
 pub(crate) const INITIAL: u16 = 0xffff;
@@ -28,30 +28,13 @@ pub(crate) fn crc_step(state: u16) -> u16
     }
 }
 
-/// What the steps for an octet, and for some octets that follow it, make of it.
+/// What eight steps make of an octet.
 #[inline(always)]
 #[tactic(auto, using(crate::proofs::TableLemmas::table_at))]
-pub(crate) fn crc_octet(octet: u64, following: usize) -> u16
-    requires octet { octet < 256 }
-    requires few { following ≤ 6 }
-    ensures { result ≡ crc_steps (8 * following + 8) octet }
+pub(crate) fn crc_octet(octet: u8) -> u16
+    ensures { result ≡ crc_steps 8 octet }
 {
-    SLICES[256 * following + octet as usize]
-}
-
-/// What 56 steps make of the seven lowest octets of a number, each looked up in the table of its place: none of the
-/// look-ups waits for another.
-#[inline(always)]
-pub(crate) fn crc_seven(octets: u64) -> u16
-    ensures { result ≡ crc_steps 56 (octets % 2 ^ 56) }
-{
-    crc_octet(octets & 255, 6)
-        ^ crc_octet(octets >> 8 & 255, 5)
-        ^ crc_octet(octets >> 16 & 255, 4)
-        ^ crc_octet(octets >> 24 & 255, 3)
-        ^ crc_octet(octets >> 32 & 255, 2)
-        ^ crc_octet(octets >> 40 & 255, 1)
-        ^ crc_octet(octets >> 48 & 255, 0)
+    TABLE[octet as usize]
 }
 
 /// Whether the octets that left this state are good.
