@@ -211,14 +211,14 @@ flags-more os from at x begun before next is =
 -- ---- time fill
 
 -- where no piece is open, one after sixteen of them decides nothing
-module _ {C : Type 0} (view : CheckView C) (check : C) (cells : List ℕ) where
+module _ {C : Type 0} (view : CheckView C) (check : C) (octets : List ℕ) where
   one-more : (w : LineWords) → w.last_bits ≡ 65535 → w.settles_at ≡ 2 ^ 62 → w.place + 1 ≤ 2 ^ 60 →
-      Tells view (state w check cells) (true ∷ []) None (state (record w { place = w.place + 1 }) check cells)
+      Tells view (state w check octets) (true ∷ []) None (state (record w { place = w.place + 1 }) check octets)
   unfolding number
   one-more w ones idle room =
-      let d = state w check cells in
+      let d = state w check octets in
       let next : LineWords = record w { place = w.place + 1 } in
-      let e = state next check cells in
+      let e = state next check octets in
       let word : (b : List Bool) → After view d b → IsWord 131071 b (true ∷ []) =
       λ b stands. word-made 65535 1 b (true ∷ []) (sym ones ∙ stands.has_taken.last_bits) refl in
       let none : (i : ℕ) → i < 1 → IsStop 131071 i → ⊥ = λ i before stop. let first : i ≡ 0 =
@@ -232,7 +232,7 @@ module _ {C : Type 0} (view : CheckView C) (check : C) (cells : List ℕ) where
       record {
         leads = record {
           after = λ b stands.
-              let lags = shift-lags view w next check cells b (true ∷ []) 131071 1 same stands (word b stands)
+              let lags = shift-lags view w next check octets b (true ∷ []) 131071 1 same stands (word b stands)
               (omega arith) in
               let few : IsCalm b (true ∷ []) 0 = λ i before. absurd (omega (arith, before)) in
               let tracks = word-unsettled view (2 ^ 62) 131071 1 None e b (true ∷ []) (word b stands)
@@ -247,11 +247,11 @@ module _ {C : Type 0} (view : CheckView C) (check : C) (cells : List ℕ) where
       }
 
   pub ones-tell : (n : ℕ) (w : LineWords) → (0 < n → w.last_bits ≡ 65535) → w.settles_at ≡ 2 ^ 62
-      → w.place + n ≤ 2 ^ 60 → Tells view (state w check cells) (replicate n true) None
-      (state (record w { place = w.place + n }) check cells)
+      → w.place + n ≤ 2 ^ 60 → Tells view (state w check octets) (replicate n true) None
+      (state (record w { place = w.place + n }) check octets)
   ones-tell zero w ones idle room =
       let end : w.place + 0 ≡ w.place = omega arith in
-      rw end (tells-none view (state w check cells))
+      rw end (tells-none view (state w check octets))
   ones-tell (suc n) w ones idle room =
       let next : LineWords = record w { place = w.place + 1 } in
       let end : w.place + 1 + n ≡ w.place + suc n = omega arith in
@@ -260,19 +260,19 @@ module _ {C : Type 0} (view : CheckView C) (check : C) (cells : List ℕ) where
       (tells-more view (one-more w (ones (omega arith)) idle (omega (arith, room))) rest)
 
   pub passed-ones : (old new : LineWords) (n : ℕ) → PassesOnes old n new → old.settles_at ≡ 2 ^ 62 →
-      old.place + n ≤ 2 ^ 60 → Tells view (state old check cells) (replicate n true) None (state new check cells)
+      old.place + n ≤ 2 ^ 60 → Tells view (state old check octets) (replicate n true) None (state new check octets)
   passed-ones old new n passed idle room = rw passed.new_is (ones-tell n old passed.behind idle room)
 
   -- flags after a flag
   pub passed-flags : (old new : LineWords) (k : ℕ) → PassesFlags old k new → IsWithin old →
       old.settles_at ≡ old.place + 8 → new.place ≤ 2 ^ 60 →
-      Tells view (state old check cells) (flags k) None (state new check cells)
+      Tells view (state old check octets) (flags k) None (state new check octets)
   passed-flags old new k passed within flag fits =
-      let ends : (b : List Bool) → After view (state old check cells) b → EndsInFlag b =
-      λ b stands. (shows-flag view old check cells b within stands).ends flag in
+      let ends : (b : List Bool) → After view (state old check octets) b → EndsInFlag b =
+      λ b stands. (shows-flag view old check octets b within stands).ends flag in
       record {
         leads = record {
-          after = λ b stands. flags-passed view old new check cells b k passed (λ _. ends b stands) fits stands;
+          after = λ b stands. flags-passed view old new check octets b k passed (λ _. ends b stands) fits stands;
           longest = kept-longest k passed;
           origin = kept-origin k passed;
           place = moved-place k passed ∙ ap (λ (n : ℕ). old.place + n) (sym (flags-length k));

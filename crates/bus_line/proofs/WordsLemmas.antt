@@ -1,10 +1,9 @@
 -- Words, with a check and octets beside them, as a decoder.
-use Rattle.std.proofs.Common.{◌≡◌, ◌≢◌, ℕ, zero, suc, ◌+◌, ◌-◌, ◌*◌, ◌≤◌, ◌<◌, ◌^◌, ◌==◌, Bool, true, false, List, []}
-use Rattle.std.proofs.Common.{◌∷◌, ◌++◌, length, ◌/◌, ◌%◌, take, Some, None, refl, sym, ap, ◌∙◌, arith}
+use Rattle.std.proofs.Common.{◌≡◌, ℕ, zero, suc, ◌+◌, ◌-◌, ◌*◌, ◌≤◌, ◌<◌, ◌^◌, ◌==◌, Bool, true, false, List}
+use Rattle.std.proofs.Common.{◌++◌, length, ◌/◌, ◌%◌, take, Some, None, refl, ap, ◌∙◌, arith}
 use Rattle.std.proofs.Common.{append-nil, if◌then◌else◌}
 use Rattle.std.proofs.lemmas.Bool.{eqb-true}
 use Rattle.std.specs.Prelude.{nat_lt}
-use Rattle.bus_bits.specs.Octet.{bits_of}
 use Rattle.bus_bits.proofs.CaptureLemmas.{lt_true}
 use Rattle.bus_fcs.specs.Check.{CheckView}
 use Rattle.bus_line.specs.Decides.{flags, EndsInFlag}
@@ -17,9 +16,9 @@ use Rattle.bus_line.specs.declared.line_words.LineWords.{LineWords}
 use Rattle.bus_line.specs.After.{After}
 use Rattle.bus_line.specs.Internal.LineView.{settles_from}
 use Rattle.bus_line.specs.Internal.Flags.{PassesFlags, ShowsFlag}
-use Rattle.bus_line.specs.Internal.Settled.{IsWord, LagsBy, data_in_word}
+use Rattle.bus_line.specs.Internal.Settled.{IsWord, LagsBy}
 use Rattle.bus_line.proofs.SettleLemmas.{lags-word}
-use Rattle.bus_line.proofs.FlagLemmas.{flags-after, no-bits}
+use Rattle.bus_line.proofs.FlagLemmas.{flags-after}
 use Rattle.bus_line.proofs.FlagRunLemmas.{mark-is, mark-told}
 
 -- the place after which bits settle, by the first place of the piece
@@ -60,78 +59,61 @@ aborts origin at past end place (FlagAt q) opened is-end within fits late some =
     rw (begun, first, is-end) refl
 
 -- whether a flag ended at the last bit
-pub shows-flag : {C : Type 0} (view : CheckView C) (w : LineWords) (check : C) (cells : List ℕ)
-    (b : List Bool) → IsWithin w → After view (state w check cells) b → ShowsFlag w b
-shows-flag view w check cells b within stands =
+pub shows-flag : {C : Type 0} (view : CheckView C) (w : LineWords) (check : C) (octets : List ℕ)
+    (b : List Bool) → IsWithin w → After view (state w check octets) b → ShowsFlag w b
+shows-flag view w check octets b within stands =
     let settles = settles-told w.settles_at within.settles_late in
     record {
-      ends = λ at. mark-is view (state w check cells) w.settles_at b stands settles within.place_fits at;
-      told = λ ends. mark-told view (state w check cells) w.settles_at b stands settles ends;
+      ends = λ at. mark-is view (state w check octets) w.settles_at b stands settles within.place_fits at;
+      told = λ ends. mark-told view (state w check octets) w.settles_at b stands settles ends;
     }
 
 -- where flags lead
 pub flags-passed : {C : Type 0} (view : CheckView C) (old new : LineWords) (check : C)
-    (cells : List ℕ) (b : List Bool) (k : ℕ) → PassesFlags old k new → (0 < k → EndsInFlag b) → new.place ≤ 2 ^ 60 →
-    After view (state old check cells) b → After view (state new check cells) (b ++ flags k)
-flags-passed view old new check cells b zero passed ends fits stands =
+    (octets : List ℕ) (b : List Bool) (k : ℕ) → PassesFlags old k new → (0 < k → EndsInFlag b) → new.place ≤ 2 ^ 60 →
+    After view (state old check octets) b → After view (state new check octets) (b ++ flags k)
+flags-passed view old new check octets b zero passed ends fits stands =
     rw (append-nil b, passed.none refl) stands
-flags-passed view old new check cells b (suc k) passed ends fits stands =
+flags-passed view old new check octets b (suc k) passed ends fits stands =
     let is = passed.some (omega arith) in
     let place : new.place ≡ old.place + 8 * suc k = ap (λ (w : LineWords). w.place) is in
     let first : first_in (old.place + 8 * suc k + 8) ≡ Some (old.place + 8 * suc k) =
     first-at (old.place + 8 * suc k) (omega (arith, place, fits)) in
-    let d = state old check cells in
+    let d = state old check octets in
     let tracks = flags-after view d b (suc k) (old.place + 8 * suc k) (old.place + 8 * suc k - old.origin)
     (omega arith) ends stands refl in
     rw (is, first) tracks
 
 -- what stays of the words stays of the decoder
-pub kept-state : {C : Type 0} (old new : LineWords) (check before : C) (cells start : List ℕ)
+pub kept-state : {C : Type 0} (old new : LineWords) (check before : C) (octets start : List ℕ)
     → new ≡ record old {
       data_bits = new.data_bits;
       assembled = new.assembled;
       folded = new.folded;
       stored = new.stored;
       partial = new.partial;
-      len = new.len;
     }
-    → state new check cells ≡ record (state old before start) {
+    → state new check octets ≡ record (state old before start) {
       data_bits = new.data_bits;
       partial = new.partial;
-      octets = take new.len cells;
+      octets = octets;
       check = check;
-      spent = (state new check cells).spent;
+      spent = (state new check octets).spent;
     }
-kept-state old new check before cells start kept = rw kept refl
+kept-state old new check before octets start kept = rw kept refl
 
-pub kept-put : {C : Type 0} (old new : LineWords) (check before : C) (cells start : List ℕ) →
-    new ≡ record old { folded = new.folded; stored = new.stored; len = new.len }
-    → state new check cells ≡ record (state old before start)
-    { octets = take new.len cells; check = check; spent = (state new check cells).spent }
-kept-put old new check before cells start kept = rw kept refl
-
--- the only bit that a word shows is an inserted 0
-pub settled-none : (w : ℕ) → w / 8 % 64 ≡ 31 → bits_of 0 0 ≡ data_in_word (w / 2 ^ (1 - 1)) 1
-settled-none w inserted =
-    let is : w / 2 ^ (1 - 1) / 2 ^ (3 + 0) % 64 ≡ 31 = omega (arith, inserted) in
-    no-bits 0 ∙ sym (rw is refl)
-
--- or data
-pub settled-one : (w : ℕ) → w / 8 % 64 ≢ 31 → bits_of 1 (w / 256 % 2) ≡ data_in_word (w / 2 ^ (1 - 1)) 1
-unfolding bits_of
-settled-one w plain = shows (w / 2 ^ (1 - 1) / 2 ^ (3 + 0) % 64 == 31) refl
-  where
-    shows : (t : Bool) → (w / 2 ^ (1 - 1) / 2 ^ (3 + 0) % 64 == 31) ≡ t →
-        (w / 256 % 2 % 2 == 1) ∷ [] ≡ (if t then [] else (w / 2 ^ (1 - 1) / 2 ^ (8 + 0) % 2 == 1) ∷ [])
-    shows true is = absurd (plain (omega (arith, eqb-true (w / 2 ^ (1 - 1) / 2 ^ (3 + 0) % 64) 31 is)))
-    shows false is = ap (λ (x : ℕ). (x == 1) ∷ []) (omega arith)
+pub kept-put : {C : Type 0} (old new : LineWords) (check before : C) (octets start : List ℕ) →
+    new ≡ record old { folded = new.folded; stored = new.stored }
+    → state new check octets ≡ record (state old before start)
+    { octets = octets; check = check; spent = (state new check octets).spent }
+kept-put old new check before octets start kept = rw kept refl
 
 -- bits that are the last ones now
 pub shift-lags : {C : Type 0} (view : CheckView C) (old new : LineWords) (check : C)
-    (cells : List ℕ) (b bits : List Bool) (w t : ℕ) →
+    (octets : List ℕ) (b bits : List Bool) (w t : ℕ) →
     new ≡ record old { place = old.place + t; last_bits = w / 2 ^ t % 65536 }
-    → After view (state old check cells) b → IsWord w b bits → t ≤ length bits →
-    LagsBy view (state new check cells) b (take t bits)
-shift-lags view old new check cells b bits w t is stands word within =
-    rw is (lags-word view (state old check cells) b bits w t (old.place + t) (w / 2 ^ t % 65536)
+    → After view (state old check octets) b → IsWord w b bits → t ≤ length bits →
+    LagsBy view (state new check octets) b (take t bits)
+shift-lags view old new check octets b bits w t is stands word within =
+    rw is (lags-word view (state old check octets) b bits w t (old.place + t) (w / 2 ^ t % 65536)
     (old.place + t - old.origin) stands word within refl refl)

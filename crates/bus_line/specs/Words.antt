@@ -1,5 +1,5 @@
 -- A decoder's words, and the decoder that they make with a check and octets beside them.
-use Rattle.std.specs.Prelude.{◌≢◌, ◌==◌, ℕ, ◌+◌, ◌-◌, ◌*◌, ◌≤◌, ◌^◌, List, take, Option, Some, None, if◌then◌else◌}
+use Rattle.std.specs.Prelude.{◌≢◌, ◌==◌, ℕ, ◌+◌, ◌-◌, ◌*◌, ◌≤◌, ◌^◌, List, length, Option, Some, None, if◌then◌else◌}
 pub use Rattle.bus_line.specs.Internal.LineState.{LineState}
 use Rattle.bus_bits.specs.Limits.{most_places}
 use Rattle.bus_line.specs.declared.line_words.LineWords.{LineWords}
@@ -10,7 +10,7 @@ first_in at = if at == 2 ^ 62 then None else Some (at - 8)
 
 -- the decoder that these make; how many bits it took is told by its places
 abbrev pub state : {C : Type 0} → LineWords → C → List ℕ → LineState C
-state w check cells = record {
+state w check octets = record {
   longest = w.longest;
   origin = w.origin;
   place = w.place;
@@ -18,7 +18,7 @@ state w check cells = record {
   first = first_in w.settles_at;
   data_bits = w.data_bits;
   partial = w.partial;
-  octets = take w.len cells;
+  octets = octets;
   check = check;
   spent = record {
     shifted = w.place - w.origin;
@@ -43,16 +43,12 @@ fresh_words longest origin = record {
   stored = 0;
   last_bits = 0;
   partial = 0;
-  spare = 0;
-  len = 0;
-  register = 0;
 }
 
 -- they are within the bounds of a decoder
 pub record IsWithin (w : LineWords) : Type 0 where
   pub longest_least : 3 ≤ w.longest
   pub longest_most : w.longest ≤ 256
-  pub room : w.len ≤ w.longest + 2
   pub place_fits : w.place ≤ most_places
   pub begins : w.origin ≤ w.place
   pub settles_late : 8 ≤ w.settles_at
@@ -61,3 +57,8 @@ pub record IsWithin (w : LineWords) : Type 0 where
   pub settled : w.assembled ≤ w.place - w.origin
   pub filled : w.stored ≤ w.assembled
   pub paid : w.folded ≤ 8 * w.stored
+
+-- and there is room for these octets of a piece
+pub record IsDecoder (w : LineWords) (octets : List ℕ) : Type 0 where
+  pub within : IsWithin w
+  pub room : length octets ≤ w.longest + 2

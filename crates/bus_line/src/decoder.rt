@@ -34,6 +34,7 @@ use crate::place_limit::PlaceLimit;
 use crate::scanned::Scanned;
 use crate::taken::Taken;
 use crate::way::ByTurns;
+use arrayvec::ArrayVec;
 use bus_bits::Spent;
 use bus_fcs::Check;
 use std::marker::Model;
@@ -48,10 +49,8 @@ pub struct LineDecoder<C: Check> {
     words: LineWords,
     /// The check of the octets.
     check: C,
-    /// The first [`LineWords::len`] are the octets of the piece, or of the frame before it until the first octet is
-    /// full: at most 258. Eight octets are always stored at a time, so eight spare cells follow; six more make whole
-    /// words of 64 bits.
-    cells: [u8; 272],
+    /// The octets of the piece, or of the frame before it until the first octet is full.
+    frame: ArrayVec<u8, 258>,
 }
 
 impl<C: Check> Model for LineDecoder<C> {
@@ -59,11 +58,11 @@ impl<C: Check> Model for LineDecoder<C> {
 
     ghost Value = { LineState C };
 
-    ghost use Rattle.bus_line.specs.Internal.LineView.{line_state, IsDecoder};
+    ghost use Rattle.bus_line.specs.Internal.LineView.{line_state, is_decoder};
 
     ghost view = { line_state };
 
-    ghost invariant = { IsDecoder };
+    ghost invariant = { is_decoder };
 }
 
 impl<C: Check> LineDecoder<C> {
@@ -91,7 +90,7 @@ impl<C: Check> LineDecoder<C> {
         Ok(LineDecoder {
             words,
             check: C::fresh(),
-            cells: [0; 272],
+            frame: ArrayVec::new(),
         })
     }
 
@@ -121,7 +120,7 @@ impl<C: Check> LineDecoder<C> {
         }
         Ok(
             self.words
-                .advance(&mut self.check, &mut self.cells, bits, count),
+                .advance(&mut self.check, &mut self.frame, bits, count),
         )
     }
 
@@ -150,7 +149,7 @@ impl<C: Check> LineDecoder<C> {
         // The `?` parts the two cases for the proof.
         let scanned = self
             .words
-            .scan::<C, ByTurns>(&mut self.check, &mut self.cells, octets, at, end)?;
+            .scan::<ByTurns, _, _>(&mut self.check, &mut self.frame, octets, at, end)?;
         Ok(scanned)
     }
 
@@ -193,7 +192,7 @@ impl<C: Check> LineDecoder<C> {
         }
         let taken = self
             .words
-            .advance(&mut self.check, &mut self.cells, u64::from(bit), 1);
+            .advance(&mut self.check, &mut self.frame, u64::from(bit), 1);
         Ok(self.lent(taken.event))
     }
 
@@ -217,7 +216,7 @@ impl<C: Check> LineDecoder<C> {
         ensures bound { length result.now ≤ self.now.longest + 2 }
         ensures longest { self.now.longest ≤ 256 }
     {
-        &self.cells[..self.words.len as usize]
+        self.frame.as_slice()
     }
 
     /// How many octets of the open piece are in the frame buffer: at most the longest frame and two,
@@ -233,7 +232,7 @@ impl<C: Check> LineDecoder<C> {
         if self.words.data_bits < 8 {
             return 0;
         }
-        self.words.len as usize
+        self.frame.len()
     }
 
     /// The place of the next bit: the origin and the bits so far.

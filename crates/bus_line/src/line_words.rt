@@ -41,12 +41,6 @@ pub struct LineWords {
     pub partial: u64,
     /// The last sixteen bits, the oldest lowest, with 0s before the first.
     pub last_bits: u64,
-    /// How many octets there are of the piece, or of the frame before it until the first octet is full.
-    pub len: u32,
-    /// Not read.
-    pub spare: u16,
-    /// Not read: room for the register of their check, for a caller that keeps it here.
-    pub register: u16,
 }
 
 impl LineWords {
@@ -78,9 +72,6 @@ impl LineWords {
             data_bits: 0,
             partial: 0,
             last_bits: 0,
-            len: 0,
-            spare: 0,
-            register: 0,
         })
     }
 
@@ -91,7 +82,6 @@ impl LineWords {
     {
         self.longest >= 3
             && self.longest <= 256
-            && u64::from(self.len) <= self.longest + 2
             && self.place <= PLACES
             && self.origin <= self.place
             && (self.settles_at.wrapping_sub(8) <= self.place || self.settles_at == NEVER)

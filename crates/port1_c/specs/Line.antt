@@ -1,9 +1,9 @@
 -- What a C caller's memory says of a decoder and of a report.
-use Rattle.std.specs.Prelude.{◌≡◌, ◌≢◌, ◌≤◌, ◌==◌, not, ℕ, Bool, List, Option, Some, None, if◌then◌else◌}
+use Rattle.std.specs.Prelude.{◌≡◌, ◌≢◌, ◌≤◌, ◌==◌, not, ℕ, Bool, List, take, Option, Some, None, if◌then◌else◌}
 use Rattle.bus_fcs.specs.declared.octet_check.OctetCheck.{OctetCheck}
 use Rattle.bus_fcs.specs.Folded.{by_tables}
 use Rattle.bus_line.specs.After as line
-use Rattle.bus_line.specs.Words.{IsWithin, LineState, state}
+use Rattle.bus_line.specs.Words.{IsDecoder, LineState, state}
 use Rattle.bus_line.specs.Report.{Report, Kind}
 use Rattle.bus_line.specs.declared.cause.Cause.{Cause}
 use Rattle.bus_line.specs.declared.cause.Cause.TheVariants as cause
@@ -13,17 +13,21 @@ use Rattle.port1_c.specs.declared.report.Port1Report.{Port1Report}
 abbrev pub first_told : ℕ → ℕ → Option ℕ
 first_told has first = if has == 0 then None else Some first
 
+-- the octets of the piece
+abbrev pub octets_of : Port1Line → List ℕ
+octets_of l = take l.frame.len l.frame.octets
+
 -- the memory holds a decoder
 abbrev pub Sound : Port1Line → Type 0
-Sound l = IsWithin l.words
+Sound l = IsDecoder l.words (octets_of l)
 
 -- the check whose register the memory holds
 abbrev pub check_of : Port1Line → OctetCheck
-check_of l = record { state = l.words.register }
+check_of l = record { state = l.frame.register }
 
 -- the decoder that the memory holds
 abbrev pub held : Port1Line → LineState OctetCheck
-held l = state l.words (check_of l) l.octets
+held l = state l.words (check_of l) (octets_of l)
 
 -- the memory may hold a decoder after the bits b
 abbrev pub LineAfter : Port1Line → List Bool → Type 0

@@ -47,7 +47,7 @@ pub(crate) fn feed(
         Advances (held line.old) (bits_from octets.now at.old (at.new - at.old)) report.new (held line.new) }
     ensures sound { result < BAD_STATE → Sound line.new }
 {
-    if !line.words.are_sound() {
+    if !line.is_sound() {
         return BAD_STATE;
     }
     if *at == end {
@@ -95,10 +95,10 @@ pub(crate) fn feed_octet(
     ensures advances { result < BAD_STATE → Advances (held line.old) (bits_of at.new octet) report.new (held line.new) }
     ensures sound { result < BAD_STATE → Sound line.new }
 {
-    if !line.words.are_sound() {
+    if !line.is_sound() {
         return BAD_STATE;
     }
-    let Ok(told) = line.take_short(u64::from(octet), 8) else {
+    let Ok(told) = line.take(u64::from(octet), 8) else {
         return feed(line, &[octet], at, 8, report);
     };
     *at = told.count;

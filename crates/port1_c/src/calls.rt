@@ -11,6 +11,7 @@ ghost use Rattle.port1_c.specs.Line.{Advances, IsCoded, Sound, LineAfter, Tells,
 ghost use Rattle.port1_c.specs.declared.status.TheConstants.{OK, BAD_LENGTH, PLACE_LIMIT, BAD_STATE, BAD_ARGUMENT};
 
 use crate::bits;
+use crate::lent_frame::LentFrame;
 use crate::line::Port1Line;
 use crate::report::Port1Report;
 use crate::status::{BAD_ARGUMENT, BAD_LENGTH, BAD_STATE, OK, PLACE_LIMIT};
@@ -34,7 +35,7 @@ pub extern "C" fn port1_line_init(line: &mut Port1Line, longest: u64, origin: u6
     match LineWords::new(longest as usize, origin) {
         Ok(words) => {
             line.words = words;
-            line.octets = [0; 272];
+            line.frame = LentFrame::new();
             OK
         }
         Err(LineFault::LongestRange) => BAD_LENGTH,
@@ -57,7 +58,7 @@ pub extern "C" fn port1_line_push(line: &mut Port1Line, bit: u8, report: &mut Po
     ensures coded { result ≡ OK → IsCoded report.new }
     ensures tells { result ≡ OK → Tells (held line.old) (bit_told bit ∷ []) report.new (held line.new) }
 {
-    if !line.words.are_sound() {
+    if !line.is_sound() {
         return BAD_STATE;
     }
     let Ok(told) = line.push(bit != 0) else {
@@ -164,7 +165,7 @@ pub extern "C" fn port1_line_open(line: &Port1Line, has_begun: &mut u8, first: &
     ensures begun { result ≡ OK → (b : List Bool) → LineAfter line.now b →
         first_told has_begun.new first.new ≡ option_map (λ first. line.now.words.origin + first) (begun b) }
 {
-    if !line.words.are_sound() {
+    if !line.is_sound() {
         return BAD_STATE;
     }
     match line.words.begun() {

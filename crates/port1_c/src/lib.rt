@@ -6,6 +6,7 @@ mod call_bits;
 mod calls;
 mod entry;
 pub mod laws;
+mod lent_frame;
 mod line;
 mod pair;
 mod pairing;
@@ -20,6 +21,7 @@ pub use calls::{
     port1_line_feed, port1_line_feed_high_first, port1_line_init, port1_line_open, port1_line_push,
 };
 pub use entry::Port1Entry;
+pub use lent_frame::LentFrame;
 pub use line::Port1Line;
 pub use pair::Port1Pair;
 pub use pairing::{port1_pair_init, port1_pair_take};

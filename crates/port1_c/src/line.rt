@@ -1,12 +1,14 @@
 //! A decoder in a caller's memory.
 
-ghost use Rattle.std.specs.Prelude.{◌≡◌, ◌+◌, ◌-◌, ◌*◌, ◌≤◌, ◌<◌, ◌^◌, ◌↔◌, IsErr, IfOk, OnErr, ◌∷◌, [], length};
+ghost use Rattle.std.specs.Prelude.{◌≡◌, ◌+◌, ◌-◌, ◌*◌, ◌≤◌, ◌<◌, ◌↔◌, IsErr, IfOk, IsTrue, OnErr, ◌∷◌, [], length};
 ghost use Rattle.bus_bits.specs.Bits.{bits_from};
 ghost use Rattle.bus_bits.specs.Limits.{most_places};
 ghost use Rattle.bus_bits.specs.Octet.{bits_of};
+ghost use Rattle.bus_bits.specs.Word.{IsWordOf};
 ghost use Rattle.port1_c.specs.Line.{Advances, IsCoded, Sound, Tells, held};
 
 use crate::bits::Told;
+use crate::lent_frame::LentFrame;
 use crate::report::Port1Report;
 use bus_fcs::OctetCheck;
 use bus_line::{ByWords, LineWords, PlaceLimit};
@@ -15,13 +17,21 @@ use bus_line::{ByWords, LineWords, PlaceLimit};
 #[repr(C)]
 #[derive(Drop)]
 pub struct Port1Line {
-    /// The decoder but for the octets, with the register of their check.
+    /// The decoder but for the octets and their check.
     pub words: LineWords,
-    /// The octets of a piece, at most 258; those after them are scratch space.
-    pub octets: [u8; 272],
+    /// The octets, with the register of their check.
+    pub frame: LentFrame,
 }
 
 impl Port1Line {
+    /// Whether the memory holds a decoder.
+    #[inline(always)]
+    pub(crate) fn is_sound(&self) -> bool
+        ensures { IsTrue result ↔ Sound self.now }
+    {
+        self.words.are_sound() && u64::from(self.frame.len) <= self.words.longest + 2
+    }
+
     /// Takes bits of these octets, the lowest of each first, from bit `at` on and before bit `end`: up to the first
     /// that decides a report, or all, but none whose place would be 2^60.
     #[inline(always)]
@@ -38,13 +48,13 @@ impl Port1Line {
             Advances (held self.old) (bits_from octets.now at t.count) t.report (held self.new)) }
         ensures sound { Sound self.new }
     {
-        let mut check = OctetCheck::with_register(self.words.register);
+        let mut check = OctetCheck::with_register(self.frame.register);
         match self
             .words
-            .scan::<OctetCheck, ByWords>(&mut check, &mut self.octets, octets, at, end)
+            .scan::<ByWords, _, _>(&mut check, &mut self.frame, octets, at, end)
         {
             Ok(scanned) => {
-                self.words.register = check.register();
+                self.frame.register = check.register();
                 Ok(Told {
                     count: scanned.count,
                     report: Port1Report::of(scanned.event),
@@ -54,13 +64,11 @@ impl Port1Line {
         }
     }
 
-    /// Takes up to eight bits, the first lowest: all of them, or those up to one that may decide a report.
+    /// Takes up to `count` bits, the first lowest: all of them, or those up to one that may decide a report.
     #[inline(always)]
-    pub(crate) fn take_short(&mut self, bits: u64, count: u32) -> Result<Told, PlaceLimit>
+    pub(crate) fn take(&mut self, bits: u64, count: u32) -> Result<Told, PlaceLimit>
         requires sound { Sound self.old }
-        requires some { 1 ≤ count }
-        requires few { count ≤ 8 }
-        requires small { bits < 2 ^ count }
+        requires word { IsWordOf count bits }
         ensures limit { IsErr result ↔ (most_places < self.old.words.place + count) }
         ensures kept { OnErr result (self.new ≡ self.old) }
         ensures count { IfOk result (λ t. (1 ≤ t.count) × (t.count ≤ count)) }
@@ -68,13 +76,10 @@ impl Port1Line {
         ensures advances { IfOk result (λ t. Advances (held self.old) (bits_of t.count bits) t.report (held self.new)) }
         ensures sound { Sound self.new }
     {
-        let mut check = OctetCheck::with_register(self.words.register);
-        match self
-            .words
-            .take_short(&mut check, &mut self.octets, bits, count)
-        {
+        let mut check = OctetCheck::with_register(self.frame.register);
+        match self.words.take(&mut check, &mut self.frame, bits, count) {
             Ok(taken) => {
-                self.words.register = check.register();
+                self.frame.register = check.register();
                 Ok(Told {
                     count: taken.count as usize,
                     report: Port1Report::of(taken.event),
@@ -94,17 +99,7 @@ impl Port1Line {
         ensures tells { IfOk result (λ r. Tells (held self.old) (bit ∷ []) r (held self.new)) }
         ensures sound { Sound self.new }
     {
-        let mut check = OctetCheck::with_register(self.words.register);
-        match self.words.push(&mut check, &mut self.octets, bit) {
-            Ok(None) => {
-                self.words.register = check.register();
-                Ok(Port1Report::none())
-            }
-            Ok(Some(event)) => {
-                self.words.register = check.register();
-                Ok(Port1Report::of_event(event))
-            }
-            Err(PlaceLimit) => Err(PlaceLimit),
-        }
+        let told = self.take(u64::from(bit), 1)?;
+        Ok(told.report)
     }
 }

@@ -1,11 +1,11 @@
 -- A decoder's fields, as they are seen, and their bounds.
-use Rattle.std.specs.Prelude.{◌≡◌, ℕ, ◌+◌, ◌^◌, length, Option, Some, None}
+use Rattle.std.specs.Prelude.{ℕ, ◌+◌, ◌^◌, Option, Some, None}
 use Rattle.bus_line.specs.Internal.LineState.{LineState}
-use Rattle.bus_line.specs.Words.{IsWithin, state}
+use Rattle.bus_line.specs.Words.{IsDecoder, state}
 use Rattle.bus_line.specs.declared.decoder.LineDecoder.TheInside.{Inside}
 
 abbrev pub line_state : {C : Type 0} → Inside C → LineState C
-line_state d = state d.words d.check d.cells
+line_state d = state d.words d.check d.frame.items
 
 -- the place after which each bit settles one of the piece that begins there; with no piece open, no bit's place comes
 -- so far
@@ -13,6 +13,5 @@ abbrev pub settles_from : Option ℕ → ℕ
 settles_from None = 2 ^ 62
 settles_from (Some first) = first + 8
 
-pub record IsDecoder {C : Type 0} (d : Inside C) : Type 0 where
-  pub within : IsWithin d.words
-  pub room : length d.cells ≡ 272
+abbrev pub is_decoder : {C : Type 0} → Inside C → Type 0
+is_decoder d = IsDecoder d.words d.frame.items

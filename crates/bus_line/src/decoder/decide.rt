@@ -25,13 +25,13 @@ impl LineWords {
     pub(crate) fn decide<C: Check>(&mut self, check: &C) -> Option<Event>
         requires within { IsWithin self.old }
         requires some { self.old.origin < self.old.place }
-        ensures answer { (cells : List ℕ) (b : List Bool) (bit : Bool) →
-            Tracks C.check (state self.old check.now cells) (b ++ bit ∷ []) (current b) →
-            option_map (reported (state self.new check.now cells).octets) result
+        ensures answer { (octets : List ℕ) (b : List Bool) (bit : Bool) →
+            Tracks C.check (state self.old check.now octets) (b ++ bit ∷ []) (current b) →
+            option_map (reported octets) result
             ≡ option_map (moved self.old.origin) (due_at self.old.longest (b ++ bit ∷ []) (length b)) }
-        ensures after { (cells : List ℕ) (b : List Bool) (bit : Bool) →
-            Tracks C.check (state self.old check.now cells) (b ++ bit ∷ []) (current b) →
-            After C.check (state self.new check.now cells) (b ++ bit ∷ []) }
+        ensures after { (octets : List ℕ) (b : List Bool) (bit : Bool) →
+            Tracks C.check (state self.old check.now octets) (b ++ bit ∷ []) (current b) →
+            After C.check (state self.new check.now octets) (b ++ bit ∷ []) }
         ensures longest { self.new.longest ≡ self.old.longest }
         ensures origin { self.new.origin ≡ self.old.origin }
         ensures place { self.new.place ≡ self.old.place }
@@ -46,13 +46,13 @@ impl LineWords {
     pub(crate) fn decide_here<C: Check>(&mut self, check: &C) -> Option<Event>
         requires within { IsWithin self.old }
         requires some { self.old.origin < self.old.place }
-        ensures answer { (cells : List ℕ) (b : List Bool) (bit : Bool) →
-            Tracks C.check (state self.old check.now cells) (b ++ bit ∷ []) (current b) →
-            option_map (reported (state self.new check.now cells).octets) result
+        ensures answer { (octets : List ℕ) (b : List Bool) (bit : Bool) →
+            Tracks C.check (state self.old check.now octets) (b ++ bit ∷ []) (current b) →
+            option_map (reported octets) result
             ≡ option_map (moved self.old.origin) (due_at self.old.longest (b ++ bit ∷ []) (length b)) }
-        ensures after { (cells : List ℕ) (b : List Bool) (bit : Bool) →
-            Tracks C.check (state self.old check.now cells) (b ++ bit ∷ []) (current b) →
-            After C.check (state self.new check.now cells) (b ++ bit ∷ []) }
+        ensures after { (octets : List ℕ) (b : List Bool) (bit : Bool) →
+            Tracks C.check (state self.old check.now octets) (b ++ bit ∷ []) (current b) →
+            After C.check (state self.new check.now octets) (b ++ bit ∷ []) }
         ensures longest { self.new.longest ≡ self.old.longest }
         ensures origin { self.new.origin ≡ self.old.origin }
         ensures place { self.new.place ≡ self.old.place }
@@ -87,10 +87,10 @@ impl LineWords {
     /// The piece that a flag at `past` closes, if it is not empty.
     fn closed<C: Check>(&self, check: &C, past: u64) -> Option<Event>
         requires { IsWithin self.now }
-        ensures { (cells : List ℕ) (b : List Bool) (bit : Bool) →
-            Tracks C.check (state self.now check.now cells) (b ++ bit ∷ []) (current b) →
+        ensures { (octets : List ℕ) (b : List Bool) (bit : Bool) →
+            Tracks C.check (state self.now check.now octets) (b ++ bit ∷ []) (current b) →
             7 ≤ length b → past ≡ self.now.origin + (length b - 7) →
-            option_map (reported (state self.now check.now cells).octets) result
+            option_map (reported octets) result
             ≡ option_map (moved self.now.origin)
             (piece_report (λ p. class_of self.now.longest (slice_range (b ++ bit ∷ []) (p + 8) (length b - 7)))
             (current b) (length b - 7)) }
@@ -127,10 +127,10 @@ impl LineWords {
     /// What the piece between the last flag and the one that the newest bit ends is, the first that fits.
     fn class<C: Check>(&self, check: &C) -> EventKind
         requires { IsWithin self.now }
-        ensures { (cells : List ℕ) (b : List Bool) (bit : Bool) (p : ℕ) →
-            Tracks C.check (state self.now check.now cells) (b ++ bit ∷ []) (current b) →
+        ensures { (octets : List ℕ) (b : List Bool) (bit : Bool) (p : ℕ) →
+            Tracks C.check (state self.now check.now octets) (b ++ bit ∷ []) (current b) →
             current b ≡ FlagAt p → p + 15 < length b →
-            kind_with (state self.now check.now cells).octets result
+            kind_with octets result
             ≡ class_of self.now.longest (slice_range (b ++ bit ∷ []) (p + 8) (length b - 7)) }
     {
         if (self.last_bits >> 3) & 0x1f == 0x1f {

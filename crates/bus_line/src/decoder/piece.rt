@@ -9,6 +9,7 @@ ghost use Rattle.bus_line.specs.Internal.Settled.{IsCalm};
 
 use crate::decoder::quiet::first_six;
 use crate::decoder::settled::data_in_turn;
+use crate::frame_buffer::FrameBuffer;
 use crate::line_words::LineWords;
 use bus_bits::seven_octets_at;
 use bus_fcs::Check;
@@ -39,7 +40,7 @@ fn newest(last_bits: u64, bits: u64, count: u64) -> u64
 }
 
 impl LineWords {
-    ghost use Rattle.bus_line.specs.Words.{IsWithin, state};
+    ghost use Rattle.bus_line.specs.Words.{IsDecoder, state};
     ghost use Rattle.bus_line.specs.After.{After};
     ghost use Rattle.bus_line.specs.Internal.Reaches.{ReachesTo};
     ghost use Rattle.bus_line.specs.Internal.Tracks.{Tracks};
@@ -47,27 +48,26 @@ impl LineWords {
     /// Takes bits up to the first after six ones, or as many as there are whole turns for. What is changed at each turn
     /// is in variables of its own, which stay in registers.
     #[inline(always)]
-    pub(crate) fn reach<C: Check>(
+    pub(crate) fn reach<C: Check, F: FrameBuffer>(
         &mut self,
         check: &mut C,
-        cells: &mut [u8; 272],
+        frame: &mut F,
         octets: &[u8],
         from: usize,
         end: usize,
     ) -> Reached
-        requires within { IsWithin self.old }
+        requires sound { IsDecoder self.old (F.octets frame.old) }
         requires some { from + 64 ≤ end }
         requires enough { end ≤ 8 * length octets.now }
         requires room { self.old.place + (end - from) ≤ most_places }
         ensures count { (1 ≤ result.count) × (result.count ≤ end - from) }
-        ensures reaches { ReachesTo C.check (state self.old check.old cells.old)
-            (bits_from octets.now from result.count) result.is_stop (state self.new check.new cells.new) }
-        ensures within { IsWithin self.new }
-        ensures cells { length cells.new ≡ 272 }
+        ensures reaches { ReachesTo C.check (state self.old check.old (F.octets frame.old))
+            (bits_from octets.now from result.count) result.is_stop (state self.new check.new (F.octets frame.new)) }
+        ensures sound { IsDecoder self.new (F.octets frame.new) }
     {
         let mut words = self.copied();
         let mut folded = replace(check, C::fresh());
-        let reached = words.reach_apart(&mut folded, cells, octets, from, end);
+        let reached = words.reach_apart(&mut folded, frame, octets, from, end);
         *self = words;
         *check = folded;
         reached
@@ -89,35 +89,31 @@ impl LineWords {
             data_bits: self.data_bits,
             partial: self.partial,
             last_bits: self.last_bits,
-            len: self.len,
-            spare: self.spare,
-            register: self.register,
         }
     }
 
     /// Takes bits as [`LineWords::reach`] does.
     #[inline(always)]
-    fn reach_apart<C: Check>(
+    fn reach_apart<C: Check, F: FrameBuffer>(
         &mut self,
         check: &mut C,
-        cells: &mut [u8; 272],
+        frame: &mut F,
         octets: &[u8],
         from: usize,
         end: usize,
     ) -> Reached
-        requires within { IsWithin self.old }
+        requires sound { IsDecoder self.old (F.octets frame.old) }
         requires some { from + 64 ≤ end }
         requires enough { end ≤ 8 * length octets.now }
         requires room { self.old.place + (end - from) ≤ most_places }
         ensures count { (1 ≤ result.count) × (result.count ≤ end - from) }
-        ensures reaches { ReachesTo C.check (state self.old check.old cells.old)
-            (bits_from octets.now from result.count) result.is_stop (state self.new check.new cells.new) }
-        ensures within { IsWithin self.new }
-        ensures cells { length cells.new ≡ 272 }
+        ensures reaches { ReachesTo C.check (state self.old check.old (F.octets frame.old))
+            (bits_from octets.now from result.count) result.is_stop (state self.new check.new (F.octets frame.new)) }
+        ensures sound { IsDecoder self.new (F.octets frame.new) }
     {
         let mut at = from;
         while end - at >= 64 {
-            let turn = self.take_turn(check, cells, seven_octets_at(octets, at));
+            let turn = self.take_turn(check, frame, seven_octets_at(octets, at));
             at += turn.count;
             if turn.is_stop {
                 return Reached {
@@ -134,23 +130,27 @@ impl LineWords {
 
     /// Takes the lowest 56 of these bits, or those up to the first after six ones.
     #[inline(always)]
-    fn take_turn<C: Check>(&mut self, check: &mut C, cells: &mut [u8; 272], bits: u64) -> Reached
-        requires within { IsWithin self.old }
+    fn take_turn<C: Check, F: FrameBuffer>(
+        &mut self,
+        check: &mut C,
+        frame: &mut F,
+        bits: u64,
+    ) -> Reached
+        requires sound { IsDecoder self.old (F.octets frame.old) }
         requires room { self.old.place + 56 ≤ most_places }
         ensures count { (1 ≤ result.count) × (result.count ≤ 56) }
-        ensures reaches { ReachesTo C.check (state self.old check.old cells.old)
-            (bits_of result.count bits) result.is_stop (state self.new check.new cells.new) }
-        ensures within { IsWithin self.new }
-        ensures cells { length cells.new ≡ 272 }
+        ensures reaches { ReachesTo C.check (state self.old check.old (F.octets frame.old))
+            (bits_of result.count bits) result.is_stop (state self.new check.new (F.octets frame.new)) }
+        ensures sound { IsDecoder self.new (F.octets frame.new) }
     {
         let Some(calm) = first_six(self.last_bits >> 8 | bits << 8) else {
-            self.take_seven(check, cells, bits);
+            self.take_seven(check, frame, bits);
             return Reached {
                 count: 56,
                 is_stop: false,
             };
         };
-        self.take_some(check, cells, bits, calm + 1);
+        self.take_some(check, frame, bits, calm + 1);
         Reached {
             count: calm as usize + 1,
             is_stop: true,
@@ -160,44 +160,48 @@ impl LineWords {
     /// Takes the lowest 56 of these bits, of which none but the last may decide a report, and settles those that eight
     /// later ones have followed: in an open piece 56, too.
     #[inline(always)]
-    fn take_seven<C: Check>(&mut self, check: &mut C, cells: &mut [u8; 272], bits: u64)
-        requires within { IsWithin self.old }
+    fn take_seven<C: Check, F: FrameBuffer>(&mut self, check: &mut C, frame: &mut F, bits: u64)
+        requires sound { IsDecoder self.old (F.octets frame.old) }
         requires room { self.old.place + 56 ≤ most_places }
-        ensures tracks { (b : List Bool) → After C.check (state self.old check.old cells.old) b →
+        ensures tracks { (b : List Bool) → After C.check (state self.old check.old (F.octets frame.old)) b →
             IsCalm b (bits_of 56 bits) 55 →
-            Tracks C.check (state self.new check.new cells.new) (b ++ bits_of 56 bits) (current b) }
+            Tracks C.check (state self.new check.new (F.octets frame.new)) (b ++ bits_of 56 bits) (current b) }
         ensures longest { self.new.longest ≡ self.old.longest }
         ensures origin { self.new.origin ≡ self.old.origin }
         ensures place { self.new.place ≡ self.old.place + 56 }
-        ensures within { IsWithin self.new }
-        ensures cells { length cells.new ≡ 272 }
+        ensures sound { IsDecoder self.new (F.octets frame.new) }
     {
         if self.settles_at > self.place {
-            self.take_some(check, cells, bits, 56);
+            self.take_some(check, frame, bits, 56);
             return;
         }
         let settled = data_in_turn(self.last_bits | bits << 16, 56);
         self.place += 56;
         self.last_bits = (self.last_bits >> 8 | bits << 8) >> 48;
-        self.append(check, cells, settled);
+        self.append(check, frame, settled);
     }
 
     /// Takes so many of these bits, the lowest, of which none but the last may decide a report, and settles those that
     /// eight later ones have followed.
     #[inline(always)]
-    fn take_some<C: Check>(&mut self, check: &mut C, cells: &mut [u8; 272], bits: u64, count: u64)
-        requires within { IsWithin self.old }
+    fn take_some<C: Check, F: FrameBuffer>(
+        &mut self,
+        check: &mut C,
+        frame: &mut F,
+        bits: u64,
+        count: u64,
+    )
+        requires sound { IsDecoder self.old (F.octets frame.old) }
         requires some { 1 ≤ count }
         requires few { count ≤ 56 }
         requires room { self.old.place + count ≤ most_places }
-        ensures tracks { (b : List Bool) → After C.check (state self.old check.old cells.old) b →
+        ensures tracks { (b : List Bool) → After C.check (state self.old check.old (F.octets frame.old)) b →
             IsCalm b (bits_of count bits) (count - 1) →
-            Tracks C.check (state self.new check.new cells.new) (b ++ bits_of count bits) (current b) }
+            Tracks C.check (state self.new check.new (F.octets frame.new)) (b ++ bits_of count bits) (current b) }
         ensures longest { self.new.longest ≡ self.old.longest }
         ensures origin { self.new.origin ≡ self.old.origin }
         ensures place { self.new.place ≡ self.old.place + count }
-        ensures within { IsWithin self.new }
-        ensures cells { length cells.new ≡ 272 }
+        ensures sound { IsDecoder self.new (F.octets frame.new) }
     {
         let word = self.last_bits | bits << 16;
         self.place += count;
@@ -206,6 +210,6 @@ impl LineWords {
             return;
         }
         let late = min(self.place - self.settles_at, count);
-        self.append(check, cells, data_in_turn(word >> (count - late), late));
+        self.append(check, frame, data_in_turn(word >> (count - late), late));
     }
 }

@@ -9,6 +9,7 @@ ghost use Rattle.bus_bits.specs.Octet.{bits_of};
 
 use crate::decoder::quiet::{flags_end, has_six, ones_end};
 use crate::decoder::settled::data_in_word;
+use crate::frame_buffer::FrameBuffer;
 use crate::line_words::{LineWords, NEVER, PLACES};
 use crate::place_limit::PlaceLimit;
 use crate::scanned::Scanned;
@@ -18,78 +19,76 @@ use bus_fcs::Check;
 use std::cmp::min;
 
 impl LineWords {
-    ghost use Rattle.bus_line.specs.Words.{IsWithin, state};
+    ghost use Rattle.bus_line.specs.Words.{IsDecoder, IsWithin, state};
     ghost use Rattle.bus_line.specs.Shown.{reported};
     ghost use Rattle.bus_line.specs.After.{Advances, Tells};
     ghost use Rattle.bus_line.specs.Internal.Flags.{PassesFlags};
     ghost use Rattle.bus_line.specs.Internal.Quiet.{PassesOnes, AreFlags};
 
     /// Takes bits as [`LineDecoder::scan`](crate::LineDecoder::scan) does, with the octets of the piece and
-    /// their check in the caller's hands. The first [`LineWords::len`] of the cells are then the octets.
+    /// their check in the caller's hands.
     ///
     /// [`ByTurns`](crate::ByTurns) is the quicker way on a processor of 64 bits, [`ByWords`](crate::ByWords) what
     /// firmware needs.
     ///
     /// Refuses as [`PlaceLimit`], with nothing changed, where the first bit's place would be 2^60.
     #[inline(always)]
-    pub fn scan<C: Check, W: Way>(
+    pub fn scan<W: Way, C: Check, F: FrameBuffer>(
         &mut self,
         check: &mut C,
-        cells: &mut [u8; 272],
+        frame: &mut F,
         octets: &[u8],
         at: usize,
         end: usize,
     ) -> Result<Scanned, PlaceLimit>
-        requires within { IsWithin self.old }
+        requires sound { IsDecoder self.old (F.octets frame.old) }
         requires some { at < end }
         requires enough { end ≤ 8 * length octets.now }
         ensures limit { IsErr result ↔ (most_places ≤ self.old.place) }
         ensures count { IfOk result (λ s. (1 ≤ s.count) × (s.count ≤ end - at)) }
         ensures all { IfOk result (λ s. s.event ≡ None → s.count < end - at → self.new.place ≡ most_places) }
-        ensures advances { IfOk result (λ s. Advances C.check (state self.old check.old cells.old)
+        ensures advances { IfOk result (λ s. Advances C.check (state self.old check.old (F.octets frame.old))
             (bits_from octets.now at s.count)
-            (option_map (reported (state self.new check.new cells.new).octets) s.event)
-            (state self.new check.new cells.new)) }
+            (option_map (reported (state self.new check.new (F.octets frame.new)).octets) s.event)
+            (state self.new check.new (F.octets frame.new))) }
         ensures unchanged { OnErr result ((self.new ≡ self.old) × (check.new ≡ check.old)
-            × (cells.new ≡ cells.old)) }
-        ensures within { IsWithin self.new }
-        ensures cells { length cells.new ≡ 272 }
+            × (frame.new ≡ frame.old)) }
+        ensures sound { IsDecoder self.new (F.octets frame.new) }
     {
         let room = PLACES - self.place;
         if room == 0 {
             return Err(PlaceLimit);
         }
         let count = min((end - at) as u64, room) as usize;
-        Ok(self.scan_all::<C, W>(check, cells, octets, at, at + count))
+        Ok(self.scan_all::<W, _, _>(check, frame, octets, at, at + count))
     }
 
     /// Takes bits up to the first that decides a report, or all, which have places.
     #[inline(always)]
-    fn scan_all<C: Check, W: Way>(
+    fn scan_all<W: Way, C: Check, F: FrameBuffer>(
         &mut self,
         check: &mut C,
-        cells: &mut [u8; 272],
+        frame: &mut F,
         octets: &[u8],
         from: usize,
         end: usize,
     ) -> Scanned
-        requires within { IsWithin self.old }
+        requires sound { IsDecoder self.old (F.octets frame.old) }
         requires some { from ≤ end }
         requires enough { end ≤ 8 * length octets.now }
         requires room { self.old.place + (end - from) ≤ most_places }
         ensures count { result.count ≤ end - from }
         ensures some { from < end → 1 ≤ result.count }
         ensures all { result.event ≡ None → result.count ≡ end - from }
-        ensures advances { Advances C.check (state self.old check.old cells.old)
+        ensures advances { Advances C.check (state self.old check.old (F.octets frame.old))
             (bits_from octets.now from result.count)
-            (option_map (reported (state self.new check.new cells.new).octets) result.event)
-            (state self.new check.new cells.new) }
-        ensures within { IsWithin self.new }
-        ensures cells { length cells.new ≡ 272 }
+            (option_map (reported (state self.new check.new (F.octets frame.new)).octets) result.event)
+            (state self.new check.new (F.octets frame.new)) }
+        ensures sound { IsDecoder self.new (F.octets frame.new) }
     {
         let mut at = from;
         while at < end {
-            let scanned = W::advance(self, check, cells, octets, at, end);
+            let scanned = W::advance(self, check, frame, octets, at, end);
             at += scanned.count;
             if scanned.event.is_some() {
                 return Scanned {
@@ -107,28 +106,27 @@ impl LineWords {
     /// Takes up to 48 bits, or those of them up to the first that may decide a report; and if that decides none, those
     /// after them that decide nothing, as many as come at once.
     #[inline(always)]
-    pub(crate) fn scan_some<C: Check>(
+    pub(crate) fn scan_some<C: Check, F: FrameBuffer>(
         &mut self,
         check: &mut C,
-        cells: &mut [u8; 272],
+        frame: &mut F,
         octets: &[u8],
         from: usize,
         end: usize,
     ) -> Scanned
-        requires within { IsWithin self.old }
+        requires sound { IsDecoder self.old (F.octets frame.old) }
         requires some { from < end }
         requires enough { end ≤ 8 * length octets.now }
         requires room { self.old.place + (end - from) ≤ most_places }
         ensures count { (1 ≤ result.count) × (result.count ≤ end - from) }
-        ensures advances { Advances C.check (state self.old check.old cells.old)
+        ensures advances { Advances C.check (state self.old check.old (F.octets frame.old))
             (bits_from octets.now from result.count)
-            (option_map (reported (state self.new check.new cells.new).octets) result.event)
-            (state self.new check.new cells.new) }
-        ensures within { IsWithin self.new }
-        ensures cells { length cells.new ≡ 272 }
+            (option_map (reported (state self.new check.new (F.octets frame.new)).octets) result.event)
+            (state self.new check.new (F.octets frame.new)) }
+        ensures sound { IsDecoder self.new (F.octets frame.new) }
     {
         let word = word_at(octets, from, end);
-        let taken = self.advance(check, cells, word.bits, word.count);
+        let taken = self.advance(check, frame, word.bits, word.count);
         let at = from + taken.count as usize;
         if taken.event.is_some() {
             return Scanned {
@@ -136,7 +134,7 @@ impl LineWords {
                 event: taken.event,
             };
         }
-        let past = self.pass_quiet(check, cells, octets, at, end);
+        let past = self.pass_quiet(check, frame, octets, at, end);
         Scanned {
             count: past - from,
             event: None,
@@ -146,29 +144,28 @@ impl LineWords {
     /// Takes bits that decide nothing, 56 at a time where 64 are left: those of an open piece without six ones in a
     /// row, and time fill (ISO/IEC 13239, interframe time fill). Returns where the next bit is.
     #[inline(always)]
-    fn pass_quiet<C: Check>(
+    fn pass_quiet<C: Check, F: FrameBuffer>(
         &mut self,
         check: &mut C,
-        cells: &mut [u8; 272],
+        frame: &mut F,
         octets: &[u8],
         from: usize,
         end: usize,
     ) -> usize
-        requires within { IsWithin self.old }
+        requires sound { IsDecoder self.old (F.octets frame.old) }
         requires some { from ≤ end }
         requires enough { end ≤ 8 * length octets.now }
         requires room { self.old.place + (end - from) ≤ most_places }
         ensures within { (from ≤ result) × (result ≤ end) }
-        ensures tells { Tells C.check (state self.old check.old cells.old)
-            (bits_from octets.now from (result - from)) None (state self.new check.new cells.new) }
-        ensures sound { IsWithin self.new }
-        ensures cells { length cells.new ≡ 272 }
+        ensures tells { Tells C.check (state self.old check.old (F.octets frame.old))
+            (bits_from octets.now from (result - from)) None (state self.new check.new (F.octets frame.new)) }
+        ensures sound { IsDecoder self.new (F.octets frame.new) }
     {
         if end - from < 64 {
             return from;
         }
         if self.settles_at <= self.place {
-            return self.pass_data(check, cells, octets, from, end);
+            return self.pass_data(check, frame, octets, from, end);
         }
         self.pass_fill::<C>(octets, from, end)
     }
@@ -181,8 +178,8 @@ impl LineWords {
         requires enough { end ≤ 8 * length octets.now }
         requires room { self.old.place + (end - from) ≤ most_places }
         ensures within { (from ≤ result) × (result ≤ end) }
-        ensures tells { (check : C) (cells : List ℕ) → Tells C.check (state self.old check cells)
-            (bits_from octets.now from (result - from)) None (state self.new check cells) }
+        ensures tells { (check : C) (held : List ℕ) → Tells C.check (state self.old check held)
+            (bits_from octets.now from (result - from)) None (state self.new check held) }
         ensures none { result ≡ from → self.new ≡ self.old }
         ensures sound { IsWithin self.new }
     {
@@ -197,28 +194,27 @@ impl LineWords {
 
     /// Takes bits of the open piece, 56 at a time, before the first of which six ones end.
     #[inline(always)]
-    fn pass_data<C: Check>(
+    fn pass_data<C: Check, F: FrameBuffer>(
         &mut self,
         check: &mut C,
-        cells: &mut [u8; 272],
+        frame: &mut F,
         octets: &[u8],
         from: usize,
         end: usize,
     ) -> usize
-        requires within { IsWithin self.old }
+        requires sound { IsDecoder self.old (F.octets frame.old) }
         requires open { self.old.settles_at ≤ self.old.place }
         requires some { from ≤ end }
         requires enough { end ≤ 8 * length octets.now }
         requires room { self.old.place + (end - from) ≤ most_places }
         ensures within { (from ≤ result) × (result ≤ end) }
-        ensures tells { Tells C.check (state self.old check.old cells.old)
-            (bits_from octets.now from (result - from)) None (state self.new check.new cells.new) }
-        ensures sound { IsWithin self.new }
-        ensures cells { length cells.new ≡ 272 }
+        ensures tells { Tells C.check (state self.old check.old (F.octets frame.old))
+            (bits_from octets.now from (result - from)) None (state self.new check.new (F.octets frame.new)) }
+        ensures sound { IsDecoder self.new (F.octets frame.new) }
     {
         let mut at = from;
         while end - at >= 64 {
-            if !self.take_data(check, cells, seven_octets_at(octets, at)) {
+            if !self.take_data(check, frame, seven_octets_at(octets, at)) {
                 break;
             }
             at += 56;
@@ -228,16 +224,20 @@ impl LineWords {
 
     /// Takes the lowest 56 of these bits, which go on with the open piece, if six ones end before none of them.
     #[inline(always)]
-    fn take_data<C: Check>(&mut self, check: &mut C, cells: &mut [u8; 272], bits: u64) -> bool
-        requires within { IsWithin self.old }
+    fn take_data<C: Check, F: FrameBuffer>(
+        &mut self,
+        check: &mut C,
+        frame: &mut F,
+        bits: u64,
+    ) -> bool
+        requires sound { IsDecoder self.old (F.octets frame.old) }
         requires open { self.old.settles_at ≤ self.old.place }
         requires room { self.old.place + 56 ≤ most_places }
-        ensures none { result ≡ false → (self.new ≡ self.old) × (check.new ≡ check.old) × (cells.new ≡ cells.old) }
-        ensures tells { result ≡ true → Tells C.check (state self.old check.old cells.old) (bits_of 56 bits)
-            None (state self.new check.new cells.new) }
+        ensures none { result ≡ false → (self.new ≡ self.old) × (check.new ≡ check.old) × (frame.new ≡ frame.old) }
+        ensures tells { result ≡ true → Tells C.check (state self.old check.old (F.octets frame.old)) (bits_of 56 bits)
+            None (state self.new check.new (F.octets frame.new)) }
         ensures open { self.new.settles_at ≤ self.new.place }
-        ensures within { IsWithin self.new }
-        ensures cells { length cells.new ≡ 272 }
+        ensures sound { IsDecoder self.new (F.octets frame.new) }
     {
         let behind = self.last_bits >> 8 | bits << 8;
         if has_six(behind) {
@@ -246,7 +246,7 @@ impl LineWords {
         let settled = data_in_word(self.last_bits | bits << 16, 56);
         self.place += 56;
         self.last_bits = behind >> 48;
-        self.append(check, cells, settled);
+        self.append(check, frame, settled);
         true
     }
 

@@ -1,6 +1,6 @@
 //! Where taking bits stops.
 
-ghost use Rattle.std.specs.Prelude.{◌≡◌, ◌≤◌, ◌<◌, true, false, ℕ};
+ghost use Rattle.std.specs.Prelude.{◌≡◌, ◌≤◌, ◌<◌, ℕ};
 ghost use Rattle.bus_line.specs.Internal.Settled.{IsStop};
 
 /// How many of the new bits stand before the first that comes after exactly six ones or exactly fourteen:
@@ -20,19 +20,4 @@ pub(crate) fn calm_bits(word: u64, count: u32) -> u32
     let fourteen = six & four >> 6 & four >> 10;
     let stop = six >> 10 & !(word >> 9) | fourteen >> 2 & !(word >> 1) | 1 << count;
     stop.trailing_zeros()
-}
-
-/// Whether the new bit after sixteen others, the oldest lowest, follows neither exactly six ones nor exactly fourteen.
-#[inline(always)]
-pub(crate) fn is_calm(word: u64) -> bool
-    ensures calm { result ≡ true → IsStop word 0 → ⊥ }
-    ensures stop { result ≡ false → IsStop word 0 }
-{
-    if word >> 10 & 0x3f != 0x3f {
-        return true;
-    }
-    if word >> 9 & 1 == 0 {
-        return false;
-    }
-    word >> 1 & 0x7fff != 0x7ffe
 }

@@ -5,44 +5,44 @@ ghost use Rattle.std.specs.Option.{option_map};
 ghost use Rattle.bus_bits.specs.Bits.{bits_from};
 ghost use Rattle.bus_bits.specs.Limits.{most_places};
 
+use crate::frame_buffer::FrameBuffer;
 use crate::line_words::LineWords;
 use crate::scanned::Scanned;
 use bus_bits::{seven_octets_at, word_at};
 use bus_fcs::Check;
 
 impl LineWords {
-    ghost use Rattle.bus_line.specs.Words.{IsWithin, state};
+    ghost use Rattle.bus_line.specs.Words.{IsDecoder, IsWithin, state};
     ghost use Rattle.bus_line.specs.Shown.{reported};
     ghost use Rattle.bus_line.specs.After.{Advances};
 
     /// Takes bits as [`LineWords::scan_some`] does: by turns of 56 where the last mark is a flag.
     #[inline(always)]
-    pub(crate) fn scan_turns<C: Check>(
+    pub(crate) fn scan_turns<C: Check, F: FrameBuffer>(
         &mut self,
         check: &mut C,
-        cells: &mut [u8; 272],
+        frame: &mut F,
         octets: &[u8],
         from: usize,
         end: usize,
     ) -> Scanned
-        requires within { IsWithin self.old }
+        requires sound { IsDecoder self.old (F.octets frame.old) }
         requires some { from < end }
         requires enough { end ≤ 8 * length octets.now }
         requires room { self.old.place + (end - from) ≤ most_places }
         ensures count { (1 ≤ result.count) × (result.count ≤ end - from) }
-        ensures advances { Advances C.check (state self.old check.old cells.old)
+        ensures advances { Advances C.check (state self.old check.old (F.octets frame.old))
             (bits_from octets.now from result.count)
-            (option_map (reported (state self.new check.new cells.new).octets) result.event)
-            (state self.new check.new cells.new) }
-        ensures within { IsWithin self.new }
-        ensures cells { length cells.new ≡ 272 }
+            (option_map (reported (state self.new check.new (F.octets frame.new)).octets) result.event)
+            (state self.new check.new (F.octets frame.new)) }
+        ensures sound { IsDecoder self.new (F.octets frame.new) }
     {
         if self.begins_piece(octets, from, end) {
-            return self.scan_open(check, cells, octets, from, end);
+            return self.scan_open(check, frame, octets, from, end);
         }
         let past = self.pass_fill::<C>(octets, from, end);
         if past == from {
-            return self.scan_word(check, cells, octets, from, end);
+            return self.scan_word(check, frame, octets, from, end);
         }
         Scanned {
             count: past - from,
@@ -65,28 +65,27 @@ impl LineWords {
 
     /// Takes up to 48 bits, or those of them up to the first that may decide a report.
     #[inline(always)]
-    fn scan_word<C: Check>(
+    fn scan_word<C: Check, F: FrameBuffer>(
         &mut self,
         check: &mut C,
-        cells: &mut [u8; 272],
+        frame: &mut F,
         octets: &[u8],
         from: usize,
         end: usize,
     ) -> Scanned
-        requires within { IsWithin self.old }
+        requires sound { IsDecoder self.old (F.octets frame.old) }
         requires some { from < end }
         requires enough { end ≤ 8 * length octets.now }
         requires room { self.old.place + (end - from) ≤ most_places }
         ensures count { (1 ≤ result.count) × (result.count ≤ end - from) }
-        ensures advances { Advances C.check (state self.old check.old cells.old)
+        ensures advances { Advances C.check (state self.old check.old (F.octets frame.old))
             (bits_from octets.now from result.count)
-            (option_map (reported (state self.new check.new cells.new).octets) result.event)
-            (state self.new check.new cells.new) }
-        ensures within { IsWithin self.new }
-        ensures cells { length cells.new ≡ 272 }
+            (option_map (reported (state self.new check.new (F.octets frame.new)).octets) result.event)
+            (state self.new check.new (F.octets frame.new)) }
+        ensures sound { IsDecoder self.new (F.octets frame.new) }
     {
         let word = word_at(octets, from, end);
-        let taken = self.advance_apart(check, cells, word.bits, word.count);
+        let taken = self.advance_apart(check, frame, word.bits, word.count);
         Scanned {
             count: taken.count as usize,
             event: taken.event,
@@ -95,27 +94,26 @@ impl LineWords {
 
     /// Takes bits of the piece that the last flag opens.
     #[inline(always)]
-    fn scan_open<C: Check>(
+    fn scan_open<C: Check, F: FrameBuffer>(
         &mut self,
         check: &mut C,
-        cells: &mut [u8; 272],
+        frame: &mut F,
         octets: &[u8],
         from: usize,
         end: usize,
     ) -> Scanned
-        requires within { IsWithin self.old }
+        requires sound { IsDecoder self.old (F.octets frame.old) }
         requires some { from + 64 ≤ end }
         requires enough { end ≤ 8 * length octets.now }
         requires room { self.old.place + (end - from) ≤ most_places }
         ensures count { (1 ≤ result.count) × (result.count ≤ end - from) }
-        ensures advances { Advances C.check (state self.old check.old cells.old)
+        ensures advances { Advances C.check (state self.old check.old (F.octets frame.old))
             (bits_from octets.now from result.count)
-            (option_map (reported (state self.new check.new cells.new).octets) result.event)
-            (state self.new check.new cells.new) }
-        ensures within { IsWithin self.new }
-        ensures cells { length cells.new ≡ 272 }
+            (option_map (reported (state self.new check.new (F.octets frame.new)).octets) result.event)
+            (state self.new check.new (F.octets frame.new)) }
+        ensures sound { IsDecoder self.new (F.octets frame.new) }
     {
-        let reached = self.reach(check, cells, octets, from, end);
+        let reached = self.reach(check, frame, octets, from, end);
         let event = if reached.is_stop {
             self.decide_here(check)
         } else {

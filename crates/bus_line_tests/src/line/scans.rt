@@ -5,6 +5,7 @@ use super::bits_of;
 use super::random_lists::{state_of, traffic};
 use super::text::push_report;
 use crate::expect::{holds, same};
+use arrayvec::ArrayVec;
 use bus_bits::bits_octet;
 use bus_fcs::{Check, OctetCheck};
 use bus_line::{ByWords, LineDecoder, LineWords, PlaceLimit, Scanned};
@@ -23,7 +24,7 @@ struct Both {
     decoder: LineDecoder<OctetCheck>,
     words: LineWords,
     check: OctetCheck,
-    cells: [u8; 272],
+    frame: ArrayVec<u8, 258>,
 }
 
 impl Both {
@@ -32,7 +33,7 @@ impl Both {
             decoder: LineDecoder::new(longest, origin).expect(rt, "a decoder"),
             words: LineWords::new(longest, origin).expect(rt, "words"),
             check: OctetCheck::fresh(),
-            cells: [0; 272],
+            frame: ArrayVec::new(),
         }
     }
 
@@ -51,17 +52,23 @@ impl Both {
         assert!(rt; end <= 8 * octets.len(), "bits of octets");
         let answer = self.decoder.scan(octets, at, end);
         assert!(rt; self.words.are_sound(), "words of a decoder");
+        let room = self.words.longest + 2;
+        assert!(rt; self.frame.len() as u64 <= room, "octets of a decoder");
         let other = self
             .words
-            .scan::<OctetCheck, ByWords>(&mut self.check, &mut self.cells, octets, at, end);
+            .scan::<ByWords, _, _>(&mut self.check, &mut self.frame, octets, at, end);
         same(rt, answer, other, "without turns");
         answer
     }
 
     /// Both say the same of themselves.
     fn check_alike(&self, rt: &impl Abort) {
-        let octets = self.cells.get(..self.words.len as usize);
-        same(rt, octets, Some(self.decoder.octets()), "without turns");
+        same(
+            rt,
+            self.frame.as_slice(),
+            self.decoder.octets(),
+            "without turns",
+        );
         assert!(rt; self.words.are_sound(), "words of a decoder");
         same(
             rt,

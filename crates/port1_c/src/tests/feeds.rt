@@ -77,8 +77,8 @@ fn note(rt: &impl Abort, told: &mut Vec<Told>, line: &Port1Line, report: &Port1R
         return;
     }
     if report.kind == FRAME {
-        let octets = &line.octets[..5];
-        same(rt, line.words.len, 5, "how many octets a frame has");
+        let octets = &line.frame.octets[..5];
+        same(rt, line.frame.len, 5, "how many octets a frame has");
         same(rt, octets, &CALL_OCTETS[..], "the octets of a frame");
     }
     let places = [report.first, report.past, line.words.place];

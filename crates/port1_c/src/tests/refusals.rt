@@ -25,9 +25,9 @@ fn words(line: &Port1Line) -> [u64; 13] {
         line.words.data_bits,
         line.words.partial,
         line.words.last_bits,
-        u64::from(line.words.len),
-        u64::from(line.words.spare),
-        u64::from(line.words.register),
+        u64::from(line.frame.len),
+        u64::from(line.frame.spare),
+        u64::from(line.frame.register),
     ]
 }
 
@@ -38,7 +38,7 @@ fn check_same(
     case: impl Display + Copy + Drop,
 ) {
     same(rt, words(line), words(other), case);
-    holds(rt, line.octets == other.octets, case);
+    holds(rt, line.frame.octets == other.frame.octets, case);
 }
 
 /// The longest frame, the first place, and what comes of them.
@@ -221,7 +221,7 @@ fn replaced(rt: &impl Abort, index: usize, number: u64) -> Port1Line {
         5 => line.words.stored = number,
         6 => line.words.assembled = number,
         7 => line.words.data_bits = number,
-        _ => line.words.len = number.min(1000) as u32,
+        _ => line.frame.len = number.min(1000) as u32,
     }
     line
 }

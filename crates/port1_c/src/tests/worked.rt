@@ -1,7 +1,7 @@
 //! Numbers, bits and octets of worked examples. The numbers are those of `include/port1.h`, with PORT1_ before each
 //! name.
 
-use crate::{Port1Line, Port1Report};
+use crate::{LentFrame, Port1Line, Port1Report};
 use bus_bits::bits_octet;
 use bus_line::LineWords;
 use std::alloc::Global;
@@ -78,11 +78,13 @@ pub(super) fn memory(number: u8) -> Port1Line {
             data_bits: word,
             partial: word,
             last_bits: word,
+        },
+        frame: LentFrame {
             len: u32::from(number),
             spare: u16::from(number),
             register: u16::from(number),
+            octets: [number; 272],
         },
-        octets: [number; 272],
     }
 }
 

@@ -8,7 +8,7 @@ use Rattle.port1_c.proofs.TellLemmas.{advances-octet, tells-first, tells-none}
 use Rattle.port1_c.proofs.bits.feed_octet.Goals as goal
 
 none-taken : (c : goal.After-feed) → line.Tells by_tables (held c.args.line.now) (bits_of c.args.at.now c.args.octet)
-    None (held c.take_short.new.self)
+    None (held c.take.new.self)
 none-taken c =
     let old = held c.args.line.now in
     subst (λ (l : Port1Line). line.Tells by_tables old (bits_of c.args.at.now c.args.octet) None (held l))
@@ -24,10 +24,10 @@ returns-in_default-clause-advances c = λ sound.
 
 some-taken : (c : goal.After-feed-2) →
     line.Tells by_tables (held c.args.line.now) (bits_of c.in-Ok.told.count c.args.octet) None
-    (held c.take_short.new.self)
+    (held c.take.new.self)
 some-taken c =
     let old = held c.args.line.now in
-    let new = held c.take_short.new.self in
+    let new = held c.take.new.self in
     let told = c.in-Ok.told in
     let octet : c.from.result ≡ c.args.octet = omega (arith, c.from.ensures) in
     tells-none old new (bits_of told.count c.args.octet) told.report (omega (arith, c.if-told-ne-NONE.false))

@@ -8,8 +8,8 @@ use Rattle.port1_c.proofs.calls.port1_line_init.Goals as goal
 
 pub returns-in-Ok-clause-stands : goal.returns-in-Ok-clause-stands
 returns-in-Ok-clause-stands c = λ _.
-    let octets = replicate 272 0 in
     let origin = c.args.origin in
-    subst (λ (w : LineWords). LineAfter (record { words = w; octets = octets }) []) (sym c.in-Ok.ensures.value)
+    subst (λ (l : Port1Line). LineAfter l [])
+    (ap (λ (w : LineWords). record { words = w; frame = c.new-in-Ok.result }) (sym c.in-Ok.ensures.value))
     (fresh-tracks by_tables (origin - origin)
-    (state (fresh_words c.args.longest origin) (record { state = 0 }) octets) refl refl refl refl)
+    (state (fresh_words c.args.longest origin) (record { state = 0 }) []) refl refl refl refl)

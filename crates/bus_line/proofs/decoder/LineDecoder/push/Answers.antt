@@ -15,7 +15,7 @@ returns g c =
     let view = g.C.Check.check in
     let old = c.args.self.now in
     let taken = c.advance-taken in
-    let new = line_state (record { words = taken.new.self; check = taken.new.check; cells = taken.new.cells }) in
+    let new = line_state (record { words = taken.new.self; check = taken.new.check; frame = taken.new.frame }) in
     let report = option_map (reported new.octets) taken.result.event in
     let one : bits_of taken.result.count c.from.result ≡ c.args.bit ∷ [] =
     one_bit c.from.result taken.result.count c.args.bit c.from.ensures taken.ensures.some taken.ensures.count in

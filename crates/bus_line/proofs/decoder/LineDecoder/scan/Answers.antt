@@ -19,4 +19,4 @@ returns-clause-fits g c =
     let here = ap (λ (d : LineState _). d.place) c.self.view_is in
     let place = scanned.ensures.advances.tells.leads.place in
     let count = length-from c.args.octets.now c.args.at scanned.scanned.count in
-    omega (arith, here, c.scan.ensures.within.place_fits, place, count)
+    omega (arith, here, c.scan.ensures.sound.within.place_fits, place, count)

@@ -4,9 +4,6 @@ use Rattle.bus_bits.proofs.OctetLemmas.{length-bits}
 use Rattle.bus_line.proofs.TellLemmas.{last-due}
 use Rattle.bus_line.proofs.decoder.LineDecoder.take.Goals as goal
 
-pub invariant_of-self : goal.invariant_of-self
-invariant_of-self g c = record { within = c.advance.ensures.within; room = c.advance.ensures.cells }
-
 pub returns-clause-stops : goal.returns-clause-stops
 returns-clause-stops g c = rw (← c.self.view_is) c.advance.ensures.stops
 

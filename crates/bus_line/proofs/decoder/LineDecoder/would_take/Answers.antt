@@ -14,7 +14,7 @@ returns-then-calm-left-clause-stops g c = λ b h.
     let d = c.self.inside in
     let here : After g.C.Check.check (line_state d) b =
     subst (λ (s : LineState g.row.C.Denot). After g.C.Check.check s b) (sym c.self.view_is) h in
-    let shown = shows-flag _ d.words d.check d.cells b c.self.invariant.within here in
+    let shown = shows-flag _ d.words d.check d.frame.items b c.self.invariant.within here in
     let word = word-joined (line_state d) n x b here.has_taken c.requires.word.few c.requires.word.small in
     would-all {b = b} {n = n} {x = x}
     (record { ahead = c.flags_ahead-passed.ensures.ahead b shown; bits = refl; count = refl }) _
@@ -28,7 +28,7 @@ returns-else-calm-left-clause-stops g c = λ b h.
     let d = c.self.inside in
     let here : After g.C.Check.check (line_state d) b =
     subst (λ (s : LineState g.row.C.Denot). After g.C.Check.check s b) (sym c.self.view_is) h in
-    let shown = shows-flag _ d.words d.check d.cells b c.self.invariant.within here in
+    let shown = shows-flag _ d.words d.check d.frame.items b c.self.invariant.within here in
     let word = word-joined (line_state d) n x b here.has_taken c.requires.word.few c.requires.word.small in
     would-stop {b = b} {n = n} {x = x}
     (record { ahead = c.flags_ahead-passed.ensures.ahead b shown; bits = refl; count = refl }) _ calm.result word

@@ -12,10 +12,10 @@ use Rattle.bus_line.proofs.line_words.LineWords.advance_to_stop.Goals as goal
 pub returns-then-calm-count-clause-advances : goal.returns-then-calm-count-clause-advances
 returns-then-calm-count-clause-advances g c =
     let view = g.C.Check.check in
-    let old = state c.args.self.now c.args.check.now c.args.cells.now in
-    let shifted = state c.shift.new.self c.args.check.now c.args.cells.now in
+    let old = state c.args.self.now c.args.check.now (g.F.FrameBuffer.octets c.args.frame.now) in
+    let shifted = state c.shift.new.self c.args.check.now (g.F.FrameBuffer.octets c.args.frame.now) in
     let settled = c.settle in
-    let new = state settled.new.self settled.new.check settled.new.cells in
+    let new = state settled.new.self settled.new.check (g.F.FrameBuffer.octets settled.new.frame) in
     let n = c.args.count in
     let x = c.args.bits in
     let value = c.shift.ensures.value in
@@ -31,7 +31,7 @@ returns-then-calm-count-clause-advances g c =
     let within-shifted : c.from.result ≤ length (bits_of n x) = omega (arith, c.from.ensures, length-bits n x) in
     let lags = subst (λ (j : ℕ). LagsBy view shifted b (take j (bits_of n x)))
     (c.from.ensures ∙ sym c.from-then-calm-count.ensures)
-    (shift-lags _ c.args.self.now c.shift.new.self c.args.check.now c.args.cells.now b (bits_of n x) _ _
+    (shift-lags _ c.args.self.now c.shift.new.self c.args.check.now (g.F.FrameBuffer.octets c.args.frame.now) b (bits_of n x) _ _
     value stands word within-shifted) in
     behind-calm view _ n x taken old new b calm c.from-then-calm-count.ensures
     (λ calm-so-far. settled.ensures.tracks b (bits_of n x) word within calm-so-far lags))
@@ -39,11 +39,11 @@ returns-then-calm-count-clause-advances g c =
 pub returns-clause-advances : goal.returns-clause-advances
 returns-clause-advances g c =
     let view = g.C.Check.check in
-    let old = state c.args.self.now c.args.check.now c.args.cells.now in
-    let shifted = state c.shift-2.new.self c.args.check.now c.args.cells.now in
+    let old = state c.args.self.now c.args.check.now (g.F.FrameBuffer.octets c.args.frame.now) in
+    let shifted = state c.shift-2.new.self c.args.check.now (g.F.FrameBuffer.octets c.args.frame.now) in
     let settled = c.settle-2 in
-    let mid = state settled.new.self settled.new.check settled.new.cells in
-    let new = state c.decide.new.self settled.new.check settled.new.cells in
+    let mid = state settled.new.self settled.new.check (g.F.FrameBuffer.octets settled.new.frame) in
+    let new = state c.decide.new.self settled.new.check (g.F.FrameBuffer.octets settled.new.frame) in
     let n = c.args.count in
     let x = c.args.bits in
     let m = c.calm_bits-calm.result in
@@ -63,18 +63,18 @@ returns-clause-advances g c =
     let within-shifted : c.from-2.result ≤ length (bits_of n x) = omega (arith, c.from-2.ensures, last.within) in
     let lags = subst (λ (j : ℕ). LagsBy view shifted b (take j (bits_of n x)))
     (c.from-2.ensures ∙ sym c.from-3.ensures)
-    (shift-lags _ c.args.self.now c.shift-2.new.self c.args.check.now c.args.cells.now b (bits_of n x) _ _
+    (shift-lags _ c.args.self.now c.shift-2.new.self c.args.check.now (g.F.FrameBuffer.octets c.args.frame.now) b (bits_of n x) _ _
     value stands word within-shifted) in
     let tracks = last-tracks _ _ n m x taken mid b last c.from-3.ensures
     (λ calm-so-far. settled.ensures.tracks b (bits_of n x) word within calm-so-far lags) in
     let front = but_last b n m x in
     behind-last view _ n m x old mid new b _ last longest origin
-    (c.decide.ensures.answer settled.new.cells front (last_of n m x) tracks)
-    (c.decide.ensures.after settled.new.cells front (last_of n m x) tracks))
+    (c.decide.ensures.answer (g.F.FrameBuffer.octets settled.new.frame) front (last_of n m x) tracks)
+    (c.decide.ensures.after (g.F.FrameBuffer.octets settled.new.frame) front (last_of n m x) tracks))
 
 pub returns-then-calm-count-clause-stops : goal.returns-then-calm-count-clause-stops
 returns-then-calm-count-clause-stops g c = λ b stands.
-    let old = state c.args.self.now c.args.check.now c.args.cells.now in
+    let old = state c.args.self.now c.args.check.now (g.F.FrameBuffer.octets c.args.frame.now) in
     let n = c.args.count in
     let x = c.args.bits in
     let word = word-joined old n x b stands.has_taken c.requires.word.few c.requires.word.small in
@@ -83,7 +83,7 @@ returns-then-calm-count-clause-stops g c = λ b stands.
 
 pub returns-clause-stops : goal.returns-clause-stops
 returns-clause-stops g c = λ b stands.
-    let old = state c.args.self.now c.args.check.now c.args.cells.now in
+    let old = state c.args.self.now c.args.check.now (g.F.FrameBuffer.octets c.args.frame.now) in
     let n = c.args.count in
     let x = c.args.bits in
     let m = c.calm_bits-calm.result in

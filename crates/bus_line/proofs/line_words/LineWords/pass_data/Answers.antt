@@ -10,9 +10,8 @@ loop-at-init g c = record {
   ends = c.requires.some;
   opened = c.requires.open;
   tells = tells-from g.C.Check.check c.args.octets.now c.args.from (c.args.from - c.args.from)
-      (state c.args.self.now c.args.check.now c.args.cells.now) (omega arith);
-  within = c.requires.within;
-  cells = c.told-cells;
+      (state c.args.self.now c.args.check.now (g.F.FrameBuffer.octets c.args.frame.now)) (omega arith);
+  sound = c.requires.sound;
 }
 
 pub take_data-requires-clause-room : goal.take_data-requires-clause-room
@@ -31,8 +30,8 @@ loop-at-preserved g c =
     let now = c.loop-at.invariant in
     let view = g.C.Check.check in
     let taken = c.take_data.new in
-    let old = state c.loop-at.self c.loop-at.check c.loop-at.cells in
-    let new = state taken.self taken.check taken.cells in
+    let old = state c.loop-at.self c.loop-at.check (g.F.FrameBuffer.octets c.loop-at.frame) in
+    let new = state taken.self taken.check (g.F.FrameBuffer.octets taken.frame) in
     let tells = subst (λ (z : List Bool). Tells view old z None new) c.seven_octets_at.ensures
     (c.take_data.ensures.tells c.if-not-take_data.false) in
     record {
@@ -41,6 +40,5 @@ loop-at-preserved g c =
       opened = c.take_data.ensures.open;
       tells = tells-on view c.args.octets.now c.args.from c.loop-at.at now.begun now.tells 56
           (c.loop-at.at + 56 - c.args.from) (omega (arith, now.begun)) tells;
-      within = c.take_data.ensures.within;
-      cells = c.take_data.ensures.cells;
+      sound = c.take_data.ensures.sound;
     }

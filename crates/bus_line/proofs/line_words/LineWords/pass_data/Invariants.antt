@@ -1,7 +1,7 @@
-use Rattle.std.proofs.Common.{◌≡◌, ◌-◌, ◌≤◌, length, None}
+use Rattle.std.proofs.Common.{◌-◌, ◌≤◌, None}
 use Rattle.bus_bits.specs.Bits.{bits_from}
 use Rattle.bus_line.specs.After.{Tells}
-use Rattle.bus_line.specs.Words.{IsWithin, state}
+use Rattle.bus_line.specs.Words.{IsDecoder, state}
 use Rattle.bus_line.proofs.line_words.LineWords.pass_data.Given as goal
 
 abbrev pub invariant-loop-at : goal.invariant-loop-at
@@ -9,10 +9,9 @@ invariant-loop-at g l = record {
   begun : l.from ≤ l.at;
   ends : l.at ≤ l.end;
   opened : l.self.settles_at ≤ l.self.place;
-  tells : Tells g.C.Check.check (state l.fn.self l.fn.check l.fn.cells)
-      (bits_from l.octets l.from (l.at - l.from)) None (state l.self l.check l.cells);
-  within : IsWithin l.self;
-  cells : length l.cells ≡ 272;
+  tells : Tells g.C.Check.check (state l.fn.self l.fn.check (g.F.FrameBuffer.octets l.fn.frame))
+      (bits_from l.octets l.from (l.at - l.from)) None (state l.self l.check (g.F.FrameBuffer.octets l.frame));
+  sound : IsDecoder l.self (g.F.FrameBuffer.octets l.frame);
 }
 
 abbrev pub decreases-loop-at : goal.decreases-loop-at

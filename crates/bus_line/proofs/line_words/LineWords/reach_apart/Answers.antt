@@ -12,9 +12,8 @@ loop-at-init g c = record {
   begun = omega arith;
   ends = omega (arith, c.requires.some);
   tells = tells-from g.C.Check.check c.args.octets.now c.args.from (c.args.from - c.args.from)
-      (state c.args.self.now c.args.check.now c.args.cells.now) (omega arith);
-  within = c.requires.within;
-  cells = c.told-cells;
+      (state c.args.self.now c.args.check.now (g.F.FrameBuffer.octets c.args.frame.now)) (omega arith);
+  sound = c.requires.sound;
 }
 
 pub take_turn-turn-requires-clause-room : goal.take_turn-turn-requires-clause-room
@@ -35,8 +34,8 @@ returns-then-turn-clause-reaches g c =
     let now = c.loop-at.invariant in
     let turn = c.take_turn-turn in
     let n = turn.result.count in
-    let old = state c.loop-at.self c.loop-at.check c.loop-at.cells in
-    let new = state turn.new.self turn.new.check turn.new.cells in
+    let old = state c.loop-at.self c.loop-at.check (g.F.FrameBuffer.octets c.loop-at.frame) in
+    let new = state turn.new.self turn.new.check (g.F.FrameBuffer.octets turn.new.frame) in
     let bits = turn-bits os c.loop-at.at c.seven_octets_at.result n c.seven_octets_at.ensures
     (omega (arith, turn.ensures.count)) in
     let reached = subst (λ (z : List Bool). ReachesTo view old z true new) bits
@@ -52,8 +51,8 @@ loop-at-preserved g c =
     let now = c.loop-at.invariant in
     let turn = c.take_turn-turn in
     let n = turn.result.count in
-    let old = state c.loop-at.self c.loop-at.check c.loop-at.cells in
-    let new = state turn.new.self turn.new.check turn.new.cells in
+    let old = state c.loop-at.self c.loop-at.check (g.F.FrameBuffer.octets c.loop-at.frame) in
+    let new = state turn.new.self turn.new.check (g.F.FrameBuffer.octets turn.new.frame) in
     let bits = turn-bits os c.loop-at.at c.seven_octets_at.result n c.seven_octets_at.ensures
     (omega (arith, turn.ensures.count)) in
     let quiet = subst (λ (z : List Bool). Tells view old z None new) bits
@@ -64,6 +63,5 @@ loop-at-preserved g c =
       ends = omega (arith, c.loop-at-test.true, turn.ensures.count);
       tells = tells-on view os c.args.from c.loop-at.at now.begun now.tells n (c.loop-at.at + n - c.args.from)
           (omega (arith, now.begun)) quiet;
-      within = turn.ensures.within;
-      cells = turn.ensures.cells;
+      sound = turn.ensures.sound;
     }

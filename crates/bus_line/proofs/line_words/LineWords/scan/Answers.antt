@@ -11,4 +11,4 @@ returns-clause-all g c none fewer =
     let scanned = c.scan_all in
     let place = scanned.ensures.advances.tells.leads.place in
     let taken = length-from c.args.octets.now c.args.at scanned.result.count in
-    omega (arith, count, fewer, c.requires.within.place_fits, scanned.ensures.all none, place, taken)
+    omega (arith, count, fewer, c.requires.sound.within.place_fits, scanned.ensures.all none, place, taken)

@@ -13,9 +13,8 @@ loop-at-init g c = record {
   begun = omega arith;
   ends = c.requires.some;
   tells = tells-from g.C.Check.check c.args.octets.now c.args.from (c.args.from - c.args.from)
-      (state c.args.self.now c.args.check.now c.args.cells.now) (omega arith);
-  within = c.requires.within;
-  cells = c.told-cells;
+      (state c.args.self.now c.args.check.now (g.F.FrameBuffer.octets c.args.frame.now)) (omega arith);
+  sound = c.requires.sound;
 }
 
 pub advance-scanned-requires-clause-room : goal.advance-scanned-requires-clause-room
@@ -43,8 +42,8 @@ loop-at-preserved g c =
     let now = c.loop-at.invariant in
     let scanned = c.advance-scanned in
     let n = scanned.result.count in
-    let old = state c.loop-at.self c.loop-at.check c.loop-at.cells in
-    let new = state scanned.new.words scanned.new.check scanned.new.cells in
+    let old = state c.loop-at.self c.loop-at.check (g.F.FrameBuffer.octets c.loop-at.frame) in
+    let new = state scanned.new.words scanned.new.check (g.F.FrameBuffer.octets scanned.new.frame) in
     let none : scanned.result.event ≡ None =
     is-none scanned.result.event (sym c.is_some.ensures ∙ c.if-is_some.false) in
     let told = ap (option_map (reported new.octets)) none in
@@ -57,16 +56,15 @@ loop-at-preserved g c =
       ends = omega (arith, now.ends, scanned.ensures.count);
       tells = tells-on g.C.Check.check c.args.octets.now c.args.from c.loop-at.at now.begun now.tells
           n (c.loop-at.at + n - c.args.from) count quiet;
-      within = scanned.ensures.within;
-      cells = scanned.ensures.cells;
+      sound = scanned.ensures.sound;
     }
 
 pub returns-clause-advances : goal.returns-clause-advances
 returns-clause-advances g c =
     let view = g.C.Check.check in
     let now = c.loop-at.invariant in
-    let old = state c.args.self.now c.args.check.now c.args.cells.now in
-    let new = state c.loop-at.self c.loop-at.check c.loop-at.cells in
+    let old = state c.args.self.now c.args.check.now (g.F.FrameBuffer.octets c.args.frame.now) in
+    let new = state c.loop-at.self c.loop-at.check (g.F.FrameBuffer.octets c.loop-at.frame) in
     let end : c.loop-at.at ≡ c.args.end = omega (arith, now.ends, c.loop-at-test.false) in
     advances-quiet view
     (subst (λ (n : ℕ). Tells view old (bits_from c.args.octets.now c.args.from (n - c.args.from)) None new)

@@ -10,24 +10,24 @@ pub returns-then-reached-clause-advances : goal.returns-then-reached-clause-adva
 returns-then-reached-clause-advances g c =
     let view = g.C.Check.check in
     let check = c.args.check.now in
-    let cells = c.args.cells.now in
+    let octets = g.F.FrameBuffer.octets c.args.frame.now in
     let reached = c.reach-reached in
-    let mid = state reached.new.self reached.new.check reached.new.cells in
+    let mid = state reached.new.self reached.new.check (g.F.FrameBuffer.octets reached.new.frame) in
     let bits = bits_from c.args.octets.now c.args.from reached.result.count in
-    let stopped = subst (λ (stop : Bool). ReachesTo view (state c.args.self.now check cells) bits stop mid)
+    let stopped = subst (λ (stop : Bool). ReachesTo view (state c.args.self.now check octets) bits stop mid)
     c.if-reached.true reached.ensures.reaches in
     let decision = c.decide_here-event.ensures in
     decided view stopped decision.longest decision.origin decision.place
-    (decision.answer reached.new.cells) (decision.after reached.new.cells)
+    (decision.answer (g.F.FrameBuffer.octets reached.new.frame)) (decision.after (g.F.FrameBuffer.octets reached.new.frame))
 
 pub returns-else-reached-clause-advances : goal.returns-else-reached-clause-advances
 returns-else-reached-clause-advances g c =
     let view = g.C.Check.check in
     let check = c.args.check.now in
-    let cells = c.args.cells.now in
+    let octets = g.F.FrameBuffer.octets c.args.frame.now in
     let reached = c.reach-reached in
-    let mid = state reached.new.self reached.new.check reached.new.cells in
+    let mid = state reached.new.self reached.new.check (g.F.FrameBuffer.octets reached.new.frame) in
     let bits = bits_from c.args.octets.now c.args.from reached.result.count in
     advances-quiet view
-    (subst (λ (stop : Bool). ReachesTo view (state c.args.self.now check cells) bits stop mid)
+    (subst (λ (stop : Bool). ReachesTo view (state c.args.self.now check octets) bits stop mid)
     c.if-reached.false reached.ensures.reaches)

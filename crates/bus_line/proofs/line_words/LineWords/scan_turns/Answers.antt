@@ -1,4 +1,4 @@
-use Rattle.std.proofs.Common.{subst}
+use Rattle.std.proofs.Common.{◌≡◌, subst, arith}
 use Rattle.std.specs.Option.{option_map}
 use Rattle.bus_bits.specs.Bits.{bits_from}
 use Rattle.bus_line.specs.After.{Advances}
@@ -11,13 +11,19 @@ use Rattle.bus_line.proofs.line_words.LineWords.scan_turns.Goals as goal
 pub returns-then-past-from-clause-advances : goal.returns-then-past-from-clause-advances
 returns-then-past-from-clause-advances g c =
     let scanned = c.scan_word in
-    let new = state scanned.new.self scanned.new.check scanned.new.cells in
+    let new = state scanned.new.self scanned.new.check (g.F.FrameBuffer.octets scanned.new.frame) in
     let bits = bits_from c.args.octets.now c.args.from scanned.result.count in
     let report = option_map (reported new.octets) scanned.result.event in
     subst (λ (words : LineWords). Advances g.C.Check.check
-    (state words c.args.check.now c.args.cells.now) bits report new)
+    (state words c.args.check.now (g.F.FrameBuffer.octets c.args.frame.now)) bits report new)
     (c.pass_fill-past.ensures.none c.if-past-from.true) scanned.ensures.advances
 
 pub returns-clause-advances : goal.returns-clause-advances
 returns-clause-advances g c =
-    advances-quiet g.C.Check.check (c.pass_fill-past.ensures.tells c.args.check.now c.args.cells.now)
+    advances-quiet g.C.Check.check (c.pass_fill-past.ensures.tells c.args.check.now (g.F.FrameBuffer.octets c.args.frame.now))
+
+pub returns-clause-sound : goal.returns-clause-sound
+returns-clause-sound g c =
+    let tells = c.pass_fill-past.ensures.tells c.args.check.now (g.F.FrameBuffer.octets c.args.frame.now) in
+    let longest : c.pass_fill-past.new.self.longest ≡ c.args.self.now.longest = tells.leads.longest in
+    record { within = c.pass_fill-past.ensures.sound; room = omega (arith, c.requires.sound.room, longest) }

@@ -10,7 +10,7 @@ use Rattle.bus_line.proofs.line_words.LineWords.take_turn.Goals as goal
 pub returns-in_default-clause-reaches : goal.returns-in_default-clause-reaches
 returns-in_default-clause-reaches g c =
     let taken = c.take_seven.ensures in
-    let d = state c.args.self.now c.args.check.now c.args.cells.now in
+    let d = state c.args.self.now c.args.check.now (g.F.FrameBuffer.octets c.args.frame.now) in
     let x = c.args.bits in
     let long = length-bits 56 x in
     let none = c.first_six.ensures.none c.in_default.is in
@@ -24,7 +24,7 @@ returns-in_default-clause-reaches g c =
 pub returns-clause-reaches : goal.returns-clause-reaches
 returns-clause-reaches g c =
     let taken = c.take_some.ensures in
-    let d = state c.args.self.now c.args.check.now c.args.cells.now in
+    let d = state c.args.self.now c.args.check.now (g.F.FrameBuffer.octets c.args.frame.now) in
     let x = c.args.bits in
     let m = c.in-Some.calm in
     let long = length-bits (m + 1) x in

@@ -1,0 +1,47 @@
+//! Where the octets of a piece are kept.
+
+ghost use Rattle.std.specs.Prelude.{◌≡◌, ◌+◌, ◌≤◌, ℕ, List, [], ◌++◌, length};
+ghost use Rattle.bus_line.specs.Limits.{most_octets};
+
+use arrayvec::ArrayVec;
+
+/// The octets of a piece: at most those of the longest frame and of its check.
+pub trait FrameBuffer {
+    /// The octets.
+    ghost octets: { Self → List ℕ };
+
+    /// Empties it.
+    fn clear(&mut self)
+        ensures { octets self.new ≡ [] };
+
+    /// How many octets it has.
+    fn len(&self) -> usize
+        requires { length (octets self.now) ≤ most_octets }
+        ensures { result ≡ length (octets self.now) };
+
+    /// Appends octets.
+    fn extend(&mut self, more: &[u8])
+        requires { length (octets self.old) + length more.now ≤ most_octets }
+        ensures { octets self.new ≡ octets self.old ++ more.now };
+}
+
+impl FrameBuffer for ArrayVec<u8, 258> {
+    ghost octets = { λ frame. frame.items };
+
+    #[inline(always)]
+    fn clear(&mut self) {
+        self.truncate(0);
+    }
+
+    #[inline(always)]
+    fn len(&self) -> usize {
+        self.as_slice().len()
+    }
+
+    #[inline(always)]
+    fn extend(&mut self, more: &[u8]) {
+        if self.try_extend_from_slice(more).is_err() {
+            unreachable!();
+        }
+    }
+}

@@ -1,0 +1,55 @@
+//! The octets of a piece in a caller's memory.
+
+ghost use Rattle.std.specs.Prelude.{◌≡◌, replicate, take};
+
+use bus_line::FrameBuffer;
+
+/// The octets of a piece, and beside them the register of their check. The layout is that of `include/port1.h`.
+#[repr(C)]
+#[derive(Drop)]
+pub struct LentFrame {
+    /// How many octets there are of the piece, or of the frame before it until the first octet is full.
+    pub len: u32,
+    /// Not read.
+    pub spare: u16,
+    /// The register of their check.
+    pub register: u16,
+    /// The octets, at most 258; those after them are scratch space.
+    pub octets: [u8; 272],
+}
+
+impl LentFrame {
+    /// No octets.
+    pub(crate) fn new() -> Self
+        ensures { result ≡ record { len = 0; spare = 0; register = 0; octets = replicate 272 0 } }
+    {
+        LentFrame {
+            len: 0,
+            spare: 0,
+            register: 0,
+            octets: [0; 272],
+        }
+    }
+}
+
+impl FrameBuffer for LentFrame {
+    ghost octets = { λ frame. take frame.len frame.octets };
+
+    #[inline(always)]
+    fn clear(&mut self) {
+        self.len = 0;
+    }
+
+    #[inline(always)]
+    fn len(&self) -> usize {
+        self.len as usize
+    }
+
+    #[inline(always)]
+    fn extend(&mut self, more: &[u8]) {
+        let at = self.len as usize;
+        let end = at + more.len();
+        self.octets[at..end].copy_from_slice(more);
+        self.len = end as u32;
+    }
+}
