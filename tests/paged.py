@@ -455,15 +455,78 @@ def problems_of_fault(page: Path, name: str) -> List[str]:
         return problems + ([] if shown_text(session) == wanted else ["the listing is not the program's"])
 
 
+WIRES = ["TXC", "TXD", "RXC", "RXD"]
+
+# What was sent when examples/four-wires.csv was made: a call on TXD, and its reply on RXD.
+CALL, REPLY = "108300fde5", "108380f561"
+
+
+class Wiring(NamedTuple):
+    """The columns of a recording, the channels that are chosen, and the frames by their lines, or what the page says."""
+
+    name: str
+    columns: Sequence[str]
+    channels: Sequence[str] = WIRES
+    frames: Sequence[str] = (f"1 {CALL}", f"2 {REPLY}")
+    says: str = ""
+
+
+ASKED = "Say which channels are TXC and TXD."
+
+WIRINGS = [
+    Wiring("the usual order", WIRES),
+    Wiring("the other order", WIRES[::-1]),
+    Wiring("the lines exchanged", ["RXC", "RXD", "TXC", "TXD"]),
+    Wiring("five channels", ["D0", *WIRES]),
+    Wiring("eight channels", ["D0", "RXD", "D1", "TXD", "D2", "RXC", "D3", "TXC"]),
+    Wiring("lines exchanged by hand", WIRES, ["RXC", "RXD", "TXC", "TXD"], [f"2 {CALL}", f"1 {REPLY}"]),
+    Wiring("the answers alone", WIRES, ["RXC", "RXD", "none", "none"], [REPLY]),
+    Wiring("no TXC", WIRES, ["none", "TXD", "RXC", "RXD"], says=ASKED),
+    Wiring("no TXD", WIRES, ["TXC", "none", "RXC", "RXD"], says=ASKED),
+    Wiring("no RXC", WIRES, ["TXC", "TXD", "none", "RXD"]),
+    Wiring("no RXD", WIRES, ["TXC", "TXD", "RXC", "none"], [CALL]),
+]
+
+
+def with_columns(columns: Sequence[str]) -> str:
+    """The example of four wires with these columns; those that it has not are 0."""
+    rows = [line.split(",") for line in (TOP / "examples" / "four-wires.csv").read_text().splitlines()]
+    head, *samples = rows
+    places = [head.index(name) if name in head else None for name in columns]
+    made = [[row[0], *("0" if place is None else row[place] for place in places)] for row in samples]
+    return "".join(",".join(row) + "\n" for row in [[head[0], *columns], *made])
+
+
+def choose(session: browser.Session, channels: Sequence[str]) -> None:
+    """Chooses channels by hand, and has the file read."""
+    session.value("void (document.getElementById('status').textContent = '')")
+    for at, channel in enumerate(channels):
+        session.value(f"void (document.getElementById('channel-{at}').value = '{channel}')")
+    session.value("document.getElementById('settings').requestSubmit()")
+    session.wait_until("/ lines in |^Say which channels are/.test(document.getElementById('status').textContent)")
+
+
+def problems_of_wiring(session: browser.Session, wiring: Wiring, file: Path) -> List[str]:
+    file.write_text(with_columns(wiring.columns))
+    read_file(session, [file])
+    found = session.value("[0, 1, 2, 3].map((at) => document.getElementById(`channel-${at}`).value)")
+    problems = [] if found == WIRES else [f"{wiring.name}: the channels are {found}"]
+    choose(session, wiring.channels)
+    if wiring.says:
+        said = text_of(session, "#status")
+        return problems + ([] if said == wiring.says else [f"{wiring.name}: the page says {said!r}"])
+    frames = re.findall(r"^((?:[12] )?)\d+ \d+ frame (\w+)", shown_text(session), re.MULTILINE)
+    is_right = ["".join(frame) for frame in frames] == list(wiring.frames)
+    return problems + ([] if is_right else [f"{wiring.name}: the frames are {frames}"])
+
+
 def problems_of_wires(page: Path, name: str) -> List[str]:
-    """Whether the channels of a recording are found by their names, and its bits taken."""
-    with opened(name, address_of(page)) as session:
-        read_file(session, [TOP / "examples" / "four-wires.csv"])
-        chosen = session.value("[0, 1, 2, 3].map((at) => document.getElementById(`channel-${at}`).value)")
-        session.value("document.getElementById('settings').requestSubmit()")
-        session.wait_until("/ lines in /.test(document.getElementById('status').textContent)")
-        problems = [] if chosen == ["TXC", "TXD", "RXC", "RXD"] else [f"the channels are {chosen}"]
-        return problems + ([] if " frame " in shown_text(session) else ["there is no frame"])
+    """Whether the channels of a recording are found by their names, and the bits taken of those that are chosen."""
+    problems = []
+    with tempfile.TemporaryDirectory(prefix="port1-") as folder, opened(name, address_of(page)) as session:
+        for number, wiring in enumerate(WIRINGS):
+            problems += problems_of_wiring(session, wiring, Path(folder, f"{number}.csv"))
+        return problems + [f"the console says {text}" for text in session.complaints()]
 
 
 def problems_of_report(page: Path, name: str) -> List[str]:
