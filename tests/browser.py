@@ -2,10 +2,8 @@
 
 import base64
 import importlib
-import importlib.util
 import json
 import os
-import shutil
 import subprocess
 import time
 import urllib.error
@@ -204,10 +202,3 @@ def firefox(folder: Path) -> Iterator[Session]:
 
 # The browsers, and the programs that each needs.
 BROWSERS = {"chromium": (chromium, ["chromium", "chromedriver"]), "firefox": (firefox, ["firefox-esr"])}
-
-
-def lacking(name: str) -> List[str]:
-    """What is not installed of what a browser takes."""
-    programs = [program for program in BROWSERS[name][1] if shutil.which(program) is None]
-    module = importlib.util.find_spec("websocket") is None
-    return programs + (["the Python module websocket (Debian: python3-websocket)"] if module else [])

@@ -1,10 +1,15 @@
 """What `rt` builds of a crate into its folder `out`, and whether that is as new as the sources."""
 
 import subprocess
+import sys
 from pathlib import Path
 from typing import Dict, Iterator, List, Sequence
 
 SECONDS_OF_BUILD = 3600
+
+TOP = Path(__file__).resolve().parent.parent
+
+ARCHIVE = TOP / "crates" / "port1_c" / "out" / "libport1_c.a"
 
 
 def libraries_of(top: Path) -> Dict[str, List[str]]:
@@ -32,9 +37,13 @@ def sources_of(top: Path, crate: str) -> Iterator[Path]:
         yield from (top / "crates" / name / "src").rglob("*.rt")
 
 
+def newest_of(paths: Iterator[Path]) -> float:
+    """When the newest of these files was written."""
+    return max((path.stat().st_mtime for path in paths), default=0.0)
+
+
 def is_built(made: Path, top: Path, crate: str) -> bool:
-    newest = max((path.stat().st_mtime for path in sources_of(top, crate)), default=0.0)
-    return made.is_file() and made.stat().st_mtime >= newest
+    return made.is_file() and made.stat().st_mtime >= newest_of(sources_of(top, crate))
 
 
 def library_of(top: Path, crate: str) -> Path:
@@ -94,3 +103,17 @@ def problems_of_build(made: Path, top: Path, words: Sequence[str]) -> List[str]:
         timeout=SECONDS_OF_BUILD,
     )
     return [] if ran.returncode == 0 and made.is_file() else [f"`{command}` in {folder}: {ran.stdout[-2000:]}"]
+
+
+def main() -> int:
+    """Builds the archive of the C library, and proves it and the crates below; `rt` knows what it has done before."""
+    words = words_of_archive(ARCHIVE, TOP)
+    if words == ["rt", "lib"]:
+        return subprocess.run(words, cwd=ARCHIVE.parent.parent).returncode
+    problems = problems_of_build(ARCHIVE, TOP, words)
+    print(*problems, sep="\n")
+    return 1 if problems else 0
+
+
+if __name__ == "__main__":
+    sys.exit(main())

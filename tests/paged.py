@@ -5,7 +5,6 @@ import json
 import os
 import random
 import re
-import shutil
 import subprocess
 import tempfile
 from contextlib import contextmanager
@@ -14,19 +13,18 @@ from pathlib import Path
 from typing import Any, Callable, Dict, Iterator, List, NamedTuple, Optional, Sequence, Tuple
 
 import browser
+from built import newest_of, sources_of
 from library import Bench, captures, damaged, octets_of, talk, traffic
+from needs import NODE_MODULES, Skipped, needs, needs_file, needs_module
 
 TOP = Path(__file__).resolve().parent.parent
 
 PROGRAM = Path(os.environ.get("PORT1") or TOP / "crates" / "port1" / "out" / "port1")
 
+BUILT = TOP / "page" / "out" / "port1.html"
+
 # What makes Node run modules with 64-bit memory, which browsers do without being told.
 NODE = ["node", "--no-warnings", "--experimental-wasm-memory64"]
-
-# Debian's Python has the modules that the scripts need.
-ENVIRONMENT = {**os.environ, "PATH": f"/usr/bin:{os.environ['PATH']}"}
-
-LEAST_NODE = 20
 
 # By how the name of a test begins, the module that the script needs with which it compares.
 MODULES = {"recording": "numpy", "dictionary-check": "jsonschema", "dictionary": "tomllib"}
@@ -64,10 +62,6 @@ length = 1
 """
 
 
-class Skipped(Exception):
-    """Why a test is not run."""
-
-
 class Test(NamedTuple):
     name: str
     problems: Callable[[], List[str]]
@@ -84,40 +78,24 @@ class Job(NamedTuple):
     dictionary: str = ""
 
 
-def need(*programs: str) -> None:
-    missing = [program for program in programs if shutil.which(program) is None]
-    if missing:
-        raise Skipped(f"no {' and no '.join(missing)}")
-
-
 # ---- the modules, in Node
-
-
-@lru_cache(maxsize=None)
-def has_module(name: str) -> bool:
-    return subprocess.run(["python3", "-c", f"import {name}"], env=ENVIRONMENT, stderr=subprocess.DEVNULL).returncode == 0
 
 
 def need_modules(file: Path) -> None:
     """The modules of Python that the scripts have whose results are compared."""
     for begins, module in MODULES.items():
-        if file.name.startswith(begins) and not has_module(module):
-            raise Skipped(f"no Python module {module}")
+        if file.name.startswith(begins):
+            needs_module(module)
 
 
-def need_node() -> None:
-    need("node")
-    version = subprocess.run(["node", "--version"], capture_output=True, text=True).stdout
-    if int(version.lstrip("v").partition(".")[0]) < LEAST_NODE:
-        raise Skipped(f"Node is {version.strip()}, older than {LEAST_NODE}")
-
-
-def problems_of_modules(file: Path, is_all: bool) -> List[str]:
-    need_node()
+def problems_of_modules(file: Path, is_long: bool) -> List[str]:
+    needs("node")
     need_modules(file)
-    environment = {**ENVIRONMENT, "PORT1": str(PROGRAM), "PORT1_ALL": "1" if is_all else ""}
+    environment = {**os.environ, "PORT1": str(PROGRAM), "PORT1_ALL": "1" if is_long else ""}
     words = [*NODE, "--test", "--test-reporter=tap", str(file)]
     ran = subprocess.run(words, cwd=TOP, env=environment, capture_output=True, text=True, timeout=SECONDS)
+    if " # SKIP" in ran.stdout and ran.returncode == 0:
+        raise Skipped(f"in part: {', '.join(re.findall('# SKIP *(.*)', ran.stdout))}")
     if ran.returncode == 0:
         return []
     wrong = [line for line in ran.stdout.splitlines() if line.lstrip().startswith(("not ok", "error:", "expected:"))]
@@ -145,14 +123,32 @@ def problems_of_layout() -> List[str]:
     return problems
 
 
-# ---- listings
+# ---- the page, and its listings
+
+
+def sources_of_page() -> Iterator[Path]:
+    page = TOP / "page"
+    yield from [page / "build", page / "index.html", page / "style.css", *(page / "src").rglob("*.js")]
+    yield from [TOP / "examples" / "dictionary.schema.json", TOP / "crates" / "bus_tool" / "src" / "arguments.rt"]
+    yield from sources_of(TOP, "port1_c")
+
+
+def problems_of_build(page: Path) -> List[str]:
+    """Builds the page where it is missing or older than its sources; one from elsewhere is taken as it is."""
+    if page != BUILT or (page.is_file() and page.stat().st_mtime >= newest_of(sources_of_page())):
+        return []
+    needs("rt", "esbuild")
+    needs_file(f"{NODE_MODULES}/d3")
+    print(f"{page} is missing or old: `page/build` builds it", flush=True)
+    ran = subprocess.run([str(TOP / "page" / "build")], capture_output=True, text=True, timeout=SECONDS)
+    return [] if ran.returncode == 0 else [f"`page/build`: {ran.stderr[-2000:]}"]
 
 
 @lru_cache(maxsize=None)
 def engine_of(page: Path) -> bytes:
     """The decoder that is in the page."""
     if not page.is_file():
-        raise Skipped(f"there is no {page}: `make page` builds it")
+        raise Skipped(f"there is no {page}: `page/build` builds it")
     found = ENGINE.search(page.read_text(encoding="utf-8"))
     if found is None:
         raise Skipped(f"{page} has no decoder")
@@ -167,7 +163,7 @@ def bench() -> Bench:
 
 def listed(page: Path, jobs: Sequence[Dict[str, Any]]) -> List[Dict[str, Any]]:
     """What the modules of the page make of files."""
-    need_node()
+    needs("node")
     with tempfile.TemporaryDirectory(prefix="port1-") as folder:
         module = Path(folder, "port1.wasm")
         module.write_bytes(engine_of(page))
@@ -290,12 +286,13 @@ RECORDINGS = [
 def problems_of_recording(page: Path, name: str, channels: Sequence[str]) -> List[str]:
     """Whether the listing of a recording is that of the script's capture."""
     bench()
+    needs_module("numpy")
     file = TOP / "examples" / name
     taken = subprocess.run(
-        [str(TOP / "contrib" / "recording-to-bits"), *channels], stdin=file.open(), capture_output=True, env=ENVIRONMENT
+        [str(TOP / "contrib" / "recording-to-bits"), *channels], stdin=file.open(), capture_output=True
     )
     if taken.returncode != 0:
-        raise Skipped(taken.stderr.decode().strip())
+        return [taken.stderr.decode().strip()]
     lines = 1 if len(channels) == 2 else 2
     wanted, fault = program_lists(text_job(name, taken.stdout.decode(), lines, NAMES))
     job = {"file": str(file), "channels": list(channels), "rising": True, "dictionary": NAMES}
@@ -311,9 +308,8 @@ def problems_of_recording(page: Path, name: str, channels: Sequence[str]) -> Lis
 
 @contextmanager
 def opened(name: str, address: str) -> Iterator[browser.Session]:
-    missing = browser.lacking(name)
-    if missing:
-        raise Skipped(f"no {' and no '.join(missing)}")
+    needs(*browser.BROWSERS[name][1])
+    needs_module("websocket")
     with tempfile.TemporaryDirectory(prefix="port1-") as folder:
         with browser.BROWSERS[name][0](Path(folder)) as session:
             session.size(1280, 900)
@@ -347,7 +343,7 @@ def text_of(session: browser.Session, selector: str) -> str:
 def summary_of(listing: str) -> str:
     """What the script in contrib writes."""
     words = [str(TOP / "contrib" / "bus-summary")]
-    return subprocess.run(words, input=listing.encode(), capture_output=True, check=True, env=ENVIRONMENT).stdout.decode()
+    return subprocess.run(words, input=listing.encode(), capture_output=True, check=True).stdout.decode()
 
 
 def numbers_of(text: str) -> List[str]:
@@ -409,7 +405,7 @@ def problems_of_dictionary(page: Path, name: str) -> List[str]:
     capture = TOP / "examples" / "missing-and-spoilt.bits"
     listing, _ = program_lists(text_job("", capture.read_text(), 1, ""))
     words = [str(TOP / "contrib" / "draft-dictionary")]
-    draft = subprocess.run(words, input=listing.encode(), capture_output=True, check=True, env=ENVIRONMENT).stdout.decode()
+    draft = subprocess.run(words, input=listing.encode(), capture_output=True, check=True).stdout.decode()
     with opened(name, address_of(page)) as session:
         read_file(session, [capture])
         session.value("document.getElementById('draft').click()")
@@ -459,15 +455,78 @@ def problems_of_fault(page: Path, name: str) -> List[str]:
         return problems + ([] if shown_text(session) == wanted else ["the listing is not the program's"])
 
 
+WIRES = ["TXC", "TXD", "RXC", "RXD"]
+
+# What was sent when examples/four-wires.csv was made: a call on TXD, and its reply on RXD.
+CALL, REPLY = "108300fde5", "108380f561"
+
+
+class Wiring(NamedTuple):
+    """The columns of a recording, the channels that are chosen, and the frames by their lines, or what the page says."""
+
+    name: str
+    columns: Sequence[str]
+    channels: Sequence[str] = WIRES
+    frames: Sequence[str] = (f"1 {CALL}", f"2 {REPLY}")
+    says: str = ""
+
+
+ASKED = "Say which channels are TXC and TXD."
+
+WIRINGS = [
+    Wiring("the usual order", WIRES),
+    Wiring("the other order", WIRES[::-1]),
+    Wiring("the lines exchanged", ["RXC", "RXD", "TXC", "TXD"]),
+    Wiring("five channels", ["D0", *WIRES]),
+    Wiring("eight channels", ["D0", "RXD", "D1", "TXD", "D2", "RXC", "D3", "TXC"]),
+    Wiring("lines exchanged by hand", WIRES, ["RXC", "RXD", "TXC", "TXD"], [f"2 {CALL}", f"1 {REPLY}"]),
+    Wiring("the answers alone", WIRES, ["RXC", "RXD", "none", "none"], [REPLY]),
+    Wiring("no TXC", WIRES, ["none", "TXD", "RXC", "RXD"], says=ASKED),
+    Wiring("no TXD", WIRES, ["TXC", "none", "RXC", "RXD"], says=ASKED),
+    Wiring("no RXC", WIRES, ["TXC", "TXD", "none", "RXD"]),
+    Wiring("no RXD", WIRES, ["TXC", "TXD", "RXC", "none"], [CALL]),
+]
+
+
+def with_columns(columns: Sequence[str]) -> str:
+    """The example of four wires with these columns; those that it has not are 0."""
+    rows = [line.split(",") for line in (TOP / "examples" / "four-wires.csv").read_text().splitlines()]
+    head, *samples = rows
+    places = [head.index(name) if name in head else None for name in columns]
+    made = [[row[0], *("0" if place is None else row[place] for place in places)] for row in samples]
+    return "".join(",".join(row) + "\n" for row in [[head[0], *columns], *made])
+
+
+def choose(session: browser.Session, channels: Sequence[str]) -> None:
+    """Chooses channels by hand, and has the file read."""
+    session.value("void (document.getElementById('status').textContent = '')")
+    for at, channel in enumerate(channels):
+        session.value(f"void (document.getElementById('channel-{at}').value = '{channel}')")
+    session.value("document.getElementById('settings').requestSubmit()")
+    session.wait_until("/ lines in |^Say which channels are/.test(document.getElementById('status').textContent)")
+
+
+def problems_of_wiring(session: browser.Session, wiring: Wiring, file: Path) -> List[str]:
+    file.write_text(with_columns(wiring.columns))
+    read_file(session, [file])
+    found = session.value("[0, 1, 2, 3].map((at) => document.getElementById(`channel-${at}`).value)")
+    problems = [] if found == WIRES else [f"{wiring.name}: the channels are {found}"]
+    choose(session, wiring.channels)
+    if wiring.says:
+        said = text_of(session, "#status")
+        return problems + ([] if said == wiring.says else [f"{wiring.name}: the page says {said!r}"])
+    frames = re.findall(r"^((?:[12] )?)\d+ \d+ frame (\w+)", shown_text(session), re.MULTILINE)
+    is_right = ["".join(frame) for frame in frames] == list(wiring.frames)
+    return problems + ([] if is_right else [f"{wiring.name}: the frames are {frames}"])
+
+
 def problems_of_wires(page: Path, name: str) -> List[str]:
-    """Whether the channels of a recording are found by their names, and its bits taken."""
-    with opened(name, address_of(page)) as session:
-        read_file(session, [TOP / "examples" / "four-wires.csv"])
-        chosen = session.value("[0, 1, 2, 3].map((at) => document.getElementById(`channel-${at}`).value)")
-        session.value("document.getElementById('settings').requestSubmit()")
-        session.wait_until("/ lines in /.test(document.getElementById('status').textContent)")
-        problems = [] if chosen == ["TXC", "TXD", "RXC", "RXD"] else [f"the channels are {chosen}"]
-        return problems + ([] if " frame " in shown_text(session) else ["there is no frame"])
+    """Whether the channels of a recording are found by their names, and the bits taken of those that are chosen."""
+    problems = []
+    with tempfile.TemporaryDirectory(prefix="port1-") as folder, opened(name, address_of(page)) as session:
+        for number, wiring in enumerate(WIRINGS):
+            problems += problems_of_wiring(session, wiring, Path(folder, f"{number}.csv"))
+        return problems + [f"the console says {text}" for text in session.complaints()]
 
 
 def problems_of_report(page: Path, name: str) -> List[str]:
@@ -478,7 +537,7 @@ def problems_of_report(page: Path, name: str) -> List[str]:
     dictionary = TOP / "examples" / "port1-failure.toml"
     wanted, _ = program_lists(text_job("", content, 1 + any(mark in content for mark in "23"), dictionary.read_text()))
     words = [str(TOP / "contrib" / "list-to-page"), f"--page={page}", f"--dictionary={dictionary}", "Cabinet <7> & more"]
-    made = subprocess.run(words, input=wanted.encode(), capture_output=True, env=ENVIRONMENT)
+    made = subprocess.run(words, input=wanted.encode(), capture_output=True)
     if made.returncode != 0:
         return [made.stderr.decode()]
     with tempfile.TemporaryDirectory(prefix="port1-") as folder:
@@ -504,12 +563,13 @@ def problems_of_size(page: Path) -> List[str]:
     return problems + ([] if "default-src 'none'" in text else ["its policy lets something in"])
 
 
-def tests_of(page: Path, is_all: bool) -> Iterator[Test]:
+def tests_of(page: Path, is_long: bool) -> Iterator[Test]:
+    yield Test("build", partial(problems_of_build, page))
     for file in sorted((TOP / "page" / "tests").glob("*.test.js")):
-        yield Test(f"modules: {file.name}", partial(problems_of_modules, file, is_all))
+        yield Test(f"modules: {file.name}", partial(problems_of_modules, file, is_long))
     yield Test("the layout of the library", problems_of_layout)
     yield Test("listings: examples", partial(problems_of_jobs, page, example_jobs))
-    yield Test("listings: talks", partial(problems_of_jobs, page, partial(generated_jobs, 50 if is_all else 13)))
+    yield Test("listings: talks", partial(problems_of_jobs, page, partial(generated_jobs, 50 if is_long else 13)))
     yield Test("listings: traffic", partial(problems_of_jobs, page, traffic_jobs))
     yield Test("listings: broken captures", partial(problems_of_jobs, page, broken_jobs))
     for name, channels in RECORDINGS:

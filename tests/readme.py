@@ -7,14 +7,14 @@ The examples of one document run one after the other in a folder of their own, w
 
 import os
 import re
-import shutil
 import signal
 import subprocess
 from dataclasses import dataclass
-from functools import lru_cache
 from itertools import takewhile
 from pathlib import Path
 from typing import FrozenSet, Iterator, List, Tuple
+
+from needs import SCRIPTS, Skipped, needs, needs_module
 
 TOP = Path(__file__).resolve().parent.parent
 
@@ -36,11 +36,7 @@ HEADINGS = ("## ", "**")
 
 # The programs of other projects that examples may need, and the modules of Python, by the script that needs them.
 FOREIGN = {"parallel", "sigrok-cli", "text2pcap", "tshark"}
-MODULES = {
-    "contrib/recording-to-bits": "numpy",
-    "contrib/vcd-to-bits": "numpy",
-    "contrib/check-dictionary": "jsonschema",
-}
+MODULES = {f"contrib/{script}": module for script, module in SCRIPTS.items()}
 
 # A variable that is set for the examples after it.
 ASSIGNMENT = re.compile(r"[A-Z]+=\"[^\"]*\"")
@@ -104,18 +100,16 @@ def examples_of(document: str) -> List[Example]:
     return list(examples((TOP / document).read_text(encoding="utf-8")))
 
 
-@lru_cache()
-def has_module(name: str) -> bool:
-    """Whether the Python that runs scripts has a module."""
-    return subprocess.run(["python3", "-c", f"import {name}"], stderr=subprocess.DEVNULL).returncode == 0
-
-
 def missing_tool(example: Example) -> str:
-    """The program or module of another project that this machine lacks, and that the example needs, or one before it
-    under its heading, whose files it may read; or nothing."""
-    tools = [tool for tool in sorted(FOREIGN & example.words) if shutil.which(tool) is None]
-    modules = [MODULES[word] for word in sorted(MODULES.keys() & example.words) if not has_module(MODULES[word])]
-    return next(iter(tools + modules), "")
+    """What this machine lacks of other projects' programs and modules that the example needs, or one before it under
+    its heading, whose files it may read; or nothing."""
+    try:
+        needs(*sorted(FOREIGN & example.words))
+        for word in sorted(MODULES.keys() & example.words):
+            needs_module(MODULES[word])
+    except Skipped as why:
+        return str(why)
+    return ""
 
 
 def furnish(folder: Path) -> None:

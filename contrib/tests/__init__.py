@@ -1,1 +1,7 @@
-"""Tests of the scripts in the folder above, a module for each group of them; `contrib/self-test` runs them."""
+"""Tests of the scripts, which contrib/self-test runs."""
+
+import sys
+from pathlib import Path
+
+# What they share with the tests of the whole repository: needs.py.
+sys.path.append(str(Path(__file__).resolve().parent.parent.parent / "tests"))

@@ -2,11 +2,9 @@
 
 import os
 import random
-import shutil
 import struct
 import subprocess
 from dataclasses import dataclass
-from functools import lru_cache
 from pathlib import Path
 from typing import Callable, List, Sequence, Union
 
@@ -41,34 +39,6 @@ class Run:
     stdout: bytes = b""
     stderr: str = ""
     status: int = 0
-
-
-class Skipped(Exception):
-    """A test that is not run, and why."""
-
-
-def needs(tool: str) -> None:
-    if shutil.which(tool) is None:
-        raise Skipped(f"no {tool}")
-
-
-# The scripts that need a module of Python which is not Python's own.
-MODULES = {"check-dictionary": "jsonschema", "recording-to-bits": "numpy", "vcd-to-bits": "numpy"}
-
-
-@lru_cache()
-def has_module(name: str) -> bool:
-    """Whether the Python that runs scripts has a module."""
-    return subprocess.run(["python3", "-c", f"import {name}"], stderr=subprocess.DEVNULL).returncode == 0
-
-
-def needs_module(name: str) -> None:
-    if not has_module(name):
-        raise Skipped(f"no Python module {name}")
-
-
-def lacks_module(script: str) -> bool:
-    return script in MODULES and not has_module(MODULES[script])
 
 
 def plain(bits: str) -> str:

@@ -3,12 +3,12 @@
 import os
 import shutil
 import subprocess
-import sys
 import xml.etree.ElementTree as ElementTree
 from pathlib import Path
 from typing import Dict, List, NamedTuple, Optional, Sequence
 
-from tests.case import CALL, DICTIONARY, REPLY, SECONDS, TOP, WINDOWS, Run, Skipped, Test, packed, plain
+from needs import needs_module
+from tests.case import CALL, DICTIONARY, REPLY, SECONDS, TOP, WINDOWS, Run, Test, packed, plain
 from tests.engines import Step, furnished, run_sections, run_step, section, steps_of
 from tests.parts import packed_two
 
@@ -96,15 +96,10 @@ def message_of(case: Case) -> Optional[str]:
     return "\n".join(["999 lines tell what is wrong:", *MANY[:100], "and 899 lines more"])
 
 
-def needs_pytest() -> None:
-    if subprocess.run([sys.executable, "-c", "import pytest"], capture_output=True).returncode != 0:
-        raise Skipped("no pytest")
-
-
 def tested(place: Path, words: Sequence[object], folder: Path, **variables: str) -> subprocess.CompletedProcess:
     """A run of pytest from a folder of its own, of the tests at this place."""
     environment = {"PATH": os.environ.get("PATH", os.defpath), "PORT1": os.environ["PORT1"], **variables}
-    given = [sys.executable, "-m", "pytest", "-q", *map(str, words), str(place)]
+    given = ["python3", "-m", "pytest", "-q", *map(str, words), str(place)]
     return subprocess.run(given, cwd=folder, env=environment, capture_output=True, text=True, timeout=SECONDS)
 
 
@@ -142,7 +137,7 @@ def problems_of_report(report: Path, cases: Sequence[Case]) -> List[str]:
 
 def verdict_of_each(folder: Path) -> List[str]:
     """A capture of each kind, with the tests in their place and copied; the second time told by variables."""
-    needs_pytest()
+    needs_module("pytest")
     problems = []
     before = sorted(CI.iterdir())
     for two in (False, True):
@@ -163,12 +158,12 @@ def verdict_of_each(folder: Path) -> List[str]:
 
 def page_of_many_captures(folder: Path) -> List[str]:
     """The command of docs/MANY-CAPTURES.md, with the captures that the page makes."""
-    needs_pytest()
+    needs_module("pytest")
     environment = furnished(folder)
     problems = run_sections(["The captures"], folder, environment)
     commands = [step.command for step in steps_of(section("A server that runs tests"))]
     problems += [] if len(commands) == 1 else [f"the page has {commands}"]
-    (folder / "bin" / "pytest").write_text(f'#!/bin/sh\nexec {sys.executable} -m pytest "$@"\n', encoding="utf-8")
+    (folder / "bin" / "pytest").write_text('#!/bin/sh\nexec python3 -m pytest "$@"\n', encoding="utf-8")
     (folder / "bin" / "pytest").chmod(0o755)
     problems += run_step(Step(commands[0], None), folder, {**environment, "PYTHONDONTWRITEBYTECODE": "1"})
     late, cut_off = CASES_BY_NAME["late.bits"].message, "port1: capture: short body"
@@ -180,7 +175,7 @@ def page_of_many_captures(folder: Path) -> List[str]:
 
 def properties_of_one(folder: Path) -> List[str]:
     """The counts of `port1 check` in the report, and status 0 where every capture is good."""
-    needs_pytest()
+    needs_module("pytest")
     captures, report = written(folder, CASES[:3]), folder / "bus.xml"
     words = [f"--junitxml={report}", f"--captures={captures}", f"--dictionary={folder / 'bus.toml'}"]
     ran = tested(CI, words, folder, PYTHONDONTWRITEBYTECODE="1")
@@ -196,7 +191,7 @@ def properties_of_one(folder: Path) -> List[str]:
 
 def runs_that_tell_nothing(folder: Path) -> List[str]:
     """No folder, no dictionary, no program: refused, with status 4; a folder without captures fails."""
-    needs_pytest()
+    needs_module("pytest")
     (folder / "empty").mkdir()
     (folder / "bus.toml").write_text(DICTIONARY, encoding="ascii")
     given = [f"--captures={folder / 'empty'}", f"--dictionary={folder / 'bus.toml'}"]

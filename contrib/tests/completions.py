@@ -13,7 +13,8 @@ from contextlib import contextmanager
 from pathlib import Path
 from typing import Iterator, List, NamedTuple, Sequence
 
-from tests.case import CALL, DICTIONARY, TOP, Run, Skipped, Test, needs, plain
+from needs import BASH_COMPLETION, needs, needs_file
+from tests.case import CALL, DICTIONARY, TOP, Run, Test, plain
 
 RUNS: List[Run] = []
 
@@ -178,11 +179,9 @@ def bash_by_itself(folder: Path) -> List[str]:
 def bash_with_package(folder: Path) -> List[str]:
     """bash with the package bash-completion, which finds the completion in the home by itself."""
     needs("bash")
-    package = Path("/usr/share/bash-completion/bash_completion")
-    if not package.is_file():
-        raise Skipped("no bash-completion")
+    needs_file(BASH_COMPLETION)
     furnish(folder)
-    (folder / ".bashrc").write_text(f". {package}\nPS1='{PROMPT}'\n", encoding="utf-8")
+    (folder / ".bashrc").write_text(f". {BASH_COMPLETION}\nPS1='{PROMPT}'\n", encoding="utf-8")
     return problems_of_shell("bash", ["bash", "--noprofile", "--rcfile", str(folder / ".bashrc"), "-i"], folder)
 
 

@@ -8,8 +8,9 @@ import subprocess
 from pathlib import Path
 from typing import Dict, Iterator, List, NamedTuple, Sequence, Tuple
 
+from needs import LOADER_OF_ARM, Skipped, needs, needs_file
 from tests import installing
-from tests.case import ONE_CALL, SECONDS, TOP, Run, Skipped, Test, Word, needs, packed
+from tests.case import ONE_CALL, SECONDS, TOP, Run, Test, Word, packed
 from tests.packages import ARCHIVE, ONE_FRAME, captures, orders, told, unlike
 from tests.releasing import LIBRARY_FOR_ARM, packages, tarball, version
 
@@ -25,8 +26,6 @@ COMPILER_FOR_ARM, SYSTEM_OF_ARM = "aarch64-linux-gnu-gcc", Path("/usr/aarch64-li
 
 # Runs such a program here.
 EMULATED = ["qemu-aarch64", "-L", str(SYSTEM_OF_ARM)]
-
-LOADER_OF_ARM = SYSTEM_OF_ARM / "lib" / "ld-linux-aarch64.so.1"
 
 # What dpkg and its triggers write, and nothing of a package.
 OF_DPKG = re.compile(r"\./(etc/ld\.so\.cache~?|(var/(cache|lib/apt|lib/dpkg|log)|run|tmp)(/.*)?)")
@@ -236,10 +235,8 @@ def built_with(package: Path, compiler: str, folder: Path) -> Dict[str, Path]:
 def library_for_arm(folder: Path) -> List[str]:
     """The examples of the package for 64-bit ARM, linked with it, write under the emulator what those of the package
     for x86-64 write here."""
-    for tool in ("cc", "pkg-config", COMPILER_FOR_ARM, EMULATED[0]):
-        needs(tool)
-    if not LOADER_OF_ARM.exists():
-        raise Skipped(f"no {LOADER_OF_ARM}, which Debian has in the package libc6-arm64-cross")
+    needs("cc", "pkg-config", COMPILER_FOR_ARM, EMULATED[0])
+    needs_file(LOADER_OF_ARM)
     if ARCHIVE.is_file() and not ARCHIVE_FOR_ARM.is_file():
         raise Skipped(f"no {LIBRARY_FOR_ARM}; contrib/mcu/build builds it")
     if ARCHIVE_FOR_ARM.is_file() and not ARCHIVE.is_file():

@@ -8,7 +8,8 @@ from pathlib import Path
 from typing import Any, Dict, Iterator, List, Optional, Tuple
 
 from common.toml_lines import lines_of
-from tests.case import CONTRIB, SECONDS, TOP, WINDOWS, Run, needs_module, ran
+from needs import needs_module
+from tests.case import CONTRIB, SECONDS, TOP, WINDOWS, Run, ran
 from tests.listings import differing
 
 POLL = (TOP / "examples" / "poll-and-state.toml").read_text(encoding="ascii")

@@ -4,7 +4,8 @@ import random
 from pathlib import Path
 from typing import List
 
-from tests.case import CALL, Run, lines, needs, needs_module, plain, ran, random_bits, written_by
+from needs import needs, needs_module
+from tests.case import CALL, Run, lines, plain, ran, random_bits, written_by
 
 # Definitions as IEEE 1364 has them, other kinds of signals among them, the data before the clock.
 DEFINITIONS = """$date today $end

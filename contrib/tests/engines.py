@@ -17,7 +17,8 @@ from contextlib import ExitStack, contextmanager
 from pathlib import Path
 from typing import Callable, Dict, Iterator, List, NamedTuple, Optional, Sequence
 
-from tests.case import SECONDS, TOP, Run, Skipped, Test, Word, listed, needs, packed
+from needs import Skipped, needs, told_of
+from tests.case import SECONDS, TOP, Run, Test, Word, listed, packed
 from tests.parts import dirty_line
 
 RUNS: List[Run] = []
@@ -198,7 +199,7 @@ def is_open(port: int) -> bool:
 def needs_tools(*tools: str) -> None:
     for tool in tools:
         if shutil.which(tool, path=SYSTEM_PATH) is None:
-            raise Skipped(f"no {tool}")
+            raise Skipped(told_of(tool))
 
 
 def system(tool: str) -> str:

@@ -6,20 +6,8 @@ import subprocess
 from pathlib import Path
 from typing import Dict, List, Sequence, Set
 
-from tests.case import (
-    CALL,
-    CONTRIB,
-    ONE_CALL,
-    SECONDS,
-    TOP,
-    Run,
-    Skipped,
-    Test,
-    lines,
-    needs,
-    plain,
-    written_by,
-)
+from needs import needs
+from tests.case import CALL, CONTRIB, ONE_CALL, SECONDS, TOP, Run, Test, lines, plain, written_by
 
 RUNS: List[Run] = []
 
@@ -257,9 +245,10 @@ def made_by_documents() -> Set[str]:
 def what_git_passes_over(folder: Path) -> List[str]:
     """What the documents' commands make is ignored; no source is, and no further example would be."""
     needs("git")
-    if not (TOP / ".git").exists():
-        raise Skipped("no repository")
     git = ["git", "-C", str(TOP)]
+    if not (TOP / ".git").exists():
+        git += [f"--git-dir={folder / '.git'}", f"--work-tree={TOP}"]
+        written_by([*git, "init", "-q"])
     made = sorted(made_by_documents())
     passed = written_by([*git, "check-ignore", "--no-index", *made]).decode().split()
     problems = [f"not ignored: {name}" for name in made if name not in passed]

@@ -7,7 +7,8 @@ import tempfile
 from pathlib import Path
 from typing import Dict, Iterator, List, NamedTuple, Tuple
 
-from tests.case import CONTRIB, DICTIONARY, SECONDS, Run, Word, lacks_module
+from needs import lacks_module
+from tests.case import CONTRIB, DICTIONARY, SECONDS, Run, Word
 
 
 def scripts() -> List[str]:

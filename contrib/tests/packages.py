@@ -8,8 +8,9 @@ import sys
 from pathlib import Path
 from typing import Dict, List, Optional, Sequence, Tuple
 
+from needs import Skipped, needs
 from tests.case import CALL, CONTRIB, ONE_CALL, REPLY, SECONDS, TOP
-from tests.case import Run, Skipped, Test, Word, listed, needs, packed, plain, random_bits, written_by
+from tests.case import Run, Test, Word, listed, packed, plain, random_bits, written_by
 
 RUNS: List[Run] = []
 

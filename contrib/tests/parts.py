@@ -2,7 +2,6 @@
 
 import os
 import random
-import shutil
 import signal
 import struct
 import subprocess
@@ -12,6 +11,7 @@ from contextlib import suppress
 from pathlib import Path
 from typing import Dict, List, NamedTuple, Sequence, Tuple
 
+from needs import needs
 from tests.case import (
     CALL,
     CONTRIB,
@@ -22,7 +22,6 @@ from tests.case import (
     TOP,
     WINDOWS,
     Run,
-    Skipped,
     listed,
     packed,
     plain,
@@ -127,8 +126,7 @@ def parts_by_jobs(folder: Path) -> List[str]:
 
 def parts_of_traffic(folder: Path) -> List[str]:
     """Each kind of traffic that bench/generate makes."""
-    if shutil.which("cc") is None:
-        raise Skipped("no cc")
+    needs("cc")
     generate = folder / "generate"
     written_by(["cc", "-O2", "-o", generate, TOP / "bench" / "generate.c"])
     problems = []

@@ -9,7 +9,8 @@ from pathlib import Path
 from typing import Any, Dict, Iterator, List, NamedTuple, Sequence, Tuple
 
 from common.listing import Row, rows
-from tests.case import CALL, CONTRIB, TOP, Run, lines, needs, needs_module, plain, ran, written_by
+from needs import needs, needs_module
+from tests.case import CALL, CONTRIB, TOP, Run, lines, plain, ran, written_by
 
 try:
     import numpy as np

@@ -1,7 +1,6 @@
 """What `make dist` packs, that the same commit gives the same octets, and what is refused; and that what is installed
 tells the version of the sources."""
 
-import atexit
 import hashlib
 import io
 import os
@@ -11,11 +10,13 @@ import subprocess
 import tarfile
 import tempfile
 from functools import lru_cache
+from multiprocessing.util import Finalize
 from pathlib import Path
 from typing import Callable, Dict, List, NamedTuple, Set, Tuple
 
+from needs import needs
 from tests import installing
-from tests.case import SECONDS, TOP, Run, Skipped, Test, Word, needs
+from tests.case import SECONDS, TOP, Run, Test, Word
 from tests.packages import told, unlike
 
 RUNS: List[Run] = []
@@ -112,16 +113,15 @@ def stand_in(archive: Path, compiler: str) -> None:
 def repository(folder: Path) -> Path:
     """A repository of one commit with the files of this one as they stand, proofs aside, with the program, with the
     libraries, or a stand-in for each that is not built, and with a stand-in for the page."""
-    for tool in TOOLS:
-        needs(tool)
-    if not (TOP / ".git").exists():
-        raise Skipped("no repository")
-    names = told(["git", "-C", TOP, "ls-files", "-z", "--cached", "--others", "--exclude-standard"]).split("\0")
-    for name in names:
+    needs(*TOOLS)
+    folder.mkdir(parents=True)
+    git(folder, "init", "-q")
+    listing = ["git", "-C", TOP, f"--git-dir={folder / '.git'}", f"--work-tree={TOP}", "ls-files", "-z", "--others"]
+    for name in told([*listing, "--exclude-standard"]).split("\0"):
         if (TOP / name).is_file() and not re.match(r"crates/\w+/(proofs|must-fail|wrong-bodies)/", name):
             (folder / name).parent.mkdir(parents=True, exist_ok=True)
             shutil.copy2(TOP / name, folder / name)
-    for words in (["init", "-q"], ["add", "-A"], ["commit", "-q", "-m", "All"]):
+    for words in (["add", "-A"], ["commit", "-q", "-m", "All"]):
         git(folder, *words)
     program = folder / "crates/port1/out/port1"
     program.parent.mkdir(parents=True, exist_ok=True)
@@ -164,7 +164,7 @@ def make_dist(folder: Path, **settings: str) -> Path:
 def scratch() -> Path:
     """A repository that was packed once, for all tests that only look."""
     folder = Path(tempfile.mkdtemp(prefix="port1-dist-"))
-    atexit.register(shutil.rmtree, folder, ignore_errors=True)
+    Finalize(None, shutil.rmtree, [folder], {"ignore_errors": True}, exitpriority=0)
     made = repository(folder / "repository")
     make_dist(made)
     return made

@@ -8,8 +8,9 @@ import subprocess
 from pathlib import Path
 from typing import List, NamedTuple, Sequence, Tuple
 
+from needs import Skipped, needs
 from tests.case import CALL, CONTRIB, DICTIONARY, REPLY, SECONDS, TOP, WINDOWS
-from tests.case import Run, Skipped, Word, listed, needs, plain, random_bits
+from tests.case import Run, Word, listed, plain, random_bits
 
 RUNS: List[Run] = []
 
@@ -63,8 +64,7 @@ REST = Wave("1", [8], 3)
 
 def built(folder: Path) -> Path:
     """The folder of decoders with this one in it, made by the Makefile."""
-    for tool in ("sigrok-cli", "cc", "make"):
-        needs(tool)
+    needs("sigrok-cli", "cc", "make")
     if not ARCHIVE.exists():
         raise Skipped(f"no {ARCHIVE.relative_to(TOP)}; `make` builds it")
     made = folder / "decoders"

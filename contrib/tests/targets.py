@@ -9,7 +9,8 @@ import subprocess
 from pathlib import Path
 from typing import List
 
-from tests.case import CONTRIB, SECONDS, TOP, Run, Test, needs
+from needs import needs
+from tests.case import CONTRIB, SECONDS, TOP, Run, Test
 
 USAGE = "usage: build FOLDER TARGET.. [-- OPTION..]\n"
 

@@ -7,7 +7,8 @@ import subprocess
 from pathlib import Path
 from typing import Any, Dict, List, Sequence, Tuple
 
-from tests.case import SECONDS, TOP, WINDOWS, Run, Skipped, Word, listed, needs, ran
+from needs import Skipped, needs
+from tests.case import SECONDS, TOP, WINDOWS, Run, Word, listed, ran
 
 SDLC = 268
 

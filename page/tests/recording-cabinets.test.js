@@ -18,9 +18,7 @@ const folder = mkdtempSync(join(tmpdir(), "recordings-"));
 
 after(() => rmSync(folder, { recursive: true }));
 
-execFileSync("python3", ["-B", WRITER, folder, WHICH], {
-  env: { ...process.env, PATH: `/usr/bin:${process.env.PATH}` },
-});
+execFileSync("python3", ["-B", WRITER, folder, WHICH]);
 
 const CASES = JSON.parse(readFileSync(join(folder, "cases.json"), "ascii"));
 

@@ -31,7 +31,6 @@ function octetsOf(text) {
 test("a form is the one that the script takes a recording for", () => {
   const wanted = execFileSync("python3", ["-B", "-c", FORM_OF_EACH, SCRIPTS], {
     input: JSON.stringify(BEGINNINGS),
-    env: { ...process.env, PATH: `/usr/bin:${process.env.PATH}` },
   });
   const forms = BEGINNINGS.map((beginning) => formOf(Uint8Array.from(Buffer.from(beginning, "latin1"))));
   assert.deepEqual(forms, JSON.parse(wanted.toString("ascii")));

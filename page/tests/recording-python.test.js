@@ -60,7 +60,6 @@ const TEXTS = [
 const wanted = JSON.parse(
   execFileSync("python3", ["-c", PYTHON], {
     input: JSON.stringify({ values: VALUES, numbers: NUMBERS, texts: TEXTS }),
-    env: { ...process.env, PATH: `/usr/bin:${process.env.PATH}` },
     maxBuffer: 1 << 26,
   }).toString("utf8"),
 );

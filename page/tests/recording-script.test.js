@@ -11,8 +11,6 @@ import { inLines, inPieces, ran } from "./recording-helpers.js";
 
 const TOP = new URL("../../", import.meta.url);
 
-const ENVIRONMENT = { ...process.env, PATH: `/usr/bin:${process.env.PATH}` };
-
 const EXAMPLES = [
   ["four-wires.csv", "csv", ["TXC", "TXD", "RXC", "RXD"], true],
   ["four-wires.csv", "csv", ["RXC", "RXD", "TXC", "TXD"], true],
@@ -32,7 +30,7 @@ function example(name) {
 function byScript(input, channels, rising) {
   const script = fileURLToPath(new URL("contrib/recording-to-bits", TOP));
   const words = [...(rising ? [] : ["--falling"]), ...channels];
-  const { status, stdout, stderr } = spawnSync(script, words, { input, env: ENVIRONMENT });
+  const { status, stdout, stderr } = spawnSync(script, words, { input });
   return { stdout: stdout.toString("latin1"), stderr: stderr.toString("utf8"), status };
 }
 
@@ -63,12 +61,12 @@ const BITS = "01111110000010001100000100000000101111101101001110111111011";
 
 const OUTPUTS = { csv: ["csv", "csv:time=true:dedup=true", "csv:time=true"], vcd: ["vcd"] };
 
-const hasSigrok = spawnSync("sigrok-cli", ["--version"], { env: ENVIRONMENT }).status === 0;
+const hasSigrok = spawnSync("sigrok-cli", ["--version"]).status === 0;
 
 test("what sigrok-cli writes", { skip: hasSigrok ? false : "no sigrok-cli" }, async () => {
   const folder = mkdtempSync(join(tmpdir(), "sigrok-"));
   const [samples, session] = [join(folder, "tap.bin"), join(folder, "tap.sr")];
-  const written = (words) => execFileSync("sigrok-cli", words, { env: ENVIRONMENT });
+  const written = (words) => execFileSync("sigrok-cli", words);
   writeFileSync(samples, Uint8Array.from(Array.from(BITS).flatMap((bit) => [2 * Number(bit), 1 + 2 * Number(bit)])));
   written(["-i", samples, "-I", "binary:numchannels=4:samplerate=1000000", "-o", session]);
   const stderr = `recording-to-bits: 0 has ${BITS.length} edges\n`;

@@ -51,6 +51,7 @@ export class Files {
       const select = element(`channel-${at}`);
       return select.selectedIndex > 0 ? select.value : null;
     });
+    if (clock === null || data === null) throw new Error("Say which channels are TXC and TXD.");
     if (answers === null) return [clock, data];
     return second === null ? [clock, data, answers] : [clock, data, second, answers];
   }

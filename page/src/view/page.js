@@ -116,7 +116,8 @@ class Page {
   jobOf(file) {
     const chosen = FORMS[element("form").value] ?? this.found;
     return {
-      ...{ lines: 1, channels: this.files.channels(), rising: !element("falling").checked, ...chosen, file },
+      ...{ lines: 1, ...chosen, channels: this.found.channels.length > 0 ? this.files.channels() : [] },
+      ...{ rising: !element("falling").checked, file },
       rate: Number(element("rate").value) || RATE,
       dictionary: element("dictionary").value,
       engine: this.engine,

@@ -8,8 +8,7 @@ export const TOP = fileURLToPath(new URL("../../../", import.meta.url));
 
 const SCRIPTS = `${TOP}contrib/scripts`;
 
-// Debian's Python, which has the modules that the scripts need.
-const ENVIRONMENT = { ...process.env, PATH: `/usr/bin:${process.env.PATH}`, PYTHONDONTWRITEBYTECODE: "1" };
+const ENVIRONMENT = { ...process.env, PYTHONDONTWRITEBYTECODE: "1" };
 
 const MOST_OUTPUT = 2 ** 30;
 
