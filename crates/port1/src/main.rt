@@ -1,11 +1,8 @@
 //! The program `port1`: analyses captures of the Port 1 bus from standard input.
 #![tactic(auto)]
 
-mod prompt;
-
 use bus_tool::{ToolFault, run};
-use prompt::Prompting;
-use std::io::{ErrorKind, IsTerminal, Write};
+use std::io::{ErrorKind, Write};
 use std::process::ExitCode;
 use std::{env, io};
 
@@ -37,11 +34,7 @@ fn start(rt: &HostRuntime) -> io::Result<u8> {
     for word in owned.iter().skip(1) {
         words.push(word.as_str())?;
     }
-    let mut input = Prompting {
-        reader: rt.reader(),
-        faults: rt.stderr(),
-        is_due: rt.stdin().is_terminal(),
-    };
+    let mut input = rt.reader();
     let mut output = io::writer(rt);
     let mut faults = rt.stderr();
     let status = run(
