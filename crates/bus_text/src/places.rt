@@ -1,12 +1,12 @@
 //! Places in decimal, one after the other.
 
-ghost use Rattle.std.specs.Prelude.{◌≡◌, ◌+◌, ◌*◌, ◌/◌, ◌^◌, ◌++◌, ◌<◌, ◌≤◌, ℕ, length, take, codes, decimal};
-ghost use Rattle.bus_text.specs.Internal.Fronts.{IsFront};
+ghost use Rattle.std.specs.Prelude.{◌≡◌, ◌+◌, ◌*◌, ◌/◌, ◌^◌, ◌++◌, ◌<◌, ◌≤◌, ℕ, length, codes, decimal};
+ghost use Rattle.arrayvec.specs.ArrayVec.{array_vec_len};
 ghost use Rattle.bus_text.specs.Adds.{Adds};
 
 use crate::number::push_number;
-use crate::text::Text;
-use itoa::Buffer;
+use crate::text::push_octets;
+use arrayvec::ArrayVec;
 use std::marker::Model;
 
 /// Two digits of each number below 100, the tens lowest.
@@ -25,45 +25,35 @@ const PAIRS: [u16; 100] = [
 /// What places are written by: from one place to the next all digits but the last four seldom change, so they are kept.
 #[derive(Drop)]
 pub struct Places {
-    front: Front,
-}
-
-/// The digits of ten thousand places that only their last four tell apart.
-#[derive(Drop)]
-struct Front {
-    /// The first of these places.
+    /// The first of the ten thousand places that only their last four digits tell apart.
     base: u64,
-    digits: [u8; 16],
-    count: usize,
+    /// One of them, and a space.
+    text: ArrayVec<u8, 21>,
 }
 
 impl Model for Places {
     ghost use Rattle.std.specs.Prelude.{ℕ};
-    ghost use Rattle.bus_text.specs.Internal.Fronts.{IsFront};
+    ghost use Rattle.bus_text.specs.Internal.Fronts.{IsFrom};
 
-    ghost Value = { Unit {0} };
+    ghost Value = { ℕ };
 
-    ghost view = { λ places. tt };
+    ghost view = { λ places. places.base };
 
-    ghost invariant = { λ places. (number : ℕ) × IsFront places.front number };
+    ghost invariant = { λ places. IsFrom places.base places.text.items };
 }
 
 impl Places {
     /// What no place was written by.
     pub fn new() -> Self {
-        Places {
-            front: Front {
-                base: 10000,
-                digits: [b'1'; 16],
-                count: 1,
-            },
-        }
+        let mut text = ArrayVec::new();
+        push_octets(&mut text, b"10000 ");
+        Places { base: 10000, text }
     }
 
     /// Appends a place and a space.
     #[inline(always)]
-    pub fn push<const N: usize>(&mut self, text: &mut Text<N>, place: u64)
-        requires { length text.old + 24 ≤ N }
+    pub fn push<const N: usize>(&mut self, text: &mut ArrayVec<u8, N>, place: u64)
+        requires { array_vec_len text.old + 21 ≤ N }
         ensures { Adds text.old (decimal place ++ codes " ") 21 text.new }
     {
         if place < 10000 {
@@ -71,55 +61,56 @@ impl Places {
             text.push(b' ');
             return;
         }
-        let rest = turn_to(&mut self.front, place);
-        text.put(self.front.digits, self.front.count);
-        text.put(last_four(rest), 5);
+        self.turn_to(place);
+        set_last_four(self.text.as_mut_slice(), place - self.base);
+        push_octets(text, self.text.as_slice());
+    }
+
+    /// Keeps another place, where more than the last four digits differ.
+    #[inline(always)]
+    fn turn_to(&mut self, place: u64)
+        requires { 10000 ≤ place }
+        ensures { self.new ≡ 10000 * (place / 10000) }
+    {
+        if place.wrapping_sub(self.base) >= 10000 {
+            self.renew(place);
+        }
+    }
+
+    /// Works out the digits of another place.
+    #[inline(never)]
+    fn renew(&mut self, place: u64)
+        requires { 10000 ≤ place }
+        ensures { self.new ≡ 10000 * (place / 10000) }
+    {
+        self.base = place - place % 10000;
+        self.text.clear();
+        push_number(&mut self.text, place);
+        self.text.push(b' ');
     }
 }
 
-/// Makes it the front of a place, if it is another's, and returns what the last four digits are.
+/// Writes the last four digits of a place, after which there is a space.
 #[inline(always)]
-fn turn_to(front: &mut Front, place: u64) -> u64
-    requires kept { (number : ℕ) × IsFront front.old number }
-    requires long { 10000 ≤ place }
-    ensures turned { IsFront front.new (place / 10000) }
-    ensures rest { 10000 * (place / 10000) + result ≡ place }
+fn set_last_four(text: &mut [u8], n: u64)
+    requires last { n < 10000 }
+    requires long { 5 ≤ length text.old }
+    ensures { (place : ℕ) → 10000 ≤ place → place < 2 ^ 64 →
+        10000 * (place / 10000) + n < 2 ^ 64 → text.old ≡ decimal place ++ codes " " →
+        text.new ≡ decimal (10000 * (place / 10000) + n) ++ codes " " }
 {
-    let rest = place.wrapping_sub(front.base);
-    if rest < 10000 {
-        return rest;
-    }
-    renew(front, place / 10000);
-    place % 10000
+    let end = text.len() - 1;
+    text[end - 4..end].copy_from_slice(&last_four(n));
 }
 
-/// Works out the digits of a number.
-#[inline(never)]
-fn renew(front: &mut Front, number: u64)
-    requires some { 1 ≤ number }
-    requires few { 10000 * number < 2 ^ 64 }
-    ensures { IsFront front.new number }
-{
-    let mut buffer = Buffer::new();
-    let text = buffer.format(number).as_bytes();
-    let count = text.len();
-    let mut digits = [b'0'; 16];
-    digits[..count].copy_from_slice(text);
-    *front = Front {
-        base: 10000 * number,
-        digits,
-        count,
-    };
-}
-
-/// The last four digits of a number and a space, in the first five octets.
+/// The last four digits of a number.
 #[inline(always)]
-fn last_four(n: u64) -> [u8; 8]
+fn last_four(n: u64) -> [u8; 4]
     requires { n < 10000 }
     ensures { (front : ℕ) → 0 < front → 10000 * front + n < 2 ^ 64 →
-        decimal front ++ take 5 result ≡ decimal (10000 * front + n) ++ codes " " }
+        decimal front ++ result ≡ decimal (10000 * front + n) }
 {
-    let high = u64::from(PAIRS[(n / 100) as usize]);
-    let low = u64::from(PAIRS[(n % 100) as usize]);
-    (high + (low << 16) + (0x20 << 32)).to_le_bytes()
+    let high = u32::from(PAIRS[(n / 100) as usize]);
+    let low = u32::from(PAIRS[(n % 100) as usize]);
+    (high + (low << 16)).to_le_bytes()
 }

@@ -1,5 +1,4 @@
-use Rattle.std.proofs.Common.{arith, ◌≡◌, ◌∙◌, ap, sym, ◌+◌, ◌*◌, ◌/◌, ◌%◌, ◌++◌, ◌∷◌, [], take, decimal, append_assoc}
-use Rattle.itoa.proofs.Decimal.{pair}
+use Rattle.std.proofs.Common.{arith, ◌≡◌, ◌∙◌, ap, ◌+◌, ◌*◌, ◌/◌, ◌%◌, ◌++◌, decimal}
 use Rattle.bus_text.proofs.NumberLemmas.{pair_at, word_of_four, front_and_four}
 use Rattle.bus_text.proofs.places.last_four.Goals as goal
 
@@ -8,11 +7,8 @@ returns c front some fits =
     let n = c.args.n in
     let low : c.from-low.result ≡ 48 + n % 100 / 10 + 256 * (48 + n % 100 % 10) =
     c.from-low.ensures ∙ pair_at (n % 100) (omega arith) in
-    let digits : take 5 c.to_le_bytes.result ≡ (pair (n / 100) ++ pair (n % 100)) ++ 32 ∷ [] =
-    ap (take 5) c.to_le_bytes.ensures
-    ∙ word_of_four n _ _ c.requires
-    (c.from-high.ensures ∙ pair_at (n / 100) (omega (arith, c.requires)))
-    low _ (omega (arith, low)) in
-    ap (λ text. decimal front ++ text) digits
-    ∙ sym (append_assoc (decimal front) (pair (n / 100) ++ pair (n % 100)) (32 ∷ []))
-    ∙ ap (λ text. text ++ 32 ∷ []) (front_and_four front n some c.requires fits)
+    ap (λ four. decimal front ++ four)
+    (c.to_le_bytes.ensures
+    ∙ word_of_four n _ _ c.requires (c.from-high.ensures ∙ pair_at (n / 100) (omega (arith, c.requires))) low _
+    (omega (arith, low)))
+    ∙ front_and_four front n some c.requires fits
