@@ -6,6 +6,7 @@ use Rattle.std.proofs.lemmas.Bool.{cases_lt}
 use Rattle.std.proofs.lemmas.Grind.{common_steps}
 use Rattle.std.proofs.Math.Seq.{take-add, drop-append_seam}
 use Rattle.std.proofs.lemmas.List.{take_all, take-append-le, take-append-drop}
+use Rattle.arrayvec.specs.ArrayVec.{array_vec_len}
 use Rattle.bus_dictionary.specs.Entry.{FrameType}
 use Rattle.bus_dictionary.specs.Dictionary.{longest_of}
 use Rattle.bus_talk.specs.Seen.{SeenReport, seen}
@@ -250,7 +251,7 @@ module _ {A X N B : Type 0} (t : TapView A X N B) where
   pub sound-next : (w v : CaptureRun A) (n : ℕ) → 1 ≤ n → t.watch.place v.analyser ≡ t.watch.place w.analyser + n →
       t.watch.place w.analyser + n ≤ 2 ^ 60
       → IsFew (2 * t.watch.place w.analyser + 2) v.teller.summary
-      → v.teller.page.written + length v.teller.page.text ≤ w.teller.page.written + length w.teller.page.text + 2048
+      → v.teller.page.written + array_vec_len v.teller.page.text ≤ w.teller.page.written + array_vec_len w.teller.page.text + 2048
       → IsSound t w → IsSound t v
   sound-next w v n some place le few octets sound = record {
     places = omega (arith, place, le);

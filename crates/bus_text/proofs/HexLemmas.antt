@@ -1,6 +1,6 @@
 -- Hexadecimal digits of many octets at once.
-use Rattle.std.proofs.Common.{arith, ◌≡◌, refl, sym, ◌∙◌, ap, subst, append_assoc, slice_index_or, get_or, bit_and, ◌^◌}
-use Rattle.std.proofs.Common.{◌+◌, ◌*◌, ◌/◌, ◌%◌, ◌<◌, ◌≤◌, ◌++◌, ◌∷◌, [], ℕ, cond, ltb, zero, suc, List, length, take}
+use Rattle.std.proofs.Common.{arith, ◌≡◌, refl, sym, ◌∙◌, ap, subst, get_or, bit_and, ◌^◌}
+use Rattle.std.proofs.Common.{◌+◌, ◌*◌, ◌/◌, ◌%◌, ◌<◌, ◌++◌, ◌∷◌, [], ℕ, cond, ltb, zero, suc, List, length, take}
 use Rattle.std.proofs.Common.{drop, map}
 use Rattle.std.specs.Simd.Lanes.{Each1, zip2, sel_l, top, pick_l}
 use Rattle.std.proofs.lemmas.Simd.{zip2_splat, pick_l_whole}
@@ -8,7 +8,6 @@ use Rattle.std.proofs.lemmas.Nat.{and_mask}
 use Rattle.std.proofs.lemmas.List.{take_at, drop-drop}
 use Rattle.std.proofs.Math.Seq.{take-add}
 use Rattle.std.specs.Prelude.{replicate}
-use Rattle.std.specs.List.{range_with_len}
 use Rattle.std.specs.Simd.{first_chunks}
 use Rattle.bus_text.specs.Listing.{hex_digit, hex_of}
 

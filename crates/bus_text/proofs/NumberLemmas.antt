@@ -1,6 +1,6 @@
 -- Numbers in decimal by tables.
 use Rattle.std.proofs.Common.{arith, ◌≡◌, refl, sym, ◌∙◌, ap, ◌+◌, ◌*◌, ◌/◌, ◌%◌, ◌<◌, ◌≤◌, ◌^◌, ◌++◌, ◌∷◌, [], ℕ, List}
-use Rattle.std.proofs.Common.{true, false, ◌⊎◌, inl, inr, nat_lt, if◌then◌else◌, take, map, get_or, slice_index_or}
+use Rattle.std.proofs.Common.{take, map, get_or, slice_index_or}
 use Rattle.std.proofs.Common.{decimal, drop, length, length-append}
 use Rattle.arrayvec.specs.ArrayVec.{ArrayVec}
 use Rattle.bus_text.specs.Adds.{Adds}
@@ -8,9 +8,7 @@ use Rattle.std.proofs.lemmas.List.{take_at, drop_at}
 use borrow.Rule.Slice.PartMut.{put_mid}
 use Rattle.std.specs.List.{range_with_len}
 use Rattle.std.proofs.lemmas.List.FromFn.{get_or-map-range_with_len}
-use Rattle.std.proofs.lemmas.Bool.Decides.{nat_tests}
-use Rattle.std.proofs.Math.ListN.{get_or-map}
-use Rattle.itoa.proofs.Decimal.{pair, decimal_two, decimal_pair, decimal_four}
+use Rattle.itoa.proofs.Decimal.{pair, decimal_pair, decimal_four}
 use Rattle.std.proofs.lemmas.Fmt.{decimal_digit}
 use Rattle.bus_text.specs.declared.places.TheConstants.{PAIRS}
 

@@ -27,7 +27,7 @@ fn type_name(dictionary: &Dictionary, ftype: u8) -> &str
 /// Appends a station, a type, and what is said of them.
 #[inline(always)]
 fn push_typed<const N: usize>(text: &mut ArrayVec<u8, N>, station: u8, ftype: u8, what: &str)
-    requires room { array_vec_len text.old + 65 ≤ N }
+    requires room { array_vec_len text.old + 61 ≤ N }
     requires short { length what.now ≤ 40 }
     ensures { Adds text.old (typed_text station ftype what.now) 61 text.new }
 {
@@ -43,7 +43,7 @@ pub(crate) fn push_head<const N: usize>(
     standing: Standing,
     dictionary: &Dictionary,
 )
-    requires { array_vec_len text.old + 65 ≤ N }
+    requires { array_vec_len text.old + 61 ≤ N }
     ensures { Adds text.old (head_text standing dictionary.now) 61 text.new }
 {
     match standing {

@@ -22,7 +22,7 @@ pub(crate) type FrameLine = ArrayVec<u8, 640>;
 /// Appends a station and a type.
 #[inline(always)]
 pub(crate) fn push_station<const N: usize>(text: &mut ArrayVec<u8, N>, station: u8, ftype: u8)
-    requires { array_vec_len text.old + 24 ≤ N }
+    requires { array_vec_len text.old + 20 ≤ N }
     ensures { Adds text.old (station_text station ftype) 20 text.new }
 {
     push_octets(text, b"station ");
@@ -47,7 +47,7 @@ pub(crate) fn push_line_number<const N: usize>(text: &mut ArrayVec<u8, N>, line:
 /// Appends two places, each followed by a space.
 #[inline(always)]
 pub(crate) fn push_span<const N: usize>(text: &mut ArrayVec<u8, N>, places: &mut Places, span: Span)
-    requires { array_vec_len text.old + 48 ≤ N }
+    requires { array_vec_len text.old + 42 ≤ N }
     ensures { Adds text.old (span_text span) 42 text.new }
 {
     places.push(text, span.first);
@@ -57,7 +57,7 @@ pub(crate) fn push_span<const N: usize>(text: &mut ArrayVec<u8, N>, places: &mut
 /// Appends why a piece is damaged, in one word.
 #[inline(never)]
 fn push_cause<const N: usize>(text: &mut ArrayVec<u8, N>, cause: Cause)
-    requires { array_vec_len text.old + 16 ≤ N }
+    requires { array_vec_len text.old + 9 ≤ N }
     ensures { Adds text.old (cause_word cause) 9 text.new }
 {
     match cause {
@@ -71,7 +71,7 @@ fn push_cause<const N: usize>(text: &mut ArrayVec<u8, N>, cause: Cause)
 /// Appends what a report is, a frame with these octets.
 #[inline(always)]
 fn push_word<const N: usize>(text: &mut ArrayVec<u8, N>, kind: EventKind, octets: &[u8])
-    requires room { array_vec_len text.old + 524 ≤ N }
+    requires room { array_vec_len text.old + 522 ≤ N }
     requires held { length octets.now ≤ most_octets }
     ensures { Adds text.old (report_word (kind_with octets.now kind)) 522 text.new }
 {
@@ -99,7 +99,7 @@ pub(crate) fn push_front<const N: usize>(
     event: &Event,
     octets: &[u8],
 )
-    requires room { array_vec_len text.old + 566 ≤ N }
+    requires room { array_vec_len text.old + 564 ≤ N }
     requires held { length octets.now ≤ most_octets }
     ensures { Adds text.old
         (span_text (span_of (reported octets.now event.now)) ++ report_word (reported octets.now event.now).kind)

@@ -76,7 +76,7 @@ fn line_of_commands(line: Option<Line>) -> Option<Line>
 /// Appends the word of a line about a frame, and a space.
 #[inline(always)]
 fn push_kind<const N: usize>(text: &mut ArrayVec<u8, N>, kind: Kind)
-    requires { array_vec_len text.old + 16 ≤ N }
+    requires { array_vec_len text.old + 9 ≤ N }
     ensures { Adds text.old (kind_word kind ++ codes " ") 9 text.new }
 {
     push_octets(text, kind.word().as_bytes());

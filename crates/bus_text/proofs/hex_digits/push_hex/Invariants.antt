@@ -1,4 +1,4 @@
-use Rattle.std.proofs.Common.{◌≡◌, ◌+◌, ◌*◌, ◌++◌, take, length}
+use Rattle.std.proofs.Common.{◌≡◌, ◌+◌, ◌*◌, ◌++◌, take}
 use Rattle.arrayvec.specs.ArrayVec.{array_vec_len}
 use Rattle.bus_text.specs.Listing.{hex_of}
 use Rattle.bus_text.proofs.hex_digits.push_hex.Given as goal

@@ -1,4 +1,4 @@
-use Rattle.std.proofs.Common.{arith, refl, sym, ap, ◌∙◌, ◌++◌, ◌∷◌, [], codes}
+use Rattle.std.proofs.Common.{arith, refl, sym, ap, ◌∙◌, ◌++◌, codes}
 use Rattle.std.proofs.lemmas.Fmt.{decimal_digit}
 use Rattle.itoa.proofs.Decimal.{pair, decimal_four}
 use Rattle.bus_text.proofs.places.Places.new.Goals as goal
