@@ -1,4 +1,4 @@
-use Rattle.std.proofs.Common.{ℕ, ◌+◌, ◌*◌, ◌≤◌, List, ◌++◌, length, take, Option}
+use Rattle.std.proofs.Common.{ℕ, ◌+◌, ◌*◌, ◌≤◌, List, ◌++◌, take, Option}
 use Rattle.arrayvec.specs.ArrayVec.{array_vec_len}
 use Rattle.bus_capture.specs.Internal.Watching.{heard_by}
 use Rattle.bus_talk.specs.History.{history}

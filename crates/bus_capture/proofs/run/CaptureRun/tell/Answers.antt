@@ -1,4 +1,4 @@
-use Rattle.std.proofs.Common.{◌+◌, length, ap, arith, append-nil}
+use Rattle.std.proofs.Common.{◌+◌, ap, arith, append-nil}
 use Rattle.std.proofs.lemmas.Result.{err_from_is_err_and}
 use Rattle.arrayvec.specs.ArrayVec.{array_vec_len}
 use Rattle.bus_text.proofs.PagesLemmas.{cut-short, pages-printed}
