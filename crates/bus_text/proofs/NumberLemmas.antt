@@ -1,6 +1,6 @@
 -- Numbers in decimal by tables.
 use Rattle.std.proofs.Common.{arith, ◌≡◌, refl, sym, ◌∙◌, ap, ◌+◌, ◌*◌, ◌/◌, ◌%◌, ◌<◌, ◌≤◌, ◌^◌, ◌++◌, ◌∷◌, [], ℕ, List}
-use Rattle.std.proofs.Common.{take, map, get_or, slice_index_or}
+use Rattle.std.proofs.Common.{take, map, get_or}
 use Rattle.std.proofs.Common.{decimal, drop, length, length-append}
 use Rattle.arrayvec.specs.ArrayVec.{ArrayVec}
 use Rattle.bus_text.specs.Adds.{Adds}
@@ -41,25 +41,12 @@ three_digits o hundred small =
     ∙ ap (λ t. (48 + o / 100) ∷ (48 + t) ∷ (48 + o % 100 % 10) ∷ []) tens
     ∙ ap (λ t. (48 + o / 100) ∷ (48 + o / 10 % 10) ∷ (48 + t) ∷ []) ones
 
-pairs_are : PAIRS ≡ map (λ p. 48 + p / 10 + 256 * (48 + p % 10)) (range_with_len 0 100)
+pairs_are : PAIRS ≡ map pair (range_with_len 0 100)
 pairs_are = refl
 
-pub pair_at : (p : ℕ) → p < 100 → slice_index_or PAIRS p 0 ≡ 48 + p / 10 + 256 * (48 + p % 10)
+pub pair_at : (p : ℕ) → p < 100 → get_or PAIRS p [] ≡ pair p
 pair_at p small =
-    ap (λ pairs. get_or pairs p 0) pairs_are
-    ∙ get_or-map-range_with_len (λ p. 48 + p / 10 + 256 * (48 + p % 10)) 0 100 p p 0 small (omega arith)
-
--- the octets of a word of four digits
-pub word_of_four : (n high low : ℕ) → n < 10000
-    → high ≡ 48 + n / 100 / 10 + 256 * (48 + n / 100 % 10) → low ≡ 48 + n % 100 / 10 + 256 * (48 + n % 100 % 10)
-    → (w : ℕ) → w ≡ high + low * 65536
-    → (w % 256 ∷ w / 256 % 256 ∷ w / 65536 % 256 ∷ w / 16777216 % 256 ∷ []) ≡ pair (n / 100) ++ pair (n % 100)
-word_of_four n high low small h l w e =
-    let first : w % 256 ≡ 48 + n / 100 / 10 = omega (arith, small, h, l, e) in
-    let second : w / 256 % 256 ≡ 48 + n / 100 % 10 = omega (arith, small, h, l, e) in
-    let third : w / 65536 % 256 ≡ 48 + n % 100 / 10 = omega (arith, small, h, l, e) in
-    let fourth : w / 16777216 % 256 ≡ 48 + n % 100 % 10 = omega (arith, small, h, l, e) in
-    rw first (rw second (rw third (rw fourth refl)))
+    ap (λ pairs. get_or pairs p []) pairs_are ∙ get_or-map-range_with_len pair 0 100 p p [] small (omega arith)
 
 -- a place: what its front is, and its last four digits
 pub front_and_four : (front n : ℕ) → 0 < front → n < 10000 → 10000 * front + n < 2 ^ 64
