@@ -3,6 +3,7 @@ use Rattle.std.proofs.Common.{◌≡◌, ℕ, ◌<◌, Bool, List, [], ◌++◌,
 use Rattle.std.proofs.Common.{refl, sym, ap, ◌∙◌, subst, arith, length-append}
 use Rattle.std.proofs.lemmas.List.{nil_from_length}
 use Rattle.std.specs.Io.KnownBytes.{Appends}
+use Rattle.arrayvec.specs.ArrayVec.{ArrayVec}
 use Rattle.bus_bits.specs.Capture.{CaptureOf}
 use Rattle.bus_dictionary.specs.Entry.{FrameType}
 use Rattle.bus_talk.specs.History.{history, tally}
@@ -121,11 +122,11 @@ lt_none : (n : ℕ) → n < 0 → ⊥
 lt_none n less = omega (arith, less)
 
 -- no text was written
-none-out : (start now : Option (List ℕ)) (page : List ℕ) (written : ℕ) (text : List ℕ) → text ≡ [] →
+none-out : (start now : Option (List ℕ)) (page : ArrayVec ℕ) (written : ℕ) (text : List ℕ) → text ≡ [] →
     Pages start now page written text → Appends start now []
 none-out start now page written text empty pages =
     let none : pages.sent ≡ [] =
-    nil_from_length pages.sent (omega (arith, length-append pages.sent page, ap length (sym pages.whole ∙ empty))) in
+    nil_from_length pages.sent (omega (arith, length-append pages.sent page.items, ap length (sym pages.whole ∙ empty))) in
     subst (Appends start now) none pages.out
 
 -- a fault that ended the reading: without lines no writer is cut off

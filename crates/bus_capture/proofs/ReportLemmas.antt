@@ -5,6 +5,7 @@ use Rattle.std.specs.List.{flat_map}
 use Rattle.std.proofs.lemmas.Grind.{flat_map-append}
 use Rattle.std.proofs.lemmas.List.{take_more, take-append-drop}
 use Rattle.std.proofs.lemmas.Option.{slice_get_within, slice_get_cases, get_or_from_slice_get}
+use Rattle.arrayvec.specs.ArrayVec.{ArrayVec}
 use Rattle.bus_line.specs.Due.{places}
 use Rattle.bus_talk.specs.History.{KeptFrame}
 use Rattle.bus_talk.specs.declared.counts.Counts.{Counts}
@@ -45,7 +46,7 @@ tallies-next text t k c same =
     append_assoc text (tallies_text t k) (tally_text k c)
     ∙ ap (λ l. text ++ l) (ap (λ (c : Counts). tallies_text t k ++ tally_text k c) same ∙ sym (tallies-more t k))
 
-pub pages-tally : (start now : Option (List ℕ)) (page : List ℕ) (written : ℕ) (text : List ℕ) (t : ℕ → Counts) (k : ℕ)
+pub pages-tally : (start now : Option (List ℕ)) (page : ArrayVec ℕ) (written : ℕ) (text : List ℕ) (t : ℕ → Counts) (k : ℕ)
     (c : Counts) → c ≡ t k
     → Pages start now page written ((text ++ tallies_text t k) ++ tally_text k c) →
     Pages start now page written (text ++ tallies_text t (k + 1))
@@ -78,7 +79,7 @@ history-next two text h i f here =
     ∙ ap (λ l. history_text two (take i h) ++ l) (append-nil (kept_text two f)) in
     append_assoc text (history_text two (take i h)) (kept_text two f) ∙ ap (λ l. text ++ l) (sym more)
 
-pub pages-kept : (two : Bool) (start now : Option (List ℕ)) (page : List ℕ) (written : ℕ) (text : List ℕ)
+pub pages-kept : (two : Bool) (start now : Option (List ℕ)) (page : ArrayVec ℕ) (written : ℕ) (text : List ℕ)
     (h : List KeptFrame) (i : ℕ) (f : KeptFrame) → slice_get h i ≡ Some f
     → Pages start now page written ((text ++ history_text two (take i h)) ++ kept_text two f) →
     Pages start now page written (text ++ history_text two (take (i + 1) h))

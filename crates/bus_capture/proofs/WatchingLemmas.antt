@@ -6,6 +6,7 @@ use Rattle.std.proofs.lemmas.Bool.{cases_lt}
 use Rattle.std.proofs.lemmas.Grind.{common_steps}
 use Rattle.std.proofs.Math.Seq.{take-add, drop-append_seam}
 use Rattle.std.proofs.lemmas.List.{take_all, take-append-le, take-append-drop}
+use Rattle.arrayvec.specs.ArrayVec.{array_vec_len}
 use Rattle.bus_dictionary.specs.Entry.{FrameType}
 use Rattle.bus_dictionary.specs.Dictionary.{longest_of}
 use Rattle.bus_talk.specs.Seen.{SeenReport, seen}
@@ -250,7 +251,7 @@ module _ {A X N B : Type 0} (t : TapView A X N B) where
   pub sound-next : (w v : CaptureRun A) (n : ℕ) → 1 ≤ n → t.watch.place v.analyser ≡ t.watch.place w.analyser + n →
       t.watch.place w.analyser + n ≤ 2 ^ 60
       → IsFew (2 * t.watch.place w.analyser + 2) v.teller.summary
-      → v.teller.page.written + length v.teller.page.text ≤ w.teller.page.written + length w.teller.page.text + 2048
+      → v.teller.page.written + array_vec_len v.teller.page.text ≤ w.teller.page.written + array_vec_len w.teller.page.text + 2048
       → IsSound t w → IsSound t v
   sound-next w v n some place le few octets sound = record {
     places = omega (arith, place, le);
@@ -274,7 +275,7 @@ module _ {A X N B : Type 0} (t : TapView A X N B) where
   -- the lines of the end were put on the page
   pub pages-ended : (start now : Option (List ℕ)) (w : CaptureRun A) (b : List X) (p : Printer) (page put later : Page)
       → w.teller.printer ≡ Some p → later ≡ put
-      → put.text ≡ page.text ++ ending_text p
+      → put.text.items ≡ page.text.items ++ ending_text p
       (t.form.ending (t.watch.origin w.analyser) b
       (pending (t.watch.dictionary w.analyser) (heard_by t.watch w.analyser b)))
       → put.written ≡ page.written
@@ -282,8 +283,8 @@ module _ {A X N B : Type 0} (t : TapView A X N B) where
       Pages start now later.text later.written (lines t w b ++ last_lines t w b)
   pages-ended start now w b p page put later some same bytes written before =
       let waits = pending (t.watch.dictionary w.analyser) (heard_by t.watch w.analyser b) in
-      let last : put.text ≡ page.text ++ last_lines t w b =
-      bytes ∙ ap (λ x. page.text ++ ended x (t.form.ending (t.watch.origin w.analyser) b waits)) (sym some) in
+      let last : put.text.items ≡ page.text.items ++ last_lines t w b =
+      bytes ∙ ap (λ x. page.text.items ++ ended x (t.form.ending (t.watch.origin w.analyser) b waits)) (sym some) in
       subst (λ (x : Page). Pages start now x.text x.written (lines t w b ++ last_lines t w b)) (sym same)
       (subst (λ (n : ℕ). Pages start now put.text n (lines t w b ++ last_lines t w b)) (sym written)
       (pages-more start now page.text put.text page.written (lines t w b) (last_lines t w b) last before))

@@ -1,6 +1,7 @@
 //! The report of a check.
 
 ghost use Rattle.std.specs.Prelude.{◌+◌, ◌*◌, ◌++◌, ◌<◌, ◌≤◌, ◌^◌, ℕ, List, Option, MatchResult, OnOk, length};
+ghost use Rattle.arrayvec.specs.ArrayVec.{array_vec_len};
 ghost use Rattle.bus_talk.specs.History.{history, tally};
 ghost use Rattle.bus_text.specs.CheckText.{tallies_text, history_text, check_text};
 ghost use Rattle.bus_text.specs.Put.{Cuts};
@@ -13,7 +14,7 @@ use std::io::Write;
 
 /// Puts a line for each station with a verdict on the page, by rising number.
 fn put_tallies<T: Tap, W: Write>(analyser: &T, page: &mut Page, w: &mut W) -> Result<(), ShortWrite>
-    requires { page.old.written + length page.old.text < 2 ^ 90 }
+    requires { page.old.written + array_vec_len page.old.text < 2 ^ 90 }
     ensures put { (start : Option (List ℕ)) (text : List ℕ) (b : List T.Symbol) →
         T.tap.watch.is_after analyser.now b →
         Pages start (W.contents w.old) page.old.text page.old.written text → MatchResult result
@@ -23,7 +24,7 @@ fn put_tallies<T: Tap, W: Write>(analyser: &T, page: &mut Page, w: &mut W) -> Re
         (text ++ tallies_text (tally (T.tap.watch.dictionary analyser.now) (heard_by T.tap.watch analyser.now b)) 256)
         cut.sent) }
     ensures few { OnOk result
-        (page.new.written + length page.new.text ≤ page.old.written + length page.old.text
+        (page.new.written + array_vec_len page.new.text ≤ page.old.written + array_vec_len page.old.text
         + 140 * 256) }
 {
     for station in 0..=255u8 {
@@ -34,7 +35,7 @@ fn put_tallies<T: Tap, W: Write>(analyser: &T, page: &mut Page, w: &mut W) -> Re
 
 /// Puts the frames of the history on the page, the oldest first.
 fn put_history<T: Tap, W: Write>(analyser: &T, page: &mut Page, w: &mut W) -> Result<(), ShortWrite>
-    requires { page.old.written + length page.old.text < 2 ^ 95 }
+    requires { page.old.written + array_vec_len page.old.text < 2 ^ 95 }
     ensures put { (start : Option (List ℕ)) (text : List ℕ) (b : List T.Symbol) →
         T.tap.watch.is_after analyser.now b →
         Pages start (W.contents w.old) page.old.text page.old.written text → MatchResult result
@@ -59,7 +60,7 @@ pub fn put_report<T: Tap, W: Write>(
     page: &mut Page,
     w: &mut W,
 ) -> Result<(), ShortWrite>
-    requires { page.old.written + length page.old.text < 2 ^ 80 }
+    requires { page.old.written + array_vec_len page.old.text < 2 ^ 80 }
     ensures put { (start : Option (List ℕ)) (text : List ℕ) (b : List T.Symbol) →
         T.tap.watch.is_after analyser.now b →
         Pages start (W.contents w.old) page.old.text page.old.written text → MatchResult result

@@ -1,6 +1,7 @@
 //! Follows the bits of one capture.
 
 ghost use Rattle.std.specs.Io.KnownBytes.{Appends};
+ghost use Rattle.arrayvec.specs.ArrayVec.{array_vec_len};
 ghost use Rattle.bus_bits.specs.Limits.{most_places};
 ghost use Rattle.bus_capture.specs.Internal.Watching.{printed};
 ghost use Rattle.std.specs.Prelude.{◌≡◌, ◌+◌, ◌≤◌, ◌<◌, ◌^◌, ◌⊎◌, ℕ, List, [], ◌∷◌, ◌++◌, Option, MatchResult, IfOk};
@@ -79,8 +80,8 @@ impl<T: Tap> CaptureRun<T> {
             (text ++ printed self.old.teller.printer (T.tap.watch.dictionary self.old.analyser)
             (T.tap.heard self.old.analyser)))
             (λ cut. Cuts start (W.contents w.new) text cut.sent × (cut.sent < length text)) }
-        ensures octets { self.new.teller.page.written + length self.new.teller.page.text
-            ≤ self.old.teller.page.written + length self.old.teller.page.text + 2048 }
+        ensures octets { self.new.teller.page.written + array_vec_len self.new.teller.page.text
+            ≤ self.old.teller.page.written + array_vec_len self.old.teller.page.text + 2048 }
     {
         self.analyser.count(&mut self.teller.summary);
         let Some(printer) = &self.teller.printer else {

@@ -3,6 +3,7 @@
 ghost use Rattle.std.specs.Prelude.{◌≡◌, ◌+◌, ◌<◌, ◌≤◌, ◌^◌, ◌↔◌, ◌⊎◌, ℕ, false, List, [], ◌∷◌, ◌++◌, length, take};
 ghost use Rattle.std.specs.Prelude.{Option, Some, None, Err, MatchResult, IsErr, IfOk, OnOk, OnErr, IsTrue, slice_get};
 ghost use Rattle.std.specs.Option.{ForSome, option_to_list};
+ghost use Rattle.arrayvec.specs.ArrayVec.{array_vec_len};
 ghost use Rattle.bus_bits.specs.Capture.{bad_mark};
 ghost use Rattle.bus_bits.specs.Limits.{most_places};
 ghost use Rattle.bus_bits.specs.Packed.{head_fault_of, packed_fault_of};
@@ -89,10 +90,10 @@ pub trait Tap: Drop {
     /// Puts the lines of the end on the page.
     fn put_ending(&self, printer: &Printer, page: &mut Page)
         requires room { HasRoomFor 300 page.old }
-        ensures bytes { (b : List Self.Symbol) → tap.watch.is_after self.now b → page.new.text
-            ≡ page.old.text ++ ending_text printer.now (tap.form.ending (tap.watch.origin self.now) b
+        ensures bytes { (b : List Self.Symbol) → tap.watch.is_after self.now b → page.new.text.items
+            ≡ page.old.text.items ++ ending_text printer.now (tap.form.ending (tap.watch.origin self.now) b
             (pending (tap.watch.dictionary self.now) (heard_by tap.watch self.now b))) }
-        ensures len { length page.new.text ≤ length page.old.text + 300 }
+        ensures len { array_vec_len page.new.text ≤ array_vec_len page.old.text + 300 }
         ensures written { page.new.written ≡ page.old.written };
 
     /// How many verdicts named a station.
@@ -117,8 +118,8 @@ pub trait Tap: Drop {
             (text ++ kept_text tap.form.is_two k))
             (λ cut. Cuts start (W.contents w.new) (text ++ kept_text tap.form.is_two k) cut.sent) }
         ensures few { OnOk result
-            (page.new.written + length page.new.text
-            ≤ page.old.written + length page.old.text + 572) };
+            (page.new.written + array_vec_len page.new.text
+            ≤ page.old.written + array_vec_len page.old.text + 572) };
 
     /// A word of one symbol.
     fn word_of(symbol: Self::Symbol) -> Self::Word

@@ -1,6 +1,7 @@
 //! Tells what is seen: counts it, and writes its lines.
 
 ghost use Rattle.std.specs.Prelude.{◌≡◌, ℕ, Option, List, [], length};
+ghost use Rattle.arrayvec.specs.ArrayVec.{array_vec_len};
 ghost use Rattle.bus_text.specs.Counting.{IsFew};
 ghost use Rattle.bus_text.specs.Pages.{Pages};
 ghost use Rattle.bus_text.specs.Summary.{summary_of};
@@ -30,7 +31,7 @@ impl Teller {
         ensures none { result.summary ≡ summary_of [] }
         ensures few { IsFew 0 result.summary }
         ensures blank { (start : Option (List ℕ)) → Pages start start result.page.text result.page.written [] }
-        ensures empty { (result.page.written ≡ 0) × (length result.page.text ≡ 0) }
+        ensures empty { (result.page.written ≡ 0) × (array_vec_len result.page.text ≡ 0) }
     {
         Teller {
             summary: Summary::none(),

@@ -1,16 +1,14 @@
 -- Hexadecimal digits of many octets at once.
-use Rattle.std.proofs.Common.{arith, ◌≡◌, refl, sym, ◌∙◌, ap, subst, append_assoc, slice_index_or, get_or, bit_and, ◌^◌}
-use Rattle.std.proofs.Common.{◌+◌, ◌*◌, ◌/◌, ◌%◌, ◌<◌, ◌≤◌, ◌++◌, ◌∷◌, [], ℕ, cond, ltb, zero, suc, List, length, take}
+use Rattle.std.proofs.Common.{arith, ◌≡◌, refl, sym, ◌∙◌, ap, subst, get_or, bit_and, ◌^◌}
+use Rattle.std.proofs.Common.{◌+◌, ◌*◌, ◌/◌, ◌%◌, ◌<◌, ◌++◌, ◌∷◌, [], ℕ, cond, ltb, zero, suc, List, length, take}
 use Rattle.std.proofs.Common.{drop, map}
 use Rattle.std.specs.Simd.Lanes.{Each1, zip2, sel_l, top, pick_l}
 use Rattle.std.proofs.lemmas.Simd.{zip2_splat, pick_l_whole}
 use Rattle.std.proofs.lemmas.Nat.{and_mask}
-use Rattle.std.proofs.lemmas.List.{take-append-drop, length-take-le, length-append, drop-drop}
-use Rattle.std.proofs.Math.Seq.{take-append-add, take-append_seam, drop-append_seam, take-add}
+use Rattle.std.proofs.lemmas.List.{take_at, drop-drop}
+use Rattle.std.proofs.Math.Seq.{take-add}
 use Rattle.std.specs.Prelude.{replicate}
-use Rattle.std.specs.List.{range_with_len}
 use Rattle.std.specs.Simd.{first_chunks}
-use Rattle.bus_text.specs.declared.hex_digits.TheConstants.{DIGITS}
 use Rattle.bus_text.specs.Listing.{hex_digit, hex_of}
 
 -- what is so of each number below sixteen
@@ -44,12 +42,6 @@ below_sixteen P p0 p1 p2 p3 p4 p5 p6 p7 p8 p9 p10 p11 p12 p13 p14 p15
 below_sixteen P p0 p1 p2 p3 p4 p5 p6 p7 p8 p9 p10 p11 p12 p13 p14 p15
     (suc (suc (suc (suc (suc (suc (suc (suc (suc (suc (suc (suc (suc (suc (suc (suc n)))))))))))))))) low =
     absurd (omega (arith, low))
-
--- the characters in a table
-pub digit_at : (d : ℕ) → d < 16 → slice_index_or DIGITS d 0 ≡ hex_digit d
-digit_at =
-    below_sixteen (λ d. slice_index_or DIGITS d 0 ≡ hex_digit d)
-    refl refl refl refl refl refl refl refl refl refl refl refl refl refl refl refl
 
 -- the character of each digit of a vector: what is added to it is chosen by whether it is more than 9
 abbrev character : ℕ → ℕ
@@ -111,36 +103,16 @@ pub digits_below : (n : ℕ) (os : List ℕ) → length os ≡ n → ((i : ℕ) 
 digits_below n os long fits ks = rw (digits_are n os long) (picked_below _ (all_below os fits os) ks)
 
 -- high and low digits in turn are what the octets are written as
-abbrev Woven : List ℕ → List ℕ → List ℕ → Type 0
-Woven firsts seconds os =
-    map hex_digit (pick_l 0 (map (λ o. o / 16) os ++ map (λ o. o % 16) os) firsts)
-    ++ map hex_digit (pick_l 0 (map (λ o. o / 16) os ++ map (λ o. o % 16) os) seconds)
-    ≡ hex_of os
+abbrev pub in_turn : List ℕ
+in_turn =
+    0 ∷ 16 ∷ 1 ∷ 17 ∷ 2 ∷ 18 ∷ 3 ∷ 19 ∷ 4 ∷ 20 ∷ 5 ∷ 21 ∷ 6 ∷ 22 ∷ 7 ∷ 23 ∷ 8 ∷ 24 ∷ 9 ∷ 25 ∷ 10 ∷ 26 ∷ 11 ∷ 27 ∷ 12
+    ∷ 28 ∷ 13 ∷ 29 ∷ 14 ∷ 30 ∷ 15 ∷ 31 ∷ []
 
-abbrev pub firsts_of_sixteen : List ℕ
-firsts_of_sixteen = 0 ∷ 16 ∷ 1 ∷ 17 ∷ 2 ∷ 18 ∷ 3 ∷ 19 ∷ 4 ∷ 20 ∷ 5 ∷ 21 ∷ 6 ∷ 22 ∷ 7 ∷ 23 ∷ []
+abbrev Woven : List ℕ → Type 0
+Woven os = map hex_digit (pick_l 0 (map (λ o. o / 16) os ++ map (λ o. o % 16) os) in_turn) ≡ hex_of os
 
-abbrev pub seconds_of_sixteen : List ℕ
-seconds_of_sixteen = 8 ∷ 24 ∷ 9 ∷ 25 ∷ 10 ∷ 26 ∷ 11 ∷ 27 ∷ 12 ∷ 28 ∷ 13 ∷ 29 ∷ 14 ∷ 30 ∷ 15 ∷ 31 ∷ []
-
-pub sixteen_woven : (os : List ℕ) → length os ≡ 16
-    → map hex_digit (pick_l 0 (digits 16 os) firsts_of_sixteen)
-    ++ map hex_digit (pick_l 0 (digits 16 os) seconds_of_sixteen)
-    ≡ hex_of os
-sixteen_woven os long =
-    rw (digits_are 16 os long) (subst (Woven firsts_of_sixteen seconds_of_sixteen) (pick_l_whole 0 os 16 long) refl)
-
-abbrev pub firsts_of_eight : List ℕ
-firsts_of_eight = 0 ∷ 8 ∷ 1 ∷ 9 ∷ 2 ∷ 10 ∷ 3 ∷ 11 ∷ []
-
-abbrev pub seconds_of_eight : List ℕ
-seconds_of_eight = 4 ∷ 12 ∷ 5 ∷ 13 ∷ 6 ∷ 14 ∷ 7 ∷ 15 ∷ []
-
-pub eight_woven : (os : List ℕ) → length os ≡ 8
-    → map hex_digit (pick_l 0 (digits 8 os) firsts_of_eight) ++ map hex_digit (pick_l 0 (digits 8 os) seconds_of_eight)
-    ≡ hex_of os
-eight_woven os long =
-    rw (digits_are 8 os long) (subst (Woven firsts_of_eight seconds_of_eight) (pick_l_whole 0 os 8 long) refl)
+pub woven : (os : List ℕ) → length os ≡ 16 → map hex_digit (pick_l 0 (digits 16 os) in_turn) ≡ hex_of os
+woven os long = rw (digits_are 16 os long) (subst Woven (pick_l_whole 0 os 16 long) refl)
 
 -- the digits of octets one part after the other
 pub hex_append : (os is : List ℕ) → hex_of (os ++ is) ≡ hex_of os ++ hex_of is
@@ -151,24 +123,10 @@ pub hex_length : (os : List ℕ) → length (hex_of os) ≡ 2 * length os
 hex_length [] = refl
 hex_length (o ∷ os) = omega (arith, hex_length os)
 
-hex_take : (k : ℕ) (os : List ℕ) → k ≤ length os → take (2 * k) (hex_of os) ≡ hex_of (take k os)
-hex_take k os few =
-    let front : hex_of os ≡ hex_of (take k os) ++ hex_of (drop k os) =
-    ap hex_of (sym (take-append-drop k os)) ∙ hex_append (take k os) (drop k os) in
-    let long : length (hex_of (take k os)) ≡ 2 * k =
-    hex_length (take k os) ∙ ap (λ n. 2 * n) (length-take-le k os few) in
-    ap (take (2 * k)) front ∙ (rw long at (take-append_seam (hex_of (take k os)) (hex_of (drop k os))))
-
--- the last octets are written over what is written of them already, up to some place after them
-pub hex_again : (text : List ℕ) (k : ℕ) (written os : List ℕ) → take k written ≡ take k os → k ≤ length written
-    → take (length text + 2 * k) (text ++ hex_of written) ++ hex_of (drop k os) ≡ text ++ hex_of os
-hex_again text k written os same few =
-    let back : take (length text + 2 * k) (text ++ hex_of written) ≡ text ++ hex_of (take k os) =
-    take-append-add text (hex_of written) (2 * k)
-    ∙ ap (λ digits. text ++ digits) (hex_take k written few ∙ ap hex_of same) in
-    ap (λ digits. digits ++ hex_of (drop k os)) back
-    ∙ append_assoc text (hex_of (take k os)) (hex_of (drop k os))
-    ∙ ap (λ digits. text ++ digits) (sym (hex_append (take k os) (drop k os)) ∙ ap hex_of (take-append-drop k os))
+-- the digits of octets before others
+pub hex_front : (os is : List ℕ) → take (2 * length os) (hex_of (os ++ is)) ≡ hex_of os
+hex_front os is =
+    ap (take (2 * length os)) (hex_append os is) ∙ take_at (hex_of os) (hex_of is) (2 * length os) (hex_length os)
 
 chunk_at : (n i : ℕ) (os : List ℕ) (count : ℕ) → i < count
     → get_or (first_chunks n count os) i [] ≡ take n (drop (n * i) os)
@@ -189,17 +147,3 @@ hex_chunk n i os count more =
     ap (λ chunk. hex_of (take (n * i) os) ++ hex_of chunk) (chunk_at n i os count more)
     ∙ sym (hex_append (take (n * i) os) (take n (drop (n * i) os)))
     ∙ ap hex_of (sym (take-add (n * i) n os) ∙ ap (λ k. take k os) after)
-
--- the digits of as many octets in each half
-pub halves : (n : ℕ) (first last a b : List ℕ) → length first ≡ n → length last ≡ n → length a ≡ 2 * n
-    → a ++ b ≡ hex_of (pick_l 0 (first ++ last) (range_with_len 0 (n + n))) → (a ≡ hex_of first) × (b ≡ hex_of last)
-halves n first last a b first-long last-long long is =
-    let all : pick_l 0 (first ++ last) (range_with_len 0 (n + n)) ≡ first ++ last =
-    pick_l_whole 0 (first ++ last) (n + n) (omega (arith, length-append first last, first-long, last-long)) in
-    let whole : a ++ b ≡ hex_of first ++ hex_of last = is ∙ ap hex_of all ∙ hex_append first last in
-    let same : length a ≡ length (hex_of first) = omega (arith, hex_length first, first-long, long) in (
-      sym (take-append_seam a b) ∙ ap (take (length a)) whole ∙ ap (λ k. take k (hex_of first ++ hex_of last)) same
-          ∙ take-append_seam (hex_of first) (hex_of last),
-      sym (drop-append_seam a b) ∙ ap (drop (length a)) whole ∙ ap (λ k. drop k (hex_of first ++ hex_of last)) same
-          ∙ drop-append_seam (hex_of first) (hex_of last),
-    )

@@ -3,7 +3,6 @@ pub mod PagesLemmas
 pub mod ListingLemmas
 pub mod SummaryLemmas
 pub mod ShowLemmas
-mod TextLemmas
 mod HexLemmas
 mod NumberLemmas
 mod Examples

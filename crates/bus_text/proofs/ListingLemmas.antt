@@ -31,7 +31,7 @@ text-one f l = elim (is_left f l) as (λ b.
 
 -- a page that stays is one on which nothing is put
 pub nothing-put : (most : ℕ) (page : Page) → Prints page [] most page
-nothing-put most page = record { bytes = sym (append-nil page.text); len = omega arith; written = refl }
+nothing-put most page = record { bytes = sym (append-nil page.text.items); len = omega arith; written = refl }
 
 -- nothing is put for no lines
 pub put-none : (f : Filter) (lines : List Line) (most : ℕ) (page : Page) → lines ≡ [] →
@@ -53,7 +53,7 @@ put-left f l left put = rw (text-one f l) (rw left put)
 pub put-behind : {first second : List ℕ} {m n : ℕ} {page mid new : Page} → Prints page first m mid →
     Prints mid second n new → Prints page (first ++ second) (m + n) new
 put-behind {first = first} {second = second} {page = page} before behind = record {
-  bytes = behind.bytes ∙ ap (λ t. t ++ second) before.bytes ∙ append_assoc page.text first second;
+  bytes = behind.bytes ∙ ap (λ t. t ++ second) before.bytes ∙ append_assoc page.text.items first second;
   len = omega (arith, before.len, behind.len);
   written = behind.written ∙ before.written;
 }

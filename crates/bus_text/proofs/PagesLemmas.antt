@@ -4,19 +4,20 @@ use Rattle.std.proofs.Common.{arith, append_assoc, append-nil, length-append}
 use Rattle.std.specs.Io.KnownBytes.{Appends}
 use Rattle.std.proofs.Math.Seq.{take-length}
 use Rattle.std.proofs.lemmas.List.{take-append-le}
+use Rattle.arrayvec.specs.ArrayVec.{ArrayVec, array_vec_len}
 use Rattle.bus_text.specs.Put.{Cuts}
 use Rattle.bus_text.specs.Adds.{Prints}
 use Rattle.bus_text.specs.Pages.{Pages}
 use Rattle.bus_text.specs.declared.page.Page.{Page}
 
 -- what is put on the page comes after the text
-pub pages-more : (start now : Option (List ℕ)) (page page' : List ℕ) (written : ℕ) (text more : List ℕ)
-    → page' ≡ page ++ more → Pages start now page written text → Pages start now page' written (text ++ more)
+pub pages-more : (start now : Option (List ℕ)) (page page' : ArrayVec ℕ) (written : ℕ) (text more : List ℕ)
+    → page'.items ≡ page.items ++ more → Pages start now page written text → Pages start now page' written (text ++ more)
 pages-more start now page page' written text more put pages = record {
   sent = pages.sent;
   out = pages.out;
   count = pages.count;
-  whole = ap (λ t. t ++ more) pages.whole ∙ append_assoc pages.sent page more ∙ ap (λ t. pages.sent ++ t) (sym put);
+  whole = ap (λ t. t ++ more) pages.whole ∙ append_assoc pages.sent page.items more ∙ ap (λ t. pages.sent ++ t) (sym put);
 }
 
 -- likewise what is printed on it
@@ -35,11 +36,11 @@ cuts-more start now text more sent cut = record {
 }
 
 -- after an empty page the whole text went out
-pub pages-whole : (start now : Option (List ℕ)) (page : List ℕ) (written : ℕ) (text : List ℕ) → length page ≡ 0 →
+pub pages-whole : (start now : Option (List ℕ)) (page : ArrayVec ℕ) (written : ℕ) (text : List ℕ) → array_vec_len page ≡ 0 →
     Pages start now page written text → Appends start now text × (written ≡ length text)
 pages-whole start now page written text none pages =
     let whole : text ≡ pages.sent =
-    pages.whole ∙ (ap (λ l. pages.sent ++ l) (nothing page none) ∙ append-nil pages.sent) in
+    pages.whole ∙ (ap (λ l. pages.sent ++ l) (nothing page.items none) ∙ append-nil pages.sent) in
     (subst (Appends start now) (sym whole) pages.out, pages.count ∙ ap length (sym whole))
   where
     nothing : (l : List ℕ) → length l ≡ 0 → l ≡ []
@@ -56,7 +57,7 @@ whole-cut start now text sent whole = record {
 }
 
 -- less went out than the text has
-pub cut-short : (start now : Option (List ℕ)) (page : List ℕ) (written : ℕ) (text : List ℕ) (sent : ℕ) →
-    Pages start now page written text → sent < written + length page → sent < length text
+pub cut-short : (start now : Option (List ℕ)) (page : ArrayVec ℕ) (written : ℕ) (text : List ℕ) (sent : ℕ) →
+    Pages start now page written text → sent < written + array_vec_len page → sent < length text
 cut-short start now page written text sent pages less =
-    omega (arith, less, pages.count, ap length pages.whole, length-append pages.sent page)
+    omega (arith, less, pages.count, ap length pages.whole, length-append pages.sent page.items)

@@ -1,13 +1,15 @@
 //! What the head of a frame says.
 
 ghost use Rattle.std.specs.Prelude.{◌≡◌, ◌+◌, ◌≤◌, length};
+ghost use Rattle.arrayvec.specs.ArrayVec.{array_vec_len};
 ghost use Rattle.bus_dictionary.specs.Dictionary.{entry_at};
 ghost use Rattle.bus_text.specs.HeadText.{name_of, typed_text, head_text};
 ghost use Rattle.bus_text.specs.Adds.{Adds};
 
 use crate::line::push_station;
 use crate::number::push_octet_number;
-use crate::text::Text;
+use crate::text::push_octets;
+use arrayvec::ArrayVec;
 use bus_dictionary::{Dictionary, Standing};
 
 /// The name of a type that the dictionary has.
@@ -24,24 +26,24 @@ fn type_name(dictionary: &Dictionary, ftype: u8) -> &str
 
 /// Appends a station, a type, and what is said of them.
 #[inline(always)]
-fn push_typed<const N: usize>(text: &mut Text<N>, station: u8, ftype: u8, what: &str)
-    requires room { length text.old + 65 ≤ N }
+fn push_typed<const N: usize>(text: &mut ArrayVec<u8, N>, station: u8, ftype: u8, what: &str)
+    requires room { array_vec_len text.old + 61 ≤ N }
     requires short { length what.now ≤ 40 }
     ensures { Adds text.old (typed_text station ftype what.now) 61 text.new }
 {
     push_station(text, station, ftype);
     text.push(b' ');
-    text.push_str(what);
+    push_octets(text, what.as_bytes());
 }
 
 /// Appends what the head of a frame says.
 #[inline(always)]
 pub(crate) fn push_head<const N: usize>(
-    text: &mut Text<N>,
+    text: &mut ArrayVec<u8, N>,
     standing: Standing,
     dictionary: &Dictionary,
 )
-    requires { length text.old + 65 ≤ N }
+    requires { array_vec_len text.old + 61 ≤ N }
     ensures { Adds text.old (head_text standing dictionary.now) 61 text.new }
 {
     match standing {
@@ -51,9 +53,9 @@ pub(crate) fn push_head<const N: usize>(
         Standing::Unknown { station, ftype } => push_typed(text, station, ftype, "unknown"),
         Standing::WrongLength { station, ftype } => push_typed(text, station, ftype, "length"),
         Standing::OtherControl { control, .. } => {
-            text.put(*b"control ", 8);
+            push_octets(text, b"control ");
             push_octet_number(text, control);
         }
-        Standing::Untyped { .. } => text.put(*b"untyped ", 7),
+        Standing::Untyped { .. } => push_octets(text, b"untyped"),
     }
 }

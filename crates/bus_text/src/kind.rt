@@ -58,28 +58,6 @@ impl Kind {
         KINDS.iter().find(|kind| kind.word() == word).copied()
     }
 
-    /// How lines of this kind name it, with a space after it, and how many octets these are.
-    #[inline(always)]
-    pub(crate) fn padded(self) -> ([u8; 16], usize)
-        ensures word { take result.1 result.0 ≡ kind_word self ++ codes " " }
-        ensures count { result.1 ≤ 9 }
-    {
-        match self {
-            Kind::Frame => (*b"frame           ", 6),
-            Kind::Damaged => (*b"damaged         ", 8),
-            Kind::Overlong => (*b"overlong        ", 9),
-            Kind::Abort => (*b"abort           ", 6),
-            Kind::Idle => (*b"idle            ", 5),
-            Kind::Stray => (*b"stray           ", 6),
-            Kind::Answered => (*b"answered        ", 9),
-            Kind::Missing => (*b"missing         ", 8),
-            Kind::Spoilt => (*b"spoilt          ", 7),
-            Kind::Late => (*b"late            ", 5),
-            Kind::Begun => (*b"open            ", 5),
-            Kind::Pending => (*b"pending         ", 8),
-        }
-    }
-
     /// How lines of this kind name it.
     pub(crate) fn word(self) -> &'static str
         ensures word { result.now ≡ kind_word self }

@@ -32,4 +32,3 @@ pub use put::{ShortWrite, put_text};
 pub use report::{put_kept, put_summary, put_tally};
 pub use show::show_frame;
 pub use summary::Summary;
-pub use text::Text;

@@ -1,6 +1,7 @@
 //! Parts of lines.
 
 ghost use Rattle.std.specs.Prelude.{◌+◌, ◌++◌, ◌≤◌, length};
+ghost use Rattle.arrayvec.specs.ArrayVec.{array_vec_len};
 ghost use Rattle.bus_line.specs.Limits.{most_octets};
 ghost use Rattle.bus_line.specs.Shown.{kind_with, reported, span_of};
 ghost use Rattle.bus_text.specs.Listing.{cause_word, line_number, span_text, report_word};
@@ -10,42 +11,43 @@ ghost use Rattle.bus_text.specs.Adds.{Adds};
 use crate::hex_digits::push_hex;
 use crate::number::push_octet_number;
 use crate::places::Places;
-use crate::text::Text;
+use crate::text::push_octets;
+use arrayvec::ArrayVec;
 use bus_line::{Cause, Event, EventKind, Span};
 use bus_talk::Line;
 
 /// A line of a frame that is shown; the longest is shorter.
-pub(crate) type FrameLine = Text<640>;
+pub(crate) type FrameLine = ArrayVec<u8, 640>;
 
 /// Appends a station and a type.
 #[inline(always)]
-pub(crate) fn push_station<const N: usize>(text: &mut Text<N>, station: u8, ftype: u8)
-    requires { length text.old + 24 ≤ N }
+pub(crate) fn push_station<const N: usize>(text: &mut ArrayVec<u8, N>, station: u8, ftype: u8)
+    requires { array_vec_len text.old + 20 ≤ N }
     ensures { Adds text.old (station_text station ftype) 20 text.new }
 {
-    text.put(*b"station ", 8);
+    push_octets(text, b"station ");
     push_octet_number(text, station);
-    text.put(*b" type   ", 6);
+    push_octets(text, b" type ");
     push_octet_number(text, ftype);
 }
 
 /// Appends the number of one of two lines, followed by a space; of the only line nothing is said.
 #[inline(always)]
-pub(crate) fn push_line_number<const N: usize>(text: &mut Text<N>, line: Option<Line>)
-    requires { length text.old + 2 ≤ N }
+pub(crate) fn push_line_number<const N: usize>(text: &mut ArrayVec<u8, N>, line: Option<Line>)
+    requires { array_vec_len text.old + 2 ≤ N }
     ensures { Adds text.old (line_number line) 2 text.new }
 {
     match line {
         None => {}
-        Some(Line::First) => text.put(*b"1 ", 2),
-        Some(Line::Second) => text.put(*b"2 ", 2),
+        Some(Line::First) => push_octets(text, b"1 "),
+        Some(Line::Second) => push_octets(text, b"2 "),
     }
 }
 
 /// Appends two places, each followed by a space.
 #[inline(always)]
-pub(crate) fn push_span<const N: usize>(text: &mut Text<N>, places: &mut Places, span: Span)
-    requires { length text.old + 48 ≤ N }
+pub(crate) fn push_span<const N: usize>(text: &mut ArrayVec<u8, N>, places: &mut Places, span: Span)
+    requires { array_vec_len text.old + 42 ≤ N }
     ensures { Adds text.old (span_text span) 42 text.new }
 {
     places.push(text, span.first);
@@ -54,37 +56,37 @@ pub(crate) fn push_span<const N: usize>(text: &mut Text<N>, places: &mut Places,
 
 /// Appends why a piece is damaged, in one word.
 #[inline(never)]
-fn push_cause<const N: usize>(text: &mut Text<N>, cause: Cause)
-    requires { length text.old + 16 ≤ N }
+fn push_cause<const N: usize>(text: &mut ArrayVec<u8, N>, cause: Cause)
+    requires { array_vec_len text.old + 9 ≤ N }
     ensures { Adds text.old (cause_word cause) 9 text.new }
 {
     match cause {
-        Cause::Unstuffed => text.put(*b"unstuffed       ", 9),
-        Cause::Short => text.put(*b"short   ", 5),
-        Cause::Unaligned => text.put(*b"unaligned       ", 9),
-        Cause::Fcs => text.put(*b"fcs ", 3),
+        Cause::Unstuffed => push_octets(text, b"unstuffed"),
+        Cause::Short => push_octets(text, b"short"),
+        Cause::Unaligned => push_octets(text, b"unaligned"),
+        Cause::Fcs => push_octets(text, b"fcs"),
     }
 }
 
 /// Appends what a report is, a frame with these octets.
 #[inline(always)]
-fn push_word<const N: usize>(text: &mut Text<N>, kind: EventKind, octets: &[u8])
-    requires room { length text.old + 524 ≤ N }
+fn push_word<const N: usize>(text: &mut ArrayVec<u8, N>, kind: EventKind, octets: &[u8])
+    requires room { array_vec_len text.old + 522 ≤ N }
     requires held { length octets.now ≤ most_octets }
     ensures { Adds text.old (report_word (kind_with octets.now kind)) 522 text.new }
 {
     match kind {
         EventKind::Frame => {
-            text.put(*b"frame   ", 6);
+            push_octets(text, b"frame ");
             push_hex(text, octets);
         }
         EventKind::Damaged(cause) => {
-            text.put(*b"damaged ", 8);
+            push_octets(text, b"damaged ");
             push_cause(text, cause);
         }
-        EventKind::Overlong => text.put(*b"overlong", 8),
-        EventKind::Abort => text.put(*b"abort   ", 5),
-        EventKind::Idle => text.put(*b"idle", 4),
+        EventKind::Overlong => push_octets(text, b"overlong"),
+        EventKind::Abort => push_octets(text, b"abort"),
+        EventKind::Idle => push_octets(text, b"idle"),
     }
 }
 
@@ -92,12 +94,12 @@ fn push_word<const N: usize>(text: &mut Text<N>, kind: EventKind, octets: &[u8])
 /// line.
 #[inline(always)]
 pub(crate) fn push_front<const N: usize>(
-    text: &mut Text<N>,
+    text: &mut ArrayVec<u8, N>,
     places: &mut Places,
     event: &Event,
     octets: &[u8],
 )
-    requires room { length text.old + 566 ≤ N }
+    requires room { array_vec_len text.old + 564 ≤ N }
     requires held { length octets.now ≤ most_octets }
     ensures { Adds text.old
         (span_text (span_of (reported octets.now event.now)) ++ report_word (reported octets.now event.now).kind)

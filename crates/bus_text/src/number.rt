@@ -1,72 +1,34 @@
 //! Numbers in decimal.
 
-ghost use Rattle.std.specs.Prelude.{◌≡◌, ◌+◌, ◌≤◌, length, take, decimal};
+ghost use Rattle.std.specs.Prelude.{◌+◌, ◌≤◌, decimal};
+ghost use Rattle.arrayvec.specs.ArrayVec.{array_vec_len};
 ghost use Rattle.bus_text.specs.Adds.{Adds};
 
-use crate::text::Text;
+use crate::text::push_octets;
+use arrayvec::ArrayVec;
 use itoa::Buffer;
 
-/// By octet: its digits, the first lowest, and in the highest octet how many there are.
-const OCTETS: [u32; 256] = [
-    0x01000030, 0x01000031, 0x01000032, 0x01000033, 0x01000034, 0x01000035, 0x01000036, 0x01000037,
-    0x01000038, 0x01000039, 0x02003031, 0x02003131, 0x02003231, 0x02003331, 0x02003431, 0x02003531,
-    0x02003631, 0x02003731, 0x02003831, 0x02003931, 0x02003032, 0x02003132, 0x02003232, 0x02003332,
-    0x02003432, 0x02003532, 0x02003632, 0x02003732, 0x02003832, 0x02003932, 0x02003033, 0x02003133,
-    0x02003233, 0x02003333, 0x02003433, 0x02003533, 0x02003633, 0x02003733, 0x02003833, 0x02003933,
-    0x02003034, 0x02003134, 0x02003234, 0x02003334, 0x02003434, 0x02003534, 0x02003634, 0x02003734,
-    0x02003834, 0x02003934, 0x02003035, 0x02003135, 0x02003235, 0x02003335, 0x02003435, 0x02003535,
-    0x02003635, 0x02003735, 0x02003835, 0x02003935, 0x02003036, 0x02003136, 0x02003236, 0x02003336,
-    0x02003436, 0x02003536, 0x02003636, 0x02003736, 0x02003836, 0x02003936, 0x02003037, 0x02003137,
-    0x02003237, 0x02003337, 0x02003437, 0x02003537, 0x02003637, 0x02003737, 0x02003837, 0x02003937,
-    0x02003038, 0x02003138, 0x02003238, 0x02003338, 0x02003438, 0x02003538, 0x02003638, 0x02003738,
-    0x02003838, 0x02003938, 0x02003039, 0x02003139, 0x02003239, 0x02003339, 0x02003439, 0x02003539,
-    0x02003639, 0x02003739, 0x02003839, 0x02003939, 0x03303031, 0x03313031, 0x03323031, 0x03333031,
-    0x03343031, 0x03353031, 0x03363031, 0x03373031, 0x03383031, 0x03393031, 0x03303131, 0x03313131,
-    0x03323131, 0x03333131, 0x03343131, 0x03353131, 0x03363131, 0x03373131, 0x03383131, 0x03393131,
-    0x03303231, 0x03313231, 0x03323231, 0x03333231, 0x03343231, 0x03353231, 0x03363231, 0x03373231,
-    0x03383231, 0x03393231, 0x03303331, 0x03313331, 0x03323331, 0x03333331, 0x03343331, 0x03353331,
-    0x03363331, 0x03373331, 0x03383331, 0x03393331, 0x03303431, 0x03313431, 0x03323431, 0x03333431,
-    0x03343431, 0x03353431, 0x03363431, 0x03373431, 0x03383431, 0x03393431, 0x03303531, 0x03313531,
-    0x03323531, 0x03333531, 0x03343531, 0x03353531, 0x03363531, 0x03373531, 0x03383531, 0x03393531,
-    0x03303631, 0x03313631, 0x03323631, 0x03333631, 0x03343631, 0x03353631, 0x03363631, 0x03373631,
-    0x03383631, 0x03393631, 0x03303731, 0x03313731, 0x03323731, 0x03333731, 0x03343731, 0x03353731,
-    0x03363731, 0x03373731, 0x03383731, 0x03393731, 0x03303831, 0x03313831, 0x03323831, 0x03333831,
-    0x03343831, 0x03353831, 0x03363831, 0x03373831, 0x03383831, 0x03393831, 0x03303931, 0x03313931,
-    0x03323931, 0x03333931, 0x03343931, 0x03353931, 0x03363931, 0x03373931, 0x03383931, 0x03393931,
-    0x03303032, 0x03313032, 0x03323032, 0x03333032, 0x03343032, 0x03353032, 0x03363032, 0x03373032,
-    0x03383032, 0x03393032, 0x03303132, 0x03313132, 0x03323132, 0x03333132, 0x03343132, 0x03353132,
-    0x03363132, 0x03373132, 0x03383132, 0x03393132, 0x03303232, 0x03313232, 0x03323232, 0x03333232,
-    0x03343232, 0x03353232, 0x03363232, 0x03373232, 0x03383232, 0x03393232, 0x03303332, 0x03313332,
-    0x03323332, 0x03333332, 0x03343332, 0x03353332, 0x03363332, 0x03373332, 0x03383332, 0x03393332,
-    0x03303432, 0x03313432, 0x03323432, 0x03333432, 0x03343432, 0x03353432, 0x03363432, 0x03373432,
-    0x03383432, 0x03393432, 0x03303532, 0x03313532, 0x03323532, 0x03333532, 0x03343532, 0x03353532,
-];
-
 /// Appends a number in decimal.
-pub(crate) fn push_number<const N: usize>(text: &mut Text<N>, n: u64)
-    requires { length text.old + 20 ≤ N }
+pub(crate) fn push_number<const N: usize>(text: &mut ArrayVec<u8, N>, n: u64)
+    requires { array_vec_len text.old + 20 ≤ N }
     ensures { Adds text.old (decimal n) 20 text.new }
 {
     let mut buffer = Buffer::new();
-    text.push_str(buffer.format(n));
+    push_octets(text, buffer.format(n).as_bytes());
 }
 
 /// Appends the number that an octet is, in decimal.
 #[inline(always)]
-pub(crate) fn push_octet_number<const N: usize>(text: &mut Text<N>, octet: u8)
-    requires { length text.old + 4 ≤ N }
+pub(crate) fn push_octet_number<const N: usize>(text: &mut ArrayVec<u8, N>, octet: u8)
+    requires { array_vec_len text.old + 3 ≤ N }
     ensures { Adds text.old (decimal octet) 3 text.new }
 {
-    let (digits, count) = digits_of(octet);
-    text.put(digits, count);
-}
-
-/// The digits of the number that an octet is, and how many they are.
-#[inline(always)]
-fn digits_of(octet: u8) -> ([u8; 4], usize)
-    ensures digits { take result.1 result.0 ≡ decimal octet }
-    ensures count { result.1 ≤ 3 }
-{
-    let digits = OCTETS[usize::from(octet)];
-    (digits.to_le_bytes(), (digits >> 24) as usize)
+    let last = b'0' + octet % 10;
+    if octet < 10 {
+        text.push(last);
+    } else if octet < 100 {
+        push_octets(text, &[b'0' + octet / 10, last]);
+    } else {
+        push_octets(text, &[b'0' + octet / 100, b'0' + octet / 10 % 10, last]);
+    }
 }

@@ -3,12 +3,13 @@
 ghost use Rattle.std.specs.Prelude.{◌≡◌, ◌+◌, ◌<◌, ◌≤◌, ◌^◌, ℕ, List, [], Option, MatchResult, OnOk, OnErr, IfErr};
 ghost use Rattle.std.specs.Prelude.{length};
 ghost use Rattle.std.specs.Io.KnownBytes.{Appends};
+ghost use Rattle.arrayvec.specs.ArrayVec.{array_vec_len};
 ghost use Rattle.bus_text.specs.Put.{Cuts};
 ghost use Rattle.bus_text.specs.Pages.{HasRoomFor, Pages};
 
 use crate::places::Places;
 use crate::put::{ShortWrite, put_text};
-use crate::text::Text;
+use arrayvec::ArrayVec;
 use std::io::Write;
 
 /// The room of a page, in octets.
@@ -21,7 +22,7 @@ const MOST: usize = 2048;
 #[derive(Drop)]
 pub struct Page {
     /// The lines that are not written yet.
-    pub text: Text<ROOM>,
+    pub text: ArrayVec<u8, ROOM>,
     /// How many octets were written before them.
     pub written: u128,
     /// What the places in them are written by.
@@ -32,10 +33,10 @@ impl Page {
     /// An empty page, before which nothing was written.
     pub fn new() -> Self
         ensures blank { (start : Option (List ℕ)) → Pages start start result.text result.written [] }
-        ensures none { (result.written ≡ 0) × (length result.text ≡ 0) }
+        ensures none { (result.written ≡ 0) × (array_vec_len result.text ≡ 0) }
     {
         Page {
-            text: Text::new(),
+            text: ArrayVec::new(),
             written: 0,
             places: Places::new(),
         }
@@ -50,11 +51,11 @@ impl Page {
             (λ _. Pages start (W.contents w.new) self.new.text self.new.written text)
             (λ cut. Cuts start (W.contents w.new) text cut.sent) }
         ensures kept { OnErr result (self.new ≡ self.old) }
-        ensures short { IfErr result (λ cut. cut.sent < self.old.written + length self.old.text) }
-        ensures empty { OnOk result (length self.new.text ≡ 0) }
-        ensures sum { OnOk result (self.new.written ≡ self.old.written + length self.old.text) }
+        ensures short { IfErr result (λ cut. cut.sent < self.old.written + array_vec_len self.old.text) }
+        ensures empty { OnOk result (array_vec_len self.new.text ≡ 0) }
+        ensures sum { OnOk result (self.new.written ≡ self.old.written + array_vec_len self.old.text) }
     {
-        if let Err(cut) = put_text(w, self.text.as_bytes()) {
+        if let Err(cut) = put_text(w, self.text.as_slice()) {
             return Err(ShortWrite {
                 sent: self.written + cut.sent,
             });
@@ -73,10 +74,10 @@ impl Page {
             (λ _. Pages start (W.contents w.new) self.new.text self.new.written text)
             (λ cut. Cuts start (W.contents w.new) text cut.sent) }
         ensures kept { OnErr result (self.new ≡ self.old) }
-        ensures short { IfErr result (λ cut. cut.sent < self.old.written + length self.old.text) }
+        ensures short { IfErr result (λ cut. cut.sent < self.old.written + array_vec_len self.old.text) }
         ensures room { OnOk result (HasRoomFor 2048 self.new) }
         ensures sum { OnOk result
-            (self.new.written + length self.new.text ≡ self.old.written + length self.old.text) }
+            (self.new.written + array_vec_len self.new.text ≡ self.old.written + array_vec_len self.old.text) }
     {
         if self.text.remaining_capacity() >= MOST {
             return Ok(());
@@ -91,8 +92,8 @@ impl Page {
             Pages start (W.contents w.old) self.old.text self.old.written text → MatchResult result
             (λ _. Appends start (W.contents w.new) text)
             (λ cut. Cuts start (W.contents w.new) text cut.sent) }
-        ensures empty { OnOk result (length self.new.text ≡ 0) }
-        ensures sum { OnOk result (self.new.written ≡ self.old.written + length self.old.text) }
+        ensures empty { OnOk result (array_vec_len self.new.text ≡ 0) }
+        ensures sum { OnOk result (self.new.written ≡ self.old.written + array_vec_len self.old.text) }
     {
         self.write_out(w)?;
         if self.written == 0 {

@@ -1,69 +1,59 @@
 //! Places in decimal, one after the other.
 
-ghost use Rattle.std.specs.Prelude.{◌≡◌, ◌+◌, ◌*◌, ◌/◌, ◌^◌, ◌++◌, ◌<◌, ◌≤◌, ℕ, length, take, codes, decimal};
-ghost use Rattle.bus_text.specs.Internal.Fronts.{IsFront};
+ghost use Rattle.std.specs.Prelude.{◌≡◌, ◌+◌, ◌*◌, ◌/◌, ◌^◌, ◌++◌, ◌<◌, ◌≤◌, ℕ, length, codes, decimal};
+ghost use Rattle.arrayvec.specs.ArrayVec.{array_vec_len};
 ghost use Rattle.bus_text.specs.Adds.{Adds};
 
 use crate::number::push_number;
-use crate::text::Text;
-use itoa::Buffer;
+use crate::text::push_octets;
+use arrayvec::ArrayVec;
 use std::marker::Model;
 
-/// Two digits of each number below 100, the tens lowest.
-const PAIRS: [u16; 100] = [
-    0x3030, 0x3130, 0x3230, 0x3330, 0x3430, 0x3530, 0x3630, 0x3730, 0x3830, 0x3930, 0x3031, 0x3131,
-    0x3231, 0x3331, 0x3431, 0x3531, 0x3631, 0x3731, 0x3831, 0x3931, 0x3032, 0x3132, 0x3232, 0x3332,
-    0x3432, 0x3532, 0x3632, 0x3732, 0x3832, 0x3932, 0x3033, 0x3133, 0x3233, 0x3333, 0x3433, 0x3533,
-    0x3633, 0x3733, 0x3833, 0x3933, 0x3034, 0x3134, 0x3234, 0x3334, 0x3434, 0x3534, 0x3634, 0x3734,
-    0x3834, 0x3934, 0x3035, 0x3135, 0x3235, 0x3335, 0x3435, 0x3535, 0x3635, 0x3735, 0x3835, 0x3935,
-    0x3036, 0x3136, 0x3236, 0x3336, 0x3436, 0x3536, 0x3636, 0x3736, 0x3836, 0x3936, 0x3037, 0x3137,
-    0x3237, 0x3337, 0x3437, 0x3537, 0x3637, 0x3737, 0x3837, 0x3937, 0x3038, 0x3138, 0x3238, 0x3338,
-    0x3438, 0x3538, 0x3638, 0x3738, 0x3838, 0x3938, 0x3039, 0x3139, 0x3239, 0x3339, 0x3439, 0x3539,
-    0x3639, 0x3739, 0x3839, 0x3939,
+/// The two digits of each number below 100.
+static PAIRS: [[u8; 2]; 100] = [
+    *b"00", *b"01", *b"02", *b"03", *b"04", *b"05", *b"06", *b"07", *b"08", *b"09", *b"10", *b"11",
+    *b"12", *b"13", *b"14", *b"15", *b"16", *b"17", *b"18", *b"19", *b"20", *b"21", *b"22", *b"23",
+    *b"24", *b"25", *b"26", *b"27", *b"28", *b"29", *b"30", *b"31", *b"32", *b"33", *b"34", *b"35",
+    *b"36", *b"37", *b"38", *b"39", *b"40", *b"41", *b"42", *b"43", *b"44", *b"45", *b"46", *b"47",
+    *b"48", *b"49", *b"50", *b"51", *b"52", *b"53", *b"54", *b"55", *b"56", *b"57", *b"58", *b"59",
+    *b"60", *b"61", *b"62", *b"63", *b"64", *b"65", *b"66", *b"67", *b"68", *b"69", *b"70", *b"71",
+    *b"72", *b"73", *b"74", *b"75", *b"76", *b"77", *b"78", *b"79", *b"80", *b"81", *b"82", *b"83",
+    *b"84", *b"85", *b"86", *b"87", *b"88", *b"89", *b"90", *b"91", *b"92", *b"93", *b"94", *b"95",
+    *b"96", *b"97", *b"98", *b"99",
 ];
 
 /// What places are written by: from one place to the next all digits but the last four seldom change, so they are kept.
 #[derive(Drop)]
 pub struct Places {
-    front: Front,
-}
-
-/// The digits of ten thousand places that only their last four tell apart.
-#[derive(Drop)]
-struct Front {
-    /// The first of these places.
+    /// The first of the ten thousand places that only their last four digits tell apart.
     base: u64,
-    digits: [u8; 16],
-    count: usize,
+    /// One of them, and a space.
+    text: ArrayVec<u8, 21>,
 }
 
 impl Model for Places {
     ghost use Rattle.std.specs.Prelude.{ℕ};
-    ghost use Rattle.bus_text.specs.Internal.Fronts.{IsFront};
+    ghost use Rattle.bus_text.specs.Internal.Fronts.{IsFrom};
 
-    ghost Value = { Unit {0} };
+    ghost Value = { ℕ };
 
-    ghost view = { λ places. tt };
+    ghost view = { λ places. places.base };
 
-    ghost invariant = { λ places. (number : ℕ) × IsFront places.front number };
+    ghost invariant = { λ places. IsFrom places.base places.text.items };
 }
 
 impl Places {
     /// What no place was written by.
     pub fn new() -> Self {
-        Places {
-            front: Front {
-                base: 10000,
-                digits: [b'1'; 16],
-                count: 1,
-            },
-        }
+        let mut text = ArrayVec::new();
+        push_octets(&mut text, b"10000 ");
+        Places { base: 10000, text }
     }
 
     /// Appends a place and a space.
     #[inline(always)]
-    pub fn push<const N: usize>(&mut self, text: &mut Text<N>, place: u64)
-        requires { length text.old + 24 ≤ N }
+    pub fn push<const N: usize>(&mut self, text: &mut ArrayVec<u8, N>, place: u64)
+        requires { array_vec_len text.old + 21 ≤ N }
         ensures { Adds text.old (decimal place ++ codes " ") 21 text.new }
     {
         if place < 10000 {
@@ -71,55 +61,56 @@ impl Places {
             text.push(b' ');
             return;
         }
-        let rest = turn_to(&mut self.front, place);
-        text.put(self.front.digits, self.front.count);
-        text.put(last_four(rest), 5);
+        self.turn_to(place);
+        set_last_four(self.text.as_mut_slice(), place - self.base);
+        push_octets(text, self.text.as_slice());
+    }
+
+    /// Keeps another place, where more than the last four digits differ.
+    #[inline(always)]
+    fn turn_to(&mut self, place: u64)
+        requires { 10000 ≤ place }
+        ensures { self.new ≡ 10000 * (place / 10000) }
+    {
+        if place.wrapping_sub(self.base) >= 10000 {
+            self.renew(place);
+        }
+    }
+
+    /// Works out the digits of another place.
+    #[inline(never)]
+    fn renew(&mut self, place: u64)
+        requires { 10000 ≤ place }
+        ensures { self.new ≡ 10000 * (place / 10000) }
+    {
+        self.base = place - place % 10000;
+        self.text.clear();
+        push_number(&mut self.text, place);
+        self.text.push(b' ');
     }
 }
 
-/// Makes it the front of a place, if it is another's, and returns what the last four digits are.
+/// Writes the last four digits of a place, after which there is a space.
 #[inline(always)]
-fn turn_to(front: &mut Front, place: u64) -> u64
-    requires kept { (number : ℕ) × IsFront front.old number }
-    requires long { 10000 ≤ place }
-    ensures turned { IsFront front.new (place / 10000) }
-    ensures rest { 10000 * (place / 10000) + result ≡ place }
+fn set_last_four(text: &mut [u8], n: u64)
+    requires last { n < 10000 }
+    requires long { 5 ≤ length text.old }
+    ensures { (place : ℕ) → 10000 ≤ place → place < 2 ^ 64 →
+        10000 * (place / 10000) + n < 2 ^ 64 → text.old ≡ decimal place ++ codes " " →
+        text.new ≡ decimal (10000 * (place / 10000) + n) ++ codes " " }
 {
-    let rest = place.wrapping_sub(front.base);
-    if rest < 10000 {
-        return rest;
-    }
-    renew(front, place / 10000);
-    place % 10000
+    let end = text.len() - 1;
+    text[end - 4..end].copy_from_slice(&last_four(n));
 }
 
-/// Works out the digits of a number.
-#[inline(never)]
-fn renew(front: &mut Front, number: u64)
-    requires some { 1 ≤ number }
-    requires few { 10000 * number < 2 ^ 64 }
-    ensures { IsFront front.new number }
-{
-    let mut buffer = Buffer::new();
-    let text = buffer.format(number).as_bytes();
-    let count = text.len();
-    let mut digits = [b'0'; 16];
-    digits[..count].copy_from_slice(text);
-    *front = Front {
-        base: 10000 * number,
-        digits,
-        count,
-    };
-}
-
-/// The last four digits of a number and a space, in the first five octets.
+/// The last four digits of a number.
 #[inline(always)]
-fn last_four(n: u64) -> [u8; 8]
+fn last_four(n: u64) -> [u8; 4]
     requires { n < 10000 }
     ensures { (front : ℕ) → 0 < front → 10000 * front + n < 2 ^ 64 →
-        decimal front ++ take 5 result ≡ decimal (10000 * front + n) ++ codes " " }
+        decimal front ++ result ≡ decimal (10000 * front + n) }
 {
-    let high = u64::from(PAIRS[(n / 100) as usize]);
-    let low = u64::from(PAIRS[(n % 100) as usize]);
-    (high + (low << 16) + (0x20 << 32)).to_le_bytes()
+    let [thousands, hundreds] = PAIRS[(n / 100) as usize];
+    let [tens, ones] = PAIRS[(n % 100) as usize];
+    [thousands, hundreds, tens, ones]
 }

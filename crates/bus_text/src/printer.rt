@@ -2,6 +2,7 @@
 
 ghost use Rattle.std.specs.Prelude.{◌≡◌, ◌+◌, ℕ, List, [], ◌∷◌, ◌++◌, ◌≤◌, length, option_map, codes};
 ghost use Rattle.std.specs.Option.{option_to_list};
+ghost use Rattle.arrayvec.specs.ArrayVec.{array_vec_len};
 ghost use Rattle.bus_line.specs.Limits.{most_octets};
 ghost use Rattle.bus_line.specs.Shown.{kind_with};
 ghost use Rattle.bus_talk.specs.Shown.{found_on};
@@ -20,7 +21,8 @@ use crate::kind::Kind;
 use crate::line::{push_front, push_line_number, push_span, push_station};
 use crate::options::Options;
 use crate::page::Page;
-use crate::text::Text;
+use crate::text::push_octets;
+use arrayvec::ArrayVec;
 use bus_dictionary::{Dictionary, Standing};
 use bus_line::{EventKind, Span};
 use bus_talk::{Ending, Finding, Line, Outcome, PairEnding, Pending, Verdict};
@@ -73,12 +75,12 @@ fn line_of_commands(line: Option<Line>) -> Option<Line>
 
 /// Appends the word of a line about a frame, and a space.
 #[inline(always)]
-fn push_kind<const N: usize>(text: &mut Text<N>, kind: Kind)
-    requires { length text.old + 16 ≤ N }
+fn push_kind<const N: usize>(text: &mut ArrayVec<u8, N>, kind: Kind)
+    requires { array_vec_len text.old + 9 ≤ N }
     ensures { Adds text.old (kind_word kind ++ codes " ") 9 text.new }
 {
-    let (word, count) = kind.padded();
-    text.put(word, count);
+    push_octets(text, kind.word().as_bytes());
+    text.push(b' ');
 }
 
 /// Appends a line about a frame.
@@ -102,7 +104,7 @@ fn push_begun(page: &mut Page, line: Option<Line>, span: Span)
 {
     push_line_number(&mut page.text, line);
     push_span(&mut page.text, &mut page.places, span);
-    page.text.push_str(Kind::Begun.word());
+    push_octets(&mut page.text, Kind::Begun.word().as_bytes());
     page.text.push(b'\n');
 }
 

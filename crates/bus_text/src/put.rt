@@ -35,10 +35,10 @@ pub fn put_line<W: Write>(line: &FrameLine, sent: u128, w: &mut W) -> Result<u12
     requires { sent ≤ 2000000 }
     ensures put { (start : Option (List ℕ)) (before : List ℕ) → Appends start (W.contents w.old) before →
         sent ≡ length before
-        → Puts start (W.contents w.new) (before ++ line.now) result }
+        → Puts start (W.contents w.new) (before ++ line.now.items) result }
     ensures few { IfOk result (λ now. now ≤ sent + 640) }
 {
-    let text = line.as_bytes();
+    let text = line.as_slice();
     match put_text(w, text) {
         Ok(()) => Ok(sent + text.len() as u128),
         Err(cut) => Err(ShortWrite {

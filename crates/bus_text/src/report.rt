@@ -2,6 +2,7 @@
 
 ghost use Rattle.std.specs.Prelude.{◌≡◌, ◌+◌, ◌++◌, ◌<◌, ◌≤◌, ◌^◌, ℕ, List, Option, MatchResult, OnOk, length};
 ghost use Rattle.std.specs.Prelude.{decimal};
+ghost use Rattle.arrayvec.specs.ArrayVec.{array_vec_len};
 ghost use Rattle.bus_text.specs.CheckText.{count_text, summary_text, tally_line, has_none, tally_text, last_text};
 ghost use Rattle.bus_text.specs.Put.{Cuts};
 ghost use Rattle.bus_text.specs.Pages.{HasRoomFor, Pages};
@@ -13,60 +14,61 @@ use crate::number::{push_number, push_octet_number};
 use crate::page::Page;
 use crate::put::ShortWrite;
 use crate::summary::Summary;
-use crate::text::Text;
+use crate::text::push_octets;
+use arrayvec::ArrayVec;
 use bus_talk::{Counts, Kept, Line};
 use std::io::Write;
 
 /// Appends a name and a number.
-fn push_named<const N: usize>(text: &mut Text<N>, name: &str, n: u64)
-    requires room { length text.old + 30 ≤ N }
+fn push_named<const N: usize>(text: &mut ArrayVec<u8, N>, name: &[u8], n: u64)
+    requires room { array_vec_len text.old + 30 ≤ N }
     requires short { length name.now ≤ 10 }
     ensures { Adds text.old (name.now ++ decimal n) 30 text.new }
 {
-    text.push_str(name);
+    push_octets(text, name);
     push_number(text, n);
 }
 
 /// Appends a word, a number and the end of the line.
-fn push_count<const N: usize>(text: &mut Text<N>, word: &str, count: u64)
-    requires room { length text.old + 30 ≤ N }
+fn push_count<const N: usize>(text: &mut ArrayVec<u8, N>, word: &[u8], count: u64)
+    requires room { array_vec_len text.old + 30 ≤ N }
     requires short { length word.now ≤ 8 }
     ensures { Adds text.old (count_text word.now count) 30 text.new }
 {
-    text.push_str(word);
+    push_octets(text, word);
     text.push(b' ');
     push_number(text, count);
     text.push(b'\n');
 }
 
 /// Appends the ten counts, a line for each.
-fn push_summary<const N: usize>(text: &mut Text<N>, summary: &Summary)
-    requires { length text.old + 300 ≤ N }
+fn push_summary<const N: usize>(text: &mut ArrayVec<u8, N>, summary: &Summary)
+    requires { array_vec_len text.old + 300 ≤ N }
     ensures { Adds text.old (summary_text summary.now) 300 text.new }
 {
-    push_count(text, "frames", summary.frames);
-    push_count(text, "damaged", summary.damaged);
-    push_count(text, "overlong", summary.overlong);
-    push_count(text, "aborts", summary.aborts);
-    push_count(text, "idles", summary.idles);
-    push_count(text, "strays", summary.strays);
-    push_count(text, "answered", summary.answered);
-    push_count(text, "missing", summary.missing);
-    push_count(text, "spoilt", summary.spoilt);
-    push_count(text, "late", summary.late);
+    push_count(text, b"frames", summary.frames);
+    push_count(text, b"damaged", summary.damaged);
+    push_count(text, b"overlong", summary.overlong);
+    push_count(text, b"aborts", summary.aborts);
+    push_count(text, b"idles", summary.idles);
+    push_count(text, b"strays", summary.strays);
+    push_count(text, b"answered", summary.answered);
+    push_count(text, b"missing", summary.missing);
+    push_count(text, b"spoilt", summary.spoilt);
+    push_count(text, b"late", summary.late);
 }
 
 /// Appends the line of a station's verdicts.
-fn push_tally<const N: usize>(text: &mut Text<N>, station: u8, counts: Counts)
-    requires { length text.old + 140 ≤ N }
+fn push_tally<const N: usize>(text: &mut ArrayVec<u8, N>, station: u8, counts: Counts)
+    requires { array_vec_len text.old + 140 ≤ N }
     ensures { Adds text.old (tally_line station counts) 140 text.new }
 {
-    text.push_str("station ");
+    push_octets(text, b"station ");
     push_octet_number(text, station);
-    push_named(text, " answered ", counts.answered);
-    push_named(text, " missing ", counts.missing);
-    push_named(text, " spoilt ", counts.spoilt);
-    push_named(text, " late ", counts.late);
+    push_named(text, b" answered ", counts.answered);
+    push_named(text, b" missing ", counts.missing);
+    push_named(text, b" spoilt ", counts.spoilt);
+    push_named(text, b" late ", counts.late);
     text.push(b'\n');
 }
 
@@ -75,7 +77,7 @@ fn push_kept(page: &mut Page, line: Option<Line>, kept: &Kept)
     requires { HasRoomFor 572 page.old }
     ensures { Prints page.old (last_text line kept.now.span kept.now.octets.items) 572 page.new }
 {
-    page.text.push_str("last ");
+    push_octets(&mut page.text, b"last ");
     push_line_number(&mut page.text, line);
     push_span(&mut page.text, &mut page.places, kept.span);
     push_hex(&mut page.text, kept.octets.as_slice());
@@ -101,7 +103,7 @@ pub fn put_summary<W: Write>(
         (λ _. Pages start (W.contents w.new) page.new.text page.new.written (text ++ summary_text summary.now))
         (λ cut. Cuts start (W.contents w.new) (text ++ summary_text summary.now) cut.sent) }
     ensures few { OnOk result
-        (page.new.written + length page.new.text ≤ page.old.written + length page.old.text + 300) }
+        (page.new.written + array_vec_len page.new.text ≤ page.old.written + array_vec_len page.old.text + 300) }
 {
     page.make_room(w)?;
     push_summary(&mut page.text, summary);
@@ -121,7 +123,7 @@ pub fn put_tally<W: Write>(
         (λ _. Pages start (W.contents w.new) page.new.text page.new.written (text ++ tally_text station counts))
         (λ cut. Cuts start (W.contents w.new) (text ++ tally_text station counts) cut.sent) }
     ensures few { OnOk result
-        (page.new.written + length page.new.text ≤ page.old.written + length page.old.text + 140) }
+        (page.new.written + array_vec_len page.new.text ≤ page.old.written + array_vec_len page.old.text + 140) }
 {
     if has_none(counts) {
         return Ok(());
@@ -145,7 +147,7 @@ pub fn put_kept<W: Write>(
         (text ++ last_text line kept.now.span kept.now.octets.items))
         (λ cut. Cuts start (W.contents w.new) (text ++ last_text line kept.now.span kept.now.octets.items) cut.sent) }
     ensures few { OnOk result
-        (page.new.written + length page.new.text ≤ page.old.written + length page.old.text + 572) }
+        (page.new.written + array_vec_len page.new.text ≤ page.old.written + array_vec_len page.old.text + 572) }
 {
     page.make_room(w)?;
     push_kept(page, line, kept);

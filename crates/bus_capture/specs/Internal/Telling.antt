@@ -1,5 +1,6 @@
 -- What is known while reports are told one after another.
 use Rattle.std.specs.Prelude.{◌≡◌, ℕ, ◌+◌, ◌*◌, ◌<◌, ◌≤◌, ◌^◌, List, ◌++◌, length, Option, Some, None}
+use Rattle.arrayvec.specs.ArrayVec.{array_vec_len}
 use Rattle.bus_dictionary.specs.Entry.{FrameType}
 use Rattle.bus_talk.specs.Seen.{SeenReport}
 use Rattle.bus_text.specs.Counting.{IsFew}
@@ -26,10 +27,10 @@ pub record Tells (d : List FrameType) (old : Teller) (before : Option (List ℕ)
   pub counted : (all : List SeenReport) → old.summary ≡ summary_of all → new.cut ≡ None
       → new.summary ≡ summary_of (all ++ seen)
   pub few : (most : ℕ) → IsFew most old.summary → IsFew (most + length seen) new.summary
-  pub octets : new.page.written + length new.page.text ≤ old.page.written + length old.page.text + 1024 * length seen
+  pub octets : new.page.written + array_vec_len new.page.text ≤ old.page.written + array_vec_len old.page.text + 1024 * length seen
 
 -- so many reports more can be told
 abbrev pub HasRoom : Teller → ℕ → Type 0
 HasRoom t more =
     ((most : ℕ) × IsFew most t.summary × (most + more < 2 ^ 62))
-    × (t.page.written + length t.page.text + 1024 * more < 2 ^ 100)
+    × (t.page.written + array_vec_len t.page.text + 1024 * more < 2 ^ 100)

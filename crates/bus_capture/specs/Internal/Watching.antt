@@ -1,5 +1,6 @@
 -- What is known while the bits of a capture are followed, or its pairs of bits.
 use Rattle.std.specs.Prelude.{◌≡◌, ℕ, ◌+◌, ◌-◌, ◌*◌, ◌<◌, ◌≤◌, List, [], ◌++◌, length, take, Option, Some, None}
+use Rattle.arrayvec.specs.ArrayVec.{array_vec_len}
 use Rattle.bus_bits.specs.Limits.{most_places}
 use Rattle.bus_dictionary.specs.Entry.{FrameType}
 use Rattle.bus_dictionary.specs.Dictionary.{longest_of}
@@ -48,7 +49,7 @@ module _ {A X N B : Type 0} (t : TapView A X N B) where
   pub record IsSound (run : CaptureRun A) : Type 0 where
     pub places : t.watch.place run.analyser ≤ most_places
     pub counts : IsFew (2 * t.watch.place run.analyser) run.teller.summary
-    pub octets : run.teller.page.written + length run.teller.page.text ≤ 2048 * t.watch.place run.analyser
+    pub octets : run.teller.page.written + array_vec_len run.teller.page.text ≤ 2048 * t.watch.place run.analyser
 
   -- the lines of these bits
   abbrev pub lines : CaptureRun A → List X → List ℕ

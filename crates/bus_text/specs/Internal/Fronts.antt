@@ -1,10 +1,10 @@
--- The digits of a place before its last four.
-use Rattle.std.specs.Prelude.{◌≡◌, ◌*◌, ◌≤◌, ℕ, take, decimal}
-use Rattle.bus_text.specs.declared.places.Front.{Front}
+-- The place of which the digits are kept.
+use Rattle.std.specs.Prelude.{◌≡◌, ◌*◌, ◌/◌, ◌^◌, ◌<◌, ◌≤◌, ◌++◌, ℕ, List, codes, decimal}
 
--- they are kept for ten thousand places, of which the first is `base`
-pub record IsFront (front : Front) (number : ℕ) : Type 0 where
-  pub base : front.base ≡ 10000 * number
-  pub some : 1 ≤ number
-  pub digits : take front.count front.digits ≡ decimal number
-  pub room : front.count ≤ 16
+-- a text is one of the ten thousand places from `base` on, and a space
+pub record IsFrom (base : ℕ) (text : List ℕ) : Type 0 where
+  pub place : ℕ
+  pub same : base ≡ 10000 * (place / 10000)
+  pub long : 10000 ≤ place
+  pub fits : place < 2 ^ 64
+  pub whole : text ≡ decimal place ++ codes " "

@@ -10,17 +10,18 @@ ghost use Rattle.bus_text.specs.Pages.{Puts};
 use crate::line::FrameLine;
 use crate::number::push_number;
 use crate::put::{ShortWrite, put_line};
+use crate::text::push_octets;
 use bus_dictionary::{BitName, NameWalk};
 use std::io::Write;
 
 /// The line of a named bit.
 fn name_line(bit: &BitName) -> FrameLine
-    ensures { result ≡ name_text (named_bit bit.now) }
+    ensures { result.items ≡ name_text (named_bit bit.now) }
 {
     let mut line = FrameLine::new();
     push_number(&mut line, u64::from(bit.at));
     line.push(b' ');
-    line.push_str(bit.name.as_str());
+    push_octets(&mut line, bit.name.as_str().as_bytes());
     line.push(b'\n');
     line
 }

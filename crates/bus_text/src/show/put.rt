@@ -12,6 +12,7 @@ use crate::hex_digits::push_hex;
 use crate::line::FrameLine;
 use crate::put::{ShortWrite, put_line};
 use crate::show::names::put_names;
+use crate::text::push_octets;
 use bus_dictionary::{Dictionary, Standing, set_names};
 use bus_fcs::{OctetCheck, fcs_is_good};
 use std::io::Write;
@@ -20,22 +21,22 @@ use std::io::Write;
 fn frame_line(octets: &[u8]) -> FrameLine
     requires at_least { 4 ≤ length octets.now }
     requires at_most { length octets.now ≤ most_octets }
-    ensures { result ≡ frame_text octets.now }
+    ensures { result.items ≡ frame_text octets.now }
 {
     let mut line = FrameLine::new();
-    line.push_str("frame ");
+    push_octets(&mut line, b"frame ");
     push_hex(&mut line, octets);
-    line.push_str(if fcs_is_good::<OctetCheck>(octets) {
-        " good\n"
+    if fcs_is_good::<OctetCheck>(octets) {
+        push_octets(&mut line, b" good\n");
     } else {
-        " bad\n"
-    });
+        push_octets(&mut line, b" bad\n");
+    }
     line
 }
 
 /// The second line: what the head says.
 fn head_line(standing: Standing, dictionary: &Dictionary) -> FrameLine
-    ensures { result ≡ head_text standing dictionary.now ++ codes "\n" }
+    ensures { result.items ≡ head_text standing dictionary.now ++ codes "\n" }
 {
     let mut line = FrameLine::new();
     push_head(&mut line, standing, dictionary);

@@ -1,4 +1,5 @@
-use Rattle.std.proofs.Common.{ℕ, ◌+◌, ◌*◌, ◌≤◌, List, ◌++◌, length, take, Option}
+use Rattle.std.proofs.Common.{ℕ, ◌+◌, ◌*◌, ◌≤◌, List, ◌++◌, take, Option}
+use Rattle.arrayvec.specs.ArrayVec.{array_vec_len}
 use Rattle.bus_capture.specs.Internal.Watching.{heard_by}
 use Rattle.bus_talk.specs.History.{history}
 use Rattle.bus_text.specs.CheckText.{history_text}
@@ -8,7 +9,7 @@ use Rattle.bus_capture.proofs.report.put_history.Given as goal
 -- the first frames were put
 abbrev pub invariant-loop-i : goal.invariant-loop-i
 invariant-loop-i g l = record {
-  few : l.page.written + length l.page.text ≤ l.fn.page.written + length l.fn.page.text + 572 * l.i;
+  few : l.page.written + array_vec_len l.page.text ≤ l.fn.page.written + array_vec_len l.fn.page.text + 572 * l.i;
   within : l.i ≤ l.i-end;
   put : (start : Option (List ℕ)) (text : List ℕ) (b : List g.row.T-Symbol.Denot) →
       g.T.Tap.tap.watch.is_after l.analyser b →

@@ -1,4 +1,5 @@
-use Rattle.std.proofs.Common.{ℕ, ◌+◌, ◌*◌, ◌≤◌, List, ◌++◌, length, Option}
+use Rattle.std.proofs.Common.{ℕ, ◌+◌, ◌*◌, ◌≤◌, List, ◌++◌, Option}
+use Rattle.arrayvec.specs.ArrayVec.{array_vec_len}
 use Rattle.bus_capture.specs.Internal.Watching.{heard_by}
 use Rattle.bus_talk.specs.History.{tally}
 use Rattle.bus_text.specs.CheckText.{tallies_text}
@@ -8,7 +9,7 @@ use Rattle.bus_capture.proofs.report.put_tallies.Given as goal
 -- the lines of the first stations were put
 abbrev pub invariant-loop-station : goal.invariant-loop-station
 invariant-loop-station g l = record {
-  few : l.page.written + length l.page.text ≤ l.fn.page.written + length l.fn.page.text + 140 * l.station;
+  few : l.page.written + array_vec_len l.page.text ≤ l.fn.page.written + array_vec_len l.fn.page.text + 140 * l.station;
   put : (start : Option (List ℕ)) (text : List ℕ) (b : List g.row.T-Symbol.Denot) →
       g.T.Tap.tap.watch.is_after l.analyser b →
       Pages start (g.W.Write.contents l.fn.w) l.fn.page.text l.fn.page.written text

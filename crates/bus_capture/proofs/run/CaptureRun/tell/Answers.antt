@@ -1,5 +1,6 @@
-use Rattle.std.proofs.Common.{◌+◌, length, ap, arith, append-nil}
+use Rattle.std.proofs.Common.{◌+◌, ap, arith, append-nil}
 use Rattle.std.proofs.lemmas.Result.{err_from_is_err_and}
+use Rattle.arrayvec.specs.ArrayVec.{array_vec_len}
 use Rattle.bus_text.proofs.PagesLemmas.{cut-short, pages-printed}
 use Rattle.bus_capture.proofs.run.CaptureRun.tell.Goals as goal
 
@@ -30,7 +31,7 @@ returns-in_err-make_room-clause-told g c =
 
 pub returns-in_err-make_room-clause-octets : goal.returns-in_err-make_room-clause-octets
 returns-in_err-make_room-clause-octets g c =
-    omega (arith, ap (λ page. page.written + length page.text) c.in_err-make_room.ensures.kept)
+    omega (arith, ap (λ page. page.written + array_vec_len page.text) c.in_err-make_room.ensures.kept)
 
 pub returns-clause-counted : goal.returns-clause-counted
 returns-clause-counted g c = c.count.ensures.counted

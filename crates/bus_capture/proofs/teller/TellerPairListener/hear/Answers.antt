@@ -1,5 +1,6 @@
-use Rattle.std.proofs.Common.{◌≡◌, ◌+◌, ◌++◌, ◌∷◌, [], Some, None, length, refl, sym, ap, ◌∙◌, subst, arith}
+use Rattle.std.proofs.Common.{◌≡◌, ◌+◌, ◌++◌, ◌∷◌, [], Some, None, refl, sym, ap, ◌∙◌, subst, arith}
 use Rattle.std.proofs.Common.{append-nil, length-append}
+use Rattle.arrayvec.specs.ArrayVec.{array_vec_len}
 use Rattle.bus_text.proofs.PagesLemmas.{cut-short, cuts-more, pages-printed}
 use Rattle.bus_talk.specs.Shown.{found_on}
 use Rattle.bus_capture.specs.Internal.Telling.{IsOut}
@@ -17,7 +18,7 @@ pub returns-in-Err-clause-left : goal.returns-in-Err-clause-left
 returns-in-Err-clause-left g c = λ more room.
     let same = c.in-Err.ensures.kept in (
       (room.0.0 + 1, c.count.ensures.few room.0.0 room.0.1, omega (arith, room.0.2)),
-      omega (arith, room.1, ap (λ page. page.written + length page.text) same),
+      omega (arith, room.1, ap (λ page. page.written + array_vec_len page.text) same),
     )
 
 pub returns-clause-left : goal.returns-clause-left
@@ -45,7 +46,7 @@ returns-in-Err-clause-heard g c =
       stays = λ sent cut. absurd (not-both c.args.self.now.cut sent none cut);
       counted = λ all is whole. absurd (not-both (Some c.in-Err.cut) c.in-Err.cut whole refl);
       few = λ most few. c.count.ensures.few most few;
-      octets = omega (arith, ap (λ page. page.written + length page.text) same);
+      octets = omega (arith, ap (λ page. page.written + array_vec_len page.text) same);
     }
 
 pub returns-clause-heard : goal.returns-clause-heard

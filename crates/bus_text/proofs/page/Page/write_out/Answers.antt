@@ -4,7 +4,7 @@ use Rattle.bus_text.proofs.page.Page.write_out.Goals as goal
 
 pub returns-clause-turned : goal.returns-clause-turned
 returns-clause-turned g c = λ start text pages.
-    let bytes = c.args.self.now.text in
+    let bytes = c.args.self.now.text.items in
     record {
       sent = pages.sent ++ bytes;
       out = appends_both start (g.W.Write.contents c.args.w.now) (g.W.Write.contents c.put_text.new.w) pages.sent bytes

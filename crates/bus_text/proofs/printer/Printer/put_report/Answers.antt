@@ -15,17 +15,17 @@ returns-then-not-leaves c =
 
 pub returns : goal.returns
 returns c =
-    let page = c.args.page.now.text in
+    let page = c.args.page.now.text.items in
     let r = reported c.args.octets.now c.args.finding.now.event in
     let front = span_text (span_of r) ++ report_word r.kind in
     let head = head_part c.args.self.now.heads c.args.dictionary.now c.args.finding.now.standing in
-    let end : c.push.new.self ≡ c.put_head.new.page.text ++ codes "\n" = search rules in
+    let end : c.push.new.self.items ≡ c.put_head.new.page.text.items ++ codes "\n" = search rules in
     let line = line_number c.args.line in
-    let told : c.push_front.new.text ≡ page ++ (line ++ front) =
+    let told : c.push_front.new.text.items ≡ page ++ (line ++ front) =
     c.push_front.ensures.bytes ∙ ap (λ t. t ++ front) c.push_line_number.ensures.bytes
     ∙ append_assoc page line front in
-    let named : c.put_head.new.page.text ≡ c.push_front.new.text ++ head = c.put_head.ensures.bytes in
-    let all : c.push.new.self ≡ page ++ (((line ++ front) ++ head) ++ codes "\n") =
+    let named : c.put_head.new.page.text.items ≡ c.push_front.new.text.items ++ head = c.put_head.ensures.bytes in
+    let all : c.push.new.self.items ≡ page ++ (((line ++ front) ++ head) ++ codes "\n") =
     end ∙ ap (λ t. t ++ codes "\n") (named ∙ ap (λ t. t ++ head) told ∙ append_assoc page (line ++ front) head)
     ∙ append_assoc page ((line ++ front) ++ head) (codes "\n") in
     put-left c.args.self.now.filter

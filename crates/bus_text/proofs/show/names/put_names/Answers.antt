@@ -74,7 +74,7 @@ loop-name-preserved g c =
             let front = before ++ flat_map name_text so_far.0 in
             let now = so_far.3 start before out is in
             let put = c.in_ok-written.ensures.put start front now.0 now.1 in
-            let text : before ++ flat_map name_text (so_far.0 ++ b ∷ []) ≡ front ++ c.name_line.result =
+            let text : before ++ flat_map name_text (so_far.0 ++ b ∷ []) ≡ front ++ c.name_line.result.items =
             names_text_at before so_far.0 [] b
             ∙ (append-nil (front ++ name_text b) ∙ ap (λ (l : List ℕ). front ++ l) (sym c.name_line.ensures)) in (
               subst (λ (l : List ℕ). Appends start (g.W.Write.contents c.put_line.new.w) l) (sym text) put.0,

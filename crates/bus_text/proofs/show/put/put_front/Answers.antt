@@ -12,8 +12,8 @@ returns-clause-put g c =
     let start = g.W.Write.contents c.args.w.now in
     let now = g.W.Write.contents c.put_line-2.new.w in
     let first = c.in_ok-sent.ensures.put start [] (appends_nothing start) refl in
-    let both = c.put_line-2.ensures.put start c.frame_line.result first.0 first.1 in
-    let framed = subst (λ (l : List ℕ). Puts start now (l ++ c.head_line.result) c.put_line-2.result)
+    let both = c.put_line-2.ensures.put start c.frame_line.result.items first.0 first.1 in
+    let framed = subst (λ (l : List ℕ). Puts start now (l ++ c.head_line.result.items) c.put_line-2.result)
     c.frame_line.ensures both in
     subst (λ (l : List ℕ). Puts start now (frame_text c.args.octets.now ++ l) c.put_line-2.result) c.head_line.ensures
     framed
