@@ -427,7 +427,8 @@ def program_of(shown: str) -> Callable[[Path], object]:
 def refused(folder: Path) -> List[Spoilt]:
     failed = "rt: FAILED: bus_fcs\n16 passed, 1 failed\n"
     some = CLOSING.replace("0 failed", "0 failed (bus_fcs and the crates below alone: not the gate)")
-    logs = {"failed": failed, "short": "rt: bus_fcs proved\n", "two": CLOSING + failed, "some": some}
+    one = CLOSING.replace(" 0 failed", " 1 failed")
+    logs = {"failed": failed, "one": one, "short": "rt: bus_fcs proved\n", "two": CLOSING + failed, "some": some}
     files = {name: folder / f"{name}.log" for name in logs}
     for name, file in files.items():
         file.write_text(logs[name])
