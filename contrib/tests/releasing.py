@@ -56,6 +56,7 @@ LIBRARY_FILES = {
     "usr/lib/{}/cmake/port1/port1ConfigVersion.cmake",
     "usr/lib/{}/libport1_c.a",
     "usr/lib/{}/pkgconfig/port1.pc",
+    "usr/share/doc/libport1-dev/examples/c/Makefile",
     *(f"usr/share/doc/libport1-dev/examples/c/{path.name}" for path in (TOP / "examples" / "c").glob("*.c")),
     "usr/share/doc/libport1-dev/PROVED-BY",
     "usr/share/doc/libport1-dev/changelog.gz",
