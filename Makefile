@@ -45,7 +45,7 @@ PAGE = page/out/port1.html
 LIBRARY = crates/port1_c/out/$(if $(TARGET),$(TARGET)/)libport1_c.a
 SONAME = libport1.so.2
 SHARED = $(if $(TARGET),,$(dir $(LIBRARY))$(SONAME))
-C_EXAMPLES = $(wildcard examples/c/*.c)
+C_EXAMPLES = examples/c/Makefile $(wildcard examples/c/*.c)
 VERSION = $(shell sed -n 's/.*\.version("\(.*\)").*/\1/p' crates/bus_tool/src/arguments.rt)
 
 # What finds the examples but for those in C, what stands in contrib but for its tests, the scripts there, and the

@@ -9,20 +9,20 @@ from table.case import Case, Refusals, fault
 
 
 class Requests(NamedTuple):
-    """How many requests a run made, and how many octets the largest asked for."""
+    """How many requests a run made, how many octets the largest asked for, and how many asked for 1024 or more."""
 
     count: int
     largest: int
+    large: int
 
 
 def run_under(program: Path, case: Case, library: Path, number: int) -> Tuple[Ending, Requests]:
     """Runs a row with the request of this number refused, and tells its requests."""
     told = library.with_name("requests")
-    told.write_text("0 0")
+    told.write_text("0 0 0")
     variables = {"LD_PRELOAD": str(library), "REFUSED": str(number), "REQUESTS": str(told)}
     ending = run(program, case, variables)
-    count, largest = map(int, told.read_text().split())
-    return ending, Requests(count, largest)
+    return ending, Requests(*map(int, told.read_text().split()))
 
 
 def run_refused(program: Path, case: Case, library: Path, number: int) -> Tuple[Ending, int]:
@@ -34,16 +34,19 @@ def run_refused(program: Path, case: Case, library: Path, number: int) -> Tuple[
 def problems_of_depth(program: Path, case: Case, library: Path) -> List[str]:
     """A listing has no history to write: none of its requests is larger than those of a check of the least depth.
 
-    That those of a check of the greatest depth are larger shows that a history is seen among them.
+    That those of a check of the greatest depth are larger shows that a history is seen among them. It is asked for at
+    once: no other request grows with the depth, to as many octets as there are frames.
     """
 
-    def largest(words: List[str]) -> int:
+    def requests(words: List[str]) -> Requests:
         asked = replace(case, words=[*words, *case.words[1:]])
-        return run_under(program, asked, library, 0)[1].largest
+        return run_under(program, asked, library, 0)[1]
 
-    listed, least, most = largest(["list"]), largest(["check", "--depth", "1"]), largest(["check", "--depth", "1024"])
-    problems = [] if listed <= least else [f"list asks for {listed} octets at once, check --depth 1 for {least}"]
-    return problems if least < most else [*problems, f"check --depth 1024 asks for {most} octets at once, no more"]
+    listed, least, most = map(requests, [["list"], ["check", "--depth", "1"], ["check", "--depth", "1024"]])
+    problems = [] if listed.largest <= least.largest else [f"list asks for {listed}, check --depth 1 for {least}"]
+    problems += [] if least.largest < most.largest else [f"check --depth 1024 asks for {most}, no more"]
+    one = most.large - least.large
+    return problems + ([] if one == 1 else [f"{one} requests grow with the depth: {least}, {most}"])
 
 
 def without_memory(case: Case) -> Case:

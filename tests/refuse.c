@@ -1,6 +1,7 @@
 /* Loaded before a program, this refuses one of its requests for memory: that of the number in the
-   variable REFUSED, counted from 1, and none where it is 0. At the end the number of requests, and
-   the octets that the largest asked for, go to the file that the variable REQUESTS names. */
+   variable REFUSED, counted from 1, and none where it is 0. At the end the number of requests, the
+   octets that the largest asked for, and how many asked for 1024 octets or more, go to the file that
+   the variable REQUESTS names. */
 
 #include <errno.h>
 #include <fcntl.h>
@@ -17,7 +18,7 @@ extern void *__libc_memalign(size_t alignment, size_t size);
 
 static unsigned long refused, requests;
 
-static size_t largest;
+static size_t largest, large;
 
 __attribute__((constructor)) static void begin(void) {
     const char *number = getenv("REFUSED");
@@ -27,8 +28,8 @@ __attribute__((constructor)) static void begin(void) {
 }
 
 __attribute__((destructor)) static void end(void) {
-    char text[64];
-    int length = snprintf(text, sizeof text, "%lu %zu\n", requests, largest);
+    char text[96];
+    int length = snprintf(text, sizeof text, "%lu %zu %zu\n", requests, largest, large);
     const char *name = getenv("REQUESTS");
     int file = name ? open(name, O_WRONLY | O_CREAT | O_TRUNC, 0600) : -1;
     if (file < 0 || write(file, text, (size_t)length) != length)
@@ -39,6 +40,7 @@ __attribute__((destructor)) static void end(void) {
 static int refuses(size_t size) {
     if (size > largest)
         largest = size;
+    large += size >= 1024;
     if (++requests != refused)
         return 0;
     errno = ENOMEM;

@@ -47,8 +47,8 @@ def version_of(top: Path = TOP) -> str:
 
 
 def other_of(version: str) -> str:
-    """A version that begins like this one in each of its numbers."""
-    return ".".join(f"{number}9" for number in version.split("."))
+    """A version that begins like this one in each of its numbers, and has three different ones."""
+    return ".".join(f"{number}{more}" for number, more in zip(version.split("."), "987"))
 
 
 def part_of(version: str, place: Place) -> str:
@@ -117,6 +117,18 @@ def problems_of_raised(folder: Path) -> List[str]:
     return [*unlike(top, other), *([] if (status, said) == (0, "") else [f"status {status}: {said!r}"])]
 
 
+def problems_of_changes(folder: Path) -> List[str]:
+    """A CHANGELOG without a release, or with one that is still to come before the newest, is told."""
+    problems = []
+    for heading, wanted in [("Changes", 1), (f"Unreleased: {other_of(version_of())}\n\n## {version_of()}", 0)]:
+        top = copied(folder)
+        (top / "CHANGELOG.md").write_text(f"# Changes\n\n## {heading}\n", encoding="utf-8")
+        status, said = called("--check", top)
+        is_told = said.startswith("CHANGELOG.md: the newest release is []: ") if wanted else said == ""
+        problems += [] if status == wanted and is_told else [f"{heading}: status {status}: {said!r}"]
+    return problems
+
+
 def problems_of_program(program: Path) -> List[str]:
     wanted, got = f"port1 {version_of()}\n", subprocess.run([program, "--version"], stdout=subprocess.PIPE).stdout
     return [] if got.decode() == wanted else [f"wanted {wanted!r}, got {got!r}"]
@@ -130,3 +142,4 @@ def results_of_version(program: Path) -> Iterator[Result]:
         for place in PLACES:
             yield f"version: another in {place.file}: {place.form}", problems_of_other(Path(folder), place)
         yield "version: a new one", problems_of_raised(Path(folder))
+        yield "version: releases in CHANGELOG.md", problems_of_changes(Path(folder))

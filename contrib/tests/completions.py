@@ -198,6 +198,8 @@ def fish_by_itself(folder: Path) -> List[str]:
     """fish, which finds the completion in the home by itself."""
     needs("fish")
     furnish(folder)
+    # Where this is missing, fish fills it from all man pages, and goes on when its terminal is closed.
+    (folder / ".local" / "share" / "fish" / "generated_completions").mkdir()
     words = f"set fish_greeting; function fish_prompt; echo -n '{PROMPT}'; end"
     return problems_of_shell("fish", ["fish", "--private", "--init-command", words], folder)
 

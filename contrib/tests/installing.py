@@ -4,7 +4,7 @@ import os
 import re
 import subprocess
 from pathlib import Path
-from typing import Dict, List, Sequence, Set
+from typing import Dict, Iterator, List, Sequence, Set, Tuple
 
 from needs import needs
 from tests.case import CALL, CONTRIB, ONE_CALL, SECONDS, TOP, Run, Test, lines, plain, written_by
@@ -33,11 +33,11 @@ def scripts() -> List[str]:
 
 
 def made(target: str, words: Sequence[str], folder: Path) -> None:
-    """Runs make with the built program, and with files in place of the library, which need not be built for this."""
-    library = folder / "library.a"
-    for path in (library, folder / "libport1.so.2"):
+    """Runs make with the built program, and with files for library and page, which need not be built for this."""
+    library, page = folder / "library.a", folder / "page.html"
+    for path in (library, folder / "libport1.so.2", page):
         path.write_bytes(b"no library\n")
-    given = [f"PROGRAM={os.environ['PORT1']}", f"LIBRARY={library}", *words]
+    given = [f"PROGRAM={os.environ['PORT1']}", f"LIBRARY={library}", f"PAGE={page}", *words]
     subprocess.run(["make", "-s", "-C", TOP, target, *given], check=True, capture_output=True, timeout=SECONDS)
 
 
@@ -101,6 +101,42 @@ def problems_of_files(prefix: Path) -> List[str]:
     return [f"{place}: not {source}" for place, source, octets in rows if (prefix / place).read_bytes() != octets]
 
 
+# What is written when it is installed, and what is built.
+MADE = {
+    *["lib/pkgconfig/port1.pc", "lib/cmake/port1/port1Config.cmake", "lib/cmake/port1/port1ConfigVersion.cmake"],
+    *["bin/port1", "lib/libport1_c.a", "lib/libport1.so", "lib/libport1.so.2", "share/port1/page/port1.html"],
+    "share/port1/examples",
+}
+
+
+def sources_by_place() -> Iterator[Tuple[str, Path]]:
+    """Where each file is installed that is one of this repository."""
+    yield from ((place, TOP / source) for place, source in SAME_FILES.items())
+    for form in ["*.md", "docs/*.md", "docs/*.toml", "crates/*/specs/**/*.antt"]:
+        for path in TOP.glob(form):
+            if "Internal" not in path.parts:
+                yield f"share/port1/{path.relative_to(TOP)}", path
+    for name in files_of_contrib(CONTRIB):
+        yield f"share/port1/contrib/{name}", CONTRIB / name
+    for path in (TOP / "examples").rglob("*.*"):
+        if path.is_file() and not path.name.startswith(".") and not {"__pycache__", ".pytest_cache"} & set(path.parts):
+            yield f"share/doc/port1/{path.relative_to(TOP)}", path
+    yield "share/doc/port1/examples/c/Makefile", TOP / "examples" / "c" / "Makefile"
+    for name in ["__init__.py", "py.typed"]:
+        yield f"lib/python/port1/{name}", CONTRIB / "python" / "port1" / name
+
+
+def problems_of_all(prefix: Path) -> List[str]:
+    """Whether everything is in place, octet for octet, and nothing else."""
+    wanted = dict(sources_by_place())
+    names = {*wanted, *MADE, *(f"bin/{name}" for name in scripts())}
+    found = {str(path.relative_to(prefix)) for path in prefix.rglob("*") if path.is_symlink() or not path.is_dir()}
+    problems = [f"not installed: {name}" for name in sorted(names - found)]
+    problems += [f"installed as well: {name}" for name in sorted(found - names)]
+    others = [name for name in wanted.keys() & found if (prefix / name).read_bytes() != wanted[name].read_bytes()]
+    return problems + [f"{name}: not {wanted[name]}" for name in sorted(others)]
+
+
 def problems_of_modes(prefix: Path) -> List[str]:
     """Whether program and scripts may be run, and everything may be read and nothing else be run, by everyone."""
     problems = []
@@ -149,14 +185,13 @@ def in_a_home(folder: Path) -> List[str]:
     prefix, elsewhere, work = folder / "of port1", folder / "elsewhere", folder / "work"
     for place in (prefix, elsewhere, work):
         place.mkdir()
+    words = [f"PREFIX={prefix}", f"PYTHONDIR={prefix / 'lib' / 'python'}"]
     for _ in range(2):
-        made("install", [f"PREFIX={prefix}"], work)
+        made("install", words, work)
     problems = problems_of_scripts(prefix / "bin", elsewhere) + problems_of_use(prefix, elsewhere)
-    problems += problems_of_links(prefix) + problems_of_files(prefix)
+    problems += problems_of_links(prefix) + problems_of_all(prefix)
     problems += problems_of_modes(prefix) + problems_of_library(prefix)
-    installed = files_of_contrib(prefix / "share" / "port1" / "contrib")
-    problems += [] if installed == files_of_contrib(CONTRIB) else [f"of contrib there are {installed}"]
-    made("uninstall", [f"PREFIX={prefix}"], work)
+    made("uninstall", words, work)
     return problems + [f"left: {path}" for path in left_in(prefix)]
 
 

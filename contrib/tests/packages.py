@@ -3,6 +3,7 @@
 import os
 import random
 import re
+import shutil
 import subprocess
 import sys
 from pathlib import Path
@@ -66,6 +67,25 @@ def told(words: Sequence[Word], stdin: bytes = b"", **settings: str) -> str:
         timeout=SECONDS,
     )
     return ran.stdout.decode(errors="replace")
+
+
+def made_without_a_toolchain(folder: Path) -> List[str]:
+    """With the library installed, copies of the examples in C and of the decoder for sigrok are made without `rt`."""
+    needs("make", "cc", "c++", "pkg-config")
+    if not ARCHIVE.exists():
+        raise Skipped(f"no {ARCHIVE.relative_to(TOP)}; `make` builds it")
+    prefix = folder / "prefix"
+    make("install", [f"PREFIX={prefix}", f"PROGRAM={os.environ['PORT1']}"])
+    shutil.copytree(prefix / "share" / "doc" / "port1" / "examples" / "c", folder / "c")
+    shutil.copytree(prefix / "share" / "port1" / "contrib", folder / "contrib", symlinks=True)
+    settings = {"PKG_CONFIG_PATH": str(prefix / "lib" / "pkgconfig"), "PATH": "/usr/bin:/bin"}
+    problems = []
+    for place in ["c", "contrib/sigrok"]:
+        said = told(["make", "-s", "-C", folder / place], b"", **settings)
+        problems += unlike(f"make -C {place}", "", said)
+    problems += unlike("list", ONE_FRAME, told([folder / "c" / "list"], ONE_CALL))
+    decoder = folder / "contrib" / "sigrok" / "out" / "nema_port1" / "libport1.so"
+    return problems + ([] if decoder.is_file() else [f"there is no {decoder}"])
 
 
 def shared_library(folder: Path) -> List[str]:
@@ -415,6 +435,7 @@ def layout_in_python(folder: Path) -> List[str]:
 
 
 TESTS: List[Test] = [
+    made_without_a_toolchain,
     shared_library,
     by_pkg_config,
     by_cmake,
