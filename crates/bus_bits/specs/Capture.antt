@@ -53,9 +53,6 @@ fault_by is_mark xs =
 abbrev pub is_bit : ℕ → Bool
 is_bit x = (x == 48) || (x == 49)
 
-abbrev pub text_front : List ℕ → List ℕ
-text_front xs = front_by is_bit xs
-
 abbrev pub text_bits : List ℕ → List Bool
 text_bits xs = map (λ x. x == 49) (marks_by is_bit xs)
 

@@ -1,6 +1,6 @@
 //! Bits of octets as a number.
 
-ghost use Rattle.std.specs.Prelude.{◌≡◌, ◌+◌, ◌*◌, ◌/◌, ◌%◌, ◌≤◌, ◌<◌, ◌^◌, ℕ, length, slice_index};
+ghost use Rattle.std.specs.Prelude.{◌≡◌, ◌+◌, ◌-◌, ◌*◌, ◌/◌, ◌%◌, ◌≤◌, ◌<◌, ◌^◌, ℕ, length, min, slice_index};
 ghost use Rattle.bus_bits.specs.Octet.{bits_of};
 ghost use Rattle.bus_bits.specs.Bits.{bits_from};
 ghost use Rattle.bus_bits.specs.Word.{IsWordOf};
@@ -20,6 +20,7 @@ pub fn word_at(octets: &[u8], at: usize, end: usize) -> Word
     requires some { at < end }
     requires within { end ≤ 8 * length octets.now }
     ensures word { IsWordOf result.count result.bits }
+    ensures count { result.count ≡ min (end - at) 48 }
     ensures within { at + result.count ≤ end }
     ensures bits { (m : ℕ) → m ≤ result.count → bits_of m result.bits ≡ bits_from octets.now at m }
 {

@@ -5,7 +5,7 @@ use Rattle.std.proofs.Common.{arith, append_assoc, length-append, bit_xor, inl, 
 use Rattle.std.proofs.lemmas.List.{append-nil, length-replicate, length-map, take-append-drop, length-take, length-drop}
 use Rattle.std.proofs.lemmas.List.{replicate-append-replicate}
 use Rattle.std.proofs.Math.Nat.{pow-suc, mul_assoc, add-zero}
-use Rattle.std.proofs.lemmas.Nat.{pow_pos, mod_below, mod_low, mod-pow-add, shl-shr, shr_split}
+use Rattle.std.proofs.lemmas.Nat.{pow_pos, mod_below, shr_split}
 use Rattle.std.specs.Int.Bits.{xor_block, xor_comm, xor_assoc, xor_self, xor_zero_r, xor_shr, xor_mod, xor_shifted}
 use Rattle.bus_bits.proofs.OctetLemmas.{number-push, same_number, length-bits, number-bits, number-append}
 use Rattle.bus_bits.proofs.OctetLemmas.{length-bits_of_octets, bits_of_octets-push}

@@ -1,5 +1,4 @@
 -- What the check by tables has folded.
-use Rattle.std.specs.Prelude.{ℕ, List}
 use Rattle.bus_fcs.specs.Check.{CheckView}
 use Rattle.bus_fcs.specs.declared.octet_check.OctetCheck.{OctetCheck}
 use Rattle.bus_fcs.specs.Internal.Register.{IsStateAfter}

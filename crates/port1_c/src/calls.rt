@@ -1,7 +1,7 @@
 //! What C calls.
 
 ghost use Rattle.std.specs.Prelude.{◌≡◌, ◌≢◌, ◌+◌, ◌-◌, ◌*◌, ◌≤◌, ◌<◌, ◌↔◌, ◌⊎◌, List, Bool, ◌∷◌, []};
-ghost use Rattle.std.specs.Prelude.{IsTrue, length};
+ghost use Rattle.std.specs.Prelude.{IsTrue, length, replicate};
 ghost use Rattle.std.specs.Option.{option_map};
 ghost use Rattle.bus_bits.specs.Limits.{most_places};
 ghost use Rattle.bus_line.specs.Due.{begun};
@@ -30,6 +30,7 @@ pub extern "C" fn port1_line_init(line: &mut Port1Line, longest: u64, origin: u6
     ensures stands { result ≡ OK → LineAfter line.new [] }
     ensures given { result ≡ OK → (line.new.words.longest ≡ longest) × (line.new.words.origin ≡ origin)
         × (line.new.words.place ≡ origin) }
+    ensures cleared { result ≡ OK → line.new.frame.octets ≡ replicate 272 0 }
     ensures kept { result ≢ OK → line.new ≡ line.old }
 {
     match LineWords::new(longest as usize, origin) {

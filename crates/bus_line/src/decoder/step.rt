@@ -42,6 +42,8 @@ impl LineWords {
         requires word { IsWordOf count bits }
         ensures limit { IsErr result ↔ (most_places < self.old.place + count) }
         ensures count { IfOk result (λ t. (1 ≤ t.count) × (t.count ≤ count)) }
+        ensures stops { IfOk result (λ t. (b : List Bool) →
+            After C.check (state self.old check.old (F.octets frame.old)) b → TakesTo b (bits_of count bits) t.count) }
         ensures advances { IfOk result (λ t. Advances C.check (state self.old check.old (F.octets frame.old))
             (bits_of t.count bits) (option_map (reported (state self.new check.new (F.octets frame.new)).octets) t.event)
             (state self.new check.new (F.octets frame.new))) }

@@ -24,3 +24,10 @@ returns-clause-bits c m fewer =
     (c.args.at - 8 * c.min-from.result) c.args.at c.min-count.result m
     (omega (arith, from)) (omega (arith, from, count, c.requires.some, c.requires.within, c.if-octets-lt8.false))
     (omega (arith, fewer, c.cut-2.ensures.count))
+
+pub returns-then-octets-lt8-clause-count : goal.returns-then-octets-lt8-clause-count
+returns-then-octets-lt8-clause-count c =
+    c.cut.ensures.count ∙ c.min-count.ensures ∙ least (c.args.end - c.args.at) 48
+
+pub returns-clause-count : goal.returns-clause-count
+returns-clause-count c = c.cut-2.ensures.count ∙ c.min-count.ensures ∙ least (c.args.end - c.args.at) 48
