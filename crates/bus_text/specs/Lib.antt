@@ -9,4 +9,3 @@ pub mod Put
 pub mod Adds
 pub mod Pages
 pub mod Show
-pub mod Internal

@@ -32,14 +32,14 @@ pub struct Places {
 }
 
 impl Model for Places {
-    ghost use Rattle.std.specs.Prelude.{ℕ};
-    ghost use Rattle.bus_text.specs.Internal.Fronts.{IsFrom};
+    ghost use Rattle.std.specs.Prelude.{◌≡◌, ◌*◌, ◌/◌, ◌^◌, ◌++◌, ◌<◌, ◌≤◌, ℕ, codes, decimal};
 
     ghost Value = { ℕ };
 
     ghost view = { λ places. places.base };
 
-    ghost invariant = { λ places. IsFrom places.base places.text.items };
+    ghost invariant = { λ places. (place : ℕ) × (10000 ≤ place) × (place < 2 ^ 64)
+        × (places.base ≡ 10000 * (place / 10000)) × (places.text.items ≡ decimal place ++ codes " ") };
 }
 
 impl Places {

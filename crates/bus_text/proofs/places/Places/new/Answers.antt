@@ -7,11 +7,6 @@ pub invariant_of-result : goal.invariant_of-result
 invariant_of-result c =
     let digits = decimal_four 10000 (omega arith) (omega arith)
     ∙ ap (λ first. first ++ (pair 0 ++ pair 0)) (decimal_digit 1 (omega arith)) in
-    record {
-      place = 10000;
-      same = refl;
-      long = omega arith;
-      fits = omega arith;
-      whole = c.push_octets.ensures ∙ ap (λ text. text ++ codes "10000 ") c.new-text.ensures
-          ∙ sym (ap (λ text. text ++ codes " ") digits);
-    }
+    let text = c.push_octets.ensures ∙ ap (λ text. text ++ codes "10000 ") c.new-text.ensures
+    ∙ sym (ap (λ text. text ++ codes " ") digits) in
+    (10000, omega arith, omega arith, refl, text)
