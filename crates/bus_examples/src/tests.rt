@@ -183,8 +183,8 @@ fn types_that_ask(rt: HostRuntime) {
 /// What the README says of memory, in octets.
 #[test]
 fn sizes(rt: HostRuntime) {
-    assert_eq!(rt; size_of::<LineDecoder<OctetCheck>>(), 368);
-    assert_eq!(rt; size_of::<Analyser<OctetCheck>>(), 10832);
+    assert_eq!(rt; size_of::<LineDecoder<OctetCheck>>(), 360);
+    assert_eq!(rt; size_of::<Analyser<OctetCheck>>(), 10824);
 }
 
 /// Ends the test where it got something else than it wants; the case says what, and of which row.
