@@ -441,21 +441,6 @@ def piece_longer_than_what_is_kept(folder: Path) -> List[str]:
     return differences(side_of(got, CONTROLLER), wanted) + ([] if max(lengths) > 10**6 else ["no long piece"])
 
 
-# How many bits of a line have their samples kept, at least; twice as many at most.
-KEPT = 1 << 16
-
-
-def piece_at_the_first_bit_that_is_kept(folder: Path) -> List[str]:
-    """A piece that begins with the first bit whose sample is kept, and is open when that sample is dropped."""
-    built(folder)
-    line = wave("1" * (KEPT - len(FLAG)) + FLAG + "0" * (2 * KEPT + 100) + plain(CALL), period=4, change=2)
-    wanted = expected(line, DICTIONARY, CONTROLLER)
-    got = annotations(folder, recording(line, REST), CHANNELS + dictionary_in(folder, DICTIONARY))
-    begins = [one.begin for one in wanted if one.end - one.begin > 2 * KEPT]
-    problems = [] if begins == [line.rises[KEPT]] else [f"long pieces begin at {begins}"]
-    return problems + differences(side_of(got, CONTROLLER), wanted)
-
-
 def answer_after(ones: int, count: int) -> str:
     """A line of so many bits with an answer after some ones."""
     return ("1" * ones + plain(REPLY)).ljust(count, "1")
@@ -464,7 +449,7 @@ def answer_after(ones: int, count: int) -> str:
 def reply_time_after_many_bits(folder: Path) -> List[str]:
     """The bits to an answer are counted where samples have been dropped, too."""
     built(folder)
-    before = "1" * (2 * KEPT + 100)
+    before = "1" * 150_000
     first = wave(before + plain(CALL) + "1" * 80, period=4, change=2)
     second = Wave(answer_after(len(before) + 65, len(first.bits)), first.rises, 2)
     got = annotations(folder, recording(first, second), f"{CHANNELS}:rxd=3{dictionary_in(folder, DICTIONARY)}")
@@ -591,7 +576,6 @@ TESTS = [
     commands_that_are_answered,
     answer_that_begins_too_early,
     piece_longer_than_what_is_kept,
-    piece_at_the_first_bit_that_is_kept,
     reply_time_after_many_bits,
     window_of_an_older_dictionary,
     reset,
