@@ -59,9 +59,11 @@ def problems_of_machine(machine: Machine, folder: Path) -> List[str]:
     ran = subprocess.run(words, env={"PATH": str(path)}, capture_output=True, text=True, timeout=SECONDS)
     wanted = {package.name for package in GATE if package.programs}
     line = next((line for line in log.read_text().splitlines() if line.startswith("install ")), "")
-    told = wanted if machine.installs else wanted & set(ran.stdout.splitlines()[-1].split())
     problems = [] if wanted <= set(line.split()) else [f"apt-get was told {line!r}"]
-    problems += [] if told == wanted and ran.returncode == machine.status else [f"status {ran.returncode}: {ran.stdout}"]
+    last = ran.stdout.splitlines()[-1]
+    is_told = machine.installs or (last.startswith("sudo apt-get ") and wanted <= set(last.split()))
+    if not is_told or (ran.returncode, ran.stderr) != (machine.status, ""):
+        problems.append(f"status {ran.returncode}: {ran.stdout}{ran.stderr}")
     return problems
 
 

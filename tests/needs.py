@@ -104,6 +104,9 @@ def has_module(name: str) -> bool:
 
 @lru_cache(maxsize=None)
 def version_of_node() -> int:
+    """The first number of its version; 0 where there is no Node."""
+    if shutil.which("node") is None:
+        return 0
     told = subprocess.run(["node", "--version"], capture_output=True, text=True).stdout
     return int("".join(re.findall(r"^v(\d+)", told)) or 0)
 

@@ -316,7 +316,7 @@ def unknown(bus: Bus) -> Iterator[str]:
     """What the listing cannot tell."""
     decided = sum(commands.decided for commands in bus.commands.values())
     if bus.rows == 0:
-        yield "The listing is empty: nothing is known of the bus."
+        yield "The listing is empty: nothing is known of the bus. Where a fault was told, mend that first."
     elif bus.frames == 0:
         yield "The listing has no frames: the bus had none, or a filter left them out."
     elif not bus.named:

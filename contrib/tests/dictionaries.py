@@ -305,8 +305,7 @@ def nobody_reads_findings(folder: Path) -> List[str]:
     words = [CONTRIB / "check-dictionary", TOP / "examples" / "call-and-reply.toml"]
     got = subprocess.run(words, stdout=writer, stderr=subprocess.PIPE, timeout=SECONDS)
     os.close(writer)
-    said = "check-dictionary: write failed: whoever read the output has gone\n"
-    return differing((2, said), (got.returncode, got.stderr.decode()), "broken pipe")
+    return differing((2, ""), (got.returncode, got.stderr.decode()), "broken pipe")
 
 
 def schema_by_itself(_: Path) -> List[str]:

@@ -133,7 +133,7 @@ def problems_of_join(folder: Path) -> List[str]:
     """Whether the listing of the big capture is that of one run, and that it is of eight parts."""
     options = ["--dict", (folder / "bus.toml").read_text(encoding="ascii").strip()]
     one = listed((folder / "big.ts2").read_bytes(), options).stdout
-    count = len(list((folder / "parts").glob("part-*.list")))
+    count = len(list((folder / "big-parts").glob("part-*.list")))
     problems = [] if count == 8 else [f"{count} parts were listed"]
     return problems + ([] if one and (folder / "big.list").read_bytes() == one else ["big.list: not as one run"])
 

@@ -206,7 +206,7 @@ Damage by cause: 1 fcs.
 EMPTY = b"""\
 0.000 s of one line at 153600 bits a second: 0 frames, 0 damaged pieces.
 
-The listing is empty: nothing is known of the bus.
+The listing is empty: nothing is known of the bus. Where a fault was told, mend that first.
 """
 
 NO_FRAMES = b"""\

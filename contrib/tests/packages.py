@@ -347,14 +347,25 @@ def decoder_in_python(folder: Path) -> List[str]:
     return problems
 
 
+def longest_frames() -> str:
+    """Lines for `port1 encode`: frames of 256 octets, nearly all ones, each of which begins at the last bit of an
+    octet. Each idle line before it has fifteen bits, seven more than an octet."""
+    text, bits = "", 0
+    for last in range(0, 256, 5):
+        frame = f"frame {'ff' * 255}{last:02x}\n"
+        idles = (bits + 1) % 8
+        text += "idle\n" * idles + frame
+        bits += 15 * idles + len(encoded(frame))
+    return text
+
+
 def encoder_in_python(folder: Path) -> List[str]:
     """It sends what `port1 encode` does."""
     module = moved(folder) / "lib" / "python"
     problems = []
-    for seed in range(4):
-        text = orders(random.Random(seed), 500)
+    for text in [*(orders(random.Random(seed), 500) for seed in range(4)), longest_frames()]:
         got = python(SENT, [], text.encode(), module)
-        problems += [] if got == packed(encoded(text))[16:] else [f"seed {seed}: other octets: {got[-300:]!r}"]
+        problems += [] if got == packed(encoded(text))[16:] else [f"{text[:80]!r}..: other octets: {got[-300:]!r}"]
     return problems
 
 

@@ -97,6 +97,31 @@ RUNS = [
         lines(BITS),
         EDGES,
     ),
+    *[
+        Run(
+            f"text that is no recording: {text[:9]!r}",
+            [SCRIPT, "0", "1"],
+            text,
+            b"",
+            f"{SCRIPT}: this is text, and neither a VCD nor a CSV with commas; if it is samples, say --format binary\n",
+            2,
+        )
+        for text in [b"clk;data in\n0;1\n1;0\n", b"version = 2\n[[frame]]\n", b"8 49 frame 108300fde5\n"]
+    ],
+    Run(
+        "a dump of sigrok-cli with a line before",
+        [SCRIPT, "clk", "data in"],
+        b"META samplerate: 1000000\n" + DUMP,
+        b"1011\n",
+        f"{SCRIPT}: clk has 4 edges\n",
+    ),
+    Run(
+        "samples that look like letters",
+        [SCRIPT, "0", "1"],
+        bytes(0x40 | clock | data << 1 for clock, data in samples_of(BITS)),
+        lines(BITS),
+        EDGES.replace("clk", "0"),
+    ),
     Run(
         "a table of sigrok, channels by their numbers",
         [SCRIPT, "1", "2"],

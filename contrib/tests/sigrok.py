@@ -441,6 +441,57 @@ def piece_longer_than_what_is_kept(folder: Path) -> List[str]:
     return differences(side_of(got, CONTROLLER), wanted) + ([] if max(lengths) > 10**6 else ["no long piece"])
 
 
+def answer_after(ones: int, count: int) -> str:
+    """A line of so many bits with an answer after some ones."""
+    return ("1" * ones + plain(REPLY)).ljust(count, "1")
+
+
+def reply_time_after_many_bits(folder: Path) -> List[str]:
+    """The bits to an answer are counted where samples have been dropped, too."""
+    built(folder)
+    before = "1" * 150_000
+    first = wave(before + plain(CALL) + "1" * 80, period=4, change=2)
+    second = Wave(answer_after(len(before) + 65, len(first.bits)), first.rises, 2)
+    got = annotations(folder, recording(first, second), f"{CHANNELS}:rxd=3{dictionary_in(folder, DICTIONARY)}")
+    times = [one.text for one in side_of(got, REPLY_TIMES)]
+    return [] if times == ["0.096 ms, 24 bits"] else [f"reply times {times}"]
+
+
+def window_of_an_older_dictionary(folder: Path) -> List[str]:
+    """Version 1 of dictionaries has no windows, so nothing is late by one."""
+    built(folder)
+    first = wave(plain(CALL) + "1" * 80)
+    second = Wave(answer_after(65, len(first.bits)), first.rises, 3)
+    problems = []
+    for version, wanted in [(1, "0.144 ms, 24 bits"), (2, "0.144 ms, 24 bits, late")]:
+        dictionary = dictionary_in(folder, WINDOWS.replace("version = 2", f"version = {version}"))
+        got = annotations(folder, recording(first, second), f"{CHANNELS}:rxd=3{dictionary}")
+        times = [one.text for one in side_of(got, REPLY_TIMES)]
+        problems += [] if times == [wanted] else [f"version {version}: reply times {times}"]
+    return problems
+
+
+# Resets a decoder that was told a sample rate, without sigrok.
+RESET = """\
+import sys, types
+sys.modules["sigrokdecode"] = types.SimpleNamespace(Decoder=object, SRD_CONF_SAMPLERATE=10000)
+from nema_port1 import Decoder
+decoder = Decoder()
+decoder.metadata(10000, 4000000)
+print(decoder.samplerate)
+decoder.reset()
+print(decoder.samplerate)
+"""
+
+
+def reset(folder: Path) -> List[str]:
+    """A decoder that is used again knows nothing of the recording before."""
+    words: List[Word] = ["python3", "-B", "-c", RESET]
+    using = {**os.environ, "PYTHONPATH": str(built(folder))}
+    got = subprocess.run(words, capture_output=True, text=True, env=using, timeout=SECONDS)
+    return [] if got.stdout == "4000000\nNone\n" else [f"{got.stdout}{got.stderr}"]
+
+
 def binary_output(folder: Path) -> List[str]:
     """The text of each line is its bits, all of them, 64 in a line."""
     decoders = built(folder)
@@ -525,6 +576,9 @@ TESTS = [
     commands_that_are_answered,
     answer_that_begins_too_early,
     piece_longer_than_what_is_kept,
+    reply_time_after_many_bits,
+    window_of_an_older_dictionary,
+    reset,
     binary_output,
     dump_of_the_examples,
     faults,

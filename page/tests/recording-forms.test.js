@@ -21,7 +21,7 @@ json.dump([form if form in ("vcd", "csv") else None for form in forms], sys.stdo
 const BEGINNINGS = [
   ...["", "$", "  \r\n\t$date", "\xef\xbb\xbf$date", "\xbf\xbb\xef$", "x$", "\0$", ";", "; a", "a,b\n", "a;b\n", "\t;"],
   ...["0,1\0", "0,1\x7f", "0,1\x80", "\xef\xbb\xbf;", "\xef\xbb\xbf", " ", ",", "\x1b,", "\x0b,", "Time [s],a\r\n"],
-  ...["PK\x03\x04,", "PK\x03\x04", "PK,"],
+  ...["PK\x03\x04,", "PK\x03\x04", "PK,", "META samplerate: 1\n$date", "META samplerate: 1\n\0", "META $date"],
 ];
 
 function octetsOf(text) {

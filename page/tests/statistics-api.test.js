@@ -56,7 +56,7 @@ test("where nothing is wrong, that and the doubts are said", () => {
     assert.deepEqual(wrong(bus), []);
     return [...allIsWell(bus), ...unknown(bus)];
   };
-  assert.deepEqual(said(""), ["The listing is empty: nothing is known of the bus."]);
+  assert.deepEqual(said(""), ["The listing is empty: nothing is known of the bus. Where a fault was told, mend that first."]);
   assert.deepEqual(said("8 49 frame 108300fde5\n"), [
     "Nothing is damaged, and no gap between commands stands out.",
     "The listing was made without a dictionary: which commands were answered, and when, is not known.",

@@ -51,8 +51,7 @@ def status_of(main: Callable[[], Optional[int]]) -> int:
         sys.stdout.flush()
         return status or 0
     except BrokenPipeError:
-        closed_output()
-        warn("write failed: whoever read the output has gone")
+        closed_output()  # whoever read the output has gone, as `head` does, and wants no word of it
     except (Fault, OSError, UnicodeDecodeError) as fault:
         warn(str(fault))
     except KeyboardInterrupt:

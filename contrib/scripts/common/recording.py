@@ -414,15 +414,26 @@ class RowReader:
         return level
 
 
+# A line that sigrok-cli may write before a recording.
+META = re.compile(rb"^META .*\n")
+
+# What is printed and has words and blanks: so samples do not begin, whose higher bits hardly change.
+PRINTED = re.compile(rb"(?s)(?=.*[A-Za-z]{3})(?=.*[ \n])[\t\r\n -~]{16,}")
+
+
 def form_of(begin: bytes) -> str:
-    """The form of a recording that begins with these octets."""
+    """The form of a recording that begins with these octets; printed text of no form is taken for no samples."""
     if begin.startswith(b"PK\3\4"):
         return "session"
-    text = begin.lstrip(b"\xef\xbb\xbf \t\r\n")
+    text = META.sub(b"", begin).lstrip(b"\xef\xbb\xbf \t\r\n")
     if text.startswith(b"$"):
         return "vcd"
     is_text = all(octet in b"\t\r\n" or 32 <= octet < 127 or octet > 127 for octet in begin)
-    return "csv" if is_text and (text.startswith(b";") or b"," in text) else "binary"
+    if is_text and (text.startswith(b";") or b"," in text):
+        return "csv"
+    if PRINTED.fullmatch(begin):
+        raise Fault("this is text, and neither a VCD nor a CSV with commas; if it is samples, say --format binary")
+    return "binary"
 
 
 def recording_of(

@@ -10,7 +10,10 @@ import { Words } from "./words.js";
 /** What may stand before the first word of a recording. */
 const BEFORE_TEXT = Uint8Array.from([0xef, 0xbb, 0xbf, 9, 10, 13, 32]);
 
-const [DOLLAR, SEMICOLON, COMMA] = [36, 59, 44];
+const [LINE_END, DOLLAR, SEMICOLON, COMMA] = [10, 36, 59, 44];
+
+/** How a line begins that sigrok-cli may write before a recording. */
+const META = Uint8Array.from([77, 69, 84, 65, 32]);
 
 /**
  * Of which form a recording is.
@@ -18,7 +21,8 @@ const [DOLLAR, SEMICOLON, COMMA] = [36, 59, 44];
  * @returns {Form|null} none where these octets are of neither form
  */
 export function formOf(head) {
-  const first = head.find((octet) => !BEFORE_TEXT.includes(octet));
+  const start = META.every((octet, at) => head[at] === octet) ? head.indexOf(LINE_END) + 1 : 0;
+  const first = head.subarray(start).find((octet) => !BEFORE_TEXT.includes(octet));
   if (first === DOLLAR) {
     return "vcd";
   }

@@ -199,7 +199,7 @@ export function wrong(bus) {
 
 function lackOf(bus) {
   if (bus.rows === 0) {
-    return "The listing is empty: nothing is known of the bus.";
+    return "The listing is empty: nothing is known of the bus. Where a fault was told, mend that first.";
   }
   if (bus.frames === 0) {
     return "The listing has no frames: the bus had none, or a filter left them out.";
