@@ -244,8 +244,8 @@ uint32_t port1_pair_init(struct port1_pair *pair);
  * A command waits if its entry says that it is answered, its type is below 128 and its station not 255. The next
  * report that is no idle decides on it.
  *
- * PORT1_BAD_ARGUMENT: just where `line` is above 2, the kind or the cause of the report is none that is named above,
- * or a frame has fewer than four octets. Nothing has changed. */
+ * PORT1_BAD_ARGUMENT: just where `line` is above 2, the kind of the report is none that is named above, nor the cause
+ * where the kind is PORT1_DAMAGED, or a frame has fewer than four octets. Nothing has changed. */
 uint32_t port1_pair_take(struct port1_pair *pair, const struct port1_entry *entries, uint64_t entry_count,
                          uint32_t line, const struct port1_report *report, const uint8_t *octets, uint64_t count,
                          struct port1_seen *seen);
