@@ -26,6 +26,9 @@ BUILT = TOP / "page" / "out" / "port1.html"
 # What makes Node run modules with 64-bit memory, which browsers do without being told.
 NODE = ["node", "--no-warnings", "--experimental-wasm-memory64"]
 
+# The test that says how long something may take.
+TIMED = "statistics-api.test.js"
+
 # By how the name of a test begins, the module that the script needs with which it compares.
 MODULES = {"recording": "numpy", "dictionary-check": "jsonschema", "dictionary": "tomllib"}
 
@@ -63,8 +66,11 @@ length = 1
 
 
 class Test(NamedTuple):
+    """A test, and whether it is run by itself: before others that take what it builds, or for the time that it takes."""
+
     name: str
     problems: Callable[[], List[str]]
+    is_alone: bool = False
 
 
 class Job(NamedTuple):
@@ -564,9 +570,9 @@ def problems_of_size(page: Path) -> List[str]:
 
 
 def tests_of(page: Path, is_long: bool) -> Iterator[Test]:
-    yield Test("build", partial(problems_of_build, page))
+    yield Test("build", partial(problems_of_build, page), is_alone=True)
     for file in sorted((TOP / "page" / "tests").glob("*.test.js")):
-        yield Test(f"modules: {file.name}", partial(problems_of_modules, file, is_long))
+        yield Test(f"modules: {file.name}", partial(problems_of_modules, file, is_long), file.name == TIMED)
     yield Test("the layout of the library", problems_of_layout)
     yield Test("listings: examples", partial(problems_of_jobs, page, example_jobs))
     yield Test("listings: talks", partial(problems_of_jobs, page, partial(generated_jobs, 50 if is_long else 13)))

@@ -422,7 +422,7 @@ PRINTED = re.compile(rb"(?s)(?=.*[A-Za-z]{3})(?=.*[ \n])[\t\r\n -~]{16,}")
 
 
 def form_of(begin: bytes) -> str:
-    """The form of a recording that begins with these octets; printed text of no form is taken for no samples."""
+    """The form of a recording that begins with these octets, or "text", which is none."""
     if begin.startswith(b"PK\3\4"):
         return "session"
     text = META.sub(b"", begin).lstrip(b"\xef\xbb\xbf \t\r\n")
@@ -431,15 +431,15 @@ def form_of(begin: bytes) -> str:
     is_text = all(octet in b"\t\r\n" or 32 <= octet < 127 or octet > 127 for octet in begin)
     if is_text and (text.startswith(b";") or b"," in text):
         return "csv"
-    if PRINTED.fullmatch(begin):
-        raise Fault("this is text, and neither a VCD nor a CSV with commas; if it is samples, say --format binary")
-    return "binary"
+    return "text" if PRINTED.fullmatch(begin) else "binary"
 
 
 def recording_of(
     source: BinaryIO, form: str, names: Sequence[str], width: int = 1, ticks: Optional[int] = None
 ) -> Recording:
     """The recording that is read from a source. A rate that is given stands for the one that it says."""
+    if form == "text":
+        raise Fault("this is text, and neither a VCD nor a CSV with commas; if it is samples, say --format binary")
     readers: Dict[str, Callable[[], Recording]] = {
         "vcd": lambda: dump(source, names),
         "csv": lambda: table(source, names),
