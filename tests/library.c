@@ -313,10 +313,21 @@ static void pair_refusals(void) {
     }
 }
 
+/* The cause is read of a damaged piece alone. */
+static void pair_causes(void) {
+    static const struct port1_report others[] = {{PORT1_IDLE, 77, 65, 80}, {PORT1_FRAME, 9, 65, 106}};
+    for (size_t k = 0; k < sizeof others / sizeof *others; k++) {
+        call_waits();
+        WANT(port1_pair_take(&pair, entries, 129, 0, &others[k], reply, sizeof reply, &seen) == PORT1_OK);
+    }
+    WANT(seen.verdict == PORT1_ANSWERED);
+}
+
 int main(void) {
     static void (*const tests[])(void) = {version,       line_init,     no_decoder,   null_octets, feed_arguments,
                                           place_limit,   push_and_open, high_first,   send_refusals, send_lengths,
-                                          fresh_lines,   send_align,    verdicts,     two_lines,   pair_refusals};
+                                          fresh_lines,   send_align,    verdicts,     two_lines,   pair_refusals,
+                                          pair_causes};
     for (size_t k = 0; k < sizeof tests / sizeof *tests; k++)
         tests[k]();
     return wrong;
