@@ -46,7 +46,8 @@ tallies-next text t k c same =
     append_assoc text (tallies_text t k) (tally_text k c)
     ∙ ap (λ l. text ++ l) (ap (λ (c : Counts). tallies_text t k ++ tally_text k c) same ∙ sym (tallies-more t k))
 
-pub pages-tally : (start now : Option (List ℕ)) (page : ArrayVec ℕ) (written : ℕ) (text : List ℕ) (t : ℕ → Counts) (k : ℕ)
+pub pages-tally : (start now : Option (List ℕ)) (page : ArrayVec ℕ) (written : ℕ) (text : List ℕ) (t : ℕ → Counts)
+    (k : ℕ)
     (c : Counts) → c ≡ t k
     → Pages start now page written ((text ++ tallies_text t k) ++ tally_text k c) →
     Pages start now page written (text ++ tallies_text t (k + 1))

@@ -251,7 +251,8 @@ module _ {A X N B : Type 0} (t : TapView A X N B) where
   pub sound-next : (w v : CaptureRun A) (n : ℕ) → 1 ≤ n → t.watch.place v.analyser ≡ t.watch.place w.analyser + n →
       t.watch.place w.analyser + n ≤ 2 ^ 60
       → IsFew (2 * t.watch.place w.analyser + 2) v.teller.summary
-      → v.teller.page.written + array_vec_len v.teller.page.text ≤ w.teller.page.written + array_vec_len w.teller.page.text + 2048
+      → v.teller.page.written + array_vec_len v.teller.page.text ≤ w.teller.page.written + array_vec_len
+      w.teller.page.text + 2048
       → IsSound t w → IsSound t v
   sound-next w v n some place le few octets sound = record {
     places = omega (arith, place, le);

@@ -13,17 +13,20 @@ use Rattle.std.proofs.lemmas.Fmt.{decimal_digit}
 use Rattle.bus_text.specs.declared.places.TheConstants.{PAIRS}
 
 -- what a text is once a part of it was written over
-pub mid-written : (front part after : List ℕ) (new text : List ℕ) (a k : ℕ) → text ≡ front ++ (part ++ after) → length front ≡ a
+pub mid-written : (front part after : List ℕ) (new text : List ℕ) (a k : ℕ) → text ≡ front ++ (part ++ after) →
+    length front ≡ a
     → length part ≡ k → put_mid a k text new ≡ front ++ (new ++ after)
 mid-written front part after new text a k is begin long =
     let before : take a (front ++ (part ++ after)) ≡ front = take_at front (part ++ after) a begin in
     let behind : drop k (drop a (front ++ (part ++ after))) ≡ after =
     ap (drop k) (drop_at front (part ++ after) a begin) ∙ drop_at part after k long in
-    ap (λ l. take a l ++ (new ++ drop k (drop a l))) is ∙ ap (λ l. l ++ (new ++ drop k (drop a (front ++ (part ++ after))))) before
+    ap (λ l. take a l ++ (new ++ drop k (drop a l))) is ∙ ap (λ l. l ++ (new ++ drop k (drop a (front ++
+    (part ++ after))))) before
     ∙ ap (λ l. front ++ (new ++ l)) behind
 
 -- a number was appended, of which these are the digits
-pub adds-digits : (old new : ArrayVec ℕ) (n : ℕ) (digits : List ℕ) → new.items ≡ old.items ++ digits → decimal n ≡ digits
+pub adds-digits : (old new : ArrayVec ℕ) (n : ℕ) (digits : List ℕ) → new.items ≡ old.items ++ digits → decimal n
+    ≡ digits
     → length digits ≤ 3 → Adds old (decimal n) 3 new
 adds-digits old new n digits put is few = record {
   bytes = put ∙ ap (λ l. old.items ++ l) (sym is);

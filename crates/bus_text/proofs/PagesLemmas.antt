@@ -12,12 +12,14 @@ use Rattle.bus_text.specs.declared.page.Page.{Page}
 
 -- what is put on the page comes after the text
 pub pages-more : (start now : Option (List ℕ)) (page page' : ArrayVec ℕ) (written : ℕ) (text more : List ℕ)
-    → page'.items ≡ page.items ++ more → Pages start now page written text → Pages start now page' written (text ++ more)
+    → page'.items ≡ page.items ++ more → Pages start now page written text → Pages start now page' written
+    (text ++ more)
 pages-more start now page page' written text more put pages = record {
   sent = pages.sent;
   out = pages.out;
   count = pages.count;
-  whole = ap (λ t. t ++ more) pages.whole ∙ append_assoc pages.sent page.items more ∙ ap (λ t. pages.sent ++ t) (sym put);
+  whole = ap (λ t. t ++ more) pages.whole ∙ append_assoc pages.sent page.items more ∙ ap (λ t. pages.sent ++ t)
+    (sym put);
 }
 
 -- likewise what is printed on it
@@ -36,7 +38,8 @@ cuts-more start now text more sent cut = record {
 }
 
 -- after an empty page the whole text went out
-pub pages-whole : (start now : Option (List ℕ)) (page : ArrayVec ℕ) (written : ℕ) (text : List ℕ) → array_vec_len page ≡ 0 →
+pub pages-whole : (start now : Option (List ℕ)) (page : ArrayVec ℕ) (written : ℕ) (text : List ℕ) →
+    array_vec_len page ≡ 0 →
     Pages start now page written text → Appends start now text × (written ≡ length text)
 pages-whole start now page written text none pages =
     let whole : text ≡ pages.sent =

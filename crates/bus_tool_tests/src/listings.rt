@@ -130,8 +130,8 @@ fn listed_before(read: u64) -> &'static str {
     }
 }
 
-/// An error of a reader is a fault, and no end of the capture, at whichever read: before a report no line is written, and
-/// a check writes none at all.
+/// An error of a reader is a fault, and no end of the capture, at whichever read: before a report no line is written,
+/// and a check writes none at all.
 #[test]
 fn failing_reads(rt: HostRuntime) {
     let alloc = rt.alloc();

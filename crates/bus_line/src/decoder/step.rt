@@ -45,7 +45,8 @@ impl LineWords {
         ensures stops { IfOk result (λ t. (b : List Bool) →
             After C.check (state self.old check.old (F.octets frame.old)) b → TakesTo b (bits_of count bits) t.count) }
         ensures advances { IfOk result (λ t. Advances C.check (state self.old check.old (F.octets frame.old))
-            (bits_of t.count bits) (option_map (reported (state self.new check.new (F.octets frame.new)).octets) t.event)
+            (bits_of t.count bits)
+            (option_map (reported (state self.new check.new (F.octets frame.new)).octets) t.event)
             (state self.new check.new (F.octets frame.new))) }
         ensures unchanged { OnErr result ((self.new ≡ self.old) × (check.new ≡ check.old)
             × (frame.new ≡ frame.old)) }

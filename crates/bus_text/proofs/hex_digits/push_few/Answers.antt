@@ -10,5 +10,6 @@ returns-clause-bytes g c =
     let zeros = drop (length octets) (replicate 16 0) in
     c.push_octets.ensures
     ∙ ap (λ digits. c.args.text.now.items ++ digits)
-    (ap (take (2 * length octets)) (c.digits_of.ensures ∙ ap (λ copied. hex_of (copied ++ zeros)) c.copy_from_slice.ensures.after)
+    (ap (take (2 * length octets)) (c.digits_of.ensures ∙ ap (λ copied. hex_of (copied ++ zeros))
+    c.copy_from_slice.ensures.after)
     ∙ hex_front octets zeros)

@@ -19,4 +19,5 @@ returns-clause-put g c = λ start text pages.
     ap (λ (b : Bool). if b then [] else line) (sym c.has_none.ensures ∙ c.if-has_none.false) in
     pages-more start (g.W.Write.contents c.make_room.new.w) page c.push_tally.new.text c.make_room.new.self.written text
     (tally_text c.args.station c.args.counts)
-    (c.push_tally.ensures.bytes ∙ ap (λ l. page.items ++ l) (sym told)) (c.in_ok-make_room.ensures.turned start text pages)
+    (c.push_tally.ensures.bytes ∙ ap (λ l. page.items ++ l) (sym told))
+    (c.in_ok-make_room.ensures.turned start text pages)

@@ -11,7 +11,9 @@ use Rattle.bus_line.proofs.line_words.LineWords.advance.Goals as goal
 pub returns-then-rest-eq0-clause-stops : goal.returns-then-rest-eq0-clause-stops
 returns-then-rest-eq0-clause-stops g c = λ b stands.
     let passed = c.past_flags-rest in
-    let shown = shows-flag _ c.args.self.now c.args.check.now (g.F.FrameBuffer.octets c.args.frame.now) b c.requires.sound.within stands in
+    let shown =
+    shows-flag _ c.args.self.now c.args.check.now (g.F.FrameBuffer.octets c.args.frame.now)
+    b c.requires.sound.within stands in
     let all : 8 * passed.result.flags ≡ c.args.count =
     omega (arith, passed.ensures.flags, passed.ensures.count, c.if-rest-eq0.true) in
     stops-all (passed.ensures.past b shown) all c.requires.word.some

@@ -31,7 +31,8 @@ returns-then-calm-count-clause-advances g c =
     let within-shifted : c.from.result ≤ length (bits_of n x) = omega (arith, c.from.ensures, length-bits n x) in
     let lags = subst (λ (j : ℕ). LagsBy view shifted b (take j (bits_of n x)))
     (c.from.ensures ∙ sym c.from-then-calm-count.ensures)
-    (shift-lags _ c.args.self.now c.shift.new.self c.args.check.now (g.F.FrameBuffer.octets c.args.frame.now) b (bits_of n x) _ _
+    (shift-lags _ c.args.self.now c.shift.new.self c.args.check.now (g.F.FrameBuffer.octets c.args.frame.now) b
+    (bits_of n x) _ _
     value stands word within-shifted) in
     behind-calm view _ n x taken old new b calm c.from-then-calm-count.ensures
     (λ calm-so-far. settled.ensures.tracks b (bits_of n x) word within calm-so-far lags))
@@ -63,7 +64,8 @@ returns-clause-advances g c =
     let within-shifted : c.from-2.result ≤ length (bits_of n x) = omega (arith, c.from-2.ensures, last.within) in
     let lags = subst (λ (j : ℕ). LagsBy view shifted b (take j (bits_of n x)))
     (c.from-2.ensures ∙ sym c.from-3.ensures)
-    (shift-lags _ c.args.self.now c.shift-2.new.self c.args.check.now (g.F.FrameBuffer.octets c.args.frame.now) b (bits_of n x) _ _
+    (shift-lags _ c.args.self.now c.shift-2.new.self c.args.check.now (g.F.FrameBuffer.octets c.args.frame.now) b
+    (bits_of n x) _ _
     value stands word within-shifted) in
     let tracks = last-tracks _ _ n m x taken mid b last c.from-3.ensures
     (λ calm-so-far. settled.ensures.tracks b (bits_of n x) word within calm-so-far lags) in

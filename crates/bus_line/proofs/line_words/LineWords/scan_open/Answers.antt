@@ -18,7 +18,8 @@ returns-then-reached-clause-advances g c =
     c.if-reached.true reached.ensures.reaches in
     let decision = c.decide_here-event.ensures in
     decided view stopped decision.longest decision.origin decision.place
-    (decision.answer (g.F.FrameBuffer.octets reached.new.frame)) (decision.after (g.F.FrameBuffer.octets reached.new.frame))
+    (decision.answer (g.F.FrameBuffer.octets reached.new.frame)) (decision.after
+    (g.F.FrameBuffer.octets reached.new.frame))
 
 pub returns-else-reached-clause-advances : goal.returns-else-reached-clause-advances
 returns-else-reached-clause-advances g c =

@@ -20,7 +20,8 @@ returns-then-past-from-clause-advances g c =
 
 pub returns-clause-advances : goal.returns-clause-advances
 returns-clause-advances g c =
-    advances-quiet g.C.Check.check (c.pass_fill-past.ensures.tells c.args.check.now (g.F.FrameBuffer.octets c.args.frame.now))
+    advances-quiet g.C.Check.check (c.pass_fill-past.ensures.tells c.args.check.now
+    (g.F.FrameBuffer.octets c.args.frame.now))
 
 pub returns-clause-sound : goal.returns-clause-sound
 returns-clause-sound g c =

@@ -45,16 +45,20 @@ returns-clause-tells g c = λ _.
             let n : 56 ≤ length (bits_of 56 x) = omega (arith, length-bits 56 x) in
             let next = ap (λ (y : ℕ). record old { place = old.place + 56; last_bits = y })
             (last-bits-next old.last_bits x small) in
-            let lags = shift-lags _ old mid c.args.check.now (g.F.FrameBuffer.octets c.args.frame.now) b (bits_of 56 x) w 56 next h word n in
+            let lags =
+            shift-lags _ old mid c.args.check.now (g.F.FrameBuffer.octets c.args.frame.now) b (bits_of 56 x)
+            w 56 next h word n in
             let shift : w ≡ w / 2 ^ (56 - 56) = omega arith in
             let value = settled.ensures.value
             ∙ (ap (λ (y : ℕ). data_in_word y 56) (word-front old.last_bits x small)
             ∙ (settled-front w 56 (omega arith) ∙ ap (λ (y : ℕ). data_in_word y 56) shift)) in
             all-after _ w 56 x 56 e b (calm b h) refl (λ q.
             word-settled _ began.0 w 56 56 settled.result.count settled.result.bits
-            (state mid c.args.check.now (g.F.FrameBuffer.octets c.args.frame.now)) e b (bits_of 56 x) word n q lags began.1 began.2
+            (state mid c.args.check.now (g.F.FrameBuffer.octets c.args.frame.now)) e b (bits_of 56 x)
+            word n q lags began.1 began.2
             (omega (arith, at, c.requires.open)) value c.append.ensures.holds c.append.ensures.spent
-            (kept-state mid new c.append.new.check c.args.check.now (g.F.FrameBuffer.octets c.append.new.frame) (g.F.FrameBuffer.octets c.args.frame.now)
+            (kept-state mid new c.append.new.check c.args.check.now (g.F.FrameBuffer.octets c.append.new.frame)
+            (g.F.FrameBuffer.octets c.args.frame.now)
             c.append.ensures.kept));
         longest = longest;
         origin = origin;

@@ -27,12 +27,15 @@ returns-clause-tracks g c = λ b stands calm.
     let new = c.append.new.self in
     let e = state new c.append.new.check (g.F.FrameBuffer.octets c.append.new.frame) in
     let settled = c.data_in_turn-settled in
-    let small = last-bits-small (state old c.args.check.now (g.F.FrameBuffer.octets c.args.frame.now)) b stands.has_taken in
+    let small =
+    last-bits-small (state old c.args.check.now (g.F.FrameBuffer.octets c.args.frame.now)) b stands.has_taken in
     let word = word-is old.last_bits x b stands.has_taken.last_bits in
     let within : 56 ≤ length (bits_of 56 x) = omega (arith, length-bits 56 x) in
     let next = ap (λ (y : ℕ). record old { place = old.place + 56; last_bits = y })
     (last-bits-next old.last_bits x small) in
-    let lags = shift-lags _ old mid c.args.check.now (g.F.FrameBuffer.octets c.args.frame.now) b (bits_of 56 x) w 56 next stands word within in
+    let lags =
+    shift-lags _ old mid c.args.check.now (g.F.FrameBuffer.octets c.args.frame.now) b (bits_of 56 x)
+    w 56 next stands word within in
     let told = settles-told old.settles_at c.requires.sound.within.settles_late in
     let opened = settles-open old.settles_at mid.place (first_in old.settles_at) told c.requires.room
     (omega (arith, c.if-self.false)) in
@@ -44,5 +47,6 @@ returns-clause-tracks g c = λ b stands calm.
     subst (λ (z : List Bool). Tracks view e (b ++ z) (current b)) (bits-front 56 56 x (omega arith))
     (word-settled _ opened.0 w 56 56 settled.result.count settled.result.bits d e b (bits_of 56 x) word within calm
     lags opened.1 opened.2 (omega (arith, at, c.if-self.false)) value c.append.ensures.holds c.append.ensures.spent
-    (kept-state mid new c.append.new.check c.args.check.now (g.F.FrameBuffer.octets c.append.new.frame) (g.F.FrameBuffer.octets c.args.frame.now)
+    (kept-state mid new c.append.new.check c.args.check.now (g.F.FrameBuffer.octets c.append.new.frame)
+    (g.F.FrameBuffer.octets c.args.frame.now)
     c.append.ensures.kept))

@@ -24,11 +24,14 @@ returns-then-self-clause-tracks g c = λ b stands calm.
     let w : ℕ = word_of old.last_bits x in
     let mid : LineWords = record old { place = old.place + n; last_bits = c.newest-self.result } in
     let d = state mid c.args.check.now (g.F.FrameBuffer.octets c.args.frame.now) in
-    let small = last-bits-small (state old c.args.check.now (g.F.FrameBuffer.octets c.args.frame.now)) b stands.has_taken in
+    let small =
+    last-bits-small (state old c.args.check.now (g.F.FrameBuffer.octets c.args.frame.now)) b stands.has_taken in
     let word = word-is old.last_bits x b stands.has_taken.last_bits in
     let within : n ≤ length (bits_of 56 x) = omega (arith, c.requires.few, length-bits 56 x) in
     let next = ap (λ (y : ℕ). record old { place = old.place + n; last_bits = y }) (c.newest-self.ensures small) in
-    let lags = shift-lags _ old mid c.args.check.now (g.F.FrameBuffer.octets c.args.frame.now) b (bits_of 56 x) w n next stands word within in
+    let lags =
+    shift-lags _ old mid c.args.check.now (g.F.FrameBuffer.octets c.args.frame.now) b (bits_of 56 x)
+    w n next stands word within in
     let wide = calm-front b x n 56 (n - 1) calm (omega arith) (omega (arith, c.requires.few)) in
     subst (λ (z : List Bool). Tracks view d (b ++ z) (current b)) (bits-front n 56 x c.requires.few)
     (word-unsettled _ old.settles_at w n (first_in old.settles_at) d b (bits_of 56 x) word within wide lags refl
@@ -45,11 +48,14 @@ returns-clause-tracks g c = λ b stands calm.
     let d = state mid c.args.check.now (g.F.FrameBuffer.octets c.args.frame.now) in
     let new = c.append.new.self in
     let e = state new c.append.new.check (g.F.FrameBuffer.octets c.append.new.frame) in
-    let small = last-bits-small (state old c.args.check.now (g.F.FrameBuffer.octets c.args.frame.now)) b stands.has_taken in
+    let small =
+    last-bits-small (state old c.args.check.now (g.F.FrameBuffer.octets c.args.frame.now)) b stands.has_taken in
     let word = word-is old.last_bits x b stands.has_taken.last_bits in
     let within : n ≤ length (bits_of 56 x) = omega (arith, c.requires.few, length-bits 56 x) in
     let next = ap (λ (y : ℕ). record old { place = old.place + n; last_bits = y }) (c.newest-self.ensures small) in
-    let lags = shift-lags _ old mid c.args.check.now (g.F.FrameBuffer.octets c.args.frame.now) b (bits_of 56 x) w n next stands word within in
+    let lags =
+    shift-lags _ old mid c.args.check.now (g.F.FrameBuffer.octets c.args.frame.now) b (bits_of 56 x)
+    w n next stands word within in
     let wide = calm-front b x n 56 (n - 1) calm (omega arith) (omega (arith, c.requires.few)) in
     let told = settles-told old.settles_at c.requires.sound.within.settles_late in
     let opened = settles-open old.settles_at (old.place + n) (first_in old.settles_at) told c.requires.room
@@ -65,5 +71,6 @@ returns-clause-tracks g c = λ b stands calm.
     subst (λ (z : List Bool). Tracks view e (b ++ z) (current b)) (bits-front n 56 x c.requires.few)
     (word-settled _ opened.0 w n c.min-late.result c.data_in_turn.result.count c.data_in_turn.result.bits d e b
     (bits_of 56 x) word within wide lags opened.1 opened.2 late value c.append.ensures.holds c.append.ensures.spent
-    (kept-state mid new c.append.new.check c.args.check.now (g.F.FrameBuffer.octets c.append.new.frame) (g.F.FrameBuffer.octets c.args.frame.now)
+    (kept-state mid new c.append.new.check c.args.check.now (g.F.FrameBuffer.octets c.append.new.frame)
+    (g.F.FrameBuffer.octets c.args.frame.now)
     c.append.ensures.kept))
