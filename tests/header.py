@@ -19,9 +19,9 @@ TOP = Path(__file__).resolve().parent.parent
 SIZES = {"u8": 1, "u16": 2, "u32": 4, "u64": 8, "usize": 8}
 C_TYPES = {"u8": "uint8_t", "u16": "uint16_t", "u32": "uint32_t", "u64": "uint64_t", "usize": "uint64_t"}
 
-# Structs of other crates whose fields the header has among those of the struct that they are in, and what it calls
-# some of these. The last field of each ends where the struct does.
-PARTS = ["crates/bus_line/src/line_words.rt"]
+# Files with structs whose fields the header has among those of the struct that they are in, and what it calls some of
+# these. The last field of each ends where the struct does.
+PARTS = ["crates/bus_line/src/line_words.rt", "crates/port1_c/src/lent_frame.rt"]
 RENAMED = {"len": "count", "register": "check"}
 
 STRUCT = re.compile(r"^((?:#\[[^\n]*\]\n)+)pub struct (\w+) \{\n(.*?)^\}", re.MULTILINE | re.DOTALL)
@@ -87,7 +87,7 @@ class Sources:
         self.layouts: Dict[str, Layout] = {}
         parts = "\n".join((top / part).read_text(encoding="utf-8") for part in PARTS)
         self.parts = structs_of(parts)
-        bodies = structs_of(self.text)
+        bodies = {name: body for name, body in structs_of(self.text).items() if name not in self.parts}
         for name in bodies:
             self.lay_out(name, bodies)
 
