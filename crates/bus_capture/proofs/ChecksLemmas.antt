@@ -126,8 +126,12 @@ none-out : (start now : Option (List ℕ)) (page : ArrayVec ℕ) (written : ℕ)
     Pages start now page written text → Appends start now []
 none-out start now page written text empty pages =
     let none : pages.sent ≡ [] =
-    nil_from_length pages.sent (omega (arith, length-append pages.sent page.items, ap length (sym pages.whole
-    ∙ empty))) in
+    nil_from_length pages.sent (omega (
+      arith,
+      length-append pages.sent page.items,
+      ap length (sym pages.whole
+          ∙ empty),
+    )) in
     subst (Appends start now) none pages.out
 
 -- a fault that ended the reading: without lines no writer is cut off

@@ -19,7 +19,7 @@ pages-more start now page page' written text more put pages = record {
   out = pages.out;
   count = pages.count;
   whole = ap (λ t. t ++ more) pages.whole ∙ append_assoc pages.sent page.items more ∙ ap (λ t. pages.sent ++ t)
-    (sym put);
+      (sym put);
 }
 
 -- likewise what is printed on it

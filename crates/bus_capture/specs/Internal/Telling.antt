@@ -28,7 +28,7 @@ pub record Tells (d : List FrameType) (old : Teller) (before : Option (List ℕ)
       → new.summary ≡ summary_of (all ++ seen)
   pub few : (most : ℕ) → IsFew most old.summary → IsFew (most + length seen) new.summary
   pub octets : new.page.written + array_vec_len new.page.text ≤ old.page.written + array_vec_len old.page.text + 1024
-    * length seen
+      * length seen
 
 -- so many reports more can be told
 abbrev pub HasRoom : Teller → ℕ → Type 0
