@@ -1,7 +1,8 @@
 # Builds, tests and installs the program, the scripts and the C library.
 #
-#     make                              proves and builds program and library, with `rt`, where anything has changed
-#     make check                        tests the program, the libraries' use of memory, the scripts and the page
+#     make                              proves and builds program and library, with `rt`, where anything has changed, and
+#                                       reports how far it is
+#     make check                        runs the tests of the gate without the proofs (tests/run)
 #     make version                      writes the program's version into header, man page, Python module and docs/C.md
 #     make page                         builds the page, page/out/port1.html: the analyser as one file for a browser
 #     make install PREFIX=$HOME/.local  all of the following
@@ -55,7 +56,7 @@ CONTRIB = find contrib -name tests -prune -o -name __pycache__ -prune -o ! -name
 SCRIPTS = find contrib -maxdepth 1 -type f -perm -u+x ! -name self-test
 SPECS = find crates -name out -prune -o -path '*/specs/Internal' -prune -o -path '*/specs/*.antt' -type f
 
-# The folders that may be empty in the end, each after those in it. Those that a system has anyway stay there.
+# The folders that may be empty in the end, inner ones first. Folders of the system itself stay.
 FOLDERS = "$(MANDIR)" "$(BASHDIR)" "$(DATADIR)/bash-completion" "$(ZSHDIR)" "$(DATADIR)/zsh" "$(FISHDIR)" \
 	"$(DATADIR)/fish" "$(PKGCONFIGDIR)" "$(CMAKEDIR)" "$(LIBDIR)/cmake" \
 	$(if $(PYTHONDIR),"$(PYTHONDIR)") $(if $(SYSTEM),,$(COMMON_FOLDERS))
@@ -64,30 +65,26 @@ SYSTEM = $(if $(DESTDIR),,$(filter /usr /usr/local,$(PREFIX)))
 
 # `rt` knows what has changed.
 all:
-	cd crates/port1 && rt run -- --version
-	cd crates/port1_c && rt lib
+	packages/build port1 run -- --version
+	packages/build port1_c lib
 
 # These two only make what is not there.
 $(PROGRAM):
-	cd crates/port1 && rt run -- --version
+	packages/build port1 run -- --version
 
 crates/port1_c/out/libport1_c.a:
-	cd crates/port1_c && rt lib
+	packages/build port1_c lib
 
 crates/port1_c/out/%/libport1_c.a:
 	contrib/mcu/build crates/port1_c/out '$*'
 
-# The linker is told to refuse an archive that is not position independent.
+# The linker refuses an archive that is not position independent.
 %/$(SONAME): %/libport1_c.a packages/libport1.map
 	$(CC) -shared -o $@ -Wl,-soname,$(SONAME) -Wl,-z,text -Wl,--version-script=packages/libport1.map \
 		-Wl,--whole-archive $< -Wl,--no-whole-archive
 
 check: $(PROGRAM)
-	tests/program
-	tests/memory
-	tests/promises
-	contrib/self-test
-	tests/page
+	tests/run
 
 page:
 	page/build
@@ -111,7 +108,7 @@ install-scripts:
 	install -d "$(DESTDIR)$(BINDIR)" "$(DESTDIR)$(OWNDIR)/docs"
 	$(EXAMPLES) -exec install -D -m 644 '{}' "$(DESTDIR)$(OWNDOCDIR)/{}" ';'
 	install -m 644 $(wildcard *.md) "$(DESTDIR)$(OWNDIR)"
-	install -m 644 $(wildcard docs/*.md docs/*.toml) "$(DESTDIR)$(OWNDIR)/docs"
+	install -m 644 $(wildcard docs/*.md docs/*.toml docs/*.png) "$(DESTDIR)$(OWNDIR)/docs"
 	$(CONTRIB) -type f -perm -u+x -exec install -D -m 755 '{}' "$(DESTDIR)$(OWNDIR)/{}" ';'
 	$(CONTRIB) -type f ! -perm -u+x -exec install -D -m 644 '{}' "$(DESTDIR)$(OWNDIR)/{}" ';'
 	$(SPECS) -exec install -D -m 644 '{}' "$(DESTDIR)$(OWNDIR)/{}" ';'
@@ -120,7 +117,7 @@ install-scripts:
 	ln -sfnr "$(DESTDIR)$(EXAMPLEDIR)" "$(DESTDIR)$(OWNDIR)/examples"
 	$(SCRIPTS) -exec ln -sfr "$(DESTDIR)$(OWNDIR)/{}" "$(DESTDIR)$(BINDIR)" ';'
 
-# A file of packages, where it is installed: paths are told from there, so that all of it may be moved.
+# A file of packages, where it is installed: its paths are relative, so that all of it may be moved.
 from-there = $$(realpath -ms --relative-to="$(2)" "$(1)")
 fill-in = sed -e "s|@PREFIX@|$(call from-there,$(PREFIX),$(2))|; s|@LIBDIR@|$(call from-there,$(LIBDIR),$(2))|" \
 	-e "s|@INCLUDEDIR@|$(call from-there,$(INCLUDEDIR),$(2))|; s|@VERSION@|$(VERSION)|; s|@SONAME@|$(SONAME)|" \
@@ -148,7 +145,7 @@ endif
 dist:
 	VERSION=$(VERSION) packages/dist
 
-# Which links there are is told by the scripts that are installed, which need not be those of today.
+# The links are those of the installed scripts, which need not be the scripts of today.
 uninstall:
 	for script in "$(DESTDIR)$(OWNDIR)"/contrib/*; do link="$(DESTDIR)$(BINDIR)/$${script##*/}"; \
 		test ! "$$link" -ef "$$script" || rm -f "$$link"; done

@@ -19,9 +19,9 @@
  *   - where a call refuses, with PORT1_BAD_STATE, PORT1_BAD_ARGUMENT, PORT1_BAD_LENGTH or PORT1_NO_ROOM,
  *     nothing has changed but what is said there.
  *
- * A line of zeros, and one whose numbers are out of a decoder's range, is refused as PORT1_BAD_STATE. Any
- * other content is read as some decoder, and reports what that one would: a call on a line that was damaged
- * or never made is safe and ends all the same, but its reports mean nothing.
+ * A line of zeros, and one whose numbers are out of a decoder's range, is refused as PORT1_BAD_STATE. With any
+ * other content, as of a line that was damaged or never made, a call is safe and ends all the same, but its
+ * reports mean nothing.
  *
  * The library has no writable data, asks for no memory and calls nothing but memcpy and memset, and on 32-bit
  * targets what the compiler's own library has for 64-bit numbers. As it shares nothing between calls, calls on

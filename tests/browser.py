@@ -15,6 +15,25 @@ from typing import Any, Dict, Iterator, List, Optional, Sequence
 # How long anything may take, in seconds.
 PATIENCE = 120.0
 
+# Keys by their names, as WebDriver has them.
+KEYS = {
+    "Tab": "\ue004",
+    "Enter": "\ue007",
+    "Escape": "\ue00c",
+    "End": "\ue010",
+    "Home": "\ue011",
+    "ArrowLeft": "\ue012",
+    "ArrowUp": "\ue013",
+    "ArrowRight": "\ue014",
+    "ArrowDown": "\ue015",
+}
+
+# In how many steps a pointer is moved, so that the page draws meanwhile.
+STEPS = 8
+
+# A4, in centimetres.
+PAPER = {"width": 21.0, "height": 29.7}
+
 FIREFOX_SETTINGS = """\
 user_pref("remote.active-protocols", 1);
 user_pref("datareporting.policy.dataSubmissionEnabled", false);
@@ -95,9 +114,31 @@ class Session:
         file.write_bytes(base64.b64decode(found["data"]))
 
     def printed(self) -> bytes:
-        """The page as it is printed: a PDF."""
-        found = self.call("browsingContext.print", {"context": self.context})
+        """The page as it is printed on A4: a PDF."""
+        found = self.call("browsingContext.print", {"context": self.context, "page": PAPER})
         return base64.b64decode(found["data"])
+
+    def press(self, *keys: str) -> None:
+        """Presses keys one after the other."""
+        strokes = [{"type": kind, "value": KEYS.get(key, key)} for key in keys for kind in ("keyDown", "keyUp")]
+        self.act({"type": "key", "id": "keys", "actions": strokes})
+
+    def drag(self, begin: Sequence[float], end: Sequence[float], kind: str = "mouse") -> None:
+        """Moves from one point of the window to another, a button or a finger down."""
+        self.act(dragged(kind, kind, begin, end))
+
+    def spread(self, x: float, y: float, begin: float, end: float) -> None:
+        """Moves two fingers away from a point of the window, each from one distance to another."""
+        ways = [((x + side * begin, y), (x + side * end, y)) for side in (-1, 1)]
+        self.act(*(dragged(f"finger {number}", "touch", *way) for number, way in enumerate(ways)))
+
+    def turn(self, x: float, y: float, by: int) -> None:
+        """Turns the wheel over a point of the window."""
+        scroll = {"type": "scroll", "x": round(x), "y": round(y), "deltaX": 0, "deltaY": by}
+        self.act({"type": "wheel", "id": "wheel", "actions": [scroll]})
+
+    def act(self, *sources: Dict[str, Any]) -> None:
+        self.call("input.performActions", {"context": self.context, "actions": list(sources)})
 
     def size(self, width: int, height: int) -> None:
         words = {"context": self.context, "viewport": {"width": width, "height": height}}
@@ -107,6 +148,14 @@ class Session:
         """What the page wrote to the console as errors, the refusals of its security policy among them."""
         said = [event["params"] for event in self.events if event.get("method") == "log.entryAdded"]
         return [entry["text"] for entry in said if entry["level"] == "error"]
+
+
+def dragged(name: str, kind: str, begin: Sequence[float], end: Sequence[float]) -> Dict[str, Any]:
+    """What a pointer does that is moved, pressed, moved step by step, and let go."""
+    ways = [[one + (other - one) * step / STEPS for one, other in zip(begin, end)] for step in range(STEPS + 1)]
+    moves = [{"type": "pointerMove", "x": round(x), "y": round(y), "duration": 40} for x, y in ways]
+    steps = [moves[0], {"type": "pointerDown", "button": 0}, *moves[1:], {"type": "pointerUp", "button": 0}]
+    return {"type": "pointer", "id": name, "parameters": {"pointerType": kind}, "actions": steps}
 
 
 def connected(address: str) -> Any:
@@ -148,9 +197,10 @@ def running(words: Sequence[str], folder: Path) -> Iterator[None]:
 
 
 @contextmanager
-def chromium(folder: Path) -> Iterator[Session]:
+def chromium(folder: Path, is_dark: bool = False) -> Iterator[Session]:
     port = free_port()
-    options = {"args": ["--headless=new", "--no-sandbox", "--disable-gpu", f"--user-data-dir={folder / 'chromium'}"]}
+    words = ["--headless=new", "--no-sandbox", "--disable-gpu", f"--user-data-dir={folder / 'chromium'}"]
+    options = {"args": [*words, *["--force-dark-mode"] * is_dark]}
     wanted = {"alwaysMatch": {"webSocketUrl": True, "goog:chromeOptions": options}}
     with running(["chromedriver", f"--port={port}"], folder):
         opened = asked(f"http://127.0.0.1:{port}/session", {"capabilities": wanted})["value"]
@@ -183,11 +233,12 @@ def asked(address: str, body: Optional[Dict[str, Any]], method: str = "POST") ->
 
 
 @contextmanager
-def firefox(folder: Path) -> Iterator[Session]:
+def firefox(folder: Path, is_dark: bool = False) -> Iterator[Session]:
     port = free_port()
     profile = folder / "firefox"
     profile.mkdir()
-    (profile / "user.js").write_text(FIREFOX_SETTINGS, encoding="utf-8")
+    dark = 'user_pref("layout.css.prefers-color-scheme.content-override", 0);\n' if is_dark else ""
+    (profile / "user.js").write_text(FIREFOX_SETTINGS + dark, encoding="utf-8")
     words = ["firefox-esr", "--headless", "--no-remote", f"--remote-debugging-port={port}", "--profile", str(profile)]
     with running(words, folder):
         session = Session(connected(f"ws://127.0.0.1:{port}/session"))

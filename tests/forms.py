@@ -1,8 +1,8 @@
-"""Looks at the form of documents and sources: how wide their lines are, and the counts of lines that a document has."""
+"""Looks at the form of documents and sources: the width of lines, links, and the lists of definitions and changes."""
 
 import re
 from pathlib import Path
-from typing import Dict, Iterator, List, Tuple
+from typing import Dict, Iterator, List, Set, Tuple
 
 TOP = Path(__file__).resolve().parent.parent
 
@@ -17,20 +17,24 @@ ONE_IMPORT = re.compile(r"(ghost )?use [^ ,]+\{[^ ,]+\};?")
 # Where a link goes, which does not count.
 TARGET = re.compile(r"(?<=\])\([^)\s]*\)")
 
-# The document with two tables of the definitions, their rows, and the line with their sum.
+# The document with the table of the framing definition, its rows, and the line with their sum.
 COUNTED = "docs/ARCHITECTURE.md"
 
 ROW = re.compile(r"^\| `(\w+/specs/\w+\.antt)` \| (\d+) \|", re.MULTILINE)
 
-SUM = re.compile(r"^Together (\d+) lines\.$", re.MULTILINE)
+SUM = re.compile(r"^These six have (\d+) lines\.", re.MULTILINE)
 
-# The document that tells which files a change touches, and the table there.
+# The document that lists the other definitions, by crate.
+LISTED = "docs/DEFINITIONS.md"
+
+LISTED_ROW = re.compile(r"^\| ((?:`\w+` )?)\| (`\w+`(?:, `\w+`)*) \|", re.MULTILINE)
+
+# The document with the table of changes, and the files that name a thing of a kind, at least.
 GUIDE = "CONTRIBUTING.md"
 
-CHANGES = re.compile(r"^\| Change \|.*\n\|[-|]+\n((?:\|.*\n)+)", re.MULTILINE)
+LEAST_FILES = 3
 
-# Of the first of its tables the line with the sum.
-CORE_SUM = re.compile(r"^These six have (\d+) lines\.", re.MULTILINE)
+CHANGES = re.compile(r"^\| Change \|.*\n\|[-|]+\n((?:\|.*\n)+)", re.MULTILINE)
 
 # Files of specs that define nothing of their own: they list others.
 LISTS = {"Lib.antt", "Internal.antt"}
@@ -60,6 +64,26 @@ def problems_of_width(document: str) -> List[str]:
     ]
 
 
+def anchors_of(path: Path) -> Set[str]:
+    """The anchors of a document's headings, as GitHub and GitLab make them."""
+    titles = re.findall(r"^#+ (.*)$", path.read_text(encoding="utf-8"), re.MULTILINE)
+    return {re.sub(r"[^\w\- ]", "", title.lower()).replace(" ", "-") for title in titles}
+
+
+def problems_of_links(document: str) -> Iterator[str]:
+    """The links to documents and headings that are not there."""
+    path = TOP / document
+    for link in re.findall(r"\]\(([^)\s]+)\)", path.read_text(encoding="utf-8")):
+        name, _, anchor = link.partition("#")
+        there = path.parent / name if name else path
+        if re.match(r"\w+:", link):
+            continue
+        if not there.exists():
+            yield f"there is no {link}"
+        elif anchor and anchor not in anchors_of(there):
+            yield f"{there.name} has no heading {anchor}"
+
+
 def sources(crate: Path) -> List[Path]:
     """The sources, definitions and proofs of a crate."""
     return [
@@ -86,24 +110,32 @@ def lines_of_definitions() -> Dict[str, int]:
 
 
 def problems_of_counts() -> List[str]:
-    """Where the table of definitions differs from the files."""
+    """Where the table of the framing definition differs from the files."""
     text = (TOP / COUNTED).read_text(encoding="utf-8")
-    told = {name: int(lines) for name, lines in ROW.findall(text)}
+    stated = {name: int(lines) for name, lines in ROW.findall(text)}
     there = lines_of_definitions()
-    problems = [f"it has no row for {name}, of {there[name]} lines" for name in there if name not in told]
-    problems += [f"there is no file crates/{name}: take its row away" for name in told if name not in there]
-    problems += [
-        f"{name} has {there[name]} lines: write that in place of {lines}"
-        for name, lines in told.items()
-        if there.get(name, lines) != lines
+    problems = [
+        f"{name} has {there.get(name, 'no')} lines: write that in place of {lines}"
+        for name, lines in stated.items()
+        if there.get(name) != lines
     ]
-    core = sum(there.get(name, 0) for name, _ in ROW.findall(text)[:6])
-    if CORE_SUM.findall(text) != [str(core)]:
-        problems.append(f"the first six files have {core} lines: write `These six have {core} lines.`")
-    sums = SUM.findall(text)
-    if sums != [str(sum(there.values()))]:
-        problems.append(f"all files have {sum(there.values())} lines: write `Together {sum(there.values())} lines.`")
+    total = sum(there.get(name, 0) for name in stated)
+    if SUM.findall(text) != [str(total)]:
+        problems.append(f"these files have {total} lines: write `These six have {total} lines.`")
     return problems
+
+
+def problems_of_list() -> List[str]:
+    """Where the list of the other definitions differs from the files."""
+    listed, crate = [], ""
+    for first, names in LISTED_ROW.findall((TOP / LISTED).read_text(encoding="utf-8")):
+        crate = first.strip(" `") or crate
+        listed += [f"{crate}/specs/{name}.antt" for name in re.findall(r"`(\w+)`", names)]
+    framing = {name for name, _ in ROW.findall((TOP / COUNTED).read_text(encoding="utf-8"))}
+    wanted = set(lines_of_definitions()) - framing
+    problems = [f"it lacks crates/{name}" for name in sorted(wanted - set(listed))]
+    problems += [f"there is no crates/{name}, or it is listed twice" for name in listed if name not in wanted]
+    return problems + [f"{name} is listed twice" for name in sorted(set(listed)) if listed.count(name) > 1]
 
 
 def folder_of(path: Path) -> Path:
@@ -113,26 +145,39 @@ def folder_of(path: Path) -> Path:
     return path.parent
 
 
+def files_with(word: str) -> int:
+    """How many sources and definitions of the crates name a thing, in capitals or small letters."""
+    form = re.compile(rf"\b{word}\b", re.IGNORECASE)
+    crates = [path for path in CRATES.iterdir() if (path / "src").is_dir()]
+    texts = (path.read_text(encoding="utf-8") for crate in crates for path in sources(crate) if "proofs" not in path.parts)
+    return sum(1 for text in texts if form.search(text))
+
+
 def problems_of_changes() -> List[str]:
-    """The files that the table of changes names and that are not there."""
+    """The things that the table of changes names and hardly a file has, and its files that are not there."""
     problems = []
     for row in "".join(CHANGES.findall((TOP / GUIDE).read_text(encoding="utf-8"))).splitlines():
-        cells = row.strip("| ").split(" | ")
-        for group in "; ".join(cells[1:]).split("; "):
+        change, thing, also = row.strip("| ").split(" | ")
+        count = files_with(thing.strip("`"))
+        if count < LEAST_FILES:
+            problems.append(f"{change}: {count} files of the crates name {thing}")
+        for group in also.split("; "):
             folder = TOP
             for name in re.findall(r"`([\w/-]+(?:\.\w+)*)`", group):
                 found = [path for path in (folder / name, CRATES / name, TOP / name) if path.exists()]
                 if found and "/" in name:
                     folder = folder_of(found[0])
-                elif not found:
-                    problems.append(f"{cells[0]}: there is no {name}")
-    return problems
+                elif not found and re.search(r"[/.]", name):
+                    problems.append(f"{change}: there is no {name}")
+    return problems or ([] if CHANGES.search((TOP / GUIDE).read_text(encoding="utf-8")) else ["it has no table of changes"])
 
 
 def results_of_forms() -> Iterator[Tuple[str, List[str]]]:
     for document in documents():
         yield f"{document}: the width of its prose", problems_of_width(document)
-    yield f"{GUIDE}: the files that a change touches", problems_of_changes()
+        yield f"{document}: its links", [*problems_of_links(document)]
+    yield f"{GUIDE}: the files of a change", problems_of_changes()
     for crate in sorted(path for path in CRATES.iterdir() if path.is_dir()):
         yield f"crates/{crate.name}: the width of its lines", problems_of_source(crate)
-    yield f"{COUNTED}: the lines of the definitions", problems_of_counts()
+    yield f"{COUNTED}: the lines of the framing definition", problems_of_counts()
+    yield f"{LISTED}: the definitions of each crate", problems_of_list()

@@ -14,7 +14,7 @@ from typing import Any, Callable, Dict, Iterator, List, NamedTuple, Optional, Se
 
 import browser
 from built import newest_of, sources_of
-from library import Bench, captures, damaged, octets_of, talk, traffic
+from library import Bench, captures, octets_of, talk, traffic
 from needs import NODE_MODULES, Skipped, needs, needs_file, needs_module
 
 TOP = Path(__file__).resolve().parent.parent
@@ -135,7 +135,8 @@ def problems_of_layout() -> List[str]:
 def sources_of_page() -> Iterator[Path]:
     page = TOP / "page"
     yield from [page / "build", page / "index.html", page / "style.css", *(page / "src").rglob("*.js")]
-    yield from [TOP / "examples" / "dictionary.schema.json", TOP / "crates" / "bus_tool" / "src" / "arguments.rt"]
+    examples = [TOP / "examples" / name for name in ("dictionary.schema.json", "port1-failure.bits", "port1-failure.toml")]
+    yield from [*examples, TOP / "crates" / "bus_tool" / "src" / "arguments.rt"]
     yield from sources_of(TOP, "port1_c")
 
 
@@ -313,12 +314,14 @@ def problems_of_recording(page: Path, name: str, channels: Sequence[str]) -> Lis
 
 
 @contextmanager
-def opened(name: str, address: str) -> Iterator[browser.Session]:
+def opened(
+    name: str, address: str, size: Tuple[int, int] = (1366, 768), is_dark: bool = False
+) -> Iterator[browser.Session]:
     needs(*browser.BROWSERS[name][1])
     needs_module("websocket")
     with tempfile.TemporaryDirectory(prefix="port1-") as folder:
-        with browser.BROWSERS[name][0](Path(folder)) as session:
-            session.size(1280, 900)
+        with browser.BROWSERS[name][0](Path(folder), is_dark) as session:
+            session.size(*size)
             session.visit(address)
             yield session
 
@@ -338,7 +341,7 @@ def read_file(session: browser.Session, files: Sequence[Path]) -> None:
     """Chooses files, and waits until they are read."""
     session.value("void (document.getElementById('status').textContent = '')")
     session.set_files("#files", files)
-    session.wait_until("/ lines in | no |fault|is no|Say which/.test(document.getElementById('status').textContent)")
+    session.wait_until("!/^$|^Reading /.test(document.getElementById('status').textContent)")
 
 
 def text_of(session: browser.Session, selector: str) -> str:
@@ -535,24 +538,40 @@ def problems_of_wires(page: Path, name: str) -> List[str]:
         return problems + [f"the console says {text}" for text in session.complaints()]
 
 
+# Notes of recording-to-bits, and what the report shows where.
+NOTES = "recording-to-bits: TXC has 9 edges\nrecording-to-bits: warning: TXC has an edge too early (at 0.250000 s)\n"
+
+REPORTED = [
+    ("#title", "^Cabinet <7> & more$"),
+    ("#verdict-word", "^Fault$"),
+    ("#sentences", "until the recording ends at 65.104 s"),
+    ("#facts", "^port1-failure.bits"),
+    ("#recording", "SHA-256[0-9a-f]{64}$"),
+    ("#notes", "TXC has 9 edges"),
+    ("#warnings", "TXC has edges that come too early.*At 0.250 s"),
+    ("#dictionary-text", "name = .outputs."),
+]
+
+
 def problems_of_report(page: Path, name: str) -> List[str]:
-    """Whether a report shows what the page does, and prints."""
+    """Whether a report shows what the page does, and what it is of, and prints."""
     engine_of(page)
     bench()
-    content = (TOP / "examples" / "port1-failure.bits").read_text()
-    dictionary = TOP / "examples" / "port1-failure.toml"
-    wanted, _ = program_lists(text_job("", content, 1 + any(mark in content for mark in "23"), dictionary.read_text()))
-    words = [str(TOP / "contrib" / "list-to-page"), f"--page={page}", f"--dictionary={dictionary}", "Cabinet <7> & more"]
-    made = subprocess.run(words, input=wanted.encode(), capture_output=True)
-    if made.returncode != 0:
-        return [made.stderr.decode()]
+    capture, dictionary = (TOP / "examples" / f"port1-failure.{form}" for form in ("bits", "toml"))
+    wanted, _ = program_lists(text_job("", capture.read_text(), 2, dictionary.read_text()))
     with tempfile.TemporaryDirectory(prefix="port1-") as folder:
-        report = Path(folder, "report.html")
-        report.write_bytes(made.stdout)
+        report, notes = Path(folder, "report.html"), Path(folder, "notes")
+        notes.write_text(NOTES)
+        words = [f"--page={page}", f"--dictionary={dictionary}", f"--recording={capture}", f"--notes={notes}"]
+        words.append("--bits=9999999")
+        command = [str(TOP / "contrib" / "list-to-page"), *words, "Cabinet <7> & more"]
+        report.write_bytes(subprocess.run(command, input=wanted.encode(), stdout=subprocess.PIPE, check=True).stdout)
         with opened(name, report.as_uri()) as session:
             session.wait_until("/ lines in /.test(document.getElementById('status').textContent)")
             problems = [] if shown_text(session) == wanted else ["the listing is not the one that was given"]
             problems += [] if session.value("document.title") == "Cabinet <7> & more" else ["the title is another"]
+            shown = ((selector, pattern, text_of(session, selector)) for selector, pattern in REPORTED)
+            problems += [f"{selector} is {text!r}" for selector, pattern, text in shown if not re.search(pattern, text)]
             problems += problems_of_table(session, summary_of(wanted))
             problems += [] if len(session.printed()) > 10000 else ["nothing is printed"]
             return problems + [f"the console says {text}" for text in session.complaints()]
@@ -567,6 +586,26 @@ def problems_of_size(page: Path) -> List[str]:
         if word in text.replace("wasm-unsafe-eval'", "").partition("<body>")[0]:
             problems.append(f"its head has {word}")
     return problems + ([] if "default-src 'none'" in text else ["its policy lets something in"])
+
+
+# ---- the picture in the documents
+
+# Its size, and its octets, at most.
+SIZE_OF_PICTURE = (1160, 660)
+MOST_OF_PICTURE = 200_000
+
+
+def take_picture(page: Path, file: Path) -> List[str]:
+    """Writes a picture of the verdict on the example of faults, as Chromium shows it on a laptop."""
+    examples = TOP / "examples"
+    with opened("chromium", address_of(page)) as session:
+        session.size(*SIZE_OF_PICTURE)
+        read_file(session, [examples / "port1-failure.toml", examples / "port1-failure.bits"])
+        session.wait_until("document.querySelector('#timeline .mark')", 20)
+        session.value("void document.getElementById('result').scrollIntoView()")
+        session.picture(file, whole=False)
+    octets = file.stat().st_size
+    return [] if octets <= MOST_OF_PICTURE else [f"{file} has {octets} octets, over {MOST_OF_PICTURE}"]
 
 
 def tests_of(page: Path, is_long: bool) -> Iterator[Test]:

@@ -21,6 +21,8 @@ TOP = Path(__file__).resolve().parent.parent
 # The documents with examples.
 DOCUMENTS = [
     "README.md",
+    "docs/CAPTURES.md",
+    "docs/TESTING-EQUIPMENT.md",
     "docs/DICTIONARY.md",
     "docs/TROUBLESHOOTING.md",
     "docs/COOKBOOK.md",
@@ -46,7 +48,7 @@ FAULT = re.compile(r"(?:.*\n)*port1: .*\n")
 
 # The lines with other statuses, by their beginnings.
 STATUSES = {
-    'port1 check --bits --dict "$DICT" < examples/missing-and-spoilt.bits': 1,
+    'port1 check --bits --dict "$(cat examples/call-and-reply.toml)" < examples/missing-and-spoilt.bits': 1,
     "diff before.txt after.txt": 1,
     "contrib/recording-to-bits clock dat < examples/one-call.vcd": 2,
     "contrib/check-dictionary cab.toml": 1,

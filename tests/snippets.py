@@ -1,8 +1,8 @@
 """Sees that the code in documents is that of the crate of examples, which is proved.
 
 A document shows code between a line of three backquotes with `rust` and one without. Each paragraph of it
-has to stand in a source of the crate, line by line, but for indentation and the contracts. The sizes that the
-README tells have to be those that a test of the crate compares.
+has to stand in a source of the crate, line by line, but for indentation and the contracts. The sizes in
+docs/RATTLE.md have to be those that a test of the crate compares.
 """
 
 import re
@@ -13,8 +13,11 @@ TOP = Path(__file__).resolve().parent.parent
 
 SOURCES = TOP / "crates" / "bus_examples" / "src"
 
+# The document with the sizes of types.
+SIZES = "docs/RATTLE.md"
+
 DOCUMENTS = [
-    "README.md",
+    SIZES,
     "crates/bus_line/src/lib.rt",
     "crates/bus_watch/src/lib.rt",
     "crates/bus_dictionary/src/lib.rt",
@@ -26,8 +29,8 @@ FENCED = re.compile(r"^```rust\n(.*?)^```$", re.MULTILINE | re.DOTALL)
 CONTRACT = re.compile(r"\n +(?:requires|ensures)\b.*?\n\{$", re.MULTILINE | re.DOTALL)
 
 
-# What the README says of a type's size, and what the test does.
-TOLD_SIZE = re.compile(r"`(\w+)`\s+has (\d+)\s+octets")
+# What the document says of a type's size, and what the test does.
+STATED_SIZE = re.compile(r"`(\w+)`\s+has (\d+)\s+octets")
 
 TESTED_SIZE = re.compile(r"size_of::<(\w+)<OctetCheck>>\(\), (\d+)\)")
 
@@ -48,18 +51,18 @@ def paragraphs_of(document: str) -> List[str]:
 
 
 def problems_of_sizes() -> Iterator[str]:
-    """What the README says of sizes and no test compares, and what a test compares and the README does not say."""
-    told = set(TOLD_SIZE.findall((TOP / "README.md").read_text(encoding="utf-8")))
+    """What the document says of sizes and no test compares, and what a test compares and the document lacks."""
+    stated = set(STATED_SIZE.findall((TOP / SIZES).read_text(encoding="utf-8")))
     tested = set(TESTED_SIZE.findall((SOURCES / "tests.rt").read_text(encoding="utf-8")))
     if not tested:
         yield "no test compares a size"
-    for name, octets in sorted(told ^ tested):
-        yield f"{name} of {octets} octets: {'no test' if (name, octets) in told else 'not in the README'}"
+    for name, octets in sorted(stated ^ tested):
+        yield f"{name} of {octets} octets: {'no test' if (name, octets) in stated else f'not in {SIZES}'}"
 
 
 def results_of_snippets() -> Iterator[Tuple[str, List[str]]]:
     """For each paragraph of code in a document, whether an example has it, and of sizes, whether they are tested."""
-    yield "README.md tells sizes", list(problems_of_sizes())
+    yield f"{SIZES}: sizes", list(problems_of_sizes())
     sources = [bare(without_contracts(path.read_text(encoding="utf-8"))) for path in sorted(SOURCES.glob("*.rt"))]
     for document in DOCUMENTS:
         paragraphs = paragraphs_of(document)

@@ -9,7 +9,7 @@ static struct port1_line line;
 static uint32_t reports[6];
 
 static void feed(const uint8_t *octets, uint32_t count) {
-    struct port1_report report;
+    static struct port1_report report;
     uint64_t at = 0;
     while (at < 8 * count && port1_line_feed(&line, octets, count, &at, 8 * count, &report) == PORT1_OK)
         reports[report.kind]++;

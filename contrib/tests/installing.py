@@ -112,7 +112,7 @@ MADE = {
 def sources_by_place() -> Iterator[Tuple[str, Path]]:
     """Where each file is installed that is one of this repository."""
     yield from ((place, TOP / source) for place, source in SAME_FILES.items())
-    for form in ["*.md", "docs/*.md", "docs/*.toml", "crates/*/specs/**/*.antt"]:
+    for form in ["*.md", "docs/*.md", "docs/*.toml", "docs/*.png", "crates/*/specs/**/*.antt"]:
         for path in TOP.glob(form):
             if "Internal" not in path.parts:
                 yield f"share/port1/{path.relative_to(TOP)}", path
@@ -261,8 +261,7 @@ def make_check(folder: Path) -> List[str]:
     words = ["make", "-n", "-C", TOP, "check", f"PROGRAM={os.environ['PORT1']}"]
     ran = subprocess.run(words, capture_output=True, text=True, timeout=SECONDS)
     found = [line for line in ran.stdout.splitlines() if not line.startswith("make")]
-    wanted = ["tests/program", "tests/memory", "tests/promises", "contrib/self-test", "tests/page"]
-    return [] if found == wanted else [f"it runs {found}: {ran.stderr}"]
+    return [] if found == ["tests/run"] else [f"it runs {found}: {ran.stderr}"]
 
 
 def made_by_documents() -> Set[str]:

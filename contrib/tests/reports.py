@@ -4,7 +4,9 @@ import base64
 import gzip
 import html
 import json
+import os
 import re
+from datetime import datetime
 from pathlib import Path
 from typing import List, NamedTuple
 
@@ -31,6 +33,14 @@ RUNS = [
         b"",
         b"",
         f"{SCRIPT}: there is no page /no/page: `make page` builds it; --page says where it is\n",
+        2,
+    ),
+    Run(
+        "no recording",
+        [SCRIPT, f"--page={PAGE}", "--recording=/no/tap.sr", "title"],
+        b"",
+        b"",
+        f"{SCRIPT}: [Errno 2] No such file or directory: '/no/tap.sr'\n",
         2,
     ),
 ]
@@ -91,6 +101,27 @@ def tells_what_it_is_given(folder: Path) -> List[str]:
     return found + ["the title is no text"] * (f"<title>{html.escape(title)}</title>" not in report.before)
 
 
+def tells_of_the_recording(folder: Path) -> List[str]:
+    """Name, date, size and SHA-256 of the recording's file, and the notes of recording-to-bits."""
+    recording, notes = folder / "tap <1>.sr", folder / "notes.txt"
+    recording.write_bytes(b"abc")
+    os.utime(recording, (1_700_000_000, 1_700_000_000))
+    lines = ["TXC has 9 edges", "warning: TXC has an edge too early (at 1.500000 s)"]
+    notes.write_text("".join(f"recording-to-bits: {line}\n" for line in lines))
+    words = ["A title", "--bits=99", f"--recording={recording}", f"--notes={notes}"]
+    about = json.loads(report_of(words, b"0 15 idle\n").about)
+    wanted = {
+        "name": recording.name,
+        "date": datetime.fromtimestamp(1_700_000_000).strftime("%Y-%m-%d %H:%M"),
+        "size": "3",
+        # FIPS 180-2, the example of "abc".
+        "sha256": "ba7816bf8f01cfea414140de5dae2223b00361a396177a9cb410ff61f20015ad",
+    }
+    found = [] if about["recording"] == wanted else [f"of the recording it tells {about['recording']}"]
+    found += [] if about["bits"] == 99 else [f"the bits are {about['bits']}"]
+    return found + ([] if about["notes"] == lines else [f"the notes are {about['notes']}"])
+
+
 def refuses_other_lines(_: Path) -> List[str]:
     """A line that is none of a listing is told, with its number."""
     got = ran([SCRIPT, f"--page={PAGE}", "A title"], b"0 15 idle\nport1: write failed\n")
@@ -98,4 +129,4 @@ def refuses_other_lines(_: Path) -> List[str]:
     return [] if (got.returncode, got.stderr.decode()) == (2, told) else [f"{got.returncode}: {got.stderr!r}"]
 
 
-TESTS: List[Test] = [holds_the_listing, tells_what_it_is_given, refuses_other_lines]
+TESTS: List[Test] = [holds_the_listing, tells_what_it_is_given, tells_of_the_recording, refuses_other_lines]

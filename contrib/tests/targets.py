@@ -79,7 +79,7 @@ def apart_from_this_machine(folder: Path) -> List[str]:
     words = ["make", "-n", "-s", "-B", "-C", str(TOP), "install-library", f"PREFIX={folder}"]
     problems = []
     for target, archive, command in [
-        ("", "crates/port1_c/out/libport1_c.a", "cd crates/port1_c && rt lib"),
+        ("", "crates/port1_c/out/libport1_c.a", "packages/build port1_c lib"),
         (
             "aarch64-unknown-linux-gnu",
             "crates/port1_c/out/aarch64-unknown-linux-gnu/libport1_c.a",

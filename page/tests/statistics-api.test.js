@@ -12,6 +12,8 @@ import { tableOf } from "../src/statistics/table.js";
 import { rowsOf } from "./support/listing.js";
 import { madeListing } from "./support/made_listing.js";
 
+const textsOf = (sentences) => sentences.map(({ text }) => text);
+
 // How long a million rows may take, the least of so many turns, on a machine that has other work too.
 const MOST_MILLISECONDS = 3000;
 const TURNS = 3;
@@ -41,7 +43,7 @@ const LISTING =
 
 test("what is wrong, without numbers and unwrapped", () => {
   const bus = busOf(LISTING);
-  assert.deepEqual(wrong(bus), [
+  assert.deepEqual(textsOf(wrong(bus)), [
     "Station 16 gave no answer to 1 of 4 commands of type 0 (call) at 0.030 s.",
     "Station 16 answered 1 of 4 commands of type 0 (call) late: after 2.6 ms; in time after 0.65 ms.",
     "1 piece is damaged; see below.",
@@ -54,7 +56,7 @@ test("where nothing is wrong, that and the doubts are said", () => {
   const said = (listing) => {
     const bus = busOf(listing);
     assert.deepEqual(wrong(bus), []);
-    return [...allIsWell(bus), ...unknown(bus)];
+    return [...allIsWell(bus), ...textsOf(unknown(bus))];
   };
   assert.deepEqual(said(""), ["The listing is empty: nothing is known of the bus. Where a fault was told, mend that first."]);
   assert.deepEqual(said("8 49 frame 108300fde5\n"), [

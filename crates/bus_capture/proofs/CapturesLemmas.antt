@@ -40,7 +40,7 @@ front-grown f law places origin xs os k =
     (append_assoc xs (take k os) (drop k os) ∙ ap (λ (ys : List ℕ). xs ++ ys) (take-append-drop k os))
     (law (xs ++ take k os) (drop k os)))
 
-module _ {A X N B : Type 0} (t : TapView A X N B) where
+module _ {A X B : Type 0} (t : TapView A X B) where
   -- the symbols that were followed have a place
   pub followed-fits : TapLaws t → (start now : Option (List ℕ)) (w : CaptureRun A) (b : List X)
       → IsSound t w → Watches t start now w b → t.watch.origin w.analyser + length b ≤ 2 ^ 60

@@ -28,14 +28,14 @@ use Rattle.bus_text.specs.declared.fault.ToolFault.TheVariants as fault
 use Rattle.bus_capture.proofs.ListsLemmas.{counts-are, heard-is, so-far-is, in-all-is}
 
 -- what was asked of a check, and is kept
-pub record IsChecked {A X N B : Type 0} (tap : TapView A X N B) (o : Options) (d : List FrameType) (w : CaptureRun A) :
+pub record IsChecked {A X B : Type 0} (tap : TapView A X B) (o : Options) (d : List FrameType) (w : CaptureRun A) :
     Type 0 where
   pub printer : w.teller.printer ≡ None
   pub dictionary : (tap.watch.dictionary w.analyser) ≡ d
   pub depth : (tap.watch.depth w.analyser) ≡ o.depth
   pub origin : (tap.watch.origin w.analyser) ≡ o.origin
 
-pub checked : {A X N B : Type 0} (tap : TapView A X N B) (o : Options) (d : List FrameType) (w v : CaptureRun A) →
+pub checked : {A X B : Type 0} (tap : TapView A X B) (o : Options) (d : List FrameType) (w v : CaptureRun A) →
     w.teller.printer ≡ None → IsMade tap.watch d o.depth o.origin w.analyser → IsSame tap w v → IsChecked tap o d v
 checked tap o d w v printer made same =
     record {
@@ -46,12 +46,12 @@ checked tap o d w v printer made same =
     }
 
 -- a check has no lines
-pub no-lines : {A X N B : Type 0} (tap : TapView A X N B) (w : CaptureRun A) (b : List X) → w.teller.printer ≡ None →
+pub no-lines : {A X B : Type 0} (tap : TapView A X B) (w : CaptureRun A) (b : List X) → w.teller.printer ≡ None →
     lines tap w b ≡ []
 no-lines tap w b none = ap (λ p. printed p (tap.watch.dictionary w.analyser) (seen_by tap.watch w.analyser b)) none
 
 -- the report of bits, as the options tell of it
-report-is : {A X N B : Type 0} (tap : TapView A X N B) → TapLaws tap →
+report-is : {A X B : Type 0} (tap : TapView A X B) → TapLaws tap →
     (o : Options) (d : List FrameType) (w : CaptureRun A) (b : List X) → IsChecked tap o d w →
     w.teller.summary ≡ summary_of (reports_seen tap.form o.origin d b) → reported tap w b ≡ check_report tap.form o d b
 report-is tap law o d w b asked counts =
@@ -78,7 +78,7 @@ checks-nothing form o after start now fault.Memory why out = record { why = why;
 checks-nothing form o after start now _ why out = absurd why
 
 -- the end of a clean capture
-pub ends-checks : {A X N B : Type 0} (tap : TapView A X N B) (o : Options) (d : List FrameType) (text : Bool)
+pub ends-checks : {A X B : Type 0} (tap : TapView A X B) (o : Options) (d : List FrameType) (text : Bool)
     (after start now later : Option (List ℕ)) (w : CaptureRun A) (xs : List ℕ) (r : Result Summary ToolFault)
     → TapLaws tap → Begins o d → IsChecked tap o d w → text ≡ o.text → IsWhole tap text after start now w xs
     → MatchResult r
@@ -135,7 +135,7 @@ none-out start now page written text empty pages =
     subst (Appends start now) none pages.out
 
 -- a fault that ended the reading: without lines no writer is cut off
-pub stops-checks : {A X N B : Type 0} (tap : TapView A X N B) (o : Options) (d : List FrameType) (text : Bool)
+pub stops-checks : {A X B : Type 0} (tap : TapView A X B) (o : Options) (d : List FrameType) (text : Bool)
     (after start now : Option (List ℕ)) (w : CaptureRun A) (xs : List ℕ) (f : ToolFault)
     → Begins o d → IsChecked tap o d w → text ≡ o.text → Finishes tap text o.reads after start now w xs (Err f) →
     ChecksBy tap.form o after start now xs (Err f)

@@ -31,7 +31,7 @@ use Rattle.bus_capture.specs.Internal.TellingLaws.{printed-append}
 use Rattle.bus_text.proofs.PagesLemmas.{cuts-more}
 
 -- what is seen of more bits goes on
-seen-on : {A X N B : Type 0} (tap : TapView A X N B) → TapLaws tap → (d : List FrameType) (origin : ℕ) (b more : List X)
+seen-on : {A X B : Type 0} (tap : TapView A X B) → TapLaws tap → (d : List FrameType) (origin : ℕ) (b more : List X)
     → (rest : List SeenReport)
     × (seen d (tap.watch.hears origin (longest_of d) (b ++ more)) ≡ seen d (tap.watch.hears origin (longest_of d) b)
     ++ rest)
@@ -41,7 +41,7 @@ seen-on {X = X} tap law d origin b more =
     (on.rest, here (b ++ more) ∙ on.is ∙ ap (λ z. z ++ on.rest) (sym (here b)))
 
 -- a cut in the lines of a front is one in the lines of all
-pub cut-all : {A X N B : Type 0} (tap : TapView A X N B) → TapLaws tap →
+pub cut-all : {A X B : Type 0} (tap : TapView A X B) → TapLaws tap →
     (start now : Option (List ℕ)) (w : CaptureRun A) (b : List X) (sent : ℕ) → IsCutOff tap start now w b sent →
     Cuts start now (lines tap w b) sent
 cut-all tap law start now w b sent cut =
@@ -54,13 +54,13 @@ cut-all tap law start now w b sent cut =
     (cuts-more start now (lines tap w cut.front) (printed w.teller.printer d on.0) sent cut.cut)
 
 -- what was asked of a listing, and is kept
-pub record IsListed {A X N B : Type 0} (tap : TapView A X N B) (o : Options) (d : List FrameType) (w : CaptureRun A) :
+pub record IsListed {A X B : Type 0} (tap : TapView A X B) (o : Options) (d : List FrameType) (w : CaptureRun A) :
     Type 0 where
   pub printer : w.teller.printer ≡ Some (printer_of o)
   pub dictionary : tap.watch.dictionary w.analyser ≡ d
   pub origin : tap.watch.origin w.analyser ≡ o.origin
 
-pub listed : {A X N B : Type 0} (tap : TapView A X N B) (o : Options) (d : List FrameType) (w v : CaptureRun A) →
+pub listed : {A X B : Type 0} (tap : TapView A X B) (o : Options) (d : List FrameType) (w v : CaptureRun A) →
     w.teller.printer ≡ Some (printer_of o) → IsMade tap.watch d o.depth o.origin w.analyser → IsSame tap w v →
     IsListed tap o d v
 listed tap o d w v printer made same =
@@ -71,7 +71,7 @@ listed tap o d w v printer made same =
     }
 
 -- the reports, as the options tell of them
-pub heard-is : {A X N B : Type 0} (tap : TapView A X N B) → TapLaws tap →
+pub heard-is : {A X B : Type 0} (tap : TapView A X B) → TapLaws tap →
     (o : Options) (d : List FrameType) (a : A) (b : List X) → tap.watch.dictionary a ≡ d →
     tap.watch.origin a ≡ o.origin →
     heard_by tap.watch a b ≡ reports_heard tap.form o.origin d b
@@ -81,7 +81,7 @@ heard-is tap law o d a b dictionary origin =
     ∙ ap (λ (x : List FrameType). tap.form.hears o.origin (longest_of x) b) dictionary
 
 -- and what is seen of them
-pub seen-is : {A X N B : Type 0} (tap : TapView A X N B) → TapLaws tap →
+pub seen-is : {A X B : Type 0} (tap : TapView A X B) → TapLaws tap →
     (o : Options) (d : List FrameType) (a : A) (b : List X) → tap.watch.dictionary a ≡ d →
     tap.watch.origin a ≡ o.origin →
     seen_by tap.watch a b ≡ reports_seen tap.form o.origin d b
@@ -89,7 +89,7 @@ seen-is tap law o d a b dictionary origin =
     ap (seen (tap.watch.dictionary a)) (heard-is tap law o d a b dictionary origin)
     ∙ ap (λ (x : List FrameType). seen x (reports_heard tap.form o.origin d b)) dictionary
 
-pub lines-are : {A X N B : Type 0} (tap : TapView A X N B) → TapLaws tap →
+pub lines-are : {A X B : Type 0} (tap : TapView A X B) → TapLaws tap →
     (o : Options) (d : List FrameType) (w : CaptureRun A) (b : List X) → IsListed tap o d w →
     lines tap w b ≡ listing_of tap.form o d b
 lines-are tap law o d w b asked =
@@ -97,7 +97,7 @@ lines-are tap law o d w b asked =
     ∙ ap (λ (x : List FrameType). listing (printer_of o) x (seen_by tap.watch w.analyser b)) asked.dictionary
     ∙ ap (listing (printer_of o) d) (seen-is tap law o d w.analyser b asked.dictionary asked.origin)
 
-pub last-are : {A X N B : Type 0} (tap : TapView A X N B) → TapLaws tap →
+pub last-are : {A X B : Type 0} (tap : TapView A X B) → TapLaws tap →
     (o : Options) (d : List FrameType) (w : CaptureRun A) (b : List X) → IsListed tap o d w →
     last_lines tap w b ≡ ending_of tap.form o d b
 last-are tap law o d w b asked =
@@ -111,7 +111,7 @@ last-are tap law o d w b asked =
     ∙ ap (λ hs. ending_text (printer_of o) (tap.form.ending o.origin b (pending d hs)))
     (heard-is tap law o d w.analyser b asked.dictionary asked.origin)
 
-pub counts-are : {A X N B : Type 0} (tap : TapView A X N B) → TapLaws tap →
+pub counts-are : {A X B : Type 0} (tap : TapView A X B) → TapLaws tap →
     (o : Options) (d : List FrameType) (w : CaptureRun A) (b : List X) → tap.watch.dictionary w.analyser ≡ d →
     tap.watch.origin w.analyser ≡ o.origin → w.teller.summary ≡ summary_of (seen_by tap.watch w.analyser b) →
     w.teller.summary ≡ summary_of (reports_seen tap.form o.origin d b)
@@ -139,7 +139,7 @@ in-all-is f o text n xs same-text same-origin = ap (λ (b : Bool). whole_capture
     ∙ ap (λ (k : ℕ). whole_capture f o.text k xs) same-origin
 
 -- the lines of the bits so far are their listing
-lines-so-far : {A X N B : Type 0} (tap : TapView A X N B) → TapLaws tap →
+lines-so-far : {A X B : Type 0} (tap : TapView A X B) → TapLaws tap →
     (o : Options) (d : List FrameType) (text : Bool) (w : CaptureRun A) (xs : List ℕ) → text ≡ o.text →
     IsListed tap o d w
     → lines tap w (capture tap.form text (tap.watch.origin w.analyser) xs).bits
@@ -150,7 +150,7 @@ lines-so-far {X = X} tap law o d text w xs same-text asked =
     ∙ lines-are tap law o d w (so_far tap.form o xs).bits asked
 
 -- the end of a clean capture
-pub ends-lists : {A X N B : Type 0} (tap : TapView A X N B) (o : Options) (d : List FrameType) (text : Bool)
+pub ends-lists : {A X B : Type 0} (tap : TapView A X B) (o : Options) (d : List FrameType) (text : Bool)
     (after start now later : Option (List ℕ)) (w : CaptureRun A) (xs : List ℕ) (r : Result Summary ToolFault)
     → TapLaws tap → Begins o d → IsListed tap o d w → text ≡ o.text → IsWhole tap text after start now w xs
     → MatchResult r
@@ -227,7 +227,7 @@ closed-lists form o d after start later xs f answer text begins is go (inr close
     (subst (λ (t : List ℕ). Cuts start later t closed.0) is closed.2))
 
 -- a fault that ended the reading
-pub stops-lists : {A X N B : Type 0} (tap : TapView A X N B) (o : Options) (d : List FrameType) (text : Bool)
+pub stops-lists : {A X B : Type 0} (tap : TapView A X B) (o : Options) (d : List FrameType) (text : Bool)
     (after start now later : Option (List ℕ)) (w : CaptureRun A) (xs : List ℕ) (f answer : ToolFault)
     → TapLaws tap → Begins o d → IsListed tap o d w → text ≡ o.text →
     Finishes tap text o.reads after start now w xs (Err f)

@@ -1,27 +1,30 @@
 -- Captures of one line.
-use Rattle.std.proofs.Common.{◌≡◌, ℕ, ◌+◌, ◌*◌, ◌/◌, ◌<◌, Bool, true, false, nat_lt, if◌then◌else◌, List, [], ◌++◌}
+use Rattle.std.proofs.Common.{◌≡◌, ℕ, ◌+◌, ◌*◌, ◌/◌, ◌<◌, Bool, true, false, nat_lt, if◌then◌else◌, List, [], ◌∷◌, ◌++◌}
 use Rattle.std.proofs.Common.{◌-◌, ◌≤◌, take, Option, Some, None, refl, sym, ap, ◌∙◌, subst, append_assoc, append-nil}
-use Rattle.std.proofs.Common.{arith}
+use Rattle.std.proofs.Common.{◌^◌, length, arith}
 use Rattle.std.specs.Int.{next_multiple_of}
 use Rattle.std.specs.List.{list_any}
 use Rattle.std.proofs.lemmas.Grind.{common_steps}
 use mir.Val.{bool_byte}
 use Rattle.bus_bits.specs.Bits.{bits_from}
-use Rattle.bus_bits.specs.Octet.{bits_of_octets}
-use Rattle.bus_bits.proofs.BitLemmas.{bits-more}
+use Rattle.bus_bits.specs.Octet.{bits_of, bits_of_octets}
+use Rattle.bus_bits.proofs.BitLemmas.{bits-in, bits-more, length-from}
+use Rattle.bus_bits.proofs.OctetLemmas.{one_bit}
 use Rattle.bus_bits.specs.Capture.{Capture, pad_bits, trailing}
 use Rattle.bus_bits.specs.Packed.{packed_capture, packed_whole, packed_body, wanted, unused, head_fault}
 use Rattle.bus_text.specs.declared.fault.ToolFault.{ToolFault}
-use Rattle.bus_capture.specs.Internal.Taps.{TapView}
-use Rattle.bus_capture.specs.Internal.Watching.{Halts}
+use Rattle.bus_text.specs.declared.fault.ToolFault.TheVariants as fault
+use Rattle.bus_capture.specs.Internal.Taps.{TapView, TapLaws}
+use Rattle.bus_capture.specs.Internal.Watching.{Halts, IsSound, Watches}
 use Rattle.bus_capture.specs.declared.run.CaptureRun.{CaptureRun}
 use Rattle.bus_capture.proofs.HeadedLemmas.{whole-bits}
-use Rattle.bus_capture.proofs.WatchingLemmas.{halts-more}
+use Rattle.bus_capture.proofs.WatchingLemmas.{halted, halts-more}
 
--- a bit alone fits
-pub one-fits : (x : ℕ) (bit : Bool) → x ≡ bool_byte bit → x < 2
-one-fits x true is = omega (arith, is)
-one-fits x false is = omega (arith, is)
+-- a bit alone, in an octet
+pub bit-alone : (x : ℕ) (bit : Bool) → x ≡ bool_byte bit → bits_from (x ∷ []) 0 1 ≡ bit ∷ []
+bit-alone x bit is =
+    sym (bits-in (x ∷ []) 0 0 0 1 (omega arith) (omega arith))
+    ∙ (ap (bits_of 1) (omega arith) ∙ one_bit x 1 bit is (omega arith) (omega arith))
 
 take_none : (k : ℕ) (bits : List Bool) → bits ≡ [] → take k bits ≡ []
 take_none k bits none = grind (arith, common_steps)
@@ -45,26 +48,30 @@ same_bits xs = whole-bits (head_fault xs) packed_body xs
 
 -- ---- bits of octets
 
--- what stopped in some bits of octets, stops in all of them
-pub halts-from : {A N B : Type 0} (t : TapView A Bool N B) (start now : Option (List ℕ)) (w : CaptureRun A)
-    (b : List Bool) (os : List ℕ) (at n all : ℕ) (f : ToolFault) → n ≤ all
-    → Halts t start now w (b ++ bits_from os at n) f → Halts t start now w (b ++ bits_from os at all) f
-halts-from t start now w b os at n all f within stopped =
-    let rest : all ≡ n + (all - n) = omega (arith, within) in
-    let parts : (b ++ bits_from os at n) ++ bits_from os (at + n) (all - n) ≡ b ++ bits_from os at all =
-    append_assoc b (bits_from os at n) (bits_from os (at + n) (all - n))
-    ∙ ap (λ (z : List Bool). b ++ z) (sym (bits-more os at n (all - n)) ∙ ap (bits_from os at) (sym rest)) in
-    subst (λ (z : List Bool). Halts t start now w z f) parts
-    (halts-more t start now w (b ++ bits_from os at n) (bits_from os (at + n) (all - n)) f stopped)
+-- the first bits of octets, and those after them
+bits-behind : (b : List Bool) (os : List ℕ) (n count : ℕ) → n ≤ count
+    → b ++ bits_from os 0 count ≡ (b ++ bits_from os 0 n) ++ bits_from os n (count - n)
+bits-behind b os n count within =
+    let all : count ≡ n + (count - n) = omega (arith, within) in
+    let here : 0 + n ≡ n = omega arith in
+    ap (λ (k : ℕ). b ++ bits_from os 0 k) all
+    ∙ (ap (λ (z : List Bool). b ++ z)
+    (bits-more os 0 n (count - n) ∙ ap (λ (k : ℕ). bits_from os 0 n ++ bits_from os k (count - n)) here)
+    ∙ sym (append_assoc b (bits_from os 0 n) (bits_from os n (count - n))))
 
--- some bits, and those after them
-pub from-next : (b : List Bool) (os : List ℕ) (at n : ℕ) →
-    (b ++ bits_from os 0 at) ++ bits_from os at n ≡ b ++ bits_from os 0 (at + n)
-from-next b os at n = let here : 0 + at ≡ at = omega arith in append_assoc b (bits_from os 0 at) (bits_from os at n)
-    ∙ ap (λ (z : List Bool). b ++ z) (ap (λ (j : ℕ). bits_from os 0 at ++ bits_from os j n) (sym here)
-    ∙ sym (bits-more os 0 at n))
+-- what stopped in the first of them, stops in all
+pub halts-within : {A B : Type 0} (t : TapView A Bool B) (start now : Option (List ℕ)) (w : CaptureRun A)
+    (b : List Bool) (os : List ℕ) (n count : ℕ) (f : ToolFault)
+    → n ≤ count → Halts t start now w (b ++ bits_from os 0 n) f → Halts t start now w (b ++ bits_from os 0 count) f
+halts-within t start now w b os n count f within stopped =
+    subst (λ bits. Halts t start now w bits f) (sym (bits-behind b os n count within))
+    (halts-more t start now w _ _ f stopped)
 
--- none
-pub from-none : (b : List Bool) (os : List ℕ) → b ≡ b ++ bits_from os 0 0
-unfolding bits_from
-from-none b os = sym (append-nil b)
+-- all that have a place were followed, and others have none
+pub limited : {A B : Type 0} (t : TapView A Bool B) → TapLaws t →
+    (start now : Option (List ℕ)) (w : CaptureRun A) (b : List Bool) (os : List ℕ) (n count : ℕ)
+    → n < count → 2 ^ 60 ≤ t.watch.place w.analyser → IsSound t w → Watches t start now w (b ++ bits_from os 0 n)
+    → Halts t start now w (b ++ bits_from os 0 count) fault.PlaceLimit
+limited t law start now w b os n count more limit sound followed =
+    subst (λ bits. Halts t start now w bits fault.PlaceLimit) (sym (bits-behind b os n count (omega (arith, more))))
+    (halted t law start now w w _ _ refl (omega (arith, more, length-from os n (count - n))) limit sound followed)

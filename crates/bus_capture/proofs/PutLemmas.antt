@@ -11,8 +11,3 @@ use Rattle.bus_text.proofs.ListingLemmas.{nothing-put}
 pub listing-nothing : (p : Printer) (d : List FrameType) → listing p d [] ≡ []
 unfolding text_of
 listing-nothing p d = refl
-
--- and none is put
-pub nothing-listed : (p : Printer) (d : List FrameType) (most : ℕ) (page : Page) →
-    Prints page (listing p d []) most page
-nothing-listed p d most page = rw (listing-nothing p d) (nothing-put most page)

@@ -33,14 +33,14 @@ printed-nothing None d = refl
 printed-nothing (Some p) d = listing-nothing p d
 
 -- nothing is seen of nothing
-seen-none : {A X N B : Type 0} (tap : TapView A X N B) → TapLaws tap → (a : A) → seen_by tap.watch a [] ≡ []
+seen-none : {A X B : Type 0} (tap : TapView A X B) → TapLaws tap → (a : A) → seen_by tap.watch a [] ≡ []
 seen-none tap law a =
     ap (seen (tap.watch.dictionary a))
     (ap (λ hears. hears (tap.watch.origin a) (longest_of (tap.watch.dictionary a)) []) law.hears
     ∙ law.form.silent (tap.watch.origin a) (longest_of (tap.watch.dictionary a)))
 
 -- nothing was followed yet
-pub watched-none : {A X N B : Type 0} (tap : TapView A X N B) → TapLaws tap →
+pub watched-none : {A X B : Type 0} (tap : TapView A X B) → TapLaws tap →
     (start : Option (List ℕ)) (w : CaptureRun A)
     → tap.watch.is_after w.analyser [] → w.teller.summary ≡ summary_of [] →
     Pages start start w.teller.page.text w.teller.page.written [] → Watches tap start start w []
@@ -54,17 +54,17 @@ watched-none tap law start w is_after counts page =
     }
 
 -- what is known of a text, of a packed capture
-pub follows-text : {A X N B : Type 0} (tap : TapView A X N B) (start now : Option (List ℕ)) (s : Source B)
+pub follows-text : {A X B : Type 0} (tap : TapView A X B) (start now : Option (List ℕ)) (s : Source B)
     (text : TextCapture) (w : CaptureRun A) (xs : List ℕ)
     → s ≡ source.Text text → Follows tap start now s w xs → FollowsText tap start now text w xs
 follows-text tap start now s text w xs is followed = subst (λ x. Follows tap start now x w xs) is followed
 
-pub follows-packed : {A X N B : Type 0} (tap : TapView A X N B) (start now : Option (List ℕ)) (s : Source B)
+pub follows-packed : {A X B : Type 0} (tap : TapView A X B) (start now : Option (List ℕ)) (s : Source B)
     (p : PackedCapture B) (w : CaptureRun A) (xs : List ℕ)
     → s ≡ source.Packed p → Follows tap start now s w xs → FollowsPacked tap start now p w xs
 follows-packed tap start now s p w xs is followed = subst (λ x. Follows tap start now x w xs) is followed
 
-pub text-follows : {A X N B : Type 0} (tap : TapView A X N B) (start now : Option (List ℕ)) (s : Source B)
+pub text-follows : {A X B : Type 0} (tap : TapView A X B) (start now : Option (List ℕ)) (s : Source B)
     (text later : TextCapture) (w : CaptureRun A) (xs : List ℕ) (r : Result (Unit {0}) ToolFault)
     → s ≡ source.Text text → MatchResult r (λ _. FollowsText tap start now later w xs)
     (λ f. Stops tap true start now w xs f)
@@ -73,7 +73,7 @@ text-follows tap start now s text later w xs (Ok v) is taken = taken
 text-follows tap start now s text later w xs (Err f) is taken =
     subst (λ (b : Bool). Stops tap b start now w xs f) (sym (ap is_text is)) taken
 
-pub packed-follows : {A X N B : Type 0} (tap : TapView A X N B) (start now : Option (List ℕ)) (s : Source B)
+pub packed-follows : {A X B : Type 0} (tap : TapView A X B) (start now : Option (List ℕ)) (s : Source B)
     (p q : PackedCapture B) (w : CaptureRun A) (xs : List ℕ) (r : Result (Unit {0}) ToolFault)
     → s ≡ source.Packed p → MatchResult r (λ _. FollowsPacked tap start now q w xs)
     (λ f. Stops tap false start now w xs f)
@@ -82,23 +82,23 @@ packed-follows tap start now s p q w xs (Ok v) is taken = taken
 packed-follows tap start now s p q w xs (Err f) is taken =
     subst (λ (b : Bool). Stops tap b start now w xs f) (sym (ap is_text is)) taken
 
-pub read-by : {A X N B : Type 0} (tap : TapView A X N B) (start now : Option (List ℕ)) (s : Source B) (w : CaptureRun A)
+pub read-by : {A X B : Type 0} (tap : TapView A X B) (start now : Option (List ℕ)) (s : Source B) (w : CaptureRun A)
     (xs : List ℕ) → Follows tap start now s w xs → IsReadBy tap s xs
 read-by tap start now (source.Text text) w xs followed = followed.clean
 read-by tap start now (source.Packed p) w xs followed = followed.read
 
-packed-clean : {A X N B : Type 0} (tap : TapView A X N B) → TapLaws tap →
+packed-clean : {A X B : Type 0} (tap : TapView A X B) → TapLaws tap →
     (head : List ℕ) (body : Option B) (xs : List ℕ) → IsRead tap head body xs → (tap.form.packed xs).fault ≡ None
 packed-clean {A} {X} tap law head None xs read = ap (λ (c : CaptureOf X). c.fault) (law.form.short xs read.1).0
 packed-clean tap law head (Some body) xs read = law.clean body xs read
 
 -- what was read has no fault, and its bits were followed
-pub record IsUnplaced {A X N B : Type 0} (tap : TapView A X N B) (text : Bool) (start now : Option (List ℕ))
+pub record IsUnplaced {A X B : Type 0} (tap : TapView A X B) (text : Bool) (start now : Option (List ℕ))
     (w : CaptureRun A) (xs : List ℕ) : Type 0 where
   pub clean : (unplaced tap.form text xs).fault ≡ None
   pub bits : Watches tap start now w (unplaced tap.form text xs).bits
 
-pub follows-unplaced : {A X N B : Type 0} (tap : TapView A X N B) (start now : Option (List ℕ)) (s : Source B)
+pub follows-unplaced : {A X B : Type 0} (tap : TapView A X B) (start now : Option (List ℕ)) (s : Source B)
     (w : CaptureRun A) (xs : List ℕ)
     → TapLaws tap → Follows tap start now s w xs → IsUnplaced tap (is_text s) start now w xs
 follows-unplaced tap start now (source.Text text) w xs law followed =
@@ -107,7 +107,7 @@ follows-unplaced tap start now (source.Packed p) w xs law followed =
     record { clean = packed-clean tap law p.head.items p.body xs followed.read; bits = followed.bits }
 
 -- bits that were followed have a place, and so their capture is as it is
-pub all-placed : {A X N B : Type 0} (tap : TapView A X N B) → TapLaws tap →
+pub all-placed : {A X B : Type 0} (tap : TapView A X B) → TapLaws tap →
     (start now : Option (List ℕ)) (w : CaptureRun A) (c : CaptureOf X) → IsSound tap w →
     Watches tap start now w c.bits →
     capped (tap.watch.origin w.analyser) c ≡ c
@@ -115,7 +115,7 @@ all-placed tap law start now w c sound followed =
     let fits = followed-fits tap law start now w c.bits sound followed in
     capped_all (tap.watch.origin w.analyser) c (omega (arith, fits))
 
-pub is-clean : {A X N B : Type 0} (tap : TapView A X N B) → TapLaws tap →
+pub is-clean : {A X B : Type 0} (tap : TapView A X B) → TapLaws tap →
     (text : Bool) (start now : Option (List ℕ)) (w : CaptureRun A) (xs : List ℕ)
     → IsSound tap w → IsUnplaced tap text start now w xs → IsClean tap text start now w xs
 is-clean {A} {X} tap law text start now w xs sound followed =
@@ -125,13 +125,13 @@ is-clean {A} {X} tap law text start now w xs sound followed =
     }
 
 -- a writer was cut off in the lines of all of these
-pub is-cut : {A X N B : Type 0} (tap : TapView A X N B) (start now : Option (List ℕ)) (w : CaptureRun A) (b : List X)
+pub is-cut : {A X B : Type 0} (tap : TapView A X B) (start now : Option (List ℕ)) (w : CaptureRun A) (b : List X)
     (sent : ℕ) → Cuts start now (lines tap w b) sent → sent < length (lines tap w b) → IsCutOff tap start now w b sent
 is-cut tap start now w b sent cut short =
     record { front = b; more = []; all = sym (append-nil b); cut = cut; short = short }
 
 -- a fault ends the reading
-pub faulty-finishes : {A X N B : Type 0} (tap : TapView A X N B) (text : Bool) (reads : ℕ)
+pub faulty-finishes : {A X B : Type 0} (tap : TapView A X B) (text : Bool) (reads : ℕ)
     (after start now : Option (List ℕ)) (w : CaptureRun A) (xs : List ℕ) (f : ToolFault)
     → IsFaulty tap text after start now w xs f → Finishes tap text reads after start now w xs (Err f)
 faulty-finishes tap text reads after start now w xs fault.Read faulty = absurd faulty.answered
@@ -140,7 +140,7 @@ faulty-finishes tap text reads after start now w xs (fault.Write sent) faulty = 
 faulty-finishes tap text reads after start now w xs f faulty = faulty
 
 -- what stopped the taking of octets ends the reading
-pub stops-finishes : {A X N B : Type 0} (tap : TapView A X N B) (text : Bool) (reads : ℕ)
+pub stops-finishes : {A X B : Type 0} (tap : TapView A X B) (text : Bool) (reads : ℕ)
     (after start now : Option (List ℕ)) (w : CaptureRun A) (xs : List ℕ) (f : ToolFault)
     → Stops tap text start now w xs f → Finishes tap text reads after start now w xs (Err f)
 stops-finishes tap text reads after start now w xs (fault.Write sent) stopped = stopped
@@ -149,7 +149,7 @@ stops-finishes tap text reads after start now w xs f stopped =
     (record { cause = stopped.cause; answered = stopped.answered; found = inl stopped.found; bits = stopped.bits })
 
 -- the end of the input ends it
-pub end-finishes : {A X N B : Type 0} (tap : TapView A X N B) → TapLaws tap →
+pub end-finishes : {A X B : Type 0} (tap : TapView A X B) → TapLaws tap →
     (text : Bool) (reads : ℕ) (after start now : Option (List ℕ)) (w : CaptureRun A) (xs : List ℕ)
     (r : Result (Unit {0}) ToolFault)
     → IsSound tap w → IsAtEnd after → IsUnplaced tap text start now w xs

@@ -13,7 +13,7 @@ use Rattle.bus_capture.proofs.CapturesLemmas.{halts-stops}
 pub octets-before : (xs os : List ℕ) (i : ℕ) → i < length os → length (xs ++ take i os) ≡ length xs + i
 octets-before xs os i inside = grind (arith, common_steps)
 
-module _ {A X N B : Type 0} (t : TapView A X N B) where
+module _ {A X B : Type 0} (t : TapView A X B) where
   -- where no octets were taken
   pub none-taken : (start now : Option (List ℕ)) (w : CaptureRun A) (xs ys : List ℕ) (n : ℕ)
       → n ≡ 0 → FollowsOctets t start now w (xs ++ take n ys) → FollowsOctets t start now w xs

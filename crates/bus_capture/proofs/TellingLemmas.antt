@@ -1,9 +1,16 @@
--- A writer that was cut off.
-use Rattle.std.proofs.Common.{◌≡◌, ℕ, List, ◌++◌, Option, Some, None, true, false, refl, arith, length-append}
+-- A writer that was cut off, and what is counted.
+use Rattle.std.proofs.Common.{◌≡◌, ℕ, List, [], ◌∷◌, ◌++◌, Option, Some, None, true, false, refl, sym, ◌∙◌, arith}
+use Rattle.std.proofs.Common.{length-append}
 use Rattle.std.specs.Option.{is_some}
 use Rattle.bus_text.specs.declared.put.ShortWrite.{ShortWrite}
 use Rattle.bus_text.specs.declared.page.Page.{Page}
+use Rattle.bus_talk.specs.Seen.{SeenReport}
+use Rattle.bus_talk.specs.Shown.{found, found_on}
+use Rattle.bus_talk.specs.declared.finding.Finding.{Finding}
+use Rattle.bus_talk.specs.declared.line.Line.{Line}
+use Rattle.bus_text.specs.Summary.{summary_of}
 use Rattle.bus_text.proofs.PagesLemmas.{cuts-more}
+use Rattle.bus_text.proofs.SummaryLemmas.{summary-more}
 use Rattle.bus_capture.specs.Internal.Telling.{IsOut}
 
 -- the writer was not cut off
@@ -28,3 +35,9 @@ not-both o cut none some = cc
 pub not-none : (o : Option ShortWrite) → true ≡ is_some o → o ≡ None → ⊥
 not-none None is none = cc
 not-none (Some cut) is none = not-both (Some cut) cut none refl
+
+-- a report counts the same whatever its line
+pub counted-on : (before : List SeenReport) (line : Option Line) (octets : List ℕ) (f : Finding) →
+    summary_of (before ++ found octets f ∷ []) ≡ summary_of (before ++ found_on line octets f ∷ [])
+counted-on before line octets f =
+    summary-more before (found octets f) ∙ sym (summary-more before (found_on line octets f))

@@ -15,18 +15,9 @@ use Rattle.bus_capture.specs.Internal.TellingLaws.{few-within}
 use Rattle.bus_watch.proofs.PairScanLemmas.{length-zipped, zip-met}
 use Rattle.bus_capture.proofs.WatchingLemmas.{halted, halts-more, lines-more, watched, within-all}
 
-module _ {A X N B : Type 0} (t : TapView A X N B) (w v : CaptureRun A) (xs : List X) (before after : Option (List ℕ))
+module _ {A X B : Type 0} (t : TapView A X B) (w v : CaptureRun A) (xs : List X) (before after : Option (List ℕ))
     (all : LeadsTold t.watch w.analyser xs v.analyser
     (λ ss. Tells (t.watch.dictionary w.analyser) (record w.teller { cut = None }) before ss v.teller after)) where
-  pub told-same : IsSame t w v
-  told-same =
-      record {
-        printer = all.told.printer;
-        dictionary = all.sees.dictionary;
-        depth = all.sees.depth;
-        origin = all.sees.origin;
-      }
-
   pub told-sound : t.watch.place w.analyser + length xs ≤ 2 ^ 60 → IsSound t w → IsSound t v
   told-sound room sound =
       let place = t.watch.place w.analyser in
@@ -84,7 +75,7 @@ pairs-behind b os ys n count within =
     (zip (bits_from os n (count - n)) (bits_from ys n (count - n)))))
 
 -- what stopped in the first of them, stops in all
-pub halts-behind : {A N B : Type 0} (t : TapView A (Bool × Bool) N B) (start now : Option (List ℕ)) (w : CaptureRun A)
+pub halts-behind : {A B : Type 0} (t : TapView A (Bool × Bool) B) (start now : Option (List ℕ)) (w : CaptureRun A)
     (b : List (Bool × Bool)) (os ys : List ℕ) (n count : ℕ) (f : ToolFault)
     → n ≤ count → Halts t start now w (b ++ zip (bits_from os 0 n) (bits_from ys 0 n)) f →
     Halts t start now w (b ++ zip (bits_from os 0 count) (bits_from ys 0 count)) f
@@ -93,7 +84,7 @@ halts-behind t start now w b os ys n count f within stopped =
     (halts-more t start now w _ _ f stopped)
 
 -- all that have a place were followed, and others have none
-pub limited : {A N B : Type 0} (t : TapView A (Bool × Bool) N B) → TapLaws t →
+pub limited : {A B : Type 0} (t : TapView A (Bool × Bool) B) → TapLaws t →
     (start now : Option (List ℕ)) (w : CaptureRun A) (b : List (Bool × Bool)) (os ys : List ℕ) (n count : ℕ)
     → n < count → 2 ^ 60 ≤ t.watch.place w.analyser → IsSound t w →
     Watches t start now w (b ++ zip (bits_from os 0 n) (bits_from ys 0 n))

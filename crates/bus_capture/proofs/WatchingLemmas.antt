@@ -55,31 +55,18 @@ pub item-next : {X : Type 0} (b xs : List X) (i : ℕ) (x d : X) → i < length 
     (b ++ take i xs) ++ x ∷ [] ≡ b ++ take (i + 1) xs
 item-next b xs i x d inside is = grind (arith, common_steps)
 
-drop-drop : {X : Type 0} (i n : ℕ) (xs : List X) → drop n (drop i xs) ≡ drop (i + n) xs
-drop-drop i n xs = grind (arith, common_steps)
-
 -- the places of symbols that were taken
 pub below : (place : ℕ) → (2 ^ 60 < place → false ≡ true) → place ≤ 2 ^ 60
 below place never =
     elim (cases_lt (2 ^ 60) place) [ inl over ↦ absurd (let wrong = never over in cc) | inr within ↦ within ]
 
-module _ {A X N B : Type 0} (t : TapView A X N B) where
+module _ {A X B : Type 0} (t : TapView A X B) where
   -- what is seen depends on dictionary and origin alone
   pub seen-same : (a c : A) (b : List X) → t.watch.dictionary c ≡ t.watch.dictionary a →
       t.watch.origin c ≡ t.watch.origin a → seen_by t.watch c b ≡ seen_by t.watch a b
   seen-same a c b dictionary origin =
       ap (λ (x : List FrameType). seen x (t.watch.hears (t.watch.origin c) (longest_of x) b)) dictionary
       ∙ ap (λ (n : ℕ). seen (t.watch.dictionary a) (t.watch.hears n (longest_of (t.watch.dictionary a)) b)) origin
-
-  -- and so with the lines
-  pub lines-same : (w v : CaptureRun A) (b : List X) → v.teller.printer ≡ w.teller.printer →
-      t.watch.dictionary v.analyser ≡ t.watch.dictionary w.analyser →
-      t.watch.origin v.analyser ≡ t.watch.origin w.analyser → lines t v b ≡ lines t w b
-  lines-same w v b printer dictionary origin =
-      ap (λ x. printed x (t.watch.dictionary v.analyser) (seen_by t.watch v.analyser b)) printer
-      ∙ ap (λ (x : List FrameType). printed w.teller.printer x (seen_by t.watch v.analyser b)) dictionary
-      ∙ ap (printed w.teller.printer (t.watch.dictionary w.analyser))
-      (seen-same w.analyser v.analyser b dictionary origin)
 
   -- what is seen of more symbols
   pub seen-more : (a c : A) (b more : List X) (told : List SeenReport)
@@ -113,24 +100,6 @@ module _ {A X N B : Type 0} (t : TapView A X N B) where
         (sym (lines-more w v b more told printer followed.is_after leads)) page;
   }
 
-  -- symbols at which nothing is seen were followed
-  pub unheard : (start now : Option (List ℕ)) (w v : CaptureRun A) (b more : List X) (told : List SeenReport)
-      → v ≡ record w { analyser = v.analyser } → told ≡ [] → Watches t start now w b →
-      Leads t.watch w.analyser more told v.analyser → Watches t start now v (b ++ more)
-  unheard start now w v b more told same none followed leads =
-      let d = t.watch.dictionary w.analyser in
-      let before = seen_by t.watch w.analyser b in
-      let seen : before ≡ before ++ told = sym (append-nil before)
-      ∙ ap (λ (x : List SeenReport). before ++ x) (sym none) in
-      let text : lines t w b ≡ lines t w b ++ printed w.teller.printer d told =
-      sym (append-nil (lines t w b)) ∙ ap (λ (x : List ℕ). lines t w b ++ x)
-      (sym (printed-none w.teller.printer d) ∙ ap (printed w.teller.printer d) (sym none)) in
-      let page : v.teller.page ≡ w.teller.page = ap (λ (r : CaptureRun A). r.teller.page) same in
-      watched start now now w v b more told (ap (λ (r : CaptureRun A). r.teller.printer) same) followed leads
-      (ap (λ (r : CaptureRun A). r.teller.summary) same ∙ (followed.counts ∙ ap summary_of seen))
-      (subst (Pages start now v.teller.page.text v.teller.page.written) text
-      (subst (λ (x : Page). Pages start now x.text x.written (lines t w b)) (sym page) followed.page))
-
   -- symbols that have no place stop the following
   pub halted : TapLaws t → (start now : Option (List ℕ)) (w v : CaptureRun A) (b more : List X)
       → v ≡ w → 0 < length more → 2 ^ 60 ≤ t.watch.place w.analyser → IsSound t w → Watches t start now w b →
@@ -143,27 +112,6 @@ module _ {A X N B : Type 0} (t : TapView A X N B) where
       let over : 2 ^ 60 - origin < length (b ++ more) = omega (arith, end, some, length-append b more) in
       subst (λ (x : CaptureRun A). Halts t start now x (b ++ more) fault.PlaceLimit) (sym same)
       (over, subst (Watches t start now w) (sym (within-front origin b more end)) followed)
-
-  -- a writer was cut off before the lines of some symbols
-  pub cut-off : TapLaws t → (start now : Option (List ℕ)) (w v : CaptureRun A) (b more : List X)
-      (told : List SeenReport) (sent : ℕ)
-      → v.teller.printer ≡ w.teller.printer → t.watch.place w.analyser + length more ≤ 2 ^ 60 →
-      t.watch.is_after w.analyser b → Leads t.watch w.analyser more told v.analyser
-      → Cuts start now (lines t w b) sent → sent < length (lines t w b) →
-      Halts t start now v (b ++ more) (fault.Write sent)
-  cut-off law start now w v b more told sent printer place after leads cut short =
-      let is_after : t.watch.place w.analyser ≡ t.watch.origin w.analyser + length b = law.placed w.analyser b after in
-      let fits : t.watch.origin v.analyser + length (b ++ more) ≤ 2 ^ 60 =
-      omega (arith, leads.origin, is_after, place, length-append b more) in
-      record {
-        front = b;
-        more = more;
-        all = within-all (t.watch.origin v.analyser) (b ++ more) fits;
-        cut = subst (λ (x : List ℕ). Cuts start now x sent)
-            (sym (lines-same w v b printer leads.dictionary leads.origin)) cut;
-        short = subst (λ (x : List ℕ). sent < length x) (sym (lines-same w v b printer leads.dictionary leads.origin))
-            short;
-      }
 
   -- what stopped, stops with more after it
   pub halts-more : (start now : Option (List ℕ)) (w : CaptureRun A) (b more : List X) (f : ToolFault)
@@ -186,55 +134,6 @@ module _ {A X N B : Type 0} (t : TapView A X N B) where
       }
   halts-more start now w b more _ stopped = absurd stopped
 
-  -- the first symbols of a word, and the others
-  pub word-parts : TapLaws t → (b : List X) (n count : ℕ) (word : N) → n ≤ count →
-      b ++ t.symbols count word ≡ (b ++ t.symbols n word) ++ drop n (t.symbols count word)
-  word-parts law b n count word le =
-      let all = t.symbols count word in
-      ap (λ (z : List X). b ++ z) (sym (take-append-drop n all)
-      ∙ ap (λ (z : List X). z ++ drop n all) (sym (law.front n count word le)))
-      ∙ sym (append_assoc b (t.symbols n word) (drop n all))
-
-  -- what stopped in the first symbols of a word, stops in all of them
-  pub halts-word : TapLaws t → (start now : Option (List ℕ)) (w : CaptureRun A) (b : List X) (n count : ℕ) (word : N)
-      (f : ToolFault)
-      → n ≤ count → Halts t start now w (b ++ t.symbols n word) f → Halts t start now w (b ++ t.symbols count word) f
-  halts-word law start now w b n count word f le stopped =
-      subst (λ (z : List X). Halts t start now w z f) (sym (word-parts law b n count word le))
-      (halts-more start now w (b ++ t.symbols n word) (drop n (t.symbols count word)) f stopped)
-
-  -- the first symbol of a word was taken alone, or not
-  pub front-taken : TapLaws t → (start now : Option (List ℕ)) (w : CaptureRun A) (b : List X) (count : ℕ)
-      (word front : N) (r : Result ℕ ToolFault)
-      → 1 ≤ count → t.symbols 1 front ≡ t.symbols 1 word → IfOk r (λ n. (1 ≤ n) × (n ≤ 1))
-      → MatchResult r (λ n. Watches t start now w (b ++ t.symbols n front))
-      (λ f. Halts t start now w (b ++ t.symbols 1 front) f)
-      → MatchResult r (λ n. Watches t start now w (b ++ t.symbols n word))
-      (λ f. Halts t start now w (b ++ t.symbols count word) f)
-  front-taken law start now w b count word front (Ok n) some is within taken =
-      let one : n ≡ 1 = omega (arith, within.0, within.1) in
-      subst (λ (z : List X). Watches t start now w (b ++ z))
-      (ap (λ (k : ℕ). t.symbols k front) one ∙ is ∙ ap (λ (k : ℕ). t.symbols k word) (sym one)) taken
-  front-taken law start now w b count word front (Err f) some is within taken =
-      halts-word law start now w b 1 count word f some (subst (λ (z : List X). Halts t start now w (b ++ z) f) is taken)
-
-  -- the next symbols of those that are left
-  pub word-next : TapLaws t → (b all : List X) (i n left : ℕ) (rest : N) → n ≤ left → t.symbols left rest ≡ drop i all
-      → (b ++ take i all) ++ t.symbols n rest ≡ b ++ take (i + n) all
-  word-next law b all i n left rest le is =
-      append_assoc b (take i all) (t.symbols n rest)
-      ∙ ap (λ (z : List X). b ++ (take i all ++ z)) (law.front n left rest le ∙ ap (λ (z : List X). take n z) is)
-      ∙ ap (λ (z : List X). b ++ z) (sym (take-add i n all))
-
-  -- and those that are left after them
-  pub word-behind : TapLaws t → (all : List X) (i n left : ℕ) (rest later : N) → t.symbols (n + left) rest ≡ drop i all
-      → t.symbols (n + left) rest ≡ t.symbols n rest ++ t.symbols left later → t.symbols left later ≡ drop (i + n) all
-  word-behind law all i n left rest later is parts =
-      sym (drop-append_seam (t.symbols n rest) (t.symbols left later))
-      ∙ ap (λ (k : ℕ). drop k (t.symbols n rest ++ t.symbols left later)) (law.long n rest)
-      ∙ ap (λ (z : List X). drop n z) (sym parts ∙ is)
-      ∙ drop-drop i n all
-
   -- what stays the same twice, stays the same
   pub same-both : (u v w : CaptureRun A) → IsSame t u v → IsSame t v w → IsSame t u w
   same-both u v w first second = record {
@@ -246,20 +145,6 @@ module _ {A X N B : Type 0} (t : TapView A X N B) where
 
   pub same-self : (w : CaptureRun A) → IsSame t w w
   same-self w = record { printer = refl; dictionary = refl; depth = refl; origin = refl }
-
-  -- some symbols more are sound where they add two to each count at most, and 2048 octets
-  pub sound-next : (w v : CaptureRun A) (n : ℕ) → 1 ≤ n → t.watch.place v.analyser ≡ t.watch.place w.analyser + n →
-      t.watch.place w.analyser + n ≤ 2 ^ 60
-      → IsFew (2 * t.watch.place w.analyser + 2) v.teller.summary
-      → v.teller.page.written + array_vec_len v.teller.page.text ≤ w.teller.page.written + array_vec_len
-      w.teller.page.text + 2048
-      → IsSound t w → IsSound t v
-  sound-next w v n some place le few octets sound = record {
-    places = omega (arith, place, le);
-    counts = few-within (2 * t.watch.place w.analyser + 2) (2 * t.watch.place v.analyser) v.teller.summary
-        (omega (arith, place, some)) few;
-    octets = let before = sound.octets in omega (arith, place, octets, before, some);
-  }
 
   -- without a printer there are no lines of the end
   pub pages-unended : (start now : Option (List ℕ)) (w : CaptureRun A) (b : List X) (page later : Page)

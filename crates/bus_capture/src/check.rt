@@ -5,8 +5,8 @@ ghost use Rattle.std.specs.Io.KnownBytes.{Consumes};
 ghost use Rattle.bus_capture.specs.Checks.{Checks, ChecksBy};
 ghost use Rattle.bus_capture.specs.Known.{ChecksKnown, ChecksKnownBy};
 
-use crate::follow::Follow;
 use crate::reader::CaptureReader;
+use crate::tap::Tap;
 use bus_fcs::OctetCheck;
 use bus_text::{Options, Summary, ToolFault};
 use bus_watch::{Analyser, PairAnalyser};
@@ -43,7 +43,7 @@ pub fn check_capture<R: Read, W: Write>(
 }
 
 /// Checks a capture of one line or of two.
-fn check_with<T: Follow, R: Read, W: Write>(
+fn check_with<T: Tap, R: Read, W: Write>(
     alloc: Global,
     o: &Options<'_>,
     r: &mut R,

@@ -2,7 +2,6 @@
 #![tactic(auto)]
 
 mod check;
-mod follow;
 mod list;
 mod one_line;
 mod packed;

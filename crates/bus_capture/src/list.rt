@@ -7,8 +7,8 @@ ghost use Rattle.std.specs.Io.KnownBytes.{Consumes};
 ghost use Rattle.bus_capture.specs.Lists.{Lists, ListsBy};
 ghost use Rattle.bus_capture.specs.Known.{ListsKnown, ListsKnownBy};
 
-use crate::follow::Follow;
 use crate::reader::CaptureReader;
+use crate::tap::Tap;
 use bus_fcs::OctetCheck;
 use bus_text::{Options, Page, Printer, Summary, ToolFault};
 use bus_watch::{Analyser, PairAnalyser};
@@ -53,7 +53,7 @@ pub fn list_capture<R: Read, W: Write>(
 }
 
 /// Lists a capture of one line or of two.
-fn list_with<T: Follow, R: Read, W: Write>(
+fn list_with<T: Tap, R: Read, W: Write>(
     alloc: Global,
     o: &Options<'_>,
     r: &mut R,

@@ -7,7 +7,6 @@ ghost use Rattle.bus_capture.specs.Internal.OneLine.{one_tap};
 ghost use Rattle.bus_capture.specs.Internal.Sessions.{FollowsOctets, Stops};
 ghost use Rattle.bus_capture.specs.Internal.Watching.{Halts, IsSame, IsSound, Watches};
 
-use crate::follow::Follow;
 use crate::run::CaptureRun;
 use crate::tap::Tap;
 use arrayvec::ArrayVec;
@@ -21,39 +20,6 @@ use bus_watch::laws::seen_grows;
 use bus_watch::{Analyser, Counts, NewFault};
 use std::alloc::Global;
 use std::io::Write;
-
-/// Takes bits of these octets, from bit `at` on and before bit `end`, up to the first that decides a report, and puts
-/// the lines of that on the page. Returns how many it took.
-#[inline(always)]
-fn take_some<C: Check, W: Write>(
-    octets: &[u8],
-    at: usize,
-    end: usize,
-    run: &mut CaptureRun<Analyser<C>>,
-    w: &mut W,
-) -> Result<usize, ToolFault>
-    requires sound { IsSound (one_tap C.check) run.old }
-    requires some { at < end }
-    requires within { end ≤ 8 * length octets.now }
-    ensures within { IfOk result (λ n. (1 ≤ n) × (at + n ≤ end)) }
-    ensures taken { (start : Option (List ℕ)) (b : List Bool) →
-        Watches (one_tap C.check) start (W.contents w.old) run.old b → MatchResult result
-        (λ n. Watches (one_tap C.check) start (W.contents w.new) run.new (b ++ bits_from octets.now at n))
-        (λ fault. Halts (one_tap C.check) start (W.contents w.new) run.new
-        (b ++ bits_from octets.now at (end - at)) fault) }
-    ensures same { IsSame (one_tap C.check) run.old run.new }
-    ensures sound { IsSound (one_tap C.check) run.new }
-{
-    Analyser::<C>::laws();
-    let taken = match run.analyser.scan(octets, at, end) {
-        Ok(taken) => taken,
-        Err(PlaceLimit) => return Err(ToolFault::PlaceLimit),
-    };
-    if run.analyser.is_decided() {
-        run.tell(w)?;
-    }
-    Ok(taken)
-}
 
 /// Takes the bits of these octets before bit `end`, up to the first that can't be taken.
 #[inline(never)]
@@ -73,9 +39,14 @@ fn take_bits<C: Check, W: Write>(
     ensures same { IsSame (one_tap C.check) run.old run.new }
     ensures sound { IsSound (one_tap C.check) run.new }
 {
-    let mut at = 0;
-    while at < end {
-        at += take_some(octets, at, end, run, w)?;
+    Analyser::<C>::laws();
+    run.teller.cut = None;
+    let taken = run.analyser.scan(octets, 0, end, &mut run.teller, w);
+    if let Some(cut) = run.teller.cut {
+        return Err(ToolFault::from(cut));
+    }
+    if taken < end {
+        return Err(ToolFault::PlaceLimit);
     }
     Ok(())
 }
@@ -135,8 +106,6 @@ fn take_block<C: Check, W: Write, const N: usize>(
 impl<C: Check> Tap for Analyser<C> {
     type Symbol = bool;
 
-    type Word = u64;
-
     type Body = PackedBits;
 
     type Few = ArrayVec<bool, 8>;
@@ -150,30 +119,6 @@ impl<C: Check> Tap for Analyser<C> {
         origin: u64,
     ) -> Result<Self, NewFault> {
         Analyser::new(alloc, dictionary, depth, origin)
-    }
-
-    #[inline(always)]
-    fn take(&mut self, word: u64, count: u32) -> Result<u32, PlaceLimit> {
-        Analyser::take(self, word, count)
-    }
-
-    #[inline(always)]
-    fn is_decided(&self) -> bool {
-        self.finding().is_some()
-    }
-
-    #[inline(always)]
-    fn count(&self, summary: &mut Summary) {
-        if let Some(finding) = self.finding() {
-            summary.count(finding);
-        }
-    }
-
-    #[inline(always)]
-    fn put(&self, printer: &Printer, page: &mut Page) {
-        if let Some(finding) = self.finding() {
-            printer.put(None, finding, self.octets(), self.dictionary(), page);
-        }
     }
 
     fn put_ending(&self, printer: &Printer, page: &mut Page) {
@@ -193,11 +138,6 @@ impl<C: Check> Tap for Analyser<C> {
             Some(kept) => put_kept(None, kept, page, w),
             None => Ok(()),
         }
-    }
-
-    #[inline(always)]
-    fn word_of(symbol: bool) -> u64 {
-        u64::from(symbol)
     }
 
     #[inline(always)]
@@ -221,14 +161,15 @@ impl<C: Check> Tap for Analyser<C> {
         body.finish()
     }
 
-    fn laws() {
-        captures_grow();
-        packed_is_head_and_body();
-        seen_grows();
+    #[inline(always)]
+    fn take_symbol<W: Write>(
+        symbol: bool,
+        run: &mut CaptureRun<Self>,
+        w: &mut W,
+    ) -> Result<(), ToolFault> {
+        take_bits(&[u8::from(symbol)], 1, run, w)
     }
-}
 
-impl<C: Check> Follow for Analyser<C> {
     #[inline(always)]
     fn take_text<W: Write>(
         octets: &[u8],
@@ -259,5 +200,11 @@ impl<C: Check> Follow for Analyser<C> {
         body.take_all(whole);
         take_bits(whole, 8 * whole.len(), run, w)?;
         Ok(count)
+    }
+
+    fn laws() {
+        captures_grow();
+        packed_is_head_and_body();
+        seen_grows();
     }
 }

@@ -4,11 +4,10 @@ ghost use Rattle.std.specs.Prelude.{◌≡◌, ◌+◌, ◌≤◌, ◌<◌, ℕ,
 ghost use Rattle.std.specs.Prelude.{length, take, false};
 ghost use Rattle.bus_bits.specs.Capture.{CaptureFault};
 ghost use Rattle.bus_bits.specs.Packed.{head_fault_of, packed_fault_of};
-ghost use Rattle.bus_capture.specs.Internal.Watching.{IsSound, IsSame};
+ghost use Rattle.bus_capture.specs.Internal.Watching.{Halts, IsSame, IsSound, Watches};
 ghost use Rattle.bus_capture.specs.Internal.Sessions.{FollowsPacked, FollowsBody, IsRead, Stops};
 ghost use Rattle.bus_capture.specs.Captures.{IsSameFault};
 
-use crate::follow::Follow;
 use crate::run::CaptureRun;
 use crate::tap::Tap;
 use arrayvec::ArrayVec;
@@ -50,6 +49,28 @@ fn body_fault(fault: PackedFault) -> ToolFault
     }
 }
 
+/// Takes some symbols, up to the first that can't be taken.
+#[inline(always)]
+fn take_symbols<T: Tap, W: Write>(
+    symbols: &[T::Symbol],
+    run: &mut CaptureRun<T>,
+    w: &mut W,
+) -> Result<(), ToolFault>
+    requires { IsSound T.tap run.old }
+    ensures taken { (start : Option (List ℕ)) (b : List T.Symbol) →
+        Watches T.tap start (W.contents w.old) run.old b → MatchResult result
+        (λ _. Watches T.tap start (W.contents w.new) run.new (b ++ symbols.now))
+        (λ fault. Halts T.tap start (W.contents w.new) run.new (b ++ symbols.now) fault) }
+    ensures same { IsSame T.tap run.old run.new }
+    ensures sound { IsSound T.tap run.new }
+{
+    T::laws();
+    for symbol in symbols {
+        T::take_symbol(*symbol, run, w)?;
+    }
+    Ok(())
+}
+
 /// Takes one octet after the head.
 #[inline(always)]
 fn take_octet<T: Tap, W: Write>(
@@ -68,14 +89,14 @@ fn take_octet<T: Tap, W: Write>(
 {
     T::laws();
     match T::take_octet(body, octet) {
-        Ok(symbols) => run.take_symbols(symbols.as_slice(), w),
+        Ok(symbols) => take_symbols(symbols.as_slice(), run, w),
         Err(fault) => Err(body_fault(fault)),
     }
 }
 
 /// Takes the next octets after the head, many or one, and returns how many these were.
 #[inline(always)]
-fn take_some<T: Follow, W: Write>(
+fn take_some<T: Tap, W: Write>(
     body: &mut T::Body,
     octets: &[u8],
     run: &mut CaptureRun<T>,
@@ -102,7 +123,7 @@ fn take_some<T: Follow, W: Write>(
 
 /// Takes octets after the head, up to the first fault.
 #[inline(never)]
-fn take_body<T: Follow, W: Write>(
+fn take_body<T: Tap, W: Write>(
     body: &mut T::Body,
     octets: &[u8],
     run: &mut CaptureRun<T>,
@@ -157,7 +178,7 @@ impl<B> PackedCapture<B> {
     }
 
     /// Takes some octets, up to the first fault.
-    pub fn take<T: Follow<Body = B>, W: Write>(
+    pub fn take<T: Tap<Body = B>, W: Write>(
         &mut self,
         octets: &[u8],
         run: &mut CaptureRun<T>,
@@ -178,7 +199,7 @@ impl<B> PackedCapture<B> {
     }
 
     /// Takes octets of the head, and then those after it.
-    fn take_head<T: Follow<Body = B>, W: Write>(
+    fn take_head<T: Tap<Body = B>, W: Write>(
         &mut self,
         octets: &[u8],
         run: &mut CaptureRun<T>,

@@ -12,7 +12,6 @@ ghost use Rattle.bus_capture.specs.Internal.Sessions.{IsReadBy, Follows, Stops, 
 ghost use Rattle.bus_capture.specs.Internal.Reading.{octets_taken, Finishes};
 ghost use Rattle.bus_capture.specs.Internal.Watching.{IsSound, IsSame};
 
-use crate::follow::Follow;
 use crate::packed::PackedCapture;
 use crate::run::CaptureRun;
 use crate::tap::Tap;
@@ -56,7 +55,7 @@ fn new_analyser<T: Tap>(alloc: Global, options: &Options<'_>) -> Result<T, ToolF
     }
 }
 
-impl<T: Follow> CaptureReader<T> {
+impl<T: Tap> CaptureReader<T> {
     /// No octets of the capture that the options tell of.
     pub fn new(
         alloc: Global,

@@ -1,7 +1,8 @@
 //! What a capture is read into: the analyser of one line, or that of two.
 
 ghost use Rattle.std.specs.Prelude.{◌≡◌, ◌+◌, ◌<◌, ◌≤◌, ◌^◌, ◌↔◌, ◌⊎◌, ℕ, false, List, [], ◌∷◌, ◌++◌, length, take};
-ghost use Rattle.std.specs.Prelude.{Option, Some, None, Err, MatchResult, IsErr, IfOk, OnOk, OnErr, IsTrue, slice_get};
+ghost use Rattle.std.specs.Prelude.{true, Option, Some, None, Err, MatchResult, IsErr, IfOk, OnOk, OnErr, IsTrue};
+ghost use Rattle.std.specs.Prelude.{slice_get};
 ghost use Rattle.std.specs.Option.{ForSome, option_to_list};
 ghost use Rattle.arrayvec.specs.ArrayVec.{array_vec_len};
 ghost use Rattle.bus_bits.specs.Capture.{bad_mark};
@@ -20,12 +21,13 @@ ghost use Rattle.bus_text.specs.Put.{Cuts};
 ghost use Rattle.bus_text.specs.Summary.{summary_of};
 ghost use Rattle.bus_capture.specs.Internal.Asked.{IsMade};
 ghost use Rattle.bus_capture.specs.Internal.Taps.{TapView, TapLaws};
-ghost use Rattle.bus_capture.specs.Internal.Watching.{heard_by};
+ghost use Rattle.bus_capture.specs.Internal.Watching.{Halts, heard_by, IsSame, IsSound, Watches};
+ghost use Rattle.bus_capture.specs.Internal.Sessions.{FollowsBody, FollowsOctets, Stops};
 
+use crate::run::CaptureRun;
 use bus_bits::{BadMark, HeadFault, PackedFault};
 use bus_dictionary::Dictionary;
-use bus_line::PlaceLimit;
-use bus_text::{Page, Printer, ShortWrite, Summary};
+use bus_text::{Page, Printer, ShortWrite, ToolFault};
 use bus_watch::{Counts, NewFault};
 use std::alloc::Global;
 use std::convert::AsSlice;
@@ -36,16 +38,13 @@ use std::io::Write;
 pub trait Tap: Drop {
     type Symbol: Copy;
 
-    /// Up to 48 symbols in numbers, the first lowest.
-    type Word: Copy;
-
     /// Reads the octets of a packed capture after its head.
     type Body: Drop;
 
     /// The symbols of one of these octets.
     type Few: AsSlice<Self::Symbol> + Drop;
 
-    ghost tap: { TapView Self Self.Symbol Self.Word Self.Body };
+    ghost tap: { TapView Self Self.Symbol Self.Body };
 
     /// An analyser that took no symbol. `depth` is how many frames its history keeps, and `origin` the
     /// place of its first symbol.
@@ -58,34 +57,6 @@ pub trait Tap: Drop {
         ensures depth { (result ≡ Err NewFault.DepthRange) ↔ ((depth < 1) ⊎ (1024 < depth)) }
         ensures origin { (result ≡ Err NewFault.Origin) ↔ ((1 ≤ depth) × (depth ≤ 1024) × (most_places < origin)) }
         ensures made { IfOk result (λ a. IsMade tap.watch dictionary depth origin a) };
-
-    /// Takes up to `count` symbols: all of them, or those up to the first that may decide a report.
-    /// Returns how many it took. Refuses, with nothing changed, where one would have no place.
-    fn take(&mut self, word: Self::Word, count: u32) -> Result<u32, PlaceLimit>
-        requires some { 1 ≤ count }
-        requires few { count ≤ 48 }
-        requires small { tap.fits count word }
-        ensures limit { IsErr result ↔ (most_places < tap.watch.place self.old + count) }
-        ensures within { IfOk result (λ n. (1 ≤ n) × (n ≤ count)) }
-        ensures sees { IfOk result (λ n. Leads tap.watch self.old (tap.symbols n word) (tap.heard self.new) self.new) }
-        ensures unchanged { OnErr result (self.new ≡ self.old) };
-
-    /// Whether anything is seen at the last symbol taken.
-    fn is_decided(&self) -> bool
-        ensures { (result ≡ false) ↔ (tap.heard self.now ≡ []) };
-
-    /// Counts what is seen at the last symbol taken.
-    fn count(&self, summary: &mut Summary)
-        requires { (most : ℕ) × IsFew most summary.old × (most < 2 ^ 61) }
-        ensures counted { (before : List SeenReport) → summary.old ≡ summary_of before →
-            summary.new ≡ summary_of (before ++ tap.heard self.now) }
-        ensures few { (most : ℕ) → IsFew most summary.old → IsFew (most + 2) summary.new };
-
-    /// Puts its lines on the page.
-    fn put(&self, printer: &Printer, page: &mut Page)
-        requires room { HasRoomFor 2048 page.old }
-        ensures { Prints page.old (listing printer.now (tap.watch.dictionary self.now) (tap.heard self.now)) 2048
-            page.new };
 
     /// Puts the lines of the end on the page.
     fn put_ending(&self, printer: &Printer, page: &mut Page)
@@ -121,10 +92,6 @@ pub trait Tap: Drop {
             (page.new.written + array_vec_len page.new.text
             ≤ page.old.written + array_vec_len page.old.text + 572) };
 
-    /// A word of one symbol.
-    fn word_of(symbol: Self::Symbol) -> Self::Word
-        ensures { tap.fits 1 result × (tap.symbols 1 result ≡ symbol ∷ []) };
-
     /// The symbol of an octet of a text, or None where it is skipped.
     fn mark(octet: u8) -> Result<Option<Self::Symbol>, BadMark>
         ensures { (xs : List ℕ) → (tap.form.text xs).fault ≡ None → MatchResult result
@@ -154,6 +121,55 @@ pub trait Tap: Drop {
             (λ _. tap.form.packed_whole xs ≡ record { bits = (tap.form.packed xs).bits; fault = None })
             (λ fault. tap.form.packed_whole xs
             ≡ record { bits = (tap.form.packed xs).bits; fault = Some (packed_fault_of fault) }) };
+
+    /// Takes the next symbol of a capture, and shows what is seen at it.
+    fn take_symbol<W: Write>(
+        symbol: Self::Symbol,
+        run: &mut CaptureRun<Self>,
+        w: &mut W,
+    ) -> Result<(), ToolFault>
+        requires { IsSound tap run.old }
+        ensures taken { (start : Option (List ℕ)) (b : List Self.Symbol) →
+            Watches tap start (W.contents w.old) run.old b → MatchResult result
+            (λ _. Watches tap start (W.contents w.new) run.new (b ++ symbol ∷ []))
+            (λ fault. Halts tap start (W.contents w.new) run.new (b ++ symbol ∷ []) fault) }
+        ensures same { IsSame tap run.old run.new }
+        ensures sound { IsSound tap run.new };
+
+    /// Takes the symbols of the next octets of a text, as many as come at once, and shows what is seen at them. Returns
+    /// how many octets these were: none where the next one is to be looked at alone.
+    fn take_text<W: Write>(
+        octets: &[u8],
+        run: &mut CaptureRun<Self>,
+        w: &mut W,
+    ) -> Result<usize, ToolFault>
+        requires { IsSound tap run.old }
+        ensures enough { IfOk result (λ n. n ≤ length octets.now) }
+        ensures taken { (start : Option (List ℕ)) (xs : List ℕ) →
+            FollowsOctets tap start (W.contents w.old) run.old xs → MatchResult result
+            (λ n. FollowsOctets tap start (W.contents w.new) run.new (xs ++ take n octets.now))
+            (λ fault. (n : ℕ) × (n ≤ length octets.now)
+            × Stops tap true start (W.contents w.new) run.new (xs ++ take n octets.now) fault) }
+        ensures same { IsSame tap run.old run.new }
+        ensures sound { IsSound tap run.new };
+
+    /// Takes the symbols of the next octets of a packed capture, as many as come at once, and shows what is seen at
+    /// them. Returns how many octets these were: none where the next one is to be looked at alone.
+    fn take_packed<W: Write>(
+        body: &mut Self::Body,
+        octets: &[u8],
+        run: &mut CaptureRun<Self>,
+        w: &mut W,
+    ) -> Result<usize, ToolFault>
+        requires { IsSound tap run.old }
+        ensures enough { IfOk result (λ n. n ≤ length octets.now) }
+        ensures taken { (start : Option (List ℕ)) (xs : List ℕ) →
+            FollowsBody tap start (W.contents w.old) body.old run.old xs → MatchResult result
+            (λ n. FollowsBody tap start (W.contents w.new) body.new run.new (xs ++ take n octets.now))
+            (λ fault. (n : ℕ)
+            × Stops tap false start (W.contents w.new) run.new (xs ++ take n octets.now) fault) }
+        ensures same { IsSame tap run.old run.new }
+        ensures sound { IsSound tap run.new };
 
     /// Its captures grow with their octets, and what is seen with its symbols.
     fn laws()

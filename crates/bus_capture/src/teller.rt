@@ -10,7 +10,7 @@ ghost use Rattle.bus_capture.specs.Internal.TellingLaws.{has-less, tells-more, t
 
 use bus_dictionary::Dictionary;
 use bus_text::{Page, Printer, ShortWrite, Summary};
-use bus_watch::{Finding, Line, PairListener};
+use bus_watch::{Finding, Line, ReportObserver};
 use std::io::Write;
 
 /// Counts what is seen, and writes its lines.
@@ -20,7 +20,7 @@ pub struct Teller {
     /// Puts the lines on the page; without it there are none.
     pub printer: Option<Printer>,
     pub page: Page,
-    /// Where the writer was cut off while a listener heard of two lines, which then hears no more.
+    /// Where the writer was cut off while reports came. No more of them are counted or written then.
     pub cut: Option<ShortWrite>,
 }
 
@@ -42,14 +42,14 @@ impl Teller {
     }
 }
 
-impl<W: Write> PairListener<W> for Teller {
-    ghost hears = { λ d l w seen m v. Tells d l (W.contents w) seen m (W.contents v) };
+impl<W: Write> ReportObserver<W> for Teller {
+    ghost observes = { λ d l w seen m v. Tells d l (W.contents w) seen m (W.contents v) };
 
     ghost has_room = { HasRoom };
 
-    fn hear(
+    fn observe(
         &mut self,
-        line: Line,
+        line: Option<Line>,
         finding: &Finding,
         octets: &[u8],
         dictionary: &Dictionary,
@@ -66,12 +66,12 @@ impl<W: Write> PairListener<W> for Teller {
             self.cut = Some(cut);
             return;
         }
-        printer.put(Some(line), finding, octets, dictionary, &mut self.page);
+        printer.put(line, finding, octets, dictionary, &mut self.page);
     }
 
-    ghost hears_none = { λ d l w. tells-none d l (W.contents w) };
+    ghost observes_none = { λ d l w. tells-none d l (W.contents w) };
 
-    ghost hears_more = { λ d k l m u v w seen more told further.
+    ghost observes_more = { λ d k l m u v w seen more told further.
         tells-more d k l m (W.contents u) (W.contents v) (W.contents w) seen more told further };
 
     ghost has_less = { has-less };

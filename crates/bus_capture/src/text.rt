@@ -5,7 +5,6 @@ ghost use Rattle.std.specs.Prelude.{length, take, true};
 ghost use Rattle.bus_capture.specs.Internal.Watching.{IsSound, IsSame};
 ghost use Rattle.bus_capture.specs.Internal.Sessions.{FollowsOctets, FollowsText, Stops};
 
-use crate::follow::Follow;
 use crate::run::CaptureRun;
 use crate::tap::Tap;
 use bus_bits::BadMark;
@@ -37,7 +36,7 @@ fn take_one<T: Tap, W: Write>(
 {
     T::laws();
     match T::mark(octet) {
-        Ok(Some(symbol)) => run.take_symbol(symbol, w),
+        Ok(Some(symbol)) => T::take_symbol(symbol, run, w),
         Ok(None) => Ok(()),
         Err(BadMark) => Err(ToolFault::BadMark { at }),
     }
@@ -46,7 +45,7 @@ fn take_one<T: Tap, W: Write>(
 impl TextCapture {
     /// Takes some octets, up to the first fault.
     #[inline(never)]
-    pub fn take<T: Follow, W: Write>(
+    pub fn take<T: Tap, W: Write>(
         &mut self,
         octets: &[u8],
         run: &mut CaptureRun<T>,

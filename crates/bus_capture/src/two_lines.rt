@@ -14,7 +14,6 @@ ghost use Rattle.bus_watch.specs.Pairs.{seen_on};
 ghost use Rattle.bus_talk.specs.Seen.{SeenReport};
 ghost use Rattle.std.specs.Option.{option_to_list};
 
-use crate::follow::Follow;
 use crate::run::CaptureRun;
 use crate::tap::Tap;
 use arrayvec::ArrayVec;
@@ -44,7 +43,6 @@ fn take_pairs<C: Check, W: Write>(
 ) -> Result<(), ToolFault>
     requires sound { IsSound (pair_tap C.check) run.old }
     requires enough { (count ≤ 8 * length first.now) × (count ≤ 8 * length second.now) }
-    requires few { count ≤ 8192 }
     ensures taken { (start : Option (List ℕ)) (b : List (Bool × Bool)) →
         Watches (pair_tap C.check) start (W.contents w.old) run.old b → MatchResult result
         (λ _. Watches (pair_tap C.check) start (W.contents w.new) run.new
@@ -66,35 +64,8 @@ fn take_pairs<C: Check, W: Write>(
     Ok(())
 }
 
-/// Counts what is seen on a line at the last pair taken, if anything.
-fn count_on<C: Check>(analyser: &PairAnalyser<C>, line: Line, summary: &mut Summary)
-    requires { (most : ℕ) × IsFew most summary.old × (most < 2 ^ 62) }
-    ensures counted { (before : List SeenReport) → summary.old ≡ summary_of before →
-        summary.new ≡ summary_of (before ++ option_to_list (seen_on analyser.now line)) }
-    ensures few { (most : ℕ) → IsFew most summary.old → IsFew (most + 1) summary.new }
-{
-    if let Some(finding) = analyser.finding(line) {
-        summary.count(finding);
-    }
-}
-
-/// Puts its lines on the page.
-fn put_on<C: Check>(analyser: &PairAnalyser<C>, line: Line, printer: &Printer, page: &mut Page)
-    requires room { HasRoomFor 964 page.old }
-    ensures { Prints page.old
-        (listing printer.now analyser.now.journal.dictionary (option_to_list (seen_on analyser.now line))) 964
-        page.new }
-{
-    if let Some(finding) = analyser.finding(line) {
-        let octets = analyser.octets(line);
-        printer.put(Some(line), finding, octets, analyser.dictionary(), page);
-    }
-}
-
 impl<C: Check> Tap for PairAnalyser<C> {
     type Symbol = (bool, bool);
-
-    type Word = PairWords;
 
     type Body = PackedPairs;
 
@@ -109,26 +80,6 @@ impl<C: Check> Tap for PairAnalyser<C> {
         origin: u64,
     ) -> Result<Self, NewFault> {
         PairAnalyser::new(alloc, dictionary, depth, origin)
-    }
-
-    #[inline(always)]
-    fn take(&mut self, word: PairWords, count: u32) -> Result<u32, PlaceLimit> {
-        PairAnalyser::take(self, word.first, word.second, count)
-    }
-
-    #[inline(always)]
-    fn is_decided(&self) -> bool {
-        self.finding(Line::First).is_some() || self.finding(Line::Second).is_some()
-    }
-
-    fn count(&self, summary: &mut Summary) {
-        count_on(self, Line::First, summary);
-        count_on(self, Line::Second, summary);
-    }
-
-    fn put(&self, printer: &Printer, page: &mut Page) {
-        put_on(self, Line::First, printer, page);
-        put_on(self, Line::Second, printer, page);
     }
 
     fn put_ending(&self, printer: &Printer, page: &mut Page) {
@@ -147,14 +98,6 @@ impl<C: Check> Tap for PairAnalyser<C> {
         match self.history(i) {
             Some(kept) => put_kept(Some(kept.line), &kept.kept, page, w),
             None => Ok(()),
-        }
-    }
-
-    #[inline(always)]
-    fn word_of(symbol: (bool, bool)) -> PairWords {
-        PairWords {
-            first: u64::from(symbol.0),
-            second: u64::from(symbol.1),
         }
     }
 
@@ -182,14 +125,16 @@ impl<C: Check> Tap for PairAnalyser<C> {
         body.finish()
     }
 
-    fn laws() {
-        pair_captures_grow();
-        pairs_are_head_and_body();
-        pairs_grow();
+    #[inline(always)]
+    fn take_symbol<W: Write>(
+        symbol: (bool, bool),
+        run: &mut CaptureRun<Self>,
+        w: &mut W,
+    ) -> Result<(), ToolFault> {
+        let (first, second) = symbol;
+        take_pairs(&[u8::from(first)], &[u8::from(second)], 1, run, w)
     }
-}
 
-impl<C: Check> Follow for PairAnalyser<C> {
     #[inline(always)]
     fn take_text<W: Write>(
         octets: &[u8],
@@ -227,5 +172,11 @@ impl<C: Check> Follow for PairAnalyser<C> {
         body.take_all(whole, &mut first, &mut second);
         take_pairs(&first, &second, 4 * whole.len(), run, w)?;
         Ok(count)
+    }
+
+    fn laws() {
+        pair_captures_grow();
+        pairs_are_head_and_body();
+        pairs_grow();
     }
 }

@@ -1,3 +1,4 @@
 pub mod Frames
 pub mod Live
+pub mod Pairing
 pub mod Watching

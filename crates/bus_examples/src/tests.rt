@@ -1,11 +1,14 @@
 //! The examples, on a call, its reply and a notice.
 
 use crate::{
-    WatchFault, asks_for_answer, closes_frame_of, count_frames, frame_bits, unanswered, watch,
+    PairFault, Received, WatchFault, asks_for_answer, closes_frame_of, count_frames, frame_bits,
+    pair_reports, unanswered, watch,
 };
+use arrayvec::ArrayVec;
 use bus_dictionary::Dictionary;
 use bus_fcs::{BitCheck, Check, OctetCheck};
-use bus_line::{EncodeFault, LineDecoder};
+use bus_line::{Cause, EncodeFault, Event, EventKind, LineDecoder, Span};
+use bus_talk::{Journal, Line};
 use bus_watch::{Analyser, FeedFault, LoggedPiece};
 use std::alloc::Global;
 use std::fmt::{Debug, Display};
@@ -156,6 +159,61 @@ fn all_that_is_seen(rt: HostRuntime) {
     let fault = watch(rt.alloc(), calls(&rt, rt.alloc()), &three, 2).err();
     let want = WatchFault::Feed(FeedFault::Sink { consumed: 156 });
     same(&rt, fault, Some(want), "a log of two reports");
+}
+
+/// A report of a controller's line or of the stations', from a place on.
+fn received(line: Line, kind: EventKind, first: u64, octets: &[u8]) -> Received {
+    let mut received = Received {
+        line: Some(line),
+        event: Event {
+            span: Span {
+                first,
+                past: first.saturating_add(8 * 5),
+            },
+            kind,
+        },
+        octets: ArrayVec::new(),
+    };
+    let _ = received.octets.try_extend_from_slice(octets);
+    received
+}
+
+const CALL_OCTETS: &[u8] = &[0x10, 0x83, 0x00, 0xfd, 0xe5];
+
+const REPLY_OCTETS: &[u8] = &[0x10, 0x83, 0x80, 0xf5, 0x61];
+
+/// A call with its reply, one that damage spoils, and one that waits. Of a frame with too few octets on, none is taken.
+#[test]
+fn reports_of_another_decoder(rt: HostRuntime) {
+    let reports = [
+        received(Line::First, EventKind::Frame, 8, CALL_OCTETS),
+        received(Line::Second, EventKind::Idle, 40, &[]),
+        received(Line::Second, EventKind::Frame, 70, REPLY_OCTETS),
+        received(Line::First, EventKind::Frame, 200, CALL_OCTETS),
+        received(Line::Second, EventKind::Damaged(Cause::Fcs), 260, &[]),
+        received(Line::First, EventKind::Frame, 400, CALL_OCTETS),
+        received(Line::Second, EventKind::Frame, 460, &[0x10, 0x83, 0x80]),
+        received(Line::Second, EventKind::Frame, 500, REPLY_OCTETS),
+    ];
+    let dictionary = calls(&rt, rt.alloc());
+    let mut journal = Journal::new(rt.alloc(), dictionary, 16).expect(&rt, "memory");
+    let ending = pair_reports(&mut journal, &reports);
+    let want = Err(PairFault::ShortFrame { taken: 6 });
+    same(&rt, ending, want, "a frame of three octets");
+    let counts = journal.counts(16);
+    same(
+        &rt,
+        [counts.answered, counts.spoilt],
+        [1, 1],
+        "the verdicts",
+    );
+    let waits = journal.pending().map(|command| command.span.first);
+    same(&rt, waits, Some(400), "the call that waits");
+    let reply = [received(Line::Second, EventKind::Frame, 500, REPLY_OCTETS)];
+    let ending = pair_reports(&mut journal, &reply);
+    same(&rt, ending, Ok(()), "its reply");
+    same(&rt, journal.counts(16).answered, 2, "both replies");
+    same(&rt, journal.kept_len(), 5, "the frames");
 }
 
 #[test]

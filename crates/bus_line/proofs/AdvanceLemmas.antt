@@ -23,7 +23,7 @@ use Rattle.bus_line.specs.Internal.Flags.{StopsAt}
 use Rattle.bus_line.proofs.DueMoreLemmas.{placed-more}
 use Rattle.bus_line.proofs.DecideLemmas.{nothing-due}
 use Rattle.bus_line.proofs.WordLemmas.{last-below, length-front, word-made, word-just}
-use Rattle.bus_line.proofs.SettleLemmas.{next-bit, mark-calm, calm-less}
+use Rattle.bus_line.proofs.SettleLemmas.{next-bit, mark-calm}
 
 -- ---- the word
 
@@ -89,25 +89,6 @@ last-due longest n b bits inside =
     omega (arith, length-front n b bits (omega (arith, inside))) in
     rw (← last-list n b bits inside, size) refl
 
--- is all that they and it add
-pub last-placed : (origin longest n : ℕ) (b bits : List Bool) (o : Option Report) → IsCalm b bits n → n < length bits →
-    o ≡ option_map (moved origin) (due_at longest (b ++ take (n + 1) bits) (length b + (n + 1) - 1))
-    → placed origin longest (b ++ take (n + 1) bits) ≡ placed origin longest b ++ option_to_list o
-last-placed origin longest n b bits o calm inside is =
-    let u = b ++ take n bits in
-    let x = get_or bits n false in
-    let due = rw (← last-due longest n b bits inside) at is in
-    rw (
-      last-list n b bits inside,
-      placed-more origin longest u x o due,
-      calm-placed origin longest n b bits calm n (omega arith) (omega (arith, inside)),
-    ) refl
-
-pub after-last : {C : Type 0} (view : CheckView C) (n : ℕ) (d : LineState C) (b bits : List Bool) →
-    n < length bits → After view d ((b ++ take n bits) ++ get_or bits n false ∷ []) →
-    After view d (b ++ take (n + 1) bits)
-after-last view n d b bits inside after = rw (last-list n b bits inside) after
-
 -- ---- all together
 
 -- a run of calm bits that takes all of them
@@ -124,26 +105,6 @@ is_calm w n m x b word all calm =
       calm = calm-before w n b (bits_of n x) word (omega (arith, size))
           (λ i before. calm i (omega (arith, all, before)));
     }
-
-pub all-placed : (longest origin w n x : ℕ) (b : List Bool) → Calm w n x b →
-    placed origin longest (b ++ bits_of n x) ≡ placed origin longest b ++ []
-all-placed longest origin w n x b run =
-    let size = length-bits n x in
-    rw (
-      ← bits-front n n x (omega arith),
-      calm-placed origin longest n b (bits_of n x) run.calm n (omega arith) (omega (arith, size)),
-    )
-    (sym (append-nil (placed origin longest b)))
-
-pub all-after : {C : Type 0} (view : CheckView C) (w n x t : ℕ) (e : LineState C) (b : List Bool) →
-    Calm w n x b → t ≡ n
-    → (IsCalm b (bits_of n x) (t - 1) → Tracks view e (b ++ take t (bits_of n x)) (current b)) →
-    After view e (b ++ bits_of n x)
-all-after view w n x t e b run all tracks =
-    let size = length-bits n x in
-    let settled = tracks (calm-less b (bits_of n x) n (t - 1) (omega (arith, all)) run.calm) in
-    rw (← bits-front n n x (omega arith))
-    (calm-after view n e b (bits_of n x) run.calm (omega (arith, size)) (rw all at settled))
 
 -- a run of calm bits that a stop ends
 pub record Last (w n m x : ℕ) (b : List Bool) : Type 0 where
@@ -167,51 +128,6 @@ is_last w n m x b word within not-all calm =
 -- the list before its last bit, and that
 abbrev pub but_last : List Bool → ℕ → ℕ → ℕ → List Bool
 but_last b n m x = b ++ take m (bits_of n x)
-
-abbrev pub last_of : ℕ → ℕ → ℕ → Bool
-last_of n m x = get_or (bits_of n x) m false
-
-pub last-tracks : {C : Type 0} (view : CheckView C) (w n m x t : ℕ) (e : LineState C) (b : List Bool) →
-    Last w n m x b → t ≡ m + 1
-    → (IsCalm b (bits_of n x) (t - 1) → Tracks view e (b ++ take t (bits_of n x)) (current b)) →
-    Tracks view e (but_last b n m x ++ last_of n m x ∷ []) (current (but_last b n m x))
-last-tracks view w n m x t e b last end tracks =
-    let settled = tracks (calm-less b (bits_of n x) m (t - 1) (omega (arith, end)) last.calm) in
-    tracks-last view m e b (bits_of n x) last.calm last.within (rw end at settled)
-
-pub last-answer : (longest origin l o w n m x : ℕ) (b : List Bool) (r : Option Report) → Last w n m x b → l ≡ longest →
-    o ≡ origin
-    → r ≡ option_map (moved o) (due_at l (but_last b n m x ++ last_of n m x ∷ []) (length (but_last b n m x)))
-    → r ≡ option_map (moved origin) (due_at longest (b ++ bits_of (m + 1) x) (length b + (m + 1) - 1))
-last-answer longest origin l o w n m x b r last same-longest same-origin is =
-    rw (← last.front, ← last-due longest m b (bits_of n x) last.within, ← same-longest, ← same-origin) is
-
-pub last-more : (longest origin w n m x : ℕ) (b : List Bool) (r : Option Report) → Last w n m x b →
-    r ≡ option_map (moved origin) (due_at longest (b ++ bits_of (m + 1) x) (length b + (m + 1) - 1))
-    → placed origin longest (b ++ bits_of (m + 1) x) ≡ placed origin longest b ++ option_to_list r
-last-more longest origin w n m x b r last is =
-    rw (← last.front) (last-placed origin longest m b (bits_of n x) r last.calm last.within (rw (← last.front) at is))
-
-pub last-after : {C : Type 0} (view : CheckView C) (w n m x : ℕ) (e : LineState C) (b : List Bool) →
-    Last w n m x b → After view e (but_last b n m x ++ last_of n m x ∷ []) →
-    After view e (b ++ bits_of (m + 1) x)
-last-after view w n m x e b last after =
-    rw (← last.front) (after-last view m e b (bits_of n x) last.within after)
-
--- nothing is due at calm bits
-pub calm-before-last : (longest origin w n i x : ℕ) (b : List Bool) → Calm w n x b → i ≤ n →
-    placed origin longest (b ++ bits_of i x) ≡ placed origin longest b
-calm-before-last longest origin w n i x b run within =
-    let inside : i ≤ length (bits_of n x) = omega (arith, within, length-bits n x) in
-    rw (← bits-front i n x within) (calm-placed origin longest n b (bits_of n x) run.calm i within inside)
-
-pub last-before : (longest origin w n m x : ℕ) (b : List Bool) → Last w n m x b →
-    placed origin longest (b ++ bits_of (m + 1 - 1) x) ≡ placed origin longest b
-last-before longest origin w n m x b last =
-    let size = length-bits n x in
-    let before : m + 1 - 1 ≡ m = omega arith in
-    rw (before, ← bits-front m n x (omega (arith, last.within, size)))
-    (calm-placed origin longest m b (bits_of n x) last.calm m (omega arith) (omega (arith, last.within)))
 
 -- ---- what bits taken at once do
 
@@ -248,32 +164,6 @@ advances-behind view n x old new report longest origin place behind = record {
     says = λ b stands. (behind b stands).says;
   };
   before = λ b stands. rw (front-bits n x) (behind b stands).before;
-}
-
--- calm bits, once they are settled
-pub behind-calm : {C : Type 0} (view : CheckView C) (w n x t : ℕ) (old new : LineState C)
-    (b : List Bool) → Calm w n x b → t ≡ n
-    → (IsCalm b (bits_of n x) (t - 1) → Tracks view new (b ++ take t (bits_of n x)) (current b))
-    → Behind view old b n x None new
-behind-calm view w n x t old new b calm all tracks = record {
-  after = all-after view w n x t new b calm all tracks;
-  says = all-placed old.longest old.origin w n x b calm;
-  before = calm-before-last old.longest old.origin w n (n - 1) x b calm (omega arith);
-}
-
--- calm bits and the one after them, once that is decided
-pub behind-last : {C : Type 0} (view : CheckView C) (w n m x : ℕ) (old settled new : LineState C)
-    (b : List Bool) (report : Option Report) → Last w n m x b
-    → settled.longest ≡ old.longest → settled.origin ≡ old.origin
-    → report ≡ option_map (moved settled.origin)
-    (due_at settled.longest (but_last b n m x ++ last_of n m x ∷ []) (length (but_last b n m x)))
-    → After view new (but_last b n m x ++ last_of n m x ∷ [])
-    → Behind view old b (m + 1) x report new
-behind-last view w n m x old settled new b report last longest origin answer after = record {
-  after = last-after view w n m x new b last after;
-  says = last-more old.longest old.origin w n m x b report last
-      (last-answer old.longest old.origin settled.longest settled.origin w n m x b report last longest origin answer);
-  before = last-before old.longest old.origin w n m x b last;
 }
 
 -- ---- how many are taken

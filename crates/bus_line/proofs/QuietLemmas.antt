@@ -140,13 +140,6 @@ settled-behind w s (suc k) fits =
     let bit : x / 2 ^ (8 + k) % 2 ≡ w / 2 ^ s / 2 ^ (8 + k) % 2 = field-behind w s (8 + k) 1 (omega (arith, fits)) in
     rw (settled-behind w s k (omega (arith, fits)), five, bit) refl
 
-pub settled-front : (w k : ℕ) → k ≤ 56 → data_in_word (w % 2 ^ 64) k ≡ data_in_word w k
-settled-front w k within =
-    let none : w % 2 ^ 64 ≡ w % 2 ^ 64 / 2 ^ 0 = omega arith in
-    let all : w / 2 ^ 0 ≡ w = omega arith in
-    ap (λ (x : ℕ). data_in_word x k) none
-    ∙ (settled-behind w 0 k (omega (arith, within)) ∙ ap (λ (x : ℕ). data_in_word x k) all)
-
 -- ---- 56 bits more of these octets
 
 from-more : (os : List ℕ) (from at : ℕ) → from ≤ at → bits_from os from (at + 56 - from)
@@ -305,11 +298,6 @@ word-is h x b last =
 
 pub last-bits-small : {C : Type 0} (d : LineState C) (b : List Bool) → HasTaken d b → d.last_bits < 65536
 last-bits-small d b taken = omega (arith, taken.last_bits, last-below b)
-
--- the sixteen newest
-pub last-bits-next : (h x : ℕ) → h < 65536 → bit_or (h / 256) (x * 256 % 18446744073709551616) / 2 ^ 48
-    ≡ word_of h x / 2 ^ 56 % 65536
-last-bits-next h x small = ap (λ (y : ℕ). y / 2 ^ 48) (word-behind h x small) ∙ omega (arith, small)
 
 pub newest-front : (h x n : ℕ) → h < 65536 → n < 8
     → bit_or h (x * 65536 % 18446744073709551616) / 2 ^ n % 65536 ≡ word_of h x / 2 ^ n % 65536

@@ -89,6 +89,15 @@ module _ {C : Type 0} (view : CheckView C) {old new : LineState C} {bits : List 
             calm-placed old.origin old.longest n b bits (calm b stands) n (omega arith) (omega arith);
       }
 
+  -- which all are settled, unless the last may decide a report
+  pub reached-to : (is_stop : Bool) → 1 ≤ length bits →
+      (is_stop ≡ false → (b : List Bool) → After view old b → IsCalm b bits (length bits)) →
+      ((b : List Bool) → After view old b → IsCalm b bits (length bits - 1)) →
+      ((b : List Bool) → After view old b → Tracks view new (b ++ bits) (current b)) →
+      ReachesTo view old bits is_stop new
+  reached-to true some all calm tracks = reached-last some calm tracks
+  reached-to false some all calm tracks = reached-all (all refl) tracks
+
 -- ---- what the last of them decides
 
 pub decided : {C : Type 0} (view : CheckView C) {old mid new : LineState C} {bits : List Bool}

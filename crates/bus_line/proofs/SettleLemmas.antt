@@ -135,9 +135,6 @@ settles-late longest p w i b bits bit word inside mark far =
 
 -- ---- calm bits
 
-pub calm-less : (b bits : List Bool) (n m : ℕ) → m ≤ n → IsCalm b bits n → IsCalm b bits m
-calm-less b bits n m fewer calm = λ i before. calm i (omega (arith, fewer, before))
-
 -- they leave the last mark
 pub mark-calm : (b bits : List Bool) (n i : ℕ) → IsCalm b bits n → i ≤ n → i ≤ length bits →
     current (b ++ take i bits) ≡ current b

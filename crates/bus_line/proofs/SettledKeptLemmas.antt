@@ -199,41 +199,9 @@ abbrev trues : List Bool → ℕ
 trues [] = 0
 trues (b ∷ bs) = cond b 1 0 + trues bs
 
-trues-append : (bs cs : List Bool) → trues (bs ++ cs) ≡ trues bs + trues cs
-trues-append [] cs = omega arith
-trues-append (b ∷ bs) cs = ap (λ (n : ℕ). cond b 1 0 + n) (trues-append bs cs) ∙ omega arith
-
 ones-are : (bs : List Bool) → count_ones (mask_l bs) ≡ trues bs
 ones-are [] = omega (arith, ones_le_self 0)
 ones-are (b ∷ bs) = ones-mask_l_cons b bs ∙ ap (λ (n : ℕ). cond b 1 0 + n) (ones-are bs)
-
-mask-number : (bs : List Bool) → mask_l bs ≡ number bs
-unfolding number
-mask-number [] = refl
-mask-number (b ∷ bs) = ap (λ (n : ℕ). cond b 1 0 + 2 * n) (mask-number bs) ∙ omega arith
-
-kept-trues : (x s k : ℕ) → length (kept x s k) + trues (bits_of k s) ≡ k
-unfolding bits_of
-kept-trues x s zero = omega arith
-kept-trues x s (suc k) =
-    let marks = ap trues (bits-back k s) ∙ trues-append (bits_of k s) ((s / 2 ^ k % 2 == 1) ∷ []) in
-    let before = kept-trues x s k in
-    elim (marked-or-free s k) [
-      | inl marked ↦
-          let one : trues ((s / 2 ^ k % 2 == 1) ∷ []) ≡ 1 = rw (eq-eqb _ _ marked) refl in
-          let same = ap length (kept-out x s k marked) in
-          omega (arith, before, marks, one, same)
-      | inr free ↦
-          let not-one : trues ((s / 2 ^ k % 2 == 1) ∷ []) ≡ 0 = rw (ne_eqb _ _ free) refl in
-          let more = ap length (kept-in x s k free) ∙ length-append (kept x s k) ((bit_at x k == 1) ∷ []) in
-          omega (arith, before, marks, not-one, more)
-    ]
-
-pub kept-length : (x s n : ℕ) → s < 2 ^ n → length (kept x s n) + count_ones s ≡ n
-kept-length x s n below =
-    let same : mask_l (bits_of n s) ≡ s = mask-number (bits_of n s) ∙ number-bits n s below in
-    let ones : count_ones s ≡ trues (bits_of n s) = ap count_ones (sym same) ∙ ones-are (bits_of n s) in
-    omega (arith, kept-trues x s n, ones)
 
 -- ---- the lowest marked bit taken out
 

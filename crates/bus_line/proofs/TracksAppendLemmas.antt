@@ -2,7 +2,6 @@
 use Rattle.std.proofs.Common.{◌≡◌, ℕ, zero, suc, ◌+◌, ◌-◌, ◌*◌, ◌/◌, ◌%◌, ◌^◌, ◌≤◌, ◌<◌, Bool, List, [], ◌∷◌, ◌++◌}
 use Rattle.std.proofs.Common.{length, take, drop, min, refl, sym, ap, ◌∙◌, subst, arith, length-append, inl, inr}
 use Rattle.std.specs.Prelude.{bit_or}
-use Rattle.std.specs.Int.{w64, to_le_bytes}
 use Rattle.std.specs.Int.Bits.{or_shifted_r}
 use Rattle.std.proofs.Math.Seq.{take-add, drop-append-add}
 use Rattle.std.proofs.lemmas.Bool.{cases_lt}
@@ -149,7 +148,7 @@ take-over (suc k) (x ∷ xs) ys =
     let left : k - length xs ≡ suc k - suc (length xs) = omega arith in
     ap (λ (z : List _). x ∷ z) (take-over k xs ys) ∙ ap (λ (j : ℕ). x ∷ take k xs ++ take j ys) left
 
-length-octets_of : (k n : ℕ) → length (octets_of k n) ≡ k
+pub length-octets_of : (k n : ℕ) → length (octets_of k n) ≡ k
 length-octets_of zero n = refl
 length-octets_of (suc k) n = length-append (octets_of k n) (n / 2 ^ (8 * k) % 256 ∷ [])
     ∙ omega (arith, length-octets_of k n)
@@ -166,42 +165,40 @@ octets-fewer k (suc m) n within = elim (cases_lt m k) [
       ∙ octets-fewer k m n (omega (arith, fewer))
 ]
 
--- the octets that the machine makes of a number
-le-octets : (n : ℕ) → to_le_bytes w64 n ≡ octets_of 8 n
-le-octets n =
-    let first : n % 256 ≡ n / 2 ^ (8 * 0) % 256 = omega arith in
-    ap (λ (x : ℕ). x ∷ n / 256 % 256 ∷ n / 65536 % 256 ∷ n / 16777216 % 256 ∷ n / 4294967296 % 256
-    ∷ n / 1099511627776 % 256 ∷ n / 281474976710656 % 256 ∷ n / 72057594037927936 % 256 ∷ []) first
+-- one octet more
+pub octets-next : (k n rest octet : ℕ) → rest ≡ n / 2 ^ (8 * k) → octet ≡ rest % 256 →
+    octets_of (k + 1) n ≡ octets_of k n ++ octet ∷ []
+octets-next k n rest octet left lowest =
+    let next : k + 1 ≡ suc k = omega arith in
+    ap (λ (m : ℕ). octets_of m n) next
+    ∙ ap (λ (o : ℕ). octets_of k n ++ o ∷ []) (sym (lowest ∙ ap (λ (r : ℕ). r % 256) left))
 
 -- as many of them as there is room for
-octets-room : (k room m n : ℕ) → m ≡ min k room → k ≤ 8 → take m (to_le_bytes w64 n) ≡ take room (octets_of k n)
-octets-room k room m n is few =
-    let front : take m (to_le_bytes w64 n) ≡ octets_of m n =
-    ap (take m) (le-octets n) ∙ octets-fewer m 8 n (omega (arith, is, few)) in
-    elim (cases_lt room k) [
-      | inl over ↦
-          let all-room : m ≡ room = omega (arith, is, over) in
-          front ∙ rw all-room (sym (octets-fewer room k n (omega (arith, over))))
-      | inr fits ↦
-          let all : m ≡ k = omega (arith, is, fits) in
-          front ∙ rw all (sym (take_all room (octets_of k n) (omega (arith, length-octets_of k n, fits))))
-    ]
+octets-room : (k room m n : ℕ) → m ≡ min k room → octets_of m n ≡ take room (octets_of k n)
+octets-room k room m n is = elim (cases_lt room k) [
+  | inl over ↦
+      let all-room : m ≡ room = omega (arith, is, over) in
+      rw all-room (sym (octets-fewer room k n (omega (arith, over))))
+  | inr fits ↦
+      let all : m ≡ k = omega (arith, is, fits) in
+      rw all (sym (take_all room (octets_of k n) (omega (arith, length-octets_of k n, fits))))
+]
 
 -- the buffer and its check have as many octets more as there is room for
-pub keeps-more : {C : Type 0} (folded : C → List ℕ → Type 0) (d e : LineState C) (k m n : ℕ) (more os : List ℕ) →
-    Keeps folded d os → m ≡ min k (d.longest + 2 - length d.octets) → k ≤ 8
-    → more ≡ take m (to_le_bytes w64 n) → e.longest ≡ d.longest → e.octets ≡ d.octets ++ more →
-    ((xs : List ℕ) → folded d.check xs → folded e.check (xs ++ more))
+pub keeps-more : {C : Type 0} (folded : C → List ℕ → Type 0) (d e : LineState C) (k m n : ℕ) (os : List ℕ) →
+    Keeps folded d os → m ≡ min k (d.longest + 2 - length d.octets)
+    → e.longest ≡ d.longest → e.octets ≡ d.octets ++ octets_of m n →
+    ((xs : List ℕ) → folded d.check xs → folded e.check (xs ++ octets_of m n))
     → Keeps folded e (os ++ octets_of k n)
-keeps-more folded d e k m n more os kept count few added longest same-octets checks =
+keeps-more folded d e k m n os kept count longest same-octets checks =
     let limit = d.longest + 2 in
     let held : length d.octets ≡ min limit (length os) = ap length kept.held ∙ length-take limit os in
     let room : m ≡ min k (limit - length os) = omega (arith, count, held) in
-    let all : take limit (os ++ octets_of k n) ≡ take limit os ++ more =
+    let all : take limit (os ++ octets_of k n) ≡ take limit os ++ octets_of m n =
     take-over limit os (octets_of k n) ∙ ap (λ (z : List ℕ). take limit os ++ z)
-    (sym (added ∙ octets-room k (limit - length os) m n room few)) in
+    (sym (octets-room k (limit - length os) m n room)) in
     record {
-      held = rw longest (same-octets ∙ (ap (λ (z : List ℕ). z ++ more) kept.held ∙ sym all));
+      held = rw longest (same-octets ∙ (ap (λ (z : List ℕ). z ++ octets_of m n) kept.held ∙ sym all));
       checked = rw longest (subst (folded e.check) (sym all) (checks (take limit os) kept.checked));
     }
 

@@ -40,9 +40,6 @@ first-some at place past settles fits = shows (at == 2 ^ 62) refl
 pub first-at : (place : ℕ) → place ≤ 2 ^ 60 → first_in (place + 8) ≡ Some place
 first-at place fits = first-some (place + 8) place (omega arith) (omega arith) fits ∙ ap Some (omega arith)
 
-pub first-none : first_in (2 ^ 62) ≡ None
-first-none = refl
-
 -- an abort ends an open piece
 pub aborts : (origin at past end place : ℕ) (mark : Mark) → first_in at ≡ first_of origin mark → past ≡ origin + end →
     past ≤ place → place ≤ 2 ^ 60 → 8 ≤ at → at - 8 < past

@@ -11,7 +11,6 @@ mod scan;
 mod settled;
 mod step;
 mod stop;
-mod turns;
 
 ghost use Rattle.std.specs.Prelude.{◌≡◌, ◌+◌, ◌*◌, ◌-◌, ◌≤◌, ◌<◌, ◌^◌, ◌↔◌, ◌⊎◌, List, Bool, [], ◌∷◌, ◌++◌, IsErr};
 ghost use Rattle.std.specs.Prelude.{IfOk, OnErr, length, Some, None};
@@ -33,7 +32,6 @@ use crate::piece::Piece;
 use crate::place_limit::PlaceLimit;
 use crate::scanned::Scanned;
 use crate::taken::Taken;
-use crate::way::ByTurns;
 use arrayvec::ArrayVec;
 use bus_bits::Spent;
 use bus_fcs::Check;
@@ -149,7 +147,7 @@ impl<C: Check> LineDecoder<C> {
         // The `?` parts the two cases for the proof.
         let scanned = self
             .words
-            .scan::<ByTurns, _, _>(&mut self.check, &mut self.frame, octets, at, end)?;
+            .scan(&mut self.check, &mut self.frame, octets, at, end)?;
         Ok(scanned)
     }
 

@@ -1,6 +1,6 @@
 //! Where the octets of a piece are kept.
 
-ghost use Rattle.std.specs.Prelude.{◌≡◌, ◌+◌, ◌≤◌, ℕ, List, [], ◌++◌, length};
+ghost use Rattle.std.specs.Prelude.{◌≡◌, ◌≤◌, ◌<◌, ℕ, List, [], ◌∷◌, ◌++◌, length};
 ghost use Rattle.bus_line.specs.Limits.{most_octets};
 
 use arrayvec::ArrayVec;
@@ -19,10 +19,10 @@ pub trait FrameBuffer {
         requires { length (octets self.now) ≤ most_octets }
         ensures { result ≡ length (octets self.now) };
 
-    /// Appends octets.
-    fn extend(&mut self, more: &[u8])
-        requires { length (octets self.old) + length more.now ≤ most_octets }
-        ensures { octets self.new ≡ octets self.old ++ more.now };
+    /// Appends an octet.
+    fn push(&mut self, octet: u8)
+        requires { length (octets self.old) < most_octets }
+        ensures { octets self.new ≡ octets self.old ++ octet ∷ [] };
 }
 
 impl FrameBuffer for ArrayVec<u8, 258> {
@@ -39,9 +39,7 @@ impl FrameBuffer for ArrayVec<u8, 258> {
     }
 
     #[inline(always)]
-    fn extend(&mut self, more: &[u8]) {
-        if self.try_extend_from_slice(more).is_err() {
-            unreachable!();
-        }
+    fn push(&mut self, octet: u8) {
+        ArrayVec::push(self, octet);
     }
 }

@@ -42,7 +42,6 @@ mod place_limit;
 mod scanned;
 mod sink_refused;
 mod taken;
-mod way;
 mod whole;
 
 pub use bit_sink::BitSink;
@@ -60,5 +59,4 @@ pub use place_limit::PlaceLimit;
 pub use scanned::Scanned;
 pub use sink_refused::SinkRefused;
 pub use taken::Taken;
-pub use way::{ByTurns, ByWords, Way};
 pub use whole::reports_whole;

@@ -9,7 +9,7 @@ mod random_lists;
 mod runs;
 mod sinks;
 
-use self::memory::Hearer;
+use self::memory::Counting;
 use crate::expect::{holds, same};
 use bus_bits::{Span, Spent, bits_number};
 use bus_dictionary::Dictionary;
@@ -586,7 +586,7 @@ fn last_scanned_pairs(rt: HostRuntime) {
         let origin = FAR.wrapping_sub(room);
         let mut analyser = new_at(&rt, alloc, 1, origin).expect(&rt, "an analyser");
         let mut heard = 0;
-        let taken = analyser.scan(&[0xff], &[0xff], 8, &mut Hearer, &mut heard);
+        let taken = analyser.scan(&[0xff], &[0xff], 8, &mut Counting, &mut heard);
         let want = room.min(8);
         let case = format_args!("{room} places to scan");
         same(&rt, (taken as u64, heard), (want, 0), &case);

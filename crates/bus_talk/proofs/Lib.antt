@@ -5,4 +5,5 @@ pub mod SeenLemmas
 pub mod LedgerLemmas
 pub mod SinkLemmas
 pub mod PairingLemmas
+mod TallyLemmas
 mod Examples

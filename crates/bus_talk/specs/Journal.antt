@@ -38,17 +38,10 @@ pub record Enters (old : JournalState) (report : Heard) (found : SeenReport) (ne
   pub dictionary : new.dictionary ≡ old.dictionary
   pub depth : new.depth ≡ old.depth
 
--- a verdict more can be counted
-abbrev pub CanCount : List Counts → Type 0
-CanCount tally =
-    (station : ℕ) (c : Counts) → station < 256 → slice_get tally station ≡ Some c
-    → (c.answered + 1 < 2 ^ 64) × (c.missing + 1 < 2 ^ 64) × (c.spoilt + 1 < 2 ^ 64) × (c.late + 1 < 2 ^ 64)
-
--- a report more can be counted
+-- the steps of a report more can be counted
 pub record HasRoom (j : JournalState) : Type 0 where
   pub copied : j.copied + 258 < 2 ^ 64
   pub handled : j.handled + 6 < 2 ^ 64
-  pub tally : CanCount j.tally
 
 -- a frame has station, control and check
 abbrev pub IsWhole : EventKind → List ℕ → Type 0

@@ -1,7 +1,7 @@
 //! What is kept of the reports so far.
 
 ghost use Rattle.std.specs.Prelude.{◌≡◌, ◌+◌, ◌≤◌, ◌<◌, ◌^◌, List, ℕ, Option, [], IfOk, length, replicate, true};
-ghost use Rattle.std.specs.Prelude.{Some, None, slice_get};
+ghost use Rattle.std.specs.Prelude.{◌↔◌, IsTrue, Some, None, slice_get};
 ghost use Rattle.bus_line.specs.Limits.{most_octets};
 
 mod keep;
@@ -92,7 +92,7 @@ impl Journal {
     /// Takes a report of a line, a frame with these octets; [`Journal::last`] returns what follows from it. `line` is
     /// `None` where there is one line.
     ///
-    /// A frame has 4 to 258 octets, and the counters have room for the steps and the verdict of one report more.
+    /// A frame has 4 to 258 octets, and the counters have room for one report more: [`Journal::has_room`].
     // Every caller passes a constant line, so that `enter` is compiled once for one line and once for two.
     #[inline(always)]
     pub fn take(&mut self, line: Option<Line>, event: Event, octets: &[u8])
@@ -146,6 +146,13 @@ impl Journal {
             EventKind::Idle => self.idle(event),
             EventKind::Damaged(_) | EventKind::Overlong | EventKind::Abort => self.damage(event),
         }
+    }
+
+    /// Whether the counters have room for one report more, of the longest frame.
+    pub fn has_room(&self) -> bool
+        ensures { IsTrue result ↔ HasRoom self.now }
+    {
+        self.spent.copied <= u64::MAX - 258 && self.spent.handled <= u64::MAX - 6
     }
 
     /// What the last report was found to be; before the first it says nothing.

@@ -2,7 +2,6 @@
 use Rattle.std.proofs.Common.{◌≡◌, Bool, List, [], ◌∷◌, ◌++◌, Option, Some, None, sym, ap, ◌∙◌}
 use Rattle.std.proofs.Common.{subst, append-nil}
 use Rattle.std.specs.Option.{option_to_list}
-use Rattle.std.proofs.lemmas.List.{map-append}
 use Rattle.bus_bits.specs.declared.spent.Spent.{Spent}
 use Rattle.bus_fcs.specs.Check.{CheckView}
 use Rattle.bus_line.specs.Report.{Report}
@@ -15,8 +14,8 @@ use Rattle.bus_talk.specs.Heard.{Heard, heard_on, of_line}
 use Rattle.bus_talk.specs.Seen.{SeenReport, seen_of, seen}
 use Rattle.bus_talk.specs.declared.line.Line.{Line}
 use Rattle.bus_talk.specs.Journal.{JournalState, Keeps}
-use Rattle.bus_watch.specs.Internal.Hears.{Hears, heard_option}
-use Rattle.bus_watch.specs.After.{AnalyserState, IsAfter, Sees, line, seen_after}
+use Rattle.bus_watch.specs.Internal.Hears.{Hears}
+use Rattle.bus_watch.specs.After.{AnalyserState, IsAfter, line, seen_after}
 use Rattle.bus_talk.specs.Ledger.{IsLedger}
 use Rattle.bus_talk.proofs.SeenLemmas.{seen-more}
 use Rattle.bus_watch.proofs.AnalyserViewLemmas.{octets-moved, steps-moved, heard-octets, heard-steps}
@@ -52,35 +51,6 @@ hears-some view on old new j k bits report told advances keeps says dictionary d
   dictionary = dictionary;
   depth = depth;
 }
-
--- bits that were heard lead an analyser of one line on
-pub sees-heard : {C : Type 0} (view : CheckView C) (old new : AnalyserState C) (bits : List Bool)
-    (told : Option SeenReport)
-    → Hears view None old.decoder old.journal bits told new.decoder new.journal →
-    Sees view old bits (option_to_list told) new
-sees-heard view old new bits told hears =
-    let led = hears.advances.tells.leads in
-    let same : (bs : List Bool) → line new bs ≡ line old bs = λ bs.
-    ap (λ o. of_line (placed o (longest_of new.journal.dictionary) bs)) led.origin
-    ∙ ap (λ d. of_line (placed old.decoder.origin (longest_of d) bs)) hears.dictionary in
-    let grown : (b : List Bool) → IsAfter view old b →
-    line old (b ++ bits) ≡ line old b ++ heard_option None hears.report = λ b reached.
-    let before = placed old.decoder.origin (longest_of old.journal.dictionary) b in
-    let more : placed old.decoder.origin (longest_of old.journal.dictionary) (b ++ bits)
-    ≡ before ++ option_to_list hears.report = rw (← reached.longest) (hears.advances.tells.says b reached.decoder) in
-    ap of_line more ∙ map-append (heard_on None) before (option_to_list hears.report) in
-    record {
-      is_after = λ b reached. record {
-        decoder = led.after b reached.decoder;
-        longest = led.longest ∙ reached.longest ∙ ap longest_of (sym hears.dictionary);
-        journal = rw (same (b ++ bits), grown b reached) (hears.keeps (line old b) reached.journal);
-      };
-      seen = λ b reached. ap (seen old.journal.dictionary) (grown b reached) ∙ hears.seen (line old b) reached.journal;
-      dictionary = hears.dictionary;
-      depth = hears.depth;
-      origin = led.origin;
-      place = led.place;
-    }
 
 -- the steps of the decoder, and those of the journal
 pub ledger-is : {C : Type 0} (view : CheckView C) (a : AnalyserState C) (b : List Bool)

@@ -1,10 +1,10 @@
 -- The counters have room, and frames are whole.
-use Rattle.std.proofs.Common.{◌≡◌, ℕ, zero, suc, ◌+◌, ◌*◌, ◌<◌, ◌≤◌, ◌^◌, Bool, List, [], ◌∷◌, length, Option, Some}
-use Rattle.std.proofs.Common.{None, refl, sym, ap, ◌∙◌, arith, get_or, map, not}
+use Rattle.std.proofs.Common.{◌≡◌, ℕ, zero, suc, ◌+◌, ◌*◌, ◌≤◌, ◌^◌, Bool, List, [], ◌∷◌, length, Option, Some}
+use Rattle.std.proofs.Common.{None, refl, sym, ap, ◌∙◌, arith, get_or, map}
 use Rattle.std.specs.List.{filter_map, cons_option, sum_by}
 use Rattle.std.specs.Option.{option_map}
 use Rattle.std.proofs.lemmas.List.{length-map, length-append}
-use Rattle.std.proofs.lemmas.List.Sums.{count_by-le-length, length-filter, sum_by-le, sum_by-append}
+use Rattle.std.proofs.lemmas.List.Sums.{sum_by-le, sum_by-append}
 use Rattle.bus_fcs.specs.Check.{CheckView}
 use Rattle.bus_line.specs.Report.{Report, Kind, Frame, moved}
 use Rattle.bus_line.specs.Due.{places, reports, placed, due_at}
@@ -14,18 +14,12 @@ use Rattle.bus_line.specs.Shown.{kind_with, reported}
 use Rattle.bus_line.specs.declared.event.Event.{Event}
 use Rattle.bus_line.specs.declared.event.EventKind.{EventKind}
 use Rattle.bus_line.specs.declared.event.EventKind.TheVariants as event
-use Rattle.bus_dictionary.specs.Entry.{FrameType}
 use Rattle.bus_dictionary.specs.Dictionary.{longest_of}
-use Rattle.bus_talk.specs.Talk.{is_idle, talk, neighbours, verdict_on, verdicts}
-use Rattle.bus_talk.specs.History.{tally, verdicts_of}
 use Rattle.bus_talk.specs.Heard.{Heard, heard_on}
 use Rattle.bus_talk.specs.declared.line.Line.{Line}
 use Rattle.bus_talk.specs.Ledger.{kind_steps, steps, handled, handled_of, copied_of}
 use Rattle.bus_talk.specs.Journal.{JournalState, Keeps, HasRoom, IsWhole}
 use Rattle.bus_watch.specs.After.{AnalyserState, IsAfter, line}
-use Rattle.bus_talk.specs.declared.outcome.Outcome.{Outcome}
-use Rattle.bus_talk.specs.declared.outcome.Outcome.TheVariants.{Answered, Late, Missing, Spoilt}
-use Rattle.bus_talk.specs.declared.counts.Counts.{Counts}
 
 length-places : (n : ℕ) → length (places n) ≡ n
 length-places zero = refl
@@ -39,11 +33,6 @@ filter_map-length : {X Y : Type 0} (f : X → Option Y) (xs : List X) → length
 filter_map-length f [] = omega arith
 filter_map-length f (x ∷ xs) = omega (arith, cons_option-length (f x) (filter_map f xs), filter_map-length f xs)
 
-neighbours-length : {A : Type 0} (xs : List A) → length (neighbours xs) ≤ length xs
-neighbours-length [] = omega arith
-neighbours-length (x ∷ []) = omega arith
-neighbours-length (x ∷ y ∷ xs) = omega (arith, neighbours-length (y ∷ xs))
-
 pub line-length : (origin longest : ℕ) (b : List Bool) → length (placed origin longest b) ≤ length b
 line-length origin longest b =
     omega (
@@ -51,16 +40,6 @@ line-length origin longest b =
       length-map (reports longest b) (moved origin),
       filter_map-length (due_at longest b) (places (length b)),
       length-places (length b),
-    )
-
-verdicts-length : (d : List FrameType) (rs : List Heard) → length (verdicts d rs) ≤ length rs
-verdicts-length d rs =
-    omega (
-      arith,
-      filter_map-length (λ pair. verdict_on d pair.0 pair.1) (neighbours (talk rs)),
-      neighbours-length (talk rs),
-      length-filter (λ (h : Heard). not (is_idle h.report.kind)) rs,
-      count_by-le-length (λ (h : Heard). not (is_idle h.report.kind)) rs,
     )
 
 steps-six : (kind : Kind) → kind_steps kind ≤ 6
@@ -86,31 +65,12 @@ steps-moved origin (r ∷ rs) =
     sum_by-append steps (moved origin r ∷ []) (map (moved origin) rs)
     ∙ (ap (λ n. sum_by steps (r ∷ []) + n) (steps-moved origin rs) ∙ sym (sum_by-append steps (r ∷ []) rs))
 
--- no station has more verdicts than there are reports
-tally-within : (d : List FrameType) (hs : List Heard) (station : ℕ) (c : Counts) → c ≡ tally d hs station →
-    length hs ≤ 2 ^ 61 + 1
-    → (c.answered + 1 < 2 ^ 64) × (c.missing + 1 < 2 ^ 64) × (c.spoilt + 1 < 2 ^ 64) × (c.late + 1 < 2 ^ 64)
-tally-within d hs station c is few =
-    let verdicts_within = verdicts-length d hs in
-    let most : (o : Outcome) → verdicts_of o station (verdicts d hs) ≤ length (verdicts d hs) =
-    λ o. count_by-le-length _ (verdicts d hs) in
-    rw is (
-      omega (arith, verdicts_within, most Answered, few),
-      omega (arith, verdicts_within, most Missing, few),
-      omega (arith, verdicts_within, most Spoilt, few),
-      omega (arith, verdicts_within, most Late, few),
-    )
-
-same-Some : {X : Type 0} (x y : X) → Some x ≡ Some y → x ≡ y
-same-Some x y same = cc
-
 -- after no more reports than two lines have, all counters have room for one more
 pub room-of : (j : JournalState) (hs : List Heard) → Keeps j hs → copied_of hs ≤ 2 ^ 62 → length hs ≤ 2 ^ 61 + 1 →
     HasRoom j
 room-of j hs kept octets few = record {
   copied = omega (arith, kept.copied, octets);
   handled = omega (arith, kept.handled, steps-within hs, few);
-  tally = λ s c within is. tally-within j.dictionary hs s c (same-Some c _ (sym is ∙ kept.tally s within)) few;
 }
 
 -- the reports of a line add up as they do without it

@@ -8,6 +8,7 @@ pub mod FailLemmas
 pub mod LawsBitLemmas
 pub mod MergedLemmas
 pub mod PairLemmas
+pub mod HearsLemmas
 pub mod PairScanLemmas
 pub mod OrderLemmas
 pub mod PairFedLemmas

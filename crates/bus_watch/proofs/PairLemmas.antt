@@ -427,16 +427,6 @@ decides-front b i n count x few within front decides = record {
   apart = λ flag are. decides.apart flag (rw (lowest-front (i + 1) n count x few within front) are);
 }
 
-pub zip-front : (n : ℕ) (b c : List Bool) → take n (zip b c) ≡ zip (take n b) (take n c)
-zip-front zero b c = refl
-zip-front (suc n) [] c = refl
-zip-front (suc n) (x ∷ b) [] = refl
-zip-front (suc n) (x ∷ b) (y ∷ c) = ap (λ l. (x, y) ∷ l) (zip-front n b c)
-
-pub pairs-front : (t n x y : ℕ) → t ≤ n → take t (pairs_of n x y) ≡ pairs_of t x y
-pairs-front t n x y front = zip-front t (bits_of n x) (bits_of n y)
-    ∙ rw (bits-front t n x front, bits-front t n y front) refl
-
 -- two bits, as a pair
 pub one_pair : (n x y : ℕ) (b c : Bool) → x ≡ bool_byte b → y ≡ bool_byte c → 1 ≤ n → n ≤ 1 →
     pairs_of n x y ≡ (b, c) ∷ []

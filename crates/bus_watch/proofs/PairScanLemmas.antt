@@ -1,193 +1,36 @@
 -- Two lines that are decoded one after the other, up to the same place.
 use Rattle.std.proofs.Common.{◌≡◌, ℕ, ◌+◌, ◌-◌, ◌*◌, ◌%◌, ◌^◌, ◌<◌, ◌≤◌, Bool, false, List, [], ◌∷◌, ◌++◌, length, take}
-use Rattle.std.proofs.Common.{map, zip, Option, Some, None, refl, sym, ap, ◌∙◌, subst, append-nil, append_assoc, arith}
+use Rattle.std.proofs.Common.{map, zip, Option, Some, None, refl, sym, ap, ◌∙◌, subst, append_assoc, arith}
 use Rattle.std.proofs.Common.{length-append, get_or}
 use Rattle.std.specs.List.{sum_by, take-map}
 use Rattle.std.specs.Option.{option_to_list}
-use Rattle.std.proofs.lemmas.List.{map-append, length-map, take_more, take_all}
-use Rattle.std.proofs.lemmas.List.Sums.{sum_by-append}
+use Rattle.std.proofs.lemmas.List.{length-map, take_more, take_all}
 use Rattle.bus_bits.specs.Bits.{bits_from}
 use Rattle.bus_bits.specs.Octet.{bits_of}
 use Rattle.bus_bits.proofs.BitLemmas.{bits-more, length-from}
 use Rattle.bus_bits.proofs.OctetLemmas.{bits-front, length-bits}
 use Rattle.bus_bits.proofs.PairWordsLemmas.{zip-append}
 use Rattle.bus_fcs.specs.Check.{CheckView}
-use Rattle.bus_line.specs.Due.{reports, placed}
+use Rattle.bus_line.specs.Due.{placed}
 use Rattle.bus_line.specs.Laws.{OneMore, ReportsGrow, DueStays, FramesStored, StoredPaid, AssembledWithin}
 use Rattle.bus_line.specs.Ledger.{octet_count}
-use Rattle.bus_line.specs.Internal.LineState.{LineState}
-use Rattle.bus_line.specs.After.{After, DecideNothing}
+use Rattle.bus_line.specs.After.{DecideNothing}
 use Rattle.bus_dictionary.specs.Dictionary.{longest_of}
 use Rattle.bus_talk.specs.Heard.{Heard, heard_on, firsts, seconds, pairs_of, merged}
 use Rattle.bus_talk.specs.Seen.{SeenReport, seen}
 use Rattle.bus_talk.specs.Ledger.{copied_of}
-use Rattle.bus_talk.specs.Journal.{JournalState, Keeps, HasRoom}
+use Rattle.bus_talk.specs.Journal.{JournalState, Keeps}
 use Rattle.bus_watch.specs.Internal.Hears.{Hears, HearsMany, Reaches, heard_option}
 use Rattle.bus_watch.specs.Pairs.{PairState, IsAfterPairs, SeesPairs, lines, seen_after_pairs, two_lines}
 use Rattle.bus_watch.specs.Watch.{LeadsTold, Watch}
 use Rattle.bus_watch.proofs.FedLemmas.{leads-more, leads-nil}
-use Rattle.bus_talk.specs.declared.line.Line.{Line}
+use Rattle.bus_watch.proofs.HearsLemmas.{hears-one}
 use Rattle.bus_talk.specs.declared.line.Line.TheVariants.{First, Second}
 use Rattle.bus_watch.proofs.MergedLemmas.{firsts-append, length-firsts, length-seconds, merged-adds, merged-led}
 use Rattle.bus_watch.proofs.MergedLemmas.{merged-quiet, seconds-append}
-use Rattle.bus_watch.proofs.AnalyserViewLemmas.{heard-octets, line-length, octets-moved, room-of}
+use Rattle.bus_watch.proofs.AnalyserViewLemmas.{heard-octets, line-length}
 use Rattle.bus_watch.proofs.PairLemmas.{copied-adds, few-option, firsts-of, firsts-zip, length-pairs, lowest}
 use Rattle.bus_watch.proofs.PairLemmas.{of_one-octets, seconds-of, seconds-zip}
-
--- ---- bits one after the other
-
-pub bits-none : (os : List ℕ) (i : ℕ) → bits_from os i (i - i) ≡ []
-unfolding bits_from
-bits-none os i = let none : i - i ≡ 0 = omega arith in ap (bits_from os i) none
-
-pub bits-met : (os : List ℕ) (from i n : ℕ) → from ≤ i →
-    bits_from os from (i + n - from) ≡ bits_from os from (i - from) ++ bits_from os i n
-bits-met os from i n before =
-    let all : i + n - from ≡ (i - from) + n = omega (arith, before) in
-    let here : from + (i - from) ≡ i = omega (arith, before) in
-    ap (bits_from os from) all
-    ∙ (bits-more os from (i - from) n ∙ ap (λ (k : ℕ). bits_from os from (i - from) ++ bits_from os k n) here)
-
--- ---- many reports of one line
-
-module _ {C : Type 0} (view : CheckView C) (on : Option Line) where
-  pub hears-nothing : (d : LineState C) (j : JournalState) (told : List SeenReport → Type 0) → told [] →
-      HearsMany view on d j [] d j told
-  hears-nothing d j told nothing_told = record {
-    reports = [];
-    seen_now = [];
-    led = record {
-      after = λ b reached. subst (After view d) (sym (append-nil b)) reached;
-      longest = refl;
-      origin = refl;
-      place = omega arith;
-    };
-    grows = λ b _. ap (placed d.origin d.longest) (append-nil b) ∙ sym (append-nil (placed d.origin d.longest b));
-    keeps = λ hs kept. subst (Keeps j) (sym (append-nil hs)) kept;
-    seen = λ hs _. ap (seen j.dictionary) (append-nil hs) ∙ sym (append-nil (seen j.dictionary hs));
-    dictionary = refl;
-    depth = refl;
-    few = omega arith;
-    told = nothing_told;
-  }
-
-  -- one report at most
-  abbrev hears-one : (d e : LineState C) (j k : JournalState) (xs : List Bool) (s : Option SeenReport) → 0 < length xs →
-      Hears view on d j xs s e k → HearsMany view on d j xs e k (λ _. Unit {0})
-  hears-one d e j k xs s some hears = record {
-    reports = option_to_list hears.report;
-    seen_now = option_to_list s;
-    led = hears.advances.tells.leads;
-    grows = hears.advances.tells.says;
-    keeps = hears.keeps;
-    seen = hears.seen;
-    dictionary = hears.dictionary;
-    depth = hears.depth;
-    few = omega (arith, some, few-option s);
-    told = tt;
-  }
-
-  pub hears-more : (a b c : LineState C) (i j k : JournalState) (xs ys : List Bool) (s : Option SeenReport)
-      (told further : List SeenReport → Type 0)
-      → 1 ≤ length ys → (first : HearsMany view on a i xs b j told) → Hears view on b j ys s c k →
-      further (first.seen_now ++ option_to_list s)
-      → HearsMany view on a i (xs ++ ys) c k further
-  hears-more a b c i j k xs ys s told further some first next all_told =
-      let rs = option_to_list next.report in
-      let led = next.advances.tells.leads in
-      let whole : (hs : List Heard) → hs ++ map (heard_on on) (first.reports ++ rs)
-      ≡ (hs ++ map (heard_on on) first.reports) ++ heard_option on next.report = λ hs.
-      ap (λ more. hs ++ more) (map-append (heard_on on) first.reports rs)
-      ∙ sym (append_assoc hs (map (heard_on on) first.reports) (heard_option on next.report)) in
-      record {
-        reports = first.reports ++ rs;
-        seen_now = first.seen_now ++ option_to_list s;
-        led = record {
-          after = λ bs reached. subst (After view c) (append_assoc bs xs ys)
-              (led.after (bs ++ xs) (first.led.after bs reached));
-          longest = led.longest ∙ first.led.longest;
-          origin = led.origin ∙ first.led.origin;
-          place = omega (arith, first.led.place, led.place, length-append xs ys);
-        };
-        grows = λ bs reached.
-            let last : placed a.origin a.longest ((bs ++ xs) ++ ys) ≡ placed a.origin a.longest (bs ++ xs) ++ rs =
-            rw (← first.led.origin, ← first.led.longest)
-            (next.advances.tells.says (bs ++ xs) (first.led.after bs reached)) in
-            ap (placed a.origin a.longest) (sym (append_assoc bs xs ys))
-            ∙ (last ∙ (ap (λ more. more ++ rs) (first.grows bs reached)
-            ∙ append_assoc (placed a.origin a.longest bs) first.reports rs));
-        keeps = λ hs kept. subst (Keeps k) (sym (whole hs))
-            (next.keeps (hs ++ map (heard_on on) first.reports) (first.keeps hs kept));
-        seen = λ hs kept.
-            let last : seen i.dictionary ((hs ++ map (heard_on on) first.reports) ++ heard_option on next.report)
-            ≡ seen i.dictionary (hs ++ map (heard_on on) first.reports) ++ option_to_list s =
-            rw (← first.dictionary) (next.seen (hs ++ map (heard_on on) first.reports) (first.keeps hs kept)) in
-            ap (seen i.dictionary) (whole hs)
-            ∙ (last ∙ (ap (λ ss. ss ++ option_to_list s) (first.seen hs kept)
-            ∙ append_assoc (seen i.dictionary hs) first.seen_now (option_to_list s)));
-        dictionary = next.dictionary ∙ first.dictionary;
-        depth = next.depth ∙ first.depth;
-        few = omega (
-          arith,
-          first.few,
-          some,
-          length-append xs ys,
-          length-append first.seen_now (option_to_list s),
-          few-option s,
-        );
-        told = all_told;
-      }
-
-  -- a report more, and the journal is as far as the line still
-  pub reaches-more : (d e : LineState C) (j k : JournalState) (xs : List Bool) (s : Option SeenReport) →
-      Reaches view d j → Hears view on d j xs s e k → Reaches view e k
-  reaches-more d e j k xs s reaches hears =
-      let rs = option_to_list hears.report in
-      let led = hears.advances.tells.leads in
-      let grown : placed e.origin e.longest (reaches.bits ++ xs) ≡ placed d.origin d.longest reaches.bits ++ rs =
-      ap (λ o. placed o e.longest (reaches.bits ++ xs)) led.origin
-      ∙ (ap (λ n. placed d.origin n (reaches.bits ++ xs)) led.longest
-      ∙ hears.advances.tells.says reaches.bits reaches.after) in
-      record {
-        bits = reaches.bits ++ xs;
-        after = led.after reaches.bits reaches.after;
-        heard = reaches.heard ++ heard_option on hears.report;
-        keeps = hears.keeps reaches.heard reaches.keeps;
-        copied = omega (
-          arith,
-          reaches.copied,
-          copied-adds reaches.heard (heard_option on hears.report),
-          heard-octets on rs,
-          ap (sum_by octet_count) grown,
-          sum_by-append octet_count (placed d.origin d.longest reaches.bits) rs,
-        );
-        count = omega (
-          arith,
-          reaches.count,
-          length-append reaches.heard (heard_option on hears.report),
-          length-map rs (heard_on on),
-          ap length grown,
-          length-append (placed d.origin d.longest reaches.bits) rs,
-        );
-      }
-
--- all counters have room then
-pub reaches-room : {C : Type 0} (view : CheckView C) (d : LineState C) (j : JournalState) →
-    FramesStored → StoredPaid → AssembledWithin
-    → Reaches view d j → d.place ≤ 2 ^ 60 → HasRoom j
-reaches-room view d j frames paid within reaches place =
-    let few : length reaches.bits ≤ 2 ^ 60 = omega (arith, reaches.after.has_taken.place, place) in
-    room-of j reaches.heard reaches.keeps
-    (omega (
-      arith,
-      reaches.copied,
-      octets-moved d.origin (reports d.longest reaches.bits),
-      frames d.longest reaches.bits,
-      paid d.longest reaches.bits,
-      within reaches.bits,
-      few,
-    ))
-    (omega (arith, reaches.count, line-length d.origin d.longest reaches.bits, few))
 
 -- the first line of two stands so
 pub pairs-reach : {C : Type 0} (view : CheckView C) (a : PairState C) (ps : List (Bool × Bool)) →

@@ -1,7 +1,7 @@
 //! The analyser: what is seen on a line, up to 48 bits at a time, in fixed memory.
 
 ghost use Rattle.std.specs.Prelude.{◌≡◌, ◌≢◌, ◌+◌, ◌-◌, ◌*◌, ◌≤◌, ◌<◌, ◌^◌, ◌↔◌, ◌⊎◌, List, Bool, [], ◌∷◌, ◌++◌, IsErr};
-ghost use Rattle.std.specs.Prelude.{IfOk, OnErr, IsTrue, false, length, Some, Err, slice_get, option_copied, None};
+ghost use Rattle.std.specs.Prelude.{IfOk, OnErr, IsTrue, false, length, Some, Err, slice_get, option_copied, None, min};
 ghost use Rattle.std.specs.Option.{option_map, option_to_list};
 ghost use Rattle.std.specs.Borrow.{sem};
 ghost use Rattle.std.specs.Io.BufRead.{Rests};
@@ -16,8 +16,9 @@ ghost use Rattle.bus_dictionary.specs.Dictionary.{longest_of};
 
 use crate::fault::NewFault;
 use crate::feed::PLACES;
-use crate::hear::{begun_span, fresh, hear, hear_octets};
+use crate::hear::{begun_span, fresh, hear, observe_bits};
 use crate::laws::{seen_grows, steps_are_bounded};
+use crate::observer::ReportObserver;
 use bus_bits::Spent;
 use bus_dictionary::Dictionary;
 use bus_fcs::Check;
@@ -25,6 +26,7 @@ use bus_line::laws::settled_places;
 use bus_line::{LineDecoder, LineFault, PlaceLimit};
 use bus_talk::{Counts, Ending, Finding, Journal, Kept, Seen};
 use std::alloc::Global;
+use std::cmp::min;
 use std::marker::Model;
 
 /// Watches one line: finds its frames and all other reports, pairs commands with answers,
@@ -53,7 +55,8 @@ impl<C: Check> Model for Analyser<C> {
 
 impl<C: Check> Analyser<C> {
     ghost use Rattle.bus_watch.specs.contracts.analyser.Analyser.{the_row};
-    ghost use Rattle.bus_watch.specs.After.{IsAfter, Sees, heard, line, seen_after};
+    ghost use Rattle.bus_watch.specs.After.{IsAfter, Sees, heard, line, one_line, seen_after};
+    ghost use Rattle.bus_watch.specs.Watch.{LeadsTold};
     ghost use Rattle.bus_talk.specs.Seen.{seen_at};
     ghost use Rattle.bus_talk.specs.Shown.{shown_option, found, kept_option, begun_span, IsKeepable};
     ghost use Rattle.bus_talk.specs.History.{history, tally};
@@ -127,35 +130,45 @@ impl<C: Check> Analyser<C> {
         Ok(intake.count)
     }
 
-    /// Takes bits of these octets, the least significant of each first, from bit `at` on and before bit `end`: up to
-    /// the first that decides a report, or all. Returns how many it took. What is seen at the last of these, if it
-    /// decides a report, is then returned by [`Analyser::finding`], and [`Analyser::octets`] lends the octets of a
-    /// frame.
+    /// Takes bits of these octets, the least significant of each first, from bit `from` on and before bit `end`. The
+    /// observer is shown all that is seen at them, one report after another. Returns how many bits it took: it stops in
+    /// front of one whose place would be 2^60.
     ///
-    /// `at` is before `end`, which is at most eight times the number of octets. It stops in front of a bit whose place
-    /// would be 2^60, and refuses as [`PlaceLimit`], with nothing changed, where that is the first.
-    #[inline(always)]
-    pub fn scan(&mut self, octets: &[u8], at: usize, end: usize) -> Result<usize, PlaceLimit>
-        requires some { at < end }
+    /// What is seen at the last bit was shown like the rest, and [`Analyser::finding`] has nothing more to answer.
+    pub fn scan<X, L: ReportObserver<X>>(
+        &mut self,
+        octets: &[u8],
+        from: usize,
+        end: usize,
+        observer: &mut L,
+        out: &mut X,
+    ) -> usize
+        requires some { from ≤ end }
         requires enough { end ≤ 8 * length octets.now }
-        ensures limit { IsErr result ↔ (most_places ≤ self.old.decoder.place) }
-        ensures within { IfOk result (λ n. (1 ≤ n) × (n ≤ end - at)) }
-        ensures fits { IfOk result (λ n. self.old.decoder.place + n ≤ most_places) }
-        ensures all { IfOk result (λ n. n < end - at →
-            (self.new.decoder.place ≡ most_places) ⊎ (self.new.finding ≢ None)) }
-        ensures sees { IfOk result (λ n. Sees C.check self.old (bits_from octets.now at n)
-            (heard self.new) self.new) }
-        ensures before { IfOk result (λ n. (b : List Bool) → IsAfter C.check self.old b →
-            seen_after self.old (b ++ bits_from octets.now at (n - 1)) ≡ seen_after self.old b) }
-        ensures unchanged { OnErr result (self.new ≡ self.old) }
+        requires room { L.has_room observer.old (min (end - from) (most_places - self.old.decoder.place)) }
+        ensures taken { result ≡ min (end - from) (most_places - self.old.decoder.place) }
+        ensures told { LeadsTold (one_line C.check) self.old (bits_from octets.now from result) self.new
+            (λ ss. L.observes self.old.journal.dictionary observer.old out.old ss observer.new out.new) }
+        ensures none { self.new.finding ≡ None }
     {
         settled_places();
-        let intake = hear_octets(&mut self.decoder, &mut self.journal, None, octets, at, end)?;
-        self.is_decided = intake.is_decided;
-        Ok(intake.count)
+        let places = PLACES - self.place();
+        let count = min((end - from) as u64, places) as usize;
+        self.is_decided = false;
+        observe_bits(
+            &mut self.decoder,
+            &mut self.journal,
+            None,
+            octets,
+            from,
+            from + count,
+            observer,
+            out,
+        );
+        count
     }
 
-    /// What is seen at the last bit that [`Analyser::take`] or [`Analyser::scan`] took, if it decides a report.
+    /// What is seen at the last bit that [`Analyser::take`] took, if it decides a report.
     /// [`Analyser::octets`] lends the octets of a frame.
     #[inline(always)]
     pub fn finding(&self) -> Option<&Finding>

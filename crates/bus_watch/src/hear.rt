@@ -1,19 +1,23 @@
 //! Bits on one line, and what follows from them.
 
-ghost use Rattle.std.specs.Prelude.{◌≡◌, ◌+◌, ◌-◌, ◌*◌, ◌≤◌, ◌<◌, ◌^◌, ◌↔◌, ◌⊎◌, ◌≢◌, List, Bool, None, IsErr, IfOk};
+ghost use Rattle.std.specs.Prelude.{◌≡◌, ◌+◌, ◌-◌, ◌*◌, ◌≤◌, ◌<◌, ◌^◌, ◌↔◌, ◌⊎◌, ◌≢◌, ℕ, List, Bool, None, IsErr, IfOk};
 ghost use Rattle.std.specs.Prelude.{OnErr, length, option_copied};
+ghost use Rattle.std.specs.Option.{option_to_list, option_map};
 ghost use Rattle.bus_bits.specs.Bits.{bits_from};
 ghost use Rattle.bus_bits.specs.Limits.{most_places};
 ghost use Rattle.bus_bits.specs.Octet.{bits_of};
 ghost use Rattle.bus_bits.specs.Word.{IsWordOf};
 ghost use Rattle.bus_line.specs.After.{After, TakesTo};
-ghost use Rattle.bus_watch.specs.Internal.Hears.{fresh, Hears, Reached, told_on};
+ghost use Rattle.bus_line.specs.Limits.{most_octets};
+ghost use Rattle.bus_watch.specs.Internal.Hears.{fresh, Hears, HearsMany, Reached, Reaches, told_on};
 ghost use Rattle.bus_talk.specs.Journal.{HasRoom};
-ghost use Rattle.bus_talk.specs.Shown.{begun_span};
+ghost use Rattle.bus_talk.specs.Shown.{begun_span, found_on};
 
+use crate::observer::ReportObserver;
 use bus_bits::Span;
+use bus_dictionary::Dictionary;
 use bus_fcs::Check;
-use bus_line::laws::{frame_is_spelled, reports_are};
+use bus_line::laws::{frame_is_spelled, reports_are, settled_places};
 use bus_line::{LineDecoder, PlaceLimit};
 use bus_talk::{Finding, Journal, Line};
 
@@ -96,6 +100,71 @@ pub(crate) fn hear_octets<C: Check>(
         count: scanned.count,
         is_decided: scanned.event.is_some(),
     })
+}
+
+/// Shows an observer what a report of a line was found to be, if there was one.
+#[inline(always)]
+pub(crate) fn show<X, L: ReportObserver<X>>(
+    line: Option<Line>,
+    finding: Option<&Finding>,
+    octets: &[u8],
+    dictionary: &Dictionary,
+    observer: &mut L,
+    out: &mut X,
+)
+    requires room { L.has_room observer.old 1 }
+    requires fits { length octets.now ≤ most_octets }
+    ensures observed { L.observes dictionary.now observer.old out.old
+        (option_to_list (option_map (found_on line octets.now) (option_copied finding.entry)))
+        observer.new out.new }
+    ensures left { (more : ℕ) → L.has_room observer.old (1 + more) → L.has_room observer.new more }
+{
+    if let Some(finding) = finding {
+        observer.observe(line, finding, octets, dictionary, out);
+    }
+}
+
+/// A line takes the bits of these octets from bit `from` on and before bit `past`. The observer is shown all that is
+/// seen at them. `line` is `None` where there is one line.
+#[inline(never)]
+pub(crate) fn observe_bits<C: Check, X, L: ReportObserver<X>>(
+    decoder: &mut LineDecoder<C>,
+    journal: &mut Journal,
+    line: Option<Line>,
+    octets: &[u8],
+    from: usize,
+    past: usize,
+    observer: &mut L,
+    out: &mut X,
+)
+    requires some { from ≤ past }
+    requires enough { past ≤ 8 * length octets.now }
+    requires places { decoder.old.place + (past - from) ≤ most_places }
+    requires reaches { Reaches C.check decoder.old journal.old }
+    requires room { L.has_room observer.old (past - from) }
+    ensures observes { HearsMany C.check line decoder.old journal.old
+        (bits_from octets.now from (past - from)) decoder.new journal.new
+        (λ ss. L.observes journal.old.dictionary observer.old out.old ss observer.new out.new) }
+    ensures left { (more : ℕ) → L.has_room observer.old (past - from + more) → L.has_room observer.new more }
+    ensures reaches { Reaches C.check decoder.new journal.new }
+{
+    settled_places();
+    let mut at = from;
+    while at < past {
+        let intake = match hear_octets(decoder, journal, line, octets, at, past) {
+            Ok(intake) => intake,
+            Err(PlaceLimit) => unreachable!(),
+        };
+        at += intake.count;
+        show(
+            line,
+            fresh(journal, intake.is_decided),
+            decoder.octets(),
+            journal.dictionary(),
+            observer,
+            out,
+        );
+    }
 }
 
 /// What the last report was found to be, if the last bits decided it.

@@ -19,6 +19,7 @@ mod feed;
 mod feed_all;
 mod hear;
 pub mod laws;
+mod observer;
 mod pair;
 mod run;
 mod usage;
@@ -30,6 +31,7 @@ pub use bus_talk::{
     Span, Verdict,
 };
 pub use fault::{FeedFault, NewFault, RunFault};
-pub use pair::{PairAnalyser, PairListener, PairRun, PairSeen, PairUsage, run_pairs};
+pub use observer::ReportObserver;
+pub use pair::{PairAnalyser, PairRun, PairSeen, PairUsage, run_pairs};
 pub use run::{Run, reports_of, run_all};
 pub use usage::Usage;

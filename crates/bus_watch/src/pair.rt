@@ -2,13 +2,11 @@
 
 mod analyser;
 mod feed;
-mod listener;
 mod run;
 mod seen;
 mod usage;
 
 pub use analyser::PairAnalyser;
-pub use listener::PairListener;
 pub use run::{PairRun, run_pairs};
 pub use seen::PairSeen;
 pub use usage::PairUsage;

@@ -46,10 +46,8 @@ impl FrameBuffer for LentFrame {
     }
 
     #[inline(always)]
-    fn extend(&mut self, more: &[u8]) {
-        let at = self.len as usize;
-        let end = at + more.len();
-        self.octets[at..end].copy_from_slice(more);
-        self.len = end as u32;
+    fn push(&mut self, octet: u8) {
+        self.octets[self.len as usize] = octet;
+        self.len += 1;
     }
 }

@@ -11,7 +11,7 @@ use crate::bits::Told;
 use crate::lent_frame::LentFrame;
 use crate::report::Port1Report;
 use bus_fcs::OctetCheck;
-use bus_line::{ByWords, LineWords, PlaceLimit};
+use bus_line::{LineWords, PlaceLimit};
 
 /// A decoder between two calls. Its layout is that of `include/port1.h`.
 #[repr(C)]
@@ -51,7 +51,7 @@ impl Port1Line {
         let mut check = OctetCheck::with_register(self.frame.register);
         match self
             .words
-            .scan::<ByWords, _, _>(&mut check, &mut self.frame, octets, at, end)
+            .scan(&mut check, &mut self.frame, octets, at, end)
         {
             Ok(scanned) => {
                 self.frame.register = check.register();

@@ -3,16 +3,23 @@ import { BLOCK } from "./decoder.js";
 /** So many octets of each line are kept at most, which is a day and more of Port 1. */
 const MOST_KEPT = 2 ** 31;
 
+/** How many ones an octet has. */
+const ONES = Uint8Array.from({ length: 256 }, (_, octet) => octet.toString(2).replaceAll("0", "").length);
+
 /** The bits of a capture, as they were decoded, so that a picture can show them. */
 export class KeptBits {
   constructor() {
     this.chunks = []; // for each block, the octets of each line
     this.length = 0; // in bits
+    this.ones = [0, 0]; // of each line
   }
 
-  /** Keeps a block. All but the last are whole. */
+  /** Keeps a block. All but the last are whole; the bits of an octet that are none are 0. */
   take(octets, bits) {
     if (this.chunks.length * BLOCK < MOST_KEPT) this.chunks.push(octets.map((some) => some.slice()));
+    octets.forEach((some, line) => {
+      for (let at = 0; at < some.length; at++) this.ones[line] += ONES[some[at]];
+    });
     this.length += bits;
   }
 

@@ -3,6 +3,7 @@ import { Conversion } from "./conversion.js";
 import { tableOf } from "./csv.js";
 import { Moments } from "./doubts.js";
 import { measured } from "./period.js";
+import { samplesOf } from "./samples.js";
 import { PIECE, Source } from "./source.js";
 import { dumpOf } from "./vcd.js";
 
@@ -15,7 +16,9 @@ export { channelsOf, formOf } from "./forms.js";
  * @property {string[]} channels by name: TXC TXD RXC RXD, two lines with a clock each; CLOCK DATA SECOND, two lines
  *   with one clock; CLOCK DATA, one line
  * @property {boolean} [rising] whether a bit is what the data has just before a rising edge, as it is unless told
+ * @property {number} [inverted] the lines whose data is inverted: 1, 2, or 3 for both
  * @property {number} [size] octets that are read at a time
+ * @property {import("./session.js").Session} [session] what the samples of a session are
  */
 
 /**
@@ -24,9 +27,14 @@ export { channelsOf, formOf } from "./forms.js";
  * @property {AsyncGenerator<Uint8Array>} marks 0 or 1 for a bit of one line; for two lines the bit of the first, and 2
  *   for a bit 1 of the second
  * @property {string[]} told notes and warnings, when the marks have come to their end
+ * @property {import("./doubts.js").Warning[]} warnings, then
  */
 
-const READERS = { vcd: dumpOf, csv: tableOf };
+const READERS = {
+  vcd: dumpOf,
+  csv: tableOf,
+  session: (source, channels, size, session) => samplesOf(source, channels, session),
+};
 
 /**
  * Takes the bits from a recording.
@@ -35,23 +43,39 @@ const READERS = { vcd: dumpOf, csv: tableOf };
  * @returns {Taken}
  */
 export function bitsOf(pieces, wanted) {
-  const told = [];
-  return { marks: marksOf(new Source(pieces), wanted, told), told };
+  const [told, warnings] = [[], []];
+  return { marks: marksOf(new Source(pieces), wanted, told, warnings), told, warnings };
 }
 
-async function* marksOf(source, { form, channels, rising = true, size = PIECE }, told) {
+async function* marksOf(source, { form, channels, rising = true, inverted = 0, size = PIECE, session }, told, warnings) {
   try {
     if (channels.length < 2 || channels.length > 4) {
       throw new Fault("two, three or four channels are to be named");
     }
-    const { ticks, changes } = await READERS[form](source, channels, size);
+    const found = await READERS[form](source, channels, size, session);
+    const { ticks } = found;
+    const changes = turned(found.changes, maskOf(inverted, channels.length));
     const own = channels.length === 4 ? [0, 2] : [0];
     const { period, read } = await measured(changes, own, rising);
     const conversion = new Conversion(channels, rising, period, new Moments(ticks));
     yield* conversion.marks(withLast(read, changes));
     told.push(...conversion.told());
+    warnings.push(...conversion.warnings());
   } finally {
     await source.close();
+  }
+}
+
+/** The channels of lines' data, as bits. */
+function maskOf(inverted, channels) {
+  const [first, second] = channels === 4 ? [1, 3] : [1, 2];
+  return ((inverted & 1) << first) | ((inverted >> 1) << second);
+}
+
+/** Changes with the levels of some channels inverted. */
+async function* turned(changes, mask) {
+  for await (const some of changes) {
+    yield mask === 0 ? some : { ...some, levels: some.levels.map((levels) => levels ^ mask) };
   }
 }
 

@@ -155,7 +155,7 @@ export class Clock {
       const start = starts[at];
       const size = (at + 1 < starts.length ? starts[at + 1] : certain) - start;
       if (size > 1) {
-        this.doubts.add(`${this.name} has a glitch, which was left out`, own.times[start]);
+        this.doubts.add("glitch", own.times[start], this.name);
       }
       if (size % 2 === 1) {
         kept.add(own.times[start], own.levels[start], own.ups[start]);
@@ -170,7 +170,7 @@ export class Clock {
     let last = this.lastChange.get(channel);
     for (const time of times) {
       if (time - last < this.period / 2) {
-        this.doubts.add(`the data of ${this.name} has a pulse shorter than half a bit`, time);
+        this.doubts.add("shortData", time, this.name);
       }
       last = time;
     }
@@ -196,7 +196,7 @@ export class Clock {
   lookAtPulses({ times, count }) {
     for (let at = 1; at < count; at++) {
       if (times[at] - times[at - 1] < this.period * SHORT) {
-        this.doubts.add(`${this.name} has a pulse shorter than half a bit can be`, times[at - 1]);
+        this.doubts.add("shortClock", times[at - 1], this.name);
       }
     }
   }
@@ -204,7 +204,7 @@ export class Clock {
   lookAtDistances(times) {
     for (const time of times) {
       if (this.lastEdge !== null && time - this.lastEdge < this.period * NEAR) {
-        this.doubts.add(`${this.name} has an edge too early`, time);
+        this.doubts.add("early", time, this.name);
       }
       this.lastEdge = time;
     }

@@ -1,6 +1,6 @@
 import { Fault } from "../fault.js";
 import { Clock, Unknown, checkKnown, knownBits } from "./clock.js";
-import { Doubts } from "./doubts.js";
+import { Doubts, lasting } from "./doubts.js";
 import { Placed } from "./placed.js";
 import { SteadyLine } from "./steady-line.js";
 import { counted } from "./text.js";
@@ -23,7 +23,7 @@ export class Conversion {
     this.notes = [];
     this.period = period ?? 0; // nothing is too short for that
     this.clocks = own.map(([at, data]) => new Clock(names[at], at, data, rising, this.period, this.doubts));
-    this.otherEdge = rising ? "with" : "without";
+    this.edge = rising ? "rising" : "falling";
   }
 
   /**
@@ -84,19 +84,23 @@ export class Conversion {
    */
   told() {
     const edges = this.clocks.map((clock) => `${clock.name} has ${counted(clock.count, "edge")}`).join(", ");
-    const warnings = [
-      ...this.clocks.flatMap((clock) => [...this.warningsOf(clock)]),
-      ...this.doubts.lines(this.when),
-    ];
-    return [edges, ...this.notes, ...warnings.map((text) => `warning: ${text}`)];
+    return [edges, ...this.notes, ...this.warnings().map(({ text }) => `warning: ${text}`)];
+  }
+
+  /**
+   * What is doubtful.
+   * @returns {import("./doubts.js").Warning[]}
+   */
+  warnings() {
+    return [...this.clocks.flatMap((clock) => [...this.warningsOf(clock)]), ...this.doubts.warnings(this.when)];
   }
 
   *warningsOf(clock) {
     if (clock.count === 0) {
-      yield `${clock.name} has no edges`;
+      yield lasting("still", clock.name);
     }
     if (clock.changesAtTakenEdge()) {
-      yield `the data changes at the edge of ${clock.name} that is taken: try it ${this.otherEdge} --falling`;
+      yield lasting(this.edge, clock.name);
     }
   }
 }

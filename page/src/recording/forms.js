@@ -3,8 +3,8 @@ import { namesOf, signalsOf } from "./signals.js";
 import { Words } from "./words.js";
 
 /**
- * The forms of recordings that are read: value change dumps, and tables with commas.
- * @typedef {"vcd"|"csv"} Form
+ * The forms of recordings that are read: value change dumps, tables with commas, and sessions of sigrok.
+ * @typedef {"vcd"|"csv"|"session"} Form
  */
 
 /** What may stand before the first word of a recording. */

@@ -1,3 +1,4 @@
+import { MOST_DRIFT } from "./doubts.js";
 import { rounded } from "./numbers.js";
 import { Search, countBelow } from "./search.js";
 
@@ -8,15 +9,8 @@ const ABORT = 7;
 /** From the first zero of a flag to its second. */
 const FLAG = 7;
 
-/**
- * A command and its answer have a flag between them. So both stand in the right order if places are off by less.
- */
-export const MOST_DRIFT = 7;
-
 /** The most places that a stop within a stretch is waited for. */
 const LONGEST_STOP = 1 << 16;
-
-const STOPS = "the second clock stops within a frame, or an edge of it is missing";
 
 /**
  * A zero of the second line that was put down.
@@ -140,7 +134,7 @@ export class Placed {
         this.drift = { places: drift, time: times[at] };
       }
       if (drift > MOST_DRIFT && !isBeyond) {
-        this.doubts.add(`a stretch of the second line has drifted by more than ${MOST_DRIFT} places`, times[at]);
+        this.doubts.add("drift", times[at]);
       }
       isBeyond = drift > MOST_DRIFT;
     }
@@ -178,7 +172,7 @@ export class Placed {
     const lost = rounded((time - lastTime) / this.period) - distance;
     const isRest = isBetweenFlags || distance > ABORT;
     if (!isRest && lost >= 1) {
-      this.doubts.add(STOPS, time);
+      this.doubts.add("stop", time);
     }
     return lost >= (isRest ? IDLE : LONGEST_STOP);
   }
@@ -225,11 +219,11 @@ export class Placed {
   rest(end) {
     const isWithinFrame = this.last !== null && this.last.distance !== FLAG && this.count - this.last.index <= ABORT;
     if (isWithinFrame && end - this.lastEdge > IDLE * this.period) {
-      this.doubts.add(STOPS, this.lastEdge);
+      this.doubts.add("stop", this.lastEdge);
     }
     const past = this.base + this.bits.length;
     if (this.zeros.length > 0 && this.zeros.at(-1) > past + MOST_DRIFT) {
-      this.doubts.add("the second line goes on after the end of the first, and is cut off", end);
+      this.doubts.add("beyond", end);
     }
     this.zeros = this.zeros.filter((place) => place < past);
     return this.taken(past);

@@ -2,7 +2,7 @@ import { Fault } from "../fault.js";
 import { positionOf } from "./channels.js";
 import { decoded, withSingleSpaces } from "./text.js";
 import { UNITS } from "./units.js";
-import { characters } from "./words.js";
+import { Words, characters } from "./words.js";
 
 const DOLLAR = 36;
 
@@ -43,6 +43,13 @@ export function signalsOf(words) {
   }
   return signals;
 }
+
+/**
+ * Whether the definitions have their end in some octets.
+ * @param {Uint8Array} head
+ * @returns {boolean}
+ */
+export const isWholeHead = (head) => signalsOf(new Words(head, head.length)).isWhole;
 
 function define(signals, keyword, section) {
   if (keyword === "$enddefinitions") {

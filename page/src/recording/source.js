@@ -58,6 +58,13 @@ export class Source {
     return this.lines(0);
   }
 
+  /** The pieces as they come, where none is read otherwise. */
+  async *each() {
+    for (let next = await this.pieces.next(); !next.done; next = await this.pieces.next()) {
+      yield next.value;
+    }
+  }
+
   /** Says that no more is wanted. */
   async close() {
     await this.pieces.return?.();

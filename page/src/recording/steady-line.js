@@ -57,7 +57,7 @@ export class SteadyLine {
     for (let edge = 0; edge < times.length; edge++) {
       const distance = times[edge] - last;
       if (distance > FAR * this.period) {
-        this.doubts.add("the first clock has a gap, which was filled from the data", last);
+        this.doubts.add("gap", last);
         gaps.push({ edge, last, distance, missing: rounded(distance / this.period) - 1 });
       }
       last = times[edge];

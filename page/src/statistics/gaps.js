@@ -16,9 +16,10 @@ const FAR = 1.5;
  * @property {import("./commands.js").Commands} commands
  * @property {Gap} gap
  * @property {number} usual the usual gap
+ * @property {number} limit gaps above this one are reported
  * @property {number} times how many times the usual gap it is
  * @property {number} lacking how many commands are lacking
- * @property {string} where it is, if not between two commands
+ * @property {""|"begin"|"end"} where it is: between two commands, or at an end of the listing
  * @property {number} others gaps of this kind that are as far from the usual one
  */
 
@@ -53,14 +54,14 @@ function holesOf(kind, commands, bus) {
   const begin = { place: bus.first, damage: [], framesBefore: 0, framesAfter: 0 };
   const candidates = [
     { from: longest.from, to: longest.to, where: "", others: Math.max(0, gaps.above(limit) - 1) },
-    { from: begin, to: first, where: ", from the beginning of the listing on", others: 0 },
-    { from: last, to: bus.moment(bus.past, 0), where: ", until the end of the listing", others: 0 },
+    { from: begin, to: first, where: "begin", others: 0 },
+    { from: last, to: bus.moment(bus.past, 0), where: "end", others: 0 },
   ];
   const far = candidates.filter(({ from, to }) => to.place - from.place > limit);
   return far.map(({ from, to, where, others }) => {
     const gap = gapBetween(from, to, bus.damage);
     const times = gap.length / usual;
-    return { kind, commands, gap, usual, times, lacking: rounded(times) - 1, where, others };
+    return { kind, commands, gap, usual, limit, times, lacking: rounded(times) - 1, where, others };
   });
 }
 

@@ -18,9 +18,9 @@ function filled(text, indent = "") {
 /** The sentences at the head of the report. */
 function verdictLines(bus) {
   const found = wrong(bus);
-  const numbered = found.map((text, at) => filled(`${at + 1}. ${text}`, "   "));
+  const numbered = found.map(({ text }, at) => filled(`${at + 1}. ${text}`, "   "));
   const head = found.length > 0 ? ["What is wrong, the most serious first:"] : allIsWell(bus);
-  return [...head, ...numbered, ...unknown(bus).map((text) => filled(text))];
+  return [...head, ...numbered, ...unknown(bus).map(({ text }) => filled(text))];
 }
 
 /** The lines of a table with its two heads; a column that begins a group has a space more before it. */

@@ -1,15 +1,35 @@
 import { element, make } from "./dom.js";
+import { isOther } from "./keys.js";
 import { latest } from "./latest.js";
 
 /** The height of a line, which the style sheet has, too, and the most that browsers take for the height of a list. */
 const LINE_HEIGHT = 20;
 const MOST_HEIGHT = 8000000;
 
+const ACTS = [
+  { keys: ["ArrowDown"], shown: "\u2193", words: "choose the next line", act: (lines) => lines.move(1) },
+  { keys: ["ArrowUp"], shown: "\u2191", words: "choose the line before", act: (lines) => lines.move(-1) },
+  { keys: ["PageDown"], shown: "PgDn", words: "a page on", act: (lines) => lines.move(lines.many) },
+  { keys: ["PageUp"], shown: "PgUp", words: "a page back", act: (lines) => lines.move(-lines.many) },
+  { keys: ["Home"], shown: "Home", words: "the first lines", act: (lines) => lines.show(0) },
+  { keys: ["End"], shown: "End", words: "the last lines", act: (lines) => lines.show(lines.count) },
+  { keys: ["Enter"], shown: "Enter", words: "show what is chosen large", act: (lines) => lines.openChosen() },
+];
+
+/** The keys of the listing, for the help. */
+export const LINES_KEYS = ACTS;
+
 /** The lines of a listing, of which only those in view are in the page. */
 export class Lines {
-  /** @param {object} desk @param {(row: number) => void} pick what to do where a line is chosen */
-  constructor(desk, pick) {
-    this.pick = pick;
+  /**
+   * @param {object} desk
+   * @param {(row: number) => void} pick what to do where a line is chosen
+   * @param {(row: number) => void} open what to do where the line that is chosen is chosen again
+   */
+  constructor(desk, pick, open) {
+    Object.assign(this, { desk, pick, open });
+    this.rate = 1;
+    this.at = -1; // the place of the chosen line among those shown
     this.count = 0;
     this.top = 0; // the first line in view
     this.chosen = -1; // the row that is marked
@@ -18,12 +38,22 @@ export class Lines {
     this.box.tabIndex = 0;
     this.box.setAttribute("role", "listbox");
     this.box.setAttribute("aria-label", "Lines of the listing");
+    this.view = make("div", "", "view"); // stays in view, whatever is scrolled
+    this.view.setAttribute("role", "presentation");
     this.spacer = make("div");
-    this.box.append(this.spacer);
+    this.box.append(this.view, this.spacer);
     this.ask = latest((from, many) => desk.lines(from, many), (lines) => this.draw(lines));
     this.box.addEventListener("scroll", () => this.scrolled());
     this.box.addEventListener("wheel", (event) => this.turned(event), { passive: false });
     this.box.addEventListener("keydown", (event) => this.pressed(event));
+    this.view.addEventListener("click", (event) => this.clicked(event));
+    new ResizeObserver(() => this.count > 0 && this.fit()).observe(this.box);
+  }
+
+  /** Fits the list to its box, which another size was given. */
+  fit() {
+    this.spacer.style.height = `${this.height}px`;
+    this.show(this.top);
   }
 
   /** How many lines fit into view. */
@@ -35,11 +65,11 @@ export class Lines {
     return Math.min(MOST_HEIGHT, Math.max(this.count * LINE_HEIGHT, this.box.clientHeight));
   }
 
-  /** Shows a list of so many lines, from the first on. */
-  reset(count) {
+  /** Shows a list of so many lines, from one on. */
+  reset(count, top = 0) {
     this.count = count;
     this.spacer.style.height = `${this.height}px`;
-    this.show(0);
+    this.show(top);
   }
 
   /** Shows the lines from one on. */
@@ -54,7 +84,9 @@ export class Lines {
   /** Shows a line in the middle, and marks it. */
   reveal(position, row) {
     this.chosen = row;
-    this.show(position - this.many / 2);
+    this.at = position;
+    const isInView = position > this.top && position < this.top + this.many - 1;
+    this.show(isInView ? this.top : position - this.many / 2);
   }
 
   scrolled() {
@@ -66,38 +98,93 @@ export class Lines {
   }
 
   turned(event) {
-    if (event.ctrlKey) return;
-    event.preventDefault();
+    if (event.ctrlKey || Math.abs(event.deltaY) < Math.abs(event.deltaX)) return;
     const step = event.deltaMode === 0 ? event.deltaY / LINE_HEIGHT : event.deltaY;
+    const isAtEnd = step < 0 ? this.top === 0 : this.top >= this.count - this.many;
+    if (isAtEnd) return; // so that the page goes on
+    event.preventDefault();
     this.show(this.top + (Math.abs(step) < 1 ? Math.sign(step) : step));
   }
 
   pressed(event) {
-    const steps = { ArrowDown: 1, ArrowUp: -1, PageDown: this.many, PageUp: -this.many };
-    if (event.key in steps) this.show(this.top + steps[event.key]);
-    else if (event.key === "Home") this.show(0);
-    else if (event.key === "End") this.show(this.count);
-    else return;
+    const found = ACTS.find(({ keys }) => keys.includes(event.key));
+    if (!found || isOther(event)) return;
     event.preventDefault();
+    event.stopPropagation();
+    found.act(this);
   }
 
+  /** Chooses the line so many further on. */
+  async move(step) {
+    const next = Math.max(0, Math.min(this.count - 1, (this.at < 0 ? this.top - Math.sign(step) : this.at) + step));
+    const [line] = await this.desk.lines(next, 1);
+    if (!line) return;
+    this.reveal(next, line.row);
+    this.pick(line.row);
+  }
+
+  /** Puts lines into the elements that are there, which is quicker than to make them. */
   draw(lines) {
-    const drawn = lines.map(({ row, kind, text }, at) => {
-      const line = make("div", text, `line ${kind}${row === this.chosen ? " chosen" : ""}`);
-      line.setAttribute("role", "option");
-      line.setAttribute("aria-selected", String(row === this.chosen));
-      line.setAttribute("aria-setsize", String(this.count));
-      line.setAttribute("aria-posinset", String(this.top + at + 1));
-      line.style.top = `${this.box.scrollTop + at * LINE_HEIGHT}px`;
-      line.addEventListener("click", () => this.choose(row));
-      return line;
-    });
-    this.box.replaceChildren(this.spacer, ...drawn);
+    while (this.view.childElementCount < lines.length) this.view.append(emptyLine());
+    while (this.view.childElementCount > lines.length) this.view.lastChild.remove();
+    lines.forEach((line, at) => this.drawLine(this.view.children[at], line, this.top + at));
+    this.rows = lines.map(({ row }) => row);
+    this.drawnAt = this.top;
+    this.box.setAttribute("aria-activedescendant", this.chosen < 0 ? "" : `line-${this.chosen}`);
   }
 
-  choose(row) {
+  drawLine(node, line, position) {
+    const isChosen = line.row === this.chosen;
+    node.className = `line ${line.kind}${isChosen ? " chosen" : ""}`;
+    node.id = `line-${line.row}`;
+    node.setAttribute("aria-selected", String(isChosen));
+    node.setAttribute("aria-setsize", String(this.count));
+    node.setAttribute("aria-posinset", String(position + 1));
+    cellsOf(line, this.rate).forEach((text, at) => {
+      const cell = node.children[at].firstChild;
+      if (cell.data !== text) cell.data = text;
+    });
+    node.lastChild.className = line.derived ? "about derived" : "about";
+  }
+
+  clicked(event) {
+    const at = [...this.view.children].indexOf(event.target.closest(".line"));
+    if (at < 0) return;
+    const row = this.rows[at];
+    this.at = this.drawnAt + at;
+    if (row === this.chosen) {
+      this.open(row);
+      return;
+    }
     this.chosen = row;
     this.ask(this.top, this.many + 1);
     this.pick(row);
   }
+
+  openChosen() {
+    if (this.chosen >= 0) this.open(this.chosen);
+  }
+}
+
+const CELLS = ["second", "on", "places", "kind", "octets", "about"];
+
+/** A line without its text: the style sheet puts the octets last. */
+function emptyLine() {
+  const line = make("div");
+  line.setAttribute("role", "option");
+  for (const name of CELLS) {
+    const cell = make("span", "", name);
+    cell.append(document.createTextNode(""));
+    line.append(cell);
+  }
+  return line;
+}
+
+/** The texts of the cells: the time, and then a line of `port1 list` as it is, with the time of a reply. */
+function cellsOf({ text, first, reply, derived }, rate) {
+  const found = /^(?:([12]) )?(\d+ \d+) (\w+)(?: ([0-9a-f]{4,}))?(.*)$/.exec(text);
+  const [, on = "", places, kind, octets = "", about] = found ?? [null, "", "", "", text, ""];
+  const after = reply === null ? about : `${about}, ${((1000 * reply) / rate).toFixed(2)} ms`;
+  const second = `${(first / rate).toFixed(6)} `;
+  return [second, on && `${on} `, `${places} `, kind, octets && ` ${octets}`, derived ? ` ${derived}` : after];
 }

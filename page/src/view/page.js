@@ -1,15 +1,24 @@
 import { canRun } from "../engine/library.js";
 import { KINDS } from "../listing/kinds.js";
 import { RATE } from "../port1.js";
+import { counted } from "../statistics/units.js";
 import { callerOf } from "../worker/rpc.js";
+import { Banners } from "./banners.js";
+import { Bar } from "./bar.js";
+import { commandOf } from "./command.js";
+import { DictionaryPane } from "./dictionary.js";
 import { element, fillList, make, save } from "./dom.js";
-import { Files } from "./files.js";
-import { Lines } from "./lines.js";
-import { Replies } from "./replies.js";
-import { showReport } from "./report.js";
-import { Timeline } from "./timeline.js";
-import { grouped } from "./units.js";
 import { octetsOf, unpacked } from "./embedded.js";
+import { Files } from "./files.js";
+import { Help, isOther } from "./keys.js";
+import { Lines, LINES_KEYS } from "./lines.js";
+import { Replies } from "./replies.js";
+import { showDamage, showTable } from "./report.js";
+import { Sentences } from "./sentences.js";
+import { Tabs } from "./tabs.js";
+import { Timeline, TIMELINE_KEYS } from "./timeline.js";
+import { duration, grouped, seconds } from "./units.js";
+import { Verdict } from "./verdict.js";
 
 /** What is chosen under Form, as the worker takes it. */
 const FORMS = {
@@ -19,20 +28,36 @@ const FORMS = {
   packed2: { form: "packed", lines: 2 },
   vcd: { form: "vcd" },
   csv: { form: "csv" },
+  session: { form: "session" },
   listing: { form: "listing" },
 };
 
 const NO_ENGINE =
-  "This browser has no 64-bit memory for WebAssembly, which the decoder needs (Chrome, Edge and Firefox have it since " +
-  "2025): listings that port1 wrote are shown all the same.";
+  "This browser has no 64-bit memory for WebAssembly, which the decoder needs (Chrome, Edge and Firefox have it " +
+  "since 2025): listings that port1 wrote are shown all the same.";
 
-const REPORT = "A report on the Port 1 bus of a NEMA TS 2 traffic-signal cabinet.";
+const WIRES = "TXC, TXD, RXC, RXD, in this order";
+const NOTHING_CHOSEN = "Nothing is chosen: choose a mark, a line, or a time of a sentence.";
 
-const PROVED_OF_REPORT =
-  "Proved, where port1 wrote the listing: for the bits that it was given, every frame, damaged piece and idle line, its " +
-  "bit places, and the verdict on each command are exactly those of the definitions.";
+/** About a line that is no stretch, so many seconds are shown. */
+const ABOUT_SECONDS = 0.3;
 
-const NOT_PROVED_OF_REPORT = "Not proved: this page's scripts, which read the listing, count and draw, and the browser.";
+const KEYS = [
+  { keys: ["n"], shown: "n", words: "the next place of the sentences", act: (page) => page.sentences.step(1) },
+  { keys: ["p"], shown: "p", words: "the place before", act: (page) => page.sentences.step(-1) },
+  { keys: ["t"], shown: "t", words: "to the timeline", act: (page) => page.timeline.svg.node().focus() },
+  { keys: ["l"], shown: "l", words: "to the listing", act: (page) => page.focusListing("lines") },
+  { keys: ["/"], shown: "/", words: "find in the listing", act: (page) => page.focusListing("query-text") },
+  { keys: ["g"], shown: "g", words: "go to a second", act: (page) => page.focusListing("query-second") },
+  { keys: [..."12345"], shown: "1 2 3 4 5", words: "the tabs", act: (page, key) => page.tabs.openAt(Number(key) - 1) },
+  { keys: ["w"], shown: "w", words: "wires and form", act: (page) => page.toggleSettings() },
+];
+
+/** Keys without a file, too. */
+const KEYS_ALWAYS = [
+  { keys: ["o"], shown: "o", words: "open a file", act: (page) => page.files.choose() },
+  { keys: ["?"], shown: "?", words: "these keys", act: (page) => page.help.open() },
+];
 
 /** The page: what was chosen, and the parts that show it. */
 class Page {
@@ -40,16 +65,33 @@ class Page {
     this.desk = desk;
     this.about = JSON.parse(element("about").textContent);
     this.engine = canRun() && element("engine") ? octetsOf("engine") : null;
-    this.schema = this.about.schema;
     this.chosen = [];
-    this.files = new Files(desk, (files) => this.take(files));
-    this.lines = new Lines(desk, (row) => this.pickLine(row));
-    this.timeline = new Timeline(desk, (row) => this.pickMark(row));
-    this.replies = new Replies();
+    this.make();
+    this.state("empty");
     this.listen();
-    element("version").textContent = `Port 1 analyser ${this.about.version}, decoder ${this.about.decoder.slice(0, 16)}.`;
+    const { version, decoder } = this.about;
+    element("version").textContent = `Port 1 analyser ${version}, decoder ${decoder.slice(0, 16)}.`;
     element("query-kind").replaceChildren(make("option", ""), ...KINDS.map((kind) => make("option", kind)));
     if (!this.engine && !element("listing-data")) this.say(NO_ENGINE);
+  }
+
+  make() {
+    const { desk } = this;
+    this.files = new Files((files) => this.take(files).catch((fault) => this.say(fault.message, true)));
+    this.lines = new Lines(desk, (row) => this.pickLine(row), (row) => this.openLine(row));
+    this.timeline = new Timeline(desk, {
+      pick: (row) => this.pickMark(row),
+      walk: (step) => this.lines.move(step),
+      narrow: (station) => this.narrow(station),
+    });
+    this.tabs = new Tabs();
+    this.bar = new Bar(() => this.tabs.open("dictionary"));
+    this.verdict = new Verdict((name) => this.showKind(name));
+    this.banners = new Banners((act, warning) => this.mend(act, warning).catch((fault) => this.say(fault.message, true)));
+    this.sentences = new Sentences((place) => this.go(place), () => this.tabs.open("table"));
+    this.dictionary = new DictionaryPane(desk, this.about.schema, this.bar, () => this.readAgain());
+    this.replies = new Replies();
+    this.help = new Help([["Page", [...KEYS, ...KEYS_ALWAYS]], ["Timeline", TIMELINE_KEYS], ["Listing", LINES_KEYS]]);
   }
 
   listen() {
@@ -58,17 +100,60 @@ class Page {
       event.preventDefault();
       this.read();
     });
-    element("dictionary").addEventListener("input", () => this.checkDictionary());
     element("query").addEventListener("submit", (event) => event.preventDefault());
     element("query").addEventListener("input", () => this.search());
-    this.onClick("draft", async () => this.setDictionary(await this.desk.draft()));
-    this.onClick("save-dictionary", () => save("dictionary.toml", new Blob([element("dictionary").value])));
+    element("query-second").addEventListener("change", () => this.goToSecond());
+    document.addEventListener("keydown", (event) => this.pressed(event));
+    this.onClick("draft", () => this.begin());
+    this.onClick("example", () => this.showExample());
+    this.onClick("choose-files", () => this.files.choose());
+    this.onClick("open-another", () => this.files.choose());
+    this.onClick("show-settings", () => this.toggleSettings());
     this.onClick("save", async () => save("listing.txt", await this.desk.text()));
     this.onClick("save-summary", async () => save("summary.txt", new Blob([await this.desk.summaryText()])));
   }
 
   onClick(id, act) {
     element(id).addEventListener("click", () => Promise.resolve(act()).catch((fault) => this.say(fault.message, true)));
+  }
+
+  /** How far the page is: empty, asking for wires, or with a result. */
+  state(name) {
+    document.body.dataset.state = name;
+  }
+
+  toggleSettings(isOpen = !document.body.classList.contains("settings-open")) {
+    document.body.classList.toggle("settings-open", isOpen);
+    element("show-settings").setAttribute("aria-expanded", String(isOpen));
+    const fields = [...element("settings").querySelectorAll("select:enabled")];
+    if (isOpen) fields.find((field) => field.offsetParent !== null)?.focus();
+  }
+
+  /** Keys for the whole page, where none is typed into a field. */
+  pressed(event) {
+    const keys = element("result").hidden ? KEYS_ALWAYS : [...KEYS, ...KEYS_ALWAYS];
+    const found = isOther(event) ? undefined : keys.find((some) => some.keys.includes(event.key));
+    if (!found) return;
+    event.preventDefault();
+    found.act(this, event.key);
+  }
+
+  focusListing(id) {
+    this.tabs.open("listing");
+    element(id).focus();
+  }
+
+  /** Reads the example that is in the page. */
+  async showExample() {
+    const texts = JSON.parse(await (await unpacked("example-data")).text());
+    await this.take(Object.entries(texts).map(([name, text]) => new File([text], name)));
+  }
+
+  /** Begins a dictionary from what is on the bus, and reads with it. */
+  async begin() {
+    await this.dictionary.set(await this.desk.draft(), "draft");
+    await this.read();
+    this.tabs.open("dictionary");
   }
 
   /** Tells how things are. */
@@ -84,19 +169,23 @@ class Page {
 
   /** Takes files: dictionaries into their field, the rest to choose from. */
   async take(files) {
-    const rest = [];
+    const [rest, others] = [[], []];
     for (const file of files) {
-      const { form } = await this.desk.lookAt(file);
-      if (form === "dictionary") this.setDictionary(await file.text());
+      const { form, why } = await this.desk.lookAt(file);
+      if (form === "dictionary") await this.dictionary.set(await file.text(), file.name);
+      else if (form === "other") others.push(`${file.name} is ${why}`);
       else rest.push(file);
     }
     if (rest.length > 0) {
       this.chosen = rest;
       this.files.offer(rest);
       await this.look();
-    } else if (this.file) {
+    } else if (others.length === 0 && this.file) {
       await this.read();
+    } else if (others.length === 0) {
+      this.say("The dictionary is kept. Now drop a recording.");
     }
+    if (others.length > 0) this.say(others.join(" "), true);
   }
 
   get file() {
@@ -106,20 +195,30 @@ class Page {
   /** Looks at the chosen file, and reads it at once where nothing is to be asked. */
   async look() {
     this.found = await this.desk.lookAt(this.file);
+    const { channels } = this.found;
     element("form").value = "";
     element("read").disabled = false;
-    this.files.offerChannels(this.found.channels);
-    if (this.found.channels.length === 0) await this.read();
-    else this.say("Say which channels the recording has, then read it.");
+    element("ask").textContent = "";
+    const how = this.files.offerChannels(channels);
+    this.guess = how === "ordered" ? `The channels ${this.files.channels().join(", ")} were taken for ${WIRES}.` : "";
+    if (channels.length === 0 || how !== "asked") {
+      await this.read();
+      return;
+    }
+    element("ask").textContent = `${this.file.name} has ${counted(channels.length, "channel")}. Which is which wire?`;
+    if (element("result").hidden) this.state("asking");
+    else this.toggleSettings(true);
+    this.say("Say which channels the recording has, then read it.");
+    element("channels").querySelector("select").focus();
   }
 
   jobOf(file) {
     const chosen = FORMS[element("form").value] ?? this.found;
     return {
       ...{ lines: 1, ...chosen, channels: this.found.channels.length > 0 ? this.files.channels() : [] },
-      ...{ rising: !element("falling").checked, file },
+      ...{ rising: !element("falling").checked, inverted: this.files.inverted(), file },
       rate: Number(element("rate").value) || RATE,
-      dictionary: element("dictionary").value,
+      dictionary: this.dictionary.text,
       engine: this.engine,
     };
   }
@@ -130,93 +229,235 @@ class Page {
     element("progress").hidden = false;
     element("read").disabled = true;
     this.say(`Reading ${file.name} ..`);
+    document.body.classList.add("reading");
     try {
       await this.load(this.jobOf(file), file.name);
+      this.toggleSettings(false);
     } catch (fault) {
       this.say(fault.message, true);
+      if (document.body.dataset.state !== "result" && this.found.channels.length > 0) this.state("asking");
     }
+    document.body.classList.remove("reading");
     element("progress").hidden = true;
     element("read").disabled = false;
   }
 
+  /** Reads again with an edited dictionary, where there is a file. */
+  async readAgain() {
+    if (this.file && !element("result").hidden) await this.read();
+  }
+
   async load(job, name) {
     const began = performance.now();
+    this.asked = job;
     const summary = await this.desk.load(job);
+    if (this.asked !== job) return; // another file, or another way to read it, was chosen meanwhile
+    const isSame = this.job?.file === job.file && this.rate === job.rate;
+    Object.assign(this, { job, rate: job.rate });
     element("result").hidden = false;
+    this.state("result");
     element("draft").disabled = false;
-    fillList(element("notes"), summary.notes);
-    showReport(summary);
-    this.timeline.reset(summary, job.rate);
-    this.replies.reset(summary.replies, job.rate);
-    this.lines.reset(summary.count);
+    this.showWords(summary, job, name);
+    this.timeline.reset(summary, job.rate, isSame);
+    this.replies.reset(summary.replies, job.rate, summary.verdict.isLateJudged);
+    if (!isSame) this.forget();
+    this.lines.rate = job.rate;
+    await this.search(isSame ? this.lines.top : 0);
+    const lasted = ((performance.now() - began) / 1000).toFixed(1);
+    this.say(`${name}: ${element("verdict-word").textContent}. ${grouped(summary.count)} lines in ${lasted} s.`);
+  }
+
+  /** Another file: nothing is chosen, and the query is empty. */
+  forget() {
     element("query").reset();
-    element("query-count").textContent = `${grouped(summary.count)} lines`;
-    element("command").textContent = commandOf(job, name);
-    this.say(`${name}: ${grouped(summary.count)} lines in ${((performance.now() - began) / 1000).toFixed(1)} s.`);
+    this.lines.chosen = -1;
+    this.lines.at = -1;
+    element("chosen").textContent = NOTHING_CHOSEN;
   }
 
-  setDictionary(text) {
-    element("dictionary").value = text;
-    element("dictionary-box").open = true;
-    return this.checkDictionary();
+  /** All that is said of a file in words. */
+  showWords(summary, job, name) {
+    const { verdict, findings, warnings } = summary;
+    const isReport = Boolean(element("listing-data"));
+    fillList(element("notes"), [...summary.notes, ...(isReport ? this.about.notes ?? [] : [])]);
+    this.verdict.show(summary);
+    this.banners.show(summary, isReport ? "" : this.guess);
+    const bits = summary.past - summary.first;
+    this.sentences.show(findings, summary.well, [...verdict.lacks, ...verdict.notes], { rate: job.rate, length: bits });
+    const length = (bits / job.rate).toFixed(3);
+    const pieces = counted(summary.damaged, "damaged piece");
+    element("head").textContent = `${counted(summary.frames, "frame")} and ${pieces} in ${length} s.`;
+    showTable(summary.table, findings);
+    showDamage(summary.damage, summary.damaged);
+    this.offerDraft(verdict, job);
+    this.showFile(summary, job, name, isReport);
+    element("warnings-head").hidden = warnings.length === 0;
   }
 
-  /** Says what is wrong with the dictionary, if there is one. */
-  async checkDictionary() {
-    const text = element("dictionary").value;
-    const findings = text.trim() ? await this.desk.check(text, this.schema) : [];
-    const faults = findings.filter((finding) => finding.isFault).length;
-    const items = findings.map(({ line, text: said, isFault }) => make("li", `line ${line}: ${said}`, isFault ? "fault" : ""));
-    element("findings").replaceChildren(...items);
-    element("dictionary-state").textContent = !text.trim() ? "none" : faults ? `${faults} faults` : "no fault";
+  /** The bar and the title. */
+  showFile(summary, job, name, isReport) {
+    const date = isReport ? this.about.recording?.date ?? "" : dateOf(job.file);
+    const shown = isReport ? this.about.recording?.name ?? name : name;
+    this.bar.show(summary, job, { name: shown, date, hasDictionary: job.form !== "listing" });
+    element("title").textContent = isReport ? this.about.title : "Port 1";
+    if (!isReport) {
+      document.title = `${element("verdict-word").textContent}: ${name}, Port 1`;
+      const wires = job.channels.length > 0 ? { wires: job.channels.join(", ") } : {};
+      this.showRecording({ name, date, size: grouped(job.file.size), form: job.form, ...wires });
+    }
+    element("command").textContent = isReport ? this.about.command : commandOf(job, name);
   }
 
-  async search() {
+  /** Where nothing is judged, because there is no dictionary, the way to one. */
+  offerDraft({ lacks }, job) {
+    const lack = element("lacks").querySelector(".is-dictionary");
+    if (!lack || job.dictionary.trim() || !this.engine || lacks.length === 0) return;
+    const button = make("button", "Begin a dictionary from what is on the bus", "screen");
+    button.type = "button";
+    button.addEventListener("click", () => element("draft").click());
+    lack.append(" ", button);
+  }
+
+  async search(top = 0) {
     const [text, kind, station, type] = ["text", "kind", "station", "type"].map((id) => element(`query-${id}`).value);
-    const count = await this.desk.choose({ text, kind, station, type });
-    element("query-count").textContent = `${grouped(count)} lines`;
-    this.lines.reset(count);
+    const found = await this.desk.choose({ text, kind, station, type, isBusy: !element("query-idle").checked });
+    if (!found) return;
+    const { count, idle } = found;
+    const lines = count === 1 ? "1 line" : `${grouped(count)} lines`;
+    element("query-count").textContent = lines;
+    element("idle-count").textContent = idle > 0 ? ` (${grouped(idle)})` : "";
+    this.lines.reset(count, top);
   }
 
-  /** A line was chosen: the timeline shows where it is. */
+  /** A line was chosen: the timeline marks where it is. */
   async pickLine(row) {
-    const { first, past } = await this.desk.placesOf(row);
-    this.timeline.reveal(first, past);
+    this.showChosen(await this.desk.placesOf(row));
+  }
+
+  /** The chosen line was chosen again: the timeline shows it large, with its bits. */
+  async openLine(row) {
+    const { first, upTo } = await this.desk.placesOf(row);
+    this.timeline.reveal(first, upTo);
   }
 
   /** A mark was chosen: the listing shows its line. */
   async pickMark(row) {
-    this.lines.reveal(await this.desk.positionOf(row), row);
-    element("lines").scrollIntoView({ block: "nearest" });
+    this.showChosen(await this.desk.placesOf(row));
+    await this.showLine(row);
+  }
+
+  /** One station was chosen, or all: timeline and listing show it. */
+  async narrow(station) {
+    this.timeline.narrowTo(station);
+    element("query-station").value = station === null ? "" : String(station);
+    await this.search();
+  }
+
+  async showLine(row) {
+    if (element("pane-listing").hidden) this.tabs.open("listing");
+    let position = await this.desk.positionOf(row);
+    const [line] = await this.desk.lines(position, 1);
+    if (line?.row !== row) {
+      // The query left it out: it is shown all the same, without the query.
+      element("query").reset();
+      element("query-idle").checked = / idle$/.test((await this.desk.placesOf(row)).text);
+      await this.search();
+      position = await this.desk.positionOf(row);
+    }
+    this.lines.reveal(position, row);
+  }
+
+  /** A place of a sentence was chosen: timeline and listing show it. */
+  async go(place) {
+    const row = place.row < 0 ? await this.desk.rowFrom(place.first) : place.row;
+    const about = await this.desk.placesOf(row);
+    const stretch = { first: place.first, past: place.past, upTo: place.past, text: place.short, reply: null };
+    const shown = place.isStretch ? { ...about, ...stretch } : about;
+    const length = place.isStretch ? place.past - place.first : (ABOUT_SECONDS / 2) * this.rate;
+    const middle = (shown.first + shown.past) / 2;
+    if (this.timeline.station !== null) await this.narrow(null);
+    this.timeline.chosen = { ...shown, past: shown.upTo };
+    this.timeline.showStretch(middle - length, middle + length);
+    const isStacked = element("timeline-pane").offsetTop > element("sentences").offsetTop + 20;
+    if (isStacked) element("timeline-pane").scrollIntoView({ block: "start" });
+    this.showChosen(shown);
+    await this.showLine(row);
+  }
+
+  /** What a warning asks for: to take other edges, to invert a line, to choose other wires, or to show a second. */
+  async mend(act, warning) {
+    if (act === "wires") this.toggleSettings(true);
+    if (act === "second") await this.goTo(warning.second);
+    if (act === "wires" || act === "second") return;
+    const tick = element(act === "edge" ? "falling" : `inverted-${warning.line}`);
+    tick.checked = !tick.checked;
+    await this.read();
+  }
+
+  async goTo(second) {
+    const place = Math.round(second * this.rate);
+    await this.go({ row: await this.desk.rowFrom(place), first: place, past: place + 1 });
+  }
+
+  async goToSecond() {
+    const { value } = element("query-second");
+    if (value !== "") await this.pickMark(await this.desk.rowFrom(Math.round(Number(value) * this.rate)));
+  }
+
+  /** What a number of the verdict counts. */
+  async showKind(name) {
+    if (name === "gap") this.sentences.visitStretch();
+    if (name === "damage") this.tabs.open("damage");
+    if (name === "gap" || name === "damage") return;
+    this.tabs.open("listing");
+    element("query").reset();
+    element("query-kind").value = name;
+    await this.search();
+  }
+
+  /** Says what is chosen, and marks it in the timeline. */
+  showChosen(place) {
+    const { first, past, text, reply } = place;
+    const after = reply === null || reply === undefined ? "" : `, its answer after ${duration(reply, this.rate)}`;
+    const when = `${seconds(first, this.rate, this.rate / 1000)} s`;
+    const what = text.replace(/^(?:[12] )?\d+ \d+ /, "");
+    const length = duration(past - first, this.rate);
+    element("chosen").replaceChildren(make("strong", when), ` for ${length}${after}: ${what}`);
+    this.timeline.choose(place);
+  }
+
+  /** What is known of the recording's file. */
+  showRecording(facts) {
+    const items = Object.entries(facts).flatMap(([name, value]) => [make("dt", NAMES[name]), make("dd", value)]);
+    element("recording").replaceChildren(...items);
   }
 
   /** Shows the listing that a report has in it. */
   async showEmbedded() {
-    const listing = element("listing-data");
-    if (!listing) return;
-    const { title, rate } = this.about;
+    if (!element("listing-data")) return;
+    const { title, rate, dictionary, recording, notes = [], bits: end } = this.about;
     document.title = title;
-    element("title").textContent = title;
-    element("subtitle").textContent = REPORT;
-    element("proved").textContent = PROVED_OF_REPORT;
-    element("not-proved").textContent = NOT_PROVED_OF_REPORT;
-    element("choice").hidden = true;
-    element("dictionary-shown").hidden = this.about.dictionary === "";
-    element("dictionary-text").textContent = this.about.dictionary;
+    for (const id of ["choice", "actions", "dictionary-box"]) element(id).hidden = true;
+    for (const part of document.querySelectorAll("[data-report]")) part.textContent = part.dataset.report;
+    element("dictionary-shown").hidden = dictionary === "";
+    element("dictionary-text").textContent = dictionary;
+    this.showRecording(recording ?? {});
+    const told = notes.filter((note) => note.startsWith(WARNING)).map((note) => note.slice(WARNING.length));
     const file = await unpacked("listing-data");
-    await this.load({ file, form: "listing", rate, engine: null, dictionary: "" }, title);
-    element("command").textContent = this.about.command;
+    await this.load({ file, form: "listing", rate, engine: null, dictionary, told, end }, title);
   }
 }
 
-/** The command that lists the same. */
-function commandOf(job, name) {
-  if (job.form === "listing") return "";
-  const words = ["port1 list"];
-  if (job.form === "text") words.push("--bits");
-  if (job.lines === 2) words.push("--two");
-  if (job.dictionary) words.push('--dict "$(cat DICTIONARY)"');
-  return `The same listing: ${words.join(" ")} < ${name}`;
+/** How a warning begins among the notes of a recording. */
+const WARNING = "warning: ";
+
+/** What is said of a recording's file. */
+const NAMES = { name: "File", date: "Date", size: "Octets", form: "Form", wires: "Wires", sha256: "SHA-256" };
+
+function dateOf(file) {
+  if (!file.lastModified) return "";
+  const date = new Date(file.lastModified);
+  return `${date.toLocaleDateString("sv")} ${date.toLocaleTimeString("sv").slice(0, 5)}`;
 }
 
 const worker = new Worker(URL.createObjectURL(new Blob([element("worker").textContent], { type: "text/javascript" })));

@@ -1,32 +1,40 @@
 import { axisBottom, axisLeft } from "d3-axis";
-import { scaleLinear } from "d3-scale";
+import { scaleLinear, scaleSymlog } from "d3-scale";
 import { select } from "d3-selection";
 import { element, make } from "./dom.js";
 import { duration, grouped } from "./units.js";
 
-const WIDTH = 760;
-const HEIGHT = 220;
-const EDGE = { left: 60, right: 12, top: 10, bottom: 40 };
-const BARS = 80;
+const WIDTH = { least: 280, most: 480 };
+const HEIGHT = 128;
+const EDGE = { left: 34, right: 10, top: 16, bottom: 32 };
+const BARS = 60;
+const TICK = 48; // the width that a number below takes
+const LEAST_BAR = 3; // so that one late answer among thousands is seen
 
 /** The histogram of reply times, of all commands or of one kind. */
 export class Replies {
   constructor() {
     this.box = element("replies");
-    const label = make("label", "Commands ");
     this.choice = make("select");
-    label.append(this.choice);
+    this.choice.setAttribute("aria-label", "Reply times of which commands");
     this.words = make("p", "", "small");
-    this.svg = select(this.box).append("svg").attr("viewBox", `0 0 ${WIDTH} ${HEIGHT}`).attr("role", "img");
-    this.svg.style("max-width", `${WIDTH}px`);
-    this.box.prepend(label);
+    this.kinds = [];
+    this.svg = select(this.box).append("svg").attr("role", "img");
+    this.box.prepend(this.choice);
     this.box.append(this.words);
     this.choice.addEventListener("change", () => this.draw());
+    new ResizeObserver(() => this.width !== this.room && this.draw()).observe(this.box);
+  }
+
+  /** How wide the picture can be. */
+  get room() {
+    return Math.max(WIDTH.least, Math.min(WIDTH.most, this.box.clientWidth));
   }
 
   /** @param {{ name: string, inTime: [number, number][], late: [number, number][] }[]} kinds times in bits, and counts */
-  reset(kinds, rate) {
-    const all = { name: "all", inTime: kinds.flatMap((kind) => kind.inTime), late: kinds.flatMap((kind) => kind.late) };
+  reset(kinds, rate, isJudged) {
+    this.isJudged = isJudged; // whether a reply can be late
+    const all = { name: "all commands", inTime: kinds.flatMap((kind) => kind.inTime), late: kinds.flatMap((kind) => kind.late) };
     this.kinds = kinds.length === 1 ? kinds : [all, ...kinds];
     this.rate = rate;
     this.choice.replaceChildren(...this.kinds.map(({ name }) => make("option", name)));
@@ -36,7 +44,8 @@ export class Replies {
   draw() {
     const { inTime, late } = this.kinds[Math.max(0, this.choice.selectedIndex)] ?? { inTime: [], late: [] };
     const times = [...inTime, ...late].map(([bits]) => bits);
-    this.svg.selectAll("*").remove();
+    this.width = this.room;
+    this.svg.attr("viewBox", `0 0 ${this.width} ${HEIGHT}`).selectAll("*").remove();
     this.svg.style("display", times.length ? null : "none");
     if (!times.length) {
       this.words.textContent = "No answer is known: there is none, or no dictionary that says which commands are answered.";
@@ -45,7 +54,24 @@ export class Replies {
     const most = times.reduce((one, other) => Math.max(one, other), 1);
     const width = Math.max(1, Math.ceil((most + 1) / BARS)); // of a bar in bits
     this.drawBars(barsOf(inTime, width), barsOf(late, width), width, most);
+    this.nameLate(late, width);
     this.describe(inTime, late, width);
+  }
+
+  /** A word above the late ones: colour is not alone. */
+  nameLate(late, width) {
+    if (late.length === 0) return;
+    const least = late.reduce((one, [bits]) => Math.min(one, bits), Infinity);
+    const count = late.reduce((sum, [, some]) => sum + some, 0);
+    const x = this.x((1000 * Math.floor(least / width) * width) / this.rate);
+    const isRight = x > this.width - 80;
+    this.svg
+      .append("text")
+      .attr("class", "late-word")
+      .attr("x", isRight ? this.width - EDGE.right : x)
+      .attr("y", EDGE.top - 4)
+      .attr("text-anchor", isRight ? "end" : "start")
+      .text(`${grouped(count)} late`);
   }
 
   drawBars(inTime, late, width, most) {
@@ -58,8 +84,9 @@ export class Replies {
     const toMilliseconds = 1000 / this.rate;
     const x = scaleLinear()
       .domain([0, (most + width) * toMilliseconds])
-      .range([EDGE.left, WIDTH - EDGE.right]);
-    const y = scaleLinear()
+      .range([EDGE.left, this.width - EDGE.right]);
+    this.x = x;
+    const y = scaleSymlog()
       .domain([0, highest])
       .range([HEIGHT - EDGE.bottom, EDGE.top]);
     for (const bar of bars) {
@@ -76,8 +103,8 @@ export class Replies {
       .attr("class", `mark ${className}`)
       .attr("x", x(bar * width))
       .attr("width", Math.max(1, x(width) - x(0) - 1))
-      .attr("y", y(below + count))
-      .attr("height", y(below) - y(below + count))
+      .attr("y", Math.min(y(below + count), y(below) - LEAST_BAR))
+      .attr("height", Math.max(LEAST_BAR, y(below) - y(below + count)))
       .append("title")
       .text(`${className}: ${count}`);
   }
@@ -86,22 +113,27 @@ export class Replies {
     this.svg
       .append("g")
       .attr("transform", `translate(0,${HEIGHT - EDGE.bottom})`)
-      .call(axisBottom(x).ticks(10));
-    this.svg.append("g").attr("transform", `translate(${EDGE.left},0)`).call(axisLeft(y).ticks(5));
+      .call(axisBottom(x).ticks(Math.floor(this.width / TICK)));
+    const tens = [1, 10, 100, 1000, 10000, 100000, 1000000].filter((count) => count <= y.domain()[1]);
+    this.svg
+      .append("g")
+      .attr("transform", `translate(${EDGE.left},0)`)
+      .call(axisLeft(y).tickValues(tens).tickFormat(short));
     this.svg
       .append("text")
-      .attr("x", WIDTH / 2)
-      .attr("y", HEIGHT - 6)
+      .attr("x", this.width / 2)
+      .attr("y", HEIGHT - 4)
       .attr("text-anchor", "middle")
+      .attr("class", "about")
       .text("milliseconds from the end of a command to its answer");
   }
 
   describe(inTime, late, width) {
     const [answered, tardy] = [inTime, late].map((times) => times.reduce((sum, [, count]) => sum + count, 0));
-    const text = `${grouped(answered)} answers in time and ${grouped(tardy)} late ones; a bar is ${duration(
-      width,
-      this.rate,
-    )} wide. Late answers stand on top, in another colour.`;
+    const bar = `a bar is ${duration(width, this.rate)} wide`;
+    const text = this.isJudged
+      ? `${grouped(answered)} in time, ${grouped(tardy)} late; ${bar}`
+      : `${grouped(answered)}, of which none is judged late; ${bar}`;
     this.words.textContent = text;
     this.svg.attr("aria-label", `Histogram of reply times: ${text}`);
   }
@@ -115,4 +147,10 @@ function barsOf(times, width) {
     bars.set(bar, (bars.get(bar) ?? 0) + count);
   }
   return bars;
+}
+
+/** A count in few characters. */
+function short(count) {
+  if (count < 1000) return String(count);
+  return count < 1000000 ? `${count / 1000}k` : `${count / 1000000}M`;
 }

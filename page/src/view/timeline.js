@@ -1,99 +1,169 @@
-import { axisBottom } from "d3-axis";
 import { scaleLinear } from "d3-scale";
 import { select } from "d3-selection";
 import { zoom, zoomIdentity } from "d3-zoom";
 import { element, make } from "./dom.js";
+import { isOther } from "./keys.js";
 import { latest } from "./latest.js";
+import { Overview } from "./overview.js";
+import { NARROW, Picture } from "./picture.js";
 import { duration, grouped, seconds } from "./units.js";
 
-const LEFT = 130;
-const RIGHT = 70;
-const LANE = 24;
-const AXIS = 30;
+const RIGHT = 16;
 const BIN = 2; // the width of a bin in pixels
 const LEAST_BITS = 32; // in view, at least
-const MOST_DIGITS = 400; // bits that are shown as digits, at most
+const MOST_DIGITS = 1200; // bits that are shown, as digits or as levels, at most
+const NEAR = 8; // so many pixels beside a mark are taken for it
 
-const BUTTONS = [
-  ["Zoom in", (timeline) => timeline.zoomBy(2)],
-  ["Zoom out", (timeline) => timeline.zoomBy(1 / 2)],
-  ["Earlier", (timeline) => timeline.moveBy(-0.4)],
-  ["Later", (timeline) => timeline.moveBy(0.4)],
-  ["Whole", (timeline) => timeline.showAll()],
+/** Room for the names of lanes: on a phone, beside few lanes, and beside many, whose names stand in one row. */
+const LEFT = { narrow: 74, few: 150, many: 200 };
+const MANY_LANES = 9;
+
+/** Whether the parts of the page stand below each other, as the style sheet says. */
+const STACKED = matchMedia("(max-width: 67.99rem)");
+
+const [LEFTWARDS, RIGHTWARDS] = ["\u2190", "\u2192"];
+const MOVE = 0.4; // the share of what is in view by which it moves
+
+/** An act by its keys, how the help shows them, the name of its button, if it has one, and what it does. */
+const act = (keys, shown, name, words, does) => ({ keys, shown, name, words, act: does });
+
+/** The keys of the timeline, for the help. */
+export const TIMELINE_KEYS = [
+  act(["+", "="], "+", "+", "zoom in", (timeline) => timeline.zoomBy(2)),
+  act(["-"], "-", "\u2212", "zoom out", (timeline) => timeline.zoomBy(1 / 2)),
+  act(["ArrowLeft"], LEFTWARDS, LEFTWARDS, "earlier", (timeline) => timeline.moveBy(-MOVE)),
+  act(["ArrowRight"], RIGHTWARDS, RIGHTWARDS, "later", (timeline) => timeline.moveBy(MOVE)),
+  act(["Home"], "Home", "Whole", "the whole file", (timeline) => timeline.showAll()),
+  act([","], ",", "", "choose the line before", (timeline) => timeline.walk(-1)),
+  act(["."], ".", "", "choose the line after", (timeline) => timeline.walk(1)),
+  act(["Enter"], "Enter", "", "show what is chosen large, down to its bits", (timeline) => timeline.open()),
 ];
-const KEYS = { "+": 0, "=": 0, "-": 1, ArrowLeft: 2, ArrowRight: 3, Home: 4 };
 
-/** A timeline of commands by what became of them, of damage and of frames. */
+/** A timeline with a lane for each station: commands above, answers below, and signs where something is wrong. */
 export class Timeline {
-  /** @param {object} desk @param {(row: number) => void} pick what to do where a mark is chosen */
-  constructor(desk, pick) {
-    this.desk = desk;
-    this.pick = pick;
+  /**
+   * @param {object} desk
+   * @param {object} acts
+   * @param {(row: number) => void} acts.pick what to do where a mark is chosen
+   * @param {(step: number) => void} acts.walk what to do to choose the line so many further on
+   * @param {(station: number|null) => void} acts.narrow what to do where one station is chosen, or all
+   */
+  constructor(desk, { pick, walk, narrow }) {
+    Object.assign(this, { desk, pick, walk, chosen: null, station: null });
     this.box = element("timeline");
-    this.bar = make("p", "", "screen");
-    for (const [name, act] of BUTTONS) this.bar.append(this.button(name, act), " ");
-    this.where = make("p", "", "small");
-    this.where.setAttribute("aria-live", "polite");
-    this.svg = select(this.box).append("svg").attr("tabindex", 0).attr("role", "img");
-    this.box.prepend(this.bar);
-    this.box.append(this.where);
-    this.svg.on("keydown", null);
-    this.svg.node().addEventListener("keydown", (event) => this.pressed(event));
+    this.scroll = make("div", "", "scroll");
+    this.scroll.tabIndex = -1; // Firefox would stop there, before the picture in it
+    this.svg = select(this.scroll).append("svg").attr("tabindex", 0).attr("role", "img");
+    this.picture = new Picture(this.svg, pick);
+    this.box.append(this.tools(narrow), this.scroll);
+    this.overview = new Overview(this.box, (first, past) => this.showStretch(first, past));
+    this.scroll.before(this.overview.svg.node());
+    this.axis = select(this.box).append("svg").attr("class", "axis").attr("aria-hidden", "true");
+    this.listen();
     this.ask = latest(
       (first, past) => this.contents(first, past),
       (contents) => this.draw(contents),
     );
-    new ResizeObserver(() => this.summary && this.lay()).observe(this.box);
+    const observer = new ResizeObserver(() => this.summary && this.lay());
+    observer.observe(this.box);
+    observer.observe(this.svg.node()); // a bar to scroll makes it narrower
   }
 
-  button(name, act) {
-    const made = make("button", name);
-    made.type = "button";
-    made.addEventListener("click", () => act(this));
-    return made;
+  tools(narrow) {
+    const tools = make("div", "", "tools");
+    for (const { name, words, act } of TIMELINE_KEYS.filter((key) => key.name)) {
+      const button = make("button", name, "screen");
+      button.type = "button";
+      button.title = words;
+      button.setAttribute("aria-label", words);
+      button.addEventListener("click", () => act(this));
+      tools.append(button);
+    }
+    this.stations = make("select", "", "screen");
+    this.stations.setAttribute("aria-label", "Stations that are shown");
+    const chosen = () => (this.stations.value === "" ? null : Number(this.stations.value));
+    this.stations.addEventListener("change", () => narrow(chosen()));
+    this.where = make("p", "", "small where");
+    this.where.setAttribute("aria-live", "polite");
+    tools.append(this.stations, this.where);
+    return tools;
+  }
+
+  listen() {
+    const node = this.svg.node();
+    node.addEventListener("keydown", (event) => this.pressed(event));
+    node.addEventListener("click", (event) => this.pickNear(event));
+    this.scroll.addEventListener("wheel", (event) => this.turned(event), { capture: true, passive: true });
   }
 
   pressed(event) {
-    if (!(event.key in KEYS)) return;
+    const found = TIMELINE_KEYS.find(({ keys }) => keys.includes(event.key));
+    if (!found || isOther(event)) return;
     event.preventDefault();
-    BUTTONS[KEYS[event.key]][1](this);
+    event.stopPropagation();
+    found.act(this);
   }
 
-  /** Shows a file. */
-  reset(summary, rate) {
-    this.summary = summary;
-    this.rate = rate;
+  /** Where the page itself is scrolled, a wheel zooms only once the picture was chosen. */
+  turned(event) {
+    if (STACKED.matches && document.activeElement !== this.svg.node()) event.stopPropagation();
+  }
+
+  /** Shows a file; where it is the one that was shown, what is in view stays. */
+  reset(summary, rate, isSame) {
+    const kept = isSame && this.whole ? this.scale.domain() : null;
+    Object.assign(this, { summary, rate, whole: null });
+    if (!isSame) Object.assign(this, { chosen: null, station: null });
+    this.stations.replaceChildren(...[null, ...summary.stations].map(optionOf));
+    this.stations.value = this.station ?? "";
     this.lay();
-    this.showAll();
+    if (kept) this.showStretch(...kept);
+  }
+
+  /** Shows one station, or all. */
+  narrowTo(station) {
+    this.station = station;
+    this.stations.value = station ?? "";
+    this.show();
+  }
+
+  get left() {
+    if (this.width < NARROW) return LEFT.narrow;
+    return this.summary.stations.length > MANY_LANES ? LEFT.many : LEFT.few;
   }
 
   /** Fits the picture to the width of the page. */
   lay() {
-    const width = Math.max(400, this.box.clientWidth);
+    // Where there are many lanes, they have a bar to scroll, which overview and axis have not.
+    const width = Math.max(300, this.scroll.clientWidth);
+    for (const part of [this.overview.svg, this.axis]) part.style("width", `${this.scroll.clientWidth}px`);
     if (width === this.width && this.whole) return;
+    const kept = this.whole ? this.scale.domain() : null;
     this.width = width;
-    this.whole = scaleLinear().range([LEFT, width - RIGHT]);
+    this.whole = scaleLinear().range([this.left, width - RIGHT]);
     this.setWhole();
-    this.show();
+    if (kept) this.showStretch(...kept);
+    else this.svg.call(this.zoom.transform, zoomIdentity);
   }
 
   setWhole() {
     const { first, past } = this.summary;
     this.whole.domain([first, Math.max(past, first + 1)]);
-    const most = Math.max(1, (past - first) / LEAST_BITS);
-    const edges = [
-      [LEFT, 0],
-      [this.width - RIGHT, 1],
-    ];
+    const [left, right] = this.whole.range();
     this.zoom = zoom()
-      .scaleExtent([1, most])
+      .touchable(true)
+      .scaleExtent([1, Math.max(1, (past - first) / LEAST_BITS)])
       .translateExtent([
-        [edges[0][0], -Infinity],
-        [edges[1][0], Infinity],
+        [left, -Infinity],
+        [right, Infinity],
       ])
-      .extent(edges)
+      .extent([
+        [left, 0],
+        [right, 1],
+      ])
       .on("zoom", () => this.show());
-    this.svg.call(this.zoom).on("dblclick.zoom", null);
+    // Two fingers zoom, and one moves sideways; up and down it scrolls the page.
+    this.svg.call(this.zoom).on("dblclick.zoom", null).style("touch-action", "pan-y");
   }
 
   get scale() {
@@ -101,7 +171,6 @@ export class Timeline {
   }
 
   showAll() {
-    this.setWhole();
     this.svg.call(this.zoom.transform, zoomIdentity);
   }
 
@@ -112,21 +181,47 @@ export class Timeline {
   /** Moves by a share of what is in view. */
   moveBy(share) {
     const { k } = this.svg.node().__zoom;
-    this.svg.call(this.zoom.translateBy, (-share * (this.width - LEFT - RIGHT)) / k, 0);
+    const [left, right] = this.whole.range();
+    this.svg.call(this.zoom.translateBy, (-share * (right - left)) / k, 0);
   }
 
-  /** Shows a stretch with what is about it. */
-  reveal(first, past) {
-    const room = Math.max(3 * (past - first), LEAST_BITS);
-    const middle = (first + past) / 2;
+  /** Brings a stretch into view, and nothing else. */
+  showStretch(first, past) {
     const [begin, end] = this.whole.domain();
-    const factor = Math.max(1, (end - begin) / room);
-    const wide = this.width - LEFT - RIGHT;
+    const [left, right] = this.whole.range();
+    const wide = Math.min(end - begin, Math.max(LEAST_BITS, past - first));
+    const middle = Math.max(begin + wide / 2, Math.min(end - wide / 2, (first + past) / 2));
     const transform = zoomIdentity
-      .translate(LEFT + wide / 2, 0)
-      .scale(factor)
+      .translate((left + right) / 2, 0)
+      .scale((end - begin) / wide)
       .translate(-this.whole(middle), 0);
     this.svg.call(this.zoom.transform, transform);
+  }
+
+  /** Shows a stretch large, with what is about it. */
+  reveal(first, past) {
+    this.showStretch(first - (past - first), past + (past - first));
+  }
+
+  /** Shows what is chosen large. */
+  open() {
+    if (this.chosen) this.reveal(this.chosen.first, this.chosen.past);
+  }
+
+  /** Marks a stretch as chosen. Moves only where it is out of view, so that the eye keeps its place. */
+  choose(chosen) {
+    this.chosen = { ...chosen, past: chosen.upTo ?? chosen.past };
+    const [from, to] = this.scale.domain();
+    const room = (to - from) * 0.03;
+    const isOut = this.chosen.past < from + room || chosen.first > to - room;
+    if (isOut) this.showAround((chosen.first + this.chosen.past) / 2);
+    else this.show();
+  }
+
+  /** Brings a place into the middle. */
+  showAround(middle) {
+    const [from, to] = this.scale.domain();
+    this.showStretch(middle - (to - from) / 2, middle + (to - from) / 2);
   }
 
   show() {
@@ -135,129 +230,70 @@ export class Timeline {
   }
 
   async contents(first, past) {
-    const bins = Math.floor((this.width - LEFT - RIGHT) / BIN);
-    const found = await this.desk.timeline(first, past, bins);
-    const digits = past - first <= MOST_DIGITS && this.summary.hasBits ? await this.digits(first, past) : [];
-    return { ...found, digits, first, past };
+    const [left, right] = this.whole.range();
+    const lanes = await this.desk.timeline(first, past, Math.floor((right - left) / BIN), this.station);
+    const hasDigits = past - first <= MOST_DIGITS && this.summary.hasBits;
+    return { lanes, digits: hasDigits ? await this.digits(lanes, first, past) : [], first, past };
   }
 
-  /** The bits in view, of each line. */
-  async digits(first, past) {
-    const numbers = this.summary.isOfTwo ? [0, 1] : [0];
+  /** The bits in view, of each line, and what they are. */
+  async digits(lanes, first, past) {
+    const numbers = this.summary.isOfTwo ? [1, 2] : [1];
     const from = Math.max(0, Math.floor(first));
-    const texts = await Promise.all(numbers.map((line) => this.desk.bitsBetween(line, from, Math.ceil(past))));
-    return texts.map((text, at) => ({ name: numbers.length > 1 ? `bits on line ${at + 1}` : "bits", text, from }));
+    const texts = await Promise.all(numbers.map((line) => this.desk.bitsBetween(line - 1, from, Math.ceil(past))));
+    const ofFrames = ({ isSign, id }) => !isSign && id !== "damage";
+    const marks = lanes.flatMap(({ tracks }) => tracks.filter(ofFrames).flatMap((track) => track.marks ?? []));
+    const structures = await this.desk.structures(marks.map(({ row }) => row));
+    return numbers.map((line, at) => ({
+      name: numbers.length > 1 ? `Bits, line ${line}` : "Bits",
+      ...{ text: texts[at], from, structures: structures.filter((some) => some.line === line) },
+    }));
   }
 
-  draw({ lanes, isExact, digits, first, past }) {
+  draw({ lanes, digits, first, past }) {
     const scale = scaleLinear().domain([first, past]).range(this.whole.range());
-    const rows = lanes.length + digits.length;
-    this.svg.attr("viewBox", `0 0 ${this.width} ${rows * LANE + AXIS}`);
-    this.svg.selectAll("*").remove();
-    lanes.forEach((lane, at) => this.drawLane(lane, at * LANE, scale, isExact));
-    digits.forEach((line, at) => this.drawDigits(line, (lanes.length + at) * LANE, scale));
-    this.drawAxis(rows * LANE, first, past, scale.range());
-    this.describe(lanes, first, past, isExact);
+    const { findings, warnings } = this.summary;
+    const told = { lanes, digits, scale, rate: this.rate, width: this.width, chosen: this.chosen };
+    this.picture.draw({ ...told, stretches: findings.filter(({ sort }) => sort === "rest" || sort === "quiet") });
+    this.picture.drawAxis(this.axis, { ...told, warnings });
+    this.overview.draw(this.whole, this.width, { findings, warnings, rate: this.rate }, [first, past]);
+    this.describe(lanes, first, past);
+    if (this.svg.node().__zoom.k === 1) this.keepForPrint();
   }
 
-  drawAxis(top, first, past, range) {
-    const times = scaleLinear().domain([first / this.rate, past / this.rate]).range(range);
-    this.svg.append("g").attr("transform", `translate(0,${top})`).call(axisBottom(times).ticks(8));
-    this.svg.append("text").attr("x", 0).attr("y", top + 18).text("seconds");
+  /** A report on paper has the whole, whatever is in view. */
+  keepForPrint() {
+    const copies = [this.svg.node(), this.axis.node()].map((node) => node.cloneNode(true));
+    element("timeline-print").replaceChildren(...copies);
   }
 
-  drawLane(lane, top, scale, isExact) {
-    const group = this.svg.append("g").attr("transform", `translate(0,${top})`);
-    group.append("text").attr("x", 0).attr("y", LANE - 8).text(lane.name);
-    group
-      .append("text")
-      .attr("x", this.width)
-      .attr("y", LANE - 8)
-      .attr("text-anchor", "end")
-      .text(grouped(lane.count));
-    group
-      .append("line")
-      .attr("class", "lane-rule")
-      .attr("x1", LEFT)
-      .attr("x2", this.width - RIGHT)
-      .attr("y1", LANE - 3)
-      .attr("y2", LANE - 3);
-    if (isExact) this.drawMarks(group, lane, scale);
-    else this.drawBins(group, lane, scale);
-  }
-
-  drawMarks(group, lane, scale) {
-    const [left, right] = scale.range();
-    const begin = (mark) => Math.max(left, scale(mark.first));
-    group
-      .selectAll("rect")
-      .data(lane.marks)
-      .enter()
-      .append("rect")
-      .attr("class", `mark ${lane.id}`)
-      .attr("x", begin)
-      .attr("width", (mark) => Math.max(2, Math.min(right, scale(mark.past)) - begin(mark) - 0.5))
-      .attr("y", 4)
-      .attr("height", LANE - 8)
-      .on("click", (...words) => this.pick(this.markOf(words).row))
-      .append("title")
-      .text((mark) => mark.text);
-  }
-
-  /** What d3 hands to a listener: first the datum, or first the event. */
-  markOf(words) {
-    return words.find((word) => word && word.row !== undefined);
-  }
-
-  drawBins(group, lane, scale) {
-    const most = lane.counts.reduce((one, other) => Math.max(one, other), 1);
-    const bins = Array.from(lane.counts, (count, bin) => ({ count, bin, row: lane.leaders[bin] }));
-    const height = ({ count }) => 3 + (LANE - 11) * (Math.log1p(count) / Math.log1p(most));
-    group
-      .selectAll("rect")
-      .data(bins.filter(({ count }) => count > 0))
-      .enter()
-      .append("rect")
-      .attr("class", `mark ${lane.id}`)
-      .attr("x", ({ bin }) => scale.range()[0] + bin * BIN)
-      .attr("width", BIN)
-      .attr("y", (bin) => LANE - 4 - height(bin))
-      .attr("height", height)
-      .on("click", (...words) => this.pick(this.markOf(words).row))
-      .append("title")
-      .text(({ count }) => `${lane.name}: ${count}`);
-  }
-
-  drawDigits({ name, text, from }, top, scale) {
-    const group = this.svg.append("g").attr("transform", `translate(0,${top})`);
-    group.append("text").attr("x", 0).attr("y", LANE - 8).text(name);
-    const [left, right] = scale.range();
-    const width = scale(1) - scale(0);
-    const digits = [...text].map((digit, at) => ({ digit, x: scale(from + at + 0.5) }));
-    group
-      .selectAll("text.bits")
-      .data(digits.filter(({ x }) => x >= left && x <= right && width >= 6))
-      .enter()
-      .append("text")
-      .attr("class", "bits")
-      .attr("text-anchor", "middle")
-      .attr("x", ({ x }) => x)
-      .attr("y", LANE - 8)
-      .text(({ digit }) => digit);
+  /** Ticks are narrow: beside one, the nearest of its lane is taken. */
+  pickNear(event) {
+    if (event.target.classList.contains("mark")) return;
+    const { left, top, width } = this.svg.node().getBoundingClientRect();
+    const [x, y] = [event.clientX - left, event.clientY - top].map((pixels) => (pixels * this.width) / width);
+    const nearest = this.picture.nearest(x, y);
+    if (nearest !== null && nearest.away <= NEAR) this.pick(nearest.row);
   }
 
   /** Says in words what is in view. */
-  describe(lanes, first, past, isExact) {
+  describe(lanes, first, past) {
     const stretch = past - first;
-    const counts = lanes.map(({ id, name, marks, counts: bins }) => {
-      const count = isExact ? marks.length : bins.reduce((sum, some) => sum + some, 0);
-      return id ? `${grouped(count)} ${name}` : "";
-    });
     const [from, to] = [first, past].map((place) => seconds(place, this.rate, stretch));
-    const text = `${from} to ${to} s, ${duration(stretch, this.rate)}: bits ${grouped(Math.floor(first))} to ${grouped(
-      Math.ceil(past),
-    )}; ${counts.join(", ")}.`;
-    this.where.textContent = text;
-    this.svg.attr("aria-label", `Timeline, ${text}`);
+    const places = `places ${grouped(Math.floor(first))} to ${grouped(Math.ceil(past))}`;
+    this.where.textContent = `${from} to ${to} s (${duration(stretch, this.rate)})`;
+    this.where.title = places;
+    const counts = lanes.map(({ name, isStation, tracks }) => {
+      const told = tracks.map(({ id, count }) => `${count} ${id}`).join(", ");
+      return `${isStation ? "station " : ""}${name}: ${told}`;
+    });
+    this.svg.attr("aria-label", `Timeline, ${this.where.textContent}, ${places}; ${counts.join("; ")}.`);
   }
+}
+
+/** A station to choose, or all. */
+function optionOf(station) {
+  const option = make("option", station === null ? "all stations" : `station ${station}`);
+  option.value = station ?? "";
+  return option;
 }

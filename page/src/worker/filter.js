@@ -1,14 +1,18 @@
-import { FRAME, KINDS } from "../listing/kinds.js";
+import { FRAME, IDLE, KINDS } from "../listing/kinds.js";
 
 /** How many lines are looked at before the worker may do something else. */
 const STRIDE = 100000;
 
-/** The numbers that a filter asks for, and the text. @typedef {{ text: string, kind: string, station: string, type: string }} Query */
+/**
+ * What is asked for: a text, a kind, numbers as they were typed, and whether idle lines are left out.
+ * @typedef {{ text: string, kind: string, station: string, type: string, isBusy: boolean }} Query
+ */
 
-function demandOf({ text, kind, station, type }) {
+function demandOf({ text, kind, station, type, isBusy }) {
   return {
     text: text.trim().toLowerCase(),
     kind: kind ? KINDS.indexOf(kind) : -1,
+    isBusy: isBusy && !kind,
     station: station === "" ? -1 : Number(station),
     type: type === "" ? -1 : Number(type),
   };
@@ -26,16 +30,26 @@ function agrees(listing, at, demand) {
   return demand.text === "" || listing.text(at).toLowerCase().includes(demand.text);
 }
 
-/** The lines that a query finds, or null where it asks for nothing. */
-export async function found(listing, query) {
+/**
+ * The lines that a query finds, all where it asks for nothing, and how many idle lines it left out.
+ * @param {import("../listing/listing.js").Listing} listing
+ * @param {Query} query
+ * @param {() => boolean} isOver whether another query came
+ * @returns {Promise<{ rows: Uint32Array|null, idle: number }>}
+ */
+export async function found(listing, query, isOver) {
   const demand = demandOf(query);
-  if (!demand.text && demand.kind < 0 && demand.station < 0 && demand.type < 0) return null;
+  const { text, kind, station, type, isBusy } = demand;
+  if (!text && kind < 0 && station < 0 && type < 0 && !isBusy) return { rows: null, idle: 0 };
   const rows = new Uint32Array(listing.length);
-  let count = 0;
-  for (let from = 0; from < listing.length; from += STRIDE) {
+  let [count, idle] = [0, 0];
+  for (let from = 0; from < listing.length && !isOver(); from += STRIDE) {
     const past = Math.min(listing.length, from + STRIDE);
-    for (let at = from; at < past; at++) if (agrees(listing, at, demand)) rows[count++] = at;
+    for (let at = from; at < past; at++) {
+      if (isBusy && listing.kinds[at] === IDLE) idle += 1;
+      else if (agrees(listing, at, demand)) rows[count++] = at;
+    }
     await new Promise((resolve) => setTimeout(resolve));
   }
-  return rows.slice(0, count);
+  return { rows: rows.slice(0, count), idle };
 }

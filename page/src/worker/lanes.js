@@ -1,45 +1,48 @@
-import { ABORT, ANSWERED, DAMAGED, FRAME, LATE, MISSING, OVERLONG, PENDING, SPOILT, STRAY } from "../listing/kinds.js";
+import { ABORT, DAMAGED, FRAME, KINDS, OVERLONG } from "../listing/kinds.js";
+import { ANSWER } from "../port1.js";
 
-/** The lanes of the timeline: what they show, and which lines of a listing. */
-const OUTCOMES = [
-  { id: "answered", name: "answered", kinds: [ANSWERED] },
-  { id: "late", name: "late", kinds: [LATE] },
-  { id: "missing", name: "missing", kinds: [MISSING] },
-  { id: "spoilt", name: "spoilt", kinds: [SPOILT] },
-  { id: "pending", name: "still waiting", kinds: [PENDING] },
-  { id: "stray", name: "strays", kinds: [STRAY] },
-];
-const PIECES = [
-  { id: "damage", name: "damage", kinds: [DAMAGED, OVERLONG, ABORT] },
-  { id: "frame", name: "frames", kinds: [FRAME] },
-];
-
-/** When there are more marks than this to be seen, they are counted in bins. */
+/** When there are more ticks than this in view, in all lanes, they are counted in bins. */
 const MOST_MARKS = 1500;
+
+/** Signs differ in form: so many of a track are drawn one by one. */
+const MOST_SIGNS = 250;
 
 /** Pieces of more bits than this are looked for apart, since they reach far past the place where they begin. */
 const LONG = 20000;
 
-function definitions(isOfTwo) {
-  if (!isOfTwo) return [...OUTCOMES, ...PIECES].map((lane) => ({ ...lane, line: 0 }));
-  const pieces = PIECES.flatMap((lane) => [1, 2].map((line) => ({ ...lane, name: `${lane.name} on line ${line}`, line })));
-  return [...OUTCOMES.map((lane) => ({ ...lane, line: 0 })), ...pieces];
+/** The most stations that have a lane of their own; the others share one. */
+const MOST_STATIONS = 24;
+
+/** How many bins of a track of ticks one of a track of signs is wide. */
+const SIGN_BINS = 5;
+
+/** The tracks of a station: three of ticks, the rest of signs. */
+const TRACKS = ["command", "answer", "other", "late", "missing", "spoilt", "stray", "pending"];
+const [COMMAND, OF_ANSWERS, OTHER] = [0, 1, 2];
+const FIRST_SIGN = 3;
+
+/** Stations, and then the tracks of damage: of a listing of one line, of line 1 and of line 2. */
+const STATIONS = 256;
+const DAMAGE = STATIONS * TRACKS.length;
+
+/** The track of signs of a kind of lines, -1 where it has none; and which kinds are damage. */
+const SIGN_OF_KIND = Int8Array.from(KINDS, (name) => TRACKS.indexOf(name, FIRST_SIGN));
+const IS_DAMAGE = Uint8Array.from(KINDS, (_, kind) => Number([DAMAGED, OVERLONG, ABORT].includes(kind)));
+
+/** The number of the track to which a line of a listing belongs, or -1. */
+function trackOf({ kinds, lines, stations, types }, at) {
+  const kind = kinds[at];
+  if (IS_DAMAGE[kind]) return DAMAGE + lines[at];
+  const own = kind === FRAME ? trackOfFrame(types[at]) : SIGN_OF_KIND[kind];
+  return own < 0 ? -1 : TRACKS.length * stations[at] + own;
 }
 
-/** The lines of a listing that a lane shows, in the order of their first bits. */
-function rowsOf(listing, { kinds, line }) {
-  const wanted = new Uint8Array(256);
-  for (const kind of kinds) wanted[kind] = 1;
-  const found = new Uint32Array(listing.length);
-  let count = 0;
-  for (let at = 0; at < listing.length; at++) {
-    if (wanted[listing.kinds[at]] && (line === 0 || listing.lines[at] === line)) found[count++] = at;
-  }
-  const { firsts } = listing;
-  return found.slice(0, count).sort((one, other) => firsts[one] - firsts[other] || one - other);
+function trackOfFrame(type) {
+  if (type < 0) return OTHER;
+  return type >= ANSWER ? OF_ANSWERS : COMMAND;
 }
 
-/** How many of a lane's lines begin before a place. */
+/** How many of a track's lines begin before a place. */
 function countBefore(firsts, rows, place) {
   let [low, high] = [0, rows.length];
   while (low < high) {
@@ -50,36 +53,131 @@ function countBefore(firsts, rows, place) {
   return low;
 }
 
-/** The timeline of a listing. */
+/** The lines of a listing by the numbers of their tracks, each in the order of its first bits. */
+function sorted(listing) {
+  const counts = new Uint32Array(DAMAGE + 3);
+  for (let at = 0; at < listing.length; at++) {
+    const track = trackOf(listing, at);
+    if (track >= 0) counts[track] += 1;
+  }
+  const tracks = Array.from(counts, (count) => (count > 0 ? new Uint32Array(count) : null));
+  counts.fill(0);
+  for (let at = 0; at < listing.length; at++) {
+    const track = trackOf(listing, at);
+    if (track >= 0) tracks[track][counts[track]++] = at;
+  }
+  for (const rows of tracks) if (rows !== null) putInOrder(listing, rows);
+  return tracks;
+}
+
+/** Lines are in the order in which they were decided, which for most tracks is that of their first bits. */
+function putInOrder({ firsts }, rows) {
+  for (let at = 1; at < rows.length; at++) {
+    if (firsts[rows[at]] < firsts[rows[at - 1]]) {
+      rows.sort((one, other) => firsts[one] - firsts[other] || one - other);
+      return;
+    }
+  }
+}
+
+function joined(listing, parts) {
+  const rows = new Uint32Array(parts.reduce((sum, part) => sum + part.length, 0));
+  parts.reduce((at, part) => (rows.set(part, at), at + part.length), 0);
+  putInOrder(listing, rows);
+  return rows;
+}
+
+/** The tracks of one station, or of several together. */
+function tracksOf(listing, tracks, stations) {
+  return TRACKS.flatMap((id, number) => {
+    const parts = stations.map((station) => tracks[TRACKS.length * station + number]).filter((part) => part !== null);
+    if (parts.length === 0) return [];
+    return [{ id, isSign: number >= FIRST_SIGN, rows: parts.length === 1 ? parts[0] : joined(listing, parts) }];
+  });
+}
+
+/** How many lines a station has. */
+function sizeOfStation(tracks, station) {
+  const own = tracks.slice(TRACKS.length * station, TRACKS.length * (station + 1));
+  return own.reduce((sum, rows) => sum + (rows?.length ?? 0), 0);
+}
+
+/** Stations by the lanes that they have: those with most lines each their own, the rest together. */
+function shared(stations, sizeOf) {
+  if (stations.length <= MOST_STATIONS) return stations.map((station) => [station]);
+  const kept = new Set([...stations].sort((one, other) => sizeOf(other) - sizeOf(one)).slice(0, MOST_STATIONS - 1));
+  const rest = stations.filter((station) => !kept.has(station));
+  return [...stations.filter((station) => kept.has(station)).map((station) => [station]), rest];
+}
+
+/** The timeline of a listing: a lane for each station, and one for the damage of each line. */
 export class Lanes {
-  constructor(listing) {
+  /**
+   * @param {import("../listing/listing.js").Listing} listing
+   * @param {Map<number, object[]>} gaps of stations
+   * @param {Map<number, string>} names what is sent to them
+   */
+  constructor(listing, gaps, names) {
     this.listing = listing;
     this.isOfTwo = listing.length > 0 && listing.lines[0] !== 0;
     this.range = rangeOf(listing);
-    this.lanes = definitions(this.isOfTwo)
-      .map((lane) => ({ ...lane, rows: rowsOf(listing, lane) }))
-      .filter((lane) => lane.rows.length > 0)
-      .map((lane) => ({ ...lane, long: lane.rows.filter((row) => lengthOf(listing, row) > LONG) }));
+    const tracks = sorted(listing);
+    const sizeOf = (station) => sizeOfStation(tracks, station);
+    this.stations = Array.from({ length: STATIONS }, (_, station) => station).filter((station) => sizeOf(station) > 0);
+    const ofStations = shared(this.stations, sizeOf).map((some) => this.ofStations(some, tracks, gaps, names));
+    const ofDamage = [0, 1, 2].flatMap((line) => this.ofDamage(line, tracks[DAMAGE + line]));
+    this.lanes = [...ofStations, ...ofDamage];
   }
 
-  /** What stands from one place to another: in each lane its marks, or, if they are many, how many begin in each bin. */
-  between(first, past, bins) {
+  /** The lane of a station, or of several. */
+  ofStations(stations, tracks, gaps, names) {
+    const [station, ...others] = stations;
+    const name = others.length > 0 ? "others" : String(station);
+    const about = others.length > 0 ? `${stations.length} stations` : names.get(station) ?? "";
+    const own = stations.flatMap((some) => gaps.get(some) ?? []);
+    return this.lane({ id: name, name, about, isStation: true, stations, gaps: own }, tracksOf(this.listing, tracks, stations));
+  }
+
+  /** The lane of the damage of a line, if there is any; line 0 is that of a listing of one line. */
+  ofDamage(line, rows) {
+    const about = line === 0 ? "" : `line ${line}`;
+    const told = { id: `damage ${line}`, name: "Damage", about, isStation: false, stations: [], gaps: [] };
+    return rows === null ? [] : [this.lane(told, [{ id: "damage", isSign: false, rows }])];
+  }
+
+  lane(told, tracks) {
+    const isLong = (row) => this.listing.pasts[row] - this.listing.firsts[row] > LONG;
+    return { ...told, tracks: tracks.map((track) => ({ ...track, long: track.rows.filter(isLong) })) };
+  }
+
+  /**
+   * What stands from one place to another: for each track its marks, or, if they are many, how many begin in each bin.
+   * @param {number|null} station the only one that is wanted, if not all are
+   */
+  between(first, past, bins, station = null) {
+    const lanes = this.lanes.filter((lane) => station === null || !lane.isStation || lane.stations.includes(station));
+    const areFew = this.ticksBetween(lanes, first, past) <= MOST_MARKS;
+    return lanes.map(({ tracks, gaps, stations, ...lane }) => ({
+      ...lane,
+      gaps: gaps.filter((gap) => gap.past > first && gap.first < past),
+      tracks: tracks.map((track) => this.trackBetween(track, first, past, bins, areFew)),
+    }));
+  }
+
+  ticksBetween(lanes, first, past) {
     const { firsts } = this.listing;
-    const ranges = this.lanes.map(({ rows }) => [
-      countBefore(firsts, rows, first - LONG),
-      countBefore(firsts, rows, past),
-    ]);
-    const total = ranges.reduce((sum, [from, to]) => sum + to - from, 0);
-    const isExact = total <= MOST_MARKS;
-    return {
-      isExact,
-      lanes: this.lanes.map(({ id, name, rows, long }, at) => {
-        const content = isExact
-          ? { marks: this.marks(rows.subarray(...ranges[at]), long, first) }
-          : this.bins(rows, first, past, bins);
-        return { id, name, count: rows.length, ...content };
-      }),
-    };
+    const tracks = lanes.flatMap((lane) => lane.tracks.filter(({ isSign }) => !isSign));
+    const within = ({ rows }) => countBefore(firsts, rows, past) - countBefore(firsts, rows, first - LONG);
+    return tracks.reduce((sum, track) => sum + within(track), 0);
+  }
+
+  trackBetween({ id, isSign, rows, long }, first, past, bins, areFew) {
+    const { firsts } = this.listing;
+    const [from, to] = [countBefore(firsts, rows, first - LONG), countBefore(firsts, rows, past)];
+    const told = { id, isSign, count: to - countBefore(firsts, rows, first), total: rows.length };
+    const isExact = isSign ? to - from <= MOST_SIGNS : areFew;
+    if (isExact) return { ...told, marks: this.marks(rows.subarray(from, to), long, first) };
+    return { ...told, ...this.bins(rows, first, past, isSign ? Math.ceil(bins / SIGN_BINS) : bins) };
   }
 
   /** The marks of some lines that reach past a place, and of long ones that began well before it. */
@@ -104,10 +202,6 @@ export class Lanes {
     }
     return { counts, leaders };
   }
-}
-
-function lengthOf(listing, row) {
-  return listing.pasts[row] - listing.firsts[row];
 }
 
 /** The first place of a listing and the one just after its last bit. */

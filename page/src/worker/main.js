@@ -3,9 +3,9 @@ import { serve } from "./rpc.js";
 
 const desk = new Desk((event) => self.postMessage(event));
 
-const NAMES = ["lookAt", "load", "summaryText", "check", "draft", "timeline", "bitsBetween", "choose", "lines"];
+const NAMES = [
+  ...["lookAt", "load", "summaryText", "check", "draft", "timeline", "structures", "bitsBetween", "choose", "lines"],
+  ...["positionOf", "placesOf", "rowFrom", "text"],
+];
 
-serve(
-  self,
-  Object.fromEntries([...NAMES, "positionOf", "placesOf", "text"].map((name) => [name, desk[name].bind(desk)])),
-);
+serve(self, Object.fromEntries(NAMES.map((name) => [name, desk[name].bind(desk)])));

@@ -33,8 +33,8 @@ struct Packing {
 }
 
 impl TextBits {
-    /// Packs the next bits of a text into a block. It ends where the block may have no room for 80 bits more, where
-    /// fewer than sixteen octets of the text follow, or at an octet that is neither a bit nor skipped.
+    /// Packs the next bits of a text into a block, until fewer than 22 octets of room are left, fewer than sixteen
+    /// octets of the text follow, or an octet is neither a bit nor skipped.
     #[inline(always)]
     pub fn pack(text: &[u8], block: &mut [u8]) -> TextBlock
         requires some { 1 ≤ length block.old }

@@ -9,12 +9,9 @@ use Rattle.bus_capture.specs.Captures.{form_of_one}
 use Rattle.bus_capture.specs.Internal.Headed.{IsHeaded}
 use Rattle.bus_capture.specs.Internal.Taps.{TapView}
 
-abbrev pub one_tap : {C : Type 0} → CheckView C → TapView (AnalyserState C) Bool ℕ ℕ
+abbrev pub one_tap : {C : Type 0} → CheckView C → TapView (AnalyserState C) Bool ℕ
 one_tap view = record {
   watch = after.one_line view;
   form = form_of_one;
-  heard = λ a. after.heard a;
-  symbols = λ n word. bits_of n word;
-  fits = λ n word. word < 2 ^ n;
   is_body = λ left xs. IsHeaded head_fault PackedAfter left xs;
 }

@@ -16,7 +16,7 @@ abbrev pub octets_taken : {B : Type 0} → Source B → ℕ
 octets_taken (source.Text t) = t.at
 octets_taken (source.Packed p) = 0
 
-module _ {A X N B : Type 0} (t : TapView A X N B) where
+module _ {A X B : Type 0} (t : TapView A X B) where
   -- the octets so far have no fault, and their bits were followed
   pub record IsClean (text : Bool) (start now : Option (List ℕ)) (run : CaptureRun A) (xs : List ℕ) : Type 0 where
     pub clean : (capture t.form text (t.watch.origin run.analyser) xs).fault ≡ None

@@ -17,7 +17,7 @@ abbrev pub is_text : {B : Type 0} → Source B → Bool
 is_text (source.Text t) = true
 is_text (source.Packed p) = false
 
-module _ {A X N B : Type 0} (t : TapView A X N B) where
+module _ {A X B : Type 0} (t : TapView A X B) where
   -- these octets were read: the front of a head, or a head and others after it
   abbrev pub IsRead : List ℕ → Option B → List ℕ → Type 0
   IsRead head None xs = (head ≡ xs) × (length xs < 16)

@@ -6,13 +6,10 @@ use Rattle.bus_talk.specs.Seen.{SeenReport, seen}
 use Rattle.bus_watch.specs.Watch.{Watch}
 use Rattle.bus_capture.specs.Captures.{Form}
 
--- an analyser A that takes X, and its captures; words N of up to 48 X, and readers B of the octets after a packed head
-pub record TapView (A X N B : Type 0) : Type 1 where
+-- an analyser A that takes X, and its captures; readers B of the octets after a packed head
+pub record TapView (A X B : Type 0) : Type 1 where
   pub watch : Watch A X
   pub form : Form X
-  pub heard : A → List SeenReport  -- what is seen at the last X taken
-  pub symbols : ℕ → N → List X  -- the first so many of a word
-  pub fits : ℕ → N → Type 0  -- a word has no others
   pub is_body : B → List ℕ → Type 0  -- these octets are a good head and those after it that were taken
 
 -- what is seen of more goes on
@@ -33,10 +30,8 @@ pub record FormLaws {X : Type 0} (f : Form X) : Type 0 where
   pub silent : (origin longest : ℕ) → f.hears origin longest [] ≡ []
   pub seen : (d : List FrameType) (longest origin : ℕ) (b more : List X) → SeenOn f d longest origin b more
 
-pub record TapLaws {A X N B : Type 0} (t : TapView A X N B) : Type 0 where
+pub record TapLaws {A X B : Type 0} (t : TapView A X B) : Type 0 where
   pub form : FormLaws t.form
   pub hears : t.watch.hears ≡ t.form.hears
   pub placed : (a : A) (b : List X) → t.watch.is_after a b → t.watch.place a ≡ t.watch.origin a + length b
-  pub long : (n : ℕ) (word : N) → length (t.symbols n word) ≡ n
-  pub front : (n count : ℕ) (word : N) → n ≤ count → t.symbols n word ≡ take n (t.symbols count word)
   pub clean : (body : B) (xs : List ℕ) → t.is_body body xs → (t.form.packed xs).fault ≡ None

@@ -10,12 +10,9 @@ use Rattle.bus_capture.specs.Captures.{form_of_two}
 use Rattle.bus_capture.specs.Internal.Headed.{IsHeaded}
 use Rattle.bus_capture.specs.Internal.Taps.{TapView}
 
-abbrev pub pair_tap : {C : Type 0} → CheckView C → TapView (PairState C) (Bool × Bool) PairWords ℕ
+abbrev pub pair_tap : {C : Type 0} → CheckView C → TapView (PairState C) (Bool × Bool) ℕ
 pair_tap view = record {
   watch = pairs.two_lines view;
   form = form_of_two;
-  heard = λ a. pairs.heard_pair a;
-  symbols = λ n word. pairs_of n word.first word.second;
-  fits = λ n word. (word.first < 2 ^ n) × (word.second < 2 ^ n);
   is_body = λ left xs. IsHeaded pair_head_fault PairsAfter left xs;
 }

@@ -44,7 +44,7 @@ within origin b = take (most_places - origin) b
 abbrev pub heard_by : {A X : Type 0} → Watch A X → A → List X → List Heard
 heard_by w a b = w.hears (w.origin a) (longest_of (w.dictionary a)) b
 
-module _ {A X N B : Type 0} (t : TapView A X N B) where
+module _ {A X B : Type 0} (t : TapView A X B) where
   -- the place bounds the counts, and the octets of the lines: at a place there are two reports at most
   pub record IsSound (run : CaptureRun A) : Type 0 where
     pub places : t.watch.place run.analyser ≤ most_places

@@ -98,17 +98,19 @@ impl LineWords {
         ensures sound { IsDecoder self.new (F.octets frame.new) }
     {
         let room = self.longest + 2 - frame.len() as u64;
-        let octets = joined.to_le_bytes();
-        let octets = &octets[..min(count, room) as usize];
-        frame.extend(octets);
+        let stored = min(count, room);
         let mut spent = Spent {
             folded: self.folded,
             ..Spent::zero()
         };
-        for octet in octets {
-            check.fold(*octet, &mut spent);
+        let mut rest = joined;
+        for _ in 0..stored {
+            let octet = (rest & 0xff) as u8;
+            frame.push(octet);
+            check.fold(octet, &mut spent);
+            rest >>= 8;
         }
         self.folded = spent.folded;
-        self.stored += octets.len() as u64;
+        self.stored += stored;
     }
 }

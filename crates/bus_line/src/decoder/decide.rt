@@ -20,30 +20,10 @@ impl LineWords {
     ghost use Rattle.bus_line.specs.Shown.{kind_with, reported};
     ghost use Rattle.bus_line.specs.Report.{moved};
 
-    /// Decides as [`LineWords::decide_here`] does, in a function of its own.
-    #[inline(never)]
-    pub(crate) fn decide<C: Check>(&mut self, check: &C) -> Option<Event>
-        requires within { IsWithin self.old }
-        requires some { self.old.origin < self.old.place }
-        ensures answer { (octets : List ℕ) (b : List Bool) (bit : Bool) →
-            Tracks C.check (state self.old check.now octets) (b ++ bit ∷ []) (current b) →
-            option_map (reported octets) result
-            ≡ option_map (moved self.old.origin) (due_at self.old.longest (b ++ bit ∷ []) (length b)) }
-        ensures after { (octets : List ℕ) (b : List Bool) (bit : Bool) →
-            Tracks C.check (state self.old check.now octets) (b ++ bit ∷ []) (current b) →
-            After C.check (state self.new check.now octets) (b ++ bit ∷ []) }
-        ensures longest { self.new.longest ≡ self.old.longest }
-        ensures origin { self.new.origin ≡ self.old.origin }
-        ensures place { self.new.place ≡ self.old.place }
-        ensures within { IsWithin self.new }
-    {
-        self.decide_here(check)
-    }
-
     /// Finds whether the newest bit ends a flag, or is the seventh or the fifteenth one of a run, and
     /// returns what that decides.
     #[inline(always)]
-    pub(crate) fn decide_here<C: Check>(&mut self, check: &C) -> Option<Event>
+    pub(crate) fn decide<C: Check>(&mut self, check: &C) -> Option<Event>
         requires within { IsWithin self.old }
         requires some { self.old.origin < self.old.place }
         ensures answer { (octets : List ℕ) (b : List Bool) (bit : Bool) →

@@ -1,10 +1,11 @@
 //! Bits that decide nothing, 56 at a time.
 
 ghost use Rattle.std.specs.Prelude.{◌≡◌, ◌≢◌, ◌+◌, ◌-◌, ◌*◌, ◌/◌, ◌%◌, ◌≤◌, ◌<◌, ◌^◌, false, true, length, ℕ};
-ghost use Rattle.std.specs.Prelude.{None, Some, replicate};
+ghost use Rattle.std.specs.Prelude.{replicate};
 ghost use Rattle.bus_bits.specs.Bits.{bits_from};
 ghost use Rattle.bus_line.specs.Internal.Quiet.{AreFlags};
 
+use crate::decoder::piece::Reached;
 use bus_bits::seven_octets_at;
 
 /// 56 ones after eight 0s.
@@ -16,30 +17,27 @@ const SEVEN_FLAGS: u64 = 0x7e7e_7e7e_7e7e_7e00;
 /// Where six ones may begin that end before one of 56 bits after eight others.
 const SIXES: u64 = 0x03ff_ffff_ffff_fffc;
 
-/// Whether six ones end before one of the 56 bits after the eight lowest of the word.
+/// How many of the 56 bits after the eight lowest of the word there are up to the first before which six ones end, and
+/// that one; all of them, if there is none.
 #[inline(always)]
-pub(crate) fn has_six(word: u64) -> bool
-    ensures { result ≡ false → (i : ℕ) → i < 56 → word / 2 ^ (2 + i) % 64 ≢ 63 }
-{
-    let two = word & word >> 1;
-    let four = two & two >> 2;
-    four & two >> 4 & SIXES != 0
-}
-
-/// The first of the 56 bits after the eight lowest of the word before which six ones end.
-#[inline(always)]
-pub(crate) fn first_six(word: u64) -> Option<u64>
-    ensures none { result ≡ None → (i : ℕ) → i < 56 → word / 2 ^ (2 + i) % 64 ≢ 63 }
-    ensures some { (first : ℕ) → result ≡ Some first → (first < 56)
-        × ((i : ℕ) → i < first → word / 2 ^ (2 + i) % 64 ≢ 63) }
+pub(crate) fn up_to_six(word: u64) -> Reached
+    ensures count { (1 ≤ result.count) × (result.count ≤ 56) }
+    ensures before { (i : ℕ) → i + 1 < result.count → word / 2 ^ (2 + i) % 64 ≢ 63 }
+    ensures none { result.is_stop ≡ false → (result.count ≡ 56) × ((i : ℕ) → i < 56 → word / 2 ^ (2 + i) % 64 ≢ 63) }
 {
     let two = word & word >> 1;
     let four = two & two >> 2;
     let six = four & two >> 4 & SIXES;
     if six == 0 {
-        return None;
+        return Reached {
+            count: 56,
+            is_stop: false,
+        };
     }
-    Some(u64::from(six.trailing_zeros()) - 2)
+    Reached {
+        count: six.trailing_zeros() as usize - 1,
+        is_stop: true,
+    }
 }
 
 /// Where ones end that are looked for 56 at a time, and not in the last 63 bits. A call for each row

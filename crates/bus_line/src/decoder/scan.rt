@@ -7,13 +7,11 @@ ghost use Rattle.bus_bits.specs.Bits.{bits_from};
 ghost use Rattle.bus_bits.specs.Limits.{most_places};
 ghost use Rattle.bus_bits.specs.Octet.{bits_of};
 
-use crate::decoder::quiet::{flags_end, has_six, ones_end};
-use crate::decoder::settled::data_in_word;
+use crate::decoder::quiet::{flags_end, ones_end};
 use crate::frame_buffer::FrameBuffer;
 use crate::line_words::{LineWords, NEVER, PLACES};
 use crate::place_limit::PlaceLimit;
 use crate::scanned::Scanned;
-use crate::way::Way;
 use bus_bits::{seven_octets_at, word_at};
 use bus_fcs::Check;
 use std::cmp::min;
@@ -28,12 +26,9 @@ impl LineWords {
     /// Takes bits as [`LineDecoder::scan`](crate::LineDecoder::scan) does, with the octets of the piece and
     /// their check in the caller's hands.
     ///
-    /// [`ByTurns`](crate::ByTurns) is the quicker way on a processor of 64 bits, [`ByWords`](crate::ByWords) what
-    /// firmware needs.
-    ///
     /// Refuses as [`PlaceLimit`], with nothing changed, where the first bit's place would be 2^60.
     #[inline(always)]
-    pub fn scan<W: Way, C: Check, F: FrameBuffer>(
+    pub fn scan<C: Check, F: FrameBuffer>(
         &mut self,
         check: &mut C,
         frame: &mut F,
@@ -60,12 +55,12 @@ impl LineWords {
             return Err(PlaceLimit);
         }
         let count = min((end - at) as u64, room) as usize;
-        Ok(self.scan_all::<W, _, _>(check, frame, octets, at, at + count))
+        Ok(self.scan_all(check, frame, octets, at, at + count))
     }
 
     /// Takes bits up to the first that decides a report, or all, which have places.
     #[inline(always)]
-    fn scan_all<W: Way, C: Check, F: FrameBuffer>(
+    fn scan_all<C: Check, F: FrameBuffer>(
         &mut self,
         check: &mut C,
         frame: &mut F,
@@ -88,7 +83,7 @@ impl LineWords {
     {
         let mut at = from;
         while at < end {
-            let scanned = W::advance(self, check, frame, octets, at, end);
+            let scanned = self.scan_some(check, frame, octets, at, end);
             at += scanned.count;
             if scanned.event.is_some() {
                 return Scanned {
@@ -103,8 +98,8 @@ impl LineWords {
         }
     }
 
-    /// Takes up to 48 bits, or those of them up to the first that may decide a report; and if that decides none, those
-    /// after them that decide nothing, as many as come at once.
+    /// Takes bits up to the first that may decide a report: those of a piece by strides of 56, time fill (ISO/IEC
+    /// 13239, interframe time fill) as far as it goes, else up to 48.
     #[inline(always)]
     pub(crate) fn scan_some<C: Check, F: FrameBuffer>(
         &mut self,
@@ -125,49 +120,92 @@ impl LineWords {
             (state self.new check.new (F.octets frame.new)) }
         ensures sound { IsDecoder self.new (F.octets frame.new) }
     {
-        let word = word_at(octets, from, end);
-        let taken = self.advance(check, frame, word.bits, word.count);
-        let at = from + taken.count as usize;
-        if taken.event.is_some() {
-            return Scanned {
-                count: at - from,
-                event: taken.event,
-            };
+        if self.begins_piece(octets, from, end) {
+            return self.scan_piece(check, frame, octets, from, end);
         }
-        let past = self.pass_quiet(check, frame, octets, at, end);
+        let past = self.pass_fill::<C>(octets, from, end);
+        if past == from {
+            return self.scan_word(check, frame, octets, from, end);
+        }
         Scanned {
             count: past - from,
             event: None,
         }
     }
 
-    /// Takes bits that decide nothing, 56 at a time where 64 are left: those of an open piece without six ones in a
-    /// row, and time fill (ISO/IEC 13239, interframe time fill). Returns where the next bit is.
+    /// Whether 64 bits are left, and the last mark is a flag that no other follows directly.
     #[inline(always)]
-    fn pass_quiet<C: Check, F: FrameBuffer>(
+    fn begins_piece(&self, octets: &[u8], from: usize, end: usize) -> bool
+        requires within { IsWithin self.now }
+        requires some { from ≤ end }
+        requires enough { end ≤ 8 * length octets.now }
+        ensures { result ≡ true → from + 64 ≤ end }
+    {
+        end - from >= 64
+            && self.settles_at <= self.place + 8
+            && !self.is_flag_ahead(seven_octets_at(octets, from))
+    }
+
+    /// Takes up to 48 bits, or those of them up to the first that may decide a report.
+    #[inline(always)]
+    fn scan_word<C: Check, F: FrameBuffer>(
         &mut self,
         check: &mut C,
         frame: &mut F,
         octets: &[u8],
         from: usize,
         end: usize,
-    ) -> usize
+    ) -> Scanned
         requires sound { IsDecoder self.old (F.octets frame.old) }
-        requires some { from ≤ end }
+        requires some { from < end }
         requires enough { end ≤ 8 * length octets.now }
         requires room { self.old.place + (end - from) ≤ most_places }
-        ensures within { (from ≤ result) × (result ≤ end) }
-        ensures tells { Tells C.check (state self.old check.old (F.octets frame.old))
-            (bits_from octets.now from (result - from)) None (state self.new check.new (F.octets frame.new)) }
+        ensures count { (1 ≤ result.count) × (result.count ≤ end - from) }
+        ensures advances { Advances C.check (state self.old check.old (F.octets frame.old))
+            (bits_from octets.now from result.count)
+            (option_map (reported (state self.new check.new (F.octets frame.new)).octets) result.event)
+            (state self.new check.new (F.octets frame.new)) }
         ensures sound { IsDecoder self.new (F.octets frame.new) }
     {
-        if end - from < 64 {
-            return from;
+        let word = word_at(octets, from, end);
+        let taken = self.advance(check, frame, word.bits, word.count);
+        Scanned {
+            count: taken.count as usize,
+            event: taken.event,
         }
-        if self.settles_at <= self.place {
-            return self.pass_data(check, frame, octets, from, end);
+    }
+
+    /// Takes bits of the piece that the last flag opens.
+    #[inline(always)]
+    fn scan_piece<C: Check, F: FrameBuffer>(
+        &mut self,
+        check: &mut C,
+        frame: &mut F,
+        octets: &[u8],
+        from: usize,
+        end: usize,
+    ) -> Scanned
+        requires sound { IsDecoder self.old (F.octets frame.old) }
+        requires some { from + 64 ≤ end }
+        requires enough { end ≤ 8 * length octets.now }
+        requires room { self.old.place + (end - from) ≤ most_places }
+        ensures count { (1 ≤ result.count) × (result.count ≤ end - from) }
+        ensures advances { Advances C.check (state self.old check.old (F.octets frame.old))
+            (bits_from octets.now from result.count)
+            (option_map (reported (state self.new check.new (F.octets frame.new)).octets) result.event)
+            (state self.new check.new (F.octets frame.new)) }
+        ensures sound { IsDecoder self.new (F.octets frame.new) }
+    {
+        let reached = self.reach(check, frame, octets, from, end);
+        let event = if reached.is_stop {
+            self.decide(check)
+        } else {
+            None
+        };
+        Scanned {
+            count: reached.count,
+            event,
         }
-        self.pass_fill::<C>(octets, from, end)
     }
 
     /// Takes time fill, 56 bits at a time where 64 are left: ones where no piece is open, or flags after a flag.
@@ -190,64 +228,6 @@ impl LineWords {
             return self.pass_flags(octets, from, end);
         }
         from
-    }
-
-    /// Takes bits of the open piece, 56 at a time, before the first of which six ones end.
-    #[inline(always)]
-    fn pass_data<C: Check, F: FrameBuffer>(
-        &mut self,
-        check: &mut C,
-        frame: &mut F,
-        octets: &[u8],
-        from: usize,
-        end: usize,
-    ) -> usize
-        requires sound { IsDecoder self.old (F.octets frame.old) }
-        requires open { self.old.settles_at ≤ self.old.place }
-        requires some { from ≤ end }
-        requires enough { end ≤ 8 * length octets.now }
-        requires room { self.old.place + (end - from) ≤ most_places }
-        ensures within { (from ≤ result) × (result ≤ end) }
-        ensures tells { Tells C.check (state self.old check.old (F.octets frame.old))
-            (bits_from octets.now from (result - from)) None (state self.new check.new (F.octets frame.new)) }
-        ensures sound { IsDecoder self.new (F.octets frame.new) }
-    {
-        let mut at = from;
-        while end - at >= 64 {
-            if !self.take_data(check, frame, seven_octets_at(octets, at)) {
-                break;
-            }
-            at += 56;
-        }
-        at
-    }
-
-    /// Takes the lowest 56 of these bits, which go on with the open piece, if six ones end before none of them.
-    #[inline(always)]
-    fn take_data<C: Check, F: FrameBuffer>(
-        &mut self,
-        check: &mut C,
-        frame: &mut F,
-        bits: u64,
-    ) -> bool
-        requires sound { IsDecoder self.old (F.octets frame.old) }
-        requires open { self.old.settles_at ≤ self.old.place }
-        requires room { self.old.place + 56 ≤ most_places }
-        ensures none { result ≡ false → (self.new ≡ self.old) × (check.new ≡ check.old) × (frame.new ≡ frame.old) }
-        ensures tells { result ≡ true → Tells C.check (state self.old check.old (F.octets frame.old)) (bits_of 56 bits)
-            None (state self.new check.new (F.octets frame.new)) }
-        ensures open { self.new.settles_at ≤ self.new.place }
-        ensures sound { IsDecoder self.new (F.octets frame.new) }
-    {
-        let behind = self.last_bits >> 8 | bits << 8;
-        if has_six(behind) {
-            return false;
-        }
-        let settled = data_in_word(self.last_bits | bits << 16, 56);
-        self.place += 56;
-        self.last_bits = behind >> 48;
-        self.append(check, frame, settled);
-        true
     }
 
     /// Takes ones of an idle line, where no piece is open, 56 at a time.

@@ -37,18 +37,6 @@ fn inserted_zeros(word: u64) -> u64
     five >> 3 & !(word >> 8)
 }
 
-/// The data that [`data_in_word`] finds, quicker where there are many bits of a capture.
-#[inline(always)]
-pub(crate) fn data_in_turn(word: u64, count: u64) -> Data
-    requires { count ≤ 56 }
-    ensures value { bits_of result.count result.bits ≡ data_in_word word count }
-    ensures few { result.count ≤ count }
-    ensures small { result.bits < 2 ^ result.count }
-{
-    let all = (1 << count) - 1;
-    destuffed_turn(word >> 8, inserted_zeros(word) & all, count)
-}
-
 /// So many bits without those marked as inserted, the first lowest.
 #[inline(always)]
 fn destuffed(bits: u64, inserted: u64, count: u64) -> Data
@@ -65,29 +53,5 @@ fn destuffed(bits: u64, inserted: u64, count: u64) -> Data
     Data {
         bits: left.bits,
         count: left.count,
-    }
-}
-
-/// So many bits without those marked as inserted, as [`destuffed`] gives them. Four are taken out without a branch,
-/// since the line's data decide how many there are, and these are counted by themselves.
-#[inline(always)]
-fn destuffed_turn(bits: u64, inserted: u64, count: u64) -> Data
-    requires few { count ≤ 56 }
-    requires marked { inserted < 2 ^ count }
-    ensures value { bits_of result.count result.bits ≡ kept bits inserted count }
-    ensures few { result.count ≤ count }
-    ensures small { result.bits < 2 ^ result.count }
-{
-    let mut left = Marked::of(bits, inserted, count)
-        .without_lowest()
-        .without_lowest()
-        .without_lowest()
-        .without_lowest();
-    while left.marks != 0 {
-        left = left.without_lowest();
-    }
-    Data {
-        bits: left.bits,
-        count: count - u64::from(inserted.count_ones()),
     }
 }

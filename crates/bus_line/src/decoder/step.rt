@@ -1,6 +1,6 @@
 //! Several bits more.
 
-ghost use Rattle.std.specs.Prelude.{◌≡◌, ◌+◌, ◌-◌, ◌/◌, ◌%◌, ◌≤◌, ◌<◌, ◌^◌, ◌↔◌, List, Bool, ◌++◌, IsErr};
+ghost use Rattle.std.specs.Prelude.{◌≡◌, ◌+◌, ◌-◌, ◌*◌, ◌/◌, ◌%◌, ◌≤◌, ◌<◌, ◌^◌, ◌↔◌, List, Bool, ◌++◌, IsErr};
 ghost use Rattle.std.specs.Prelude.{IfOk, OnErr, ℕ, length, take};
 ghost use Rattle.std.specs.Option.{option_map};
 ghost use Rattle.bus_bits.specs.Limits.{most_places};
@@ -16,6 +16,22 @@ use crate::place_limit::PlaceLimit;
 use crate::taken::Taken;
 use bus_fcs::Check;
 use std::cmp::min;
+
+/// The last sixteen of so many bits after sixteen others, the oldest lowest.
+#[inline(always)]
+fn newest(last_bits: u64, bits: u64, count: u64) -> u64
+    requires { count ≤ 56 }
+    ensures { last_bits < 65536 → result ≡ (last_bits + bits % 2 ^ 56 * 65536) / 2 ^ count % 65536 }
+{
+    let front = last_bits | bits << 16;
+    let behind = last_bits >> 8 | bits << 8;
+    let newest = if count < 8 {
+        front >> count
+    } else {
+        behind >> (count - 8)
+    };
+    newest & 0xffff
+}
 
 impl LineWords {
     ghost use Rattle.bus_line.specs.Words.{IsDecoder, IsWithin, state};
@@ -60,7 +76,7 @@ impl LineWords {
 
     /// Takes the bits up to the first that may decide a report, or all of them, and answers what the
     /// last of them decides. Flags right after a flag decide nothing, and are taken together.
-    #[inline(always)]
+    #[inline(never)]
     pub(crate) fn advance<C: Check, F: FrameBuffer>(
         &mut self,
         check: &mut C,
@@ -91,30 +107,6 @@ impl LineWords {
         }
     }
 
-    /// Takes bits as [`LineWords::advance`] does, in a function of its own.
-    #[inline(never)]
-    pub(crate) fn advance_apart<C: Check, F: FrameBuffer>(
-        &mut self,
-        check: &mut C,
-        frame: &mut F,
-        bits: u64,
-        count: u32,
-    ) -> Taken
-        requires sound { IsDecoder self.old (F.octets frame.old) }
-        requires word { IsWordOf count bits }
-        requires room { self.old.place + count ≤ most_places }
-        ensures some { 1 ≤ result.count }
-        ensures count { result.count ≤ count }
-        ensures stops { (b : List Bool) → After C.check (state self.old check.old (F.octets frame.old)) b →
-            TakesTo b (bits_of count bits) result.count }
-        ensures advances { Advances C.check (state self.old check.old (F.octets frame.old)) (bits_of result.count bits)
-            (option_map (reported (state self.new check.new (F.octets frame.new)).octets) result.event)
-            (state self.new check.new (F.octets frame.new)) }
-        ensures sound { IsDecoder self.new (F.octets frame.new) }
-    {
-        self.advance(check, frame, bits, count)
-    }
-
     /// Takes the bits up to the first after exactly six ones or exactly fourteen, or all of them, and answers
     /// what the last of them decides.
     #[inline(always)]
@@ -137,58 +129,43 @@ impl LineWords {
             (state self.new check.new (F.octets frame.new)) }
         ensures sound { IsDecoder self.new (F.octets frame.new) }
     {
-        let word = self.last_bits | bits << 16;
-        let calm = calm_bits(word, count);
+        let calm = calm_bits(self.last_bits | bits << 16, count);
+        let taken = min(calm + 1, count);
+        self.consume(check, frame, bits, u64::from(taken));
         if calm == count {
-            self.shift(word, u64::from(count));
-            self.settle(check, frame, word, u64::from(count));
             return Taken { count, event: None };
         }
-        let taken = calm + 1;
-        self.shift(word, u64::from(taken));
-        self.settle(check, frame, word, u64::from(taken));
         Taken {
             count: taken,
             event: self.decide(check),
         }
     }
 
-    /// Moves so many bits of the word into the last ones.
+    /// Takes so many of these bits, the lowest, of which none but the last may decide a report, and settles those that
+    /// eight later ones have followed.
     #[inline(always)]
-    fn shift(&mut self, word: u64, count: u64)
-        requires within { IsWithin self.old }
-        requires few { count ≤ 48 }
-        requires room { self.old.place + count ≤ most_places }
-        ensures value { self.new
-            ≡ record self.old { place = self.old.place + count; last_bits = word / 2 ^ count % 65536 } }
-        ensures within { IsWithin self.new }
-    {
-        self.place += count;
-        self.last_bits = word >> count & 0xffff;
-    }
-
-    /// Settles the bits that eight later ones have followed: where a piece has begun, those that are
-    /// no inserted 0 (ISO/IEC 13239, transparency) are data.
-    #[inline(always)]
-    fn settle<C: Check, F: FrameBuffer>(
+    pub(crate) fn consume<C: Check, F: FrameBuffer>(
         &mut self,
         check: &mut C,
         frame: &mut F,
-        word: u64,
+        bits: u64,
         count: u64,
     )
         requires sound { IsDecoder self.old (F.octets frame.old) }
-        requires few { count ≤ 48 }
-        requires room { self.old.assembled + count ≤ self.old.place - self.old.origin }
-        ensures tracks { (b bits : List Bool) → IsWord word b bits → count ≤ length bits →
-            IsCalm b bits (count - 1) →
-            LagsBy C.check (state self.old check.old (F.octets frame.old)) b (take count bits) →
-            Tracks C.check (state self.new check.new (F.octets frame.new)) (b ++ take count bits) (current b) }
+        requires some { 1 ≤ count }
+        requires few { count ≤ 56 }
+        requires room { self.old.place + count ≤ most_places }
+        ensures tracks { (b : List Bool) → After C.check (state self.old check.old (F.octets frame.old)) b →
+            IsCalm b (bits_of count bits) (count - 1) →
+            Tracks C.check (state self.new check.new (F.octets frame.new)) (b ++ bits_of count bits) (current b) }
         ensures longest { self.new.longest ≡ self.old.longest }
         ensures origin { self.new.origin ≡ self.old.origin }
-        ensures place { self.new.place ≡ self.old.place }
+        ensures place { self.new.place ≡ self.old.place + count }
         ensures sound { IsDecoder self.new (F.octets frame.new) }
     {
+        let word = self.last_bits | bits << 16;
+        self.place += count;
+        self.last_bits = newest(self.last_bits, bits, count);
         if self.place <= self.settles_at {
             return;
         }

@@ -5,10 +5,9 @@ use super::bits_of;
 use super::random_lists::{state_of, traffic};
 use super::text::push_report;
 use crate::expect::{holds, same};
-use arrayvec::ArrayVec;
 use bus_bits::bits_octet;
-use bus_fcs::{Check, OctetCheck};
-use bus_line::{ByWords, LineDecoder, LineWords, PlaceLimit, Scanned};
+use bus_fcs::OctetCheck;
+use bus_line::{LineDecoder, PlaceLimit, Scanned};
 use std::alloc::Global;
 use std::process::Abort;
 
@@ -18,82 +17,22 @@ const LONGEST: [usize; 6] = [3, 4, 5, 9, 40, 256];
 /// How many bits a call gets at most.
 const SIZES: [usize; 12] = [1, 7, 8, 9, 48, 55, 56, 63, 64, 65, 120, 100_000];
 
-/// A decoder, and the same in its parts, as firmware keeps it, which scans without turns.
-#[derive(Drop)]
-struct Both {
-    decoder: LineDecoder<OctetCheck>,
-    words: LineWords,
-    check: OctetCheck,
-    frame: ArrayVec<u8, 258>,
-}
+type Decoder = LineDecoder<OctetCheck>;
 
-impl Both {
-    fn new(rt: &impl Abort, longest: usize, origin: u64) -> Self {
-        Both {
-            decoder: LineDecoder::new(longest, origin).expect(rt, "a decoder"),
-            words: LineWords::new(longest, origin).expect(rt, "words"),
-            check: OctetCheck::fresh(),
-            frame: ArrayVec::new(),
-        }
-    }
-
-    /// Scans bits with either, which are to answer the same.
-    fn scan(
-        &mut self,
-        rt: &impl Abort,
-        octets: &[u8],
-        at: usize,
-        end: usize,
-    ) -> Result<Scanned, PlaceLimit> {
-        assert!(rt;
-            at < end && end / 8 <= octets.len() && octets.len() < 10_000,
-            "bits of octets"
-        );
-        assert!(rt; end <= 8 * octets.len(), "bits of octets");
-        let answer = self.decoder.scan(octets, at, end);
-        assert!(rt; self.words.are_sound(), "words of a decoder");
-        let room = self.words.longest + 2;
-        assert!(rt; self.frame.len() as u64 <= room, "octets of a decoder");
-        let other = self
-            .words
-            .scan::<ByWords, _, _>(&mut self.check, &mut self.frame, octets, at, end);
-        same(rt, answer, other, "without turns");
-        answer
-    }
-
-    /// Both say the same of themselves.
-    fn check_alike(&self, rt: &impl Abort) {
-        same(
-            rt,
-            self.frame.as_slice(),
-            self.decoder.octets(),
-            "without turns",
-        );
-        assert!(rt; self.words.are_sound(), "words of a decoder");
-        same(
-            rt,
-            self.words.begun(),
-            self.decoder.begun(),
-            "without turns",
-        );
-        let spent = self.decoder.spent();
-        same(
-            rt,
-            [
-                self.words.place,
-                self.words.assembled,
-                self.words.stored,
-                self.words.folded,
-            ],
-            [
-                self.decoder.place(),
-                spent.assembled,
-                spent.stored,
-                spent.folded,
-            ],
-            "without turns",
-        );
-    }
+/// Scans bits of these octets.
+fn scan(
+    rt: &impl Abort,
+    decoder: &mut Decoder,
+    octets: &[u8],
+    at: usize,
+    end: usize,
+) -> Result<Scanned, PlaceLimit> {
+    assert!(rt;
+        at < end && end / 8 <= octets.len() && octets.len() < 10_000,
+        "bits of octets"
+    );
+    assert!(rt; end <= 8 * octets.len(), "bits of octets");
+    decoder.scan(octets, at, end)
 }
 
 /// The octets of these bits, the first lowest; the last bits that fill none are left out.
@@ -106,12 +45,12 @@ fn octets_of(rt: &impl Abort, alloc: Global, bits: &[bool]) -> Vec<u8> {
     octets
 }
 
-/// Scans up to `size` of the bits of these octets from bit `at` on, and takes as many one by one. Both are to answer
-/// the same and to say the same of themselves. Returns how many it took.
+/// Scans up to `size` of the bits of these octets from bit `at` on, and takes as many one by one. Both answer the same
+/// and say the same of themselves. Returns how many it took.
 fn scan_some(
     rt: &impl Abort,
-    both: &mut Both,
-    taken: &mut LineDecoder<OctetCheck>,
+    scanned: &mut Decoder,
+    taken: &mut Decoder,
     octets: &[u8],
     bits: &[bool],
     at: usize,
@@ -119,9 +58,7 @@ fn scan_some(
 ) -> usize {
     let end = at.wrapping_add(size).min(bits.len());
     assert!(rt; at < end, "bits");
-    let answer = both.scan(rt, octets, at, end).expect(rt, "a place");
-    both.check_alike(rt);
-    let scanned = &both.decoder;
+    let answer = scan(rt, scanned, octets, at, end).expect(rt, "a place");
     let mut last = None;
     for bit in bits[at..end].iter().take(answer.count) {
         holds(rt, last.is_none(), "a report before the last bit");
@@ -147,15 +84,15 @@ fn scan_all(
     longest: usize,
     size: usize,
 ) -> usize {
-    let mut both = Both::new(rt, longest, 3);
-    let mut taken = LineDecoder::<OctetCheck>::new(longest, 3).expect(rt, "a decoder");
+    let mut scanned = Decoder::new(longest, 3).expect(rt, "a decoder");
+    let mut taken = Decoder::new(longest, 3).expect(rt, "a decoder");
     let mut at = from;
     let mut many: usize = 0;
     for _ in bits {
         if at >= bits.len() {
             break;
         }
-        let count = scan_some(rt, &mut both, &mut taken, octets, bits, at, size);
+        let count = scan_some(rt, &mut scanned, &mut taken, octets, bits, at, size);
         if count > 1 {
             many = many.wrapping_add(1);
         }
@@ -288,7 +225,7 @@ fn bits_of_words(rt: &impl Abort, alloc: Global, words: &[(&str, usize)]) -> Vec
 fn push_scanned(
     rt: &impl Abort,
     text: &mut String,
-    both: &mut Both,
+    decoder: &mut Decoder,
     octets: &[u8],
     from: usize,
     end: usize,
@@ -298,13 +235,13 @@ fn push_scanned(
         if at >= end {
             break;
         }
-        let answer = both.scan(rt, octets, at, end).expect(rt, "a place");
+        let answer = scan(rt, decoder, octets, at, end).expect(rt, "a place");
         at = at.wrapping_add(answer.count);
         if let Some(event) = answer.event {
             if !text.is_empty() {
                 text.push_str(", ").expect(rt, "memory");
             }
-            push_report(rt, text, &event.with_octets(both.decoder.octets()));
+            push_report(rt, text, &event.with_octets(decoder.octets()));
         }
     }
     same(rt, at, end, "bits scanned");
@@ -316,10 +253,10 @@ fn scanned_reports(rt: HostRuntime) {
     for row in &SCANNED {
         let bits = bits_of_words(&rt, alloc, row.words);
         let octets = octets_of(&rt, alloc, &bits);
-        let mut both = Both::new(&rt, 40, 0);
+        let mut decoder = Decoder::new(40, 0).expect(&rt, "a decoder");
         let mut text = String::new(alloc);
-        push_scanned(&rt, &mut text, &mut both, &octets, 0, row.first);
-        push_scanned(&rt, &mut text, &mut both, &octets, row.first, bits.len());
+        push_scanned(&rt, &mut text, &mut decoder, &octets, 0, row.first);
+        push_scanned(&rt, &mut text, &mut decoder, &octets, row.first, bits.len());
         same(
             &rt,
             text.as_str(),
@@ -334,8 +271,8 @@ fn scanned_reports(rt: HostRuntime) {
 fn at_the_place_limit(rt: HostRuntime) {
     let far: u64 = 1 << 60;
     for room in [0u64, 1, 7, 8, 47, 48, 63, 64, 65, 127, 128, 129] {
-        let mut both = Both::new(&rt, 3, far.wrapping_sub(room));
-        let answer = both.scan(&rt, &[0; 16], 0, 128);
+        let mut decoder = Decoder::new(3, far.wrapping_sub(room)).expect(&rt, "a decoder");
+        let answer = scan(&rt, &mut decoder, &[0; 16], 0, 128);
         let want = match room {
             0 => Err(PlaceLimit),
             _ => Ok(Scanned {
@@ -348,7 +285,7 @@ fn at_the_place_limit(rt: HostRuntime) {
         let taken = room.min(128);
         same(
             &rt,
-            both.decoder.place(),
+            decoder.place(),
             far.wrapping_sub(room).wrapping_add(taken),
             &case,
         );

@@ -8,7 +8,7 @@ use bus_dictionary::Dictionary;
 use bus_fcs::{Check, OctetCheck};
 use bus_line::{OwnedPiece, Piece, reports_whole};
 use bus_rows::{bits_of_pattern, octets_of};
-use bus_watch::{Finding, Line, PairAnalyser, PairListener, PairSink, Seen, SinkRefused};
+use bus_watch::{Finding, Line, PairAnalyser, PairSink, ReportObserver, Seen, SinkRefused};
 use std::alloc::Global;
 use std::process::Abort;
 
@@ -137,17 +137,17 @@ impl PairSink for Comparing<'_> {
     }
 }
 
-impl PairListener<u64> for Comparing<'_> {
+impl ReportObserver<u64> for Comparing<'_> {
     ghost use Rattle.std.specs.Prelude.{⊤};
 
-    ghost hears = { λ d l x ss m y. ⊤ };
+    ghost observes = { λ d l x ss m y. ⊤ };
 
     ghost has_room = { λ l more. ⊤ };
 
     /// Counts the reports in what it writes to.
-    fn hear(
+    fn observe(
         &mut self,
-        line: Line,
+        line: Option<Line>,
         finding: &Finding,
         octets: &[u8],
         dictionary: &Dictionary,
@@ -155,17 +155,18 @@ impl PairListener<u64> for Comparing<'_> {
     ) {
         *out = out.saturating_add(1);
         let seen = finding.with_octets(octets);
-        self.differs = self.take(line, &seen).is_err() || self.differs;
+        let is_taken = line.is_some_and(|line| self.take(line, &seen).is_ok());
+        self.differs = !is_taken || self.differs;
     }
 
-    ghost hears_none = { λ d l x. tt };
+    ghost observes_none = { λ d l x. tt };
 
-    ghost hears_more = { λ d k l m x y z ss ts a b. tt };
+    ghost observes_more = { λ d k l m x y z ss ts a b. tt };
 
     ghost has_less = { λ l more less h r. tt };
 }
 
-/// Whether the pairs, scanned from octets of either line in two calls, are told as the merged reports in order and
+/// Whether the pairs, scanned from octets of either line in two calls, are shown as the merged reports in order and
 /// nothing else.
 pub(super) fn hears<C: Check>(
     rt: &impl Abort,
@@ -175,7 +176,7 @@ pub(super) fn hears<C: Check>(
     second: &Side,
 ) -> bool {
     let due = merged(rt, alloc, first, second);
-    let mut listener = Comparing {
+    let mut observer = Comparing {
         due: &due,
         taken: 0,
         differs: false,
@@ -190,10 +191,10 @@ pub(super) fn hears<C: Check>(
         let others = octets_from(rt, alloc, &second.bits, from);
         assert!(rt; bits.len() <= 10000 && others.len() <= 10000);
         assert!(rt; count <= 8 * bits.len() && count <= 8 * others.len());
-        let taken = analyser.scan(&bits, &others, count, &mut listener, &mut heard);
+        let taken = analyser.scan(&bits, &others, count, &mut observer, &mut heard);
         same(rt, taken, count, "how many pairs are scanned");
     }
-    !listener.differs && listener.taken == due.len() && heard == due.len() as u64
+    !observer.differs && observer.taken == due.len() && heard == due.len() as u64
 }
 
 /// These bits from one on in octets, the first the lowest.

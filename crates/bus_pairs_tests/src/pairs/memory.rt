@@ -9,7 +9,7 @@ use bus_line::Span;
 use bus_rows::{DAMAGED, ROUND_BITS, ROUNDS, round_octets, round_of, round_pairs};
 use bus_seen::calls_if_memory;
 use bus_watch::{
-    Counts, Finding, Line, NewFault, PairAnalyser, PairEnding, PairListener, PairSink, Seen,
+    Counts, Finding, Line, NewFault, PairAnalyser, PairEnding, PairSink, ReportObserver, Seen,
     SinkRefused,
 };
 use std::alloc::Global;
@@ -139,18 +139,18 @@ fn refused_memory(rt: HostRuntime) {
     }
 }
 
-/// A listener that counts the reports that it hears of, in no memory.
+/// An observer that counts the reports, in no memory.
 #[derive(Drop)]
-pub(super) struct Hearer;
+pub(super) struct Counting;
 
-impl PairListener<u64> for Hearer {
-    ghost hears = { λ d l before seen m behind. Unit {0} };
+impl ReportObserver<u64> for Counting {
+    ghost observes = { λ d l before seen m behind. Unit {0} };
 
     ghost has_room = { λ l more. Unit {0} };
 
-    fn hear(
+    fn observe(
         &mut self,
-        _line: Line,
+        _line: Option<Line>,
         _finding: &Finding,
         _octets: &[u8],
         _dictionary: &Dictionary,
@@ -159,9 +159,9 @@ impl PairListener<u64> for Hearer {
         *count = count.saturating_add(1);
     }
 
-    ghost hears_none = { λ d l count. tt };
+    ghost observes_none = { λ d l count. tt };
 
-    ghost hears_more = { λ d k l m before between behind seen more told further. tt };
+    ghost observes_more = { λ d k l m before between behind seen more told further. tt };
 
     ghost has_less = { λ l more less fewer room. tt };
 }
@@ -247,7 +247,7 @@ fn take_rounds(rt: &impl Abort, analyser: &mut PairAnalyser<OctetCheck>) {
         assert!(rt; sink.refused() == 0);
         analyser.feed(&round.pairs, &mut sink).expect(rt, "room");
         take_round(rt, analyser, &round);
-        let count = analyser.scan(&first, &second, ROUND_BITS, &mut Hearer, &mut heard);
+        let count = analyser.scan(&first, &second, ROUND_BITS, &mut Counting, &mut heard);
         same(rt, count, ROUND_BITS, "how many pairs are scanned");
     }
     let told = sink.first.saturating_add(sink.second);

@@ -1,5 +1,5 @@
 -- One verdict more in a tally.
-use Rattle.std.specs.Prelude.{◌≡◌, ℕ, ◌+◌, ◌==◌, List, Option, Some, None, slice_get, if◌then◌else◌}
+use Rattle.std.specs.Prelude.{◌≡◌, ℕ, ◌+◌, ◌≤◌, ◌==◌, List, Option, Some, None, slice_get, if◌then◌else◌}
 use Rattle.bus_talk.specs.declared.outcome.Outcome.{Outcome}
 use Rattle.bus_talk.specs.declared.outcome.Outcome.TheVariants.{Answered, Late, Missing, Spoilt}
 use Rattle.bus_talk.specs.declared.counts.Counts.{Counts}
@@ -21,3 +21,9 @@ abbrev pub Counted : Option Verdict → List Counts → List Counts → Type 0
 Counted verdict old new =
     (station : ℕ) (c : Counts) → slice_get old station ≡ Some c
     → slice_get new station ≡ Some (counted station verdict c)
+
+-- no count of a station is above this
+abbrev pub IsWithin : ℕ → List Counts → Type 0
+IsWithin most tally =
+    (station : ℕ) (c : Counts) → slice_get tally station ≡ Some c
+    → (c.answered ≤ most) × (c.missing ≤ most) × (c.spoilt ≤ most) × (c.late ≤ most)

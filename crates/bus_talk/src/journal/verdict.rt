@@ -11,7 +11,6 @@ use crate::verdict::Verdict;
 use bus_dictionary::Standing;
 
 impl Journal {
-    ghost use Rattle.bus_talk.specs.Journal.{CanCount};
     ghost use Rattle.bus_talk.specs.Talk.{verdict};
     ghost use Rattle.bus_talk.specs.Internal.Counted.{Counted};
 
@@ -20,8 +19,7 @@ impl Journal {
     /// found last has the verdict then, or none.
     #[inline(always)]
     pub(crate) fn decide(&mut self, right: Option<(Option<Line>, u64, Standing)>)
-        requires counts { CanCount self.old.tally }
-        requires handled { self.old.handled + 2 < 2 ^ 64 }
+        requires { self.old.handled + 2 < 2 ^ 64 }
         ensures value { self.new.last.verdict ≡ option_map (verdict self.old.dictionary right) self.old.waiting }
         ensures tally { Counted self.new.last.verdict self.old.tally self.new.tally }
         ensures kept { self.new
@@ -33,8 +31,8 @@ impl Journal {
             } }
     {
         self.spent.tick_handled();
-        self.spent.tick_handled();
         let Some(pending) = self.waiting else {
+            self.spent.tick_handled();
             self.last.verdict = None;
             return;
         };
@@ -44,13 +42,14 @@ impl Journal {
         self.count(verdict);
     }
 
-    /// Counts a verdict for its station.
+    /// Counts a verdict for its station, and the step.
     #[inline(always)]
     fn count(&mut self, verdict: Verdict)
-        requires { CanCount self.old.tally }
+        requires { self.old.handled + 1 < 2 ^ 64 }
         ensures tally { Counted (Some verdict) self.old.tally self.new.tally }
-        ensures kept { self.new ≡ record self.old { tally = self.new.tally } }
+        ensures kept { self.new ≡ record self.old { tally = self.new.tally; handled = self.old.handled + 1 } }
     {
+        self.spent.tick_handled();
         let station = usize::from(verdict.station);
         self.tally[station] = self.tally[station].counted(verdict.outcome);
     }

@@ -9,7 +9,9 @@ use bus_fcs::{BitCheck, Check, OctetCheck};
 use bus_line::Span;
 use bus_rows::{CALLS, DAMAGED, ROUND_BITS, ROUND_OCTETS, ROUNDS, round_octets, round_of};
 use bus_seen::calls_if_memory;
-use bus_watch::{Analyser, Counts, NewFault, ReportSink, Seen, SinkRefused};
+use bus_watch::{
+    Analyser, Counts, Finding, Line, NewFault, ReportObserver, ReportSink, Seen, SinkRefused,
+};
 use std::alloc::Global;
 use std::process::Abort;
 
@@ -148,15 +150,41 @@ fn take_round(rt: &impl Abort, analyser: &mut Analyser<OctetCheck>, bits: &[bool
     }
 }
 
-fn scan_round(rt: &impl Abort, analyser: &mut Analyser<OctetCheck>, octets: &[u8; ROUND_OCTETS]) {
-    let mut at: usize = 0;
-    for _ in 0..ROUND_BITS {
-        if at >= ROUND_BITS {
-            break;
-        }
-        let taken = analyser.scan(octets, at, ROUND_BITS).expect(rt, "a place");
-        at = at.saturating_add(taken);
+/// An observer that counts the reports, in no memory.
+#[derive(Drop)]
+struct Counting;
+
+impl ReportObserver<u64> for Counting {
+    ghost observes = { λ d l before seen m behind. Unit {0} };
+
+    ghost has_room = { λ l more. Unit {0} };
+
+    fn observe(
+        &mut self,
+        _line: Option<Line>,
+        _finding: &Finding,
+        _octets: &[u8],
+        _dictionary: &Dictionary,
+        count: &mut u64,
+    ) {
+        *count = count.saturating_add(1);
     }
+
+    ghost observes_none = { λ d l count. tt };
+
+    ghost observes_more = { λ d k l m before between behind seen more told further. tt };
+
+    ghost has_less = { λ l more less fewer room. tt };
+}
+
+fn scan_round(
+    rt: &impl Abort,
+    analyser: &mut Analyser<OctetCheck>,
+    octets: &[u8; ROUND_OCTETS],
+    count: &mut u64,
+) {
+    let taken = analyser.scan(octets, 0, ROUND_BITS, &mut Counting, count);
+    same(rt, taken, ROUND_BITS, "the bits that were scanned");
 }
 
 /// Each call that takes many bits, over as many rounds; each is to see all reports of each.
@@ -164,18 +192,25 @@ fn take_rounds(rt: &impl Abort, analyser: &mut Analyser<OctetCheck>) {
     let bits = round_of(ROUND).expect(rt, "a round");
     let octets = round_octets(&bits);
     let mut sink = Counter::new();
+    let mut scanned = 0;
     for _ in 0..ROUNDS {
         push_round(rt, analyser, &bits);
         assert!(rt; sink.refused() == 0);
         analyser.feed(&bits, &mut sink).expect(rt, "room");
         take_round(rt, analyser, &bits);
-        scan_round(rt, analyser, &octets);
+        scan_round(rt, analyser, &octets, &mut scanned);
     }
     same(
         rt,
         sink.count,
         8 * ROUNDS,
         "the reports of the rounds that were fed",
+    );
+    same(
+        rt,
+        scanned,
+        8 * ROUNDS,
+        "the reports of the rounds that were scanned",
     );
     let want = Counts {
         answered: 4 * ROUNDS,

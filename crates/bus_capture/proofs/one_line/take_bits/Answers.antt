@@ -1,55 +1,84 @@
-use Rattle.std.proofs.Common.{◌≡◌, ◌+◌, ◌-◌, ℕ, Bool, List, ◌++◌, ap, ◌∙◌, subst, arith}
-use Rattle.std.proofs.lemmas.Result.{err_from_is_err_and}
+use Rattle.std.proofs.Common.{◌≡◌, ◌+◌, ◌≤◌, ◌^◌, ◌++◌, ℕ, length, subst, arith}
 use Rattle.bus_bits.specs.Bits.{bits_from}
 use Rattle.bus_capture.specs.Internal.OneLine.{one_tap}
-use Rattle.bus_capture.specs.Internal.Watching.{Watches, Halts}
-use Rattle.bus_capture.proofs.OneLineLemmas.{from-next, from-none}
-use Rattle.bus_capture.proofs.WatchingLemmas.{same-self, same-both}
+use Rattle.bus_capture.specs.Internal.Watching.{Watches}
+use Rattle.bus_capture.specs.declared.run.CaptureRun.{CaptureRun}
+use Rattle.bus_watch.specs.After.{AnalyserState}
+use Rattle.bus_text.specs.declared.fault.ToolFault.TheVariants as fault
+use Rattle.bus_bits.proofs.BitLemmas.{length-from}
+use Rattle.bus_capture.proofs.TellingLemmas.{none-cut}
+use Rattle.bus_capture.proofs.OneLineLemmas.{halts-within, limited}
+use Rattle.bus_capture.proofs.ToldLemmas.{told-cut, told-sound, told-watched}
 use Rattle.bus_capture.proofs.one_line.take_bits.Goals as goal
 
-pub loop-at-init : goal.loop-at-init
-loop-at-init g c =
+pub returns-in-Some-clause-taken : goal.returns-in-Some-clause-taken
+returns-in-Some-clause-taken g c = λ start b followed.
     let tap = one_tap g.C.Check.check in
-    record {
-      within = omega arith;
-      sound = c.requires.sound;
-      same = same-self tap c.args.run.now;
-      followed = λ start b followed. subst (Watches tap start (g.W.Write.contents c.args.w.now) c.args.run.now)
-          (from-none b c.args.octets.now) followed;
-    }
-
-pub returns-in_err-at-clause-taken : goal.returns-in_err-at-clause-taken
-returns-in_err-at-clause-taken g c =
-    let failed = err_from_is_err_and c.from_residual.result c.from_residual.ensures.1 in
-    rw (failed.1, failed.2) (λ start b followed.
-    let tap = one_tap g.C.Check.check in
+    let n = c.scan-taken.result in
     let os = c.args.octets.now in
-    let at = c.loop-at.at in
-    let all : at + (c.args.end - at) ≡ c.args.end = omega (arith, c.loop-at.invariant.within) in
-    let whole = from-next b os at (c.args.end - at) ∙ ap (λ (n : ℕ). b ++ bits_from os 0 n) all in
-    subst (λ (z : List Bool). Halts tap start (g.W.Write.contents c.take_some.new.w) c.take_some.new.run z
-    c.in_err-at.field-0.0) whole
-    (c.in_err-at.ensures.taken start (b ++ bits_from os 0 at) (c.loop-at.invariant.followed start b followed)))
+    rw (c.from.ensures)
+    (halts-within tap start (g.W.Write.contents c.scan-taken.new.out) _ b os n c.args.end
+    (fault.Write c.in-Some.cut.sent) (omega (arith, c.scan-taken.ensures.taken))
+    (told-cut tap c.args.run.now _ (bits_from os 0 n) (g.W.Write.contents c.args.w.now)
+    (g.W.Write.contents c.scan-taken.new.out) c.scan-taken.ensures.told
+    c.laws.ensures c.in-Some.cut c.in-Some.is
+    (omega (arith, length-from os 0 n, c.scan-taken.ensures.taken, c.requires.sound.places)) start b followed))
 
-pub loop-at-preserved : goal.loop-at-preserved
-loop-at-preserved g c =
+pub returns-in-Some-clause-sound : goal.returns-in-Some-clause-sound
+returns-in-Some-clause-sound g c =
     let tap = one_tap g.C.Check.check in
+    let n = c.scan-taken.result in
     let os = c.args.octets.now in
-    let at = c.loop-at.at in
-    let n = c.in_ok-at.field-0 in
-    record {
-      within = c.in_ok-at.ensures.within.1;
-      sound = c.take_some.ensures.sound;
-      same = same-both tap c.args.run.now c.loop-at.run c.take_some.new.run c.loop-at.invariant.same
-          c.take_some.ensures.same;
-      followed = λ start b followed.
-          subst (Watches tap start (g.W.Write.contents c.take_some.new.w) c.take_some.new.run) (from-next b os at n)
-          (c.in_ok-at.ensures.taken start (b ++ bits_from os 0 at) (c.loop-at.invariant.followed start b followed));
-    }
+    told-sound tap c.args.run.now _ (bits_from os 0 n) (g.W.Write.contents c.args.w.now)
+    (g.W.Write.contents c.scan-taken.new.out) c.scan-taken.ensures.told
+    (omega (arith, length-from os 0 n, c.scan-taken.ensures.taken, c.requires.sound.places)) c.requires.sound
+
+pub returns-then-taken-end-clause-sound : goal.returns-then-taken-end-clause-sound
+returns-then-taken-end-clause-sound g c =
+    let tap = one_tap g.C.Check.check in
+    let n = c.scan-taken.result in
+    let os = c.args.octets.now in
+    told-sound tap c.args.run.now _ (bits_from os 0 n) (g.W.Write.contents c.args.w.now)
+    (g.W.Write.contents c.scan-taken.new.out) c.scan-taken.ensures.told
+    (omega (arith, length-from os 0 n, c.scan-taken.ensures.taken, c.requires.sound.places)) c.requires.sound
+
+pub returns-then-taken-end-clause-taken : goal.returns-then-taken-end-clause-taken
+returns-then-taken-end-clause-taken g c = λ start b before.
+    let tap = one_tap g.C.Check.check in
+    let n = c.scan-taken.result in
+    let os = c.args.octets.now in
+    let ps = bits_from os 0 n in
+    let told = c.scan-taken.ensures.told in
+    let room : tap.watch.place c.args.run.now.analyser + length ps ≤ 2 ^ 60 =
+    omega (arith, length-from os 0 n, c.scan-taken.ensures.taken, c.requires.sound.places) in
+    let sound = told-sound tap c.args.run.now _ ps (g.W.Write.contents c.args.w.now)
+    (g.W.Write.contents c.scan-taken.new.out) told room c.requires.sound in
+    let followed = told-watched tap c.args.run.now _ ps (g.W.Write.contents c.args.w.now)
+    (g.W.Write.contents c.scan-taken.new.out) told (none-cut _ c.in_default.not-Some) start b before in
+    limited tap c.laws.ensures start (g.W.Write.contents c.scan-taken.new.out) _ b os n c.args.end
+    c.if-taken-end.true
+    (omega (arith, told.sees.place, length-from os 0 n, c.scan-taken.ensures.taken, c.if-taken-end.true)) sound
+    followed
 
 pub returns-clause-taken : goal.returns-clause-taken
 returns-clause-taken g c = λ start b followed.
+    let tap = one_tap g.C.Check.check in
+    let n = c.scan-taken.result in
     let os = c.args.octets.now in
-    let end : c.loop-at.at ≡ c.args.end = omega (arith, c.loop-at.invariant.within, c.loop-at-test.false) in
-    subst (λ (n : ℕ). Watches (one_tap g.C.Check.check) start (g.W.Write.contents c.loop-at.w)
-    c.loop-at.run (b ++ bits_from os 0 n)) end (c.loop-at.invariant.followed start b followed)
+    let all : n ≡ c.args.end = omega (arith, c.scan-taken.ensures.taken, c.if-taken-end.false) in
+    let now : CaptureRun (AnalyserState g.row.C.Denot) =
+    record { analyser = c.scan-taken.new.self; teller = c.scan-taken.new.observer } in
+    subst (λ (k : ℕ). Watches tap start (g.W.Write.contents c.scan-taken.new.out) now
+    (b ++ bits_from os 0 k)) all
+    (told-watched tap c.args.run.now now (bits_from os 0 n) (g.W.Write.contents c.args.w.now)
+    (g.W.Write.contents c.scan-taken.new.out) c.scan-taken.ensures.told
+    (none-cut _ c.in_default.not-Some) start b followed)
+
+pub returns-clause-sound : goal.returns-clause-sound
+returns-clause-sound g c =
+    let tap = one_tap g.C.Check.check in
+    let n = c.scan-taken.result in
+    let os = c.args.octets.now in
+    told-sound tap c.args.run.now _ (bits_from os 0 n) (g.W.Write.contents c.args.w.now)
+    (g.W.Write.contents c.scan-taken.new.out) c.scan-taken.ensures.told
+    (omega (arith, length-from os 0 n, c.scan-taken.ensures.taken, c.requires.sound.places)) c.requires.sound

@@ -12,9 +12,9 @@ returns-in-Ok-clause-taken g c =
     let b = (tap.form.packed xs).bits in
     let given = c.in-Ok.ensures xs followed.read in
     let fits = followed-fits tap c.laws.ensures start _ c.args.run.now b c.requires followed.bits in
-    let low : tap.watch.origin c.take_symbols.new.self.analyser ≤ 2 ^ 60 =
+    let low : tap.watch.origin c.take_symbols.new.run.analyser ≤ 2 ^ 60 =
     omega (arith, fits, c.take_symbols.ensures.same.origin) in
-    octets-taken tap start _ c.take_symbols.new.self (xs ++ c.args.octet ∷ []) c.take_octet.new.body
+    octets-taken tap start _ c.take_symbols.new.run (xs ++ c.args.octet ∷ []) c.take_octet.new.body
     (b ++ c.as_slice.result.now) c.take_symbols.result low
     given.0 (given.1 ∙ ap (λ (x : List g.row.T-Symbol.Denot). b ++ x) (sym c.as_slice.ensures))
     (c.take_symbols.ensures.taken start b followed.bits)

@@ -19,9 +19,9 @@ returns-in-Ok-Some-clause-taken g c =
     × ((tap.form.text more).bits ≡ b ++ option_to_list o)) c.in-Ok-Some.field-0-is
     (c.in-Ok-Some.ensures xs f.clean) in
     let fits = followed-fits tap c.laws.ensures start _ c.args.run.now b c.requires f.bits in
-    let low : tap.watch.origin c.take_symbol.new.self.analyser ≤ 2 ^ 60 =
+    let low : tap.watch.origin c.take_symbol.new.run.analyser ≤ 2 ^ 60 =
     omega (arith, fits, c.take_symbol.ensures.same.origin) in
-    mark-taken tap start _ c.take_symbol.new.self more (b ++ c.in-Ok-Some.symbol ∷ []) c.take_symbol.result low given.0
+    mark-taken tap start _ c.take_symbol.new.run more (b ++ c.in-Ok-Some.symbol ∷ []) c.take_symbol.result low given.0
     given.1 (c.take_symbol.ensures.taken start b f.bits)
 
 pub returns-in-Ok-None-clause-taken : goal.returns-in-Ok-None-clause-taken

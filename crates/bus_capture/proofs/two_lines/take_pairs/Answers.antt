@@ -71,7 +71,7 @@ returns-clause-taken g c = λ start b followed.
     let ys = c.args.second.now in
     let all : n ≡ c.args.count = omega (arith, c.scan-taken.ensures.taken, c.if-taken-count.false) in
     let now : CaptureRun (PairState g.row.C.Denot) =
-    record { analyser = c.scan-taken.new.self; teller = c.scan-taken.new.listener } in
+    record { analyser = c.scan-taken.new.self; teller = c.scan-taken.new.observer } in
     subst (λ (k : ℕ). Watches tap start (g.W.Write.contents c.scan-taken.new.out) now
     (b ++ zip (bits_from os 0 k) (bits_from ys 0 k))) all
     (told-watched tap c.args.run.now now (zip (bits_from os 0 n) (bits_from ys 0 n)) (g.W.Write.contents c.args.w.now)

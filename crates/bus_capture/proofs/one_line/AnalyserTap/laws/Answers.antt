@@ -1,5 +1,4 @@
-use Rattle.std.proofs.Common.{[], ◌∷◌, ◌++◌, ◌+◌, length, refl, sym}
-use Rattle.bus_bits.proofs.OctetLemmas.{length-bits, bits-front}
+use Rattle.std.proofs.Common.{[], ◌∷◌, ◌++◌, ◌+◌, length, refl}
 use Rattle.bus_bits.specs.Packed.{PackedAfter, packed_capture, packed_body, head_fault}
 use Rattle.std.specs.Option.{option_to_list}
 use Rattle.bus_line.specs.Due.{placed}
@@ -31,8 +30,6 @@ returns g c =
       };
       hears = refl;
       placed = λ a b h. h.decoder.has_taken.place;
-      long = length-bits;
-      front = λ n count word le. sym (bits-front n count word le);
       clean = head-clean packed_capture packed_body head_fault PackedAfter
           (λ head zs long. (c.packed_is_head_and_body.ensures.headed head zs long).0) (λ n xs left h. h.clean);
     }

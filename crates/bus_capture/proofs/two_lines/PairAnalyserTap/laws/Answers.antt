@@ -1,5 +1,4 @@
 use Rattle.std.proofs.Common.{[], ◌∷◌, ◌++◌, ◌+◌, length, refl, sym}
-use Rattle.bus_watch.proofs.PairLemmas.{length-pairs, pairs-front}
 use Rattle.bus_bits.specs.Packed.{PairsAfter, packed_pair_capture, pair_body, pair_head_fault}
 use Rattle.bus_talk.specs.Heard.{merged}
 use Rattle.bus_talk.specs.Seen.{all_seen_at}
@@ -29,8 +28,6 @@ returns g c =
       };
       hears = refl;
       placed = λ a b h. placed-pairs a.first.place a.first.origin b h.first.has_taken.place;
-      long = λ n word. length-pairs n word.first word.second;
-      front = λ n count word le. sym (pairs-front n count word.first word.second le);
       clean = head-clean packed_pair_capture pair_body pair_head_fault PairsAfter
           (λ head zs long. (c.pairs_are_head_and_body.ensures.headed head zs long).0) (λ n xs left h. h.clean);
     }

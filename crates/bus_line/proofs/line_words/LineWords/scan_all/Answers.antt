@@ -17,8 +17,8 @@ loop-at-init g c = record {
   sound = c.requires.sound;
 }
 
-pub advance-scanned-requires-clause-room : goal.advance-scanned-requires-clause-room
-advance-scanned-requires-clause-room g c =
+pub scan_some-scanned-requires-clause-room : goal.scan_some-scanned-requires-clause-room
+scan_some-scanned-requires-clause-room g c =
     let now = c.loop-at.invariant in
     omega (
       arith,
@@ -31,7 +31,7 @@ advance-scanned-requires-clause-room g c =
 pub returns-then-is_some-clause-advances : goal.returns-then-is_some-clause-advances
 returns-then-is_some-clause-advances g c =
     let now = c.loop-at.invariant in
-    let scanned = c.advance-scanned in
+    let scanned = c.scan_some-scanned in
     let n = scanned.result.count in
     let count : c.loop-at.at + n - c.args.from ≡ c.loop-at.at - c.args.from + n = omega (arith, now.begun) in
     advances-on g.C.Check.check c.args.octets.now c.args.from c.loop-at.at now.begun now.tells
@@ -40,10 +40,10 @@ returns-then-is_some-clause-advances g c =
 pub loop-at-preserved : goal.loop-at-preserved
 loop-at-preserved g c =
     let now = c.loop-at.invariant in
-    let scanned = c.advance-scanned in
+    let scanned = c.scan_some-scanned in
     let n = scanned.result.count in
     let old = state c.loop-at.self c.loop-at.check (g.F.FrameBuffer.octets c.loop-at.frame) in
-    let new = state scanned.new.words scanned.new.check (g.F.FrameBuffer.octets scanned.new.frame) in
+    let new = state scanned.new.self scanned.new.check (g.F.FrameBuffer.octets scanned.new.frame) in
     let none : scanned.result.event ≡ None =
     is-none scanned.result.event (sym c.is_some.ensures ∙ c.if-is_some.false) in
     let told = ap (option_map (reported new.octets)) none in

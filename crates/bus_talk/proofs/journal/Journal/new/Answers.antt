@@ -1,6 +1,9 @@
-use Rattle.std.proofs.Common.{refl, sym, ◌-◌}
+use Rattle.std.proofs.Common.{refl, sym, ◌-◌, arith}
 use Rattle.std.proofs.Math.Seq.{drop-nil}
+use Rattle.bus_talk.specs.declared.counts.Counts.{Counts}
 use Rattle.bus_talk.proofs.JournalStateLemmas.{slice_get-replicate}
+use Rattle.bus_talk.proofs.TallyLemmas.{within-replicate}
+use Rattle.std.proofs.lemmas.List.{length-replicate}
 use Rattle.bus_talk.proofs.journal.Journal.new.Goals as goal
 
 pub returns-clause-keeps : goal.returns-clause-keeps
@@ -11,3 +14,13 @@ returns-clause-keeps c = record {
   copied = rw (c.zero.ensures) refl;
   handled = rw (c.zero.ensures) refl;
 }
+
+pub invariant_of-result : goal.invariant_of-result
+invariant_of-result c =
+    let none : Counts = record { answered = 0; missing = 0; spoilt = 0; late = 0 } in
+    record {
+      stations = rw (c.no_counts.ensures) (length-replicate 256 none);
+      counts = rw (c.no_counts.ensures) (within-replicate _ 256 none
+          (omega arith, omega arith, omega arith, omega arith));
+      depth = rw (c.in_ok-history.ensures) (c.requires);
+    }

@@ -1,66 +1,83 @@
-use Rattle.std.proofs.Common.{◌≡◌, ◌-◌, ◌++◌, List, Bool, None, sym, ap, ◌∙◌, subst, arith}
-use Rattle.std.specs.Option.{option_to_list}
+use Rattle.std.proofs.Common.{◌≡◌, ◌+◌, ◌-◌, ◌^◌, ◌++◌, ℕ, min, List, None, false, sym, ap, ◌∙◌, subst, arith}
 use Rattle.bus_bits.specs.Bits.{bits_from}
-use Rattle.bus_bits.proofs.BitLemmas.{front-from}
+use Rattle.bus_bits.proofs.OctetLemmas.{least}
 use Rattle.bus_dictionary.specs.Dictionary.{longest_of}
-use Rattle.bus_line.specs.After.{DecideNothing}
+use Rattle.bus_talk.specs.Seen.{SeenReport}
+use Rattle.bus_watch.specs.After.{AnalyserState, one_line}
 use Rattle.bus_watch.specs.Internal.AnalyserView.{analyser_state}
-use Rattle.bus_watch.specs.Internal.Hears.{fresh, told_on}
-use Rattle.bus_watch.specs.After.{AnalyserState, IsAfter, Sees, seen_after}
-use Rattle.bus_watch.proofs.AfterLemmas.{sees-heard, seen-before}
-use Rattle.bus_watch.proofs.AnalyserViewLemmas.{room}
+use Rattle.bus_watch.specs.Internal.Hears.{fresh, HearsMany}
+use Rattle.bus_watch.specs.Watch.{LeadsTold}
+use Rattle.bus_watch.proofs.HearsLemmas.{leads-heard, line-reaches}
 use Rattle.bus_watch.proofs.analyser.Analyser.scan.Goals as goal
 
-pub hear_octets-requires-clause-room : goal.hear_octets-requires-clause-room
-hear_octets-requires-clause-room g c = λ place.
-    room g.C.Check.check _ c.self.invariant.bits c.settled_places.ensures.frames
-    c.settled_places.ensures.paid c.settled_places.ensures.within c.self.invariant.reached
-    (omega (arith, place, c.self.invariant.reached.decoder.has_taken.place))
+pub observe_bits-requires-clause-reaches : goal.observe_bits-requires-clause-reaches
+observe_bits-requires-clause-reaches g c =
+    line-reaches g.C.Check.check (analyser_state c.self.inside) c.self.invariant.bits c.self.invariant.reached
 
-pub invariant_of-self-2 : goal.invariant_of-self-2
-invariant_of-self-2 g c =
-    let x = bits_from c.args.octets.now c.args.at c.in_ok-intake.intake.count in
-    let h = c.in_ok-intake.ensures.hears in
+pub observe_bits-requires-clause-places : goal.observe_bits-requires-clause-places
+observe_bits-requires-clause-places g c = omega (
+  arith,
+  c.min-count.ensures ∙ least (c.args.end - c.args.from) (2 ^ 60 - c.place-places.result),
+  c.place-places.ensures.value,
+  c.place-places.ensures.fits,
+  ap (λ (a : AnalyserState g.row.C.Denot). a.decoder.place) c.self.view_is,
+)
+
+pub observe_bits-requires-clause-room : goal.observe_bits-requires-clause-room
+observe_bits-requires-clause-room g c =
+    g.met.L.ReportObserver.has_less c.args.observer.now
+    (min (c.args.end - c.args.from) (2 ^ 60 - c.args.self.now.decoder.place))
+    (c.args.from + c.min-count.result - c.args.from)
+    (omega (
+      arith,
+      c.min-count.ensures ∙ least (c.args.end - c.args.from) (2 ^ 60 - c.place-places.result),
+      c.place-places.ensures.value,
+    )) c.requires.room
+
+pub observe_bits-requires-clause-enough : goal.observe_bits-requires-clause-enough
+observe_bits-requires-clause-enough g c = omega (
+  arith,
+  c.min-count.ensures ∙ least (c.args.end - c.args.from) (2 ^ 60 - c.place-places.result),
+  c.requires.some,
+  c.requires.enough,
+)
+
+pub invariant_of-self : goal.invariant_of-self
+invariant_of-self g c =
+    let heard = c.observe_bits.ensures.observes in
+    let x = bits_from c.args.octets.now c.args.from (c.args.from + c.min-count.result - c.args.from) in
     let new : AnalyserState g.row.C.Denot =
     record {
-      decoder = c.hear_octets.new.decoder;
-      journal = c.hear_octets.new.journal;
-      finding = fresh c.in_ok-intake.intake.is_decided c.hear_octets.new.journal.last;
+      decoder = c.observe_bits.new.decoder;
+      journal = c.observe_bits.new.journal;
+      finding = fresh false c.observe_bits.new.journal.last;
     } in
-    let sees = sees-heard g.C.Check.check (analyser_state c.self.inside) new x _ h in
+    let led = leads-heard g.C.Check.check (analyser_state c.self.inside) new x _ heard in
     record {
-      depth = omega (arith, c.self.invariant.depth, h.depth);
-      longest = h.advances.tells.leads.longest ∙ c.self.invariant.longest ∙ ap longest_of (sym h.dictionary);
+      depth = omega (arith, c.self.invariant.depth, heard.depth);
+      longest = heard.led.longest ∙ c.self.invariant.longest ∙ ap longest_of (sym heard.dictionary);
       bits = c.self.invariant.bits ++ x;
-      reached = sees.is_after c.self.invariant.bits c.self.invariant.reached;
+      reached = led.sees.is_after c.self.invariant.bits c.self.invariant.reached;
     }
 
-pub returns-clause-all : goal.returns-clause-all
-returns-clause-all g c = c.in_ok-intake.ensures.all
-
-pub returns-clause-sees : goal.returns-clause-sees
-returns-clause-sees g c =
-    let x = bits_from c.args.octets.now c.args.at c.in_ok-intake.intake.count in
-    let told = told_on None c.hear_octets.new.decoder.octets c.in_ok-intake.intake.is_decided
-    c.hear_octets.new.journal.last in
+pub returns-clause-told : goal.returns-clause-told
+returns-clause-told g c =
+    let view = g.C.Check.check in
+    let heard = c.observe_bits.ensures.observes in
+    let old = analyser_state c.self.inside in
     let new : AnalyserState g.row.C.Denot =
     record {
-      decoder = c.hear_octets.new.decoder;
-      journal = c.hear_octets.new.journal;
-      finding = fresh c.in_ok-intake.intake.is_decided c.hear_octets.new.journal.last;
+      decoder = c.observe_bits.new.decoder;
+      journal = c.observe_bits.new.journal;
+      finding = fresh false c.observe_bits.new.journal.last;
     } in
-    subst (λ a. Sees g.C.Check.check a x (option_to_list told) new) c.self.view_is
-    (sees-heard g.C.Check.check (analyser_state c.self.inside) new x told c.in_ok-intake.ensures.hears)
-
-pub returns-clause-before : goal.returns-clause-before
-returns-clause-before g c =
-    let n = c.in_ok-intake.intake.count in
-    let os = c.args.octets.now in
-    let x = bits_from os c.args.at (n - 1) in
-    let d = c.self.inside.decoder in
-    let hears = c.in_ok-intake.ensures.hears in
-    let before = subst (DecideNothing g.C.Check.check d) (front-from os c.args.at n)
-    hears.advances.before in
-    subst (λ a. (b : List Bool) → IsAfter g.C.Check.check a b → seen_after a (b ++ x) ≡ seen_after a b)
-    c.self.view_is
-    (seen-before g.C.Check.check (analyser_state c.self.inside) x before)
+    let whole : c.args.from + c.min-count.result - c.args.from ≡ c.min-count.result = omega arith in
+    let x = bits_from c.args.octets.now c.args.from c.min-count.result in
+    let told : AnalyserState g.row.C.Denot → List SeenReport → Type 0 = λ a ss.
+    g.L.ReportObserver.observes a.journal.dictionary c.args.observer.now c.args.out.now ss c.observe_bits.new.observer
+    c.observe_bits.new.out in
+    subst (λ (a : AnalyserState g.row.C.Denot). LeadsTold (one_line view) a x new (told a)) c.self.view_is
+    (leads-heard view old new x (told old)
+    (subst (λ (k : ℕ). HearsMany view None c.self.inside.decoder c.self.inside.journal
+    (bits_from c.args.octets.now c.args.from k) c.observe_bits.new.decoder c.observe_bits.new.journal (told old)) whole
+    heard))

@@ -7,7 +7,8 @@ use Rattle.bus_dictionary.specs.Dictionary.{longest_of}
 use Rattle.bus_watch.specs.Internal.AnalyserView.{analyser_state}
 use Rattle.bus_watch.specs.Internal.Hears.{fresh, told_on}
 use Rattle.bus_watch.specs.After.{AnalyserState, IsAfter, Sees, seen_after}
-use Rattle.bus_watch.proofs.AfterLemmas.{sees-heard, seen-before}
+use Rattle.bus_watch.proofs.AfterLemmas.{seen-before}
+use Rattle.bus_watch.proofs.HearsLemmas.{sees-heard}
 use Rattle.bus_watch.proofs.AnalyserViewLemmas.{room}
 use Rattle.bus_watch.proofs.analyser.Analyser.take.Goals as goal
 
@@ -27,7 +28,8 @@ invariant_of-self-2 g c =
       journal = c.hear.new.journal;
       finding = fresh c.in_ok-intake.intake.is_decided c.hear.new.journal.last;
     } in
-    let sees = sees-heard g.C.Check.check (analyser_state c.self.inside) new x _ h in
+    let sees = sees-heard g.C.Check.check (analyser_state c.self.inside) new x _
+    (omega (arith, length-bits c.in_ok-intake.intake.count c.args.bits, c.in_ok-intake.ensures.within)) h in
     record {
       depth = omega (arith, c.self.invariant.depth, h.depth);
       longest = h.advances.tells.leads.longest ∙ c.self.invariant.longest ∙ ap longest_of (sym h.dictionary);
@@ -46,7 +48,9 @@ returns-clause-sees g c =
       finding = fresh c.in_ok-intake.intake.is_decided c.hear.new.journal.last;
     } in
     subst (λ a. Sees g.C.Check.check a x (option_to_list told) new) c.self.view_is
-    (sees-heard g.C.Check.check (analyser_state c.self.inside) new x told c.in_ok-intake.ensures.hears)
+    (sees-heard g.C.Check.check (analyser_state c.self.inside) new x told
+    (omega (arith, length-bits c.in_ok-intake.intake.count c.args.bits, c.in_ok-intake.ensures.within))
+    c.in_ok-intake.ensures.hears)
 
 pub returns-clause-before : goal.returns-clause-before
 returns-clause-before g c =

@@ -1,4 +1,4 @@
-use Rattle.std.proofs.Common.{◌≡◌, ◌+◌, ◌-◌, ◌*◌, ◌^◌, ℕ, None, zip, refl, ◌∙◌, subst, arith}
+use Rattle.std.proofs.Common.{◌≡◌, ◌+◌, ◌-◌, ◌*◌, ◌^◌, ℕ, min, None, zip, refl, ◌∙◌, subst, arith}
 use Rattle.bus_bits.specs.Bits.{bits_from}
 use Rattle.bus_bits.proofs.OctetLemmas.{least}
 use Rattle.bus_watch.specs.Watch.{LeadsTold}
@@ -14,12 +14,17 @@ loop-at-init g c = record {
       subst (λ (a : PairState g.row.C.Denot). LeadsTold (two_lines g.C.Check.check) a
       (zip (bits_from c.args.first.now 0 0) (bits_from c.args.second.now 0 0))
       (record (pair_state c.self.inside) { found_first = None; found_second = None })
-      (λ ss. g.L.PairListener.hears a.journal.dictionary c.args.listener.now c.args.out.now ss c.args.listener.now
+      (λ ss. g.L.ReportObserver.observes a.journal.dictionary c.args.observer.now c.args.out.now ss c.args.observer.now
       c.args.out.now)) c.self.view_is
       (leads-nowhere g.C.Check.check (pair_state c.self.inside) c.args.first.now c.args.second.now _
-      (g.met.L.PairListener.hears_none c.self.inside.journal.dictionary c.args.listener.now c.args.out.now));
-  room = g.met.L.PairListener.has_less c.args.listener.now (2 * c.args.count) (2 * (c.min-end.result - 0))
-      (omega (arith, c.min-end.ensures ∙ least c.args.count (2 ^ 60 - c.place-places.result))) c.requires.room;
+      (g.met.L.ReportObserver.observes_none c.self.inside.journal.dictionary c.args.observer.now c.args.out.now));
+  room = g.met.L.ReportObserver.has_less c.args.observer.now
+      (2 * min c.args.count (2 ^ 60 - c.args.self.now.first.place)) (2 * (c.min-end.result - 0))
+      (omega (
+        arith,
+        c.min-end.ensures ∙ least c.args.count (2 ^ 60 - c.place-places.result),
+        c.place-places.ensures.value,
+      )) c.requires.room;
   none = (refl, refl);
 }
 
@@ -48,15 +53,15 @@ loop-at-preserved g c =
       told =
           subst (λ (k : ℕ). LeadsTold (two_lines g.C.Check.check) c.args.self.now
           (zip (bits_from c.args.first.now 0 k) (bits_from c.args.second.now 0 k)) scanned.new.self
-          (λ ss. g.L.PairListener.hears c.args.self.now.journal.dictionary c.args.listener.now c.args.out.now ss
-          scanned.new.listener scanned.new.out)) met
+          (λ ss. g.L.ReportObserver.observes c.args.self.now.journal.dictionary c.args.observer.now c.args.out.now ss
+          scanned.new.observer scanned.new.out)) met
           (rw (zip-met c.args.first.now c.args.second.now i n)
           (leads-further (two_lines g.C.Check.check) c.args.self.now c.loop-at.self scanned.new.self _ _
           _ _ _ before last
-          (λ ss ts first next. g.met.L.PairListener.hears_more c.args.self.now.journal.dictionary c.args.listener.now
-          c.loop-at.listener scanned.new.listener
+          (λ ss ts first next. g.met.L.ReportObserver.observes_more c.args.self.now.journal.dictionary
+          c.args.observer.now c.loop-at.observer scanned.new.observer
           c.args.out.now c.loop-at.out scanned.new.out ss ts first
-          (subst (λ d. g.L.PairListener.hears d c.loop-at.listener c.loop-at.out ts scanned.new.listener
+          (subst (λ d. g.L.ReportObserver.observes d c.loop-at.observer c.loop-at.out ts scanned.new.observer
           scanned.new.out) dictionary next))));
       room = scanned.ensures.left;
       none =

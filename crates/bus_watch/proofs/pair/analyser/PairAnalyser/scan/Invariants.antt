@@ -10,8 +10,8 @@ invariant-loop-at g l = record {
   within : l.at ≤ l.end;
   told : LeadsTold (two_lines g.C.Check.check) l.fn.self
       (zip (bits_from l.fn.first 0 l.at) (bits_from l.fn.second 0 l.at)) l.self
-      (λ ss. g.L.PairListener.hears l.fn.self.journal.dictionary l.fn.listener l.fn.out ss l.listener l.out);
-  room : g.L.PairListener.has_room l.listener (2 * (l.end - l.at));
+      (λ ss. g.L.ReportObserver.observes l.fn.self.journal.dictionary l.fn.observer l.fn.out ss l.observer l.out);
+  room : g.L.ReportObserver.has_room l.observer (2 * (l.end - l.at));
   none : (l.self.found_first ≡ None) × (l.self.found_second ≡ None);
 }
 

@@ -18,13 +18,14 @@ use Rattle.bus_watch.specs.Watch.{LeadsTold}
 use Rattle.bus_talk.specs.declared.line.Line.TheVariants.{Second}
 use Rattle.bus_watch.proofs.AfterLemmas.{hears-none, hears-some}
 use Rattle.bus_watch.proofs.AnalyserViewLemmas.{whole}
-use Rattle.bus_watch.proofs.PairScanLemmas.{leads-scanned, pairs-reach, reaches-room}
+use Rattle.bus_watch.proofs.HearsLemmas.{reaches-room}
+use Rattle.bus_watch.proofs.PairScanLemmas.{leads-scanned, pairs-reach}
 use Rattle.bus_watch.proofs.pair.analyser.PairAnalyser.scan_some.Given.{Over}
 use Rattle.bus_watch.proofs.MergedLemmas.{length-firsts}
 use Rattle.bus_watch.proofs.pair.analyser.PairAnalyser.scan_some.Goals as goal
 
-pub follow-requires-clause-reaches : goal.follow-requires-clause-reaches
-follow-requires-clause-reaches g c =
+pub observe_bits-requires-clause-reaches : goal.observe_bits-requires-clause-reaches
+observe_bits-requires-clause-reaches g c =
     let ps = c.self.invariant.pairs in
     let reached = c.self.invariant.reached in
     pairs-reach g.C.Check.check (pair_state c.self.inside) ps c.settled_places.ensures.frames
@@ -53,26 +54,27 @@ take-requires-clause-whole g c =
 pub take-requires-clause-room : goal.take-requires-clause-room
 take-requires-clause-room g c =
     let n = c.in-Ok.scanned.count in
-    reaches-room g.C.Check.check c.follow.new.decoder c.follow.new.journal
+    reaches-room g.C.Check.check c.observe_bits.new.decoder c.observe_bits.new.journal
     c.settled_places.ensures.frames c.settled_places.ensures.paid c.settled_places.ensures.within
-    c.follow.ensures.reaches
+    c.observe_bits.ensures.reaches
     (omega (
       arith,
-      c.follow.ensures.hears.led.place,
+      c.observe_bits.ensures.observes.led.place,
       length-from c.args.first.now c.args.from (c.args.from + n - c.args.from),
       c.in-Ok.ensures.count,
       ap (λ (a : PairState g.row.C.Denot). a.first.place) c.self.view_is,
       c.requires.places,
     ))
 
-pub tell-requires-clause-room : goal.tell-requires-clause-room
-tell-requires-clause-room g c =
+pub show-requires-clause-room : goal.show-requires-clause-room
+show-requires-clause-room g c =
     let n = c.in-Ok.scanned.count in
     let most : ℕ = 2 * (c.args.end - c.args.from) in
     let left : ℕ = most - n in
-    g.met.L.PairListener.has_less c.follow.new.listener left 1 (omega (arith, c.requires.some, c.in-Ok.ensures.count))
-    (c.follow.ensures.left left
-    (g.met.L.PairListener.has_less c.args.listener.now most (c.args.from + n - c.args.from + left)
+    g.met.L.ReportObserver.has_less c.observe_bits.new.observer left 1
+    (omega (arith, c.requires.some, c.in-Ok.ensures.count))
+    (c.observe_bits.ensures.left left
+    (g.met.L.ReportObserver.has_less c.args.observer.now most (c.args.from + n - c.args.from + left)
     (omega (arith, c.in-Ok.ensures.count)) c.requires.room))
 
 pub returns-in-Some-clause-left : goal.returns-in-Some-clause-left
@@ -81,10 +83,10 @@ returns-in-Some-clause-left g c =
     let most : ℕ = 2 * (c.args.end - c.args.from) in
     let left : ℕ = most - n in
     let more : ℕ = 2 * (c.args.end - (c.args.from + n)) in
-    c.tell.ensures.left more
-    (g.met.L.PairListener.has_less c.follow.new.listener left (1 + more) (omega (arith, c.in-Ok.ensures.count))
-    (c.follow.ensures.left left
-    (g.met.L.PairListener.has_less c.args.listener.now most (c.args.from + n - c.args.from + left)
+    c.show.ensures.left more
+    (g.met.L.ReportObserver.has_less c.observe_bits.new.observer left (1 + more) (omega (arith, c.in-Ok.ensures.count))
+    (c.observe_bits.ensures.left left
+    (g.met.L.ReportObserver.has_less c.args.observer.now most (c.args.from + n - c.args.from + left)
     (omega (arith, c.in-Ok.ensures.count)) c.requires.room)))
 
 pub returns-in_default-clause-left : goal.returns-in_default-clause-left
@@ -92,32 +94,32 @@ returns-in_default-clause-left g c =
     let n = c.in-Ok.scanned.count in
     let most : ℕ = 2 * (c.args.end - c.args.from) in
     let more : ℕ = 2 * (c.args.end - (c.args.from + n)) in
-    c.follow.ensures.left more
-    (g.met.L.PairListener.has_less c.args.listener.now most (c.args.from + n - c.args.from + more)
+    c.observe_bits.ensures.left more
+    (g.met.L.ReportObserver.has_less c.args.observer.now most (c.args.from + n - c.args.from + more)
     (omega (arith, c.in-Ok.ensures.count)) c.requires.room)
 
 -- ---- the second line's report at the last bit
 
-abbrev last-seen : (g : Over) (c : goal.After-tell g) → Option SeenReport
+abbrev last-seen : (g : Over) (c : goal.After-show g) → Option SeenReport
 last-seen g c = told_on (Some Second) c.scan.new.self.octets true c.take.new.self.last
 
-abbrev with-report : (g : Over) (c : goal.After-tell g) → PairState g.row.C.Denot
+abbrev with-report : (g : Over) (c : goal.After-show g) → PairState g.row.C.Denot
 with-report g c = record {
-  first = c.follow.new.decoder;
+  first = c.observe_bits.new.decoder;
   second = c.scan.new.self;
   journal = c.take.new.self;
   found_first = c.self.inside.found_first;
   found_second = c.self.inside.found_second;
 }
 
-abbrev pairs-taken : (g : Over) (c : goal.After-tell g) → List (Bool × Bool)
+abbrev pairs-taken : (g : Over) (c : goal.After-show g) → List (Bool × Bool)
 pairs-taken g c =
     let n = c.args.from + c.in-Ok.scanned.count - c.args.from in
     zip (bits_from c.args.first.now c.args.from n) (bits_from c.args.second.now c.args.from n)
 
 -- the journal takes it
-leads-on : (g : Over) (c : goal.After-tell g) (told : List SeenReport → Type 0) →
-    told (c.follow.ensures.hears.seen_now ++ option_to_list (last-seen g c))
+leads-on : (g : Over) (c : goal.After-show g) (told : List SeenReport → Type 0) →
+    told (c.observe_bits.ensures.observes.seen_now ++ option_to_list (last-seen g c))
     → LeadsTold (two_lines g.C.Check.check) (pair_state c.self.inside) (pairs-taken g c)
     (with-report g c) told
 leads-on g c told all_told =
@@ -129,7 +131,7 @@ leads-on g c told all_told =
     let new = c.scan.new.self in
     let octets = new.octets in
     let event = c.in-Some.event in
-    let before = c.follow.new.journal in
+    let before = c.observe_bits.new.journal in
     let after = c.take.new.self in
     let advances = subst (λ o. Advances view old bits (option_map (reported octets) o) new)
     c.in-Some.is c.in-Ok.ensures.advances in
@@ -142,39 +144,39 @@ leads-on g c told all_told =
     leads-scanned view (pair_state c.self.inside) (with-report g c) before
     c.args.first.now c.args.second.now c.args.from (c.args.from + n - c.args.from) (last-seen g c) _ told
     c.reports_grow.ensures.stays c.reports_grow.ensures.more c.reports_grow.ensures.grow
-    (omega (arith, c.in-Ok.ensures.count)) c.follow.ensures.hears (rw all heard) all_told
+    (omega (arith, c.in-Ok.ensures.count)) c.observe_bits.ensures.observes (rw all heard) all_told
 
 pub invariant_of-self : goal.invariant_of-self
 invariant_of-self g c = record {
-  depth = omega (arith, c.self.invariant.depth, c.follow.ensures.hears.depth, c.take.ensures.enters.depth);
+  depth = omega (arith, c.self.invariant.depth, c.observe_bits.ensures.observes.depth, c.take.ensures.enters.depth);
   pairs = c.self.invariant.pairs ++ pairs-taken g c;
   reached = (leads-on g c (λ ss. Unit {0}) tt).sees.is_after c.self.invariant.pairs c.self.invariant.reached;
 }
 
--- and the listener hears of it
+-- and the observer hears of it
 pub returns-in-Some-clause-told : goal.returns-in-Some-clause-told
 returns-in-Some-clause-told g c =
-    let follows = c.follow.ensures.hears in
+    let follows = c.observe_bits.ensures.observes in
     let last = last-seen g c in
     let dictionary = c.dictionary.ensures ∙ (c.take.ensures.enters.dictionary ∙ follows.dictionary) in
-    let told : g.L.PairListener.hears c.self.inside.journal.dictionary c.follow.new.listener c.follow.new.out
-    (option_to_list last) c.tell.new.listener c.tell.new.out =
-    rw (← dictionary, ← c.last.ensures, ← c.octets-octets.ensures.value) c.tell.ensures.heard in
+    let told : g.L.ReportObserver.observes c.self.inside.journal.dictionary c.observe_bits.new.observer
+    c.observe_bits.new.out (option_to_list last) c.show.new.observer c.show.new.out =
+    rw (← dictionary, ← c.last.ensures, ← c.octets-octets.ensures.value) c.show.ensures.observed in
     subst (λ (a : PairState g.row.C.Denot). LeadsTold (two_lines g.C.Check.check) a (pairs-taken g c)
     (with-report g c)
-    (λ ss. g.L.PairListener.hears a.journal.dictionary c.args.listener.now c.args.out.now ss c.tell.new.listener
-    c.tell.new.out)) c.self.view_is
-    (leads-on g c _ (g.met.L.PairListener.hears_more c.self.inside.journal.dictionary c.args.listener.now
-    c.follow.new.listener c.tell.new.listener
-    c.args.out.now c.follow.new.out c.tell.new.out follows.seen_now (option_to_list last) follows.told told))
+    (λ ss. g.L.ReportObserver.observes a.journal.dictionary c.args.observer.now c.args.out.now ss c.show.new.observer
+    c.show.new.out)) c.self.view_is
+    (leads-on g c _ (g.met.L.ReportObserver.observes_more c.self.inside.journal.dictionary c.args.observer.now
+    c.observe_bits.new.observer c.show.new.observer
+    c.args.out.now c.observe_bits.new.out c.show.new.out follows.seen_now (option_to_list last) follows.told told))
 
 -- ---- no report of the second line
 
 abbrev without-report : (g : Over) (c : goal.In_default g) → PairState g.row.C.Denot
 without-report g c = record {
-  first = c.follow.new.decoder;
+  first = c.observe_bits.new.decoder;
   second = c.scan.new.self;
-  journal = c.follow.new.journal;
+  journal = c.observe_bits.new.journal;
   found_first = c.self.inside.found_first;
   found_second = c.self.inside.found_second;
 }
@@ -184,9 +186,9 @@ pairs-passed g c =
     let n = c.args.from + c.in-Ok.scanned.count - c.args.from in
     zip (bits_from c.args.first.now c.args.from n) (bits_from c.args.second.now c.args.from n)
 
-passes-on : (g : Over) (c : goal.In_default g) (told : List SeenReport → Type 0) → told c.follow.ensures.hears.seen_now
-    → LeadsTold (two_lines g.C.Check.check) (pair_state c.self.inside) (pairs-passed g c)
-    (without-report g c) told
+passes-on : (g : Over) (c : goal.In_default g) (told : List SeenReport → Type 0) →
+    told c.observe_bits.ensures.observes.seen_now →
+    LeadsTold (two_lines g.C.Check.check) (pair_state c.self.inside) (pairs-passed g c) (without-report g c) told
 passes-on g c told all_told =
     let view = g.C.Check.check in
     let n = c.in-Ok.scanned.count in
@@ -194,19 +196,19 @@ passes-on g c told all_told =
     let bits = bits_from c.args.second.now c.args.from n in
     let old = c.self.inside.second in
     let new = c.scan.new.self in
-    let journal = c.follow.new.journal in
+    let journal = c.observe_bits.new.journal in
     let advances = subst (λ o. Advances view old bits (option_map (reported new.octets) o) new)
     c.in_default.is c.in-Ok.ensures.advances in
     let heard = hears-none view (Some Second) old new journal journal bits advances refl in
     leads-scanned view (pair_state c.self.inside) (without-report g c) journal
     c.args.first.now c.args.second.now c.args.from (c.args.from + n - c.args.from) None _ told
     c.reports_grow.ensures.stays c.reports_grow.ensures.more c.reports_grow.ensures.grow
-    (omega (arith, c.in-Ok.ensures.count)) c.follow.ensures.hears (rw all heard)
-    (rw (append-nil c.follow.ensures.hears.seen_now) all_told)
+    (omega (arith, c.in-Ok.ensures.count)) c.observe_bits.ensures.observes (rw all heard)
+    (rw (append-nil c.observe_bits.ensures.observes.seen_now) all_told)
 
 pub invariant_of-self-in_default : goal.invariant_of-self-in_default
 invariant_of-self-in_default g c = record {
-  depth = omega (arith, c.self.invariant.depth, c.follow.ensures.hears.depth);
+  depth = omega (arith, c.self.invariant.depth, c.observe_bits.ensures.observes.depth);
   pairs = c.self.invariant.pairs ++ pairs-passed g c;
   reached = (passes-on g c (λ ss. Unit {0}) tt).sees.is_after c.self.invariant.pairs c.self.invariant.reached;
 }
@@ -215,6 +217,6 @@ pub returns-in_default-clause-told : goal.returns-in_default-clause-told
 returns-in_default-clause-told g c =
     subst (λ (a : PairState g.row.C.Denot). LeadsTold (two_lines g.C.Check.check) a (pairs-passed g c)
     (without-report g c)
-    (λ ss. g.L.PairListener.hears a.journal.dictionary c.args.listener.now c.args.out.now ss c.follow.new.listener
-    c.follow.new.out)) c.self.view_is
-    (passes-on g c _ c.follow.ensures.hears.told)
+    (λ ss. g.L.ReportObserver.observes a.journal.dictionary c.args.observer.now c.args.out.now ss
+    c.observe_bits.new.observer c.observe_bits.new.out)) c.self.view_is
+    (passes-on g c _ c.observe_bits.ensures.observes.told)

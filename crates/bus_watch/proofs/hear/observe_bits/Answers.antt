@@ -1,0 +1,88 @@
+use Rattle.std.proofs.Common.{◌≡◌, ◌+◌, ◌-◌, ℕ, refl, ◌∙◌, arith}
+use Rattle.std.specs.Option.{option_to_list}
+use Rattle.bus_bits.specs.Bits.{bits_from}
+use Rattle.bus_bits.proofs.BitLemmas.{length-from}
+use Rattle.bus_watch.specs.Internal.Hears.{told_on}
+use Rattle.bus_watch.proofs.HearsLemmas.{bits-met, bits-none, hears-nothing, hears-more, reaches-more, reaches-room}
+use Rattle.bus_watch.proofs.hear.observe_bits.Goals as goal
+
+pub loop-at-init : goal.loop-at-init
+loop-at-init g c = record {
+  some = omega arith;
+  within = c.requires.some;
+  hears = rw (bits-none c.args.octets.now c.args.from)
+      (hears-nothing g.C.Check.check c.args.line c.args.decoder.now c.args.journal.now
+      _
+      (g.met.L.ReportObserver.observes_none c.args.journal.now.dictionary c.args.observer.now c.args.out.now));
+  left = λ more room. room;
+  reaches = c.requires.reaches;
+}
+
+pub hear_octets-requires-clause-room : goal.hear_octets-requires-clause-room
+hear_octets-requires-clause-room g c = λ below.
+    reaches-room g.C.Check.check c.loop-at.decoder c.loop-at.journal
+    c.settled_places.ensures.frames c.settled_places.ensures.paid c.settled_places.ensures.within
+    c.loop-at.invariant.reaches (omega (arith, below))
+
+pub unreachable-requires : goal.unreachable-requires
+unreachable-requires g c =
+    let full = c.in-Err.ensures.limit.0 refl in
+    omega (
+      arith,
+      full,
+      c.loop-at.invariant.hears.led.place,
+      length-from c.args.octets.now c.args.from (c.loop-at.at - c.args.from),
+      c.loop-at.invariant.some,
+      c.loop-at-test.true,
+      c.requires.places,
+    )
+
+pub show-requires-clause-room : goal.show-requires-clause-room
+show-requires-clause-room g c =
+    g.met.L.ReportObserver.has_less c.loop-at.observer (c.args.past - c.loop-at.at + 0) 1
+    (omega (arith, c.loop-at-test.true))
+    (c.loop-at.invariant.left 0
+    (g.met.L.ReportObserver.has_less c.args.observer.now (c.args.past - c.args.from) (c.args.past - c.args.from + 0)
+    (omega arith) c.requires.room))
+
+pub loop-at-preserved : goal.loop-at-preserved
+loop-at-preserved g c =
+    let n = c.in-Ok.intake.count in
+    let i = c.loop-at.at in
+    let before = c.loop-at.invariant in
+    let heard = c.in-Ok.ensures.hears in
+    let last = told_on c.args.line c.hear_octets.new.decoder.octets c.in-Ok.intake.is_decided
+    c.hear_octets.new.journal.last in
+    let dictionary = c.dictionary.ensures ∙ (heard.dictionary ∙ before.hears.dictionary) in
+    let told : g.L.ReportObserver.observes c.args.journal.now.dictionary c.loop-at.observer c.loop-at.out
+    (option_to_list last) c.show.new.observer c.show.new.out =
+    rw (← dictionary, ← c.fresh.ensures, ← c.octets.ensures.value) c.show.ensures.observed in
+    record {
+      some = omega (arith, before.some);
+      within = omega (arith, c.in-Ok.ensures.within.1, c.loop-at-test.true);
+      hears = rw (bits-met c.args.octets.now c.args.from i n before.some)
+          (hears-more g.C.Check.check c.args.line c.args.decoder.now c.loop-at.decoder
+          c.hear_octets.new.decoder
+          c.args.journal.now c.loop-at.journal
+          c.hear_octets.new.journal
+          (bits_from c.args.octets.now c.args.from (i - c.args.from)) (bits_from c.args.octets.now i n) last _ _
+          (omega (arith, length-from c.args.octets.now i n, c.in-Ok.ensures.within.0)) before.hears heard
+          (g.met.L.ReportObserver.observes_more c.args.journal.now.dictionary c.args.observer.now c.loop-at.observer
+          c.show.new.observer
+          c.args.out.now c.loop-at.out c.show.new.out before.hears.seen_now (option_to_list last) before.hears.told
+          told));
+      left = λ more room.
+          let left : ℕ = c.args.past - (i + n) + more in
+          c.show.ensures.left left
+          (g.met.L.ReportObserver.has_less c.loop-at.observer (c.args.past - i + more) (1 + left)
+          (omega (arith, c.in-Ok.ensures.within, c.loop-at-test.true)) (before.left more room));
+      reaches = reaches-more g.C.Check.check c.args.line c.loop-at.decoder
+          c.hear_octets.new.decoder
+          c.loop-at.journal c.hear_octets.new.journal
+          (bits_from c.args.octets.now i n) last before.reaches heard;
+    }
+
+pub returns-clause-observes : goal.returns-clause-observes
+returns-clause-observes g c =
+    let whole : c.loop-at.at ≡ c.args.past = omega (arith, c.loop-at-test.false, c.loop-at.invariant.within) in
+    rw (← whole) c.loop-at.invariant.hears

@@ -1,0 +1,80 @@
+import { Fault } from "../fault.js";
+import { PIECE } from "./source.js";
+import { hertz } from "./units.js";
+import { membersOf, piecesOfMember } from "./zip.js";
+
+/** The file of an archive that says what the recording is, and its section of the logic analyser. */
+const METADATA = "metadata";
+const DEVICE = "device 1";
+
+/**
+ * A session of sigrok, which PulseView saves: an archive with the samples, and what they are.
+ * @typedef {object} Session
+ * @property {string[]} names of the channels
+ * @property {number} width octets of a sample
+ * @property {number} ticks samples a second
+ * @property {(heard: (read: number, size: number) => void) => AsyncGenerator<Uint8Array>} pieces
+ */
+
+/**
+ * @param {Blob} blob
+ * @returns {Promise<Session>}
+ */
+export async function sessionOf(blob) {
+  const members = await membersOf(blob);
+  const metadata = members.find(({ name }) => name === METADATA);
+  if (!metadata) throw new Fault("the archive is no session of PulseView: it has no metadata");
+  const device = sectionOf(await textOf(blob, metadata), DEVICE);
+  const ofProbes = [...device].filter(([key]) => /^probe\d+$/.test(key));
+  const probes = ofProbes.map(([key, name]) => [Number(key.slice("probe".length)) - 1, name]);
+  const [width, prefix, rate] = ["unitsize", "capturefile", "samplerate"].map((key) => device.get(key));
+  if (probes.length === 0 || !(Number(width) > 0) || !prefix || !rate) {
+    throw new Fault("the session has no logic channels: it lacks their names, their width or their sample rate");
+  }
+  const names = Array.from({ length: Math.max(...probes.map(([at]) => at)) + 1 }, (_, at) => `(${at})`);
+  for (const [at, name] of probes) names[at] = name;
+  const samples = membersOfSamples(members, prefix);
+  return { names, width: Number(width), ticks: hertz(rate), pieces: (heard) => piecesOf(blob, samples, heard) };
+}
+
+async function textOf(blob, member) {
+  const decoder = new TextDecoder();
+  let text = "";
+  for await (const piece of piecesOfMember(blob, member, PIECE)) text += decoder.decode(piece, { stream: true });
+  return text;
+}
+
+/** The keys of a section of an INI file, with their values. */
+function sectionOf(text, wanted) {
+  const found = new Map();
+  let section = "";
+  for (const line of text.split(/\r?\n/)) {
+    const [, name] = /^\[(.*)\]\s*$/.exec(line) ?? [];
+    section = name ?? section;
+    const [, key, value] = /^([^=:#;]+?)\s*[=:]\s*(.*?)\s*$/.exec(line) ?? [];
+    if (section === wanted && key !== undefined) found.set(key.toLowerCase(), value);
+  }
+  return found;
+}
+
+/** The files with the samples: one of this name, or several with numbers. */
+function membersOfSamples(members, prefix) {
+  const numberOf = ({ name }) => {
+    const rest = name.startsWith(prefix) ? name.slice(prefix.length) : "?";
+    return rest === "" ? 0 : Number(/^-(\d+)$/.exec(rest)?.[1] ?? -1);
+  };
+  const own = members.filter((member) => numberOf(member) >= 0);
+  return own.sort((one, other) => numberOf(one) - numberOf(other));
+}
+
+async function* piecesOf(blob, members, heard) {
+  const size = members.reduce((sum, member) => sum + member.size, 0);
+  let read = 0;
+  for (const member of members) {
+    for await (const piece of piecesOfMember(blob, member, PIECE)) {
+      yield piece;
+      read += piece.length;
+      heard(read, size);
+    }
+  }
+}

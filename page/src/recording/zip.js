@@ -1,0 +1,95 @@
+import { Fault } from "../fault.js";
+import { faultOf, octetsOf } from "../octets.js";
+
+/** Records of an archive, by how they begin, and how long they are at least (PKWARE's APPNOTE.TXT, 4.3). */
+const [LOCAL, CENTRAL, END] = [0x04034b50, 0x02014b50, 0x06054b50];
+const SIZES = { local: 30, central: 46, end: 22 };
+
+/** The longest comment that may stand after the end. */
+const MOST_COMMENT = 65535;
+
+/** How a member is packed. */
+const [STORED, DEFLATED] = [0, 8];
+
+/** What stands in the place of a number that needs 64 bits. */
+const TOO_LARGE = 0xffffffff;
+
+/**
+ * A file in an archive.
+ * @typedef {{ name: string, method: number, begin: number, packed: number, size: number }} Member
+ */
+
+const viewOf = async (blob) => new DataView((await octetsOf(blob)).buffer);
+
+/**
+ * The members of a zip archive.
+ * @param {Blob} blob
+ * @returns {Promise<Member[]>}
+ */
+export async function membersOf(blob) {
+  const tail = await viewOf(blob.slice(Math.max(0, blob.size - SIZES.end - MOST_COMMENT)));
+  let at = tail.byteLength - SIZES.end;
+  while (at >= 0 && tail.getUint32(at, true) !== END) at -= 1;
+  if (at < 0) throw new Fault("the archive is cut off: it lacks its end, where the table of its files stands");
+  const count = tail.getUint16(at + 10, true);
+  const [size, begin] = [12, 16].map((place) => tail.getUint32(at + place, true));
+  if (begin === TOO_LARGE || begin + size > blob.size) throw new Fault("the archive is cut off, or larger than 4 GiB");
+  return membersIn(await viewOf(blob.slice(begin, begin + size)), count);
+}
+
+function membersIn(table, count) {
+  const members = [];
+  for (let at = 0; members.length < count; ) {
+    if (at + SIZES.central > table.byteLength || table.getUint32(at, true) !== CENTRAL) {
+      throw new Fault("the table of the archive's files is damaged");
+    }
+    const [name, extra, comment] = [28, 30, 32].map((place) => table.getUint16(at + place, true));
+    members.push({
+      name: new TextDecoder().decode(new Uint8Array(table.buffer, at + SIZES.central, name)),
+      method: table.getUint16(at + 10, true),
+      packed: table.getUint32(at + 20, true),
+      size: table.getUint32(at + 24, true),
+      begin: table.getUint32(at + 42, true),
+    });
+    at += SIZES.central + name + extra + comment;
+  }
+  return members;
+}
+
+/**
+ * The octets of a member, in pieces of a size, the last one shorter.
+ * @param {Blob} blob
+ * @param {Member} member
+ * @param {number} size
+ * @returns {AsyncGenerator<Uint8Array>}
+ */
+export async function* piecesOfMember(blob, { name, method, begin, packed }, size) {
+  const head = await viewOf(blob.slice(begin, begin + SIZES.local));
+  const isWhole = head.byteLength === SIZES.local && head.getUint32(0, true) === LOCAL;
+  const isKnown = method === STORED || method === DEFLATED;
+  if (!isWhole || !isKnown) throw new Fault(`${name} in the archive cannot be unpacked`);
+  const from = begin + SIZES.local + head.getUint16(26, true) + head.getUint16(28, true);
+  const stream = blob.slice(from, from + packed).stream();
+  try {
+    yield* gathered(method === STORED ? stream : stream.pipeThrough(new DecompressionStream("deflate-raw")), size);
+  } catch (error) {
+    throw faultOf(error, `${name} in the archive is damaged`);
+  }
+}
+
+/** A stream in pieces of a size. */
+async function* gathered(stream, size) {
+  const reader = stream.getReader();
+  let [piece, count] = [new Uint8Array(size), 0];
+  for (let next = await reader.read(); !next.done; next = await reader.read()) {
+    for (let at = 0; at < next.value.length; ) {
+      const some = next.value.subarray(at, at + size - count);
+      piece.set(some, count);
+      [at, count] = [at + some.length, count + some.length];
+      if (count < size) continue;
+      yield piece;
+      [piece, count] = [new Uint8Array(size), 0];
+    }
+  }
+  if (count > 0) yield piece.subarray(0, count);
+}

@@ -1,0 +1,46 @@
+import { element, make } from "./dom.js";
+import { faultWords, wordsOf } from "./words.js";
+
+/** What there is to do about a warning. */
+const NAMES = {
+  edge: "Take the bits at the other edge",
+  invert: "Read it inverted",
+  wires: "Choose other wires",
+  second: "Show it",
+};
+
+/** What stands above all else: a fault of the file, warnings of the recording, and what was guessed. */
+export class Banners {
+  /** @param {(act: "edge"|"invert"|"wires"|"second", warning?: object) => void} mend what to do about a warning */
+  constructor(mend) {
+    this.mend = mend;
+  }
+
+  /** @param {{ fault: string|null, warnings: object[], count: number }} summary @param {string} guess */
+  show({ fault, warnings, count }, guess) {
+    element("fault").hidden = fault === null;
+    element("fault").textContent = fault === null ? "" : faultWords(fault, count > 0);
+    element("warnings").hidden = warnings.length === 0;
+    const firstEdge = warnings.findIndex((warning) => wordsOf(warning).act === "edge");
+    const items = warnings.map((warning, at) => this.item(warning, at === firstEdge));
+    element("warning-list").replaceChildren(...items);
+    element("guess").hidden = guess === "";
+    element("guess").replaceChildren(guess, ...(guess === "" ? [] : [this.button("wires")]));
+  }
+
+  /** A warning, with what to do; the other edge is offered once. */
+  item(warning, isFirstEdge) {
+    const { text, cure, act } = wordsOf(warning);
+    const item = make("li", "");
+    item.append(make("strong", text), ...(cure ? [` ${cure}`] : []));
+    if (act !== "" && (act !== "edge" || isFirstEdge)) item.append(this.button(act, warning));
+    return item;
+  }
+
+  button(act, warning) {
+    const button = make("button", NAMES[act], "screen");
+    button.type = "button";
+    button.addEventListener("click", () => this.mend(act, warning));
+    return button;
+  }
+}

@@ -1,0 +1,46 @@
+import { element, make } from "./dom.js";
+import { grouped } from "./units.js";
+
+/** The slim bar: what file this is, and how it was read. */
+export class Bar {
+  /** @param {() => void} open what to do where the dictionary is chosen */
+  constructor(open) {
+    this.chip = make("button", "", "chip");
+    this.chip.type = "button";
+    this.chip.id = "dictionary-chip";
+    this.chip.addEventListener("click", open);
+    this.state = { text: "none", isGood: false };
+    this.name = "";
+  }
+
+  /**
+   * @param {{ first: number, past: number, isOfTwo: boolean }} summary
+   * @param {{ rate: number, form: string }} job
+   * @param {{ name: string, date: string, hasDictionary: boolean }} file
+   */
+  show(summary, job, { name, date, hasDictionary }) {
+    const fact = (text, className = "") => make("li", text, className);
+    const chip = fact("");
+    chip.append(this.chip);
+    element("facts").replaceChildren(
+      fact(name, "name"),
+      fact(`${((summary.past - summary.first) / job.rate).toFixed(3)} s`),
+      fact(`${grouped(job.rate)} bits/s, ${summary.isOfTwo ? "two lines" : "one line"}`),
+      ...(date ? [fact(date, "date")] : []),
+      ...(hasDictionary ? [chip] : []),
+    );
+    this.draw();
+  }
+
+  /** Says which dictionary there is, and how it stands. */
+  setDictionary(name, state) {
+    Object.assign(this, { name, state });
+    this.draw();
+  }
+
+  draw() {
+    const { text, isGood } = this.state;
+    this.chip.textContent = `Dictionary: ${this.name ? `${this.name}, ` : ""}${text}`;
+    this.chip.classList.toggle("warn", !isGood);
+  }
+}

@@ -1,0 +1,64 @@
+import { select } from "d3-selection";
+
+const HEIGHT = 16;
+const BAR = { top: 2, height: 12 };
+const LEAST_WIDTH = 2;
+
+/** The whole file in one line, with what is wrong, and which part of it is in view, to be dragged. */
+export class Overview {
+  /** @param {HTMLElement} box @param {(first: number, past: number) => void} show a stretch */
+  constructor(box, show) {
+    this.show = show;
+    this.view = [0, 1];
+    this.svg = select(box).append("svg").attr("class", "overview").attr("aria-hidden", "true");
+    const node = this.svg.node();
+    node.addEventListener("pointerdown", (event) => this.take(event));
+    node.addEventListener("pointermove", (event) => this.grip !== undefined && this.move(event));
+    for (const name of ["pointerup", "pointercancel"]) node.addEventListener(name, () => delete this.grip);
+  }
+
+  /** Takes hold of what is in view where it is touched, or else by its middle. */
+  take(event) {
+    const place = this.placeAt(event);
+    const [first, past] = this.view;
+    this.grip = place >= first && place <= past ? place - first : (past - first) / 2;
+    this.svg.node().setPointerCapture(event.pointerId); // what is below the pointer is drawn anew meanwhile
+    this.move(event);
+  }
+
+  move(event) {
+    const [first, past] = this.view;
+    const begin = this.placeAt(event) - this.grip;
+    this.show(begin, begin + past - first);
+  }
+
+  placeAt(event) {
+    const { left, width } = this.svg.node().getBoundingClientRect();
+    return this.whole.invert(((event.clientX - left) * this.width) / width);
+  }
+
+  draw(whole, width, { findings, warnings, rate }, view) {
+    Object.assign(this, { whole, width, view });
+    const { svg } = this;
+    svg.attr("viewBox", `0 0 ${width} ${HEIGHT}`);
+    svg.selectAll("*").remove();
+    const [left, right] = whole.range();
+    svg.append("text").attr("x", 4).attr("y", BAR.height).attr("class", "about").text("whole");
+    this.box("overview-ground", left, right, BAR.top, BAR.height);
+    const half = BAR.height / 2;
+    for (const { sort, places, isStretch } of findings) {
+      const top = isStretch ? BAR.top : BAR.top + half / 2;
+      for (const { first, past } of places) this.box(`sign ${sort}`, whole(first), whole(past), top, half);
+    }
+    for (const { second } of warnings) {
+      if (second !== null) this.box("sign warning", whole(second * rate), 0, BAR.top + half, half);
+    }
+    const [begin, end] = [Math.max(left, whole(view[0])), Math.min(right, whole(view[1]))];
+    this.box("overview-view", begin, Math.max(begin + 3, end), 1, BAR.height + 2);
+  }
+
+  box(className, begin, end, top, height) {
+    const box = this.svg.append("rect").attr("class", className).attr("x", begin).attr("y", top);
+    box.attr("width", Math.max(LEAST_WIDTH, end - begin)).attr("height", height);
+  }
+}

@@ -1,0 +1,115 @@
+import { element, make } from "./dom.js";
+import { signOf } from "./signs.js";
+
+/** Of a file that is shorter than so many seconds, times have six decimals. */
+const SHORT = 0.1;
+
+/** How many places of a sentence are shown as buttons. */
+const MOST_TIMES = 6;
+
+const STEPS = { ArrowRight: 1, ArrowDown: 1, ArrowLeft: -1, ArrowUp: -1 };
+
+/**
+ * The sentences, each with the times of its places.
+ * @typedef {import("../findings/findings.js").Finding} Finding
+ */
+export class Sentences {
+  /**
+   * @param {(place: object) => void} go what to do where a place is chosen
+   * @param {() => void} more what to do where a sentence refers to the table
+   */
+  constructor(go, more) {
+    Object.assign(this, { go, more });
+    this.stops = []; // the places of the sentences, in their order, with what marks them
+    this.at = -1;
+  }
+
+  /**
+   * @param {Finding[]} findings
+   * @param {string[]} well what is said where there are none
+   * @param {object[]} lacks what was not judged, and notes
+   * @param {{ rate: number, length: number }} file its rate, and how many bits it has
+   */
+  show(findings, well, lacks, { rate, length }) {
+    Object.assign(this, { rate, digits: length < SHORT * rate ? 6 : 3 });
+    this.stops = [];
+    this.at = -1;
+    const isWell = findings.length === 0;
+    element("findings-head").textContent = isWell ? "What was found" : "What is wrong, the most serious first";
+    element("sentences").replaceChildren(...findings.map((finding) => this.sentence(finding)));
+    const told = [...(isWell ? well.map((text) => ({ sort: "well", text })) : []), ...lacks];
+    element("lacks").replaceChildren(...told.map(({ sort, text }) => make("li", text, `is-${sort}`)));
+  }
+
+  /** A sentence, whose words lead to its first place, with the times of its places. */
+  sentence(finding) {
+    const item = make("li", "", `is-${finding.level}`);
+    const words = make("button", finding.text, "jump");
+    words.type = "button";
+    words.disabled = finding.places.length === 0 && finding.sort !== "more";
+    item.append(signOf(finding.sort), words);
+    const from = this.stops.length;
+    const times = this.times(finding, item);
+    if (times.childElementCount > 0) item.append(times);
+    words.addEventListener("click", () => (finding.sort === "more" ? this.more() : this.visit(from)));
+    return item;
+  }
+
+  /** The times as buttons: one of them is reached by Tab, the others by the arrows. */
+  times({ places, isStretch, count, short }, item) {
+    const box = make("div", "", "times");
+    places.forEach((place, at) => {
+      const second = `${(place.first / this.rate).toFixed(this.digits)} s`;
+      const button = at < MOST_TIMES ? this.button(second, this.stops.length) : null;
+      if (button) box.append(button);
+      this.stops.push({ ...place, isStretch, short, item, button });
+    });
+    const rest = places.length > MOST_TIMES ? count - MOST_TIMES : 0;
+    if (rest > 0) box.append(this.button(`${rest} more`, this.stops.length - places.length + MOST_TIMES, "more"));
+    [...box.children].forEach((button, at) => (button.tabIndex = at === 0 ? 0 : -1));
+    box.addEventListener("keydown", (event) => moveWithin(box, event));
+    return box;
+  }
+
+  button(text, at, className = "") {
+    const button = make("button", text, className);
+    button.type = "button";
+    button.addEventListener("click", () => this.visit(at));
+    return button;
+  }
+
+  /** Goes to a place of a sentence. */
+  visit(at) {
+    if (this.stops.length === 0) return;
+    this.at = (at + this.stops.length) % this.stops.length;
+    const stop = this.stops[this.at];
+    for (const { item, button } of this.stops) {
+      item.classList.remove("chosen");
+      button?.classList.remove("chosen");
+    }
+    stop.item.classList.add("chosen");
+    stop.button?.classList.add("chosen");
+    stop.item.scrollIntoView({ block: "nearest" });
+    this.go(stop);
+  }
+
+  /** Goes some places on. */
+  step(by) {
+    this.visit(this.at < 0 && by < 0 ? -1 : this.at + by);
+  }
+
+  /** Goes to the first stretch. */
+  visitStretch() {
+    this.visit(this.stops.findIndex(({ isStretch }) => isStretch));
+  }
+}
+
+function moveWithin(box, event) {
+  const step = STEPS[event.key];
+  if (!step) return;
+  event.preventDefault();
+  const buttons = [...box.children];
+  const next = buttons[(buttons.indexOf(event.target) + step + buttons.length) % buttons.length];
+  for (const button of buttons) button.tabIndex = button === next ? 0 : -1;
+  next.focus();
+}

@@ -1,0 +1,79 @@
+import { element, make } from "./dom.js";
+import { VERDICTS } from "./signs.js";
+
+/** The word of a verdict, which is read from afar. */
+const WORDS = { fault: "Fault", doubt: "Look closer", well: "No fault found", unknown: "Not all judged" };
+
+const NOT_JUDGED = "Not judged";
+const NO_FRAMES = "Nothing to judge";
+const WELL = "Every answer came in time, nothing is damaged, and no gap stands out.";
+
+/** What is counted, in the singular and in the plural. */
+const COUNTS = {
+  gap: ["gap", "gaps"],
+  missing: ["missing", "missing"],
+  late: ["late", "late"],
+  spoilt: ["spoilt", "spoilt"],
+  damage: ["damaged", "damaged"],
+};
+
+/** Counts that need no dictionary. */
+const ALWAYS = new Set(["gap", "damage"]);
+
+/** The most findings that the verdict names. */
+const MOST_TOLD = 2;
+
+/** The verdict: a sign, a word, the worst in short, and how many there are of each. */
+export class Verdict {
+  /** @param {(name: string) => void} pick what to do where a number is chosen */
+  constructor(pick) {
+    this.pick = pick;
+  }
+
+  show({ verdict, findings, counts, frames, warnings, fault }) {
+    const section = element("verdict");
+    section.className = `${verdict.level}-level`;
+    section.querySelector("path").setAttribute("d", VERDICTS[verdict.level]);
+    element("verdict-word").textContent = wordOf(verdict, frames);
+    element("verdict-short").textContent = shortOf(verdict, findings, doubtsOf(fault, warnings));
+    const isJudged = (name) => ALWAYS.has(name) || (name === "late" ? verdict.isLateJudged : verdict.isJudged);
+    const isKnown = (name) => counts[name] > 0 || (frames > 0 && isJudged(name));
+    const countOf = (name) => this.count(name, isKnown(name) ? counts[name] : null);
+    element("counts").replaceChildren(...Object.keys(COUNTS).map(countOf));
+  }
+
+  /** A number, which leads to what it counts; a dash where that was not judged. */
+  count(name, count) {
+    const item = make("li", "", count ? "" : "none");
+    const button = make("button");
+    button.type = "button";
+    button.disabled = !count;
+    button.append(make("strong", count === null ? "\u2013" : String(count)), COUNTS[name][count === 1 ? 0 : 1]);
+    button.addEventListener("click", () => this.pick(name));
+    item.append(button);
+    return item;
+  }
+}
+
+function wordOf({ level, isJudged }, frames) {
+  if (level !== "unknown") return WORDS[level];
+  if (frames === 0) return NO_FRAMES;
+  return isJudged ? WORDS.unknown : NOT_JUDGED;
+}
+
+function doubtsOf(fault, warnings) {
+  return [...(fault ? ["The file has a fault"] : []), ...(warnings.length > 0 ? ["The recording is doubtful"] : [])];
+}
+
+/**
+ * The worst in short, and how many more there are, or else what was not judged. A doubtful recording comes after the
+ * worst fault, and before anything else.
+ */
+function shortOf({ level, lacks }, findings, doubts) {
+  if (level === "well") return WELL;
+  const own = findings.map(({ short }) => short).filter((short) => short);
+  if (own.length + doubts.length === 0) return lacks[0]?.text ?? "";
+  const all = level === "fault" ? [...own.slice(0, 1), ...doubts, ...own.slice(1)] : [...doubts, ...own];
+  const rest = doubts.length + findings.length - Math.min(MOST_TOLD, all.length);
+  return all.slice(0, MOST_TOLD).join(" \u00b7 ") + (rest > 0 ? `, and ${rest} more` : "");
+}

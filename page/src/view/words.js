@@ -1,0 +1,54 @@
+/** What the page says of warnings and faults: in its own words, and what to do. */
+
+/** @typedef {{ text: string, cure: string, act: "edge"|"invert"|"wires"|"second"|"" }} Words */
+
+const ON = "Is it the right channel, and is its probe on?";
+const INVERTED = "Its two wires may be exchanged, or the analyser inverts it.";
+const PROBES = "Check the probe and its ground, and record again.";
+const SLOWER = "If the analyser dropped samples, record at a lower rate, or for a shorter time.";
+
+const WARNINGS = {
+  cut: () => [
+    "The file ends in the middle of a line: it was cut off, or is still being written. All before that is shown.",
+    "When the recording is done, save it whole and drop it again.",
+  ],
+  flat: (name) => [`${name} never changes, but data is expected there.`, ON, "wires"],
+  inverted: (name) => [`${name} rests at 0, where a line at rest is 1.`, INVERTED, "invert"],
+  still: (name) => [`${name} never changes, but a clock is expected there.`, ON, "wires"],
+  rising: (name) => [`The data changes just where a bit is taken, at the rising edges of ${name}.`, INVERTED, "edge"],
+  falling: (name) => [`The data changes just where a bit is taken, at the falling edges of ${name}.`, "", "edge"],
+  glitch: (name) => [`${name} has pulses far shorter than a clock's; they were left out.`, PROBES, "second"],
+  shortData: (name) => [`The data of ${name} has pulses shorter than half a bit.`, PROBES, "second"],
+  shortClock: (name) => [`${name} has pulses shorter than half a bit can be.`, PROBES, "second"],
+  early: (name) => [`${name} has edges that come too early.`, SLOWER, "second"],
+  gap: () => ["The controller's clock (TXC) stops; the bits there were taken from its data alone.", SLOWER, "second"],
+  stop: () => ["The stations' clock (RXC) stops within a frame, or an edge of it is lacking.", SLOWER, "second"],
+  drift: () => ["Answers stand some bits off their places: reply times there are not exact.", SLOWER, "second"],
+  beyond: () => ["The stations' line goes on after the controller's ends, and is cut off there.", ""],
+};
+
+/** @param {import("../recording/doubts.js").Warning} warning @returns {Words} */
+export function wordsOf({ sort, name, count, second, text }) {
+  const [said, cure = "", act = ""] = WARNINGS[sort]?.(name) ?? [text];
+  const times = count > 1 ? `${count} times, first at ` : "At ";
+  const when = second === null ? (count > 1 ? ` ${count} times.` : "") : ` ${times}${second.toFixed(3)} s.`;
+  return { text: said + when, cure, act: act === "second" && second === null ? "" : act };
+}
+
+/** What a file is that has a fault, by port1's text for it. */
+const FAULTS = [
+  [/^capture: short head$/, "The file is cut off within its first 16 octets"],
+  [/^capture: short body$/, "The file is cut off: it has fewer bits than it says"],
+  [/^capture: octets after the end$/, "The file goes on after the bits that it says it has"],
+  [/^capture: wrong magic$/, "This is no packed capture of so many lines"],
+  [/^capture: octet \d+ is no bit$/, "The text has something else than bits"],
+  [/^the file changed while/, "The file is still being written, or was moved: drop it again when it is done"],
+  [/^the archive|in the archive/, "The session is cut off or damaged: save it again"],
+  [/has no known level$/, "The data has no known level there"],
+];
+
+/** @param {string} fault @param {boolean} hasLines whether something stands before it */
+export function faultWords(fault, hasLines) {
+  const [, words] = FAULTS.find(([pattern]) => pattern.test(fault)) ?? [null, "The file has a fault"];
+  return `${words}; ${hasLines ? "what stands before it is shown" : "nothing stands before it"}. port1: ${fault}`;
+}

@@ -1,0 +1,39 @@
+// Warnings of the data of a recording, by the level at which it rests.
+
+import assert from "node:assert/strict";
+import { test } from "node:test";
+import { KeptBits } from "../src/engine/bits.js";
+import { warningsOfLevels } from "../src/worker/levels.js";
+import { Talk } from "./support/bus_talk.js";
+
+const WIRES = ["TXC", "TXD", "RXC", "RXD"];
+
+/** Bits of lines of which each octet is the same. */
+function bitsOf(...octets) {
+  const bits = new KeptBits();
+  for (let block = 0; block < 3; block++) bits.take(octets.map((octet) => new Uint8Array(1000).fill(octet)), 8000);
+  return bits;
+}
+
+const [REST, ZERO, MOSTLY_ONES, MOSTLY_ZEROS] = [0xff, 0, 0x7e, 0x81];
+const NOTHING = new Talk().listing;
+const FRAMES = new Talk().frame(1, 1, 1, 0).frame(2, 3, 1, 128).listing;
+
+const CASES = [
+  ["both well", WIRES, bitsOf(MOSTLY_ONES, MOSTLY_ONES), FRAMES, []],
+  ["both well, without frames", WIRES, bitsOf(MOSTLY_ONES, MOSTLY_ONES), NOTHING, []],
+  ["mostly zeros, but with frames", WIRES, bitsOf(MOSTLY_ZEROS, MOSTLY_ZEROS), FRAMES, []],
+  ["the commands inverted", WIRES, bitsOf(MOSTLY_ZEROS, MOSTLY_ONES), NOTHING, ["1 inverted TXD"]],
+  ["the answers inverted", WIRES, bitsOf(MOSTLY_ONES, MOSTLY_ZEROS), NOTHING, ["2 inverted RXD"]],
+  ["a dead wire at 1, and one at 0", WIRES, bitsOf(REST, ZERO), NOTHING, ["1 flat TXD", "2 flat RXD"]],
+  ["one clock for both", ["C", "A", "B"], bitsOf(MOSTLY_ONES, REST), FRAMES, ["2 flat B"]],
+  ["one line", ["C", "A"], bitsOf(MOSTLY_ZEROS), NOTHING, ["1 inverted A"]],
+  ["no bit", WIRES, new KeptBits(), NOTHING, []],
+];
+
+for (const [name, channels, bits, listing, wanted] of CASES) {
+  test(name, () => {
+    const found = warningsOfLevels(channels, bits, listing);
+    assert.deepEqual(found.map(({ line, sort, name: channel }) => `${line} ${sort} ${channel}`), wanted);
+  });
+}

@@ -1,0 +1,53 @@
+// Reading a file: one that is cut off within a line is read up to there, and one that changes is refused.
+
+import assert from "node:assert/strict";
+import { test } from "node:test";
+import { Fault } from "../src/fault.js";
+import { piecesOf } from "../src/worker/pieces.js";
+import { read } from "../src/worker/source.js";
+
+const LINES = Array.from({ length: 50 }, (_, at) => `${100 * at} ${100 * at + 15} idle\n`);
+
+const jobOf = (file) => ({ file, form: "listing", lines: 1, channels: [], rising: true, entries: null, engine: null });
+const readText = (text) => read(jobOf(new Blob([text])), () => undefined);
+const textOf = ({ listing }) => listing.textOf(0, listing.length);
+
+test("a whole listing has no warning, with a line end at its end or without", async () => {
+  for (const text of [LINES.join(""), LINES.join("").slice(0, -1)]) {
+    const found = await readText(text);
+    assert.deepEqual([textOf(found), found.fault, found.warnings], [LINES.join(""), null, []]);
+  }
+});
+
+for (const cut of [1, 5, 9]) {
+  test(`a listing that is cut off ${cut} octets into a line`, async () => {
+    const found = await readText(LINES.join("") + LINES[49].slice(0, cut));
+    assert.equal(textOf(found), LINES.join(""));
+    assert.deepEqual(found.warnings.map(({ sort }) => sort), ["cut"]);
+  });
+}
+
+test("a wrong line that is not the last is a fault", async () => {
+  const wanted = { constructor: Fault, message: "line 51 is no line of `port1 list`: what" };
+  await assert.rejects(readText(`${LINES.join("")}what\n${LINES.join("")}cut of`), wanted);
+});
+
+/** A file that cannot be read any more after so many octets, as browsers have it where it was written meanwhile. */
+function growing(name, octets) {
+  const refused = Object.assign(new Error("changed"), { name });
+  const part = (from) => ({ arrayBuffer: () => (from < octets ? Promise.resolve(new ArrayBuffer(4)) : Promise.reject(refused)) });
+  return { size: 1 << 23, slice: part };
+}
+
+for (const [name, wanted] of [
+  ["NotReadableError", { constructor: Fault, message: "the file changed while it was read" }],
+  ["NotFoundError", { constructor: Fault, message: "the file changed while it was read" }],
+  ["AbortError", { name: "AbortError" }],
+]) {
+  test(`a file that the browser refuses by a ${name}`, async () => {
+    const all = async () => {
+      for await (const piece of piecesOf(growing(name, 1 << 22), () => undefined)) assert.equal(piece.length, 4);
+    };
+    await assert.rejects(all, wanted);
+  });
+}

@@ -1,0 +1,42 @@
+// What the bits of a frame are: its octets, the flags about it, and the zeros that the sender put in.
+
+import assert from "node:assert/strict";
+import { test } from "node:test";
+import { KeptBits } from "../src/engine/bits.js";
+import { ListingReader } from "../src/listing/read.js";
+import { structureOf } from "../src/worker/structure.js";
+
+const FLAG = "01111110";
+
+/** The octets 10 83 00 fd e5, lowest bits first; after five ones, in fd, comes a zero. */
+const FRAME = "00001000" + "11000001" + "00000000" + "1011111" + "0" + "1" + "10100111";
+
+/** Bits of two lines, of which the first rests. */
+function keptOf(text) {
+  const bits = new KeptBits();
+  const octets = new Uint8Array(Math.ceil(text.length / 8));
+  [...text].forEach((bit, at) => (octets[at >> 3] |= Number(bit) << (at & 7)));
+  bits.take([new Uint8Array(octets.length).fill(255), octets], text.length);
+  return bits;
+}
+
+function listed(text) {
+  const reader = new ListingReader();
+  reader.take(new TextEncoder().encode(`${text}\n`));
+  return reader.end();
+}
+
+test("octets, flags and the zero after five ones", () => {
+  const bits = keptOf(FLAG + FRAME + FLAG);
+  const { line, parts, zeros } = structureOf(listed("2 8 49 frame 108300fde5"), bits, 0);
+  assert.equal(line, 2);
+  assert.deepEqual(zeros, [8 + 24 + 7]);
+  assert.deepEqual(parts.map(({ text }) => text), ["flag", "flag", "10", "83", "00", "fd", "e5"]);
+  assert.deepEqual(parts.map(({ first }) => first), [0, 49, 8, 16, 24, 32, 41]);
+  assert.deepEqual(parts.map(({ past }) => past), [8, 57, 16, 24, 32, 41, 49]);
+});
+
+test("where the capture begins or ends at a frame, there is no flag", () => {
+  const { parts } = structureOf(listed("2 0 41 frame 108300fde5"), keptOf(FRAME), 0);
+  assert.deepEqual(parts.map(({ text }) => text), ["10", "83", "00", "fd", "e5"]);
+});

@@ -1,0 +1,107 @@
+"""Counts the words and the sentences of the documents, and looks for words that they are not to have.
+
+A word is what spaces part, as `wc -w` counts. A sentence is one of prose or of a list, and not of a table, a heading or
+code; a piece of code within it counts as one word, and a link as its text.
+"""
+
+import re
+from pathlib import Path
+from typing import Dict, Iterator, List, Tuple
+
+from promised import sentences_of
+
+TOP = Path(__file__).resolve().parent.parent
+
+# The words of all documents together, at most, and the lines and words of the first page.
+MOST_WORDS = 24000
+FIRST_PAGE = "README.md"
+MOST_OF_FIRST_PAGE = (180, 1400)
+
+# The words of a sentence, at most, and on the average.
+LONGEST_SENTENCE = 40
+MEAN_SENTENCE = 18
+
+# The document of decisions: its entries, and the lines of each, at most.
+DECISIONS = "docs/DECISIONS.md"
+MOST_ENTRIES, MOST_LINES = 45, 5
+
+# The picture of README.md, and its octets, at most.
+PICTURE, MOST_OF_PICTURE = "docs/page.png", 200_000
+
+# Persons tell and hear; software reports and reads. A noun is shorter than a clause in its place.
+UNWANTED = [
+    (r"\b(?:tells?|told|telling|hears?|heard|hearing)\b", "of software: reports, returns, prints, reads"),
+    (r"\bthose that\b|\bthat of the\b|\bthose of the\b", "name the thing"),
+    (r"\bwhat (?:it|they|these|was|were|takes|took)\b", "a noun serves"),
+]
+
+# Words of a document that are no prose of its own: titles of Rattle's names, and quotations.
+CODE = re.compile(r"`[^`]*`")
+
+LINK = re.compile(r"\[([^\]]*)\]\([^)]*\)")
+
+FENCED = re.compile(r"^```.*?^```$", re.MULTILINE | re.DOTALL)
+
+
+def texts() -> Dict[str, str]:
+    paths = sorted([*TOP.glob("*.md"), *TOP.glob("docs/*.md")])
+    return {str(path.relative_to(TOP)): path.read_text(encoding="utf-8") for path in paths}
+
+
+def prose_of(text: str) -> List[str]:
+    """The sentences, with code as one word and links as their texts."""
+    plain = LINK.sub(r"\1", FENCED.sub("", text))
+    return [*sentences_of(CODE.sub("code", plain))]
+
+
+def problems_of_sentences(text: str) -> Iterator[str]:
+    sentences = prose_of(text)
+    counts = [len(sentence.split()) for sentence in sentences]
+    for sentence, count in zip(sentences, counts):
+        if count > LONGEST_SENTENCE:
+            yield f"a sentence of {count} words, over {LONGEST_SENTENCE}: {sentence[:100]}"
+    mean = sum(counts) / max(len(counts), 1)
+    if mean > MEAN_SENTENCE:
+        yield f"its sentences have {mean:.1f} words on the average, over {MEAN_SENTENCE}"
+
+
+def problems_of_words(text: str) -> Iterator[str]:
+    plain = CODE.sub("code", FENCED.sub("", text))
+    for number, line in enumerate(plain.splitlines(), 1):
+        if not line.startswith(("    ", "#")):
+            for form, instead in UNWANTED:
+                yield from (f"`{found}` ({instead}): {line}" for found in re.findall(form, line, re.IGNORECASE))
+
+
+def problems_of_decisions(text: str) -> Iterator[str]:
+    entries = re.findall(r"^- \*\*.*(?:\n  .*)*", text, re.MULTILINE)
+    if not 1 <= len(entries) <= MOST_ENTRIES:
+        yield f"{len(entries)} entries, not 1 to {MOST_ENTRIES}"
+    for entry in entries:
+        if entry.count("\n") >= MOST_LINES:
+            yield f"an entry of more than {MOST_LINES} lines: {entry[:60]}"
+
+
+def problems_of_first_page(text: str) -> Iterator[str]:
+    for name, count, most in zip(["lines", "words"], [text.count("\n"), len(text.split())], MOST_OF_FIRST_PAGE):
+        if count > most:
+            yield f"{count} {name}, over {most}"
+
+
+def problems_of_picture() -> Iterator[str]:
+    content = (TOP / PICTURE).read_bytes()
+    if not content.startswith(b"\x89PNG") or len(content) > MOST_OF_PICTURE:
+        yield f"{len(content)} octets, over {MOST_OF_PICTURE}, or no PNG: `tests/page --picture {PICTURE}` makes it"
+
+
+def results_of_language() -> Iterator[Tuple[str, List[str]]]:
+    """What is wrong with the words of each document, and of all together."""
+    documents = texts()
+    total = sum(len(text.split()) for text in documents.values())
+    yield "all documents: words", [f"{total}, over {MOST_WORDS}"] if total > MOST_WORDS else []
+    yield f"{FIRST_PAGE}: its length", [*problems_of_first_page(documents[FIRST_PAGE])]
+    yield f"{DECISIONS}: its entries", [*problems_of_decisions(documents[DECISIONS])]
+    yield f"{PICTURE}: its size", [*problems_of_picture()]
+    for name, text in documents.items():
+        yield f"{name}: its sentences", [*problems_of_sentences(text)]
+        yield f"{name}: its words", [*problems_of_words(text)]

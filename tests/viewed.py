@@ -1,0 +1,640 @@
+"""What the page shows: what is in view at each size, where each button leads, and what it says of each input.
+
+Expected words come from what was put into the files: talks whose faults are known, and recordings that are spoilt.
+"""
+
+import io
+import json
+import re
+import sys
+import tempfile
+import zipfile
+import zlib
+from functools import partial
+from pathlib import Path
+from typing import Callable, Dict, Iterator, List, NamedTuple, Sequence, Tuple
+
+import browser
+from paged import Test, address_of, opened, read_file
+
+TOP = Path(__file__).resolve().parent.parent
+
+sys.path.insert(0, str(TOP / "contrib" / "tests"))
+
+from failing_bus import CONTROL, FLAG, RATE, frame_bits
+
+EXAMPLE = [TOP / "examples" / "port1-failure.toml", TOP / "examples" / "port1-failure.bits"]
+
+LAPTOP = (1366, 768)
+SIZES = [(390, 844), (820, 1180), LAPTOP, (1920, 1080)]
+
+# On these a sentence, the timeline and the listing are in view together.
+WIDE = [LAPTOP, (1920, 1080)]
+
+# How many lines the listing has that is scrolled, and how long a step of it may take, in milliseconds: a frame of 60.
+MANY_LINES = 1_000_000
+FRAME = 1000 / 60
+
+# The test that says how long something may take.
+TIMED = "a million lines"
+
+
+# Inputs.
+
+
+class Line:
+    """A line of the bus that rests at 1 where nothing is sent."""
+
+    def __init__(self, milliseconds: float) -> None:
+        self.bits = ["1"] * round(milliseconds * RATE / 1000)
+
+    def send(self, at: float, *octets: int) -> float:
+        """Sends a frame whose first bit comes after so many milliseconds; when its last bit has gone."""
+        bits = frame_bits(*octets)
+        first = round(at * RATE / 1000)
+        self.bits[first - len(FLAG) : first + len(bits) + len(FLAG)] = FLAG + bits + FLAG
+        return (first + len(bits)) * 1000 / RATE
+
+
+# What a station does in a round: after how many milliseconds it answers, or that it does not, or that it is not asked.
+NO_ANSWER, NOT_ASKED = -1.0, -2.0
+Habit = Callable[[int, int], float]
+
+
+def talk(rounds: int, habit: Habit, rest: float = 0.0) -> Tuple[Line, Line]:
+    """Both lines of a talk in which stations 1 and 2 are asked each 20 ms, and then rest for some milliseconds."""
+    commands, answers = Line(20 * rounds + rest + 20), Line(20 * rounds + rest + 20)
+    for round_number in range(rounds):
+        for station in (1, 2):
+            reply = habit(station, round_number)
+            at = 20 * round_number + 10 * (station - 1) + 1
+            if reply == NOT_ASKED:
+                continue
+            past = commands.send(at, station, CONTROL, 0)
+            if reply != NO_ANSWER:
+                answers.send(past + reply, station, CONTROL, 128)
+    return commands, answers
+
+
+def text_of(commands: Line, answers: Line) -> bytes:
+    """A capture of two lines."""
+    return "".join(str(int(one) + 2 * int(other)) for one, other in zip(commands.bits, answers.bits)).encode()
+
+
+def well(_: int, __: int) -> float:
+    return 1.0
+
+
+def dictionary(window: str = "window = 768\n") -> bytes:
+    """One type of command, which is to be answered within five milliseconds, or without a word of that."""
+    call = f'[[frame]]\ntype = 0\nname = "call"\nlength = 0\nanswered = true\n{window}'
+    return f'version = 2\n{call}[[frame]]\ntype = 128\nname = "reply"\nlength = 0\n'.encode()
+
+
+def levels_of(lines: Sequence[Line]) -> Iterator[int]:
+    """The four wires of a talk: TXC, TXD, RXC, RXD in the bits 0 to 3, two samples a bit; clocks rise in the middle."""
+    for one, other in zip(*(line.bits for line in lines)):
+        data = int(one) << 1 | int(other) << 3
+        yield data
+        yield data | 0b0101
+
+
+NAMES = ("TXC", "TXD", "RXC", "RXD")
+
+
+def session_of(lines: Sequence[Line], names: Sequence[str] = NAMES) -> bytes:
+    """A session as PulseView saves it."""
+    probes = "".join(f"probe{at}={name}\n" for at, name in enumerate(names, 1))
+    rate = f"samplerate={2 * RATE} Hz"
+    written = io.BytesIO()
+    with zipfile.ZipFile(written, "w", zipfile.ZIP_DEFLATED) as archive:
+        archive.writestr("version", "2")
+        archive.writestr("metadata", f"[device 1]\ncapturefile=logic-1\n{rate}\n{probes}unitsize=1\n")
+        archive.writestr("logic-1-1", bytes(levels_of(lines)))
+    return written.getvalue()
+
+
+def rows_of(lines: Sequence[Line], names: Sequence[str] = NAMES, flipped: int = 0) -> bytes:
+    """A table as sigrok writes it; some wires may be inverted."""
+    head = f"; Channels (4/4): {', '.join(names)}\n; Samplerate: {2 * RATE}\n{','.join(['logic'] * 4)}\n"
+    rows = (level ^ flipped for level in levels_of(lines))
+    return (head + "".join(",".join(str(row >> at & 1) for at in range(4)) + "\n" for row in rows)).encode()
+
+
+def dump_of(lines: Sequence[Line]) -> bytes:
+    """A value change dump, a time for each sample."""
+    head = "$timescale 1 us $end\n" + "".join(f"$var wire 1 {at} {name} $end\n" for at, name in enumerate(NAMES))
+    levels = enumerate(levels_of(lines))
+    rows = (f"#{3 * at} " + " ".join(f"{level >> wire & 1}{wire}" for wire in range(4)) for at, level in levels)
+    return (head + "$enddefinitions $end\n" + "\n".join(rows) + "\n").encode()
+
+
+def cut_in_time(dump: bytes) -> bytes:
+    """A dump that ends within its last time."""
+    return dump[: dump.rindex(b"#") + 3]
+
+
+# What is said of inputs.
+
+
+class Input(NamedTuple):
+    """Files that are dropped, and what is then to be read: the verdict, and where else which words."""
+
+    name: str
+    files: Dict[str, bytes]
+    verdict: str
+    words: Dict[str, str]  # patterns, by what has the text
+
+
+WELL = text_of(*talk(60, well))
+SHORT = talk(10, well)
+ONE_MISSING = text_of(*talk(120, lambda station, number: NO_ANSWER if (station, number) == (1, 50) else 1.0))
+OFTEN_MISSING = text_of(*talk(60, lambda station, number: NO_ANSWER if (station, number) == (1, 50) else 1.0))
+SLOW = text_of(*talk(60, lambda station, number: 4.0 if station == 2 and number in (7, 30) else 1.0))
+LATE = text_of(*talk(60, lambda station, number: 6.0 if station == 2 and number in (7, 30) else 1.0))
+QUIET = text_of(*talk(60, lambda _, number: NOT_ASKED if 30 <= number < 40 else 1.0))
+MUTE = text_of(*talk(60, lambda _, number: NO_ANSWER if number >= 30 else 1.0))
+SILENT = text_of(*talk(60, lambda station, _: NO_ANSWER if station == 2 else 1.0))
+NO_ANSWERS = text_of(*talk(60, lambda *_: NO_ANSWER))
+SWAPPED = text_of(*reversed(talk(60, well)))
+DEAD = text_of(*talk(60, well, rest=2000))
+
+DICT = {"cabinet.toml": dictionary()}
+OPEN = {"open.toml": dictionary("")}
+NOT_LATE = {"#counts": "0missing\u2013late0spoilt", "#replies p": "none is judged late"}
+FIRST, SHORTLY, LACKS, STATUS = "#sentences .jump", "#verdict-short", "#lacks", "#status"
+
+INPUTS = [
+    Input(
+        "all is well",
+        {**DICT, "a.bits": WELL},
+        "No fault found",
+        {SHORTLY: "^Every answer came in time", "#counts": "^0gaps0missing0late0spoilt0damaged$", "#replies p": "0 late"},
+    ),
+    Input("no dictionary", {"a.bits": WELL}, "Not judged", {LACKS: "There is no dictionary.*Begin a dictionary"}),
+    Input(
+        "no window",
+        {**OPEN, "a.bits": WELL},
+        "Not all judged",
+        {SHORTLY: "^No reply was judged late", LACKS: "^Nothing is damaged, missing or spoilt, and no gap", **NOT_LATE},
+    ),
+    Input(
+        "slow replies, and no window",
+        {**OPEN, "a.bits": SLOW},
+        "Look closer",
+        {FIRST: "^Station 2 took 4 ms for 2 of 60 answers.*usual", LACKS: "^No reply was judged late"},
+    ),
+    Input("late replies", {**DICT, "a.bits": LATE}, "Look closer", {FIRST: "^Station 2 answered 2 of 60"}),
+    Input("one in 120 missing", {**DICT, "a.bits": ONE_MISSING}, "Look closer", {FIRST: "to 1 of 120"}),
+    Input("one in 60 missing", {**DICT, "a.bits": OFTEN_MISSING}, "Fault", {FIRST: "to 1 of 60"}),
+    Input("a silent station", {**DICT, "a.bits": SILENT}, "Fault", {FIRST: "^Station 2 is silent"}),
+    Input("no command for 200 ms", {**DICT, "a.bits": QUIET}, "Fault", {SHORTLY: "^No command at all for 2"}),
+    Input("no answer from 0.6 s on", {**DICT, "a.bits": MUTE}, "Fault", {FIRST: "^No station answered from 0.60"}),
+    Input("nothing on line 2", {**DICT, "a.bits": NO_ANSWERS}, "Fault", {FIRST: "^No frame came on line 2"}),
+    Input("lines exchanged", {**DICT, "a.bits": SWAPPED}, "Fault", {FIRST: "^120 commands came on line 2"}),
+    Input("a dead end", {**DICT, "a.bits": DEAD}, "Fault", {FIRST: "^Nothing came on either line from 1.19"}),
+    Input(
+        "a session of PulseView",
+        {**DICT, "tap.sr": session_of(SHORT)},
+        "No fault found",
+        {"#head": "^40 frames", "#command": r"recording-to-bits TXC TXD RXC RXD < tap.sr \| port1 list --bits --two"},
+    ),
+    Input(
+        "channels without names",
+        {**DICT, "d.sr": session_of(SHORT, ["D0", "D1", "D2", "D3"])},
+        "No fault found",
+        {"#guess": "^The channels D0, D1, D2, D3 were taken for TXC, TXD, RXC, RXD, in this order"},
+    ),
+    Input(
+        "channels out of order, and without names",
+        {**DICT, "d.csv": rows_of(talk(10, well), ["D2", "D3", "D0", "D1"])},
+        "Fault",
+        {FIRST: "came on line 2", "#channels": "D0"},
+    ),
+    Input(
+        "clocks inverted",
+        {**DICT, "tap.csv": rows_of(SHORT, flipped=0b0101)},
+        "",
+        {"#warnings": "^The recording is doubtful.*just where a bit is taken.*Take the bits at the other edge"},
+    ),
+    Input(
+        "answers inverted",
+        {**DICT, "tap.csv": rows_of(SHORT, flipped=0b1000)},
+        "",
+        {"#warnings": "RXD rests at 0.*two wires may be exchanged.*Read it inverted"},
+    ),
+    Input(
+        "a wire that never changes",
+        {**DICT, "tap.csv": rows_of((SHORT[0], Line(220)))},
+        "",
+        {"#warnings": "RXD never changes.*Is it the right channel"},
+    ),
+    Input(
+        "a table that is cut off",
+        {**DICT, "tap.csv": rows_of(SHORT)[:-4]},
+        "Look closer",
+        {"#warnings": "ends in the middle of a line.*save it whole", "#head": "^40 frames"},
+    ),
+    Input(
+        "a dump that is cut off",
+        {**DICT, "tap.vcd": cut_in_time(dump_of(SHORT))},
+        "Look closer",
+        {"#warnings": "ends in the middle of a line", "#head": "^40 frames"},
+    ),
+    Input("a session that is cut off", {"tap.sr": session_of(SHORT)[:-400]}, "", {STATUS: "archive is cut off"}),
+    Input(
+        "a capture that is cut off",
+        {"a.ts2": b"TS2BITS1" + (90).to_bytes(8, "little") + b"\x7e\x7e"},
+        "Look closer",
+        {"#fault": "^The file is cut off.*port1: capture: short body$"},
+    ),
+    Input("an empty file", {"empty.csv": b""}, "", {STATUS: "^empty.csv is empty"}),
+    Input("a picture", {"tap.png": b"\x89PNG\r\n\x1a\n\0\0"}, "", {STATUS: "^tap.png is a picture"}),
+    Input("a table with semicolons", {"t.csv": b"Time;TXC\n0;1\n"}, "", {STATUS: "no commas part"}),
+    Input("a dictionary alone", DICT, "", {STATUS: "^The dictionary is kept. Now drop a recording.$"}),
+    Input(
+        "what cannot be read beside what can",
+        {**DICT, "a.bits": WELL, "notes.txt": b"station 16 flashes\n"},
+        "No fault found",
+        {STATUS: "^notes.txt is text, but no capture"},
+    ),
+]
+
+
+def text_at(session: browser.Session, selector: str) -> str:
+    found: str = session.value(f"document.querySelector({json.dumps(selector)})?.textContent ?? ''")
+    return re.sub(r"\s+", " ", found).strip()
+
+
+def problems_of_input(session: browser.Session, given: Input) -> Iterator[str]:
+    with tempfile.TemporaryDirectory(prefix="port1-") as folder:
+        files = [Path(folder, name) for name in given.files]
+        for file, octets in zip(files, given.files.values()):
+            file.write_bytes(octets)
+        read_file(session, files)
+        word = text_at(session, "#result:not([hidden]) #verdict-word")
+        if given.verdict and given.verdict != word:
+            yield f"the verdict is {word!r}"
+        for selector, pattern in given.words.items():
+            text = text_at(session, selector)
+            if not re.search(pattern, text):
+                yield f"{selector} is {text[:300]!r}"
+
+
+def problems_of_inputs(page: Path, name: str) -> List[str]:
+    """Whether each input is named for what it is."""
+    problems = []
+    with opened(name, address_of(page)) as session:
+        for given in INPUTS:
+            session.visit(address_of(page))
+            problems += [f"{given.name}: {problem}" for problem in problems_of_input(session, given)]
+        return problems + [f"the console says {text}" for text in session.complaints()]
+
+
+# What is in view.
+
+# Whether all of an element lies in the window.
+IN_VIEW = """((box) => box && box.width > 0 && box.top >= -1 && box.left >= -1
+  && box.bottom <= innerHeight + 1 && box.right <= innerWidth + 1)(document.querySelector(%s)?.getBoundingClientRect())"""
+
+# The widest element that reaches out of the window, where none of those that scroll has it.
+TOO_WIDE = """(() => {
+  const wide = document.documentElement.scrollWidth - document.documentElement.clientWidth;
+  const scrolls = (node) => node.closest?.('.wide, #tabs, .lines, textarea, pre, svg, select');
+  const out = [...document.body.querySelectorAll('*')].find((node) =>
+    !scrolls(node) && node.getBoundingClientRect().right > innerWidth + 1 && node.getBoundingClientRect().width > 0);
+  return wide > 0 ? `${wide} pixels` : out ? out.id || out.className || out.tagName : null;
+})()"""
+
+TABS = ["listing", "table", "damage", "dictionary", "notes"]
+
+
+def are_in_view(session: browser.Session, selectors: Sequence[str]) -> List[str]:
+    return [f"{each} is not in view" for each in selectors if not session.value(IN_VIEW % json.dumps(each))]
+
+
+def too_wide(session: browser.Session, when: str) -> List[str]:
+    found = session.value(TOO_WIDE)
+    return [f"{when}: {found} is wider than the window"] if found else []
+
+
+def problems_of_empty(session: browser.Session) -> List[str]:
+    """What stands there before a file: what to drop, the wires, and an example."""
+    problems = are_in_view(session, ["#drop h2", "#choose-files", "#example", "#wires"])
+    return problems + too_wide(session, "empty")
+
+
+def problems_of_first_screen(session: browser.Session, is_wide: bool) -> List[str]:
+    """After reading, what is wrong is in view, at every size; on a wide screen also where it is."""
+    wanted = ["#verdict-word", "#verdict-short", "#counts", "#sentences .jump"]
+    together = ["#replies svg", "#timeline .hatch path", "#timeline .axis", "#lines .line", "#tab-notes"]
+    problems = are_in_view(session, [*wanted, *(together if is_wide else [])])
+    for at, tab in enumerate(TABS):
+        session.value(f"page1.tabs.openAt({at})")
+        problems += too_wide(session, f"tab {tab}")
+        if tab == "table" and is_wide:
+            cut = session.value("((box) => box.scrollWidth > box.clientWidth)(document.querySelector('.wide'))")
+            problems += ["the table is cut off"] if cut else []
+    session.value("page1.tabs.open('listing') ?? page1.toggleSettings(true)")
+    problems += too_wide(session, "wires and form")
+    session.value("page1.toggleSettings(false) ?? page1.help.open()")
+    problems += too_wide(session, "the keys")
+    session.value("page1.help.dialog.close()")
+    return problems
+
+
+# Whether a line is chosen in the listing and in view there, and what is chosen is in view in the timeline.
+CHOSEN = """(() => {
+  const box = (node) => node?.getBoundingClientRect() ?? { top: -1, bottom: -1, width: 0 };
+  const [line, list] = [box(document.querySelector('#lines .chosen')), box(document.querySelector('#lines'))];
+  const mark = box(document.querySelector('#timeline .chosen-ground'));
+  const isIn = ({ top, bottom, width }) => width > 0 && top >= -1 && bottom <= innerHeight + 1;
+  return line.width > 0 && line.top >= list.top - 1 && line.bottom <= list.bottom + 1 && isIn(mark) && (%s || isIn(line));
+})()"""
+
+
+def second_of(session: browser.Session) -> float:
+    """The time of the line that is chosen."""
+    return float(session.value("document.querySelector('#lines .chosen .second').textContent"))
+
+
+def problems_of_places(session: browser.Session, is_wide: bool) -> List[str]:
+    """Whether each sentence, and each of its times, leads to a mark and a line, both in view."""
+    problems = []
+    chosen = CHOSEN % ("false" if is_wide else "true")
+    count = session.value("document.querySelectorAll('#sentences button').length")
+    for at in range(count):
+        button = f"document.querySelectorAll('#sentences button')[{at}]"
+        session.value(f"document.querySelector('#lines .chosen')?.classList.remove('chosen') ?? {button}.click()")
+        session.wait_until(chosen, 20)
+        told = re.fullmatch(r"(\d+\.\d+) s", session.value(f"{button}.textContent"))
+        if told and abs(second_of(session) - float(told[1])) > 0.001:
+            problems.append(f"{told[0]} leads to {second_of(session)} s")
+    return problems + ([] if count > 8 else [f"there are {count} buttons"])
+
+
+def problems_of_size(page: Path, size: Tuple[int, int], name: str) -> List[str]:
+    """Whether all of importance is in view at a size, and nothing reaches out of the window."""
+    is_wide = size in WIDE
+    with opened(name, address_of(page), size) as session:
+        problems = problems_of_empty(session)
+        read_file(session, EXAMPLE)
+        session.wait_until("document.querySelector('#timeline .hatch path') && document.querySelector('#lines .line')", 20)
+        problems += problems_of_first_screen(session, is_wide)
+        problems += problems_of_places(session, is_wide)
+        return problems + [f"the console says {text}" for text in session.complaints()]
+
+
+# Keyboard, pointer and wheel.
+
+# What has the focus, by what it is.
+FOCUSED = """((it) => it.id || (it.closest('.times') ? 'time' : it.classList.contains('jump') ? 'sentence'
+  : it.closest('#counts') ? 'count' : it.closest('#timeline svg') ? 'timeline' : it.closest('.tools') ? 'tool'
+  : it.tagName === 'SELECT' ? 'select' : it.tagName))(document.activeElement)"""
+
+# The order in which Tab goes through the page, where what comes more than once is named once.
+ORDER = [
+    *["dictionary-chip", "show-settings", "open-another", "show-help", "count"],
+    *["sentence", "time", "sentence", "time", "sentence", "time", "sentence", "time"],
+    *["select", "tool", "timeline", "tab-listing"],
+    *["query-text", "query-kind", "query-station", "query-type", "query-second", "query-idle", "save", "lines"],
+]
+
+
+def problems_of_focus(session: browser.Session) -> List[str]:
+    """Whether Tab goes through the page from the bar to the listing, and once to the times of each sentence."""
+    session.value("document.activeElement.blur()")
+    found: List[str] = []
+    while len(found) < 60 and (not found or found[-1] != "lines"):
+        session.press("Tab")
+        found.append(session.value(FOCUSED))
+    order = [each for at, each in enumerate(found) if at == 0 or each != found[at - 1] or each == "time"]
+    return [] if order == ORDER else [f"Tab goes {order}"]
+
+
+KEYS: List[Tuple[Sequence[str], str]] = [
+    (["n"], "document.querySelector('#sentences li.chosen')"),
+    (["n", "n"], "document.querySelector('.times .chosen')"),
+    (["p"], "document.querySelector('#sentences li.chosen')"),
+    (["t", "Home", "+"], "page1.timeline.svg.node().__zoom.k === 2"),
+    (["-"], "page1.timeline.svg.node().__zoom.k === 1"),
+    (["+", "+", "ArrowRight"], "page1.timeline.scale.domain()[0] > 1"),
+    (["ArrowLeft"] * 6, "page1.timeline.scale.domain()[0] < 1"),
+    (["Home"], "page1.timeline.svg.node().__zoom.k === 1"),
+    (["."], "page1.lines.chosen > self.before"),
+    ([","], "page1.lines.chosen < self.before"),
+    (["Enter"], "document.querySelectorAll('#timeline .bits, #timeline .bits-line').length > 0"),
+    (["l", "Home"], "page1.lines.top === 0"),
+    (["ArrowDown"], "document.activeElement.id === 'lines' && document.querySelector('#lines .chosen')"),
+    (["End"], "page1.lines.top > 0"),
+    (["/"], "document.activeElement.id === 'query-text'"),
+    (["5"], "document.getElementById('query-text').value === '5'"),
+    (["Tab", "Tab", "Tab", "Tab", "Tab", "Tab", "2"], "!document.getElementById('pane-table').hidden"),
+    (["1"], "!document.getElementById('pane-listing').hidden"),
+    (["g", "0", ".", "2", "Enter"], "/^0\\.2/.test(document.querySelector('#lines .chosen .second')?.textContent)"),
+    (["Tab", "?"], "document.getElementById('help').open"),
+    (["Escape"], "!document.getElementById('help').open"),
+    (["w"], "document.body.classList.contains('settings-open')"),
+]
+
+
+def problems_of_keys(page: Path, name: str) -> List[str]:
+    """Whether the keys do what the mouse does, and the help lists them all."""
+    with opened(name, address_of(page)) as session:
+        read_file(session, EXAMPLE)
+        problems = problems_of_focus(session)
+        session.value("document.activeElement.blur()")
+        for keys, expression in KEYS:
+            session.value("void (self.before = page1.lines.chosen)")
+            session.press(*keys)
+            try:
+                session.wait_until(expression, 10)
+            except browser.Fault:
+                problems.append(f"{' '.join(keys)}: {expression} is not so")
+        shown = set(session.value("[...document.querySelectorAll('#help kbd')].map((key) => key.textContent)"))
+        named = {"ArrowLeft": "←", "ArrowRight": "→", "ArrowDown": "↓", "ArrowUp": "↑"}
+        tried = {named.get(key, key) for keys, _ in KEYS for key in keys} - {"Tab", "Escape", "0"}
+        problems += [f"the help has no {key}" for key in tried - shown]
+        return problems + [f"the console says {text}" for text in session.complaints()]
+
+
+BOX = "((box) => [box.left, box.top, box.right, box.bottom])(document.querySelector(%s).getBoundingClientRect())"
+
+
+def problems_of_pointers(page: Path, name: str) -> List[str]:
+    """Whether the overview is dragged, the wheel and two fingers zoom, and one finger moves the timeline."""
+    problems = []
+    domain = "page1.timeline.scale.domain()"
+    with opened(name, address_of(page)) as session:
+        read_file(session, EXAMPLE)
+        session.wait_until("document.querySelector('#timeline .overview-view')", 20)
+        session.value("page1.timeline.zoomBy(8)")
+        session.wait_until("document.querySelector('#timeline .overview-view').getBoundingClientRect().width < 200", 20)
+        left, top, right, bottom = session.value(BOX % json.dumps("#timeline .overview-view"))
+        before = session.value(domain)
+        middle = ((left + right) / 2, (top + bottom) / 2)
+        session.drag(middle, (middle[0] + 100, middle[1] + 60))
+        after = session.value(domain)
+        share = 100 / session.value("page1.timeline.whole.range()[1] - page1.timeline.whole.range()[0]")
+        moved = (after[0] - before[0]) / session.value("page1.timeline.summary.past")
+        problems += [] if abs(moved - share) < 0.01 else [f"dragged by {share:.3f}, the overview goes {moved:.3f}"]
+        left, top, right, bottom = session.value(BOX % json.dumps("#timeline .scroll svg"))
+        session.drag((right - 100, top + 20), (right - 300, top + 20), "touch")
+        wide = after[1] - after[0]
+        session.wait_until(f"{domain}[0] > {after[0] + wide * 0.15}", 10)
+        scrolls = session.value("getComputedStyle(page1.timeline.svg.node()).touchAction")
+        problems += [] if scrolls == "pan-y" else [f"a finger on the timeline does not scroll the page: {scrolls}"]
+        session.value("page1.timeline.showAll()")
+        session.spread((left + right) / 2 + 60, top + 20, 40, 160)
+        session.wait_until("Math.abs(page1.timeline.svg.node().__zoom.k - 4) < 0.1", 10)
+        session.turn((left + right) / 2 + 60, top + 20, -300)
+        session.wait_until("page1.timeline.svg.node().__zoom.k > 4.4", 10)
+        return problems + [f"the console says {text}" for text in session.complaints()]
+
+
+# A dictionary that is edited, dark, print, and many lines.
+
+
+def problems_of_editing(page: Path, name: str) -> List[str]:
+    """Whether a draft and an edit are read by themselves, and a dictionary with a fault is not."""
+    with tempfile.TemporaryDirectory(prefix="port1-") as folder, opened(name, address_of(page)) as session:
+        capture = Path(folder, "a.bits")
+        capture.write_bytes(LATE)
+        read_file(session, [capture])
+        word = "document.getElementById('verdict-word').textContent"
+        field = "document.getElementById('dictionary')"
+        edited = f"{field}.dispatchEvent(new Event('input'))"
+        session.value("document.querySelector('#lacks button').click()")
+        session.wait_until(f"{word} === 'Look closer' && {field}.value !== ''", 20)
+        problems = [] if "took" in text_at(session, FIRST) else [f"drafted: {text_at(session, FIRST)!r}"]
+        session.value(f"void ({field}.value = {json.dumps(dictionary().decode())}) ?? {edited}")
+        late = "Station 2 answered 2 of 60"
+        session.wait_until(f"document.querySelector('#sentences .jump').textContent.startsWith('{late}')", 20)
+        session.value(f"void ({field}.value = {field}.value.replace('window = 768', 'window = 7')) ?? {edited}")
+        session.wait_until("document.querySelector('#findings .fault')", 20)
+        session.value("new Promise((resolve) => setTimeout(resolve, 1500))")
+        status = text_at(session, STATUS)
+        problems += [] if " lines in " in status else [f"a dictionary with a fault was read: {status}"]
+        chip = text_at(session, "#dictionary-chip")
+        problems += [] if re.search(r"[1-9] faults?$", chip) else [f"the bar says {chip!r}"]
+        return problems + [f"the console says {text}" for text in session.complaints()]
+
+
+def problems_of_mending(page: Path, name: str) -> List[str]:
+    """Whether a warning leads to its cure, other wires are chosen, and a file that grows is named so."""
+    word = "document.getElementById('verdict-word').textContent"
+    with tempfile.TemporaryDirectory(prefix="port1-") as folder, opened(name, address_of(page)) as session:
+        files = {"d.toml": dictionary(), "tap.csv": rows_of(SHORT, flipped=0b0101)}
+        for file, octets in files.items():
+            Path(folder, file).write_bytes(octets)
+        read_file(session, [Path(folder, file) for file in files])
+        session.value("document.querySelector('#warning-list button').click()")
+        session.wait_until(f"{word} === 'No fault found' && document.getElementById('warnings').hidden", 20)
+        problems = [] if "--falling TXC" in text_at(session, "#command") else ["the command has no --falling"]
+        Path(folder, "tap.csv").write_bytes(rows_of(SHORT, flipped=0b1111))
+        read_file(session, [Path(folder, "tap.csv")])
+        for _ in range(2):
+            session.value("[...document.querySelectorAll('#warning-list button')].at(-1).click()")
+            session.wait_until("!document.body.classList.contains('reading')", 20)
+        session.wait_until(f"{word} === 'No fault found'", 20)
+        problems += [] if text_at(session, "#command").startswith("No command") else ["a command is shown that lists another"]
+        problems += [] if text_at(session, "#warnings:not([hidden])") == "" else ["warnings are left"]
+        session.value("page1.mend('wires')")
+        problems += [] if session.value("document.activeElement.id") == "channel-0" else ["no wire is asked for"]
+        session.value("void (document.getElementById('channel-3').value = 'none')")
+        session.value("document.getElementById('settings').requestSubmit()")
+        session.wait_until("/one line/.test(document.getElementById('facts').textContent)", 20)
+        # Firefox reads what the file was when it was chosen; Chromium refuses to.
+        with Path(folder, "tap.csv").open("ab") as file:
+            file.write(b"0,0,0,0\n" * 1000)
+        session.value("void (document.getElementById('channel-3').value = 'RXD')")
+        session.value("void (document.getElementById('status').textContent = '')")
+        session.value("document.getElementById('settings').requestSubmit()")
+        session.wait_until("!/^$|^Reading /.test(document.getElementById('status').textContent)")
+        told = text_at(session, "#fault:not([hidden])") or text_at(session, "#head")
+        is_told = told.startswith(("The file is still being written", "40 frames"))
+        return problems + ([] if is_told else [f"a file that grows is told as {told!r}"])
+
+
+def problems_of_dark(page: Path, name: str) -> List[str]:
+    """Whether the page is dark where the system is."""
+    grounds = []
+    for is_dark in (False, True):
+        with opened(name, address_of(page), is_dark=is_dark) as session:
+            read_file(session, EXAMPLE)
+            colour = session.value("getComputedStyle(document.getElementById('timeline-pane')).backgroundColor")
+            grounds.append(sum(map(int, re.findall(r"\d+", colour)[:3])))
+    return [] if grounds[0] > 700 and grounds[1] < 120 else [f"the grounds are {grounds}"]
+
+
+def sheets_of(document: bytes) -> int:
+    """How many pages a PDF has, whose objects may be packed."""
+    parts = [document]
+    for begin in re.finditer(rb"stream\r?\n", document):
+        try:
+            parts.append(zlib.decompressobj().decompress(document[begin.end() :]))
+        except zlib.error:
+            pass
+    return sum(len(re.findall(rb"/Type */Page\b", part)) for part in parts)
+
+
+def problems_of_print(page: Path, name: str) -> List[str]:
+    """Whether the page is printed on few sheets, whatever is in view, and with the whole timeline."""
+    with opened(name, address_of(page)) as session:
+        read_file(session, EXAMPLE)
+        session.wait_until("document.querySelector('#timeline-print svg')", 20)
+        session.value("page1.timeline.zoomBy(64)")
+        session.wait_until("page1.timeline.svg.node().__zoom.k === 64", 20)
+        sheets = sheets_of(session.printed())
+        problems = [] if 1 <= sheets <= 2 else [f"it is printed on {sheets} sheets"]
+        ticks = session.value("[...document.querySelectorAll('#timeline-print .tick text')].map((text) => text.textContent)")
+        return problems + ([] if ticks and float(ticks[-1]) >= 0.45 else [f"the timeline in print has {ticks}"])
+
+
+def problems_of_many(page: Path, name: str) -> List[str]:
+    """Whether a listing of a million lines is scrolled, each step drawn within a frame of sixty a second."""
+    step = """new Promise((resolve) => {
+      const [lines, times] = [page1.lines, []];
+      const draw = lines.draw;
+      let begin = 0;
+      lines.draw = function (some) {
+        draw.call(this, some);
+        this.box.getBoundingClientRect();
+        times.push(performance.now() - begin);
+        if (times.length === 120) return resolve(times.sort((one, other) => one - other)[60]);
+        requestAnimationFrame(() => {
+          begin = performance.now();
+          this.box.dispatchEvent(new WheelEvent('wheel', { deltaY: 4321, cancelable: true }));
+        });
+      };
+      lines.show(1);
+    })"""
+    with tempfile.TemporaryDirectory(prefix="port1-") as folder, opened(name, address_of(page)) as session:
+        listing = Path(folder, "many.list")
+        lines = (f"{100 * at} {100 * at + 41} frame 108300fde5\n" for at in range(MANY_LINES))
+        listing.write_text("".join(lines), encoding="ascii")
+        read_file(session, [listing])
+        problems = [] if text_at(session, "#query-count") == "1 000 000 lines" else ["not all lines are there"]
+        taken = session.value(step)
+        problems += [] if taken < FRAME else [f"a step takes {taken:.1f} ms"]
+        top = session.value("page1.lines.top")
+        session.press("l", "End")
+        session.wait_until(f"document.querySelector('#lines .line:last-child').textContent.startsWith('{651.041:.3f}')", 20)
+        return problems + ([] if top > 20000 else [f"it was scrolled to {top}"])
+
+
+def tests_of(page: Path) -> Iterator[Test]:
+    for name in browser.BROWSERS:
+        yield Test(f"{name}: {TIMED}", partial(problems_of_many, page, name), is_alone=True)
+        for size in SIZES:
+            yield Test(f"{name}: {size[0]} by {size[1]}", partial(problems_of_size, page, size, name))
+        for what, problems in [
+            ("inputs", problems_of_inputs),
+            ("the keyboard", problems_of_keys),
+            ("pointers", problems_of_pointers),
+            ("editing a dictionary", problems_of_editing),
+            ("mending a recording", problems_of_mending),
+            ("dark", problems_of_dark),
+            ("print", problems_of_print),
+        ]:
+            yield Test(f"{name}: {what}", partial(problems, page, name))
