@@ -543,14 +543,14 @@ def problems_of_mending(page: Path, name: str) -> List[str]:
         problems += [] if session.value("document.activeElement.id") == "channel-0" else ["no wire is asked for"]
         session.value("void (document.getElementById('channel-3').value = 'none')")
         session.value("document.getElementById('settings').requestSubmit()")
-        session.wait_until("/one line/.test(document.getElementById('facts').textContent)", 20)
+        is_read = "!document.body.classList.contains('reading')"
+        session.wait_until(f"{is_read} && /one line/.test(document.getElementById('facts').textContent)", 20)
         # Firefox reads what the file was when it was chosen; Chromium refuses to.
         with Path(folder, "tap.csv").open("ab") as file:
             file.write(b"0,0,0,0\n" * 1000)
         session.value("void (document.getElementById('channel-3').value = 'RXD')")
-        session.value("void (document.getElementById('status').textContent = '')")
         session.value("document.getElementById('settings').requestSubmit()")
-        session.wait_until("!/^$|^Reading /.test(document.getElementById('status').textContent)")
+        session.wait_until(is_read, 20)
         told = text_at(session, "#fault:not([hidden])") or text_at(session, "#head")
         is_told = told.startswith(("The file is still being written", "40 frames"))
         return problems + ([] if is_told else [f"a file that grows is told as {told!r}"])
