@@ -143,7 +143,9 @@ def needs_file(name: str) -> None:
 
 
 def lacks(package: Package) -> bool:
-    has_all = all(map(has_program, package.programs)) and all(map(has_module, package.modules))
+    """Whether something of it is missing; one Python is to have the modules of all packages."""
+    is_there = has_modules("python3", tuple(modules_of_gate())) or has_modules(DEBIANS_PYTHON, tuple(package.modules))
+    has_all = all(map(has_program, package.programs)) and (not package.modules or is_there)
     return not (has_all and all(Path(file).exists() for file in package.files))
 
 
