@@ -282,13 +282,6 @@ word-front (o ∷ os) rest small =
 
 -- ---- the end of the input
 
-pub filled-all : {A : Type 0} (n : ℕ) (c : CaptureOf A) → c.fault ≡ None → n ≤ length c.bits → (filled n c).fault ≡ None
-filled-all n c clean all = rw (clean, le_false (length c.bits) n all) refl
-
-pub filled-few : {A : Type 0} (n : ℕ) (c : CaptureOf A) → c.fault ≡ None → length c.bits < n →
-    (filled n c).fault ≡ Some short_body
-filled-few n c clean few = rw (clean, lt_true (length c.bits) n few) refl
-
 -- ---- any cut of what stands after a head
 
 slice_kept : (a b : ℕ) (xs ys : List ℕ) → a ≤ b → b ≤ length xs → slice_range (xs ++ ys) a b ≡ slice_range xs a b

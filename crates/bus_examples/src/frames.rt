@@ -64,8 +64,7 @@ pub fn count_frames<C: Check>(bits: &[bool]) -> Result<usize, CountFault>
     let mut decoder = LineDecoder::<C>::new(256, 0)?;
     let mut count: usize = 0;
     for bit in bits {
-        let taken = decoder.take(u64::from(*bit), 1)?;
-        count += frames_in(taken.event);
+        count += frames_in(decoder.advance(*bit)?);
     }
     Ok(count)
 }

@@ -242,7 +242,7 @@ fn types_that_ask(rt: HostRuntime) {
 #[test]
 fn sizes(rt: HostRuntime) {
     assert_eq!(rt; size_of::<LineDecoder<OctetCheck>>(), 360);
-    assert_eq!(rt; size_of::<Analyser<OctetCheck>>(), 10824);
+    assert_eq!(rt; size_of::<Analyser<OctetCheck>>(), 10816);
 }
 
 /// Ends the test where it got something else than it wants; the case says what, and of which row.

@@ -7,12 +7,12 @@ use Rattle.std.specs.Option.{option_map}
 use Rattle.std.proofs.lemmas.List.{drop_at}
 use Rattle.std.proofs.lemmas.Bool.{cond-false}
 use Rattle.bus_bits.specs.Octet.{number, bits_of}
-use Rattle.bus_bits.proofs.OctetLemmas.{bits-low, bits-split, number-bits}
+use Rattle.bus_bits.proofs.OctetLemmas.{bits-low, bits-split}
 use Rattle.bus_bits.proofs.CaptureLemmas.{le_false}
 use Rattle.bus_fcs.specs.Check.{CheckView}
 use Rattle.bus_line.specs.Spelling.{ones}
 use Rattle.bus_line.specs.Mark.{flag}
-use Rattle.bus_line.specs.Decides.{flags, EndsInFlag}
+use Rattle.bus_line.specs.Internal.Flags.{flags, EndsInFlag}
 use Rattle.bus_line.specs.Report.{Kind, moved}
 use Rattle.bus_line.specs.Due.{Mark, FlagAt, current, due_at, placed, piece_report, class_of}
 use Rattle.bus_line.specs.After.{After}
@@ -27,11 +27,6 @@ use Rattle.bus_line.proofs.WordLemmas.{length-front}
 use Rattle.bus_line.proofs.SettleLemmas.{next-bit, mark-calm}
 use Rattle.bus_line.proofs.AdvanceLemmas.{calm-placed}
 
--- the bits of a flag as a number
-number-flag : number flag ≡ 126
-unfolding number
-number-flag = refl
-
 bits-flag : bits_of 8 126 ≡ flag
 unfolding bits_of
 bits-flag = refl
@@ -42,9 +37,6 @@ no-bits x = refl
 
 pub flag-bits : (y : ℕ) → y % 256 ≡ 126 → bits_of 8 y ≡ flag
 flag-bits y is = sym (bits-low 8 y) ∙ (ap (bits_of 8) is ∙ bits-flag)
-
-pub flag-octet : (y : ℕ) → bits_of 8 y ≡ flag → y % 256 ≡ 126
-flag-octet y is = sym (number-bits 8 (y % 2 ^ 8) (omega arith)) ∙ (ap number (bits-low 8 y ∙ is) ∙ number-flag)
 
 -- one flag more among bits
 pub flags-more : (k x : ℕ) → bits_of (8 * k) x ≡ flags k → x / 2 ^ (8 * k) % 256 ≡ 126 →

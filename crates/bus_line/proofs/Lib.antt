@@ -29,7 +29,6 @@ pub mod ReachLemmas
 pub mod FlagCountLemmas
 pub mod FlagLemmas
 pub mod FlagRunLemmas
-pub mod PassedLemmas
 pub mod ClassLemmas
 pub mod LedgerStoredLemmas
 pub mod ReportFrameLemmas
@@ -43,5 +42,4 @@ pub mod InsertingLemmas
 pub mod EncoderLemmas
 pub mod SentLemmas
 pub mod SentBackLemmas
-pub mod RunEndLemmas
 mod Examples

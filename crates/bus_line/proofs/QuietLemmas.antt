@@ -1,6 +1,6 @@
 -- Bits that decide nothing, 56 at a time.
 use Rattle.std.proofs.Common.{◌≡◌, ◌≢◌, ℕ, zero, suc, ◌+◌, ◌-◌, ◌*◌, ◌/◌, ◌%◌, ◌^◌, ◌≤◌, ◌<◌, Bool, true, List}
-use Rattle.std.proofs.Common.{[], ◌∷◌, ◌++◌, length, drop, replicate, None, refl, sym, ap, ◌∙◌, arith, inl, inr}
+use Rattle.std.proofs.Common.{[], ◌∷◌, ◌++◌, length, take, drop, replicate, None, refl, sym, ap, ◌∙◌, arith, inl, inr}
 use Rattle.std.specs.Prelude.{bit_and, bit_or}
 use Rattle.std.specs.Int.{bit_at, trailing_zeros, w64}
 use Rattle.std.specs.Int.Bits.{or_shifted_r}
@@ -9,15 +9,15 @@ use Rattle.std.proofs.lemmas.Nat.{shr-shr, field_of}
 use Rattle.std.proofs.Math.Pow.{mod-mod-pow}
 use Rattle.std.proofs.lemmas.List.{append-nil, append_assoc, replicate-append-replicate}
 use Rattle.bus_bits.specs.Bits.{bits_from}
-use Rattle.bus_bits.proofs.BitLemmas.{bits-more}
+use Rattle.bus_bits.proofs.BitLemmas.{bits-more, bits-taken}
 use Rattle.std.proofs.lemmas.Nat.Bits.{bit_at_and, bit_at-zero, bit_at_mask_inside, bit_at_mask_above}
 use Rattle.std.proofs.lemmas.Nat.Bits.{bit_at_mask_below, bit_at-trailing_zeros}
 use Rattle.std.proofs.lemmas.Bool.{cases_lt}
 use Rattle.bus_bits.specs.Octet.{bits_of, number}
-use Rattle.bus_bits.proofs.OctetLemmas.{bits-low, number-bits}
+use Rattle.bus_bits.proofs.OctetLemmas.{bits-front, bits-low, number-bits}
 use Rattle.bus_fcs.specs.Check.{CheckView}
 use Rattle.bus_line.specs.Mark.{flag}
-use Rattle.bus_line.specs.Decides.{flags, EndsInFlag}
+use Rattle.bus_line.specs.Internal.Flags.{flags, EndsInFlag}
 use Rattle.bus_line.specs.Due.{placed}
 use Rattle.bus_line.specs.After.{After, Tells}
 use Rattle.bus_line.specs.Words.{first_in, IsWithin, state}
@@ -142,13 +142,19 @@ settled-behind w s (suc k) fits =
 
 -- ---- 56 bits more of these octets
 
-from-more : (os : List ℕ) (from at : ℕ) → from ≤ at → bits_from os from (at + 56 - from)
-    ≡ bits_from os from (at - from) ++ bits_from os at 56
-from-more os from at begun =
-    let size : at + 56 - from ≡ (at - from) + 56 = omega (arith, begun) in
+-- some of 56 bits
+pub turn-bits : (os : List ℕ) (at x n : ℕ) → bits_of 56 x ≡ bits_from os at 56 → n ≤ 56
+    → bits_of n x ≡ bits_from os at n
+turn-bits os at x n same few =
+    sym (bits-front n 56 x few) ∙ (ap (take n) same ∙ bits-taken os at 56 n few)
+
+from-more : (os : List ℕ) (from at n : ℕ) → from ≤ at → bits_from os from (at + n - from)
+    ≡ bits_from os from (at - from) ++ bits_from os at n
+from-more os from at n begun =
+    let size : at + n - from ≡ (at - from) + n = omega (arith, begun) in
     let end : from + (at - from) ≡ at = omega (arith, begun) in
     ap (bits_from os from) size
-    ∙ (bits-more os from (at - from) 56 ∙ ap (λ (j : ℕ). bits_from os from (at - from) ++ bits_from os j 56) end)
+    ∙ (bits-more os from (at - from) n ∙ ap (λ (j : ℕ). bits_from os from (at - from) ++ bits_from os j n) end)
 
 no-bits-from : (os : List ℕ) (at : ℕ) → bits_from os at (at - at) ≡ []
 unfolding bits_from
@@ -168,17 +174,12 @@ pub ones-more : (os : List ℕ) (from at x : ℕ) → from ≤ at → bits_from 
     → bits_from os from (at + 56 - from) ≡ replicate (at + 56 - from) true
 ones-more os from at x begun before next ones =
     let size : (at - from) + 56 ≡ at + 56 - from = omega (arith, begun) in
-    from-more os from at begun
+    from-more os from at 56 begun
     ∙ (ap (λ (z : List Bool). z ++ bits_from os at 56) before
     ∙ (ap (λ (z : List Bool). replicate (at - from) true ++ z) (sym next ∙ ones-shown x ones)
     ∙ (replicate-append-replicate (at - from) 56 true ∙ ap (λ (j : ℕ). replicate j true) size)))
 
 -- flags
-flags-shown : (x : ℕ) → x * 256 % 18446744073709551616 ≡ 9114861777597660672 → bits_of 56 x ≡ flags 7
-unfolding bits_of
-flags-shown x is = let low : x % 2 ^ 56 ≡ 35604928818740862 =
-    omega (arith, is) in sym (bits-low 56 x) ∙ ap (bits_of 56) low
-
 flags-append : (k j : ℕ) → flags k ++ flags j ≡ flags (k + j)
 flags-append k zero = let sum : k ≡ k + 0 = omega arith in append-nil (flags k) ∙ ap flags sum
 flags-append k (suc j) =
@@ -189,16 +190,17 @@ pub flags-none : (os : List ℕ) (at : ℕ) → AreFlags os at at
 flags-none os at = let none : 0 ≡ (at - at) / 8 =
     omega arith in record { whole = omega arith; are = no-bits-from os at ∙ ap flags none }
 
-pub flags-more : (os : List ℕ) (from at x : ℕ) → from ≤ at → AreFlags os from at → bits_of 56 x ≡ bits_from os at 56 →
-    x * 256 % 18446744073709551616 ≡ 9114861777597660672 → AreFlags os from (at + 56)
-flags-more os from at x begun before next is =
-    let k : ℕ = (at - from) / 8 in
-    let size : k + 7 ≡ (at + 56 - from) / 8 = omega (arith, before.whole, begun) in
+pub flags-more : (os : List ℕ) (from at x k : ℕ) → from ≤ at → AreFlags os from at
+    → bits_of 56 x ≡ bits_from os at 56 → k ≤ 7 → bits_of (8 * k) x ≡ flags k → AreFlags os from (at + 8 * k)
+flags-more os from at x k begun before next few are =
+    let j : ℕ = (at - from) / 8 in
+    let size : j + k ≡ (at + 8 * k - from) / 8 = omega (arith, before.whole, begun) in
+    let there : bits_from os at (8 * k) ≡ flags k = sym (turn-bits os at x (8 * k) next (omega (arith, few))) ∙ are in
     record {
       whole = omega (arith, before.whole, begun);
-      are = from-more os from at begun
-          ∙ (ap (λ (z : List Bool). z ++ bits_from os at 56) before.are
-          ∙ (ap (λ (z : List Bool). flags k ++ z) (sym next ∙ flags-shown x is) ∙ (flags-append k 7 ∙ ap flags size)));
+      are = from-more os from at (8 * k) begun
+          ∙ (ap (λ (z : List Bool). z ++ bits_from os at (8 * k)) before.are
+          ∙ (ap (λ (z : List Bool). flags j ++ z) there ∙ (flags-append j k ∙ ap flags size)));
     }
 
 -- ---- time fill
@@ -262,7 +264,7 @@ module _ {C : Type 0} (view : CheckView C) (check : C) (octets : List ℕ) where
       Tells view (state old check octets) (flags k) None (state new check octets)
   passed-flags old new k passed within flag fits =
       let ends : (b : List Bool) → After view (state old check octets) b → EndsInFlag b =
-      λ b stands. (shows-flag view old check octets b within stands).ends flag in
+      λ b stands. shows-flag view old check octets b within stands flag in
       record {
         leads = record {
           after = λ b stands. flags-passed view old new check octets b k passed (λ _. ends b stands) fits stands;

@@ -6,7 +6,6 @@ use Rattle.std.specs.Option.{option_map, option_to_list}
 use Rattle.std.proofs.lemmas.List.{append-nil, append_assoc, take_all}
 use Rattle.bus_bits.specs.Bits.{bits_from}
 use Rattle.bus_bits.specs.Octet.{bits_of}
-use Rattle.bus_bits.proofs.BitLemmas.{bits-taken}
 use Rattle.bus_bits.proofs.OctetLemmas.{bits-front, length-bits}
 use Rattle.bus_fcs.specs.Check.{CheckView}
 use Rattle.bus_line.specs.Report.{Report, moved}
@@ -146,12 +145,6 @@ decided view {old} {mid} {new} {bits} {report} reached longest origin place answ
         ∙ (ap (take (length front)) all ∙ take-front front (last ∷ []))
 
 -- ---- after bits that decide nothing
-
--- some of 56 bits
-pub turn-bits : (os : List ℕ) (at x n : ℕ) → bits_of 56 x ≡ bits_from os at 56 → n ≤ 56
-    → bits_of n x ≡ bits_from os at n
-turn-bits os at x n same few =
-    sym (bits-front n 56 x few) ∙ (ap (take n) same ∙ bits-taken os at 56 n few)
 
 reaches-more : {C : Type 0} (view : CheckView C) {a c e : LineState C} {xs ys : List Bool}
     → Tells view a xs None c → Reaches view c ys e → Reaches view a (xs ++ ys) e

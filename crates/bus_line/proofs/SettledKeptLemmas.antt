@@ -1,7 +1,7 @@
 -- What is left of bits without the inserted 0s.
 use Rattle.std.proofs.Common.{◌≡◌, ◌≢◌, ℕ, zero, suc, ◌+◌, ◌-◌, ◌*◌, ◌/◌, ◌%◌, ◌^◌, ◌<◌, ◌≤◌, ◌==◌, Bool, List, [], ◌∷◌}
 use Rattle.std.proofs.Common.{◌++◌, ◌⊎◌, refl, sym, ap, ◌∙◌, subst, arith, nat_eq, not, inl, inr}
-use Rattle.std.specs.Prelude.{bit_and, cond, count_ones, false, length, ◌↔◌}
+use Rattle.std.specs.Prelude.{bit_and, cond, count_ones, false, ◌↔◌}
 use lib.Lanes.{mask_l}
 use Rattle.std.proofs.lemmas.Simd.{ones-mask_l_cons}
 use mir.Val.{bool_byte}
@@ -12,11 +12,10 @@ use Rattle.std.proofs.lemmas.Nat.{ones_le_self, pow-add, pow_below, pow_pos, one
 use Rattle.std.proofs.lemmas.Grind.{and-not_self}
 use Rattle.std.proofs.lemmas.Nat.Bits.{bit_at-zero, bit_at_and, bit_at_not, bit_at_ones, bit_at_above, bit_at_cat_low}
 use Rattle.std.proofs.lemmas.Nat.Bits.{bit_at_cat_high, bit_at-pow_other, bit_at-lt, bit_at-trailing_zeros}
-use Rattle.std.proofs.lemmas.List.{append-nil, length-append}
+use Rattle.std.proofs.lemmas.List.{append-nil}
 use Rattle.std.proofs.lemmas.Bool.{cases_lt, eq-eqb, ne_eqb}
 use Rattle.std.proofs.Math.Nat.{pow-suc, mul_assoc, add-zero, mod-eq_of_lt, mod_self}
-use Rattle.bus_bits.specs.Octet.{bits_of, number}
-use Rattle.bus_bits.proofs.OctetLemmas.{number-bits}
+use Rattle.bus_bits.specs.Octet.{bits_of}
 use Rattle.bus_line.specs.Internal.Settled.{kept, data_in_word}
 
 -- ---- bits of a number

@@ -6,7 +6,6 @@ use Rattle.std.proofs.lemmas.Bool.{eqb-true}
 use Rattle.std.specs.Prelude.{nat_lt}
 use Rattle.bus_bits.proofs.CaptureLemmas.{lt_true}
 use Rattle.bus_fcs.specs.Check.{CheckView}
-use Rattle.bus_line.specs.Decides.{flags, EndsInFlag}
 use Rattle.std.specs.Option.{option_map}
 use Rattle.bus_line.specs.Report.{Abort, moved}
 use Rattle.bus_line.specs.Due.{Mark, NoMark, FlagAt, AbortAt, piece_report}
@@ -15,11 +14,11 @@ use Rattle.bus_line.specs.Words.{first_in, IsWithin, state}
 use Rattle.bus_line.specs.declared.line_words.LineWords.{LineWords}
 use Rattle.bus_line.specs.After.{After}
 use Rattle.bus_line.specs.Internal.LineView.{settles_from}
-use Rattle.bus_line.specs.Internal.Flags.{PassesFlags, ShowsFlag}
+use Rattle.bus_line.specs.Internal.Flags.{EndsInFlag, flags, PassesFlags}
 use Rattle.bus_line.specs.Internal.Settled.{IsWord, LagsBy}
 use Rattle.bus_line.proofs.SettleLemmas.{lags-word}
 use Rattle.bus_line.proofs.FlagLemmas.{flags-after}
-use Rattle.bus_line.proofs.FlagRunLemmas.{mark-is, mark-told}
+use Rattle.bus_line.proofs.FlagRunLemmas.{mark-is}
 
 -- the place after which bits settle, by the first place of the piece
 pub settles-told : (at : ℕ) → 8 ≤ at → at ≡ settles_from (first_in at)
@@ -55,15 +54,12 @@ aborts origin at past end place (FlagAt q) opened is-end within fits late some =
     let begun : nat_lt (q + 8) end ≡ true = lt_true (q + 8) end (omega (arith, told, some, is-end)) in
     rw (begun, first, is-end) refl
 
--- whether a flag ended at the last bit
+-- a flag ended at the last bit
 pub shows-flag : {C : Type 0} (view : CheckView C) (w : LineWords) (check : C) (octets : List ℕ)
-    (b : List Bool) → IsWithin w → After view (state w check octets) b → ShowsFlag w b
-shows-flag view w check octets b within stands =
-    let settles = settles-told w.settles_at within.settles_late in
-    record {
-      ends = λ at. mark-is view (state w check octets) w.settles_at b stands settles within.place_fits at;
-      told = λ ends. mark-told view (state w check octets) w.settles_at b stands settles ends;
-    }
+    (b : List Bool) → IsWithin w → After view (state w check octets) b → w.settles_at ≡ w.place + 8 → EndsInFlag b
+shows-flag view w check octets b within stands at =
+    mark-is view (state w check octets) w.settles_at b stands (settles-told w.settles_at within.settles_late)
+    within.place_fits at
 
 -- where flags lead
 pub flags-passed : {C : Type 0} (view : CheckView C) (old new : LineWords) (check : C)

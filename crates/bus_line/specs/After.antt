@@ -1,9 +1,8 @@
 -- The lists of bits after which a decoder may stand.
-use Rattle.std.specs.Prelude.{◌≡◌, ℕ, ◌+◌, ◌-◌, ◌<◌, ◌≤◌, Bool, List, [], ◌∷◌, ◌++◌, length, take, Option, Some}
+use Rattle.std.specs.Prelude.{◌≡◌, ℕ, ◌+◌, ◌-◌, ◌≤◌, Bool, List, [], ◌∷◌, ◌++◌, length, take, Option, Some}
 use Rattle.std.specs.Option.{option_to_list}
 use Rattle.bus_bits.specs.Octet.{octets}
 use Rattle.bus_fcs.specs.Check.{CheckView}
-use Rattle.bus_line.specs.Decides.{MayDecideAt}
 use Rattle.bus_line.specs.Due.{current, placed}
 use Rattle.bus_line.specs.Report.{Report}
 use Rattle.bus_line.specs.Internal.LineState.{LineState}
@@ -59,8 +58,3 @@ pub record Advances {C : Type 0} (view : CheckView C) (old : LineState C) (bits 
 abbrev pub FitsFrame : ℕ → Option Piece → Type 0
 FitsFrame longest (Some (piece.Frame span octets)) = (length octets.now ≤ longest + 2) × (longest ≤ 256)
 FitsFrame longest answer = Unit {0}
-
--- of these bits, after those of b, so many are taken: all, or those up to the first that may decide a report
-pub record TakesTo (b bits : List Bool) (count : ℕ) : Type 0 where
-  pub before : (i : ℕ) → i + 1 < count → MayDecideAt b bits i → ⊥
-  pub stop : count < length bits → MayDecideAt b bits (count - 1)

@@ -1,8 +1,7 @@
-//! The decoder: up to 48 bits at a time, in fixed memory.
+//! The decoder: one bit at a time, or those of octets, in fixed memory.
 
 mod append;
 mod decide;
-mod flags;
 mod look;
 mod marked;
 mod piece;
@@ -24,21 +23,19 @@ ghost use Rattle.bus_line.specs.Ledger.{stored_open, IsLedger};
 ghost use Rattle.bus_bits.specs.Bits.{bits_from};
 ghost use Rattle.bus_bits.specs.Octet.{bits_of};
 
-use crate::decoder::stop::calm_bits;
 use crate::event::Event;
 use crate::fault::LineFault;
-use crate::line_words::{LineWords, NEVER, PLACES};
+use crate::line_words::{LineWords, NEVER};
 use crate::piece::Piece;
 use crate::place_limit::PlaceLimit;
 use crate::scanned::Scanned;
-use crate::taken::Taken;
 use arrayvec::ArrayVec;
 use bus_bits::Spent;
 use bus_fcs::Check;
 use std::marker::Model;
 
 /// Finds the frames, damaged pieces, overlong pieces, aborts and idles of a line (ISO/IEC 13239)
-/// from its bits, up to 48 at a time.
+/// from its bits.
 ///
 /// It keeps a few words and the octets of one piece, at most the longest frame and two octets, and
 /// takes no memory.
@@ -66,7 +63,7 @@ impl<C: Check> Model for LineDecoder<C> {
 impl<C: Check> LineDecoder<C> {
     ghost use Rattle.bus_line.specs.contracts.decoder.LineDecoder.{the_row};
     ghost use Rattle.bus_line.specs.Internal.LineState.{LineState};
-    ghost use Rattle.bus_line.specs.After.{Advances, After, Pushed, TakesTo, ShowsHeld, FitsFrame};
+    ghost use Rattle.bus_line.specs.After.{Advances, After, Pushed, ShowsHeld, FitsFrame};
     ghost use Rattle.bus_line.specs.Shown.{shown, reported};
     ghost use Rattle.bus_line.specs.Report.{moved};
 
@@ -90,36 +87,6 @@ impl<C: Check> LineDecoder<C> {
             check: C::fresh(),
             frame: ArrayVec::new(),
         })
-    }
-
-    /// Takes up to `count` bits, the first lowest: all of them, or those up to the first that may decide
-    /// a report. Returns how many it took, and the report that the last of these decides, if there is
-    /// one. If that is a frame, [`LineDecoder::octets`] lends its octets.
-    ///
-    /// Refuses as [`PlaceLimit`], with nothing changed, where one of the `count` bits would have the
-    /// place 2^60 or a later one.
-    #[inline(always)]
-    pub fn take(&mut self, bits: u64, count: u32) -> Result<Taken, PlaceLimit>
-        requires word { IsWordOf count bits }
-        ensures limit { IsErr result ↔ (most_places < self.old.place + count) }
-        ensures within { IfOk result (λ t. (1 ≤ t.count) × (t.count ≤ count)) }
-        ensures stops { IfOk result (λ t. (b : List Bool) → After C.check self.old b →
-            TakesTo b (bits_of count bits) t.count) }
-        ensures answer { IfOk result (λ t. (b : List Bool) → After C.check self.old b →
-            option_map (reported self.new.octets) t.event
-            ≡ option_map (moved self.old.origin)
-            (due_at self.old.longest (b ++ bits_of t.count bits) (length b + t.count - 1))) }
-        ensures advances { IfOk result (λ t. Advances C.check self.old (bits_of t.count bits)
-            (option_map (reported self.new.octets) t.event) self.new) }
-        ensures unchanged { OnErr result (self.new ≡ self.old) }
-    {
-        if self.words.place + u64::from(count) > PLACES {
-            return Err(PlaceLimit);
-        }
-        Ok(
-            self.words
-                .advance(&mut self.check, &mut self.frame, bits, count),
-        )
     }
 
     /// Takes bits of these octets, the least significant of each first, from bit `at` on and before bit `end`: up to
@@ -151,22 +118,23 @@ impl<C: Check> LineDecoder<C> {
         Ok(scanned)
     }
 
-    /// How many of these bits [`LineDecoder::take`] would take, if none of them is past the place limit:
-    /// `count`, or those up to the first that may decide a report. Nothing changes.
+    /// Takes a bit, and returns the event that it decides, if there is one. If that is a frame,
+    /// [`LineDecoder::octets`] lends its octets.
+    ///
+    /// Refuses as [`PlaceLimit`], with nothing changed, where the bit's place would be 2^60.
     #[inline(always)]
-    pub fn would_take(&self, bits: u64, count: u32) -> u32
-        requires word { IsWordOf count bits }
-        ensures within { (1 ≤ result) × (result ≤ count) }
-        ensures stops { (b : List Bool) → After C.check self.now b → TakesTo b (bits_of count bits) result }
+    pub fn advance(&mut self, bit: bool) -> Result<Option<Event>, PlaceLimit>
+        ensures limit { IsErr result ↔ (most_places ≤ self.old.place) }
+        ensures answer { IfOk result (λ event. (b : List Bool) → After C.check self.old b →
+            option_map (reported self.new.octets) event
+            ≡ option_map (moved self.old.origin) (due_at self.old.longest (b ++ bit ∷ []) (length b))) }
+        ensures advances { IfOk result (λ event. Advances C.check self.old (bit ∷ [])
+            (option_map (reported self.new.octets) event) self.new) }
+        ensures unchanged { OnErr result (self.new ≡ self.old) }
     {
-        let passed = 8 * self.words.flags_ahead(bits, count);
-        let left = count - passed;
-        let calm = calm_bits((self.words.last_bits | bits << 16) >> passed, left);
-        if calm == left {
-            count
-        } else {
-            passed + calm + 1
-        }
+        // The `?` parts the two cases for the proof.
+        let event = self.words.push(&mut self.check, &mut self.frame, bit)?;
+        Ok(event)
     }
 
     /// Takes a bit, and returns the report that it decides, if there is one. A frame's octets are
@@ -185,13 +153,8 @@ impl<C: Check> LineDecoder<C> {
         ensures* rests { sem 𝓛 (Rests (the_row C.row C.Check) self.entry (λ new.
             IfOk result (λ o. Pushed C.check self.old bit o new) × OnErr result (new ≡ self.old))) }
     {
-        if self.words.place >= PLACES {
-            return Err(PlaceLimit);
-        }
-        let taken = self
-            .words
-            .advance(&mut self.check, &mut self.frame, u64::from(bit), 1);
-        Ok(self.lent(taken.event))
+        let event = self.advance(bit)?;
+        Ok(self.lent(event))
     }
 
     /// The report of an event, if there is one. A frame's octets are borrowed from the buffer.

@@ -1,15 +1,14 @@
 //! Framing of a synchronous HDLC line (ISO/IEC 13239): flags, frames, damaged pieces, aborts
 //! and idles, each with its bit places.
 //!
-//! A decoder takes bits one by one, or up to 48 in a word. This counts the good frames in a slice of
-//! bits:
+//! A decoder takes a bit by `push`, or by `advance`, which lends nothing, and the bits of octets by `scan`. This counts
+//! the good frames in a slice of bits:
 //!
 //! ```rust
 //! let mut decoder = LineDecoder::<C>::new(256, 0)?;
 //! let mut count: usize = 0;
 //! for bit in bits {
-//!     let taken = decoder.take(u64::from(*bit), 1)?;
-//!     count += frames_in(taken.event);
+//!     count += frames_in(decoder.advance(*bit)?);
 //! }
 //! Ok(count)
 //! ```
@@ -41,7 +40,6 @@ mod piece;
 mod place_limit;
 mod scanned;
 mod sink_refused;
-mod taken;
 mod whole;
 
 pub use bit_sink::BitSink;
@@ -58,5 +56,4 @@ pub use piece::Piece;
 pub use place_limit::PlaceLimit;
 pub use scanned::Scanned;
 pub use sink_refused::SinkRefused;
-pub use taken::Taken;
 pub use whole::reports_whole;

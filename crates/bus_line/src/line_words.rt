@@ -16,7 +16,7 @@ pub(crate) const PLACES: u64 = 1 << 60;
 pub(crate) const NEVER: u64 = 1 << 62;
 
 /// What a decoder holds between two bits, but for the octets of a piece and their check, which the caller of
-/// [`LineWords::take`] keeps beside it and lends to each call. The layout is C's.
+/// [`LineWords::scan`] keeps beside it and lends to each call. The layout is C's.
 #[repr(C)]
 #[derive(Drop)]
 pub struct LineWords {

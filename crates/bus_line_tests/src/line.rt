@@ -10,10 +10,9 @@ mod plain_reading;
 mod random_lists;
 mod rows;
 mod scans;
-mod take;
 mod text;
 
-ghost use Rattle.std.specs.Prelude.{◌≤◌, ◌<◌, ◌^◌};
+ghost use Rattle.std.specs.Prelude.{◌≤◌};
 
 use bus_bits::bits_number;
 use bus_fcs::Check;
@@ -52,27 +51,30 @@ fn list_of(
     bits
 }
 
-/// The first of these bits, `most` or fewer, in one word, the first lowest, and how many these are.
-fn word_of(rt: &impl Abort, bits: &[bool], most: u32) -> (u64, u32)
+/// The first of these bits, `most` or fewer, in octets, the first lowest, and how many these are.
+fn octets_of(rt: &impl Abort, bits: &[bool], most: u32) -> ([u8; 8], usize)
     ensures some { 1 ≤ result.1 }
     ensures few { result.1 ≤ 48 }
-    ensures small { result.0 < 2 ^ result.1 }
 {
     let (front, _) = bits.split_at(bits.len().min(most as usize));
     assert!(rt; 1 <= front.len() && front.len() <= 48, "1 to 48 bits");
-    (bits_number(front), front.len() as u32)
+    (bits_number(front).to_le_bytes(), front.len())
 }
 
-/// Takes up to `size` of these bits with one call: the bits after them, and the report.
+/// Pushes the first of these bits, or scans up to `size` of them with one call: the bits after them, and the report.
 fn take_some<'a, 'd, C: Check>(
     rt: &impl Abort,
     decoder: &'d mut LineDecoder<C>,
     bits: &'a [bool],
     size: u32,
 ) -> (&'a [bool], Option<Piece<'d>>) {
-    let (word, count) = word_of(rt, bits, size);
-    let taken = decoder.take(word, count).expect(rt, "a place");
-    let behind = &bits[bits.len().min(taken.count as usize)..];
+    let (octets, count) = octets_of(rt, bits, size);
+    if size == 1 {
+        let behind = &bits[bits.len().min(1)..];
+        return (behind, decoder.push(octets[0] & 1 == 1).expect(rt, "a place"));
+    }
+    let scanned = decoder.scan(&octets, 0, count).expect(rt, "a place");
+    let behind = &bits[bits.len().min(scanned.count)..];
     let octets = decoder.octets();
-    (behind, taken.event.map(|event| event.with_octets(octets)))
+    (behind, scanned.event.map(|event| event.with_octets(octets)))
 }

@@ -18,8 +18,8 @@ use bus_line::PlaceLimit;
 use bus_rows::{CALLS, DAMAGE, FAR, FRAMES, row_of};
 use bus_seen::{NONE, push_ending, push_seen};
 use bus_watch::{
-    Counts, Ending, FeedFault, Line, NewFault, PairAnalyser, PairEnding, PairSink, PairUsage,
-    Pending, Seen, SinkRefused,
+    Counts, Ending, FeedFault, Finding, Line, NewFault, PairAnalyser, PairEnding, PairSink,
+    PairUsage, Pending, ReportObserver, Seen, SinkRefused,
 };
 use std::alloc::{AllocError, Global};
 use std::process::Abort;
@@ -261,22 +261,38 @@ fn pushed<C: Check>(
     text
 }
 
-/// What was found on a line, after what the text has.
-fn push_found<C: Check>(
-    rt: &impl Abort,
-    text: &mut String,
-    analyser: &PairAnalyser<C>,
-    line: Line,
-) {
-    if let Some(finding) = analyser.finding(line) {
-        let seen = finding.with_octets(analyser.octets(line));
-        push_seen_on(text, line, &seen).expect(rt, "text");
+/// An observer that writes what is seen.
+#[derive(Drop)]
+struct Writing;
+
+impl ReportObserver<String> for Writing {
+    ghost observes = { λ d l before seen m behind. Unit {0} };
+
+    ghost has_room = { λ l more. Unit {0} };
+
+    fn observe(
+        &mut self,
+        line: Option<Line>,
+        finding: &Finding,
+        octets: &[u8],
+        _dictionary: &Dictionary,
+        text: &mut String,
+    ) {
+        if let Some(line) = line {
+            let _ = push_seen_on(text, line, &finding.with_octets(octets));
+        }
     }
+
+    ghost observes_none = { λ d l text. tt };
+
+    ghost observes_more = { λ d k l m before between behind seen more told further. tt };
+
+    ghost has_less = { λ l more less fewer room. tt };
 }
 
-/// Takes up to `size` of these pairs with one call, and what was seen at the last of them goes after
-/// what the text has; how many these are.
-fn take_some<C: Check>(
+/// Scans up to `size` of these pairs with one call, and what is seen at them goes after what the text has; how many
+/// these are.
+fn scan_some<C: Check>(
     rt: &impl Abort,
     text: &mut String,
     analyser: &mut PairAnalyser<C>,
@@ -285,19 +301,14 @@ fn take_some<C: Check>(
     size: u32,
 ) -> usize {
     let count = first.len().min(second.len()).min(size as usize);
-    assert!(rt; 1 <= count && count <= 48, "a word of either line");
-    let one = bits_number(&first[..count]);
-    let other = bits_number(&second[..count]);
-    let taken = analyser
-        .take(one, other, count as u32)
-        .expect(rt, "a place");
-    push_found(rt, text, analyser, Line::First);
-    push_found(rt, text, analyser, Line::Second);
-    taken as usize
+    assert!(rt; count <= 48, "bits of eight octets");
+    let one = bits_number(&first[..count]).to_le_bytes();
+    let other = bits_number(&second[..count]).to_le_bytes();
+    analyser.scan(&one, &other, count, &mut Writing, text)
 }
 
-/// The same where up to `size` pairs are taken with each call.
-fn taken<C: Check>(
+/// The same where up to `size` pairs are scanned with each call.
+fn scanned<C: Check>(
     rt: &impl Abort,
     alloc: Global,
     analyser: &mut PairAnalyser<C>,
@@ -311,7 +322,7 @@ fn taken<C: Check>(
         if first.is_empty() {
             break;
         }
-        let taken = take_some(rt, &mut text, analyser, first, second, size);
+        let taken = scan_some(rt, &mut text, analyser, first, second, size);
         first = &first[first.len().min(taken)..];
         second = &second[second.len().min(taken)..];
     }
@@ -328,11 +339,11 @@ fn check_row<C: Check>(rt: &impl Abort, alloc: Global, row: &PairRow) {
     same(rt, one_by_one.tally(17), NONE, row.first);
     for size in [1, 5, 8, 48] {
         let case = format_args!("{size} pairs at most a call");
-        let mut by_words = analyser::<C>(rt, alloc);
-        let text = taken(rt, alloc, &mut by_words, &lines, size);
+        let mut by_octets = analyser::<C>(rt, alloc);
+        let text = scanned(rt, alloc, &mut by_octets, &lines, size);
         same(rt, text.as_str(), row.want, &case);
-        same(rt, by_words.ending(), row.ending, &case);
-        same(rt, by_words.usage(), one_by_one.usage(), &case);
+        same(rt, by_octets.ending(), row.ending, &case);
+        same(rt, by_octets.usage(), one_by_one.usage(), &case);
     }
     for cut in 0..=lines.pairs.len() {
         check_cut::<C>(rt, alloc, row, &lines.pairs, cut, one_by_one.usage());
@@ -544,12 +555,6 @@ fn limits_of_two_lines(rt: HostRuntime) {
     let pairs = [(true, false); 4];
     let fault = feed(&rt, &mut analyser, &pairs, &mut sink).err();
     same(&rt, fault, Some(FeedFault::PlaceLimit), "four pairs fed");
-    same(
-        &rt,
-        analyser.take(0, 0, 4).err(),
-        Some(PlaceLimit),
-        "four pairs taken",
-    );
     same(&rt, analyser.spent().shifted, 0, "the bits of four pairs");
     feed(&rt, &mut analyser, &pairs[..3], &mut sink).expect(&rt, "room");
     same(&rt, analyser.spent().shifted, 6, "the bits of three pairs");
@@ -569,12 +574,10 @@ fn last_taken_pairs(rt: HostRuntime) {
         let mut analyser = new_at(&rt, alloc, 1, origin).expect(&rt, "an analyser");
         let case = format_args!("{room} places to take");
         for _ in 0..room {
-            holds(&rt, analyser.has_room(1), &case);
             holds(&rt, analyser.push(true, false).is_ok(), &case);
         }
         same(&rt, analyser.spent().shifted, room.saturating_mul(2), &case);
-        holds(&rt, !analyser.has_room(1), &case);
-        same(&rt, analyser.take(0, 0, 1).err(), Some(PlaceLimit), &case);
+        same(&rt, analyser.push(true, false).err(), Some(PlaceLimit), &case);
     }
 }
 

@@ -1,6 +1,5 @@
 -- More bits lead an analyser on.
 use Rattle.std.proofs.Common.{◌≡◌, Bool, List, [], ◌∷◌, ◌++◌, Option, Some, None, sym, ap, ◌∙◌}
-use Rattle.std.proofs.Common.{subst, append-nil}
 use Rattle.std.specs.Option.{option_to_list}
 use Rattle.bus_bits.specs.declared.spent.Spent.{Spent}
 use Rattle.bus_fcs.specs.Check.{CheckView}
@@ -8,30 +7,17 @@ use Rattle.bus_line.specs.Report.{Report}
 use Rattle.bus_line.specs.Due.{reports, placed}
 use Rattle.bus_line.specs.Ledger.{IsLedger as IsLineLedger}
 use Rattle.bus_line.specs.Internal.LineState.{LineState}
-use Rattle.bus_line.specs.After.{Advances, DecideNothing}
+use Rattle.bus_line.specs.After.{Advances}
 use Rattle.bus_dictionary.specs.Dictionary.{longest_of}
-use Rattle.bus_talk.specs.Heard.{Heard, heard_on, of_line}
+use Rattle.bus_talk.specs.Heard.{Heard, heard_on}
 use Rattle.bus_talk.specs.Seen.{SeenReport, seen_of, seen}
 use Rattle.bus_talk.specs.declared.line.Line.{Line}
 use Rattle.bus_talk.specs.Journal.{JournalState, Keeps}
 use Rattle.bus_watch.specs.Internal.Hears.{Hears}
-use Rattle.bus_watch.specs.After.{AnalyserState, IsAfter, line, seen_after}
+use Rattle.bus_watch.specs.After.{AnalyserState, IsAfter}
 use Rattle.bus_talk.specs.Ledger.{IsLedger}
 use Rattle.bus_talk.proofs.SeenLemmas.{seen-more}
 use Rattle.bus_watch.proofs.AnalyserViewLemmas.{octets-moved, steps-moved, heard-octets, heard-steps}
-
--- bits that decide nothing
-pub hears-none : {C : Type 0} (view : CheckView C) (on : Option Line) (old new : LineState C)
-    (j k : JournalState) (bits : List Bool)
-    → Advances view old bits None new → k ≡ j → Hears view on old j bits None new k
-hears-none view on old new j k bits advances same = record {
-  report = None;
-  advances = advances;
-  keeps = λ hs kept. subst (Keeps k) (sym (append-nil hs)) (subst (λ i. Keeps i hs) (sym same) kept);
-  seen = λ hs kept. ap (seen j.dictionary) (append-nil hs) ∙ sym (append-nil (seen j.dictionary hs));
-  dictionary = ap (λ (i : JournalState). i.dictionary) same;
-  depth = ap (λ (i : JournalState). i.depth) same;
-}
 
 -- bits the last of which decides a report; what is seen of it was kept
 pub hears-some : {C : Type 0} (view : CheckView C) (on : Option Line) (old new : LineState C)
@@ -69,11 +55,3 @@ ledger-is view a b d j reached ledger copied handled =
       reported = handled ∙ reached.journal.handled ∙ heard-steps None rs
           ∙ steps-moved a.decoder.origin (reports (longest_of a.journal.dictionary) b);
     }
-
--- where nothing is reported, nothing is seen
-pub seen-before : {C : Type 0} (view : CheckView C) (a : AnalyserState C) (bits : List Bool)
-    → DecideNothing view a.decoder bits
-    → (b : List Bool) → IsAfter view a b → seen_after a (b ++ bits) ≡ seen_after a b
-seen-before view a bits calm b reached =
-    let same : line a (b ++ bits) ≡ line a b = ap of_line (rw (← reached.longest) (calm b reached.decoder)) in
-    ap (seen a.journal.dictionary) same

@@ -1,13 +1,10 @@
 -- Feeding some bits, and then more.
-use Rattle.std.proofs.Common.{◌≡◌, ℕ, ◌+◌, ◌-◌, ◌<◌, ◌≤◌, Bool, List, [], ◌∷◌, ◌++◌, length, take, drop, Option, Some}
+use Rattle.std.proofs.Common.{◌≡◌, ℕ, ◌+◌, ◌-◌, ◌<◌, ◌≤◌, Bool, List, [], ◌∷◌, ◌++◌, length, take}
 use Rattle.std.proofs.Common.{Result, Ok, Err, OnOk, OnErr, true, false, refl, sym, ap, ◌∙◌, append_assoc}
 use Rattle.std.proofs.Common.{append-nil, arith, length-append, subst}
-use Rattle.std.specs.Option.{option_to_list}
 use Rattle.std.specs.Result.{is_err}
-use Rattle.std.proofs.lemmas.List.{take-append-le, take-append-drop, take-take, length-take}
+use Rattle.std.proofs.lemmas.List.{take-append-le}
 use Rattle.std.proofs.Math.Seq.{take-append-add}
-use Rattle.bus_bits.specs.Octet.{number, bits_of}
-use Rattle.bus_bits.proofs.OctetLemmas.{bits-number, bits-front}
 use Rattle.bus_fcs.specs.Check.{CheckView}
 use Rattle.bus_talk.specs.Seen.{SeenReport, seen}
 use Rattle.bus_line.specs.Told.{told}
@@ -15,32 +12,9 @@ use Rattle.bus_line.proofs.ToldLemmas.{told-nil, told-more}
 use Rattle.bus_talk.specs.Sink.{SinkView}
 use Rattle.bus_dictionary.specs.Dictionary.{longest_of}
 use Rattle.bus_watch.specs.Watch.{Watch, Leads, seen_by}
-use Rattle.bus_watch.specs.After.{AnalyserState, IsAfter, Sees, seen_after}
+use Rattle.bus_watch.specs.After.{AnalyserState, Sees, seen_after}
 use Rattle.bus_watch.specs.Laws.{joined, Runs, ended, called}
 use Rattle.bus_watch.specs.Fed.{FedBy, Fed, Refused, RefusedAt}
-
--- the first bits of a word are those of the list that it was made of
-pub word-front : (bits : List Bool) (w most n : ℕ) → w ≡ number (take most bits) → most ≤ length bits → n ≤ most →
-    bits_of n w ≡ take n bits
-word-front bits w most n word within front =
-    let count : length (take most bits) ≡ most = omega (arith, length-take most bits, within) in
-    let all : bits_of most w ≡ take most bits = ap (bits_of most) word ∙ bits-number (take most bits) most count in
-    sym (bits-front n most w front) ∙ (ap (take n) all ∙ take-take n most bits front)
-
--- the first items of a list, and the next ones
-pub next-within : {X : Type 0} (xs : List X) (i n : ℕ) → i ≤ length xs →
-    n ≤ length (take (length xs - i) (drop i xs)) → i + n ≤ length xs
-next-within xs i n within more = omega (arith, within, more, length-take (length xs - i) (drop i xs))
-
-pub next : {X : Type 0} (xs : List X) (i n : ℕ) → i ≤ length xs → n ≤ length (take (length xs - i) (drop i xs)) →
-    take (i + n) xs ≡ take i xs ++ take n (take (length xs - i) (drop i xs))
-next xs i n within more =
-    let rest = drop i xs in
-    let count : length (take i xs) ≡ i = omega (arith, length-take i xs, within) in
-    let few : n ≤ length xs - i = omega (arith, next-within xs i n within more) in
-    ap (take (i + n)) (sym (take-append-drop i xs)) ∙ ap (λ j. take (j + n) (take i xs ++ rest)) (sym count)
-    ∙ take-append-add (take i xs) rest n
-    ∙ ap (λ z. take i xs ++ z) (sym (take-take n (length xs - i) rest few))
 
 -- a fact of an answer that is no error, and of one that is
 pub at-ok : {T E : Type 0} {P : Type 0} (r : Result T E) → false ≡ is_err r → OnOk r P → P
@@ -130,35 +104,17 @@ module _ {A X : Type 0} {w : Watch A X} where
 -- of one line
 module _ {C : Type 0} {view : CheckView C} {S : Type 0} {sink : SinkView S}
   where
-    -- the first bits of a list, in a word, and what was handed over
-    pub fed-word : (a c : AnalyserState C) (bits : List Bool) (w most n : ℕ) (o : Option SeenReport) (s t : S) →
-        w ≡ number (take most bits) → most ≤ length bits → n ≤ most
-        → Sees view a (bits_of n w) (option_to_list o) c → sink.taken t ≡ told (sink.taken s) (option_to_list o) →
-        Fed view sink a (take n bits) c s t
-    fed-word a c bits w most n o s t word within front sees took =
-        record { seen = option_to_list o; sees = rw (← word-front bits w most n word within front) sees; took = took }
-
-    -- or was not
-    pub refused-word : (a c : AnalyserState C) (bits : List Bool) (w most n : ℕ) (o : Option SeenReport) (s t : S) →
-        w ≡ number (take most bits) → most ≤ length bits → 1 ≤ n → n ≤ most
-        → Sees view a (bits_of n w) (option_to_list o) c →
-        ((b : List Bool) → IsAfter view a b → seen_after a (b ++ bits_of (n - 1) w) ≡ seen_after a b)
-        → (lost : SeenReport) × (o ≡ Some lost) × (sink.taken t ≡ sink.taken s)
-        → Refused view sink a (take n bits) c s t
-    refused-word a c bits w most n o s t word within some front sees calm lost =
-        let count : length (take n bits) ≡ n = omega (arith, length-take n bits, within, front) in
-        let but_last : take (length (take n bits) - 1) (take n bits) ≡ bits_of (n - 1) w =
-        ap (λ i. take (i - 1) (take n bits)) count ∙ (take-take (n - 1) n bits (omega arith)
-        ∙ sym (word-front bits w most (n - 1) word within (omega (arith, front)))) in
-        record {
-          seen = [];
-          lost = lost.0;
-          some = omega (arith, count, some);
-          sees = rw (← word-front bits w most n word within front) (rw lost.1 at sees);
-          front = λ b reached. ap (λ z. seen_after a (b ++ z)) but_last
-              ∙ (calm b reached ∙ sym (append-nil (seen_after a b)));
-          took = lost.2 ∙ told-nil (sink.taken s);
-        }
+    -- the sink refused what is seen at a bit
+    pub refused-bit : {a c : AnalyserState C} {bit : Bool} {lost : SeenReport} {s t : S} →
+        Sees view a (bit ∷ []) (lost ∷ []) c → sink.taken t ≡ sink.taken s → Refused view sink a (bit ∷ []) c s t
+    refused-bit {a} {lost = lost} {s = s} sees same = record {
+      seen = [];
+      lost = lost;
+      some = omega arith;
+      sees = sees;
+      front = λ b reached. ap (seen_after a) (append-nil b) ∙ sym (append-nil (seen_after a b));
+      took = same ∙ told-nil (sink.taken s);
+    }
 
     pub refused-after : {a b c : AnalyserState C} {xs ys : List Bool} {s t u : S} → Fed view sink a xs b s t →
         Refused view sink b ys c t u → Refused view sink a (xs ++ ys) c s u

@@ -171,16 +171,6 @@ merged-first-alone stays more grow origin longest ps (x ∷ xs) rs adds quiet =
     ∙ ap (λ hs. merged origin longest ps ++ hs)
     (sym (ap (map (heard_on (Some First))) parts ∙ map-append (heard_on (Some First)) (option_to_list r) rest.0)))))
 
--- pairs that decide nothing add nothing
-pub merged-quiet : DueStays → OneMore → ReportsGrow → (origin longest : ℕ) (ps xs : List (Bool × Bool))
-    → placed origin longest (firsts ps ++ firsts xs) ≡ placed origin longest (firsts ps) →
-    placed origin longest (seconds ps ++ seconds xs) ≡ placed origin longest (seconds ps)
-    → merged origin longest (ps ++ xs) ≡ merged origin longest ps
-merged-quiet stays more grow origin longest ps xs first_quiet second_quiet =
-    merged-first-alone stays more grow origin longest ps xs []
-    (first_quiet ∙ sym (append-nil (placed origin longest (firsts ps)))) second_quiet
-    ∙ append-nil (merged origin longest ps)
-
 -- pairs of which at most the last decides a report of the second line add these
 pub merged-led : DueStays → OneMore → ReportsGrow →
     (origin longest : ℕ) (ps xs : List (Bool × Bool)) (x : Bool × Bool) (rs : List Report) (s : Option Report)

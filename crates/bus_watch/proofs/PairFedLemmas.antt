@@ -1,24 +1,15 @@
 -- Feeding pairs of bits, and what a sink refused of what is seen at one place.
-use Rattle.std.proofs.Common.{◌≡◌, ℕ, ◌+◌, ◌-◌, ◌*◌, ◌%◌, ◌^◌, ◌<◌, ◌≤◌, Bool, List, [], ◌∷◌, ◌++◌, length, take, zip}
+use Rattle.std.proofs.Common.{◌≡◌, ℕ, ◌+◌, ◌-◌, ◌<◌, List, [], ◌∷◌, ◌++◌, length, take}
 use Rattle.std.proofs.Common.{Result, Ok, Err, OnOk, OnErr, refl, sym, ap, ◌∙◌, append_assoc, append-nil, arith}
-use Rattle.std.proofs.Common.{length-append, subst, true, false}
-use Rattle.std.specs.Prelude.{bit_or}
-use Rattle.std.specs.List.{take-map}
-use Rattle.std.specs.Int.Bits.{or_shifted_r}
-use Rattle.std.proofs.lemmas.Nat.{shl_whole}
-use mir.Val.{bool_byte}
-use Rattle.bus_bits.specs.Octet.{number, bits_of}
-use Rattle.bus_bits.proofs.OctetLemmas.{number-lt, number-append}
-use Rattle.bus_talk.specs.Heard.{firsts, seconds, pairs_of}
+use Rattle.std.proofs.Common.{length-append, subst}
 use Rattle.bus_talk.specs.Seen.{SeenReport}
 use Rattle.bus_line.specs.Told.{told}
 use Rattle.bus_talk.specs.Sink.{SinkView, SinkTook}
 use Rattle.bus_watch.specs.Watch.{Watch, Leads, seen_by}
 use Rattle.bus_watch.specs.Fed.{FedBy, RefusedBy, Lacks, none, took, refused, Offered}
 use Rattle.bus_talk.proofs.SinkLemmas.{took-none, took-more}
-use Rattle.bus_watch.proofs.MergedLemmas.{length-firsts, length-seconds}
 use Rattle.bus_line.proofs.ToldLemmas.{told-nil, told-more}
-use Rattle.bus_watch.proofs.FedLemmas.{word-front, leads-more, front-more}
+use Rattle.bus_watch.proofs.FedLemmas.{leads-more, front-more}
 
 lacks-more : {xs ys us vs : List SeenReport} {m n : ℕ} → Lacks xs us m → Lacks ys vs n →
     Lacks (xs ++ ys) (us ++ vs) (n + m)
@@ -111,39 +102,3 @@ refused-behind {sink = sink} {xs = xs} {ys = ys} {s = s} fed next = record {
 pub either-way : {T E P Q R : Type 0} (answer : Result T E) → (P → R) → (Q → R) → OnOk answer P → OnErr answer Q → R
 either-way (Ok x) from_ok from_err ok err = from_ok ok
 either-way (Err e) from_ok from_err ok err = from_err err
-
--- one bit more in a word
-byte_small : (b : Bool) → bool_byte b < 2 ^ 1
-byte_small true = omega arith
-byte_small false = omega arith
-
-number_one : (b : Bool) → number (b ∷ []) ≡ bool_byte b
-unfolding number
-number_one true = refl
-number_one false = refl
-
-pub word-more : (bs : List Bool) (b : Bool) (n p f : ℕ) → n ≡ number bs → length bs ≡ p → p < 64 → f ≡ bool_byte b →
-    bit_or n (f * 2 ^ p % 2 ^ 64) ≡ number (bs ++ b ∷ [])
-word-more bs b n p f word count within byte =
-    let one : f < 2 ^ 1 = rw byte (byte_small b) in
-    let low : n < 2 ^ p = rw (word, ← count) (number-lt bs) in
-    let same : f * 2 ^ p % 2 ^ 64 ≡ f * 2 ^ p = shl_whole f 1 p 64 one (omega (arith, within)) in
-    let put : bit_or n (f * 2 ^ p) ≡ n + f * 2 ^ p = or_shifted_r f p n low ∙ omega arith in
-    ap (bit_or n) same ∙ put ∙ sym (number-append bs (b ∷ []) ∙ rw (number_one b, count, ← byte, ← word) refl)
-
--- pairs are those of their bits
-zip-both : (ps : List (Bool × Bool)) → zip (firsts ps) (seconds ps) ≡ ps
-zip-both [] = refl
-zip-both (p ∷ ps) = ap (λ l. p ∷ l) (zip-both ps)
-
--- the first pairs of two words are those of the list that they were made of
-pub words-front : (ps : List (Bool × Bool)) (x y most n : ℕ) → x ≡ number (firsts (take most ps)) →
-    y ≡ number (seconds (take most ps)) → most ≤ length ps → n ≤ most → pairs_of n x y ≡ take n ps
-words-front ps x y most n first second within front =
-    let one : bits_of n x ≡ firsts (take n ps) =
-    word-front (firsts ps) x most n (first ∙ ap number (sym (take-map (λ (p : Bool × Bool). p.0) most ps)))
-    (omega (arith, within, length-firsts ps)) front ∙ take-map (λ (p : Bool × Bool). p.0) n ps in
-    let two : bits_of n y ≡ seconds (take n ps) =
-    word-front (seconds ps) y most n (second ∙ ap number (sym (take-map (λ (p : Bool × Bool). p.1) most ps)))
-    (omega (arith, within, length-seconds ps)) front ∙ take-map (λ (p : Bool × Bool). p.1) n ps in
-    rw (one, two) (zip-both (take n ps))

@@ -1,35 +1,29 @@
 -- Pairs of bits: what is due at their places, the room of the counters, and the steps of both lines.
-use Rattle.std.proofs.Common.{◌≡◌, ℕ, zero, suc, ◌+◌, ◌-◌, ◌*◌, ◌<◌, ◌≤◌, ◌^◌, ◌%◌, ◌==◌, Bool, true, false, List, []}
-use Rattle.std.proofs.Common.{◌∷◌, ◌++◌, length, take, map, filter, zip, min, inl, inr, Option, Some, None, refl, sym}
+use Rattle.std.proofs.Common.{◌≡◌, ℕ, zero, suc, ◌+◌, ◌*◌, ◌<◌, ◌≤◌, ◌^◌, ◌==◌, Bool, true, false, List, []}
+use Rattle.std.proofs.Common.{◌∷◌, ◌++◌, length, map, filter, zip, Option, Some, None, refl, sym}
 use Rattle.std.proofs.Common.{ap, ◌∙◌, subst, append-nil, append_assoc, arith, length-append}
 use Rattle.std.specs.List.{flat_map, All}
 use Rattle.std.specs.Option.{option_map, option_to_list}
-use Rattle.std.proofs.lemmas.List.{map-append, length-map, append_cancel_left, take-take}
+use Rattle.std.proofs.lemmas.List.{map-append, length-map, append_cancel_left}
 use Rattle.std.proofs.lemmas.List.Elements.{All-append, All-nil, All-cons, filter-append}
 use Rattle.std.proofs.lemmas.List.Sums.{sum_by-append}
-use Rattle.std.proofs.lemmas.Bool.{ne_eqb, eq-eqb, cases_lt}
-use Rattle.std.proofs.lemmas.Nat.{shl_whole}
+use Rattle.std.proofs.lemmas.Bool.{ne_eqb, eq-eqb}
 use Rattle.std.proofs.lemmas.Grind.{flat_map-append}
-use mir.Val.{bool_byte}
-use Rattle.bus_bits.specs.Octet.{bits_of}
 use Rattle.bus_bits.specs.declared.spent.Spent.{Spent}
-use Rattle.bus_bits.proofs.OctetLemmas.{length-bits, bits-front, bits-low, one_bit}
 use Rattle.bus_fcs.specs.Check.{CheckView}
 use Rattle.bus_line.specs.Report.{Report, due, moved}
-use Rattle.bus_line.specs.Decides.{MayDecideAt}
 use Rattle.bus_line.specs.Due.{reports, placed, places, due_at}
 use Rattle.bus_line.specs.Laws.{DueStays, DueIsIt, FramesStored, StoredPaid, AssembledWithin}
 use Rattle.bus_line.specs.Ledger.{octet_count, copied, stored, IsLedger as IsLineLedger}
 use Rattle.bus_line.specs.Internal.LineState.{LineState}
-use Rattle.bus_line.specs.After.{TakesTo}
 use Rattle.bus_dictionary.specs.Entry.{FrameType}
 use Rattle.bus_dictionary.specs.Dictionary.{longest_of}
-use Rattle.bus_talk.specs.Heard.{Heard, heard_on, firsts, seconds, pairs_of, heard_at, merged}
+use Rattle.bus_talk.specs.Heard.{Heard, heard_on, firsts, seconds, heard_at, merged}
 use Rattle.bus_talk.specs.Seen.{SeenReport, heard_in, seen, all_seen_at}
 use Rattle.bus_talk.specs.Journal.{JournalState, HasRoom}
 use Rattle.bus_watch.specs.Internal.Hears.{Hears, heard_option}
 use Rattle.bus_talk.specs.Ledger.{steps, handled, handled_of, copied_of, total, plus, IsLedger, IsPairLedger}
-use Rattle.bus_watch.specs.Pairs.{PairState, IsAfterPairs, TakesPairsTo, lines, seen_after_pairs}
+use Rattle.bus_watch.specs.Pairs.{PairState, IsAfterPairs, lines, seen_after_pairs}
 use Rattle.bus_watch.specs.Laws.{PairsGrow, StepsWithinFour, StepsWithinThree}
 use Rattle.bus_talk.specs.declared.line.Line.{Line}
 use Rattle.bus_talk.specs.declared.line.Line.TheVariants.{First, Second}
@@ -51,37 +45,6 @@ seconds-zip [] [] same_length = refl
 seconds-zip [] (y ∷ c) same_length = absurd (omega (arith, same_length))
 seconds-zip (x ∷ b) [] same_length = absurd (omega (arith, same_length))
 seconds-zip (x ∷ b) (y ∷ c) same_length = ap (λ l. y ∷ l) (seconds-zip b c (omega (arith, same_length)))
-
-pub firsts-of : (n x y : ℕ) → firsts (pairs_of n x y) ≡ bits_of n x
-firsts-of n x y = firsts-zip (bits_of n x) (bits_of n y) (length-bits n x ∙ sym (length-bits n y))
-
-pub seconds-of : (n x y : ℕ) → seconds (pairs_of n x y) ≡ bits_of n y
-seconds-of n x y = seconds-zip (bits_of n x) (bits_of n y) (length-bits n x ∙ sym (length-bits n y))
-
-pub length-pairs : (n x y : ℕ) → length (pairs_of n x y) ≡ n
-length-pairs n x y = sym (length-firsts (pairs_of n x y)) ∙ (ap length (firsts-of n x y) ∙ length-bits n x)
-
--- where a line stands that is asked first, all that it was asked for are taken
-pub takes-all-of : (b bits : List Bool) (most n : ℕ) → ((i : ℕ) → i + 1 < most → MayDecideAt b bits i → ⊥) →
-    TakesTo b bits n → length bits ≡ most → 1 ≤ n → n ≤ most → n ≡ most
-takes-all-of b bits most n calm takes count some within = elim (cases_lt n most) [
-  | inl fewer ↦ absurd (calm (n - 1) (omega (arith, fewer, some)) (takes.stop (omega (arith, fewer, count))))
-  | inr all ↦ omega (arith, all, within)
-]
-
--- the least of both is as many as both lines take
-pub takes-least : (b c xs ys : List Bool) (m n : ℕ) → length xs ≡ length ys → TakesTo b xs m → TakesTo c ys n →
-    TakesPairsTo b c xs ys (min m n)
-takes-least b c xs ys m n same_length first second = record {
-  first = λ i before. first.before i (omega (arith, before));
-  second = λ i before. second.before i (omega (arith, before));
-  stop = elim (cases_lt m n) [
-    | inl less ↦ (let least : min m n ≡ m = omega (arith, less) in rw least (λ some_left. inl (first.stop some_left)))
-    | inr not_less ↦
-        (let least : min m n ≡ n = omega (arith, not_less) in
-        rw least (λ some_left. inr (second.stop (omega (arith, some_left, same_length)))))
-  ];
-}
 
 -- the octets of a line
 pub of_one-octets : FramesStored → StoredPaid → AssembledWithin → (on : Line) (origin longest : ℕ) (b : List Bool) →
@@ -407,28 +370,3 @@ both-within view a ps d e paid within cost_within reached first second =
 pub pair-seventeen : (ps : List (Bool × Bool)) (spent : Spent) → total spent ≤ 4 * (2 * length ps) →
     total spent ≤ 17 * (2 * length ps)
 pair-seventeen ps spent four = omega (arith, four)
-
--- the lowest bits of a number
-pub lowest : (n x : ℕ) → n ≤ 48 → bits_of n (x % (1 * 2 ^ n % 2 ^ 64)) ≡ bits_of n x
-lowest n x few =
-    let power : 1 * 2 ^ n % 2 ^ 64 ≡ 2 ^ n = shl_whole 1 1 n 64 (omega arith) (omega (arith, few)) ∙ omega arith in
-    ap (λ m. bits_of n (x % m)) power ∙ bits-low n x
-
-pub lowest-front : (i n count x : ℕ) → n ≤ 48 → n ≤ count → i ≤ n →
-    take i (bits_of n (x % (1 * 2 ^ n % 2 ^ 64))) ≡ take i (bits_of count x)
-lowest-front i n count x few within front = ap (take i) (lowest n x few ∙ sym (bits-front n count x within))
-    ∙ take-take i n (bits_of count x) front
-
--- a bit of the lowest of a number may decide just what it may decide there
-pub decides-front : (b : List Bool) (i n count x : ℕ) → n ≤ 48 → n ≤ count → i + 1 ≤ n →
-    MayDecideAt b (bits_of n (x % (1 * 2 ^ n % 2 ^ 64))) i → MayDecideAt b (bits_of count x) i
-decides-front b i n count x few within front decides = record {
-  behind = rw (← lowest-front i n count x few within (omega (arith, front))) decides.behind;
-  apart = λ flag are. decides.apart flag (rw (lowest-front (i + 1) n count x few within front) are);
-}
-
--- two bits, as a pair
-pub one_pair : (n x y : ℕ) (b c : Bool) → x ≡ bool_byte b → y ≡ bool_byte c → 1 ≤ n → n ≤ 1 →
-    pairs_of n x y ≡ (b, c) ∷ []
-one_pair n x y b c first second some most = ap (λ bs. zip bs (bits_of n y)) (one_bit x n b first some most)
-    ∙ ap (zip (b ∷ [])) (one_bit y n c second some most)

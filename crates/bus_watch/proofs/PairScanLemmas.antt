@@ -1,36 +1,33 @@
 -- Two lines that are decoded one after the other, up to the same place.
-use Rattle.std.proofs.Common.{◌≡◌, ℕ, ◌+◌, ◌-◌, ◌*◌, ◌%◌, ◌^◌, ◌<◌, ◌≤◌, Bool, false, List, [], ◌∷◌, ◌++◌, length, take}
-use Rattle.std.proofs.Common.{map, zip, Option, Some, None, refl, sym, ap, ◌∙◌, subst, append_assoc, arith}
+use Rattle.std.proofs.Common.{◌≡◌, ℕ, ◌+◌, ◌-◌, ◌^◌, ◌<◌, ◌≤◌, Bool, false, List, [], ◌∷◌, ◌++◌, length, take}
+use Rattle.std.proofs.Common.{map, zip, Option, Some, refl, sym, ap, ◌∙◌, subst, append_assoc, arith}
 use Rattle.std.proofs.Common.{length-append, get_or}
 use Rattle.std.specs.List.{sum_by, take-map}
 use Rattle.std.specs.Option.{option_to_list}
 use Rattle.std.proofs.lemmas.List.{length-map, take_more, take_all}
 use Rattle.bus_bits.specs.Bits.{bits_from}
-use Rattle.bus_bits.specs.Octet.{bits_of}
 use Rattle.bus_bits.proofs.BitLemmas.{bits-more, length-from}
-use Rattle.bus_bits.proofs.OctetLemmas.{bits-front, length-bits}
 use Rattle.bus_bits.proofs.PairWordsLemmas.{zip-append}
 use Rattle.bus_fcs.specs.Check.{CheckView}
 use Rattle.bus_line.specs.Due.{placed}
 use Rattle.bus_line.specs.Laws.{OneMore, ReportsGrow, DueStays, FramesStored, StoredPaid, AssembledWithin}
 use Rattle.bus_line.specs.Ledger.{octet_count}
-use Rattle.bus_line.specs.After.{DecideNothing}
 use Rattle.bus_dictionary.specs.Dictionary.{longest_of}
-use Rattle.bus_talk.specs.Heard.{Heard, heard_on, firsts, seconds, pairs_of, merged}
+use Rattle.bus_talk.specs.Heard.{Heard, heard_on, firsts, seconds, merged}
 use Rattle.bus_talk.specs.Seen.{SeenReport, seen}
 use Rattle.bus_talk.specs.Ledger.{copied_of}
 use Rattle.bus_talk.specs.Journal.{JournalState, Keeps}
 use Rattle.bus_watch.specs.Internal.Hears.{Hears, HearsMany, Reaches, heard_option}
-use Rattle.bus_watch.specs.Pairs.{PairState, IsAfterPairs, SeesPairs, lines, seen_after_pairs, two_lines}
+use Rattle.bus_watch.specs.Pairs.{PairState, IsAfterPairs, SeesPairs, lines, two_lines}
 use Rattle.bus_watch.specs.Watch.{LeadsTold, Watch}
 use Rattle.bus_watch.proofs.FedLemmas.{leads-more, leads-nil}
 use Rattle.bus_watch.proofs.HearsLemmas.{hears-one}
 use Rattle.bus_talk.specs.declared.line.Line.TheVariants.{First, Second}
 use Rattle.bus_watch.proofs.MergedLemmas.{firsts-append, length-firsts, length-seconds, merged-adds, merged-led}
-use Rattle.bus_watch.proofs.MergedLemmas.{merged-quiet, seconds-append}
+use Rattle.bus_watch.proofs.MergedLemmas.{seconds-append}
 use Rattle.bus_watch.proofs.AnalyserViewLemmas.{heard-octets, line-length}
-use Rattle.bus_watch.proofs.PairLemmas.{copied-adds, few-option, firsts-of, firsts-zip, length-pairs, lowest}
-use Rattle.bus_watch.proofs.PairLemmas.{of_one-octets, seconds-of, seconds-zip}
+use Rattle.bus_watch.proofs.PairLemmas.{copied-adds, few-option, firsts-zip}
+use Rattle.bus_watch.proofs.PairLemmas.{of_one-octets, seconds-zip}
 
 -- the first line of two stands so
 pub pairs-reach : {C : Type 0} (view : CheckView C) (a : PairState C) (ps : List (Bool × Bool)) →
@@ -148,44 +145,16 @@ module _ {C : Type 0} (view : CheckView C) (old new : PairState C) (j : JournalS
         place = omega (arith, first.led.place, ap length firsts_are, length-firsts zs);
       }
 
--- ---- both lines take the lowest bits of two numbers
-
-abbrev low-bits : ℕ → ℕ → List Bool
-low-bits n x = bits_of n (x % (1 * 2 ^ n % 2 ^ 64))
-
-low-front : (n x : ℕ) → n ≤ 48 → take (length (low-bits n x) - 1) (low-bits n x) ≡ bits_of (n - 1) x
-low-front n x few = ap (λ k. take (k - 1) (low-bits n x)) (length-bits n (x % (1 * 2 ^ n % 2 ^ 64)))
-    ∙ (ap (take (n - 1)) (lowest n x few) ∙ bits-front (n - 1) n x (omega arith))
-
-pub sees-words : {C : Type 0} (view : CheckView C) (n x y : ℕ) (old new : PairState C)
-    (j : JournalState) (s t : Option SeenReport) → DueStays → OneMore → ReportsGrow → 1 ≤ n → n ≤ 48
-    → Hears view (Some First) old.first old.journal (low-bits n x) s new.first j
-    → Hears view (Some Second) old.second j (low-bits n y) t new.second new.journal
-    → SeesPairs view old (pairs_of n x y) (option_to_list s ++ option_to_list t) new
-sees-words view n x y old new j s t stays more grow some few first second =
-    let some_bits : 0 < length (low-bits n x) = omega (arith, some, length-bits n (x % (1 * 2 ^ n % 2 ^ 64))) in
-    sees-scanned view old new j (pairs_of n x y) (low-bits n x) (low-bits n y) t (λ _. Unit {0})
-    stays more grow (omega (arith, some, length-pairs n x y)) (lowest n x few ∙ sym (firsts-of n x y))
-    (lowest n y few ∙ sym (seconds-of n x y))
-    (hears-one view (Some First) old.first new.first old.journal j (low-bits n x) s some_bits first) second
-
--- all but the last bits add nothing
-pub words-before : {C : Type 0} (view : CheckView C) (n x y : ℕ) (a : PairState C) → DueStays → OneMore →
-    ReportsGrow → n ≤ 48
-    → DecideNothing view a.first (take (length (low-bits n x) - 1) (low-bits n x))
-    → DecideNothing view a.second (take (length (low-bits n y) - 1) (low-bits n y))
-    → (ps : List (Bool × Bool)) → IsAfterPairs view a ps →
-    seen_after_pairs a (ps ++ pairs_of (n - 1) x y) ≡ seen_after_pairs a ps
-words-before view n x y a stays more grow few first second ps reached =
-    let o = a.first.origin in
-    let longest = longest_of a.journal.dictionary in
-    let first_quiet : placed o longest (firsts ps ++ firsts (pairs_of (n - 1) x y)) ≡ placed o longest (firsts ps) =
-    rw (firsts-of (n - 1) x y, ← low-front n x few, ← reached.longest) (first (firsts ps) reached.first) in
-    let second_quiet : placed o longest (seconds ps ++ seconds (pairs_of (n - 1) x y)) ≡ placed o longest (seconds ps) =
-    rw (seconds-of (n - 1) x y, ← low-front n y few, ← reached.longest_second, ← reached.origin)
-    (second (seconds ps) reached.second) in
-    ap (seen a.journal.dictionary)
-    (merged-quiet stays more grow o longest ps (pairs_of (n - 1) x y) first_quiet second_quiet)
+-- one bit on either line
+pub sees-pair : {C : Type 0} (view : CheckView C) (x y : Bool) (old new : PairState C) (j : JournalState)
+    (s t : Option SeenReport) → DueStays → OneMore → ReportsGrow
+    → Hears view (Some First) old.first old.journal (x ∷ []) s new.first j
+    → Hears view (Some Second) old.second j (y ∷ []) t new.second new.journal
+    → SeesPairs view old ((x, y) ∷ []) (option_to_list s ++ option_to_list t) new
+sees-pair view x y old new j s t stays more grow first second =
+    sees-scanned view old new j ((x, y) ∷ []) (x ∷ []) (y ∷ []) t (λ _. Unit {0})
+    stays more grow (omega arith) refl refl
+    (hears-one view (Some First) old.first new.first old.journal j (x ∷ []) s (omega arith) first) second
 
 -- ---- pairs of octets' bits
 
@@ -250,33 +219,10 @@ leads-further w a b c xs ys told last further first next both = record {
   told = both first.seen next.seen first.told next.told;
 }
 
--- no pair is taken, and nothing is found at the last one any more
+-- no pair is taken
 pub leads-nowhere : {C : Type 0} (view : CheckView C) (a : PairState C) (os ys : List ℕ)
     (told : List SeenReport → Type 0) → told []
-    → LeadsTold (two_lines view) a (zip (bits_from os 0 0) (bits_from ys 0 0))
-    (record a { found_first = None; found_second = None }) told
+    → LeadsTold (two_lines view) a (zip (bits_from os 0 0) (bits_from ys 0 0)) a told
 unfolding bits_from
 leads-nowhere view a os ys told nothing_told =
-    let same = leads-nil (two_lines view) a in
-    record {
-      seen = [];
-      sees = record {
-        is_after = λ ps reached.
-            let after = same.is_after ps reached in
-            record {
-              first = after.first;
-              second = after.second;
-              origin = after.origin;
-              longest = after.longest;
-              longest_second = after.longest_second;
-              journal = after.journal;
-            };
-        seen = same.seen;
-        dictionary = refl;
-        depth = refl;
-        origin = refl;
-        place = same.place;
-      };
-      few = omega arith;
-      told = nothing_told;
-    }
+    record { seen = []; sees = leads-nil (two_lines view) a; few = omega arith; told = nothing_told }

@@ -1,15 +1,12 @@
 -- The lists of bits after which an analyser may stand, and what more bits do.
-use Rattle.std.specs.Prelude.{◌≡◌, Bool, List, Option}
-use Rattle.std.specs.Option.{option_map, option_to_list}
+use Rattle.std.specs.Prelude.{◌≡◌, Bool, List}
 use Rattle.bus_fcs.specs.Check.{CheckView}
 use Rattle.bus_line.specs.Due.{placed}
 use Rattle.bus_line.specs.Internal.LineState.{LineState}
 use Rattle.bus_line.specs.After.{After}
 use Rattle.bus_dictionary.specs.Dictionary.{longest_of}
-use Rattle.bus_talk.specs.declared.finding.Finding.{Finding}
 use Rattle.bus_talk.specs.Heard.{Heard, of_line}
 use Rattle.bus_talk.specs.Seen.{SeenReport, seen}
-use Rattle.bus_talk.specs.Shown.{found}
 use Rattle.bus_watch.specs.Watch.{Watch, Leads}
 use Rattle.bus_talk.specs.Journal.{JournalState, Keeps}
 
@@ -17,7 +14,6 @@ use Rattle.bus_talk.specs.Journal.{JournalState, Keeps}
 pub record AnalyserState (C : Type 0) : Type 0 where
   pub decoder : LineState C
   pub journal : JournalState
-  pub finding : Option Finding
 
 -- the reports of the bits b of its line, by its dictionary's longest frame
 abbrev pub line : {C : Type 0} → AnalyserState C → List Bool → List Heard
@@ -26,10 +22,6 @@ line a b = of_line (placed a.decoder.origin (longest_of a.journal.dictionary) b)
 -- what is seen of them
 abbrev pub seen_after : {C : Type 0} → AnalyserState C → List Bool → List SeenReport
 seen_after a b = seen a.journal.dictionary (line a b)
-
--- what is seen at the last bit taken
-abbrev pub heard : {C : Type 0} → AnalyserState C → List SeenReport
-heard a = option_to_list (option_map (found a.decoder.octets) a.finding)
 
 -- an analyser may stand after the bits b
 pub record IsAfter {C : Type 0} (view : CheckView C) (a : AnalyserState C)

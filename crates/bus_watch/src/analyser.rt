@@ -1,4 +1,4 @@
-//! The analyser: what is seen on a line, up to 48 bits at a time, in fixed memory.
+//! The analyser: what is seen on a line, in fixed memory.
 
 ghost use Rattle.std.specs.Prelude.{◌≡◌, ◌≢◌, ◌+◌, ◌-◌, ◌*◌, ◌≤◌, ◌<◌, ◌^◌, ◌↔◌, ◌⊎◌, List, Bool, [], ◌∷◌, ◌++◌, IsErr};
 ghost use Rattle.std.specs.Prelude.{IfOk, OnErr, IsTrue, false, length, Some, Err, slice_get, option_copied, None, min};
@@ -6,17 +6,14 @@ ghost use Rattle.std.specs.Option.{option_map, option_to_list};
 ghost use Rattle.std.specs.Borrow.{sem};
 ghost use Rattle.std.specs.Io.BufRead.{Rests};
 ghost use Rattle.bus_bits.specs.Limits.{most_places};
-ghost use Rattle.bus_bits.specs.Word.{IsWordOf};
-ghost use Rattle.bus_line.specs.After.{TakesTo};
 ghost use Rattle.bus_line.specs.Due.{begun};
 ghost use Rattle.bus_line.specs.Ledger.{stored_open};
 ghost use Rattle.bus_bits.specs.Bits.{bits_from};
-ghost use Rattle.bus_bits.specs.Octet.{bits_of};
 ghost use Rattle.bus_dictionary.specs.Dictionary.{longest_of};
 
 use crate::fault::NewFault;
 use crate::feed::PLACES;
-use crate::hear::{begun_span, fresh, hear, observe_bits};
+use crate::hear::{begun_span, hear, lent, observe_bits};
 use crate::laws::{seen_grows, steps_are_bounded};
 use crate::observer::ReportObserver;
 use bus_bits::Spent;
@@ -35,10 +32,8 @@ use std::marker::Model;
 /// It takes memory once, for the history, when it is made.
 #[derive(Drop)]
 pub struct Analyser<C: Check> {
-    decoder: LineDecoder<C>,
+    pub(crate) decoder: LineDecoder<C>,
     journal: Journal,
-    /// Whether the last bit taken decided a report, which is then the last of the journal.
-    is_decided: bool,
 }
 
 impl<C: Check> Model for Analyser<C> {
@@ -55,7 +50,7 @@ impl<C: Check> Model for Analyser<C> {
 
 impl<C: Check> Analyser<C> {
     ghost use Rattle.bus_watch.specs.contracts.analyser.Analyser.{the_row};
-    ghost use Rattle.bus_watch.specs.After.{IsAfter, Sees, heard, line, one_line, seen_after};
+    ghost use Rattle.bus_watch.specs.After.{IsAfter, Sees, line, one_line};
     ghost use Rattle.bus_watch.specs.Watch.{LeadsTold};
     ghost use Rattle.bus_talk.specs.Seen.{seen_at};
     ghost use Rattle.bus_talk.specs.Shown.{shown_option, found, kept_option, begun_span, IsKeepable};
@@ -83,7 +78,6 @@ impl<C: Check> Analyser<C> {
         ensures given { IfOk result
             (λ a. (a.journal.dictionary ≡ dictionary) × (a.journal.depth ≡ depth) × (a.decoder.origin ≡ origin)
             × (a.decoder.place ≡ origin)) }
-        ensures none { IfOk result (λ a. a.finding ≡ None) }
     {
         if depth < 1 || depth > 1024 {
             return Err(NewFault::DepthRange);
@@ -94,47 +88,14 @@ impl<C: Check> Analyser<C> {
             Err(LineFault::LongestRange) => unreachable!(),
         };
         match Journal::new(alloc, dictionary, depth) {
-            Ok(journal) => Ok(Analyser {
-                decoder,
-                journal,
-                is_decided: false,
-            }),
+            Ok(journal) => Ok(Analyser { decoder, journal }),
             Err(_) => Err(NewFault::Memory),
         }
-    }
-
-    /// Takes up to `count` bits, the first lowest: all of them, or those up to the first that may decide
-    /// a report. Returns how many it took. What is seen at the last of these, if it decides a report, is
-    /// then answered by [`Analyser::finding`], and [`Analyser::octets`] lends the octets of a frame.
-    ///
-    /// `count` is 1 to 48, and the higher bits of the word are 0.
-    ///
-    /// Refuses as [`PlaceLimit`], with nothing changed, where one of the `count` bits would have the
-    /// place 2^60 or a later one.
-    #[inline(always)]
-    pub fn take(&mut self, bits: u64, count: u32) -> Result<u32, PlaceLimit>
-        requires word { IsWordOf count bits }
-        ensures limit { IsErr result ↔ (most_places < self.old.decoder.place + count) }
-        ensures within { IfOk result (λ n. (1 ≤ n) × (n ≤ count)) }
-        ensures stops { IfOk result (λ n. (b : List Bool) → IsAfter C.check self.old b →
-            TakesTo b (bits_of count bits) n) }
-        ensures sees { IfOk result (λ n. Sees C.check self.old (bits_of n bits)
-            (heard self.new) self.new) }
-        ensures before { IfOk result (λ n. (b : List Bool) → IsAfter C.check self.old b →
-            seen_after self.old (b ++ bits_of (n - 1) bits) ≡ seen_after self.old b) }
-        ensures unchanged { OnErr result (self.new ≡ self.old) }
-    {
-        settled_places();
-        let intake = hear(&mut self.decoder, &mut self.journal, None, bits, count)?;
-        self.is_decided = intake.is_decided;
-        Ok(intake.count)
     }
 
     /// Takes bits of these octets, the least significant of each first, from bit `from` on and before bit `end`. The
     /// observer is shown all that is seen at them, one report after another. Returns how many bits it took: it stops in
     /// front of one whose place would be 2^60.
-    ///
-    /// What is seen at the last bit was shown like the rest, and [`Analyser::finding`] has nothing more to answer.
     pub fn scan<X, L: ReportObserver<X>>(
         &mut self,
         octets: &[u8],
@@ -149,12 +110,10 @@ impl<C: Check> Analyser<C> {
         ensures taken { result ≡ min (end - from) (most_places - self.old.decoder.place) }
         ensures told { LeadsTold (one_line C.check) self.old (bits_from octets.now from result) self.new
             (λ ss. L.observes self.old.journal.dictionary observer.old out.old ss observer.new out.new) }
-        ensures none { self.new.finding ≡ None }
     {
         settled_places();
         let places = PLACES - self.place();
         let count = min((end - from) as u64, places) as usize;
-        self.is_decided = false;
         observe_bits(
             &mut self.decoder,
             &mut self.journal,
@@ -168,34 +127,18 @@ impl<C: Check> Analyser<C> {
         count
     }
 
-    /// What is seen at the last bit that [`Analyser::take`] took, if it decides a report.
-    /// [`Analyser::octets`] lends the octets of a frame.
+    /// Takes a bit; what the report that it decides is found to be, if it decides one.
     #[inline(always)]
-    pub fn finding(&self) -> Option<&Finding>
-        ensures { option_copied result ≡ self.now.finding }
+    pub(crate) fn advance(&mut self, bit: bool) -> Result<Option<Finding>, PlaceLimit>
+        ensures limit { IsErr result ↔ (most_places ≤ self.old.decoder.place) }
+        ensures sees { IfOk result (λ finding. Sees C.check self.old (bit ∷ [])
+            (option_to_list (option_map (found self.new.decoder.octets) finding)) self.new) }
+        ensures unchanged { OnErr result (self.new ≡ self.old) }
     {
-        fresh(&self.journal, self.is_decided)
-    }
-
-    /// The octets of the frame that the last bit closed: address, control, information and the two
-    /// octets of the frame check. After any other bit they are not those of a frame.
-    pub fn octets(&self) -> &[u8]
-        ensures value { result.now ≡ self.now.decoder.octets }
-        ensures bound { length result.now ≤ longest_of self.now.journal.dictionary + 2 }
-        ensures longest { longest_of self.now.journal.dictionary ≤ 256 }
-    {
-        self.decoder.octets()
-    }
-
-    /// What is seen at the last bit, if anything, as it is handed out.
-    fn lent(&self) -> Option<Seen<'_>>
-        ensures shown { shown_option result ≡ option_map (found self.now.decoder.octets) self.now.finding }
-        ensures fits { IsKeepable result }
-    {
-        match self.finding() {
-            Some(finding) => Some(finding.with_octets(self.octets())),
-            None => None,
-        }
+        settled_places();
+        // The `?` parts the two cases for the proof.
+        let finding = hear(&mut self.decoder, &mut self.journal, None, bit)?;
+        Ok(finding)
     }
 
     /// Takes a bit, and returns what is seen at it, if it decides a report. A frame's octets are
@@ -214,8 +157,8 @@ impl<C: Check> Analyser<C> {
             × OnErr result (new ≡ self.old))) }
     {
         seen_grows();
-        self.take(u64::from(bit), 1)?;
-        Ok(self.lent())
+        let finding = self.advance(bit)?;
+        Ok(lent(&self.decoder, finding))
     }
 
     /// A frame of the history, of which the oldest has the number 0.
@@ -299,14 +242,6 @@ impl<C: Check> Analyser<C> {
             handled: journal.handled,
             ..self.decoder.spent()
         }
-    }
-
-    /// Whether `count` bits more have places below 2^60.
-    #[inline(always)]
-    pub fn has_room(&self, count: u32) -> bool
-        ensures { IsTrue result ↔ (self.now.decoder.place + count ≤ most_places) }
-    {
-        self.place() + u64::from(count) <= PLACES
     }
 
     /// The place of the next bit: the origin and the bits so far.

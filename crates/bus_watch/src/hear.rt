@@ -1,105 +1,69 @@
 //! Bits on one line, and what follows from them.
 
-ghost use Rattle.std.specs.Prelude.{◌≡◌, ◌+◌, ◌-◌, ◌*◌, ◌≤◌, ◌<◌, ◌^◌, ◌↔◌, ◌⊎◌, ◌≢◌, ℕ, List, Bool, None, IsErr, IfOk};
-ghost use Rattle.std.specs.Prelude.{OnErr, length, option_copied};
-ghost use Rattle.std.specs.Option.{option_to_list, option_map};
+ghost use Rattle.std.specs.Prelude.{◌≡◌, ◌+◌, ◌-◌, ◌*◌, ◌≤◌, ◌<◌, ◌↔◌, ℕ, List, Bool, [], ◌∷◌, IsErr, IfOk, OnErr};
+ghost use Rattle.std.specs.Prelude.{length, option_copied, Some};
+ghost use Rattle.std.specs.Option.{is_some, option_to_list, option_map};
 ghost use Rattle.bus_bits.specs.Bits.{bits_from};
 ghost use Rattle.bus_bits.specs.Limits.{most_places};
-ghost use Rattle.bus_bits.specs.Octet.{bits_of};
-ghost use Rattle.bus_bits.specs.Word.{IsWordOf};
-ghost use Rattle.bus_line.specs.After.{After, TakesTo};
+ghost use Rattle.bus_line.specs.After.{Advances, After};
+ghost use Rattle.bus_line.specs.Internal.LineState.{LineState};
+ghost use Rattle.bus_line.specs.Shown.{reported};
 ghost use Rattle.bus_line.specs.Limits.{most_octets};
-ghost use Rattle.bus_watch.specs.Internal.Hears.{fresh, Hears, HearsMany, Reached, Reaches, told_on};
+ghost use Rattle.bus_watch.specs.Internal.Hears.{Decided, fresh, Hears, HearsMany, Reached, Reaches, told_on};
 ghost use Rattle.bus_talk.specs.Journal.{HasRoom};
-ghost use Rattle.bus_talk.specs.Shown.{begun_span, found_on};
+ghost use Rattle.bus_talk.specs.Shown.{begun_span, found, found_on, shown_option, IsKeepable};
+ghost use Rattle.bus_talk.specs.declared.line.Line.{Line};
+ghost use Rattle.bus_watch.specs.PairShown.{shown_option_on};
 
 use crate::observer::ReportObserver;
 use bus_bits::Span;
 use bus_dictionary::Dictionary;
 use bus_fcs::Check;
 use bus_line::laws::{frame_is_spelled, reports_are, settled_places};
-use bus_line::{LineDecoder, PlaceLimit};
-use bus_talk::{Finding, Journal, Line};
+use bus_line::{Event, LineDecoder, PlaceLimit, Scanned};
+use bus_talk::{Finding, Journal, Line, Seen};
 
-/// What a line took in at once.
-#[derive(Clone, Copy)]
-pub(crate) struct Intake<N> {
-    /// How many bits it took.
-    pub(crate) count: N,
-    /// Whether the last of them decided a report, which is then the last of the journal.
-    pub(crate) is_decided: bool,
+/// The journal takes the event that the last bit of a line decided, if it decided one. `line` is `None` where there is
+/// one line.
+#[inline(always)]
+pub(crate) fn record<C: Check>(
+    decoder: &LineDecoder<C>,
+    journal: &mut Journal,
+    line: Option<Line>,
+    event: Option<Event>,
+)
+    requires decided { Decided decoder.now event }
+    requires room { HasRoom journal.old }
+    ensures { (old : LineState C) (bits : List Bool) →
+        Advances C.check old bits (option_map (reported decoder.now.octets) event) decoder.now →
+        Hears C.check line old journal.old bits
+        (told_on line decoder.now.octets (is_some event) journal.new.last) decoder.now journal.new }
+{
+    if let Some(event) = event {
+        reports_are();
+        frame_is_spelled();
+        journal.take(line, event, decoder.octets());
+    }
 }
 
-/// A line takes up to `count` bits, the first lowest: all of them, or those up to the first that may
-/// decide a report; and the journal takes the report that the last of them decides. `line` is `None`
-/// where there is one line.
+/// A line takes a bit, and the journal the report that it decides; what that was found to be, if there is one.
 #[inline(always)]
 pub(crate) fn hear<C: Check>(
     decoder: &mut LineDecoder<C>,
     journal: &mut Journal,
     line: Option<Line>,
-    bits: u64,
-    count: u32,
-) -> Result<Intake<u32>, PlaceLimit>
-    requires word { IsWordOf count bits }
-    requires reached { Reached C.check decoder.old }
-    requires room { decoder.old.place + count ≤ most_places → HasRoom journal.old }
-    ensures limit { IsErr result ↔ (most_places < decoder.old.place + count) }
-    ensures within { IfOk result (λ t. (1 ≤ t.count) × (t.count ≤ count)) }
-    ensures stops { IfOk result (λ t. (b : List Bool) → After C.check decoder.old b →
-        TakesTo b (bits_of count bits) t.count) }
-    ensures hears { IfOk result (λ t. Hears C.check line decoder.old journal.old
-        (bits_of t.count bits) (told_on line decoder.new.octets t.is_decided journal.new.last)
-        decoder.new journal.new) }
-    ensures unchanged { OnErr result ((decoder.new ≡ decoder.old) × (journal.new ≡ journal.old)) }
-{
-    let taken = decoder.take(bits, count)?;
-    if let Some(event) = taken.event {
-        reports_are();
-        frame_is_spelled();
-        journal.take(line, event, decoder.octets());
-    }
-    Ok(Intake {
-        count: taken.count,
-        is_decided: taken.event.is_some(),
-    })
-}
-
-/// A line takes bits of these octets, the lowest of each first, from bit `at` on and before bit `end`: up to the first
-/// that decides a report, or all that have a place; and the journal takes that report, as [`hear`] tells.
-#[inline(always)]
-pub(crate) fn hear_octets<C: Check>(
-    decoder: &mut LineDecoder<C>,
-    journal: &mut Journal,
-    line: Option<Line>,
-    octets: &[u8],
-    at: usize,
-    end: usize,
-) -> Result<Intake<usize>, PlaceLimit>
-    requires some { at < end }
-    requires enough { end ≤ 8 * length octets.now }
+    bit: bool,
+) -> Result<Option<Finding>, PlaceLimit>
     requires reached { Reached C.check decoder.old }
     requires room { decoder.old.place < most_places → HasRoom journal.old }
     ensures limit { IsErr result ↔ (most_places ≤ decoder.old.place) }
-    ensures within { IfOk result (λ t. (1 ≤ t.count) × (t.count ≤ end - at)) }
-    ensures fits { IfOk result (λ t. decoder.old.place + t.count ≤ most_places) }
-    ensures all { IfOk result (λ t. t.count < end - at →
-        (decoder.new.place ≡ most_places) ⊎ (fresh t.is_decided journal.new.last ≢ None)) }
-    ensures hears { IfOk result (λ t. Hears C.check line decoder.old journal.old
-        (bits_from octets.now at t.count) (told_on line decoder.new.octets t.is_decided journal.new.last)
-        decoder.new journal.new) }
+    ensures hears { IfOk result (λ finding. Hears C.check line decoder.old journal.old (bit ∷ [])
+        (option_map (found_on line decoder.new.octets) finding) decoder.new journal.new) }
     ensures unchanged { OnErr result ((decoder.new ≡ decoder.old) × (journal.new ≡ journal.old)) }
 {
-    let scanned = decoder.scan(octets, at, end)?;
-    if let Some(event) = scanned.event {
-        reports_are();
-        frame_is_spelled();
-        journal.take(line, event, decoder.octets());
-    }
-    Ok(Intake {
-        count: scanned.count,
-        is_decided: scanned.event.is_some(),
-    })
+    let event = decoder.advance(bit)?;
+    record(decoder, journal, line, event);
+    Ok(fresh(journal, event.is_some()).copied())
 }
 
 /// Shows an observer what a report of a line was found to be, if there was one.
@@ -151,14 +115,15 @@ pub(crate) fn observe_bits<C: Check, X, L: ReportObserver<X>>(
     settled_places();
     let mut at = from;
     while at < past {
-        let intake = match hear_octets(decoder, journal, line, octets, at, past) {
-            Ok(intake) => intake,
+        let Scanned { count, event } = match decoder.scan(octets, at, past) {
+            Ok(scanned) => scanned,
             Err(PlaceLimit) => unreachable!(),
         };
-        at += intake.count;
+        at += count;
+        record(decoder, journal, line, event);
         show(
             line,
-            fresh(journal, intake.is_decided),
+            fresh(journal, event.is_some()),
             decoder.octets(),
             journal.dictionary(),
             observer,
@@ -176,6 +141,20 @@ pub(crate) fn fresh(journal: &Journal, is_decided: bool) -> Option<&Finding>
         Some(journal.last())
     } else {
         None
+    }
+}
+
+/// A finding as it is handed out, with the octets of a frame that the line's last bit closed.
+#[inline(always)]
+pub(crate) fn lent<C: Check>(decoder: &LineDecoder<C>, finding: Option<Finding>) -> Option<Seen<'_>>
+    ensures only_line { shown_option result ≡ option_map (found decoder.now.octets) finding }
+    ensures either_line { (line : Line) →
+        shown_option_on line result ≡ option_map (found_on (Some line) decoder.now.octets) finding }
+    ensures fits { IsKeepable result }
+{
+    match finding {
+        Some(finding) => Some(finding.with_octets(decoder.octets())),
+        None => None,
     }
 }
 

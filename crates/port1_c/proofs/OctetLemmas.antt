@@ -15,10 +15,6 @@ use Rattle.port1_c.specs.Bits.{high_first}
 pub octet-alone : (o at n : ℕ) → at + n ≤ 8 → bits_of n (o / 2 ^ at) ≡ bits_from (o ∷ []) at n
 octet-alone o at n l = bits-in (o ∷ []) 0 at at n (omega arith) l
 
--- and from the first on
-pub first-bits : (o n : ℕ) → n ≤ 8 → bits_of n o ≡ bits_from (o ∷ []) 0 n
-first-bits o n l = let e : o ≡ o / 2 ^ 0 = omega arith in ap (bits_of n) e ∙ octet-alone o 0 n (omega (arith, l))
-
 -- the bits after the first `at` of so many
 behind : (at k m x : ℕ) → m ≡ at + k → drop at (bits_of m x) ≡ bits_of k (x / 2 ^ at)
 behind at k m x e =
@@ -48,22 +44,6 @@ reversed-octet o at n l =
     sym (octet-alone r at n l)
     ∙ (sym (bits-front n k (r / 2 ^ at) (omega (arith, l)))
     ∙ (ap (take n) (sym (behind at k 8 r e)) ∙ ap (λ (d : List Bool). take n (drop at d)) (reversed 8 0 8 o 0 refl)))
-
--- the bits of an octet, from its first on
-pub first-of-octets : (os : List ℕ) (at n m : ℕ) → at ≡ 0 → n ≡ m → n ≤ 8 →
-    bits_of n (slice_index os 0) ≡ bits_from os at m
-first-of-octets os at n m z e l =
-    let o : slice_index os 0 ≡ slice_index os 0 / 2 ^ 0 = omega arith in
-    ap (bits_of n) o
-    ∙ (bits-in os 0 0 0 n refl (omega (arith, l))
-    ∙ (ap (λ (i : ℕ). bits_from os i n) (sym z) ∙ ap (bits_from os at) e))
-
-pub first-of-reversed : (o r at n m : ℕ) → r ≡ reverse_bits w8 o → at ≡ 0 → n ≡ m → n ≤ 8 →
-    bits_of n r ≡ high_first o at m
-first-of-reversed o r at n m i z e l =
-    first-bits r n l
-    ∙ (ap (λ (x : ℕ). bits_from (x ∷ []) 0 n) i
-    ∙ (reversed-octet o 0 n (omega (arith, l)) ∙ (ap (λ (k : ℕ). high_first o k n) (sym z) ∙ ap (high_first o at) e)))
 
 pub bits-of-reversed : (o r at n : ℕ) → r ≡ reverse_bits w8 o → at + n ≤ 8 → bits_from (r ∷ []) at n ≡ high_first o at n
 bits-of-reversed o r at n i l = ap (λ (x : ℕ). bits_from (x ∷ []) at n) i ∙ reversed-octet o at n l

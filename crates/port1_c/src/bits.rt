@@ -1,9 +1,8 @@
 //! Bits into the decoder that a caller's memory holds, with a report told in plain numbers.
 
-ghost use Rattle.std.specs.Prelude.{◌≡◌, ◌≢◌, ◌-◌, ◌*◌, ◌≤◌, ◌<◌, ◌↔◌, ◌⊎◌, IsTrue, length};
+ghost use Rattle.std.specs.Prelude.{◌≡◌, ◌≢◌, ◌-◌, ◌*◌, ◌≤◌, ◌<◌, ◌⊎◌, length};
 ghost use Rattle.bus_bits.specs.Bits.{bits_from};
 ghost use Rattle.bus_bits.specs.Limits.{most_places};
-ghost use Rattle.bus_bits.specs.Octet.{bits_of};
 ghost use Rattle.port1_c.specs.Line.{Advances, IsCoded, Sound, held};
 ghost use Rattle.port1_c.specs.declared.status.TheConstants.{OK, PLACE_LIMIT, BAD_STATE};
 
@@ -64,51 +63,4 @@ pub(crate) fn feed(
         return PLACE_LIMIT;
     }
     OK
-}
-
-/// Whether bits `at` to `end` - 1 are those of one octet.
-#[inline(always)]
-pub(crate) fn are_octet(octets: &[u8], at: usize, end: usize) -> bool
-    ensures { IsTrue result ↔ (length octets.now ≡ 1) × (at ≡ 0) × (end ≡ 8) }
-{
-    octets.len() == 1 && at == 0 && end == 8
-}
-
-/// Takes the bits of one octet as [`feed`] does, which is quicker where none but the last decides something.
-#[inline(never)]
-pub(crate) fn feed_octet(
-    line: &mut Port1Line,
-    octet: u8,
-    at: &mut usize,
-    report: &mut Port1Report,
-) -> u32
-    requires start { at.old ≡ 0 }
-    ensures status { (result ≡ OK) ⊎ (result ≡ PLACE_LIMIT) ⊎ (result ≡ BAD_STATE) }
-    ensures state { Sound line.old → result ≢ BAD_STATE }
-    ensures refused { result < BAD_STATE → Sound line.old }
-    ensures kept { result ≡ BAD_STATE → (line.new ≡ line.old) × (at.new ≡ at.old) × (report.new ≡ report.old) }
-    ensures bound { at.new ≤ 8 }
-    ensures some { result < BAD_STATE → report.new.kind ≢ 0 → at.old < at.new }
-    ensures all { result ≡ OK → report.new.kind ≡ 0 → at.new ≡ 8 }
-    ensures limit { result ≡ PLACE_LIMIT → (report.new.kind ≡ 0) × (at.new < 8) × (line.new.words.place ≡ most_places) }
-    ensures coded { result < BAD_STATE → IsCoded report.new }
-    ensures advances { result < BAD_STATE → Advances (held line.old) (bits_of at.new octet) report.new (held line.new) }
-    ensures sound { result < BAD_STATE → Sound line.new }
-{
-    if !line.is_sound() {
-        return BAD_STATE;
-    }
-    let Ok(told) = line.take(u64::from(octet), 8) else {
-        return feed(line, &[octet], at, 8, report);
-    };
-    *at = told.count;
-    if told.count == 8 {
-        *report = told.report;
-        return OK;
-    }
-    if told.report.kind != NONE {
-        *report = told.report;
-        return OK;
-    }
-    feed(line, &[octet], at, 8, report)
 }

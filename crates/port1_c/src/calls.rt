@@ -108,9 +108,6 @@ pub extern "C" fn port1_line_feed(
     ensures advances { result < BAD_STATE →
         Advances (held line.old) (bits_from octets.now at.old (at.new - at.old)) report.new (held line.new) }
 {
-    if bits::are_octet(octets, *at, end) {
-        return bits::feed_octet(line, octets[0], at, report);
-    }
     if !are_within(octets, *at, end) {
         return BAD_ARGUMENT;
     }
@@ -142,9 +139,6 @@ pub extern "C" fn port1_line_feed_high_first(
     ensures advances { result < BAD_STATE →
         Advances (held line.old) (high_first octet at.old (at.new - at.old)) report.new (held line.new) }
 {
-    if *at == 0 {
-        return bits::feed_octet(line, octet.reverse_bits(), at, report);
-    }
     if *at > 8 {
         return BAD_ARGUMENT;
     }

@@ -1,10 +1,8 @@
 //! A decoder in a caller's memory.
 
-ghost use Rattle.std.specs.Prelude.{◌≡◌, ◌+◌, ◌-◌, ◌*◌, ◌≤◌, ◌<◌, ◌↔◌, IsErr, IfOk, IsTrue, OnErr, ◌∷◌, [], length};
+ghost use Rattle.std.specs.Prelude.{◌≡◌, ◌-◌, ◌*◌, ◌≤◌, ◌<◌, ◌↔◌, IsErr, IfOk, IsTrue, OnErr, ◌∷◌, [], length};
 ghost use Rattle.bus_bits.specs.Bits.{bits_from};
 ghost use Rattle.bus_bits.specs.Limits.{most_places};
-ghost use Rattle.bus_bits.specs.Octet.{bits_of};
-ghost use Rattle.bus_bits.specs.Word.{IsWordOf};
 ghost use Rattle.port1_c.specs.Line.{Advances, IsCoded, Sound, Tells, held};
 
 use crate::bits::Told;
@@ -64,31 +62,6 @@ impl Port1Line {
         }
     }
 
-    /// Takes up to `count` bits, the first lowest: all of them, or those up to one that may decide a report.
-    #[inline(always)]
-    pub(crate) fn take(&mut self, bits: u64, count: u32) -> Result<Told, PlaceLimit>
-        requires sound { Sound self.old }
-        requires word { IsWordOf count bits }
-        ensures limit { IsErr result ↔ (most_places < self.old.words.place + count) }
-        ensures kept { OnErr result (self.new ≡ self.old) }
-        ensures count { IfOk result (λ t. (1 ≤ t.count) × (t.count ≤ count)) }
-        ensures coded { IfOk result (λ t. IsCoded t.report) }
-        ensures advances { IfOk result (λ t. Advances (held self.old) (bits_of t.count bits) t.report (held self.new)) }
-        ensures sound { Sound self.new }
-    {
-        let mut check = OctetCheck::with_register(self.frame.register);
-        match self.words.take(&mut check, &mut self.frame, bits, count) {
-            Ok(taken) => {
-                self.frame.register = check.register();
-                Ok(Told {
-                    count: taken.count as usize,
-                    report: Port1Report::of(taken.event),
-                })
-            }
-            Err(PlaceLimit) => Err(PlaceLimit),
-        }
-    }
-
     /// Takes a bit, and tells what it decides.
     #[inline(always)]
     pub(crate) fn push(&mut self, bit: bool) -> Result<Port1Report, PlaceLimit>
@@ -99,7 +72,13 @@ impl Port1Line {
         ensures tells { IfOk result (λ r. Tells (held self.old) (bit ∷ []) r (held self.new)) }
         ensures sound { Sound self.new }
     {
-        let told = self.take(u64::from(bit), 1)?;
-        Ok(told.report)
+        let mut check = OctetCheck::with_register(self.frame.register);
+        match self.words.push(&mut check, &mut self.frame, bit) {
+            Ok(event) => {
+                self.frame.register = check.register();
+                Ok(Port1Report::of(event))
+            }
+            Err(PlaceLimit) => Err(PlaceLimit),
+        }
     }
 }

@@ -2,7 +2,7 @@
 use Rattle.std.specs.Prelude.{◌≡◌, ℕ, ◌+◌, ◌-◌, ◌*◌, ◌/◌, ◌<◌, List}
 use Rattle.bus_bits.specs.Bits.{bits_from}
 use Rattle.bus_line.specs.declared.line_words.LineWords.{LineWords}
-use Rattle.bus_line.specs.Decides.{flags}
+use Rattle.bus_line.specs.Internal.Flags.{flags}
 
 -- so many ones more, after sixteen, lead from old to new
 pub record PassesOnes (old : LineWords) (count : ℕ) (new : LineWords) : Type 0 where

@@ -3,16 +3,19 @@
 ghost use Rattle.std.specs.Prelude.{◌≡◌, ◌≢◌, ◌+◌, ◌-◌, ◌*◌, ◌/◌, ◌%◌, ◌≤◌, ◌<◌, ◌^◌, false, true, length, ℕ};
 ghost use Rattle.std.specs.Prelude.{replicate};
 ghost use Rattle.bus_bits.specs.Bits.{bits_from};
+ghost use Rattle.bus_bits.specs.Octet.{bits_of};
+ghost use Rattle.bus_line.specs.Internal.Flags.{flags};
 ghost use Rattle.bus_line.specs.Internal.Quiet.{AreFlags};
 
 use crate::decoder::piece::Reached;
 use bus_bits::seven_octets_at;
+use std::cmp::min;
 
 /// 56 ones after eight 0s.
 const ONES: u64 = 0xffff_ffff_ffff_ff00;
 
-/// Seven flags in a row, after eight 0s.
-const SEVEN_FLAGS: u64 = 0x7e7e_7e7e_7e7e_7e00;
+/// Seven flags in a row.
+const SEVEN_FLAGS: u64 = 0x7e_7e7e_7e7e_7e7e;
 
 /// Where six ones may begin that end before one of 56 bits after eight others.
 const SIXES: u64 = 0x03ff_ffff_ffff_fffc;
@@ -59,8 +62,8 @@ pub(crate) fn ones_end(octets: &[u8], from: usize, end: usize) -> usize
     at
 }
 
-/// Where flags end that are looked for seven at a time, and not in the last 63 bits; no part of its
-/// caller, as `ones_end`.
+/// Where flags end, which are looked for seven at a time and not in the last 63 bits; no part of its caller, as
+/// `ones_end`.
 #[inline(never)]
 pub(crate) fn flags_end(octets: &[u8], from: usize, end: usize) -> usize
     requires some { from ≤ end }
@@ -70,10 +73,21 @@ pub(crate) fn flags_end(octets: &[u8], from: usize, end: usize) -> usize
 {
     let mut at = from;
     while end - at >= 64 {
-        if seven_octets_at(octets, at) << 8 != SEVEN_FLAGS {
+        let count = flags_in(seven_octets_at(octets, at));
+        at += 8 * count;
+        if count < 7 {
             break;
         }
-        at += 56;
     }
     at
+}
+
+/// How many flags the lowest 56 of these bits begin with.
+#[inline(always)]
+fn flags_in(bits: u64) -> usize
+    ensures few { result ≤ 7 }
+    ensures are { bits_of (8 * result) bits ≡ flags result }
+{
+    let other = bits ^ SEVEN_FLAGS;
+    min(other.trailing_zeros() / 8, 7) as usize
 }

@@ -98,8 +98,8 @@ impl LineWords {
         }
     }
 
-    /// Takes bits up to the first that may decide a report: those of a piece by strides of 56, time fill (ISO/IEC
-    /// 13239, interframe time fill) as far as it goes, else up to 48.
+    /// Takes bits up to the first that may decide a report: those of a piece by strides of 56, time fill as far as it
+    /// goes, and else up to 48.
     #[inline(always)]
     pub(crate) fn scan_some<C: Check, F: FrameBuffer>(
         &mut self,
@@ -120,7 +120,10 @@ impl LineWords {
             (state self.new check.new (F.octets frame.new)) }
         ensures sound { IsDecoder self.new (F.octets frame.new) }
     {
-        if self.begins_piece(octets, from, end) {
+        if end - from < 64 {
+            return self.scan_word(check, frame, octets, from, end);
+        }
+        if self.begins_piece(octets, from) {
             return self.scan_piece(check, frame, octets, from, end);
         }
         let past = self.pass_fill::<C>(octets, from, end);
@@ -133,17 +136,15 @@ impl LineWords {
         }
     }
 
-    /// Whether 64 bits are left, and the last mark is a flag that no other follows directly.
+    /// Whether the last mark is a flag that no other follows directly. Between two such flags there is no piece
+    /// (ISO/IEC 13239, interframe time fill).
     #[inline(always)]
-    fn begins_piece(&self, octets: &[u8], from: usize, end: usize) -> bool
+    fn begins_piece(&self, octets: &[u8], from: usize) -> bool
         requires within { IsWithin self.now }
-        requires some { from ≤ end }
-        requires enough { end ≤ 8 * length octets.now }
-        ensures { result ≡ true → from + 64 ≤ end }
+        requires enough { from + 64 ≤ 8 * length octets.now }
     {
-        end - from >= 64
-            && self.settles_at <= self.place + 8
-            && !self.is_flag_ahead(seven_octets_at(octets, from))
+        self.settles_at < self.place + 8
+            || self.settles_at == self.place + 8 && seven_octets_at(octets, from) & 0xff != 0x7e
     }
 
     /// Takes up to 48 bits, or those of them up to the first that may decide a report.
@@ -167,12 +168,7 @@ impl LineWords {
             (state self.new check.new (F.octets frame.new)) }
         ensures sound { IsDecoder self.new (F.octets frame.new) }
     {
-        let word = word_at(octets, from, end);
-        let taken = self.advance(check, frame, word.bits, word.count);
-        Scanned {
-            count: taken.count as usize,
-            event: taken.event,
-        }
+        self.advance(check, frame, word_at(octets, from, end))
     }
 
     /// Takes bits of the piece that the last flag opens.
@@ -252,7 +248,7 @@ impl LineWords {
         at
     }
 
-    /// Takes flags after a flag, seven at a time.
+    /// Takes flags after a flag.
     #[inline(always)]
     pub(crate) fn pass_flags(&mut self, octets: &[u8], from: usize, end: usize) -> usize
         requires within { IsWithin self.old }

@@ -1,7 +1,7 @@
-//! Several bits more.
+//! A bit more, or several.
 
-ghost use Rattle.std.specs.Prelude.{◌≡◌, ◌+◌, ◌-◌, ◌*◌, ◌/◌, ◌%◌, ◌≤◌, ◌<◌, ◌^◌, ◌↔◌, List, Bool, ◌++◌, IsErr};
-ghost use Rattle.std.specs.Prelude.{IfOk, OnErr, ℕ, length, take};
+ghost use Rattle.std.specs.Prelude.{◌≡◌, ◌+◌, ◌-◌, ◌*◌, ◌/◌, ◌%◌, ◌≤◌, ◌<◌, ◌^◌, ◌↔◌, List, Bool, [], ◌∷◌, ◌++◌};
+ghost use Rattle.std.specs.Prelude.{IsErr, IfOk, OnErr, ℕ};
 ghost use Rattle.std.specs.Option.{option_map};
 ghost use Rattle.bus_bits.specs.Limits.{most_places};
 ghost use Rattle.bus_bits.specs.Octet.{bits_of};
@@ -10,10 +10,12 @@ ghost use Rattle.bus_line.specs.Due.{current};
 
 use crate::decoder::settled::data_in_word;
 use crate::decoder::stop::calm_bits;
+use crate::event::Event;
 use crate::frame_buffer::FrameBuffer;
 use crate::line_words::{LineWords, PLACES};
 use crate::place_limit::PlaceLimit;
-use crate::taken::Taken;
+use crate::scanned::Scanned;
+use bus_bits::Word;
 use bus_fcs::Check;
 use std::cmp::min;
 
@@ -37,106 +39,68 @@ impl LineWords {
     ghost use Rattle.bus_line.specs.Words.{IsDecoder, IsWithin, state};
     ghost use Rattle.bus_line.specs.Internal.Tracks.{Tracks};
     ghost use Rattle.bus_line.specs.Shown.{reported};
-    ghost use Rattle.bus_line.specs.After.{Advances, After, TakesTo};
-    ghost use Rattle.bus_line.specs.Internal.Flags.{StopsAt};
+    ghost use Rattle.bus_line.specs.After.{Advances, After};
     ghost use Rattle.bus_line.specs.Internal.Settled.{IsWord, IsCalm, LagsBy};
 
-    /// Takes bits as [`LineDecoder::take`](crate::LineDecoder::take) does, with the octets of the piece and
-    /// their check in the caller's hands.
+    /// Takes a bit as [`LineDecoder::push`](crate::LineDecoder::push) does, with the octets of the piece and their
+    /// check in the caller's hands. Returns the report that it decides, if it decides one.
     ///
-    /// Refuses as [`PlaceLimit`], with nothing changed, where one of the `count` bits would have the
-    /// place 2^60 or a later one.
+    /// Refuses as [`PlaceLimit`], with nothing changed, where the bit's place would be 2^60.
     #[inline(always)]
-    pub fn take<C: Check, F: FrameBuffer>(
+    pub fn push<C: Check, F: FrameBuffer>(
         &mut self,
         check: &mut C,
         frame: &mut F,
-        bits: u64,
-        count: u32,
-    ) -> Result<Taken, PlaceLimit>
+        bit: bool,
+    ) -> Result<Option<Event>, PlaceLimit>
         requires sound { IsDecoder self.old (F.octets frame.old) }
-        requires word { IsWordOf count bits }
-        ensures limit { IsErr result ↔ (most_places < self.old.place + count) }
-        ensures count { IfOk result (λ t. (1 ≤ t.count) × (t.count ≤ count)) }
-        ensures stops { IfOk result (λ t. (b : List Bool) →
-            After C.check (state self.old check.old (F.octets frame.old)) b → TakesTo b (bits_of count bits) t.count) }
-        ensures advances { IfOk result (λ t. Advances C.check (state self.old check.old (F.octets frame.old))
-            (bits_of t.count bits)
-            (option_map (reported (state self.new check.new (F.octets frame.new)).octets) t.event)
+        ensures limit { IsErr result ↔ (most_places ≤ self.old.place) }
+        ensures advances { IfOk result (λ event. Advances C.check (state self.old check.old (F.octets frame.old))
+            (bit ∷ []) (option_map (reported (state self.new check.new (F.octets frame.new)).octets) event)
             (state self.new check.new (F.octets frame.new))) }
         ensures unchanged { OnErr result ((self.new ≡ self.old) × (check.new ≡ check.old)
             × (frame.new ≡ frame.old)) }
         ensures sound { IsDecoder self.new (F.octets frame.new) }
     {
-        if self.place + u64::from(count) > PLACES {
+        if self.place >= PLACES {
             return Err(PlaceLimit);
         }
-        Ok(self.advance(check, frame, bits, count))
+        self.consume(check, frame, u64::from(bit), 1);
+        Ok(self.decide(check))
     }
 
-    /// Takes the bits up to the first that may decide a report, or all of them, and answers what the
-    /// last of them decides. Flags right after a flag decide nothing, and are taken together.
+    /// Takes the bits of a word up to the first after exactly six ones or exactly fourteen, or all of them, and
+    /// returns what the last of them decides.
     #[inline(never)]
     pub(crate) fn advance<C: Check, F: FrameBuffer>(
         &mut self,
         check: &mut C,
         frame: &mut F,
-        bits: u64,
-        count: u32,
-    ) -> Taken
+        word: Word,
+    ) -> Scanned
         requires sound { IsDecoder self.old (F.octets frame.old) }
-        requires word { IsWordOf count bits }
-        requires room { self.old.place + count ≤ most_places }
+        requires word { IsWordOf word.count word.bits }
+        requires room { self.old.place + word.count ≤ most_places }
         ensures some { 1 ≤ result.count }
-        ensures count { result.count ≤ count }
-        ensures stops { (b : List Bool) → After C.check (state self.old check.old (F.octets frame.old)) b →
-            TakesTo b (bits_of count bits) result.count }
-        ensures advances { Advances C.check (state self.old check.old (F.octets frame.old)) (bits_of result.count bits)
+        ensures count { result.count ≤ word.count }
+        ensures advances { Advances C.check (state self.old check.old (F.octets frame.old))
+            (bits_of result.count word.bits)
             (option_map (reported (state self.new check.new (F.octets frame.new)).octets) result.event)
             (state self.new check.new (F.octets frame.new)) }
         ensures sound { IsDecoder self.new (F.octets frame.new) }
     {
-        let rest = self.past_flags(bits, count);
-        if rest.count == 0 {
-            return Taken { count, event: None };
-        }
-        let taken = self.advance_to_stop(check, frame, rest.bits, rest.count);
-        Taken {
-            count: count - rest.count + taken.count,
-            event: taken.event,
-        }
-    }
-
-    /// Takes the bits up to the first after exactly six ones or exactly fourteen, or all of them, and answers
-    /// what the last of them decides.
-    #[inline(always)]
-    fn advance_to_stop<C: Check, F: FrameBuffer>(
-        &mut self,
-        check: &mut C,
-        frame: &mut F,
-        bits: u64,
-        count: u32,
-    ) -> Taken
-        requires sound { IsDecoder self.old (F.octets frame.old) }
-        requires word { IsWordOf count bits }
-        requires room { self.old.place + count ≤ most_places }
-        ensures some { 1 ≤ result.count }
-        ensures count { result.count ≤ count }
-        ensures stops { (b : List Bool) → After C.check (state self.old check.old (F.octets frame.old)) b →
-            StopsAt b (bits_of count bits) result.count }
-        ensures advances { Advances C.check (state self.old check.old (F.octets frame.old)) (bits_of result.count bits)
-            (option_map (reported (state self.new check.new (F.octets frame.new)).octets) result.event)
-            (state self.new check.new (F.octets frame.new)) }
-        ensures sound { IsDecoder self.new (F.octets frame.new) }
-    {
+        let Word { bits, count } = word;
         let calm = calm_bits(self.last_bits | bits << 16, count);
         let taken = min(calm + 1, count);
         self.consume(check, frame, bits, u64::from(taken));
         if calm == count {
-            return Taken { count, event: None };
+            return Scanned {
+                count: count as usize,
+                event: None,
+            };
         }
-        Taken {
-            count: taken,
+        Scanned {
+            count: taken as usize,
             event: self.decide(check),
         }
     }

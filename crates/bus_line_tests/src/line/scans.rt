@@ -62,7 +62,7 @@ fn scan_some(
     let mut last = None;
     for bit in bits[at..end].iter().take(answer.count) {
         holds(rt, last.is_none(), "a report before the last bit");
-        last = taken.take(u64::from(*bit), 1).expect(rt, "a place").event;
+        last = taken.advance(*bit).expect(rt, "a place");
     }
     holds(rt, answer.event == last, "another report");
     holds(rt, scanned.octets() == taken.octets(), "other octets");

@@ -2,7 +2,6 @@
 //! refused in turn, and counts the requests.
 
 use crate::expect::{holds, same};
-use bus_bits::bits_number;
 use bus_dictionary::Dictionary;
 use bus_fcs::{BitCheck, Check, OctetCheck};
 use bus_line::Span;
@@ -63,18 +62,15 @@ fn take_pairs<C: Check>(rt: &impl Abort, analyser: &mut PairAnalyser<C>) {
     }
     same(rt, sink.first, 1, "the reports of the first line");
     same(rt, sink.second, 1, "the reports of the second line");
-    let taken = analyser.take(0, 0, 9).expect(rt, "a place");
-    same(rt, taken, 9, "the pairs of zeros taken");
+    let mut heard = 0;
+    let taken = analyser.scan(&[0, 0], &[0, 0], 9, &mut Counting, &mut heard);
+    same(rt, (taken, heard), (9, 0), "the pairs of zeros scanned");
 }
 
 /// Each call that asks what stands after them.
 fn ask<C: Check>(rt: &impl Abort, analyser: &PairAnalyser<C>) {
     same(rt, analyser.history_len(), 0, "how many frames are kept");
     holds(rt, analyser.history(0).is_none(), "no frame is kept");
-    let first = analyser.finding(Line::First);
-    holds(rt, first.is_none(), "nothing is found on the first line");
-    let second = analyser.finding(Line::Second);
-    holds(rt, second.is_none(), "nothing is found on the second line");
     same(
         rt,
         analyser.tally(16).spoilt,
@@ -217,24 +213,6 @@ fn push_round(rt: &impl Abort, analyser: &mut PairAnalyser<OctetCheck>, round: &
     }
 }
 
-fn take_round(rt: &impl Abort, analyser: &mut PairAnalyser<OctetCheck>, round: &Round) {
-    let mut at: usize = 0;
-    for _ in 0..ROUND_BITS {
-        if at >= ROUND_BITS {
-            break;
-        }
-        let past = at.saturating_add(48).min(ROUND_BITS);
-        let count = past.saturating_sub(at);
-        assert!(rt; at < past && 1 <= count && count <= 48, "a word");
-        let first = bits_number(&round.first[at..past]);
-        let second = bits_number(&round.second[at..past]);
-        let taken = analyser
-            .take(first, second, count as u32)
-            .expect(rt, "a place");
-        at = at.saturating_add(taken as usize);
-    }
-}
-
 /// Each call that takes many pairs, over as many rounds; each is to see all reports of each.
 fn take_rounds(rt: &impl Abort, analyser: &mut PairAnalyser<OctetCheck>) {
     let round = round_of_two(rt, FIRST, SECOND);
@@ -246,7 +224,6 @@ fn take_rounds(rt: &impl Abort, analyser: &mut PairAnalyser<OctetCheck>) {
         push_round(rt, analyser, &round);
         assert!(rt; sink.refused() == 0);
         analyser.feed(&round.pairs, &mut sink).expect(rt, "room");
-        take_round(rt, analyser, &round);
         let count = analyser.scan(&first, &second, ROUND_BITS, &mut Counting, &mut heard);
         same(rt, count, ROUND_BITS, "how many pairs are scanned");
     }
@@ -258,9 +235,9 @@ fn take_rounds(rt: &impl Abort, analyser: &mut PairAnalyser<OctetCheck>) {
         "the reports told and heard",
     );
     let want = Counts {
-        answered: 4 * ROUNDS,
-        missing: 4 * ROUNDS,
-        spoilt: 4 * ROUNDS,
+        answered: 3 * ROUNDS,
+        missing: 3 * ROUNDS,
+        spoilt: 3 * ROUNDS,
         late: 0,
     };
     same(rt, analyser.tally(16), want, "the tally of station 16");

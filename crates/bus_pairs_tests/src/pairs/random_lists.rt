@@ -2,7 +2,7 @@
 
 use super::every_list::{differing_place, hears, side_of, tells};
 use super::{
-    PairCollector, TwoLines, feed, new_analyser, pairs_of, push_seen_on, read, take_some, two_lines,
+    PairCollector, TwoLines, feed, new_analyser, pairs_of, push_seen_on, read, scan_some, two_lines,
 };
 use crate::expect::{holds, same};
 use bus_fcs::OctetCheck;
@@ -170,19 +170,19 @@ fn stands_at(analyser: &PairAnalyser<OctetCheck>, run: &OneRun, taken: usize) ->
     run.states.get(taken.wrapping_sub(1)) == Some(&state_of(analyser))
 }
 
-/// Calls of `take` of up to `size` pairs see the same, and the analyser stands the same after each.
-fn check_taken(rt: &impl Abort, alloc: Global, lines: &TwoLines, run: &OneRun, size: u32) {
+/// Calls of `scan` of up to `size` pairs see the same, and the analyser stands the same after each.
+fn check_scanned(rt: &impl Abort, alloc: Global, lines: &TwoLines, run: &OneRun, size: u32) {
     let mut analyser = analyser(rt, alloc);
     let mut text = String::new(alloc);
     let mut taken: usize = 0;
-    let case = format_args!("{size} pairs at most are taken with a call");
+    let case = format_args!("{size} pairs at most are scanned with a call");
     for _ in &lines.pairs {
         if taken >= lines.pairs.len() {
             break;
         }
         let first = lines.first.get(taken..).expect(rt, "bits");
         let second = lines.second.get(taken..).expect(rt, "bits");
-        let count = take_some(rt, &mut text, &mut analyser, first, second, size);
+        let count = scan_some(rt, &mut text, &mut analyser, first, second, size);
         taken = taken.saturating_add(count);
         holds(rt, stands_at(&analyser, run, taken), &case);
     }
@@ -243,7 +243,7 @@ fn calls_of_every_size(rt: HostRuntime) {
         let run = one_run(&rt, alloc, &lines);
         text.push_str(&run.text).expect(&rt, "memory");
         for size in 1..=48u32 {
-            check_taken(&rt, alloc, &lines, &run, size);
+            check_scanned(&rt, alloc, &lines, &run, size);
             check_fed(&rt, alloc, &lines, &run, size as usize);
         }
         check_fed(&rt, alloc, &lines, &run, PAIRS);

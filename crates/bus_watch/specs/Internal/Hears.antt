@@ -1,11 +1,13 @@
 -- Bits on one line, and what a journal makes of them.
-use Rattle.std.specs.Prelude.{◌≡◌, ℕ, ◌+◌, ◌≤◌, ◌^◌, Bool, true, false, List, ◌++◌, length, map, Option, Some, None}
+use Rattle.std.specs.Prelude.{◌≡◌, ℕ, ◌+◌, ◌-◌, ◌≤◌, ◌^◌, Bool, true, false, List, ◌++◌, length, map, Option, Some, None}
 use Rattle.std.specs.Prelude.{option_map}
 use Rattle.std.specs.List.{sum_by}
 use Rattle.std.specs.Option.{option_to_list}
 use Rattle.bus_fcs.specs.Check.{CheckView}
-use Rattle.bus_line.specs.Report.{Report}
-use Rattle.bus_line.specs.Due.{placed}
+use Rattle.bus_line.specs.Report.{Report, moved}
+use Rattle.bus_line.specs.Due.{due_at, placed}
+use Rattle.bus_line.specs.Shown.{reported}
+use Rattle.bus_line.specs.declared.event.Event.{Event}
 use Rattle.bus_line.specs.Ledger.{octet_count}
 use Rattle.bus_line.specs.Internal.LineState.{LineState}
 use Rattle.bus_line.specs.After.{Advances, After, Led}
@@ -21,6 +23,12 @@ use Rattle.bus_talk.specs.declared.line.Line.{Line}
 pub record Reached {C : Type 0} (view : CheckView C) (d : LineState C) : Type 0 where
   pub bits : List Bool
   pub after : After view d bits
+
+-- the last bit that a decoder took decided this event, or nothing
+pub record Decided {C : Type 0} (d : LineState C) (event : Option Event) : Type 0 where
+  pub bits : List Bool
+  pub due : option_map (reported d.octets) event
+      ≡ option_map (moved d.origin) (due_at d.longest bits (length bits - 1))
 
 -- what the last report was found to be, if the last bits decided it
 abbrev pub fresh : Bool → Finding → Option Finding

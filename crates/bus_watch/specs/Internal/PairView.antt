@@ -9,8 +9,6 @@ pair_state a = record {
   first = a.first;
   second = a.second;
   journal = a.journal;
-  found_first = a.found_first;
-  found_second = a.found_second;
 }
 
 -- it stands after some list of pairs

@@ -1,26 +1,17 @@
-//! The analyser of two lines: what is seen on both, up to 48 pairs of bits at a time, in fixed memory.
+//! The analyser of two lines: what is seen on both, in fixed memory.
 
 ghost use Rattle.std.specs.Prelude.{◌≡◌, ◌+◌, ◌-◌, ◌*◌, ◌≤◌, ◌<◌, ◌^◌, ◌↔◌, ◌⊎◌, List, Bool, [], ◌∷◌, ◌++◌, IsErr};
-ghost use Rattle.std.specs.Prelude.{IfOk, OnErr, IsTrue, length, take, ℕ, Some, None, Err, slice_get, option_copied};
-ghost use Rattle.std.specs.Option.{option_map};
+ghost use Rattle.std.specs.Prelude.{IfOk, OnErr, length, Err, slice_get};
 ghost use Rattle.std.specs.Borrow.{sem};
 ghost use Rattle.std.specs.Io.BufRead.{Rests};
 ghost use Rattle.bus_bits.specs.Limits.{most_places};
-ghost use Rattle.bus_bits.specs.Octet.{bits_of};
-ghost use Rattle.bus_bits.specs.Word.{IsWordOf};
 ghost use Rattle.bus_dictionary.specs.Dictionary.{longest_of};
-ghost use Rattle.bus_line.specs.After.{After};
-ghost use Rattle.bus_line.specs.Decides.{MayDecideAt};
-ghost use Rattle.bus_watch.specs.Internal.Hears.{Hears, Reached};
-ghost use Rattle.bus_talk.specs.Journal.{HasRoom};
-ghost use Rattle.bus_watch.specs.PairShown.{shown_option_on};
-ghost use Rattle.bus_talk.specs.Shown.{found_on, begun_span, IsKeepable};
+ghost use Rattle.bus_talk.specs.Shown.{begun_span, IsKeepable};
 
 mod scan;
 
 use crate::fault::NewFault;
-use crate::feed::PLACES;
-use crate::hear::{begun_span, fresh, hear};
+use crate::hear::{begun_span, hear, lent};
 use crate::laws::{pairs_grow, steps_are_bounded};
 use crate::pair::seen::PairSeen;
 use bus_bits::Spent;
@@ -28,9 +19,8 @@ use bus_dictionary::Dictionary;
 use bus_fcs::Check;
 use bus_line::laws::{reports_grow, settled_places};
 use bus_line::{LineDecoder, LineFault, PlaceLimit};
-use bus_talk::{Counts, Finding, Journal, Line, PairEnding, PairKept, Seen};
+use bus_talk::{Counts, Finding, Journal, Line, PairEnding, PairKept};
 use std::alloc::Global;
-use std::cmp::min;
 use std::marker::Model;
 
 /// Watches two lines that one clock recorded: on the first commands wait, on the second they are
@@ -43,10 +33,13 @@ pub struct PairAnalyser<C: Check> {
     first: LineDecoder<C>,
     second: LineDecoder<C>,
     journal: Journal,
-    /// What the last pair taken decided on the first line.
-    found_first: Option<Finding>,
-    /// What it decided on the second line.
-    found_second: Option<Finding>,
+}
+
+/// What a pair of bits decided on either line, without the octets of frames.
+#[derive(Clone, Copy)]
+pub(crate) struct PairFound {
+    pub(crate) first: Option<Finding>,
+    pub(crate) second: Option<Finding>,
 }
 
 impl<C: Check> Model for PairAnalyser<C> {
@@ -61,42 +54,16 @@ impl<C: Check> Model for PairAnalyser<C> {
     ghost invariant = { IsWithin C.check };
 }
 
-/// A line takes all these bits, of which only the last may decide a report, and the journal that report;
-/// what it was found to be, if there is one.
-#[inline(always)]
-fn hear_all<C: Check>(
-    decoder: &mut LineDecoder<C>,
-    journal: &mut Journal,
-    line: Line,
-    bits: u64,
-    count: u32,
-) -> Option<Finding>
-    requires word { IsWordOf count bits }
-    requires place { decoder.old.place + count ≤ most_places }
-    requires reached { Reached C.check decoder.old }
-    requires calm { (b : List Bool) → After C.check decoder.old b → (i : ℕ) → i + 1 < count →
-        MayDecideAt b (bits_of count bits) i → ⊥ }
-    requires room { HasRoom journal.old }
-    ensures { Hears C.check (Some line) decoder.old journal.old (bits_of count bits)
-        (option_map (found_on (Some line) decoder.new.octets) result) decoder.new journal.new }
-{
-    match hear(decoder, journal, Some(line), bits, count) {
-        Ok(intake) => fresh(journal, intake.is_decided).copied(),
-        Err(PlaceLimit) => unreachable!(),
-    }
-}
-
 impl<C: Check> PairAnalyser<C> {
     ghost use Rattle.bus_watch.specs.contracts.pair.analyser.PairAnalyser.{the_row};
-    ghost use Rattle.bus_watch.specs.Pairs.{IsAfterPairs, SeesPairs, TakesPairsTo, lines, seen_after_pairs, heard_pair};
-    ghost use Rattle.bus_watch.specs.Pairs.{found_at, octets_on, seen_on};
+    ghost use Rattle.bus_watch.specs.Pairs.{IsAfterPairs, SeesPairs, lines};
     ghost use Rattle.bus_talk.specs.Seen.{all_seen_at};
     ghost use Rattle.bus_talk.specs.Shown.{kept_pair_option};
-    ghost use Rattle.bus_watch.specs.PairShown.{shown_pair};
+    ghost use Rattle.bus_watch.specs.PairShown.{seen_of_pair, shown_pair};
     ghost use Rattle.bus_talk.specs.History.{history, tally};
     ghost use Rattle.bus_talk.specs.Ledger.{IsPairLedger, total};
     ghost use Rattle.bus_talk.specs.Talk.{pending};
-    ghost use Rattle.bus_talk.specs.Heard.{firsts, seconds, bits_on, pairs_of};
+    ghost use Rattle.bus_talk.specs.Heard.{firsts, seconds, bits_on};
     ghost use Rattle.bus_line.specs.Ledger.{stored_open};
 
     /// An analyser that took no pair of bits, whose first pair has the place `origin`.
@@ -119,7 +86,6 @@ impl<C: Check> PairAnalyser<C> {
         ensures given { IfOk result
             (λ a. (a.journal.dictionary ≡ dictionary) × (a.journal.depth ≡ depth) × (a.first.origin ≡ origin)
             × (a.first.place ≡ origin)) }
-        ensures none { IfOk result (λ a. (a.found_first ≡ None) × (a.found_second ≡ None)) }
     {
         if depth < 1 || depth > 1024 {
             return Err(NewFault::DepthRange);
@@ -139,103 +105,50 @@ impl<C: Check> PairAnalyser<C> {
                 first,
                 second,
                 journal,
-                found_first: None,
-                found_second: None,
             }),
             Err(_) => Err(NewFault::Memory),
         }
     }
 
-    /// Takes up to `count` pairs of bits, the first lowest in both numbers: all of them, or those up to
-    /// the first that may decide a report on either line. Returns how many it took. What is seen at the
-    /// last of these is then answered by [`PairAnalyser::finding`], and [`PairAnalyser::octets`] lends
-    /// the octets of a frame.
-    ///
-    /// Refuses as [`PlaceLimit`], with nothing changed, where one of the `count` pairs would have the
-    /// place 2^60 or a later one.
-    pub fn take(&mut self, first: u64, second: u64, count: u32) -> Result<u32, PlaceLimit>
-        requires first { IsWordOf count first }
-        requires second { IsWordOf count second }
-        ensures limit { IsErr result ↔ (most_places < self.old.first.place + count) }
-        ensures within { IfOk result (λ n. (1 ≤ n) × (n ≤ count)) }
-        ensures stops { IfOk result (λ n. (ps : List (Bool × Bool)) → IsAfterPairs C.check self.old ps →
-            TakesPairsTo (firsts ps) (seconds ps) (bits_of count first) (bits_of count second) n) }
-        ensures sees { IfOk result (λ n.
-            SeesPairs C.check self.old (pairs_of n first second) (heard_pair self.new) self.new) }
-        ensures before { IfOk result (λ n. (ps : List (Bool × Bool)) → IsAfterPairs C.check self.old ps →
-            seen_after_pairs self.old (ps ++ pairs_of (n - 1) first second) ≡ seen_after_pairs self.old ps) }
+    /// Takes a pair of bits; what the reports that it decides are found to be.
+    pub(crate) fn advance(&mut self, first: bool, second: bool) -> Result<PairFound, PlaceLimit>
+        ensures limit { IsErr result ↔ (most_places ≤ self.old.first.place) }
+        ensures sees { IfOk result (λ found.
+            SeesPairs C.check self.old ((first, second) ∷ []) (seen_of_pair self.new found) self.new) }
         ensures unchanged { OnErr result (self.new ≡ self.old) }
     {
-        if !self.has_room(count) {
-            return Err(PlaceLimit);
-        }
         settled_places();
         reports_grow();
-        let first_takes = self.first.would_take(first, count);
-        let second_takes = self.second.would_take(second, count);
-        let taken = min(first_takes, second_takes);
-        let past: u64 = 1 << taken;
-        self.found_first = hear_all(
+        let found_first = hear(
             &mut self.first,
             &mut self.journal,
-            Line::First,
-            first % past,
-            taken,
-        );
-        self.found_second = hear_all(
+            Some(Line::First),
+            first,
+        )?;
+        let found_second = match hear(
             &mut self.second,
             &mut self.journal,
-            Line::Second,
-            second % past,
-            taken,
-        );
-        Ok(taken)
+            Some(Line::Second),
+            second,
+        ) {
+            Ok(finding) => finding,
+            Err(PlaceLimit) => unreachable!(),
+        };
+        Ok(PairFound {
+            first: found_first,
+            second: found_second,
+        })
     }
 
-    /// What is seen on a line at the last pair that was taken, if it decides a report there.
-    /// [`PairAnalyser::octets`] lends the octets of a frame.
-    pub fn finding(&self, line: Line) -> Option<&Finding>
-        ensures { option_copied result ≡ found_at self.now line }
-    {
-        match line {
-            Line::First => self.found_first.as_ref(),
-            Line::Second => self.found_second.as_ref(),
-        }
-    }
-
-    /// The octets of the frame that the last pair closed on a line: address, control, information and the
-    /// two octets of the frame check. After any other pair they are not those of a frame.
-    pub fn octets(&self, line: Line) -> &[u8]
-        ensures value { result.now ≡ octets_on self.now line }
-        ensures bound { length result.now ≤ longest_of self.now.journal.dictionary + 2 }
-        ensures longest { longest_of self.now.journal.dictionary ≤ 256 }
-    {
-        match line {
-            Line::First => self.first.octets(),
-            Line::Second => self.second.octets(),
-        }
-    }
-
-    /// What is seen on a line at the last pair, if anything, as it is handed out.
-    fn lent(&self, line: Line) -> Option<Seen<'_>>
-        ensures shown { shown_option_on line result ≡ seen_on self.now line }
-        ensures fits { IsKeepable result }
-    {
-        match self.finding(line) {
-            Some(finding) => Some(finding.with_octets(self.octets(line))),
-            None => None,
-        }
-    }
-
-    /// What is seen on both lines at the last pair, as it is handed out.
-    pub(crate) fn seen(&self) -> PairSeen<'_>
-        ensures shown { shown_pair result ≡ heard_pair self.now }
+    /// Findings at a pair as they are handed out, with the octets of frames that the last pair closed.
+    pub(crate) fn lent(&self, found: PairFound) -> PairSeen<'_>
+        ensures shown { shown_pair result ≡ seen_of_pair self.now found }
         ensures first_fits { IsKeepable result.first }
         ensures second_fits { IsKeepable result.second }
     {
         PairSeen {
-            first: self.lent(Line::First),
-            second: self.lent(Line::Second),
+            first: lent(&self.first, found.first),
+            second: lent(&self.second, found.second),
         }
     }
 
@@ -255,8 +168,8 @@ impl<C: Check> PairAnalyser<C> {
             × OnErr result (new ≡ self.old))) }
     {
         pairs_grow();
-        self.take(u64::from(first), u64::from(second), 1)?;
-        Ok(self.seen())
+        let found = self.advance(first, second)?;
+        Ok(self.lent(found))
     }
 
     /// A frame of the history, of which the oldest has the number 0.
@@ -349,13 +262,6 @@ impl<C: Check> PairAnalyser<C> {
             copied: journal.copied,
             handled: journal.handled,
         }
-    }
-
-    /// Whether `count` pairs more have places below 2^60.
-    pub fn has_room(&self, count: u32) -> bool
-        ensures { IsTrue result ↔ (self.now.first.place + count ≤ most_places) }
-    {
-        self.place() + u64::from(count) <= PLACES
     }
 
     /// The place of the next pair: the origin and the pairs so far.

@@ -1,43 +1,21 @@
 //! Many pairs of bits at once.
 
-ghost use Rattle.std.specs.Prelude.{◌≡◌, ◌+◌, ◌-◌, ◌≤◌, ◌<◌, ◌^◌, ◌↔◌, ℕ, IsErrOf, IfErr, OnOk, OnErr, length, take};
+ghost use Rattle.std.specs.Prelude.{◌≡◌, ◌+◌, ◌-◌, ◌≤◌, ◌<◌, ◌^◌, ◌↔◌, ℕ, IsErrOf, IfErr, OnOk, OnErr, [], ◌∷◌, length};
 ghost use Rattle.std.specs.Option.{option_to_list};
 ghost use Rattle.bus_bits.specs.Limits.{most_places};
-ghost use Rattle.bus_bits.specs.Octet.{number};
 ghost use Rattle.bus_watch.specs.Fed.{FedBy, RefusedBy, RefusedByAt, ForSink, Offered};
-ghost use Rattle.bus_talk.specs.Heard.{firsts, seconds};
 ghost use Rattle.bus_watch.specs.PairShown.{shown_option_on, shown_pair};
 ghost use Rattle.bus_watch.specs.Pairs.{two_lines};
 ghost use Rattle.bus_talk.specs.Shown.{IsKeepable};
 ghost use Rattle.bus_talk.specs.Sink.{SinkTook};
 
 use crate::fault::FeedFault;
-use crate::feed::{FedSome, PLACES};
+use crate::feed::PLACES;
 use crate::pair::analyser::PairAnalyser;
 use crate::pair::seen::PairSeen;
-use bus_bits::PairWords;
 use bus_fcs::Check;
 use bus_line::{PlaceLimit, SinkRefused};
 use bus_talk::{Line, PairSink, Seen};
-use std::cmp::min;
-
-/// The first bits of these pairs in one number, and the second ones in another, the first pair's lowest.
-fn pair_words(pairs: &[(bool, bool)]) -> PairWords
-    requires { length pairs.now ≤ 64 }
-    ensures first { result.first ≡ number (firsts pairs.now) }
-    ensures second { result.second ≡ number (seconds pairs.now) }
-    ensures small { (result.first < 2 ^ length pairs.now) × (result.second < 2 ^ length pairs.now) }
-{
-    let mut first: u64 = 0;
-    let mut second: u64 = 0;
-    let mut place: u32 = 0;
-    for pair in pairs {
-        first |= u64::from(pair.0) << place;
-        second |= u64::from(pair.1) << place;
-        place += 1;
-    }
-    PairWords { first, second }
-}
 
 /// Offers a sink a report of a line, if there is one.
 fn offer<S: PairSink>(line: Line, seen: Option<Seen<'_>>, sink: &mut S) -> Result<(), SinkRefused>
@@ -102,39 +80,28 @@ impl<C: Check> PairAnalyser<C> {
         }
         let mut consumed: usize = 0;
         while consumed < pairs.len() {
-            let fed = self.feed_some(&pairs[consumed..], sink);
-            consumed += fed.count;
-            if fed.told.is_err() {
+            let told = self.feed_pair(pairs[consumed], sink);
+            consumed += 1;
+            if told.is_err() {
                 return Err(FeedFault::Sink { consumed });
             }
         }
         Ok(())
     }
 
-    /// Takes the first of these pairs, at most 48 and no more than those up to the first that may decide a
-    /// report, and hands the sink what is seen at the last of them.
-    fn feed_some<S: PairSink>(&mut self, pairs: &[(bool, bool)], sink: &mut S) -> FedSome
-        requires some { 0 < length pairs.now }
-        requires place { self.old.first.place + length pairs.now ≤ most_places }
+    /// Takes a pair, and hands the sink what is seen at it.
+    fn feed_pair<S: PairSink>(&mut self, pair: (bool, bool), sink: &mut S) -> Result<(), SinkRefused>
+        requires place { self.old.first.place < most_places }
         requires refusals { S.sink.refusals sink.old < 2 ^ 64 - 2 }
-        ensures within { (1 ≤ result.count) × (result.count ≤ length pairs.now) }
-        ensures fed { OnOk result.told (FedBy (two_lines C.check) S.sink
-            self.old (take result.count pairs.now) self.new sink.old sink.new) }
-        ensures none_refused { OnOk result.told (SinkTook S.sink 0 sink.old sink.new) }
-        ensures refused { OnErr result.told ((n : ℕ) × (n ≤ 2)
-            × SinkTook S.sink n sink.old sink.new
-            × RefusedBy (two_lines C.check) S.sink n
-            self.old (take result.count pairs.now) self.new sink.old sink.new) }
+        ensures fed { OnOk result
+            (FedBy (two_lines C.check) S.sink self.old (pair ∷ []) self.new sink.old sink.new) }
+        ensures none_refused { OnOk result (SinkTook S.sink 0 sink.old sink.new) }
+        ensures refused { OnErr result ((n : ℕ) × (n ≤ 2) × SinkTook S.sink n sink.old sink.new
+            × RefusedBy (two_lines C.check) S.sink n self.old (pair ∷ []) self.new sink.old sink.new) }
     {
-        let most = min(pairs.len(), 48);
-        let words = pair_words(&pairs[..most]);
-        let count = match self.take(words.first, words.second, most as u32) {
-            Ok(count) => count,
+        match self.advance(pair.0, pair.1) {
+            Ok(found) => offer_both(self.lent(found), sink),
             Err(PlaceLimit) => unreachable!(),
-        };
-        FedSome {
-            count: count as usize,
-            told: offer_both(self.seen(), sink),
         }
     }
 }

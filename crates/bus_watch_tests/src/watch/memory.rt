@@ -3,7 +3,6 @@
 
 use super::limits::analyser_of;
 use crate::expect::{holds, same};
-use bus_bits::bits_number;
 use bus_dictionary::Dictionary;
 use bus_fcs::{BitCheck, Check, OctetCheck};
 use bus_line::Span;
@@ -59,8 +58,9 @@ fn take_bits<C: Check>(rt: &impl Abort, analyser: &mut Analyser<C>) {
         .feed_all(&[&DAMAGED, &[], &DAMAGED], &mut sink)
         .expect(rt, "room");
     same(rt, sink.count, 3, "the reports of damage");
-    let taken = analyser.take(0, 9).expect(rt, "a place");
-    same(rt, taken, 9, "the zeros taken");
+    let mut count = 0;
+    let taken = analyser.scan(&[0, 0], 0, 9, &mut Counting, &mut count);
+    same(rt, (taken, count), (9, 0), "the zeros scanned");
 }
 
 /// Each call that asks what stands after them.
@@ -135,21 +135,6 @@ fn push_round(rt: &impl Abort, analyser: &mut Analyser<OctetCheck>, bits: &[bool
     }
 }
 
-fn take_round(rt: &impl Abort, analyser: &mut Analyser<OctetCheck>, bits: &[bool; ROUND_BITS]) {
-    let mut rest: &[bool] = bits;
-    for _ in bits {
-        if rest.is_empty() {
-            break;
-        }
-        let (front, _) = rest.split_at(rest.len().min(48));
-        assert!(rt; 1 <= front.len() && front.len() <= 48, "a word");
-        let taken = analyser
-            .take(bits_number(front), front.len() as u32)
-            .expect(rt, "a place");
-        rest = &rest[rest.len().min(taken as usize)..];
-    }
-}
-
 /// An observer that counts the reports, in no memory.
 #[derive(Drop)]
 struct Counting;
@@ -197,7 +182,6 @@ fn take_rounds(rt: &impl Abort, analyser: &mut Analyser<OctetCheck>) {
         push_round(rt, analyser, &bits);
         assert!(rt; sink.refused() == 0);
         analyser.feed(&bits, &mut sink).expect(rt, "room");
-        take_round(rt, analyser, &bits);
         scan_round(rt, analyser, &octets, &mut scanned);
     }
     same(
@@ -213,9 +197,9 @@ fn take_rounds(rt: &impl Abort, analyser: &mut Analyser<OctetCheck>) {
         "the reports of the rounds that were scanned",
     );
     let want = Counts {
-        answered: 4 * ROUNDS,
-        missing: 4 * ROUNDS,
-        spoilt: 4 * ROUNDS,
+        answered: 3 * ROUNDS,
+        missing: 3 * ROUNDS,
+        spoilt: 3 * ROUNDS,
         late: 0,
     };
     same(rt, analyser.tally(16), want, "the tally of station 16");

@@ -1,7 +1,7 @@
 //! Worked lists: what is seen, the end and the tally, however the bits are cut.
 
 use super::sinks::{Collector, feed};
-use super::table::{WorkedList, pushed, taken, worked_list};
+use super::table::{WorkedList, pushed, scanned, worked_list};
 use super::{bits_of, new_analyser};
 use crate::expect::{holds, same};
 use bus_fcs::{BitCheck, Check, OctetCheck};
@@ -12,17 +12,17 @@ use bus_watch::{Analyser, Counts};
 use std::alloc::Global;
 use std::process::Abort;
 
-/// The bits pushed one by one, and taken by words: both count the same steps.
+/// The bits pushed one by one, and scanned: both count the same steps.
 fn check_bits<C: Check>(rt: &impl Abort, alloc: Global, row: &WorkedList) {
     let mut analyser = row.analyser::<C>(rt, alloc);
     let text = pushed(rt, alloc, &mut analyser, &row.bits);
     same(rt, text.as_str(), row.want, "pushed one by one");
     for size in [1, 5, 8, 48] {
         let case = format_args!("{size} bits at most a call");
-        let mut by_words = row.analyser::<C>(rt, alloc);
-        let text = taken(rt, alloc, &mut by_words, &row.bits, size);
+        let mut by_octets = row.analyser::<C>(rt, alloc);
+        let text = scanned(rt, alloc, &mut by_octets, &row.bits, size);
         same(rt, text.as_str(), row.want, &case);
-        same(rt, by_words.usage(), analyser.usage(), &case);
+        same(rt, by_octets.usage(), analyser.usage(), &case);
     }
 }
 

@@ -1,11 +1,13 @@
 //! Worked lists, and what is seen of their bits by calls of several sizes.
 
 use super::{bits_of, new_analyser};
+use crate::expect::same;
 use bus_bits::bits_number;
+use bus_dictionary::Dictionary;
 use bus_fcs::Check;
 use bus_rows::row_of;
 use bus_seen::{push_ending, push_seen};
-use bus_watch::Analyser;
+use bus_watch::{Analyser, Finding, Line, ReportObserver};
 use std::alloc::Global;
 use std::process::Abort;
 
@@ -53,13 +55,40 @@ pub(super) fn pushed<C: Check>(
     text
 }
 
-/// The same where up to `size` bits are taken with each call.
-pub(super) fn taken<C: Check>(
+/// An observer that writes what is seen.
+#[derive(Drop)]
+struct Writing;
+
+impl ReportObserver<String> for Writing {
+    ghost observes = { λ d l before seen m behind. Unit {0} };
+
+    ghost has_room = { λ l more. Unit {0} };
+
+    fn observe(
+        &mut self,
+        _line: Option<Line>,
+        finding: &Finding,
+        octets: &[u8],
+        _dictionary: &Dictionary,
+        text: &mut String,
+    ) {
+        let _ = push_seen(text, &finding.with_octets(octets));
+    }
+
+    ghost observes_none = { λ d l text. tt };
+
+    ghost observes_more = { λ d k l m before between behind seen more told further. tt };
+
+    ghost has_less = { λ l more less fewer room. tt };
+}
+
+/// The same where up to `size` bits are scanned with each call.
+pub(super) fn scanned<C: Check>(
     rt: &impl Abort,
     alloc: Global,
     analyser: &mut Analyser<C>,
     bits: &[bool],
-    size: u32,
+    size: usize,
 ) -> String {
     let mut text = String::new(alloc);
     let mut rest = bits;
@@ -67,15 +96,12 @@ pub(super) fn taken<C: Check>(
         if rest.is_empty() {
             break;
         }
-        let (front, _) = rest.split_at(rest.len().min(size as usize));
-        assert!(rt; 1 <= front.len() && front.len() <= 48, "a word");
-        let taken = analyser
-            .take(bits_number(front), front.len() as u32)
-            .expect(rt, "a place");
-        rest = &rest[rest.len().min(taken as usize)..];
-        if let Some(finding) = analyser.finding() {
-            push_seen(&mut text, &finding.with_octets(analyser.octets())).expect(rt, "text");
-        }
+        let (front, behind) = rest.split_at(rest.len().min(size));
+        assert!(rt; front.len() <= 48, "bits of eight octets");
+        let octets = bits_number(front).to_le_bytes();
+        let taken = analyser.scan(&octets, 0, front.len(), &mut Writing, &mut text);
+        same(rt, taken, front.len(), "bits scanned");
+        rest = behind;
     }
     push_ending(&mut text, analyser.ending()).expect(rt, "text");
     text

@@ -3,8 +3,6 @@ use Rattle.std.proofs.Common.{subst, arith}
 use Rattle.std.proofs.lemmas.Bool.{cases_lt}
 use Rattle.std.specs.Option.{option_map, option_to_list}
 use Rattle.std.proofs.lemmas.List.{take_all}
-use Rattle.bus_bits.specs.Octet.{bits_of}
-use Rattle.bus_bits.proofs.OctetLemmas.{one_bit}
 use Rattle.bus_line.specs.Due.{placed}
 use Rattle.bus_line.specs.Shown.{reported}
 use Rattle.bus_line.specs.After.{After}
@@ -14,7 +12,7 @@ use Rattle.bus_examples.proofs.frames.count_frames.Goals as goal
 
 pub overflow_add-count : goal.overflow_add-count
 overflow_add-count g c =
-    let one = at_most_one [] c.in_ok-taken.taken.event in
+    let one = at_most_one [] c.in_ok-advance.field-0 in
     omega (
       arith,
       one,
@@ -30,33 +28,30 @@ loop-bit-preserved g c =
     let i = c.loop-bit.bit-index in
     let bit = get_or bits i false in
     let old = c.loop-bit.decoder in
-    let taken = c.in_ok-taken.taken in
-    let told = c.in_ok-taken.ensures in
+    let event = c.in_ok-advance.field-0 in
+    let told = c.in_ok-advance.ensures in
     let inv = c.loop-bit.invariant in
-    let one : bits_of taken.count c.from.result ≡ bit ∷ [] =
-    one_bit c.from.result taken.count bit c.from.ensures told.within.0 told.within.1 in
-    let next : take (i + 1) bits ≡ take i bits ++ bits_of taken.count c.from.result =
-    next_bit bits i c.loop-bit-test.true ∙ ap (λ (x : List Bool). take i bits ++ x) (sym one) in
-    let counted = c.frames_in-count.ensures c.take.new.self.octets in
+    let next : take (i + 1) bits ≡ take i bits ++ bit ∷ [] = next_bit bits i c.loop-bit-test.true in
+    let counted = c.frames_in-count.ensures c.advance.new.self.octets in
     let tells = told.advances.tells in
     let more = tells.says (take i bits) inv.after in
     let all : frame_count (placed 0 256 (take (i + 1) bits)) ≡ c.loop-bit.count + c.frames_in-count.result =
     ap (λ (x : List Bool). frame_count (placed 0 256 x)) next
     ∙ ap frame_count (rw (inv.origin, inv.longest) at more)
     ∙ count-append (placed 0 256 (take i bits))
-    (option_to_list (option_map (reported c.take.new.self.octets) taken.event))
-    ∙ ap (λ (n : ℕ). n + frame_count (option_to_list (option_map (reported c.take.new.self.octets) taken.event)))
+    (option_to_list (option_map (reported c.advance.new.self.octets) event))
+    ∙ ap (λ (n : ℕ). n + frame_count (option_to_list (option_map (reported c.advance.new.self.octets) event)))
     (sym inv.count)
     ∙ ap (λ (n : ℕ). c.loop-bit.count + n) (sym counted) in
     record {
       after =
-          subst (After g.C.Check.check c.take.new.self) (sym next)
+          subst (After g.C.Check.check c.advance.new.self) (sym next)
           (tells.leads.after (take i bits) inv.after);
       origin = tells.leads.origin ∙ inv.origin;
       longest = tells.leads.longest ∙ inv.longest;
       count = sym all;
-      few = omega (arith, counted, at_most_one c.take.new.self.octets taken.event, inv.few);
-      place = tells.leads.place ∙ rw (one) (ap (λ (n : ℕ). n + 1) inv.place);
+      few = omega (arith, counted, at_most_one c.advance.new.self.octets event, inv.few);
+      place = tells.leads.place ∙ ap (λ (n : ℕ). n + 1) inv.place;
       room = elim (cases_lt (2 ^ 60) (old.place + 1)) [
         | inl far ↦ absurd (let e = told.limit.1 far in cc)
         | inr near ↦ omega (arith, near, inv.place)

@@ -1,8 +1,8 @@
-use Rattle.std.proofs.Common.{◌≡◌, ◌+◌, ◌-◌, ℕ, refl, ◌∙◌, arith}
-use Rattle.std.specs.Option.{option_to_list}
+use Rattle.std.proofs.Common.{◌≡◌, ◌+◌, ◌-◌, ◌++◌, ℕ, length, length-append, refl, ap, ◌∙◌, arith}
+use Rattle.std.specs.Option.{is_some, option_to_list}
 use Rattle.bus_bits.specs.Bits.{bits_from}
 use Rattle.bus_bits.proofs.BitLemmas.{length-from}
-use Rattle.bus_watch.specs.Internal.Hears.{told_on}
+use Rattle.bus_watch.specs.Internal.Hears.{fresh, told_on}
 use Rattle.bus_watch.proofs.HearsLemmas.{bits-met, bits-none, hears-nothing, hears-more, reaches-more, reaches-room}
 use Rattle.bus_watch.proofs.hear.observe_bits.Goals as goal
 
@@ -18,11 +18,22 @@ loop-at-init g c = record {
   reaches = c.requires.reaches;
 }
 
-pub hear_octets-requires-clause-room : goal.hear_octets-requires-clause-room
-hear_octets-requires-clause-room g c = λ below.
+pub record-requires-clause-decided : goal.record-requires-clause-decided
+record-requires-clause-decided g c =
+    let reaches = c.loop-at.invariant.reaches in
+    let n = c.in-Ok.scanned.count in
+    let led = c.in-Ok.ensures.advances.tells.leads in
+    let next = bits_from c.args.octets.now c.loop-at.at n in
+    let bits = reaches.bits ++ next in
+    let last : length reaches.bits + n - 1 ≡ length bits - 1 =
+    omega (arith, length-append reaches.bits next, length-from c.args.octets.now c.loop-at.at n) in
+    record { bits = bits; due = rw (led.longest, led.origin, ← last) (c.in-Ok.ensures.answer reaches.bits reaches.after) }
+
+pub record-requires-clause-room : goal.record-requires-clause-room
+record-requires-clause-room g c =
     reaches-room g.C.Check.check c.loop-at.decoder c.loop-at.journal
     c.settled_places.ensures.frames c.settled_places.ensures.paid c.settled_places.ensures.within
-    c.loop-at.invariant.reaches (omega (arith, below))
+    c.loop-at.invariant.reaches (omega (arith, c.in-Ok.ensures.fits))
 
 pub unreachable-requires : goal.unreachable-requires
 unreachable-requires g c =
@@ -47,39 +58,37 @@ show-requires-clause-room g c =
 
 pub loop-at-preserved : goal.loop-at-preserved
 loop-at-preserved g c =
-    let n = c.in-Ok.intake.count in
+    let view = g.C.Check.check in
+    let line = c.args.line in
+    let n = c.in-Ok.scanned.count in
     let i = c.loop-at.at in
     let before = c.loop-at.invariant in
-    let heard = c.in-Ok.ensures.hears in
-    let last = told_on c.args.line c.hear_octets.new.decoder.octets c.in-Ok.intake.is_decided
-    c.hear_octets.new.journal.last in
+    let new = c.scan.new.self in
+    let after = c.record.new.journal in
+    let bits = bits_from c.args.octets.now i n in
+    let heard = c.record.ensures c.loop-at.decoder bits c.in-Ok.ensures.advances in
+    let last = told_on line new.octets (is_some c.in-Ok.scanned.event) after.last in
     let dictionary = c.dictionary.ensures ∙ (heard.dictionary ∙ before.hears.dictionary) in
+    let found = c.fresh.ensures ∙ ap (λ is. fresh is after.last) c.is_some.ensures in
     let told : g.L.ReportObserver.observes c.args.journal.now.dictionary c.loop-at.observer c.loop-at.out
     (option_to_list last) c.show.new.observer c.show.new.out =
-    rw (← dictionary, ← c.fresh.ensures, ← c.octets.ensures.value) c.show.ensures.observed in
+    rw (← dictionary, ← found, ← c.octets.ensures.value) c.show.ensures.observed in
     record {
       some = omega (arith, before.some);
-      within = omega (arith, c.in-Ok.ensures.within.1, c.loop-at-test.true);
+      within = omega (arith, c.in-Ok.ensures.count.1, c.loop-at-test.true);
       hears = rw (bits-met c.args.octets.now c.args.from i n before.some)
-          (hears-more g.C.Check.check c.args.line c.args.decoder.now c.loop-at.decoder
-          c.hear_octets.new.decoder
-          c.args.journal.now c.loop-at.journal
-          c.hear_octets.new.journal
-          (bits_from c.args.octets.now c.args.from (i - c.args.from)) (bits_from c.args.octets.now i n) last _ _
-          (omega (arith, length-from c.args.octets.now i n, c.in-Ok.ensures.within.0)) before.hears heard
+          (hears-more view line c.args.decoder.now c.loop-at.decoder new c.args.journal.now c.loop-at.journal after
+          (bits_from c.args.octets.now c.args.from (i - c.args.from)) bits last _ _
+          (omega (arith, length-from c.args.octets.now i n, c.in-Ok.ensures.count.0)) before.hears heard
           (g.met.L.ReportObserver.observes_more c.args.journal.now.dictionary c.args.observer.now c.loop-at.observer
-          c.show.new.observer
-          c.args.out.now c.loop-at.out c.show.new.out before.hears.seen_now (option_to_list last) before.hears.told
-          told));
+          c.show.new.observer c.args.out.now c.loop-at.out c.show.new.out before.hears.seen_now (option_to_list last)
+          before.hears.told told));
       left = λ more room.
           let left : ℕ = c.args.past - (i + n) + more in
           c.show.ensures.left left
           (g.met.L.ReportObserver.has_less c.loop-at.observer (c.args.past - i + more) (1 + left)
-          (omega (arith, c.in-Ok.ensures.within, c.loop-at-test.true)) (before.left more room));
-      reaches = reaches-more g.C.Check.check c.args.line c.loop-at.decoder
-          c.hear_octets.new.decoder
-          c.loop-at.journal c.hear_octets.new.journal
-          (bits_from c.args.octets.now i n) last before.reaches heard;
+          (omega (arith, c.in-Ok.ensures.count, c.loop-at-test.true)) (before.left more room));
+      reaches = reaches-more view line c.loop-at.decoder new c.loop-at.journal after bits last before.reaches heard;
     }
 
 pub returns-clause-observes : goal.returns-clause-observes

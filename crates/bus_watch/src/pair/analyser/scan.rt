@@ -1,18 +1,18 @@
 //! Many pairs of bits at once, from octets of both lines.
 
-ghost use Rattle.std.specs.Prelude.{◌≡◌, ◌+◌, ◌-◌, ◌*◌, ◌≤◌, ◌<◌, None, length, min, zip};
+ghost use Rattle.std.specs.Prelude.{◌≡◌, ◌+◌, ◌-◌, ◌*◌, ◌≤◌, ◌<◌, length, min, zip};
 ghost use Rattle.bus_bits.specs.Bits.{bits_from};
 ghost use Rattle.bus_bits.specs.Limits.{most_places};
 ghost use Rattle.bus_watch.specs.Watch.{LeadsTold};
 ghost use Rattle.bus_watch.specs.Pairs.{two_lines};
 
 use crate::feed::PLACES;
-use crate::hear::{observe_bits, show};
+use crate::hear::{fresh, observe_bits, record, show};
 use crate::observer::ReportObserver;
 use crate::pair::analyser::PairAnalyser;
 use bus_fcs::Check;
 use bus_line::PlaceLimit;
-use bus_line::laws::{frame_is_spelled, reports_are, reports_grow, settled_places};
+use bus_line::laws::{reports_grow, settled_places};
 use bus_talk::Line;
 use std::cmp::min;
 
@@ -22,8 +22,7 @@ impl<C: Check> PairAnalyser<C> {
     /// place, and where both lines report at one place the first line's report and then the second's. Returns how many
     /// pairs it took: it stops in front of one whose place would be 2^60.
     ///
-    /// Each line is decoded up to its own next report, which is quicker than [`PairAnalyser::take`]. What is seen at
-    /// the last pair was shown like the rest, and [`PairAnalyser::finding`] has nothing more to answer.
+    /// Each line is decoded up to its own next report.
     pub fn scan<X, L: ReportObserver<X>>(
         &mut self,
         first: &[u8],
@@ -38,12 +37,9 @@ impl<C: Check> PairAnalyser<C> {
         ensures told { LeadsTold (two_lines C.check) self.old
             (zip (bits_from first.now 0 result) (bits_from second.now 0 result)) self.new
             (λ ss. L.observes self.old.journal.dictionary observer.old out.old ss observer.new out.new) }
-        ensures none { (self.new.found_first ≡ None) × (self.new.found_second ≡ None) }
     {
         let places = PLACES - self.place();
         let end = min(count as u64, places) as usize;
-        self.found_first = None;
-        self.found_second = None;
         let mut at = 0;
         while at < end {
             at = self.scan_some(first, second, at, end, observer, out);
@@ -71,8 +67,6 @@ impl<C: Check> PairAnalyser<C> {
             (zip (bits_from first.now from (result - from)) (bits_from second.now from (result - from))) self.new
             (λ ss. L.observes self.old.journal.dictionary observer.old out.old ss observer.new out.new) }
         ensures left { L.has_room observer.new (2 * (end - result)) }
-        ensures found { (self.new.found_first ≡ self.old.found_first)
-            × (self.new.found_second ≡ self.old.found_second) }
     {
         settled_places();
         reports_grow();
@@ -91,20 +85,20 @@ impl<C: Check> PairAnalyser<C> {
             observer,
             out,
         );
-        if let Some(event) = scanned.event {
-            reports_are();
-            frame_is_spelled();
-            let octets = self.second.octets();
-            self.journal.take(Some(Line::Second), event, octets);
-            show(
-                Some(Line::Second),
-                Some(self.journal.last()),
-                octets,
-                self.journal.dictionary(),
-                observer,
-                out,
-            );
-        }
+        record(
+            &self.second,
+            &mut self.journal,
+            Some(Line::Second),
+            scanned.event,
+        );
+        show(
+            Some(Line::Second),
+            fresh(&self.journal, scanned.event.is_some()),
+            self.second.octets(),
+            self.journal.dictionary(),
+            observer,
+            out,
+        );
         past
     }
 }

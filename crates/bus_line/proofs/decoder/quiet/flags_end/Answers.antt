@@ -9,10 +9,20 @@ loop-at-init c = record {
   flags = flags-none c.args.octets.now c.args.from;
 }
 
+pub returns-then-count-lt7-clause-flags : goal.returns-then-count-lt7-clause-flags
+returns-then-count-lt7-clause-flags c =
+    let now = c.loop-at.invariant in
+    let found = c.flags_in-count in
+    flags-more c.args.octets.now c.args.from c.loop-at.at c.seven_octets_at.result found.result now.begun now.flags
+    c.seven_octets_at.ensures found.ensures.few found.ensures.are
+
 pub loop-at-preserved : goal.loop-at-preserved
-loop-at-preserved c = record {
-  begun = omega (arith, c.loop-at.invariant.begun);
-  within = omega (arith, c.loop-at-test.true);
-  flags = flags-more c.args.octets.now c.args.from c.loop-at.at c.seven_octets_at.result c.loop-at.invariant.begun
-      c.loop-at.invariant.flags c.seven_octets_at.ensures c.if-seven_octets_at-ne-SEVEN_FLAGS.false;
-}
+loop-at-preserved c =
+    let now = c.loop-at.invariant in
+    let found = c.flags_in-count in
+    record {
+      begun = omega (arith, now.begun);
+      within = omega (arith, c.loop-at-test.true, found.ensures.few);
+      flags = flags-more c.args.octets.now c.args.from c.loop-at.at c.seven_octets_at.result found.result now.begun
+          now.flags c.seven_octets_at.ensures found.ensures.few found.ensures.are;
+    }

@@ -1,85 +1,64 @@
-use Rattle.std.proofs.Common.{◌≡◌, ◌+◌, ◌-◌, ◌*◌, ◌++◌, ◌∙◌, arith}
-use Rattle.bus_bits.proofs.OctetLemmas.{length-bits}
-use Rattle.bus_line.specs.Decides.{flags}
+use Rattle.std.proofs.Common.{◌≡◌, ◌+◌, ◌-◌, ℕ, List, Bool, ◌++◌, sym, subst, arith}
+use Rattle.bus_bits.specs.Octet.{bits_of}
+use Rattle.bus_bits.proofs.OctetLemmas.{least, length-bits}
+use Rattle.bus_line.specs.After.{After}
 use Rattle.bus_line.specs.Words.{state}
-use Rattle.bus_line.proofs.AdvanceLemmas.{advances-behind, front-decides-nothing}
-use Rattle.bus_line.proofs.WordsLemmas.{flags-passed, shows-flag}
-use Rattle.bus_line.proofs.PassedLemmas.{stops-on, more-on, before-on, after-on, stops-all, more-all, before-all}
-use Rattle.bus_line.proofs.PassedLemmas.{after-all}
+use Rattle.bus_line.specs.Internal.Settled.{IsCalm}
+use Rattle.bus_line.specs.Internal.Tracks.{Tracks}
+use Rattle.bus_line.specs.Due.{current}
+use Rattle.bus_line.proofs.AdvanceLemmas.{is_calm, is_last, word-joined}
+use Rattle.bus_line.proofs.ReachLemmas.{calm-front, decided, reached-all, reached-last}
+use Rattle.bus_line.proofs.TellLemmas.{advances-quiet}
 use Rattle.bus_line.proofs.line_words.LineWords.advance.Goals as goal
 
-pub returns-then-rest-eq0-clause-stops : goal.returns-then-rest-eq0-clause-stops
-returns-then-rest-eq0-clause-stops g c = λ b stands.
-    let passed = c.past_flags-rest in
-    let shown =
-    shows-flag _ c.args.self.now c.args.check.now (g.F.FrameBuffer.octets c.args.frame.now)
-    b c.requires.sound.within stands in
-    let all : 8 * passed.result.flags ≡ c.args.count =
-    omega (arith, passed.ensures.flags, passed.ensures.count, c.if-rest-eq0.true) in
-    stops-all (passed.ensures.past b shown) all c.requires.word.some
-
-pub returns-then-rest-eq0-clause-advances : goal.returns-then-rest-eq0-clause-advances
-returns-then-rest-eq0-clause-advances g c =
-    let old = c.args.self.now in
-    let check = c.args.check.now in
-    let octets = g.F.FrameBuffer.octets c.args.frame.now in
-    let passed = c.past_flags-rest in
-    let new = state passed.new.self check octets in
-    let all : 8 * passed.result.flags ≡ c.args.count =
-    omega (arith, passed.ensures.flags, passed.ensures.count, c.if-rest-eq0.true) in
-    advances-behind _ c.args.count c.args.bits (state old check octets) new _
-    passed.ensures.longest passed.ensures.origin (omega (arith, passed.ensures.place, all)) (λ b stands.
-    let past = passed.ensures.past b (shows-flag _ old check octets b c.requires.sound.within stands) in
-    let behind = flags-passed _ old passed.new.self check octets b passed.result.flags
-    passed.ensures.passes past.ahead.behind passed.ensures.within.place_fits stands in
-    record {
-      after = after-all past all c.requires.word.some _ new behind;
-      says = more-all past all c.requires.word.some old.longest old.origin;
-      before = before-all past all c.requires.word.some old.longest old.origin;
-    })
-
-pub returns-clause-stops : goal.returns-clause-stops
-returns-clause-stops g c = λ b stands.
-    let old = c.args.self.now in
-    let check = c.args.check.now in
-    let octets = g.F.FrameBuffer.octets c.args.frame.now in
-    let passed = c.past_flags-rest in
-    let taken = c.advance_to_stop-taken in
-    let count : c.args.count - passed.result.count + taken.result.count ≡ 8 * passed.result.flags + taken.result.count =
-    omega (arith, passed.ensures.flags, passed.ensures.count) in
-    let past = passed.ensures.past b (shows-flag _ old check octets b c.requires.sound.within stands) in
-    let behind = flags-passed _ old passed.new.self check octets b passed.result.flags
-    passed.ensures.passes past.ahead.behind passed.ensures.within.place_fits stands in
-    let stops = taken.ensures.stops (b ++ flags passed.result.flags) behind in
-    stops-on past taken.result.count _ count stops taken.ensures.some
+pub returns-then-calm-count-clause-advances : goal.returns-then-calm-count-clause-advances
+returns-then-calm-count-clause-advances g c =
+    let view = g.C.Check.check in
+    let old = state c.args.self.now c.args.check.now (g.F.FrameBuffer.octets c.args.frame.now) in
+    let consumed = c.consume.ensures in
+    let n = c.args.word.count in
+    let x = c.args.word.bits in
+    let long = length-bits n x in
+    let all : c.from.result ≡ n =
+    omega (arith, c.from.ensures, c.min-taken.ensures, least (c.calm_bits-calm.result + 1) n, c.if-calm-count.true) in
+    let calm : (b : List Bool) → After view old b → IsCalm b (bits_of n x) n = λ b stands.
+    let word = word-joined old n x b stands.has_taken c.requires.word.few c.requires.word.small in
+    (is_calm _ n c.calm_bits-calm.result x b word c.if-calm-count.true c.calm_bits-calm.ensures.calm).calm in
+    advances-quiet view (reached-all view consumed.longest consumed.origin (omega (arith, consumed.place, all, long))
+    (λ b stands. subst (IsCalm b (bits_of n x)) (sym long) (calm b stands))
+    (λ b stands.
+    let front : IsCalm b (bits_of n x) (n - 1) = λ i before. calm b stands i (omega (arith, before)) in
+    let new = state c.consume.new.self c.consume.new.check (g.F.FrameBuffer.octets c.consume.new.frame) in
+    subst (λ (k : ℕ). Tracks view new (b ++ bits_of k x) (current b)) all
+    (consumed.tracks b stands (subst (λ (k : ℕ). IsCalm b (bits_of k x) (k - 1)) (sym all) front))))
 
 pub returns-clause-advances : goal.returns-clause-advances
 returns-clause-advances g c =
-    let old = c.args.self.now in
-    let check = c.args.check.now in
-    let octets = g.F.FrameBuffer.octets c.args.frame.now in
-    let passed = c.past_flags-rest in
-    let mid = state passed.new.self check octets in
-    let taken = c.advance_to_stop-taken in
-    let new = state taken.new.self taken.new.check (g.F.FrameBuffer.octets taken.new.frame) in
-    let more = taken.result.count in
-    let told = taken.ensures.advances.tells in
-    let count : c.args.count - passed.result.count + more ≡ 8 * passed.result.flags + more =
-    omega (arith, passed.ensures.flags, passed.ensures.count) in
-    let same-longest = passed.ensures.longest in
-    let same-origin = passed.ensures.origin in
-    advances-behind _ (c.args.count - passed.result.count + more) c.args.bits (state old check octets) new _
-    (told.leads.longest ∙ same-longest) (told.leads.origin ∙ same-origin)
-    (omega (arith, told.leads.place, length-bits more passed.result.bits, passed.ensures.place, count)) (λ b stands.
-    let past = passed.ensures.past b (shows-flag _ old check octets b c.requires.sound.within stands) in
-    let behind = flags-passed _ old passed.new.self check octets b passed.result.flags
-    passed.ensures.passes past.ahead.behind passed.ensures.within.place_fits stands in
-    let before = front-decides-nothing _ more passed.result.bits mid taken.ensures.advances.before
-    (b ++ flags passed.result.flags) behind in
-    record {
-      after = after-on past _ more _ new count (told.leads.after (b ++ flags passed.result.flags) behind);
-      says = more-on past old.longest old.origin mid.longest mid.origin more _ _ count same-longest same-origin
-          (told.says (b ++ flags passed.result.flags) behind);
-      before = before-on past old.longest old.origin mid.longest mid.origin more _ count same-longest same-origin
-          taken.ensures.some before;
-    })
+    let view = g.C.Check.check in
+    let old = state c.args.self.now c.args.check.now (g.F.FrameBuffer.octets c.args.frame.now) in
+    let consumed = c.consume.ensures in
+    let n = c.args.word.count in
+    let x = c.args.word.bits in
+    let m = c.calm_bits-calm.result in
+    let t = c.min-taken.result in
+    let long = length-bits t x in
+    let more : t ≡ m + 1 =
+    omega (arith, c.min-taken.ensures, least (m + 1) n, c.calm_bits-calm.ensures.within, c.if-calm-count.false) in
+    let calm : (b : List Bool) → After view old b → IsCalm b (bits_of t x) (t - 1) = λ b stands.
+    let word = word-joined old n x b stands.has_taken c.requires.word.few c.requires.word.small in
+    let last =
+    is_last _ n m x b word c.calm_bits-calm.ensures.within c.if-calm-count.false c.calm_bits-calm.ensures.calm in
+    let front : IsCalm b (bits_of n x) (t - 1) = λ i before. last.calm i (omega (arith, before, more)) in
+    calm-front b x n t (t - 1) front (omega (arith, more, last.within, length-bits n x)) (omega arith) in
+    let mid = state c.consume.new.self c.consume.new.check (g.F.FrameBuffer.octets c.consume.new.frame) in
+    let reached = reached-last view consumed.longest consumed.origin
+    (omega (arith, consumed.place, c.from.ensures, long)) (omega (arith, long, more))
+    (λ b stands. subst (λ (k : ℕ). IsCalm b (bits_of t x) (k - 1)) (sym long) (calm b stands))
+    (λ b stands.
+    subst (λ (k : ℕ). Tracks view mid (b ++ bits_of k x) (current b)) c.from.ensures
+    (consumed.tracks b stands
+    (subst (λ (k : ℕ). IsCalm b (bits_of k x) (k - 1)) (sym c.from.ensures) (calm b stands)))) in
+    let decision = c.decide.ensures in
+    decided view reached decision.longest decision.origin decision.place
+    (decision.answer (g.F.FrameBuffer.octets c.consume.new.frame))
+    (decision.after (g.F.FrameBuffer.octets c.consume.new.frame))

@@ -3,7 +3,8 @@ use Rattle.bus_bits.specs.Octet.{bits_of}
 use Rattle.bus_line.specs.After.{Tells}
 use Rattle.bus_line.specs.Words.{state}
 use Rattle.bus_line.specs.Internal.Reaches.{ReachesTo}
-use Rattle.bus_line.proofs.ReachLemmas.{reaches-on, turn-bits}
+use Rattle.bus_line.proofs.ReachLemmas.{reaches-on}
+use Rattle.bus_line.proofs.QuietLemmas.{turn-bits}
 use Rattle.bus_line.proofs.TellLemmas.{place-on, tells-from, tells-on}
 use Rattle.bus_line.proofs.line_words.LineWords.reach.Goals as goal
 

@@ -10,7 +10,7 @@ use Rattle.bus_line.proofs.line_words.LineWords.scan_some.Goals as goal
 
 pub returns-then-past-from-clause-advances : goal.returns-then-past-from-clause-advances
 returns-then-past-from-clause-advances g c =
-    let scanned = c.scan_word in
+    let scanned = c.scan_word-then-past-from in
     let new = state scanned.new.self scanned.new.check (g.F.FrameBuffer.octets scanned.new.frame) in
     let bits = bits_from c.args.octets.now c.args.from scanned.result.count in
     let report = option_map (reported new.octets) scanned.result.event in

@@ -7,9 +7,9 @@ use Rattle.bus_line.proofs.line_words.LineWords.scan_word.Goals as goal
 
 pub returns-clause-advances : goal.returns-clause-advances
 returns-clause-advances g c =
-    let taken = c.advance-taken in
+    let taken = c.advance in
     let old = state c.args.self.now c.args.check.now (g.F.FrameBuffer.octets c.args.frame.now) in
     let new = state taken.new.self taken.new.check (g.F.FrameBuffer.octets taken.new.frame) in
     let report = option_map (reported new.octets) taken.result.event in
     subst (λ (bits : List Bool). Advances g.C.Check.check old bits report new)
-    (c.word_at-word.ensures.bits taken.result.count taken.ensures.count) taken.ensures.advances
+    (c.word_at.ensures.bits taken.result.count taken.ensures.count) taken.ensures.advances

@@ -1,6 +1,7 @@
-use Rattle.std.proofs.Common.{arith}
+use Rattle.std.proofs.Common.{false, arith}
+use Rattle.std.proofs.lemmas.List.{take_more}
 use Rattle.bus_talk.proofs.SinkLemmas.{took-none, took-after}
-use Rattle.bus_watch.proofs.FedLemmas.{fed-nil, fed-more, refused-after, next, next-within, at-ok, at-err}
+use Rattle.bus_watch.proofs.FedLemmas.{fed-nil, fed-more, refused-after, at-ok, at-err}
 use Rattle.bus_watch.proofs.analyser.Analyser.feed.Goals as goal
 
 pub loop-consumed-init : goal.loop-consumed-init
@@ -8,30 +9,27 @@ loop-consumed-init g c = record { within = omega arith; fed = fed-nil; sink = to
 
 pub returns-then-is_err-clause-refused : goal.returns-then-is_err-clause-refused
 returns-then-is_err-clause-refused g c =
-    let some = c.feed_some-fed in
-    let before = c.loop-consumed.invariant in
-    let bits = c.args.bits.now in
+    let told = c.feed_bit-told in
     record {
-      some = omega (arith, some.ensures.within.0);
-      within = next-within bits c.loop-consumed.consumed some.result.count before.within some.ensures.within.1;
-      refused = rw (next bits c.loop-consumed.consumed some.result.count before.within some.ensures.within.1)
-          (refused-after before.fed (at-err some.result.told c.if-is_err.ensures.value some.ensures.refused));
+      some = omega arith;
+      within = omega (arith, c.loop-consumed-test.true);
+      refused = rw (take_more c.args.bits.now c.loop-consumed.consumed false c.loop-consumed-test.true)
+          (refused-after c.loop-consumed.invariant.fed
+          (at-err told.result c.if-is_err.ensures.value told.ensures.refused));
     }
 
 pub returns-then-is_err-clause-one_refused : goal.returns-then-is_err-clause-one_refused
 returns-then-is_err-clause-one_refused g c =
-    let some = c.feed_some-fed in
     took-after c.loop-consumed.invariant.sink
-    (at-err some.result.told c.if-is_err.ensures.value some.ensures.one_refused)
+    (at-err c.feed_bit-told.result c.if-is_err.ensures.value c.feed_bit-told.ensures.one_refused)
 
 pub loop-consumed-preserved : goal.loop-consumed-preserved
 loop-consumed-preserved g c =
-    let some = c.feed_some-fed in
+    let told = c.feed_bit-told in
     let before = c.loop-consumed.invariant in
-    let bits = c.args.bits.now in
     record {
-      within = next-within bits c.loop-consumed.consumed some.result.count before.within some.ensures.within.1;
-      fed = rw (next bits c.loop-consumed.consumed some.result.count before.within some.ensures.within.1)
-          (fed-more before.fed (at-ok some.result.told c.if-is_err.ensures.value some.ensures.fed));
-      sink = took-after before.sink (at-ok some.result.told c.if-is_err.ensures.value some.ensures.none_refused);
+      within = omega (arith, c.loop-consumed-test.true);
+      fed = rw (take_more c.args.bits.now c.loop-consumed.consumed false c.loop-consumed-test.true)
+          (fed-more before.fed (at-ok told.result c.if-is_err.ensures.value told.ensures.fed));
+      sink = took-after before.sink (at-ok told.result c.if-is_err.ensures.value told.ensures.none_refused);
     }

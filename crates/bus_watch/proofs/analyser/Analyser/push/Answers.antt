@@ -1,27 +1,23 @@
-use Rattle.std.proofs.Common.{◌≡◌, [], ◌∷◌, refl, arith}
-use Rattle.std.specs.Option.{option_to_list}
-use Rattle.bus_bits.specs.Octet.{bits_of}
-use Rattle.bus_bits.proofs.OctetLemmas.{one_bit}
-use Rattle.bus_talk.specs.Shown.{shown_option}
-use Rattle.bus_watch.specs.After.{Sees}
+use Rattle.std.proofs.Common.{[], ◌∷◌, refl, sym, subst}
+use Rattle.std.specs.Option.{option_map, option_to_list}
+use Rattle.bus_talk.specs.Shown.{found, shown_option}
+use Rattle.bus_watch.specs.After.{AnalyserState, Sees}
+use Rattle.bus_watch.specs.Internal.AnalyserView.{analyser_state}
 use Rattle.bus_watch.proofs.LawsLemmas.{answer-is}
 use Rattle.bus_watch.proofs.analyser.Analyser.push.Goals as goal
 
 pub returns : goal.returns
 returns g c =
-    let n = c.in_ok-take.field-0 in
-    let within = c.in_ok-take.ensures.within in
-    let one : bits_of n c.from.result ≡ c.args.bit ∷ [] =
-    one_bit c.from.result n c.args.bit c.from.ensures within.0 within.1 in
+    let now = analyser_state c.self.inside in
     let sees : Sees g.C.Check.check c.args.self.now (c.args.bit ∷ [])
-    (option_to_list (shown_option c.lent.result)) c.take.new.self =
-    rw (← one, c.lent.ensures.shown) c.in_ok-take.ensures.sees in (
+    (option_to_list (shown_option c.lent.result)) now =
+    rw (c.lent.ensures.only_line)
+    (subst (λ (a : AnalyserState g.row.C.Denot). Sees g.C.Check.check c.args.self.now (c.args.bit ∷ [])
+    (option_to_list (option_map (found a.decoder.octets) c.in_ok-finding.finding)) a) (sym c.self.view_is)
+    c.in_ok-finding.ensures.sees) in (
       (refl, (λ _. tt), (sees, tt)),
       record {
-        limit = (
-          (λ same. absurd (cc)),
-          (λ far. absurd (let refused = c.in_ok-take.ensures.limit.1 (omega (arith, far)) in cc)),
-        );
+        limit = c.in_ok-finding.ensures.limit;
         answer = λ b reached. answer-is g.C.Check.check c.args.self.now b c.args.bit
             (shown_option c.lent.result) c.seen_grows.ensures.grows reached (sees.seen b reached);
         fits = c.lent.ensures.fits;

@@ -1,11 +1,11 @@
-use Rattle.std.proofs.Common.{◌≡◌, ◌+◌, ◌-◌, ◌^◌, ◌++◌, ℕ, min, List, None, false, sym, ap, ◌∙◌, subst, arith}
+use Rattle.std.proofs.Common.{◌≡◌, ◌+◌, ◌-◌, ◌^◌, ◌++◌, ℕ, min, List, None, sym, ap, ◌∙◌, subst, arith}
 use Rattle.bus_bits.specs.Bits.{bits_from}
 use Rattle.bus_bits.proofs.OctetLemmas.{least}
 use Rattle.bus_dictionary.specs.Dictionary.{longest_of}
 use Rattle.bus_talk.specs.Seen.{SeenReport}
 use Rattle.bus_watch.specs.After.{AnalyserState, one_line}
 use Rattle.bus_watch.specs.Internal.AnalyserView.{analyser_state}
-use Rattle.bus_watch.specs.Internal.Hears.{fresh, HearsMany}
+use Rattle.bus_watch.specs.Internal.Hears.{HearsMany}
 use Rattle.bus_watch.specs.Watch.{LeadsTold}
 use Rattle.bus_watch.proofs.HearsLemmas.{leads-heard, line-reaches}
 use Rattle.bus_watch.proofs.analyser.Analyser.scan.Goals as goal
@@ -47,11 +47,7 @@ invariant_of-self g c =
     let heard = c.observe_bits.ensures.observes in
     let x = bits_from c.args.octets.now c.args.from (c.args.from + c.min-count.result - c.args.from) in
     let new : AnalyserState g.row.C.Denot =
-    record {
-      decoder = c.observe_bits.new.decoder;
-      journal = c.observe_bits.new.journal;
-      finding = fresh false c.observe_bits.new.journal.last;
-    } in
+    record { decoder = c.observe_bits.new.decoder; journal = c.observe_bits.new.journal } in
     let led = leads-heard g.C.Check.check (analyser_state c.self.inside) new x _ heard in
     record {
       depth = omega (arith, c.self.invariant.depth, heard.depth);
@@ -66,11 +62,7 @@ returns-clause-told g c =
     let heard = c.observe_bits.ensures.observes in
     let old = analyser_state c.self.inside in
     let new : AnalyserState g.row.C.Denot =
-    record {
-      decoder = c.observe_bits.new.decoder;
-      journal = c.observe_bits.new.journal;
-      finding = fresh false c.observe_bits.new.journal.last;
-    } in
+    record { decoder = c.observe_bits.new.decoder; journal = c.observe_bits.new.journal } in
     let whole : c.args.from + c.min-count.result - c.args.from ≡ c.min-count.result = omega arith in
     let x = bits_from c.args.octets.now c.args.from c.min-count.result in
     let told : AnalyserState g.row.C.Denot → List SeenReport → Type 0 = λ a ss.

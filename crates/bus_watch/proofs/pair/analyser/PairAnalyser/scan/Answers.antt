@@ -1,9 +1,8 @@
-use Rattle.std.proofs.Common.{◌≡◌, ◌+◌, ◌-◌, ◌*◌, ◌^◌, ℕ, min, None, zip, refl, ◌∙◌, subst, arith}
+use Rattle.std.proofs.Common.{◌≡◌, ◌+◌, ◌-◌, ◌*◌, ◌^◌, ℕ, min, zip, ◌∙◌, subst, arith}
 use Rattle.bus_bits.specs.Bits.{bits_from}
 use Rattle.bus_bits.proofs.OctetLemmas.{least}
 use Rattle.bus_watch.specs.Watch.{LeadsTold}
-use Rattle.bus_watch.specs.Pairs.{PairState, two_lines}
-use Rattle.bus_watch.specs.Internal.PairView.{pair_state}
+use Rattle.bus_watch.specs.Pairs.{two_lines}
 use Rattle.bus_watch.proofs.PairScanLemmas.{leads-further, leads-nowhere, length-zipped, zip-met}
 use Rattle.bus_watch.proofs.pair.analyser.PairAnalyser.scan.Goals as goal
 
@@ -11,13 +10,8 @@ pub loop-at-init : goal.loop-at-init
 loop-at-init g c = record {
   within = omega arith;
   told =
-      subst (λ (a : PairState g.row.C.Denot). LeadsTold (two_lines g.C.Check.check) a
-      (zip (bits_from c.args.first.now 0 0) (bits_from c.args.second.now 0 0))
-      (record (pair_state c.self.inside) { found_first = None; found_second = None })
-      (λ ss. g.L.ReportObserver.observes a.journal.dictionary c.args.observer.now c.args.out.now ss c.args.observer.now
-      c.args.out.now)) c.self.view_is
-      (leads-nowhere g.C.Check.check (pair_state c.self.inside) c.args.first.now c.args.second.now _
-      (g.met.L.ReportObserver.observes_none c.self.inside.journal.dictionary c.args.observer.now c.args.out.now));
+      leads-nowhere g.C.Check.check c.args.self.now c.args.first.now c.args.second.now _
+      (g.met.L.ReportObserver.observes_none c.args.self.now.journal.dictionary c.args.observer.now c.args.out.now);
   room = g.met.L.ReportObserver.has_less c.args.observer.now
       (2 * min c.args.count (2 ^ 60 - c.args.self.now.first.place)) (2 * (c.min-end.result - 0))
       (omega (
@@ -25,7 +19,6 @@ loop-at-init g c = record {
         c.min-end.ensures ∙ least c.args.count (2 ^ 60 - c.place-places.result),
         c.place-places.ensures.value,
       )) c.requires.room;
-  none = (refl, refl);
 }
 
 pub scan_some-at-requires-clause-places : goal.scan_some-at-requires-clause-places
@@ -64,6 +57,4 @@ loop-at-preserved g c =
           (subst (λ d. g.L.ReportObserver.observes d c.loop-at.observer c.loop-at.out ts scanned.new.observer
           scanned.new.out) dictionary next))));
       room = scanned.ensures.left;
-      none =
-          (scanned.ensures.found.0 ∙ c.loop-at.invariant.none.0, scanned.ensures.found.1 ∙ c.loop-at.invariant.none.1);
     }

@@ -1,4 +1,4 @@
-use Rattle.std.proofs.Common.{◌-◌, ◌≡◌, ◌*◌, ◌≤◌, None, zip}
+use Rattle.std.proofs.Common.{◌-◌, ◌*◌, ◌≤◌, zip}
 use Rattle.bus_bits.specs.Bits.{bits_from}
 use Rattle.bus_watch.specs.Pairs.{two_lines}
 use Rattle.bus_watch.specs.Watch.{LeadsTold}
@@ -12,7 +12,6 @@ invariant-loop-at g l = record {
       (zip (bits_from l.fn.first 0 l.at) (bits_from l.fn.second 0 l.at)) l.self
       (λ ss. g.L.ReportObserver.observes l.fn.self.journal.dictionary l.fn.observer l.fn.out ss l.observer l.out);
   room : g.L.ReportObserver.has_room l.observer (2 * (l.end - l.at));
-  none : (l.self.found_first ≡ None) × (l.self.found_second ≡ None);
 }
 
 abbrev pub decreases-loop-at : goal.decreases-loop-at
