@@ -10,7 +10,6 @@ ghost use Rattle.bus_text.specs.Adds.{Prints};
 ghost use Rattle.bus_text.specs.Pages.{HasRoomFor};
 ghost use Rattle.bus_text.specs.Listing.{listing};
 ghost use Rattle.bus_text.specs.Summary.{summary_of};
-ghost use Rattle.bus_watch.specs.Pairs.{seen_on};
 ghost use Rattle.bus_talk.specs.Seen.{SeenReport};
 ghost use Rattle.std.specs.Option.{option_to_list};
 
