@@ -5,17 +5,17 @@
  *   - a call is safe and ends;
  *   - after port1_line_init returned PORT1_OK, and as long as only these calls write the line, the reports
  *     are those of the definition (crates/bus_line/specs/Report.antt) for the bits taken so far: all of
- *     them, in order, each once, told by the call that takes the bit that decides it, however the bits are
+ *     them, in order, each once, given by the call that takes the bit that decides it, however the bits are
  *     cut into calls;
  *   - the kind and the cause of each report are numbers that are named below, and the cause is 0 unless the kind
  *     is PORT1_DAMAGED;
  *   - longest and origin stay as they were given;
  *   - after port1_sender_init, and as long as only these calls write the sender, each call that returns
  *     PORT1_OK puts the bits of the definition (crates/bus_line/specs/Line.antt) into the octets, from the
- *     bit that it was told, and touches no other bit;
+ *     bit `*at` on, and touches no other bit;
  *   - after port1_pair_init, and as long as only port1_pair_take writes the pairing, with one table, each call
- *     that returns PORT1_OK tells the standing, the verdict and the stray of the definitions
- *     (crates/bus_talk/specs/Seen.antt) for the reports taken so far, by numbers that are named below;
+ *     that returns PORT1_OK gives the standing, the verdict and the stray of the definitions
+ *     (crates/bus_pairing/specs/Seen.antt) for the reports taken so far, by numbers that are named below;
  *   - where a call refuses, with PORT1_BAD_STATE, PORT1_BAD_ARGUMENT, PORT1_BAD_LENGTH or PORT1_NO_ROOM,
  *     nothing has changed but what is said there.
  *

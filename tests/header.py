@@ -21,7 +21,7 @@ C_TYPES = {"u8": "uint8_t", "u16": "uint16_t", "u32": "uint32_t", "u64": "uint64
 
 # Files with structs whose fields the header has among those of the struct that they are in, and what it calls some of
 # these. The last field of each ends where the struct does.
-PARTS = ["crates/bus_line/src/line_words.rt", "crates/port1_c/src/lent_frame.rt"]
+PARTS = ["crates/bus_line/src/decoder_words.rt", "crates/port1_c/src/lent_frame.rt"]
 RENAMED = {"len": "count", "register": "check"}
 
 STRUCT = re.compile(r"^((?:#\[[^\n]*\]\n)+)pub struct (\w+) \{\n(.*?)^\}", re.MULTILINE | re.DOTALL)

@@ -40,11 +40,11 @@ DICTIONARY = ("bus_text.specs.Show", "given_dictionary")
 DICTIONARY_TEXT = ("bus_text.specs.Given", "dictionary_text")
 KIND = ("bus_text.specs.Kinds", "kind_named")
 LONGEST = ("bus_dictionary.specs.Dictionary", "longest_of")
-SIDES = [("bus_talk.specs.Heard", "firsts"), ("bus_talk.specs.Heard", "seconds")]
+SIDES = [("bus_pairing.specs.Heard", "firsts"), ("bus_pairing.specs.Heard", "seconds")]
 SETTLED = ("bus_line.specs.Ledger", "assembled")
 COUNTS = [("bus_line.specs.Ledger", "stored"), ("bus_line.specs.Ledger", "copied")]
 REPORTS = ("bus_line.specs.Due", "reports")
-HANDLED = ("bus_talk.specs.Ledger", "handled")
+HANDLED = ("bus_pairing.specs.Ledger", "handled")
 
 NEEDED = [LISTING, REPORT, WHOLE, *FORMS, DICTIONARY, DICTIONARY_TEXT, KIND]
 NEEDED += [LONGEST, *SIDES, SETTLED, *COUNTS, REPORTS, HANDLED]

@@ -262,7 +262,7 @@ EDITS = [
     Edit("bus_line/specs/Spelling.antt", "option_map (λ d. ones 5 ++ d)", "option_map (λ d. ones 4 ++ d)"),
     Edit("bus_fcs/specs/Division.antt", "false ∷ true ∷ []", "true ∷ true ∷ []"),
     Edit("bus_dictionary/specs/Standing.antt", "slice_index octets 1 == 0x83", "slice_index octets 1 == 0x84"),
-    Edit("bus_talk/specs/Talk.antt", "ftype == p.ftype + 128", "ftype == p.ftype + 127"),
+    Edit("bus_pairing/specs/Talk.antt", "ftype == p.ftype + 128", "ftype == p.ftype + 127"),
     Edit("bus_text/specs/Kinds.antt", 'kind_word Answered = codes "answered"', 'kind_word Answered = codes "heard"'),
 ]
 

@@ -16,7 +16,7 @@ use Rattle.bus_bits.specs.Bits.{bits_from}
 use Rattle.bus_bits.specs.Octet.{bits_of, bits_of_octets}
 use Rattle.bus_bits.specs.Capture.{is_bit, is_space, text_bits, text_fault}
 use Rattle.bus_bits.specs.Internal.Packs.{IsPacked, packed_bits}
-use Rattle.bus_bits.specs.declared.capture.text_block.Packing.{Packing}
+use Rattle.bus_bits.specs.declared.format.text_block.Packing.{Packing}
 use Rattle.bus_bits.proofs.BitLemmas.{bits-in, bits-more}
 use Rattle.bus_bits.proofs.EightBitsOfNineLemmas.{all_kept, marks_text, text-given}
 use Rattle.bus_bits.proofs.GatherLemmas.{more-given, none-given}

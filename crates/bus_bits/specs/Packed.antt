@@ -7,10 +7,10 @@ use Rattle.bus_bits.specs.Limits.{most_places}
 use Rattle.bus_bits.specs.Octet.{bits_of, bits_of_octets}
 use Rattle.bus_bits.specs.Capture.{CaptureOf, Capture, PairCapture, CaptureFault, magic, too_many, pad_bits, trailing}
 use Rattle.bus_bits.specs.Capture.{short_head, short_body, GrowsTo, mark_pair}
-use Rattle.bus_bits.specs.declared.capture.packed_head.HeadFault.{HeadFault}
-use Rattle.bus_bits.specs.declared.capture.packed_head.HeadFault.TheVariants.{Magic, TooMany}
-use Rattle.bus_bits.specs.declared.capture.packed_bits.PackedFault.{PackedFault}
-use Rattle.bus_bits.specs.declared.capture.packed_bits.PackedFault.TheVariants.{Trailing, PadBits, ShortBody}
+use Rattle.bus_bits.specs.declared.format.packed_head.HeadFault.{HeadFault}
+use Rattle.bus_bits.specs.declared.format.packed_head.HeadFault.TheVariants.{Magic, TooMany}
+use Rattle.bus_bits.specs.declared.format.packed_bits.PackedFault.{PackedFault}
+use Rattle.bus_bits.specs.declared.format.packed_bits.PackedFault.TheVariants.{Trailing, PadBits, ShortBody}
 
 -- the faults as the readers name them
 abbrev pub head_fault_of : HeadFault → CaptureFault

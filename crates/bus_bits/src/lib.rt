@@ -1,14 +1,14 @@
 //! Octets and bits, spans of places, counted steps, and the bits of a capture of one line or two.
 #![tactic(auto)]
 
-mod capture;
+mod format;
 pub mod laws;
 mod octet;
 mod span;
 mod spent;
 mod word;
 
-pub use capture::{
+pub use format::{
     BadMark, EightBits, EightPairs, HeadFault, PackedBits, PackedFault, PackedHead, PackedPairs,
     PairHead, PairWords, PartedText, TextBits, TextBlock, TextPairs,
 };

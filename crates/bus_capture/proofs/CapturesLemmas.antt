@@ -4,7 +4,7 @@ use Rattle.std.proofs.Common.{Some, refl, sym, ap, ◌∙◌, subst, arith, inl,
 use Rattle.std.proofs.lemmas.Bool.{cases_lt}
 use Rattle.std.proofs.lemmas.List.{take-append-drop}
 use Rattle.bus_bits.specs.Capture.{CaptureOf, CaptureFault, place_limit, capped, GrowsTo}
-use Rattle.bus_capture.specs.Internal.Taps.{TapView, TapLaws}
+use Rattle.bus_capture.specs.Internal.Kinds.{KindView, KindLaws}
 use Rattle.bus_capture.specs.Internal.Watching.{IsSound, Watches, Halts, within}
 use Rattle.bus_capture.specs.Internal.Sessions.{Faulty, StopsAt}
 use Rattle.bus_capture.specs.Captures.{IsSameFault}
@@ -40,9 +40,9 @@ front-grown f law places origin xs os k =
     (append_assoc xs (take k os) (drop k os) ∙ ap (λ (ys : List ℕ). xs ++ ys) (take-append-drop k os))
     (law (xs ++ take k os) (drop k os)))
 
-module _ {A X B : Type 0} (t : TapView A X B) where
+module _ {A X B : Type 0} (t : KindView A X B) where
   -- the symbols that were followed have a place
-  pub followed-fits : TapLaws t → (start now : Option (List ℕ)) (w : CaptureRun A) (b : List X)
+  pub followed-fits : KindLaws t → (start now : Option (List ℕ)) (w : CaptureRun A) (b : List X)
       → IsSound t w → Watches t start now w b → t.watch.origin w.analyser + length b ≤ 2 ^ 60
   followed-fits law start now w b sound followed =
       omega (arith, law.placed w.analyser b followed.is_after, sound.places)
@@ -65,7 +65,7 @@ module _ {A X B : Type 0} (t : TapView A X B) where
   halts-stops start now w c _ low stopped = absurd stopped
 
   -- a capture with a fault, all of whose symbols were followed
-  pub fault-in : TapLaws t → (start now : Option (List ℕ)) (w : CaptureRun A) (c : CaptureOf X) (b : List X)
+  pub fault-in : KindLaws t → (start now : Option (List ℕ)) (w : CaptureRun A) (c : CaptureOf X) (b : List X)
       (cause : CaptureFault) (f : ToolFault)
       → IsSound t w → IsSameFault f cause → c.bits ≡ b → c.fault ≡ Some cause → Watches t start now w b
       → Faulty t start now w (capped (t.watch.origin w.analyser) c) f

@@ -3,7 +3,7 @@ use Rattle.std.proofs.Common.{◌≡◌, ℕ, true, false, nat_lt, if◌then◌e
 use Rattle.std.proofs.Common.{Some, None, Result, Ok, Err, MatchResult, refl, sym, ap, ◌∙◌, append_assoc}
 use Rattle.bus_bits.specs.Capture.{CaptureOf, CaptureFault, short_head}
 use Rattle.bus_bits.specs.Packed.{capture_by, filled, head_bits, headed, packed_fault_of, whole_by}
-use Rattle.bus_bits.specs.declared.capture.packed_bits.PackedFault.{PackedFault}
+use Rattle.bus_bits.specs.declared.format.packed_bits.PackedFault.{PackedFault}
 use Rattle.bus_capture.specs.Internal.Headed.{IsHeaded}
 
 -- the end of the input adds no symbol

@@ -12,7 +12,7 @@ use Rattle.bus_text.specs.Given.{printer_of}
 use Rattle.bus_text.specs.Listing.{listing}
 use Rattle.bus_text.specs.Put.{Cuts}
 use Rattle.bus_capture.specs.Begins.{Begins}
-use Rattle.bus_capture.specs.Internal.Taps.{FormLaws}
+use Rattle.bus_capture.specs.Internal.Kinds.{FormLaws}
 use Rattle.bus_capture.specs.Lists.{so_far, in_all, listing_of, ending_of, whole_listing, ListsSoFar, ListsToFault}
 use Rattle.bus_capture.specs.Lists.{ListsCut, ListsBy}
 use Rattle.bus_capture.specs.Known.{text_with, listing_in_all, IsItsFault, ListsIt, ListsKnownBy, ChecksIt, CutsIt}

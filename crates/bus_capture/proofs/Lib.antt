@@ -4,7 +4,7 @@ pub mod OneLineLemmas
 pub mod PutLemmas
 pub mod TwoLinesLemmas
 pub mod WatchingLemmas
-pub mod TellingLemmas
+pub mod ReportingLemmas
 pub mod ToldLemmas
 pub mod CapturesLemmas
 pub mod SessionsTextLemmas

@@ -5,10 +5,10 @@ use Rattle.std.specs.Io.KnownBytes.{Appends}
 use Rattle.bus_bits.specs.Capture.{CaptureOf}
 use Rattle.bus_dictionary.specs.Entry.{FrameType}
 use Rattle.bus_dictionary.specs.Dictionary.{longest_of}
-use Rattle.bus_talk.specs.Seen.{SeenReport, seen}
-use Rattle.bus_talk.specs.Talk.{pending}
+use Rattle.bus_pairing.specs.Seen.{SeenReport, seen}
+use Rattle.bus_pairing.specs.Talk.{pending}
 use Rattle.bus_watch.specs.Watch.{seen_by}
-use Rattle.bus_capture.specs.Captures.{Form, capture, whole_capture, reports_heard, reports_seen, HasFault}
+use Rattle.bus_capture.specs.Captures.{Form, capture, whole_capture, reports_of_form, reports_seen, HasFault}
 use Rattle.bus_text.specs.Given.{printer_of}
 use Rattle.bus_text.specs.Listing.{listing, ending_text}
 use Rattle.bus_text.specs.Summary.{summary_of}
@@ -17,8 +17,8 @@ use Rattle.bus_text.specs.Pages.{Pages}
 use Rattle.bus_capture.specs.Internal.Closes.{IsNoWrite, Closes}
 use Rattle.bus_capture.specs.Begins.{Begins, Refuses}
 use Rattle.bus_capture.specs.Internal.Asked.{IsMade}
-use Rattle.bus_capture.specs.Internal.Taps.{TapView, TapLaws}
-use Rattle.bus_capture.specs.Internal.Watching.{IsSame, IsCutOff, IsCutIn, heard_by, lines, last_lines, printed, ended}
+use Rattle.bus_capture.specs.Internal.Kinds.{KindView, KindLaws}
+use Rattle.bus_capture.specs.Internal.Watching.{IsSame, IsCutOff, IsCutIn, reports_by, lines, last_lines, printed, ended}
 use Rattle.bus_capture.specs.Internal.Reading.{IsClean, IsWhole, IsFaulty, Finishes}
 use Rattle.bus_capture.specs.Lists.{so_far, in_all, listing_of, ending_of, whole_listing, ListsSoFar, ListsToFault}
 use Rattle.bus_capture.specs.Lists.{ListsBy}
@@ -27,43 +27,43 @@ use Rattle.bus_text.specs.declared.options.Options.{Options}
 use Rattle.bus_text.specs.declared.summary.Summary.{Summary}
 use Rattle.bus_text.specs.declared.fault.ToolFault.{ToolFault}
 use Rattle.bus_text.specs.declared.fault.ToolFault.TheVariants as fault
-use Rattle.bus_capture.specs.Internal.TellingLaws.{printed-append}
+use Rattle.bus_capture.specs.Internal.ReportingLaws.{printed-append}
 use Rattle.bus_text.proofs.PagesLemmas.{cuts-more}
 
 -- what is seen of more bits goes on
-seen-on : {A X B : Type 0} (tap : TapView A X B) → TapLaws tap → (d : List FrameType) (origin : ℕ) (b more : List X)
+seen-on : {A X B : Type 0} (kind : KindView A X B) → KindLaws kind → (d : List FrameType) (origin : ℕ) (b more : List X)
     → (rest : List SeenReport)
-    × (seen d (tap.watch.hears origin (longest_of d) (b ++ more)) ≡ seen d (tap.watch.hears origin (longest_of d) b)
+    × (seen d (kind.watch.reports origin (longest_of d) (b ++ more)) ≡ seen d (kind.watch.reports origin (longest_of d) b)
     ++ rest)
-seen-on {X = X} tap law d origin b more =
+seen-on {X = X} kind law d origin b more =
     let on = law.form.seen d (longest_of d) origin b more in
-    let here = λ (xs : List X). ap (λ hears. seen d (hears origin (longest_of d) xs)) law.hears in
+    let here = λ (xs : List X). ap (λ reports. seen d (reports origin (longest_of d) xs)) law.reports in
     (on.rest, here (b ++ more) ∙ on.is ∙ ap (λ z. z ++ on.rest) (sym (here b)))
 
 -- a cut in the lines of a front is one in the lines of all
-pub cut-all : {A X B : Type 0} (tap : TapView A X B) → TapLaws tap →
-    (start now : Option (List ℕ)) (w : CaptureRun A) (b : List X) (sent : ℕ) → IsCutOff tap start now w b sent →
-    Cuts start now (lines tap w b) sent
-cut-all tap law start now w b sent cut =
-    let d = tap.watch.dictionary w.analyser in
-    let on = seen-on tap law d (tap.watch.origin w.analyser) cut.front cut.more in
-    let more : lines tap w b ≡ lines tap w cut.front ++ printed w.teller.printer d on.0 =
-    ap (lines tap w) cut.all ∙ ap (printed w.teller.printer d) on.1
-    ∙ printed-append w.teller.printer d (seen_by tap.watch w.analyser cut.front) on.0 in
+pub cut-all : {A X B : Type 0} (kind : KindView A X B) → KindLaws kind →
+    (start now : Option (List ℕ)) (w : CaptureRun A) (b : List X) (sent : ℕ) → IsCutOff kind start now w b sent →
+    Cuts start now (lines kind w b) sent
+cut-all kind law start now w b sent cut =
+    let d = kind.watch.dictionary w.analyser in
+    let on = seen-on kind law d (kind.watch.origin w.analyser) cut.front cut.more in
+    let more : lines kind w b ≡ lines kind w cut.front ++ printed w.reporter.printer d on.0 =
+    ap (lines kind w) cut.all ∙ ap (printed w.reporter.printer d) on.1
+    ∙ printed-append w.reporter.printer d (seen_by kind.watch w.analyser cut.front) on.0 in
     subst (λ (t : List ℕ). Cuts start now t sent) (sym more)
-    (cuts-more start now (lines tap w cut.front) (printed w.teller.printer d on.0) sent cut.cut)
+    (cuts-more start now (lines kind w cut.front) (printed w.reporter.printer d on.0) sent cut.cut)
 
 -- what was asked of a listing, and is kept
-pub record IsListed {A X B : Type 0} (tap : TapView A X B) (o : Options) (d : List FrameType) (w : CaptureRun A) :
+pub record IsListed {A X B : Type 0} (kind : KindView A X B) (o : Options) (d : List FrameType) (w : CaptureRun A) :
     Type 0 where
-  pub printer : w.teller.printer ≡ Some (printer_of o)
-  pub dictionary : tap.watch.dictionary w.analyser ≡ d
-  pub origin : tap.watch.origin w.analyser ≡ o.origin
+  pub printer : w.reporter.printer ≡ Some (printer_of o)
+  pub dictionary : kind.watch.dictionary w.analyser ≡ d
+  pub origin : kind.watch.origin w.analyser ≡ o.origin
 
-pub listed : {A X B : Type 0} (tap : TapView A X B) (o : Options) (d : List FrameType) (w v : CaptureRun A) →
-    w.teller.printer ≡ Some (printer_of o) → IsMade tap.watch d o.depth o.origin w.analyser → IsSame tap w v →
-    IsListed tap o d v
-listed tap o d w v printer made same =
+pub listed : {A X B : Type 0} (kind : KindView A X B) (o : Options) (d : List FrameType) (w v : CaptureRun A) →
+    w.reporter.printer ≡ Some (printer_of o) → IsMade kind.watch d o.depth o.origin w.analyser → IsSame kind w v →
+    IsListed kind o d v
+listed kind o d w v printer made same =
     record {
       printer = same.printer ∙ printer;
       dictionary = same.dictionary ∙ made.dictionary;
@@ -71,52 +71,52 @@ listed tap o d w v printer made same =
     }
 
 -- the reports, as the options tell of them
-pub heard-is : {A X B : Type 0} (tap : TapView A X B) → TapLaws tap →
-    (o : Options) (d : List FrameType) (a : A) (b : List X) → tap.watch.dictionary a ≡ d →
-    tap.watch.origin a ≡ o.origin →
-    heard_by tap.watch a b ≡ reports_heard tap.form o.origin d b
-heard-is tap law o d a b dictionary origin =
-    ap (λ hears. hears (tap.watch.origin a) (longest_of (tap.watch.dictionary a)) b) law.hears
-    ∙ ap (λ (n : ℕ). tap.form.hears n (longest_of (tap.watch.dictionary a)) b) origin
-    ∙ ap (λ (x : List FrameType). tap.form.hears o.origin (longest_of x) b) dictionary
+pub reports-is : {A X B : Type 0} (kind : KindView A X B) → KindLaws kind →
+    (o : Options) (d : List FrameType) (a : A) (b : List X) → kind.watch.dictionary a ≡ d →
+    kind.watch.origin a ≡ o.origin →
+    reports_by kind.watch a b ≡ reports_of_form kind.form o.origin d b
+reports-is kind law o d a b dictionary origin =
+    ap (λ reports. reports (kind.watch.origin a) (longest_of (kind.watch.dictionary a)) b) law.reports
+    ∙ ap (λ (n : ℕ). kind.form.reports n (longest_of (kind.watch.dictionary a)) b) origin
+    ∙ ap (λ (x : List FrameType). kind.form.reports o.origin (longest_of x) b) dictionary
 
 -- and what is seen of them
-pub seen-is : {A X B : Type 0} (tap : TapView A X B) → TapLaws tap →
-    (o : Options) (d : List FrameType) (a : A) (b : List X) → tap.watch.dictionary a ≡ d →
-    tap.watch.origin a ≡ o.origin →
-    seen_by tap.watch a b ≡ reports_seen tap.form o.origin d b
-seen-is tap law o d a b dictionary origin =
-    ap (seen (tap.watch.dictionary a)) (heard-is tap law o d a b dictionary origin)
-    ∙ ap (λ (x : List FrameType). seen x (reports_heard tap.form o.origin d b)) dictionary
+pub seen-is : {A X B : Type 0} (kind : KindView A X B) → KindLaws kind →
+    (o : Options) (d : List FrameType) (a : A) (b : List X) → kind.watch.dictionary a ≡ d →
+    kind.watch.origin a ≡ o.origin →
+    seen_by kind.watch a b ≡ reports_seen kind.form o.origin d b
+seen-is kind law o d a b dictionary origin =
+    ap (seen (kind.watch.dictionary a)) (reports-is kind law o d a b dictionary origin)
+    ∙ ap (λ (x : List FrameType). seen x (reports_of_form kind.form o.origin d b)) dictionary
 
-pub lines-are : {A X B : Type 0} (tap : TapView A X B) → TapLaws tap →
-    (o : Options) (d : List FrameType) (w : CaptureRun A) (b : List X) → IsListed tap o d w →
-    lines tap w b ≡ listing_of tap.form o d b
-lines-are tap law o d w b asked =
-    ap (λ p. printed p (tap.watch.dictionary w.analyser) (seen_by tap.watch w.analyser b)) asked.printer
-    ∙ ap (λ (x : List FrameType). listing (printer_of o) x (seen_by tap.watch w.analyser b)) asked.dictionary
-    ∙ ap (listing (printer_of o) d) (seen-is tap law o d w.analyser b asked.dictionary asked.origin)
+pub lines-are : {A X B : Type 0} (kind : KindView A X B) → KindLaws kind →
+    (o : Options) (d : List FrameType) (w : CaptureRun A) (b : List X) → IsListed kind o d w →
+    lines kind w b ≡ listing_of kind.form o d b
+lines-are kind law o d w b asked =
+    ap (λ p. printed p (kind.watch.dictionary w.analyser) (seen_by kind.watch w.analyser b)) asked.printer
+    ∙ ap (λ (x : List FrameType). listing (printer_of o) x (seen_by kind.watch w.analyser b)) asked.dictionary
+    ∙ ap (listing (printer_of o) d) (seen-is kind law o d w.analyser b asked.dictionary asked.origin)
 
-pub last-are : {A X B : Type 0} (tap : TapView A X B) → TapLaws tap →
-    (o : Options) (d : List FrameType) (w : CaptureRun A) (b : List X) → IsListed tap o d w →
-    last_lines tap w b ≡ ending_of tap.form o d b
-last-are tap law o d w b asked =
+pub last-are : {A X B : Type 0} (kind : KindView A X B) → KindLaws kind →
+    (o : Options) (d : List FrameType) (w : CaptureRun A) (b : List X) → IsListed kind o d w →
+    last_lines kind w b ≡ ending_of kind.form o d b
+last-are kind law o d w b asked =
     ap (λ p.
-    ended p (tap.form.ending (tap.watch.origin w.analyser) b
-    (pending (tap.watch.dictionary w.analyser) (heard_by tap.watch w.analyser b)))) asked.printer
+    ended p (kind.form.ending (kind.watch.origin w.analyser) b
+    (pending (kind.watch.dictionary w.analyser) (reports_by kind.watch w.analyser b)))) asked.printer
     ∙ ap (λ (n : ℕ). ending_text (printer_of o)
-    (tap.form.ending n b (pending (tap.watch.dictionary w.analyser) (heard_by tap.watch w.analyser b)))) asked.origin
+    (kind.form.ending n b (pending (kind.watch.dictionary w.analyser) (reports_by kind.watch w.analyser b)))) asked.origin
     ∙ ap (λ (x : List FrameType). ending_text (printer_of o)
-    (tap.form.ending o.origin b (pending x (heard_by tap.watch w.analyser b)))) asked.dictionary
-    ∙ ap (λ hs. ending_text (printer_of o) (tap.form.ending o.origin b (pending d hs)))
-    (heard-is tap law o d w.analyser b asked.dictionary asked.origin)
+    (kind.form.ending o.origin b (pending x (reports_by kind.watch w.analyser b)))) asked.dictionary
+    ∙ ap (λ hs. ending_text (printer_of o) (kind.form.ending o.origin b (pending d hs)))
+    (reports-is kind law o d w.analyser b asked.dictionary asked.origin)
 
-pub counts-are : {A X B : Type 0} (tap : TapView A X B) → TapLaws tap →
-    (o : Options) (d : List FrameType) (w : CaptureRun A) (b : List X) → tap.watch.dictionary w.analyser ≡ d →
-    tap.watch.origin w.analyser ≡ o.origin → w.teller.summary ≡ summary_of (seen_by tap.watch w.analyser b) →
-    w.teller.summary ≡ summary_of (reports_seen tap.form o.origin d b)
-counts-are tap law o d w b dictionary origin counts =
-    counts ∙ ap summary_of (seen-is tap law o d w.analyser b dictionary origin)
+pub counts-are : {A X B : Type 0} (kind : KindView A X B) → KindLaws kind →
+    (o : Options) (d : List FrameType) (w : CaptureRun A) (b : List X) → kind.watch.dictionary w.analyser ≡ d →
+    kind.watch.origin w.analyser ≡ o.origin → w.reporter.summary ≡ summary_of (seen_by kind.watch w.analyser b) →
+    w.reporter.summary ≡ summary_of (reports_seen kind.form o.origin d b)
+counts-are kind law o d w b dictionary origin counts =
+    counts ∙ ap summary_of (seen-is kind law o d w.analyser b dictionary origin)
 
 -- the options can't be met
 pub does-nothing : {X : Type 0} (f : Form X) (o : Options) (after start now : Option (List ℕ)) (fault : ToolFault) →
@@ -139,49 +139,49 @@ in-all-is f o text n xs same-text same-origin = ap (λ (b : Bool). whole_capture
     ∙ ap (λ (k : ℕ). whole_capture f o.text k xs) same-origin
 
 -- the lines of the bits so far are their listing
-lines-so-far : {A X B : Type 0} (tap : TapView A X B) → TapLaws tap →
+lines-so-far : {A X B : Type 0} (kind : KindView A X B) → KindLaws kind →
     (o : Options) (d : List FrameType) (text : Bool) (w : CaptureRun A) (xs : List ℕ) → text ≡ o.text →
-    IsListed tap o d w
-    → lines tap w (capture tap.form text (tap.watch.origin w.analyser) xs).bits
-    ≡ listing_of tap.form o d (so_far tap.form o xs).bits
-lines-so-far {X = X} tap law o d text w xs same-text asked =
-    ap (λ (c : CaptureOf X). lines tap w c.bits)
-    (so-far-is tap.form o text (tap.watch.origin w.analyser) xs same-text asked.origin)
-    ∙ lines-are tap law o d w (so_far tap.form o xs).bits asked
+    IsListed kind o d w
+    → lines kind w (capture kind.form text (kind.watch.origin w.analyser) xs).bits
+    ≡ listing_of kind.form o d (so_far kind.form o xs).bits
+lines-so-far {X = X} kind law o d text w xs same-text asked =
+    ap (λ (c : CaptureOf X). lines kind w c.bits)
+    (so-far-is kind.form o text (kind.watch.origin w.analyser) xs same-text asked.origin)
+    ∙ lines-are kind law o d w (so_far kind.form o xs).bits asked
 
 -- the end of a clean capture
-pub ends-lists : {A X B : Type 0} (tap : TapView A X B) (o : Options) (d : List FrameType) (text : Bool)
+pub ends-lists : {A X B : Type 0} (kind : KindView A X B) (o : Options) (d : List FrameType) (text : Bool)
     (after start now later : Option (List ℕ)) (w : CaptureRun A) (xs : List ℕ) (r : Result Summary ToolFault)
-    → TapLaws tap → Begins o d → IsListed tap o d w → text ≡ o.text → IsWhole tap text after start now w xs
+    → KindLaws kind → Begins o d → IsListed kind o d w → text ≡ o.text → IsWhole kind text after start now w xs
     → MatchResult r
-    (λ s. Appends start later (lines tap w (whole_capture tap.form text (tap.watch.origin w.analyser) xs).bits
-    ++ last_lines tap w (whole_capture tap.form text (tap.watch.origin w.analyser) xs).bits) × (s ≡ w.teller.summary))
-    (λ f. IsCutIn start later (lines tap w (whole_capture tap.form text (tap.watch.origin w.analyser) xs).bits
-    ++ last_lines tap w (whole_capture tap.form text (tap.watch.origin w.analyser) xs).bits) f)
-    → ListsBy tap.form o after start later xs r
-ends-lists {A} {X} tap o d text after start now later w xs r law begins asked same-text whole ends = cases r ends
+    (λ s. Appends start later (lines kind w (whole_capture kind.form text (kind.watch.origin w.analyser) xs).bits
+    ++ last_lines kind w (whole_capture kind.form text (kind.watch.origin w.analyser) xs).bits) × (s ≡ w.reporter.summary))
+    (λ f. IsCutIn start later (lines kind w (whole_capture kind.form text (kind.watch.origin w.analyser) xs).bits
+    ++ last_lines kind w (whole_capture kind.form text (kind.watch.origin w.analyser) xs).bits) f)
+    → ListsBy kind.form o after start later xs r
+ends-lists {A} {X} kind o d text after start now later w xs r law begins asked same-text whole ends = cases r ends
   where
     all : CaptureOf X
-    all = whole_capture tap.form text (tap.watch.origin w.analyser) xs
+    all = whole_capture kind.form text (kind.watch.origin w.analyser) xs
 
-    is : all ≡ in_all tap.form o xs
-    is = in-all-is tap.form o text (tap.watch.origin w.analyser) xs same-text asked.origin
+    is : all ≡ in_all kind.form o xs
+    is = in-all-is kind.form o text (kind.watch.origin w.analyser) xs same-text asked.origin
 
-    clean : (in_all tap.form o xs).fault ≡ None
+    clean : (in_all kind.form o xs).fault ≡ None
     clean = sym (ap (λ (c : CaptureOf X). c.fault) is) ∙ whole.clean
 
-    texts : lines tap w all.bits ++ last_lines tap w all.bits ≡ whole_listing tap.form o d (in_all tap.form o xs).bits
+    texts : lines kind w all.bits ++ last_lines kind w all.bits ≡ whole_listing kind.form o d (in_all kind.form o xs).bits
     texts =
-        ap (λ (c : CaptureOf X). lines tap w c.bits ++ last_lines tap w c.bits) is
-        ∙ ap (λ (t : List ℕ). t ++ last_lines tap w (in_all tap.form o xs).bits)
-        (lines-are tap law o d w (in_all tap.form o xs).bits asked)
-        ∙ ap (λ (t : List ℕ). listing_of tap.form o d (in_all tap.form o xs).bits ++ t)
-        (last-are tap law o d w (in_all tap.form o xs).bits asked)
+        ap (λ (c : CaptureOf X). lines kind w c.bits ++ last_lines kind w c.bits) is
+        ∙ ap (λ (t : List ℕ). t ++ last_lines kind w (in_all kind.form o xs).bits)
+        (lines-are kind law o d w (in_all kind.form o xs).bits asked)
+        ∙ ap (λ (t : List ℕ). listing_of kind.form o d (in_all kind.form o xs).bits ++ t)
+        (last-are kind law o d w (in_all kind.form o xs).bits asked)
 
     cases : (r : Result Summary ToolFault)
-        → MatchResult r (λ s. Appends start later (lines tap w all.bits ++ last_lines tap w all.bits)
-        × (s ≡ w.teller.summary)) (λ f. IsCutIn start later (lines tap w all.bits ++ last_lines tap w all.bits) f)
-        → ListsBy tap.form o after start later xs r
+        → MatchResult r (λ s. Appends start later (lines kind w all.bits ++ last_lines kind w all.bits)
+        × (s ≡ w.reporter.summary)) (λ f. IsCutIn start later (lines kind w all.bits ++ last_lines kind w all.bits) f)
+        → ListsBy kind.form o after start later xs r
     cases (Ok s) ended = (
       d,
       begins,
@@ -189,15 +189,15 @@ ends-lists {A} {X} tap o d text after start now later w xs r law begins asked sa
         at = whole.at;
         clean = clean;
         out = subst (Appends start later) texts ended.0;
-        counts = ended.1 ∙ counts-are tap law o d w all.bits asked.dictionary asked.origin whole.bits.counts
-            ∙ ap (λ (c : CaptureOf X). summary_of (reports_seen tap.form o.origin d c.bits)) is;
+        counts = ended.1 ∙ counts-are kind law o d w all.bits asked.dictionary asked.origin whole.bits.counts
+            ∙ ap (λ (c : CaptureOf X). summary_of (reports_seen kind.form o.origin d c.bits)) is;
       },
     )
     cases (Err (fault.Write sent)) ended = (
       d,
       begins,
       record {
-        text = whole_listing tap.form o d (in_all tap.form o xs).bits;
+        text = whole_listing kind.form o d (in_all kind.form o xs).bits;
         said = inr (whole.at, clean, refl);
         cut = subst (λ (t : List ℕ). Cuts start later t sent) texts ended;
       },
@@ -227,69 +227,69 @@ closed-lists form o d after start later xs f answer text begins is go (inr close
     (subst (λ (t : List ℕ). Cuts start later t closed.0) is closed.2))
 
 -- a fault that ended the reading
-pub stops-lists : {A X B : Type 0} (tap : TapView A X B) (o : Options) (d : List FrameType) (text : Bool)
+pub stops-lists : {A X B : Type 0} (kind : KindView A X B) (o : Options) (d : List FrameType) (text : Bool)
     (after start now later : Option (List ℕ)) (w : CaptureRun A) (xs : List ℕ) (f answer : ToolFault)
-    → TapLaws tap → Begins o d → IsListed tap o d w → text ≡ o.text →
-    Finishes tap text o.reads after start now w xs (Err f)
+    → KindLaws kind → Begins o d → IsListed kind o d w → text ≡ o.text →
+    Finishes kind text o.reads after start now w xs (Err f)
     → ((sent : ℕ) → f ≡ fault.Write sent → (answer ≡ fault.Write sent) × (later ≡ now))
     → (IsNoWrite f → (start : Option (List ℕ)) (t : List ℕ) →
-    Pages start now w.teller.page.text w.teller.page.written t → Closes start later t f answer)
-    → ListsBy tap.form o after start later xs (Err answer)
-stops-lists {A} {X} tap o d text after start now later w xs f answer law begins asked same-text = cases f
+    Pages start now w.reporter.page.text w.reporter.page.written t → Closes start later t f answer)
+    → ListsBy kind.form o after start later xs (Err answer)
+stops-lists {A} {X} kind o d text after start now later w xs f answer law begins asked same-text = cases f
   where
     bits : List X
-    bits = (capture tap.form text (tap.watch.origin w.analyser) xs).bits
+    bits = (capture kind.form text (kind.watch.origin w.analyser) xs).bits
 
-    is : lines tap w bits ≡ listing_of tap.form o d (so_far tap.form o xs).bits
-    is = lines-so-far tap law o d text w xs same-text asked
+    is : lines kind w bits ≡ listing_of kind.form o d (so_far kind.form o xs).bits
+    is = lines-so-far kind law o d text w xs same-text asked
 
-    clean-is : IsClean tap text start now w xs →
-        Appends start later (listing_of tap.form o d (so_far tap.form o xs).bits) →
-        ListsSoFar tap.form o d start later xs
+    clean-is : IsClean kind text start now w xs →
+        Appends start later (listing_of kind.form o d (so_far kind.form o xs).bits) →
+        ListsSoFar kind.form o d start later xs
     clean-is ended out =
         record {
           clean =
               sym (ap (λ (c : CaptureOf X). c.fault)
-              (so-far-is tap.form o text (tap.watch.origin w.analyser) xs same-text asked.origin))
+              (so-far-is kind.form o text (kind.watch.origin w.analyser) xs same-text asked.origin))
               ∙ ended.clean;
           out = out;
         }
 
-    faulty-is : (x : ToolFault) → IsFaulty tap text after start now w xs x →
-        Appends start later (listing_of tap.form o d (so_far tap.form o xs).bits) →
-        ListsToFault tap.form o d after start later xs x
+    faulty-is : (x : ToolFault) → IsFaulty kind text after start now w xs x →
+        Appends start later (listing_of kind.form o d (so_far kind.form o xs).bits) →
+        ListsToFault kind.form o d after start later xs x
     faulty-is x ended out = record {
       cause = ended.cause;
       answered = ended.answered;
-      found = subst (λ (n : ℕ). HasFault tap.form o.text n after xs ended.cause) asked.origin
-          (subst (λ (b : Bool). HasFault tap.form b (tap.watch.origin w.analyser) after xs ended.cause) same-text
+      found = subst (λ (n : ℕ). HasFault kind.form o.text n after xs ended.cause) asked.origin
+          (subst (λ (b : Bool). HasFault kind.form b (kind.watch.origin w.analyser) after xs ended.cause) same-text
           ended.found);
       out = out;
     }
 
-    cases : (f : ToolFault) → Finishes tap text o.reads after start now w xs (Err f)
+    cases : (f : ToolFault) → Finishes kind text o.reads after start now w xs (Err f)
         → ((sent : ℕ) → f ≡ fault.Write sent → (answer ≡ fault.Write sent) × (later ≡ now))
         → (IsNoWrite f → (start : Option (List ℕ)) (t : List ℕ) →
-        Pages start now w.teller.page.text w.teller.page.written t → Closes start later t f answer)
-        → ListsBy tap.form o after start later xs (Err answer)
+        Pages start now w.reporter.page.text w.reporter.page.written t → Closes start later t f answer)
+        → ListsBy kind.form o after start later xs (Err answer)
     cases fault.Read ended cut close =
-        closed-lists tap.form o d after start later xs fault.Read answer (lines tap w bits) begins is
-        (λ out. (d, begins, clean-is ended out)) (close (λ sent same. cc) start (lines tap w bits) ended.bits.page)
+        closed-lists kind.form o d after start later xs fault.Read answer (lines kind w bits) begins is
+        (λ out. (d, begins, clean-is ended out)) (close (λ sent same. cc) start (lines kind w bits) ended.bits.page)
     cases fault.ReadsLimit ended cut close =
-        closed-lists tap.form o d after start later xs fault.ReadsLimit answer (lines tap w bits) begins is
+        closed-lists kind.form o d after start later xs fault.ReadsLimit answer (lines kind w bits) begins is
         (λ out. (d, begins, ended.0, clean-is ended.1 out))
-        (close (λ sent same. cc) start (lines tap w bits) ended.1.bits.page)
+        (close (λ sent same. cc) start (lines kind w bits) ended.1.bits.page)
     cases (fault.Write sent) ended cut close =
         let answers = cut sent refl in
-        subst (λ (x : ToolFault). ListsBy tap.form o after start later xs (Err x)) (sym answers.0)
-        (cut-lists tap.form o d after start later xs sent begins
+        subst (λ (x : ToolFault). ListsBy kind.form o after start later xs (Err x)) (sym answers.0)
+        (cut-lists kind.form o d after start later xs sent begins
         (subst (λ (t : List ℕ). Cuts start later t sent) is
-        (subst (λ x. Cuts start x (lines tap w bits) sent) (sym answers.1)
-        (cut-all tap law start now w bits sent ended))))
+        (subst (λ x. Cuts start x (lines kind w bits) sent) (sym answers.1)
+        (cut-all kind law start now w bits sent ended))))
     cases (fault.Dictionary x) ended cut close = absurd ended.answered
     cases fault.Depth ended cut close = absurd ended.answered
     cases fault.Origin ended cut close = absurd ended.answered
     cases fault.Memory ended cut close = absurd ended.answered
     cases x ended cut close =
-        closed-lists tap.form o d after start later xs x answer (lines tap w bits) begins is
-        (λ out. (d, begins, faulty-is x ended out)) (close (λ sent same. cc) start (lines tap w bits) ended.bits.page)
+        closed-lists kind.form o d after start later xs x answer (lines kind w bits) begins is
+        (λ out. (d, begins, faulty-is x ended out)) (close (λ sent same. cc) start (lines kind w bits) ended.bits.page)

@@ -6,10 +6,10 @@ use Rattle.bus_dictionary.specs.Entry.{FrameType}
 use Rattle.bus_text.specs.declared.printer.Printer.{Printer}
 use Rattle.bus_bits.specs.Capture.{CaptureOf, CaptureFault, capped}
 use Rattle.bus_dictionary.specs.Dictionary.{longest_of}
-use Rattle.bus_talk.specs.Seen.{seen}
+use Rattle.bus_pairing.specs.Seen.{seen}
 use Rattle.bus_watch.specs.Watch.{seen_by}
 use Rattle.bus_capture.specs.Captures.{unplaced, unplaced_whole, IsSameFault}
-use Rattle.bus_capture.specs.Internal.Taps.{TapView, TapLaws}
+use Rattle.bus_capture.specs.Internal.Kinds.{KindView, KindLaws}
 use Rattle.bus_text.specs.Summary.{summary_of}
 use Rattle.bus_text.specs.Pages.{Pages}
 use Rattle.bus_text.specs.Put.{Cuts}
@@ -33,144 +33,144 @@ printed-nothing None d = refl
 printed-nothing (Some p) d = listing-nothing p d
 
 -- nothing is seen of nothing
-seen-none : {A X B : Type 0} (tap : TapView A X B) → TapLaws tap → (a : A) → seen_by tap.watch a [] ≡ []
-seen-none tap law a =
-    ap (seen (tap.watch.dictionary a))
-    (ap (λ hears. hears (tap.watch.origin a) (longest_of (tap.watch.dictionary a)) []) law.hears
-    ∙ law.form.silent (tap.watch.origin a) (longest_of (tap.watch.dictionary a)))
+seen-none : {A X B : Type 0} (kind : KindView A X B) → KindLaws kind → (a : A) → seen_by kind.watch a [] ≡ []
+seen-none kind law a =
+    ap (seen (kind.watch.dictionary a))
+    (ap (λ reports. reports (kind.watch.origin a) (longest_of (kind.watch.dictionary a)) []) law.reports
+    ∙ law.form.silent (kind.watch.origin a) (longest_of (kind.watch.dictionary a)))
 
 -- nothing was followed yet
-pub watched-none : {A X B : Type 0} (tap : TapView A X B) → TapLaws tap →
+pub watched-none : {A X B : Type 0} (kind : KindView A X B) → KindLaws kind →
     (start : Option (List ℕ)) (w : CaptureRun A)
-    → tap.watch.is_after w.analyser [] → w.teller.summary ≡ summary_of [] →
-    Pages start start w.teller.page.text w.teller.page.written [] → Watches tap start start w []
-watched-none tap law start w is_after counts page =
-    let d = tap.watch.dictionary w.analyser in
-    let none = seen-none tap law w.analyser in record {
+    → kind.watch.is_after w.analyser [] → w.reporter.summary ≡ summary_of [] →
+    Pages start start w.reporter.page.text w.reporter.page.written [] → Watches kind start start w []
+watched-none kind law start w is_after counts page =
+    let d = kind.watch.dictionary w.analyser in
+    let none = seen-none kind law w.analyser in record {
       is_after = is_after;
       counts = counts ∙ ap summary_of (sym none);
-      page = subst (λ (t : List ℕ). Pages start start w.teller.page.text w.teller.page.written t)
-          (sym (ap (printed w.teller.printer d) none ∙ printed-nothing w.teller.printer d)) page;
+      page = subst (λ (t : List ℕ). Pages start start w.reporter.page.text w.reporter.page.written t)
+          (sym (ap (printed w.reporter.printer d) none ∙ printed-nothing w.reporter.printer d)) page;
     }
 
 -- what is known of a text, of a packed capture
-pub follows-text : {A X B : Type 0} (tap : TapView A X B) (start now : Option (List ℕ)) (s : Source B)
+pub follows-text : {A X B : Type 0} (kind : KindView A X B) (start now : Option (List ℕ)) (s : Source B)
     (text : TextCapture) (w : CaptureRun A) (xs : List ℕ)
-    → s ≡ source.Text text → Follows tap start now s w xs → FollowsText tap start now text w xs
-follows-text tap start now s text w xs is followed = subst (λ x. Follows tap start now x w xs) is followed
+    → s ≡ source.Text text → Follows kind start now s w xs → FollowsText kind start now text w xs
+follows-text kind start now s text w xs is followed = subst (λ x. Follows kind start now x w xs) is followed
 
-pub follows-packed : {A X B : Type 0} (tap : TapView A X B) (start now : Option (List ℕ)) (s : Source B)
+pub follows-packed : {A X B : Type 0} (kind : KindView A X B) (start now : Option (List ℕ)) (s : Source B)
     (p : PackedCapture B) (w : CaptureRun A) (xs : List ℕ)
-    → s ≡ source.Packed p → Follows tap start now s w xs → FollowsPacked tap start now p w xs
-follows-packed tap start now s p w xs is followed = subst (λ x. Follows tap start now x w xs) is followed
+    → s ≡ source.Packed p → Follows kind start now s w xs → FollowsPacked kind start now p w xs
+follows-packed kind start now s p w xs is followed = subst (λ x. Follows kind start now x w xs) is followed
 
-pub text-follows : {A X B : Type 0} (tap : TapView A X B) (start now : Option (List ℕ)) (s : Source B)
+pub text-follows : {A X B : Type 0} (kind : KindView A X B) (start now : Option (List ℕ)) (s : Source B)
     (text later : TextCapture) (w : CaptureRun A) (xs : List ℕ) (r : Result (Unit {0}) ToolFault)
-    → s ≡ source.Text text → MatchResult r (λ _. FollowsText tap start now later w xs)
-    (λ f. Stops tap true start now w xs f)
-    → MatchResult r (λ _. Follows tap start now (source.Text later) w xs) (λ f. Stops tap (is_text s) start now w xs f)
-text-follows tap start now s text later w xs (Ok v) is taken = taken
-text-follows tap start now s text later w xs (Err f) is taken =
-    subst (λ (b : Bool). Stops tap b start now w xs f) (sym (ap is_text is)) taken
+    → s ≡ source.Text text → MatchResult r (λ _. FollowsText kind start now later w xs)
+    (λ f. Stops kind true start now w xs f)
+    → MatchResult r (λ _. Follows kind start now (source.Text later) w xs) (λ f. Stops kind (is_text s) start now w xs f)
+text-follows kind start now s text later w xs (Ok v) is taken = taken
+text-follows kind start now s text later w xs (Err f) is taken =
+    subst (λ (b : Bool). Stops kind b start now w xs f) (sym (ap is_text is)) taken
 
-pub packed-follows : {A X B : Type 0} (tap : TapView A X B) (start now : Option (List ℕ)) (s : Source B)
+pub packed-follows : {A X B : Type 0} (kind : KindView A X B) (start now : Option (List ℕ)) (s : Source B)
     (p q : PackedCapture B) (w : CaptureRun A) (xs : List ℕ) (r : Result (Unit {0}) ToolFault)
-    → s ≡ source.Packed p → MatchResult r (λ _. FollowsPacked tap start now q w xs)
-    (λ f. Stops tap false start now w xs f)
-    → MatchResult r (λ _. Follows tap start now (source.Packed q) w xs) (λ f. Stops tap (is_text s) start now w xs f)
-packed-follows tap start now s p q w xs (Ok v) is taken = taken
-packed-follows tap start now s p q w xs (Err f) is taken =
-    subst (λ (b : Bool). Stops tap b start now w xs f) (sym (ap is_text is)) taken
+    → s ≡ source.Packed p → MatchResult r (λ _. FollowsPacked kind start now q w xs)
+    (λ f. Stops kind false start now w xs f)
+    → MatchResult r (λ _. Follows kind start now (source.Packed q) w xs) (λ f. Stops kind (is_text s) start now w xs f)
+packed-follows kind start now s p q w xs (Ok v) is taken = taken
+packed-follows kind start now s p q w xs (Err f) is taken =
+    subst (λ (b : Bool). Stops kind b start now w xs f) (sym (ap is_text is)) taken
 
-pub read-by : {A X B : Type 0} (tap : TapView A X B) (start now : Option (List ℕ)) (s : Source B) (w : CaptureRun A)
-    (xs : List ℕ) → Follows tap start now s w xs → IsReadBy tap s xs
-read-by tap start now (source.Text text) w xs followed = followed.clean
-read-by tap start now (source.Packed p) w xs followed = followed.read
+pub read-by : {A X B : Type 0} (kind : KindView A X B) (start now : Option (List ℕ)) (s : Source B) (w : CaptureRun A)
+    (xs : List ℕ) → Follows kind start now s w xs → IsReadBy kind s xs
+read-by kind start now (source.Text text) w xs followed = followed.clean
+read-by kind start now (source.Packed p) w xs followed = followed.read
 
-packed-clean : {A X B : Type 0} (tap : TapView A X B) → TapLaws tap →
-    (head : List ℕ) (body : Option B) (xs : List ℕ) → IsRead tap head body xs → (tap.form.packed xs).fault ≡ None
-packed-clean {A} {X} tap law head None xs read = ap (λ (c : CaptureOf X). c.fault) (law.form.short xs read.1).0
-packed-clean tap law head (Some body) xs read = law.clean body xs read
+packed-clean : {A X B : Type 0} (kind : KindView A X B) → KindLaws kind →
+    (head : List ℕ) (body : Option B) (xs : List ℕ) → IsRead kind head body xs → (kind.form.packed xs).fault ≡ None
+packed-clean {A} {X} kind law head None xs read = ap (λ (c : CaptureOf X). c.fault) (law.form.short xs read.1).0
+packed-clean kind law head (Some body) xs read = law.clean body xs read
 
 -- what was read has no fault, and its bits were followed
-pub record IsUnplaced {A X B : Type 0} (tap : TapView A X B) (text : Bool) (start now : Option (List ℕ))
+pub record IsUnplaced {A X B : Type 0} (kind : KindView A X B) (text : Bool) (start now : Option (List ℕ))
     (w : CaptureRun A) (xs : List ℕ) : Type 0 where
-  pub clean : (unplaced tap.form text xs).fault ≡ None
-  pub bits : Watches tap start now w (unplaced tap.form text xs).bits
+  pub clean : (unplaced kind.form text xs).fault ≡ None
+  pub bits : Watches kind start now w (unplaced kind.form text xs).bits
 
-pub follows-unplaced : {A X B : Type 0} (tap : TapView A X B) (start now : Option (List ℕ)) (s : Source B)
+pub follows-unplaced : {A X B : Type 0} (kind : KindView A X B) (start now : Option (List ℕ)) (s : Source B)
     (w : CaptureRun A) (xs : List ℕ)
-    → TapLaws tap → Follows tap start now s w xs → IsUnplaced tap (is_text s) start now w xs
-follows-unplaced tap start now (source.Text text) w xs law followed =
+    → KindLaws kind → Follows kind start now s w xs → IsUnplaced kind (is_text s) start now w xs
+follows-unplaced kind start now (source.Text text) w xs law followed =
     record { clean = followed.clean; bits = followed.bits }
-follows-unplaced tap start now (source.Packed p) w xs law followed =
-    record { clean = packed-clean tap law p.head.items p.body xs followed.read; bits = followed.bits }
+follows-unplaced kind start now (source.Packed p) w xs law followed =
+    record { clean = packed-clean kind law p.head.items p.body xs followed.read; bits = followed.bits }
 
 -- bits that were followed have a place, and so their capture is as it is
-pub all-placed : {A X B : Type 0} (tap : TapView A X B) → TapLaws tap →
-    (start now : Option (List ℕ)) (w : CaptureRun A) (c : CaptureOf X) → IsSound tap w →
-    Watches tap start now w c.bits →
-    capped (tap.watch.origin w.analyser) c ≡ c
-all-placed tap law start now w c sound followed =
-    let fits = followed-fits tap law start now w c.bits sound followed in
-    capped_all (tap.watch.origin w.analyser) c (omega (arith, fits))
+pub all-placed : {A X B : Type 0} (kind : KindView A X B) → KindLaws kind →
+    (start now : Option (List ℕ)) (w : CaptureRun A) (c : CaptureOf X) → IsSound kind w →
+    Watches kind start now w c.bits →
+    capped (kind.watch.origin w.analyser) c ≡ c
+all-placed kind law start now w c sound followed =
+    let fits = followed-fits kind law start now w c.bits sound followed in
+    capped_all (kind.watch.origin w.analyser) c (omega (arith, fits))
 
-pub is-clean : {A X B : Type 0} (tap : TapView A X B) → TapLaws tap →
+pub is-clean : {A X B : Type 0} (kind : KindView A X B) → KindLaws kind →
     (text : Bool) (start now : Option (List ℕ)) (w : CaptureRun A) (xs : List ℕ)
-    → IsSound tap w → IsUnplaced tap text start now w xs → IsClean tap text start now w xs
-is-clean {A} {X} tap law text start now w xs sound followed =
-    let is = all-placed tap law start now w (unplaced tap.form text xs) sound followed.bits in record {
+    → IsSound kind w → IsUnplaced kind text start now w xs → IsClean kind text start now w xs
+is-clean {A} {X} kind law text start now w xs sound followed =
+    let is = all-placed kind law start now w (unplaced kind.form text xs) sound followed.bits in record {
       clean = ap (λ (c : CaptureOf X). c.fault) is ∙ followed.clean;
-      bits = subst (λ (c : CaptureOf X). Watches tap start now w c.bits) (sym is) followed.bits;
+      bits = subst (λ (c : CaptureOf X). Watches kind start now w c.bits) (sym is) followed.bits;
     }
 
 -- a writer was cut off in the lines of all of these
-pub is-cut : {A X B : Type 0} (tap : TapView A X B) (start now : Option (List ℕ)) (w : CaptureRun A) (b : List X)
-    (sent : ℕ) → Cuts start now (lines tap w b) sent → sent < length (lines tap w b) → IsCutOff tap start now w b sent
-is-cut tap start now w b sent cut short =
+pub is-cut : {A X B : Type 0} (kind : KindView A X B) (start now : Option (List ℕ)) (w : CaptureRun A) (b : List X)
+    (sent : ℕ) → Cuts start now (lines kind w b) sent → sent < length (lines kind w b) → IsCutOff kind start now w b sent
+is-cut kind start now w b sent cut short =
     record { front = b; more = []; all = sym (append-nil b); cut = cut; short = short }
 
 -- a fault ends the reading
-pub faulty-finishes : {A X B : Type 0} (tap : TapView A X B) (text : Bool) (reads : ℕ)
+pub faulty-finishes : {A X B : Type 0} (kind : KindView A X B) (text : Bool) (reads : ℕ)
     (after start now : Option (List ℕ)) (w : CaptureRun A) (xs : List ℕ) (f : ToolFault)
-    → IsFaulty tap text after start now w xs f → Finishes tap text reads after start now w xs (Err f)
-faulty-finishes tap text reads after start now w xs fault.Read faulty = absurd faulty.answered
-faulty-finishes tap text reads after start now w xs fault.ReadsLimit faulty = absurd faulty.answered
-faulty-finishes tap text reads after start now w xs (fault.Write sent) faulty = absurd faulty.answered
-faulty-finishes tap text reads after start now w xs f faulty = faulty
+    → IsFaulty kind text after start now w xs f → Finishes kind text reads after start now w xs (Err f)
+faulty-finishes kind text reads after start now w xs fault.Read faulty = absurd faulty.answered
+faulty-finishes kind text reads after start now w xs fault.ReadsLimit faulty = absurd faulty.answered
+faulty-finishes kind text reads after start now w xs (fault.Write sent) faulty = absurd faulty.answered
+faulty-finishes kind text reads after start now w xs f faulty = faulty
 
 -- what stopped the taking of octets ends the reading
-pub stops-finishes : {A X B : Type 0} (tap : TapView A X B) (text : Bool) (reads : ℕ)
+pub stops-finishes : {A X B : Type 0} (kind : KindView A X B) (text : Bool) (reads : ℕ)
     (after start now : Option (List ℕ)) (w : CaptureRun A) (xs : List ℕ) (f : ToolFault)
-    → Stops tap text start now w xs f → Finishes tap text reads after start now w xs (Err f)
-stops-finishes tap text reads after start now w xs (fault.Write sent) stopped = stopped
-stops-finishes tap text reads after start now w xs f stopped =
-    faulty-finishes tap text reads after start now w xs f
+    → Stops kind text start now w xs f → Finishes kind text reads after start now w xs (Err f)
+stops-finishes kind text reads after start now w xs (fault.Write sent) stopped = stopped
+stops-finishes kind text reads after start now w xs f stopped =
+    faulty-finishes kind text reads after start now w xs f
     (record { cause = stopped.cause; answered = stopped.answered; found = inl stopped.found; bits = stopped.bits })
 
 -- the end of the input ends it
-pub end-finishes : {A X B : Type 0} (tap : TapView A X B) → TapLaws tap →
+pub end-finishes : {A X B : Type 0} (kind : KindView A X B) → KindLaws kind →
     (text : Bool) (reads : ℕ) (after start now : Option (List ℕ)) (w : CaptureRun A) (xs : List ℕ)
     (r : Result (Unit {0}) ToolFault)
-    → IsSound tap w → IsAtEnd after → IsUnplaced tap text start now w xs
+    → IsSound kind w → IsAtEnd after → IsUnplaced kind text start now w xs
     → MatchResult r
-    (λ _. unplaced_whole tap.form text xs ≡ record { bits = (unplaced tap.form text xs).bits; fault = None })
+    (λ _. unplaced_whole kind.form text xs ≡ record { bits = (unplaced kind.form text xs).bits; fault = None })
     (λ f. (cause : CaptureFault) × IsSameFault f cause
-    × (unplaced_whole tap.form text xs ≡ record { bits = (unplaced tap.form text xs).bits; fault = Some cause }))
-    → Finishes tap text reads after start now w xs r
-end-finishes {A} {X} tap law text reads after start now w xs (Ok u) sound at read is =
-    let bits = subst (λ (c : CaptureOf X). Watches tap start now w c.bits) (sym is) read.bits in
-    let all = all-placed tap law start now w (unplaced_whole tap.form text xs) sound bits in record {
+    × (unplaced_whole kind.form text xs ≡ record { bits = (unplaced kind.form text xs).bits; fault = Some cause }))
+    → Finishes kind text reads after start now w xs r
+end-finishes {A} {X} kind law text reads after start now w xs (Ok u) sound at read is =
+    let bits = subst (λ (c : CaptureOf X). Watches kind start now w c.bits) (sym is) read.bits in
+    let all = all-placed kind law start now w (unplaced_whole kind.form text xs) sound bits in record {
       at = at;
       clean = ap (λ (c : CaptureOf X). c.fault) (all ∙ is);
-      bits = subst (λ (c : CaptureOf X). Watches tap start now w c.bits) (sym all) bits;
+      bits = subst (λ (c : CaptureOf X). Watches kind start now w c.bits) (sym all) bits;
     }
-end-finishes {A} {X} tap law text reads after start now w xs (Err f) sound at read found =
-    let bits = subst (λ (c : CaptureOf X). Watches tap start now w c.bits) (sym found.2) read.bits in
-    let all = all-placed tap law start now w (unplaced_whole tap.form text xs) sound bits in
-    faulty-finishes tap text reads after start now w xs f (record {
+end-finishes {A} {X} kind law text reads after start now w xs (Err f) sound at read found =
+    let bits = subst (λ (c : CaptureOf X). Watches kind start now w c.bits) (sym found.2) read.bits in
+    let all = all-placed kind law start now w (unplaced_whole kind.form text xs) sound bits in
+    faulty-finishes kind text reads after start now w xs f (record {
       cause = found.0;
       answered = found.1;
       found = inr (at, ap (λ (c : CaptureOf X). c.fault) (all ∙ found.2));
-      bits = (is-clean tap law text start now w xs sound read).bits;
+      bits = (is-clean kind law text start now w xs sound read).bits;
     })

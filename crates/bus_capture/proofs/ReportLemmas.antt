@@ -7,8 +7,8 @@ use Rattle.std.proofs.lemmas.List.{take_more, take-append-drop}
 use Rattle.std.proofs.lemmas.Option.{slice_get_within, slice_get_cases, get_or_from_slice_get}
 use Rattle.arrayvec.specs.ArrayVec.{ArrayVec}
 use Rattle.bus_line.specs.Due.{places}
-use Rattle.bus_talk.specs.History.{KeptFrame}
-use Rattle.bus_talk.specs.declared.counts.Counts.{Counts}
+use Rattle.bus_pairing.specs.History.{KeptFrame}
+use Rattle.bus_pairing.specs.declared.counts.Counts.{Counts}
 use Rattle.bus_text.specs.CheckText.{tally_text, tallies_text, kept_text, history_text}
 use Rattle.bus_text.specs.Put.{Cuts}
 use Rattle.bus_text.specs.Pages.{Pages}

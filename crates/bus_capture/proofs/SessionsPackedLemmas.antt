@@ -4,7 +4,7 @@ use Rattle.std.proofs.Common.{Option, Some, Result, Ok, Err, MatchResult, refl, 
 use Rattle.std.specs.Result.{IsErrAnd}
 use Rattle.std.proofs.lemmas.Grind.{common_steps}
 use Rattle.bus_bits.specs.Capture.{CaptureOf}
-use Rattle.bus_capture.specs.Internal.Taps.{TapView}
+use Rattle.bus_capture.specs.Internal.Kinds.{KindView}
 use Rattle.bus_capture.specs.Internal.Watching.{Watches, Halts}
 use Rattle.bus_capture.specs.Internal.Sessions.{IsRead, FollowsBody, FollowsPacked, Faulty, StopsAt, Stops}
 use Rattle.bus_capture.specs.declared.run.CaptureRun.{CaptureRun}
@@ -19,7 +19,7 @@ first-octet xs [] some = absurd (omega (arith, some))
 first-octet xs (o ∷ os) some = refl
 
 -- no octets were read
-pub none-read : {A X B : Type 0} (t : TapView A X B) (start now : Option (List ℕ)) (run : CaptureRun A) (body : B)
+pub none-read : {A X B : Type 0} (t : KindView A X B) (start now : Option (List ℕ)) (run : CaptureRun A) (body : B)
     (xs os : List ℕ) (n : ℕ) → n ≡ 0 → FollowsBody t start now body run (xs ++ take n os) →
     FollowsBody t start now body run xs
 none-read t start now run body xs os n none followed =
@@ -65,7 +65,7 @@ pub ok-mapped : {T E D : Type 0} (P : T → Type 0) (Q : E → Type 0) (Gives : 
 ok-mapped P Q Gives (Ok x) m y is made matched = let same : x ≡ y = cc in subst P same matched
 ok-mapped P Q Gives (Err e) m y is made matched = absurd (subst (λ k. IsErrAnd k (Gives e)) is made)
 
-module _ {A X B : Type 0} (t : TapView A X B) where
+module _ {A X B : Type 0} (t : KindView A X B) where
   -- a fault of a capture that is answered stops
   pub faulty-stops : (start now : Option (List ℕ)) (w : CaptureRun A) (c : CaptureOf X) (f : ToolFault) →
       Faulty t start now w c f → StopsAt t start now w c f

@@ -2,7 +2,7 @@
 use Rattle.std.proofs.Common.{◌≡◌, ℕ, ◌+◌, ◌<◌, ◌≤◌, ◌^◌, List, ◌++◌, length, take, Option, None, sym, ap, ◌∙◌, subst}
 use Rattle.std.proofs.Common.{arith, append-nil, true, Result, Ok, Err, MatchResult}
 use Rattle.std.proofs.lemmas.Grind.{common_steps}
-use Rattle.bus_capture.specs.Internal.Taps.{TapView}
+use Rattle.bus_capture.specs.Internal.Kinds.{KindView}
 use Rattle.bus_capture.specs.Internal.Watching.{Watches, Halts}
 use Rattle.bus_capture.specs.Internal.Sessions.{FollowsOctets, Stops}
 use Rattle.bus_capture.specs.declared.run.CaptureRun.{CaptureRun}
@@ -13,7 +13,7 @@ use Rattle.bus_capture.proofs.CapturesLemmas.{halts-stops}
 pub octets-before : (xs os : List ℕ) (i : ℕ) → i < length os → length (xs ++ take i os) ≡ length xs + i
 octets-before xs os i inside = grind (arith, common_steps)
 
-module _ {A X B : Type 0} (t : TapView A X B) where
+module _ {A X B : Type 0} (t : KindView A X B) where
   -- where no octets were taken
   pub none-taken : (start now : Option (List ℕ)) (w : CaptureRun A) (xs ys : List ℕ) (n : ℕ)
       → n ≡ 0 → FollowsOctets t start now w (xs ++ take n ys) → FollowsOctets t start now w xs

@@ -7,43 +7,43 @@ use Rattle.bus_text.specs.Put.{Cuts}
 use Rattle.bus_text.specs.declared.fault.ToolFault.{ToolFault}
 use Rattle.bus_text.specs.declared.fault.ToolFault.TheVariants as fault
 use Rattle.bus_text.specs.declared.put.ShortWrite.{ShortWrite}
-use Rattle.bus_capture.specs.Internal.Taps.{TapView, TapLaws}
-use Rattle.bus_capture.specs.Internal.Telling.{IsOut, Tells}
+use Rattle.bus_capture.specs.Internal.Kinds.{KindView, KindLaws}
+use Rattle.bus_capture.specs.Internal.Reporting.{IsOut, ReportsSeen}
 use Rattle.bus_capture.specs.Internal.Watching.{Halts, IsSame, IsSound, Watches, lines, printed}
 use Rattle.bus_capture.specs.declared.run.CaptureRun.{CaptureRun}
-use Rattle.bus_capture.specs.Internal.TellingLaws.{few-within}
+use Rattle.bus_capture.specs.Internal.ReportingLaws.{few-within}
 use Rattle.bus_watch.proofs.PairScanLemmas.{length-zipped, zip-met}
 use Rattle.bus_capture.proofs.WatchingLemmas.{halted, halts-more, lines-more, watched, within-all}
 
-module _ {A X B : Type 0} (t : TapView A X B) (w v : CaptureRun A) (xs : List X) (before after : Option (List ℕ))
+module _ {A X B : Type 0} (t : KindView A X B) (w v : CaptureRun A) (xs : List X) (before after : Option (List ℕ))
     (all : LeadsTold t.watch w.analyser xs v.analyser
-    (λ ss. Tells (t.watch.dictionary w.analyser) (record w.teller { cut = None }) before ss v.teller after)) where
+    (λ ss. ReportsSeen (t.watch.dictionary w.analyser) (record w.reporter { cut = None }) before ss v.reporter after)) where
   pub told-sound : t.watch.place w.analyser + length xs ≤ 2 ^ 60 → IsSound t w → IsSound t v
   told-sound room sound =
       let place = t.watch.place w.analyser in
       record {
         places = omega (arith, all.sees.place, room);
-        counts = few-within (2 * place + length all.seen) (2 * t.watch.place v.analyser) v.teller.summary
+        counts = few-within (2 * place + length all.seen) (2 * t.watch.place v.analyser) v.reporter.summary
             (omega (arith, all.sees.place, all.few)) (all.told.few (2 * place) sound.counts);
         octets = let before = sound.octets in omega (arith, all.sees.place, all.few, all.told.octets, before);
       }
 
   -- the lines that were told
   out : (start : Option (List ℕ)) (b : List X) → Watches t start before w b
-      → IsOut start after v.teller.page v.teller.cut
-      (lines t w b ++ printed w.teller.printer (t.watch.dictionary w.analyser) all.seen)
+      → IsOut start after v.reporter.page v.reporter.cut
+      (lines t w b ++ printed w.reporter.printer (t.watch.dictionary w.analyser) all.seen)
   out start b followed = all.told.out start (lines t w b) followed.page
 
-  pub told-watched : v.teller.cut ≡ None → (start : Option (List ℕ)) (b : List X) → Watches t start before w b →
+  pub told-watched : v.reporter.cut ≡ None → (start : Option (List ℕ)) (b : List X) → Watches t start before w b →
       Watches t start after v (b ++ xs)
   told-watched none start b followed =
       watched t start before after w v b xs all.seen all.told.printer followed all.sees
       (all.told.counted (seen_by t.watch w.analyser b) followed.counts none)
-      (subst (λ cut. IsOut start after v.teller.page cut
-      (lines t w b ++ printed w.teller.printer (t.watch.dictionary w.analyser) all.seen)) none (out start b followed))
+      (subst (λ cut. IsOut start after v.reporter.page cut
+      (lines t w b ++ printed w.reporter.printer (t.watch.dictionary w.analyser) all.seen)) none (out start b followed))
 
   -- the writer was cut off
-  pub told-cut : TapLaws t → (cut : ShortWrite) → v.teller.cut ≡ Some cut →
+  pub told-cut : KindLaws t → (cut : ShortWrite) → v.reporter.cut ≡ Some cut →
       t.watch.place w.analyser + length xs ≤ 2 ^ 60
       → (start : Option (List ℕ)) (b : List X) → Watches t start before w b →
       Halts t start after v (b ++ xs) (fault.Write cut.sent)
@@ -51,8 +51,8 @@ module _ {A X B : Type 0} (t : TapView A X B) (w v : CaptureRun A) (xs : List X)
       let text = lines-more t w v b xs all.seen all.told.printer followed.is_after all.sees in
       let short =
       subst
-      (λ o. IsOut start after v.teller.page o
-      (lines t w b ++ printed w.teller.printer (t.watch.dictionary w.analyser) all.seen)) some (out start b followed) in
+      (λ o. IsOut start after v.reporter.page o
+      (lines t w b ++ printed w.reporter.printer (t.watch.dictionary w.analyser) all.seen)) some (out start b followed) in
       let fits : t.watch.origin v.analyser + length (b ++ xs) ≤ 2 ^ 60 =
       omega (arith, all.sees.origin, law.placed w.analyser b followed.is_after, room, length-append b xs) in
       record {
@@ -75,7 +75,7 @@ pairs-behind b os ys n count within =
     (zip (bits_from os n (count - n)) (bits_from ys n (count - n)))))
 
 -- what stopped in the first of them, stops in all
-pub halts-behind : {A B : Type 0} (t : TapView A (Bool × Bool) B) (start now : Option (List ℕ)) (w : CaptureRun A)
+pub halts-behind : {A B : Type 0} (t : KindView A (Bool × Bool) B) (start now : Option (List ℕ)) (w : CaptureRun A)
     (b : List (Bool × Bool)) (os ys : List ℕ) (n count : ℕ) (f : ToolFault)
     → n ≤ count → Halts t start now w (b ++ zip (bits_from os 0 n) (bits_from ys 0 n)) f →
     Halts t start now w (b ++ zip (bits_from os 0 count) (bits_from ys 0 count)) f
@@ -84,7 +84,7 @@ halts-behind t start now w b os ys n count f within stopped =
     (halts-more t start now w _ _ f stopped)
 
 -- all that have a place were followed, and others have none
-pub limited : {A B : Type 0} (t : TapView A (Bool × Bool) B) → TapLaws t →
+pub limited : {A B : Type 0} (t : KindView A (Bool × Bool) B) → KindLaws t →
     (start now : Option (List ℕ)) (w : CaptureRun A) (b : List (Bool × Bool)) (os ys : List ℕ) (n count : ℕ)
     → n < count → 2 ^ 60 ≤ t.watch.place w.analyser → IsSound t w →
     Watches t start now w (b ++ zip (bits_from os 0 n) (bits_from ys 0 n))

@@ -5,11 +5,11 @@ use Rattle.std.proofs.lemmas.List.{length-map}
 use mir.Val.{bool_byte}
 use Rattle.bus_bits.specs.Bits.{bits_from}
 use Rattle.bus_bits.specs.Packed.{packed_pair_capture, packed_pair_whole, pair_body, in_pairs, pair_head_fault}
-use Rattle.bus_talk.specs.Heard.{pairs_of, firsts}
-use Rattle.bus_talk.specs.Seen.{SeenReport}
-use Rattle.bus_talk.specs.Shown.{found, found_on}
-use Rattle.bus_talk.specs.declared.finding.Finding.{Finding}
-use Rattle.bus_talk.specs.declared.line.Line.{Line}
+use Rattle.bus_pairing.specs.LineReport.{pairs_of, firsts}
+use Rattle.bus_pairing.specs.Seen.{SeenReport}
+use Rattle.bus_pairing.specs.Shown.{found, found_on}
+use Rattle.bus_pairing.specs.declared.finding.Finding.{Finding}
+use Rattle.bus_pairing.specs.declared.line.Line.{Line}
 use Rattle.bus_text.specs.Summary.{summary_of}
 use Rattle.bus_text.proofs.SummaryLemmas.{summary-more}
 use Rattle.bus_capture.proofs.HeadedLemmas.{whole-bits}

@@ -9,24 +9,24 @@ use Rattle.std.proofs.lemmas.List.{take_all, take-append-le, take-append-drop}
 use Rattle.arrayvec.specs.ArrayVec.{array_vec_len}
 use Rattle.bus_dictionary.specs.Entry.{FrameType}
 use Rattle.bus_dictionary.specs.Dictionary.{longest_of}
-use Rattle.bus_talk.specs.Seen.{SeenReport, seen}
-use Rattle.bus_talk.specs.Talk.{pending}
+use Rattle.bus_pairing.specs.Seen.{SeenReport, seen}
+use Rattle.bus_pairing.specs.Talk.{pending}
 use Rattle.bus_watch.specs.Watch.{Leads, seen_by}
 use Rattle.bus_text.specs.Listing.{ending_text}
 use Rattle.bus_text.specs.Summary.{summary_of}
 use Rattle.bus_text.specs.Counting.{IsFew}
 use Rattle.bus_text.specs.Pages.{Pages}
 use Rattle.bus_text.specs.Put.{Cuts}
-use Rattle.bus_capture.specs.Internal.Taps.{TapView, TapLaws}
+use Rattle.bus_capture.specs.Internal.Kinds.{KindView, KindLaws}
 use Rattle.bus_capture.specs.Internal.Watching.{IsSound, Watches, IsSame, Halts, printed, ended, lines, last_lines}
-use Rattle.bus_capture.specs.Internal.Watching.{heard_by, within}
+use Rattle.bus_capture.specs.Internal.Watching.{reports_by, within}
 use Rattle.bus_text.specs.declared.printer.Printer.{Printer}
 use Rattle.bus_capture.specs.declared.run.CaptureRun.{CaptureRun}
 use Rattle.bus_text.specs.declared.fault.ToolFault.{ToolFault}
 use Rattle.bus_text.specs.declared.fault.ToolFault.TheVariants as fault
 use Rattle.bus_text.specs.declared.page.Page.{Page}
 use Rattle.bus_text.proofs.PagesLemmas.{pages-more}
-use Rattle.bus_capture.specs.Internal.TellingLaws.{few-within, printed-append, printed-none}
+use Rattle.bus_capture.specs.Internal.ReportingLaws.{few-within, printed-append, printed-none}
 
 -- symbols that all have a place
 pub within-all : {X : Type 0} (origin : ℕ) (b : List X) → origin + length b ≤ 2 ^ 60 → within origin b ≡ b
@@ -60,13 +60,13 @@ pub below : (place : ℕ) → (2 ^ 60 < place → false ≡ true) → place ≤ 
 below place never =
     elim (cases_lt (2 ^ 60) place) [ inl over ↦ absurd (let wrong = never over in cc) | inr within ↦ within ]
 
-module _ {A X B : Type 0} (t : TapView A X B) where
+module _ {A X B : Type 0} (t : KindView A X B) where
   -- what is seen depends on dictionary and origin alone
   pub seen-same : (a c : A) (b : List X) → t.watch.dictionary c ≡ t.watch.dictionary a →
       t.watch.origin c ≡ t.watch.origin a → seen_by t.watch c b ≡ seen_by t.watch a b
   seen-same a c b dictionary origin =
-      ap (λ (x : List FrameType). seen x (t.watch.hears (t.watch.origin c) (longest_of x) b)) dictionary
-      ∙ ap (λ (n : ℕ). seen (t.watch.dictionary a) (t.watch.hears n (longest_of (t.watch.dictionary a)) b)) origin
+      ap (λ (x : List FrameType). seen x (t.watch.reports (t.watch.origin c) (longest_of x) b)) dictionary
+      ∙ ap (λ (n : ℕ). seen (t.watch.dictionary a) (t.watch.reports n (longest_of (t.watch.dictionary a)) b)) origin
 
   -- what is seen of more symbols
   pub seen-more : (a c : A) (b more : List X) (told : List SeenReport)
@@ -75,33 +75,33 @@ module _ {A X B : Type 0} (t : TapView A X B) where
 
   -- the lines of more symbols
   pub lines-more : (w v : CaptureRun A) (b more : List X) (told : List SeenReport)
-      → v.teller.printer ≡ w.teller.printer → t.watch.is_after w.analyser b →
+      → v.reporter.printer ≡ w.reporter.printer → t.watch.is_after w.analyser b →
       Leads t.watch w.analyser more told v.analyser
-      → lines t v (b ++ more) ≡ lines t w b ++ printed w.teller.printer (t.watch.dictionary w.analyser) told
+      → lines t v (b ++ more) ≡ lines t w b ++ printed w.reporter.printer (t.watch.dictionary w.analyser) told
   lines-more w v b more told printer after leads =
       ap (λ x. printed x (t.watch.dictionary v.analyser) (seen_by t.watch v.analyser (b ++ more))) printer
-      ∙ ap (λ (d : List FrameType). printed w.teller.printer d (seen_by t.watch v.analyser (b ++ more)))
+      ∙ ap (λ (d : List FrameType). printed w.reporter.printer d (seen_by t.watch v.analyser (b ++ more)))
       leads.dictionary
-      ∙ ap (printed w.teller.printer (t.watch.dictionary w.analyser))
+      ∙ ap (printed w.reporter.printer (t.watch.dictionary w.analyser))
       (seen-more w.analyser v.analyser b more told after leads)
-      ∙ printed-append w.teller.printer (t.watch.dictionary w.analyser) (seen_by t.watch w.analyser b) told
+      ∙ printed-append w.reporter.printer (t.watch.dictionary w.analyser) (seen_by t.watch w.analyser b) told
 
   -- symbols that tell this were followed
   pub watched : (start now later : Option (List ℕ)) (w v : CaptureRun A) (b more : List X) (told : List SeenReport)
-      → v.teller.printer ≡ w.teller.printer → Watches t start now w b → Leads t.watch w.analyser more told v.analyser
-      → v.teller.summary ≡ summary_of (seen_by t.watch w.analyser b ++ told)
-      → Pages start later v.teller.page.text v.teller.page.written
-      (lines t w b ++ printed w.teller.printer (t.watch.dictionary w.analyser) told)
+      → v.reporter.printer ≡ w.reporter.printer → Watches t start now w b → Leads t.watch w.analyser more told v.analyser
+      → v.reporter.summary ≡ summary_of (seen_by t.watch w.analyser b ++ told)
+      → Pages start later v.reporter.page.text v.reporter.page.written
+      (lines t w b ++ printed w.reporter.printer (t.watch.dictionary w.analyser) told)
       → Watches t start later v (b ++ more)
   watched start now later w v b more told printer followed leads counts page = record {
     is_after = leads.is_after b followed.is_after;
     counts = counts ∙ ap summary_of (sym (seen-more w.analyser v.analyser b more told followed.is_after leads));
-    page = subst (Pages start later v.teller.page.text v.teller.page.written)
+    page = subst (Pages start later v.reporter.page.text v.reporter.page.written)
         (sym (lines-more w v b more told printer followed.is_after leads)) page;
   }
 
   -- symbols that have no place stop the following
-  pub halted : TapLaws t → (start now : Option (List ℕ)) (w v : CaptureRun A) (b more : List X)
+  pub halted : KindLaws t → (start now : Option (List ℕ)) (w v : CaptureRun A) (b more : List X)
       → v ≡ w → 0 < length more → 2 ^ 60 ≤ t.watch.place w.analyser → IsSound t w → Watches t start now w b →
       Halts t start now v (b ++ more) fault.PlaceLimit
   halted law start now w v b more same some limit sound followed =
@@ -148,11 +148,11 @@ module _ {A X B : Type 0} (t : TapView A X B) where
 
   -- without a printer there are no lines of the end
   pub pages-unended : (start now : Option (List ℕ)) (w : CaptureRun A) (b : List X) (page later : Page)
-      → w.teller.printer ≡ None → later ≡ page
+      → w.reporter.printer ≡ None → later ≡ page
       → Pages start now page.text page.written (lines t w b) →
       Pages start now later.text later.written (lines t w b ++ last_lines t w b)
   pages-unended start now w b page later none same before =
-      let waits = pending (t.watch.dictionary w.analyser) (heard_by t.watch w.analyser b) in
+      let waits = pending (t.watch.dictionary w.analyser) (reports_by t.watch w.analyser b) in
       subst (λ (x : Page). Pages start now x.text x.written (lines t w b ++ last_lines t w b)) (sym same)
       (subst (λ (z : List ℕ). Pages start now page.text page.written z)
       (sym (ap (λ x. lines t w b ++ ended x (t.form.ending (t.watch.origin w.analyser) b waits)) none
@@ -160,15 +160,15 @@ module _ {A X B : Type 0} (t : TapView A X B) where
 
   -- the lines of the end were put on the page
   pub pages-ended : (start now : Option (List ℕ)) (w : CaptureRun A) (b : List X) (p : Printer) (page put later : Page)
-      → w.teller.printer ≡ Some p → later ≡ put
+      → w.reporter.printer ≡ Some p → later ≡ put
       → put.text.items ≡ page.text.items ++ ending_text p
       (t.form.ending (t.watch.origin w.analyser) b
-      (pending (t.watch.dictionary w.analyser) (heard_by t.watch w.analyser b)))
+      (pending (t.watch.dictionary w.analyser) (reports_by t.watch w.analyser b)))
       → put.written ≡ page.written
       → Pages start now page.text page.written (lines t w b) →
       Pages start now later.text later.written (lines t w b ++ last_lines t w b)
   pages-ended start now w b p page put later some same bytes written before =
-      let waits = pending (t.watch.dictionary w.analyser) (heard_by t.watch w.analyser b) in
+      let waits = pending (t.watch.dictionary w.analyser) (reports_by t.watch w.analyser b) in
       let last : put.text.items ≡ page.text.items ++ last_lines t w b =
       bytes ∙ ap (λ x. page.text.items ++ ended x (t.form.ending (t.watch.origin w.analyser) b waits)) (sym some) in
       subst (λ (x : Page). Pages start now x.text x.written (lines t w b ++ last_lines t w b)) (sym same)

@@ -7,10 +7,10 @@ use Rattle.bus_bits.specs.Packed.{packed_capture, packed_whole, packed_pair_capt
 use Rattle.bus_dictionary.specs.Entry.{FrameType}
 use Rattle.bus_dictionary.specs.Dictionary.{longest_of}
 use Rattle.bus_line.specs.Due as line
-use Rattle.bus_talk.specs.Heard.{Heard, of_line, firsts, seconds, merged}
-use Rattle.bus_talk.specs.Seen.{SeenReport, seen}
-use Rattle.bus_talk.specs.Shown.{begun_span}
-use Rattle.bus_talk.specs.declared.pending.Pending.{Pending}
+use Rattle.bus_pairing.specs.LineReport.{LineReport, of_line, firsts, seconds, merged}
+use Rattle.bus_pairing.specs.Seen.{SeenReport, seen}
+use Rattle.bus_pairing.specs.Shown.{begun_span}
+use Rattle.bus_pairing.specs.declared.pending.Pending.{Pending}
 use Rattle.bus_text.specs.Listing.{Line, ending_lines, pair_ending_lines}
 use Rattle.bus_text.specs.declared.fault.ToolFault.{ToolFault}
 use Rattle.bus_text.specs.declared.fault.ToolFault.TheVariants.{BadMark, Magic, TooMany, PadBits, Trailing, PlaceLimit}
@@ -21,7 +21,7 @@ pub record Form (X : Type 0) : Type 0 where
   pub text : List ℕ → CaptureOf X  -- what octets of a text give
   pub packed : List ℕ → CaptureOf X  -- what those of a packed capture give, while more may come
   pub packed_whole : List ℕ → CaptureOf X  -- and what those give that are the whole input
-  pub hears : ℕ → ℕ → List X → List Heard  -- the reports, by the place of the first X and the longest frame
+  pub reports : ℕ → ℕ → List X → List LineReport  -- the reports, by the place of the first X and the longest frame
   -- the lines of the end, by the place of the first X and the command that waits
   pub ending : ℕ → List X → Option Pending → List Line
   pub is_two : Bool  -- the frames of the history are told with the number of their line
@@ -32,7 +32,7 @@ form_of_one = record {
   text = text_capture;
   packed = packed_capture;
   packed_whole = packed_whole;
-  hears = λ origin longest b. of_line (line.placed origin longest b);
+  reports = λ origin longest b. of_line (line.placed origin longest b);
   ending = λ origin b waits. ending_lines (begun_span origin b) waits;
   is_two = false;
 }
@@ -43,7 +43,7 @@ form_of_two = record {
   text = text_pair_capture;
   packed = packed_pair_capture;
   packed_whole = packed_pair_whole;
-  hears = merged;
+  reports = merged;
   ending = λ origin ps waits. pair_ending_lines (begun_span origin (firsts ps)) (begun_span origin (seconds ps)) waits;
   is_two = true;
 }
@@ -65,12 +65,12 @@ module _ {X : Type 0} (f : Form X) where
   whole_capture text origin xs = capped origin (unplaced_whole text xs)
 
   -- the reports, by a dictionary, whose longest frame bounds the frames
-  abbrev pub reports_heard : ℕ → List FrameType → List X → List Heard
-  reports_heard origin d b = f.hears origin (longest_of d) b
+  abbrev pub reports_of_form : ℕ → List FrameType → List X → List LineReport
+  reports_of_form origin d b = f.reports origin (longest_of d) b
 
   -- what is seen of them
   abbrev pub reports_seen : ℕ → List FrameType → List X → List SeenReport
-  reports_seen origin d b = seen d (reports_heard origin d b)
+  reports_seen origin d b = seen d (reports_of_form origin d b)
 
   -- the octets have this fault, or they are the whole input and have it
   abbrev pub HasFault : Bool → ℕ → Option (List ℕ) → List ℕ → CaptureFault → Type 0

@@ -3,8 +3,8 @@ use Rattle.std.specs.Prelude.{◌≡◌, ℕ, ◌≤◌, List, [], length, Optio
 use Rattle.std.specs.Io.KnownBytes.{Appends, IsAtEnd}
 use Rattle.bus_bits.specs.Capture.{CaptureFault}
 use Rattle.bus_dictionary.specs.Entry.{FrameType}
-use Rattle.bus_talk.specs.History.{history, tally}
-use Rattle.bus_capture.specs.Captures.{Form, HasFault, IsSameFault, form_of_one, form_of_two, reports_heard}
+use Rattle.bus_pairing.specs.History.{history, tally}
+use Rattle.bus_capture.specs.Captures.{Form, HasFault, IsSameFault, form_of_one, form_of_two, reports_of_form}
 use Rattle.bus_capture.specs.Captures.{reports_seen}
 use Rattle.bus_text.specs.CheckText.{check_text}
 use Rattle.bus_text.specs.Summary.{summary_of}
@@ -21,8 +21,8 @@ module _ {X : Type 0} (f : Form X) where
   -- the report of bits: how often each thing is seen, the verdicts of each station, and the last frames
   abbrev pub check_report : Options → List FrameType → List X → List ℕ
   check_report o d b =
-      check_text f.is_two (summary_of (reports_seen f o.origin d b)) (tally d (reports_heard f o.origin d b))
-      (history o.depth (reports_heard f o.origin d b))
+      check_text f.is_two (summary_of (reports_seen f o.origin d b)) (tally d (reports_of_form f o.origin d b))
+      (history o.depth (reports_of_form f o.origin d b))
 
   -- these octets are the whole input and have no fault
   pub record IsAll (o : Options) (after : Option (List ℕ)) (xs : List ℕ) : Type 0 where

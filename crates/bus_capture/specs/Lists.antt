@@ -4,8 +4,8 @@ use Rattle.std.specs.Prelude.{Err}
 use Rattle.std.specs.Io.KnownBytes.{Appends, IsAtEnd}
 use Rattle.bus_bits.specs.Capture.{CaptureOf, CaptureFault}
 use Rattle.bus_dictionary.specs.Entry.{FrameType}
-use Rattle.bus_talk.specs.Talk.{pending}
-use Rattle.bus_capture.specs.Captures.{Form, capture, form_of_one, form_of_two, reports_heard, reports_seen}
+use Rattle.bus_pairing.specs.Talk.{pending}
+use Rattle.bus_capture.specs.Captures.{Form, capture, form_of_one, form_of_two, reports_of_form, reports_seen}
 use Rattle.bus_capture.specs.Captures.{whole_capture}
 use Rattle.bus_capture.specs.Captures.{IsSameFault, HasFault}
 use Rattle.bus_text.specs.Given.{printer_of}
@@ -33,7 +33,7 @@ module _ {X : Type 0} (f : Form X) where
 
   -- the lines of the end: pieces that have begun, and a command that waits
   abbrev pub ending_of : Options → List FrameType → List X → List ℕ
-  ending_of o d b = ending_text (printer_of o) (f.ending o.origin b (pending d (reports_heard f o.origin d b)))
+  ending_of o d b = ending_text (printer_of o) (f.ending o.origin b (pending d (reports_of_form f o.origin d b)))
 
   abbrev pub whole_listing : Options → List FrameType → List X → List ℕ
   whole_listing o d b = listing_of o d b ++ ending_of o d b

@@ -6,7 +6,7 @@ ghost use Rattle.bus_capture.specs.Checks.{Checks, ChecksBy};
 ghost use Rattle.bus_capture.specs.Known.{ChecksKnown, ChecksKnownBy};
 
 use crate::reader::CaptureReader;
-use crate::tap::Tap;
+use crate::capture_kind::CaptureKind;
 use bus_fcs::OctetCheck;
 use bus_text::{Options, Summary, ToolFault};
 use bus_watch::{Analyser, PairAnalyser};
@@ -43,19 +43,19 @@ pub fn check_capture<R: Read, W: Write>(
 }
 
 /// Checks a capture of one line or of two.
-fn check_with<T: Tap, R: Read, W: Write>(
+fn check_with<T: CaptureKind, R: Read, W: Write>(
     alloc: Global,
     o: &Options<'_>,
     r: &mut R,
     w: &mut W,
 ) -> Result<Summary, ToolFault>
     ensures checked { (xs : List ℕ) × Consumes (R.remaining r.old) (R.remaining r.new) xs
-        × ChecksBy T.tap.form o.now (R.remaining r.new) (W.contents w.old) (W.contents w.new) xs result }
+        × ChecksBy T.kind.form o.now (R.remaining r.new) (W.contents w.old) (W.contents w.new) xs result }
     ensures known { IfSome (R.remaining r.old)
-        (λ all. ChecksKnownBy T.tap.form o.now (W.contents w.old) (W.contents w.new) all result) }
+        (λ all. ChecksKnownBy T.kind.form o.now (W.contents w.old) (W.contents w.new) all result) }
 {
     T::laws();
     let mut reader = CaptureReader::<T>::new(alloc, o, None)?;
-    reader.take_input(o.reads, r, w)?;
+    reader.read_to_end(o.reads, r, w)?;
     reader.run.report(w)
 }

@@ -8,8 +8,8 @@ mod packed;
 mod reader;
 mod report;
 mod run;
-mod tap;
-mod teller;
+mod capture_kind;
+mod reporter;
 mod text;
 mod two_lines;
 

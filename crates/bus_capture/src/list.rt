@@ -8,7 +8,7 @@ ghost use Rattle.bus_capture.specs.Lists.{Lists, ListsBy};
 ghost use Rattle.bus_capture.specs.Known.{ListsKnown, ListsKnownBy};
 
 use crate::reader::CaptureReader;
-use crate::tap::Tap;
+use crate::capture_kind::CaptureKind;
 use bus_fcs::OctetCheck;
 use bus_text::{Options, Page, Printer, Summary, ToolFault};
 use bus_watch::{Analyser, PairAnalyser};
@@ -53,22 +53,22 @@ pub fn list_capture<R: Read, W: Write>(
 }
 
 /// Lists a capture of one line or of two.
-fn list_with<T: Tap, R: Read, W: Write>(
+fn list_with<T: CaptureKind, R: Read, W: Write>(
     alloc: Global,
     o: &Options<'_>,
     r: &mut R,
     w: &mut W,
 ) -> Result<Summary, ToolFault>
     ensures listed { (xs : List ℕ) × Consumes (R.remaining r.old) (R.remaining r.new) xs
-        × ListsBy T.tap.form o.now (R.remaining r.new) (W.contents w.old) (W.contents w.new) xs result }
+        × ListsBy T.kind.form o.now (R.remaining r.new) (W.contents w.old) (W.contents w.new) xs result }
     ensures known { IfSome (R.remaining r.old)
-        (λ all. ListsKnownBy T.tap.form o.now (W.contents w.old) (W.contents w.new) all result) }
+        (λ all. ListsKnownBy T.kind.form o.now (W.contents w.old) (W.contents w.new) all result) }
 {
     T::laws();
     let mut reader = CaptureReader::<T>::new(alloc, o, Some(Printer::of(o)))?;
-    match reader.take_input(o.reads, r, w) {
+    match reader.read_to_end(o.reads, r, w) {
         Ok(()) => reader.run.end(w),
-        Err(fault) => Err(close_behind(fault, &mut reader.run.teller.page, w)),
+        Err(fault) => Err(close_behind(fault, &mut reader.run.reporter.page, w)),
     }
 }
 

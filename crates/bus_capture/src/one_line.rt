@@ -3,12 +3,12 @@
 ghost use Rattle.std.specs.Prelude.{◌≡◌, ◌+◌, ◌-◌, ◌*◌, ◌≤◌, ◌<◌, ◌^◌, ℕ, Bool, List, true, Option, ◌++◌, length, take};
 ghost use Rattle.std.specs.Prelude.{None, IfOk, MatchResult};
 ghost use Rattle.bus_bits.specs.Bits.{bits_from};
-ghost use Rattle.bus_capture.specs.Internal.OneLine.{one_tap};
+ghost use Rattle.bus_capture.specs.Internal.OneLine.{one_line_kind};
 ghost use Rattle.bus_capture.specs.Internal.Sessions.{FollowsOctets, Stops};
 ghost use Rattle.bus_capture.specs.Internal.Watching.{Halts, IsSame, IsSound, Watches};
 
 use crate::run::CaptureRun;
-use crate::tap::Tap;
+use crate::capture_kind::CaptureKind;
 use arrayvec::ArrayVec;
 use bus_bits::laws::{captures_grow, packed_is_head_and_body};
 use bus_bits::{BadMark, HeadFault, PackedBits, PackedFault, PackedHead, TextBits};
@@ -23,26 +23,26 @@ use std::io::Write;
 
 /// Takes the bits of these octets before bit `end`, up to the first that can't be taken.
 #[inline(never)]
-fn take_bits<C: Check, W: Write>(
+fn analyse_bits<C: Check, W: Write>(
     octets: &[u8],
     end: usize,
     run: &mut CaptureRun<Analyser<C>>,
     w: &mut W,
 ) -> Result<(), ToolFault>
-    requires sound { IsSound (one_tap C.check) run.old }
+    requires sound { IsSound (one_line_kind C.check) run.old }
     requires within { end ≤ 8 * length octets.now }
     ensures taken { (start : Option (List ℕ)) (b : List Bool) →
-        Watches (one_tap C.check) start (W.contents w.old) run.old b → MatchResult result
-        (λ _. Watches (one_tap C.check) start (W.contents w.new) run.new (b ++ bits_from octets.now 0 end))
-        (λ fault. Halts (one_tap C.check) start (W.contents w.new) run.new
+        Watches (one_line_kind C.check) start (W.contents w.old) run.old b → MatchResult result
+        (λ _. Watches (one_line_kind C.check) start (W.contents w.new) run.new (b ++ bits_from octets.now 0 end))
+        (λ fault. Halts (one_line_kind C.check) start (W.contents w.new) run.new
         (b ++ bits_from octets.now 0 end) fault) }
-    ensures same { IsSame (one_tap C.check) run.old run.new }
-    ensures sound { IsSound (one_tap C.check) run.new }
+    ensures same { IsSame (one_line_kind C.check) run.old run.new }
+    ensures sound { IsSound (one_line_kind C.check) run.new }
 {
     Analyser::<C>::laws();
-    run.teller.cut = None;
-    let taken = run.analyser.scan(octets, 0, end, &mut run.teller, w);
-    if let Some(cut) = run.teller.cut {
+    run.reporter.cut = None;
+    let taken = run.analyser.scan(octets, 0, end, &mut run.reporter, w);
+    if let Some(cut) = run.reporter.cut {
         return Err(ToolFault::from(cut));
     }
     if taken < end {
@@ -54,63 +54,63 @@ fn take_bits<C: Check, W: Write>(
 /// Takes the next eight bits of a text, where eight octets give them or nine with one that is skipped. Returns how many
 /// octets these were.
 #[inline(always)]
-fn take_eight<C: Check, W: Write>(
+fn analyse_eight<C: Check, W: Write>(
     text: &[u8],
     run: &mut CaptureRun<Analyser<C>>,
     w: &mut W,
 ) -> Result<usize, ToolFault>
-    requires { IsSound (one_tap C.check) run.old }
+    requires { IsSound (one_line_kind C.check) run.old }
     ensures enough { IfOk result (λ n. n ≤ length text.now) }
     ensures taken { (start : Option (List ℕ)) (xs : List ℕ) →
-        FollowsOctets (one_tap C.check) start (W.contents w.old) run.old xs → MatchResult result
-        (λ n. FollowsOctets (one_tap C.check) start (W.contents w.new) run.new (xs ++ take n text.now))
+        FollowsOctets (one_line_kind C.check) start (W.contents w.old) run.old xs → MatchResult result
+        (λ n. FollowsOctets (one_line_kind C.check) start (W.contents w.new) run.new (xs ++ take n text.now))
         (λ fault. (n : ℕ) × (n ≤ length text.now)
-        × Stops (one_tap C.check) true start (W.contents w.new) run.new (xs ++ take n text.now) fault) }
-    ensures same { IsSame (one_tap C.check) run.old run.new }
-    ensures sound { IsSound (one_tap C.check) run.new }
+        × Stops (one_line_kind C.check) true start (W.contents w.new) run.new (xs ++ take n text.now) fault) }
+    ensures same { IsSame (one_line_kind C.check) run.old run.new }
+    ensures sound { IsSound (one_line_kind C.check) run.new }
 {
     Analyser::<C>::laws();
     let Some(eight) = TextBits::eight(text) else {
         return Ok(0);
     };
-    take_bits(&[eight.octet], 8, run, w)?;
+    analyse_bits(&[eight.octet], 8, run, w)?;
     Ok(eight.taken)
 }
 
 /// Packs the next octets of a text into a block of this size, and takes its bits. Returns how many octets these were.
 #[inline(never)]
-fn take_block<C: Check, W: Write, const N: usize>(
+fn analyse_block<C: Check, W: Write, const N: usize>(
     text: &[u8],
     run: &mut CaptureRun<Analyser<C>>,
     w: &mut W,
 ) -> Result<usize, ToolFault>
-    requires sound { IsSound (one_tap C.check) run.old }
+    requires sound { IsSound (one_line_kind C.check) run.old }
     requires some { 1 ≤ N }
     requires few { 8 * N < 2 ^ 64 }
     ensures enough { IfOk result (λ n. n ≤ length text.now) }
     ensures taken { (start : Option (List ℕ)) (xs : List ℕ) →
-        FollowsOctets (one_tap C.check) start (W.contents w.old) run.old xs → MatchResult result
-        (λ n. FollowsOctets (one_tap C.check) start (W.contents w.new) run.new (xs ++ take n text.now))
+        FollowsOctets (one_line_kind C.check) start (W.contents w.old) run.old xs → MatchResult result
+        (λ n. FollowsOctets (one_line_kind C.check) start (W.contents w.new) run.new (xs ++ take n text.now))
         (λ fault. (n : ℕ) × (n ≤ length text.now)
-        × Stops (one_tap C.check) true start (W.contents w.new) run.new (xs ++ take n text.now) fault) }
-    ensures same { IsSame (one_tap C.check) run.old run.new }
-    ensures sound { IsSound (one_tap C.check) run.new }
+        × Stops (one_line_kind C.check) true start (W.contents w.new) run.new (xs ++ take n text.now) fault) }
+    ensures same { IsSame (one_line_kind C.check) run.old run.new }
+    ensures sound { IsSound (one_line_kind C.check) run.new }
 {
     Analyser::<C>::laws();
     let mut block = [0; N];
     let packed = TextBits::pack(text, &mut block);
-    take_bits(&block, packed.count, run, w)?;
+    analyse_bits(&block, packed.count, run, w)?;
     Ok(packed.taken)
 }
 
-impl<C: Check> Tap for Analyser<C> {
+impl<C: Check> CaptureKind for Analyser<C> {
     type Symbol = bool;
 
     type Body = PackedBits;
 
     type Few = ArrayVec<bool, 8>;
 
-    ghost tap = { one_tap C.check };
+    ghost kind = { one_line_kind C.check };
 
     fn new(
         alloc: Global,
@@ -151,7 +151,7 @@ impl<C: Check> Tap for Analyser<C> {
     }
 
     #[inline(always)]
-    fn take_octet(body: &mut PackedBits, octet: u8) -> Result<ArrayVec<bool, 8>, PackedFault> {
+    fn decode_octet(body: &mut PackedBits, octet: u8) -> Result<ArrayVec<bool, 8>, PackedFault> {
         packed_is_head_and_body();
         body.step(octet)
     }
@@ -162,32 +162,32 @@ impl<C: Check> Tap for Analyser<C> {
     }
 
     #[inline(always)]
-    fn take_symbol<W: Write>(
+    fn analyse_symbol<W: Write>(
         symbol: bool,
         run: &mut CaptureRun<Self>,
         w: &mut W,
     ) -> Result<(), ToolFault> {
-        take_bits(&[u8::from(symbol)], 1, run, w)
+        analyse_bits(&[u8::from(symbol)], 1, run, w)
     }
 
     #[inline(always)]
-    fn take_text<W: Write>(
+    fn analyse_text<W: Write>(
         octets: &[u8],
         run: &mut CaptureRun<Self>,
         w: &mut W,
     ) -> Result<usize, ToolFault> {
         if octets.len() < 16 {
-            return take_eight(octets, run, w);
+            return analyse_eight(octets, run, w);
         }
         // A short text does not pay for clearing a large block.
         if octets.len() < 1024 {
-            return take_block::<C, W, 128>(octets, run, w);
+            return analyse_block::<C, W, 128>(octets, run, w);
         }
-        take_block::<C, W, 2048>(octets, run, w)
+        analyse_block::<C, W, 2048>(octets, run, w)
     }
 
     #[inline(always)]
-    fn take_packed<W: Write>(
+    fn analyse_packed<W: Write>(
         body: &mut PackedBits,
         octets: &[u8],
         run: &mut CaptureRun<Self>,
@@ -198,7 +198,7 @@ impl<C: Check> Tap for Analyser<C> {
         let count = body.whole(octets.len());
         let whole = &octets[..count];
         body.take_all(whole);
-        take_bits(whole, 8 * whole.len(), run, w)?;
+        analyse_bits(whole, 8 * whole.len(), run, w)?;
         Ok(count)
     }
 

@@ -9,7 +9,7 @@ ghost use Rattle.bus_capture.specs.Internal.Sessions.{FollowsPacked, FollowsBody
 ghost use Rattle.bus_capture.specs.Captures.{IsSameFault};
 
 use crate::run::CaptureRun;
-use crate::tap::Tap;
+use crate::capture_kind::CaptureKind;
 use arrayvec::ArrayVec;
 use bus_bits::{HeadFault, PackedFault};
 use bus_text::ToolFault;
@@ -51,96 +51,96 @@ fn body_fault(fault: PackedFault) -> ToolFault
 
 /// Takes some symbols, up to the first that can't be taken.
 #[inline(always)]
-fn take_symbols<T: Tap, W: Write>(
+fn analyse_symbols<T: CaptureKind, W: Write>(
     symbols: &[T::Symbol],
     run: &mut CaptureRun<T>,
     w: &mut W,
 ) -> Result<(), ToolFault>
-    requires { IsSound T.tap run.old }
+    requires { IsSound T.kind run.old }
     ensures taken { (start : Option (List ℕ)) (b : List T.Symbol) →
-        Watches T.tap start (W.contents w.old) run.old b → MatchResult result
-        (λ _. Watches T.tap start (W.contents w.new) run.new (b ++ symbols.now))
-        (λ fault. Halts T.tap start (W.contents w.new) run.new (b ++ symbols.now) fault) }
-    ensures same { IsSame T.tap run.old run.new }
-    ensures sound { IsSound T.tap run.new }
+        Watches T.kind start (W.contents w.old) run.old b → MatchResult result
+        (λ _. Watches T.kind start (W.contents w.new) run.new (b ++ symbols.now))
+        (λ fault. Halts T.kind start (W.contents w.new) run.new (b ++ symbols.now) fault) }
+    ensures same { IsSame T.kind run.old run.new }
+    ensures sound { IsSound T.kind run.new }
 {
     T::laws();
     for symbol in symbols {
-        T::take_symbol(*symbol, run, w)?;
+        T::analyse_symbol(*symbol, run, w)?;
     }
     Ok(())
 }
 
 /// Takes one octet after the head.
 #[inline(always)]
-fn take_octet<T: Tap, W: Write>(
+fn decode_octet<T: CaptureKind, W: Write>(
     body: &mut T::Body,
     octet: u8,
     run: &mut CaptureRun<T>,
     w: &mut W,
 ) -> Result<(), ToolFault>
-    requires { IsSound T.tap run.old }
+    requires { IsSound T.kind run.old }
     ensures taken { (start : Option (List ℕ)) (xs : List ℕ) →
-        FollowsBody T.tap start (W.contents w.old) body.old run.old xs → MatchResult result
-        (λ _. FollowsBody T.tap start (W.contents w.new) body.new run.new (xs ++ octet ∷ []))
-        (λ fault. Stops T.tap false start (W.contents w.new) run.new (xs ++ octet ∷ []) fault) }
-    ensures same { IsSame T.tap run.old run.new }
-    ensures sound { IsSound T.tap run.new }
+        FollowsBody T.kind start (W.contents w.old) body.old run.old xs → MatchResult result
+        (λ _. FollowsBody T.kind start (W.contents w.new) body.new run.new (xs ++ octet ∷ []))
+        (λ fault. Stops T.kind false start (W.contents w.new) run.new (xs ++ octet ∷ []) fault) }
+    ensures same { IsSame T.kind run.old run.new }
+    ensures sound { IsSound T.kind run.new }
 {
     T::laws();
-    match T::take_octet(body, octet) {
-        Ok(symbols) => take_symbols(symbols.as_slice(), run, w),
+    match T::decode_octet(body, octet) {
+        Ok(symbols) => analyse_symbols(symbols.as_slice(), run, w),
         Err(fault) => Err(body_fault(fault)),
     }
 }
 
 /// Takes the next octets after the head, many or one, and returns how many these were.
 #[inline(always)]
-fn take_some<T: Tap, W: Write>(
+fn analyse_some<T: CaptureKind, W: Write>(
     body: &mut T::Body,
     octets: &[u8],
     run: &mut CaptureRun<T>,
     w: &mut W,
 ) -> Result<usize, ToolFault>
-    requires sound { IsSound T.tap run.old }
+    requires sound { IsSound T.kind run.old }
     requires some { 0 < length octets.now }
     ensures within { IfOk result (λ n. (1 ≤ n) × (n ≤ length octets.now)) }
     ensures taken { (start : Option (List ℕ)) (xs : List ℕ) →
-        FollowsBody T.tap start (W.contents w.old) body.old run.old xs → MatchResult result
-        (λ n. FollowsBody T.tap start (W.contents w.new) body.new run.new (xs ++ take n octets.now))
+        FollowsBody T.kind start (W.contents w.old) body.old run.old xs → MatchResult result
+        (λ n. FollowsBody T.kind start (W.contents w.new) body.new run.new (xs ++ take n octets.now))
         (λ fault. (n : ℕ)
-        × Stops T.tap false start (W.contents w.new) run.new (xs ++ take n octets.now) fault) }
-    ensures same { IsSame T.tap run.old run.new }
-    ensures sound { IsSound T.tap run.new }
+        × Stops T.kind false start (W.contents w.new) run.new (xs ++ take n octets.now) fault) }
+    ensures same { IsSame T.kind run.old run.new }
+    ensures sound { IsSound T.kind run.new }
 {
-    let taken = T::take_packed(body, octets, run, w)?;
+    let taken = T::analyse_packed(body, octets, run, w)?;
     if taken > 0 {
         return Ok(taken);
     }
-    take_octet(body, octets[0], run, w)?;
+    decode_octet(body, octets[0], run, w)?;
     Ok(1)
 }
 
 /// Takes octets after the head, up to the first fault.
 #[inline(never)]
-fn take_body<T: Tap, W: Write>(
+fn analyse_body<T: CaptureKind, W: Write>(
     body: &mut T::Body,
     octets: &[u8],
     run: &mut CaptureRun<T>,
     w: &mut W,
 ) -> Result<(), ToolFault>
-    requires { IsSound T.tap run.old }
+    requires { IsSound T.kind run.old }
     ensures taken { (start : Option (List ℕ)) (xs : List ℕ) →
-        FollowsBody T.tap start (W.contents w.old) body.old run.old xs → MatchResult result
-        (λ _. FollowsBody T.tap start (W.contents w.new) body.new run.new (xs ++ octets.now))
-        (λ fault. Stops T.tap false start (W.contents w.new) run.new (xs ++ octets.now) fault) }
-    ensures same { IsSame T.tap run.old run.new }
-    ensures sound { IsSound T.tap run.new }
+        FollowsBody T.kind start (W.contents w.old) body.old run.old xs → MatchResult result
+        (λ _. FollowsBody T.kind start (W.contents w.new) body.new run.new (xs ++ octets.now))
+        (λ fault. Stops T.kind false start (W.contents w.new) run.new (xs ++ octets.now) fault) }
+    ensures same { IsSame T.kind run.old run.new }
+    ensures sound { IsSound T.kind run.new }
 {
     T::laws();
     let mut taken = 0;
     while taken < octets.len() {
-        taken += take_some(body, &octets[taken..], run, w)?;
+        taken += analyse_some(body, &octets[taken..], run, w)?;
     }
     Ok(())
 }
@@ -178,41 +178,41 @@ impl<B> PackedCapture<B> {
     }
 
     /// Takes some octets, up to the first fault.
-    pub fn take<T: Tap<Body = B>, W: Write>(
+    pub fn analyse<T: CaptureKind<Body = B>, W: Write>(
         &mut self,
         octets: &[u8],
         run: &mut CaptureRun<T>,
         w: &mut W,
     ) -> Result<(), ToolFault>
-        requires sound { IsSound T.tap run.old }
+        requires sound { IsSound T.kind run.old }
         ensures taken { (start : Option (List ℕ)) (xs : List ℕ) →
-            FollowsPacked T.tap start (W.contents w.old) self.old run.old xs → MatchResult result
-            (λ _. FollowsPacked T.tap start (W.contents w.new) self.new run.new (xs ++ octets.now))
-            (λ fault. Stops T.tap false start (W.contents w.new) run.new (xs ++ octets.now) fault) }
-        ensures same { IsSame T.tap run.old run.new }
-        ensures sound { IsSound T.tap run.new }
+            FollowsPacked T.kind start (W.contents w.old) self.old run.old xs → MatchResult result
+            (λ _. FollowsPacked T.kind start (W.contents w.new) self.new run.new (xs ++ octets.now))
+            (λ fault. Stops T.kind false start (W.contents w.new) run.new (xs ++ octets.now) fault) }
+        ensures same { IsSame T.kind run.old run.new }
+        ensures sound { IsSound T.kind run.new }
     {
         match &mut self.body {
-            Some(body) => take_body(body, octets, run, w),
-            None => self.take_head(octets, run, w),
+            Some(body) => analyse_body(body, octets, run, w),
+            None => self.analyse_head(octets, run, w),
         }
     }
 
     /// Takes octets of the head, and then those after it.
-    fn take_head<T: Tap<Body = B>, W: Write>(
+    fn analyse_head<T: CaptureKind<Body = B>, W: Write>(
         &mut self,
         octets: &[u8],
         run: &mut CaptureRun<T>,
         w: &mut W,
     ) -> Result<(), ToolFault>
         requires none { self.old.body ≡ None }
-        requires sound { IsSound T.tap run.old }
+        requires sound { IsSound T.kind run.old }
         ensures taken { (start : Option (List ℕ)) (xs : List ℕ) →
-            FollowsPacked T.tap start (W.contents w.old) self.old run.old xs → MatchResult result
-            (λ _. FollowsPacked T.tap start (W.contents w.new) self.new run.new (xs ++ octets.now))
-            (λ fault. Stops T.tap false start (W.contents w.new) run.new (xs ++ octets.now) fault) }
-        ensures same { IsSame T.tap run.old run.new }
-        ensures sound { IsSound T.tap run.new }
+            FollowsPacked T.kind start (W.contents w.old) self.old run.old xs → MatchResult result
+            (λ _. FollowsPacked T.kind start (W.contents w.new) self.new run.new (xs ++ octets.now))
+            (λ fault. Stops T.kind false start (W.contents w.new) run.new (xs ++ octets.now) fault) }
+        ensures same { IsSame T.kind run.old run.new }
+        ensures sound { IsSound T.kind run.new }
     {
         T::laws();
         let missing = HEAD - self.head.len();
@@ -222,17 +222,17 @@ impl<B> PackedCapture<B> {
         }
         self.gather(&octets[..missing]);
         let mut body = T::read_head(&self.head()).map_err(head_fault)?;
-        let ending = take_body(&mut body, &octets[missing..], run, w);
+        let ending = analyse_body(&mut body, &octets[missing..], run, w);
         self.body = Some(body);
         ending
     }
 
     /// What is wrong where the input ends here.
-    pub fn finish<T: Tap<Body = B>>(&self) -> Result<(), ToolFault>
-        ensures { (xs : List ℕ) → IsRead T.tap self.now.head.items self.now.body xs → MatchResult result
-            (λ _. T.tap.form.packed_whole xs ≡ record { bits = (T.tap.form.packed xs).bits; fault = None })
+    pub fn finish<T: CaptureKind<Body = B>>(&self) -> Result<(), ToolFault>
+        ensures { (xs : List ℕ) → IsRead T.kind self.now.head.items self.now.body xs → MatchResult result
+            (λ _. T.kind.form.packed_whole xs ≡ record { bits = (T.kind.form.packed xs).bits; fault = None })
             (λ fault. (cause : CaptureFault) × IsSameFault fault cause
-            × (T.tap.form.packed_whole xs ≡ record { bits = (T.tap.form.packed xs).bits; fault = Some cause })) }
+            × (T.kind.form.packed_whole xs ≡ record { bits = (T.kind.form.packed xs).bits; fault = Some cause })) }
     {
         T::laws();
         let Some(body) = &self.body else {

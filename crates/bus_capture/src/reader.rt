@@ -14,8 +14,8 @@ ghost use Rattle.bus_capture.specs.Internal.Watching.{IsSound, IsSame};
 
 use crate::packed::PackedCapture;
 use crate::run::CaptureRun;
-use crate::tap::Tap;
-use crate::teller::Teller;
+use crate::capture_kind::CaptureKind;
+use crate::reporter::Reporter;
 use crate::text::TextCapture;
 use bus_text::{Options, Printer, ToolFault, read_dictionary};
 use bus_watch::NewFault;
@@ -34,16 +34,16 @@ pub enum Source<B> {
 
 /// A capture that is read, and what is seen at its bits.
 #[derive(Drop)]
-pub struct CaptureReader<T: Tap> {
+pub struct CaptureReader<T: CaptureKind> {
     pub source: Source<T::Body>,
     pub run: CaptureRun<T>,
 }
 
 /// An analyser by the dictionary and the depth and the origin that are asked for.
-fn new_analyser<T: Tap>(alloc: Global, options: &Options<'_>) -> Result<T, ToolFault>
+fn new_analyser<T: CaptureKind>(alloc: Global, options: &Options<'_>) -> Result<T, ToolFault>
     ensures { MatchResult result
         (λ analyser. (d : List FrameType) × Begins options.now d
-        × IsMade T.tap.watch d options.now.depth options.now.origin analyser)
+        × IsMade T.kind.watch d options.now.depth options.now.origin analyser)
         (λ fault. Refuses options.now fault) }
 {
     let dictionary = read_dictionary(alloc, options.dictionary)?;
@@ -55,7 +55,7 @@ fn new_analyser<T: Tap>(alloc: Global, options: &Options<'_>) -> Result<T, ToolF
     }
 }
 
-impl<T: Tap> CaptureReader<T> {
+impl<T: CaptureKind> CaptureReader<T> {
     /// No octets of the capture that the options tell of.
     pub fn new(
         alloc: Global,
@@ -64,14 +64,14 @@ impl<T: Tap> CaptureReader<T> {
     ) -> Result<Self, ToolFault>
         ensures made { MatchResult result
             (λ reader. (d : List FrameType) × Begins options.now d
-            × IsMade T.tap.watch d options.now.depth options.now.origin reader.run.analyser)
+            × IsMade T.kind.watch d options.now.depth options.now.origin reader.run.analyser)
             (λ fault. Refuses options.now fault) }
         ensures fresh { IfOk result
-            (λ reader. (start : Option (List ℕ)) → Follows T.tap start start reader.source reader.run []) }
+            (λ reader. (start : Option (List ℕ)) → Follows T.kind start start reader.source reader.run []) }
         ensures given { IfOk result
-            (λ reader. (is_text reader.source ≡ options.now.text) × (reader.run.teller.printer ≡ printer)
+            (λ reader. (is_text reader.source ≡ options.now.text) × (reader.run.reporter.printer ≡ printer)
             × (octets_taken reader.source ≡ 0)) }
-        ensures sound { IfOk result (λ reader. IsSound T.tap reader.run) }
+        ensures sound { IfOk result (λ reader. IsSound T.kind reader.run) }
     {
         T::laws();
         let analyser = new_analyser(alloc, options)?;
@@ -84,39 +84,39 @@ impl<T: Tap> CaptureReader<T> {
             source,
             run: CaptureRun {
                 analyser,
-                teller: Teller::new(printer),
+                reporter: Reporter::new(printer),
             },
         })
     }
 
     /// Takes some octets, up to the first fault.
-    fn take<W: Write>(&mut self, octets: &[u8], w: &mut W) -> Result<(), ToolFault>
-        requires sound { IsSound T.tap self.old.run }
+    fn analyse<W: Write>(&mut self, octets: &[u8], w: &mut W) -> Result<(), ToolFault>
+        requires sound { IsSound T.kind self.old.run }
         requires few { octets_taken self.old.source + length octets.now < 2 ^ 100 }
         ensures taken { (start : Option (List ℕ)) (xs : List ℕ) →
-            Follows T.tap start (W.contents w.old) self.old.source self.old.run xs → MatchResult result
-            (λ _. Follows T.tap start (W.contents w.new) self.new.source self.new.run (xs ++ octets.now))
-            (λ fault. Stops T.tap (is_text self.old.source) start (W.contents w.new) self.new.run
+            Follows T.kind start (W.contents w.old) self.old.source self.old.run xs → MatchResult result
+            (λ _. Follows T.kind start (W.contents w.new) self.new.source self.new.run (xs ++ octets.now))
+            (λ fault. Stops T.kind (is_text self.old.source) start (W.contents w.new) self.new.run
             (xs ++ octets.now) fault) }
         ensures text { is_text self.new.source ≡ is_text self.old.source }
         ensures few { OnOk result (octets_taken self.new.source ≤ octets_taken self.old.source + length octets.now) }
-        ensures same { IsSame T.tap self.old.run self.new.run }
-        ensures sound { IsSound T.tap self.new.run }
+        ensures same { IsSame T.kind self.old.run self.new.run }
+        ensures sound { IsSound T.kind self.new.run }
     {
         match &mut self.source {
-            Source::Text(text) => text.take(octets, &mut self.run, w),
-            Source::Packed(packed) => packed.take(octets, &mut self.run, w),
+            Source::Text(text) => text.analyse(octets, &mut self.run, w),
+            Source::Packed(packed) => packed.analyse(octets, &mut self.run, w),
         }
     }
 
     /// What is wrong where the input ends here.
     fn finish(&self) -> Result<(), ToolFault>
-        ensures { (xs : List ℕ) → IsReadBy T.tap self.now.source xs → MatchResult result
-            (λ _. unplaced_whole T.tap.form (is_text self.now.source) xs
-            ≡ record { bits = (unplaced T.tap.form (is_text self.now.source) xs).bits; fault = None })
+        ensures { (xs : List ℕ) → IsReadBy T.kind self.now.source xs → MatchResult result
+            (λ _. unplaced_whole T.kind.form (is_text self.now.source) xs
+            ≡ record { bits = (unplaced T.kind.form (is_text self.now.source) xs).bits; fault = None })
             (λ fault. (cause : CaptureFault) × IsSameFault fault cause
-            × (unplaced_whole T.tap.form (is_text self.now.source) xs
-            ≡ record { bits = (unplaced T.tap.form (is_text self.now.source) xs).bits; fault = Some cause })) }
+            × (unplaced_whole T.kind.form (is_text self.now.source) xs
+            ≡ record { bits = (unplaced T.kind.form (is_text self.now.source) xs).bits; fault = Some cause })) }
     {
         match &self.source {
             Source::Text(_) => Ok(()),
@@ -125,41 +125,41 @@ impl<T: Tap> CaptureReader<T> {
     }
 
     /// Takes what one read gave, and writes its lines.
-    fn take_read<W: Write>(&mut self, octets: &[u8], w: &mut W) -> Result<(), ToolFault>
-        requires sound { IsSound T.tap self.old.run }
+    fn analyse_read<W: Write>(&mut self, octets: &[u8], w: &mut W) -> Result<(), ToolFault>
+        requires sound { IsSound T.kind self.old.run }
         requires few { octets_taken self.old.source + length octets.now < 2 ^ 100 }
         ensures taken { (start : Option (List ℕ)) (xs : List ℕ) →
-            Follows T.tap start (W.contents w.old) self.old.source self.old.run xs → MatchResult result
-            (λ _. Follows T.tap start (W.contents w.new) self.new.source self.new.run (xs ++ octets.now))
-            (λ fault. Stops T.tap (is_text self.old.source) start (W.contents w.new) self.new.run
+            Follows T.kind start (W.contents w.old) self.old.source self.old.run xs → MatchResult result
+            (λ _. Follows T.kind start (W.contents w.new) self.new.source self.new.run (xs ++ octets.now))
+            (λ fault. Stops T.kind (is_text self.old.source) start (W.contents w.new) self.new.run
             (xs ++ octets.now) fault) }
         ensures text { is_text self.new.source ≡ is_text self.old.source }
         ensures few { OnOk result (octets_taken self.new.source ≤ octets_taken self.old.source + length octets.now) }
-        ensures same { IsSame T.tap self.old.run self.new.run }
-        ensures sound { IsSound T.tap self.new.run }
+        ensures same { IsSame T.kind self.old.run self.new.run }
+        ensures sound { IsSound T.kind self.new.run }
     {
         T::laws();
-        self.take(octets, w)?;
-        self.run.teller.page.write_out(w)?;
+        self.analyse(octets, w)?;
+        self.run.reporter.page.write_out(w)?;
         Ok(())
     }
 
     /// Reads to the end or the first fault, by at most `reads` calls of the reader.
-    pub fn take_input<R: Read, W: Write>(
+    pub fn read_to_end<R: Read, W: Write>(
         &mut self,
         reads: u64,
         r: &mut R,
         w: &mut W,
     ) -> Result<(), ToolFault>
-        requires sound { IsSound T.tap self.old.run }
+        requires sound { IsSound T.kind self.old.run }
         requires fresh { (start : Option (List ℕ)) →
-            Follows T.tap start start self.old.source self.old.run [] }
+            Follows T.kind start start self.old.source self.old.run [] }
         requires few { octets_taken self.old.source ≡ 0 }
         ensures read { (xs : List ℕ) × Consumes (R.remaining r.old) (R.remaining r.new) xs
-            × Finishes T.tap (is_text self.old.source) reads (R.remaining r.new) (W.contents w.old)
+            × Finishes T.kind (is_text self.old.source) reads (R.remaining r.new) (W.contents w.old)
             (W.contents w.new) self.new.run xs result }
-        ensures same { IsSame T.tap self.old.run self.new.run }
-        ensures sound { IsSound T.tap self.new.run }
+        ensures same { IsSame T.kind self.old.run self.new.run }
+        ensures sound { IsSound T.kind self.new.run }
     {
         T::laws();
         let mut buffer = [0; ROOM];
@@ -169,7 +169,7 @@ impl<T: Tap> CaptureReader<T> {
                 Ok(count) => count,
                 Err(_) => return Err(ToolFault::Read),
             };
-            self.take_read(&buffer[..count], w)?;
+            self.analyse_read(&buffer[..count], w)?;
         }
         Err(ToolFault::ReadsLimit)
     }

@@ -2,26 +2,26 @@
 
 ghost use Rattle.std.specs.Prelude.{◌+◌, ◌*◌, ◌++◌, ◌<◌, ◌≤◌, ◌^◌, ℕ, List, Option, MatchResult, OnOk, length};
 ghost use Rattle.arrayvec.specs.ArrayVec.{array_vec_len};
-ghost use Rattle.bus_talk.specs.History.{history, tally};
+ghost use Rattle.bus_pairing.specs.History.{history, tally};
 ghost use Rattle.bus_text.specs.CheckText.{tallies_text, history_text, check_text};
 ghost use Rattle.bus_text.specs.Put.{Cuts};
 ghost use Rattle.bus_text.specs.Pages.{Pages};
-ghost use Rattle.bus_capture.specs.Internal.Watching.{heard_by};
+ghost use Rattle.bus_capture.specs.Internal.Watching.{reports_by};
 
-use crate::tap::Tap;
+use crate::capture_kind::CaptureKind;
 use bus_text::{Page, ShortWrite, Summary, put_summary, put_tally};
 use std::io::Write;
 
 /// Puts a line for each station with a verdict on the page, by rising number.
-fn put_tallies<T: Tap, W: Write>(analyser: &T, page: &mut Page, w: &mut W) -> Result<(), ShortWrite>
+fn put_tallies<T: CaptureKind, W: Write>(analyser: &T, page: &mut Page, w: &mut W) -> Result<(), ShortWrite>
     requires { page.old.written + array_vec_len page.old.text < 2 ^ 90 }
     ensures put { (start : Option (List ℕ)) (text : List ℕ) (b : List T.Symbol) →
-        T.tap.watch.is_after analyser.now b →
+        T.kind.watch.is_after analyser.now b →
         Pages start (W.contents w.old) page.old.text page.old.written text → MatchResult result
         (λ _. Pages start (W.contents w.new) page.new.text page.new.written
-        (text ++ tallies_text (tally (T.tap.watch.dictionary analyser.now) (heard_by T.tap.watch analyser.now b)) 256))
+        (text ++ tallies_text (tally (T.kind.watch.dictionary analyser.now) (reports_by T.kind.watch analyser.now b)) 256))
         (λ cut. Cuts start (W.contents w.new)
-        (text ++ tallies_text (tally (T.tap.watch.dictionary analyser.now) (heard_by T.tap.watch analyser.now b)) 256)
+        (text ++ tallies_text (tally (T.kind.watch.dictionary analyser.now) (reports_by T.kind.watch analyser.now b)) 256)
         cut.sent) }
     ensures few { OnOk result
         (page.new.written + array_vec_len page.new.text ≤ page.old.written + array_vec_len page.old.text
@@ -34,17 +34,17 @@ fn put_tallies<T: Tap, W: Write>(analyser: &T, page: &mut Page, w: &mut W) -> Re
 }
 
 /// Puts the frames of the history on the page, the oldest first.
-fn put_history<T: Tap, W: Write>(analyser: &T, page: &mut Page, w: &mut W) -> Result<(), ShortWrite>
+fn put_history<T: CaptureKind, W: Write>(analyser: &T, page: &mut Page, w: &mut W) -> Result<(), ShortWrite>
     requires { page.old.written + array_vec_len page.old.text < 2 ^ 95 }
     ensures put { (start : Option (List ℕ)) (text : List ℕ) (b : List T.Symbol) →
-        T.tap.watch.is_after analyser.now b →
+        T.kind.watch.is_after analyser.now b →
         Pages start (W.contents w.old) page.old.text page.old.written text → MatchResult result
         (λ _. Pages start (W.contents w.new) page.new.text page.new.written
-        (text ++ history_text T.tap.form.is_two
-        (history (T.tap.watch.depth analyser.now) (heard_by T.tap.watch analyser.now b))))
+        (text ++ history_text T.kind.form.is_two
+        (history (T.kind.watch.depth analyser.now) (reports_by T.kind.watch analyser.now b))))
         (λ cut. Cuts start (W.contents w.new)
-        (text ++ history_text T.tap.form.is_two
-        (history (T.tap.watch.depth analyser.now) (heard_by T.tap.watch analyser.now b))) cut.sent) }
+        (text ++ history_text T.kind.form.is_two
+        (history (T.kind.watch.depth analyser.now) (reports_by T.kind.watch analyser.now b))) cut.sent) }
     ensures few { OnOk result (page.new.written < 2 ^ 96) }
 {
     for i in 0..analyser.history_len() {
@@ -54,7 +54,7 @@ fn put_history<T: Tap, W: Write>(analyser: &T, page: &mut Page, w: &mut W) -> Re
 }
 
 /// Puts the whole report on the page.
-pub fn put_report<T: Tap, W: Write>(
+pub fn put_report<T: CaptureKind, W: Write>(
     summary: &Summary,
     analyser: &T,
     page: &mut Page,
@@ -62,16 +62,16 @@ pub fn put_report<T: Tap, W: Write>(
 ) -> Result<(), ShortWrite>
     requires { page.old.written + array_vec_len page.old.text < 2 ^ 80 }
     ensures put { (start : Option (List ℕ)) (text : List ℕ) (b : List T.Symbol) →
-        T.tap.watch.is_after analyser.now b →
+        T.kind.watch.is_after analyser.now b →
         Pages start (W.contents w.old) page.old.text page.old.written text → MatchResult result
         (λ _. Pages start (W.contents w.new) page.new.text page.new.written
-        (text ++ check_text T.tap.form.is_two summary.now
-        (tally (T.tap.watch.dictionary analyser.now) (heard_by T.tap.watch analyser.now b))
-        (history (T.tap.watch.depth analyser.now) (heard_by T.tap.watch analyser.now b))))
+        (text ++ check_text T.kind.form.is_two summary.now
+        (tally (T.kind.watch.dictionary analyser.now) (reports_by T.kind.watch analyser.now b))
+        (history (T.kind.watch.depth analyser.now) (reports_by T.kind.watch analyser.now b))))
         (λ cut. Cuts start (W.contents w.new)
-        (text ++ check_text T.tap.form.is_two summary.now
-        (tally (T.tap.watch.dictionary analyser.now) (heard_by T.tap.watch analyser.now b))
-        (history (T.tap.watch.depth analyser.now) (heard_by T.tap.watch analyser.now b))) cut.sent) }
+        (text ++ check_text T.kind.form.is_two summary.now
+        (tally (T.kind.watch.dictionary analyser.now) (reports_by T.kind.watch analyser.now b))
+        (history (T.kind.watch.depth analyser.now) (reports_by T.kind.watch analyser.now b))) cut.sent) }
     ensures few { OnOk result (page.new.written < 2 ^ 96) }
 {
     put_summary(summary, page, w)?;

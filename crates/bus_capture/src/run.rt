@@ -4,8 +4,8 @@ ghost use Rattle.std.specs.Io.KnownBytes.{Appends};
 ghost use Rattle.std.specs.Prelude.{◌≡◌, ◌++◌, ℕ, List, Option, MatchResult};
 
 use crate::report::put_report;
-use crate::tap::Tap;
-use crate::teller::Teller;
+use crate::capture_kind::CaptureKind;
+use crate::reporter::Reporter;
 use bus_text::{Summary, ToolFault};
 use std::io::Write;
 
@@ -13,29 +13,29 @@ use std::io::Write;
 #[derive(Drop)]
 pub struct CaptureRun<T> {
     pub analyser: T,
-    pub teller: Teller,
+    pub reporter: Reporter,
 }
 
-impl<T: Tap> CaptureRun<T> {
+impl<T: CaptureKind> CaptureRun<T> {
     ghost use Rattle.bus_capture.specs.Internal.Watching.{IsSound, Watches, IsCutIn, lines, last_lines};
     ghost use Rattle.bus_capture.specs.Internal.Watching.{reported};
 
     /// Writes the lines of the end of a capture, and what is left of the page, and flushes.
     pub fn end<W: Write>(self, w: &mut W) -> Result<Summary, ToolFault>
-        requires { IsSound T.tap self }
+        requires { IsSound T.kind self }
         ensures { (start : Option (List ℕ)) (b : List T.Symbol) →
-            Watches T.tap start (W.contents w.old) self b → MatchResult result
-            (λ s. Appends start (W.contents w.new) (lines T.tap self b ++ last_lines T.tap self b)
-            × (s ≡ self.teller.summary))
-            (λ fault. IsCutIn start (W.contents w.new) (lines T.tap self b ++ last_lines T.tap self b) fault) }
+            Watches T.kind start (W.contents w.old) self b → MatchResult result
+            (λ s. Appends start (W.contents w.new) (lines T.kind self b ++ last_lines T.kind self b)
+            × (s ≡ self.reporter.summary))
+            (λ fault. IsCutIn start (W.contents w.new) (lines T.kind self b ++ last_lines T.kind self b) fault) }
     {
-        let CaptureRun { analyser, teller } = self;
-        let Teller {
+        let CaptureRun { analyser, reporter } = self;
+        let Reporter {
             summary,
             printer,
             mut page,
             ..
-        } = teller;
+        } = reporter;
         page.make_room(w)?;
         if let Some(printer) = &printer {
             analyser.put_ending(printer, &mut page);
@@ -46,19 +46,19 @@ impl<T: Tap> CaptureRun<T> {
 
     /// Writes the report of a check, and flushes.
     pub fn report<W: Write>(self, w: &mut W) -> Result<Summary, ToolFault>
-        requires { IsSound T.tap self }
+        requires { IsSound T.kind self }
         ensures { (start : Option (List ℕ)) (b : List T.Symbol) →
-            Watches T.tap start (W.contents w.old) self b → MatchResult result
-            (λ s. Appends start (W.contents w.new) (lines T.tap self b ++ reported T.tap self b)
-            × (s ≡ self.teller.summary))
-            (λ fault. IsCutIn start (W.contents w.new) (lines T.tap self b ++ reported T.tap self b) fault) }
+            Watches T.kind start (W.contents w.old) self b → MatchResult result
+            (λ s. Appends start (W.contents w.new) (lines T.kind self b ++ reported T.kind self b)
+            × (s ≡ self.reporter.summary))
+            (λ fault. IsCutIn start (W.contents w.new) (lines T.kind self b ++ reported T.kind self b) fault) }
     {
-        let CaptureRun { analyser, teller } = self;
-        let Teller {
+        let CaptureRun { analyser, reporter } = self;
+        let Reporter {
             summary,
             mut page,
             ..
-        } = teller;
+        } = reporter;
         put_report(&summary, &analyser, &mut page, w)?;
         page.close(w)?;
         Ok(summary)

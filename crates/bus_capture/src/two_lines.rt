@@ -3,18 +3,18 @@
 ghost use Rattle.std.specs.Prelude.{◌≡◌, ◌+◌, ◌*◌, ◌≤◌, ◌<◌, ◌^◌, ℕ, Bool, List, Option, ◌++◌, length, MatchResult};
 ghost use Rattle.std.specs.Prelude.{zip};
 ghost use Rattle.bus_bits.specs.Bits.{bits_from};
-ghost use Rattle.bus_capture.specs.Internal.TwoLines.{pair_tap};
+ghost use Rattle.bus_capture.specs.Internal.TwoLines.{two_line_kind};
 ghost use Rattle.bus_capture.specs.Internal.Watching.{Halts, IsSame, IsSound, Watches};
 ghost use Rattle.bus_text.specs.Counting.{IsFew};
 ghost use Rattle.bus_text.specs.Adds.{Prints};
 ghost use Rattle.bus_text.specs.Pages.{HasRoomFor};
 ghost use Rattle.bus_text.specs.Listing.{listing};
 ghost use Rattle.bus_text.specs.Summary.{summary_of};
-ghost use Rattle.bus_talk.specs.Seen.{SeenReport};
+ghost use Rattle.bus_pairing.specs.Seen.{SeenReport};
 ghost use Rattle.std.specs.Option.{option_to_list};
 
 use crate::run::CaptureRun;
-use crate::tap::Tap;
+use crate::capture_kind::CaptureKind;
 use arrayvec::ArrayVec;
 use bus_bits::laws::{pair_captures_grow, pairs_are_head_and_body};
 use bus_bits::{BadMark, HeadFault, PackedFault, PackedPairs, PairHead, PairWords, TextPairs};
@@ -33,28 +33,28 @@ const BLOCK: usize = 1024;
 
 /// Takes pairs of bits of these octets, the first so many, and tells what is seen at them.
 #[inline(never)]
-fn take_pairs<C: Check, W: Write>(
+fn analyse_pairs<C: Check, W: Write>(
     first: &[u8],
     second: &[u8],
     count: usize,
     run: &mut CaptureRun<PairAnalyser<C>>,
     w: &mut W,
 ) -> Result<(), ToolFault>
-    requires sound { IsSound (pair_tap C.check) run.old }
+    requires sound { IsSound (two_line_kind C.check) run.old }
     requires enough { (count ≤ 8 * length first.now) × (count ≤ 8 * length second.now) }
     ensures taken { (start : Option (List ℕ)) (b : List (Bool × Bool)) →
-        Watches (pair_tap C.check) start (W.contents w.old) run.old b → MatchResult result
-        (λ _. Watches (pair_tap C.check) start (W.contents w.new) run.new
+        Watches (two_line_kind C.check) start (W.contents w.old) run.old b → MatchResult result
+        (λ _. Watches (two_line_kind C.check) start (W.contents w.new) run.new
         (b ++ zip (bits_from first.now 0 count) (bits_from second.now 0 count)))
-        (λ fault. Halts (pair_tap C.check) start (W.contents w.new) run.new
+        (λ fault. Halts (two_line_kind C.check) start (W.contents w.new) run.new
         (b ++ zip (bits_from first.now 0 count) (bits_from second.now 0 count)) fault) }
-    ensures same { IsSame (pair_tap C.check) run.old run.new }
-    ensures sound { IsSound (pair_tap C.check) run.new }
+    ensures same { IsSame (two_line_kind C.check) run.old run.new }
+    ensures sound { IsSound (two_line_kind C.check) run.new }
 {
     PairAnalyser::<C>::laws();
-    run.teller.cut = None;
-    let taken = run.analyser.scan(first, second, count, &mut run.teller, w);
-    if let Some(cut) = run.teller.cut {
+    run.reporter.cut = None;
+    let taken = run.analyser.scan(first, second, count, &mut run.reporter, w);
+    if let Some(cut) = run.reporter.cut {
         return Err(ToolFault::from(cut));
     }
     if taken < count {
@@ -63,14 +63,14 @@ fn take_pairs<C: Check, W: Write>(
     Ok(())
 }
 
-impl<C: Check> Tap for PairAnalyser<C> {
+impl<C: Check> CaptureKind for PairAnalyser<C> {
     type Symbol = (bool, bool);
 
     type Body = PackedPairs;
 
     type Few = ArrayVec<(bool, bool), 4>;
 
-    ghost tap = { pair_tap C.check };
+    ghost kind = { two_line_kind C.check };
 
     fn new(
         alloc: Global,
@@ -111,7 +111,7 @@ impl<C: Check> Tap for PairAnalyser<C> {
     }
 
     #[inline(always)]
-    fn take_octet(
+    fn decode_octet(
         body: &mut PackedPairs,
         octet: u8,
     ) -> Result<ArrayVec<(bool, bool), 4>, PackedFault> {
@@ -125,17 +125,17 @@ impl<C: Check> Tap for PairAnalyser<C> {
     }
 
     #[inline(always)]
-    fn take_symbol<W: Write>(
+    fn analyse_symbol<W: Write>(
         symbol: (bool, bool),
         run: &mut CaptureRun<Self>,
         w: &mut W,
     ) -> Result<(), ToolFault> {
         let (first, second) = symbol;
-        take_pairs(&[u8::from(first)], &[u8::from(second)], 1, run, w)
+        analyse_pairs(&[u8::from(first)], &[u8::from(second)], 1, run, w)
     }
 
     #[inline(always)]
-    fn take_text<W: Write>(
+    fn analyse_text<W: Write>(
         octets: &[u8],
         run: &mut CaptureRun<Self>,
         w: &mut W,
@@ -148,12 +148,12 @@ impl<C: Check> Tap for PairAnalyser<C> {
         let mut first = [0; BLOCK];
         let mut second = [0; BLOCK];
         let next = TextPairs::part(octets, &mut first, &mut second);
-        take_pairs(&first, &second, 8 * next.filled, run, w)?;
+        analyse_pairs(&first, &second, 8 * next.filled, run, w)?;
         Ok(next.taken)
     }
 
     #[inline(always)]
-    fn take_packed<W: Write>(
+    fn analyse_packed<W: Write>(
         body: &mut PackedPairs,
         octets: &[u8],
         run: &mut CaptureRun<Self>,
@@ -169,7 +169,7 @@ impl<C: Check> Tap for PairAnalyser<C> {
         let mut first = [0; BLOCK];
         let mut second = [0; BLOCK];
         body.take_all(whole, &mut first, &mut second);
-        take_pairs(&first, &second, 4 * whole.len(), run, w)?;
+        analyse_pairs(&first, &second, 4 * whole.len(), run, w)?;
         Ok(count)
     }
 

@@ -6,7 +6,7 @@ ghost use Rattle.bus_line.specs.Encoding.{AfterCalls};
 ghost use Rattle.bus_encode.specs.Encode.{bits_text};
 ghost use Rattle.bus_encode.specs.Internal.EncodeState.{call_of, IsSized};
 
-use crate::order::Order;
+use crate::encode_request::EncodeRequest;
 use arrayvec::ArrayVec;
 use bus_line::{BitSink, LineEncoder, SinkRefused};
 
@@ -54,18 +54,18 @@ impl BitSink for CallBits {
 }
 
 /// The bits that the line gains by a call.
-fn bits_of(encoder: &mut LineEncoder, order: &Order) -> ArrayVec<bool, MOST>
+fn bits_of(encoder: &mut LineEncoder, request: &EncodeRequest) -> ArrayVec<bool, MOST>
     requires going { encoder.old.ended ≡ false }
-    requires sized { IsSized (call_of order.now) }
+    requires sized { IsSized (call_of request.now) }
     ensures after { (calls : List Call) → AfterCalls encoder.old calls →
-        AfterCalls encoder.new (calls ++ call_of order.now ∷ []) }
-    ensures bits { (calls : List Call) → AfterCalls encoder.old calls → result.items ≡ gain calls (call_of order.now) }
+        AfterCalls encoder.new (calls ++ call_of request.now ∷ []) }
+    ensures bits { (calls : List Call) → AfterCalls encoder.old calls → result.items ≡ gain calls (call_of request.now) }
 {
     let mut sink = CallBits::new();
-    let outcome = match order {
-        Order::Flag => encoder.flag(&mut sink),
-        Order::Idle => encoder.idle(&mut sink),
-        Order::Frame(octets) => encoder.frame(octets, &mut sink),
+    let outcome = match request {
+        EncodeRequest::Flag => encoder.flag(&mut sink),
+        EncodeRequest::Idle => encoder.idle(&mut sink),
+        EncodeRequest::Frame(octets) => encoder.frame(octets, &mut sink),
     };
     match outcome {
         Ok(()) => sink.bits,
@@ -87,16 +87,16 @@ fn text_of(bits: &[bool]) -> ArrayVec<u8, ROOM>
 }
 
 /// The text of what the line gains by a call.
-pub fn call_text(encoder: &mut LineEncoder, order: &Order) -> ArrayVec<u8, ROOM>
+pub fn call_text(encoder: &mut LineEncoder, request: &EncodeRequest) -> ArrayVec<u8, ROOM>
     requires going { encoder.old.ended ≡ false }
-    requires sized { IsSized (call_of order.now) }
+    requires sized { IsSized (call_of request.now) }
     ensures going { encoder.new.ended ≡ false }
     ensures after { (calls : List Call) → AfterCalls encoder.old calls →
-        AfterCalls encoder.new (calls ++ call_of order.now ∷ []) }
+        AfterCalls encoder.new (calls ++ call_of request.now ∷ []) }
     ensures text { (calls : List Call) → AfterCalls encoder.old calls →
-        result.items ≡ bits_text (gain calls (call_of order.now)) }
+        result.items ≡ bits_text (gain calls (call_of request.now)) }
     ensures few { length result.items ≤ 2493 }
 {
-    let bits = bits_of(encoder, order);
+    let bits = bits_of(encoder, request);
     text_of(bits.as_slice())
 }

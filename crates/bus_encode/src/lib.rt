@@ -4,7 +4,7 @@
 mod bits;
 mod encode;
 mod line;
-mod order;
+mod encode_request;
 mod reader;
 
 pub use encode::encode_frames;

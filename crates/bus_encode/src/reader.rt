@@ -12,7 +12,7 @@ ghost use Rattle.bus_encode.specs.Internal.EncodeState.{call_of};
 
 use crate::bits::call_text;
 use crate::line::OpenLine;
-use crate::order::{Order, read_order};
+use crate::encode_request::{EncodeRequest, read_request};
 use bus_line::LineEncoder;
 use bus_text::{ToolFault, put_text};
 use std::io::{Read, Write};
@@ -52,19 +52,19 @@ impl LineReader {
     }
 
     /// Writes what the line gains by a call.
-    fn put_order<W: Write>(&mut self, order: &Order, w: &mut W) -> Result<(), ToolFault>
-        requires sized { IsSized (call_of order.now) }
+    fn put_request<W: Write>(&mut self, request: &EncodeRequest, w: &mut W) -> Result<(), ToolFault>
+        requires sized { IsSized (call_of request.now) }
         requires few { self.old.written < 2 ^ 100 }
         ensures put { (start : Option (List ℕ)) (calls : List Call) →
             HasEncoded start (W.contents w.old) self.old.encoder self.old.written calls → MatchResult result
             (λ _. HasEncoded start (W.contents w.new) self.new.encoder self.new.written
-            (calls ++ call_of order.now ∷ []))
+            (calls ++ call_of request.now ∷ []))
             (λ fault. EncodeHalts start (W.contents w.new) self.new.written
-            (record { calls = calls ++ call_of order.now ∷ []; fault = None }) fault) }
+            (record { calls = calls ++ call_of request.now ∷ []; fault = None }) fault) }
         ensures line { self.new.line ≡ self.old.line }
         ensures few { self.new.written ≤ self.old.written + 2493 }
     {
-        let text = call_text(&mut self.encoder, order);
+        let text = call_text(&mut self.encoder, request);
         match put_text(w, text.as_slice()) {
             Ok(()) => {
                 self.written += text.len() as u128;
@@ -86,8 +86,8 @@ impl LineReader {
         ensures line { self.new.line ≡ self.old.line }
         ensures few { self.new.written ≤ self.old.written + 2493 }
     {
-        match read_order(self.line.text(), self.line.number())? {
-            Some(order) => self.put_order(&order, w),
+        match read_request(self.line.text(), self.line.number())? {
+            Some(request) => self.put_request(&request, w),
             None => Ok(()),
         }
     }

@@ -1,9 +1,9 @@
 -- What single bits are asked about.
 use Rattle.std.specs.Prelude.{ℕ, ◌==◌, Bool, false, ◌∷◌, Option, Some, None, option_and_then}
 use Rattle.bus_line.specs.Report.{Kind, Frame, Report}
-use Rattle.bus_talk.specs.declared.outcome.Outcome.{Outcome}
-use Rattle.bus_talk.specs.declared.outcome.Outcome.TheVariants.{Answered}
-use Rattle.bus_talk.specs.declared.verdict.Verdict.{Verdict}
+use Rattle.bus_pairing.specs.declared.outcome.Outcome.{Outcome}
+use Rattle.bus_pairing.specs.declared.outcome.Outcome.TheVariants.{Answered}
+use Rattle.bus_pairing.specs.declared.verdict.Verdict.{Verdict}
 
 -- a frame of a station, which its first octet names
 abbrev pub is_frame_of : ℕ → Kind → Bool

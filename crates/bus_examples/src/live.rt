@@ -8,7 +8,7 @@ ghost use Rattle.bus_line.specs.After.{After, Led};
 ghost use Rattle.bus_line.specs.Due.{due_at};
 ghost use Rattle.bus_line.specs.Shown.{shown};
 ghost use Rattle.bus_watch.specs.After.{IsAfter, Sees, line};
-ghost use Rattle.bus_talk.specs.Seen.{SeenReport, seen_at};
+ghost use Rattle.bus_pairing.specs.Seen.{SeenReport, seen_at};
 ghost use Rattle.bus_examples.specs.Live.{closes_for, unanswered_in};
 
 use bus_fcs::Check;
@@ -61,7 +61,7 @@ fn station_without_answer(verdict: Option<Verdict>) -> Option<u8>
 pub fn unanswered<C: Check>(analyser: &mut Analyser<C>, bit: bool) -> Result<Option<u8>, PlaceLimit>
     ensures limit { IsErr result ↔ (most_places ≤ analyser.old.decoder.place) }
     ensures station { IfOk result (λ station. (b : List Bool) → IsAfter C.check analyser.old b →
-        station ≡ option_and_then (λ s. unanswered_in s.verdict) (seen_at analyser.old.journal.dictionary
+        station ≡ option_and_then (λ s. unanswered_in s.verdict) (seen_at analyser.old.conversation.dictionary
         (line analyser.old (b ++ bit ∷ [])) analyser.old.decoder.place)) }
     ensures sees { IfOk result (λ station. (seen : Option SeenReport)
         × (station ≡ option_and_then (λ s. unanswered_in s.verdict) seen)

@@ -1,12 +1,12 @@
 //! Commands and replies among the reports of a decoder of your own, as an HDLC controller.
 
 ghost use Rattle.std.specs.Prelude.{◌↔◌, IfErr, IsTrue, MatchResult, length, take};
-ghost use Rattle.bus_talk.specs.Journal.{IsWhole};
+ghost use Rattle.bus_pairing.specs.Conversation.{IsWhole};
 ghost use Rattle.bus_examples.specs.Pairing.{IsRefused, Takes, taken_of};
 
 use arrayvec::ArrayVec;
 use bus_line::{Event, EventKind};
-use bus_talk::{Journal, Line};
+use bus_pairing::{Conversation, Line};
 
 /// What a decoder reports.
 #[derive(Drop)]
@@ -23,7 +23,7 @@ pub struct Received {
 pub enum PairFault {
     /// This report is a frame of fewer than four octets.
     ShortFrame { taken: usize },
-    /// The counters of the journal have no room for this report.
+    /// The counters of the conversation have no room for this report.
     NoRoom { taken: usize },
 }
 
@@ -37,26 +37,26 @@ fn is_whole(kind: EventKind, octets: &[u8]) -> bool
     }
 }
 
-/// Pairs commands with replies among these reports, in the order in which they are decided. The journal then has the
+/// Pairs commands with replies among these reports, in the order in which they are decided. The conversation then has the
 /// verdicts of each station, the last frames and the command that waits.
 ///
 /// # Errors
 ///
 /// - `ShortFrame`: a frame has fewer than four octets.
-/// - `NoRoom`: the counters of the journal are full.
-pub fn pair_reports(journal: &mut Journal, reports: &[Received]) -> Result<(), PairFault>
-    ensures takes { MatchResult result (λ _. Takes journal.old reports.now journal.new)
-        (λ fault. Takes journal.old (take (taken_of fault) reports.now) journal.new) }
-    ensures refused { IfErr result (λ fault. IsRefused fault reports.now journal.new) }
+/// - `NoRoom`: the counters of the conversation are full.
+pub fn pair_reports(conversation: &mut Conversation, reports: &[Received]) -> Result<(), PairFault>
+    ensures takes { MatchResult result (λ _. Takes conversation.old reports.now conversation.new)
+        (λ fault. Takes conversation.old (take (taken_of fault) reports.now) conversation.new) }
+    ensures refused { IfErr result (λ fault. IsRefused fault reports.now conversation.new) }
 {
     for (taken, report) in reports.iter().enumerate() {
         if !is_whole(report.event.kind, &report.octets) {
             return Err(PairFault::ShortFrame { taken });
         }
-        if !journal.has_room() {
+        if !conversation.has_room() {
             return Err(PairFault::NoRoom { taken });
         }
-        journal.take(report.line, report.event, &report.octets);
+        conversation.take(report.line, report.event, &report.octets);
     }
     Ok(())
 }

@@ -2,7 +2,7 @@
 
 ghost use Rattle.std.specs.Prelude.{◌≡◌};
 ghost use Rattle.bus_dictionary.specs.Dictionary.{entry_at};
-ghost use Rattle.bus_talk.specs.Talk.{asks};
+ghost use Rattle.bus_pairing.specs.Talk.{asks};
 
 use bus_dictionary::Dictionary;
 

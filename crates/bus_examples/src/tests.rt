@@ -8,7 +8,7 @@ use arrayvec::ArrayVec;
 use bus_dictionary::Dictionary;
 use bus_fcs::{BitCheck, Check, OctetCheck};
 use bus_line::{Cause, EncodeFault, Event, EventKind, LineDecoder, Span};
-use bus_talk::{Journal, Line};
+use bus_pairing::{Conversation, Line};
 use bus_watch::{Analyser, FeedFault, LoggedPiece};
 use std::alloc::Global;
 use std::fmt::{Debug, Display};
@@ -196,24 +196,24 @@ fn reports_of_another_decoder(rt: HostRuntime) {
         received(Line::Second, EventKind::Frame, 500, REPLY_OCTETS),
     ];
     let dictionary = calls(&rt, rt.alloc());
-    let mut journal = Journal::new(rt.alloc(), dictionary, 16).expect(&rt, "memory");
-    let ending = pair_reports(&mut journal, &reports);
+    let mut conversation = Conversation::new(rt.alloc(), dictionary, 16).expect(&rt, "memory");
+    let ending = pair_reports(&mut conversation, &reports);
     let want = Err(PairFault::ShortFrame { taken: 6 });
     same(&rt, ending, want, "a frame of three octets");
-    let counts = journal.counts(16);
+    let counts = conversation.counts(16);
     same(
         &rt,
         [counts.answered, counts.spoilt],
         [1, 1],
         "the verdicts",
     );
-    let waits = journal.pending().map(|command| command.span.first);
+    let waits = conversation.pending().map(|command| command.span.first);
     same(&rt, waits, Some(400), "the call that waits");
     let reply = [received(Line::Second, EventKind::Frame, 500, REPLY_OCTETS)];
-    let ending = pair_reports(&mut journal, &reply);
+    let ending = pair_reports(&mut conversation, &reply);
     same(&rt, ending, Ok(()), "its reply");
-    same(&rt, journal.counts(16).answered, 2, "both replies");
-    same(&rt, journal.kept_len(), 5, "the frames");
+    same(&rt, conversation.counts(16).answered, 2, "both replies");
+    same(&rt, conversation.kept_len(), 5, "the frames");
 }
 
 #[test]

@@ -16,11 +16,11 @@ use Rattle.bus_line.specs.Due.{current, placed}
 use Rattle.bus_line.specs.Internal.LineState.{LineState}
 use Rattle.bus_line.specs.Internal.Tracks.{HasTaken, Tracks}
 use Rattle.bus_line.specs.After.{After}
-use Rattle.bus_line.specs.Internal.Settled.{IsCalm, IsWord, IsStop}
+use Rattle.bus_line.specs.Internal.Settled.{HasNoStop, IsWord, IsStop}
 use Rattle.bus_line.proofs.DueMoreLemmas.{placed-more}
 use Rattle.bus_line.proofs.DecideLemmas.{nothing-due}
 use Rattle.bus_line.proofs.WordLemmas.{last-below, word-made, word-just}
-use Rattle.bus_line.proofs.SettleLemmas.{next-bit, mark-calm}
+use Rattle.bus_line.proofs.SettleLemmas.{next-bit, mark-no_stop}
 
 -- ---- the word
 
@@ -34,37 +34,37 @@ word-joined d n x b taken few small =
     ap (bit_or d.last_bits) shifted ∙ (or_shifted_r x 16 d.last_bits low ∙ omega arith) in
     joined ∙ word-made d.last_bits x b (bits_of n x) taken.last_bits (sym (number-bits n x small))
 
--- before the first stop all is calm
-pub calm-before : (w n : ℕ) (b bits : List Bool) → IsWord w b bits → n ≤ length bits →
-    ((i : ℕ) → i < n → IsStop w i → ⊥) → IsCalm b bits n
-calm-before w n b bits word within calm = λ i before.
+-- there is none before the first stop
+pub no_stop-before : (w n : ℕ) (b bits : List Bool) → IsWord w b bits → n ≤ length bits →
+    ((i : ℕ) → i < n → IsStop w i → ⊥) → HasNoStop b bits n
+no_stop-before w n b bits word within no_stop = λ i before.
     let six = word-just 6 9 w i b bits refl word (omega (arith, within, before)) in
     let more = word-just 14 1 w i b bits refl word (omega (arith, within, before)) in
-    ((λ run. calm i before (inl (omega (arith, six.1 run)))), λ run. calm i before (inr (omega (arith, more.1 run))))
+    ((λ run. no_stop i before (inl (omega (arith, six.1 run)))), λ run. no_stop i before (inr (omega (arith, more.1 run))))
 
--- ---- calm bits decide nothing
+-- ---- bits without a stop decide nothing
 
-pub calm-placed : (origin longest n : ℕ) (b bits : List Bool) → IsCalm b bits n → (i : ℕ) → i ≤ n → i ≤ length bits →
+pub no_stop-placed : (origin longest n : ℕ) (b bits : List Bool) → HasNoStop b bits n → (i : ℕ) → i ≤ n → i ≤ length bits →
     placed origin longest (b ++ take i bits) ≡ placed origin longest b
-calm-placed origin longest n b bits calm zero within inside = ap (placed origin longest) (append-nil b)
-calm-placed origin longest n b bits calm (suc i) within inside =
+no_stop-placed origin longest n b bits no_stop zero within inside = ap (placed origin longest) (append-nil b)
+no_stop-placed origin longest n b bits no_stop (suc i) within inside =
     let u = b ++ take i bits in
     let x = get_or bits i false in
-    let here = calm i (omega (arith, within)) in
+    let here = no_stop i (omega (arith, within)) in
     let nothing = nothing-due longest u x here.0 here.1 in
     ap (placed origin longest) (next-bit i b bits (omega (arith, inside)))
     ∙ (placed-more origin longest u x None (sym (ap (option_map (moved origin)) nothing))
-    ∙ (append-nil (placed origin longest u) ∙ calm-placed origin longest n b bits calm i (omega (arith, within))
+    ∙ (append-nil (placed origin longest u) ∙ no_stop-placed origin longest n b bits no_stop i (omega (arith, within))
     (omega (arith, inside))))
 
 -- what is settled with the mark before them is so with theirs
-pub calm-after : {C : Type 0} (view : CheckView C) (n : ℕ) (d : LineState C) (b bits : List Bool) →
-    IsCalm b bits n → n ≤ length bits → Tracks view d (b ++ take n bits) (current b) →
+pub no_stop-after : {C : Type 0} (view : CheckView C) (n : ℕ) (d : LineState C) (b bits : List Bool) →
+    HasNoStop b bits n → n ≤ length bits → Tracks view d (b ++ take n bits) (current b) →
     After view d (b ++ take n bits)
-calm-after view n d b bits calm within tracks =
-    subst (Tracks view d (b ++ take n bits)) (sym (mark-calm b bits n n calm (omega arith) within)) tracks
+no_stop-after view n d b bits no_stop within tracks =
+    subst (Tracks view d (b ++ take n bits)) (sym (mark-no_stop b bits n n no_stop (omega arith) within)) tracks
 
--- ---- the bit after calm bits
+-- ---- the bit after bits without a stop
 
 last-list : (n : ℕ) (b bits : List Bool) → n < length bits →
     b ++ take (n + 1) bits ≡ (b ++ take n bits) ++ get_or bits n false ∷ []
@@ -72,43 +72,43 @@ last-list n b bits inside = let next : n + 1 ≡ suc n = omega arith in rw next 
 
 -- is still to be decided
 pub tracks-last : {C : Type 0} (view : CheckView C) (n : ℕ) (d : LineState C) (b bits : List Bool) →
-    IsCalm b bits n → n < length bits → Tracks view d (b ++ take (n + 1) bits) (current b)
+    HasNoStop b bits n → n < length bits → Tracks view d (b ++ take (n + 1) bits) (current b)
     → Tracks view d ((b ++ take n bits) ++ get_or bits n false ∷ []) (current (b ++ take n bits))
-tracks-last view n d b bits calm inside tracks =
-    rw (← last-list n b bits inside, mark-calm b bits n n calm (omega arith) (omega (arith, inside))) tracks
+tracks-last view n d b bits no_stop inside tracks =
+    rw (← last-list n b bits inside, mark-no_stop b bits n n no_stop (omega arith) (omega (arith, inside))) tracks
 
 -- ---- all together
 
--- a run of calm bits that takes all of them
-pub record Calm (w n x : ℕ) (b : List Bool) : Type 0 where
+-- a run of bits without a stop that takes all of them
+pub record NoStop (w n x : ℕ) (b : List Bool) : Type 0 where
   pub word : IsWord w b (bits_of n x)
-  pub calm : IsCalm b (bits_of n x) n
+  pub no_stop : HasNoStop b (bits_of n x) n
 
-pub is_calm : (w n m x : ℕ) (b : List Bool) → IsWord w b (bits_of n x) → m ≡ n → ((i : ℕ) → i < m → IsStop w i → ⊥) →
-    Calm w n x b
-is_calm w n m x b word all calm =
+pub has_no_stop : (w n m x : ℕ) (b : List Bool) → IsWord w b (bits_of n x) → m ≡ n → ((i : ℕ) → i < m → IsStop w i → ⊥) →
+    NoStop w n x b
+has_no_stop w n m x b word all no_stop =
     let size = length-bits n x in
     record {
       word = word;
-      calm = calm-before w n b (bits_of n x) word (omega (arith, size))
-          (λ i before. calm i (omega (arith, all, before)));
+      no_stop = no_stop-before w n b (bits_of n x) word (omega (arith, size))
+          (λ i before. no_stop i (omega (arith, all, before)));
     }
 
--- a run of calm bits that a stop ends
+-- a run of bits without a stop that a stop ends
 pub record Last (w n m x : ℕ) (b : List Bool) : Type 0 where
   pub word : IsWord w b (bits_of n x)
-  pub calm : IsCalm b (bits_of n x) m
+  pub no_stop : HasNoStop b (bits_of n x) m
   pub within : m < length (bits_of n x)
   pub front : take (m + 1) (bits_of n x) ≡ bits_of (m + 1) x
 
 pub is_last : (w n m x : ℕ) (b : List Bool) → IsWord w b (bits_of n x) → m ≤ n → m ≢ n →
     ((i : ℕ) → i < m → IsStop w i → ⊥) → Last w n m x b
-is_last w n m x b word within not-all calm =
+is_last w n m x b word within not-all no_stop =
     let size = length-bits n x in
     let inside : m < n = elim (cases_lt m n) [ inl is ↦ is | inr far ↦ absurd (not-all (omega arith)) ] in
     record {
       word = word;
-      calm = calm-before w m b (bits_of n x) word (omega (arith, size, inside)) calm;
+      no_stop = no_stop-before w m b (bits_of n x) word (omega (arith, size, inside)) no_stop;
       within = omega (arith, size, inside);
       front = bits-front (m + 1) n x (omega (arith, inside));
     }

@@ -9,9 +9,9 @@ use Rattle.bus_fcs.specs.Check.{CheckView}
 use Rattle.bus_line.specs.Internal.Run.{ones_after, ones_at_end}
 use Rattle.bus_line.specs.Report.{Abort, Idle}
 use Rattle.bus_line.specs.Due.{Mark, FlagAt, AbortAt, current, class_of, piece_report, due_at}
-use Rattle.bus_line.specs.Internal.Look.{IsFound}
-use Rattle.bus_line.specs.declared.decoder.look.Found.{Found}
-use Rattle.bus_line.specs.declared.decoder.look.Found.TheVariants.{Closing, Seven, Fifteen, Other}
+use Rattle.bus_line.specs.Internal.EndedMark.{HasEnded}
+use Rattle.bus_line.specs.declared.decoder.ended_mark.EndedMark.{EndedMark}
+use Rattle.bus_line.specs.declared.decoder.ended_mark.EndedMark.TheVariants.{FlagMark, AbortMark, IdleMark, Other}
 use Rattle.bus_line.specs.Internal.LineState.{LineState}
 use Rattle.bus_line.specs.Internal.Tracks.{settled_data, padded, HasTaken, Tracks}
 use Rattle.bus_line.proofs.StepStreamLemmas.{Decides}
@@ -32,24 +32,24 @@ pub mark-kept : (b : List Bool) (bit : Bool) → ones_at_end b ≢ 6 → ones_at
 mark-kept b bit six fourteen = (decides-nothing 3 b bit six fourteen).leaves
 
 -- what the bit decides, by what was found
-pub closing : (longest : ℕ) (b : List Bool) (bit : Bool) → IsFound bit (ones_at_end b) (length b) Closing
+pub closing : (longest : ℕ) (b : List Bool) (bit : Bool) → HasEnded bit (ones_at_end b) (length b) FlagMark
     → Decides longest b bit
     (piece_report (λ p. class_of longest (slice_range (b ++ bit ∷ []) (p + 8) (length b - 7))) (current b)
     (length b - 7)) (FlagAt (length b - 7))
 closing longest b true found = absurd (cc (found.0))
 closing longest b false found = at-flag longest b found.1 found.2
 
-pub seven : (longest : ℕ) (b : List Bool) (bit : Bool) → IsFound bit (ones_at_end b) (length b) Seven
+pub seven : (longest : ℕ) (b : List Bool) (bit : Bool) → HasEnded bit (ones_at_end b) (length b) AbortMark
     → Decides longest b bit (piece_report (λ p. Abort) (current b) (length b - 6)) (AbortAt (length b - 6))
 seven longest b false found = absurd (cc (found.0))
 seven longest b true found = at-abort longest b found.1
 
-pub fifteen : (longest : ℕ) (b : List Bool) (bit : Bool) → IsFound bit (ones_at_end b) (length b) Fifteen
+pub fifteen : (longest : ℕ) (b : List Bool) (bit : Bool) → HasEnded bit (ones_at_end b) (length b) IdleMark
     → Decides longest b bit (Some (record { kind = Idle; first = length b - 14; past = length b + 1 })) (current b)
 fifteen longest b false found = absurd (cc (found.0))
 fifteen longest b true found = at-idle longest b found.1
 
-pub other : (longest : ℕ) (b : List Bool) (bit : Bool) → IsFound bit (ones_at_end b) (length b) Other →
+pub other : (longest : ℕ) (b : List Bool) (bit : Bool) → HasEnded bit (ones_at_end b) (length b) Other →
     Decides longest b bit None (current b)
 other longest b bit found = at-other longest b bit found.0 found.1
 
@@ -111,11 +111,11 @@ ones_within b = omega (arith, run-within 0 b)
 
 -- what was found in the last sixteen bits, by all of them
 pub found-here : {C : Type 0} (e d : LineState C) → e ≡ d → (b : List Bool) (bit : Bool) → HasTaken d (b ++ bit ∷ []) →
-    (f : Found)
+    (f : EndedMark)
     → ((b : List Bool) (bit : Bool) → e.last_bits ≡ number (drop (length (b ++ bit ∷ [])) (padded (b ++ bit ∷ []))) →
-    e.place - 1 - e.origin ≡ length b → IsFound bit (ones_at_end b) (e.place - 1 - e.origin) f)
-    → IsFound bit (ones_at_end b) (length b) f
+    e.place - 1 - e.origin ≡ length b → HasEnded bit (ones_at_end b) (e.place - 1 - e.origin) f)
+    → HasEnded bit (ones_at_end b) (length b) f
 found-here e d same b bit taken f found =
     let here : HasTaken e (b ++ bit ∷ []) = subst (λ x. HasTaken x (b ++ bit ∷ [])) (sym same) taken in
     let count : e.place - 1 - e.origin ≡ length b = omega (arith, here.place, length_push b bit) in
-    subst (λ k. IsFound bit (ones_at_end b) k f) count (found b bit here.last_bits count)
+    subst (λ k. HasEnded bit (ones_at_end b) k f) count (found b bit here.last_bits count)

@@ -19,13 +19,13 @@ use Rattle.bus_line.specs.After.{After}
 use Rattle.bus_line.specs.Internal.Run.{ones_at_end}
 use Rattle.bus_line.specs.Internal.LineState.{LineState}
 use Rattle.bus_line.specs.Internal.Tracks.{Holds, Counts, Tracks, padded, settled_data}
-use Rattle.bus_line.specs.Internal.Settled.{IsCalm}
+use Rattle.bus_line.specs.Internal.Settled.{HasNoStop}
 use Rattle.bus_line.proofs.DueMoreLemmas.{placed-more}
 use Rattle.bus_line.proofs.DueStreamLemmas.{at-flag, ones_after-last}
 use Rattle.bus_line.proofs.StepLemmas.{counts-kept, early-settled, data-start, holds-of, moved-counts}
 use Rattle.bus_line.proofs.WordLemmas.{length-front}
-use Rattle.bus_line.proofs.SettleLemmas.{next-bit, mark-calm}
-use Rattle.bus_line.proofs.AdvanceLemmas.{calm-placed}
+use Rattle.bus_line.proofs.SettleLemmas.{next-bit, mark-no_stop}
+use Rattle.bus_line.proofs.AdvanceLemmas.{no_stop-placed}
 
 bits-flag : bits_of 8 126 ≡ flag
 unfolding bits_of
@@ -87,8 +87,8 @@ run-in-flag b ends (suc i) within =
     ap (λ (x : List Bool). ones_at_end (b ++ x)) (front-of-flag i (omega (arith, within)))
     ∙ (ones_after-last 0 b i ∙ omega arith)
 
-pub flag-calm : (b : List Bool) → EndsInFlag b → IsCalm b flag 7
-flag-calm b ends = λ i before.
+pub flag-no_stop : (b : List Bool) → EndsInFlag b → HasNoStop b flag 7
+flag-no_stop b ends = λ i before.
     let run = run-in-flag b ends i (omega (arith, before)) in
     ((λ six. omega (arith, run, six, before)), λ more. omega (arith, run, more, before))
 
@@ -107,7 +107,7 @@ flag-due longest b ends =
     let c : List Bool = u ++ false ∷ [] in
     let whole : b ++ flag ≡ c = sym (append_assoc b opening (false ∷ [])) in
     let kind : ℕ → Kind = λ p. class_of longest (slice_range c (p + 8) (length u - 7)) in
-    let last : current u ≡ FlagAt (length b - 8) = mark-calm b flag 7 7 (flag-calm b ends) (omega arith) (omega arith)
+    let last : current u ≡ FlagAt (length b - 8) = mark-no_stop b flag 7 7 (flag-no_stop b ends) (omega arith) (omega arith)
     ∙ flag-last b ends in
     ap (λ (x : List Bool). due_at longest x (length b + 7)) whole
     ∙ (ap (due_at longest c) (sym size)
@@ -118,7 +118,7 @@ flag-due longest b ends =
 pub flag-placed : (origin longest : ℕ) (b : List Bool) → EndsInFlag b → (i : ℕ) → i ≤ 7 →
     placed origin longest (b ++ take i flag) ≡ placed origin longest b
 flag-placed origin longest b ends i within =
-    calm-placed origin longest 7 b flag (flag-calm b ends) i within (omega (arith, within))
+    no_stop-placed origin longest 7 b flag (flag-no_stop b ends) i within (omega (arith, within))
 
 pub flag-adds : (origin longest : ℕ) (b : List Bool) → EndsInFlag b →
     placed origin longest (b ++ flag) ≡ placed origin longest b
@@ -143,7 +143,7 @@ flag-counts cost d b ends counts (suc i) within =
     let room = flag-length b ends in
     let size : length u ≡ length b + i = length-front i b flag (omega (arith, within)) in
     let last : current u ≡ FlagAt (length b - 8) =
-    mark-calm b flag 7 i (flag-calm b ends) (omega (arith, within)) (omega (arith, within)) ∙ flag-last b ends in
+    mark-no_stop b flag 7 i (flag-no_stop b ends) (omega (arith, within)) (omega (arith, within)) ∙ flag-last b ends in
     rw (next-bit i b flag (omega (arith, within)))
     (counts-kept cost d u bit (early-settled u bit (length b - 8) last (omega (arith, size, room, within)))
     (flag-counts cost d b ends counts i (omega (arith, within))))

@@ -15,9 +15,9 @@ use Rattle.bus_line.specs.Report.{Report, Kind, Frame, Damaged, Overlong, Abort,
 use Rattle.bus_line.specs.Due.{Mark, NoMark, FlagAt, AbortAt, current, class_of, class_of_read, piece_report, due_at}
 use Rattle.bus_line.specs.Due.{reports, places}
 use Rattle.bus_line.specs.Ledger.{is_inserted, is_stored, stored, stored_from, kind_octets, octet_count, copied}
-use Rattle.bus_line.specs.Internal.Look.{IsFound}
-use Rattle.bus_line.specs.declared.decoder.look.Found.{Found}
-use Rattle.bus_line.specs.declared.decoder.look.Found.TheVariants.{Closing, Seven, Fifteen, Other}
+use Rattle.bus_line.specs.Internal.EndedMark.{HasEnded}
+use Rattle.bus_line.specs.declared.decoder.ended_mark.EndedMark.{EndedMark}
+use Rattle.bus_line.specs.declared.decoder.ended_mark.EndedMark.TheVariants.{FlagMark, AbortMark, IdleMark, Other}
 use Rattle.bus_line.specs.Internal.Tracks.{settled_data}
 use Rattle.bus_line.proofs.DueMoreLemmas.{reports-more}
 use Rattle.bus_line.proofs.LedgerSettledLemmas.{one_if, one-place, stored-more, is_stored-append, is_settled-late}
@@ -45,17 +45,17 @@ abbrev IsPaid : ℕ → List Bool → Type 0
 IsPaid longest b = copied longest b + open_stored longest b (current b) ≤ stored longest b
 
 -- what the newest bit ends
-find : (bit : Bool) (run count : ℕ) → (f : Found) × IsFound bit run count f
+find : (bit : Bool) (run count : ℕ) → (f : EndedMark) × HasEnded bit run count f
 find true run count =
     elim (cases_eq run 6) [
-      | inl six ↦ (Seven, (refl, six))
+      | inl six ↦ (AbortMark, (refl, six))
       | inr not-six ↦ elim (cases_eq run 14)
-          [ inl more ↦ (Fifteen, (refl, more)) | inr less ↦ (Other, ((λ is. absurd (cc)), λ is. (not-six, less))) ]
+          [ inl more ↦ (IdleMark, (refl, more)) | inr less ↦ (Other, ((λ is. absurd (cc)), λ is. (not-six, less))) ]
     ]
 find false run count =
     elim (cases_eq run 6) [
       | inl six ↦ elim (cases_lt 6 count)
-          [ inl far ↦ (Closing, (refl, six, far)) | inr few ↦ (Other, ((λ _ _ far. omega arith), λ is. absurd (cc))) ]
+          [ inl far ↦ (FlagMark, (refl, six, far)) | inr few ↦ (Other, ((λ _ _ far. omega arith), λ is. absurd (cc))) ]
       | inr not-six ↦ (Other, ((λ is run long. not-six run), λ is. absurd (cc)))
     ]
 
@@ -232,16 +232,16 @@ paid-flag longest b bit due paid long mark copies =
     let none = none-behind longest c (length b - 7) (omega (arith, length_push b bit)) in
     omega (arith, paid, copies, opened, none, piece-octets longest b bit (current b) refl, stored-more longest b bit)
 
-paid-step : (longest : ℕ) (b : List Bool) (bit : Bool) (f : Found) → IsFound bit (ones_at_end b) (length b) f →
+paid-step : (longest : ℕ) (b : List Bool) (bit : Bool) (f : EndedMark) → HasEnded bit (ones_at_end b) (length b) f →
     IsPaid longest b → IsPaid longest (b ++ bit ∷ [])
-paid-step longest b bit Closing found paid =
+paid-step longest b bit FlagMark found paid =
     let decides = closing longest b bit found in
     paid-flag longest b bit None paid found.2 decides.leaves (copied-more longest b bit _ decides.answers)
-paid-step longest b bit Seven found paid =
+paid-step longest b bit AbortMark found paid =
     let decides = seven longest b bit found in
     paid-abort longest b bit (length b - 6) paid decides.leaves
     (copied-more longest b bit _ decides.answers ∙ omega (arith, no-octets (current b) (length b - 6)))
-paid-step longest b bit Fifteen found paid =
+paid-step longest b bit IdleMark found paid =
     let decides = fifteen longest b bit found in
     paid-kept longest b bit paid decides.leaves (copied-more longest b bit _ decides.answers ∙ omega arith)
 paid-step longest b bit Other found paid =

@@ -23,9 +23,9 @@ pub mod TracksAppendLemmas
 pub mod DecideLemmas
 pub mod SettleLemmas
 pub mod AdvanceLemmas
-pub mod TellLemmas
-pub mod QuietLemmas
-pub mod ReachLemmas
+pub mod DecidesLemmas
+pub mod TimeFillLemmas
+pub mod RunsToLemmas
 pub mod FlagCountLemmas
 pub mod FlagLemmas
 pub mod FlagRunLemmas

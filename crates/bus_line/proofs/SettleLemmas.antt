@@ -18,7 +18,7 @@ use Rattle.bus_line.specs.Internal.LineState.{LineState}
 use Rattle.bus_line.specs.Internal.LineView.{settles_from}
 use Rattle.bus_line.specs.Internal.Tracks.{first_of, settled_data, Holds, Counts, Tracks}
 use Rattle.bus_line.specs.After.{After}
-use Rattle.bus_line.specs.Internal.Settled.{IsCalm, IsWord, LagsBy, data_in_word, octets_more}
+use Rattle.bus_line.specs.Internal.Settled.{HasNoStop, IsWord, LagsBy, data_in_word, octets_more}
 use Rattle.bus_line.proofs.LedgerSettledLemmas.{assembled-more, stored-more}
 use Rattle.bus_line.proofs.LedgerRankLemmas.{stores-now}
 use Rattle.bus_line.proofs.WordLemmas.{length-front, word-inserted, word-bit, word-next}
@@ -133,29 +133,29 @@ settles-late longest p w i b bits bit word inside mark far =
           rw (shown, bit-is _ _ same-bit) (settles-data longest p u bit mark late inserted)
     ]
 
--- ---- calm bits
+-- ---- bits without a stop
 
 -- they leave the last mark
-pub mark-calm : (b bits : List Bool) (n i : ℕ) → IsCalm b bits n → i ≤ n → i ≤ length bits →
+pub mark-no_stop : (b bits : List Bool) (n i : ℕ) → HasNoStop b bits n → i ≤ n → i ≤ length bits →
     current (b ++ take i bits) ≡ current b
-mark-calm b bits n zero calm within inside = ap current (append-nil b)
-mark-calm b bits n (suc i) calm within inside =
-    let here = calm i (omega (arith, within)) in
+mark-no_stop b bits n zero no_stop within inside = ap current (append-nil b)
+mark-no_stop b bits n (suc i) no_stop within inside =
+    let here = no_stop i (omega (arith, within)) in
     ap current (next-bit i b bits (omega (arith, inside)))
     ∙ (mark-kept (b ++ take i bits) (get_or bits i false) here.0 here.1
-    ∙ mark-calm b bits n i calm (omega (arith, within)) (omega (arith, inside)))
+    ∙ mark-no_stop b bits n i no_stop (omega (arith, within)) (omega (arith, inside)))
 
 -- where no flag was last they settle nothing, nor does the bit after them
-counts-none : {C : Type 0} (cost origin n : ℕ) (d : LineState C) (b bits : List Bool) → IsCalm b bits n →
+counts-none : {C : Type 0} (cost origin n : ℕ) (d : LineState C) (b bits : List Bool) → HasNoStop b bits n →
     first_of origin (current b) ≡ None → Counts cost d b → (i : ℕ) → i ≤ n + 1 → i ≤ length bits →
     Counts cost d (b ++ take i bits)
-counts-none cost origin n d b bits calm none counts zero within inside = rw (append-nil b) counts
-counts-none cost origin n d b bits calm none counts (suc i) within inside =
+counts-none cost origin n d b bits no_stop none counts zero within inside = rw (append-nil b) counts
+counts-none cost origin n d b bits no_stop none counts (suc i) within inside =
     rw (next-bit i b bits (omega (arith, inside)))
     (counts-kept cost d (b ++ take i bits) (get_or bits i false)
     (none-settled (b ++ take i bits) (get_or bits i false) origin
-    (ap (first_of origin) (mark-calm b bits n i calm (omega (arith, within)) (omega (arith, inside))) ∙ none))
-    (counts-none cost origin n d b bits calm none counts i (omega (arith, within)) (omega (arith, inside))))
+    (ap (first_of origin) (mark-no_stop b bits n i no_stop (omega (arith, within)) (omega (arith, inside))) ∙ none))
+    (counts-none cost origin n d b bits no_stop none counts i (omega (arith, within)) (omega (arith, inside))))
 
 settled-shifted : (w skip i : ℕ) → skip ≤ i → late_at (w / 2 ^ skip) (i - skip) ≡ late_at w i
 settled-shifted w skip i past =
@@ -164,21 +164,21 @@ settled-shifted w skip i past =
     rw (shr-shr w skip (3 + (i - skip)), five, shr-shr w skip (8 + (i - skip)), bit) refl
 
 -- and else those that come late enough settle what the word shows
-settles-calm : (longest p w n skip : ℕ) (b bits : List Bool) → current b ≡ FlagAt p → IsCalm b bits n →
+settles-no_stop : (longest p w n skip : ℕ) (b bits : List Bool) → current b ≡ FlagAt p → HasNoStop b bits n →
     IsWord w b bits → skip ≡ p + 16 - length b → (i : ℕ) → i ≤ n + 1 → i ≤ length bits
     → Settles longest p b (b ++ take i bits) (data_in_word (w / 2 ^ skip) (i - skip))
-settles-calm longest p w n skip b bits mark calm word skipped zero within inside =
+settles-no_stop longest p w n skip b bits mark no_stop word skipped zero within inside =
     let none : 0 - skip ≡ 0 = omega arith in
     rw none (settles-none longest p b (b ++ []) (append-nil b))
-settles-calm longest p w n skip b bits mark calm word skipped (suc i) within inside =
+settles-no_stop longest p w n skip b bits mark no_stop word skipped (suc i) within inside =
     let u = b ++ take i bits in
     let x = get_or bits i false in
     let size : length (b ++ take i bits) ≡ length b + i = length-front i b bits (omega (arith, inside)) in
     let flag : current (b ++ take i bits) ≡ FlagAt p =
-    mark-calm b bits n i calm (omega (arith, within)) (omega (arith, inside)) ∙ mark in
+    mark-no_stop b bits n i no_stop (omega (arith, within)) (omega (arith, inside)) ∙ mark in
     let shown : List Bool = data_in_word (w / 2 ^ skip) (i - skip) in
     let before =
-    settles-calm longest p w n skip b bits mark calm word skipped i (omega (arith, within)) (omega (arith, inside)) in
+    settles-no_stop longest p w n skip b bits mark no_stop word skipped i (omega (arith, within)) (omega (arith, inside)) in
     let next = next-bit i b bits (omega (arith, inside)) in
     elim (cases_lt i skip) [
       | inl soon ↦
@@ -264,22 +264,22 @@ lags-word view d b bits w t place last_bits shifted stands word within at last =
 
 -- no flag was last, or all bits come too early after it
 pub word-unsettled : {C : Type 0} (view : CheckView C) (at w t : ℕ) (first : Option ℕ) (d : LineState C)
-    (b bits : List Bool) → IsWord w b bits → t ≤ length bits → IsCalm b bits (t - 1) →
+    (b bits : List Bool) → IsWord w b bits → t ≤ length bits → HasNoStop b bits (t - 1) →
     LagsBy view d b (take t bits)
     → d.first ≡ first → at ≡ settles_from first → d.place ≤ at → Tracks view d (b ++ take t bits) (current b)
-word-unsettled view at w t None d b bits word within calm lags opened settles-at early =
+word-unsettled view at w t None d b bits word within no_stop lags opened settles-at early =
     let none : first_of d.origin (current b) ≡ None = sym lags.first ∙ opened in
     record {
       has_taken = lags.has_taken;
       first = lags.first;
       piece = none-holds view.folded d (b ++ take t bits) d.origin (current b) none;
       counts =
-          counts-none view.cost d.origin (t - 1) d b bits calm none lags.counts t (omega arith) within;
+          counts-none view.cost d.origin (t - 1) d b bits no_stop none lags.counts t (omega arith) within;
     }
-word-unsettled view at w t (Some first) d b bits word within calm lags opened settles-at early =
+word-unsettled view at w t (Some first) d b bits word within no_stop lags opened settles-at early =
     let flag = first-Some d.origin first (current b) (sym lags.first ∙ opened) in
     let skip = flag.0 + 16 - length b in
-    let settles = settles-calm d.longest flag.0 w (t - 1) skip b bits flag.1 calm word refl t (omega arith) within in
+    let settles = settles-no_stop d.longest flag.0 w (t - 1) skip b bits flag.1 no_stop word refl t (omega arith) within in
     let none-late : t - skip ≡ 0 =
     omega (arith, lags.has_taken.place, length-front t b bits within, flag.2, settles-at, early) in
     let held = holds-of view.folded d b flag.0 (current b) flag.1 lags.piece in
@@ -289,7 +289,7 @@ word-unsettled view at w t (Some first) d b bits word within calm lags opened se
 
 -- from there on data are appended
 pub word-settled : {C : Type 0} (view : CheckView C) (first w t late n x : ℕ)
-    (d e : LineState C) (b bits : List Bool) → IsWord w b bits → t ≤ length bits → IsCalm b bits (t - 1) →
+    (d e : LineState C) (b bits : List Bool) → IsWord w b bits → t ≤ length bits → HasNoStop b bits (t - 1) →
     LagsBy view d b (take t bits)
     → d.first ≡ Some first → first + 8 < d.place → late ≡ min (d.place - (first + 8)) t
     → bits_of n x ≡ data_in_word (w / 2 ^ (t - late)) late
@@ -302,7 +302,7 @@ pub word-settled : {C : Type 0} (view : CheckView C) (first w t late n x : ℕ)
     })
     → e ≡ record d { data_bits = e.data_bits; partial = e.partial; octets = e.octets; check = e.check; spent = e.spent }
     → Tracks view e (b ++ take t bits) (current b)
-word-settled view first w t late n x d e b bits word within calm lags opened far is-late value holds spent kept =
+word-settled view first w t late n x d e b bits word within no_stop lags opened far is-late value holds spent kept =
     let flag = first-Some d.origin first (current b) (sym lags.first ∙ opened) in
     let skip = flag.0 + 16 - length b in
     let held = holds-of view.folded d b flag.0 (current b) flag.1 lags.piece in
@@ -312,7 +312,7 @@ word-settled view first w t late n x d e b bits word within calm lags opened far
     let same-late : late ≡ t - (flag.0 + 16 - length b) = omega (arith, place, front, flag.2, far, is-late) in
     let same-data : bits_of n x ≡ data_in_word (w / 2 ^ skip) (t - skip) =
     value ∙ (ap (λ (j : ℕ). data_in_word (w / 2 ^ j) late) same-skip ∙ ap (data_in_word (w / 2 ^ skip)) same-late) in
-    let settles = settles-calm d.longest flag.0 w (t - 1) skip b bits flag.1 calm word refl t (omega arith) within in
+    let settles = settles-no_stop d.longest flag.0 w (t - 1) skip b bits flag.1 no_stop word refl t (omega arith) within in
     let size : length (bits_of n x) ≡ n = length-bits n x in
     tracks-settled view flag.0 d e b (take t bits) (bits_of n x) lags flag.1 (rw same-data settles)
     (ap (λ (x : LineState _). x.longest) kept) (ap (λ (x : LineState _). x.origin) kept)

@@ -11,10 +11,10 @@ use Rattle.bus_line.specs.Report.{Abort, moved}
 use Rattle.bus_line.specs.Due.{Mark, NoMark, FlagAt, AbortAt, piece_report}
 use Rattle.bus_line.specs.Internal.Tracks.{first_of}
 use Rattle.bus_line.specs.Words.{first_in, IsWithin, state}
-use Rattle.bus_line.specs.declared.line_words.LineWords.{LineWords}
+use Rattle.bus_line.specs.declared.decoder_words.DecoderWords.{DecoderWords}
 use Rattle.bus_line.specs.After.{After}
 use Rattle.bus_line.specs.Internal.LineView.{settles_from}
-use Rattle.bus_line.specs.Internal.Flags.{EndsInFlag, flags, PassesFlags}
+use Rattle.bus_line.specs.Internal.Flags.{EndsInFlag, flags, SkipsFlags}
 use Rattle.bus_line.specs.Internal.Settled.{IsWord, LagsBy}
 use Rattle.bus_line.proofs.SettleLemmas.{lags-word}
 use Rattle.bus_line.proofs.FlagLemmas.{flags-after}
@@ -55,21 +55,21 @@ aborts origin at past end place (FlagAt q) opened is-end within fits late some =
     rw (begun, first, is-end) refl
 
 -- a flag ended at the last bit
-pub shows-flag : {C : Type 0} (view : CheckView C) (w : LineWords) (check : C) (octets : List ℕ)
+pub shows-flag : {C : Type 0} (view : CheckView C) (w : DecoderWords) (check : C) (octets : List ℕ)
     (b : List Bool) → IsWithin w → After view (state w check octets) b → w.settles_at ≡ w.place + 8 → EndsInFlag b
 shows-flag view w check octets b within stands at =
     mark-is view (state w check octets) w.settles_at b stands (settles-told w.settles_at within.settles_late)
     within.place_fits at
 
 -- where flags lead
-pub flags-passed : {C : Type 0} (view : CheckView C) (old new : LineWords) (check : C)
-    (octets : List ℕ) (b : List Bool) (k : ℕ) → PassesFlags old k new → (0 < k → EndsInFlag b) → new.place ≤ 2 ^ 60 →
+pub flags-skipped : {C : Type 0} (view : CheckView C) (old new : DecoderWords) (check : C)
+    (octets : List ℕ) (b : List Bool) (k : ℕ) → SkipsFlags old k new → (0 < k → EndsInFlag b) → new.place ≤ 2 ^ 60 →
     After view (state old check octets) b → After view (state new check octets) (b ++ flags k)
-flags-passed view old new check octets b zero passed ends fits stands =
+flags-skipped view old new check octets b zero passed ends fits stands =
     rw (append-nil b, passed.none refl) stands
-flags-passed view old new check octets b (suc k) passed ends fits stands =
+flags-skipped view old new check octets b (suc k) passed ends fits stands =
     let is = passed.some (omega arith) in
-    let place : new.place ≡ old.place + 8 * suc k = ap (λ (w : LineWords). w.place) is in
+    let place : new.place ≡ old.place + 8 * suc k = ap (λ (w : DecoderWords). w.place) is in
     let first : first_in (old.place + 8 * suc k + 8) ≡ Some (old.place + 8 * suc k) =
     first-at (old.place + 8 * suc k) (omega (arith, place, fits)) in
     let d = state old check octets in
@@ -78,7 +78,7 @@ flags-passed view old new check octets b (suc k) passed ends fits stands =
     rw (is, first) tracks
 
 -- what stays of the words stays of the decoder
-pub kept-state : {C : Type 0} (old new : LineWords) (check before : C) (octets start : List ℕ)
+pub kept-state : {C : Type 0} (old new : DecoderWords) (check before : C) (octets start : List ℕ)
     → new ≡ record old {
       data_bits = new.data_bits;
       assembled = new.assembled;
@@ -95,14 +95,14 @@ pub kept-state : {C : Type 0} (old new : LineWords) (check before : C) (octets s
     }
 kept-state old new check before octets start kept = rw kept refl
 
-pub kept-put : {C : Type 0} (old new : LineWords) (check before : C) (octets start : List ℕ) →
+pub kept-put : {C : Type 0} (old new : DecoderWords) (check before : C) (octets start : List ℕ) →
     new ≡ record old { folded = new.folded; stored = new.stored }
     → state new check octets ≡ record (state old before start)
     { octets = octets; check = check; spent = (state new check octets).spent }
 kept-put old new check before octets start kept = rw kept refl
 
 -- bits that are the last ones now
-pub shift-lags : {C : Type 0} (view : CheckView C) (old new : LineWords) (check : C)
+pub shift-lags : {C : Type 0} (view : CheckView C) (old new : DecoderWords) (check : C)
     (octets : List ℕ) (b bits : List Bool) (w t : ℕ) →
     new ≡ record old { place = old.place + t; last_bits = w / 2 ^ t % 65536 }
     → After view (state old check octets) b → IsWord w b bits → t ≤ length bits →

@@ -37,7 +37,7 @@ pub record Led {C : Type 0} (view : CheckView C) (old : LineState C) (bits : Lis
   pub place : new.place ≡ old.place + length bits
 
 -- these bits lead from old to new, and decide this report and no other; where it is none they decide nothing
-pub record Tells {C : Type 0} (view : CheckView C) (old : LineState C) (bits : List Bool)
+pub record Decides {C : Type 0} (view : CheckView C) (old : LineState C) (bits : List Bool)
     (report : Option Report) (new : LineState C) : Type 0 where
   pub leads : Led view old bits new
   pub says : (b : List Bool) → After view old b
@@ -51,7 +51,7 @@ DecideNothing view d bits =
 -- these bits lead from old to new; the last of them decides this report, if it is one, and no other decides a report
 pub record Advances {C : Type 0} (view : CheckView C) (old : LineState C) (bits : List Bool)
     (report : Option Report) (new : LineState C) : Type 0 where
-  pub tells : Tells view old bits report new
+  pub decides : Decides view old bits report new
   pub before : DecideNothing view old (take (length bits - 1) bits)
 
 -- a frame has no more octets than the longest and its check

@@ -4,9 +4,9 @@ pub mod LineState
 pub mod LineView
 pub mod Settled
 pub mod Flags
-pub mod Quiet
-pub mod Reaches
-pub mod Look
+pub mod TimeFill
+pub mod RunsTo
+pub mod EndedMark
 pub mod Inserting
 pub mod EncoderState
 pub mod EncoderView

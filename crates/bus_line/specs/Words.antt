@@ -2,14 +2,14 @@
 use Rattle.std.specs.Prelude.{◌≢◌, ◌==◌, ℕ, ◌+◌, ◌-◌, ◌*◌, ◌≤◌, ◌^◌, List, length, Option, Some, None, if◌then◌else◌}
 pub use Rattle.bus_line.specs.Internal.LineState.{LineState}
 use Rattle.bus_bits.specs.Limits.{most_places}
-use Rattle.bus_line.specs.declared.line_words.LineWords.{LineWords}
+use Rattle.bus_line.specs.declared.decoder_words.DecoderWords.{DecoderWords}
 
 -- the first place of the open piece, by the place after which each bit settles one of it
 abbrev pub first_in : ℕ → Option ℕ
 first_in at = if at == 2 ^ 62 then None else Some (at - 8)
 
 -- the decoder that these make; how many bits it took is told by its places
-abbrev pub state : {C : Type 0} → LineWords → C → List ℕ → LineState C
+abbrev pub state : {C : Type 0} → DecoderWords → C → List ℕ → LineState C
 state w check octets = record {
   longest = w.longest;
   origin = w.origin;
@@ -31,7 +31,7 @@ state w check octets = record {
 }
 
 -- before the first bit
-abbrev pub fresh_words : ℕ → ℕ → LineWords
+abbrev pub fresh_words : ℕ → ℕ → DecoderWords
 fresh_words longest origin = record {
   longest = longest;
   origin = origin;
@@ -46,7 +46,7 @@ fresh_words longest origin = record {
 }
 
 -- they are within the bounds of a decoder
-pub record IsWithin (w : LineWords) : Type 0 where
+pub record IsWithin (w : DecoderWords) : Type 0 where
   pub longest_least : 3 ≤ w.longest
   pub longest_most : w.longest ≤ 256
   pub place_fits : w.place ≤ most_places
@@ -59,6 +59,6 @@ pub record IsWithin (w : LineWords) : Type 0 where
   pub paid : w.folded ≤ 8 * w.stored
 
 -- and there is room for these octets of a piece
-pub record IsDecoder (w : LineWords) (octets : List ℕ) : Type 0 where
+pub record IsDecoder (w : DecoderWords) (octets : List ℕ) : Type 0 where
   pub within : IsWithin w
   pub room : length octets ≤ w.longest + 2

@@ -2,10 +2,10 @@
 
 mod append;
 mod decide;
-mod look;
+mod ended_mark;
 mod marked;
 mod piece;
-mod quiet;
+mod time_fill;
 mod scan;
 mod settled;
 mod step;
@@ -25,7 +25,7 @@ ghost use Rattle.bus_bits.specs.Octet.{bits_of};
 
 use crate::event::Event;
 use crate::fault::LineFault;
-use crate::line_words::{LineWords, NEVER};
+use crate::decoder_words::{DecoderWords, NEVER};
 use crate::piece::Piece;
 use crate::place_limit::PlaceLimit;
 use crate::scanned::Scanned;
@@ -41,7 +41,7 @@ use std::marker::Model;
 /// takes no memory.
 #[derive(Drop)]
 pub struct LineDecoder<C: Check> {
-    words: LineWords,
+    words: DecoderWords,
     /// The check of the octets.
     check: C,
     /// The octets of the piece, or of the frame before it until the first octet is full.
@@ -81,7 +81,7 @@ impl<C: Check> LineDecoder<C> {
         ensures after { IfOk result (λ d. After C.check d []) }
         ensures given { IfOk result (λ d. (d.longest ≡ longest) × (d.origin ≡ origin) × (d.place ≡ origin)) }
     {
-        let words = LineWords::new(longest, origin)?;
+        let words = DecoderWords::new(longest, origin)?;
         Ok(LineDecoder {
             words,
             check: C::fresh(),

@@ -588,11 +588,11 @@ fn last_scanned_pairs(rt: HostRuntime) {
     for room in [0u64, 1, 3, 7, 8, 9] {
         let origin = FAR.wrapping_sub(room);
         let mut analyser = new_at(&rt, alloc, 1, origin).expect(&rt, "an analyser");
-        let mut heard = 0;
-        let taken = analyser.scan(&[0xff], &[0xff], 8, &mut Counting, &mut heard);
+        let mut observed = 0;
+        let taken = analyser.scan(&[0xff], &[0xff], 8, &mut Counting, &mut observed);
         let want = room.min(8);
         let case = format_args!("{room} places to scan");
-        same(&rt, (taken as u64, heard), (want, 0), &case);
+        same(&rt, (taken as u64, observed), (want, 0), &case);
         same(&rt, analyser.spent().shifted, want.saturating_mul(2), &case);
     }
 }

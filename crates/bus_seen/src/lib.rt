@@ -5,7 +5,7 @@ mod text;
 
 use bus_dictionary::{DictFault, Dictionary};
 use bus_rows::CALLS;
-use bus_talk::Counts;
+use bus_pairing::Counts;
 use std::alloc::Global;
 pub use text::{push_ending, push_seen};
 

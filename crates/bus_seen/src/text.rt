@@ -2,7 +2,7 @@
 
 use bus_dictionary::Standing;
 use bus_line::{Cause, Piece, Span};
-use bus_talk::{Ending, Outcome, Seen, Verdict};
+use bus_pairing::{Ending, Outcome, Seen, Verdict};
 use std::alloc::{AllocError, Global};
 
 fn outcome_word(outcome: Outcome) -> &'static str {

@@ -1,1 +1,1 @@
-pub mod Serves
+pub mod Executes

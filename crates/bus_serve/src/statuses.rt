@@ -1,7 +1,7 @@
 //! Requests, and the statuses that they end with.
 
 ghost use Rattle.std.specs.Prelude.{◌≡◌};
-ghost use Rattle.bus_serve.specs.Serves.{IsCheckStatus, IsStatus, Serves};
+ghost use Rattle.bus_serve.specs.Executes.{IsCheckStatus, IsStatus, Executes};
 
 use crate::request::Request;
 use bus_capture::{check_capture, list_capture};
@@ -23,14 +23,14 @@ pub const FAULT: u8 = 2;
 /// spoilt or late, or 2 for any fault.
 ///
 /// A capture, or lines to encode, are read from `r`. Output goes to `w`, and a fault to `e`; that `e` fails is ignored.
-pub fn serve<R: Read, W: Write, E: Write>(
+pub fn execute<R: Read, W: Write, E: Write>(
     alloc: Global,
     request: &Request<'_>,
     r: &mut R,
     w: &mut W,
     e: &mut E,
 ) -> u8
-    ensures { Serves request.now (R.remaining r.old) (R.remaining r.new) (W.contents w.old) (W.contents w.new) result }
+    ensures { Executes request.now (R.remaining r.old) (R.remaining r.new) (W.contents w.old) (W.contents w.new) result }
 {
     match request {
         Request::List(options) => status(list_capture(alloc, options, r, w), e),
@@ -51,7 +51,7 @@ fn verdict<E: Write>(ending: Result<Summary, ToolFault>, e: &mut E) -> u8
     }
 }
 
-/// Tells a fault, and returns its status. That this fails is ignored.
+/// ReportsSeen a fault, and returns its status. That this fails is ignored.
 pub fn fail<E: Write>(fault: &ToolFault, e: &mut E) -> u8
     ensures status { result ≡ 2 }
 {

@@ -8,9 +8,9 @@ use Rattle.bus_fcs.specs.Division.{add, step, divided, remainder}
 use Rattle.bus_fcs.specs.FrameCheck.{ends_inverted, is_good}
 use Rattle.bus_line.specs.Due.{placed}
 use Rattle.bus_dictionary.specs.Entry.{FrameType}
-use Rattle.bus_talk.specs.Heard.{Heard, of_line}
-use Rattle.bus_talk.specs.Seen.{seen}
-use Rattle.bus_talk.specs.History.{tally, history}
+use Rattle.bus_pairing.specs.LineReport.{LineReport, of_line}
+use Rattle.bus_pairing.specs.Seen.{seen}
+use Rattle.bus_pairing.specs.History.{tally, history}
 use Rattle.bus_text.specs.Listing.{listing, text_of}
 use Rattle.bus_text.specs.CheckText.{check_text, tallies_text}
 use Rattle.bus_text.specs.Summary.{summary_of}
@@ -33,7 +33,7 @@ abbrev with_dictionary : Filter → Printer
 with_dictionary filter = record { heads = true; filter = filter }
 
 -- a call, a call in place of its reply, and a damaged piece
-abbrev two_calls_and_damage : List Heard
+abbrev two_calls_and_damage : List LineReport
 two_calls_and_damage =
     of_line
     (placed 0 3

@@ -6,7 +6,7 @@ use Rattle.std.specs.Option.{option_to_list}
 use Rattle.std.proofs.lemmas.Grind.{flat_map-append}
 use Rattle.std.proofs.lemmas.List.Elements.{filter-append}
 use Rattle.bus_dictionary.specs.Entry.{FrameType}
-use Rattle.bus_talk.specs.Seen.{SeenReport}
+use Rattle.bus_pairing.specs.Seen.{SeenReport}
 use Rattle.bus_text.specs.Listing.{Line, is_left, text_of, report_line, verdict_line, stray_lines, seen_lines, lines_of}
 use Rattle.bus_text.specs.Listing.{listing}
 use Rattle.bus_text.specs.Adds.{Prints}

@@ -3,9 +3,9 @@ use Rattle.std.proofs.Common.{◌≡◌, ◌+◌, ℕ, Bool, true, false, List, 
 use Rattle.std.specs.List.{count_by}
 use Rattle.std.specs.Prelude.{cond}
 use Rattle.std.proofs.lemmas.List.Sums.{sum_by-append}
-use Rattle.bus_talk.specs.Seen.{SeenReport}
-use Rattle.bus_talk.specs.declared.outcome.Outcome.TheVariants.{Answered, Late, Missing, Spoilt}
-use Rattle.bus_talk.specs.Talk.{is_idle}
+use Rattle.bus_pairing.specs.Seen.{SeenReport}
+use Rattle.bus_pairing.specs.declared.outcome.Outcome.TheVariants.{Answered, Late, Missing, Spoilt}
+use Rattle.bus_pairing.specs.Talk.{is_idle}
 use Rattle.bus_text.specs.Summary.{shows_frame, shows_damaged, shows_overlong, shows_abort, has_outcome, summary_of}
 use Rattle.bus_text.specs.Counting.{one_more_if, with_kind, with_seen}
 use Rattle.bus_text.specs.declared.summary.Summary.{Summary}

@@ -2,10 +2,10 @@
 use Rattle.std.specs.Prelude.{ℕ, ◌==◌, ◌&&◌, Bool, List, [], ◌++◌, codes, decimal, if◌then◌else◌, Option, Some, None}
 use Rattle.std.specs.List.{flat_map}
 use Rattle.bus_line.specs.Due.{places}
-use Rattle.bus_talk.specs.History.{KeptFrame}
-use Rattle.bus_talk.specs.declared.counts.Counts.{Counts}
+use Rattle.bus_pairing.specs.History.{KeptFrame}
+use Rattle.bus_pairing.specs.declared.counts.Counts.{Counts}
 use Rattle.bus_bits.specs.declared.span.Span.{Span}
-use Rattle.bus_talk.specs.declared.line.Line.{Line}
+use Rattle.bus_pairing.specs.declared.line.Line.{Line}
 use Rattle.bus_text.specs.Listing.{hex_of, line_number, span_text}
 use Rattle.bus_text.specs.declared.summary.Summary.{Summary}
 

@@ -1,10 +1,10 @@
 -- A summary with one report more.
 use Rattle.std.specs.Prelude.{ℕ, ◌+◌, ◌≤◌, Bool, Option, if◌then◌else◌}
 use Rattle.bus_line.specs.Report.{Kind}
-use Rattle.bus_talk.specs.Talk.{is_idle}
-use Rattle.bus_talk.specs.Seen.{SeenReport}
-use Rattle.bus_talk.specs.declared.outcome.Outcome.TheVariants.{Answered, Late, Missing, Spoilt}
-use Rattle.bus_talk.specs.declared.verdict.Verdict.{Verdict}
+use Rattle.bus_pairing.specs.Talk.{is_idle}
+use Rattle.bus_pairing.specs.Seen.{SeenReport}
+use Rattle.bus_pairing.specs.declared.outcome.Outcome.TheVariants.{Answered, Late, Missing, Spoilt}
+use Rattle.bus_pairing.specs.declared.verdict.Verdict.{Verdict}
 use Rattle.bus_text.specs.declared.summary.Summary.{Summary}
 use Rattle.bus_text.specs.Summary.{has_outcome, shows_abort, shows_damaged, shows_frame, shows_overlong}
 

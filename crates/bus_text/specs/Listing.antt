@@ -12,13 +12,13 @@ use Rattle.bus_line.specs.Shown.{span_of}
 use Rattle.bus_dictionary.specs.Entry.{FrameType}
 use Rattle.bus_dictionary.specs.declared.standing.Standing.{Standing}
 use Rattle.bus_dictionary.specs.Standing.{station_in, type_in}
-use Rattle.bus_talk.specs.Seen.{SeenReport, type_of}
-use Rattle.bus_talk.specs.declared.line.Line as on
-use Rattle.bus_talk.specs.declared.line.Line.TheVariants.{First, Second}
-use Rattle.bus_talk.specs.declared.outcome.Outcome.{Outcome}
-use Rattle.bus_talk.specs.declared.outcome.Outcome.TheVariants.{Answered, Late, Missing, Spoilt}
-use Rattle.bus_talk.specs.declared.verdict.Verdict.{Verdict}
-use Rattle.bus_talk.specs.declared.pending.Pending.{Pending}
+use Rattle.bus_pairing.specs.Seen.{SeenReport, type_of}
+use Rattle.bus_pairing.specs.declared.line.Line as on
+use Rattle.bus_pairing.specs.declared.line.Line.TheVariants.{First, Second}
+use Rattle.bus_pairing.specs.declared.outcome.Outcome.{Outcome}
+use Rattle.bus_pairing.specs.declared.outcome.Outcome.TheVariants.{Answered, Late, Missing, Spoilt}
+use Rattle.bus_pairing.specs.declared.verdict.Verdict.{Verdict}
+use Rattle.bus_pairing.specs.declared.pending.Pending.{Pending}
 use Rattle.bus_text.specs.HeadText.{station_text, head_text}
 use Rattle.bus_text.specs.Kinds.{kind_word, is_kind}
 use Rattle.bus_text.specs.declared.kind.Kind.{Kind}

@@ -1,12 +1,12 @@
 -- How often each thing is seen.
 use Rattle.std.specs.Prelude.{Bool, true, false, List, count_by, Option, Some, None}
 use Rattle.bus_line.specs.Report.{Kind, Frame, Damaged, Overlong, Abort}
-use Rattle.bus_talk.specs.Talk.{is_idle}
-use Rattle.bus_talk.specs.Seen.{SeenReport}
-use Rattle.bus_talk.specs.History.{is_outcome}
-use Rattle.bus_talk.specs.declared.outcome.Outcome.{Outcome}
-use Rattle.bus_talk.specs.declared.outcome.Outcome.TheVariants.{Answered, Late, Missing, Spoilt}
-use Rattle.bus_talk.specs.declared.verdict.Verdict.{Verdict}
+use Rattle.bus_pairing.specs.Talk.{is_idle}
+use Rattle.bus_pairing.specs.Seen.{SeenReport}
+use Rattle.bus_pairing.specs.History.{is_outcome}
+use Rattle.bus_pairing.specs.declared.outcome.Outcome.{Outcome}
+use Rattle.bus_pairing.specs.declared.outcome.Outcome.TheVariants.{Answered, Late, Missing, Spoilt}
+use Rattle.bus_pairing.specs.declared.verdict.Verdict.{Verdict}
 use Rattle.bus_text.specs.declared.summary.Summary.{Summary}
 
 abbrev pub shows_frame : Kind → Bool

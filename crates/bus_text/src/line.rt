@@ -14,7 +14,7 @@ use crate::places::Places;
 use crate::text::push_octets;
 use arrayvec::ArrayVec;
 use bus_line::{Cause, Event, EventKind, Span};
-use bus_talk::Line;
+use bus_pairing::Line;
 
 /// A line of a frame that is shown; the longest is shorter.
 pub(crate) type FrameLine = ArrayVec<u8, 640>;

@@ -5,8 +5,8 @@ ghost use Rattle.std.specs.Option.{option_to_list};
 ghost use Rattle.arrayvec.specs.ArrayVec.{array_vec_len};
 ghost use Rattle.bus_line.specs.Limits.{most_octets};
 ghost use Rattle.bus_line.specs.Shown.{kind_with};
-ghost use Rattle.bus_talk.specs.Shown.{found_on};
-ghost use Rattle.bus_talk.specs.Seen.{type_of};
+ghost use Rattle.bus_pairing.specs.Shown.{found_on};
+ghost use Rattle.bus_pairing.specs.Seen.{type_of};
 ghost use Rattle.bus_text.specs.Given.{printer_of};
 ghost use Rattle.bus_text.specs.Kinds.{kind_word};
 ghost use Rattle.bus_text.specs.Listing.{report_kind, report_line, outcome_kind, frame_line, verdict_line, begun_line};
@@ -25,7 +25,7 @@ use crate::text::push_octets;
 use arrayvec::ArrayVec;
 use bus_dictionary::{Dictionary, Standing};
 use bus_line::{EventKind, Span};
-use bus_talk::{Ending, Finding, Line, Outcome, PairEnding, Pending, Verdict};
+use bus_pairing::{Ending, Finding, Line, Outcome, PairEnding, Pending, Verdict};
 
 /// Puts the lines of what is seen on a page.
 #[derive(Clone, Copy)]
@@ -120,7 +120,7 @@ impl Printer {
     }
 
     /// Puts the lines of a report on the page, a frame with these octets: its own, that of the verdict,
-    /// and that of the stray. `line` is the one of two lines on which it was heard, or None.
+    /// and that of the stray. `line` is the one of two lines on which it came, or None.
     #[inline(always)]
     pub fn put(
         &self,
@@ -140,9 +140,9 @@ impl Printer {
         self.put_stray(line, finding, page);
     }
 
-    /// Whether the filter leaves a report's own line.
+    /// Whether the filter passes a report's own line.
     #[inline(always)]
-    fn leaves(&self, finding: &Finding) -> bool
+    fn passes(&self, finding: &Finding) -> bool
         ensures { (octets : List ℕ) → result ≡ passes self.now.filter
             (report_kind (kind_with octets finding.now.event.kind)) (station_of finding.now.standing)
             (type_of finding.now.standing) }
@@ -172,7 +172,7 @@ impl Printer {
             (report_line self.now.heads dictionary.now (found_on line octets.now finding.now) ∷ [])) 629
             page.new }
     {
-        if !self.leaves(finding) {
+        if !self.passes(finding) {
             return;
         }
         push_line_number(&mut page.text, line);

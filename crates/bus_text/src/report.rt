@@ -16,7 +16,7 @@ use crate::put::ShortWrite;
 use crate::summary::Summary;
 use crate::text::push_octets;
 use arrayvec::ArrayVec;
-use bus_talk::{Counts, Kept, Line};
+use bus_pairing::{Counts, Kept, Line};
 use std::io::Write;
 
 /// Appends a name and a number.

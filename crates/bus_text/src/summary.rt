@@ -2,13 +2,13 @@
 
 ghost use Rattle.std.specs.Prelude.{◌≡◌, ◌↔◌, ◌<◌, ◌^◌, ◌+◌, List, [], ◌∷◌, ◌++◌, ℕ, IsTrue};
 ghost use Rattle.bus_line.specs.Shown.{kind_with};
-ghost use Rattle.bus_talk.specs.Seen.{SeenReport};
-ghost use Rattle.bus_talk.specs.Shown.{found};
+ghost use Rattle.bus_pairing.specs.Seen.{SeenReport};
+ghost use Rattle.bus_pairing.specs.Shown.{found};
 ghost use Rattle.bus_text.specs.Summary.{summary_of};
 ghost use Rattle.bus_text.specs.Counting.{with_kind, with_verdict, with_seen, IsFew};
 
 use bus_line::EventKind;
-use bus_talk::{Finding, Outcome, Verdict};
+use bus_pairing::{Finding, Outcome, Verdict};
 
 /// How often each thing was seen, on one line or on two.
 #[derive(Clone, Copy, Debug, PartialEq, Eq)]

@@ -1,7 +1,7 @@
 //! The command line.
 
 ghost use Rattle.std.specs.Prelude.{◌≡◌, ◌^◌, IfOk};
-ghost use Rattle.bus_serve.specs.Serves.{Grants};
+ghost use Rattle.bus_serve.specs.Executes.{AllowsReads};
 
 mod help;
 
@@ -219,7 +219,7 @@ fn parse<'a>(alloc: Global, words: &'a [&'a str]) -> Result<ArgMatches<'a>, Erro
 /// - `Arguments`: what the words have wrong, or a help text, as `clap` tells them.
 /// - `Kind`: no kind of line is named so. The rest of the words was judged before.
 pub fn read_arguments<'a>(alloc: Global, words: &'a [&'a str]) -> Result<Request<'a>, Refusal>
-    ensures { IfOk result (Grants (2 ^ 40)) }
+    ensures { IfOk result (AllowsReads (2 ^ 40)) }
 {
     let found = match parse(alloc, words) {
         Ok(found) => found,

@@ -1,11 +1,11 @@
 //! The program.
 
 ghost use Rattle.std.specs.Prelude.{◌≡◌, ◌≢◌, ◌≤◌, ◌^◌, ◌⊎◌};
-ghost use Rattle.bus_serve.specs.Serves.{Grants, Serves};
+ghost use Rattle.bus_serve.specs.Executes.{AllowsReads, Executes};
 ghost use Rattle.bus_serve.specs.declared.request.Request.{Request};
 
 use crate::arguments::{Refusal, read_arguments};
-use bus_serve::{FAULT, fail, serve, status};
+use bus_serve::{FAULT, fail, execute, status};
 use bus_text::{ToolFault, put_text};
 use clap::Error;
 use clap::error::ErrorKind;
@@ -25,18 +25,18 @@ pub fn run<R: Read, W: Write, E: Write>(
     e: &mut E,
 ) -> u8
     ensures status { result ≤ 2 }
-    ensures serves { ((request : Request) × Grants (2 ^ 40) request
-        × Serves request (R.remaining r.old) (R.remaining r.new) (W.contents w.old) (W.contents w.new) result)
+    ensures executes { ((request : Request) × AllowsReads (2 ^ 40) request
+        × Executes request (R.remaining r.old) (R.remaining r.new) (W.contents w.old) (W.contents w.new) result)
         ⊎ ((R.remaining r.new ≡ R.remaining r.old) × (result ≢ 1)) }
 {
     match read_arguments(alloc, words) {
-        Ok(request) => serve(alloc, &request, r, w, e),
+        Ok(request) => execute(alloc, &request, r, w, e),
         Err(Refusal::Arguments(error)) => refuse(alloc, &error, w, e),
         Err(Refusal::Kind) => fail(&ToolFault::Kind, e),
     }
 }
 
-/// Tells what the words have wrong, or the help that they ask for.
+/// ReportsSeen what the words have wrong, or the help that they ask for.
 fn refuse<W: Write, E: Write>(alloc: Global, error: &Error, w: &mut W, e: &mut E) -> u8
     ensures { (result ≡ 0) ⊎ (result ≡ 2) }
 {

@@ -15,10 +15,10 @@ use Rattle.bus_line.specs.declared.event.Event.{Event}
 use Rattle.bus_line.specs.declared.event.EventKind.{EventKind}
 use Rattle.bus_line.specs.declared.event.EventKind.TheVariants as event
 use Rattle.bus_dictionary.specs.Dictionary.{longest_of}
-use Rattle.bus_talk.specs.Heard.{Heard, heard_on}
-use Rattle.bus_talk.specs.declared.line.Line.{Line}
-use Rattle.bus_talk.specs.Ledger.{kind_steps, steps, handled, handled_of, copied_of}
-use Rattle.bus_talk.specs.Journal.{JournalState, Keeps, HasRoom, IsWhole}
+use Rattle.bus_pairing.specs.LineReport.{LineReport, line_report}
+use Rattle.bus_pairing.specs.declared.line.Line.{Line}
+use Rattle.bus_pairing.specs.Ledger.{kind_steps, steps, handled, handled_of, copied_of}
+use Rattle.bus_pairing.specs.Conversation.{ConversationState, Keeps, HasRoom, IsWhole}
 use Rattle.bus_watch.specs.After.{AnalyserState, IsAfter, line}
 
 length-places : (n : ℕ) → length (places n) ≡ n
@@ -49,9 +49,9 @@ steps-six Kind.Overlong = omega arith
 steps-six Kind.Abort = omega arith
 steps-six Kind.Idle = omega arith
 
-steps-within : (hs : List Heard) → handled_of hs ≤ 6 * length hs
+steps-within : (hs : List LineReport) → handled_of hs ≤ 6 * length hs
 steps-within hs =
-    omega (arith, sum_by-le (λ (h : Heard). steps h.report) 6 hs (λ i d inside. steps-six (get_or hs i d).report.kind))
+    omega (arith, sum_by-le (λ (h : LineReport). steps h.report) 6 hs (λ i d inside. steps-six (get_or hs i d).report.kind))
 
 pub octets-moved : (origin : ℕ) (rs : List Report) → sum_by octet_count (map (moved origin) rs) ≡ sum_by octet_count rs
 octets-moved origin [] = refl
@@ -66,7 +66,7 @@ steps-moved origin (r ∷ rs) =
     ∙ (ap (λ n. sum_by steps (r ∷ []) + n) (steps-moved origin rs) ∙ sym (sum_by-append steps (r ∷ []) rs))
 
 -- after no more reports than two lines have, all counters have room for one more
-pub room-of : (j : JournalState) (hs : List Heard) → Keeps j hs → copied_of hs ≤ 2 ^ 62 → length hs ≤ 2 ^ 61 + 1 →
+pub room-of : (j : ConversationState) (hs : List LineReport) → Keeps j hs → copied_of hs ≤ 2 ^ 62 → length hs ≤ 2 ^ 61 + 1 →
     HasRoom j
 room-of j hs kept octets few = record {
   copied = omega (arith, kept.copied, octets);
@@ -74,36 +74,36 @@ room-of j hs kept octets few = record {
 }
 
 -- the reports of a line add up as they do without it
-pub heard-octets : (on : Option Line) (rs : List Report) → copied_of (map (heard_on on) rs) ≡ sum_by octet_count rs
-heard-octets on [] = refl
-heard-octets on (r ∷ rs) =
-    sum_by-append (λ (h : Heard). octet_count h.report) (heard_on on r ∷ []) (map (heard_on on) rs)
-    ∙ (ap (λ n. sum_by octet_count (r ∷ []) + n) (heard-octets on rs) ∙ sym (sum_by-append octet_count (r ∷ []) rs))
+pub reports-octets : (on : Option Line) (rs : List Report) → copied_of (map (line_report on) rs) ≡ sum_by octet_count rs
+reports-octets on [] = refl
+reports-octets on (r ∷ rs) =
+    sum_by-append (λ (h : LineReport). octet_count h.report) (line_report on r ∷ []) (map (line_report on) rs)
+    ∙ (ap (λ n. sum_by octet_count (r ∷ []) + n) (reports-octets on rs) ∙ sym (sum_by-append octet_count (r ∷ []) rs))
 
-pub heard-steps : (on : Option Line) (rs : List Report) → handled_of (map (heard_on on) rs) ≡ handled rs
-heard-steps on [] = refl
-heard-steps on (r ∷ rs) =
-    sum_by-append (λ (h : Heard). steps h.report) (heard_on on r ∷ []) (map (heard_on on) rs)
-    ∙ (ap (λ n. handled (r ∷ []) + n) (heard-steps on rs) ∙ sym (sum_by-append steps (r ∷ []) rs))
+pub reports-steps : (on : Option Line) (rs : List Report) → handled_of (map (line_report on) rs) ≡ handled rs
+reports-steps on [] = refl
+reports-steps on (r ∷ rs) =
+    sum_by-append (λ (h : LineReport). steps h.report) (line_report on r ∷ []) (map (line_report on) rs)
+    ∙ (ap (λ n. handled (r ∷ []) + n) (reports-steps on rs) ∙ sym (sum_by-append steps (r ∷ []) rs))
 
 -- after at most 2^60 bits all counters have room
 pub room : {C : Type 0} (view : CheckView C) (a : AnalyserState C) (b : List Bool) → FramesStored →
     StoredPaid → AssembledWithin
-    → IsAfter view a b → length b ≤ 2 ^ 60 → HasRoom a.journal
+    → IsAfter view a b → length b ≤ 2 ^ 60 → HasRoom a.conversation
 room view a b frames paid within reached few =
-    let longest = longest_of a.journal.dictionary in
+    let longest = longest_of a.conversation.dictionary in
     let rs = placed a.decoder.origin longest b in
-    room-of a.journal (line a b) reached.journal
+    room-of a.conversation (line a b) reached.conversation
     (omega (
       arith,
-      heard-octets None rs,
+      reports-octets None rs,
       octets-moved a.decoder.origin (reports longest b),
       frames longest b,
       paid longest b,
       within b,
       few,
     ))
-    (omega (arith, length-map rs (heard_on None), line-length a.decoder.origin longest b, few))
+    (omega (arith, length-map rs (line_report None), line-length a.decoder.origin longest b, few))
 
 -- a frame that is due has its head and its check
 map-Some : {X Y : Type 0} (f : X → Y) (o : Option X) (y : Y) → Some y ≡ option_map f o →

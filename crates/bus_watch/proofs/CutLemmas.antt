@@ -7,23 +7,23 @@ use Rattle.bus_line.specs.Report.{Report, moved}
 use Rattle.bus_line.specs.Due.{reports, placed}
 use Rattle.bus_line.specs.Suffix.{CutAtFlag}
 use Rattle.bus_dictionary.specs.Entry.{FrameType}
-use Rattle.bus_talk.specs.Heard.{Heard, heard_on, of_line}
-use Rattle.bus_talk.specs.Talk.{talk, is_idle, begins, verdict, pending, standing_of}
-use Rattle.bus_talk.specs.Seen.{SeenReport, seen, seen_of, decided, is_stray}
+use Rattle.bus_pairing.specs.LineReport.{LineReport, line_report, of_line}
+use Rattle.bus_pairing.specs.Talk.{talk, is_idle, begins, verdict, pending, standing_of}
+use Rattle.bus_pairing.specs.Seen.{SeenReport, seen, seen_of, decided, is_stray}
 use Rattle.bus_watch.specs.Cut.{CutLosesNothing, CutLosesVerdict, FlagLosesNothing}
-use Rattle.bus_talk.specs.declared.verdict.Verdict.{Verdict}
-use Rattle.bus_talk.proofs.SeenLemmas.{seen-more}
-use Rattle.bus_talk.proofs.TalkLemmas.{pending-idle, pending-talk, decided-idle, decided-talk}
+use Rattle.bus_pairing.specs.declared.verdict.Verdict.{Verdict}
+use Rattle.bus_pairing.proofs.SeenLemmas.{seen-more}
+use Rattle.bus_pairing.proofs.TalkLemmas.{pending-idle, pending-talk, decided-idle, decided-talk}
 
 both-cons : {A : Type 0} (x y : A) (xs ys : List A) → x ≡ y → xs ≡ ys → x ∷ xs ≡ y ∷ ys
 both-cons x y xs ys heads tails = rw (heads, tails) refl
 
 -- what is seen of reports after others
-abbrev behind : List FrameType → List Heard → List Heard → List SeenReport
+abbrev behind : List FrameType → List LineReport → List LineReport → List SeenReport
 behind d before [] = []
 behind d before (h ∷ hs) = seen_of d before h ∷ behind d (before ++ h ∷ []) hs
 
-seen-behind : (d : List FrameType) (before hs : List Heard) →
+seen-behind : (d : List FrameType) (before hs : List LineReport) →
     seen d (before ++ hs) ≡ seen d before ++ behind d before hs
 seen-behind d before [] = ap (seen d) (append-nil before) ∙ sym (append-nil (seen d before))
 seen-behind d before (h ∷ hs) =
@@ -33,7 +33,7 @@ seen-behind d before (h ∷ hs) =
     ∙ append_assoc (seen d before) (seen_of d before h ∷ []) (behind d (before ++ h ∷ []) hs)
 
 -- one report, by the verdict that it decides
-abbrev with_verdict : List FrameType → Heard → Option Verdict → SeenReport
+abbrev with_verdict : List FrameType → LineReport → Option Verdict → SeenReport
 with_verdict d h v = record {
   line = h.line;
   report = h.report;
@@ -43,7 +43,7 @@ with_verdict d h v = record {
 }
 
 -- only the command that waits counts of the reports before
-decided-alike : (d : List FrameType) (a c : List Heard) (h : Heard) → pending d a ≡ pending d c →
+decided-alike : (d : List FrameType) (a c : List LineReport) (h : LineReport) → pending d a ≡ pending d c →
     decided d a h ≡ decided d c h
 decided-alike d a c h same_pending = step (is_idle h.report.kind) refl
   where
@@ -53,7 +53,7 @@ decided-alike d a c h same_pending = step (is_idle h.report.kind) refl
         decided-talk d a h kind_is ∙ ap (option_map (verdict d (begins d h))) same_pending
         ∙ sym (decided-talk d c h kind_is)
 
-pending-alike : (d : List FrameType) (a c : List Heard) (h : Heard) → pending d a ≡ pending d c →
+pending-alike : (d : List FrameType) (a c : List LineReport) (h : LineReport) → pending d a ≡ pending d c →
     pending d (a ++ h ∷ []) ≡ pending d (c ++ h ∷ [])
 pending-alike d a c h same_pending = step (is_idle h.report.kind) refl
   where
@@ -61,7 +61,7 @@ pending-alike d a c h same_pending = step (is_idle h.report.kind) refl
     step true kind_is = pending-idle d a h kind_is ∙ same_pending ∙ sym (pending-idle d c h kind_is)
     step false kind_is = pending-talk d a h kind_is ∙ sym (pending-talk d c h kind_is)
 
-behind-alike : (d : List FrameType) (a c hs : List Heard) → pending d a ≡ pending d c → behind d a hs ≡ behind d c hs
+behind-alike : (d : List FrameType) (a c hs : List LineReport) → pending d a ≡ pending d c → behind d a hs ≡ behind d c hs
 behind-alike d a c [] same_pending = refl
 behind-alike d a c (h ∷ hs) same_pending =
     both-cons _ _ _ _ (ap (with_verdict d h) (decided-alike d a c h same_pending))
@@ -73,23 +73,23 @@ loses-nothing d before hs none_waits =
     ∙ ap (λ (ss : List SeenReport). seen d before ++ ss)
     (behind-alike d before [] hs none_waits ∙ sym (seen-behind d [] hs))
 
-behind-append : (d : List FrameType) (before xs ys : List Heard) →
+behind-append : (d : List FrameType) (before xs ys : List LineReport) →
     behind d before (xs ++ ys) ≡ behind d before xs ++ behind d (before ++ xs) ys
-behind-append d before [] ys = ap (λ (a : List Heard). behind d a ys) (sym (append-nil before))
+behind-append d before [] ys = ap (λ (a : List LineReport). behind d a ys) (sym (append-nil before))
 behind-append d before (x ∷ xs) ys =
     ap (λ (ss : List SeenReport). seen_of d before x ∷ ss)
     (behind-append d (before ++ x ∷ []) xs ys
-    ∙ ap (λ (a : List Heard). behind d (before ++ x ∷ []) xs ++ behind d a ys) (append_assoc before (x ∷ []) xs))
+    ∙ ap (λ (a : List LineReport). behind d (before ++ x ∷ []) xs ++ behind d a ys) (append_assoc before (x ∷ []) xs))
 
 -- where all are idle lines, so is the first, and the others are
-idle-first : (h : Heard) (hs : List Heard) → talk (h ∷ hs) ≡ [] → (is_idle h.report.kind ≡ true) × (talk hs ≡ [])
+idle-first : (h : LineReport) (hs : List LineReport) → talk (h ∷ hs) ≡ [] → (is_idle h.report.kind ≡ true) × (talk hs ≡ [])
 idle-first h hs all_idle = step (is_idle h.report.kind) refl
   where
     step : (b : Bool) → is_idle h.report.kind ≡ b → (is_idle h.report.kind ≡ true) × (talk hs ≡ [])
     step true kind_is = (kind_is, rw kind_is at all_idle)
-    step false kind_is = absurd (omega (arith, ap (length {A = Heard}) (rw kind_is at all_idle)))
+    step false kind_is = absurd (omega (arith, ap (length {A = LineReport}) (rw kind_is at all_idle)))
 
-behind-idles : (d : List FrameType) (a c hs : List Heard) → talk hs ≡ [] → behind d a hs ≡ behind d c hs
+behind-idles : (d : List FrameType) (a c hs : List LineReport) → talk hs ≡ [] → behind d a hs ≡ behind d c hs
 behind-idles d a c [] all_idle = refl
 behind-idles d a c (h ∷ hs) all_idle =
     let parts = idle-first h hs all_idle in
@@ -97,7 +97,7 @@ behind-idles d a c (h ∷ hs) all_idle =
     (ap (with_verdict d h) (decided-idle d a h parts.0 ∙ sym (decided-idle d c h parts.0)))
     (behind-idles d (a ++ h ∷ []) (c ++ h ∷ []) hs parts.1)
 
-pending-idles : (d : List FrameType) (before hs : List Heard) → talk hs ≡ [] →
+pending-idles : (d : List FrameType) (before hs : List LineReport) → talk hs ≡ [] →
     pending d (before ++ hs) ≡ pending d before
 pending-idles d before [] all_idle = ap (pending d) (append-nil before)
 pending-idles d before (h ∷ hs) all_idle =
@@ -141,7 +141,7 @@ placed-cut : CutAtFlag → (longest origin : ℕ) (u t : List Bool) →
 placed-cut cut longest origin u t =
     ap (λ (rs : List Report). of_line (map (moved origin) rs)) (cut longest u t)
     ∙ ap of_line (map-append (moved origin) (reports longest (u ++ flag)) (placed (length u) longest (flag ++ t)))
-    ∙ map-append (heard_on None) (placed origin longest (u ++ flag))
+    ∙ map-append (line_report None) (placed origin longest (u ++ flag))
     (map (moved origin) (placed (length u) longest (flag ++ t)))
     ∙ ap (λ (rs : List Report). of_line (placed origin longest (u ++ flag)) ++ of_line rs)
     (moved-twice origin (length u) (reports longest (flag ++ t)))

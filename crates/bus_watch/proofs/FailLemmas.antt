@@ -8,9 +8,9 @@ use Rattle.bus_line.specs.Due.{reports, placed}
 use Rattle.bus_line.specs.Laws.{ReportsGrow}
 use Rattle.bus_dictionary.specs.Entry.{FrameType}
 use Rattle.bus_dictionary.specs.Dictionary.{longest_of}
-use Rattle.bus_talk.specs.Sink.{SinkView}
-use Rattle.bus_talk.specs.Heard.{Heard, heard_on, of_line}
-use Rattle.bus_talk.specs.Seen.{SeenReport, heard_in, seen}
+use Rattle.bus_pairing.specs.Sink.{SinkView}
+use Rattle.bus_pairing.specs.LineReport.{LineReport, line_report, of_line}
+use Rattle.bus_pairing.specs.Seen.{SeenReport, report_in, seen}
 use Rattle.bus_watch.specs.Laws.{SeenAreReports}
 use Rattle.bus_watch.specs.Fed.{ForSink}
 use Rattle.bus_watch.specs.Headline.{Fails, StoppedAt, CanBeMade, all_seen}
@@ -49,14 +49,14 @@ feed-fails r (Sink consumed) depth origin count Stopped is can limit stopped =
     ]
 
 -- as many are seen as there are reports
-seen-length : SeenAreReports → (d : List FrameType) (hs : List Heard) → length (seen d hs) ≡ length hs
-seen-length are d hs = sym (length-map (seen d hs) heard_in) ∙ ap length (are d hs)
+seen-length : SeenAreReports → (d : List FrameType) (hs : List LineReport) → length (seen d hs) ≡ length hs
+seen-length are d hs = sym (length-map (seen d hs) report_in) ∙ ap length (are d hs)
 
 all_seen-length : SeenAreReports → (d : List FrameType) (origin : ℕ) (b : List Bool) →
     length (all_seen d origin b) ≡ length (reports (longest_of d) b)
 all_seen-length are d origin b =
     seen-length are d (of_line (placed origin (longest_of d) b))
-    ∙ length-map (placed origin (longest_of d) b) (heard_on None)
+    ∙ length-map (placed origin (longest_of d) b) (line_report None)
     ∙ length-map (reports (longest_of d) b) (moved origin)
 
 -- at the first bits no more is seen than at all

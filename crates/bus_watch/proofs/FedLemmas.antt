@@ -6,10 +6,10 @@ use Rattle.std.specs.Result.{is_err}
 use Rattle.std.proofs.lemmas.List.{take-append-le}
 use Rattle.std.proofs.Math.Seq.{take-append-add}
 use Rattle.bus_fcs.specs.Check.{CheckView}
-use Rattle.bus_talk.specs.Seen.{SeenReport, seen}
+use Rattle.bus_pairing.specs.Seen.{SeenReport, seen}
 use Rattle.bus_line.specs.Told.{told}
 use Rattle.bus_line.proofs.ToldLemmas.{told-nil, told-more}
-use Rattle.bus_talk.specs.Sink.{SinkView}
+use Rattle.bus_pairing.specs.Sink.{SinkView}
 use Rattle.bus_dictionary.specs.Dictionary.{longest_of}
 use Rattle.bus_watch.specs.Watch.{Watch, Leads, seen_by}
 use Rattle.bus_watch.specs.After.{AnalyserState, Sees, seen_after}
@@ -27,8 +27,8 @@ at-err (Err y) err holds = holds
 
 pub same-seen : {A X : Type 0} (w : Watch A X) (a c : A) (xs : List X) → w.dictionary c ≡ w.dictionary a →
     w.origin c ≡ w.origin a → seen_by w c xs ≡ seen_by w a xs
-same-seen w a c xs dictionary origin = ap (λ d. seen d (w.hears (w.origin c) (longest_of d) xs)) dictionary
-    ∙ ap (λ o. seen (w.dictionary a) (w.hears o (longest_of (w.dictionary a)) xs)) origin
+same-seen w a c xs dictionary origin = ap (λ d. seen d (w.reports (w.origin c) (longest_of d) xs)) dictionary
+    ∙ ap (λ o. seen (w.dictionary a) (w.reports o (longest_of (w.dictionary a)) xs)) origin
 
 pub leads-nil : {A X : Type 0} (w : Watch A X) (a : A) → Leads w a [] [] a
 leads-nil w a = record {

@@ -9,12 +9,12 @@ use Rattle.bus_line.specs.Due.{placed, reports}
 use Rattle.bus_line.specs.Laws.{ReportsAre}
 use Rattle.bus_line.specs.Ledger.{stored_open}
 use Rattle.bus_dictionary.specs.Dictionary.{longest_of}
-use Rattle.bus_talk.specs.Heard.{of_line}
+use Rattle.bus_pairing.specs.LineReport.{of_line}
 use Rattle.bus_line.specs.Told.{told}
-use Rattle.bus_talk.specs.Sink.{SinkView}
-use Rattle.bus_talk.specs.Seen.{SeenReport, heard_in}
-use Rattle.bus_talk.specs.History.{history}
-use Rattle.bus_talk.specs.Ledger.{IsLedger, total}
+use Rattle.bus_pairing.specs.Sink.{SinkView}
+use Rattle.bus_pairing.specs.Seen.{SeenReport, report_in}
+use Rattle.bus_pairing.specs.History.{history}
+use Rattle.bus_pairing.specs.Ledger.{IsLedger, total}
 use Rattle.bus_watch.specs.Watch.{Watch}
 use Rattle.bus_watch.specs.After.{AnalyserState, IsAfter, line, one_line}
 use Rattle.bus_watch.specs.Laws.{AnyCut, SeenAreReports, Runs, ended, called, joined}
@@ -43,12 +43,12 @@ runs-alike w start end _ _ (called a c e xs told pieces tolds leads runs) =
 -- what the getters answer that a usage is made of
 pub record Answers {C : Type 0} (view : CheckView C) (e : AnalyserState C) (u : Usage) :
     Type 0 where
-  pub room : u.buffered ≤ longest_of e.journal.dictionary + 2
+  pub room : u.buffered ≤ longest_of e.conversation.dictionary + 2
   pub buffered : (b : List Bool) → IsAfter view e b →
-      u.buffered ≡ stored_open (longest_of e.journal.dictionary) b
-  pub kept : (b : List Bool) → IsAfter view e b → u.history_len ≡ length (history e.journal.depth (line e b))
-  pub deep : u.history_len ≤ e.journal.depth
-  pub ledger : (b : List Bool) → IsAfter view e b → IsLedger view.cost (longest_of e.journal.dictionary) b u.spent
+      u.buffered ≡ stored_open (longest_of e.conversation.dictionary) b
+  pub kept : (b : List Bool) → IsAfter view e b → u.history_len ≡ length (history e.conversation.depth (line e b))
+  pub deep : u.history_len ≤ e.conversation.depth
+  pub ledger : (b : List Bool) → IsAfter view e b → IsLedger view.cost (longest_of e.conversation.dictionary) b u.spent
   pub seventeen : (b : List Bool) → IsAfter view e b → total u.spent ≤ 17 * length b
   pub four : (b : List Bool) → IsAfter view e b → total u.spent ≤ 4 * length b
   pub three : view.cost ≡ 1 → (b : List Bool) → IsAfter view e b → total u.spent ≤ 3 * length b
@@ -65,15 +65,15 @@ whole-run view e u cut are in-order answers = λ start pieces tolds new runs.
     (record {
       told = all_told;
       framing = (
-        reports (longest_of e.journal.dictionary) b,
-        are (longest_of e.journal.dictionary) b,
-        ap (map heard_in) all_told ∙ in-order e.journal.dictionary
-            (of_line (placed e.decoder.origin (longest_of e.journal.dictionary) b)),
+        reports (longest_of e.conversation.dictionary) b,
+        are (longest_of e.conversation.dictionary) b,
+        ap (map report_in) all_told ∙ in-order e.conversation.dictionary
+            (of_line (placed e.decoder.origin (longest_of e.conversation.dictionary) b)),
       );
       buffer_bound = answers.room;
       buffered = answers.buffered _ is_after;
-      history = is_after.journal.history;
-      history_len = answers.kept _ is_after ∙ ap length (sym is_after.journal.history);
+      history = is_after.conversation.history;
+      history_len = answers.kept _ is_after ∙ ap length (sym is_after.conversation.history);
       history_bound = answers.deep;
       ledger = answers.ledger _ is_after;
       seventeen = answers.seventeen _ is_after;
@@ -118,30 +118,30 @@ pieces-at ps i d inside =
 pub fed-headline : {C S : Type 0} (view : CheckView C) (sink : SinkView S)
     (a e : AnalyserState C) (b : List Bool) (s t : S) (u : Usage)
     → IsAfter view a [] → (f : Fed view sink a b e s t) → WholeRun view e u →
-    Headline view.cost a.journal.dictionary a.journal.depth a.decoder.origin b f.seen e.journal.history u
+    Headline view.cost a.conversation.dictionary a.conversation.depth a.decoder.origin b f.seen e.conversation.history u
 fed-headline view sink a e b s t u new fed whole =
-    let d = a.journal.dictionary in
-    let depth = a.journal.depth in
+    let d = a.conversation.dictionary in
+    let depth = a.conversation.depth in
     let origin = a.decoder.origin in
     let headline = whole a (b ∷ []) (fed.seen ∷ []) new (called a e e b fed.seen [] [] fed.sees (ended e)) in
-    subst (λ x. Headline view.cost d depth origin x fed.seen e.journal.history u) (append-nil b)
-    (subst (λ y. Headline view.cost d depth origin (b ++ []) y e.journal.history u) (append-nil fed.seen) headline)
+    subst (λ x. Headline view.cost d depth origin x fed.seen e.conversation.history u) (append-nil b)
+    (subst (λ y. Headline view.cost d depth origin (b ++ []) y e.conversation.history u) (append-nil fed.seen) headline)
 
 -- what a new analyser saw of all it was fed
 pub fed-seen : {C S : Type 0} (view : CheckView C) (sink : SinkView S)
     (a e : AnalyserState C) (b : List Bool) (s t : S)
     → IsAfter view a [] → (f : Fed view sink a b e s t) →
-    f.seen ≡ all_seen a.journal.dictionary a.decoder.origin b
+    f.seen ≡ all_seen a.conversation.dictionary a.decoder.origin b
 fed-seen view sink a e b s t new fed = sym (fed.sees.seen [] new)
 
 -- where a sink refused a report of what a new analyser was fed
 pub stopped : {C S : Type 0} (view : CheckView C) (sink : SinkView S)
     (a e : AnalyserState C) (b : List Bool) (s t : S) (consumed : ℕ)
     → IsAfter view a [] → RefusedAt view sink a b consumed e s t →
-    StoppedAt sink a.journal.dictionary a.decoder.origin b s t consumed
+    StoppedAt sink a.conversation.dictionary a.decoder.origin b s t consumed
 stopped view sink a e b s t consumed new at =
     let refused = at.refused in
-    let d = a.journal.dictionary in
+    let d = a.conversation.dictionary in
     let origin = a.decoder.origin in
     let count : length (take consumed b) - 1 ≡ consumed - 1 = omega (arith, at.within, length-take consumed b) in
     let front : take (length (take consumed b) - 1) (take consumed b) ≡ take (consumed - 1) b =

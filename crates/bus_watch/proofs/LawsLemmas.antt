@@ -13,40 +13,40 @@ use Rattle.bus_line.specs.Laws.{OneMore, DueIsIt}
 use Rattle.bus_line.specs.Due.{placed, reports, due_at}
 use Rattle.bus_dictionary.specs.Entry.{FrameType}
 use Rattle.bus_dictionary.specs.Dictionary.{longest_of}
-use Rattle.bus_talk.specs.Talk.{verdicts}
-use Rattle.bus_talk.specs.Heard.{Heard, heard_on, of_line}
-use Rattle.bus_talk.specs.Seen.{SeenReport, heard_in, decided, seen_of, seen, seen_at}
+use Rattle.bus_pairing.specs.Talk.{verdicts}
+use Rattle.bus_pairing.specs.LineReport.{LineReport, line_report, of_line}
+use Rattle.bus_pairing.specs.Seen.{SeenReport, report_in, decided, seen_of, seen, seen_at}
 use Rattle.bus_watch.specs.After.{AnalyserState, IsAfter, line, seen_after}
 use Rattle.bus_watch.specs.Laws.{SeenGrows}
-use Rattle.bus_talk.proofs.TalkLemmas.{verdicts-more}
-use Rattle.bus_talk.specs.declared.verdict.Verdict.{Verdict}
-use Rattle.bus_talk.proofs.LedgerLemmas.{DueBelow}
-use Rattle.bus_talk.proofs.SeenLemmas.{seen-more}
+use Rattle.bus_pairing.proofs.TalkLemmas.{verdicts-more}
+use Rattle.bus_pairing.specs.declared.verdict.Verdict.{Verdict}
+use Rattle.bus_pairing.proofs.LedgerLemmas.{DueBelow}
+use Rattle.bus_pairing.proofs.SeenLemmas.{seen-more}
 use Rattle.bus_line.proofs.DueMoreLemmas.{map-option}
 
 -- what holds of no reports, and stays with one more, holds of all
-from-front : (P : List Heard → Type 0) → ((rs : List Heard) (r : Heard) → P rs → P (rs ++ r ∷ [])) →
-    (before after : List Heard) → P before → P (before ++ after)
+from-front : (P : List LineReport → Type 0) → ((rs : List LineReport) (r : LineReport) → P rs → P (rs ++ r ∷ [])) →
+    (before after : List LineReport) → P before → P (before ++ after)
 from-front P step before [] holds = subst P (sym (append-nil before)) holds
 from-front P step before (r ∷ after) holds =
     subst P (append_assoc before (r ∷ []) after) (from-front P step (before ++ r ∷ []) after (step before r holds))
 
-pub one-by-one : (P : List Heard → Type 0) → P [] → ((rs : List Heard) (r : Heard) → P rs → P (rs ++ r ∷ [])) →
-    (rs : List Heard) → P rs
+pub one-by-one : (P : List LineReport → Type 0) → P [] → ((rs : List LineReport) (r : LineReport) → P rs → P (rs ++ r ∷ [])) →
+    (rs : List LineReport) → P rs
 one-by-one P none step rs = from-front P step [] rs none
 
-pub seen-reports : (d : List FrameType) (rs : List Heard) → map heard_in (seen d rs) ≡ rs
+pub seen-reports : (d : List FrameType) (rs : List LineReport) → map report_in (seen d rs) ≡ rs
 seen-reports d rs =
-    one-by-one (λ rs. map heard_in (seen d rs) ≡ rs) refl
-    (λ rs r same. ap (map heard_in) (seen-more d rs r)
-    ∙ (map-append heard_in (seen d rs) (seen_of d rs r ∷ []) ∙ ap (λ xs. xs ++ r ∷ []) same))
+    one-by-one (λ rs. map report_in (seen d rs) ≡ rs) refl
+    (λ rs r same. ap (map report_in) (seen-more d rs r)
+    ∙ (map-append report_in (seen d rs) (seen_of d rs r ∷ []) ∙ ap (λ xs. xs ++ r ∷ []) same))
     rs
 
 verdict-option : (o : Option Verdict) → cons_option o [] ≡ option_to_list o
 verdict-option None = refl
 verdict-option (Some v) = refl
 
-pub seen-decides : (d : List FrameType) (rs : List Heard) →
+pub seen-decides : (d : List FrameType) (rs : List LineReport) →
     filter_map (λ (s : SeenReport). s.verdict) (seen d rs) ≡ verdicts d rs
 seen-decides d rs =
     one-by-one (λ rs. filter_map (λ (s : SeenReport). s.verdict) (seen d rs) ≡ verdicts d rs) refl
@@ -65,12 +65,12 @@ due-moved origin Abort first past = omega arith
 due-moved origin Idle first past = omega arith
 
 -- nothing is due where all reports are due before
-find-none : (place : ℕ) (ss : List SeenReport) → All (λ (h : Heard). due h.report < place) (map heard_in ss) →
+find-none : (place : ℕ) (ss : List SeenReport) → All (λ (h : LineReport). due h.report < place) (map report_in ss) →
     find (λ (s : SeenReport). due s.report == place) ss ≡ None
 find-none place [] before = refl
 find-none place (s ∷ ss) before =
     let apart : (due s.report == place) ≡ false =
-    ne_eqb (due s.report) place (λ same. omega (arith, same, before 0 (heard_in s) (omega arith))) in
+    ne_eqb (due s.report) place (λ same. omega (arith, same, before 0 (report_in s) (omega arith))) in
     rw apart (find-none place ss (λ i d inside. before (suc i) d (omega (arith, inside))))
 
 line-due : (longest origin : ℕ) (b : List Bool) → DueBelow →
@@ -85,18 +85,18 @@ line-due longest origin b below =
     ))
 
 line-heard : (longest origin : ℕ) (b : List Bool) → DueBelow →
-    All (λ (h : Heard). due h.report < origin + length b) (of_line (placed origin longest b))
+    All (λ (h : LineReport). due h.report < origin + length b) (of_line (placed origin longest b))
 line-heard longest origin b below =
-    All-map (λ (h : Heard). due h.report < origin + length b) (heard_on None) (placed origin longest b)
+    All-map (λ (h : LineReport). due h.report < origin + length b) (line_report None) (placed origin longest b)
     (line-due longest origin b below)
 
-at-none : (d : List FrameType) (rs : List Heard) (place : ℕ) → All (λ (h : Heard). due h.report < place) rs →
+at-none : (d : List FrameType) (rs : List LineReport) (place : ℕ) → All (λ (h : LineReport). due h.report < place) rs →
     seen_at d rs place ≡ None
 at-none d rs place before =
     find-none place (seen d rs) (rw (seen-reports d rs) before)
 
-at-last : (d : List FrameType) (rs : List Heard) (r : Heard) (place : ℕ) →
-    All (λ (h : Heard). due h.report < place) rs → due r.report ≡ place →
+at-last : (d : List FrameType) (rs : List LineReport) (r : LineReport) (place : ℕ) →
+    All (λ (h : LineReport). due h.report < place) rs → due r.report ≡ place →
     seen_at d (rs ++ r ∷ []) place ≡ Some (seen_of d rs r)
 at-last d rs r place before here =
     let p : SeenReport → Bool = λ s. due s.report == place in
@@ -117,12 +117,12 @@ grows-by d longest origin b longer it below None due_is grown =
     rw (same, at-none d hs (origin + length b) (line-heard longest origin b below)) (sym (append-nil (seen d hs)))
 grows-by d longest origin b longer it below (Some r) due_is grown =
     let rs = placed origin longest b in
-    let h : Heard = heard_on None (moved origin r) in
+    let h : LineReport = line_report None (moved origin r) in
     let is : due r ≡ length b = ((it longest longer (length b) r).1 due_is).1 in
     let at : due (moved origin r) ≡ origin + length b =
     due-moved origin r.kind r.first r.past ∙ ap (λ n. origin + n) is in
     let more : of_line (placed origin longest longer) ≡ of_line rs ++ h ∷ [] =
-    ap of_line grown ∙ map-append (heard_on None) rs (moved origin r ∷ []) in
+    ap of_line grown ∙ map-append (line_report None) rs (moved origin r ∷ []) in
     rw (more, at-last d (of_line rs) h (origin + length b) (line-heard longest origin b below) at)
     (seen-more d (of_line rs) h)
 
@@ -144,9 +144,9 @@ same-told (Some s) (Some t) same = cc
 pub answer-is : {C : Type 0} (view : CheckView C) (a : AnalyserState C) (b : List Bool)
     (bit : Bool) (o : Option SeenReport) → SeenGrows → IsAfter view a b
     → seen_after a (b ++ bit ∷ []) ≡ seen_after a b ++ option_to_list o →
-    o ≡ seen_at a.journal.dictionary (line a (b ++ bit ∷ [])) a.decoder.place
+    o ≡ seen_at a.conversation.dictionary (line a (b ++ bit ∷ [])) a.decoder.place
 answer-is view a b bit o grows reached adds =
-    let d = a.journal.dictionary in
+    let d = a.conversation.dictionary in
     let rs = line a (b ++ bit ∷ []) in
     let at : o ≡ seen_at d rs (a.decoder.origin + length b) =
     same-told o (seen_at d rs (a.decoder.origin + length b))

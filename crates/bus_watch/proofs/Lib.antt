@@ -8,7 +8,7 @@ pub mod FailLemmas
 pub mod LawsBitLemmas
 pub mod MergedLemmas
 pub mod PairLemmas
-pub mod HearsLemmas
+pub mod DecodesLemmas
 pub mod PairScanLemmas
 pub mod OrderLemmas
 pub mod PairFedLemmas

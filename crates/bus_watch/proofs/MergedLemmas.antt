@@ -9,11 +9,11 @@ use Rattle.std.proofs.lemmas.Grind.{flat_map-append}
 use Rattle.bus_line.specs.Report.{Report, moved}
 use Rattle.bus_line.specs.Due.{reports, placed, places, due_at}
 use Rattle.bus_line.specs.Laws.{DueStays, OneMore, ReportsGrow}
-use Rattle.bus_talk.specs.Heard.{Heard, heard_on, firsts, seconds, heard_at, merged, is_line, of_side}
-use Rattle.bus_watch.specs.Internal.Hears.{heard_option}
+use Rattle.bus_pairing.specs.LineReport.{LineReport, line_report, firsts, seconds, line_reports_at, merged, is_line, of_side}
+use Rattle.bus_watch.specs.Internal.Decodes.{line_reports_of}
 use Rattle.bus_line.proofs.DueMoreLemmas.{map-option}
-use Rattle.bus_talk.specs.declared.line.Line.{Line}
-use Rattle.bus_talk.specs.declared.line.Line.TheVariants.{First, Second}
+use Rattle.bus_pairing.specs.declared.line.Line.{Line}
+use Rattle.bus_pairing.specs.declared.line.Line.TheVariants.{First, Second}
 
 flat_map-places : {Y : Type 0} (f g : ℕ → List Y) (n : ℕ) → ((i : ℕ) → i < n → f i ≡ g i) →
     flat_map f (places n) ≡ flat_map g (places n)
@@ -24,16 +24,16 @@ flat_map-places f g (suc n) same =
     ∙ (ap (λ ys. flat_map g (places n) ++ (ys ++ [])) (same n (omega arith))
     ∙ sym (flat_map-append g (places n) (n ∷ []))))
 
-heard_at-append : DueStays → (line : Line) (origin longest : ℕ) (b : List Bool) (x : Bool) (i : ℕ) → i < length b →
-    heard_at line origin longest (b ++ x ∷ []) i ≡ heard_at line origin longest b i
-heard_at-append stays line origin longest b x i before =
-    ap (λ o. map (heard_on (Some line)) (option_to_list (option_map (moved origin) o)))
+line_reports_at-append : DueStays → (line : Line) (origin longest : ℕ) (b : List Bool) (x : Bool) (i : ℕ) → i < length b →
+    line_reports_at line origin longest (b ++ x ∷ []) i ≡ line_reports_at line origin longest b i
+line_reports_at-append stays line origin longest b x i before =
+    ap (λ o. map (line_report (Some line)) (option_to_list (option_map (moved origin) o)))
     (stays longest b (x ∷ []) i before)
 
 -- what a pair of bits adds
-abbrev pub added : ℕ → ℕ → List (Bool × Bool) → Bool × Bool → List Heard
-added origin longest ps p = heard_at First origin longest (firsts ps ++ p.0 ∷ []) (length ps)
-    ++ heard_at Second origin longest (seconds ps ++ p.1 ∷ []) (length ps)
+abbrev pub added : ℕ → ℕ → List (Bool × Bool) → Bool × Bool → List LineReport
+added origin longest ps p = line_reports_at First origin longest (firsts ps ++ p.0 ∷ []) (length ps)
+    ++ line_reports_at Second origin longest (seconds ps ++ p.1 ∷ []) (length ps)
 
 pub length-firsts : (ps : List (Bool × Bool)) → length (firsts ps) ≡ length ps
 length-firsts ps = length-map ps (λ (p : Bool × Bool). p.0)
@@ -52,18 +52,18 @@ pub merged-more : DueStays → (origin longest : ℕ) (ps : List (Bool × Bool))
     merged origin longest (ps ++ p ∷ []) ≡ merged origin longest ps ++ added origin longest ps p
 merged-more stays origin longest ps p =
     let n = length ps in
-    let f : ℕ → List Heard = λ i. heard_at First origin longest (firsts ps ++ p.0 ∷ []) i
-    ++ heard_at Second origin longest (seconds ps ++ p.1 ∷ []) i in
-    let g : ℕ → List Heard = λ i. heard_at First origin longest (firsts ps) i
-    ++ heard_at Second origin longest (seconds ps) i in
+    let f : ℕ → List LineReport = λ i. line_reports_at First origin longest (firsts ps ++ p.0 ∷ []) i
+    ++ line_reports_at Second origin longest (seconds ps ++ p.1 ∷ []) i in
+    let g : ℕ → List LineReport = λ i. line_reports_at First origin longest (firsts ps) i
+    ++ line_reports_at Second origin longest (seconds ps) i in
     let count : length (ps ++ p ∷ []) ≡ suc n = omega (arith, length-append ps (p ∷ [])) in
     rw (firsts-append ps (p ∷ []), seconds-append ps (p ∷ []), count)
     (flat_map-append f (places n) (n ∷ [])
     ∙ (ap (λ ys. ys ++ (f n ++ [])) (flat_map-places f g n (λ i before.
-    ap (λ hs. hs ++ heard_at Second origin longest (seconds ps ++ p.1 ∷ []) i)
-    (heard_at-append stays First origin longest (firsts ps) p.0 i (omega (arith, before, length-firsts ps)))
-    ∙ ap (λ hs. heard_at First origin longest (firsts ps) i ++ hs)
-    (heard_at-append stays Second origin longest (seconds ps) p.1 i (omega (arith, before, length-seconds ps)))))
+    ap (λ hs. hs ++ line_reports_at Second origin longest (seconds ps ++ p.1 ∷ []) i)
+    (line_reports_at-append stays First origin longest (firsts ps) p.0 i (omega (arith, before, length-firsts ps)))
+    ∙ ap (λ hs. line_reports_at First origin longest (firsts ps) i ++ hs)
+    (line_reports_at-append stays Second origin longest (seconds ps) p.1 i (omega (arith, before, length-seconds ps)))))
     ∙ ap (λ ys. merged origin longest ps ++ ys) (append-nil (f n))))
 
 -- reports only grow
@@ -107,35 +107,35 @@ bit-adds more origin longest b x =
     ∙ (map-append (moved origin) (reports longest b) (option_to_list o)
     ∙ ap (λ rs. placed origin longest b ++ rs) (map-option (moved origin) o))
 
--- and what is heard at it
+-- and what is reported at it
 due-from : OneMore → (line : Line) (origin longest : ℕ) (b : List Bool) (x : Bool) (r : Option Report) →
     placed origin longest (b ++ x ∷ []) ≡ placed origin longest b ++ option_to_list r
-    → heard_at line origin longest (b ++ x ∷ []) (length b) ≡ heard_option (Some line) r
+    → line_reports_at line origin longest (b ++ x ∷ []) (length b) ≡ line_reports_of (Some line) r
 due-from more line origin longest b x r adds =
-    ap (map (heard_on (Some line)))
+    ap (map (line_report (Some line)))
     (append_cancel_left (placed origin longest b) _ _ (sym (bit-adds more origin longest b x) ∙ adds))
 
 -- what a pair adds, by what it decides on each line
 added-is : OneMore → (origin longest : ℕ) (ps : List (Bool × Bool)) (p : Bool × Bool) (r s : Option Report)
     → placed origin longest (firsts ps ++ p.0 ∷ []) ≡ placed origin longest (firsts ps) ++ option_to_list r
     → placed origin longest (seconds ps ++ p.1 ∷ []) ≡ placed origin longest (seconds ps) ++ option_to_list s
-    → added origin longest ps p ≡ heard_option (Some First) r ++ heard_option (Some Second) s
+    → added origin longest ps p ≡ line_reports_of (Some First) r ++ line_reports_of (Some Second) s
 added-is more origin longest ps p r s first_adds second_adds =
-    let one : heard_at First origin longest (firsts ps ++ p.0 ∷ []) (length ps) ≡ heard_option (Some First) r =
-    ap (heard_at First origin longest (firsts ps ++ p.0 ∷ [])) (sym (length-firsts ps))
+    let one : line_reports_at First origin longest (firsts ps ++ p.0 ∷ []) (length ps) ≡ line_reports_of (Some First) r =
+    ap (line_reports_at First origin longest (firsts ps ++ p.0 ∷ [])) (sym (length-firsts ps))
     ∙ due-from more First origin longest (firsts ps) p.0 r first_adds in
-    let two : heard_at Second origin longest (seconds ps ++ p.1 ∷ []) (length ps) ≡ heard_option (Some Second) s =
-    ap (heard_at Second origin longest (seconds ps ++ p.1 ∷ [])) (sym (length-seconds ps))
+    let two : line_reports_at Second origin longest (seconds ps ++ p.1 ∷ []) (length ps) ≡ line_reports_of (Some Second) s =
+    ap (line_reports_at Second origin longest (seconds ps ++ p.1 ∷ [])) (sym (length-seconds ps))
     ∙ due-from more Second origin longest (seconds ps) p.1 s second_adds in
-    ap (λ hs. hs ++ heard_at Second origin longest (seconds ps ++ p.1 ∷ []) (length ps)) one
-    ∙ ap (λ hs. heard_option (Some First) r ++ hs) two
+    ap (λ hs. hs ++ line_reports_at Second origin longest (seconds ps ++ p.1 ∷ []) (length ps)) one
+    ∙ ap (λ hs. line_reports_of (Some First) r ++ hs) two
 
 -- pairs at which the second line reports nothing
 merged-first-alone : DueStays → OneMore → ReportsGrow →
     (origin longest : ℕ) (ps xs : List (Bool × Bool)) (rs : List Report)
     → placed origin longest (firsts ps ++ firsts xs) ≡ placed origin longest (firsts ps) ++ rs →
     placed origin longest (seconds ps ++ seconds xs) ≡ placed origin longest (seconds ps)
-    → merged origin longest (ps ++ xs) ≡ merged origin longest ps ++ map (heard_on (Some First)) rs
+    → merged origin longest (ps ++ xs) ≡ merged origin longest ps ++ map (line_report (Some First)) rs
 merged-first-alone stays more grow origin longest ps [] rs adds quiet =
     let none : rs ≡ [] = append_cancel_left (placed origin longest (firsts ps)) rs []
     (sym adds ∙ (ap (placed origin longest) (append-nil (firsts ps))
@@ -154,11 +154,11 @@ merged-first-alone stays more grow origin longest ps (x ∷ xs) rs adds quiet =
     ∙ (rest.1
     ∙ (ap (λ more. more ++ rest.0) x_adds
     ∙ append_assoc (placed origin longest (firsts ps)) (option_to_list r) rest.0)))) in
-    let step : merged origin longest qs ≡ merged origin longest ps ++ heard_option (Some First) r =
+    let step : merged origin longest qs ≡ merged origin longest ps ++ line_reports_of (Some First) r =
     merged-more stays origin longest ps x
     ∙ ap (λ hs. merged origin longest ps ++ hs)
     (added-is more origin longest ps x r None x_adds (x_quiet ∙ sym (append-nil (placed origin longest (seconds ps))))
-    ∙ append-nil (heard_option (Some First) r)) in
+    ∙ append-nil (line_reports_of (Some First) r)) in
     let rest_adds : placed origin longest (firsts qs ++ firsts xs) ≡ placed origin longest (firsts qs) ++ rest.0 =
     rw (firsts-append ps (x ∷ [])) rest.1 in
     let rest_quiet : placed origin longest (seconds qs ++ seconds xs) ≡ placed origin longest (seconds qs) =
@@ -166,10 +166,10 @@ merged-first-alone stays more grow origin longest ps (x ∷ xs) rs adds quiet =
     (ap (placed origin longest) (append_assoc (seconds ps) (x.1 ∷ []) (seconds xs)) ∙ (quiet ∙ sym x_quiet)) in
     ap (merged origin longest) (sym (append_assoc ps (x ∷ []) xs))
     ∙ (merged-first-alone stays more grow origin longest qs xs rest.0 rest_adds rest_quiet
-    ∙ (ap (λ hs. hs ++ map (heard_on (Some First)) rest.0) step
-    ∙ (append_assoc (merged origin longest ps) (heard_option (Some First) r) (map (heard_on (Some First)) rest.0)
+    ∙ (ap (λ hs. hs ++ map (line_report (Some First)) rest.0) step
+    ∙ (append_assoc (merged origin longest ps) (line_reports_of (Some First) r) (map (line_report (Some First)) rest.0)
     ∙ ap (λ hs. merged origin longest ps ++ hs)
-    (sym (ap (map (heard_on (Some First))) parts ∙ map-append (heard_on (Some First)) (option_to_list r) rest.0)))))
+    (sym (ap (map (line_report (Some First))) parts ∙ map-append (line_report (Some First)) (option_to_list r) rest.0)))))
 
 -- pairs of which at most the last decides a report of the second line add these
 pub merged-led : DueStays → OneMore → ReportsGrow →
@@ -179,7 +179,7 @@ pub merged-led : DueStays → OneMore → ReportsGrow →
     → placed origin longest (seconds ps ++ seconds (xs ++ x ∷ []))
     ≡ placed origin longest (seconds ps) ++ option_to_list s
     → merged origin longest (ps ++ (xs ++ x ∷ [])) ≡ merged origin longest ps
-    ++ (map (heard_on (Some First)) rs ++ heard_option (Some Second) s)
+    ++ (map (line_report (Some First)) rs ++ line_reports_of (Some Second) s)
 merged-led stays more grow origin longest ps xs x rs s first_adds quiet second_adds =
     let qs : List (Bool × Bool) = ps ++ xs in
     let r = option_map (moved origin) (due_at longest (firsts qs ++ x.0 ∷ []) (length (firsts qs))) in
@@ -199,9 +199,9 @@ merged-led stays more grow origin longest ps xs x rs s first_adds quiet second_a
     let last : placed origin longest (seconds qs ++ x.1 ∷ []) ≡ placed origin longest (seconds qs) ++ option_to_list s =
     ap (placed origin longest) backs ∙ (second_adds
     ∙ ap (λ more. more ++ option_to_list s) (sym (ap (placed origin longest) (seconds-append ps xs) ∙ quiet))) in
-    let hs : List Heard = map (heard_on (Some First)) before.0 in
-    let is : List Heard = heard_option (Some First) r in
-    let js : List Heard = heard_option (Some Second) s in
+    let hs : List LineReport = map (line_report (Some First)) before.0 in
+    let is : List LineReport = line_reports_of (Some First) r in
+    let js : List LineReport = line_reports_of (Some Second) s in
     ap (merged origin longest) (sym (append_assoc ps xs (x ∷ [])))
     ∙ (merged-more stays origin longest qs x
     ∙ (ap (λ hs. merged origin longest qs ++ hs) (added-is more origin longest qs x r s x_adds last)
@@ -210,41 +210,41 @@ merged-led stays more grow origin longest ps xs x rs s first_adds quiet second_a
     ∙ ap (λ hs. merged origin longest ps ++ hs)
     (sym (append_assoc hs is js)
     ∙ ap (λ hs. hs ++ js)
-    (sym (ap (map (heard_on (Some First))) parts
-    ∙ map-append (heard_on (Some First)) before.0 (option_to_list r))))))))
+    (sym (ap (map (line_report (Some First))) parts
+    ∙ map-append (line_report (Some First)) before.0 (option_to_list r))))))))
 
 -- a line by itself
-heard-list : (line : Line) (origin longest : ℕ) (b : List Bool) (is : List ℕ) →
-    flat_map (heard_at line origin longest b) is
-    ≡ map (heard_on (Some line)) (map (moved origin) (filter_map (due_at longest b) is))
-heard-list line origin longest b [] = refl
-heard-list line origin longest b (i ∷ is) = one (due_at longest b i)
-    ∙ ap (λ hs. map (heard_on (Some line)) (map (moved origin) (cons_option (due_at longest b i) [])) ++ hs)
-    (heard-list line origin longest b is) ∙ two (due_at longest b i)
+reports-list : (line : Line) (origin longest : ℕ) (b : List Bool) (is : List ℕ) →
+    flat_map (line_reports_at line origin longest b) is
+    ≡ map (line_report (Some line)) (map (moved origin) (filter_map (due_at longest b) is))
+reports-list line origin longest b [] = refl
+reports-list line origin longest b (i ∷ is) = one (due_at longest b i)
+    ∙ ap (λ hs. map (line_report (Some line)) (map (moved origin) (cons_option (due_at longest b i) [])) ++ hs)
+    (reports-list line origin longest b is) ∙ two (due_at longest b i)
   where
-    rest : List Heard
-    rest = flat_map (heard_at line origin longest b) is
+    rest : List LineReport
+    rest = flat_map (line_reports_at line origin longest b) is
 
     rs : List Report
     rs = filter_map (due_at longest b) is
 
-    one : (o : Option Report) → map (heard_on (Some line)) (option_to_list (option_map (moved origin) o)) ++ rest
-        ≡ map (heard_on (Some line)) (map (moved origin) (cons_option o [])) ++ rest
+    one : (o : Option Report) → map (line_report (Some line)) (option_to_list (option_map (moved origin) o)) ++ rest
+        ≡ map (line_report (Some line)) (map (moved origin) (cons_option o [])) ++ rest
     one None = refl
     one (Some r) = refl
 
-    two : (o : Option Report) → map (heard_on (Some line)) (map (moved origin) (cons_option o []))
-        ++ map (heard_on (Some line)) (map (moved origin) rs)
-        ≡ map (heard_on (Some line)) (map (moved origin) (cons_option o rs))
+    two : (o : Option Report) → map (line_report (Some line)) (map (moved origin) (cons_option o []))
+        ++ map (line_report (Some line)) (map (moved origin) rs)
+        ≡ map (line_report (Some line)) (map (moved origin) (cons_option o rs))
     two None = refl
     two (Some r) = refl
 
-abbrev pub of_one : Line → ℕ → ℕ → List Bool → List Heard
-of_one line origin longest b = map (heard_on (Some line)) (placed origin longest b)
+abbrev pub of_one : Line → ℕ → ℕ → List Bool → List LineReport
+of_one line origin longest b = map (line_report (Some line)) (placed origin longest b)
 
 -- what adds up over lists, adds up over the merged reports
-flat-sum : (m : List Heard → ℕ) → m [] ≡ 0 → ((xs ys : List Heard) → m (xs ++ ys) ≡ m xs + m ys) →
-    (f g : ℕ → List Heard) (is : List ℕ)
+flat-sum : (m : List LineReport → ℕ) → m [] ≡ 0 → ((xs ys : List LineReport) → m (xs ++ ys) ≡ m xs + m ys) →
+    (f g : ℕ → List LineReport) (is : List ℕ)
     → m (flat_map (λ i. f i ++ g i) is) ≡ m (flat_map f is) + m (flat_map g is)
 flat-sum m none more f g [] = omega (arith, none)
 flat-sum m none more f g (i ∷ is) =
@@ -257,41 +257,41 @@ flat-sum m none more f g (i ∷ is) =
       more (g i) (flat_map g is),
     )
 
-pub merged-adds : (m : List Heard → ℕ) → m [] ≡ 0 → ((xs ys : List Heard) → m (xs ++ ys) ≡ m xs + m ys) →
+pub merged-adds : (m : List LineReport → ℕ) → m [] ≡ 0 → ((xs ys : List LineReport) → m (xs ++ ys) ≡ m xs + m ys) →
     (origin longest : ℕ) (ps : List (Bool × Bool))
     → m (merged origin longest ps) ≡ m (of_one First origin longest (firsts ps))
     + m (of_one Second origin longest (seconds ps))
 merged-adds m none more origin longest ps =
     let n = length ps in
-    flat-sum m none more (heard_at First origin longest (firsts ps)) (heard_at Second origin longest (seconds ps))
+    flat-sum m none more (line_reports_at First origin longest (firsts ps)) (line_reports_at Second origin longest (seconds ps))
     (places n)
-    ∙ (ap (λ hs. m hs + m (flat_map (heard_at Second origin longest (seconds ps)) (places n)))
-    (heard-list First origin longest (firsts ps) (places n)
-    ∙ ap (λ k. map (heard_on (Some First)) (map (moved origin) (filter_map (due_at longest (firsts ps)) (places k))))
+    ∙ (ap (λ hs. m hs + m (flat_map (line_reports_at Second origin longest (seconds ps)) (places n)))
+    (reports-list First origin longest (firsts ps) (places n)
+    ∙ ap (λ k. map (line_report (Some First)) (map (moved origin) (filter_map (due_at longest (firsts ps)) (places k))))
     (sym (length-firsts ps)))
     ∙ ap (λ hs. m (of_one First origin longest (firsts ps)) + m hs)
-    (heard-list Second origin longest (seconds ps) (places n)
-    ∙ ap (λ k. map (heard_on (Some Second))
+    (reports-list Second origin longest (seconds ps) (places n)
+    ∙ ap (λ k. map (line_report (Some Second))
     (map (moved origin) (filter_map (due_at longest (seconds ps)) (places k)))) (sym (length-seconds ps))))
 
 -- either line by itself among them
-side-append : (line : Line) (xs ys : List Heard) → of_side line (xs ++ ys) ≡ of_side line xs ++ of_side line ys
-side-append line xs ys = ap (map (λ (h : Heard). h.report)) (filter-append (λ (h : Heard). is_line line h.line) xs ys)
-    ∙ map-append (λ (h : Heard). h.report) (filter (λ (h : Heard). is_line line h.line) xs)
-    (filter (λ (h : Heard). is_line line h.line) ys)
+side-append : (line : Line) (xs ys : List LineReport) → of_side line (xs ++ ys) ≡ of_side line xs ++ of_side line ys
+side-append line xs ys = ap (map (λ (h : LineReport). h.report)) (filter-append (λ (h : LineReport). is_line line h.line) xs ys)
+    ∙ map-append (λ (h : LineReport). h.report) (filter (λ (h : LineReport). is_line line h.line) xs)
+    (filter (λ (h : LineReport). is_line line h.line) ys)
 
-side-same : (line : Line) (rs : List Report) → of_side line (map (heard_on (Some line)) rs) ≡ rs
+side-same : (line : Line) (rs : List Report) → of_side line (map (line_report (Some line)) rs) ≡ rs
 side-same First [] = refl
 side-same First (r ∷ rs) = ap (λ xs. r ∷ xs) (side-same First rs)
 side-same Second [] = refl
 side-same Second (r ∷ rs) = ap (λ xs. r ∷ xs) (side-same Second rs)
 
-side-other : (rs : List Report) → (of_side First (map (heard_on (Some Second)) rs) ≡ [])
-    × (of_side Second (map (heard_on (Some First)) rs) ≡ [])
+side-other : (rs : List Report) → (of_side First (map (line_report (Some Second)) rs) ≡ [])
+    × (of_side Second (map (line_report (Some First)) rs) ≡ [])
 side-other [] = (refl, refl)
 side-other (r ∷ rs) = side-other rs
 
-flat-side : (line : Line) (f g : ℕ → List Heard) (h : ℕ → List Report) (is : List ℕ) →
+flat-side : (line : Line) (f g : ℕ → List LineReport) (h : ℕ → List Report) (is : List ℕ) →
     ((i : ℕ) → of_side line (f i) ++ of_side line (g i) ≡ h i) →
     of_side line (flat_map (λ i. f i ++ g i) is) ≡ flat_map h is
 flat-side line f g h [] parts = refl
@@ -321,9 +321,9 @@ pub merged-first : (longest origin : ℕ) (ps : List (Bool × Bool)) →
 merged-first longest origin ps =
     let n = length ps in
     let due : List Bool → ℕ → List Report = λ b i. option_to_list (option_map (moved origin) (due_at longest b i)) in
-    flat-side First (heard_at First origin longest (firsts ps)) (heard_at Second origin longest (seconds ps))
+    flat-side First (line_reports_at First origin longest (firsts ps)) (line_reports_at Second origin longest (seconds ps))
     (due (firsts ps)) (places n)
-    (λ i. ap (λ xs. xs ++ of_side First (heard_at Second origin longest (seconds ps) i))
+    (λ i. ap (λ xs. xs ++ of_side First (line_reports_at Second origin longest (seconds ps) i))
     (side-same First (due (firsts ps) i))
     ∙ (ap (λ xs. due (firsts ps) i ++ xs) (side-other (due (seconds ps) i)).0 ∙ append-nil (due (firsts ps) i)))
     ∙ (flat-placed origin longest (firsts ps) (places n)
@@ -335,9 +335,9 @@ pub merged-second : (longest origin : ℕ) (ps : List (Bool × Bool)) →
 merged-second longest origin ps =
     let n = length ps in
     let due : List Bool → ℕ → List Report = λ b i. option_to_list (option_map (moved origin) (due_at longest b i)) in
-    flat-side Second (heard_at First origin longest (firsts ps)) (heard_at Second origin longest (seconds ps))
+    flat-side Second (line_reports_at First origin longest (firsts ps)) (line_reports_at Second origin longest (seconds ps))
     (due (seconds ps)) (places n)
-    (λ i. ap (λ xs. xs ++ of_side Second (heard_at Second origin longest (seconds ps) i))
+    (λ i. ap (λ xs. xs ++ of_side Second (line_reports_at Second origin longest (seconds ps) i))
     (side-other (due (firsts ps) i)).1 ∙ side-same Second (due (seconds ps) i))
     ∙ (flat-placed origin longest (seconds ps) (places n)
     ∙ ap (λ k. map (moved origin) (filter_map (due_at longest (seconds ps)) (places k)))

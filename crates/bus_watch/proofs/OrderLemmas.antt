@@ -9,16 +9,16 @@ use Rattle.std.proofs.lemmas.Grind.{flat_map-append}
 use Rattle.bus_line.specs.Report.{Report, moved}
 use Rattle.bus_line.specs.Due.{places, due_at}
 use Rattle.bus_line.specs.Laws.{DueIsIt}
-use Rattle.bus_talk.specs.Heard.{Heard, heard_on, firsts, seconds, heard_at}
+use Rattle.bus_pairing.specs.LineReport.{LineReport, line_report, firsts, seconds, line_reports_at}
 use Rattle.bus_watch.specs.Laws.{ComesBefore, MergedIsMerged}
-use Rattle.bus_talk.specs.declared.line.Line.{Line}
-use Rattle.bus_talk.specs.declared.line.Line.TheVariants.{First, Second}
+use Rattle.bus_pairing.specs.declared.line.Line.{Line}
+use Rattle.bus_pairing.specs.declared.line.Line.TheVariants.{First, Second}
 use Rattle.bus_watch.proofs.MergedLemmas.{merged-first, merged-second}
-use Rattle.bus_watch.proofs.PairLemmas.{heard-due, both-due, below}
+use Rattle.bus_watch.proofs.PairLemmas.{reports-due, both-due, below}
 
 -- two lists in order, of which each report of the one comes before each of the other
-before-append : (xs ys : List Heard) → AllPairs ComesBefore xs → AllPairs ComesBefore ys
-    → ((i j : ℕ) (d : Heard) → i < length xs → j < length ys → ComesBefore (get_or xs i d) (get_or ys j d)) →
+before-append : (xs ys : List LineReport) → AllPairs ComesBefore xs → AllPairs ComesBefore ys
+    → ((i j : ℕ) (d : LineReport) → i < length xs → j < length ys → ComesBefore (get_or xs i d) (get_or ys j d)) →
     AllPairs ComesBefore (xs ++ ys)
 before-append [] ys first second across = second
 before-append (x ∷ xs) ys first second across =
@@ -30,42 +30,42 @@ before-append (x ∷ xs) ys first second across =
     (λ j d inside. across 0 j d (omega arith) inside))
     rest
 
--- what is heard on a line
-heard-line : (on : Line) (origin longest : ℕ) (b : List Bool) (i : ℕ) →
-    All (λ (h : Heard). h.line ≡ Some on) (heard_at on origin longest b i)
-heard-line on origin longest b i = one (due_at longest b i)
+-- what is reported on a line
+reports-line : (on : Line) (origin longest : ℕ) (b : List Bool) (i : ℕ) →
+    All (λ (h : LineReport). h.line ≡ Some on) (line_reports_at on origin longest b i)
+reports-line on origin longest b i = one (due_at longest b i)
   where
-    one : (o : Option Report) → All (λ (h : Heard). h.line ≡ Some on)
-        (map (heard_on (Some on)) (option_to_list (option_map (moved origin) o)))
+    one : (o : Option Report) → All (λ (h : LineReport). h.line ≡ Some on)
+        (map (line_report (Some on)) (option_to_list (option_map (moved origin) o)))
     one None = All-nil _
-    one (Some r) = All-cons (λ (h : Heard). h.line ≡ Some on) (heard_on (Some on) (moved origin r)) [] refl (All-nil _)
+    one (Some r) = All-cons (λ (h : LineReport). h.line ≡ Some on) (line_report (Some on) (moved origin r)) [] refl (All-nil _)
 
 -- is one report at most
-alone : (on : Line) (origin longest : ℕ) (b : List Bool) (i : ℕ) → AllPairs ComesBefore (heard_at on origin longest b i)
+alone : (on : Line) (origin longest : ℕ) (b : List Bool) (i : ℕ) → AllPairs ComesBefore (line_reports_at on origin longest b i)
 alone on origin longest b i = one (due_at longest b i)
   where
     one : (o : Option Report) →
-        AllPairs ComesBefore (map (heard_on (Some on)) (option_to_list (option_map (moved origin) o)))
+        AllPairs ComesBefore (map (line_report (Some on)) (option_to_list (option_map (moved origin) o)))
     one None = λ i j d before inside. absurd (omega (arith, inside))
     one (Some r) = λ i j d before inside. absurd (omega (arith, before, inside))
 
 both-rise : DueIsIt → (origin longest : ℕ) (b c : List Bool) (i : ℕ) →
-    AllPairs ComesBefore (heard_at First origin longest b i ++ heard_at Second origin longest c i)
+    AllPairs ComesBefore (line_reports_at First origin longest b i ++ line_reports_at Second origin longest c i)
 both-rise it origin longest b c i =
-    before-append (heard_at First origin longest b i) (heard_at Second origin longest c i)
+    before-append (line_reports_at First origin longest b i) (line_reports_at Second origin longest c i)
     (alone First origin longest b i) (alone Second origin longest c i)
     (λ k m d k_inside m_inside. inr (
-      heard-due it First origin longest b i k d k_inside ∙ sym (heard-due it Second origin longest c i m d m_inside),
-      heard-line First origin longest b i k d k_inside,
-      heard-line Second origin longest c i m d m_inside,
+      reports-due it First origin longest b i k d k_inside ∙ sym (reports-due it Second origin longest c i m d m_inside),
+      reports-line First origin longest b i k d k_inside,
+      reports-line Second origin longest c i m d m_inside,
     ))
 
 all-rise : DueIsIt → (origin longest : ℕ) (b c : List Bool) (n : ℕ) →
     AllPairs ComesBefore
-    (flat_map (λ i. heard_at First origin longest b i ++ heard_at Second origin longest c i) (places n))
+    (flat_map (λ i. line_reports_at First origin longest b i ++ line_reports_at Second origin longest c i) (places n))
 all-rise it origin longest b c zero = λ i j d before inside. absurd (omega (arith, inside))
 all-rise it origin longest b c (suc n) =
-    let f : ℕ → List Heard = λ i. heard_at First origin longest b i ++ heard_at Second origin longest c i in
+    let f : ℕ → List LineReport = λ i. line_reports_at First origin longest b i ++ line_reports_at Second origin longest c i in
     subst (AllPairs ComesBefore)
     (sym (flat_map-append f (places n) (n ∷ []) ∙ ap (λ ys. flat_map f (places n) ++ ys) (append-nil (f n))))
     (before-append (flat_map f (places n)) (f n) (all-rise it origin longest b c n) (both-rise it origin longest b c n)
@@ -76,20 +76,20 @@ all-rise it origin longest b c (suc n) =
     ))))
 
 -- a report is of one line or the other
-abbrev IsOfOne : Heard → Type 0
+abbrev IsOfOne : LineReport → Type 0
 IsOfOne h = (h.line ≡ Some First) ⊎ (h.line ≡ Some Second)
 
 all-of-one : (origin longest : ℕ) (b c : List Bool) (n : ℕ) →
-    All IsOfOne (flat_map (λ i. heard_at First origin longest b i ++ heard_at Second origin longest c i) (places n))
+    All IsOfOne (flat_map (λ i. line_reports_at First origin longest b i ++ line_reports_at Second origin longest c i) (places n))
 all-of-one origin longest b c zero = All-nil _
 all-of-one origin longest b c (suc n) =
-    let f : ℕ → List Heard = λ i. heard_at First origin longest b i ++ heard_at Second origin longest c i in
+    let f : ℕ → List LineReport = λ i. line_reports_at First origin longest b i ++ line_reports_at Second origin longest c i in
     subst (All IsOfOne)
     (sym (flat_map-append f (places n) (n ∷ []) ∙ ap (λ ys. flat_map f (places n) ++ ys) (append-nil (f n))))
     (All-append IsOfOne (flat_map f (places n)) (f n) (all-of-one origin longest b c n)
-    (All-append IsOfOne (heard_at First origin longest b n) (heard_at Second origin longest c n)
-    (λ i d inside. inl (heard-line First origin longest b n i d inside))
-    (λ i d inside. inr (heard-line Second origin longest c n i d inside))))
+    (All-append IsOfOne (line_reports_at First origin longest b n) (line_reports_at Second origin longest c n)
+    (λ i d inside. inl (reports-line First origin longest b n i d inside))
+    (λ i d inside. inr (reports-line Second origin longest c n i d inside))))
 
 pub merged-is-merged : DueIsIt → MergedIsMerged
 merged-is-merged it = λ longest origin ps. record {

@@ -2,12 +2,12 @@
 use Rattle.std.proofs.Common.{◌≡◌, ℕ, ◌+◌, ◌-◌, ◌<◌, List, [], ◌∷◌, ◌++◌, length, take}
 use Rattle.std.proofs.Common.{Result, Ok, Err, OnOk, OnErr, refl, sym, ap, ◌∙◌, append_assoc, append-nil, arith}
 use Rattle.std.proofs.Common.{length-append, subst}
-use Rattle.bus_talk.specs.Seen.{SeenReport}
+use Rattle.bus_pairing.specs.Seen.{SeenReport}
 use Rattle.bus_line.specs.Told.{told}
-use Rattle.bus_talk.specs.Sink.{SinkView, SinkTook}
+use Rattle.bus_pairing.specs.Sink.{SinkView, SinkTook}
 use Rattle.bus_watch.specs.Watch.{Watch, Leads, seen_by}
 use Rattle.bus_watch.specs.Fed.{FedBy, RefusedBy, Lacks, none, took, refused, Offered}
-use Rattle.bus_talk.proofs.SinkLemmas.{took-none, took-more}
+use Rattle.bus_pairing.proofs.SinkLemmas.{took-none, took-more}
 use Rattle.bus_line.proofs.ToldLemmas.{told-nil, told-more}
 use Rattle.bus_watch.proofs.FedLemmas.{leads-more, front-more}
 
@@ -51,7 +51,7 @@ module _ {S : Type 0} {sink : SinkView S} where
       {all : List SeenReport} → 0 < length xs → 0 < n → Leads w a xs all c
       → ((b : List X) → w.is_after a b → seen_by w a (b ++ take (length xs - 1) xs) ≡ seen_by w a b) →
       Offered sink all n s t → RefusedBy w sink n a xs c s t
-  refused-offered {w = w} {a = a} {all = all} some some_refused sees calm offered = record {
+  refused-offered {w = w} {a = a} {all = all} some some_refused sees quiet offered = record {
     seen = [];
     at_last = all;
     of_last = offered.took_of;
@@ -59,7 +59,7 @@ module _ {S : Type 0} {sink : SinkView S} where
     some_refused = some_refused;
     lacks = offered.lacks;
     sees = sees;
-    front = λ b reached. calm b reached ∙ sym (append-nil (seen_by w a b));
+    front = λ b reached. quiet b reached ∙ sym (append-nil (seen_by w a b));
     took = offered.took;
   }
 

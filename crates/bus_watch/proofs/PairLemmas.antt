@@ -18,21 +18,21 @@ use Rattle.bus_line.specs.Ledger.{octet_count, copied, stored, IsLedger as IsLin
 use Rattle.bus_line.specs.Internal.LineState.{LineState}
 use Rattle.bus_dictionary.specs.Entry.{FrameType}
 use Rattle.bus_dictionary.specs.Dictionary.{longest_of}
-use Rattle.bus_talk.specs.Heard.{Heard, heard_on, firsts, seconds, heard_at, merged}
-use Rattle.bus_talk.specs.Seen.{SeenReport, heard_in, seen, all_seen_at}
-use Rattle.bus_talk.specs.Journal.{JournalState, HasRoom}
-use Rattle.bus_watch.specs.Internal.Hears.{Hears, heard_option}
-use Rattle.bus_talk.specs.Ledger.{steps, handled, handled_of, copied_of, total, plus, IsLedger, IsPairLedger}
+use Rattle.bus_pairing.specs.LineReport.{LineReport, line_report, firsts, seconds, line_reports_at, merged}
+use Rattle.bus_pairing.specs.Seen.{SeenReport, report_in, seen, all_seen_at}
+use Rattle.bus_pairing.specs.Conversation.{ConversationState, HasRoom}
+use Rattle.bus_watch.specs.Internal.Decodes.{Decodes, line_reports_of}
+use Rattle.bus_pairing.specs.Ledger.{steps, handled, handled_of, copied_of, total, plus, IsLedger, IsPairLedger}
 use Rattle.bus_watch.specs.Pairs.{PairState, IsAfterPairs, lines, seen_after_pairs}
 use Rattle.bus_watch.specs.Laws.{PairsGrow, StepsWithinFour, StepsWithinThree}
-use Rattle.bus_talk.specs.declared.line.Line.{Line}
-use Rattle.bus_talk.specs.declared.line.Line.TheVariants.{First, Second}
+use Rattle.bus_pairing.specs.declared.line.Line.{Line}
+use Rattle.bus_pairing.specs.declared.line.Line.TheVariants.{First, Second}
 use Rattle.bus_watch.proofs.MergedLemmas.{added, merged-more, merged-adds, of_one, length-firsts, length-seconds}
-use Rattle.bus_watch.proofs.AnalyserViewLemmas.{room-of, heard-octets, heard-steps, octets-moved, steps-moved}
+use Rattle.bus_watch.proofs.AnalyserViewLemmas.{room-of, reports-octets, reports-steps, octets-moved, steps-moved}
 use Rattle.bus_watch.proofs.AnalyserViewLemmas.{line-length}
-use Rattle.bus_talk.proofs.LedgerLemmas.{cost-within}
+use Rattle.bus_pairing.proofs.LedgerLemmas.{cost-within}
 use Rattle.bus_watch.proofs.LawsLemmas.{seen-reports, due-moved}
-use Rattle.bus_talk.proofs.SeenLemmas.{seen-more}
+use Rattle.bus_pairing.proofs.SeenLemmas.{seen-more}
 
 -- the bits of pairs that were made of two lists
 pub firsts-zip : (b c : List Bool) → length b ≡ length c → firsts (zip b c) ≡ b
@@ -52,18 +52,18 @@ pub of_one-octets : FramesStored → StoredPaid → AssembledWithin → (on : Li
 of_one-octets frames paid within on origin longest b =
     omega (
       arith,
-      heard-octets (Some on) (placed origin longest b),
+      reports-octets (Some on) (placed origin longest b),
       octets-moved origin (reports longest b),
       frames longest b,
       paid longest b,
       within b,
     )
 
-pub copied-adds : (xs ys : List Heard) → copied_of (xs ++ ys) ≡ copied_of xs + copied_of ys
-copied-adds xs ys = sum_by-append (λ (h : Heard). octet_count h.report) xs ys
+pub copied-adds : (xs ys : List LineReport) → copied_of (xs ++ ys) ≡ copied_of xs + copied_of ys
+copied-adds xs ys = sum_by-append (λ (h : LineReport). octet_count h.report) xs ys
 
-handled-adds : (xs ys : List Heard) → handled_of (xs ++ ys) ≡ handled_of xs + handled_of ys
-handled-adds xs ys = sum_by-append (λ (h : Heard). steps h.report) xs ys
+handled-adds : (xs ys : List LineReport) → handled_of (xs ++ ys) ≡ handled_of xs + handled_of ys
+handled-adds xs ys = sum_by-append (λ (h : LineReport). steps h.report) xs ys
 
 pub merged-length : (origin longest : ℕ) (ps : List (Bool × Bool)) →
     length (merged origin longest ps) ≤ length ps + length ps
@@ -71,8 +71,8 @@ merged-length origin longest ps =
     omega (
       arith,
       merged-adds length refl length-append origin longest ps,
-      length-map (placed origin longest (firsts ps)) (heard_on (Some First)),
-      length-map (placed origin longest (seconds ps)) (heard_on (Some Second)),
+      length-map (placed origin longest (firsts ps)) (line_report (Some First)),
+      length-map (placed origin longest (seconds ps)) (line_report (Some Second)),
       line-length origin longest (firsts ps),
       line-length origin longest (seconds ps),
       length-firsts ps,
@@ -82,11 +82,11 @@ merged-length origin longest ps =
 -- all counters have room for a pair's first report
 pub room-first : {C : Type 0} (view : CheckView C) (a : PairState C) (ps : List (Bool × Bool)) →
     FramesStored → StoredPaid → AssembledWithin
-    → IsAfterPairs view a ps → length ps ≤ 2 ^ 60 → HasRoom a.journal
+    → IsAfterPairs view a ps → length ps ≤ 2 ^ 60 → HasRoom a.conversation
 room-first view a ps frames paid within reached few =
     let o = a.first.origin in
-    let longest = longest_of a.journal.dictionary in
-    room-of a.journal (lines a ps) reached.journal
+    let longest = longest_of a.conversation.dictionary in
+    room-of a.conversation (lines a ps) reached.conversation
     (omega (
       arith,
       merged-adds copied_of refl copied-adds o longest ps,
@@ -104,22 +104,22 @@ few-option (Some x) = omega arith
 
 -- and then for its second
 pub room-second : {C : Type 0} (view : CheckView C) (a : PairState C) (d : LineState C)
-    (j : JournalState) (bits : List Bool) (s : Option SeenReport) (ps : List (Bool × Bool)) → FramesStored →
+    (j : ConversationState) (bits : List Bool) (s : Option SeenReport) (ps : List (Bool × Bool)) → FramesStored →
     StoredPaid →
     AssembledWithin
-    → Hears view (Some First) a.first a.journal bits s d j → IsAfterPairs view a ps →
+    → Decodes view (Some First) a.first a.conversation bits s d j → IsAfterPairs view a ps →
     length ps + length bits ≤ 2 ^ 60 → HasRoom j
 room-second view a d j bits s ps frames paid within first reached few =
     let o = a.first.origin in
-    let longest = longest_of a.journal.dictionary in
+    let longest = longest_of a.conversation.dictionary in
     let b = firsts ps in
-    let new : List Heard = heard_option (Some First) first.report in
+    let new : List LineReport = line_reports_of (Some First) first.report in
     let adds : placed o longest (b ++ bits) ≡ placed o longest b ++ option_to_list first.report =
-    rw (← reached.longest) (first.advances.tells.says b reached.first) in
+    rw (← reached.longest) (first.advances.decides.says b reached.first) in
     let grown : of_one First o longest (b ++ bits) ≡ of_one First o longest b ++ new =
-    ap (map (heard_on (Some First))) adds ∙ map-append (heard_on (Some First)) (placed o longest b)
+    ap (map (line_report (Some First))) adds ∙ map-append (line_report (Some First)) (placed o longest b)
     (option_to_list first.report) in
-    room-of j (lines a ps ++ new) (first.keeps (lines a ps) reached.journal)
+    room-of j (lines a ps ++ new) (first.keeps (lines a ps) reached.conversation)
     (omega (
       arith,
       copied-adds (lines a ps) new,
@@ -137,40 +137,40 @@ room-second view a d j bits s ps frames paid within first reached few =
       arith,
       length-append (lines a ps) new,
       merged-length o longest ps,
-      length-map (option_to_list first.report) (heard_on (Some First)),
+      length-map (option_to_list first.report) (line_report (Some First)),
       few-option first.report,
       few,
     ))
 
 -- what is due at a place
-pub heard-due : DueIsIt → (on : Line) (origin longest : ℕ) (b : List Bool) (i : ℕ) →
-    All (λ (h : Heard). due h.report ≡ origin + i) (heard_at on origin longest b i)
-heard-due it on origin longest b i = one (due_at longest b i) refl
+pub reports-due : DueIsIt → (on : Line) (origin longest : ℕ) (b : List Bool) (i : ℕ) →
+    All (λ (h : LineReport). due h.report ≡ origin + i) (line_reports_at on origin longest b i)
+reports-due it on origin longest b i = one (due_at longest b i) refl
   where
     one : (o : Option Report) → due_at longest b i ≡ o →
-        All (λ (h : Heard). due h.report ≡ origin + i)
-        (map (heard_on (Some on)) (option_to_list (option_map (moved origin) o)))
+        All (λ (h : LineReport). due h.report ≡ origin + i)
+        (map (line_report (Some on)) (option_to_list (option_map (moved origin) o)))
     one None is = All-nil _
-    one (Some r) is = All-cons (λ (h : Heard). due h.report ≡ origin + i) (heard_on (Some on) (moved origin r)) []
+    one (Some r) is = All-cons (λ (h : LineReport). due h.report ≡ origin + i) (line_report (Some on) (moved origin r)) []
         (due-moved origin r.kind r.first r.past ∙ ap (λ n. origin + n) ((it longest b i r).1 is).1) (All-nil _)
 
 pub both-due : DueIsIt → (origin longest : ℕ) (b c : List Bool) (i : ℕ) →
-    All (λ (h : Heard). due h.report ≡ origin + i)
-    (heard_at First origin longest b i ++ heard_at Second origin longest c i)
+    All (λ (h : LineReport). due h.report ≡ origin + i)
+    (line_reports_at First origin longest b i ++ line_reports_at Second origin longest c i)
 both-due it origin longest b c i =
-    All-append (λ (h : Heard). due h.report ≡ origin + i) (heard_at First origin longest b i)
-    (heard_at Second origin longest c i) (heard-due it First origin longest b i)
-    (heard-due it Second origin longest c i)
+    All-append (λ (h : LineReport). due h.report ≡ origin + i) (line_reports_at First origin longest b i)
+    (line_reports_at Second origin longest c i) (reports-due it First origin longest b i)
+    (reports-due it Second origin longest c i)
 
 pub below : DueIsIt → (origin longest : ℕ) (b c : List Bool) (n : ℕ) →
-    All (λ (h : Heard). due h.report < origin + n)
-    (flat_map (λ i. heard_at First origin longest b i ++ heard_at Second origin longest c i) (places n))
+    All (λ (h : LineReport). due h.report < origin + n)
+    (flat_map (λ i. line_reports_at First origin longest b i ++ line_reports_at Second origin longest c i) (places n))
 below it origin longest b c zero = All-nil _
 below it origin longest b c (suc n) =
-    let f : ℕ → List Heard = λ i. heard_at First origin longest b i ++ heard_at Second origin longest c i in
-    subst (All (λ (h : Heard). due h.report < origin + suc n))
+    let f : ℕ → List LineReport = λ i. line_reports_at First origin longest b i ++ line_reports_at Second origin longest c i in
+    subst (All (λ (h : LineReport). due h.report < origin + suc n))
     (sym (flat_map-append f (places n) (n ∷ []) ∙ ap (λ ys. flat_map f (places n) ++ ys) (append-nil (f n))))
-    (All-append (λ (h : Heard). due h.report < origin + suc n) (flat_map f (places n)) (f n)
+    (All-append (λ (h : LineReport). due h.report < origin + suc n) (flat_map f (places n)) (f n)
     (λ i d inside. let before = below it origin longest b c n i d inside in omega (arith, before))
     (λ i d inside. let here = both-due it origin longest b c n i d inside in omega (arith, here)))
 
@@ -178,23 +178,23 @@ below it origin longest b c (suc n) =
 abbrev at : ℕ → SeenReport → Bool
 at place s = due s.report == place
 
-filter-none : (place : ℕ) (ss : List SeenReport) → All (λ (h : Heard). due h.report < place) (map heard_in ss) →
+filter-none : (place : ℕ) (ss : List SeenReport) → All (λ (h : LineReport). due h.report < place) (map report_in ss) →
     filter (at place) ss ≡ []
 filter-none place [] before = refl
 filter-none place (s ∷ ss) before =
     let apart : (due s.report == place) ≡ false =
-    ne_eqb (due s.report) place (λ same. omega (arith, same, before 0 (heard_in s) (omega arith))) in
+    ne_eqb (due s.report) place (λ same. omega (arith, same, before 0 (report_in s) (omega arith))) in
     rw apart (filter-none place ss (λ i d inside. before (suc i) d (omega (arith, inside))))
 
-filter-all : (place : ℕ) (ss : List SeenReport) → All (λ (h : Heard). due h.report ≡ place) (map heard_in ss) →
+filter-all : (place : ℕ) (ss : List SeenReport) → All (λ (h : LineReport). due h.report ≡ place) (map report_in ss) →
     filter (at place) ss ≡ ss
 filter-all place [] here = refl
 filter-all place (s ∷ ss) here =
-    let is : (due s.report == place) ≡ true = eq-eqb (due s.report) place (here 0 (heard_in s) (omega arith)) in
+    let is : (due s.report == place) ≡ true = eq-eqb (due s.report) place (here 0 (report_in s) (omega arith)) in
     rw is (ap (λ xs. s ∷ xs) (filter-all place ss (λ i d inside. here (suc i) d (omega (arith, inside)))))
 
 -- more reports are seen after those before
-seen-on : (d : List FrameType) (hs more : List Heard) → (rest : List SeenReport)
+seen-on : (d : List FrameType) (hs more : List LineReport) → (rest : List SeenReport)
     × (seen d (hs ++ more) ≡ seen d hs ++ rest)
 seen-on d hs [] = ([], ap (seen d) (append-nil hs) ∙ sym (append-nil (seen d hs)))
 seen-on d hs (h ∷ more) =
@@ -204,20 +204,20 @@ seen-on d hs (h ∷ more) =
           ∙ (rest.1 ∙ (ap (λ ss. ss ++ rest.0) (seen-more d hs h) ∙ append_assoc (seen d hs) (_ ∷ []) rest.0)),
     )
 
-at-all : (d : List FrameType) (hs more : List Heard) (place : ℕ) → All (λ (h : Heard). due h.report < place) hs →
-    All (λ (h : Heard). due h.report ≡ place) more
+at-all : (d : List FrameType) (hs more : List LineReport) (place : ℕ) → All (λ (h : LineReport). due h.report < place) hs →
+    All (λ (h : LineReport). due h.report ≡ place) more
     → seen d (hs ++ more) ≡ seen d hs ++ all_seen_at d (hs ++ more) place
 at-all d hs more place before here =
     let rest = seen-on d hs more in
-    let is : map heard_in rest.0 ≡ more =
-    append_cancel_left hs _ _ (ap (λ xs. xs ++ map heard_in rest.0) (sym (seen-reports d hs))
-    ∙ (sym (map-append heard_in (seen d hs) rest.0)
-    ∙ (ap (map heard_in) (sym rest.1) ∙ seen-reports d (hs ++ more)))) in
+    let is : map report_in rest.0 ≡ more =
+    append_cancel_left hs _ _ (ap (λ xs. xs ++ map report_in rest.0) (sym (seen-reports d hs))
+    ∙ (sym (map-append report_in (seen d hs) rest.0)
+    ∙ (ap (map report_in) (sym rest.1) ∙ seen-reports d (hs ++ more)))) in
     let found : all_seen_at d (hs ++ more) place ≡ rest.0 =
     ap (filter (at place)) rest.1 ∙ (filter-append (at place) (seen d hs) rest.0
     ∙ (ap (λ xs. xs ++ filter (at place) rest.0)
-    (filter-none place (seen d hs) (subst (All (λ (h : Heard). due h.report < place)) (sym (seen-reports d hs)) before))
-    ∙ filter-all place rest.0 (subst (All (λ (h : Heard). due h.report ≡ place)) (sym is) here))) in
+    (filter-none place (seen d hs) (subst (All (λ (h : LineReport). due h.report < place)) (sym (seen-reports d hs)) before))
+    ∙ filter-all place rest.0 (subst (All (λ (h : LineReport). due h.report ≡ place)) (sym is) here))) in
     rest.1 ∙ ap (λ xs. seen d hs ++ xs) (sym found)
 
 pub pairs-grow : DueStays → DueIsIt → PairsGrow
@@ -234,9 +234,9 @@ pairs-grow stays it = λ d longest origin ps p.
 pub answer-pair : {C : Type 0} (view : CheckView C) (a : PairState C) (ps : List (Bool × Bool))
     (p : Bool × Bool) (told : List SeenReport) → PairsGrow → IsAfterPairs view a ps
     → seen_after_pairs a (ps ++ p ∷ []) ≡ seen_after_pairs a ps ++ told →
-    told ≡ all_seen_at a.journal.dictionary (lines a (ps ++ p ∷ [])) a.first.place
+    told ≡ all_seen_at a.conversation.dictionary (lines a (ps ++ p ∷ [])) a.first.place
 answer-pair view a ps p told grows reached adds =
-    let d = a.journal.dictionary in
+    let d = a.conversation.dictionary in
     let hs = lines a (ps ++ p ∷ []) in
     append_cancel_left (seen_after_pairs a ps) _ _ (sym adds ∙ grows d (longest_of d) a.first.origin ps p)
     ∙ ap (all_seen_at d hs) (ap (λ n. a.first.origin + n) (sym (length-firsts ps)) ∙ sym reached.first.has_taken.place)
@@ -255,19 +255,19 @@ line-ledger cost longest b d ledger = record {
 
 copied-of_one : (on : Line) (origin longest : ℕ) (b : List Bool) →
     copied_of (of_one on origin longest b) ≡ copied longest b
-copied-of_one on origin longest b = heard-octets (Some on) (placed origin longest b)
+copied-of_one on origin longest b = reports-octets (Some on) (placed origin longest b)
     ∙ octets-moved origin (reports longest b)
 
 handled-of_one : (on : Line) (origin longest : ℕ) (b : List Bool) →
     handled_of (of_one on origin longest b) ≡ handled (reports longest b)
-handled-of_one on origin longest b = heard-steps (Some on) (placed origin longest b)
+handled-of_one on origin longest b = reports-steps (Some on) (placed origin longest b)
     ∙ steps-moved origin (reports longest b)
 
 pub pair-ledger : {C : Type 0} (view : CheckView C) (a : PairState C) (ps : List (Bool × Bool))
     (d e j : Spent) → IsAfterPairs view a ps
     → IsLineLedger view.cost a.first.longest (firsts ps) d → IsLineLedger view.cost a.second.longest (seconds ps) e →
-    j.copied ≡ a.journal.copied → j.handled ≡ a.journal.handled
-    → IsPairLedger view.cost (longest_of a.journal.dictionary) ps
+    j.copied ≡ a.conversation.copied → j.handled ≡ a.conversation.handled
+    → IsPairLedger view.cost (longest_of a.conversation.dictionary) ps
     (record {
       shifted = d.shifted + e.shifted;
       assembled = d.assembled + e.assembled;
@@ -277,10 +277,10 @@ pub pair-ledger : {C : Type 0} (view : CheckView C) (a : PairState C) (ps : List
       handled = j.handled;
     })
 pair-ledger view a ps d e j reached first second copied_is handled_is =
-    let longest = longest_of a.journal.dictionary in
+    let longest = longest_of a.conversation.dictionary in
     let o = a.first.origin in
     let kept : j.copied ≡ copied longest (firsts ps) + copied longest (seconds ps) =
-    copied_is ∙ reached.journal.copied
+    copied_is ∙ reached.conversation.copied
     ∙ omega (
       arith,
       merged-adds copied_of refl copied-adds o longest ps,
@@ -288,7 +288,7 @@ pair-ledger view a ps d e j reached first second copied_is handled_is =
       copied-of_one Second o longest (seconds ps),
     ) in
     let told : j.handled ≡ handled (reports longest (firsts ps)) + handled (reports longest (seconds ps)) =
-    handled_is ∙ reached.journal.handled
+    handled_is ∙ reached.conversation.handled
     ∙ omega (
       arith,
       merged-adds handled_of refl handled-adds o longest ps,

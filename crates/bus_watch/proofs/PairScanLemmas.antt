@@ -13,40 +13,40 @@ use Rattle.bus_line.specs.Due.{placed}
 use Rattle.bus_line.specs.Laws.{OneMore, ReportsGrow, DueStays, FramesStored, StoredPaid, AssembledWithin}
 use Rattle.bus_line.specs.Ledger.{octet_count}
 use Rattle.bus_dictionary.specs.Dictionary.{longest_of}
-use Rattle.bus_talk.specs.Heard.{Heard, heard_on, firsts, seconds, merged}
-use Rattle.bus_talk.specs.Seen.{SeenReport, seen}
-use Rattle.bus_talk.specs.Ledger.{copied_of}
-use Rattle.bus_talk.specs.Journal.{JournalState, Keeps}
-use Rattle.bus_watch.specs.Internal.Hears.{Hears, HearsMany, Reaches, heard_option}
+use Rattle.bus_pairing.specs.LineReport.{LineReport, line_report, firsts, seconds, merged}
+use Rattle.bus_pairing.specs.Seen.{SeenReport, seen}
+use Rattle.bus_pairing.specs.Ledger.{copied_of}
+use Rattle.bus_pairing.specs.Conversation.{ConversationState, Keeps}
+use Rattle.bus_watch.specs.Internal.Decodes.{Decodes, DecodesMany, KeepsUp, line_reports_of}
 use Rattle.bus_watch.specs.Pairs.{PairState, IsAfterPairs, SeesPairs, lines, two_lines}
 use Rattle.bus_watch.specs.Watch.{LeadsTold, Watch}
 use Rattle.bus_watch.proofs.FedLemmas.{leads-more, leads-nil}
-use Rattle.bus_watch.proofs.HearsLemmas.{hears-one}
-use Rattle.bus_talk.specs.declared.line.Line.TheVariants.{First, Second}
+use Rattle.bus_watch.proofs.DecodesLemmas.{decodes-one}
+use Rattle.bus_pairing.specs.declared.line.Line.TheVariants.{First, Second}
 use Rattle.bus_watch.proofs.MergedLemmas.{firsts-append, length-firsts, length-seconds, merged-adds, merged-led}
 use Rattle.bus_watch.proofs.MergedLemmas.{seconds-append}
-use Rattle.bus_watch.proofs.AnalyserViewLemmas.{heard-octets, line-length}
+use Rattle.bus_watch.proofs.AnalyserViewLemmas.{reports-octets, line-length}
 use Rattle.bus_watch.proofs.PairLemmas.{copied-adds, few-option, firsts-zip}
 use Rattle.bus_watch.proofs.PairLemmas.{of_one-octets, seconds-zip}
 
 -- the first line of two stands so
-pub pairs-reach : {C : Type 0} (view : CheckView C) (a : PairState C) (ps : List (Bool × Bool)) →
+pub pairs-keep_up : {C : Type 0} (view : CheckView C) (a : PairState C) (ps : List (Bool × Bool)) →
     FramesStored → StoredPaid → AssembledWithin
-    → IsAfterPairs view a ps → length ps ≤ 2 ^ 60 → Reaches view a.first a.journal
-pairs-reach view a ps frames paid within reached few =
+    → IsAfterPairs view a ps → length ps ≤ 2 ^ 60 → KeepsUp view a.first a.conversation
+pairs-keep_up view a ps frames paid within reached few =
     let o = a.first.origin in
-    let longest = longest_of a.journal.dictionary in
+    let longest = longest_of a.conversation.dictionary in
     let same : placed o longest (firsts ps) ≡ placed o a.first.longest (firsts ps) =
     ap (λ n. placed o n (firsts ps)) (sym reached.longest) in
     record {
       bits = firsts ps;
       after = reached.first;
-      heard = lines a ps;
-      keeps = reached.journal;
+      decoded = lines a ps;
+      keeps = reached.conversation;
       copied = omega (
         arith,
         merged-adds copied_of refl copied-adds o longest ps,
-        heard-octets (Some First) (placed o longest (firsts ps)),
+        reports-octets (Some First) (placed o longest (firsts ps)),
         ap (sum_by octet_count) same,
         of_one-octets frames paid within Second o longest (seconds ps),
         length-seconds ps,
@@ -55,8 +55,8 @@ pairs-reach view a ps frames paid within reached few =
       count = omega (
         arith,
         merged-adds length refl length-append o longest ps,
-        length-map (placed o longest (firsts ps)) (heard_on (Some First)),
-        length-map (placed o longest (seconds ps)) (heard_on (Some Second)),
+        length-map (placed o longest (firsts ps)) (line_report (Some First)),
+        length-map (placed o longest (seconds ps)) (line_report (Some Second)),
         ap length same,
         line-length o longest (seconds ps),
         length-seconds ps,
@@ -66,12 +66,12 @@ pairs-reach view a ps frames paid within reached few =
 
 -- ---- the second line's last bit is the first at which it reports
 
-module _ {C : Type 0} (view : CheckView C) (old new : PairState C) (j : JournalState)
+module _ {C : Type 0} (view : CheckView C) (old new : PairState C) (j : ConversationState)
     (zs : List (Bool × Bool)) (xs ys : List Bool) (t : Option SeenReport) (told : List SeenReport → Type 0)
     (stays : DueStays) (more : OneMore) (grow : ReportsGrow) (some : 0 < length zs)
     (firsts_are : xs ≡ firsts zs) (seconds_are : ys ≡ seconds zs)
-    (first : HearsMany view (Some First) old.first old.journal xs new.first j told)
-    (second : Hears view (Some Second) old.second j ys t new.second new.journal) where
+    (first : DecodesMany view (Some First) old.first old.conversation xs new.first j told)
+    (second : Decodes view (Some Second) old.second j ys t new.second new.conversation) where
   abbrev all-but : List (Bool × Bool)
   all-but = take (length zs - 1) zs
 
@@ -89,13 +89,13 @@ module _ {C : Type 0} (view : CheckView C) (old new : PairState C) (j : JournalS
       ∙ take-map (λ (p : Bool × Bool). p.1) (length zs - 1) zs)
 
   abbrev longest : ℕ
-  longest = longest_of old.journal.dictionary
+  longest = longest_of old.conversation.dictionary
 
-  abbrev first-lines : List Heard
-  first-lines = map (heard_on (Some First)) first.reports
+  abbrev first-lines : List LineReport
+  first-lines = map (line_report (Some First)) first.reports
 
   lines-more : (ps : List (Bool × Bool)) → IsAfterPairs view old ps →
-      lines old (ps ++ zs) ≡ (lines old ps ++ first-lines) ++ heard_option (Some Second) second.report
+      lines old (ps ++ zs) ≡ (lines old ps ++ first-lines) ++ line_reports_of (Some Second) second.report
   lines-more ps reached =
       let o = old.first.origin in
       let quiet : placed o longest (seconds ps ++ seconds all-but) ≡ placed o longest (seconds ps) =
@@ -107,18 +107,18 @@ module _ {C : Type 0} (view : CheckView C) (old new : PairState C) (j : JournalS
       let second_adds : placed o longest (seconds ps ++ seconds (all-but ++ last-one ∷ []))
       ≡ placed o longest (seconds ps) ++ option_to_list second.report =
       rw (← whole, ← seconds_are, ← reached.longest_second, ← reached.origin)
-      (second.advances.tells.says (seconds ps) reached.second) in
+      (second.advances.decides.says (seconds ps) reached.second) in
       ap (λ (qs : List (Bool × Bool)). lines old (ps ++ qs)) whole
       ∙ (merged-led stays more grow o longest ps all-but last-one first.reports second.report first_adds quiet
       second_adds
-      ∙ sym (append_assoc (lines old ps) first-lines (heard_option (Some Second) second.report)))
+      ∙ sym (append_assoc (lines old ps) first-lines (line_reports_of (Some Second) second.report)))
 
   pub sees-scanned : SeesPairs view old zs (first.seen_now ++ option_to_list t) new
   sees-scanned =
       let d = second.dictionary ∙ first.dictionary in
-      let second_led = second.advances.tells.leads in
+      let second_led = second.advances.decides.leads in
       let same : (ps : List (Bool × Bool)) → lines new ps ≡ lines old ps = λ ps.
-      ap (λ o. merged o (longest_of new.journal.dictionary) ps) first.led.origin
+      ap (λ o. merged o (longest_of new.conversation.dictionary) ps) first.led.origin
       ∙ ap (λ es. merged old.first.origin (longest_of es) ps) d in
       record {
         is_after = λ ps reached. record {
@@ -127,17 +127,17 @@ module _ {C : Type 0} (view : CheckView C) (old new : PairState C) (j : JournalS
           origin = second_led.origin ∙ reached.origin ∙ sym first.led.origin;
           longest = first.led.longest ∙ reached.longest ∙ ap longest_of (sym d);
           longest_second = second_led.longest ∙ reached.longest_second ∙ ap longest_of (sym d);
-          journal = subst (Keeps new.journal) (sym (same (ps ++ zs) ∙ lines-more ps reached))
-              (second.keeps (lines old ps ++ first-lines) (first.keeps (lines old ps) reached.journal));
+          conversation = subst (Keeps new.conversation) (sym (same (ps ++ zs) ∙ lines-more ps reached))
+              (second.keeps (lines old ps ++ first-lines) (first.keeps (lines old ps) reached.conversation));
         };
         seen = λ ps reached.
-            let e = old.journal.dictionary in
-            let half : List Heard = lines old ps ++ first-lines in
-            let last : seen e (half ++ heard_option (Some Second) second.report) ≡ seen e half ++ option_to_list t =
-            subst (λ es. seen es (half ++ heard_option (Some Second) second.report) ≡ seen es half ++ option_to_list t)
-            first.dictionary (second.seen half (first.keeps (lines old ps) reached.journal)) in
+            let e = old.conversation.dictionary in
+            let half : List LineReport = lines old ps ++ first-lines in
+            let last : seen e (half ++ line_reports_of (Some Second) second.report) ≡ seen e half ++ option_to_list t =
+            subst (λ es. seen es (half ++ line_reports_of (Some Second) second.report) ≡ seen es half ++ option_to_list t)
+            first.dictionary (second.seen half (first.keeps (lines old ps) reached.conversation)) in
             ap (seen e) (lines-more ps reached) ∙ (last
-            ∙ (ap (λ ss. ss ++ option_to_list t) (first.seen (lines old ps) reached.journal)
+            ∙ (ap (λ ss. ss ++ option_to_list t) (first.seen (lines old ps) reached.conversation)
             ∙ append_assoc (seen e (lines old ps)) first.seen_now (option_to_list t)));
         dictionary = d;
         depth = second.depth ∙ first.depth;
@@ -146,15 +146,15 @@ module _ {C : Type 0} (view : CheckView C) (old new : PairState C) (j : JournalS
       }
 
 -- one bit on either line
-pub sees-pair : {C : Type 0} (view : CheckView C) (x y : Bool) (old new : PairState C) (j : JournalState)
+pub sees-pair : {C : Type 0} (view : CheckView C) (x y : Bool) (old new : PairState C) (j : ConversationState)
     (s t : Option SeenReport) → DueStays → OneMore → ReportsGrow
-    → Hears view (Some First) old.first old.journal (x ∷ []) s new.first j
-    → Hears view (Some Second) old.second j (y ∷ []) t new.second new.journal
+    → Decodes view (Some First) old.first old.conversation (x ∷ []) s new.first j
+    → Decodes view (Some Second) old.second j (y ∷ []) t new.second new.conversation
     → SeesPairs view old ((x, y) ∷ []) (option_to_list s ++ option_to_list t) new
 sees-pair view x y old new j s t stays more grow first second =
     sees-scanned view old new j ((x, y) ∷ []) (x ∷ []) (y ∷ []) t (λ _. Unit {0})
     stays more grow (omega arith) refl refl
-    (hears-one view (Some First) old.first new.first old.journal j (x ∷ []) s (omega arith) first) second
+    (decodes-one view (Some First) old.first new.first old.conversation j (x ∷ []) s (omega arith) first) second
 
 -- ---- pairs of octets' bits
 
@@ -170,11 +170,11 @@ length-zipped os ys i n = sym (length-firsts (zip (bits_from os i n) (bits_from 
     ∙ (ap length (firsts-from os ys i n) ∙ length-from os i n)
 
 -- the second line takes bits of which only the last may decide a report, and the first as many
-pub leads-scanned : {C : Type 0} (view : CheckView C) (old new : PairState C) (j : JournalState)
+pub leads-scanned : {C : Type 0} (view : CheckView C) (old new : PairState C) (j : ConversationState)
     (os ys : List ℕ) (i n : ℕ) (t : Option SeenReport) (told further : List SeenReport → Type 0)
     → DueStays → OneMore → ReportsGrow → 1 ≤ n
-    → (first : HearsMany view (Some First) old.first old.journal (bits_from os i n) new.first j told)
-    → Hears view (Some Second) old.second j (bits_from ys i n) t new.second new.journal
+    → (first : DecodesMany view (Some First) old.first old.conversation (bits_from os i n) new.first j told)
+    → Decodes view (Some Second) old.second j (bits_from ys i n) t new.second new.conversation
     → further (first.seen_now ++ option_to_list t)
     → LeadsTold (two_lines view) old (zip (bits_from os i n) (bits_from ys i n)) new further
 leads-scanned view old new j os ys i n t told further stays more grow some first second all_told = record {

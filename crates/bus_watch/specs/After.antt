@@ -5,40 +5,40 @@ use Rattle.bus_line.specs.Due.{placed}
 use Rattle.bus_line.specs.Internal.LineState.{LineState}
 use Rattle.bus_line.specs.After.{After}
 use Rattle.bus_dictionary.specs.Dictionary.{longest_of}
-use Rattle.bus_talk.specs.Heard.{Heard, of_line}
-use Rattle.bus_talk.specs.Seen.{SeenReport, seen}
+use Rattle.bus_pairing.specs.LineReport.{LineReport, of_line}
+use Rattle.bus_pairing.specs.Seen.{SeenReport, seen}
 use Rattle.bus_watch.specs.Watch.{Watch, Leads}
-use Rattle.bus_talk.specs.Journal.{JournalState, Keeps}
+use Rattle.bus_pairing.specs.Conversation.{ConversationState, Keeps}
 
 -- what contracts see of an analyser
 pub record AnalyserState (C : Type 0) : Type 0 where
   pub decoder : LineState C
-  pub journal : JournalState
+  pub conversation : ConversationState
 
 -- the reports of the bits b of its line, by its dictionary's longest frame
-abbrev pub line : {C : Type 0} → AnalyserState C → List Bool → List Heard
-line a b = of_line (placed a.decoder.origin (longest_of a.journal.dictionary) b)
+abbrev pub line : {C : Type 0} → AnalyserState C → List Bool → List LineReport
+line a b = of_line (placed a.decoder.origin (longest_of a.conversation.dictionary) b)
 
 -- what is seen of them
 abbrev pub seen_after : {C : Type 0} → AnalyserState C → List Bool → List SeenReport
-seen_after a b = seen a.journal.dictionary (line a b)
+seen_after a b = seen a.conversation.dictionary (line a b)
 
 -- an analyser may stand after the bits b
 pub record IsAfter {C : Type 0} (view : CheckView C) (a : AnalyserState C)
     (b : List Bool) : Type 0 where
   pub decoder : After view a.decoder b
-  pub longest : a.decoder.longest ≡ longest_of a.journal.dictionary
-  pub journal : Keeps a.journal (line a b)
+  pub longest : a.decoder.longest ≡ longest_of a.conversation.dictionary
+  pub conversation : Keeps a.conversation (line a b)
 
 -- one line
 abbrev pub one_line : {C : Type 0} → CheckView C → Watch (AnalyserState C) Bool
 one_line view = record {
   is_after = IsAfter view;
-  dictionary = λ a. a.journal.dictionary;
-  depth = λ a. a.journal.depth;
+  dictionary = λ a. a.conversation.dictionary;
+  depth = λ a. a.conversation.depth;
   origin = λ a. a.decoder.origin;
   place = λ a. a.decoder.place;
-  hears = λ origin longest b. of_line (placed origin longest b);
+  reports = λ origin longest b. of_line (placed origin longest b);
 }
 
 -- these bits lead from old to new, and this is seen at them

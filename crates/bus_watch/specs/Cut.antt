@@ -3,17 +3,17 @@ use Rattle.std.specs.Prelude.{◌≡◌, ℕ, ◌+◌, Bool, false, List, [], �
 use Rattle.bus_line.specs.Mark.{flag}
 use Rattle.bus_line.specs.Due.{placed}
 use Rattle.bus_dictionary.specs.Entry.{FrameType}
-use Rattle.bus_talk.specs.Heard.{Heard, of_line}
-use Rattle.bus_talk.specs.Talk.{talk, is_idle, begins, verdict, pending}
-use Rattle.bus_talk.specs.Seen.{SeenReport, seen, seen_of}
+use Rattle.bus_pairing.specs.LineReport.{LineReport, of_line}
+use Rattle.bus_pairing.specs.Talk.{talk, is_idle, begins, verdict, pending}
+use Rattle.bus_pairing.specs.Seen.{SeenReport, seen, seen_of}
 
 -- where no command waits, nothing
 abbrev pub CutLosesNothing : Type 0
-CutLosesNothing = (d : List FrameType) (before behind : List Heard) → pending d before ≡ None →
+CutLosesNothing = (d : List FrameType) (before behind : List LineReport) → pending d before ≡ None →
     seen d (before ++ behind) ≡ seen d before ++ seen d behind
 
 -- where one waits, its verdict, at the first report after it that is no idle line, and no more
-pub record LosesOne (d : List FrameType) (before idles rest : List Heard) (h : Heard) : Type 0 where
+pub record LosesOne (d : List FrameType) (before idles rest : List LineReport) (h : LineReport) : Type 0 where
   pub others : List SeenReport
   pub whole : seen d (before ++ (idles ++ h ∷ rest)) ≡ seen d before
       ++ (seen d idles ++ seen_of d (before ++ idles) h ∷ others)
@@ -22,7 +22,7 @@ pub record LosesOne (d : List FrameType) (before idles rest : List Heard) (h : H
   pub none : (seen_of d idles h).verdict ≡ None
 
 abbrev pub CutLosesVerdict : Type 0
-CutLosesVerdict = (d : List FrameType) (before idles rest : List Heard) (h : Heard) →
+CutLosesVerdict = (d : List FrameType) (before idles rest : List LineReport) (h : LineReport) →
     talk idles ≡ [] → is_idle h.report.kind ≡ false → LosesOne d before idles rest h
 
 -- cut at a flag up to which no command waits, what is seen of bits is what is seen up to the end of the flag, and then

@@ -1,9 +1,9 @@
 -- What feeding bits does to an analyser and a sink.
 use Rattle.std.specs.Prelude.{◌≡◌, ℕ, ◌+◌, ◌-◌, ◌<◌, ◌≤◌, Bool, List, [], ◌∷◌, ◌++◌, length, take}
 use Rattle.bus_fcs.specs.Check.{CheckView}
-use Rattle.bus_talk.specs.Seen.{SeenReport}
+use Rattle.bus_pairing.specs.Seen.{SeenReport}
 use Rattle.bus_line.specs.Told.{told}
-use Rattle.bus_talk.specs.Sink.{SinkView, SinkTook}
+use Rattle.bus_pairing.specs.Sink.{SinkView, SinkTook}
 use Rattle.bus_watch.specs.Watch.{Watch, Leads, seen_by}
 use Rattle.bus_watch.specs.After.{AnalyserState, IsAfter, Sees, seen_after, one_line}
 use Rattle.bus_watch.specs.declared.fault.FeedFault.{FeedFault}

@@ -9,12 +9,12 @@ use Rattle.bus_line.specs.Ledger.{stored_open}
 use Rattle.bus_line.specs.Report.{Report, AreReports, moved}
 use Rattle.bus_dictionary.specs.Entry.{FrameType}
 use Rattle.bus_dictionary.specs.Dictionary.{longest_of}
-use Rattle.bus_talk.specs.Heard.{of_line}
-use Rattle.bus_talk.specs.Seen.{SeenReport, heard_in, seen}
-use Rattle.bus_talk.specs.History.{KeptFrame, history}
-use Rattle.bus_talk.specs.Ledger.{IsLedger, total}
+use Rattle.bus_pairing.specs.LineReport.{of_line}
+use Rattle.bus_pairing.specs.Seen.{SeenReport, report_in, seen}
+use Rattle.bus_pairing.specs.History.{KeptFrame, history}
+use Rattle.bus_pairing.specs.Ledger.{IsLedger, total}
 use Rattle.bus_line.specs.Told.{told}
-use Rattle.bus_talk.specs.Sink.{SinkView}
+use Rattle.bus_pairing.specs.Sink.{SinkView}
 use Rattle.bus_watch.specs.After.{AnalyserState, IsAfter, one_line}
 use Rattle.bus_watch.specs.Laws.{joined, Runs}
 use Rattle.bus_watch.specs.declared.usage.Usage.{Usage}
@@ -36,7 +36,7 @@ pub record Headline
   -- and that is the list's frames, damaged pieces, overlong pieces, aborts and idles, all of them and no others, by
   -- rising due place, each moved on by the origin
   pub framing : (rs : List Report) × AreReports (longest_of d) b rs
-      × (map heard_in reports ≡ of_line (map (moved origin) rs))
+      × (map report_in reports ≡ of_line (map (moved origin) rs))
   -- the frame buffer never has more octets than the longest frame and two: those of the open piece so far
   pub buffer_bound : usage.buffered ≤ longest_of d + 2
   pub buffered : usage.buffered ≡ stored_open (longest_of d) b
@@ -53,14 +53,14 @@ pub record Headline
 
 -- the frames of an analyser's history, as `history` lends them
 abbrev pub kept_frames : {C : Type 0} → AnalyserState C → List KeptFrame
-kept_frames a = a.journal.history
+kept_frames a = a.conversation.history
 
 -- the headline of any run of calls that leads from an analyser that took no bit to this one
 abbrev pub WholeRun : {C : Type 0} → CheckView C → AnalyserState C → Usage → Type 0
 WholeRun {C} view end usage =
     (start : AnalyserState C) (pieces : List (List Bool)) (tolds : List (List SeenReport))
     → IsAfter view start [] → Runs (one_line view) start pieces tolds end
-    → Headline view.cost start.journal.dictionary start.journal.depth start.decoder.origin
+    → Headline view.cost start.conversation.dictionary start.conversation.depth start.decoder.origin
     (joined pieces) (joined tolds) (kept_frames end) usage
 
 -- the bits of pieces that are lent, one after the other

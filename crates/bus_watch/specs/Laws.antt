@@ -9,14 +9,14 @@ use Rattle.bus_line.specs.Report.{Report, Frame, due}
 use Rattle.bus_line.specs.Due.{placed, due_at}
 use Rattle.bus_line.specs.Ledger.{octet_count}
 use Rattle.bus_dictionary.specs.Entry.{FrameType}
-use Rattle.bus_talk.specs.Talk.{verdicts}
-use Rattle.bus_talk.specs.Heard.{Heard, of_line, firsts, seconds, merged, of_side}
-use Rattle.bus_talk.specs.Seen.{SeenReport, heard_in, seen, seen_at, all_seen_at}
-use Rattle.bus_talk.specs.Ledger.{IsLedger, IsPairLedger, total}
+use Rattle.bus_pairing.specs.Talk.{verdicts}
+use Rattle.bus_pairing.specs.LineReport.{LineReport, of_line, firsts, seconds, merged, of_side}
+use Rattle.bus_pairing.specs.Seen.{SeenReport, report_in, seen, seen_at, all_seen_at}
+use Rattle.bus_pairing.specs.Ledger.{IsLedger, IsPairLedger, total}
 use Rattle.bus_watch.specs.Watch.{Watch, Leads, seen_by}
 use Rattle.bus_watch.specs.After.{one_line}
 use Rattle.bus_watch.specs.Pairs.{two_lines}
-use Rattle.bus_talk.specs.declared.line.Line.TheVariants.{First, Second}
+use Rattle.bus_pairing.specs.declared.line.Line.TheVariants.{First, Second}
 
 -- one bit more adds what is seen at it, if it decides a report
 abbrev pub SeenGrows : Type 0
@@ -31,15 +31,15 @@ PairsGrow = (d : List FrameType) (longest origin : ℕ) (ps : List (Bool × Bool
     ++ all_seen_at d (merged origin longest (ps ++ p ∷ [])) (origin + length ps)
 
 -- of two reports the one that is due first comes first, and where both are due at one place, that of the first line
-abbrev pub ComesBefore : Heard → Heard → Type 0
+abbrev pub ComesBefore : LineReport → LineReport → Type 0
 ComesBefore h k =
     (due h.report < due k.report) ⊎ ((due h.report ≡ due k.report) × (h.line ≡ Some First) × (k.line ≡ Some Second))
 
 -- these are the reports of two lines and no others, in this order
-pub record IsMerged (rs ss : List Report) (hs : List Heard) : Type 0 where
+pub record IsMerged (rs ss : List Report) (hs : List LineReport) : Type 0 where
   pub first : of_side First hs ≡ rs
   pub second : of_side Second hs ≡ ss
-  pub no_other : All (λ (h : Heard). (h.line ≡ Some First) ⊎ (h.line ≡ Some Second)) hs
+  pub no_other : All (λ (h : LineReport). (h.line ≡ Some First) ⊎ (h.line ≡ Some Second)) hs
   pub rising : AllPairs ComesBefore hs
 
 -- as the merged reports are
@@ -50,12 +50,12 @@ MergedIsMerged =
 
 -- what is seen is the reports, and what follows from each
 abbrev pub SeenAreReports : Type 0
-SeenAreReports = (d : List FrameType) (hs : List Heard) → map heard_in (seen d hs) ≡ hs
+SeenAreReports = (d : List FrameType) (hs : List LineReport) → map report_in (seen d hs) ≡ hs
 
 -- what is seen decides just the verdicts of the talk, in their order
 abbrev pub SeenDecides : Type 0
 SeenDecides =
-    (d : List FrameType) (hs : List Heard) → filter_map (λ (s : SeenReport). s.verdict) (seen d hs) ≡ verdicts d hs
+    (d : List FrameType) (hs : List LineReport) → filter_map (λ (s : SeenReport). s.verdict) (seen d hs) ≡ verdicts d hs
 
 -- the steps of a check that costs 1 to 8 an octet are at most four a bit
 abbrev pub StepsWithinFour : Type 0

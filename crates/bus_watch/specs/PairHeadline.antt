@@ -5,16 +5,16 @@ use Rattle.bus_line.specs.Ledger.{stored_open}
 use Rattle.bus_line.specs.Report.{Report, AreReports, moved}
 use Rattle.bus_dictionary.specs.Entry.{FrameType}
 use Rattle.bus_dictionary.specs.Dictionary.{longest_of}
-use Rattle.bus_talk.specs.Heard.{firsts, seconds, merged, of_side}
-use Rattle.bus_talk.specs.Seen.{SeenReport, heard_in, seen}
+use Rattle.bus_pairing.specs.LineReport.{firsts, seconds, merged, of_side}
+use Rattle.bus_pairing.specs.Seen.{SeenReport, report_in, seen}
 use Rattle.bus_watch.specs.Fed.{Lacks}
-use Rattle.bus_talk.specs.History.{KeptFrame, history}
-use Rattle.bus_talk.specs.Ledger.{IsPairLedger, total}
+use Rattle.bus_pairing.specs.History.{KeptFrame, history}
+use Rattle.bus_pairing.specs.Ledger.{IsPairLedger, total}
 use Rattle.bus_line.specs.Told.{told}
-use Rattle.bus_talk.specs.Sink.{SinkView}
+use Rattle.bus_pairing.specs.Sink.{SinkView}
 use Rattle.bus_watch.specs.Pairs.{PairState, IsAfterPairs, two_lines}
 use Rattle.bus_watch.specs.Laws.{joined, Runs}
-use Rattle.bus_talk.specs.declared.line.Line.TheVariants.{First, Second}
+use Rattle.bus_pairing.specs.declared.line.Line.TheVariants.{First, Second}
 use Rattle.bus_watch.specs.declared.pair.usage.PairUsage.{PairUsage}
 
 -- what is seen of these pairs, the first of which has the place `origin`, by the dictionary d
@@ -30,9 +30,9 @@ pub record PairHeadline
   pub told : reports ≡ all_seen_on_both d origin ps
   -- and of either line that is its frames, damaged pieces, overlong pieces, aborts and idles, all of them and no others
   pub first_framing : (rs : List Report) × AreReports (longest_of d) (firsts ps) rs
-      × (of_side First (map heard_in reports) ≡ map (moved origin) rs)
+      × (of_side First (map report_in reports) ≡ map (moved origin) rs)
   pub second_framing : (rs : List Report) × AreReports (longest_of d) (seconds ps) rs
-      × (of_side Second (map heard_in reports) ≡ map (moved origin) rs)
+      × (of_side Second (map report_in reports) ≡ map (moved origin) rs)
   -- neither frame buffer ever has more octets than the longest frame and two: those of the line's open piece so far
   pub first_bound : usage.first_buffered ≤ longest_of d + 2
   pub second_bound : usage.second_buffered ≤ longest_of d + 2
@@ -54,8 +54,8 @@ abbrev pub WholePairRun : {C : Type 0} → CheckView C → PairState C → PairU
 WholePairRun {C} view end usage =
     (start : PairState C) (pieces : List (List (Bool × Bool))) (tolds : List (List SeenReport))
     → IsAfterPairs view start [] → Runs (two_lines view) start pieces tolds end
-    → PairHeadline view.cost start.journal.dictionary start.journal.depth start.first.origin
-    (joined pieces) (joined tolds) end.journal.history usage
+    → PairHeadline view.cost start.conversation.dictionary start.conversation.depth start.first.origin
+    (joined pieces) (joined tolds) end.conversation.history usage
 
 -- a sink refused so many of the reports that the last of the first `consumed` pairs decides, and took all others
 pub record StoppedAtPair

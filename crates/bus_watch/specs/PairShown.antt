@@ -1,14 +1,14 @@
 -- What an analyser of two lines hands out, as it is seen.
 use Rattle.std.specs.Prelude.{List, ◌++◌, Option, Some, None}
 use Rattle.std.specs.Option.{option_map, option_to_list}
-use Rattle.bus_talk.specs.Seen.{SeenReport}
-use Rattle.bus_talk.specs.Shown.{found_on, shown_on}
-use Rattle.bus_talk.specs.declared.seen.Seen.{Seen}
+use Rattle.bus_pairing.specs.Seen.{SeenReport}
+use Rattle.bus_pairing.specs.Shown.{found_on, shown_on}
+use Rattle.bus_pairing.specs.declared.seen.Seen.{Seen}
 use Rattle.bus_watch.specs.Pairs.{PairState}
 use Rattle.bus_watch.specs.declared.pair.analyser.PairFound.{PairFound}
 use Rattle.bus_watch.specs.declared.pair.seen.PairSeen.{PairSeen}
-use Rattle.bus_talk.specs.declared.line.Line.{Line}
-use Rattle.bus_talk.specs.declared.line.Line.TheVariants.{First, Second}
+use Rattle.bus_pairing.specs.declared.line.Line.{Line}
+use Rattle.bus_pairing.specs.declared.line.Line.TheVariants.{First, Second}
 
 -- on a line
 abbrev pub shown_option_on : Line → Option Seen → Option SeenReport

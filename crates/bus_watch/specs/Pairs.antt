@@ -4,24 +4,24 @@ use Rattle.bus_fcs.specs.Check.{CheckView}
 use Rattle.bus_line.specs.Internal.LineState.{LineState}
 use Rattle.bus_line.specs.After.{After}
 use Rattle.bus_dictionary.specs.Dictionary.{longest_of}
-use Rattle.bus_talk.specs.Heard.{Heard, firsts, seconds, merged}
-use Rattle.bus_talk.specs.Seen.{SeenReport, seen}
+use Rattle.bus_pairing.specs.LineReport.{LineReport, firsts, seconds, merged}
+use Rattle.bus_pairing.specs.Seen.{SeenReport, seen}
 use Rattle.bus_watch.specs.Watch.{Watch, Leads}
-use Rattle.bus_talk.specs.Journal.{JournalState, Keeps}
+use Rattle.bus_pairing.specs.Conversation.{ConversationState, Keeps}
 
 -- what contracts see of an analyser of two lines
 pub record PairState (C : Type 0) : Type 0 where
   pub first : LineState C
   pub second : LineState C
-  pub journal : JournalState
+  pub conversation : ConversationState
 
 -- the reports of both lines, by the dictionary's longest frame
-abbrev pub lines : {C : Type 0} → PairState C → List (Bool × Bool) → List Heard
-lines a ps = merged a.first.origin (longest_of a.journal.dictionary) ps
+abbrev pub lines : {C : Type 0} → PairState C → List (Bool × Bool) → List LineReport
+lines a ps = merged a.first.origin (longest_of a.conversation.dictionary) ps
 
 -- what is seen of them
 abbrev pub seen_after_pairs : {C : Type 0} → PairState C → List (Bool × Bool) → List SeenReport
-seen_after_pairs a ps = seen a.journal.dictionary (lines a ps)
+seen_after_pairs a ps = seen a.conversation.dictionary (lines a ps)
 
 -- an analyser of two lines may stand after these pairs
 pub record IsAfterPairs {C : Type 0} (view : CheckView C) (a : PairState C)
@@ -29,19 +29,19 @@ pub record IsAfterPairs {C : Type 0} (view : CheckView C) (a : PairState C)
   pub first : After view a.first (firsts ps)
   pub second : After view a.second (seconds ps)
   pub origin : a.second.origin ≡ a.first.origin
-  pub longest : a.first.longest ≡ longest_of a.journal.dictionary
-  pub longest_second : a.second.longest ≡ longest_of a.journal.dictionary
-  pub journal : Keeps a.journal (lines a ps)
+  pub longest : a.first.longest ≡ longest_of a.conversation.dictionary
+  pub longest_second : a.second.longest ≡ longest_of a.conversation.dictionary
+  pub conversation : Keeps a.conversation (lines a ps)
 
 -- two lines
 abbrev pub two_lines : {C : Type 0} → CheckView C → Watch (PairState C) (Bool × Bool)
 two_lines view = record {
   is_after = IsAfterPairs view;
-  dictionary = λ a. a.journal.dictionary;
-  depth = λ a. a.journal.depth;
+  dictionary = λ a. a.conversation.dictionary;
+  depth = λ a. a.conversation.depth;
   origin = λ a. a.first.origin;
   place = λ a. a.first.place;
-  hears = λ origin longest ps. merged origin longest ps;
+  reports = λ origin longest ps. merged origin longest ps;
 }
 
 -- these pairs lead from old to new, and this is seen at them

@@ -2,8 +2,8 @@
 use Rattle.std.specs.Prelude.{◌≡◌, ℕ, ◌+◌, ◌*◌, ◌≤◌, List, ◌++◌, length}
 use Rattle.bus_dictionary.specs.Entry.{FrameType}
 use Rattle.bus_dictionary.specs.Dictionary.{longest_of}
-use Rattle.bus_talk.specs.Heard.{Heard}
-use Rattle.bus_talk.specs.Seen.{SeenReport, seen}
+use Rattle.bus_pairing.specs.LineReport.{LineReport}
+use Rattle.bus_pairing.specs.Seen.{SeenReport, seen}
 
 -- of analysers A that take X: after which lists one may stand, what it was given, the place of the next X, and what is
 -- heard of a list by an origin and a longest frame
@@ -13,11 +13,11 @@ pub record Watch (A X : Type 0) : Type 1 where
   pub depth : A → ℕ
   pub origin : A → ℕ
   pub place : A → ℕ
-  pub hears : ℕ → ℕ → List X → List Heard
+  pub reports : ℕ → ℕ → List X → List LineReport
 
 -- what is seen of a list
 abbrev pub seen_by : {A X : Type 0} → Watch A X → A → List X → List SeenReport
-seen_by w a xs = seen (w.dictionary a) (w.hears (w.origin a) (longest_of (w.dictionary a)) xs)
+seen_by w a xs = seen (w.dictionary a) (w.reports (w.origin a) (longest_of (w.dictionary a)) xs)
 
 -- these lead from old to new, and this is seen at them
 pub record Leads {A X : Type 0} (w : Watch A X) (old : A) (xs : List X) (told : List SeenReport)

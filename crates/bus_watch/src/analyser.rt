@@ -13,7 +13,7 @@ ghost use Rattle.bus_dictionary.specs.Dictionary.{longest_of};
 
 use crate::fault::NewFault;
 use crate::feed::PLACES;
-use crate::hear::{begun_span, hear, lent, observe_bits};
+use crate::decode::{begun_span, decode_bit, lent, observe_bits};
 use crate::laws::{seen_grows, steps_are_bounded};
 use crate::observer::ReportObserver;
 use bus_bits::Spent;
@@ -21,7 +21,7 @@ use bus_dictionary::Dictionary;
 use bus_fcs::Check;
 use bus_line::laws::settled_places;
 use bus_line::{LineDecoder, LineFault, PlaceLimit};
-use bus_talk::{Counts, Ending, Finding, Journal, Kept, Seen};
+use bus_pairing::{Counts, Ending, Finding, Conversation, Kept, Seen};
 use std::alloc::Global;
 use std::cmp::min;
 use std::marker::Model;
@@ -33,7 +33,7 @@ use std::marker::Model;
 #[derive(Drop)]
 pub struct Analyser<C: Check> {
     pub(crate) decoder: LineDecoder<C>,
-    journal: Journal,
+    conversation: Conversation,
 }
 
 impl<C: Check> Model for Analyser<C> {
@@ -52,11 +52,11 @@ impl<C: Check> Analyser<C> {
     ghost use Rattle.bus_watch.specs.contracts.analyser.Analyser.{the_row};
     ghost use Rattle.bus_watch.specs.After.{IsAfter, Sees, line, one_line};
     ghost use Rattle.bus_watch.specs.Watch.{LeadsTold};
-    ghost use Rattle.bus_talk.specs.Seen.{seen_at};
-    ghost use Rattle.bus_talk.specs.Shown.{shown_option, found, kept_option, begun_span, IsKeepable};
-    ghost use Rattle.bus_talk.specs.History.{history, tally};
-    ghost use Rattle.bus_talk.specs.Talk.{pending};
-    ghost use Rattle.bus_talk.specs.Ledger.{IsLedger, total};
+    ghost use Rattle.bus_pairing.specs.Seen.{seen_at};
+    ghost use Rattle.bus_pairing.specs.Shown.{shown_option, found, kept_option, begun_span, IsKeepable};
+    ghost use Rattle.bus_pairing.specs.History.{history, tally};
+    ghost use Rattle.bus_pairing.specs.Talk.{pending};
+    ghost use Rattle.bus_pairing.specs.Ledger.{IsLedger, total};
 
     /// An analyser that took no bit, whose first bit has the place `origin`.
     ///
@@ -76,7 +76,7 @@ impl<C: Check> Analyser<C> {
         ensures origin { (result ≡ Err NewFault.Origin) ↔ ((1 ≤ depth) × (depth ≤ 1024) × (most_places < origin)) }
         ensures is_after { IfOk result (λ a. IsAfter C.check a []) }
         ensures given { IfOk result
-            (λ a. (a.journal.dictionary ≡ dictionary) × (a.journal.depth ≡ depth) × (a.decoder.origin ≡ origin)
+            (λ a. (a.conversation.dictionary ≡ dictionary) × (a.conversation.depth ≡ depth) × (a.decoder.origin ≡ origin)
             × (a.decoder.place ≡ origin)) }
     {
         if depth < 1 || depth > 1024 {
@@ -87,8 +87,8 @@ impl<C: Check> Analyser<C> {
             Err(LineFault::Origin) => return Err(NewFault::Origin),
             Err(LineFault::LongestRange) => unreachable!(),
         };
-        match Journal::new(alloc, dictionary, depth) {
-            Ok(journal) => Ok(Analyser { decoder, journal }),
+        match Conversation::new(alloc, dictionary, depth) {
+            Ok(conversation) => Ok(Analyser { decoder, conversation }),
             Err(_) => Err(NewFault::Memory),
         }
     }
@@ -109,14 +109,14 @@ impl<C: Check> Analyser<C> {
         requires room { L.has_room observer.old (min (end - from) (most_places - self.old.decoder.place)) }
         ensures taken { result ≡ min (end - from) (most_places - self.old.decoder.place) }
         ensures told { LeadsTold (one_line C.check) self.old (bits_from octets.now from result) self.new
-            (λ ss. L.observes self.old.journal.dictionary observer.old out.old ss observer.new out.new) }
+            (λ ss. L.observes self.old.conversation.dictionary observer.old out.old ss observer.new out.new) }
     {
         settled_places();
         let places = PLACES - self.place();
         let count = min((end - from) as u64, places) as usize;
         observe_bits(
             &mut self.decoder,
-            &mut self.journal,
+            &mut self.conversation,
             None,
             octets,
             from,
@@ -137,7 +137,7 @@ impl<C: Check> Analyser<C> {
     {
         settled_places();
         // The `?` parts the two cases for the proof.
-        let finding = hear(&mut self.decoder, &mut self.journal, None, bit)?;
+        let finding = decode_bit(&mut self.decoder, &mut self.conversation, None, bit)?;
         Ok(finding)
     }
 
@@ -148,7 +148,7 @@ impl<C: Check> Analyser<C> {
     pub fn push(&mut self, bit: bool) -> Result<Option<Seen<'_>>, PlaceLimit>
         ensures limit { IsErr result ↔ (most_places ≤ self.old.decoder.place) }
         ensures answer { IfOk result (λ o. (b : List Bool) → IsAfter C.check self.old b →
-            shown_option o ≡ seen_at self.old.journal.dictionary
+            shown_option o ≡ seen_at self.old.conversation.dictionary
             (line self.old (b ++ bit ∷ [])) self.old.decoder.place) }
         ensures fits { IfOk result IsKeepable }
         // What becomes of the analyser: `new`, once the octets that are lent have been given back.
@@ -163,11 +163,11 @@ impl<C: Check> Analyser<C> {
 
     /// A frame of the history, of which the oldest has the number 0.
     pub fn history(&self, i: usize) -> Option<&Kept>
-        ensures lent { kept_option result ≡ slice_get self.now.journal.history i }
+        ensures lent { kept_option result ≡ slice_get self.now.conversation.history i }
         ensures value { (b : List Bool) → IsAfter C.check self.now b →
-            kept_option result ≡ slice_get (history self.now.journal.depth (line self.now b)) i }
+            kept_option result ≡ slice_get (history self.now.conversation.depth (line self.now b)) i }
     {
-        match self.journal.kept(i) {
+        match self.conversation.kept(i) {
             Some(kept) => Some(kept.frame()),
             None => None,
         }
@@ -176,19 +176,19 @@ impl<C: Check> Analyser<C> {
     /// How many frames the history has: at most its depth, which is at most 1024.
     pub fn history_len(&self) -> usize
         ensures value { (b : List Bool) → IsAfter C.check self.now b →
-            result ≡ length (history self.now.journal.depth (line self.now b)) }
-        ensures depth { result ≤ self.now.journal.depth }
-        ensures bound { self.now.journal.depth ≤ 1024 }
+            result ≡ length (history self.now.conversation.depth (line self.now b)) }
+        ensures depth { result ≤ self.now.conversation.depth }
+        ensures bound { self.now.conversation.depth ≤ 1024 }
     {
-        self.journal.kept_len()
+        self.conversation.kept_len()
     }
 
     /// How many verdicts named a station.
     pub fn tally(&self, station: u8) -> Counts
         ensures { (b : List Bool) → IsAfter C.check self.now b →
-            result ≡ tally self.now.journal.dictionary (line self.now b) station }
+            result ≡ tally self.now.conversation.dictionary (line self.now b) station }
     {
-        self.journal.counts(station)
+        self.conversation.counts(station)
     }
 
     /// What has begun and is not decided yet.
@@ -196,27 +196,27 @@ impl<C: Check> Analyser<C> {
         ensures begun { (b : List Bool) → IsAfter C.check self.now b →
             result.begun ≡ begun_span self.now.decoder.origin b }
         ensures pending { (b : List Bool) → IsAfter C.check self.now b →
-            result.pending ≡ pending self.now.journal.dictionary (line self.now b) }
+            result.pending ≡ pending self.now.conversation.dictionary (line self.now b) }
     {
         Ending {
             begun: begun_span(&self.decoder),
-            pending: self.journal.pending(),
+            pending: self.conversation.pending(),
         }
     }
 
     /// The dictionary that was handed in.
     pub fn dictionary(&self) -> &Dictionary
-        ensures { result.now ≡ self.now.journal.dictionary }
+        ensures { result.now ≡ self.now.conversation.dictionary }
     {
-        self.journal.dictionary()
+        self.conversation.dictionary()
     }
 
     /// How many octets of the open piece are in the frame buffer: at most the dictionary's longest
     /// frame and two, and 0 where no piece is open.
     pub fn buffered(&self) -> usize
-        ensures bound { result ≤ longest_of self.now.journal.dictionary + 2 }
+        ensures bound { result ≤ longest_of self.now.conversation.dictionary + 2 }
         ensures stored { (b : List Bool) → IsAfter C.check self.now b →
-            result ≡ stored_open (longest_of self.now.journal.dictionary) b }
+            result ≡ stored_open (longest_of self.now.conversation.dictionary) b }
     {
         self.decoder.buffered()
     }
@@ -229,17 +229,17 @@ impl<C: Check> Analyser<C> {
     /// bit, and to at most three with a check that costs one.
     pub fn spent(&self) -> Spent
         ensures ledger { (b : List Bool) → IsAfter C.check self.now b →
-            IsLedger C.check.cost (longest_of self.now.journal.dictionary) b result }
+            IsLedger C.check.cost (longest_of self.now.conversation.dictionary) b result }
         ensures seventeen { (b : List Bool) → IsAfter C.check self.now b → total result ≤ 17 * length b }
         ensures four { (b : List Bool) → IsAfter C.check self.now b → total result ≤ 4 * length b }
         ensures three { C.check.cost ≡ 1 → (b : List Bool) → IsAfter C.check self.now b →
             (result.folded ≡ result.stored) × (total result ≤ 3 * length b) }
     {
         steps_are_bounded();
-        let journal = self.journal.spent();
+        let conversation = self.conversation.spent();
         Spent {
-            copied: journal.copied,
-            handled: journal.handled,
+            copied: conversation.copied,
+            handled: conversation.handled,
             ..self.decoder.spent()
         }
     }

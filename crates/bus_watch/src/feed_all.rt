@@ -3,14 +3,14 @@
 ghost use Rattle.std.specs.Prelude.{◌≡◌, ◌+◌, ◌-◌, ◌≤◌, ◌<◌, ◌^◌, ◌↔◌, IsErrOf, IsTrue, IfErr, OnOk, length};
 ghost use Rattle.bus_bits.specs.Limits.{most_places};
 ghost use Rattle.bus_watch.specs.Fed.{Fed, RefusedAt, ForSink};
-ghost use Rattle.bus_talk.specs.Sink.{SinkTook};
+ghost use Rattle.bus_pairing.specs.Sink.{SinkTook};
 ghost use Rattle.bus_watch.specs.Headline.{bits_in};
 
 use crate::analyser::Analyser;
 use crate::fault::FeedFault;
 use crate::feed::PLACES;
 use bus_fcs::Check;
-use bus_talk::ReportSink;
+use bus_pairing::ReportSink;
 
 /// Whether the bits of all pieces are at most `places`.
 fn fits(pieces: &[&[bool]], places: u64) -> bool

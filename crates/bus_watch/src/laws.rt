@@ -21,7 +21,7 @@ pub fn seen_grows()
     reports_grow();
 }
 
-/// What is heard of two lines is the reports of each by itself and no others, by due place, the first
+/// What is reported of two lines is the reports of each by itself and no others, by due place, the first
 /// line's first where both have one: one pair of bits more adds what is seen at it.
 pub fn pairs_grow()
     ensures grows { PairsGrow }

@@ -17,7 +17,7 @@ mod analyser;
 mod fault;
 mod feed;
 mod feed_all;
-mod hear;
+mod decode;
 pub mod laws;
 mod observer;
 mod pair;
@@ -25,7 +25,7 @@ mod run;
 mod usage;
 
 pub use analyser::Analyser;
-pub use bus_talk::{
+pub use bus_pairing::{
     Counts, Ending, Finding, Kept, Line, LoggedPiece, LoggedReport, Outcome, PairEnding, PairKept,
     PairLog, PairLogged, PairSink, Pairing, Pending, ReportLog, ReportSink, Seen, SinkRefused,
     Span, Verdict,

@@ -3,11 +3,11 @@
 ghost use Rattle.std.specs.Prelude.{ℕ, ◌+◌, ◌≤◌, List, [], ◌∷◌, ◌++◌, length};
 ghost use Rattle.bus_line.specs.Limits.{most_octets};
 ghost use Rattle.bus_dictionary.specs.Entry.{FrameType};
-ghost use Rattle.bus_talk.specs.Seen.{SeenReport};
-ghost use Rattle.bus_talk.specs.Shown.{found_on};
+ghost use Rattle.bus_pairing.specs.Seen.{SeenReport};
+ghost use Rattle.bus_pairing.specs.Shown.{found_on};
 
 use bus_dictionary::Dictionary;
-use bus_talk::{Finding, Line};
+use bus_pairing::{Finding, Line};
 
 /// Observes what is seen on a line, or on two, one report after another, and refuses none. For each report it is lent
 /// an `X`, what it writes to.

@@ -4,9 +4,9 @@ ghost use Rattle.std.specs.Prelude.{◌≡◌, ◌+◌, ◌-◌, ◌<◌, ◌≤
 ghost use Rattle.bus_bits.specs.Limits.{most_places};
 ghost use Rattle.bus_watch.specs.Headline.{Headline, Fails, StoppedAt, CanBeMade, UnlessStopped, all_seen, bits_in};
 ghost use Rattle.bus_watch.specs.Headline.{kept_frames};
-ghost use Rattle.bus_talk.specs.Seen.{SeenReport};
+ghost use Rattle.bus_pairing.specs.Seen.{SeenReport};
 ghost use Rattle.bus_line.specs.Told.{told};
-ghost use Rattle.bus_talk.specs.Sink.{SinkTook};
+ghost use Rattle.bus_pairing.specs.Sink.{SinkTook};
 ghost use Rattle.bus_watch.specs.After.{IsAfter};
 
 use crate::analyser::Analyser;
@@ -16,7 +16,7 @@ use crate::usage::Usage;
 use bus_dictionary::Dictionary;
 use bus_fcs::{Check, OctetCheck};
 use bus_line::laws::reports_grow;
-use bus_talk::{ReportLog, ReportSink};
+use bus_pairing::{ReportLog, ReportSink};
 use std::alloc::Global;
 
 /// What is there after a whole run.

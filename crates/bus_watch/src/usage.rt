@@ -30,8 +30,8 @@ impl<C: Check> Analyser<C> {
     /// no more than their bounds; and the steps are those of the ledger, at most seventeen for each bit.
     pub fn usage(&self) -> Usage
         ensures headline { WholeRun C.check self.now result }
-        ensures buffer_bound { result.buffered ≤ longest_of self.now.journal.dictionary + 2 }
-        ensures history_bound { result.history_len ≤ self.now.journal.depth }
+        ensures buffer_bound { result.buffered ≤ longest_of self.now.conversation.dictionary + 2 }
+        ensures history_bound { result.history_len ≤ self.now.conversation.depth }
     {
         reports_are();
         seen_grows();

@@ -62,8 +62,8 @@ pub record IsCoded (r : Port1Report) : Type 0 where
   pub others : r.kind ≢ 2 → r.cause ≡ 0
 
 -- these bits lead from old to new, and decide just this report, if it is one
-abbrev pub Tells : LineState OctetCheck → List Bool → Port1Report → LineState OctetCheck → Type 0
-Tells old bits r new = line.Tells by_tables old bits (report_told r new.octets) new
+abbrev pub Decides : LineState OctetCheck → List Bool → Port1Report → LineState OctetCheck → Type 0
+Decides old bits r new = line.Decides by_tables old bits (report_told r new.octets) new
 
 -- these bits lead from old to new; the last of them decides this report, if it is one, and no other decides a report
 abbrev pub Advances : LineState OctetCheck → List Bool → Port1Report → LineState OctetCheck → Type 0

@@ -6,15 +6,15 @@ use Rattle.bus_dictionary.specs.Entry.{FrameType}
 use Rattle.bus_dictionary.specs.declared.rules.Rule.{Rule}
 use Rattle.bus_dictionary.specs.declared.standing.Standing.{Standing}
 use Rattle.bus_dictionary.specs.declared.standing.Standing.TheVariants as standing
-use Rattle.bus_talk.specs.Heard.{Heard}
-use Rattle.bus_talk.specs.Seen.{SeenReport}
-use Rattle.bus_talk.specs.Talk.{pending}
-use Rattle.bus_talk.specs.declared.line.Line.{Line}
-use Rattle.bus_talk.specs.declared.line.Line.TheVariants.{First, Second}
-use Rattle.bus_talk.specs.declared.outcome.Outcome.{Outcome}
-use Rattle.bus_talk.specs.declared.outcome.Outcome.TheVariants.{Answered, Late, Missing, Spoilt}
-use Rattle.bus_talk.specs.declared.pending.Pending.{Pending}
-use Rattle.bus_talk.specs.declared.verdict.Verdict.{Verdict}
+use Rattle.bus_pairing.specs.LineReport.{LineReport}
+use Rattle.bus_pairing.specs.Seen.{SeenReport}
+use Rattle.bus_pairing.specs.Talk.{pending}
+use Rattle.bus_pairing.specs.declared.line.Line.{Line}
+use Rattle.bus_pairing.specs.declared.line.Line.TheVariants.{First, Second}
+use Rattle.bus_pairing.specs.declared.outcome.Outcome.{Outcome}
+use Rattle.bus_pairing.specs.declared.outcome.Outcome.TheVariants.{Answered, Late, Missing, Spoilt}
+use Rattle.bus_pairing.specs.declared.pending.Pending.{Pending}
+use Rattle.bus_pairing.specs.declared.verdict.Verdict.{Verdict}
 use Rattle.port1_c.specs.Line.{kind_told}
 use Rattle.port1_c.specs.declared.entry.Port1Entry.{Port1Entry}
 use Rattle.port1_c.specs.declared.pair.Port1Pair.{Port1Pair}
@@ -60,7 +60,7 @@ abbrev pub no_reports : Port1Pair
 no_reports = record { first = 0; past = 0; waits = 0; station = 0; ftype = 0; spare = 0 }
 
 -- the memory may stand after these reports
-abbrev pub PairAfter : Port1Pair → List Port1Entry → List Heard → Type 0
+abbrev pub PairAfter : Port1Pair → List Port1Entry → List LineReport → Type 0
 PairAfter p es hs = waiting p ≡ pending (entries_told 0 es) hs
 
 -- 0 is the only line, and 1 and 2 are the lines of two
@@ -68,7 +68,7 @@ abbrev pub line_told : ℕ → Option Line
 line_told n = if n == 0 then None else (if n == 1 then Some First else Some Second)
 
 -- the report that the memory tells on a line, a frame having these octets
-abbrev pub heard_told : ℕ → Port1Report → List ℕ → Heard
+abbrev pub heard_told : ℕ → Port1Report → List ℕ → LineReport
 heard_told line r octets =
     record {
       line = line_told line;
@@ -116,7 +116,7 @@ pub record IsCodedSeen (s : Port1Seen) : Type 0 where
   pub spare : s.spare ≡ replicate 7 0
 
 -- what the memory says is seen of a report
-abbrev pub seen_told : Port1Seen → Heard → SeenReport
+abbrev pub seen_told : Port1Seen → LineReport → SeenReport
 seen_told s h = record {
   line = h.line;
   report = h.report;

@@ -7,7 +7,7 @@ ghost use Rattle.bus_bits.specs.Limits.{most_places};
 ghost use Rattle.bus_line.specs.Due.{begun};
 ghost use Rattle.bus_bits.specs.Bits.{bits_from};
 ghost use Rattle.port1_c.specs.Bits.{high_first};
-ghost use Rattle.port1_c.specs.Line.{Advances, IsCoded, Sound, LineAfter, Tells, bit_told, first_told, held};
+ghost use Rattle.port1_c.specs.Line.{Advances, IsCoded, Sound, LineAfter, Decides, bit_told, first_told, held};
 ghost use Rattle.port1_c.specs.declared.status.TheConstants.{OK, BAD_LENGTH, PLACE_LIMIT, BAD_STATE, BAD_ARGUMENT};
 
 use crate::bits;
@@ -15,7 +15,7 @@ use crate::lent_frame::LentFrame;
 use crate::line::Port1Line;
 use crate::report::Port1Report;
 use crate::status::{BAD_ARGUMENT, BAD_LENGTH, BAD_STATE, OK, PLACE_LIMIT};
-use bus_line::{LineFault, LineWords};
+use bus_line::{LineFault, DecoderWords};
 
 /// Makes a decoder in the caller's memory, whatever stands there.
 ///
@@ -33,7 +33,7 @@ pub extern "C" fn port1_line_init(line: &mut Port1Line, longest: u64, origin: u6
     ensures cleared { result ≡ OK → line.new.frame.octets ≡ replicate 272 0 }
     ensures kept { result ≢ OK → line.new ≡ line.old }
 {
-    match LineWords::new(longest as usize, origin) {
+    match DecoderWords::new(longest as usize, origin) {
         Ok(words) => {
             line.words = words;
             line.frame = LentFrame::new();
@@ -57,7 +57,7 @@ pub extern "C" fn port1_line_push(line: &mut Port1Line, bit: u8, report: &mut Po
     ensures kept { result ≢ OK → (line.new ≡ line.old) × (report.new ≡ report.old) }
     ensures sound { result ≡ OK → Sound line.new }
     ensures coded { result ≡ OK → IsCoded report.new }
-    ensures tells { result ≡ OK → Tells (held line.old) (bit_told bit ∷ []) report.new (held line.new) }
+    ensures decides { result ≡ OK → Decides (held line.old) (bit_told bit ∷ []) report.new (held line.new) }
 {
     if !line.is_sound() {
         return BAD_STATE;

@@ -3,20 +3,20 @@
 ghost use Rattle.std.specs.Prelude.{◌≡◌, ◌-◌, ◌*◌, ◌≤◌, ◌<◌, ◌↔◌, IsErr, IfOk, IsTrue, OnErr, ◌∷◌, [], length};
 ghost use Rattle.bus_bits.specs.Bits.{bits_from};
 ghost use Rattle.bus_bits.specs.Limits.{most_places};
-ghost use Rattle.port1_c.specs.Line.{Advances, IsCoded, Sound, Tells, held};
+ghost use Rattle.port1_c.specs.Line.{Advances, IsCoded, Sound, Decides, held};
 
 use crate::bits::Told;
 use crate::lent_frame::LentFrame;
 use crate::report::Port1Report;
 use bus_fcs::OctetCheck;
-use bus_line::{LineWords, PlaceLimit};
+use bus_line::{DecoderWords, PlaceLimit};
 
 /// A decoder between two calls. Its layout is that of `include/port1.h`.
 #[repr(C)]
 #[derive(Drop)]
 pub struct Port1Line {
     /// The decoder but for the octets and their check.
-    pub words: LineWords,
+    pub words: DecoderWords,
     /// The octets, with the register of their check.
     pub frame: LentFrame,
 }
@@ -27,7 +27,7 @@ impl Port1Line {
     pub(crate) fn is_sound(&self) -> bool
         ensures { IsTrue result ↔ Sound self.now }
     {
-        self.words.are_sound() && u64::from(self.frame.len) <= self.words.longest + 2
+        self.words.are_valid() && u64::from(self.frame.len) <= self.words.longest + 2
     }
 
     /// Takes bits of these octets, the lowest of each first, from bit `at` on and before bit `end`: up to the first
@@ -69,7 +69,7 @@ impl Port1Line {
         ensures limit { IsErr result ↔ (most_places ≤ self.old.words.place) }
         ensures kept { OnErr result (self.new ≡ self.old) }
         ensures coded { IfOk result IsCoded }
-        ensures tells { IfOk result (λ r. Tells (held self.old) (bit ∷ []) r (held self.new)) }
+        ensures decides { IfOk result (λ r. Decides (held self.old) (bit ∷ []) r (held self.new)) }
         ensures sound { Sound self.new }
     {
         let mut check = OctetCheck::with_register(self.frame.register);

@@ -4,7 +4,7 @@ ghost use Rattle.std.specs.Prelude.{◌≡◌, None};
 ghost use Rattle.port1_c.specs.Pair.{no_reports, waiting};
 
 use bus_bits::Span;
-use bus_talk::{Pairing, Pending};
+use bus_pairing::{Pairing, Pending};
 
 /// What pairing keeps between two calls. Its layout is that of `include/port1.h`.
 #[repr(C)]

@@ -1,8 +1,8 @@
 //! What C calls to pair commands with answers.
 
 ghost use Rattle.std.specs.Prelude.{◌≡◌, ◌≢◌, ◌<◌, ◌↔◌, ◌⊎◌, List, [], ◌∷◌, ◌++◌, Some, IsSome, IfSome};
-ghost use Rattle.bus_talk.specs.Heard.{Heard};
-ghost use Rattle.bus_talk.specs.Seen.{seen_of};
+ghost use Rattle.bus_pairing.specs.LineReport.{LineReport};
+ghost use Rattle.bus_pairing.specs.Seen.{seen_of};
 ghost use Rattle.port1_c.specs.Pair.{CanBeReport, IsCodedSeen, PairAfter, entries_told, heard_told, line_told};
 ghost use Rattle.port1_c.specs.Pair.{no_reports, seen_told};
 ghost use Rattle.port1_c.specs.declared.status.TheConstants.{OK, BAD_ARGUMENT};
@@ -12,7 +12,7 @@ use crate::pair::Port1Pair;
 use crate::report::Port1Report;
 use crate::seen::Port1Seen;
 use crate::status::{BAD_ARGUMENT, OK};
-use bus_talk::Line;
+use bus_pairing::Line;
 
 /// The line of a number, if it is that of one.
 fn line_of(number: u32) -> Option<Option<Line>>
@@ -55,9 +55,9 @@ pub extern "C" fn port1_pair_take(
     ensures taken { result ≡ OK ↔ (line < 3) × CanBeReport report.now octets.now }
     ensures kept { result ≢ OK → (pair.new ≡ pair.old) × (seen.new ≡ seen.old) }
     ensures coded { result ≡ OK → IsCodedSeen seen.new }
-    ensures waits { result ≡ OK → (hs : List Heard) → PairAfter pair.old entries.now hs →
+    ensures waits { result ≡ OK → (hs : List LineReport) → PairAfter pair.old entries.now hs →
         PairAfter pair.new entries.now (hs ++ heard_told line report.now octets.now ∷ []) }
-    ensures says { result ≡ OK → (hs : List Heard) → PairAfter pair.old entries.now hs →
+    ensures says { result ≡ OK → (hs : List LineReport) → PairAfter pair.old entries.now hs →
         seen_told seen.new (heard_told line report.now octets.now)
         ≡ seen_of (entries_told 0 entries.now) hs (heard_told line report.now octets.now) }
 {

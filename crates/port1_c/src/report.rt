@@ -60,7 +60,7 @@ impl Port1Report {
 
     /// The report of an event.
     pub(crate) fn of_event(event: Event) -> Self
-        ensures tells { (octets : List ℕ) → report_told result octets ≡ Some (reported octets event) }
+        ensures decides { (octets : List ℕ) → report_told result octets ≡ Some (reported octets event) }
         ensures some { result.kind ≢ 0 }
         ensures coded { IsCoded result }
     {
@@ -79,7 +79,7 @@ impl Port1Report {
 
     /// The report of an event, if there is one.
     pub(crate) fn of(event: Option<Event>) -> Self
-        ensures tells { (octets : List ℕ) → report_told result octets ≡ option_map (reported octets) event }
+        ensures decides { (octets : List ℕ) → report_told result octets ≡ option_map (reported octets) event }
         ensures none { result.kind ≡ 0 → event ≡ None }
         ensures coded { IsCoded result }
     {
@@ -129,7 +129,7 @@ impl Port1Report {
     /// No report.
     pub(crate) fn none() -> Self
         ensures kind { result.kind ≡ 0 }
-        ensures tells { (octets : List ℕ) → report_told result octets ≡ None }
+        ensures decides { (octets : List ℕ) → report_told result octets ≡ None }
         ensures coded { IsCoded result }
     {
         Port1Report {

@@ -2,7 +2,7 @@
 use Rattle.std.specs.Prelude.{◌≡◌, ◌≤◌, ◌<◌, ◌^◌, ℕ, Bool, List, ◌++◌, length, take, None}
 use Rattle.bus_bits.specs.Octet.{bits_of, bits_of_octets}
 use Rattle.bus_bits.specs.Capture.{text_bits, text_fault}
-use Rattle.bus_bits.specs.declared.capture.text_block.Packing.{Packing}
+use Rattle.bus_bits.specs.declared.format.text_block.Packing.{Packing}
 
 -- the bits that a block has: those of its full octets, and those that fill none yet
 abbrev pub packed_bits : List ℕ → Packing → List Bool

@@ -7,10 +7,10 @@ use Rattle.bus_watch.specs.After as after
 use Rattle.bus_watch.specs.After.{AnalyserState}
 use Rattle.bus_capture.specs.Captures.{form_of_one}
 use Rattle.bus_capture.specs.Internal.Headed.{IsHeaded}
-use Rattle.bus_capture.specs.Internal.Taps.{TapView}
+use Rattle.bus_capture.specs.Internal.Kinds.{KindView}
 
-abbrev pub one_tap : {C : Type 0} → CheckView C → TapView (AnalyserState C) Bool ℕ
-one_tap view = record {
+abbrev pub one_line_kind : {C : Type 0} → CheckView C → KindView (AnalyserState C) Bool ℕ
+one_line_kind view = record {
   watch = after.one_line view;
   form = form_of_one;
   is_body = λ left xs. IsHeaded head_fault PackedAfter left xs;

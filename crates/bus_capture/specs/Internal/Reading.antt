@@ -3,7 +3,7 @@ use Rattle.std.specs.Prelude.{◌≡◌, ℕ, ◌≤◌, Bool, List, length, Opt
 use Rattle.std.specs.Io.KnownBytes.{IsAtEnd}
 use Rattle.bus_bits.specs.Capture.{CaptureFault}
 use Rattle.bus_capture.specs.Captures.{capture, whole_capture, IsSameFault, HasFault}
-use Rattle.bus_capture.specs.Internal.Taps.{TapView}
+use Rattle.bus_capture.specs.Internal.Kinds.{KindView}
 use Rattle.bus_capture.specs.Internal.Watching.{Watches, IsCutOff}
 use Rattle.bus_capture.specs.declared.run.CaptureRun.{CaptureRun}
 use Rattle.bus_capture.specs.declared.reader.Source.{Source}
@@ -16,7 +16,7 @@ abbrev pub octets_taken : {B : Type 0} → Source B → ℕ
 octets_taken (source.Text t) = t.at
 octets_taken (source.Packed p) = 0
 
-module _ {A X B : Type 0} (t : TapView A X B) where
+module _ {A X B : Type 0} (t : KindView A X B) where
   -- the octets so far have no fault, and their bits were followed
   pub record IsClean (text : Bool) (start now : Option (List ℕ)) (run : CaptureRun A) (xs : List ℕ) : Type 0 where
     pub clean : (capture t.form text (t.watch.origin run.analyser) xs).fault ≡ None

@@ -2,7 +2,7 @@
 use Rattle.std.specs.Prelude.{◌≡◌, ℕ, ◌<◌, Bool, true, false, List, length, Option, Some, None}
 use Rattle.bus_bits.specs.Capture.{CaptureOf, CaptureFault}
 use Rattle.bus_capture.specs.Captures.{capture, IsSameFault}
-use Rattle.bus_capture.specs.Internal.Taps.{TapView}
+use Rattle.bus_capture.specs.Internal.Kinds.{KindView}
 use Rattle.bus_capture.specs.Internal.Watching.{Watches, IsCutOff}
 use Rattle.bus_capture.specs.declared.run.CaptureRun.{CaptureRun}
 use Rattle.bus_capture.specs.declared.text.TextCapture.{TextCapture}
@@ -17,7 +17,7 @@ abbrev pub is_text : {B : Type 0} → Source B → Bool
 is_text (source.Text t) = true
 is_text (source.Packed p) = false
 
-module _ {A X B : Type 0} (t : TapView A X B) where
+module _ {A X B : Type 0} (t : KindView A X B) where
   -- these octets were read: the front of a head, or a head and others after it
   abbrev pub IsRead : List ℕ → Option B → List ℕ → Type 0
   IsRead head None xs = (head ≡ xs) × (length xs < 16)

@@ -4,10 +4,10 @@ use Rattle.arrayvec.specs.ArrayVec.{array_vec_len}
 use Rattle.bus_bits.specs.Limits.{most_places}
 use Rattle.bus_dictionary.specs.Entry.{FrameType}
 use Rattle.bus_dictionary.specs.Dictionary.{longest_of}
-use Rattle.bus_talk.specs.Heard.{Heard}
-use Rattle.bus_talk.specs.Seen.{SeenReport}
-use Rattle.bus_talk.specs.Talk.{pending}
-use Rattle.bus_talk.specs.History.{history, tally}
+use Rattle.bus_pairing.specs.LineReport.{LineReport}
+use Rattle.bus_pairing.specs.Seen.{SeenReport}
+use Rattle.bus_pairing.specs.Talk.{pending}
+use Rattle.bus_pairing.specs.History.{history, tally}
 use Rattle.bus_watch.specs.Watch.{Watch, seen_by}
 use Rattle.bus_text.specs.Listing.{Line, listing, ending_text}
 use Rattle.bus_text.specs.Summary.{summary_of}
@@ -16,7 +16,7 @@ use Rattle.bus_text.specs.Pages.{Pages}
 use Rattle.bus_text.specs.Put.{Cuts}
 use Rattle.bus_text.specs.CheckText.{check_text}
 use Rattle.bus_text.specs.declared.printer.Printer.{Printer}
-use Rattle.bus_capture.specs.Internal.Taps.{TapView}
+use Rattle.bus_capture.specs.Internal.Kinds.{KindView}
 use Rattle.bus_capture.specs.declared.run.CaptureRun.{CaptureRun}
 use Rattle.bus_text.specs.declared.fault.ToolFault.{ToolFault}
 use Rattle.bus_text.specs.declared.fault.ToolFault.TheVariants.{PlaceLimit, Write}
@@ -41,42 +41,42 @@ abbrev pub within : {X : Type 0} → ℕ → List X → List X
 within origin b = take (most_places - origin) b
 
 -- the reports of these
-abbrev pub heard_by : {A X : Type 0} → Watch A X → A → List X → List Heard
-heard_by w a b = w.hears (w.origin a) (longest_of (w.dictionary a)) b
+abbrev pub reports_by : {A X : Type 0} → Watch A X → A → List X → List LineReport
+reports_by w a b = w.reports (w.origin a) (longest_of (w.dictionary a)) b
 
-module _ {A X B : Type 0} (t : TapView A X B) where
+module _ {A X B : Type 0} (t : KindView A X B) where
   -- the place bounds the counts, and the octets of the lines: at a place there are two reports at most
   pub record IsSound (run : CaptureRun A) : Type 0 where
     pub places : t.watch.place run.analyser ≤ most_places
-    pub counts : IsFew (2 * t.watch.place run.analyser) run.teller.summary
-    pub octets : run.teller.page.written + array_vec_len run.teller.page.text ≤ 2048 * t.watch.place run.analyser
+    pub counts : IsFew (2 * t.watch.place run.analyser) run.reporter.summary
+    pub octets : run.reporter.page.written + array_vec_len run.reporter.page.text ≤ 2048 * t.watch.place run.analyser
 
   -- the lines of these bits
   abbrev pub lines : CaptureRun A → List X → List ℕ
-  lines run b = printed run.teller.printer (t.watch.dictionary run.analyser) (seen_by t.watch run.analyser b)
+  lines run b = printed run.reporter.printer (t.watch.dictionary run.analyser) (seen_by t.watch run.analyser b)
 
   -- the lines of the end after these bits
   abbrev pub last_lines : CaptureRun A → List X → List ℕ
   last_lines run b =
-      ended run.teller.printer (t.form.ending (t.watch.origin run.analyser) b
-      (pending (t.watch.dictionary run.analyser) (heard_by t.watch run.analyser b)))
+      ended run.reporter.printer (t.form.ending (t.watch.origin run.analyser) b
+      (pending (t.watch.dictionary run.analyser) (reports_by t.watch run.analyser b)))
 
   -- the report of these bits
   abbrev pub reported : CaptureRun A → List X → List ℕ
   reported run b =
-      check_text t.form.is_two run.teller.summary
-      (tally (t.watch.dictionary run.analyser) (heard_by t.watch run.analyser b))
-      (history (t.watch.depth run.analyser) (heard_by t.watch run.analyser b))
+      check_text t.form.is_two run.reporter.summary
+      (tally (t.watch.dictionary run.analyser) (reports_by t.watch run.analyser b))
+      (history (t.watch.depth run.analyser) (reports_by t.watch run.analyser b))
 
   -- these bits were followed
   pub record Watches (start now : Option (List ℕ)) (run : CaptureRun A) (b : List X) : Type 0 where
     pub is_after : t.watch.is_after run.analyser b
-    pub counts : run.teller.summary ≡ summary_of (seen_by t.watch run.analyser b)
-    pub page : Pages start now run.teller.page.text run.teller.page.written (lines run b)
+    pub counts : run.reporter.summary ≡ summary_of (seen_by t.watch run.analyser b)
+    pub page : Pages start now run.reporter.page.text run.reporter.page.written (lines run b)
 
   -- what stays the same
   pub record IsSame (old new : CaptureRun A) : Type 0 where
-    pub printer : new.teller.printer ≡ old.teller.printer
+    pub printer : new.reporter.printer ≡ old.reporter.printer
     pub dictionary : t.watch.dictionary new.analyser ≡ t.watch.dictionary old.analyser
     pub depth : t.watch.depth new.analyser ≡ t.watch.depth old.analyser
     pub origin : t.watch.origin new.analyser ≡ t.watch.origin old.analyser

@@ -9,14 +9,14 @@ use Rattle.bus_encode.specs.Encode.{Asked, text_line, asked_behind, asked_so_far
 use Rattle.bus_encode.specs.Encodes.{Asks}
 use Rattle.bus_text.specs.declared.fault.ToolFault.{ToolFault}
 use Rattle.bus_text.specs.declared.fault.ToolFault.TheVariants.{Read, ReadsLimit, Write, BadLine, FrameLength}
-use Rattle.bus_encode.specs.declared.order.Order.{Order}
-use Rattle.bus_encode.specs.declared.order.Order.TheVariants as order
+use Rattle.bus_encode.specs.declared.encode_request.EncodeRequest.{EncodeRequest}
+use Rattle.bus_encode.specs.declared.encode_request.EncodeRequest.TheVariants as request
 
 -- the call that is asked for
-abbrev pub call_of : Order → Call
-call_of order.Flag = Flag
-call_of order.Idle = Idle
-call_of (order.Frame octets) = Frame octets.items
+abbrev pub call_of : EncodeRequest → Call
+call_of request.Flag = Flag
+call_of request.Idle = Idle
+call_of (request.Frame octets) = Frame octets.items
 
 -- a frame of 2 to 256 octets
 abbrev pub IsSized : Call → Type 0

@@ -9,8 +9,8 @@ use Rattle.bus_line.specs.Internal.LineState.{LineState}
 use Rattle.bus_line.specs.Internal.Tracks.{HasTaken, HoldsFor, Counts, first_of, padded}
 
 -- none of the first `n` bits stands after exactly six ones or exactly fourteen
-abbrev pub IsCalm : List Bool → List Bool → ℕ → Type 0
-IsCalm b bits n = (i : ℕ) → i < n → (ones_at_end (b ++ take i bits) ≢ 6) × (ones_at_end (b ++ take i bits) ≢ 14)
+abbrev pub HasNoStop : List Bool → List Bool → ℕ → Type 0
+HasNoStop b bits n = (i : ℕ) → i < n → (ones_at_end (b ++ take i bits) ≢ 6) × (ones_at_end (b ++ take i bits) ≢ 14)
 
 -- sixteen bits before the new ones, and these, the oldest lowest
 abbrev pub IsWord : ℕ → List Bool → List Bool → Type 0

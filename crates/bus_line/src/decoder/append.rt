@@ -5,12 +5,12 @@ ghost use Rattle.bus_bits.specs.Octet.{bits_of, octets};
 
 use crate::decoder::settled::Data;
 use crate::frame_buffer::FrameBuffer;
-use crate::line_words::LineWords;
+use crate::decoder_words::DecoderWords;
 use bus_bits::Spent;
 use bus_fcs::Check;
 use std::cmp::min;
 
-impl LineWords {
+impl DecoderWords {
     ghost use Rattle.bus_line.specs.Words.{IsDecoder, state};
     ghost use Rattle.bus_line.specs.Internal.Tracks.{Holds};
     ghost use Rattle.bus_line.specs.Internal.Settled.{Keeps, octets_more, octets_of, gain};

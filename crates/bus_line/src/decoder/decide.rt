@@ -7,13 +7,13 @@ ghost use Rattle.bus_line.specs.Due.{FlagAt, Mark, current, due_at, class_of, pi
 ghost use Rattle.bus_line.specs.Report.{Abort};
 
 use crate::cause::Cause;
-use crate::decoder::look::{Found, look};
+use crate::decoder::ended_mark::{EndedMark, ended_mark};
 use crate::event::{Event, EventKind};
-use crate::line_words::{LineWords, NEVER};
+use crate::decoder_words::{DecoderWords, NEVER};
 use bus_bits::Span;
 use bus_fcs::Check;
 
-impl LineWords {
+impl DecoderWords {
     ghost use Rattle.bus_line.specs.Words.{first_in, IsWithin, state};
     ghost use Rattle.bus_line.specs.After.{After};
     ghost use Rattle.bus_line.specs.Internal.Tracks.{first_of, Tracks};
@@ -40,27 +40,27 @@ impl LineWords {
     {
         // All bits of the mark have been taken, so no subtraction saturates.
         let place = self.place;
-        match look(self.last_bits, place - 1 - self.origin) {
-            Found::Closing => {
+        match ended_mark(self.last_bits, place - 1 - self.origin) {
+            EndedMark::FlagMark => {
                 let event = self.closed(check, place - 8);
                 self.settles_at = place + 8;
                 self.data_bits = 0;
                 self.partial = 0;
                 event
             }
-            Found::Seven => {
+            EndedMark::AbortMark => {
                 let event = self.aborted(place.saturating_sub(7));
                 self.settles_at = NEVER;
                 event
             }
-            Found::Fifteen => Some(Event {
+            EndedMark::IdleMark => Some(Event {
                 kind: EventKind::Idle,
                 span: Span {
                     first: place.saturating_sub(15),
                     past: place,
                 },
             }),
-            Found::Other => None,
+            EndedMark::Other => None,
         }
     }
 

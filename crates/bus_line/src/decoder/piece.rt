@@ -5,39 +5,39 @@ ghost use Rattle.bus_bits.specs.Bits.{bits_from};
 ghost use Rattle.bus_bits.specs.Limits.{most_places};
 ghost use Rattle.bus_bits.specs.Octet.{bits_of};
 
-use crate::decoder::quiet::up_to_six;
+use crate::decoder::time_fill::up_to_six;
 use crate::frame_buffer::FrameBuffer;
-use crate::line_words::LineWords;
+use crate::decoder_words::DecoderWords;
 use bus_bits::seven_octets_at;
 use bus_fcs::Check;
 
 /// How many bits were taken, and whether six ones end before the last of them, which then may decide a report.
 #[derive(Clone, Copy)]
-pub(crate) struct Reached {
+pub(crate) struct Stopped {
     pub(crate) count: usize,
     pub(crate) is_stop: bool,
 }
 
-impl LineWords {
+impl DecoderWords {
     ghost use Rattle.bus_line.specs.Words.{IsDecoder, state};
-    ghost use Rattle.bus_line.specs.Internal.Reaches.{ReachesTo};
+    ghost use Rattle.bus_line.specs.Internal.RunsTo.{RunsToStop};
 
     /// Takes bits up to the first after six ones, or as many as there are whole strides for.
     #[inline(always)]
-    pub(crate) fn reach<C: Check, F: FrameBuffer>(
+    pub(crate) fn run_to_stop<C: Check, F: FrameBuffer>(
         &mut self,
         check: &mut C,
         frame: &mut F,
         octets: &[u8],
         from: usize,
         end: usize,
-    ) -> Reached
+    ) -> Stopped
         requires sound { IsDecoder self.old (F.octets frame.old) }
         requires some { from + 64 ≤ end }
         requires enough { end ≤ 8 * length octets.now }
         requires room { self.old.place + (end - from) ≤ most_places }
         ensures count { (1 ≤ result.count) × (result.count ≤ end - from) }
-        ensures reaches { ReachesTo C.check (state self.old check.old (F.octets frame.old))
+        ensures reaches { RunsToStop C.check (state self.old check.old (F.octets frame.old))
             (bits_from octets.now from result.count) result.is_stop (state self.new check.new (F.octets frame.new)) }
         ensures sound { IsDecoder self.new (F.octets frame.new) }
     {
@@ -46,13 +46,13 @@ impl LineWords {
             let turn = self.stride(check, frame, seven_octets_at(octets, at));
             at += turn.count;
             if turn.is_stop {
-                return Reached {
+                return Stopped {
                     count: at - from,
                     is_stop: true,
                 };
             }
         }
-        Reached {
+        Stopped {
             count: at - from,
             is_stop: false,
         }
@@ -65,11 +65,11 @@ impl LineWords {
         check: &mut C,
         frame: &mut F,
         bits: u64,
-    ) -> Reached
+    ) -> Stopped
         requires sound { IsDecoder self.old (F.octets frame.old) }
         requires room { self.old.place + 56 ≤ most_places }
         ensures count { (1 ≤ result.count) × (result.count ≤ 56) }
-        ensures reaches { ReachesTo C.check (state self.old check.old (F.octets frame.old))
+        ensures reaches { RunsToStop C.check (state self.old check.old (F.octets frame.old))
             (bits_of result.count bits) result.is_stop (state self.new check.new (F.octets frame.new)) }
         ensures sound { IsDecoder self.new (F.octets frame.new) }
     {

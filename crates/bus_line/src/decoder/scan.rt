@@ -7,21 +7,21 @@ ghost use Rattle.bus_bits.specs.Bits.{bits_from};
 ghost use Rattle.bus_bits.specs.Limits.{most_places};
 ghost use Rattle.bus_bits.specs.Octet.{bits_of};
 
-use crate::decoder::quiet::{flags_end, ones_end};
+use crate::decoder::time_fill::{flags_end, ones_end};
 use crate::frame_buffer::FrameBuffer;
-use crate::line_words::{LineWords, NEVER, PLACES};
+use crate::decoder_words::{DecoderWords, NEVER, PLACES};
 use crate::place_limit::PlaceLimit;
 use crate::scanned::Scanned;
 use bus_bits::{seven_octets_at, word_at};
 use bus_fcs::Check;
 use std::cmp::min;
 
-impl LineWords {
+impl DecoderWords {
     ghost use Rattle.bus_line.specs.Words.{IsDecoder, IsWithin, state};
     ghost use Rattle.bus_line.specs.Shown.{reported};
-    ghost use Rattle.bus_line.specs.After.{Advances, Tells};
-    ghost use Rattle.bus_line.specs.Internal.Flags.{PassesFlags};
-    ghost use Rattle.bus_line.specs.Internal.Quiet.{PassesOnes, AreFlags};
+    ghost use Rattle.bus_line.specs.After.{Advances, Decides};
+    ghost use Rattle.bus_line.specs.Internal.Flags.{SkipsFlags};
+    ghost use Rattle.bus_line.specs.Internal.TimeFill.{SkipsOnes, AreFlags};
 
     /// Takes bits as [`LineDecoder::scan`](crate::LineDecoder::scan) does, with the octets of the piece and
     /// their check in the caller's hands.
@@ -126,7 +126,7 @@ impl LineWords {
         if self.begins_piece(octets, from) {
             return self.scan_piece(check, frame, octets, from, end);
         }
-        let past = self.pass_fill::<C>(octets, from, end);
+        let past = self.skip_time_fill::<C>(octets, from, end);
         if past == from {
             return self.scan_word(check, frame, octets, from, end);
         }
@@ -192,7 +192,7 @@ impl LineWords {
             (state self.new check.new (F.octets frame.new)) }
         ensures sound { IsDecoder self.new (F.octets frame.new) }
     {
-        let reached = self.reach(check, frame, octets, from, end);
+        let reached = self.run_to_stop(check, frame, octets, from, end);
         let event = if reached.is_stop {
             self.decide(check)
         } else {
@@ -206,29 +206,29 @@ impl LineWords {
 
     /// Takes time fill, 56 bits at a time where 64 are left: ones where no piece is open, or flags after a flag.
     #[inline(always)]
-    pub(crate) fn pass_fill<C: Check>(&mut self, octets: &[u8], from: usize, end: usize) -> usize
+    pub(crate) fn skip_time_fill<C: Check>(&mut self, octets: &[u8], from: usize, end: usize) -> usize
         requires within { IsWithin self.old }
         requires some { from ≤ end }
         requires enough { end ≤ 8 * length octets.now }
         requires room { self.old.place + (end - from) ≤ most_places }
         ensures within { (from ≤ result) × (result ≤ end) }
-        ensures tells { (check : C) (held : List ℕ) → Tells C.check (state self.old check held)
+        ensures decides { (check : C) (held : List ℕ) → Decides C.check (state self.old check held)
             (bits_from octets.now from (result - from)) None (state self.new check held) }
         ensures none { result ≡ from → self.new ≡ self.old }
         ensures sound { IsWithin self.new }
     {
         if self.settles_at == NEVER {
-            return self.pass_ones(octets, from, end);
+            return self.skip_ones(octets, from, end);
         }
         if self.settles_at == self.place + 8 {
-            return self.pass_flags(octets, from, end);
+            return self.skip_flags(octets, from, end);
         }
         from
     }
 
     /// Takes ones of an idle line, where no piece is open, 56 at a time.
     #[inline(always)]
-    pub(crate) fn pass_ones(&mut self, octets: &[u8], from: usize, end: usize) -> usize
+    pub(crate) fn skip_ones(&mut self, octets: &[u8], from: usize, end: usize) -> usize
         requires within { IsWithin self.old }
         requires idle { self.old.settles_at ≡ 2 ^ 62 }
         requires some { from ≤ end }
@@ -236,7 +236,7 @@ impl LineWords {
         requires room { self.old.place + (end - from) ≤ most_places }
         ensures within { (from ≤ result) × (result ≤ end) }
         ensures bits { bits_from octets.now from (result - from) ≡ replicate (result - from) true }
-        ensures passes { PassesOnes self.old (result - from) self.new }
+        ensures passes { SkipsOnes self.old (result - from) self.new }
         ensures none { result ≡ from → self.new ≡ self.old }
         ensures sound { IsWithin self.new }
     {
@@ -250,7 +250,7 @@ impl LineWords {
 
     /// Takes flags after a flag.
     #[inline(always)]
-    pub(crate) fn pass_flags(&mut self, octets: &[u8], from: usize, end: usize) -> usize
+    pub(crate) fn skip_flags(&mut self, octets: &[u8], from: usize, end: usize) -> usize
         requires within { IsWithin self.old }
         requires flag { self.old.settles_at ≡ self.old.place + 8 }
         requires some { from ≤ end }
@@ -258,7 +258,7 @@ impl LineWords {
         requires room { self.old.place + (end - from) ≤ most_places }
         ensures within { (from ≤ result) × (result ≤ end) }
         ensures flags { AreFlags octets.now from result }
-        ensures passes { PassesFlags self.old ((result - from) / 8) self.new }
+        ensures passes { SkipsFlags self.old ((result - from) / 8) self.new }
         ensures none { result ≡ from → self.new ≡ self.old }
         ensures sound { IsWithin self.new }
     {

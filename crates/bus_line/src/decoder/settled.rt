@@ -23,7 +23,7 @@ pub(crate) fn data_in_word(word: u64, count: u64) -> Data
     ensures small { result.bits < 2 ^ result.count }
 {
     let all = (1 << count) - 1;
-    destuffed(word >> 8, inserted_zeros(word) & all, count)
+    unstuffed(word >> 8, inserted_zeros(word) & all, count)
 }
 
 /// Which of the bits after the eight lowest of the word are inserted 0s: a 0 after five ones.
@@ -39,7 +39,7 @@ fn inserted_zeros(word: u64) -> u64
 
 /// So many bits without those marked as inserted, the first lowest.
 #[inline(always)]
-fn destuffed(bits: u64, inserted: u64, count: u64) -> Data
+fn unstuffed(bits: u64, inserted: u64, count: u64) -> Data
     requires few { count ≤ 56 }
     requires marked { inserted < 2 ^ count }
     ensures value { bits_of result.count result.bits ≡ kept bits inserted count }

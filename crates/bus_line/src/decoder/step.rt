@@ -9,10 +9,10 @@ ghost use Rattle.bus_bits.specs.Word.{IsWordOf};
 ghost use Rattle.bus_line.specs.Due.{current};
 
 use crate::decoder::settled::data_in_word;
-use crate::decoder::stop::calm_bits;
+use crate::decoder::stop::bits_before_stop;
 use crate::event::Event;
 use crate::frame_buffer::FrameBuffer;
-use crate::line_words::{LineWords, PLACES};
+use crate::decoder_words::{DecoderWords, PLACES};
 use crate::place_limit::PlaceLimit;
 use crate::scanned::Scanned;
 use bus_bits::Word;
@@ -35,12 +35,12 @@ fn newest(last_bits: u64, bits: u64, count: u64) -> u64
     newest & 0xffff
 }
 
-impl LineWords {
+impl DecoderWords {
     ghost use Rattle.bus_line.specs.Words.{IsDecoder, IsWithin, state};
     ghost use Rattle.bus_line.specs.Internal.Tracks.{Tracks};
     ghost use Rattle.bus_line.specs.Shown.{reported};
     ghost use Rattle.bus_line.specs.After.{Advances, After};
-    ghost use Rattle.bus_line.specs.Internal.Settled.{IsWord, IsCalm, LagsBy};
+    ghost use Rattle.bus_line.specs.Internal.Settled.{IsWord, HasNoStop, LagsBy};
 
     /// Takes a bit as [`LineDecoder::push`](crate::LineDecoder::push) does, with the octets of the piece and their
     /// check in the caller's hands. Returns the report that it decides, if it decides one.
@@ -90,10 +90,10 @@ impl LineWords {
         ensures sound { IsDecoder self.new (F.octets frame.new) }
     {
         let Word { bits, count } = word;
-        let calm = calm_bits(self.last_bits | bits << 16, count);
-        let taken = min(calm + 1, count);
+        let before = bits_before_stop(self.last_bits | bits << 16, count);
+        let taken = min(before + 1, count);
         self.consume(check, frame, bits, u64::from(taken));
-        if calm == count {
+        if before == count {
             return Scanned {
                 count: count as usize,
                 event: None,
@@ -120,7 +120,7 @@ impl LineWords {
         requires few { count ≤ 56 }
         requires room { self.old.place + count ≤ most_places }
         ensures tracks { (b : List Bool) → After C.check (state self.old check.old (F.octets frame.old)) b →
-            IsCalm b (bits_of count bits) (count - 1) →
+            HasNoStop b (bits_of count bits) (count - 1) →
             Tracks C.check (state self.new check.new (F.octets frame.new)) (b ++ bits_of count bits) (current b) }
         ensures longest { self.new.longest ≡ self.old.longest }
         ensures origin { self.new.origin ≡ self.old.origin }

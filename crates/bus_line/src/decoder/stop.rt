@@ -8,9 +8,9 @@ ghost use Rattle.bus_line.specs.Internal.Settled.{IsStop};
 ///
 /// The word has the sixteen bits before the new ones, and these, the oldest lowest.
 #[inline(always)]
-pub(crate) fn calm_bits(word: u64, count: u32) -> u32
+pub(crate) fn bits_before_stop(word: u64, count: u32) -> u32
     requires { count ≤ 48 }
-    ensures calm { (i : ℕ) → i < result → IsStop word i → ⊥ }
+    ensures no_stop { (i : ℕ) → i < result → IsStop word i → ⊥ }
     ensures stop { result < count → IsStop word result }
     ensures within { result ≤ count }
 {

@@ -12,7 +12,7 @@ use std::process::Abort;
 
 /// What a decoder answered to a list of bits.
 #[derive(Drop)]
-struct Heard {
+struct Decoded {
     /// The reports as one text, a comma and a space between each two.
     reports: String,
     /// The places of the bits that decided them, likewise.
@@ -22,7 +22,7 @@ struct Heard {
     spent: Spent,
 }
 
-impl Heard {
+impl Decoded {
     /// A report at the bit of this place.
     fn add(&mut self, rt: &impl Abort, place: u64, piece: &Piece) {
         if !self.reports.is_empty() {
@@ -35,16 +35,16 @@ impl Heard {
 }
 
 /// Takes the bits, up to `size` of them with each call.
-fn hear<C: Check>(
+fn decode<C: Check>(
     rt: &impl Abort,
     alloc: Global,
     bits: &[bool],
     longest: usize,
     origin: u64,
     size: u32,
-) -> Heard {
+) -> Decoded {
     let mut decoder = LineDecoder::<C>::new(longest, origin).expect(rt, "a decoder");
-    let mut heard = Heard {
+    let mut decoded = Decoded {
         reports: String::new(alloc),
         places: String::new(alloc),
         most: 0,
@@ -59,28 +59,28 @@ fn hear<C: Check>(
         if let Some(piece) = piece {
             let taken = bits.len().wrapping_sub(behind.len()) as u64;
             let last = origin.wrapping_add(taken).wrapping_sub(1);
-            heard.add(rt, last, &piece);
+            decoded.add(rt, last, &piece);
         }
         rest = behind;
-        heard.most = heard.most.max(decoder.buffered());
+        decoded.most = decoded.most.max(decoder.buffered());
     }
-    heard.spent = decoder.spent();
-    heard
+    decoded.spent = decoder.spent();
+    decoded
 }
 
 /// The reports of a list, as both checks give them, by calls of several sizes.
-fn heard_alike(
+fn decoded_alike(
     rt: &impl Abort,
     alloc: Global,
     bits: &[bool],
     longest: usize,
     origin: u64,
-) -> Heard {
-    let by_bits = hear::<BitCheck>(rt, alloc, bits, longest, origin, 1);
-    let single = hear::<OctetCheck>(rt, alloc, bits, longest, origin, 1);
+) -> Decoded {
+    let by_bits = decode::<BitCheck>(rt, alloc, bits, longest, origin, 1);
+    let single = decode::<OctetCheck>(rt, alloc, bits, longest, origin, 1);
     let room = longest.saturating_add(2);
     for size in [1, 7, 8, 48] {
-        let by_words = hear::<OctetCheck>(rt, alloc, bits, longest, origin, size);
+        let by_words = decode::<OctetCheck>(rt, alloc, bits, longest, origin, size);
         same(
             rt,
             by_bits.reports.as_str(),
@@ -101,9 +101,9 @@ fn worked_lists_bit_by_bit(rt: HostRuntime) {
     for line in WORKED.lines() {
         let row = row_of(&rt, line);
         let bits = bits_of(&rt, rt.alloc(), row.bits);
-        let heard = heard_alike(&rt, rt.alloc(), &bits, 3, 0);
-        same(&rt, heard.reports.as_str(), row.reports, row.case);
-        same(&rt, heard.places.as_str(), row.places, row.case);
+        let decoded = decoded_alike(&rt, rt.alloc(), &bits, 3, 0);
+        same(&rt, decoded.reports.as_str(), row.reports, row.case);
+        same(&rt, decoded.places.as_str(), row.places, row.case);
     }
 }
 
@@ -160,8 +160,8 @@ fn worked_frames(rt: HostRuntime) {
     for (case, origin, bits, want) in FRAMES {
         let text = format!(in rt.alloc(); "01111110 {bits} 01111110").expect(&rt, "memory");
         let bits = bits_of(&rt, rt.alloc(), &text);
-        let heard = heard_alike(&rt, rt.alloc(), &bits, 5, origin);
-        same(&rt, heard.reports.as_str(), want, case);
+        let decoded = decoded_alike(&rt, rt.alloc(), &bits, 5, origin);
+        same(&rt, decoded.reports.as_str(), want, case);
     }
 }
 
@@ -272,14 +272,14 @@ fn steps_of([shifted, assembled, folded, stored]: [u64; 4]) -> Spent {
 fn steps(rt: HostRuntime) {
     for (case, bits, [shifted, assembled, by_bits, by_octets, stored]) in STEPS {
         let bits = bits_of(&rt, rt.alloc(), bits);
-        let slow = hear::<BitCheck>(&rt, rt.alloc(), &bits, 3, 0, 1);
+        let slow = decode::<BitCheck>(&rt, rt.alloc(), &bits, 3, 0, 1);
         same(
             &rt,
             slow.spent,
             steps_of([shifted, assembled, by_bits, stored]),
             case,
         );
-        let fast = hear::<OctetCheck>(&rt, rt.alloc(), &bits, 3, 0, 48);
+        let fast = decode::<OctetCheck>(&rt, rt.alloc(), &bits, 3, 0, 48);
         same(
             &rt,
             fast.spent,
@@ -289,7 +289,7 @@ fn steps(rt: HostRuntime) {
     }
 }
 
-/// Heard only from a later bit on, inside the first flag or the first frame, the line gives the
+/// Decoded only from a later bit on, inside the first flag or the first frame, the line gives the
 /// frames from the next flag on, at the places that they have in the whole.
 #[test]
 fn heard_from_later_on(rt: HostRuntime) {
@@ -298,12 +298,12 @@ fn heard_from_later_on(rt: HostRuntime) {
         01111110 111110111 110000001 10010000 01011010 11011100 01111110";
     let bits = bits_of(&rt, rt.alloc(), text);
     for missing in 1..=49usize {
-        let heard_bits = bits.get(missing..).unwrap_or_default();
-        let heard = heard_alike(&rt, rt.alloc(), heard_bits, 3, missing as u64);
+        let decoded_bits = bits.get(missing..).unwrap_or_default();
+        let decoded = decoded_alike(&rt, rt.alloc(), decoded_bits, 3, missing as u64);
         let want = "57 98 frame 108380f561, 106 148 frame ff83095a3b";
         same(
             &rt,
-            heard.reports.as_str(),
+            decoded.reports.as_str(),
             want,
             format_args!("without {missing} bits"),
         );

@@ -168,7 +168,7 @@ impl ReportObserver<u64> for Comparing<'_> {
 
 /// Whether the pairs, scanned from octets of either line in two calls, are shown as the merged reports in order and
 /// nothing else.
-pub(super) fn hears<C: Check>(
+pub(super) fn reports<C: Check>(
     rt: &impl Abort,
     alloc: Global,
     analyser: &mut PairAnalyser<C>,
@@ -181,7 +181,7 @@ pub(super) fn hears<C: Check>(
         taken: 0,
         differs: false,
     };
-    let mut heard = 0;
+    let mut observed = 0;
     let (one, other) = (
         first.bits.len() / 3,
         first.bits.len() - first.bits.len() / 3,
@@ -191,10 +191,10 @@ pub(super) fn hears<C: Check>(
         let others = octets_from(rt, alloc, &second.bits, from);
         assert!(rt; bits.len() <= 10000 && others.len() <= 10000);
         assert!(rt; count <= 8 * bits.len() && count <= 8 * others.len());
-        let taken = analyser.scan(&bits, &others, count, &mut observer, &mut heard);
+        let taken = analyser.scan(&bits, &others, count, &mut observer, &mut observed);
         same(rt, taken, count, "how many pairs are scanned");
     }
-    !observer.differs && observer.taken == due.len() && heard == due.len() as u64
+    !observer.differs && observer.taken == due.len() && observed == due.len() as u64
 }
 
 /// These bits from one on in octets, the first the lowest.

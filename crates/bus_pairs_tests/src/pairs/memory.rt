@@ -62,9 +62,9 @@ fn take_pairs<C: Check>(rt: &impl Abort, analyser: &mut PairAnalyser<C>) {
     }
     same(rt, sink.first, 1, "the reports of the first line");
     same(rt, sink.second, 1, "the reports of the second line");
-    let mut heard = 0;
-    let taken = analyser.scan(&[0, 0], &[0, 0], 9, &mut Counting, &mut heard);
-    same(rt, (taken, heard), (9, 0), "the pairs of zeros scanned");
+    let mut observed = 0;
+    let taken = analyser.scan(&[0, 0], &[0, 0], 9, &mut Counting, &mut observed);
+    same(rt, (taken, observed), (9, 0), "the pairs of zeros scanned");
 }
 
 /// Each call that asks what stands after them.
@@ -219,20 +219,20 @@ fn take_rounds(rt: &impl Abort, analyser: &mut PairAnalyser<OctetCheck>) {
     let first = round_octets(&round.first);
     let second = round_octets(&round.second);
     let mut sink = Counter::new();
-    let mut heard = 0;
+    let mut observed = 0;
     for _ in 0..ROUNDS {
         push_round(rt, analyser, &round);
         assert!(rt; sink.refused() == 0);
         analyser.feed(&round.pairs, &mut sink).expect(rt, "room");
-        let count = analyser.scan(&first, &second, ROUND_BITS, &mut Counting, &mut heard);
+        let count = analyser.scan(&first, &second, ROUND_BITS, &mut Counting, &mut observed);
         same(rt, count, ROUND_BITS, "how many pairs are scanned");
     }
     let told = sink.first.saturating_add(sink.second);
     same(
         rt,
-        (told, heard),
+        (told, observed),
         (11 * ROUNDS, 11 * ROUNDS),
-        "the reports told and heard",
+        "the reports told and observed",
     );
     let want = Counts {
         answered: 3 * ROUNDS,

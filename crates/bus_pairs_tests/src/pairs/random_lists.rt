@@ -1,6 +1,6 @@
 //! Long lists of random traffic on two lines by calls of every kind and size.
 
-use super::every_list::{differing_place, hears, side_of, tells};
+use super::every_list::{differing_place, reports, side_of, tells};
 use super::{
     PairCollector, TwoLines, feed, new_analyser, pairs_of, push_seen_on, read, scan_some, two_lines,
 };
@@ -220,8 +220,8 @@ fn check_merged(rt: &impl Abort, alloc: Global, seed: u64) {
     same(rt, found, None, &case);
     let is_told = tells(rt, alloc, &mut analyser(rt, alloc), &first, &second);
     holds(rt, is_told, &case);
-    let is_heard = hears(rt, alloc, &mut analyser(rt, alloc), &first, &second);
-    holds(rt, is_heard, &case);
+    let is_observed = reports(rt, alloc, &mut analyser(rt, alloc), &first, &second);
+    holds(rt, is_observed, &case);
 }
 
 /// The reports are those of both whole lists, merged.

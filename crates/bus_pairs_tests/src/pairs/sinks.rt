@@ -129,7 +129,7 @@ fn check_refusal<C: Check>(rt: &impl Abort, alloc: Global, lines: &TwoLines, row
     check_unharmed(rt, alloc, &fed, lines);
 }
 
-/// What was refused was heard all the same: the analyser stands as after pairs of which all was taken.
+/// What was refused was observed all the same: the analyser stands as after pairs of which all was taken.
 fn check_unharmed<C: Check>(
     rt: &impl Abort,
     alloc: Global,

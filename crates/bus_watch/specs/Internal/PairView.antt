@@ -8,11 +8,11 @@ abbrev pub pair_state : {C : Type 0} → Inside C → PairState C
 pair_state a = record {
   first = a.first;
   second = a.second;
-  journal = a.journal;
+  conversation = a.conversation;
 }
 
 -- it stands after some list of pairs
 pub record IsWithin {C : Type 0} (view : CheckView C) (a : Inside C) : Type 0 where
-  pub depth : a.journal.depth ≤ 1024
+  pub depth : a.conversation.depth ≤ 1024
   pub pairs : List (Bool × Bool)
   pub reached : IsAfterPairs view (pair_state a) pairs

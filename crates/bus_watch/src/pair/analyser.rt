@@ -6,12 +6,12 @@ ghost use Rattle.std.specs.Borrow.{sem};
 ghost use Rattle.std.specs.Io.BufRead.{Rests};
 ghost use Rattle.bus_bits.specs.Limits.{most_places};
 ghost use Rattle.bus_dictionary.specs.Dictionary.{longest_of};
-ghost use Rattle.bus_talk.specs.Shown.{begun_span, IsKeepable};
+ghost use Rattle.bus_pairing.specs.Shown.{begun_span, IsKeepable};
 
 mod scan;
 
 use crate::fault::NewFault;
-use crate::hear::{begun_span, hear, lent};
+use crate::decode::{begun_span, decode_bit, lent};
 use crate::laws::{pairs_grow, steps_are_bounded};
 use crate::pair::seen::PairSeen;
 use bus_bits::Spent;
@@ -19,7 +19,7 @@ use bus_dictionary::Dictionary;
 use bus_fcs::Check;
 use bus_line::laws::{reports_grow, settled_places};
 use bus_line::{LineDecoder, LineFault, PlaceLimit};
-use bus_talk::{Counts, Finding, Journal, Line, PairEnding, PairKept};
+use bus_pairing::{Counts, Finding, Conversation, Line, PairEnding, PairKept};
 use std::alloc::Global;
 use std::marker::Model;
 
@@ -32,7 +32,7 @@ use std::marker::Model;
 pub struct PairAnalyser<C: Check> {
     first: LineDecoder<C>,
     second: LineDecoder<C>,
-    journal: Journal,
+    conversation: Conversation,
 }
 
 /// What a pair of bits decided on either line, without the octets of frames.
@@ -57,13 +57,13 @@ impl<C: Check> Model for PairAnalyser<C> {
 impl<C: Check> PairAnalyser<C> {
     ghost use Rattle.bus_watch.specs.contracts.pair.analyser.PairAnalyser.{the_row};
     ghost use Rattle.bus_watch.specs.Pairs.{IsAfterPairs, SeesPairs, lines};
-    ghost use Rattle.bus_talk.specs.Seen.{all_seen_at};
-    ghost use Rattle.bus_talk.specs.Shown.{kept_pair_option};
+    ghost use Rattle.bus_pairing.specs.Seen.{all_seen_at};
+    ghost use Rattle.bus_pairing.specs.Shown.{kept_pair_option};
     ghost use Rattle.bus_watch.specs.PairShown.{seen_of_pair, shown_pair};
-    ghost use Rattle.bus_talk.specs.History.{history, tally};
-    ghost use Rattle.bus_talk.specs.Ledger.{IsPairLedger, total};
-    ghost use Rattle.bus_talk.specs.Talk.{pending};
-    ghost use Rattle.bus_talk.specs.Heard.{firsts, seconds, bits_on};
+    ghost use Rattle.bus_pairing.specs.History.{history, tally};
+    ghost use Rattle.bus_pairing.specs.Ledger.{IsPairLedger, total};
+    ghost use Rattle.bus_pairing.specs.Talk.{pending};
+    ghost use Rattle.bus_pairing.specs.LineReport.{firsts, seconds, bits_on};
     ghost use Rattle.bus_line.specs.Ledger.{stored_open};
 
     /// An analyser that took no pair of bits, whose first pair has the place `origin`.
@@ -84,7 +84,7 @@ impl<C: Check> PairAnalyser<C> {
         ensures origin { (result ≡ Err NewFault.Origin) ↔ ((1 ≤ depth) × (depth ≤ 1024) × (most_places < origin)) }
         ensures is_after { IfOk result (λ a. IsAfterPairs C.check a []) }
         ensures given { IfOk result
-            (λ a. (a.journal.dictionary ≡ dictionary) × (a.journal.depth ≡ depth) × (a.first.origin ≡ origin)
+            (λ a. (a.conversation.dictionary ≡ dictionary) × (a.conversation.depth ≡ depth) × (a.first.origin ≡ origin)
             × (a.first.place ≡ origin)) }
     {
         if depth < 1 || depth > 1024 {
@@ -100,11 +100,11 @@ impl<C: Check> PairAnalyser<C> {
             Ok(decoder) => decoder,
             Err(_) => unreachable!(),
         };
-        match Journal::new(alloc, dictionary, depth) {
-            Ok(journal) => Ok(PairAnalyser {
+        match Conversation::new(alloc, dictionary, depth) {
+            Ok(conversation) => Ok(PairAnalyser {
                 first,
                 second,
-                journal,
+                conversation,
             }),
             Err(_) => Err(NewFault::Memory),
         }
@@ -119,15 +119,15 @@ impl<C: Check> PairAnalyser<C> {
     {
         settled_places();
         reports_grow();
-        let found_first = hear(
+        let found_first = decode_bit(
             &mut self.first,
-            &mut self.journal,
+            &mut self.conversation,
             Some(Line::First),
             first,
         )?;
-        let found_second = match hear(
+        let found_second = match decode_bit(
             &mut self.second,
-            &mut self.journal,
+            &mut self.conversation,
             Some(Line::Second),
             second,
         ) {
@@ -159,7 +159,7 @@ impl<C: Check> PairAnalyser<C> {
     pub fn push(&mut self, first: bool, second: bool) -> Result<PairSeen<'_>, PlaceLimit>
         ensures limit { IsErr result ↔ (most_places ≤ self.old.first.place) }
         ensures answer { IfOk result (λ o. (ps : List (Bool × Bool)) → IsAfterPairs C.check self.old ps →
-            shown_pair o ≡ all_seen_at self.old.journal.dictionary
+            shown_pair o ≡ all_seen_at self.old.conversation.dictionary
             (lines self.old (ps ++ (first, second) ∷ [])) self.old.first.place) }
         ensures fits { IfOk result (λ o. IsKeepable o.first × IsKeepable o.second) }
         // What becomes of the analyser: `new`, once the octets that are lent have been given back.
@@ -174,29 +174,29 @@ impl<C: Check> PairAnalyser<C> {
 
     /// A frame of the history, of which the oldest has the number 0.
     pub fn history(&self, i: usize) -> Option<&PairKept>
-        ensures lent { kept_pair_option result ≡ slice_get self.now.journal.history i }
+        ensures lent { kept_pair_option result ≡ slice_get self.now.conversation.history i }
         ensures value { (ps : List (Bool × Bool)) → IsAfterPairs C.check self.now ps →
-            kept_pair_option result ≡ slice_get (history self.now.journal.depth (lines self.now ps)) i }
+            kept_pair_option result ≡ slice_get (history self.now.conversation.depth (lines self.now ps)) i }
     {
-        self.journal.kept(i)
+        self.conversation.kept(i)
     }
 
     /// How many frames the history has: at most its depth, which is at most 1024.
     pub fn history_len(&self) -> usize
         ensures value { (ps : List (Bool × Bool)) → IsAfterPairs C.check self.now ps →
-            result ≡ length (history self.now.journal.depth (lines self.now ps)) }
-        ensures depth { result ≤ self.now.journal.depth }
-        ensures bound { self.now.journal.depth ≤ 1024 }
+            result ≡ length (history self.now.conversation.depth (lines self.now ps)) }
+        ensures depth { result ≤ self.now.conversation.depth }
+        ensures bound { self.now.conversation.depth ≤ 1024 }
     {
-        self.journal.kept_len()
+        self.conversation.kept_len()
     }
 
     /// How many verdicts named a station.
     pub fn tally(&self, station: u8) -> Counts
         ensures { (ps : List (Bool × Bool)) → IsAfterPairs C.check self.now ps →
-            result ≡ tally self.now.journal.dictionary (lines self.now ps) station }
+            result ≡ tally self.now.conversation.dictionary (lines self.now ps) station }
     {
-        self.journal.counts(station)
+        self.conversation.counts(station)
     }
 
     /// What has begun and is not decided yet.
@@ -206,28 +206,28 @@ impl<C: Check> PairAnalyser<C> {
         ensures second { (ps : List (Bool × Bool)) → IsAfterPairs C.check self.now ps →
             result.second ≡ begun_span self.now.first.origin (seconds ps) }
         ensures pending { (ps : List (Bool × Bool)) → IsAfterPairs C.check self.now ps →
-            result.pending ≡ pending self.now.journal.dictionary (lines self.now ps) }
+            result.pending ≡ pending self.now.conversation.dictionary (lines self.now ps) }
     {
         PairEnding {
             first: begun_span(&self.first),
             second: begun_span(&self.second),
-            pending: self.journal.pending(),
+            pending: self.conversation.pending(),
         }
     }
 
     /// The dictionary that was handed in.
     pub fn dictionary(&self) -> &Dictionary
-        ensures { result.now ≡ self.now.journal.dictionary }
+        ensures { result.now ≡ self.now.conversation.dictionary }
     {
-        self.journal.dictionary()
+        self.conversation.dictionary()
     }
 
     /// How many octets of a line's open piece are in its frame buffer: at most the dictionary's longest
     /// frame and two, and 0 where no piece is open.
     pub fn buffered(&self, line: Line) -> usize
-        ensures bound { result ≤ longest_of self.now.journal.dictionary + 2 }
+        ensures bound { result ≤ longest_of self.now.conversation.dictionary + 2 }
         ensures stored { (ps : List (Bool × Bool)) → IsAfterPairs C.check self.now ps →
-            result ≡ stored_open (longest_of self.now.journal.dictionary) (bits_on line ps) }
+            result ≡ stored_open (longest_of self.now.conversation.dictionary) (bits_on line ps) }
     {
         match line {
             Line::First => self.first.buffered(),
@@ -239,7 +239,7 @@ impl<C: Check> PairAnalyser<C> {
     /// line; in fact at most four, and at most three with a check that costs one.
     pub fn spent(&self) -> Spent
         ensures ledger { (ps : List (Bool × Bool)) → IsAfterPairs C.check self.now ps →
-            IsPairLedger C.check.cost (longest_of self.now.journal.dictionary) ps result }
+            IsPairLedger C.check.cost (longest_of self.now.conversation.dictionary) ps result }
         ensures seventeen { (ps : List (Bool × Bool)) → IsAfterPairs C.check self.now ps →
             total result ≤ 17 * (2 * length ps) }
         ensures four { (ps : List (Bool × Bool)) → IsAfterPairs C.check self.now ps →
@@ -253,14 +253,14 @@ impl<C: Check> PairAnalyser<C> {
         let _places = self.place();
         let first = self.first.spent();
         let second = self.second.spent();
-        let journal = self.journal.spent();
+        let conversation = self.conversation.spent();
         Spent {
             shifted: first.shifted + second.shifted,
             assembled: first.assembled + second.assembled,
             folded: first.folded + second.folded,
             stored: first.stored + second.stored,
-            copied: journal.copied,
-            handled: journal.handled,
+            copied: conversation.copied,
+            handled: conversation.handled,
         }
     }
 

@@ -6,8 +6,8 @@ ghost use Rattle.bus_bits.specs.Limits.{most_places};
 ghost use Rattle.bus_watch.specs.Fed.{FedBy, RefusedBy, RefusedByAt, ForSink, Offered};
 ghost use Rattle.bus_watch.specs.PairShown.{shown_option_on, shown_pair};
 ghost use Rattle.bus_watch.specs.Pairs.{two_lines};
-ghost use Rattle.bus_talk.specs.Shown.{IsKeepable};
-ghost use Rattle.bus_talk.specs.Sink.{SinkTook};
+ghost use Rattle.bus_pairing.specs.Shown.{IsKeepable};
+ghost use Rattle.bus_pairing.specs.Sink.{SinkTook};
 
 use crate::fault::FeedFault;
 use crate::feed::PLACES;
@@ -15,7 +15,7 @@ use crate::pair::analyser::PairAnalyser;
 use crate::pair::seen::PairSeen;
 use bus_fcs::Check;
 use bus_line::{PlaceLimit, SinkRefused};
-use bus_talk::{Line, PairSink, Seen};
+use bus_pairing::{Line, PairSink, Seen};
 
 /// Offers a sink a report of a line, if there is one.
 fn offer<S: PairSink>(line: Line, seen: Option<Seen<'_>>, sink: &mut S) -> Result<(), SinkRefused>

@@ -5,16 +5,16 @@ ghost use Rattle.bus_bits.specs.Limits.{most_places};
 ghost use Rattle.bus_watch.specs.Headline.{Fails, CanBeMade, UnlessStopped};
 ghost use Rattle.bus_watch.specs.PairHeadline.{PairHeadline, StoppedAtPair};
 ghost use Rattle.bus_watch.specs.Pairs.{IsAfterPairs};
-ghost use Rattle.bus_talk.specs.Seen.{SeenReport};
+ghost use Rattle.bus_pairing.specs.Seen.{SeenReport};
 ghost use Rattle.bus_line.specs.Told.{told};
-ghost use Rattle.bus_talk.specs.Sink.{SinkTook};
+ghost use Rattle.bus_pairing.specs.Sink.{SinkTook};
 
 use crate::fault::RunFault;
 use crate::pair::analyser::PairAnalyser;
 use crate::pair::usage::PairUsage;
 use bus_dictionary::Dictionary;
 use bus_fcs::Check;
-use bus_talk::PairSink;
+use bus_pairing::PairSink;
 use std::alloc::Global;
 
 /// What is there after a whole run over two lines.
@@ -49,7 +49,7 @@ pub fn run_pairs<C: Check, S: PairSink>(
     requires { S.sink.refusals sink.old < 2 ^ 64 - 2 }
     ensures headline { IfOk result (λ run.
         (reports : List SeenReport) × (S.sink.taken sink.new ≡ told (S.sink.taken sink.old) reports)
-        × PairHeadline C.check.cost dictionary depth origin pairs.now reports run.analyser.journal.history run.usage) }
+        × PairHeadline C.check.cost dictionary depth origin pairs.now reports run.analyser.conversation.history run.usage) }
     ensures is_after { IfOk result (λ run. IsAfterPairs C.check run.analyser pairs.now) }
     ensures within_limits { OnOk result (CanBeMade depth origin × (origin + length pairs.now ≤ most_places)) }
     ensures none_refused { OnOk result (SinkTook S.sink 0 sink.old sink.new) }

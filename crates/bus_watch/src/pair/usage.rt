@@ -9,7 +9,7 @@ use crate::pair::analyser::PairAnalyser;
 use bus_bits::Spent;
 use bus_fcs::Check;
 use bus_line::laws::reports_are;
-use bus_talk::Line;
+use bus_pairing::Line;
 
 /// What an analyser of two lines holds, and the steps that it took, after some pairs of bits.
 #[derive(Clone, Copy, Debug, PartialEq, Eq)]
@@ -34,9 +34,9 @@ impl<C: Check> PairAnalyser<C> {
     /// most seventeen for each bit of either line.
     pub fn usage(&self) -> PairUsage
         ensures headline { WholePairRun C.check self.now result }
-        ensures first_bound { result.first_buffered ≤ longest_of self.now.journal.dictionary + 2 }
-        ensures second_bound { result.second_buffered ≤ longest_of self.now.journal.dictionary + 2 }
-        ensures history_bound { result.history_len ≤ self.now.journal.depth }
+        ensures first_bound { result.first_buffered ≤ longest_of self.now.conversation.dictionary + 2 }
+        ensures second_bound { result.second_buffered ≤ longest_of self.now.conversation.dictionary + 2 }
+        ensures history_bound { result.history_len ≤ self.now.conversation.depth }
     {
         reports_are();
         seen_grows();

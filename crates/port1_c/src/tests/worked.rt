@@ -3,7 +3,7 @@
 
 use crate::{LentFrame, Port1Line, Port1Report};
 use bus_bits::bits_octet;
-use bus_line::LineWords;
+use bus_line::DecoderWords;
 use std::alloc::Global;
 use std::process::Abort;
 
@@ -67,7 +67,7 @@ pub(super) fn numbers(report: &Port1Report) -> [u64; 4] {
 pub(super) fn memory(number: u8) -> Port1Line {
     let word = u64::from(number);
     Port1Line {
-        words: LineWords {
+        words: DecoderWords {
             longest: word,
             origin: word,
             place: word,

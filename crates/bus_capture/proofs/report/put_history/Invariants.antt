@@ -1,7 +1,7 @@
 use Rattle.std.proofs.Common.{ℕ, ◌+◌, ◌*◌, ◌≤◌, List, ◌++◌, take, Option}
 use Rattle.arrayvec.specs.ArrayVec.{array_vec_len}
-use Rattle.bus_capture.specs.Internal.Watching.{heard_by}
-use Rattle.bus_talk.specs.History.{history}
+use Rattle.bus_capture.specs.Internal.Watching.{reports_by}
+use Rattle.bus_pairing.specs.History.{history}
 use Rattle.bus_text.specs.CheckText.{history_text}
 use Rattle.bus_text.specs.Pages.{Pages}
 use Rattle.bus_capture.proofs.report.put_history.Given as goal
@@ -12,9 +12,9 @@ invariant-loop-i g l = record {
   few : l.page.written + array_vec_len l.page.text ≤ l.fn.page.written + array_vec_len l.fn.page.text + 572 * l.i;
   within : l.i ≤ l.i-end;
   put : (start : Option (List ℕ)) (text : List ℕ) (b : List g.row.T-Symbol.Denot) →
-      g.T.Tap.tap.watch.is_after l.analyser b →
+      g.T.CaptureKind.kind.watch.is_after l.analyser b →
       Pages start (g.W.Write.contents l.fn.w) l.fn.page.text l.fn.page.written text
       → Pages start (g.W.Write.contents l.w) l.page.text l.page.written
-      (text ++ history_text g.T.Tap.tap.form.is_two
-      (take l.i (history (g.T.Tap.tap.watch.depth l.analyser) (heard_by g.T.Tap.tap.watch l.analyser b))));
+      (text ++ history_text g.T.CaptureKind.kind.form.is_two
+      (take l.i (history (g.T.CaptureKind.kind.watch.depth l.analyser) (reports_by g.T.CaptureKind.kind.watch l.analyser b))));
 }

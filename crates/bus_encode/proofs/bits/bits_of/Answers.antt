@@ -6,7 +6,7 @@ use Rattle.bus_encode.proofs.bits.bits_of.Goals as goal
 use Rattle.bus_encode.proofs.bits.bits_of.Goals.{in-Flag, in-Idle, in-Frame}
 
 pub unreachable-requires : goal.unreachable-requires
-unreachable-requires c = elim c.match-order.branch [
+unreachable-requires c = elim c.match-request.branch [
   | in-Flag w ↦
       let outcome = w.flag-outcome in
       never_fails Flag c.args.encoder.now outcome.new.self c.new-sink.result outcome.new.sink outcome.result

@@ -33,8 +33,8 @@ loop-bit-preserved g c =
     let inv = c.loop-bit.invariant in
     let next : take (i + 1) bits ≡ take i bits ++ bit ∷ [] = next_bit bits i c.loop-bit-test.true in
     let counted = c.frames_in-count.ensures c.advance.new.self.octets in
-    let tells = told.advances.tells in
-    let more = tells.says (take i bits) inv.after in
+    let decides = told.advances.decides in
+    let more = decides.says (take i bits) inv.after in
     let all : frame_count (placed 0 256 (take (i + 1) bits)) ≡ c.loop-bit.count + c.frames_in-count.result =
     ap (λ (x : List Bool). frame_count (placed 0 256 x)) next
     ∙ ap frame_count (rw (inv.origin, inv.longest) at more)
@@ -46,12 +46,12 @@ loop-bit-preserved g c =
     record {
       after =
           subst (After g.C.Check.check c.advance.new.self) (sym next)
-          (tells.leads.after (take i bits) inv.after);
-      origin = tells.leads.origin ∙ inv.origin;
-      longest = tells.leads.longest ∙ inv.longest;
+          (decides.leads.after (take i bits) inv.after);
+      origin = decides.leads.origin ∙ inv.origin;
+      longest = decides.leads.longest ∙ inv.longest;
       count = sym all;
       few = omega (arith, counted, at_most_one c.advance.new.self.octets event, inv.few);
-      place = tells.leads.place ∙ ap (λ (n : ℕ). n + 1) inv.place;
+      place = decides.leads.place ∙ ap (λ (n : ℕ). n + 1) inv.place;
       room = elim (cases_lt (2 ^ 60) (old.place + 1)) [
         | inl far ↦ absurd (let e = told.limit.1 far in cc)
         | inr near ↦ omega (arith, near, inv.place)

@@ -1,6 +1,6 @@
 use Rattle.std.proofs.Common.{◌≡◌, ◌<◌, ◌≤◌, ◌^◌, ◌+◌, ◌↔◌, length, Err, Some, [], refl, ap, ◌∙◌, inl, inr, arith}
 use Rattle.std.proofs.lemmas.Bool.{cases_lt}
-use Rattle.bus_talk.specs.LogState.{LogState, log_sink}
+use Rattle.bus_pairing.specs.LogState.{LogState, log_sink}
 use Rattle.bus_watch.specs.Headline.{all_seen}
 use Rattle.bus_watch.specs.declared.fault.FeedFault.TheVariants.{PlaceLimit}
 use Rattle.bus_watch.proofs.HeadlineLemmas.{fed-seen, stopped}

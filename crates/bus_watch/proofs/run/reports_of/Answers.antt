@@ -1,6 +1,6 @@
 use Rattle.std.proofs.Common.{◌≡◌, ◌<◌, ◌^◌, ◌+◌, ◌↔◌, ℕ, length, Err, Some, [], refl, ap, ◌∙◌, arith}
-use Rattle.bus_talk.specs.LogState.{LogState, log_sink}
-use Rattle.bus_talk.specs.Sink.{SinkTook}
+use Rattle.bus_pairing.specs.LogState.{LogState, log_sink}
+use Rattle.bus_pairing.specs.Sink.{SinkTook}
 use Rattle.bus_watch.specs.declared.fault.FeedFault.TheVariants.{PlaceLimit}
 use Rattle.bus_watch.proofs.HeadlineLemmas.{stopped}
 use Rattle.bus_watch.proofs.FailLemmas.{made, feed-fails, for-sink, log-lacks}

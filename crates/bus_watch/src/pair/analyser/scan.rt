@@ -7,13 +7,13 @@ ghost use Rattle.bus_watch.specs.Watch.{LeadsTold};
 ghost use Rattle.bus_watch.specs.Pairs.{two_lines};
 
 use crate::feed::PLACES;
-use crate::hear::{fresh, observe_bits, record, show};
+use crate::decode::{newest, observe_bits, record, show};
 use crate::observer::ReportObserver;
 use crate::pair::analyser::PairAnalyser;
 use bus_fcs::Check;
 use bus_line::PlaceLimit;
 use bus_line::laws::{reports_grow, settled_places};
-use bus_talk::Line;
+use bus_pairing::Line;
 use std::cmp::min;
 
 impl<C: Check> PairAnalyser<C> {
@@ -36,7 +36,7 @@ impl<C: Check> PairAnalyser<C> {
         ensures taken { result ≡ min count (most_places - self.old.first.place) }
         ensures told { LeadsTold (two_lines C.check) self.old
             (zip (bits_from first.now 0 result) (bits_from second.now 0 result)) self.new
-            (λ ss. L.observes self.old.journal.dictionary observer.old out.old ss observer.new out.new) }
+            (λ ss. L.observes self.old.conversation.dictionary observer.old out.old ss observer.new out.new) }
     {
         let places = PLACES - self.place();
         let end = min(count as u64, places) as usize;
@@ -65,7 +65,7 @@ impl<C: Check> PairAnalyser<C> {
         ensures within { (from < result) × (result ≤ end) }
         ensures told { LeadsTold (two_lines C.check) self.old
             (zip (bits_from first.now from (result - from)) (bits_from second.now from (result - from))) self.new
-            (λ ss. L.observes self.old.journal.dictionary observer.old out.old ss observer.new out.new) }
+            (λ ss. L.observes self.old.conversation.dictionary observer.old out.old ss observer.new out.new) }
         ensures left { L.has_room observer.new (2 * (end - result)) }
     {
         settled_places();
@@ -77,7 +77,7 @@ impl<C: Check> PairAnalyser<C> {
         let past = from + scanned.count;
         observe_bits(
             &mut self.first,
-            &mut self.journal,
+            &mut self.conversation,
             Some(Line::First),
             first,
             from,
@@ -87,15 +87,15 @@ impl<C: Check> PairAnalyser<C> {
         );
         record(
             &self.second,
-            &mut self.journal,
+            &mut self.conversation,
             Some(Line::Second),
             scanned.event,
         );
         show(
             Some(Line::Second),
-            fresh(&self.journal, scanned.event.is_some()),
+            newest(&self.conversation, scanned.event.is_some()),
             self.second.octets(),
-            self.journal.dictionary(),
+            self.conversation.dictionary(),
             observer,
             out,
         );

@@ -2,7 +2,7 @@ use Rattle.std.proofs.Common.{◌≡◌, ◌-◌, ◌+◌, ℕ, subst, sym, arit
 use Rattle.bus_bits.specs.Bits.{bits_from}
 use Rattle.port1_c.specs.Line.{Advances, held}
 use Rattle.port1_c.specs.declared.line.Port1Line.{Port1Line}
-use Rattle.port1_c.proofs.TellLemmas.{advances-no-bits}
+use Rattle.port1_c.proofs.DecidesLemmas.{advances-no-bits}
 use Rattle.port1_c.proofs.bits.feed.Goals as goal
 
 pub returns-then-at-end-clause-advances : goal.returns-then-at-end-clause-advances

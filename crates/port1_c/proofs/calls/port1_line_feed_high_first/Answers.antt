@@ -3,7 +3,7 @@ use Rattle.bus_bits.specs.Octet.{bits_of}
 use Rattle.bus_bits.specs.Bits.{bits_from}
 use Rattle.port1_c.specs.Bits.{high_first}
 use Rattle.port1_c.proofs.OctetLemmas.{bits-of-reversed}
-use Rattle.port1_c.proofs.TellLemmas.{advances-same}
+use Rattle.port1_c.proofs.DecidesLemmas.{advances-same}
 use Rattle.port1_c.proofs.calls.port1_line_feed_high_first.Goals as goal
 
 taken : (c : goal.After-feed) → bits_from (c.reverse_bits.result ∷ []) c.args.at.now (c.feed.new.at - c.args.at.now)

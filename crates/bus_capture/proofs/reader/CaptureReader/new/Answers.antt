@@ -11,24 +11,24 @@ use Rattle.bus_capture.proofs.reader.CaptureReader.new.Goals.{then-options, else
 pub returns-clause-fresh : goal.returns-clause-fresh
 returns-clause-fresh g c =
     λ start.
-    let tap = g.T.Tap.tap in
+    let kind = g.T.CaptureKind.kind in
     let law = c.laws.ensures in
-    let run : CaptureRun g.row.T.Denot = record { analyser = c.in_ok-analyser.analyser; teller = c.new-2.result } in
-    let none = watched-none tap law start run c.in_ok-analyser.ensures.2.is_after c.new-2.ensures.none
+    let run : CaptureRun g.row.T.Denot = record { analyser = c.in_ok-analyser.analyser; reporter = c.new-2.result } in
+    let none = watched-none kind law start run c.in_ok-analyser.ensures.2.is_after c.new-2.ensures.none
     (c.new-2.ensures.blank start) in
     let followed = λ (d : CaptureOf g.row.T-Symbol.Denot) (e : d ≡ record { bits = []; fault = None }).
-    subst (λ (x : CaptureOf g.row.T-Symbol.Denot). Watches tap start start run x.bits) (sym e) none in
+    subst (λ (x : CaptureOf g.row.T-Symbol.Denot). Watches kind start start run x.bits) (sym e) none in
     elim c.if-options.branch [
-      | then-options w ↦ subst (λ (s : Source g.row.T-Body.Denot). Follows tap start start s run []) (sym w.source-is)
+      | then-options w ↦ subst (λ (s : Source g.row.T-Body.Denot). Follows kind start start s run []) (sym w.source-is)
           (record {
             at = refl;
             clean = ap (λ (d : CaptureOf g.row.T-Symbol.Denot). d.fault) law.form.blank;
-            bits = followed (tap.form.text []) law.form.blank;
+            bits = followed (kind.form.text []) law.form.blank;
           })
-      | else-options w ↦ subst (λ (s : Source g.row.T-Body.Denot). Follows tap start start s run []) (sym w.source-is)
+      | else-options w ↦ subst (λ (s : Source g.row.T-Body.Denot). Follows kind start start s run []) (sym w.source-is)
           (record {
-            read = subst (λ b. IsRead tap w.new.result.head.items b []) (sym w.new.ensures.1)
+            read = subst (λ b. IsRead kind w.new.result.head.items b []) (sym w.new.ensures.1)
                 (w.new.ensures.0, omega arith);
-            bits = followed (tap.form.packed []) (law.form.short [] (omega arith)).0;
+            bits = followed (kind.form.packed []) (law.form.short [] (omega arith)).0;
           })
     ]

@@ -7,14 +7,14 @@ pub returns-in_err-put_report : goal.returns-in_err-put_report
 returns-in_err-put_report g c =
     let failed = err_from_is_err_and c.from_residual.result c.from_residual.ensures.1 in
     rw (failed.1, failed.2)
-    (λ start b followed. c.in_err-put_report.ensures.put start (lines g.T.Tap.tap c.args.self b) b followed.is_after
+    (λ start b followed. c.in_err-put_report.ensures.put start (lines g.T.CaptureKind.kind c.args.self b) b followed.is_after
     followed.page)
 
 pub returns : goal.returns
 returns g c = λ start b followed.
-    let tap = g.T.Tap.tap in (
-      c.in_ok-close.ensures.closed start (lines tap c.args.self b ++ reported tap c.args.self b)
-          (c.in_ok-put_report.ensures.put start (lines tap c.args.self b) b followed.is_after followed.page),
+    let kind = g.T.CaptureKind.kind in (
+      c.in_ok-close.ensures.closed start (lines kind c.args.self b ++ reported kind c.args.self b)
+          (c.in_ok-put_report.ensures.put start (lines kind c.args.self b) b followed.is_after followed.page),
       refl,
     )
 
@@ -22,6 +22,6 @@ pub returns-in_err-close : goal.returns-in_err-close
 returns-in_err-close g c =
     let failed = err_from_is_err_and c.from_residual-in_err-close.result c.from_residual-in_err-close.ensures.1 in
     rw (failed.1, failed.2) (λ start b followed.
-    let tap = g.T.Tap.tap in
-    c.in_err-close.ensures.closed start (lines tap c.args.self b ++ reported tap c.args.self b)
-    (c.in_ok-put_report.ensures.put start (lines tap c.args.self b) b followed.is_after followed.page))
+    let kind = g.T.CaptureKind.kind in
+    c.in_err-close.ensures.closed start (lines kind c.args.self b ++ reported kind c.args.self b)
+    (c.in_ok-put_report.ensures.put start (lines kind c.args.self b) b followed.is_after followed.page))

@@ -7,7 +7,7 @@ use Rattle.bus_line.proofs.decoder.LineDecoder.push.Goals as goal
 pub returns : goal.returns
 returns g c =
     let old = c.args.self.now in
-    let told = c.in_ok-event.ensures.advances.tells in (
+    let told = c.in_ok-event.ensures.advances.decides in (
       (
         refl,
         (λ e. tt),

@@ -1,7 +1,7 @@
 use Rattle.std.proofs.Common.{◌≡◌, ◌%◌, ◌∙◌, ℕ, ap, arith}
 use Rattle.std.specs.Prelude.{bit_and}
 use Rattle.std.proofs.lemmas.Nat.{and_mask}
-use Rattle.bus_line.proofs.QuietLemmas.{newest-behind, newest-front}
+use Rattle.bus_line.proofs.TimeFillLemmas.{newest-behind, newest-front}
 use Rattle.bus_line.proofs.decoder.step.newest.Goals as goal
 use Rattle.bus_line.proofs.decoder.step.newest.Goals.{then-count-lt8, else-count-lt8}
 

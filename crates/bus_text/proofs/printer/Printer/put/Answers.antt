@@ -1,5 +1,5 @@
 use Rattle.std.proofs.Common.{arith}
-use Rattle.bus_talk.specs.Shown.{found_on}
+use Rattle.bus_pairing.specs.Shown.{found_on}
 use Rattle.bus_text.proofs.ListingLemmas.{put-one}
 use Rattle.bus_text.proofs.printer.Printer.put.Goals as goal
 

@@ -1,17 +1,17 @@
 use Rattle.std.proofs.Common.{◌≡◌, ◌++◌, ◌∙◌, sym, ap, codes, append_assoc, arith, rules}
 use Rattle.std.proofs.lemmas.Grind.{common_steps}
 use Rattle.bus_line.specs.Shown.{reported, span_of}
-use Rattle.bus_talk.specs.Shown.{found_on}
+use Rattle.bus_pairing.specs.Shown.{found_on}
 use Rattle.bus_text.specs.Listing.{line_number, report_line, report_word, span_text, head_part}
 use Rattle.bus_text.proofs.ListingLemmas.{put-dropped, put-left}
 use Rattle.bus_text.proofs.printer.Printer.put_report.Goals as goal
 
-pub returns-then-not-leaves : goal.returns-then-not-leaves
-returns-then-not-leaves c =
+pub returns-then-not-passes : goal.returns-then-not-passes
+returns-then-not-passes c =
     put-dropped c.args.self.now.filter
     (report_line c.args.self.now.heads c.args.dictionary.now
     (found_on c.args.line c.args.octets.now c.args.finding.now)) _ c.args.page.now
-    (sym (c.leaves.ensures c.args.octets.now) ∙ c.if-not-leaves.true)
+    (sym (c.passes.ensures c.args.octets.now) ∙ c.if-not-passes.true)
 
 pub returns : goal.returns
 returns c =
@@ -31,5 +31,5 @@ returns c =
     put-left c.args.self.now.filter
     (report_line c.args.self.now.heads c.args.dictionary.now
     (found_on c.args.line c.args.octets.now c.args.finding.now))
-    (sym (c.leaves.ensures c.args.octets.now) ∙ c.if-not-leaves.false)
+    (sym (c.passes.ensures c.args.octets.now) ∙ c.if-not-passes.false)
     (record { bytes = all; len = grind (arith, common_steps); written = search rules })

@@ -1,5 +1,5 @@
 use Rattle.std.proofs.Common.{◌≡◌, true, false, Bool, sym, ap, ◌∙◌}
-use Rattle.bus_talk.specs.Shown.{found}
+use Rattle.bus_pairing.specs.Shown.{found}
 use Rattle.bus_text.specs.Counting.{with_kind, with_verdict, with_stray, with_seen}
 use Rattle.bus_text.proofs.SummaryLemmas.{summary-more, kind-alone}
 use Rattle.bus_text.proofs.summary.Summary.count.Goals as goal

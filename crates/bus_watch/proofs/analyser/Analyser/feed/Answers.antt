@@ -1,6 +1,6 @@
 use Rattle.std.proofs.Common.{false, arith}
 use Rattle.std.proofs.lemmas.List.{take_more}
-use Rattle.bus_talk.proofs.SinkLemmas.{took-none, took-after}
+use Rattle.bus_pairing.proofs.SinkLemmas.{took-none, took-after}
 use Rattle.bus_watch.proofs.FedLemmas.{fed-nil, fed-more, refused-after, at-ok, at-err}
 use Rattle.bus_watch.proofs.analyser.Analyser.feed.Goals as goal
 

@@ -1,7 +1,7 @@
 use Rattle.std.proofs.Common.{◌≤◌, ◌^◌, ◌+◌, ◌-◌, Err, List, [], Bool, Bor, length, take, drop, get_or, refl, ap, ◌∙◌}
 use Rattle.std.proofs.Common.{arith, length-append}
 use Rattle.bus_watch.specs.Headline.{bits_in}
-use Rattle.bus_talk.proofs.SinkLemmas.{took-none, took-after}
+use Rattle.bus_pairing.proofs.SinkLemmas.{took-none, took-after}
 use Rattle.bus_watch.proofs.FedLemmas.{fed-nil, fed-more, refused_at-after}
 use Rattle.bus_watch.proofs.HeadlineLemmas.{pieces-more, pieces-one, pieces-at}
 use Rattle.bus_watch.proofs.analyser.Analyser.feed_all.Goals as goal

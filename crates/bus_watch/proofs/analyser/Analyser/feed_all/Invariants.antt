@@ -1,6 +1,6 @@
 use Rattle.std.proofs.Common.{◌≡◌, take, length}
 use Rattle.bus_watch.specs.Fed.{Fed}
-use Rattle.bus_talk.specs.Sink.{SinkTook}
+use Rattle.bus_pairing.specs.Sink.{SinkTook}
 use Rattle.bus_watch.specs.Headline.{bits_in}
 use Rattle.bus_watch.proofs.analyser.Analyser.feed_all.Given as goal
 

@@ -1,7 +1,7 @@
 use Rattle.std.proofs.Common.{[], ◌∷◌, sym, ap, ◌∙◌, subst}
 use Rattle.std.specs.Option.{option_map, option_to_list}
 use Rattle.std.proofs.lemmas.Result.{on_err_weaker}
-use Rattle.bus_talk.specs.Shown.{found, shown_option}
+use Rattle.bus_pairing.specs.Shown.{found, shown_option}
 use Rattle.bus_watch.specs.After.{AnalyserState, Sees}
 use Rattle.bus_watch.proofs.FedLemmas.{refused-bit}
 use Rattle.bus_watch.proofs.analyser.Analyser.feed_bit.Goals.{in-None, in-Some}

@@ -1,6 +1,6 @@
 use Rattle.std.proofs.Common.{[], ◌∷◌, refl, sym, subst}
 use Rattle.std.specs.Option.{option_map, option_to_list}
-use Rattle.bus_talk.specs.Shown.{found, shown_option}
+use Rattle.bus_pairing.specs.Shown.{found, shown_option}
 use Rattle.bus_watch.specs.After.{AnalyserState, Sees}
 use Rattle.bus_watch.specs.Internal.AnalyserView.{analyser_state}
 use Rattle.bus_watch.proofs.LawsLemmas.{answer-is}

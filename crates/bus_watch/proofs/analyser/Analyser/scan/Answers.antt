@@ -2,17 +2,17 @@ use Rattle.std.proofs.Common.{◌≡◌, ◌+◌, ◌-◌, ◌^◌, ◌++◌, �
 use Rattle.bus_bits.specs.Bits.{bits_from}
 use Rattle.bus_bits.proofs.OctetLemmas.{least}
 use Rattle.bus_dictionary.specs.Dictionary.{longest_of}
-use Rattle.bus_talk.specs.Seen.{SeenReport}
+use Rattle.bus_pairing.specs.Seen.{SeenReport}
 use Rattle.bus_watch.specs.After.{AnalyserState, one_line}
 use Rattle.bus_watch.specs.Internal.AnalyserView.{analyser_state}
-use Rattle.bus_watch.specs.Internal.Hears.{HearsMany}
+use Rattle.bus_watch.specs.Internal.Decodes.{DecodesMany}
 use Rattle.bus_watch.specs.Watch.{LeadsTold}
-use Rattle.bus_watch.proofs.HearsLemmas.{leads-heard, line-reaches}
+use Rattle.bus_watch.proofs.DecodesLemmas.{leads-decoded, line-keeps_up}
 use Rattle.bus_watch.proofs.analyser.Analyser.scan.Goals as goal
 
-pub observe_bits-requires-clause-reaches : goal.observe_bits-requires-clause-reaches
-observe_bits-requires-clause-reaches g c =
-    line-reaches g.C.Check.check (analyser_state c.self.inside) c.self.invariant.bits c.self.invariant.reached
+pub observe_bits-requires-clause-keeps_up : goal.observe_bits-requires-clause-keeps_up
+observe_bits-requires-clause-keeps_up g c =
+    line-keeps_up g.C.Check.check (analyser_state c.self.inside) c.self.invariant.bits c.self.invariant.reached
 
 pub observe_bits-requires-clause-places : goal.observe_bits-requires-clause-places
 observe_bits-requires-clause-places g c = omega (
@@ -44,14 +44,14 @@ observe_bits-requires-clause-enough g c = omega (
 
 pub invariant_of-self : goal.invariant_of-self
 invariant_of-self g c =
-    let heard = c.observe_bits.ensures.observes in
+    let decoded = c.observe_bits.ensures.observes in
     let x = bits_from c.args.octets.now c.args.from (c.args.from + c.min-count.result - c.args.from) in
     let new : AnalyserState g.row.C.Denot =
-    record { decoder = c.observe_bits.new.decoder; journal = c.observe_bits.new.journal } in
-    let led = leads-heard g.C.Check.check (analyser_state c.self.inside) new x _ heard in
+    record { decoder = c.observe_bits.new.decoder; conversation = c.observe_bits.new.conversation } in
+    let led = leads-decoded g.C.Check.check (analyser_state c.self.inside) new x _ decoded in
     record {
-      depth = omega (arith, c.self.invariant.depth, heard.depth);
-      longest = heard.led.longest ∙ c.self.invariant.longest ∙ ap longest_of (sym heard.dictionary);
+      depth = omega (arith, c.self.invariant.depth, decoded.depth);
+      longest = decoded.led.longest ∙ c.self.invariant.longest ∙ ap longest_of (sym decoded.dictionary);
       bits = c.self.invariant.bits ++ x;
       reached = led.sees.is_after c.self.invariant.bits c.self.invariant.reached;
     }
@@ -59,17 +59,17 @@ invariant_of-self g c =
 pub returns-clause-told : goal.returns-clause-told
 returns-clause-told g c =
     let view = g.C.Check.check in
-    let heard = c.observe_bits.ensures.observes in
+    let decoded = c.observe_bits.ensures.observes in
     let old = analyser_state c.self.inside in
     let new : AnalyserState g.row.C.Denot =
-    record { decoder = c.observe_bits.new.decoder; journal = c.observe_bits.new.journal } in
+    record { decoder = c.observe_bits.new.decoder; conversation = c.observe_bits.new.conversation } in
     let whole : c.args.from + c.min-count.result - c.args.from ≡ c.min-count.result = omega arith in
     let x = bits_from c.args.octets.now c.args.from c.min-count.result in
     let told : AnalyserState g.row.C.Denot → List SeenReport → Type 0 = λ a ss.
-    g.L.ReportObserver.observes a.journal.dictionary c.args.observer.now c.args.out.now ss c.observe_bits.new.observer
+    g.L.ReportObserver.observes a.conversation.dictionary c.args.observer.now c.args.out.now ss c.observe_bits.new.observer
     c.observe_bits.new.out in
     subst (λ (a : AnalyserState g.row.C.Denot). LeadsTold (one_line view) a x new (told a)) c.self.view_is
-    (leads-heard view old new x (told old)
-    (subst (λ (k : ℕ). HearsMany view None c.self.inside.decoder c.self.inside.journal
-    (bits_from c.args.octets.now c.args.from k) c.observe_bits.new.decoder c.observe_bits.new.journal (told old)) whole
-    heard))
+    (leads-decoded view old new x (told old)
+    (subst (λ (k : ℕ). DecodesMany view None c.self.inside.decoder c.self.inside.conversation
+    (bits_from c.args.octets.now c.args.from k) c.observe_bits.new.decoder c.observe_bits.new.conversation (told old)) whole
+    decoded))

@@ -1,6 +1,6 @@
-use Rattle.bus_talk.specs.Shown.{shown_on}
+use Rattle.bus_pairing.specs.Shown.{shown_on}
 use Rattle.std.proofs.Common.{Some}
-use Rattle.bus_talk.proofs.SinkLemmas.{took-one, refused-one}
+use Rattle.bus_pairing.proofs.SinkLemmas.{took-one, refused-one}
 use Rattle.bus_watch.proofs.PairFedLemmas.{offered-none, offered-one, offered-not}
 use Rattle.bus_watch.proofs.pair.feed.offer.Goals as goal
 

@@ -8,25 +8,25 @@ use Rattle.bus_watch.proofs.MergedLemmas.{length-firsts, length-seconds}
 use Rattle.bus_watch.proofs.pair.analyser.PairAnalyser.advance.Given.{Over}
 use Rattle.bus_watch.proofs.pair.analyser.PairAnalyser.advance.Goals as goal
 
-pub hear-requires-clause-room : goal.hear-requires-clause-room
-hear-requires-clause-room g c = λ below.
+pub decode_bit-requires-clause-room : goal.decode_bit-requires-clause-room
+decode_bit-requires-clause-room g c = λ below.
     let ps = c.self.invariant.pairs in
     room-first g.C.Check.check (pair_state c.self.inside) ps c.settled_places.ensures.frames
     c.settled_places.ensures.paid c.settled_places.ensures.within c.self.invariant.reached
     (omega (arith, below, c.self.invariant.reached.first.has_taken.place, length-firsts ps))
 
-pub hear-requires-2-clause-room : goal.hear-requires-2-clause-room
-hear-requires-2-clause-room g c = λ below.
+pub decode_bit-requires-2-clause-room : goal.decode_bit-requires-2-clause-room
+decode_bit-requires-2-clause-room g c = λ below.
     let ps = c.self.invariant.pairs in
     let reached = c.self.invariant.reached in
-    room-second g.C.Check.check (pair_state c.self.inside) c.hear.new.decoder c.hear.new.journal _ _ ps
+    room-second g.C.Check.check (pair_state c.self.inside) c.decode_bit.new.decoder c.decode_bit.new.conversation _ _ ps
     c.settled_places.ensures.frames c.settled_places.ensures.paid c.settled_places.ensures.within
-    c.in_ok-found_first.ensures.hears reached
+    c.in_ok-found_first.ensures.reports reached
     (omega (arith, below, reached.second.has_taken.place, reached.origin, length-seconds ps))
 
 abbrev next-state : (g : Over) (c : goal.In-Ok g) → PairState g.row.C.Denot
 next-state g c =
-    record { first = c.hear.new.decoder; second = c.hear-2.new.decoder; journal = c.hear-2.new.journal }
+    record { first = c.decode_bit.new.decoder; second = c.decode_bit-2.new.decoder; conversation = c.decode_bit-2.new.conversation }
 
 sees : (g : Over) (c : goal.In-Ok g) → SeesPairs g.C.Check.check (pair_state c.self.inside)
     ((c.args.first, c.args.second) ∷ [])
@@ -34,8 +34,8 @@ sees : (g : Over) (c : goal.In-Ok g) → SeesPairs g.C.Check.check (pair_state c
     (next-state g c)
 sees g c =
     sees-pair g.C.Check.check c.args.first c.args.second (pair_state c.self.inside) (next-state g c)
-    c.hear.new.journal _ _ c.reports_grow.ensures.stays c.reports_grow.ensures.more c.reports_grow.ensures.grow
-    c.in_ok-found_first.ensures.hears c.in-Ok.ensures.hears
+    c.decode_bit.new.conversation _ _ c.reports_grow.ensures.stays c.reports_grow.ensures.more c.reports_grow.ensures.grow
+    c.in_ok-found_first.ensures.reports c.in-Ok.ensures.reports
 
 pub invariant_of-self-2 : goal.invariant_of-self-2
 invariant_of-self-2 g c =

@@ -1,6 +1,6 @@
 use Rattle.std.proofs.Common.{◌∙◌, ap}
-use Rattle.bus_talk.specs.Heard.{firsts, seconds}
-use Rattle.bus_talk.specs.Shown.{begun_span}
+use Rattle.bus_pairing.specs.LineReport.{firsts, seconds}
+use Rattle.bus_pairing.specs.Shown.{begun_span}
 use Rattle.bus_watch.proofs.pair.analyser.PairAnalyser.ending.Goals as goal
 
 pub returns-clause-first : goal.returns-clause-first

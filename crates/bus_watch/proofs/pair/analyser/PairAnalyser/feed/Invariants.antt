@@ -1,7 +1,7 @@
 use Rattle.std.proofs.Common.{◌≤◌, ◌-◌, length, take}
 use Rattle.bus_watch.specs.Fed.{FedBy}
 use Rattle.bus_watch.specs.Pairs.{two_lines}
-use Rattle.bus_talk.specs.Sink.{SinkTook}
+use Rattle.bus_pairing.specs.Sink.{SinkTook}
 use Rattle.bus_watch.proofs.pair.analyser.PairAnalyser.feed.Given as goal
 
 -- the sink took what is seen at the pairs so far

@@ -15,6 +15,6 @@ invariant_of-result g c =
         longest = c.in-Ok.ensures.given.0 ∙ c.longest-longest.ensures.value ∙ ap longest_of (sym made.given.0);
         longest_second = c.in-Ok-new.ensures.given.0 ∙ c.longest-longest.ensures.value
             ∙ ap longest_of (sym made.given.0);
-        journal = made.keeps;
+        conversation = made.keeps;
       };
     }

@@ -11,7 +11,7 @@ loop-at-init g c = record {
   within = omega arith;
   told =
       leads-nowhere g.C.Check.check c.args.self.now c.args.first.now c.args.second.now _
-      (g.met.L.ReportObserver.observes_none c.args.self.now.journal.dictionary c.args.observer.now c.args.out.now);
+      (g.met.L.ReportObserver.observes_none c.args.self.now.conversation.dictionary c.args.observer.now c.args.out.now);
   room = g.met.L.ReportObserver.has_less c.args.observer.now
       (2 * min c.args.count (2 ^ 60 - c.args.self.now.first.place)) (2 * (c.min-end.result - 0))
       (omega (
@@ -46,12 +46,12 @@ loop-at-preserved g c =
       told =
           subst (λ (k : ℕ). LeadsTold (two_lines g.C.Check.check) c.args.self.now
           (zip (bits_from c.args.first.now 0 k) (bits_from c.args.second.now 0 k)) scanned.new.self
-          (λ ss. g.L.ReportObserver.observes c.args.self.now.journal.dictionary c.args.observer.now c.args.out.now ss
+          (λ ss. g.L.ReportObserver.observes c.args.self.now.conversation.dictionary c.args.observer.now c.args.out.now ss
           scanned.new.observer scanned.new.out)) met
           (rw (zip-met c.args.first.now c.args.second.now i n)
           (leads-further (two_lines g.C.Check.check) c.args.self.now c.loop-at.self scanned.new.self _ _
           _ _ _ before last
-          (λ ss ts first next. g.met.L.ReportObserver.observes_more c.args.self.now.journal.dictionary
+          (λ ss ts first next. g.met.L.ReportObserver.observes_more c.args.self.now.conversation.dictionary
           c.args.observer.now c.loop-at.observer scanned.new.observer
           c.args.out.now c.loop-at.out scanned.new.out ss ts first
           (subst (λ d. g.L.ReportObserver.observes d c.loop-at.observer c.loop-at.out ts scanned.new.observer

@@ -10,7 +10,7 @@ invariant-loop-at g l = record {
   within : l.at ≤ l.end;
   told : LeadsTold (two_lines g.C.Check.check) l.fn.self
       (zip (bits_from l.fn.first 0 l.at) (bits_from l.fn.second 0 l.at)) l.self
-      (λ ss. g.L.ReportObserver.observes l.fn.self.journal.dictionary l.fn.observer l.fn.out ss l.observer l.out);
+      (λ ss. g.L.ReportObserver.observes l.fn.self.conversation.dictionary l.fn.observer l.fn.out ss l.observer l.out);
   room : g.L.ReportObserver.has_room l.observer (2 * (l.end - l.at));
 }
 

@@ -3,24 +3,24 @@ use Rattle.std.proofs.Common.{◌∙◌, subst, arith}
 use Rattle.std.specs.Option.{is_some, option_to_list}
 use Rattle.bus_bits.specs.Bits.{bits_from}
 use Rattle.bus_bits.proofs.BitLemmas.{length-from}
-use Rattle.bus_talk.specs.Heard.{seconds}
-use Rattle.bus_talk.specs.Seen.{SeenReport}
-use Rattle.bus_watch.specs.Internal.Hears.{fresh, told_on}
+use Rattle.bus_pairing.specs.LineReport.{seconds}
+use Rattle.bus_pairing.specs.Seen.{SeenReport}
+use Rattle.bus_watch.specs.Internal.Decodes.{newest, told_on}
 use Rattle.bus_watch.specs.Internal.PairView.{pair_state}
 use Rattle.bus_watch.specs.Pairs.{PairState, two_lines}
 use Rattle.bus_watch.specs.Watch.{LeadsTold}
-use Rattle.bus_talk.specs.declared.line.Line.TheVariants.{Second}
-use Rattle.bus_watch.proofs.HearsLemmas.{reaches-room}
-use Rattle.bus_watch.proofs.PairScanLemmas.{leads-scanned, pairs-reach}
+use Rattle.bus_pairing.specs.declared.line.Line.TheVariants.{Second}
+use Rattle.bus_watch.proofs.DecodesLemmas.{keeps_up-room}
+use Rattle.bus_watch.proofs.PairScanLemmas.{leads-scanned, pairs-keep_up}
 use Rattle.bus_watch.proofs.pair.analyser.PairAnalyser.scan_some.Given.{Over}
 use Rattle.bus_watch.proofs.MergedLemmas.{length-firsts}
 use Rattle.bus_watch.proofs.pair.analyser.PairAnalyser.scan_some.Goals as goal
 
-pub observe_bits-requires-clause-reaches : goal.observe_bits-requires-clause-reaches
-observe_bits-requires-clause-reaches g c =
+pub observe_bits-requires-clause-keeps_up : goal.observe_bits-requires-clause-keeps_up
+observe_bits-requires-clause-keeps_up g c =
     let ps = c.self.invariant.pairs in
     let reached = c.self.invariant.reached in
-    pairs-reach g.C.Check.check (pair_state c.self.inside) ps c.settled_places.ensures.frames
+    pairs-keep_up g.C.Check.check (pair_state c.self.inside) ps c.settled_places.ensures.frames
     c.settled_places.ensures.paid c.settled_places.ensures.within reached
     (omega (
       arith,
@@ -36,7 +36,7 @@ record-requires-clause-decided g c =
     let n = c.in-Ok.scanned.count in
     let next = bits_from c.args.second.now c.args.from n in
     let bits = b ++ next in
-    let led = c.in-Ok.ensures.advances.tells.leads in
+    let led = c.in-Ok.ensures.advances.decides.leads in
     let last : length b + n - 1 ≡ length bits - 1 =
     omega (arith, length-append b next, length-from c.args.second.now c.args.from n) in
     record {
@@ -47,9 +47,9 @@ record-requires-clause-decided g c =
 pub record-requires-clause-room : goal.record-requires-clause-room
 record-requires-clause-room g c =
     let n = c.in-Ok.scanned.count in
-    reaches-room g.C.Check.check c.observe_bits.new.decoder c.observe_bits.new.journal
+    keeps_up-room g.C.Check.check c.observe_bits.new.decoder c.observe_bits.new.conversation
     c.settled_places.ensures.frames c.settled_places.ensures.paid c.settled_places.ensures.within
-    c.observe_bits.ensures.reaches
+    c.observe_bits.ensures.keeps_up
     (omega (
       arith,
       c.observe_bits.ensures.observes.led.place,
@@ -85,11 +85,11 @@ returns-clause-left g c =
 -- what is seen of the second line's report, if there is one
 abbrev last-seen : (g : Over) (c : goal.After-show g) → Option SeenReport
 last-seen g c =
-    told_on (Some Second) c.scan.new.self.octets (is_some c.in-Ok.scanned.event) c.record.new.journal.last
+    told_on (Some Second) c.scan.new.self.octets (is_some c.in-Ok.scanned.event) c.record.new.conversation.last
 
 abbrev next-state : (g : Over) (c : goal.After-show g) → PairState g.row.C.Denot
 next-state g c =
-    record { first = c.observe_bits.new.decoder; second = c.scan.new.self; journal = c.record.new.journal }
+    record { first = c.observe_bits.new.decoder; second = c.scan.new.self; conversation = c.record.new.conversation }
 
 abbrev pairs-taken : (g : Over) (c : goal.After-show g) → List (Bool × Bool)
 pairs-taken g c =
@@ -103,11 +103,11 @@ leads-on g c told all_told =
     let n = c.in-Ok.scanned.count in
     let all : c.args.from + n - c.args.from ≡ n = omega arith in
     let bits = bits_from c.args.second.now c.args.from n in
-    let heard = c.record.ensures c.self.inside.second bits c.in-Ok.ensures.advances in
-    leads-scanned g.C.Check.check (pair_state c.self.inside) (next-state g c) c.observe_bits.new.journal
+    let decoded = c.record.ensures c.self.inside.second bits c.in-Ok.ensures.advances in
+    leads-scanned g.C.Check.check (pair_state c.self.inside) (next-state g c) c.observe_bits.new.conversation
     c.args.first.now c.args.second.now c.args.from (c.args.from + n - c.args.from) (last-seen g c) _ told
     c.reports_grow.ensures.stays c.reports_grow.ensures.more c.reports_grow.ensures.grow
-    (omega (arith, c.in-Ok.ensures.count)) c.observe_bits.ensures.observes (rw all heard) all_told
+    (omega (arith, c.in-Ok.ensures.count)) c.observe_bits.ensures.observes (rw all decoded) all_told
 
 pub invariant_of-self : goal.invariant_of-self
 invariant_of-self g c =
@@ -122,16 +122,16 @@ pub returns-clause-told : goal.returns-clause-told
 returns-clause-told g c =
     let follows = c.observe_bits.ensures.observes in
     let bits = bits_from c.args.second.now c.args.from c.in-Ok.scanned.count in
-    let heard = c.record.ensures c.self.inside.second bits c.in-Ok.ensures.advances in
+    let decoded = c.record.ensures c.self.inside.second bits c.in-Ok.ensures.advances in
     let last = last-seen g c in
-    let dictionary = c.dictionary.ensures ∙ (heard.dictionary ∙ follows.dictionary) in
-    let found = c.fresh.ensures ∙ ap (λ is. fresh is c.record.new.journal.last) c.is_some.ensures in
-    let told : g.L.ReportObserver.observes c.self.inside.journal.dictionary c.observe_bits.new.observer
+    let dictionary = c.dictionary.ensures ∙ (decoded.dictionary ∙ follows.dictionary) in
+    let found = c.newest.ensures ∙ ap (λ is. newest is c.record.new.conversation.last) c.is_some.ensures in
+    let told : g.L.ReportObserver.observes c.self.inside.conversation.dictionary c.observe_bits.new.observer
     c.observe_bits.new.out (option_to_list last) c.show.new.observer c.show.new.out =
     rw (← dictionary, ← found, ← c.octets.ensures.value) c.show.ensures.observed in
     subst (λ (a : PairState g.row.C.Denot). LeadsTold (two_lines g.C.Check.check) a (pairs-taken g c) (next-state g c)
-    (λ ss. g.L.ReportObserver.observes a.journal.dictionary c.args.observer.now c.args.out.now ss c.show.new.observer
+    (λ ss. g.L.ReportObserver.observes a.conversation.dictionary c.args.observer.now c.args.out.now ss c.show.new.observer
     c.show.new.out)) c.self.view_is
-    (leads-on g c _ (g.met.L.ReportObserver.observes_more c.self.inside.journal.dictionary c.args.observer.now
+    (leads-on g c _ (g.met.L.ReportObserver.observes_more c.self.inside.conversation.dictionary c.args.observer.now
     c.observe_bits.new.observer c.show.new.observer
     c.args.out.now c.observe_bits.new.out c.show.new.out follows.seen_now (option_to_list last) follows.told told))

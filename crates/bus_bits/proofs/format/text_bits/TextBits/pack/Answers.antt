@@ -1,0 +1,6 @@
+use Rattle.std.proofs.Common.{refl}
+use Rattle.bus_bits.proofs.TextBlockLemmas.{packed-none}
+use Rattle.bus_bits.proofs.format.text_bits.TextBits.pack.Goals as goal
+
+pub loop-now-init : goal.loop-now-init
+loop-now-init c = record { packed = packed-none c.args.text.now c.args.block.now c.requires.some; len = refl }

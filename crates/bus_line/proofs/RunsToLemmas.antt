@@ -1,0 +1,178 @@
+-- Bits of a piece, and the one after six ones.
+use Rattle.std.proofs.Common.{◌≡◌, ◌≢◌, ℕ, ◌+◌, ◌-◌, ◌*◌, ◌/◌, ◌%◌, ◌^◌, ◌≤◌, ◌<◌, ◌++◌, List, [], ◌∷◌, Bool, arith}
+use Rattle.std.proofs.Common.{false, true, Option, None, ap, refl, sym, subst, ◌∙◌, length, length-append, take, get_or}
+use Rattle.std.specs.Prelude.{bit_or}
+use Rattle.std.specs.Option.{option_map, option_to_list}
+use Rattle.std.proofs.lemmas.List.{append-nil, append_assoc, take_all}
+use Rattle.bus_bits.specs.Bits.{bits_from}
+use Rattle.bus_bits.specs.Octet.{bits_of}
+use Rattle.bus_bits.proofs.OctetLemmas.{bits-front, length-bits}
+use Rattle.bus_fcs.specs.Check.{CheckView}
+use Rattle.bus_line.specs.Report.{Report, moved}
+use Rattle.bus_line.specs.Due.{current, due_at, placed}
+use Rattle.bus_line.specs.After.{Advances, After, DecideNothing, Decides}
+use Rattle.bus_line.specs.Internal.LineState.{LineState}
+use Rattle.bus_line.specs.Internal.RunsTo.{RunsTo, RunsToStop}
+use Rattle.bus_line.specs.Internal.Settled.{HasNoStop}
+use Rattle.bus_line.specs.Internal.Tracks.{HasTaken, Tracks}
+use Rattle.bus_line.proofs.DueMoreLemmas.{placed-more}
+use Rattle.bus_line.proofs.AdvanceLemmas.{no_stop-after, no_stop-before, no_stop-placed, tracks-last}
+use Rattle.bus_line.proofs.TimeFillLemmas.{last-bits-small, no-stop, word-behind, word-is, word_of}
+use Rattle.bus_line.proofs.DecidesLemmas.{decide-more, joins, last-bit, decides-more}
+
+-- ---- bits without a stop
+
+-- of the lowest bits of a number, however many more there are
+pub no_stop-front : (b : List Bool) (x n m k : ℕ) → HasNoStop b (bits_of n x) k → k ≤ n → k ≤ m → HasNoStop b (bits_of m x) k
+no_stop-front b x n m k no_stop low lows = λ i below.
+    let same : take i (bits_of m x) ≡ take i (bits_of n x) =
+    bits-front i m x (omega (arith, below, lows)) ∙ sym (bits-front i n x (omega (arith, below, low))) in
+    rw (same) (no_stop i below)
+
+-- of 56 bits, before the first after six ones
+pub no_stop-turn : {C : Type 0} (d : LineState C) (x m n : ℕ) (b : List Bool) → HasTaken d b →
+    ((i : ℕ) → i < m → bit_or (d.last_bits / 256) (x * 256 % 18446744073709551616) / 2 ^ (2 + i) % 64 ≢ 63) →
+    m ≤ 56 → m ≤ n → HasNoStop b (bits_of n x) m
+no_stop-turn d x m n b taken none low lows =
+    let w : ℕ = word_of d.last_bits x in
+    let behind = word-behind d.last_bits x (last-bits-small d b taken) in
+    let word = word-is d.last_bits x b taken.last_bits in
+    let within : m ≤ length (bits_of 56 x) = omega (arith, low, length-bits 56 x) in
+    no_stop-front b x 56 n m (no_stop-before w m b (bits_of 56 x) word within (no-stop w _ m behind none)) low lows
+
+module _ {C : Type 0} (view : CheckView C) {old new : LineState C} {bits : List Bool}
+    (longest : new.longest ≡ old.longest) (origin : new.origin ≡ old.origin)
+    (place : new.place ≡ old.place + length bits) where
+  -- which all are settled
+  pub ran-all : ((b : List Bool) → After view old b → HasNoStop b bits (length bits)) →
+      ((b : List Bool) → After view old b → Tracks view new (b ++ bits) (current b)) →
+      Decides view old bits None new
+  ran-all no_stop tracks =
+      let all : take (length bits) bits ≡ bits = take_all (length bits) bits (omega arith) in
+      record {
+        leads = record {
+          after = λ b stands.
+              let settled =
+              subst (λ (z : List Bool). Tracks view new (b ++ z) (current b)) (sym all) (tracks b stands) in
+              subst (λ (z : List Bool). After view new (b ++ z)) all
+              (no_stop-after view (length bits) new b bits (no_stop b stands) (omega arith) settled);
+          longest = longest;
+          origin = origin;
+          place = place;
+        };
+        says = λ b stands.
+            ap (λ (z : List Bool). placed old.origin old.longest (b ++ z)) (sym all)
+            ∙ (no_stop-placed old.origin old.longest (length bits) b bits (no_stop b stands) (length bits) (omega arith)
+            (omega arith) ∙ sym (append-nil (placed old.origin old.longest b)));
+      }
+
+  -- and one after them
+  pub ran-last : 1 ≤ length bits →
+      ((b : List Bool) → After view old b → HasNoStop b bits (length bits - 1)) →
+      ((b : List Bool) → After view old b → Tracks view new (b ++ bits) (current b)) →
+      RunsTo view old bits new
+  ran-last some no_stop tracks =
+      let n : ℕ = length bits - 1 in
+      let all : take (n + 1) bits ≡ bits = take_all (n + 1) bits (omega (arith, some)) in
+      record {
+        front = take n bits;
+        last = get_or bits n false;
+        all = last-bit bits some;
+        longest = longest;
+        origin = origin;
+        place = place;
+        tracks = λ b stands.
+            tracks-last view n new b bits (no_stop b stands) (omega (arith, some))
+            (subst (λ (z : List Bool). Tracks view new (b ++ z) (current b)) (sym all) (tracks b stands));
+        before = λ b stands.
+            no_stop-placed old.origin old.longest n b bits (no_stop b stands) n (omega arith) (omega arith);
+      }
+
+  -- which all are settled, unless the last may decide a report
+  pub ran-to : (is_stop : Bool) → 1 ≤ length bits →
+      (is_stop ≡ false → (b : List Bool) → After view old b → HasNoStop b bits (length bits)) →
+      ((b : List Bool) → After view old b → HasNoStop b bits (length bits - 1)) →
+      ((b : List Bool) → After view old b → Tracks view new (b ++ bits) (current b)) →
+      RunsToStop view old bits is_stop new
+  ran-to true some all no_stop tracks = ran-last some no_stop tracks
+  ran-to false some all no_stop tracks = ran-all (all refl) tracks
+
+-- ---- what the last of them decides
+
+pub decided : {C : Type 0} (view : CheckView C) {old mid new : LineState C} {bits : List Bool}
+    {report : Option Report} → RunsTo view old bits mid
+    → new.longest ≡ mid.longest → new.origin ≡ mid.origin → new.place ≡ mid.place
+    → ((b : List Bool) (bit : Bool) → Tracks view mid (b ++ bit ∷ []) (current b) →
+    report ≡ option_map (moved mid.origin) (due_at mid.longest (b ++ bit ∷ []) (length b)))
+    → ((b : List Bool) (bit : Bool) → Tracks view mid (b ++ bit ∷ []) (current b) →
+    After view new (b ++ bit ∷ []))
+    → Advances view old bits report new
+decided view {old} {mid} {new} {bits} {report} reached longest origin place answer after =
+    let front = reached.front in
+    let last = reached.last in
+    let joined : (b : List Bool) → (b ++ front) ++ last ∷ [] ≡ b ++ bits =
+    λ b. append_assoc b front (last ∷ []) ∙ ap (λ (z : List Bool). b ++ z) (sym reached.all) in
+    let fewer : take (length bits - 1) bits ≡ front = but-last bits front last reached.all in
+    record {
+      decides = record {
+        leads = record {
+          after = λ b stands. rw (← joined b) (after (b ++ front) last (reached.tracks b stands));
+          longest = longest ∙ reached.longest;
+          origin = origin ∙ reached.origin;
+          place = place ∙ reached.place;
+        };
+        says = λ b stands.
+            let due = answer (b ++ front) last (reached.tracks b stands) in
+            let here : report ≡ option_map (moved old.origin)
+            (due_at old.longest ((b ++ front) ++ last ∷ []) (length (b ++ front))) =
+            rw (← reached.longest, ← reached.origin) due in
+            ap (placed old.origin old.longest) (sym (joined b))
+            ∙ (placed-more old.origin old.longest (b ++ front) last report here
+            ∙ ap (λ (z : List Report). z ++ option_to_list report) (reached.before b stands));
+      };
+      before = subst (DecideNothing view old) (sym fewer) reached.before;
+    }
+  where
+    take-front : (xs ys : List Bool) → take (length xs) (xs ++ ys) ≡ xs
+    take-front [] ys = refl
+    take-front (x ∷ xs) ys = ap (λ (z : List Bool). x ∷ z) (take-front xs ys)
+
+    but-last : (bits front : List Bool) (last : Bool) → bits ≡ front ++ last ∷ [] → take (length bits - 1) bits ≡ front
+    but-last bits front last all =
+        let size : length bits - 1 ≡ length front =
+        omega (arith, ap length all, length-append front (last ∷ [])) in
+        ap (λ (k : ℕ). take k bits) size
+        ∙ (ap (take (length front)) all ∙ take-front front (last ∷ []))
+
+-- ---- after bits that decide nothing
+
+runs-more : {C : Type 0} (view : CheckView C) {a c e : LineState C} {xs ys : List Bool}
+    → Decides view a xs None c → RunsTo view c ys e → RunsTo view a (xs ++ ys) e
+runs-more view {a} {c} {e} {xs} {ys} quiet reached =
+    let more : xs ++ ys ≡ (xs ++ reached.front) ++ reached.last ∷ [] =
+    ap (λ (z : List Bool). xs ++ z) reached.all ∙ sym (append_assoc xs reached.front (reached.last ∷ [])) in
+    record {
+      front = xs ++ reached.front;
+      last = reached.last;
+      all = more;
+      longest = reached.longest ∙ quiet.leads.longest;
+      origin = reached.origin ∙ quiet.leads.origin;
+      place = omega (arith, length-append xs ys, quiet.leads.place, reached.place);
+      tracks = λ b stands.
+          rw (← append_assoc b xs reached.front) (reached.tracks (b ++ xs) (quiet.leads.after b stands));
+      before = decide-more view quiet reached.before;
+    }
+
+runs-to-more : {C : Type 0} (view : CheckView C) {a c : LineState C} {xs : List Bool}
+    (e : LineState C) (ys : List Bool) (is_stop : Bool) → Decides view a xs None c
+    → RunsToStop view c ys is_stop e → RunsToStop view a (xs ++ ys) is_stop e
+runs-to-more view e ys true quiet reached = runs-more view quiet reached
+runs-to-more view e ys false quiet reached = decides-more view quiet reached
+
+pub runs-on : {C : Type 0} (view : CheckView C) (os : List ℕ) (from at : ℕ) → from ≤ at
+    → {a c : LineState C} → Decides view a (bits_from os from (at - from)) None c
+    → (e : LineState C) (n m : ℕ) (is_stop : Bool) → m ≡ at - from + n
+    → RunsToStop view c (bits_from os at n) is_stop e → RunsToStop view a (bits_from os from m) is_stop e
+runs-on view os from at begun {a} {c} quiet e n m is_stop count reached =
+    rw (← joins view os from at begun quiet n m count)
+    (runs-to-more view e (bits_from os at n) is_stop quiet reached)

@@ -1,0 +1,11 @@
+pub mod LineReport
+pub mod Talk
+pub mod Seen
+pub mod History
+pub mod Ledger
+pub mod Shown
+pub mod Conversation
+pub mod Sink
+pub mod LoggedReport
+pub mod LogState
+pub mod Internal

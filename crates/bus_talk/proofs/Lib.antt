@@ -1,9 +1,0 @@
-pub mod TalkLemmas
-pub mod HistoryLemmas
-pub mod JournalStateLemmas
-pub mod SeenLemmas
-pub mod LedgerLemmas
-pub mod SinkLemmas
-pub mod PairingLemmas
-mod TallyLemmas
-mod Examples
