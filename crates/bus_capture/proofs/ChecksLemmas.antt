@@ -53,7 +53,8 @@ no-lines kind w b none = ap (λ p. printed p (kind.watch.dictionary w.analyser) 
 -- the report of bits, as the options tell of it
 report-is : {A X B : Type 0} (kind : KindView A X B) → KindLaws kind →
     (o : Options) (d : List FrameType) (w : CaptureRun A) (b : List X) → IsChecked kind o d w →
-    w.reporter.summary ≡ summary_of (reports_seen kind.form o.origin d b) → reported kind w b ≡ check_report kind.form o d b
+    w.reporter.summary ≡ summary_of (reports_seen kind.form o.origin d b) → reported kind w b ≡ check_report kind.form o
+    d b
 report-is kind law o d w b asked counts =
     let two = kind.form.is_two in
     let sum = summary_of (reports_seen kind.form o.origin d b) in
@@ -83,7 +84,8 @@ pub ends-checks : {A X B : Type 0} (kind : KindView A X B) (o : Options) (d : Li
     → KindLaws kind → Begins o d → IsChecked kind o d w → text ≡ o.text → IsWhole kind text after start now w xs
     → MatchResult r
     (λ s. Appends start later (lines kind w (whole_capture kind.form text (kind.watch.origin w.analyser) xs).bits
-    ++ reported kind w (whole_capture kind.form text (kind.watch.origin w.analyser) xs).bits) × (s ≡ w.reporter.summary))
+    ++ reported kind w (whole_capture kind.form text (kind.watch.origin w.analyser) xs).bits)
+    × (s ≡ w.reporter.summary))
     (λ f. IsCutIn start later (lines kind w (whole_capture kind.form text (kind.watch.origin w.analyser) xs).bits
     ++ reported kind w (whole_capture kind.form text (kind.watch.origin w.analyser) xs).bits) f)
     → ChecksBy kind.form o after start later xs r
@@ -141,7 +143,8 @@ pub stops-checks : {A X B : Type 0} (kind : KindView A X B) (o : Options) (d : L
     ChecksBy kind.form o after start now xs (Err f)
 stops-checks {A} {X} kind o d text after start now w xs f begins asked same-text = cases f
   where
-    out : Watches kind start now w (capture kind.form text (kind.watch.origin w.analyser) xs).bits → Appends start now []
+    out : Watches kind start now w (capture kind.form text (kind.watch.origin w.analyser) xs).bits → Appends start now
+        []
     out ended = none-out start now w.reporter.page.text w.reporter.page.written
         (lines kind w (capture kind.form text (kind.watch.origin w.analyser) xs).bits)
         (no-lines kind w (capture kind.form text (kind.watch.origin w.analyser) xs).bits asked.printer) ended.page

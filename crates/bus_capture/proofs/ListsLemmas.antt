@@ -18,7 +18,8 @@ use Rattle.bus_capture.specs.Internal.Closes.{IsNoWrite, Closes}
 use Rattle.bus_capture.specs.Begins.{Begins, Refuses}
 use Rattle.bus_capture.specs.Internal.Asked.{IsMade}
 use Rattle.bus_capture.specs.Internal.Kinds.{KindView, KindLaws}
-use Rattle.bus_capture.specs.Internal.Watching.{IsSame, IsCutOff, IsCutIn, reports_by, lines, last_lines, printed, ended}
+use Rattle.bus_capture.specs.Internal.Watching.{IsSame, IsCutOff, IsCutIn, reports_by, lines, last_lines, printed}
+use Rattle.bus_capture.specs.Internal.Watching.{ended}
 use Rattle.bus_capture.specs.Internal.Reading.{IsClean, IsWhole, IsFaulty, Finishes}
 use Rattle.bus_capture.specs.Lists.{so_far, in_all, listing_of, ending_of, whole_listing, ListsSoFar, ListsToFault}
 use Rattle.bus_capture.specs.Lists.{ListsBy}
@@ -33,7 +34,8 @@ use Rattle.bus_text.proofs.PagesLemmas.{cuts-more}
 -- what is seen of more bits goes on
 seen-on : {A X B : Type 0} (kind : KindView A X B) → KindLaws kind → (d : List FrameType) (origin : ℕ) (b more : List X)
     → (rest : List SeenReport)
-    × (seen d (kind.watch.reports origin (longest_of d) (b ++ more)) ≡ seen d (kind.watch.reports origin (longest_of d) b)
+    × (seen d (kind.watch.reports origin (longest_of d) (b ++ more)) ≡ seen d
+    (kind.watch.reports origin (longest_of d) b)
     ++ rest)
 seen-on {X = X} kind law d origin b more =
     let on = law.form.seen d (longest_of d) origin b more in
@@ -105,7 +107,8 @@ last-are kind law o d w b asked =
     ended p (kind.form.ending (kind.watch.origin w.analyser) b
     (pending (kind.watch.dictionary w.analyser) (reports_by kind.watch w.analyser b)))) asked.printer
     ∙ ap (λ (n : ℕ). ending_text (printer_of o)
-    (kind.form.ending n b (pending (kind.watch.dictionary w.analyser) (reports_by kind.watch w.analyser b)))) asked.origin
+    (kind.form.ending n b (pending (kind.watch.dictionary w.analyser) (reports_by kind.watch w.analyser b))))
+    asked.origin
     ∙ ap (λ (x : List FrameType). ending_text (printer_of o)
     (kind.form.ending o.origin b (pending x (reports_by kind.watch w.analyser b)))) asked.dictionary
     ∙ ap (λ hs. ending_text (printer_of o) (kind.form.ending o.origin b (pending d hs)))
@@ -155,7 +158,8 @@ pub ends-lists : {A X B : Type 0} (kind : KindView A X B) (o : Options) (d : Lis
     → KindLaws kind → Begins o d → IsListed kind o d w → text ≡ o.text → IsWhole kind text after start now w xs
     → MatchResult r
     (λ s. Appends start later (lines kind w (whole_capture kind.form text (kind.watch.origin w.analyser) xs).bits
-    ++ last_lines kind w (whole_capture kind.form text (kind.watch.origin w.analyser) xs).bits) × (s ≡ w.reporter.summary))
+    ++ last_lines kind w (whole_capture kind.form text (kind.watch.origin w.analyser) xs).bits)
+    × (s ≡ w.reporter.summary))
     (λ f. IsCutIn start later (lines kind w (whole_capture kind.form text (kind.watch.origin w.analyser) xs).bits
     ++ last_lines kind w (whole_capture kind.form text (kind.watch.origin w.analyser) xs).bits) f)
     → ListsBy kind.form o after start later xs r
@@ -170,7 +174,8 @@ ends-lists {A} {X} kind o d text after start now later w xs r law begins asked s
     clean : (in_all kind.form o xs).fault ≡ None
     clean = sym (ap (λ (c : CaptureOf X). c.fault) is) ∙ whole.clean
 
-    texts : lines kind w all.bits ++ last_lines kind w all.bits ≡ whole_listing kind.form o d (in_all kind.form o xs).bits
+    texts : lines kind w all.bits ++ last_lines kind w all.bits ≡ whole_listing kind.form o d
+        (in_all kind.form o xs).bits
     texts =
         ap (λ (c : CaptureOf X). lines kind w c.bits ++ last_lines kind w c.bits) is
         ∙ ap (λ (t : List ℕ). t ++ last_lines kind w (in_all kind.form o xs).bits)

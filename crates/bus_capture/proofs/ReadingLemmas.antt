@@ -68,7 +68,8 @@ pub text-follows : {A X B : Type 0} (kind : KindView A X B) (start now : Option 
     (text later : TextCapture) (w : CaptureRun A) (xs : List ℕ) (r : Result (Unit {0}) ToolFault)
     → s ≡ source.Text text → MatchResult r (λ _. FollowsText kind start now later w xs)
     (λ f. Stops kind true start now w xs f)
-    → MatchResult r (λ _. Follows kind start now (source.Text later) w xs) (λ f. Stops kind (is_text s) start now w xs f)
+    → MatchResult r (λ _. Follows kind start now (source.Text later) w xs)
+    (λ f. Stops kind (is_text s) start now w xs f)
 text-follows kind start now s text later w xs (Ok v) is taken = taken
 text-follows kind start now s text later w xs (Err f) is taken =
     subst (λ (b : Bool). Stops kind b start now w xs f) (sym (ap is_text is)) taken
@@ -126,7 +127,8 @@ is-clean {A} {X} kind law text start now w xs sound followed =
 
 -- a writer was cut off in the lines of all of these
 pub is-cut : {A X B : Type 0} (kind : KindView A X B) (start now : Option (List ℕ)) (w : CaptureRun A) (b : List X)
-    (sent : ℕ) → Cuts start now (lines kind w b) sent → sent < length (lines kind w b) → IsCutOff kind start now w b sent
+    (sent : ℕ) → Cuts start now (lines kind w b) sent → sent < length (lines kind w b) → IsCutOff kind start now w b
+    sent
 is-cut kind start now w b sent cut short =
     record { front = b; more = []; all = sym (append-nil b); cut = cut; short = short }
 

@@ -17,7 +17,8 @@ use Rattle.bus_capture.proofs.WatchingLemmas.{halted, halts-more, lines-more, wa
 
 module _ {A X B : Type 0} (t : KindView A X B) (w v : CaptureRun A) (xs : List X) (before after : Option (List ℕ))
     (all : LeadsTold t.watch w.analyser xs v.analyser
-    (λ ss. ReportsSeen (t.watch.dictionary w.analyser) (record w.reporter { cut = None }) before ss v.reporter after)) where
+    (λ ss. ReportsSeen (t.watch.dictionary w.analyser) (record w.reporter { cut = None }) before ss v.reporter after))
+    where
   pub told-sound : t.watch.place w.analyser + length xs ≤ 2 ^ 60 → IsSound t w → IsSound t v
   told-sound room sound =
       let place = t.watch.place w.analyser in
@@ -52,7 +53,8 @@ module _ {A X B : Type 0} (t : KindView A X B) (w v : CaptureRun A) (xs : List X
       let short =
       subst
       (λ o. IsOut start after v.reporter.page o
-      (lines t w b ++ printed w.reporter.printer (t.watch.dictionary w.analyser) all.seen)) some (out start b followed) in
+      (lines t w b ++ printed w.reporter.printer (t.watch.dictionary w.analyser) all.seen)) some
+      (out start b followed) in
       let fits : t.watch.origin v.analyser + length (b ++ xs) ≤ 2 ^ 60 =
       omega (arith, all.sees.origin, law.placed w.analyser b followed.is_after, room, length-append b xs) in
       record {

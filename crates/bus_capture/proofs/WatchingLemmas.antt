@@ -88,7 +88,8 @@ module _ {A X B : Type 0} (t : KindView A X B) where
 
   -- symbols that tell this were followed
   pub watched : (start now later : Option (List ℕ)) (w v : CaptureRun A) (b more : List X) (told : List SeenReport)
-      → v.reporter.printer ≡ w.reporter.printer → Watches t start now w b → Leads t.watch w.analyser more told v.analyser
+      → v.reporter.printer ≡ w.reporter.printer → Watches t start now w b → Leads t.watch w.analyser more told
+      v.analyser
       → v.reporter.summary ≡ summary_of (seen_by t.watch w.analyser b ++ told)
       → Pages start later v.reporter.page.text v.reporter.page.written
       (lines t w b ++ printed w.reporter.printer (t.watch.dictionary w.analyser) told)

@@ -5,8 +5,8 @@ ghost use Rattle.std.specs.Io.KnownBytes.{Consumes};
 ghost use Rattle.bus_capture.specs.Checks.{Checks, ChecksBy};
 ghost use Rattle.bus_capture.specs.Known.{ChecksKnown, ChecksKnownBy};
 
-use crate::reader::CaptureReader;
 use crate::capture_kind::CaptureKind;
+use crate::reader::CaptureReader;
 use bus_fcs::OctetCheck;
 use bus_text::{Options, Summary, ToolFault};
 use bus_watch::{Analyser, PairAnalyser};

@@ -7,8 +7,8 @@ ghost use Rattle.std.specs.Io.KnownBytes.{Consumes};
 ghost use Rattle.bus_capture.specs.Lists.{Lists, ListsBy};
 ghost use Rattle.bus_capture.specs.Known.{ListsKnown, ListsKnownBy};
 
-use crate::reader::CaptureReader;
 use crate::capture_kind::CaptureKind;
+use crate::reader::CaptureReader;
 use bus_fcs::OctetCheck;
 use bus_text::{Options, Page, Printer, Summary, ToolFault};
 use bus_watch::{Analyser, PairAnalyser};

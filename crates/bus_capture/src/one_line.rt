@@ -7,8 +7,8 @@ ghost use Rattle.bus_capture.specs.Internal.OneLine.{one_line_kind};
 ghost use Rattle.bus_capture.specs.Internal.Sessions.{FollowsOctets, Stops};
 ghost use Rattle.bus_capture.specs.Internal.Watching.{Halts, IsSame, IsSound, Watches};
 
-use crate::run::CaptureRun;
 use crate::capture_kind::CaptureKind;
+use crate::run::CaptureRun;
 use arrayvec::ArrayVec;
 use bus_bits::laws::{captures_grow, packed_is_head_and_body};
 use bus_bits::{BadMark, HeadFault, PackedBits, PackedFault, PackedHead, TextBits};

@@ -8,8 +8,8 @@ ghost use Rattle.bus_capture.specs.Internal.Watching.{Halts, IsSame, IsSound, Wa
 ghost use Rattle.bus_capture.specs.Internal.Sessions.{FollowsPacked, FollowsBody, IsRead, Stops};
 ghost use Rattle.bus_capture.specs.Captures.{IsSameFault};
 
-use crate::run::CaptureRun;
 use crate::capture_kind::CaptureKind;
+use crate::run::CaptureRun;
 use arrayvec::ArrayVec;
 use bus_bits::{HeadFault, PackedFault};
 use bus_text::ToolFault;

@@ -12,10 +12,10 @@ ghost use Rattle.bus_capture.specs.Internal.Sessions.{IsReadBy, Follows, Stops, 
 ghost use Rattle.bus_capture.specs.Internal.Reading.{octets_taken, Finishes};
 ghost use Rattle.bus_capture.specs.Internal.Watching.{IsSound, IsSame};
 
-use crate::packed::PackedCapture;
-use crate::run::CaptureRun;
 use crate::capture_kind::CaptureKind;
+use crate::packed::PackedCapture;
 use crate::reporter::Reporter;
+use crate::run::CaptureRun;
 use crate::text::TextCapture;
 use bus_text::{Options, Printer, ToolFault, read_dictionary};
 use bus_watch::NewFault;

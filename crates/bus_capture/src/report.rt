@@ -13,15 +13,21 @@ use bus_text::{Page, ShortWrite, Summary, put_summary, put_tally};
 use std::io::Write;
 
 /// Puts a line for each station with a verdict on the page, by rising number.
-fn put_tallies<T: CaptureKind, W: Write>(analyser: &T, page: &mut Page, w: &mut W) -> Result<(), ShortWrite>
+fn put_tallies<T: CaptureKind, W: Write>(
+    analyser: &T,
+    page: &mut Page,
+    w: &mut W,
+) -> Result<(), ShortWrite>
     requires { page.old.written + array_vec_len page.old.text < 2 ^ 90 }
     ensures put { (start : Option (List ℕ)) (text : List ℕ) (b : List T.Symbol) →
         T.kind.watch.is_after analyser.now b →
         Pages start (W.contents w.old) page.old.text page.old.written text → MatchResult result
         (λ _. Pages start (W.contents w.new) page.new.text page.new.written
-        (text ++ tallies_text (tally (T.kind.watch.dictionary analyser.now) (reports_by T.kind.watch analyser.now b)) 256))
+        (text ++ tallies_text (tally (T.kind.watch.dictionary analyser.now) (reports_by T.kind.watch analyser.now b))
+        256))
         (λ cut. Cuts start (W.contents w.new)
-        (text ++ tallies_text (tally (T.kind.watch.dictionary analyser.now) (reports_by T.kind.watch analyser.now b)) 256)
+        (text ++ tallies_text (tally (T.kind.watch.dictionary analyser.now) (reports_by T.kind.watch analyser.now b))
+        256)
         cut.sent) }
     ensures few { OnOk result
         (page.new.written + array_vec_len page.new.text ≤ page.old.written + array_vec_len page.old.text
@@ -34,7 +40,11 @@ fn put_tallies<T: CaptureKind, W: Write>(analyser: &T, page: &mut Page, w: &mut 
 }
 
 /// Puts the frames of the history on the page, the oldest first.
-fn put_history<T: CaptureKind, W: Write>(analyser: &T, page: &mut Page, w: &mut W) -> Result<(), ShortWrite>
+fn put_history<T: CaptureKind, W: Write>(
+    analyser: &T,
+    page: &mut Page,
+    w: &mut W,
+) -> Result<(), ShortWrite>
     requires { page.old.written + array_vec_len page.old.text < 2 ^ 95 }
     ensures put { (start : Option (List ℕ)) (text : List ℕ) (b : List T.Symbol) →
         T.kind.watch.is_after analyser.now b →

@@ -3,8 +3,8 @@
 ghost use Rattle.std.specs.Io.KnownBytes.{Appends};
 ghost use Rattle.std.specs.Prelude.{◌≡◌, ◌++◌, ℕ, List, Option, MatchResult};
 
-use crate::report::put_report;
 use crate::capture_kind::CaptureKind;
+use crate::report::put_report;
 use crate::reporter::Reporter;
 use bus_text::{Summary, ToolFault};
 use std::io::Write;

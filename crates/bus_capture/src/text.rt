@@ -5,8 +5,8 @@ ghost use Rattle.std.specs.Prelude.{length, take, true};
 ghost use Rattle.bus_capture.specs.Internal.Watching.{IsSound, IsSame};
 ghost use Rattle.bus_capture.specs.Internal.Sessions.{FollowsOctets, FollowsText, Stops};
 
-use crate::run::CaptureRun;
 use crate::capture_kind::CaptureKind;
+use crate::run::CaptureRun;
 use bus_bits::BadMark;
 use bus_text::ToolFault;
 use std::io::Write;

@@ -13,8 +13,8 @@ ghost use Rattle.bus_text.specs.Summary.{summary_of};
 ghost use Rattle.bus_pairing.specs.Seen.{SeenReport};
 ghost use Rattle.std.specs.Option.{option_to_list};
 
-use crate::run::CaptureRun;
 use crate::capture_kind::CaptureKind;
+use crate::run::CaptureRun;
 use arrayvec::ArrayVec;
 use bus_bits::laws::{pair_captures_grow, pairs_are_head_and_body};
 use bus_bits::{BadMark, HeadFault, PackedFault, PackedPairs, PairHead, PairWords, TextPairs};
@@ -53,7 +53,9 @@ fn analyse_pairs<C: Check, W: Write>(
 {
     PairAnalyser::<C>::laws();
     run.reporter.cut = None;
-    let taken = run.analyser.scan(first, second, count, &mut run.reporter, w);
+    let taken = run
+        .analyser
+        .scan(first, second, count, &mut run.reporter, w);
     if let Some(cut) = run.reporter.cut {
         return Err(ToolFault::from(cut));
     }

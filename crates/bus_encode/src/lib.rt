@@ -3,8 +3,8 @@
 
 mod bits;
 mod encode;
-mod line;
 mod encode_request;
+mod line;
 mod reader;
 
 pub use encode::encode_frames;

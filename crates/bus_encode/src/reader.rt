@@ -11,8 +11,8 @@ ghost use Rattle.bus_encode.specs.Internal.EncodeState.{EncodeFinishes, EncodeHa
 ghost use Rattle.bus_encode.specs.Internal.EncodeState.{call_of};
 
 use crate::bits::call_text;
-use crate::line::OpenLine;
 use crate::encode_request::{EncodeRequest, read_request};
+use crate::line::OpenLine;
 use bus_line::LineEncoder;
 use bus_text::{ToolFault, put_text};
 use std::io::{Read, Write};

@@ -37,7 +37,8 @@ fn is_whole(kind: EventKind, octets: &[u8]) -> bool
     }
 }
 
-/// Pairs commands with replies among these reports, in the order in which they are decided. The conversation then has the
+/// Pairs commands with replies among these reports, in the order in which they are decided. The conversation then has
+/// the
 /// verdicts of each station, the last frames and the command that waits.
 ///
 /// # Errors

@@ -40,11 +40,13 @@ pub no_stop-before : (w n : ℕ) (b bits : List Bool) → IsWord w b bits → n 
 no_stop-before w n b bits word within no_stop = λ i before.
     let six = word-just 6 9 w i b bits refl word (omega (arith, within, before)) in
     let more = word-just 14 1 w i b bits refl word (omega (arith, within, before)) in
-    ((λ run. no_stop i before (inl (omega (arith, six.1 run)))), λ run. no_stop i before (inr (omega (arith, more.1 run))))
+    ((λ run. no_stop i before (inl (omega (arith, six.1 run)))), λ run. no_stop i before
+    (inr (omega (arith, more.1 run))))
 
 -- ---- bits without a stop decide nothing
 
-pub no_stop-placed : (origin longest n : ℕ) (b bits : List Bool) → HasNoStop b bits n → (i : ℕ) → i ≤ n → i ≤ length bits →
+pub no_stop-placed : (origin longest n : ℕ) (b bits : List Bool) → HasNoStop b bits n → (i : ℕ) → i ≤ n → i ≤ length
+    bits →
     placed origin longest (b ++ take i bits) ≡ placed origin longest b
 no_stop-placed origin longest n b bits no_stop zero within inside = ap (placed origin longest) (append-nil b)
 no_stop-placed origin longest n b bits no_stop (suc i) within inside =
@@ -84,7 +86,8 @@ pub record NoStop (w n x : ℕ) (b : List Bool) : Type 0 where
   pub word : IsWord w b (bits_of n x)
   pub no_stop : HasNoStop b (bits_of n x) n
 
-pub has_no_stop : (w n m x : ℕ) (b : List Bool) → IsWord w b (bits_of n x) → m ≡ n → ((i : ℕ) → i < m → IsStop w i → ⊥) →
+pub has_no_stop : (w n m x : ℕ) (b : List Bool) → IsWord w b (bits_of n x) → m ≡ n → ((i : ℕ) → i < m → IsStop w i → ⊥)
+    →
     NoStop w n x b
 has_no_stop w n m x b word all no_stop =
     let size = length-bits n x in

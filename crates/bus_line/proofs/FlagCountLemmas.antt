@@ -57,5 +57,7 @@ agree-below x i h l =
     ])
 
 -- the flags below that bit
-pub flags-below : (x r : ℕ) → bit_xor x seven_flags < 2 ^ 64 → 8 * r ≤ first_other x → r ≤ 7 → bits_of (8 * r) x ≡ flags r
-flags-below x r h l few = same-low (8 * r) x seven_flags (λ i m. agree-below x i h (omega (arith, l, m))) ∙ flags-of r few
+pub flags-below : (x r : ℕ) → bit_xor x seven_flags < 2 ^ 64 → 8 * r ≤ first_other x → r ≤ 7 → bits_of (8 * r) x ≡ flags
+    r
+flags-below x r h l few = same-low (8 * r) x seven_flags (λ i m. agree-below x i h (omega (arith, l, m))) ∙ flags-of r
+    few

@@ -107,7 +107,8 @@ flag-due longest b ends =
     let c : List Bool = u ++ false ∷ [] in
     let whole : b ++ flag ≡ c = sym (append_assoc b opening (false ∷ [])) in
     let kind : ℕ → Kind = λ p. class_of longest (slice_range c (p + 8) (length u - 7)) in
-    let last : current u ≡ FlagAt (length b - 8) = mark-no_stop b flag 7 7 (flag-no_stop b ends) (omega arith) (omega arith)
+    let last : current u ≡ FlagAt (length b - 8) = mark-no_stop b flag 7 7 (flag-no_stop b ends) (omega arith)
+    (omega arith)
     ∙ flag-last b ends in
     ap (λ (x : List Bool). due_at longest x (length b + 7)) whole
     ∙ (ap (due_at longest c) (sym size)

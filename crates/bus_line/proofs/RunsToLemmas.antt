@@ -23,7 +23,8 @@ use Rattle.bus_line.proofs.DecidesLemmas.{decide-more, joins, last-bit, decides-
 -- ---- bits without a stop
 
 -- of the lowest bits of a number, however many more there are
-pub no_stop-front : (b : List Bool) (x n m k : ℕ) → HasNoStop b (bits_of n x) k → k ≤ n → k ≤ m → HasNoStop b (bits_of m x) k
+pub no_stop-front : (b : List Bool) (x n m k : ℕ) → HasNoStop b (bits_of n x) k → k ≤ n → k ≤ m → HasNoStop b
+    (bits_of m x) k
 no_stop-front b x n m k no_stop low lows = λ i below.
     let same : take i (bits_of m x) ≡ take i (bits_of n x) =
     bits-front i m x (omega (arith, below, lows)) ∙ sym (bits-front i n x (omega (arith, below, low))) in

@@ -178,7 +178,8 @@ settles-no_stop longest p w n skip b bits mark no_stop word skipped (suc i) with
     mark-no_stop b bits n i no_stop (omega (arith, within)) (omega (arith, inside)) ∙ mark in
     let shown : List Bool = data_in_word (w / 2 ^ skip) (i - skip) in
     let before =
-    settles-no_stop longest p w n skip b bits mark no_stop word skipped i (omega (arith, within)) (omega (arith, inside)) in
+    settles-no_stop longest p w n skip b bits mark no_stop word skipped i (omega (arith, within))
+    (omega (arith, inside)) in
     let next = next-bit i b bits (omega (arith, inside)) in
     elim (cases_lt i skip) [
       | inl soon ↦
@@ -279,7 +280,8 @@ word-unsettled view at w t None d b bits word within no_stop lags opened settles
 word-unsettled view at w t (Some first) d b bits word within no_stop lags opened settles-at early =
     let flag = first-Some d.origin first (current b) (sym lags.first ∙ opened) in
     let skip = flag.0 + 16 - length b in
-    let settles = settles-no_stop d.longest flag.0 w (t - 1) skip b bits flag.1 no_stop word refl t (omega arith) within in
+    let settles = settles-no_stop d.longest flag.0 w (t - 1) skip b bits flag.1 no_stop word refl t (omega arith)
+    within in
     let none-late : t - skip ≡ 0 =
     omega (arith, lags.has_taken.place, length-front t b bits within, flag.2, settles-at, early) in
     let held = holds-of view.folded d b flag.0 (current b) flag.1 lags.piece in
@@ -312,7 +314,8 @@ word-settled view first w t late n x d e b bits word within no_stop lags opened 
     let same-late : late ≡ t - (flag.0 + 16 - length b) = omega (arith, place, front, flag.2, far, is-late) in
     let same-data : bits_of n x ≡ data_in_word (w / 2 ^ skip) (t - skip) =
     value ∙ (ap (λ (j : ℕ). data_in_word (w / 2 ^ j) late) same-skip ∙ ap (data_in_word (w / 2 ^ skip)) same-late) in
-    let settles = settles-no_stop d.longest flag.0 w (t - 1) skip b bits flag.1 no_stop word refl t (omega arith) within in
+    let settles = settles-no_stop d.longest flag.0 w (t - 1) skip b bits flag.1 no_stop word refl t (omega arith)
+    within in
     let size : length (bits_of n x) ≡ n = length-bits n x in
     tracks-settled view flag.0 d e b (take t bits) (bits_of n x) lags flag.1 (rw same-data settles)
     (ap (λ (x : LineState _). x.longest) kept) (ap (λ (x : LineState _). x.origin) kept)

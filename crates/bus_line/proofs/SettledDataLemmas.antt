@@ -226,7 +226,8 @@ first-stop w count word few =
     ] in
     let lowest = bit_at-trailing_zeros w64 s some (stops-lt w count) in
     let n : ℕ = trailing_zeros w64 s in record {
-      no_stop = λ i before. stop-zero w count i word (omega (arith, lowest.0, before)) (omega arith) (lowest.2 i before);
+      no_stop = λ i before. stop-zero w count i word (omega (arith, lowest.0, before)) (omega arith)
+          (lowest.2 i before);
       stop = λ before. stop-one w count n word lowest.0 (omega arith) before lowest.1;
       within = elim (cases_lt count n) [ inl past ↦ absurd (omega (arith, last, lowest.2 count past)) | inr is ↦ is ];
     }

@@ -242,7 +242,8 @@ module _ {C : Type 0} (view : CheckView C) (check : C) (octets : List ℕ) where
           origin = refl;
           place = refl;
         };
-        says = λ b stands. no_stop-placed w.origin w.longest 1 b (true ∷ []) (no_stop b stands) 1 (omega arith) (omega arith)
+        says = λ b stands. no_stop-placed w.origin w.longest 1 b (true ∷ []) (no_stop b stands) 1 (omega arith)
+            (omega arith)
             ∙ sym (append-nil (placed w.origin w.longest b));
       }
 

@@ -5,11 +5,11 @@ mod decide;
 mod ended_mark;
 mod marked;
 mod piece;
-mod time_fill;
 mod scan;
 mod settled;
 mod step;
 mod stop;
+mod time_fill;
 
 ghost use Rattle.std.specs.Prelude.{◌≡◌, ◌+◌, ◌*◌, ◌-◌, ◌≤◌, ◌<◌, ◌^◌, ◌↔◌, ◌⊎◌, List, Bool, [], ◌∷◌, ◌++◌, IsErr};
 ghost use Rattle.std.specs.Prelude.{IfOk, OnErr, length, Some, None};
@@ -23,9 +23,9 @@ ghost use Rattle.bus_line.specs.Ledger.{stored_open, IsLedger};
 ghost use Rattle.bus_bits.specs.Bits.{bits_from};
 ghost use Rattle.bus_bits.specs.Octet.{bits_of};
 
+use crate::decoder_words::{DecoderWords, NEVER};
 use crate::event::Event;
 use crate::fault::LineFault;
-use crate::decoder_words::{DecoderWords, NEVER};
 use crate::piece::Piece;
 use crate::place_limit::PlaceLimit;
 use crate::scanned::Scanned;

@@ -71,7 +71,10 @@ fn take_some<'a, 'd, C: Check>(
     let (octets, count) = octets_of(rt, bits, size);
     if size == 1 {
         let behind = &bits[bits.len().min(1)..];
-        return (behind, decoder.push(octets[0] & 1 == 1).expect(rt, "a place"));
+        return (
+            behind,
+            decoder.push(octets[0] & 1 == 1).expect(rt, "a place"),
+        );
     }
     let scanned = decoder.scan(&octets, 0, count).expect(rt, "a place");
     let behind = &bits[bits.len().min(scanned.count)..];

@@ -196,7 +196,8 @@ pub keeps-damage : (old new : ConversationState) (rs : List LineReport) (r : Lin
     Counted (option_map (verdict old.dictionary None) old.waiting) old.tally new.tally → Keeps new (rs ++ r ∷ [])
 keeps-damage old new rs r kept damage is three_steps verdict_counted =
     let quiet = damage-quiet old.dictionary r.report.kind damage in
-    let j : ConversationState = record old { waiting = None; tally = new.tally; last = new.last; handled = new.handled } in
+    let j : ConversationState = record old
+    { waiting = None; tally = new.tally; last = new.last; handled = new.handled } in
     let judged : option_map (verdict old.dictionary None) old.waiting ≡ decided old.dictionary rs r =
     rw (decided-talk old.dictionary rs r quiet.0, quiet.1.no_standing, kept.waiting) refl in
     subst (λ j. Keeps j (rs ++ r ∷ [])) (sym is) (keeps-more old j rs r kept (record {
@@ -210,7 +211,8 @@ keeps-damage old new rs r kept damage is three_steps verdict_counted =
     }))
 
 -- and what an idle changes
-pub keeps-idle : (old new : ConversationState) (rs : List LineReport) (r : LineReport) → Keeps old rs → is_idle r.report.kind ≡ true
+pub keeps-idle : (old new : ConversationState) (rs : List LineReport) (r : LineReport) → Keeps old rs → is_idle
+    r.report.kind ≡ true
     → new ≡ record old { last = new.last; handled = new.handled } → new.handled ≡ old.handled + 3
     → Keeps new (rs ++ r ∷ [])
 keeps-idle old new rs r kept idle is three_steps =
@@ -227,7 +229,8 @@ keeps-idle old new rs r kept idle is three_steps =
     }))
 
 -- what a frame changes
-pub keeps-frame : (old new : ConversationState) (rs : List LineReport) (line : Option Line) (span : Span) (octets : List ℕ) →
+pub keeps-frame : (old new : ConversationState) (rs : List LineReport) (line : Option Line) (span : Span)
+    (octets : List ℕ) →
     Keeps old rs
     → new
     ≡ record old {

@@ -42,7 +42,8 @@ talk-more rs r = filter-append _ rs (r ∷ []) ∙ ap (λ xs. talk rs ++ xs) (on
 talk-idle : (rs : List LineReport) (r : LineReport) → is_idle r.report.kind ≡ true → talk (rs ++ r ∷ []) ≡ talk rs
 talk-idle rs r idle = talk-more rs r ∙ rw idle (append-nil (talk rs))
 
-talk-one : (rs : List LineReport) (r : LineReport) → is_idle r.report.kind ≡ false → talk (rs ++ r ∷ []) ≡ talk rs ++ r ∷ []
+talk-one : (rs : List LineReport) (r : LineReport) → is_idle r.report.kind ≡ false → talk (rs ++ r ∷ []) ≡ talk rs ++ r
+    ∷ []
 talk-one rs r talks = talk-more rs r ∙ rw talks refl
 
 -- of a talk

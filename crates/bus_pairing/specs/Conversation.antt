@@ -12,7 +12,8 @@ use Rattle.bus_pairing.specs.declared.counts.Counts.{Counts}
 use Rattle.bus_pairing.specs.declared.finding.Finding.{Finding}
 use Rattle.bus_pairing.specs.declared.pending.Pending.{Pending}
 
--- what contracts see of a conversation; `last` is what its last report was found to be, and says nothing before the first
+-- what contracts see of a conversation; `last` is what its last report was found to be, and says nothing before the
+-- first
 pub record ConversationState : Type 0 where
   pub dictionary : List FrameType
   pub depth : ℕ
@@ -32,7 +33,8 @@ pub record Keeps (j : ConversationState) (hs : List LineReport) : Type 0 where
   pub handled : j.handled ≡ handled_of hs
 
 -- the conversation took one report more, and found this of it
-pub record Enters (old : ConversationState) (report : LineReport) (found : SeenReport) (new : ConversationState) : Type 0 where
+pub record Enters (old : ConversationState) (report : LineReport) (found : SeenReport) (new : ConversationState) : Type
+    0 where
   pub keeps : (hs : List LineReport) → Keeps old hs → Keeps new (hs ++ report ∷ [])
   pub says : (hs : List LineReport) → Keeps old hs → found ≡ seen_of old.dictionary hs report
   pub dictionary : new.dictionary ≡ old.dictionary

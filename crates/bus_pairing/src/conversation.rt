@@ -72,7 +72,8 @@ impl Conversation {
     ghost use Rattle.bus_pairing.specs.Talk.{is_idle};
     ghost use Rattle.bus_dictionary.specs.Standing.{standing};
 
-    /// A conversation of no reports, whose history keeps `depth` frames, one or more. Fails only where memory was refused.
+    /// A conversation of no reports, whose history keeps `depth` frames, one or more. Fails only where memory was
+    /// refused.
     pub fn new(alloc: Global, dictionary: Dictionary, depth: usize) -> Result<Self, AllocError>
         requires { 1 ≤ depth }
         ensures keeps { IfOk result (λ j. Keeps j []) }
@@ -89,7 +90,8 @@ impl Conversation {
         })
     }
 
-    /// Takes a report of a line, a frame with these octets; [`Conversation::last`] returns what follows from it. `line` is
+    /// Takes a report of a line, a frame with these octets; [`Conversation::last`] returns what follows from it. `line`
+    /// is
     /// `None` where there is one line.
     ///
     /// A frame has 4 to 258 octets, and the counters have room for one report more: [`Conversation::has_room`].

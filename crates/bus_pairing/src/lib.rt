@@ -1,16 +1,17 @@
 //! What the reports of a line say of the talk on it: which frames are commands and which answer them (NEMA TS 2,
 //! section 3.3), the verdicts of each station, the last frames, and who is told.
 //!
-//! [`Pairing`] pairs commands with answers by rules in any memory; [`Conversation`] also keeps the verdicts and the last
+//! [`Pairing`] pairs commands with answers by rules in any memory; [`Conversation`] also keeps the verdicts and the
+//! last
 //! frames. Both are given reports, of one line or of two in the order in which they are decided, and know nothing of
 //! bits. What they find is a [`Finding`], and with a frame's octets a [`Seen`]; sinks take these one after another.
 //! `pair_reports` of the crate `bus_examples` gives a conversation the reports of a decoder of one's own.
 #![tactic(auto)]
 
+mod conversation;
 mod counts;
 mod ending;
 mod finding;
-mod conversation;
 mod kept;
 mod line;
 mod logged_report;
@@ -28,10 +29,10 @@ mod verdict;
 
 pub use bus_bits::Span;
 pub use bus_line::SinkRefused;
+pub use conversation::Conversation;
 pub use counts::Counts;
 pub use ending::Ending;
 pub use finding::Finding;
-pub use conversation::Conversation;
 pub use kept::Kept;
 pub use line::Line;
 pub use logged_report::{LoggedPiece, LoggedReport};

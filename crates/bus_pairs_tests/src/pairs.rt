@@ -577,7 +577,12 @@ fn last_taken_pairs(rt: HostRuntime) {
             holds(&rt, analyser.push(true, false).is_ok(), &case);
         }
         same(&rt, analyser.spent().shifted, room.saturating_mul(2), &case);
-        same(&rt, analyser.push(true, false).err(), Some(PlaceLimit), &case);
+        same(
+            &rt,
+            analyser.push(true, false).err(),
+            Some(PlaceLimit),
+            &case,
+        );
     }
 }
 

@@ -4,8 +4,8 @@
 mod text;
 
 use bus_dictionary::{DictFault, Dictionary};
-use bus_rows::CALLS;
 use bus_pairing::Counts;
+use bus_rows::CALLS;
 use std::alloc::Global;
 pub use text::{push_ending, push_seen};
 

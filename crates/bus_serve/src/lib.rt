@@ -6,4 +6,4 @@ mod request;
 mod statuses;
 
 pub use request::Request;
-pub use statuses::{FAULT, fail, execute, status};
+pub use statuses::{FAULT, execute, fail, status};

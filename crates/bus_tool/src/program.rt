@@ -5,7 +5,7 @@ ghost use Rattle.bus_serve.specs.Executes.{AllowsReads, Executes};
 ghost use Rattle.bus_serve.specs.declared.request.Request.{Request};
 
 use crate::arguments::{Refusal, read_arguments};
-use bus_serve::{FAULT, fail, execute, status};
+use bus_serve::{FAULT, execute, fail, status};
 use bus_text::{ToolFault, put_text};
 use clap::Error;
 use clap::error::ErrorKind;

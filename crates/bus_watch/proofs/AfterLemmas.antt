@@ -41,7 +41,8 @@ decodes-some view on old new j k bits report told advances keeps says dictionary
 -- the steps of the decoder, and those of the conversation
 pub ledger-is : {C : Type 0} (view : CheckView C) (a : AnalyserState C) (b : List Bool)
     (d j : Spent) → IsAfter view a b
-    → IsLineLedger view.cost a.decoder.longest b d → j.copied ≡ a.conversation.copied → j.handled ≡ a.conversation.handled
+    → IsLineLedger view.cost a.decoder.longest b d → j.copied ≡ a.conversation.copied → j.handled
+    ≡ a.conversation.handled
     → IsLedger view.cost (longest_of a.conversation.dictionary) b (record d { copied = j.copied; handled = j.handled })
 ledger-is view a b d j reached ledger copied handled =
     let rs = placed a.decoder.origin (longest_of a.conversation.dictionary) b in

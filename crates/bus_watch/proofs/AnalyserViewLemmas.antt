@@ -51,7 +51,8 @@ steps-six Kind.Idle = omega arith
 
 steps-within : (hs : List LineReport) → handled_of hs ≤ 6 * length hs
 steps-within hs =
-    omega (arith, sum_by-le (λ (h : LineReport). steps h.report) 6 hs (λ i d inside. steps-six (get_or hs i d).report.kind))
+    omega (arith, sum_by-le (λ (h : LineReport). steps h.report) 6 hs
+    (λ i d inside. steps-six (get_or hs i d).report.kind))
 
 pub octets-moved : (origin : ℕ) (rs : List Report) → sum_by octet_count (map (moved origin) rs) ≡ sum_by octet_count rs
 octets-moved origin [] = refl
@@ -66,7 +67,8 @@ steps-moved origin (r ∷ rs) =
     ∙ (ap (λ n. sum_by steps (r ∷ []) + n) (steps-moved origin rs) ∙ sym (sum_by-append steps (r ∷ []) rs))
 
 -- after no more reports than two lines have, all counters have room for one more
-pub room-of : (j : ConversationState) (hs : List LineReport) → Keeps j hs → copied_of hs ≤ 2 ^ 62 → length hs ≤ 2 ^ 61 + 1 →
+pub room-of : (j : ConversationState) (hs : List LineReport) → Keeps j hs → copied_of hs ≤ 2 ^ 62 → length hs ≤ 2 ^ 61
+    + 1 →
     HasRoom j
 room-of j hs kept octets few = record {
   copied = omega (arith, kept.copied, octets);

@@ -61,7 +61,8 @@ pending-alike d a c h same_pending = step (is_idle h.report.kind) refl
     step true kind_is = pending-idle d a h kind_is ∙ same_pending ∙ sym (pending-idle d c h kind_is)
     step false kind_is = pending-talk d a h kind_is ∙ sym (pending-talk d c h kind_is)
 
-behind-alike : (d : List FrameType) (a c hs : List LineReport) → pending d a ≡ pending d c → behind d a hs ≡ behind d c hs
+behind-alike : (d : List FrameType) (a c hs : List LineReport) → pending d a ≡ pending d c → behind d a hs ≡ behind d c
+    hs
 behind-alike d a c [] same_pending = refl
 behind-alike d a c (h ∷ hs) same_pending =
     both-cons _ _ _ _ (ap (with_verdict d h) (decided-alike d a c h same_pending))
@@ -82,7 +83,8 @@ behind-append d before (x ∷ xs) ys =
     ∙ ap (λ (a : List LineReport). behind d (before ++ x ∷ []) xs ++ behind d a ys) (append_assoc before (x ∷ []) xs))
 
 -- where all are idle lines, so is the first, and the others are
-idle-first : (h : LineReport) (hs : List LineReport) → talk (h ∷ hs) ≡ [] → (is_idle h.report.kind ≡ true) × (talk hs ≡ [])
+idle-first : (h : LineReport) (hs : List LineReport) → talk (h ∷ hs) ≡ [] → (is_idle h.report.kind ≡ true)
+    × (talk hs ≡ [])
 idle-first h hs all_idle = step (is_idle h.report.kind) refl
   where
     step : (b : Bool) → is_idle h.report.kind ≡ b → (is_idle h.report.kind ≡ true) × (talk hs ≡ [])

@@ -195,7 +195,8 @@ leads-decoded view old new bits told decoded =
     let grown : (b : List Bool) → IsAfter view old b →
     line old (b ++ bits) ≡ line old b ++ map (line_report None) decoded.reports = λ b reached.
     let before = placed old.decoder.origin (longest_of old.conversation.dictionary) b in
-    let more : placed old.decoder.origin (longest_of old.conversation.dictionary) (b ++ bits) ≡ before ++ decoded.reports =
+    let more : placed old.decoder.origin (longest_of old.conversation.dictionary) (b ++ bits) ≡ before
+    ++ decoded.reports =
     rw (← reached.longest) (decoded.grows b reached.decoder) in
     ap of_line more ∙ map-append (line_report None) before decoded.reports in
     record {

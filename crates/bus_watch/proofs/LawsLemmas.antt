@@ -31,7 +31,8 @@ from-front P step before [] holds = subst P (sym (append-nil before)) holds
 from-front P step before (r ∷ after) holds =
     subst P (append_assoc before (r ∷ []) after) (from-front P step (before ++ r ∷ []) after (step before r holds))
 
-pub one-by-one : (P : List LineReport → Type 0) → P [] → ((rs : List LineReport) (r : LineReport) → P rs → P (rs ++ r ∷ [])) →
+pub one-by-one : (P : List LineReport → Type 0) → P [] →
+    ((rs : List LineReport) (r : LineReport) → P rs → P (rs ++ r ∷ [])) →
     (rs : List LineReport) → P rs
 one-by-one P none step rs = from-front P step [] rs none
 

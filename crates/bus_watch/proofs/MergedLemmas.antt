@@ -9,7 +9,8 @@ use Rattle.std.proofs.lemmas.Grind.{flat_map-append}
 use Rattle.bus_line.specs.Report.{Report, moved}
 use Rattle.bus_line.specs.Due.{reports, placed, places, due_at}
 use Rattle.bus_line.specs.Laws.{DueStays, OneMore, ReportsGrow}
-use Rattle.bus_pairing.specs.LineReport.{LineReport, line_report, firsts, seconds, line_reports_at, merged, is_line, of_side}
+use Rattle.bus_pairing.specs.LineReport.{LineReport, line_report, firsts, seconds, line_reports_at, merged, is_line}
+use Rattle.bus_pairing.specs.LineReport.{of_side}
 use Rattle.bus_watch.specs.Internal.Decodes.{line_reports_of}
 use Rattle.bus_line.proofs.DueMoreLemmas.{map-option}
 use Rattle.bus_pairing.specs.declared.line.Line.{Line}
@@ -24,7 +25,8 @@ flat_map-places f g (suc n) same =
     ∙ (ap (λ ys. flat_map g (places n) ++ (ys ++ [])) (same n (omega arith))
     ∙ sym (flat_map-append g (places n) (n ∷ []))))
 
-line_reports_at-append : DueStays → (line : Line) (origin longest : ℕ) (b : List Bool) (x : Bool) (i : ℕ) → i < length b →
+line_reports_at-append : DueStays → (line : Line) (origin longest : ℕ) (b : List Bool) (x : Bool) (i : ℕ) → i < length b
+    →
     line_reports_at line origin longest (b ++ x ∷ []) i ≡ line_reports_at line origin longest b i
 line_reports_at-append stays line origin longest b x i before =
     ap (λ o. map (line_report (Some line)) (option_to_list (option_map (moved origin) o)))
@@ -121,10 +123,12 @@ added-is : OneMore → (origin longest : ℕ) (ps : List (Bool × Bool)) (p : Bo
     → placed origin longest (seconds ps ++ p.1 ∷ []) ≡ placed origin longest (seconds ps) ++ option_to_list s
     → added origin longest ps p ≡ line_reports_of (Some First) r ++ line_reports_of (Some Second) s
 added-is more origin longest ps p r s first_adds second_adds =
-    let one : line_reports_at First origin longest (firsts ps ++ p.0 ∷ []) (length ps) ≡ line_reports_of (Some First) r =
+    let one : line_reports_at First origin longest (firsts ps ++ p.0 ∷ []) (length ps) ≡ line_reports_of (Some First) r
+    =
     ap (line_reports_at First origin longest (firsts ps ++ p.0 ∷ [])) (sym (length-firsts ps))
     ∙ due-from more First origin longest (firsts ps) p.0 r first_adds in
-    let two : line_reports_at Second origin longest (seconds ps ++ p.1 ∷ []) (length ps) ≡ line_reports_of (Some Second) s =
+    let two : line_reports_at Second origin longest (seconds ps ++ p.1 ∷ []) (length ps) ≡ line_reports_of (Some Second)
+    s =
     ap (line_reports_at Second origin longest (seconds ps ++ p.1 ∷ [])) (sym (length-seconds ps))
     ∙ due-from more Second origin longest (seconds ps) p.1 s second_adds in
     ap (λ hs. hs ++ line_reports_at Second origin longest (seconds ps ++ p.1 ∷ []) (length ps)) one
@@ -169,7 +173,8 @@ merged-first-alone stays more grow origin longest ps (x ∷ xs) rs adds quiet =
     ∙ (ap (λ hs. hs ++ map (line_report (Some First)) rest.0) step
     ∙ (append_assoc (merged origin longest ps) (line_reports_of (Some First) r) (map (line_report (Some First)) rest.0)
     ∙ ap (λ hs. merged origin longest ps ++ hs)
-    (sym (ap (map (line_report (Some First))) parts ∙ map-append (line_report (Some First)) (option_to_list r) rest.0)))))
+    (sym (ap (map (line_report (Some First))) parts ∙ map-append (line_report (Some First)) (option_to_list r)
+    rest.0)))))
 
 -- pairs of which at most the last decides a report of the second line add these
 pub merged-led : DueStays → OneMore → ReportsGrow →
@@ -263,7 +268,8 @@ pub merged-adds : (m : List LineReport → ℕ) → m [] ≡ 0 → ((xs ys : Lis
     + m (of_one Second origin longest (seconds ps))
 merged-adds m none more origin longest ps =
     let n = length ps in
-    flat-sum m none more (line_reports_at First origin longest (firsts ps)) (line_reports_at Second origin longest (seconds ps))
+    flat-sum m none more (line_reports_at First origin longest (firsts ps))
+    (line_reports_at Second origin longest (seconds ps))
     (places n)
     ∙ (ap (λ hs. m hs + m (flat_map (line_reports_at Second origin longest (seconds ps)) (places n)))
     (reports-list First origin longest (firsts ps) (places n)
@@ -276,7 +282,8 @@ merged-adds m none more origin longest ps =
 
 -- either line by itself among them
 side-append : (line : Line) (xs ys : List LineReport) → of_side line (xs ++ ys) ≡ of_side line xs ++ of_side line ys
-side-append line xs ys = ap (map (λ (h : LineReport). h.report)) (filter-append (λ (h : LineReport). is_line line h.line) xs ys)
+side-append line xs ys = ap (map (λ (h : LineReport). h.report))
+    (filter-append (λ (h : LineReport). is_line line h.line) xs ys)
     ∙ map-append (λ (h : LineReport). h.report) (filter (λ (h : LineReport). is_line line h.line) xs)
     (filter (λ (h : LineReport). is_line line h.line) ys)
 
@@ -321,7 +328,8 @@ pub merged-first : (longest origin : ℕ) (ps : List (Bool × Bool)) →
 merged-first longest origin ps =
     let n = length ps in
     let due : List Bool → ℕ → List Report = λ b i. option_to_list (option_map (moved origin) (due_at longest b i)) in
-    flat-side First (line_reports_at First origin longest (firsts ps)) (line_reports_at Second origin longest (seconds ps))
+    flat-side First (line_reports_at First origin longest (firsts ps))
+    (line_reports_at Second origin longest (seconds ps))
     (due (firsts ps)) (places n)
     (λ i. ap (λ xs. xs ++ of_side First (line_reports_at Second origin longest (seconds ps) i))
     (side-same First (due (firsts ps) i))
@@ -335,7 +343,8 @@ pub merged-second : (longest origin : ℕ) (ps : List (Bool × Bool)) →
 merged-second longest origin ps =
     let n = length ps in
     let due : List Bool → ℕ → List Report = λ b i. option_to_list (option_map (moved origin) (due_at longest b i)) in
-    flat-side Second (line_reports_at First origin longest (firsts ps)) (line_reports_at Second origin longest (seconds ps))
+    flat-side Second (line_reports_at First origin longest (firsts ps))
+    (line_reports_at Second origin longest (seconds ps))
     (due (seconds ps)) (places n)
     (λ i. ap (λ xs. xs ++ of_side Second (line_reports_at Second origin longest (seconds ps) i))
     (side-other (due (firsts ps) i)).1 ∙ side-same Second (due (seconds ps) i))

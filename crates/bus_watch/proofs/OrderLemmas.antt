@@ -38,10 +38,12 @@ reports-line on origin longest b i = one (due_at longest b i)
     one : (o : Option Report) → All (λ (h : LineReport). h.line ≡ Some on)
         (map (line_report (Some on)) (option_to_list (option_map (moved origin) o)))
     one None = All-nil _
-    one (Some r) = All-cons (λ (h : LineReport). h.line ≡ Some on) (line_report (Some on) (moved origin r)) [] refl (All-nil _)
+    one (Some r) = All-cons (λ (h : LineReport). h.line ≡ Some on) (line_report (Some on) (moved origin r)) [] refl
+    (All-nil _)
 
 -- is one report at most
-alone : (on : Line) (origin longest : ℕ) (b : List Bool) (i : ℕ) → AllPairs ComesBefore (line_reports_at on origin longest b i)
+alone : (on : Line) (origin longest : ℕ) (b : List Bool) (i : ℕ) → AllPairs ComesBefore
+    (line_reports_at on origin longest b i)
 alone on origin longest b i = one (due_at longest b i)
   where
     one : (o : Option Report) →
@@ -55,7 +57,8 @@ both-rise it origin longest b c i =
     before-append (line_reports_at First origin longest b i) (line_reports_at Second origin longest c i)
     (alone First origin longest b i) (alone Second origin longest c i)
     (λ k m d k_inside m_inside. inr (
-      reports-due it First origin longest b i k d k_inside ∙ sym (reports-due it Second origin longest c i m d m_inside),
+      reports-due it First origin longest b i k d k_inside ∙ sym
+      (reports-due it Second origin longest c i m d m_inside),
       reports-line First origin longest b i k d k_inside,
       reports-line Second origin longest c i m d m_inside,
     ))
@@ -65,7 +68,8 @@ all-rise : DueIsIt → (origin longest : ℕ) (b c : List Bool) (n : ℕ) →
     (flat_map (λ i. line_reports_at First origin longest b i ++ line_reports_at Second origin longest c i) (places n))
 all-rise it origin longest b c zero = λ i j d before inside. absurd (omega (arith, inside))
 all-rise it origin longest b c (suc n) =
-    let f : ℕ → List LineReport = λ i. line_reports_at First origin longest b i ++ line_reports_at Second origin longest c i in
+    let f : ℕ → List LineReport = λ i. line_reports_at First origin longest b i ++ line_reports_at Second origin longest
+    c i in
     subst (AllPairs ComesBefore)
     (sym (flat_map-append f (places n) (n ∷ []) ∙ ap (λ ys. flat_map f (places n) ++ ys) (append-nil (f n))))
     (before-append (flat_map f (places n)) (f n) (all-rise it origin longest b c n) (both-rise it origin longest b c n)
@@ -80,10 +84,12 @@ abbrev IsOfOne : LineReport → Type 0
 IsOfOne h = (h.line ≡ Some First) ⊎ (h.line ≡ Some Second)
 
 all-of-one : (origin longest : ℕ) (b c : List Bool) (n : ℕ) →
-    All IsOfOne (flat_map (λ i. line_reports_at First origin longest b i ++ line_reports_at Second origin longest c i) (places n))
+    All IsOfOne
+    (flat_map (λ i. line_reports_at First origin longest b i ++ line_reports_at Second origin longest c i) (places n))
 all-of-one origin longest b c zero = All-nil _
 all-of-one origin longest b c (suc n) =
-    let f : ℕ → List LineReport = λ i. line_reports_at First origin longest b i ++ line_reports_at Second origin longest c i in
+    let f : ℕ → List LineReport = λ i. line_reports_at First origin longest b i ++ line_reports_at Second origin longest
+    c i in
     subst (All IsOfOne)
     (sym (flat_map-append f (places n) (n ∷ []) ∙ ap (λ ys. flat_map f (places n) ++ ys) (append-nil (f n))))
     (All-append IsOfOne (flat_map f (places n)) (f n) (all-of-one origin longest b c n)

@@ -78,14 +78,16 @@ pub fed-pair-headline : {C S : Type 0} (view : CheckView C) (sink : SinkView S)
     (a e : PairState C) (ps : List (Bool × Bool)) (s t : S) (u : PairUsage)
     → IsAfterPairs view a [] → (f : FedBy (two_lines view) sink a ps e s t) →
     WholePairRun view e u
-    → PairHeadline view.cost a.conversation.dictionary a.conversation.depth a.first.origin ps f.seen e.conversation.history u
+    → PairHeadline view.cost a.conversation.dictionary a.conversation.depth a.first.origin ps f.seen
+    e.conversation.history u
 fed-pair-headline view sink a e ps s t u new fed whole =
     let d = a.conversation.dictionary in
     let depth = a.conversation.depth in
     let origin = a.first.origin in
     let headline = whole a (ps ∷ []) (fed.seen ∷ []) new (called a e e ps fed.seen [] [] fed.sees (ended e)) in
     subst (λ x. PairHeadline view.cost d depth origin x fed.seen e.conversation.history u) (append-nil ps)
-    (subst (λ y. PairHeadline view.cost d depth origin (ps ++ []) y e.conversation.history u) (append-nil fed.seen) headline)
+    (subst (λ y. PairHeadline view.cost d depth origin (ps ++ []) y e.conversation.history u) (append-nil fed.seen)
+    headline)
 
 -- where a sink refused reports of what a new analyser was fed
 pub stopped-at-pair : {C S : Type 0} (view : CheckView C) (sink : SinkView S)

@@ -151,7 +151,8 @@ reports-due it on origin longest b i = one (due_at longest b i) refl
         All (λ (h : LineReport). due h.report ≡ origin + i)
         (map (line_report (Some on)) (option_to_list (option_map (moved origin) o)))
     one None is = All-nil _
-    one (Some r) is = All-cons (λ (h : LineReport). due h.report ≡ origin + i) (line_report (Some on) (moved origin r)) []
+    one (Some r) is = All-cons (λ (h : LineReport). due h.report ≡ origin + i) (line_report (Some on) (moved origin r))
+    []
         (due-moved origin r.kind r.first r.past ∙ ap (λ n. origin + n) ((it longest b i r).1 is).1) (All-nil _)
 
 pub both-due : DueIsIt → (origin longest : ℕ) (b c : List Bool) (i : ℕ) →
@@ -167,7 +168,8 @@ pub below : DueIsIt → (origin longest : ℕ) (b c : List Bool) (n : ℕ) →
     (flat_map (λ i. line_reports_at First origin longest b i ++ line_reports_at Second origin longest c i) (places n))
 below it origin longest b c zero = All-nil _
 below it origin longest b c (suc n) =
-    let f : ℕ → List LineReport = λ i. line_reports_at First origin longest b i ++ line_reports_at Second origin longest c i in
+    let f : ℕ → List LineReport = λ i. line_reports_at First origin longest b i ++ line_reports_at Second origin longest
+    c i in
     subst (All (λ (h : LineReport). due h.report < origin + suc n))
     (sym (flat_map-append f (places n) (n ∷ []) ∙ ap (λ ys. flat_map f (places n) ++ ys) (append-nil (f n))))
     (All-append (λ (h : LineReport). due h.report < origin + suc n) (flat_map f (places n)) (f n)
@@ -204,7 +206,8 @@ seen-on d hs (h ∷ more) =
           ∙ (rest.1 ∙ (ap (λ ss. ss ++ rest.0) (seen-more d hs h) ∙ append_assoc (seen d hs) (_ ∷ []) rest.0)),
     )
 
-at-all : (d : List FrameType) (hs more : List LineReport) (place : ℕ) → All (λ (h : LineReport). due h.report < place) hs →
+at-all : (d : List FrameType) (hs more : List LineReport) (place : ℕ) → All (λ (h : LineReport). due h.report < place)
+    hs →
     All (λ (h : LineReport). due h.report ≡ place) more
     → seen d (hs ++ more) ≡ seen d hs ++ all_seen_at d (hs ++ more) place
 at-all d hs more place before here =
@@ -216,7 +219,8 @@ at-all d hs more place before here =
     let found : all_seen_at d (hs ++ more) place ≡ rest.0 =
     ap (filter (at place)) rest.1 ∙ (filter-append (at place) (seen d hs) rest.0
     ∙ (ap (λ xs. xs ++ filter (at place) rest.0)
-    (filter-none place (seen d hs) (subst (All (λ (h : LineReport). due h.report < place)) (sym (seen-reports d hs)) before))
+    (filter-none place (seen d hs)
+    (subst (All (λ (h : LineReport). due h.report < place)) (sym (seen-reports d hs)) before))
     ∙ filter-all place rest.0 (subst (All (λ (h : LineReport). due h.report ≡ place)) (sym is) here))) in
     rest.1 ∙ ap (λ xs. seen d hs ++ xs) (sym found)
 

@@ -134,7 +134,8 @@ module _ {C : Type 0} (view : CheckView C) (old new : PairState C) (j : Conversa
             let e = old.conversation.dictionary in
             let half : List LineReport = lines old ps ++ first-lines in
             let last : seen e (half ++ line_reports_of (Some Second) second.report) ≡ seen e half ++ option_to_list t =
-            subst (λ es. seen es (half ++ line_reports_of (Some Second) second.report) ≡ seen es half ++ option_to_list t)
+            subst (λ es. seen es (half ++ line_reports_of (Some Second) second.report) ≡ seen es half ++ option_to_list
+            t)
             first.dictionary (second.seen half (first.keeps (lines old ps) reached.conversation)) in
             ap (seen e) (lines-more ps reached) ∙ (last
             ∙ (ap (λ ss. ss ++ option_to_list t) (first.seen (lines old ps) reached.conversation)

@@ -11,9 +11,9 @@ ghost use Rattle.bus_line.specs.Ledger.{stored_open};
 ghost use Rattle.bus_bits.specs.Bits.{bits_from};
 ghost use Rattle.bus_dictionary.specs.Dictionary.{longest_of};
 
+use crate::decode::{begun_span, decode_bit, lent, observe_bits};
 use crate::fault::NewFault;
 use crate::feed::PLACES;
-use crate::decode::{begun_span, decode_bit, lent, observe_bits};
 use crate::laws::{seen_grows, steps_are_bounded};
 use crate::observer::ReportObserver;
 use bus_bits::Spent;
@@ -21,7 +21,7 @@ use bus_dictionary::Dictionary;
 use bus_fcs::Check;
 use bus_line::laws::settled_places;
 use bus_line::{LineDecoder, LineFault, PlaceLimit};
-use bus_pairing::{Counts, Ending, Finding, Conversation, Kept, Seen};
+use bus_pairing::{Conversation, Counts, Ending, Finding, Kept, Seen};
 use std::alloc::Global;
 use std::cmp::min;
 use std::marker::Model;
@@ -76,7 +76,8 @@ impl<C: Check> Analyser<C> {
         ensures origin { (result ≡ Err NewFault.Origin) ↔ ((1 ≤ depth) × (depth ≤ 1024) × (most_places < origin)) }
         ensures is_after { IfOk result (λ a. IsAfter C.check a []) }
         ensures given { IfOk result
-            (λ a. (a.conversation.dictionary ≡ dictionary) × (a.conversation.depth ≡ depth) × (a.decoder.origin ≡ origin)
+            (λ a. (a.conversation.dictionary ≡ dictionary) × (a.conversation.depth ≡ depth)
+            × (a.decoder.origin ≡ origin)
             × (a.decoder.place ≡ origin)) }
     {
         if depth < 1 || depth > 1024 {
@@ -88,7 +89,10 @@ impl<C: Check> Analyser<C> {
             Err(LineFault::LongestRange) => unreachable!(),
         };
         match Conversation::new(alloc, dictionary, depth) {
-            Ok(conversation) => Ok(Analyser { decoder, conversation }),
+            Ok(conversation) => Ok(Analyser {
+                decoder,
+                conversation,
+            }),
             Err(_) => Err(NewFault::Memory),
         }
     }

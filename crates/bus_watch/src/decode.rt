@@ -21,9 +21,10 @@ use bus_dictionary::Dictionary;
 use bus_fcs::Check;
 use bus_line::laws::{frame_is_spelled, reports_are, settled_places};
 use bus_line::{Event, LineDecoder, PlaceLimit, Scanned};
-use bus_pairing::{Finding, Conversation, Line, Seen};
+use bus_pairing::{Conversation, Finding, Line, Seen};
 
-/// The conversation takes the event that the last bit of a line decided, if it decided one. `line` is `None` where there is
+/// The conversation takes the event that the last bit of a line decided, if it decided one. `line` is `None` where
+/// there is
 /// one line.
 #[inline(always)]
 pub(crate) fn record<C: Check>(

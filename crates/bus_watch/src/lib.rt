@@ -14,10 +14,10 @@
 #![tactic(auto)]
 
 mod analyser;
+mod decode;
 mod fault;
 mod feed;
 mod feed_all;
-mod decode;
 pub mod laws;
 mod observer;
 mod pair;

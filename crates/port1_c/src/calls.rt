@@ -15,7 +15,7 @@ use crate::lent_frame::LentFrame;
 use crate::line::Port1Line;
 use crate::report::Port1Report;
 use crate::status::{BAD_ARGUMENT, BAD_LENGTH, BAD_STATE, OK, PLACE_LIMIT};
-use bus_line::{LineFault, DecoderWords};
+use bus_line::{DecoderWords, LineFault};
 
 /// Makes a decoder in the caller's memory, whatever stands there.
 ///

@@ -18,7 +18,8 @@ IsOut start now page None text = Pages start now page.text page.written text
 IsOut start now page (Some cut) text = Cuts start now text cut.sent × (cut.sent < length text)
 
 -- these reports, told with this dictionary, lead the reporter and what the writer wrote on
-pub record ReportsSeen (d : List FrameType) (old : Reporter) (before : Option (List ℕ)) (seen : List SeenReport) (new : Reporter)
+pub record ReportsSeen (d : List FrameType) (old : Reporter) (before : Option (List ℕ)) (seen : List SeenReport)
+    (new : Reporter)
     (after : Option (List ℕ)) : Type 0 where
   pub printer : new.printer ≡ old.printer
   pub out : (start : Option (List ℕ)) (text : List ℕ) → IsOut start before old.page old.cut text

@@ -4,8 +4,8 @@ ghost use Rattle.std.specs.Prelude.{◌≡◌, ◌+◌, ◌-◌, ◌*◌, ◌/�
 ghost use Rattle.bus_bits.specs.Octet.{bits_of, octets};
 
 use crate::decoder::settled::Data;
-use crate::frame_buffer::FrameBuffer;
 use crate::decoder_words::DecoderWords;
+use crate::frame_buffer::FrameBuffer;
 use bus_bits::Spent;
 use bus_fcs::Check;
 use std::cmp::min;

@@ -8,8 +8,8 @@ ghost use Rattle.bus_line.specs.Report.{Abort};
 
 use crate::cause::Cause;
 use crate::decoder::ended_mark::{EndedMark, ended_mark};
-use crate::event::{Event, EventKind};
 use crate::decoder_words::{DecoderWords, NEVER};
+use crate::event::{Event, EventKind};
 use bus_bits::Span;
 use bus_fcs::Check;
 

@@ -6,8 +6,8 @@ ghost use Rattle.bus_bits.specs.Limits.{most_places};
 ghost use Rattle.bus_bits.specs.Octet.{bits_of};
 
 use crate::decoder::time_fill::up_to_six;
-use crate::frame_buffer::FrameBuffer;
 use crate::decoder_words::DecoderWords;
+use crate::frame_buffer::FrameBuffer;
 use bus_bits::seven_octets_at;
 use bus_fcs::Check;
 

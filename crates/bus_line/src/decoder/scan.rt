@@ -8,8 +8,8 @@ ghost use Rattle.bus_bits.specs.Limits.{most_places};
 ghost use Rattle.bus_bits.specs.Octet.{bits_of};
 
 use crate::decoder::time_fill::{flags_end, ones_end};
-use crate::frame_buffer::FrameBuffer;
 use crate::decoder_words::{DecoderWords, NEVER, PLACES};
+use crate::frame_buffer::FrameBuffer;
 use crate::place_limit::PlaceLimit;
 use crate::scanned::Scanned;
 use bus_bits::{seven_octets_at, word_at};
@@ -206,7 +206,12 @@ impl DecoderWords {
 
     /// Takes time fill, 56 bits at a time where 64 are left: ones where no piece is open, or flags after a flag.
     #[inline(always)]
-    pub(crate) fn skip_time_fill<C: Check>(&mut self, octets: &[u8], from: usize, end: usize) -> usize
+    pub(crate) fn skip_time_fill<C: Check>(
+        &mut self,
+        octets: &[u8],
+        from: usize,
+        end: usize,
+    ) -> usize
         requires within { IsWithin self.old }
         requires some { from ≤ end }
         requires enough { end ≤ 8 * length octets.now }

@@ -10,9 +10,9 @@ ghost use Rattle.bus_line.specs.Due.{current};
 
 use crate::decoder::settled::data_in_word;
 use crate::decoder::stop::bits_before_stop;
+use crate::decoder_words::{DecoderWords, PLACES};
 use crate::event::Event;
 use crate::frame_buffer::FrameBuffer;
-use crate::decoder_words::{DecoderWords, PLACES};
 use crate::place_limit::PlaceLimit;
 use crate::scanned::Scanned;
 use bus_bits::Word;

@@ -2,8 +2,8 @@
 
 ghost use Rattle.std.specs.Prelude.{◌≡◌, ◌+◌, ◌<◌, ◌^◌, Some, None, option_map, if◌then◌else◌};
 
-use crate::counts::Counts;
 use crate::conversation::Conversation;
+use crate::counts::Counts;
 use crate::line::Line;
 use crate::outcome::Outcome;
 use crate::pairing::verdict;

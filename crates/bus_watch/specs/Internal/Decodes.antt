@@ -1,5 +1,6 @@
 -- Bits on one line, and what a conversation makes of them.
-use Rattle.std.specs.Prelude.{◌≡◌, ℕ, ◌+◌, ◌-◌, ◌≤◌, ◌^◌, Bool, true, false, List, ◌++◌, length, map, Option, Some, None}
+use Rattle.std.specs.Prelude.{◌≡◌, ℕ, ◌+◌, ◌-◌, ◌≤◌, ◌^◌, Bool, true, false, List, ◌++◌, length, map, Option, Some}
+use Rattle.std.specs.Prelude.{None}
 use Rattle.std.specs.Prelude.{option_map}
 use Rattle.std.specs.List.{sum_by}
 use Rattle.std.specs.Option.{option_to_list}
@@ -43,7 +44,8 @@ told_on line octets is_decided last = option_map (found_on line octets) (newest 
 abbrev pub line_reports_of : Option Line → Option Report → List LineReport
 line_reports_of line o = map (line_report line) (option_to_list o)
 
--- these bits on a line lead a decoder and a conversation on; the last of them decides what is told, and no other decides a
+-- these bits on a line lead a decoder and a conversation on; the last of them decides what is told, and no other
+-- decides a
 -- report
 pub record Decodes {C : Type 0} (view : CheckView C) (line : Option Line) (old : LineState C)
     (before : ConversationState) (bits : List Bool) (told : Option SeenReport)
@@ -73,7 +75,8 @@ pub record DecodesMany {C : Type 0} (view : CheckView C) (line : Option Line) (o
   pub few : length seen_now ≤ length bits
   pub told : is_told seen_now
 
--- a decoder stands after some list of bits, and a conversation after what is reported on its line in these and after no more of
+-- a decoder stands after some list of bits, and a conversation after what is reported on its line in these and after no
+-- more of
 -- another line than 2^60 bits may hold
 pub record KeepsUp {C : Type 0} (view : CheckView C) (d : LineState C) (j : ConversationState)
     : Type 0 where

@@ -10,8 +10,8 @@ ghost use Rattle.bus_pairing.specs.Shown.{begun_span, IsKeepable};
 
 mod scan;
 
-use crate::fault::NewFault;
 use crate::decode::{begun_span, decode_bit, lent};
+use crate::fault::NewFault;
 use crate::laws::{pairs_grow, steps_are_bounded};
 use crate::pair::seen::PairSeen;
 use bus_bits::Spent;
@@ -19,7 +19,7 @@ use bus_dictionary::Dictionary;
 use bus_fcs::Check;
 use bus_line::laws::{reports_grow, settled_places};
 use bus_line::{LineDecoder, LineFault, PlaceLimit};
-use bus_pairing::{Counts, Finding, Conversation, Line, PairEnding, PairKept};
+use bus_pairing::{Conversation, Counts, Finding, Line, PairEnding, PairKept};
 use std::alloc::Global;
 use std::marker::Model;
 

@@ -90,7 +90,11 @@ impl<C: Check> PairAnalyser<C> {
     }
 
     /// Takes a pair, and hands the sink what is seen at it.
-    fn feed_pair<S: PairSink>(&mut self, pair: (bool, bool), sink: &mut S) -> Result<(), SinkRefused>
+    fn feed_pair<S: PairSink>(
+        &mut self,
+        pair: (bool, bool),
+        sink: &mut S,
+    ) -> Result<(), SinkRefused>
         requires place { self.old.first.place < most_places }
         requires refusals { S.sink.refusals sink.old < 2 ^ 64 - 2 }
         ensures fed { OnOk result

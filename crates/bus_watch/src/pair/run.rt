@@ -49,7 +49,8 @@ pub fn run_pairs<C: Check, S: PairSink>(
     requires { S.sink.refusals sink.old < 2 ^ 64 - 2 }
     ensures headline { IfOk result (λ run.
         (reports : List SeenReport) × (S.sink.taken sink.new ≡ told (S.sink.taken sink.old) reports)
-        × PairHeadline C.check.cost dictionary depth origin pairs.now reports run.analyser.conversation.history run.usage) }
+        × PairHeadline C.check.cost dictionary depth origin pairs.now reports run.analyser.conversation.history
+        run.usage) }
     ensures is_after { IfOk result (λ run. IsAfterPairs C.check run.analyser pairs.now) }
     ensures within_limits { OnOk result (CanBeMade depth origin × (origin + length pairs.now ≤ most_places)) }
     ensures none_refused { OnOk result (SinkTook S.sink 0 sink.old sink.new) }

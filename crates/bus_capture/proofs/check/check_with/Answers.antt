@@ -14,7 +14,8 @@ returns-in_err-reader g c =
     (g.W.Write.contents c.args.w.now) c.in_err-reader.field-0.0 c.in_err-reader.ensures.made (appends_nothing _) in
     rw (failed.1, failed.2) (record {
       checked = ([], consumes_nothing _, checks);
-      known = known-checks g.T.CaptureKind.kind.form c.laws.ensures.form c.args.o.now _ _ _ _ [] (Err c.in_err-reader.field-0.0)
+      known = known-checks g.T.CaptureKind.kind.form c.laws.ensures.form c.args.o.now _ _ _ _ []
+          (Err c.in_err-reader.field-0.0)
           (consumes_nothing (g.R.Read.remaining c.args.r.now)) checks;
     })
 
@@ -26,12 +27,14 @@ returns g c =
     let made = c.in_ok-reader.ensures.made in
     let given = c.in_ok-reader.ensures.given in
     let read = c.in_ok-read_to_end.ensures.read in
-    let asked = checked g.T.CaptureKind.kind o made.0 c.in_ok-reader.reader.run w given.1 made.2 c.read_to_end.ensures.same in
+    let asked = checked g.T.CaptureKind.kind o made.0 c.in_ok-reader.reader.run w given.1 made.2
+    c.read_to_end.ensures.same in
     let checks = ends-checks g.T.CaptureKind.kind o made.0 (is_text c.in_ok-reader.reader.source)
     (g.R.Read.remaining c.read_to_end.new.r) start _ _ w read.0 c.report.result c.laws.ensures made.1 asked given.0
     read.2
     (c.report.ensures start
-    (whole_capture g.T.CaptureKind.kind.form (is_text c.in_ok-reader.reader.source) (g.T.CaptureKind.kind.watch.origin w.analyser)
+    (whole_capture g.T.CaptureKind.kind.form (is_text c.in_ok-reader.reader.source)
+    (g.T.CaptureKind.kind.watch.origin w.analyser)
     read.0).bits read.2.bits) in
     record {
       checked = (read.0, read.1, checks);
@@ -49,7 +52,8 @@ returns-in_err-read_to_end g c =
     let made = c.in_ok-reader.ensures.made in
     let given = c.in_ok-reader.ensures.given in
     let read = c.in_err-read_to_end.ensures.read in
-    let asked = checked g.T.CaptureKind.kind o made.0 c.in_ok-reader.reader.run w given.1 made.2 c.read_to_end.ensures.same in
+    let asked = checked g.T.CaptureKind.kind o made.0 c.in_ok-reader.reader.run w given.1 made.2
+    c.read_to_end.ensures.same in
     let checks = stops-checks g.T.CaptureKind.kind o made.0 (is_text c.in_ok-reader.reader.source)
     (g.R.Read.remaining c.read_to_end.new.r) start _ w read.0 c.in_err-read_to_end.field-0.0 made.1 asked given.0
     read.2 in

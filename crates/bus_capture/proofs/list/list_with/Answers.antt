@@ -15,7 +15,8 @@ returns-in_err-reader g c =
     (g.W.Write.contents c.args.w.now) c.in_err-reader.field-0.0 c.in_err-reader.ensures.made (appends_nothing _) in
     rw (failed.1, failed.2) (record {
       listed = ([], consumes_nothing _, lists);
-      known = known-lists g.T.CaptureKind.kind.form c.laws.ensures.form c.args.o.now _ _ _ _ [] (Err c.in_err-reader.field-0.0)
+      known = known-lists g.T.CaptureKind.kind.form c.laws.ensures.form c.args.o.now _ _ _ _ []
+          (Err c.in_err-reader.field-0.0)
           (consumes_nothing (g.R.Read.remaining c.args.r.now)) lists;
     })
 
@@ -28,11 +29,13 @@ returns-in-Ok g c =
     let given = c.in_ok-reader.ensures.given in
     let read = c.in-Ok.ensures.read in
     let printer : c.in_ok-reader.reader.run.reporter.printer ≡ Some (printer_of o) = given.1 ∙ ap Some c.of.ensures in
-    let asked = listed g.T.CaptureKind.kind o made.0 c.in_ok-reader.reader.run w printer made.2 c.read_to_end.ensures.same in
+    let asked = listed g.T.CaptureKind.kind o made.0 c.in_ok-reader.reader.run w printer made.2
+    c.read_to_end.ensures.same in
     let lists = ends-lists g.T.CaptureKind.kind o made.0 (is_text c.in_ok-reader.reader.source)
     (g.R.Read.remaining c.read_to_end.new.r) start _ _ w read.0 c.end.result c.laws.ensures made.1 asked given.0 read.2
     (c.end.ensures start
-    (whole_capture g.T.CaptureKind.kind.form (is_text c.in_ok-reader.reader.source) (g.T.CaptureKind.kind.watch.origin w.analyser)
+    (whole_capture g.T.CaptureKind.kind.form (is_text c.in_ok-reader.reader.source)
+    (g.T.CaptureKind.kind.watch.origin w.analyser)
     read.0).bits read.2.bits) in
     record {
       listed = (read.0, read.1, lists);
@@ -49,7 +52,8 @@ returns-in-Err g c =
     let given = c.in_ok-reader.ensures.given in
     let read = c.in-Err.ensures.read in
     let printer : c.in_ok-reader.reader.run.reporter.printer ≡ Some (printer_of o) = given.1 ∙ ap Some c.of.ensures in
-    let asked = listed g.T.CaptureKind.kind o made.0 c.in_ok-reader.reader.run w printer made.2 c.read_to_end.ensures.same in
+    let asked = listed g.T.CaptureKind.kind o made.0 c.in_ok-reader.reader.run w printer made.2
+    c.read_to_end.ensures.same in
     let lists = stops-lists g.T.CaptureKind.kind o made.0 (is_text c.in_ok-reader.reader.source)
     (g.R.Read.remaining c.read_to_end.new.r) start _ _ w read.0 c.in-Err.fault c.close_behind.result
     c.laws.ensures made.1 asked given.0 read.2 c.close_behind.ensures.cut c.close_behind.ensures.closed in

@@ -20,7 +20,8 @@ returns-in_err-analyse_bits-clause-taken g c =
       packed.result.taken,
       packed.ensures.enough,
       mark-taken kind start _ c.analyse_bits.new.run (xs ++ take packed.result.taken c.args.text.now)
-          (b ++ bits_from packed.new.block 0 packed.result.count) (Err c.in_err-analyse_bits.field-0.0) low given.0 given.1
+          (b ++ bits_from packed.new.block 0 packed.result.count) (Err c.in_err-analyse_bits.field-0.0) low given.0
+          given.1
           (c.in_err-analyse_bits.ensures.taken start b followed.bits),
     ))
 

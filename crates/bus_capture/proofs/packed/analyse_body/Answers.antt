@@ -27,7 +27,8 @@ returns-in_err-taken-clause-taken g c =
 pub loop-taken-preserved : goal.loop-taken-preserved
 loop-taken-preserved g c = record {
   sound = c.analyse_some.ensures.sound;
-  same = same-both g.T.CaptureKind.kind c.args.run.now c.loop-taken.run c.analyse_some.new.run c.loop-taken.invariant.same
+  same = same-both g.T.CaptureKind.kind c.args.run.now c.loop-taken.run c.analyse_some.new.run
+      c.loop-taken.invariant.same
       c.analyse_some.ensures.same;
   front = λ start xs followed.
       let os = c.args.octets.now in

@@ -26,7 +26,8 @@ returns-clause-taken g c = λ start xs followed.
     let many = c.analyse_packed.new in
     let here = none-read kind start (g.W.Write.contents many.w) many.run many.body xs c.args.octets.now
     c.in_ok-taken.taken (omega (arith, c.if-taken-gt0.false)) (c.in_ok-taken.ensures.taken start xs followed) in
-    subst (FollowsBody kind start (g.W.Write.contents c.decode_octet.new.w) c.decode_octet.new.body c.decode_octet.new.run)
+    subst (FollowsBody kind start (g.W.Write.contents c.decode_octet.new.w) c.decode_octet.new.body
+    c.decode_octet.new.run)
     (first-octet xs c.args.octets.now c.requires.some)
     (c.in_ok-decode_octet.ensures.taken start xs here)
 
@@ -40,10 +41,12 @@ returns-then-taken-gt0-clause-taken g c = c.in_ok-taken.ensures.taken
 
 pub returns-in_err-decode_octet-clause-same : goal.returns-in_err-decode_octet-clause-same
 returns-in_err-decode_octet-clause-same g c =
-    same-both g.T.CaptureKind.kind c.args.run.now c.analyse_packed.new.run c.decode_octet.new.run c.analyse_packed.ensures.same
+    same-both g.T.CaptureKind.kind c.args.run.now c.analyse_packed.new.run c.decode_octet.new.run
+    c.analyse_packed.ensures.same
     c.decode_octet.ensures.same
 
 pub returns-clause-same : goal.returns-clause-same
 returns-clause-same g c =
-    same-both g.T.CaptureKind.kind c.args.run.now c.analyse_packed.new.run c.decode_octet.new.run c.analyse_packed.ensures.same
+    same-both g.T.CaptureKind.kind c.args.run.now c.analyse_packed.new.run c.decode_octet.new.run
+    c.analyse_packed.ensures.same
     c.decode_octet.ensures.same

@@ -24,7 +24,8 @@ returns-in_err-analyse_symbol-clause-taken g c =
 pub loop-symbol-preserved : goal.loop-symbol-preserved
 loop-symbol-preserved g c = record {
   sound = c.analyse_symbol.ensures.sound;
-  same = same-both g.T.CaptureKind.kind c.args.run.now c.loop-symbol.run c.analyse_symbol.new.run c.loop-symbol.invariant.same
+  same = same-both g.T.CaptureKind.kind c.args.run.now c.loop-symbol.run c.analyse_symbol.new.run
+      c.loop-symbol.invariant.same
       c.analyse_symbol.ensures.same;
   followed = λ start b followed.
       let all = c.args.symbols.now in
@@ -32,7 +33,8 @@ loop-symbol-preserved g c = record {
       let x = c.symbol-item.result in
       subst (Watches g.T.CaptureKind.kind start (g.W.Write.contents c.analyse_symbol.new.w) c.analyse_symbol.new.run)
       (item-next b all i x x c.loop-symbol-test.true c.symbol-item.is)
-      (c.in_ok-analyse_symbol.ensures.taken start (b ++ take i all) (c.loop-symbol.invariant.followed start b followed));
+      (c.in_ok-analyse_symbol.ensures.taken start (b ++ take i all)
+      (c.loop-symbol.invariant.followed start b followed));
 }
 
 pub returns-clause-taken : goal.returns-clause-taken

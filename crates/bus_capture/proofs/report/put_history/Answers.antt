@@ -12,7 +12,8 @@ pub returns-in_err-put_last-clause-put : goal.returns-in_err-put_last-clause-put
 returns-in_err-put_last-clause-put g c =
     let failed = err_from_is_err_and c.from_residual.result c.from_residual.ensures.1 in
     rw (failed.1, failed.2) (λ start text b is_after p.
-    let h = history (g.T.CaptureKind.kind.watch.depth c.args.analyser.now) (reports_by g.T.CaptureKind.kind.watch c.args.analyser.now b) in
+    let h = history (g.T.CaptureKind.kind.watch.depth c.args.analyser.now)
+    (reports_by g.T.CaptureKind.kind.watch c.args.analyser.now b) in
     let two = g.T.CaptureKind.kind.form.is_two in
     let i = c.loop-i.i in
     let here = frame-at h i (omega (arith, c.loop-i-test.true, c.history_len-i-end.ensures.value b is_after)) in
@@ -38,7 +39,8 @@ loop-i-preserved g c = record {
 
 pub returns-clause-put : goal.returns-clause-put
 returns-clause-put g c = λ start text b is_after p.
-    let h = history (g.T.CaptureKind.kind.watch.depth c.args.analyser.now) (reports_by g.T.CaptureKind.kind.watch c.args.analyser.now b) in
+    let h = history (g.T.CaptureKind.kind.watch.depth c.args.analyser.now)
+    (reports_by g.T.CaptureKind.kind.watch c.args.analyser.now b) in
     let whole : take c.loop-i.i h ≡ h =
     take_all c.loop-i.i h (omega (arith, c.loop-i-test.false, c.history_len-i-end.ensures.value b is_after)) in
     subst (λ (l : List KeptFrame). Pages start (g.W.Write.contents c.loop-i.w) c.loop-i.page.text c.loop-i.page.written

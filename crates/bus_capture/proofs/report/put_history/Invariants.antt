@@ -16,5 +16,6 @@ invariant-loop-i g l = record {
       Pages start (g.W.Write.contents l.fn.w) l.fn.page.text l.fn.page.written text
       → Pages start (g.W.Write.contents l.w) l.page.text l.page.written
       (text ++ history_text g.T.CaptureKind.kind.form.is_two
-      (take l.i (history (g.T.CaptureKind.kind.watch.depth l.analyser) (reports_by g.T.CaptureKind.kind.watch l.analyser b))));
+      (take l.i (history (g.T.CaptureKind.kind.watch.depth l.analyser)
+      (reports_by g.T.CaptureKind.kind.watch l.analyser b))));
 }

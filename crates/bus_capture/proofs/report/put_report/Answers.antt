@@ -15,7 +15,8 @@ returns-in_err-put_summary-clause-put g c =
     rw (failed.1, failed.2) (λ start text b is_after p.
     let a = c.args.analyser.now in
     let s = summary_text c.args.summary.now in
-    let t = tallies_text (tally (g.T.CaptureKind.kind.watch.dictionary a) (reports_by g.T.CaptureKind.kind.watch a b)) 256 in
+    let t = tallies_text (tally (g.T.CaptureKind.kind.watch.dictionary a) (reports_by g.T.CaptureKind.kind.watch a b))
+    256 in
     let h = history_text g.T.CaptureKind.kind.form.is_two
     (history (g.T.CaptureKind.kind.watch.depth a) (reports_by g.T.CaptureKind.kind.watch a b)) in
     let cut = c.in_err-put_summary.ensures.put start text p in
@@ -31,7 +32,8 @@ returns-in_err-put_tallies-clause-put g c =
     rw (failed.1, failed.2) (λ start text b is_after p.
     let a = c.args.analyser.now in
     let s = summary_text c.args.summary.now in
-    let t = tallies_text (tally (g.T.CaptureKind.kind.watch.dictionary a) (reports_by g.T.CaptureKind.kind.watch a b)) 256 in
+    let t = tallies_text (tally (g.T.CaptureKind.kind.watch.dictionary a) (reports_by g.T.CaptureKind.kind.watch a b))
+    256 in
     let h = history_text g.T.CaptureKind.kind.form.is_two
     (history (g.T.CaptureKind.kind.watch.depth a) (reports_by g.T.CaptureKind.kind.watch a b)) in
     let first = c.in_ok-put_summary.ensures.put start text p in
@@ -45,7 +47,8 @@ pub returns-clause-put : goal.returns-clause-put
 returns-clause-put g c = λ start text b is_after p.
     let a = c.args.analyser.now in
     let s = summary_text c.args.summary.now in
-    let t = tallies_text (tally (g.T.CaptureKind.kind.watch.dictionary a) (reports_by g.T.CaptureKind.kind.watch a b)) 256 in
+    let t = tallies_text (tally (g.T.CaptureKind.kind.watch.dictionary a) (reports_by g.T.CaptureKind.kind.watch a b))
+    256 in
     let h = history_text g.T.CaptureKind.kind.form.is_two
     (history (g.T.CaptureKind.kind.watch.depth a) (reports_by g.T.CaptureKind.kind.watch a b)) in
     let now = g.W.Write.contents c.put_history.new.w in

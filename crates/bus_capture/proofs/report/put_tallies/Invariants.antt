@@ -15,5 +15,6 @@ invariant-loop-station g l = record {
       Pages start (g.W.Write.contents l.fn.w) l.fn.page.text l.fn.page.written text
       → Pages start (g.W.Write.contents l.w) l.page.text l.page.written
       (text ++ tallies_text
-      (tally (g.T.CaptureKind.kind.watch.dictionary l.analyser) (reports_by g.T.CaptureKind.kind.watch l.analyser b)) l.station);
+      (tally (g.T.CaptureKind.kind.watch.dictionary l.analyser) (reports_by g.T.CaptureKind.kind.watch l.analyser b))
+      l.station);
 }

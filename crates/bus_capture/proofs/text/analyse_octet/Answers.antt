@@ -21,7 +21,8 @@ returns-in-Ok-Some-clause-taken g c =
     let fits = followed-fits kind c.laws.ensures start _ c.args.run.now b c.requires f.bits in
     let low : kind.watch.origin c.analyse_symbol.new.run.analyser ≤ 2 ^ 60 =
     omega (arith, fits, c.analyse_symbol.ensures.same.origin) in
-    mark-taken kind start _ c.analyse_symbol.new.run more (b ++ c.in-Ok-Some.symbol ∷ []) c.analyse_symbol.result low given.0
+    mark-taken kind start _ c.analyse_symbol.new.run more (b ++ c.in-Ok-Some.symbol ∷ []) c.analyse_symbol.result low
+    given.0
     given.1 (c.analyse_symbol.ensures.taken start b f.bits)
 
 pub returns-in-Ok-None-clause-taken : goal.returns-in-Ok-None-clause-taken
@@ -45,6 +46,7 @@ returns-in-Err-clause-taken g c =
     λ start xs at f.
     let kind = g.T.CaptureKind.kind in
     let given = c.in-Err.ensures xs f.clean in
-    fault-in kind c.laws.ensures start _ c.args.run.now (kind.form.text (xs ++ c.args.octet ∷ [])) (kind.form.text xs).bits
+    fault-in kind c.laws.ensures start _ c.args.run.now (kind.form.text (xs ++ c.args.octet ∷ []))
+    (kind.form.text xs).bits
     (bad_mark (length xs)) (fault.BadMark c.args.at)
     c.requires (sym (ap bad_mark at)) given.1 given.0 f.bits

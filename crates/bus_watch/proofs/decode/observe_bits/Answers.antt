@@ -3,7 +3,8 @@ use Rattle.std.specs.Option.{is_some, option_to_list}
 use Rattle.bus_bits.specs.Bits.{bits_from}
 use Rattle.bus_bits.proofs.BitLemmas.{length-from}
 use Rattle.bus_watch.specs.Internal.Decodes.{newest, told_on}
-use Rattle.bus_watch.proofs.DecodesLemmas.{bits-met, bits-none, decodes-nothing, decodes-more, keeps_up-more, keeps_up-room}
+use Rattle.bus_watch.proofs.DecodesLemmas.{bits-met, bits-none, decodes-nothing, decodes-more, keeps_up-more}
+use Rattle.bus_watch.proofs.DecodesLemmas.{keeps_up-room}
 use Rattle.bus_watch.proofs.decode.observe_bits.Goals as goal
 
 pub loop-at-init : goal.loop-at-init
@@ -27,7 +28,8 @@ record-requires-clause-decided g c =
     let bits = keeps_up.bits ++ next in
     let last : length keeps_up.bits + n - 1 ≡ length bits - 1 =
     omega (arith, length-append keeps_up.bits next, length-from c.args.octets.now c.loop-at.at n) in
-    record { bits = bits; due = rw (led.longest, led.origin, ← last) (c.in-Ok.ensures.answer keeps_up.bits keeps_up.after) }
+    record { bits = bits; due = rw (led.longest, led.origin, ← last)
+    (c.in-Ok.ensures.answer keeps_up.bits keeps_up.after) }
 
 pub record-requires-clause-room : goal.record-requires-clause-room
 record-requires-clause-room g c =
@@ -77,10 +79,12 @@ loop-at-preserved g c =
       some = omega (arith, before.some);
       within = omega (arith, c.in-Ok.ensures.count.1, c.loop-at-test.true);
       reports = rw (bits-met c.args.octets.now c.args.from i n before.some)
-          (decodes-more view line c.args.decoder.now c.loop-at.decoder new c.args.conversation.now c.loop-at.conversation after
+          (decodes-more view line c.args.decoder.now c.loop-at.decoder new c.args.conversation.now
+          c.loop-at.conversation after
           (bits_from c.args.octets.now c.args.from (i - c.args.from)) bits last _ _
           (omega (arith, length-from c.args.octets.now i n, c.in-Ok.ensures.count.0)) before.reports decoded
-          (g.met.L.ReportObserver.observes_more c.args.conversation.now.dictionary c.args.observer.now c.loop-at.observer
+          (g.met.L.ReportObserver.observes_more c.args.conversation.now.dictionary c.args.observer.now
+          c.loop-at.observer
           c.show.new.observer c.args.out.now c.loop-at.out c.show.new.out before.reports.seen_now (option_to_list last)
           before.reports.told told));
       left = λ more room.
@@ -88,7 +92,8 @@ loop-at-preserved g c =
           c.show.ensures.left left
           (g.met.L.ReportObserver.has_less c.loop-at.observer (c.args.past - i + more) (1 + left)
           (omega (arith, c.in-Ok.ensures.count, c.loop-at-test.true)) (before.left more room));
-      keeps_up = keeps_up-more view line c.loop-at.decoder new c.loop-at.conversation after bits last before.keeps_up decoded;
+      keeps_up = keeps_up-more view line c.loop-at.decoder new c.loop-at.conversation after bits last before.keeps_up
+          decoded;
     }
 
 pub returns-clause-observes : goal.returns-clause-observes

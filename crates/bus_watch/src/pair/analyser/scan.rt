@@ -6,8 +6,8 @@ ghost use Rattle.bus_bits.specs.Limits.{most_places};
 ghost use Rattle.bus_watch.specs.Watch.{LeadsTold};
 ghost use Rattle.bus_watch.specs.Pairs.{two_lines};
 
-use crate::feed::PLACES;
 use crate::decode::{newest, observe_bits, record, show};
+use crate::feed::PLACES;
 use crate::observer::ReportObserver;
 use crate::pair::analyser::PairAnalyser;
 use bus_fcs::Check;

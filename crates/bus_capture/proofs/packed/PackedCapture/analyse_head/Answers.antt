@@ -51,7 +51,8 @@ returns-in_err-body-clause-taken g c =
     Watches kind start (g.W.Write.contents c.args.w.now) c.args.run.now d.bits) (c.laws.ensures.form.short xs read.1).0
     followed.bits in
     faulty-stops kind start _ c.args.run.now _ fault
-    (fault-in kind c.laws.ensures start _ c.args.run.now (kind.form.packed (xs ++ os)) [] (head_fault_of refused.0) fault
+    (fault-in kind c.laws.ensures start _ c.args.run.now (kind.form.packed (xs ++ os)) [] (head_fault_of refused.0)
+    fault
     c.requires.sound refused.1 (ap (λ (d : CaptureOf g.row.T-Symbol.Denot). d.bits) is)
     (ap (λ (d : CaptureOf g.row.T-Symbol.Denot). d.fault) is) none))
 
@@ -76,7 +77,8 @@ returns-clause-taken g c =
       bits = subst (Watches kind start (g.W.Write.contents c.args.w.now) c.args.run.now) (sym made.1) none;
     } in
     body-packed kind start _ c.analyse_body-ending.new.run
-    (record { head = c.gather-2.new.self.head; body = Some c.analyse_body-ending.new.body }) c.analyse_body-ending.new.body
+    (record { head = c.gather-2.new.self.head; body = Some c.analyse_body-ending.new.body })
+    c.analyse_body-ending.new.body
     (h ++ take (length os - (16 - n)) (drop (16 - n) os)) (xs ++ os) c.analyse_body-ending.result refl
     (ap (λ (ys : List ℕ). h ++ ys) (slice-rest (16 - n) os) ∙ filled.1)
     (c.analyse_body-ending.ensures.taken start h body)

@@ -20,13 +20,16 @@ returns-in_err-write_out-clause-taken g c =
     c.analyse.ensures.sound
     (follows-unplaced g.T.CaptureKind.kind start _ c.analyse.new.self.source c.analyse.new.self.run ys law taken) in
     let here =
-    subst (λ (b : Bool). IsClean g.T.CaptureKind.kind b start (g.W.Write.contents c.analyse.new.w) c.analyse.new.self.run ys)
+    subst (λ (b : Bool). IsClean g.T.CaptureKind.kind b start (g.W.Write.contents c.analyse.new.w)
+    c.analyse.new.self.run ys)
     c.analyse.ensures.text clean in
     let bits =
-    (capture g.T.CaptureKind.kind.form (is_text c.args.self.now.source) (g.T.CaptureKind.kind.watch.origin c.analyse.new.self.run.analyser)
+    (capture g.T.CaptureKind.kind.form (is_text c.args.self.now.source)
+    (g.T.CaptureKind.kind.watch.origin c.analyse.new.self.run.analyser)
     ys).bits in
     is-cut g.T.CaptureKind.kind start _
-    (record c.analyse.new.self.run { reporter = record c.analyse.new.self.run.reporter { page = c.write_out.new.self } }) bits _
+    (record c.analyse.new.self.run
+    { reporter = record c.analyse.new.self.run.reporter { page = c.write_out.new.self } }) bits _
     (c.in_err-write_out.ensures.turned start (lines g.T.CaptureKind.kind c.analyse.new.self.run bits) here.bits.page)
     (cut-short start _ _ _ (lines g.T.CaptureKind.kind c.analyse.new.self.run bits) _ here.bits.page
     c.in_err-write_out.ensures.short))

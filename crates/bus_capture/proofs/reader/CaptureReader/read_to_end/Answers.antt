@@ -15,13 +15,15 @@ returns-in-Ok-eq0-clause-read g c =
     let self = c.loop-turn.self in
     let law = c.laws.ensures in
     let after = g.R.Read.remaining c.read.new.self in
-    let ends = end-finishes g.T.CaptureKind.kind law (is_text self.source) c.args.reads after start now self.run before.0
+    let ends = end-finishes g.T.CaptureKind.kind law (is_text self.source) c.args.reads after start now self.run
+    before.0
     c.finish.result c.loop-turn.invariant.sound (search rules)
     (follows-unplaced g.T.CaptureKind.kind start now self.source self.run before.0 law before.2)
     (c.finish.ensures before.0 (read-by g.T.CaptureKind.kind start now self.source self.run before.0 before.2)) in (
       before.0,
       consumes_end _ _ after before.0 _ (search rules) before.1 c.in-Ok-eq0.ensures.bytes.0,
-      subst (λ (b : Bool). Finishes g.T.CaptureKind.kind b c.args.reads after start now self.run before.0 c.finish.result)
+      subst (λ (b : Bool). Finishes g.T.CaptureKind.kind b c.args.reads after start now self.run before.0
+      c.finish.result)
           c.loop-turn.invariant.text ends,
     )
 
@@ -32,7 +34,8 @@ returns-in-Err-clause-read g c =
     let now = g.W.Write.contents c.loop-turn.w in
     let self = c.loop-turn.self in
     let law = c.laws.ensures in
-    let clean = is-clean g.T.CaptureKind.kind law (is_text self.source) start now self.run before.0 c.loop-turn.invariant.sound
+    let clean = is-clean g.T.CaptureKind.kind law (is_text self.source) start now self.run before.0
+    c.loop-turn.invariant.sound
     (follows-unplaced g.T.CaptureKind.kind start now self.source self.run before.0 law before.2) in (
       before.0,
       consumes_kept _ _ _ _ before.1 c.in-Err.ensures.bytes,
@@ -47,12 +50,14 @@ returns-in_err-analyse_read-clause-read g c =
     let now = g.W.Write.contents c.analyse_read.new.w in
     let xs = before.0 ++ take c.in-Ok.count c.read.new.buf in
     let stops =
-    subst (λ (b : Bool). Stops g.T.CaptureKind.kind b start now c.analyse_read.new.self.run xs c.in_err-analyse_read.field-0.0)
+    subst (λ (b : Bool). Stops g.T.CaptureKind.kind b start now c.analyse_read.new.self.run xs
+    c.in_err-analyse_read.field-0.0)
     c.loop-turn.invariant.text (c.in_err-analyse_read.ensures.taken start before.0 before.2) in
     rw (failed.1, failed.2) (
       xs,
       consumes_both _ _ _ before.0 _ before.1 c.in-Ok.ensures.bytes.0,
-      stops-finishes g.T.CaptureKind.kind (is_text c.args.self.now.source) c.args.reads (g.R.Read.remaining c.read.new.self)
+      stops-finishes g.T.CaptureKind.kind (is_text c.args.self.now.source) c.args.reads
+      (g.R.Read.remaining c.read.new.self)
           start now c.analyse_read.new.self.run xs c.in_err-analyse_read.field-0.0 stops,
     )
 
@@ -79,12 +84,14 @@ returns-clause-read g c =
     let now = g.W.Write.contents c.loop-turn.w in
     let self = c.loop-turn.self in
     let law = c.laws.ensures in
-    let clean = is-clean g.T.CaptureKind.kind law (is_text self.source) start now self.run before.0 c.loop-turn.invariant.sound
+    let clean = is-clean g.T.CaptureKind.kind law (is_text self.source) start now self.run before.0
+    c.loop-turn.invariant.sound
     (follows-unplaced g.T.CaptureKind.kind start now self.source self.run before.0 law before.2) in (
       before.0,
       before.1,
       (
         omega (arith, before.3, c.loop-turn-test.false),
-        subst (λ (b : Bool). IsClean g.T.CaptureKind.kind b start now self.run before.0) c.loop-turn.invariant.text clean,
+        subst (λ (b : Bool). IsClean g.T.CaptureKind.kind b start now self.run before.0) c.loop-turn.invariant.text
+        clean,
       ),
     )

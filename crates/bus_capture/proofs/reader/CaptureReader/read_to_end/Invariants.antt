@@ -13,6 +13,7 @@ invariant-loop-turn g l = record {
   text : is_text l.self.source ≡ is_text l.initial.self.source;
   few : octets_taken l.self.source ≤ 16384 * l._turn;
   taken : (xs : List ℕ) × Consumes (g.R.Read.remaining l.initial.r) (g.R.Read.remaining l.r) xs
-      × Follows g.T.CaptureKind.kind (g.W.Write.contents l.initial.w) (g.W.Write.contents l.w) l.self.source l.self.run xs
+      × Follows g.T.CaptureKind.kind (g.W.Write.contents l.initial.w) (g.W.Write.contents l.w) l.self.source l.self.run
+      xs
       × (l._turn ≤ length xs);
 }

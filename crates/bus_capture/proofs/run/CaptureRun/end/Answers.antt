@@ -20,7 +20,8 @@ returns g c =
       | in-Some x ↦ pages-ended kind start _ w b x.in-Some.printer c.make_room.new.self x.put_ending.new.page
           c.match-printer.page x.in-Some.is x.page-is (x.put_ending.ensures.bytes b followed.is_after)
           x.put_ending.ensures.written turned
-      | in_default x ↦ pages-unended kind start _ w b c.make_room.new.self c.match-printer.page x.in_default.is x.page-is
+      | in_default x ↦ pages-unended kind start _ w b c.make_room.new.self c.match-printer.page x.in_default.is
+          x.page-is
           turned
     ] in
     (c.in_ok-close.ensures.closed start text page, refl)
@@ -39,7 +40,8 @@ returns-in_err-close g c =
       | in-Some x ↦ pages-ended kind start _ w b x.in-Some.printer c.make_room.new.self x.put_ending.new.page
           c.match-printer.page x.in-Some.is x.page-is (x.put_ending.ensures.bytes b followed.is_after)
           x.put_ending.ensures.written turned
-      | in_default x ↦ pages-unended kind start _ w b c.make_room.new.self c.match-printer.page x.in_default.is x.page-is
+      | in_default x ↦ pages-unended kind start _ w b c.make_room.new.self c.match-printer.page x.in_default.is
+          x.page-is
           turned
     ] in
     c.in_err-close.ensures.closed start text page)

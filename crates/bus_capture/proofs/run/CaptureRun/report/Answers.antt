@@ -7,7 +7,8 @@ pub returns-in_err-put_report : goal.returns-in_err-put_report
 returns-in_err-put_report g c =
     let failed = err_from_is_err_and c.from_residual.result c.from_residual.ensures.1 in
     rw (failed.1, failed.2)
-    (λ start b followed. c.in_err-put_report.ensures.put start (lines g.T.CaptureKind.kind c.args.self b) b followed.is_after
+    (λ start b followed. c.in_err-put_report.ensures.put start (lines g.T.CaptureKind.kind c.args.self b) b
+    followed.is_after
     followed.page)
 
 pub returns : goal.returns

@@ -14,7 +14,8 @@ pub loop-taken-init : goal.loop-taken-init
 loop-taken-init g c = record {
   sound = c.requires.sound;
   same = same-self g.T.CaptureKind.kind c.args.run.now;
-  front = λ start xs followed. subst (FollowsOctets g.T.CaptureKind.kind start (g.W.Write.contents c.args.w.now) c.args.run.now)
+  front = λ start xs followed. subst
+      (FollowsOctets g.T.CaptureKind.kind start (g.W.Write.contents c.args.w.now) c.args.run.now)
       (sym (append-nil xs)) (record { clean = followed.clean; bits = followed.bits });
 }
 
@@ -42,7 +43,8 @@ returns-in_err-many-clause-same g c =
 pub loop-taken-preserved-then-many-gt0 : goal.loop-taken-preserved-then-many-gt0
 loop-taken-preserved-then-many-gt0 g c = record {
   sound = c.analyse_text.ensures.sound;
-  same = same-both g.T.CaptureKind.kind c.args.run.now c.loop-taken.run c.analyse_text.new.run c.loop-taken.invariant.same
+  same = same-both g.T.CaptureKind.kind c.args.run.now c.loop-taken.run c.analyse_text.new.run
+      c.loop-taken.invariant.same
       c.analyse_text.ensures.same;
   front = λ start xs followed.
       let os = c.args.octets.now in
@@ -54,7 +56,8 @@ loop-taken-preserved-then-many-gt0 g c = record {
 
 pub returns-in_err-analyse_octet-clause-taken : goal.returns-in_err-analyse_octet-clause-taken
 returns-in_err-analyse_octet-clause-taken g c =
-    let failed = err_from_is_err_and c.from_residual-in_err-analyse_octet.result c.from_residual-in_err-analyse_octet.ensures.1 in
+    let failed = err_from_is_err_and c.from_residual-in_err-analyse_octet.result
+    c.from_residual-in_err-analyse_octet.ensures.1 in
     rw (failed.1, failed.2) (λ start xs followed.
     let kind = g.T.CaptureKind.kind in
     let os = c.args.octets.now in
@@ -104,7 +107,8 @@ returns-clause-taken g c =
     λ start xs followed.
     let all = take_all c.loop-taken.taken c.args.octets.now (omega arith) in
     let whole =
-    subst (λ (os : List ℕ). FollowsOctets g.T.CaptureKind.kind start (g.W.Write.contents c.loop-taken.w) c.loop-taken.run
+    subst (λ (os : List ℕ). FollowsOctets g.T.CaptureKind.kind start (g.W.Write.contents c.loop-taken.w)
+    c.loop-taken.run
     (xs ++ os)) all (c.loop-taken.invariant.front start xs followed) in
     record {
       at = omega (arith, followed.at, length-append xs c.args.octets.now);

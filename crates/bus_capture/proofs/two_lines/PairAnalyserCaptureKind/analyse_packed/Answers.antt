@@ -58,5 +58,6 @@ returns-clause-taken g c = λ start xs followed.
     let fits = followed-fits kind c.laws.ensures start _ c.args.run.now b c.requires followed.bits in
     let low : kind.watch.origin c.analyse_pairs.new.run.analyser ≤ 2 ^ 60 =
     omega (arith, fits, c.analyse_pairs.ensures.same.origin) in
-    octets-taken kind start _ c.analyse_pairs.new.run (xs ++ whole) c.take_all.new.self (b ++ ps) (Ok tt) low read.0 read.1
+    octets-taken kind start _ c.analyse_pairs.new.run (xs ++ whole) c.take_all.new.self (b ++ ps) (Ok tt) low read.0
+    read.1
     (c.in_ok-analyse_pairs.ensures.taken start b followed.bits)

@@ -24,7 +24,8 @@ returns-clause-reaches g c =
     (λ going b stands.
     let none = found.none going in
     subst (HasNoStop b (bits_of n x)) (sym long)
-    (no_stop-turn d x n n b stands.has_taken (λ i before. none.1 i (omega (arith, before, none.0))) (omega (arith, none.0))
+    (no_stop-turn d x n n b stands.has_taken (λ i before. none.1 i (omega (arith, before, none.0)))
+    (omega (arith, none.0))
     (omega arith)))
     (λ b stands.
     subst (λ (k : ℕ). HasNoStop b (bits_of n x) (k - 1)) (sym long) (no_stop b stands.has_taken))

@@ -18,7 +18,8 @@ pub invariant_of-self-2 : goal.invariant_of-self-2
 invariant_of-self-2 g c =
     let decoded = c.in_ok-finding.ensures.reports in
     let bits = c.args.bit ∷ [] in
-    let new : AnalyserState g.row.C.Denot = record { decoder = c.decode_bit.new.decoder; conversation = c.decode_bit.new.conversation } in
+    let new : AnalyserState g.row.C.Denot = record
+    { decoder = c.decode_bit.new.decoder; conversation = c.decode_bit.new.conversation } in
     let sees = sees-decoded g.C.Check.check (analyser_state c.self.inside) new bits _ (omega arith) decoded in
     record {
       depth = omega (arith, c.self.invariant.depth, decoded.depth);
@@ -30,7 +31,8 @@ invariant_of-self-2 g c =
 
 pub returns-clause-sees : goal.returns-clause-sees
 returns-clause-sees g c =
-    let new : AnalyserState g.row.C.Denot = record { decoder = c.decode_bit.new.decoder; conversation = c.decode_bit.new.conversation } in
+    let new : AnalyserState g.row.C.Denot = record
+    { decoder = c.decode_bit.new.decoder; conversation = c.decode_bit.new.conversation } in
     let told = option_to_list (option_map (found c.decode_bit.new.decoder.octets) c.in_ok-finding.finding) in
     subst (λ a. Sees g.C.Check.check a (c.args.bit ∷ []) told new) c.self.view_is
     (sees-decoded g.C.Check.check (analyser_state c.self.inside) new (c.args.bit ∷ []) _ (omega arith)

@@ -66,10 +66,12 @@ returns-clause-told g c =
     let whole : c.args.from + c.min-count.result - c.args.from ≡ c.min-count.result = omega arith in
     let x = bits_from c.args.octets.now c.args.from c.min-count.result in
     let told : AnalyserState g.row.C.Denot → List SeenReport → Type 0 = λ a ss.
-    g.L.ReportObserver.observes a.conversation.dictionary c.args.observer.now c.args.out.now ss c.observe_bits.new.observer
+    g.L.ReportObserver.observes a.conversation.dictionary c.args.observer.now c.args.out.now ss
+    c.observe_bits.new.observer
     c.observe_bits.new.out in
     subst (λ (a : AnalyserState g.row.C.Denot). LeadsTold (one_line view) a x new (told a)) c.self.view_is
     (leads-decoded view old new x (told old)
     (subst (λ (k : ℕ). DecodesMany view None c.self.inside.decoder c.self.inside.conversation
-    (bits_from c.args.octets.now c.args.from k) c.observe_bits.new.decoder c.observe_bits.new.conversation (told old)) whole
+    (bits_from c.args.octets.now c.args.from k) c.observe_bits.new.decoder c.observe_bits.new.conversation (told old))
+    whole
     decoded))

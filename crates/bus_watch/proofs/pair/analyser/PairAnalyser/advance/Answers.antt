@@ -26,7 +26,8 @@ decode_bit-requires-2-clause-room g c = λ below.
 
 abbrev next-state : (g : Over) (c : goal.In-Ok g) → PairState g.row.C.Denot
 next-state g c =
-    record { first = c.decode_bit.new.decoder; second = c.decode_bit-2.new.decoder; conversation = c.decode_bit-2.new.conversation }
+    record { first = c.decode_bit.new.decoder; second = c.decode_bit-2.new.decoder; conversation =
+    c.decode_bit-2.new.conversation }
 
 sees : (g : Over) (c : goal.In-Ok g) → SeesPairs g.C.Check.check (pair_state c.self.inside)
     ((c.args.first, c.args.second) ∷ [])
@@ -34,7 +35,8 @@ sees : (g : Over) (c : goal.In-Ok g) → SeesPairs g.C.Check.check (pair_state c
     (next-state g c)
 sees g c =
     sees-pair g.C.Check.check c.args.first c.args.second (pair_state c.self.inside) (next-state g c)
-    c.decode_bit.new.conversation _ _ c.reports_grow.ensures.stays c.reports_grow.ensures.more c.reports_grow.ensures.grow
+    c.decode_bit.new.conversation _ _ c.reports_grow.ensures.stays c.reports_grow.ensures.more
+    c.reports_grow.ensures.grow
     c.in_ok-found_first.ensures.reports c.in-Ok.ensures.reports
 
 pub invariant_of-self-2 : goal.invariant_of-self-2

@@ -46,7 +46,8 @@ loop-at-preserved g c =
       told =
           subst (λ (k : ℕ). LeadsTold (two_lines g.C.Check.check) c.args.self.now
           (zip (bits_from c.args.first.now 0 k) (bits_from c.args.second.now 0 k)) scanned.new.self
-          (λ ss. g.L.ReportObserver.observes c.args.self.now.conversation.dictionary c.args.observer.now c.args.out.now ss
+          (λ ss. g.L.ReportObserver.observes c.args.self.now.conversation.dictionary c.args.observer.now c.args.out.now
+          ss
           scanned.new.observer scanned.new.out)) met
           (rw (zip-met c.args.first.now c.args.second.now i n)
           (leads-further (two_lines g.C.Check.check) c.args.self.now c.loop-at.self scanned.new.self _ _

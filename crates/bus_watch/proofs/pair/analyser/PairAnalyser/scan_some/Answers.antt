@@ -130,7 +130,8 @@ returns-clause-told g c =
     c.observe_bits.new.out (option_to_list last) c.show.new.observer c.show.new.out =
     rw (← dictionary, ← found, ← c.octets.ensures.value) c.show.ensures.observed in
     subst (λ (a : PairState g.row.C.Denot). LeadsTold (two_lines g.C.Check.check) a (pairs-taken g c) (next-state g c)
-    (λ ss. g.L.ReportObserver.observes a.conversation.dictionary c.args.observer.now c.args.out.now ss c.show.new.observer
+    (λ ss. g.L.ReportObserver.observes a.conversation.dictionary c.args.observer.now c.args.out.now ss
+    c.show.new.observer
     c.show.new.out)) c.self.view_is
     (leads-on g c _ (g.met.L.ReportObserver.observes_more c.self.inside.conversation.dictionary c.args.observer.now
     c.observe_bits.new.observer c.show.new.observer

@@ -52,7 +52,8 @@ returns-clause-ledger g c = λ ps reached.
     (pair-ledger g.C.Check.check (pair_state c.self.inside) ps c.spent-first.result
     c.spent-second.result c.spent-conversation.result inside
     (c.spent-first.ensures.ledger _ inside.first) (c.spent-second.ensures.ledger _ inside.second)
-    (ap (λ (x : Spent). x.copied) c.spent-conversation.ensures) (ap (λ (x : Spent). x.handled) c.spent-conversation.ensures))
+    (ap (λ (x : Spent). x.copied) c.spent-conversation.ensures)
+    (ap (λ (x : Spent). x.handled) c.spent-conversation.ensures))
 
 pub returns-clause-four : goal.returns-clause-four
 returns-clause-four g c = λ ps reached.
