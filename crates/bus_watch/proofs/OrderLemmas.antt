@@ -39,7 +39,7 @@ reports-line on origin longest b i = one (due_at longest b i)
         (map (line_report (Some on)) (option_to_list (option_map (moved origin) o)))
     one None = All-nil _
     one (Some r) = All-cons (λ (h : LineReport). h.line ≡ Some on) (line_report (Some on) (moved origin r)) [] refl
-    (All-nil _)
+        (All-nil _)
 
 -- is one report at most
 alone : (on : Line) (origin longest : ℕ) (b : List Bool) (i : ℕ) → AllPairs ComesBefore

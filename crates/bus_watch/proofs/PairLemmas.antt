@@ -152,8 +152,7 @@ reports-due it on origin longest b i = one (due_at longest b i) refl
         (map (line_report (Some on)) (option_to_list (option_map (moved origin) o)))
     one None is = All-nil _
     one (Some r) is = All-cons (λ (h : LineReport). due h.report ≡ origin + i) (line_report (Some on) (moved origin r))
-    []
-        (due-moved origin r.kind r.first r.past ∙ ap (λ n. origin + n) ((it longest b i r).1 is).1) (All-nil _)
+        [] (due-moved origin r.kind r.first r.past ∙ ap (λ n. origin + n) ((it longest b i r).1 is).1) (All-nil _)
 
 pub both-due : DueIsIt → (origin longest : ℕ) (b c : List Bool) (i : ℕ) →
     All (λ (h : LineReport). due h.report ≡ origin + i)

@@ -14,7 +14,7 @@ returns-in_err-write_out-clause-taken g c =
     c.from_residual-in_err-write_out.ensures.1 in
     rw (failed.1, failed.2) (λ start xs followed.
     let ys = xs ++ c.args.octets.now in
-    let taken = c.in_ok-take.ensures.taken start xs followed in
+    let taken = c.in_ok-analyse.ensures.taken start xs followed in
     let law = c.laws.ensures in
     let clean = is-clean g.T.CaptureKind.kind law (is_text c.analyse.new.self.source) start _ c.analyse.new.self.run ys
     c.analyse.ensures.sound
