@@ -439,7 +439,7 @@ def layout_in_python(folder: Path) -> List[str]:
         shows += f'    printf("{name}{" %lu" * len(values)}\\n", {numbers});\n'
     source, program = folder / "layout.c", folder / "layout"
     source.write_text(LAYOUT.format(shows=shows))
-    words: List[Word] = ["cc", "-std=c99", f"-I{TOP / 'include'}", "-o", program, source]
+    words: List[Word] = ["cc", "-std=c99", f"-I{TOP / 'c' / 'include'}", "-o", program, source]
     problems = unlike("cc", "", told(words))
     problems += [] if len(lines) > 30 else [f"there are {len(lines)} lines: {lines}"]
     return problems or unlike("layout", lines, written_by([program]).decode().splitlines())
