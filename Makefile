@@ -101,7 +101,7 @@ install-program: $(PROGRAM) install-scripts
 	install -m 644 cli/completions/_port1 "$(DESTDIR)$(ZSHDIR)/_port1"
 	install -m 644 cli/completions/port1.fish "$(DESTDIR)$(FISHDIR)/port1.fish"
 
-# What stands in a folder here, but for tests and for what has a folder of its own there, in one of share/port1/contrib.
+# Puts the files of a folder into one of share/port1/contrib, whose names are older than those here; tests stay here.
 put-in-contrib = find $(1) -mindepth 1 -name tests -prune -o -name port1_scripts -prune -o -name __pycache__ -prune -o \
 	! -name self-test -type f -printf '%P\n' | while read -r file; do \
 		mode=644; test ! -x "$(1)/$$file" || mode=755; \
