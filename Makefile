@@ -7,11 +7,10 @@
 #     make page                         builds the page, page/out/port1.html: the analyser as one file for a browser
 #     make install PREFIX=$HOME/.local  all of the following
 #     make install-program              the program, its man page and completions, and what install-scripts does
-#     make install-scripts              the scripts of contrib, with links to them in bin, the documents, examples and
-#                                       definitions
+#     make install-scripts              the scripts, with links to them in bin, the documents, examples and definitions
 #     make install-library              the C library, static and shared, its header, files for pkg-config and CMake, and
 #                                       examples; with PYTHONDIR=FOLDER also the Python module that calls it
-#     make install-library TARGET=aarch64-unknown-linux-gnu    the same for another of contrib/mcu/build's targets
+#     make install-library TARGET=aarch64-unknown-linux-gnu    the same for another of c/targets/build's targets
 #     make uninstall PREFIX=$HOME/.local
 #     make dist GATE=FILE TOOLCHAIN=FILE MAINTAINER='NAME <ADDRESS>'
 #                                       packs what was built last into dist: a tarball and Debian packages, the
@@ -46,14 +45,13 @@ PAGE = page/out/port1.html
 LIBRARY = crates/port1_c/out/$(if $(TARGET),$(TARGET)/)libport1_c.a
 SONAME = libport1.so.2
 SHARED = $(if $(TARGET),,$(dir $(LIBRARY))$(SONAME))
-C_EXAMPLES = examples/c/Makefile $(wildcard examples/c/*.c)
+C_EXAMPLES = c/examples/Makefile $(wildcard c/examples/*.c)
 VERSION = $(shell sed -n 's/.*\.version("\(.*\)").*/\1/p' crates/bus_tool/src/arguments.rt)
 
-# What finds the examples but for those in C, what stands in contrib but for its tests, the scripts there, and the
-# definitions, which one of the scripts runs; what `rt` builds has copies of these.
-EXAMPLES = find examples -path examples/c -prune -o -name __pycache__ -prune -o -name .pytest_cache -prune -o -type f
-CONTRIB = find contrib -name tests -prune -o -name __pycache__ -prune -o ! -name self-test
-SCRIPTS = find contrib -maxdepth 1 -type f -perm -u+x ! -name self-test
+# What finds the examples but for those in C, the commands among the scripts, and the definitions, which one of the
+# scripts runs; what `rt` builds has copies of these.
+EXAMPLES = find examples -name __pycache__ -prune -o -name .pytest_cache -prune -o -type f
+COMMANDS = find scripts -maxdepth 1 -type f -perm -u+x ! -name self-test -printf '%f\n'
 SPECS = find crates -name out -prune -o -path '*/specs/Internal' -prune -o -path '*/specs/*.antt' -type f
 
 # The folders that may be empty in the end, inner ones first. Folders of the system itself stay.
@@ -76,11 +74,11 @@ crates/port1_c/out/libport1_c.a:
 	packages/build port1_c lib
 
 crates/port1_c/out/%/libport1_c.a:
-	contrib/mcu/build crates/port1_c/out '$*'
+	c/targets/build crates/port1_c/out '$*'
 
 # The linker refuses an archive that is not position independent.
-%/$(SONAME): %/libport1_c.a packages/libport1.map
-	$(CC) -shared -o $@ -Wl,-soname,$(SONAME) -Wl,-z,text -Wl,--version-script=packages/libport1.map \
+%/$(SONAME): %/libport1_c.a c/package/libport1.map
+	$(CC) -shared -o $@ -Wl,-soname,$(SONAME) -Wl,-z,text -Wl,--version-script=c/package/libport1.map \
 		-Wl,--whole-archive $< -Wl,--no-whole-archive
 
 check: $(PROGRAM)
@@ -98,36 +96,45 @@ install-program: $(PROGRAM) install-scripts
 	install -d "$(DESTDIR)$(BINDIR)" "$(DESTDIR)$(MANDIR)" "$(DESTDIR)$(BASHDIR)" "$(DESTDIR)$(ZSHDIR)" \
 		"$(DESTDIR)$(FISHDIR)"
 	install -m 755 $(PROGRAM) "$(DESTDIR)$(BINDIR)/port1"
-	install -m 644 docs/port1.1 "$(DESTDIR)$(MANDIR)/port1.1"
-	install -m 644 completions/port1.bash "$(DESTDIR)$(BASHDIR)/port1"
-	install -m 644 completions/_port1 "$(DESTDIR)$(ZSHDIR)/_port1"
-	install -m 644 completions/port1.fish "$(DESTDIR)$(FISHDIR)/port1.fish"
+	install -m 644 cli/port1.1 "$(DESTDIR)$(MANDIR)/port1.1"
+	install -m 644 cli/completions/port1.bash "$(DESTDIR)$(BASHDIR)/port1"
+	install -m 644 cli/completions/_port1 "$(DESTDIR)$(ZSHDIR)/_port1"
+	install -m 644 cli/completions/port1.fish "$(DESTDIR)$(FISHDIR)/port1.fish"
 
-# The documents' commands run in share/port1, which has `contrib`, `examples` and the definitions as this folder has.
+# Puts the files of a folder into one of share/port1/contrib, whose names are older than those here; tests stay here.
+put-in-contrib = find $(1) -mindepth 1 -name tests -prune -o -name port1_scripts -prune -o -name __pycache__ -prune -o \
+	! -name self-test -type f -printf '%P\n' | while read -r file; do \
+		mode=644; test ! -x "$(1)/$$file" || mode=755; \
+		install -D -m $$mode "$(1)/$$file" "$(DESTDIR)$(OWNDIR)/contrib/$(2)$$file" || exit 1; done
+
+# The documents' commands run in share/port1, which has `examples` and the definitions as this folder has.
 install-scripts:
 	install -d "$(DESTDIR)$(BINDIR)" "$(DESTDIR)$(OWNDIR)/docs"
 	$(EXAMPLES) -exec install -D -m 644 '{}' "$(DESTDIR)$(OWNDOCDIR)/{}" ';'
 	install -m 644 $(wildcard *.md) "$(DESTDIR)$(OWNDIR)"
 	install -m 644 $(wildcard docs/*.md docs/*.toml docs/*.png) "$(DESTDIR)$(OWNDIR)/docs"
-	$(CONTRIB) -type f -perm -u+x -exec install -D -m 755 '{}' "$(DESTDIR)$(OWNDIR)/{}" ';'
-	$(CONTRIB) -type f ! -perm -u+x -exec install -D -m 644 '{}' "$(DESTDIR)$(OWNDIR)/{}" ';'
+	$(call put-in-contrib,scripts)
+	$(call put-in-contrib,scripts/port1_scripts,scripts/)
+	$(call put-in-contrib,bindings/python,python/)
+	$(call put-in-contrib,bindings/sigrok,sigrok/)
+	install -D -m 755 c/targets/build "$(DESTDIR)$(OWNDIR)/contrib/mcu/build"
 	$(SPECS) -exec install -D -m 644 '{}' "$(DESTDIR)$(OWNDIR)/{}" ';'
-	$(CONTRIB) -type l -exec cp -P --remove-destination --parents '{}' "$(DESTDIR)$(OWNDIR)" ';'
 	test ! -e $(PAGE) || install -D -m 644 $(PAGE) "$(DESTDIR)$(OWNDIR)/page/port1.html"
 	ln -sfnr "$(DESTDIR)$(EXAMPLEDIR)" "$(DESTDIR)$(OWNDIR)/examples"
-	$(SCRIPTS) -exec ln -sfr "$(DESTDIR)$(OWNDIR)/{}" "$(DESTDIR)$(BINDIR)" ';'
+	$(COMMANDS) | while read -r name; do \
+		ln -sfr "$(DESTDIR)$(OWNDIR)/contrib/$$name" "$(DESTDIR)$(BINDIR)" || exit 1; done
 
 # A file of packages, where it is installed: its paths are relative, so that all of it may be moved.
 from-there = $$(realpath -ms --relative-to="$(2)" "$(1)")
 fill-in = sed -e "s|@PREFIX@|$(call from-there,$(PREFIX),$(2))|; s|@LIBDIR@|$(call from-there,$(LIBDIR),$(2))|" \
 	-e "s|@INCLUDEDIR@|$(call from-there,$(INCLUDEDIR),$(2))|; s|@VERSION@|$(VERSION)|; s|@SONAME@|$(SONAME)|" \
-	packages/$(1).in > "$(DESTDIR)$(2)/$(1)"
+	c/package/$(1).in > "$(DESTDIR)$(2)/$(1)"
 
 install-library: $(LIBRARY) $(SHARED)
 	install -d "$(DESTDIR)$(LIBDIR)" "$(DESTDIR)$(INCLUDEDIR)" "$(DESTDIR)$(PKGCONFIGDIR)" "$(DESTDIR)$(CMAKEDIR)" \
 		"$(DESTDIR)$(EXAMPLEDIR)/c"
 	install -m 644 $(LIBRARY) "$(DESTDIR)$(LIBDIR)/libport1_c.a"
-	install -m 644 include/port1.h "$(DESTDIR)$(INCLUDEDIR)/port1.h"
+	install -m 644 c/include/port1.h "$(DESTDIR)$(INCLUDEDIR)/port1.h"
 	$(call fill-in,port1.pc,$(PKGCONFIGDIR))
 	$(call fill-in,port1Config.cmake,$(CMAKEDIR))
 	$(call fill-in,port1ConfigVersion.cmake,$(CMAKEDIR))
@@ -138,7 +145,7 @@ ifneq ($(SHARED),)
 endif
 ifneq ($(PYTHONDIR),)
 	install -d "$(DESTDIR)$(PYTHONDIR)/port1"
-	install -m 644 contrib/python/port1/__init__.py contrib/python/port1/py.typed "$(DESTDIR)$(PYTHONDIR)/port1"
+	install -m 644 bindings/python/port1/__init__.py bindings/python/port1/py.typed "$(DESTDIR)$(PYTHONDIR)/port1"
 endif
 
 # make hands the variables of its command line on.

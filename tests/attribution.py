@@ -285,10 +285,9 @@ def unnamed_edits(crates: Path) -> Iterator[str]:
     """The must-fail edits, and such wrong bodies as name a clause, that name nothing that is there."""
     every = crates_of(crates)
     for edit in named_bodies(crates):
-        crate = edit.parent.parent.name
-        fault = fault_of(named_by(edit.read_text(encoding="utf-8")), every[crate])
+        fault = fault_of(named_by(edit.text), every[edit.crate])
         if fault is not None:
-            yield f"{crate}/{edit.stem}: {fault}"
+            yield f"{edit.name}: {fault}"
 
 
 def compared(edit: str, text: str, crate: Crate, told: Dict[str, Optional[Refusal]]) -> Found:

@@ -114,9 +114,9 @@ def tests_beside(top: Path) -> Dict[str, Set[str]]:
     """The tests in C, the rows of the table of runs, and the tests of the scripts, of each file."""
     found: Dict[str, Set[str]] = {}
     for pattern, form in [
-        ("tests/*.c", r"^static void (\w+)\(void\) \{"),
+        ("c/tests/*.c", r"^static void (\w+)\(void\) \{"),
         ("tests/table/*.py", r"(?:\bCase\(|\bname=)\s*\"([^\"]+)\""),
-        ("contrib/tests/*.py", r"^def (\w+)\(folder: Path\) -> List\[str\]:"),
+        ("scripts/tests/*.py", r"^def (\w+)\(folder: Path\) -> List\[str\]:"),
     ]:
         for path in sorted(top.glob(pattern)):
             found[str(path.relative_to(top))] = set(re.findall(form, path.read_text(encoding="utf-8"), re.MULTILINE))

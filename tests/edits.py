@@ -1,4 +1,7 @@
-"""Wrong bodies: files with a line `file: NAME`, and then pairs of lines `old: TEXT` and `new: TEXT`.
+"""Wrong bodies: edits with a line `file: NAME`, and then pairs of lines `old: TEXT` and `new: TEXT`.
+
+Each edit of must-fail has a file of its own there, as `rt` reads it. In wrong-bodies, the edits of src/FILE.rt stand in
+FILE.edits, with an empty line between two: each has its line `edit: NAME`, and no line `file:` for that source.
 
 An edit may name a test that tells it from the right body, in a comment, which `rt` does not read:
 
@@ -19,11 +22,14 @@ text of a file, as above, or a text of lines:
 import re
 import shlex
 from pathlib import Path
-from typing import Dict, Iterable, Iterator, List, NamedTuple, Optional, Set
+from typing import Dict, Iterable, Iterator, List, NamedTuple, Optional, Set, Tuple
 
 TOLD_BY = re.compile(r"^# told-by: (\w+) ([\w:]+)$", re.MULTILINE)
 
 REFUSED_BY = "# refused-by: "
+
+# An edit in a file of several: its name, what is said of it, and its changes.
+EDIT = re.compile(r"edit: (\w+)\n((?:#.*\n)*)((?:(?:file|old|new):.*\n)+)")
 
 SHOWN_BY = re.compile(r"^# shown-by: port1 (.*)$", re.MULTILINE)
 
@@ -63,17 +69,18 @@ class Change(NamedTuple):
 
 
 class Edit(NamedTuple):
-    """An edit, CRATE/NAME: its own text, and its changes."""
+    """An edit, CRATE/NAME: its text as `rt` reads it, and its changes."""
 
     name: str
     text: str
     changes: List[Change]
 
+    @property
+    def crate(self) -> str:
+        return self.name.partition("/")[0]
 
-def edit_of(path: Path) -> Edit:
-    """The edit of a file crates/CRATE/FOLDER/NAME.edit."""
-    crate = path.parent.parent.name
-    text = path.read_text(encoding="utf-8")
+
+def edit_of(crate: str, name: str, text: str) -> Edit:
     file, old = Path(), ""
     changes: List[Change] = []
     for line in text.splitlines():
@@ -84,18 +91,52 @@ def edit_of(path: Path) -> Edit:
             old = rest[1:]
         elif key == "new":
             changes.append(Change(file, old, rest[1:]))
-    return Edit(f"{crate}/{path.stem}", text, changes)
+    return Edit(f"{crate}/{name}", text, changes)
 
 
-def named_bodies(crates: Path) -> List[Path]:
+def edits_in(text: str, source: str) -> Iterator[Tuple[str, str]]:
+    """The names and texts of the edits of a source, or a ValueError where something else stands among them."""
+    for paragraph in text.rstrip("\n").split("\n\n"):
+        found = EDIT.fullmatch(f"{paragraph}\n")
+        if found is None:
+            raise ValueError(f"this is no edit of {source}:\n{paragraph}")
+        name, comments, changes = found.groups()
+        file = "" if changes.startswith("file:") else f"file: {source}\n"
+        yield name, f"{comments}{file}{changes}"
+
+
+def must_fail(crates: Path) -> Iterator[Edit]:
+    """The edits that the gate tries."""
+    for path in sorted(crates.glob("*/must-fail/*.edit")):
+        yield edit_of(path.parent.parent.name, path.stem, path.read_text(encoding="utf-8"))
+
+
+def wrong_bodies(crates: Path) -> Iterator[Edit]:
+    """The edits that the gate leaves out."""
+    for path in sorted(crates.glob("*/wrong-bodies/**/*.edits")):
+        crate, _, *parts = path.relative_to(crates).parts
+        source = Path("src", *parts).with_suffix(".rt")
+        for name, text in edits_in(path.read_text(encoding="utf-8"), str(source)):
+            yield edit_of(crate, name, text)
+
+
+def all_edits(crates: Path) -> List[Edit]:
+    return [*must_fail(crates), *wrong_bodies(crates)]
+
+
+def named_bodies(crates: Path) -> List[Edit]:
     """The must-fail edits, and those of wrong-bodies that name a clause as they do."""
-    others = [path for path in crates.glob("*/wrong-bodies/*.edit") if REFUSED_BY in path.read_text(encoding="utf-8")]
-    return sorted([*crates.glob("*/must-fail/*.edit"), *others])
+    return sorted([*must_fail(crates), *(edit for edit in wrong_bodies(crates) if REFUSED_BY in edit.text)])
 
 
 def misfits(edits: Iterable[Edit], top: Path) -> Iterator[str]:
-    """The edits that do not fit the files of a work tree, each with its first change that does not."""
+    """The edits that do not fit the files of a work tree, each with its first change that does not, and those that have
+    no change, or the name of another."""
+    names: Set[str] = set()
     for edit in edits:
+        if not edit.changes or edit.name in names:
+            yield f"{edit.name}: {'two edits have this name' if edit.changes else 'it changes nothing'}"
+        names.add(edit.name)
         texts: Dict[Path, str] = {}
         try:
             for change in edit.changes:
@@ -144,7 +185,7 @@ def test_of(file: str, name: str) -> Iterator[Test]:
 def unknown_tests(crates: Path, tests: Dict[str, Set[str]]) -> Iterator[str]:
     """The edits that name a test which is not there, where these are the tests of each file."""
     every = {test for file, names in tests.items() for name in names for test in test_of(file, name)}
-    for path in named_bodies(crates):
-        for test in tests_told(path.read_text(encoding="utf-8")):
+    for edit in named_bodies(crates):
+        for test in tests_told(edit.text):
             if test not in every:
-                yield f"{path.parent.parent.name}/{path.stem}: no test {test.crate} {test.path}"
+                yield f"{edit.name}: no test {test.crate} {test.path}"

@@ -83,7 +83,7 @@ def problems_of_report() -> List[str]:
 
 def asked_for() -> Set[str]:
     """The programs and modules that the tests say they need."""
-    files = [*(TOP / "tests").glob("*.py"), *(TOP / "contrib" / "tests").glob("*.py")]
+    files = [file for folder in ("tests", "scripts/tests", "c/tests") for file in (TOP / folder).glob("*.py")]
     calls = [call for file in files for call in re.findall(r"\bneeds\w*\(([^)]*)\)", file.read_text(encoding="utf-8"))]
     return {word for call in calls for word in re.findall(r'"([^"{}]+)"', call)}
 

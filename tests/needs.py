@@ -71,8 +71,8 @@ BESIDE = [
     Package("slurm-wlm", ["slurmctld", "slurmd"]),
 ]
 
-# The scripts of contrib that need a module of Python which is not Python's own.
-SCRIPTS = {"check-dictionary": "jsonschema", "recording-to-bits": "numpy", "vcd-to-bits": "numpy"}
+# The scripts that need a module of Python which is not Python's own.
+MODULES = {"check-dictionary": "jsonschema", "recording-to-bits": "numpy", "vcd-to-bits": "numpy"}
 
 LEAST_NODE = 20
 
@@ -134,7 +134,7 @@ def needs_module(name: str) -> None:
 
 
 def lacks_module(script: str) -> bool:
-    return script in SCRIPTS and not has_module(SCRIPTS[script])
+    return script in MODULES and not has_module(MODULES[script])
 
 
 def needs_file(name: str) -> None:

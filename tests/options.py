@@ -25,7 +25,7 @@ Options = Dict[str, Set[str]]
 
 
 def help_text(name: str) -> str:
-    return (TOP / "tests" / "help" / f"{name}.txt").read_text(encoding="ascii")
+    return (TOP / "cli" / "help" / f"{name}.txt").read_text(encoding="ascii")
 
 
 def options_of_help() -> Options:
@@ -44,7 +44,7 @@ def kinds_of_help() -> Set[str]:
 
 def options_of_page() -> Options:
     """The same by the man page: the items of each subsection, and those before the first."""
-    text = (TOP / "docs" / "port1.1").read_text(encoding="ascii").split("\n.Sh CAPTURES\n")[0]
+    text = (TOP / "cli" / "port1.1").read_text(encoding="ascii").split("\n.Sh CAPTURES\n")[0]
     sections = re.split(r"^\.Ss (\w+)\n", text, flags=re.MULTILINE)
     found = {"port1": sections[0], **dict(zip(sections[1::2], sections[2::2]))}
     options: Options = {}
@@ -56,14 +56,14 @@ def options_of_page() -> Options:
 
 def options_of_synopsis() -> Options:
     """The options with a place in the synopsis, where those that print help have none."""
-    text = (TOP / "docs" / "port1.1").read_text(encoding="ascii")
+    text = (TOP / "cli" / "port1.1").read_text(encoding="ascii")
     synopsis = text.split("\n.Sh SYNOPSIS\n")[1].split("\n.Sh ")[0]
     uses = synopsis.split("\n.Nm\n.Cm ")[1:]
     return {use.split("\n")[0]: set(re.findall(r"(?<=Op Fl Fl )[\w-]+", use)) for use in uses}
 
 
 def kinds_of_page() -> Set[str]:
-    text = (TOP / "docs" / "port1.1").read_text(encoding="ascii")
+    text = (TOP / "cli" / "port1.1").read_text(encoding="ascii")
     kinds = text.split("Write only lines of this kind:\n")[1].split("\n.It ")[0]
     return set(re.findall(r"\b[a-z]+\b", kinds)) - {"or"}
 
@@ -76,7 +76,7 @@ def words_of_bash(line: str) -> Set[str]:
         f'. "$1"; COMP_WORDS=({quoted}); COMP_CWORD={len(words) - 1}; '
         "_port1; printf '%s\\n' \"${COMPREPLY[@]}\""
     )
-    completion = TOP / "completions" / "port1.bash"
+    completion = TOP / "cli" / "completions" / "port1.bash"
     ran = subprocess.run(["bash", "-c", script, "bash", completion], capture_output=True, text=True, check=True)
     return set(ran.stdout.split())
 
@@ -90,7 +90,7 @@ def options_of_bash() -> Options:
 
 def options_of_zsh() -> Options:
     """By the text: the shared options by their arrays, and each command's by its branch."""
-    text = (TOP / "completions" / "_port1").read_text(encoding="ascii")
+    text = (TOP / "cli" / "completions" / "_port1").read_text(encoding="ascii")
     shared = dict(re.findall(r"^  (\w+)=\((.*)\)$", text, flags=re.MULTILINE))
     for name, options in shared.items():
         text = text.replace(f"${name} ", f"{options} ").replace(f"${name}\n", f"{options}\n")
@@ -101,7 +101,7 @@ def options_of_zsh() -> Options:
 
 def options_of_fish() -> Options:
     """By the text: each line's options belong to the commands that its condition names."""
-    text = (TOP / "completions" / "port1.fish").read_text(encoding="ascii").replace("\\\n", "")
+    text = (TOP / "cli" / "completions" / "port1.fish").read_text(encoding="ascii").replace("\\\n", "")
     found: Options = {name: set() for name in ["port1", *COMMANDS]}
     for line in text.splitlines():
         condition = re.search(r'-n "(not )?__fish_seen_subcommand_from ([^"]*)"(.*)', line)
@@ -123,7 +123,7 @@ def options_of_fish() -> Options:
 
 def kinds_of_completion(name: str) -> Set[str]:
     """The kinds after --kind in the text of a completion."""
-    text = (TOP / "completions" / name).read_text(encoding="ascii")
+    text = (TOP / "cli" / "completions" / name).read_text(encoding="ascii")
     return set(re.search(r"frame damaged[\w ]*", text).group(0).split())
 
 

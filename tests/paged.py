@@ -6,18 +6,21 @@ import os
 import random
 import re
 import subprocess
+import sys
 import tempfile
 from contextlib import contextmanager
 from functools import lru_cache, partial
 from pathlib import Path
 from typing import Any, Callable, Dict, Iterator, List, NamedTuple, Optional, Sequence, Tuple
 
+TOP = Path(__file__).resolve().parent.parent
+
+sys.path.append(str(TOP / "c" / "tests"))
+
 import browser
 from built import newest_of, sources_of
 from library import Bench, captures, octets_of, talk, traffic
 from needs import NODE_MODULES, Skipped, needs, needs_file, needs_module
-
-TOP = Path(__file__).resolve().parent.parent
 
 PROGRAM = Path(os.environ.get("PORT1") or TOP / "crates" / "port1" / "out" / "port1")
 
@@ -36,7 +39,7 @@ SECONDS = 1800
 
 ENGINE = re.compile(r'id="engine">(.*?)</script>', re.DOTALL)
 
-# A dictionary whose names a careless page would run, and the talk of tests/library.py in its types.
+# A dictionary whose names a careless page would run, and the talk of c/tests/library.py in its types.
 NAMES = """\
 version = 2
 [[frame]]
@@ -117,7 +120,7 @@ FIELD = re.compile(r"(\w+): (\d+)")
 
 def problems_of_layout() -> List[str]:
     """Whether the page has the fields of the library's structs where the header has them."""
-    header = (TOP / "include" / "port1.h").read_text(encoding="utf-8")
+    header = (TOP / "c" / "include" / "port1.h").read_text(encoding="utf-8")
     places = {(found[1] or found[3], found[2] or "size"): int(found[4]) for found in PLACE.finditer(header)}
     problems = []
     for struct in LAYOUT.finditer((TOP / "page" / "src" / "engine" / "layout.js").read_text(encoding="utf-8")):
@@ -296,7 +299,7 @@ def problems_of_recording(page: Path, name: str, channels: Sequence[str]) -> Lis
     needs_module("numpy")
     file = TOP / "examples" / name
     taken = subprocess.run(
-        [str(TOP / "contrib" / "recording-to-bits"), *channels], stdin=file.open(), capture_output=True
+        [str(TOP / "scripts" / "recording-to-bits"), *channels], stdin=file.open(), capture_output=True
     )
     if taken.returncode != 0:
         return [taken.stderr.decode().strip()]
@@ -350,8 +353,8 @@ def text_of(session: browser.Session, selector: str) -> str:
 
 
 def summary_of(listing: str) -> str:
-    """What the script in contrib writes."""
-    words = [str(TOP / "contrib" / "bus-summary")]
+    """What the script writes."""
+    words = [str(TOP / "scripts" / "bus-summary")]
     return subprocess.run(words, input=listing.encode(), capture_output=True, check=True).stdout.decode()
 
 
@@ -413,7 +416,7 @@ def problems_of_dictionary(page: Path, name: str) -> List[str]:
     bench()
     capture = TOP / "examples" / "missing-and-spoilt.bits"
     listing, _ = program_lists(text_job("", capture.read_text(), 1, ""))
-    words = [str(TOP / "contrib" / "draft-dictionary")]
+    words = [str(TOP / "scripts" / "draft-dictionary")]
     draft = subprocess.run(words, input=listing.encode(), capture_output=True, check=True).stdout.decode()
     with opened(name, address_of(page)) as session:
         read_file(session, [capture])
@@ -564,7 +567,7 @@ def problems_of_report(page: Path, name: str) -> List[str]:
         notes.write_text(NOTES)
         words = [f"--page={page}", f"--dictionary={dictionary}", f"--recording={capture}", f"--notes={notes}"]
         words.append("--bits=9999999")
-        command = [str(TOP / "contrib" / "list-to-page"), *words, "Cabinet <7> & more"]
+        command = [str(TOP / "scripts" / "list-to-page"), *words, "Cabinet <7> & more"]
         report.write_bytes(subprocess.run(command, input=wanted.encode(), stdout=subprocess.PIPE, check=True).stdout)
         with opened(name, report.as_uri()) as session:
             session.wait_until("/ lines in /.test(document.getElementById('status').textContent)")

@@ -1,8 +1,8 @@
 """Runs the examples of the documents: what stands after a `$` line is all that it writes. Its status is 2 where that
 ends with a fault of the program, and 0 else, but for the lines of STATUSES.
 
-The examples of one document run one after the other in a folder of their own, which has the folders
-`examples` and `contrib`; so one example may read what another wrote.
+The examples of one document run one after the other in a folder of their own, which has the folder `examples`; so one
+example may read what another wrote. The program and the scripts are on the path.
 """
 
 import os
@@ -14,7 +14,7 @@ from itertools import takewhile
 from pathlib import Path
 from typing import FrozenSet, Iterator, List, Tuple
 
-from needs import SCRIPTS, Skipped, needs, needs_module
+from needs import MODULES, Skipped, needs, needs_module
 
 TOP = Path(__file__).resolve().parent.parent
 
@@ -36,9 +36,8 @@ PROMPT = f"{INDENT}$ "
 # What begins a section, or a paragraph with a heading in bold letters.
 HEADINGS = ("## ", "**")
 
-# The programs of other projects that examples may need, and the modules of Python, by the script that needs them.
+# The programs of other projects that examples may need.
 FOREIGN = {"parallel", "sigrok-cli", "text2pcap", "tshark"}
-MODULES = {f"contrib/{script}": module for script, module in SCRIPTS.items()}
 
 # A variable that is set for the examples after it.
 ASSIGNMENT = re.compile(r"[A-Z]+=\"[^\"]*\"")
@@ -50,8 +49,8 @@ FAULT = re.compile(r"(?:.*\n)*port1: .*\n")
 STATUSES = {
     'port1 check --bits --dict "$(cat examples/call-and-reply.toml)" < examples/missing-and-spoilt.bits': 1,
     "diff before.txt after.txt": 1,
-    "contrib/recording-to-bits clock dat < examples/one-call.vcd": 2,
-    "contrib/check-dictionary cab.toml": 1,
+    "recording-to-bits clock dat < examples/one-call.vcd": 2,
+    "check-dictionary cab.toml": 1,
     "parallel --joblog jobs.log 'port1 list": 1,
 }
 
@@ -116,14 +115,13 @@ def missing_tool(example: Example) -> str:
 
 def furnish(folder: Path) -> None:
     """Gives a folder what the examples read."""
-    for name in ["examples", "contrib"]:
-        (folder / name).symlink_to(TOP / name)
+    (folder / "examples").symlink_to(TOP / "examples")
 
 
 def run_of(program: Path, example: Example, folder: Path) -> Tuple[bytes, int]:
     """All that a run of it writes, and its status; where it does not end in time, its shell and the programs of that
     are killed."""
-    path = f"{program.parent}:{os.environ.get('PATH', os.defpath)}"
+    path = f"{program.parent}:{TOP / 'scripts'}:{os.environ.get('PATH', os.defpath)}"
     with subprocess.Popen(
         example.command,
         shell=True,

@@ -19,7 +19,7 @@ from paged import Test, address_of, opened, read_file
 
 TOP = Path(__file__).resolve().parent.parent
 
-sys.path.insert(0, str(TOP / "contrib" / "tests"))
+sys.path.insert(0, str(TOP / "scripts" / "tests"))
 
 from failing_bus import CONTROL, FLAG, RATE, frame_bits
 

@@ -1,4 +1,4 @@
-// Findings in dictionaries against contrib/check-dictionary, and against the rows of its own tests.
+// Findings in dictionaries against check-dictionary, and against the rows of its own tests.
 
 import assert from "node:assert/strict";
 import { readFileSync } from "node:fs";
@@ -7,7 +7,7 @@ import { test } from "node:test";
 import { findingsOf, findingsOfFile } from "../src/dictionary/check.js";
 import { closest } from "../src/dictionary/closest.js";
 import { faultsBySchema } from "../src/dictionary/schema.js";
-import { IS_WHOLE, TOP, askPython } from "./support/contrib.js";
+import { IS_WHOLE, TOP, askPython } from "./support/scripts.js";
 import { PROGRAM } from "./support/listings.js";
 import { madeDictionary } from "./support/made_dictionary.js";
 import { randomOf } from "./support/random.js";
@@ -42,13 +42,13 @@ found = [difflib.get_close_matches(word, known, 1, 0.7) for word, known in json.
 json.dump([near[0] if near else None for near in found], sys.stdout)
 `;
 
-const [[WINDOWS, POLL], EDITED] = askPython(ROWS, null, `${TOP}contrib`);
+const [[WINDOWS, POLL], EDITED] = askPython(ROWS, null, `${TOP}scripts`);
 
 const said = (findings) => findings.map(({ line, text }) => `${line}: ${text}`);
 
 const isOfProgram = ({ text }) => text.startsWith("port1 says: ");
 
-test("rows of contrib's own tests", () => {
+test("rows of its own tests", () => {
   assert.ok(EDITED.length > 25);
   for (const [text, wanted] of EDITED) {
     const findings = findingsOf(text, SCHEMA);

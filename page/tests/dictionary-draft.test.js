@@ -1,13 +1,13 @@
-// The draft against contrib/draft-dictionary, octet for octet.
+// The draft against draft-dictionary, octet for octet.
 
 import assert from "node:assert/strict";
 import { test } from "node:test";
 
 import { draftOf } from "../src/dictionary/draft.js";
 import { Fault } from "../src/fault.js";
-import { IS_WHOLE, askPython, runScript } from "./support/contrib.js";
+import { IS_WHOLE, askPython, runScript } from "./support/scripts.js";
 import { rowsOf } from "./support/listing.js";
-import { EXAMPLES, PROGRAM, contribRuns, failingBus, listedExample } from "./support/listings.js";
+import { EXAMPLES, PROGRAM, scriptRuns, failingBus, listedExample } from "./support/listings.js";
 import { madeListing } from "./support/made_listing.js";
 import { randomOf } from "./support/random.js";
 
@@ -73,8 +73,8 @@ test("random listings, made for the statistics and for drafts", () => {
   }
 });
 
-test("what contrib's own tests say that draft-dictionary writes", () => {
-  const runs = contribRuns("draft-dictionary");
+test("what its own tests say that draft-dictionary writes", () => {
+  const runs = scriptRuns("draft-dictionary");
   assert.ok(runs.length > 0);
   for (const [, input, wanted] of runs) {
     assert.equal(draftOf(rowsOf(input)), wanted);

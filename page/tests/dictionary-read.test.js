@@ -1,4 +1,4 @@
-// Dictionaries: the faults that the tables of the program's tests tell, the entries that contrib reads, and what the
+// Dictionaries: the faults that the tables of the program's tests tell, the entries that the scripts read, and what the
 // program itself says.
 
 import assert from "node:assert/strict";
@@ -8,7 +8,7 @@ import { test } from "node:test";
 
 import { readDictionary } from "../src/dictionary/dictionary.js";
 import { Fault } from "../src/fault.js";
-import { IS_WHOLE, TOP, askPython } from "./support/contrib.js";
+import { IS_WHOLE, TOP, askPython } from "./support/scripts.js";
 import { madeDictionary } from "./support/made_dictionary.js";
 import { PROGRAM } from "./support/listings.js";
 import { randomOf } from "./support/random.js";

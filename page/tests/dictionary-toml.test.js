@@ -6,7 +6,7 @@ import { test } from "node:test";
 import { float } from "../src/dictionary/python.js";
 import { DateTime, readToml } from "../src/dictionary/toml.js";
 import { TomlFault } from "../src/dictionary/toml/source.js";
-import { IS_WHOLE, askPython } from "./support/contrib.js";
+import { IS_WHOLE, askPython } from "./support/scripts.js";
 import { randomOf } from "./support/random.js";
 import { DOCUMENTS, entangled, mutated } from "./support/toml_corpus.js";
 

@@ -8,7 +8,7 @@ import { fileURLToPath } from "node:url";
 import { formOf } from "../src/recording/bits.js";
 import { inPieces, ran } from "./recording-helpers.js";
 
-/** Recordings of simulated cabinets: what is taken and told is what contrib/recording-to-bits takes and tells. */
+/** Recordings of simulated cabinets: what is taken and told is what recording-to-bits takes and tells. */
 
 const WHICH = process.env.PORT1_ALL ? "all" : "few";
 

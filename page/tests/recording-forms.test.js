@@ -8,7 +8,7 @@ import { Fault } from "../src/fault.js";
 
 /** What the beginning of a recording tells: its form, and its channels. */
 
-const SCRIPTS = fileURLToPath(new URL("../../contrib/scripts", import.meta.url));
+const SCRIPTS = fileURLToPath(new URL("../../scripts/port1_scripts", import.meta.url));
 
 const FORM_OF_EACH = `
 import json, sys

@@ -2,7 +2,7 @@ import assert from "node:assert/strict";
 import { test } from "node:test";
 import { inLines, inPieces, ran } from "./recording-helpers.js";
 
-/** The runs of contrib/tests/recordings.py that are about dumps and tables, with what they expect. */
+/** The runs of scripts/tests/recordings.py that are about dumps and tables, with what they expect. */
 
 const PREFIX = "recording-to-bits: ";
 

@@ -7,7 +7,7 @@ import { test } from "node:test";
 import { fileURLToPath } from "node:url";
 import { inLines, inPieces, ran } from "./recording-helpers.js";
 
-/** The examples as contrib/recording-to-bits reads them, and recordings that sigrok-cli writes. */
+/** The examples as recording-to-bits reads them, and recordings that sigrok-cli writes. */
 
 const TOP = new URL("../../", import.meta.url);
 
@@ -28,7 +28,7 @@ function example(name) {
 }
 
 function byScript(input, channels, rising) {
-  const script = fileURLToPath(new URL("contrib/recording-to-bits", TOP));
+  const script = fileURLToPath(new URL("scripts/recording-to-bits", TOP));
   const words = [...(rising ? [] : ["--falling"]), ...channels];
   const { status, stdout, stderr } = spawnSync(script, words, { input });
   return { stdout: stdout.toString("latin1"), stderr: stderr.toString("utf8"), status };

@@ -1,4 +1,4 @@
-// Sessions of sigrok: the bits and notes are those of contrib/recording-to-bits, and what is damaged is refused.
+// Sessions of sigrok: the bits and notes are those of recording-to-bits, and what is damaged is refused.
 
 import assert from "node:assert/strict";
 import { execFileSync, spawnSync } from "node:child_process";
@@ -9,7 +9,7 @@ import { after, test } from "node:test";
 import { Fault } from "../src/fault.js";
 import { sessionOf } from "../src/recording/session.js";
 import { ran } from "./recording-helpers.js";
-import { askPython, runScript } from "./support/contrib.js";
+import { askPython, runScript } from "./support/scripts.js";
 
 const folder = mkdtempSync(join(tmpdir(), "sessions-"));
 
@@ -51,7 +51,7 @@ json.dump(len(samples), sys.stdout)
 
 const TOP = new URL("../..", import.meta.url).pathname;
 
-askPython(WRITE, folder, `${TOP}contrib`);
+askPython(WRITE, folder, `${TOP}scripts`);
 
 const WIRES = ["TXC", "TXD", "RXC", "RXD"];
 
@@ -73,7 +73,7 @@ const SESSIONS = [
 
 for (const [name, channels] of SESSIONS) {
   test(`${name}: ${channels.join(" ")}`, async () => {
-    const words = [`${TOP}contrib/recording-to-bits`, ...channels];
+    const words = [`${TOP}scripts/recording-to-bits`, ...channels];
     const wanted = spawnSync("sh", ["-c", '"$@" < "$0"', join(folder, name), ...words], { maxBuffer: 1 << 28 });
     const got = await readBy(await openAsBlob(join(folder, name)), channels);
     assert.equal(got.stderr, wanted.stderr.toString());

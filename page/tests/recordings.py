@@ -1,4 +1,4 @@
-"""Writes recordings of simulated cabinets to a folder, and beside each what contrib/recording-to-bits makes of it.
+"""Writes recordings of simulated cabinets to a folder, and beside each what recording-to-bits makes of it.
 
     recordings.py FOLDER {few,all}
 
@@ -19,7 +19,7 @@ from typing import Callable, Dict, Iterator, List, NamedTuple, Sequence
 
 TOP = Path(__file__).resolve().parent.parent.parent
 
-sys.path[:0] = [str(TOP / "contrib"), str(TOP / "contrib" / "scripts")]
+sys.path[:0] = [str(TOP / "scripts"), str(TOP / "scripts" / "port1_scripts")]
 
 import numpy as np  # noqa: E402
 

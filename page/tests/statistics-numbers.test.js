@@ -6,7 +6,7 @@ import { test } from "node:test";
 import { Histogram } from "../src/statistics/histogram.js";
 import { ceilingQuotient, fixed, floorQuotient, product, quotient, rounded, sum } from "../src/statistics/numbers.js";
 import { wrapped } from "../src/statistics/wrap.js";
-import { askPython } from "./support/contrib.js";
+import { askPython } from "./support/scripts.js";
 import { randomOf } from "./support/random.js";
 
 const NUMBERS = `

@@ -1,13 +1,13 @@
-// The report against contrib/bus-summary, octet for octet.
+// The report against bus-summary, octet for octet.
 
 import assert from "node:assert/strict";
 import { test } from "node:test";
 
 import { Bus } from "../src/statistics/bus.js";
 import { report } from "../src/statistics/report.js";
-import { IS_WHOLE, askPython, runScript } from "./support/contrib.js";
+import { IS_WHOLE, askPython, runScript } from "./support/scripts.js";
 import { rowsOf } from "./support/listing.js";
-import { EXAMPLES, PROGRAM, contribRuns, failingBus, listedExample } from "./support/listings.js";
+import { EXAMPLES, PROGRAM, scriptRuns, failingBus, listedExample } from "./support/listings.js";
 import { madeDamage, madeListing } from "./support/made_listing.js";
 
 const RATES = [153600, 9600, 1, 7, 1_000_003, 12_000_000];
@@ -60,8 +60,8 @@ test("damage in bursts and spread, in more slots of time than are kept apart", (
   }
 });
 
-test("what contrib's own tests say that bus-summary writes", () => {
-  const runs = contribRuns("bus-summary");
+test("what its own tests say that bus-summary writes", () => {
+  const runs = scriptRuns("bus-summary");
   assert.ok(runs.length >= 6);
   for (const [words, input, wanted] of runs) {
     assert.deepEqual(words, ["bus-summary"]);

@@ -8,7 +8,7 @@ from version import version_of
 from .captures import CALLS, LAST_ORIGIN
 from .case import Case, fault
 
-HELP = Path(__file__).resolve().parent.parent / "help"
+HELP = Path(__file__).resolve().parent.parent.parent / "cli" / "help"
 
 # What may not be read.
 UNREAD = b"1" * 15

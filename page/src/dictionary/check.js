@@ -152,7 +152,7 @@ function inOrder(findings) {
 }
 
 /**
- * What is found in the text of a dictionary, in the order of its lines, as `contrib/check-dictionary` tells it. How
+ * What is found in the text of a dictionary, in the order of its lines, as `check-dictionary` tells it. How
  * long an argument of a command may be is not looked at, for nothing hands the text over in one.
  * @param {string} text
  * @param {any} schema examples/dictionary.schema.json

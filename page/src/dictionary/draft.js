@@ -158,7 +158,7 @@ function entryText(type, types) {
 }
 
 /**
- * The text of a first dictionary, as `contrib/draft-dictionary` writes it: each command with its answer after it.
+ * The text of a first dictionary, as `draft-dictionary` writes it: each command with its answer after it.
  * @param {Survey} survey
  * @returns {string}
  * @throws {Fault} where there is no typed frame

@@ -1,4 +1,4 @@
-/** Where the fields of the C library's structures are, in octets (include/port1.h). */
+/** Where the fields of the C library's structures are, in octets (c/include/port1.h). */
 export const LINE = { size: 360, place: 16, count: 80, octets: 88 };
 export const REPORT = { size: 24, kind: 0, cause: 4, first: 8, past: 16 };
 export const ENTRY = { size: 8, known: 0, length: 1, answered: 2, window: 4 };

@@ -1,4 +1,4 @@
-/** Numbers as Python rounds, reads and writes them, so that results are those of contrib/recording-to-bits. */
+/** Numbers as Python rounds, reads and writes them, so that results are those of recording-to-bits. */
 
 /**
  * The nearest whole number; from halfway, the even one.

@@ -49,7 +49,7 @@ function damageLines(bus) {
 }
 
 /**
- * The whole summary as text, as `contrib/bus-summary` writes it.
+ * The whole summary as text, as `bus-summary` writes it.
  * @param {import("./bus.js").Bus} bus
  * @returns {string}
  */

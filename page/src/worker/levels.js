@@ -17,7 +17,7 @@ function framesOf({ kinds, lines, length }, line) {
 
 /**
  * Warnings of the data of a recording, by its level: of a wire that never changes, and of one whose pair is exchanged.
- * @param {string[]} channels of the recording, as the script in contrib takes them
+ * @param {string[]} channels of the recording, as recording-to-bits takes them
  * @param {import("../engine/bits.js").KeptBits} bits
  * @param {import("../listing/listing.js").Listing} listing
  * @returns {import("../recording/doubts.js").Warning[]}

@@ -15,7 +15,7 @@ import { inWholeLines, piecesOf } from "./pieces.js";
  * @property {Blob} file
  * @property {"text"|"packed"|"listing"|"vcd"|"csv"|"session"} form
  * @property {1|2} lines of the bus, in a capture
- * @property {string[]} channels of a recording: clock and data of one line, or as the script in contrib takes them
+ * @property {string[]} channels of a recording: clock and data of one line, or as recording-to-bits takes them
  * @property {boolean} rising whether bits are taken at rising edges of the clock
  * @property {number} [inverted] which lines' data is inverted: 1, 2, or 3 for both
  * @property {number} [end] of the recording in bits, where a report says so of its listing

@@ -1,9 +1,9 @@
-// Listings of contrib's own tests, and of the examples where the program is built.
+// Listings of the scripts' own tests, and of the examples where the program is built.
 
 import { spawnSync } from "node:child_process";
 import { existsSync, readFileSync } from "node:fs";
 
-import { TOP, askPython } from "./contrib.js";
+import { TOP, askPython } from "./scripts.js";
 
 const RUNS = `
 sys.path.insert(0, sys.argv[1])
@@ -13,12 +13,12 @@ json.dump([[run.words, run.stdin.decode(), run.stdout.decode()] for run in runs]
 `;
 
 /**
- * The runs of a script in contrib's own tests: their words, what they read and what they are to write.
+ * The runs of a script in its own tests: their words, what they read and what they are to write.
  * @param {string} script
  * @returns {[string[], string, string][]}
  */
-export function contribRuns(script) {
-  return askPython(RUNS, null, `${TOP}contrib`).filter(([words]) => words[0] === script);
+export function scriptRuns(script) {
+  return askPython(RUNS, null, `${TOP}scripts`).filter(([words]) => words[0] === script);
 }
 
 const FAILING_BUS = `
@@ -39,7 +39,7 @@ json.dump(listing.octets().decode(), sys.stdout)
 `;
 
 /** What the generator of examples/port1-failure.bits says of it, as a listing of two lines. */
-export const failingBus = () => askPython(FAILING_BUS, null, `${TOP}contrib`);
+export const failingBus = () => askPython(FAILING_BUS, null, `${TOP}scripts`);
 
 /** The program, where it is built. */
 export const PROGRAM = [process.env.PORT1, `${TOP}crates/port1/out/port1`].find((path) => path && existsSync(path));

@@ -1,0 +1,7 @@
+"""Tests of the scripts, which scripts/self-test runs."""
+
+import sys
+from pathlib import Path
+
+# What they share with the tests of the whole repository: needs.py.
+sys.path.append(str(Path(__file__).resolve().parent.parent.parent / "tests"))

@@ -1,0 +1,774 @@
+"""Scripts over listings."""
+
+import json
+import os
+import random
+import re
+import subprocess
+import sys
+from pathlib import Path
+from typing import Any, Dict, Iterator, List, Sequence, Tuple
+
+from common.histogram import Histogram
+from tests.case import SCRIPTS, SECONDS, TOP, Run, listed, ran
+from tests.failing_bus import RATE, ROUNDS, failing_bus
+
+EXAMPLE = TOP / "examples" / "port1-failure.bits"
+
+EXAMPLE_DICTIONARY = (TOP / "examples" / "port1-failure.toml").read_text(encoding="ascii")
+
+# The lines of big listings, how long a summary of one may take, in seconds, and how much memory, in KiB.
+BIG = 1_000_000
+MOST_SECONDS = 30
+MOST_MEMORY = 60_000
+
+# How much more memory ten times as many lines may take, in KiB.
+MORE_MEMORY = 4_000
+
+# Each kind of line of a listing of one line of the bus.
+ONE_LINE = b"""\
+8 49 frame 108300fde5 station 16 type 0 call
+149 190 frame 108380f561 station 16 type 128 reply
+8 49 answered station 16 type 0
+198 214 damaged unaligned
+214 230 overlong
+230 238 abort
+238 253 idle
+307200 307232 frame 1083452c untyped
+307240 307272 frame 1013ccb8 control 19
+307280 307330 frame 10830aaabbfe13 station 16 type 10 unknown
+307340 307381 frame 108380f561 station 16 type 128 reply
+307340 307381 stray station 16 type 128
+307390 307431 missing station 17 type 1
+307390 307431 spoilt station 17 type 1
+307500 307501 open
+307390 307431 pending station 17 type 1
+"""
+
+ONE_LINE_OBJECTS = b"""\
+{"first": 8, "past": 49, "kind": "frame", "octets": "108300fde5", "station": 16, "type": 0, "name": "call"}
+{"first": 149, "past": 190, "kind": "frame", "octets": "108380f561", "station": 16, "type": 128, "name": "reply"}
+{"first": 8, "past": 49, "kind": "answered", "station": 16, "type": 0, "reply_bits": 100}
+{"first": 198, "past": 214, "kind": "damaged", "cause": "unaligned"}
+{"first": 214, "past": 230, "kind": "overlong"}
+{"first": 230, "past": 238, "kind": "abort"}
+{"first": 238, "past": 253, "kind": "idle"}
+{"first": 307200, "past": 307232, "kind": "frame", "octets": "1083452c", "station": 16}
+{"first": 307240, "past": 307272, "kind": "frame", "octets": "1013ccb8", "station": 16}
+{"first": 307280, "past": 307330, "kind": "frame", "octets": "10830aaabbfe13", "station": 16, "type": 10, \
+"name": "unknown"}
+{"first": 307340, "past": 307381, "kind": "frame", "octets": "108380f561", "station": 16, "type": 128, "name": "reply"}
+{"first": 307340, "past": 307381, "kind": "stray", "station": 16, "type": 128}
+{"first": 307390, "past": 307431, "kind": "missing", "station": 17, "type": 1}
+{"first": 307390, "past": 307431, "kind": "spoilt", "station": 17, "type": 1}
+{"first": 307500, "past": 307501, "kind": "open"}
+{"first": 307390, "past": 307431, "kind": "pending", "station": 17, "type": 1}
+"""
+
+TWO_LINES = b"""\
+2 0 15 idle
+1 153600 153641 frame 108300fde5 station 16 type 0 call
+2 154409 154450 frame 108380f561 station 16 type 128 reply
+1 153600 153641 late station 16 type 0
+"""
+
+TWO_LINES_OBJECTS = b"""\
+{"line": 2, "first": 0, "past": 15, "kind": "idle", "time": 0.0}
+{"line": 1, "first": 153600, "past": 153641, "kind": "frame", "octets": "108300fde5", "station": 16, "type": 0, \
+"name": "call", "time": 1.0}
+{"line": 2, "first": 154409, "past": 154450, "kind": "frame", "octets": "108380f561", "station": 16, "type": 128, \
+"name": "reply", "time": 1.005266927}
+{"line": 1, "first": 153600, "past": 153641, "kind": "late", "station": 16, "type": 0, "reply_bits": 768, \
+"time": 1.0, "reply_ms": 5.0}
+"""
+
+# The lines of a listing without a dictionary: three commands to two stations with answers, of two lengths, and others.
+PLAIN = b"""\
+8 49 frame 108300fde5
+149 190 frame 108380f561
+300 341 frame 118300fde5
+341 356 idle
+441 482 frame 118380f561
+500 541 frame 108300fde5
+548 564 damaged fcs
+600 641 frame 108380f561
+700 757 frame 138301aabbfde5
+800 849 frame 158301aafde5
+900 949 frame 158301aafde5
+1000 1032 frame 1083452c
+1100 1149 frame 108385aafde5
+"""
+
+DRAFT = b"""\
+# Drafted from a listing: numbers, lengths and `answered` are as seen there, the names are to be given by hand.
+version = 2
+# Left out: 1 frame with another control octet than 131, or without a type.
+
+# 3 frames, to stations 16, 17.
+[[frame]]
+type = 0
+name = "type0"
+length = 0
+answered = true
+# The longest time from a command to its answer was 100 bits; all 2 answers began within it.
+# window = 100
+
+# 3 frames, from stations 16, 17.
+[[frame]]
+type = 128
+name = "type128"
+length = 0
+
+# 3 frames, to stations 19, 21.
+# THE LENGTHS DIFFER: 1 in 2 frames, 2 in 1 frame.
+# Not marked as answered: no frame of type 129 was seen.
+[[frame]]
+type = 1
+name = "type1"
+length = 1
+
+# 1 frame, from station 16.
+# No command of type 5 was seen.
+[[frame]]
+type = 133
+name = "type133"
+length = 1
+"""
+
+
+class Listing:
+    """A listing of two lines of the bus, made line by line."""
+
+    def __init__(self) -> None:
+        self.texts: List[str] = []
+
+    def command(self, station: int, frame_type: int, first: int, name: str = "call") -> None:
+        octets = f"{station:02x}83{frame_type:02x}fde5"
+        self.texts.append(f"1 {first} {first + 41} frame {octets} station {station} type {frame_type} {name}")
+
+    def answer(self, station: int, frame_type: int, first: int, name: str = "reply") -> None:
+        octets = f"{station:02x}83{frame_type + 128:02x}fde5"
+        self.texts.append(f"2 {first} {first + 41} frame {octets} station {station} type {frame_type + 128} {name}")
+
+    def verdict(self, word: str, station: int, frame_type: int, first: int) -> None:
+        self.texts.append(f"1 {first} {first + 41} {word} station {station} type {frame_type}")
+
+    def exchange(self, station: int, frame_type: int, first: int, reply_bits: int, word: str = "answered") -> None:
+        self.command(station, frame_type, first)
+        self.answer(station, frame_type, first + 41 + reply_bits)
+        self.verdict(word, station, frame_type, first)
+
+    def damage(self, line: int, first: int, text: str = "damaged fcs") -> None:
+        self.texts.append(f"{line} {first} {first + 40} {text}")
+
+    def octets(self) -> bytes:
+        return "".join(text + "\n" for text in self.texts).encode()
+
+    def of_one_line(self) -> bytes:
+        return "".join(text[2:] + "\n" for text in self.texts).encode()
+
+
+def good_listing() -> Listing:
+    """Four commands, one each 10 ms, which are answered 100 bits later."""
+    listing = Listing()
+    for number in range(4):
+        listing.exchange(16, 0, 8 + number * 1536, 100)
+    return listing
+
+
+GOOD = b"""\
+0.031 s of one line at 153600 bits a second: 8 frames, 0 damaged pieces.
+
+Nothing is wrong: nothing is damaged, missing, spoilt or late, and no gap between commands stands out.
+
+                                                     bad  reply                     gap
+station type name sent answered late missing spoilt    %    min median 99 %  max  usual longest from s
+     16    0 call    4        4    0       0      0  0.0   0.65   0.65 0.65 0.65  10.00   10.00  0.000
+"""
+
+NAMELESS = b"""\
+0.007 s of one line at 153600 bits a second: 11 frames, 1 damaged piece.
+
+What is wrong, the most serious first:
+1. 1 piece is damaged; see below.
+The listing was made without a dictionary: which commands were answered, and when, is not known.
+
+                                                     bad  reply                    gap
+station type name sent answered late missing spoilt    %    min median 99 % max  usual longest from s
+     16    0 -       2        -    -       -      -    -      -      -    -   -      -    3.20  0.000
+     17    0 -       1        -    -       -      -    -      -      -    -   -      -       -      -
+     19    1 -       1        -    -       -      -    -      -      -    -   -      -       -      -
+     21    1 -       2        -    -       -      -    -      -      -    -   -      -    0.65  0.005
+
+Damage by cause: 1 fcs.
+"""
+
+EMPTY = b"""\
+0.000 s of one line at 153600 bits a second: 0 frames, 0 damaged pieces.
+
+The listing is empty: nothing is known of the bus. Where a fault was told, mend that first.
+"""
+
+NO_FRAMES = b"""\
+0.000 s of one line at 153600 bits a second: 0 frames, 0 damaged pieces.
+
+The listing has no frames: the bus had none, or a filter left them out.
+"""
+
+UNANSWERED = b"""\
+0.001 s of one line at 153600 bits a second: 2 frames, 0 damaged pieces.
+
+Nothing is wrong: nothing is damaged, missing, spoilt or late, and no gap between commands stands out.
+No command asked for an answer: the dictionary may lack `answered = true`.
+
+                                                     bad  reply                    gap
+station type name sent answered late missing spoilt    %    min median 99 % max  usual longest from s
+     16    0 call    1        -    -       -      -    -      -      -    -   -      -       -      -
+"""
+
+RATE_USAGE = "usage: {0} [-h] [--rate RATE]\n{0}: error: argument --rate: '{1}' is no whole number above 0\n"
+
+NO_TYPE = "the listing has no frame of a type"
+
+DRAFT_USAGE = "usage: draft-dictionary [-h]\ndraft-dictionary: error: unrecognized arguments: x.txt\n"
+
+# Texts that are no line of a listing.
+BAD_LINES = [
+    *["frames 2", "", "8 49", "8 49 frame", "8 49 frame 1083x", "3 8 49 idle", "8 49 damaged", "8 49 damaged soft"],
+    *["8 49 answered station 16", "8 49 idle more", " 8 49 idle", "8 49 idle ", "8 -9 idle", "8 49 frame 108", "\t"],
+]
+
+
+def bad_line(script: str, text: str) -> str:
+    return f"{script}: line 2 is no line of `port1 list`: {text.rstrip()!r}\n"
+
+
+RUNS = [
+    Run("each kind of line", ["list-to-jsonl"], ONE_LINE, ONE_LINE_OBJECTS),
+    Run("two lines, with times", ["list-to-jsonl", "--rate", "153600"], TWO_LINES, TWO_LINES_OBJECTS),
+    Run("nothing", ["list-to-jsonl"], b""),
+    Run("a last line without an end", ["list-to-jsonl"], b"8 9 open", b'{"first": 8, "past": 9, "kind": "open"}\n'),
+    Run("no rate", ["list-to-jsonl", "--rate", "0"], b"", b"", RATE_USAGE.format("list-to-jsonl", "0"), 2),
+    Run(
+        "octets above 127",
+        ["list-to-jsonl"],
+        b"8 9 open\n\xff8 9 open\n",
+        b'{"first": 8, "past": 9, "kind": "open"}\n',
+        "list-to-jsonl: line 2 is no line of `port1 list`: '\\\\xff8 9 open'\n",
+        2,
+    ),
+    *(
+        Run(
+            f"no line: {text!r}",
+            ["list-to-jsonl"],
+            f"8 9 open\n{text}\n".encode(),
+            b'{"first": 8, "past": 9, "kind": "open"}\n',
+            bad_line("list-to-jsonl", text),
+            2,
+        )
+        for text in BAD_LINES
+    ),
+    Run("a draft", ["draft-dictionary"], PLAIN, DRAFT),
+    Run("no typed frame", ["draft-dictionary"], b"8 40 frame 1083452c\n", b"", f"draft-dictionary: {NO_TYPE}\n", 2),
+    Run("no line", ["draft-dictionary"], b"8 9 open\n8 9\n", b"", bad_line("draft-dictionary", "8 9"), 2),
+    Run("a wrong call", ["draft-dictionary", "x.txt"], b"", b"", DRAFT_USAGE, 2),
+    Run("nothing wrong", ["bus-summary"], good_listing().of_one_line(), GOOD),
+    Run("two lines", ["bus-summary"], good_listing().octets(), GOOD.replace(b"one line", b"two lines")),
+    Run("no dictionary", ["bus-summary"], PLAIN, NAMELESS),
+    Run("an empty listing", ["bus-summary"], b"", EMPTY),
+    Run("no frames", ["bus-summary"], b"8 23 idle\n", NO_FRAMES),
+    Run("no verdicts", ["bus-summary"], b"".join(ONE_LINE.splitlines(True)[:2]), UNANSWERED),
+    Run("no line", ["bus-summary"], b"8 9 open\n8 9\n", b"", bad_line("bus-summary", "8 9"), 2),
+    Run("no rate", ["bus-summary", "--rate", "-1"], b"", b"", RATE_USAGE.format("bus-summary", "-1"), 2),
+]
+
+
+def summary_of(listing: bytes, *words: str) -> str:
+    got = ran(["bus-summary", *words], listing)
+    return got.stdout.decode() if got.returncode == 0 else f"status {got.returncode}: {got.stderr.decode()}"
+
+
+def sentences_of(summary: str) -> List[str]:
+    """The numbered sentences of a summary, each on one line."""
+    head = summary.partition("first:\n")[2].split("\n\n")[0]
+    texts: List[str] = []
+    for line in head.splitlines():
+        if re.match(r"\d+\. ", line):
+            texts.append(line.partition(". ")[2])
+        elif line.startswith("   ") and texts:
+            texts[-1] += " " + line.strip()
+    return texts
+
+
+def table_of(summary: str) -> Dict[Tuple[int, int], List[str]]:
+    """The cells of the table after the name, by station and type."""
+    body = summary.partition("from s\n")[2].split("\n\n")[0]
+    rows = [line.split() for line in body.splitlines()]
+    return {(int(row[0]), int(row[1])): row[3:] for row in rows}
+
+
+def differing(wanted: object, got: object, what: str) -> List[str]:
+    return [] if wanted == got else [f"{what}: wanted {wanted!r}, got {got!r}"]
+
+
+def polled(rounds: int, destroyed: Sequence[int], extra: Sequence[int] = ()) -> Listing:
+    """Two stations that are asked each 100 ms; some commands to station 16 are damaged, and other places of line 2."""
+    listing = Listing()
+    for number in range(rounds):
+        if number in destroyed:
+            listing.damage(1, 8 + number * 15360)
+        else:
+            listing.exchange(16, 0, 8 + number * 15360, 153)
+        if number in extra:
+            listing.damage(2, 3000 + number * 15360, "abort")
+        listing.exchange(17, 0, 8000 + number * 15360, 1536)
+    return listing
+
+
+def gap_with_damage(_: Path) -> List[str]:
+    """A gap of 600 ms at 3.2 s in which six pieces are damaged is the first thing told."""
+    summary = summary_of(polled(50, range(33, 38), [10, 35, 45]).octets())
+    wanted = (
+        "Station 16 got no type 0 (call) for 600 ms from 3.200 s on (place 491528). Usually it gets one each 100 ms,"
+        " so 5 are lacking. 6 damaged pieces lay within (line 1: 5 fcs; line 2: 1 abort): commands may have been"
+        " destroyed."
+    )
+    problems = differing([wanted, "8 pieces are damaged; see below."], sentences_of(summary), "sentences")
+    cells = ["45", "45", "0", "0", "0", "0.0", "1.00", "1.00", "1.00", "1.00", "100.00", "600.00", "3.200"]
+    problems += differing(cells, table_of(summary).get((16, 0)), "table")
+    cells = ["50", "50", "0", "0", "0", "0.0", "10.00", "10.00", "10.00", "10.00", "100.00", "100.00", "0.052"]
+    problems += differing(cells, table_of(summary).get((17, 0)), "table")
+    wanted = (
+        "Damage by cause: line 1: 5 fcs; line 2: 3 abort.\nMost of it lies here:\n"
+        "  3.200 to 3.800 s: 6 pieces, 75 % of all\n"
+    )
+    return problems + differing(wanted, summary[summary.index("Damage by cause:") :], "damage")
+
+
+NONE_SENT = "Nothing damaged lay within, but other frames: it seems that none were sent."
+
+
+def gaps_in_order(_: Path) -> List[str]:
+    """The longest gap against the usual one comes first, and gaps of a kind are counted, also those at both ends."""
+    listing = Listing()
+    for number in range(100):
+        if number not in (20, 21, 22, 40):
+            listing.command(16, 0, number * 15360)
+        if 10 <= number < 50:
+            listing.command(17, 3, number * 15360 + 500)
+        if number % 10 == 0:
+            listing.command(18, 7, number * 15360 + 900)
+    wanted = [
+        "Station 17 got no type 3 (call) for 4997 ms from 4.903 s on (place 753140), until the end of the listing."
+        f" Usually it gets one each 100 ms, so 49 are lacking. {NONE_SENT}",
+        "Station 17 got no type 3 (call) for 1003 ms from 0.000 s on (place 0), from the beginning of the listing on."
+        f" Usually it gets one each 100 ms, so 9 are lacking. {NONE_SENT}",
+        "Station 16 got no type 0 (call) for 400 ms from 1.900 s on (place 291840). Usually it gets one each 100 ms,"
+        f" so 3 are lacking. {NONE_SENT} 1 other gap of this kind stands out too.",
+    ]
+    return differing(wanted, sentences_of(summary_of(listing.octets())), "sentences")
+
+
+def gap_of_a_line_at_rest(_: Path) -> List[str]:
+    """Where nothing at all is on the line; here at 9600 bits a second."""
+    listing = Listing()
+    for number in [*range(10), *range(15, 20)]:
+        listing.command(16, 0, number * 960)
+    wanted = [
+        "Station 16 got no type 0 (call) for 600 ms from 0.900 s on (place 8640). Usually it gets one each 100 ms, so 5"
+        " are lacking. No frame and nothing damaged lay within: the line was at rest."
+    ]
+    summary = summary_of(listing.of_one_line(), "--rate", "9600")
+    return differing(wanted, sentences_of(summary), "sentences")
+
+
+def uneven_polls(_: Path) -> List[str]:
+    """Commands two by two are how the bus is, and no fault; a gap among them is one all the same."""
+    even, holed = Listing(), Listing()
+    for number in range(60):
+        for first in (number * 15360, number * 15360 + 1536):
+            even.command(16, 0, first)
+            if number != 30:
+                holed.command(16, 0, first)
+    problems = differing([], sentences_of(summary_of(even.octets())), "two by two")
+    told = sentences_of(summary_of(holed.octets()))
+    is_told = len(told) == 1 and told[0].startswith("Station 16 got no type 0 (call) for 190 ms from 2.910 s on")
+    return problems if is_told else [*problems, f"with a gap: {told}"]
+
+
+def gap_among_few(_: Path) -> List[str]:
+    """One gap of three is told; where there are two, none is usual."""
+    problems = []
+    for count, told in [(4, True), (3, False)]:
+        listing = Listing()
+        for first in [0, 15360, 107520, 122880][:count]:
+            listing.command(16, 0, first)
+        got = [text.partition(" from")[0] for text in sentences_of(summary_of(listing.octets()))]
+        wanted = ["Station 16 got no type 0 (call) for 600 ms"] if told else []
+        problems += differing(wanted, got, f"{count} commands")
+    return problems
+
+
+def silent_and_missing(_: Path) -> List[str]:
+    """A station that never answers, one that answers one type only, and one that fails now and then."""
+    listing = Listing()
+    for number in range(12):
+        first = number * 15360
+        for station, frame_type, place in [(1, 1, first), (1, 2, first + 1000), (2, 1, first + 2000)]:
+            listing.command(station, frame_type, place)
+            listing.verdict("missing", station, frame_type, place)
+        listing.exchange(2, 2, first + 3000, 100)
+        listing.command(3, 1, first + 4000)
+        if number in (2, 7, 8, 9):
+            listing.verdict("missing", 3, 1, first + 4000)
+        else:
+            listing.answer(3, 1, first + 4141)
+            listing.verdict("answered", 3, 1, first + 4000)
+        listing.command(4, 1, first + 5000)
+        listing.answer(4, 1, first + 5100, "length")
+        listing.texts.append(f"2 {first + 5100} {first + 5141} stray station 4 type 129")
+        listing.verdict("missing", 4, 1, first + 5000)
+    wanted = [
+        "Station 1 is silent: it answered none of 24 commands, of type 1 (call), type 2 (call).",
+        "Station 2 answered none of 12 commands of type 1 (call), but others.",
+        "Station 4 is silent: it answered none of 12 commands, of type 1 (call). In place of the answer came 12 times"
+        " another one, last of station 4, type 129, length.",
+        "Station 3 gave no answer to 4 of 12 commands of type 1 (call), 3 in a row from 0.726 s on.",
+        "12 frames of another length than in the dictionary, most of station 4 type 129: 12.",
+        "12 strays, frames of answers to no command, most of station 4 type 129: 12.",
+    ]
+    return differing(wanted, sentences_of(summary_of(listing.octets())), "sentences")
+
+
+def late_and_spoilt(_: Path) -> List[str]:
+    """Late answers with their times, against those in time; spoilt ones with the line of the damage."""
+    listing = Listing()
+    for number in range(10):
+        first = number * 15360
+        word = "late" if number in (3, 4) else "answered"
+        listing.exchange(2, 1, first, 1536 * (number + 1), word)
+        listing.command(3, 1, first + 8000 - 16)
+        if number in (5, 6, 7):
+            listing.damage(1 if number == 7 else 2, first + 8100)
+            listing.verdict("spoilt", 3, 1, first + 8000 - 16)
+        else:
+            listing.answer(3, 1, first + 8100)
+            listing.verdict("answered", 3, 1, first + 8000 - 16)
+    listing.command(2, 1, 10 * 15360)
+    listing.verdict("pending", 2, 1, 10 * 15360)
+    wanted = [
+        "Station 2 answered 2 of 10 commands of type 1 (call) late: after 40 to 50 ms; in time after 10 to 100 ms.",
+        "Of station 3's answers to 10 commands of type 1 (call) 3 may have been spoilt: damage came first (1 on line 1"
+        " and 2 on line 2).",
+        "3 pieces are damaged; see below.",
+    ]
+    summary = summary_of(listing.octets())
+    problems = differing(wanted, sentences_of(summary), "sentences")
+    problems += differing(["11", "8", "2", "0", "0", "20.0"], table_of(summary)[2, 1][:6], "late")
+    return problems + differing(["10", "7", "0", "0", "3", "30.0"], table_of(summary)[3, 1][:6], "spoilt")
+
+
+def exchanged_lines(_: Path) -> List[str]:
+    """Commands that come on the second line."""
+    listing = good_listing()
+    listing.texts = [("2" if text[0] == "1" else "1") + text[1:] for text in listing.texts if "answered" not in text]
+    told = sentences_of(summary_of(listing.octets()))
+    return differing(["4 commands came on line 2: are the two lines exchanged?"], told, "sentences")
+
+
+def many_of_one_sort(_: Path) -> List[str]:
+    """Six sentences of a sort, and how many more there are; what waits at the end is told too."""
+    listing = Listing()
+    for station in range(20):
+        listing.command(station, 1, station * 1000)
+        listing.verdict("missing", station, 1, station * 1000)
+    listing.command(30, 1, 30_000)
+    listing.verdict("pending", 30, 1, 30_000)
+    summary = summary_of(listing.octets())
+    told = sentences_of(summary)
+    problems = differing(7, len(told), "sentences")
+    problems += differing("And 14 more of this sort; the table has them.", told[-1] if told else "", "the last")
+    is_told = "\n1 command at the end still waits for an answer.\n" in summary
+    return problems if is_told else [*problems, "the pending command is not told"]
+
+
+def quantile(times: Sequence[int], percent: int) -> int:
+    """By the definition: the least time that so many hundredths do not exceed."""
+    return next(time for time in sorted(times) if 100 * sum(other <= time for other in times) >= percent * len(times))
+
+
+def reply_times(_: Path) -> List[str]:
+    """Known times, of which short ones are told exactly, and long ones as near as two digits show."""
+    generator = random.Random(11)
+    problems = []
+    for most, count in [(2048, 1), (2048, 2), (2048, 99), (2048, 100), (16384, 501), (150_000, 400)]:
+        times = [generator.randrange(8, most) for _ in range(count)]
+        listing = Listing()
+        for number, reply_bits in enumerate(times):
+            listing.exchange(16, 0, number * 200_000, reply_bits, generator.choice(["answered", "late"]))
+        got = table_of(summary_of(listing.octets()))[16, 0][6:10]
+        wanted = [min(times), quantile(times, 50), quantile(times, 99), max(times)]
+        exact = [f"{1000 * bits / RATE:.2f}" for bits in wanted]
+        far = [abs(float(shown) * RATE / 1000 - bits) > 0.00013 * bits + 1 for shown, bits in zip(got, wanted)]
+        if any(far) or (most <= 16384 and got != exact):
+            problems.append(f"{count} times up to {most} bits: wanted {exact}, got {got}")
+    return problems
+
+
+def histograms(_: Path) -> List[str]:
+    """Against lists, and that memory is bounded."""
+    generator = random.Random(12)
+    problems = []
+    for _round in range(60):
+        numbers = [generator.randrange(1 << generator.randrange(1, 40)) for _ in range(generator.randrange(1, 60))]
+        halves = [Histogram(), Histogram()]
+        for number in numbers:
+            generator.choice(halves).add(number)
+        both = halves[0].with_those_of(halves[1])
+        problems += differing((min(numbers), max(numbers), len(numbers)), (both.least, both.most, both.total), "ends")
+        for percent in (1, 50, 90, 99, 100):
+            exact = quantile(numbers, percent)
+            if not exact * 0.99987 <= both.quantile(percent) <= exact:
+                problems.append(f"{percent} % of {numbers}: {both.quantile(percent)}, not {exact}")
+        limit = generator.randrange(16384)
+        problems += differing(sum(number > limit for number in numbers), both.above(limit), "above")
+    full = Histogram()
+    for number in range(0, 1 << 22, 7):
+        full.add(number)
+    return problems + ([] if len(full.counts) <= 16384 + 8 * 8192 else [f"{len(full.counts)} counts"])
+
+
+def damage_in_time(_: Path) -> List[str]:
+    """Damage in two stretches of an hour, and as much again spread over it; then spread alone."""
+    generator = random.Random(13)
+    spread = [generator.randrange(3600 * RATE) for _ in range(40)]
+    first = [generator.randrange(810 * RATE, 830 * RATE) for _ in range(100)]
+    second = [generator.randrange(2410 * RATE, 2590 * RATE) for _ in range(60)]
+    problems = []
+    for places, wanted in [
+        (spread + first + second, [(800, 1000, first), (2400, 2600, second)]),
+        (spread, []),
+    ]:
+        listing = Listing()
+        listing.command(16, 0, 0)
+        for place in sorted(places):
+            listing.damage(1, place)
+        listing.command(16, 0, 3600 * RATE - 41)
+        lines = summary_of(listing.octets()).partition("Most of it lies here:\n")[2].splitlines()
+        counts = [(begin, end, sum(begin * RATE <= place < end * RATE for place in places)) for begin, end, _ in wanted]
+        texts = [
+            f"  {begin}.000 to {end}.000 s: {count} pieces, {100 * count / len(places):.0f} % of all"
+            for begin, end, count in counts
+        ]
+        problems += differing(texts, lines, "stretches")
+    return problems
+
+
+def example_is_generated(_: Path) -> List[str]:
+    """The example is what its generator makes."""
+    same = EXAMPLE.read_text(encoding="ascii") == failing_bus().text()
+    return [] if same else [f"{EXAMPLE} is not what tests/failing_bus.py makes"]
+
+
+def near(text: str, bits: int) -> bool:
+    """Whether a text says how many milliseconds so many bits are, to half a unit of three digits."""
+    exact = 1000 * bits / RATE
+    return abs(float(text) - exact) <= (0.00501 if exact < 10 else 0.0501 if exact < 100 else 0.501)
+
+
+MONITOR = re.compile(
+    r"Station 16 got no type 0 \(outputs\) for ([\d.]+) ms from ([\d.]+) s on \(place (\d+)\)\. Usually it gets one"
+    r" each ([\d.]+) ms, so 5 are lacking\. 5 damaged pieces lay within \(line 1: [^:]*\): commands may have been"
+    r" destroyed\."
+)
+
+LATE = re.compile(
+    r"Station 2 answered 8 of 25 commands of type 1 \(poll\) late: after ([\d.]+) to ([\d.]+) ms; in time after"
+    r" ([\d.]+) to ([\d.]+) ms\."
+)
+
+
+def problems_of_gap(text: str) -> List[str]:
+    """What is wrong with the sentence on station 16, by how the example was made."""
+    found = MONITOR.fullmatch(text)
+    monitor = [command for command in failing_bus().told if command.station == 16]
+    destroyed = [number for number, command in enumerate(monitor) if command.fate == "destroyed"]
+    before, after = monitor[destroyed[0] - 1].first, monitor[destroyed[-1] + 1].first
+    sent = [command.first for command in monitor if command.fate != "destroyed"]
+    usual = quantile([later - earlier for earlier, later in zip(sent, sent[1:])], 50)
+    if found is None or len(destroyed) != 5 or destroyed[-1] - destroyed[0] != 4:
+        return [f"the gap: {text}"]
+    good = near(found[1], after - before) and found[3] == str(before) and near(found[4], usual)
+    return [] if good and found[2] == f"{before / RATE:.3f}" else [f"the gap: {text}"]
+
+
+def problems_of_late(text: str) -> List[str]:
+    found = LATE.fullmatch(text)
+    told = [command for command in failing_bus().told if command.station == 2]
+    late = [command.reply_bits for command in told if command.fate == "late"]
+    in_time = [command.reply_bits for command in told if command.fate == "answered"]
+    wanted = [min(late), max(late), min(in_time), max(in_time)]
+    good = found is not None and len(late) == 8 and all(near(part, bits) for part, bits in zip(found.groups(), wanted))
+    return [] if good else [f"late: {text}"]
+
+
+def summary_of_example(_: Path) -> List[str]:
+    """The three findings, in their order, and the numbers in the table."""
+    listing = listed(EXAMPLE.read_bytes(), ["--bits", "--two", "--dict", EXAMPLE_DICTIONARY]).stdout
+    summary = summary_of(listing)
+    told = sentences_of(summary)
+    if len(told) != 4:
+        return [f"sentences: {told}"]
+    silent = f"Station 1 is silent: it answered none of {ROUNDS} commands, of type 1 (poll)."
+    problems = problems_of_gap(told[0]) + problems_of_late(told[2])
+    problems += differing([silent, "5 pieces are damaged; see below."], [told[1], told[3]], "sentences")
+    cells = {kind: row[:6] for kind, row in table_of(summary).items()}
+    wanted = {
+        (1, 1): ["25", "0", "0", "25", "0", "100.0"],
+        (2, 1): ["25", "17", "8", "0", "0", "32.0"],
+        (16, 0): ["20", "20", "0", "0", "0", "0.0"],
+    }
+    return problems + differing(wanted, cells, "table")
+
+
+def example_places(_: Path) -> List[str]:
+    """Each command of the example becomes in the listing what the generator meant it to."""
+    listing = listed(EXAMPLE.read_bytes(), ["--bits", "--two", "--dict", EXAMPLE_DICTIONARY]).stdout
+    words = [line.split() for line in listing.decode().splitlines()]
+    fates = {int(word[1]): word[3] for word in words if word[4:5] == ["station"]}
+    told = failing_bus().told
+    wanted = {command.first: command.fate for command in told if command.fate != "destroyed"}
+    return differing(wanted, fates, "places")
+
+
+def objects_of(listing: bytes, *words: str) -> List[Dict[str, Any]]:
+    return [json.loads(line) for line in ran(["list-to-jsonl", *words], listing).stdout.splitlines()]
+
+
+def objects_of_example(_: Path) -> List[str]:
+    """The objects of a listing of the program, against its words, and the times to answers against the truth."""
+    listing = listed(EXAMPLE.read_bytes(), ["--bits", "--two", "--dict", EXAMPLE_DICTIONARY]).stdout
+    objects = objects_of(listing, "--rate", str(RATE))
+    words = [line.split() for line in listing.decode().splitlines()]
+    heads = [(int(word[0]), int(word[1]), int(word[2]), word[3]) for word in words]
+    got = [(found["line"], found["first"], found["past"], found["kind"]) for found in objects]
+    problems = differing(heads, got, "heads")
+    replies = [(found["first"], found["reply_bits"]) for found in objects if "reply_bits" in found]
+    truth = [(command.first, command.reply_bits) for command in failing_bus().told if command.reply_bits]
+    problems += differing(sorted(truth), sorted(replies), "replies")
+    wrong = [found for found in objects if abs(found["time"] - found["first"] / RATE) > 1e-8]
+    timed = [found for found in objects if "reply_ms" in found]
+    wrong += [found for found in timed if abs(found["reply_ms"] * 153.6 - found["reply_bits"]) > 1e-3]
+    return problems + [f"times: {found}" for found in wrong]
+
+
+def typed_frames(generator: random.Random) -> List[Tuple[int, int]]:
+    """Types and lengths, each type with the length that most of its frames have."""
+    return [(number, generator.randrange(200)) for number in generator.sample(range(256), 60)]
+
+
+def drafts_are_accepted(_: Path) -> List[str]:
+    """A draft is a dictionary that fits all frames it was made from, of random types and of the example."""
+    generator = random.Random(14)
+    problems = []
+    frames = [
+        bytes([generator.randrange(255), 0x83, number, *(generator.randrange(256) for _ in range(length))])
+        for number, length in typed_frames(generator)
+    ]
+    text = "".join(f"frame {frame.hex()}\n" for frame in frames for _ in range(2)).encode()
+    encoded = subprocess.run([os.environ["PORT1"], "encode"], input=text, stdout=subprocess.PIPE, check=True).stdout
+    for capture, options in [(encoded, ["--bits"]), (EXAMPLE.read_bytes(), ["--bits", "--two"])]:
+        draft = ran(["draft-dictionary"], listed(capture, options).stdout).stdout.decode()
+        for dictionary in (draft, draft.replace("# window", "window")):
+            got = listed(capture, [*options, "--dict", dictionary.rstrip("\n")])
+            names = [found.get("name", "") for found in objects_of(got.stdout) if found["kind"] == "frame"]
+            if got.returncode != 0 or not names or not all(name.startswith("type") for name in names):
+                problems.append(f"status {got.returncode}, {got.stderr!r}, {set(names)}")
+    return problems
+
+
+def draft_of_example(_: Path) -> List[str]:
+    """The types, lengths and times that the generator put in; with the window of the draft nothing is late."""
+    draft = ran(["draft-dictionary"], listed(EXAMPLE.read_bytes(), ["--bits", "--two"]).stdout).stdout.decode()
+    wanted = []
+    for number, length in [(0, 2), (128, 2), (1, 0), (129, 2)]:
+        wanted += [f"type = {number}", f'name = "type{number}"', f"length = {length}"]
+        if number < 128:
+            station = 2 if number else 16
+            longest = max(command.reply_bits for command in failing_bus().told if command.station == station)
+            wanted += ["answered = true", f"# window = {longest}"]
+    got = [line for line in draft.splitlines() if " = " in line and line[:6] not in ("versio", "[[fram")]
+    return differing(wanted, got, "entries")
+
+
+def big_listing(count: int) -> Iterator[bytes]:
+    """Exchanges with five stations on two lines, an idle time after each answer, and damage now and then."""
+    generator = random.Random(16)
+    for number in range(count // 4):
+        listing = Listing()
+        first = number * 1536 + 8
+        if generator.randrange(50) == 0:
+            for piece in range(4):
+                listing.damage(1 + piece % 2, first + 100 * piece)
+        else:
+            reply_bits = generator.randrange(16, 900)
+            listing.exchange(16 + number % 5, 0, first, reply_bits)
+            listing.texts.append(f"1 {first + reply_bits + 20} {first + reply_bits + 35} idle")
+        yield listing.octets()
+
+
+# Runs a program whose usage is not that of the process of the tests, and writes its seconds and KiB.
+MEASURE = """
+import resource, subprocess, sys
+subprocess.run(sys.argv[1:], stdout=subprocess.DEVNULL, check=True)
+usage = resource.getrusage(resource.RUSAGE_CHILDREN)
+print(usage.ru_utime + usage.ru_stime, usage.ru_maxrss)
+"""
+
+
+def timed(script: str, listing: Path) -> Tuple[float, int]:
+    """How many seconds of a processor a script needs for a listing, and how much memory, in KiB."""
+    words = [sys.executable, "-c", MEASURE, SCRIPTS / script]
+    with listing.open("rb") as source:
+        measured = subprocess.run(words, stdin=source, stdout=subprocess.PIPE, check=True, timeout=SECONDS)
+    seconds, memory = measured.stdout.split()
+    return float(seconds), int(memory)
+
+
+def big_listings(folder: Path) -> List[str]:
+    """A million lines, in a time that slow machines keep too, and in memory that does not grow."""
+    small, big = folder / "small.txt", folder / "big.txt"
+    for file, count in [(small, BIG // 10), (big, BIG)]:
+        with file.open("wb") as sink:
+            sink.writelines(big_listing(count))
+    problems = []
+    for script in ("bus-summary", "draft-dictionary", "list-to-jsonl"):
+        (_, little), (seconds, much) = timed(script, small), timed(script, big)
+        if seconds > MOST_SECONDS:
+            problems.append(f"{script}: {seconds:.1f} s")
+        if much > MOST_MEMORY or much - little > MORE_MEMORY:
+            problems.append(f"{script}: {little} KiB, then {much} KiB")
+    return problems
+
+
+TESTS = [
+    gap_with_damage,
+    gaps_in_order,
+    gap_of_a_line_at_rest,
+    uneven_polls,
+    gap_among_few,
+    silent_and_missing,
+    late_and_spoilt,
+    exchanged_lines,
+    many_of_one_sort,
+    reply_times,
+    histograms,
+    damage_in_time,
+    example_is_generated,
+    example_places,
+    summary_of_example,
+    objects_of_example,
+    drafts_are_accepted,
+    draft_of_example,
+    big_listings,
+]

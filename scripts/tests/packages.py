@@ -1,0 +1,462 @@
+"""The C library as `make install-library` packs it, in a folder that is then moved: pkg-config, CMake and Python."""
+
+import os
+import random
+import re
+import shutil
+import subprocess
+import sys
+from pathlib import Path
+from typing import Dict, List, Optional, Sequence, Tuple
+
+from needs import Skipped, needs
+from tests.case import CALL, ONE_CALL, REPLY, SECONDS, TOP
+from tests.case import Run, Test, Word, listed, packed, plain, random_bits, written_by
+
+RUNS: List[Run] = []
+
+ARCHIVE = TOP / "crates" / "port1_c" / "out" / "libport1_c.a"
+
+MODULE = TOP / "bindings" / "python"
+
+ONE_FRAME = "8 49 frame 108300fde5\n"
+
+# A project that links each example with each library, one of them as C++.
+CMAKE = """cmake_minimum_required(VERSION 3.10)
+project(user C CXX)
+find_package(port1 {version} REQUIRED)
+configure_file("{examples}/live.c" live.cpp COPYONLY)
+foreach(target port1 shared)
+  add_executable(list-${{target}} "{examples}/list.c")
+  add_executable(live-${{target}} ${{CMAKE_CURRENT_BINARY_DIR}}/live.cpp)
+  target_link_libraries(list-${{target}} PRIVATE port1::${{target}})
+  target_link_libraries(live-${{target}} PRIVATE port1::${{target}})
+endforeach()
+"""
+
+
+
+def make(target: str, words: Sequence[Word]) -> None:
+    subprocess.run(["make", "-s", "-C", TOP, target, *words], check=True, capture_output=True, timeout=SECONDS)
+
+
+def moved(folder: Path) -> Path:
+    """Where the library is after it was installed elsewhere and moved."""
+    needs("make")
+    needs("cc")
+    if not ARCHIVE.exists():
+        raise Skipped(f"no {ARCHIVE.relative_to(TOP)}; `make` builds it")
+    prefix, elsewhere = folder / "first", folder / "then moved"
+    make("install-library", [f"PREFIX={prefix}", f"PYTHONDIR={prefix / 'lib' / 'python'}"])
+    prefix.rename(elsewhere)
+    return elsewhere
+
+
+def unlike(what: str, wanted: object, got: object) -> List[str]:
+    return [] if wanted == got else [f"{what}: wanted {wanted!r}, got {got!r}"]
+
+
+def told(words: Sequence[Word], stdin: bytes = b"", **settings: str) -> str:
+    """What a program writes, on standard error too."""
+    ran = subprocess.run(
+        words,
+        input=stdin,
+        stdout=subprocess.PIPE,
+        stderr=subprocess.STDOUT,
+        env={**os.environ, **settings},
+        timeout=SECONDS,
+    )
+    return ran.stdout.decode(errors="replace")
+
+
+def made_without_a_toolchain(folder: Path) -> List[str]:
+    """With the library installed, copies of the examples in C and of the decoder for sigrok are made without `rt`."""
+    needs("make", "cc", "c++", "pkg-config")
+    if not ARCHIVE.exists():
+        raise Skipped(f"no {ARCHIVE.relative_to(TOP)}; `make` builds it")
+    prefix = folder / "prefix"
+    make("install", [f"PREFIX={prefix}", f"PROGRAM={os.environ['PORT1']}"])
+    shutil.copytree(prefix / "share" / "doc" / "port1" / "examples" / "c", folder / "c")
+    shutil.copytree(prefix / "share" / "port1" / "contrib", folder / "contrib", symlinks=True)
+    settings = {"PKG_CONFIG_PATH": str(prefix / "lib" / "pkgconfig"), "PATH": "/usr/bin:/bin"}
+    problems = []
+    for place in ["c", "contrib/sigrok"]:
+        said = told(["make", "-s", "-C", folder / place], b"", **settings)
+        problems += unlike(f"make -C {place}", "", said)
+    problems += unlike("list", ONE_FRAME, told([folder / "c" / "list"], ONE_CALL))
+    decoder = folder / "contrib" / "sigrok" / "out" / "nema_port1" / "libport1.so"
+    return problems + ([] if decoder.is_file() else [f"there is no {decoder}"])
+
+
+def shared_library(folder: Path) -> List[str]:
+    """Its name, that it exports the functions of the header alone, and that its text is shared."""
+    needs("nm")
+    needs("readelf")
+    library = moved(folder) / "lib" / "libport1.so.2"
+    header = (TOP / "c" / "include" / "port1.h").read_text(encoding="ascii")
+    wanted = sorted(re.findall(r"^uint32_t (port1_\w+)\(", header, re.MULTILINE))
+    exported = re.findall(r" (\w) (\S+)$", told(["nm", "-D", "--defined-only", library]), re.MULTILINE)
+    entries = told(["readelf", "-d", library])
+    link = library.with_name("libport1.so")
+    return [
+        *unlike("exported", [("T", name) for name in wanted], sorted(exported, key=lambda pair: pair[1])),
+        *unlike("name", ["libport1.so.2"], re.findall(r"\(SONAME\).*\[(.*)\]", entries)),
+        *unlike("libraries that it needs", ["libc.so.6"], re.findall(r"\(NEEDED\).*\[(.*)\]", entries)),
+        *unlike("text that is changed where it is loaded", False, "TEXTREL" in entries),
+        *unlike("link", "libport1.so.2", os.readlink(link)),
+    ]
+
+
+def by_pkg_config(folder: Path) -> List[str]:
+    """The examples, linked with what pkg-config says, and with the shared library in place of the archive."""
+    needs("pkg-config")
+    needs("readelf")
+    prefix = moved(folder)
+    examples = prefix / "share" / "doc" / "port1" / "examples" / "c"
+    rows = {"static": "", "shared": " | sed s/-lport1_c/-lport1/"}
+    problems = []
+    for name, turned in rows.items():
+        command = f'eval "cc -std=c99 -o \\"\\$1\\" \\"\\$2\\" $(pkg-config --cflags --libs port1{turned})"'
+        words: List[Word] = ["sh", "-c", command, "sh", folder / name, examples / "list.c"]
+        settings = {"PKG_CONFIG_PATH": str(prefix / "lib" / "pkgconfig"), "LD_LIBRARY_PATH": str(prefix / "lib")}
+        problems += unlike(f"{name}: cc", "", told(words, b"", **settings))
+        problems += unlike(name, ONE_FRAME, told([folder / name], ONE_CALL, **settings))
+        needed = told(["readelf", "-d", folder / name])
+        problems += unlike(f"{name} needs it", name == "shared", "[libport1.so.2]" in needed)
+    shown = told(["pkg-config", "--modversion", "port1"], PKG_CONFIG_PATH=str(prefix / "lib" / "pkgconfig"))
+    version = told([os.environ["PORT1"], "--version"]).split()[1]
+    return problems + unlike("version", f"{version}\n", shown)
+
+
+def configured(folder: Path, prefix: Path, version: str) -> str:
+    """What cmake says of a project that wants a version."""
+    examples = prefix / "share" / "doc" / "port1" / "examples" / "c"
+    folder.mkdir()
+    (folder / "CMakeLists.txt").write_text(CMAKE.format(version=version, examples=examples))
+    return told(["cmake", "-S", folder, "-B", folder / "out", f"-DCMAKE_PREFIX_PATH={prefix}"])
+
+
+def by_cmake(folder: Path) -> List[str]:
+    """A project that finds the library, links both forms of it in C and C++, and runs."""
+    for tool in ("cmake", "c++"):
+        needs(tool)
+    prefix, work = moved(folder), folder / "work"
+    (asked,) = re.findall(r"^find_package\(port1 (.*) REQUIRED\)$", (TOP / "docs" / "C.md").read_text("utf-8"), re.M)
+    said = configured(work, prefix, asked)
+    built = subprocess.run(["cmake", "--build", work / "out"], capture_output=True, text=True, timeout=SECONDS)
+    if built.returncode:
+        return [said, built.stdout + built.stderr]
+    problems = []
+    for target in ("port1", "shared"):
+        problems += unlike(f"list-{target}", ONE_FRAME, told([work / "out" / f"list-{target}"], ONE_CALL))
+        live = told([work / "out" / f"live-{target}"], ONE_CALL[16:])
+        problems += unlike(f"live-{target}", "49: 10 83 00 fd e5\n", live)
+        needed = told(["readelf", "-d", work / "out" / f"list-{target}"])
+        problems += unlike(f"list-{target} needs it", target == "shared", "[libport1.so.2]" in needed)
+    return problems
+
+
+def versions_to_ask_for() -> Dict[str, bool]:
+    """The versions that a project may ask for, and whether that of the program suits it."""
+    shown = told([os.environ["PORT1"], "--version"]).split()[1]
+    first, second, _ = map(int, shown.split("."))
+    suiting = ["", f"{first}", f"{first}.{second}", f"{shown} EXACT", *(f"{first}.{older}" for older in range(second))]
+    others = [f"{first}.{second + 1}", f"{first + 1}", f"{first - 1}.9", f"{first}.{second}.99 EXACT"]
+    return {**{version: True for version in suiting}, **{version: False for version in others}}
+
+
+def versions_by_cmake(folder: Path) -> List[str]:
+    """Which versions a project may ask for."""
+    for tool in ("cmake", "c++"):
+        needs(tool)
+    prefix = moved(folder)
+    problems = []
+    for number, (version, suits) in enumerate(versions_to_ask_for().items()):
+        said = configured(folder / f"work-{number}", prefix, version)
+        problems += unlike(f"version {version!r}", suits, "Generating done" in said)
+    return problems
+
+
+def without_shared_library(folder: Path) -> List[str]:
+    """With no shared library, cmake has the target of the archive alone."""
+    needs("cmake")
+    needs("make")
+    if not ARCHIVE.exists():
+        raise Skipped(f"no {ARCHIVE.relative_to(TOP)}; `make` builds it")
+    prefix, work = folder / "prefix", folder / "work"
+    make("install-library", [f"PREFIX={prefix}", "SHARED="])
+    work.mkdir()
+    (work / "CMakeLists.txt").write_text(
+        "cmake_minimum_required(VERSION 3.10)\nproject(user C)\nfind_package(port1 REQUIRED)\n"
+        'foreach(name port1 shared)\nif(TARGET port1::${name})\nmessage("there is ${name}")\nendif()\nendforeach()\n'
+    )
+    said = told(["cmake", "-S", work, "-B", work / "out", f"-DCMAKE_PREFIX_PATH={prefix}"])
+    return unlike("targets", ["port1"], re.findall(r"there is (\w+)", said))
+
+
+def taken_away(folder: Path) -> List[str]:
+    """Uninstalling leaves nothing, not of the Python module either."""
+    prefix = moved(folder)
+    make("uninstall", [f"PREFIX={prefix}", f"PYTHONDIR={prefix / 'lib' / 'python'}"])
+    return [f"left: {path.relative_to(prefix)}" for path in prefix.rglob("*")]
+
+
+# ---- the Python module
+
+PRINTED = """import sys
+from port1 import *
+capture = sys.stdin.buffer.read()
+count, body = int.from_bytes(capture[8:16], "little"), capture[16:]
+size, pushed = int(sys.argv[1]), 0
+decoder = LineDecoder(longest=256, origin=0)
+if size > 0:
+    pushed = count
+    for at in range(0, len(body), size):
+        for report in decoder.feed(body[at : at + size], min(8 * size, count - 8 * at)):
+            print(report)
+elif size < 0:
+    pushed = count - count % 8
+    reversed_octets = bytes(int(f"{octet:08b}"[::-1], 2) for octet in body[: pushed // 8])
+    for report in decoder.feed_high_first(reversed_octets):
+        print(report)
+for place in range(pushed, count):
+    report = decoder.push(body[place // 8] >> place % 8 & 1)
+    if report is not None:
+        print(report)
+if decoder.open is not None:
+    print(decoder.open, decoder.place, "open")
+"""
+
+SENT = """import sys
+from port1 import LineEncoder
+encoder, out = LineEncoder(), sys.stdout.buffer
+for line in sys.stdin:
+    name, _, octets = line.strip().partition(" ")
+    if name == "frame":
+        out.write(encoder.frame(bytes.fromhex(octets)))
+    else:
+        out.write(encoder.flag() if name == "flag" else encoder.idle())
+out.write(encoder.end())
+"""
+
+# Calls that are refused, and what they raise; then what is true of calls that are not.
+REFUSED = """from port1 import *
+def raised(call):
+    try:
+        call()
+    except (Fault, TypeError) as fault:
+        return type(fault).__name__, isinstance(fault, ValueError), str(fault)
+    return None
+encoder = LineEncoder()
+for call in [
+    lambda: LineDecoder(2), lambda: LineDecoder(257), lambda: LineDecoder(origin=-1),
+    lambda: LineDecoder(256, 2**60 + 1), lambda: LineDecoder().feed(b"ab", 17), lambda: LineDecoder().feed(b"ab", -1),
+    lambda: encoder.frame(b"a"), lambda: encoder.frame(bytes(257)), lambda: LineDecoder(256, 2**60).push(1),
+    lambda: LineDecoder().push(2), lambda: LineDecoder().push("1"), lambda: LineDecoder().feed(5),
+]:
+    print(raised(call))
+decoder = LineDecoder(3, 2**60 - 65)
+told = decoder.feed(bytes([0x7e]) + bytes([0xff] * 40))
+print(decoder.place == 2**60, next(told))
+print(raised(lambda: next(told)))
+decoder = LineDecoder(3, 2**60 - 65)
+told = decoder.feed_high_first(bytes([0x7e]) + bytes([0xff] * 40))
+print(decoder.place == 2**60, next(told))
+print(raised(lambda: next(told)))
+decoder = LineDecoder(3)
+print(decoder.longest, decoder.origin, decoder.place, decoder.open, list(decoder.feed(b"")))
+print([repr(report) for report in decoder.feed(bytearray([0x7e, 0x10, 0x83, 0x00, 0x7d, 0xcb, 0xfd, 0x00]), 57)])
+print(decoder.place, decoder.open, encoder.pending, encoder.idle(), encoder.pending, encoder.end(), encoder.pending)
+"""
+
+REFUSED_PRINTS = """('OutOfRange', True, 'the longest frame is of 3 to 256 octets, not 2')
+('OutOfRange', True, 'the longest frame is of 3 to 256 octets, not 257')
+('OutOfRange', True, 'the origin is 0 to 2^60, not -1')
+('OutOfRange', True, 'the origin is 0 to 2^60, not 1152921504606846977')
+('OutOfRange', True, '2 octets have no 17 bits')
+('OutOfRange', True, '2 octets have no -1 bits')
+('OutOfRange', True, 'a frame is of 2 to 256 octets, not 1')
+('OutOfRange', True, 'a frame is of 2 to 256 octets, not 257')
+('PlaceLimit', False, 'a bit would have the place 2^60')
+('OutOfRange', True, 'a bit is 0 or 1, not 2')
+('OutOfRange', True, 'a bit is 0 or 1, not 1')
+('TypeError', False, "memoryview: a bytes-like object is required, not 'int'")
+True 1152921504606846919 1152921504606846934 idle
+('PlaceLimit', False, 'a bit would have the place 2^60')
+True 1152921504606846919 1152921504606846934 idle
+('PlaceLimit', False, 'a bit would have the place 2^60')
+3 0 0 None []
+["Report(kind=<Kind.FRAME: 1>, first=8, past=49, cause=None, octets=b'\\\\x10\\\\x83\\\\x00\\\\xfd\\\\xe5')"]
+57 None 0 b'\\xff' 7 b'\\x7f' 0
+"""
+
+
+def python(text: str, words: Sequence[str], stdin: bytes, module: Path, library: Optional[Path] = None) -> bytes:
+    """What a text in Python writes that stands on the module, on standard error too."""
+    settings = {"PYTHONPATH": str(module), "PYTHONDONTWRITEBYTECODE": "1"}
+    settings.update({"PORT1_LIBRARY": str(library)} if library else {})
+    ran = subprocess.run(
+        [sys.executable, "-c", text, *words],
+        input=stdin,
+        stdout=subprocess.PIPE,
+        stderr=subprocess.STDOUT,
+        env={**os.environ, **settings},
+        timeout=SECONDS,
+    )
+    return ran.stdout
+
+
+def orders(generator: random.Random, count: int) -> str:
+    """Lines for `port1 encode`."""
+    found = []
+    for _ in range(count):
+        octets = bytes(generator.choice([255, generator.randrange(256)]) for _ in range(generator.randrange(2, 40)))
+        found.append(generator.choice(["flag", "idle", f"frame {octets.hex()}", f"frame {octets.hex()}"]))
+    return "".join(f"{line}\n" for line in found)
+
+
+def encoded(text: str) -> str:
+    words = [os.environ["PORT1"], "encode"]
+    ran = subprocess.run(words, input=text.encode(), stdout=subprocess.PIPE, check=True, timeout=SECONDS)
+    return "".join(ran.stdout.decode().split())
+
+
+def captures() -> Dict[str, str]:
+    """Bits by what they are: of any kind, and of frames of which some are damaged."""
+    found = {"none": "", "one call": plain(CALL), "a call and its answer": plain(CALL + REPLY), "ones": "1" * 100}
+    for seed in range(3):
+        generator = random.Random(seed)
+        found[f"any bits, {seed}"] = random_bits(generator, 20003)
+        bits = list(encoded(orders(generator, 300)))
+        for _ in range(len(bits) // 500):
+            bits[generator.randrange(len(bits))] = generator.choice(["0", "1", ""])
+        found[f"frames, {seed}"] = "".join(bits)
+    return found
+
+
+def decoder_in_python(folder: Path) -> List[str]:
+    """It reports what `port1 list` lists, from the folder that was moved: fed with the highest bit of each octet first
+    (-1), bit by bit (0), by octets and by more."""
+    prefix = moved(folder)
+    problems = []
+    for name, bits in captures().items():
+        wanted = listed(packed(bits), []).stdout
+        for size in ("-1", "0", "1", "7", "4096"):
+            got = python(PRINTED, [size], packed(bits), prefix / "lib" / "python")
+            problems += [] if got == wanted else [f"{name}, {size}: wanted {wanted[-300:]!r}, got {got[-300:]!r}"]
+    return problems
+
+
+def longest_frames() -> str:
+    """Lines for `port1 encode`: frames of 256 octets, nearly all ones, each of which begins at the last bit of an
+    octet. Each idle line before it has fifteen bits, seven more than an octet."""
+    text, bits = "", 0
+    for last in range(0, 256, 5):
+        frame = f"frame {'ff' * 255}{last:02x}\n"
+        idles = (bits + 1) % 8
+        text += "idle\n" * idles + frame
+        bits += 15 * idles + len(encoded(frame))
+    return text
+
+
+def encoder_in_python(folder: Path) -> List[str]:
+    """It sends what `port1 encode` does."""
+    module = moved(folder) / "lib" / "python"
+    problems = []
+    for text in [*(orders(random.Random(seed), 500) for seed in range(4)), longest_frames()]:
+        got = python(SENT, [], text.encode(), module)
+        problems += [] if got == packed(encoded(text))[16:] else [f"{text[:80]!r}..: other octets: {got[-300:]!r}"]
+    return problems
+
+
+def refusals_in_python(folder: Path) -> List[str]:
+    """What is raised, and that nothing is lost by it."""
+    got = python(REFUSED, [], b"", moved(folder) / "lib" / "python").decode()
+    pairs = zip(REFUSED_PRINTS.splitlines(), got.splitlines())
+    differing = [part for wanted, was in pairs for part in unlike("line", wanted, was)]
+    return differing or unlike("lines", REFUSED_PRINTS, got)
+
+
+def code_of_the_document(folder: Path) -> List[str]:
+    """The Python code that docs/C.md shows, on the octets of one call."""
+    page = (TOP / "docs" / "C.md").read_text(encoding="utf-8")
+    section = page.split("\n## From Python\n")[1].split("\n## ")[0]
+    code = "".join(f"{line[4:]}\n" for line in section.splitlines() if not line or line.startswith("    "))
+    got = python(code, [], ONE_CALL[16:], moved(folder) / "lib" / "python")
+    return unlike("it writes", b"8 49 108300fde5\n", got)
+
+
+def places_of_the_library(folder: Path) -> List[str]:
+    """Where the module takes the library from: what the variable says, beside it, and a `lib` above it."""
+    prefix, alone = moved(folder), folder / "alone"
+    text = "from port1 import *\ntry:\n    LineDecoder()\n    print('made')\nexcept NoLibrary as why:\n    print(why)"
+    (alone / "port1").mkdir(parents=True)
+    module = alone / "port1" / "__init__.py"
+    module.write_bytes((MODULE / "port1" / "__init__.py").read_bytes())
+    library = prefix / "lib" / "libport1.so.2"
+    missing = "cannot open shared object file: No such file or directory; `make install-library` makes it"
+    rows: List[Tuple[Path, Optional[Path], str]] = [
+        (prefix / "lib" / "python", None, "made"),
+        (MODULE, library, "made"),
+        (alone, library, "made"),
+        (alone, None, f"libport1.so.2: {missing}"),
+        (prefix / "lib" / "python", Path("/none.so"), f"/none.so: {missing}"),
+    ]
+    problems = []
+    for place, given, wanted in rows:
+        problems += unlike(f"{place.name} {given}", wanted + "\n", python(text, [], b"", place, given).decode())
+    (alone / "port1" / "libport1.so").write_bytes(library.read_bytes())
+    return problems + unlike("beside it", "made\n", python(text, [], b"", alone).decode())
+
+
+LAYOUT = """#include "port1.h"
+#include <stdio.h>
+int main(void) {{
+{shows}    return 0;
+}}
+"""
+
+
+def layout_in_python(folder: Path) -> List[str]:
+    """The structures and numbers of the module are those of c/include/port1.h, as a C compiler has them."""
+    needs("cc")
+    text = (
+        "import port1\nfor name, (kind, size) in port1.STRUCTURES.items():\n    print(name, size)\n"
+        "    for field, *_ in kind._fields_:\n        place = getattr(kind, field)\n"
+        "        print(f'{name}.{field}', place.offset, place.size)\n"
+        "for kind in [*port1.Kind, *port1.Cause]:\n    print(f'PORT1_{kind.name}', int(kind))\n"
+        "for name in ('OK', 'BAD_LENGTH', 'PLACE_LIMIT', 'BAD_STATE', 'BAD_ARGUMENT', 'NO_ROOM'):\n"
+        "    print(f'PORT1_{name}', getattr(port1, name))\n"
+    )
+    lines = python(text, [], b"", MODULE).decode().splitlines()
+    shows = ""
+    for line in lines:
+        name = line.split()[0]
+        struct, _, field = name.partition(".")
+        values = [f"offsetof(struct {struct}, {field})", f"sizeof(((struct {struct} *)0)->{field})"]
+        values = values if field else [name if name.startswith("PORT1_") else f"sizeof(struct {name})"]
+        numbers = ", ".join(f"(unsigned long)({value})" for value in values)
+        shows += f'    printf("{name}{" %lu" * len(values)}\\n", {numbers});\n'
+    source, program = folder / "layout.c", folder / "layout"
+    source.write_text(LAYOUT.format(shows=shows))
+    words: List[Word] = ["cc", "-std=c99", f"-I{TOP / 'c' / 'include'}", "-o", program, source]
+    problems = unlike("cc", "", told(words))
+    problems += [] if len(lines) > 30 else [f"there are {len(lines)} lines: {lines}"]
+    return problems or unlike("layout", lines, written_by([program]).decode().splitlines())
+
+
+TESTS: List[Test] = [
+    made_without_a_toolchain,
+    shared_library,
+    by_pkg_config,
+    by_cmake,
+    versions_by_cmake,
+    without_shared_library,
+    taken_away,
+    decoder_in_python,
+    encoder_in_python,
+    refusals_in_python,
+    code_of_the_document,
+    places_of_the_library,
+    layout_in_python,
+]

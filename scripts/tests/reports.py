@@ -1,0 +1,132 @@
+"""Reports: a listing in a page. What the page makes of it is tested with the page."""
+
+import base64
+import gzip
+import html
+import json
+import os
+import re
+from datetime import datetime
+from pathlib import Path
+from typing import List, NamedTuple
+
+from tests.case import DICTIONARY, SCRIPTS, Run, Test, ran
+
+PAGE = SCRIPTS / "tests" / "page.html"
+
+SCRIPT = "list-to-page"
+
+LISTING = b"8 49 frame 108300fde5 station 16 type 0 </script>\n57 72 idle\n" * 20_000
+
+RUNS = [
+    Run(
+        "a page that is none",
+        [SCRIPT, "--page=/dev/null", "title"],
+        b"8 49 idle\n",
+        b"",
+        f"{SCRIPT}: this is no page that `make page` built\n",
+        2,
+    ),
+    Run(
+        "no page",
+        [SCRIPT, "--page=/no/page", "title"],
+        b"",
+        b"",
+        f"{SCRIPT}: there is no page /no/page: `make page` builds it; --page says where it is\n",
+        2,
+    ),
+    Run(
+        "no recording",
+        [SCRIPT, f"--page={PAGE}", "--recording=/no/tap.sr", "title"],
+        b"",
+        b"",
+        f"{SCRIPT}: [Errno 2] No such file or directory: '/no/tap.sr'\n",
+        2,
+    ),
+]
+
+
+class Report(NamedTuple):
+    """The parts of a report."""
+
+    before: str
+    listing: bytes
+    about: str
+    after: str
+
+
+FORM = re.compile(
+    r"(.*)<script type=\"application/gzip\+base64\" id=\"listing-data\">([A-Za-z0-9+/=]*)</script>\n"
+    r"<script type=\"application/json\" id=\"about\">(.*?)</script>(.*)",
+    re.DOTALL,
+)
+
+
+def report_of(words: List[str], listing: bytes) -> Report:
+    got = ran([SCRIPT, f"--page={PAGE}", *words], listing)
+    assert got.returncode == 0, got.stderr
+    found = FORM.fullmatch(got.stdout.decode())
+    assert found is not None, got.stdout[:2000]
+    return Report(found[1], gzip.decompress(base64.b64decode(found[2])), found[3], found[4])
+
+
+def holds_the_listing(_: Path) -> List[str]:
+    """The listing is in the report octet for octet, in place of the decoder, and all else is as it was."""
+    found = []
+    for listing in [b"", b"0 15 idle\n", b"0 15 idle", LISTING]:
+        report = report_of(["A title"], listing)
+        if report.listing != listing:
+            found.append(f"{len(listing)} octets became {len(report.listing)}")
+    page = PAGE.read_text()
+    wanted = page[: page.index("<script")].replace("Port 1 analyser", "A title")
+    return found + [f"it begins {report.before!r}"] * (report.before != wanted) + [
+        f"it ends {report.after!r}"
+    ] * (report.after != page[page.index("\n<script>main") :])
+
+
+def tells_what_it_is_given(folder: Path) -> List[str]:
+    """Title, rate, dictionary and command stand in it as data, whatever is in them, and the title as text."""
+    text = DICTIONARY + "# </script><script>alert(1)</script>\n"
+    dictionary = folder / "dictionary.toml"
+    dictionary.write_text(text)
+    title = "</title><script>alert(2)</script> & more"
+    words = [title, f"--dictionary={dictionary}", "--rate=9600", "--command=port1 list < <tap>"]
+    report = report_of(words, b"0 15 idle\n")
+    wanted = {
+        **{"version": "1.2.3", "schema": {}, "title": title, "rate": 9600},
+        **{"dictionary": text, "command": "port1 list < <tap>"},
+    }
+    found = [] if json.loads(report.about) == wanted else [f"it tells {report.about}"]
+    found += ["a < stands in its data"] * ("<" in report.about)
+    return found + ["the title is no text"] * (f"<title>{html.escape(title)}</title>" not in report.before)
+
+
+def tells_of_the_recording(folder: Path) -> List[str]:
+    """Name, date, size and SHA-256 of the recording's file, and the notes of recording-to-bits."""
+    recording, notes = folder / "tap <1>.sr", folder / "notes.txt"
+    recording.write_bytes(b"abc")
+    os.utime(recording, (1_700_000_000, 1_700_000_000))
+    lines = ["TXC has 9 edges", "warning: TXC has an edge too early (at 1.500000 s)"]
+    notes.write_text("".join(f"recording-to-bits: {line}\n" for line in lines))
+    words = ["A title", "--bits=99", f"--recording={recording}", f"--notes={notes}"]
+    about = json.loads(report_of(words, b"0 15 idle\n").about)
+    wanted = {
+        "name": recording.name,
+        "date": datetime.fromtimestamp(1_700_000_000).strftime("%Y-%m-%d %H:%M"),
+        "size": "3",
+        # FIPS 180-2, the example of "abc".
+        "sha256": "ba7816bf8f01cfea414140de5dae2223b00361a396177a9cb410ff61f20015ad",
+    }
+    found = [] if about["recording"] == wanted else [f"of the recording it tells {about['recording']}"]
+    found += [] if about["bits"] == 99 else [f"the bits are {about['bits']}"]
+    return found + ([] if about["notes"] == lines else [f"the notes are {about['notes']}"])
+
+
+def refuses_other_lines(_: Path) -> List[str]:
+    """A line that is none of a listing is told, with its number."""
+    got = ran([SCRIPT, f"--page={PAGE}", "A title"], b"0 15 idle\nport1: write failed\n")
+    told = f"{SCRIPT}: line 2 is no line of `port1 list`: 'port1: write failed'\n"
+    return [] if (got.returncode, got.stderr.decode()) == (2, told) else [f"{got.returncode}: {got.stderr!r}"]
+
+
+TESTS: List[Test] = [holds_the_listing, tells_what_it_is_given, tells_of_the_recording, refuses_other_lines]
