@@ -1,0 +1,62 @@
+-- Bits of two lines with a clock each, in the order in which they arrive, and what is heard of them.
+--
+-- The first line's bits number the places. The second line has a clock of its own: it may be quicker or slower, and
+-- stop whenever it likes. So a bit of the second line has no place of its own, and stands at that of the last bit of the
+-- first line before it. Each line is decoded from its own bits alone, and heard when they decide.
+use Rattle.std.specs.Prelude.{ℕ, zero, suc, ◌+◌, ◌-◌, Bool, List, [], ◌∷◌, ◌++◌, length, map, option_map}
+use Rattle.std.specs.Option.{option_to_list}
+use Rattle.bus_line.specs.Report.{Report, moved}
+use Rattle.bus_line.specs.Due.{due_at}
+use Rattle.bus_talk.specs.Heard.{Heard, heard_on, heard_at}
+use Rattle.bus_talk.specs.declared.line.Line.{Line}
+use Rattle.bus_talk.specs.declared.line.Line.TheVariants.{First, Second}
+use Rattle.std.specs.Prelude.{Some}
+
+-- a bit, and the line that it arrived on
+abbrev pub Arrival : Type 0
+Arrival = Line × Bool
+
+-- the bits of either line
+abbrev pub own : Line → List Arrival → List Bool
+own First [] = []
+own Second [] = []
+own First ((First, bit) ∷ xs) = bit ∷ own First xs
+own First ((Second, bit) ∷ xs) = own First xs
+own Second ((First, bit) ∷ xs) = own Second xs
+own Second ((Second, bit) ∷ xs) = bit ∷ own Second xs
+
+-- how many bits of the first line come before bit `k` of the second
+abbrev pub firsts_before : ℕ → List Arrival → ℕ
+firsts_before k [] = 0
+firsts_before k ((First, bit) ∷ xs) = suc (firsts_before k xs)
+firsts_before zero ((Second, bit) ∷ xs) = 0
+firsts_before (suc k) ((Second, bit) ∷ xs) = firsts_before k xs
+
+-- the place of bit `k` of the second line: that of the last bit of the first line before it, and place 0 where there
+-- is none
+abbrev pub place_of : List Arrival → ℕ → ℕ
+place_of xs k = firsts_before k xs - 1
+
+-- a report of the second line in places: from that of its first bit up to past that of its last
+abbrev pub at_places : List Arrival → Report → Report
+at_places xs r = record { kind = r.kind; first = place_of xs r.first; past = place_of xs (r.past - 1) + 1 }
+
+-- what one bit more decides: what is due at it on its line
+abbrev pub decides : ℕ → ℕ → List Arrival → Arrival → List Heard
+decides origin longest before (First, bit) =
+    heard_at First origin longest (own First before ++ bit ∷ []) (length (own First before))
+decides origin longest before (Second, bit) =
+    map (heard_on (Some Second))
+    (option_to_list (option_map (λ r. moved origin (at_places (before ++ (Second, bit) ∷ []) r))
+    (due_at longest (own Second before ++ bit ∷ []) (length (own Second before)))))
+
+-- what is heard of these arrivals after those before them
+abbrev pub decided_after : ℕ → ℕ → List Arrival → List Arrival → List Heard
+decided_after origin longest before [] = []
+decided_after origin longest before (x ∷ xs) =
+    decides origin longest before x ++ decided_after origin longest (before ++ x ∷ []) xs
+
+-- the reports of both lines in the order in which they are decided; the first bit of the first line has the place
+-- `origin`
+abbrev pub arrived : ℕ → ℕ → List Arrival → List Heard
+arrived origin longest xs = decided_after origin longest [] xs

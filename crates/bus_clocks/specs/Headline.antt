@@ -1,0 +1,52 @@
+-- The headline for two clocks: what a whole run comes to, from a new analyser on.
+use Rattle.std.specs.Prelude.{◌≡◌, ℕ, ◌+◌, ◌*◌, ◌≤◌, List, [], length, map}
+use Rattle.bus_fcs.specs.Check.{CheckView}
+use Rattle.bus_line.specs.Ledger.{stored_open}
+use Rattle.bus_line.specs.Report.{Report, AreReports, moved}
+use Rattle.bus_dictionary.specs.Entry.{FrameType}
+use Rattle.bus_dictionary.specs.Dictionary.{longest_of}
+use Rattle.bus_talk.specs.Heard.{of_side}
+use Rattle.bus_talk.specs.Ledger.{total}
+use Rattle.bus_talk.specs.Seen.{SeenReport, heard_in, seen}
+use Rattle.bus_talk.specs.History.{KeptFrame, history}
+use Rattle.bus_talk.specs.declared.line.Line.TheVariants.{First, Second}
+use Rattle.bus_watch.specs.Laws.{joined, Runs}
+use Rattle.bus_watch.specs.declared.pair.usage.PairUsage.{PairUsage}
+use Rattle.bus_clocks.specs.Arrival.{Arrival, own, at_places, arrived}
+use Rattle.bus_clocks.specs.Clocks.{ClockState, IsAfterArrivals, two_clocks}
+use Rattle.bus_clocks.specs.Ledger.{IsClockLedger}
+
+-- what an analyser of two clocks comes to after these arrivals: the reports that it showed, the frames of its history,
+-- and its usage
+pub record ClockHeadline (cost : ℕ) (d : List FrameType) (depth origin : ℕ) (xs : List Arrival)
+    (reports : List SeenReport) (frames : List KeptFrame) (usage : PairUsage) : Type 0 where
+  -- it showed exactly what is seen of both lines, in the order in which it is decided
+  pub shown : reports ≡ seen d (arrived origin (longest_of d) xs)
+  -- and of either line that is its frames, damaged pieces, overlong pieces, aborts and idles, all of them and no
+  -- others; whatever the clocks do, the second line is decoded from its own bits, and stands in places of the first
+  pub first_framing : (rs : List Report) × AreReports (longest_of d) (own First xs) rs
+      × (of_side First (map heard_in reports) ≡ map (moved origin) rs)
+  pub second_framing : (rs : List Report) × AreReports (longest_of d) (own Second xs) rs
+      × (of_side Second (map heard_in reports) ≡ map (λ r. moved origin (at_places xs r)) rs)
+  -- neither frame buffer ever has more octets than the longest frame and two: those of the line's open piece so far
+  pub first_bound : usage.first_buffered ≤ longest_of d + 2
+  pub second_bound : usage.second_buffered ≤ longest_of d + 2
+  pub first_buffered : usage.first_buffered ≡ stored_open (longest_of d) (own First xs)
+  pub second_buffered : usage.second_buffered ≡ stored_open (longest_of d) (own Second xs)
+  -- the one history is the last frames of both lines, never more than its depth
+  pub history : frames ≡ history depth (arrived origin (longest_of d) xs)
+  pub history_len : usage.history_len ≡ length frames
+  pub history_bound : usage.history_len ≤ depth
+  -- the steps are those of both ledgers: at most four for each bit of either line, and at most three where the check
+  -- costs one an octet
+  pub ledger : IsClockLedger cost (longest_of d) xs usage.spent
+  pub four : total usage.spent ≤ 4 * length xs
+  pub three : cost ≡ 1 → total usage.spent ≤ 3 * length xs
+
+-- the headline of any run of calls that leads from a new analyser to this one
+abbrev pub WholeClockRun : {C : Type 0} → CheckView C → ClockState C → PairUsage → Type 0
+WholeClockRun {C} view end usage =
+    (start : ClockState C) (pieces : List (List Arrival)) (shown : List (List SeenReport))
+    → IsAfterArrivals view start [] → Runs (two_clocks view) start pieces shown end
+    → ClockHeadline view.cost start.journal.dictionary start.journal.depth start.first.origin
+    (joined pieces) (joined shown) end.journal.history usage

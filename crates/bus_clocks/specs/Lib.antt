@@ -1,0 +1,7 @@
+-- Definitions that the contracts cite.
+pub mod Arrival
+pub mod Clocks
+pub mod Laws
+pub mod Ledger
+pub mod Headline
+pub mod Internal

@@ -1,0 +1,11 @@
+//! Watches two lines with a clock each: the controller's, and that of the stations. Their clocks may drift, and stop.
+//!
+//! The bits of both lines are pushed in their order of arrival. The first line's bits number the places; a bit of the
+//! second line stands at the place of the last bit of the first line before it.
+#![tactic(auto)]
+
+mod analyser;
+pub mod laws;
+mod places;
+
+pub use analyser::TwoClockAnalyser;
