@@ -5,3 +5,5 @@ pub mod PushLemmas
 pub mod ApartLemmas
 pub mod HeadlineLemmas
 pub mod StepsLemmas
+pub mod EachLemmas
+pub mod RestLemmas

@@ -4,4 +4,5 @@ pub mod Clocks
 pub mod Laws
 pub mod Ledger
 pub mod Headline
+pub mod Rested
 pub mod Internal

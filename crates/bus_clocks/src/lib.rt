@@ -7,5 +7,7 @@
 mod analyser;
 pub mod laws;
 mod places;
+mod rest;
 
 pub use analyser::TwoClockAnalyser;
+pub use rest::RestRule;
