@@ -7,3 +7,5 @@ pub mod HeadlineLemmas
 pub mod StepsLemmas
 pub mod EachLemmas
 pub mod RestLemmas
+pub mod SampledLemmas
+pub mod SameSampleLemmas

@@ -5,4 +5,5 @@ pub mod Laws
 pub mod Ledger
 pub mod Headline
 pub mod Rested
+pub mod Sampled
 pub mod Internal

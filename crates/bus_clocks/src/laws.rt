@@ -1,6 +1,7 @@
 //! Laws over the definitions.
 
 ghost use Rattle.bus_clocks.specs.Laws.{InTurnIsMerged, ArrivalsGrow, LinesApart, AnyCutOfArrivals};
+ghost use Rattle.bus_clocks.specs.Laws.{SameSamplesBringNothing};
 
 use bus_fcs::Check;
 use bus_line::laws::{reports_are, reports_grow};
@@ -21,4 +22,10 @@ pub fn arrivals_are()
 /// order.
 pub fn any_cut_of_arrivals<C: Check>()
     ensures { AnyCutOfArrivals C.check }
+{}
+
+/// Of samples in a row that are the same, those after the first `hold` + 1 may be left out. With `hold` 0 each sample
+/// that changes nothing may be.
+pub fn same_samples_bring_nothing()
+    ensures { SameSamplesBringNothing }
 {}

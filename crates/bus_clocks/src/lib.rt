@@ -8,6 +8,8 @@ mod analyser;
 pub mod laws;
 mod places;
 mod rest;
+mod sampler;
 
 pub use analyser::TwoClockAnalyser;
 pub use rest::RestRule;
+pub use sampler::{Edges, Sampler};

@@ -86,8 +86,10 @@ impl RestRule {
 
     /// A bit of the second line arrives.
     fn push_second(&mut self, bit: bool)
-        ensures { self.new ≡ record self.old { silent = 0;
-            ones = if bit then min 15 (self.old.ones + 1) else 0 } }
+        ensures { self.new ≡ record self.old {
+          silent = 0;
+          ones = if bit then min 15 (self.old.ones + 1) else 0;
+        } }
     {
         self.silent = 0;
         self.ones = if bit {

@@ -1,4 +1,4 @@
-use Rattle.std.proofs.Common.{false, sym, ◌∙◌, subst}
+use Rattle.std.proofs.Common.{false, sym, ◌∙◌}
 use Rattle.bus_talk.specs.declared.line.Line.TheVariants.{First, Second}
 use Rattle.bus_clocks.proofs.RestLemmas.{rested-more, comes-first, comes-second, after-first, after-second}
 use Rattle.bus_clocks.proofs.rest.RestRule.push.Goals as goal
