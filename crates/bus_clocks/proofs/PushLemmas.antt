@@ -26,9 +26,25 @@ use Rattle.bus_watch.proofs.AnalyserViewLemmas.{whole}
 use Rattle.bus_clocks.specs.Arrival.{Arrival, own, place_of, at_places, decides, arrived}
 use Rattle.bus_clocks.specs.Clocks.{ClockState, PlacesState, KeepsPlaces, IsAfterArrivals, SeesArrivals, lines}
 use Rattle.bus_clocks.specs.Internal.Pushes.{Decodes, Begins, Notes, IsLocated, AreLocated, IsLocatable}
-use Rattle.bus_clocks.specs.Internal.Pushes.{EntersAny, Pushes}
+use Rattle.bus_clocks.specs.Internal.Pushes.{EntersAny, FitsPast}
 use Rattle.bus_clocks.proofs.ArrivalLemmas.{own-append, arrived-more, IsNear, report-near, before-append, before-within}
 use Rattle.bus_clocks.proofs.PlacesLemmas.{places-first, places-second, was-open, WasOpen, begun-within}
+
+-- an arrival leads from old to new; it decides these reports, at most one, of which this is seen
+pub record Pushes {C : Type 0} (view : CheckView C) (old : ClockState C) (x : Arrival)
+    (decided : List Heard) (found : Option SeenReport) (new : ClockState C) : Type 0 where
+  pub first : (xs : List Arrival) → IsAfterArrivals view old xs → After view new.first (own First (xs ++ x ∷ []))
+  pub second : (xs : List Arrival) → IsAfterArrivals view old xs → After view new.second (own Second (xs ++ x ∷ []))
+  pub places : (xs : List Arrival) → IsAfterArrivals view old xs
+      → KeepsPlaces old.first.origin new.places (xs ++ x ∷ [])
+  pub decides : (xs : List Arrival) → IsAfterArrivals view old xs
+      → decides old.first.origin (longest_of old.journal.dictionary) xs x ≡ decided
+  pub enters : EntersAny old.journal decided found new.journal
+  pub origin : new.first.origin ≡ old.first.origin
+  pub origin_second : new.second.origin ≡ old.second.origin
+  pub longest : new.first.longest ≡ old.first.longest
+  pub longest_second : new.second.longest ≡ old.second.longest
+  pub place : new.first.place + new.second.place ≡ old.first.place + old.second.place + 1
 
 pub sees-arrival : {C : Type 0} (view : CheckView C) (old new : ClockState C) (x : Arrival) (decided : List Heard)
     (found : Option SeenReport) → Pushes view old x decided found new →
@@ -121,11 +137,11 @@ push-first view old new bit e found decodes enters second places =
       place = omega (arith, led.place, ap (λ d. d.place) second);
     }
 
-none-is : {X Y : Type 0} (f : X → Y) (o : Option X) → None ≡ option_map f o → o ≡ None
+pub none-is : {X Y : Type 0} (f : X → Y) (o : Option X) → None ≡ option_map f o → o ≡ None
 none-is f None is = refl
 none-is f (Some x) is = absurd (cc)
 
-some-is : {X Y : Type 0} (f : X → Y) (o : Option X) (y : Y) → Some y ≡ option_map f o →
+pub some-is : {X Y : Type 0} (f : X → Y) (o : Option X) (y : Y) → Some y ≡ option_map f o →
     (x : X) × (o ≡ Some x) × (y ≡ f x)
 some-is f None y is = absurd (cc)
 some-is f (Some x) y is = (x, refl, cc)
@@ -197,7 +213,7 @@ kind-idle os event.Overlong is = absurd (cc)
 kind-idle os event.Abort is = absurd (cc)
 kind-idle os event.Idle is = refl
 
-same-number : (x y : ℕ) → Some x ≡ Some y → x ≡ y
+pub same-number : (x y : ℕ) → Some x ≡ Some y → x ≡ y
 same-number x y is = cc
 
 module _ {C : Type 0} {view : CheckView C} {old : ClockState C} {bit : Bool} {e : Event} {number : ℕ}
@@ -345,3 +361,40 @@ begins-some (Some f) origin first n number is zero at =
 pub begins-none : (o : Option ℕ) (origin n : ℕ) → None ≡ option_map (λ f. origin + f) o → o ≡ Some n → ⊥
 begins-none None origin n is same = absurd (cc)
 begins-none (Some f) origin n is same = absurd (cc)
+
+-- where the open piece of the second line stands, and the last of its bits, of which there are so many
+pub record OpenPlaces (origin : ℕ) (p : PlacesState) (xs : List Arrival) (count : ℕ) : Type 0 where
+  pub first : ℕ
+  pub begun_at : begun (own Second xs) ≡ Some first
+  pub opened : p.opened ≡ origin + place_of xs first
+  pub some : 1 ≤ count
+  pub last : slice_get p.recent ((count - 1) % 16) ≡ Some (origin + place_of xs (length (own Second xs) - 1))
+
+pub open-places : {C : Type 0} (view : CheckView C) (a : ClockState C) (xs : List Arrival) (first count : ℕ) →
+    IsAfterArrivals view a xs → Some first ≡ option_map (λ k. a.second.origin + k) (begun (own Second xs)) →
+    count ≡ a.second.place → OpenPlaces a.first.origin a.places xs count
+open-places view a xs first count reached is at =
+    let found = some-is (λ k. a.second.origin + k) (begun (own Second xs)) first is in
+    let some = begun-within (own Second xs) found.0 found.1 in
+    let same : count ≡ length (own Second xs) = omega (arith, at, reached.second.has_taken.place, reached.origin) in
+    record {
+      first = found.0;
+      begun_at = found.1;
+      opened = reached.places.opened found.0 found.1;
+      some = omega (arith, same, some);
+      last = ap (λ n. slice_get a.places.recent ((n - 1) % 16)) same
+          ∙ reached.places.recent (length (own Second xs) - 1) (omega (arith, some)) (omega arith);
+    }
+
+pub open-fits : {C : Type 0} (view : CheckView C) (a : ClockState C) (xs : List Arrival) (count : ℕ) →
+    IsAfterArrivals view a xs → a.first.place ≤ 2 ^ 60 → OpenPlaces a.first.origin a.places xs count →
+    FitsPast a.places (count - 1)
+open-fits view a xs count reached bound at = λ p is.
+    let k = length (own Second xs) - 1 in
+    omega (
+      arith,
+      same-number p (a.first.origin + place_of xs k) (sym is ∙ at.last),
+      before-within k xs,
+      reached.first.has_taken.place,
+      bound,
+    )

@@ -1,6 +1,7 @@
 -- The rule of rest, with one arrival more.
 use Rattle.std.proofs.Common.{◌≡◌, ℕ, suc, ◌+◌, ◌-◌, ◌<◌, ◌≤◌, ◌==◌, ◌&&◌, not, min, ltb, leb, Bool, true, false}
-use Rattle.std.proofs.Common.{List, [], ◌∷◌, ◌++◌, length, take, drop, refl, sym, ap, ◌∙◌, arith, append-nil, length-append}
+use Rattle.std.proofs.Common.{List, [], ◌∷◌, ◌++◌, length, take, drop, refl, sym, ap, ◌∙◌, arith, append-nil}
+use Rattle.std.proofs.Common.{length-append}
 use Rattle.std.proofs.Common.{if◌then◌else◌, inl, inr}
 use Rattle.std.proofs.lemmas.List.{take-append-le}
 use Rattle.std.proofs.lemmas.Bool.{cases_lt}
@@ -20,7 +21,8 @@ rested-more most xs x is same =
     (λ i. take 1 (drop i xs) ++ fill (comes_to_rest most (take (suc i) xs))) xs x
     (λ i inside.
     ap (λ ys. ys ++ fill (comes_to_rest most (take (suc i) (xs ++ x ∷ [])))) (alone-front xs (x ∷ []) i inside)
-    ∙ ap (λ ys. take 1 (drop i xs) ++ fill (comes_to_rest most ys)) (take-append-le (suc i) xs (x ∷ []) (omega (arith, inside))))
+    ∙ ap (λ ys. take 1 (drop i xs) ++ fill (comes_to_rest most ys))
+    (take-append-le (suc i) xs (x ∷ []) (omega (arith, inside))))
     ∙ (ap (λ ys. rested most xs ++ (ys ++ fill (comes_to_rest most (take (suc n) (xs ++ x ∷ []))))) (alone-last xs x)
     ∙ (ap (λ ys. rested most xs ++ (x ∷ fill (comes_to_rest most ys))) (upto-last xs x)
     ∙ ap (λ b. rested most xs ++ (x ∷ fill b)) same))

@@ -132,7 +132,11 @@ module _ (hold : ℕ) (channel : Channel) (h : HeldState) (ss : List ℕ) (s : �
   held-at i is =
       ap (counted hold channel (ss ++ s ∷ [])) is
       ∙ (counted-at hold channel (ss ++ s ∷ []) (length ss) after.some
-      ∙ rw (held-last, counted-front channel ss (s ∷ []) hold (length ss - 1) (omega (arith, after.some)), after.counts) refl)
+      ∙ rw (
+        held-last,
+        counted-front channel ss (s ∷ []) hold (length ss - 1) (omega (arith, after.some)),
+        after.counts,
+      ) refl)
 
   held-count : length (ss ++ s ∷ []) - 1 ≡ length ss
   held-count = omega (arith, length-more ss s)
@@ -152,7 +156,8 @@ module _ (hold : ℕ) (channel : Channel) (h : HeldState) (ss : List ℕ) (s : �
   -- the other level has stood long enough, or not
   held-other : channel s ≡ not h.level → (j : ℕ) → 1 ≤ j → j ≤ h.others →
       level channel (ss ++ s ∷ []) (length ss - j) ≡ channel s
-  held-other other j some within = held-earlier j some ∙ (after.others (j - 1) (omega (arith, some, within)) ∙ sym other)
+  held-other other j some within =
+      held-earlier j some ∙ (after.others (j - 1) (omega (arith, some, within)) ∙ sym other)
 
   held-switch : channel s ≡ not h.level → h.others ≡ hold →
       IsHeldAfter hold channel (record { level = channel s; others = 0 }) (ss ++ s ∷ [])

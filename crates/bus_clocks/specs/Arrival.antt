@@ -1,16 +1,17 @@
 -- Bits of two lines with a clock each, in the order in which they arrive, and what is heard of them.
 --
--- The first line's bits number the places. The second line has a clock of its own: it may be quicker or slower, and
--- stop whenever it likes. So a bit of the second line has no place of its own, and stands at that of the last bit of the
--- first line before it. Each line is decoded from its own bits alone, and heard when they decide.
-use Rattle.std.specs.Prelude.{ℕ, zero, suc, ◌+◌, ◌-◌, Bool, List, [], ◌∷◌, ◌++◌, length, map, option_map}
+-- The first line's bits number the places. The second line has a clock of its own: it may be quicker or slower, and may
+-- stop. So a bit of the second line has no place of its own, and stands at that of the last bit of the first line
+-- before it. Each line is decoded from its own bits alone, and its reports come when these decide.
+use Rattle.std.specs.Prelude.{ℕ, zero, suc, ◌+◌, ◌-◌, Bool, List, [], ◌∷◌, ◌++◌, length, map, Option, Some}
+use Rattle.std.specs.Prelude.{option_map}
 use Rattle.std.specs.Option.{option_to_list}
 use Rattle.bus_line.specs.Report.{Report, moved}
-use Rattle.bus_line.specs.Due.{due_at}
+use Rattle.bus_bits.specs.declared.span.Span.{Span}
+use Rattle.bus_line.specs.Due.{due_at, begun}
 use Rattle.bus_talk.specs.Heard.{Heard, heard_on, heard_at}
 use Rattle.bus_talk.specs.declared.line.Line.{Line}
 use Rattle.bus_talk.specs.declared.line.Line.TheVariants.{First, Second}
-use Rattle.std.specs.Prelude.{Some}
 
 -- a bit, and the line that it arrived on
 abbrev pub Arrival : Type 0
@@ -40,6 +41,13 @@ place_of xs k = firsts_before k xs - 1
 -- a report of the second line in places: from that of its first bit up to past that of its last
 abbrev pub at_places : List Arrival → Report → Report
 at_places xs r = record { kind = r.kind; first = place_of xs r.first; past = place_of xs (r.past - 1) + 1 }
+
+-- the piece of the second line that has begun, in places: from that of its first bit up to past that of the last bit
+abbrev pub begun_places : ℕ → List Arrival → Option Span
+begun_places origin xs = option_map (λ first. record {
+  first = origin + place_of xs first;
+  past = origin + (place_of xs (length (own Second xs) - 1) + 1);
+}) (begun (own Second xs))
 
 -- what one bit more decides: what is due at it on its line
 abbrev pub decides : ℕ → ℕ → List Arrival → Arrival → List Heard

@@ -36,8 +36,8 @@ LinesApart = (origin longest : ℕ) (xs : List Arrival) →
 abbrev pub AnyCutOfArrivals : {C : Type 0} → CheckView C → Type 0
 AnyCutOfArrivals view = IsAnyCut (two_clocks view)
 
--- of samples in a row that are the same, those after the first `hold + 1` bring no bit and change none that comes later;
--- where each level counts at once, a sample that changes nothing may be left out
+-- of samples in a row that are the same, those after the first `hold + 1` bring no bit, and change none that comes
+-- later; where each level counts at once, a sample that changes nothing may be left out
 abbrev pub SameSamplesBringNothing : Type 0
 SameSamplesBringNothing = (hold s : ℕ) (ss ts : List ℕ) →
     sampled hold ((ss ++ replicate (hold + 1) s) ++ s ∷ ts) ≡ sampled hold ((ss ++ replicate (hold + 1) s) ++ ts)

@@ -1,7 +1,7 @@
 -- Samples of four channels, and the bits that arrive on them.
 --
--- A sample is a number. Its bit 0 is the level of the first line's clock, bit 1 that of its data; bits 2 and 3 are those
--- of the second line. Other bits say nothing.
+-- A sample is a number. Its bit 0 is the level of the first line's clock, bit 1 that of its data; bits 2 and 3 are
+-- those of the second line. Other bits say nothing.
 use Rattle.std.specs.Prelude.{◌≡◌, ℕ, zero, suc, ◌-◌, ◌<◌, ◌≤◌, ◌/◌, ◌%◌, ◌==◌, ◌&&◌, not, Bool, true, List, [], ◌∷◌}
 use Rattle.std.specs.Prelude.{◌++◌, length, if◌then◌else◌, Option, Some, None, slice_index}
 use Rattle.std.specs.List.{flat_map}

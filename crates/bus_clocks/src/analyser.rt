@@ -1,6 +1,6 @@
 //! The analyser of two lines with a clock each, bit by bit in the order of arrival, in fixed memory.
 
-ghost use Rattle.std.specs.Prelude.{◌≡◌, ◌+◌, ◌*◌, ◌≤◌, ◌<◌, ◌↔◌, ◌⊎◌, List, [], ◌∷◌, ◌++◌, length};
+ghost use Rattle.std.specs.Prelude.{◌≡◌, ◌+◌, ◌*◌, ◌≤◌, ◌<◌, ◌↔◌, ◌⊎◌, List, Bool, [], ◌∷◌, ◌++◌, length};
 ghost use Rattle.std.specs.Prelude.{slice_get, Option, Some, Err, IsErr, IfOk, OnErr};
 ghost use Rattle.bus_dictionary.specs.Dictionary.{longest_of};
 ghost use Rattle.std.specs.Option.{option_map, option_to_list};
@@ -11,7 +11,9 @@ ghost use Rattle.bus_clocks.specs.Arrival.{Arrival};
 ghost use Rattle.bus_clocks.specs.Internal.Pushes.{Begins, Decodes, EntersAny};
 ghost use Rattle.bus_line.specs.Limits.{most_octets};
 ghost use Rattle.bus_line.specs.Shown.{reported};
+ghost use Rattle.bus_line.specs.After.{After};
 ghost use Rattle.bus_talk.specs.Journal.{HasRoom, IsWhole};
+ghost use Rattle.bus_talk.specs.Shown.{begun_span};
 ghost use Rattle.bus_watch.specs.Internal.Hears.{heard_option, told_on};
 ghost use Rattle.bus_talk.specs.declared.line.Line.TheVariants.{First, Second};
 
@@ -22,7 +24,7 @@ use bus_dictionary::Dictionary;
 use bus_fcs::Check;
 use bus_line::laws::{frame_is_spelled, reports_are, reports_grow, settled_places};
 use bus_line::{Event, LineDecoder, LineFault, PlaceLimit};
-use bus_talk::{Counts, Finding, Journal, Line, PairKept, Seen};
+use bus_talk::{Counts, Journal, Line, PairEnding, PairKept, Seen, Span};
 use bus_watch::laws::{seen_grows, steps_are_bounded};
 use bus_watch::{NewFault, PairUsage};
 use std::alloc::Global;
@@ -77,6 +79,14 @@ fn begins<C: Check>(decoder: &LineDecoder<C>, number: u64) -> bool
     }
 }
 
+/// The piece that has begun on a line, up to the place of the next bit.
+fn begun_span<C: Check>(decoder: &LineDecoder<C>) -> Option<Span>
+    ensures { (b : List Bool) → After C.check decoder.now b → result ≡ begun_span decoder.now.origin b }
+{
+    let past = decoder.place();
+    decoder.begun().map(|first| Span { first, past })
+}
+
 /// The journal gets what a bit of a line decided, if anything; a frame has these octets. Returns whether there is a
 /// report, which is then its last.
 fn enter(journal: &mut Journal, line: Line, event: Option<Event>, octets: &[u8]) -> bool
@@ -97,11 +107,11 @@ fn enter(journal: &mut Journal, line: Line, event: Option<Event>, octets: &[u8])
 
 impl<C: Check> TwoClockAnalyser<C> {
     ghost use Rattle.bus_clocks.specs.contracts.analyser.TwoClockAnalyser.{the_row};
-    ghost use Rattle.bus_clocks.specs.Arrival.{own, decides};
+    ghost use Rattle.bus_clocks.specs.Arrival.{own, begun_places};
     ghost use Rattle.bus_clocks.specs.Clocks.{IsAfterArrivals, SeesArrivals, lines, seen_after_arrivals, decoder_on};
-    ghost use Rattle.bus_clocks.specs.Internal.Pushes.{Pushes};
     ghost use Rattle.bus_watch.specs.PairShown.{shown_option_on};
-    ghost use Rattle.bus_talk.specs.Shown.{found_on, kept_pair_option, IsKeepable};
+    ghost use Rattle.bus_talk.specs.Shown.{kept_pair_option, IsKeepable};
+    ghost use Rattle.bus_talk.specs.Talk.{pending};
     ghost use Rattle.bus_talk.specs.History.{history, tally};
     ghost use Rattle.bus_talk.specs.Heard.{Heard};
     ghost use Rattle.bus_talk.specs.Ledger.{total};
@@ -170,15 +180,26 @@ impl<C: Check> TwoClockAnalyser<C> {
             (option_to_list (shown_option_on line o)) new)
             × OnErr result (new ≡ self.old))) }
     {
-        let is_decided = match line {
-            Line::First => self.push_first(bit)?,
-            Line::Second => self.push_second(bit)?,
-        };
+        let is_decided = self.step(line, bit)?;
         Ok(self.lent(line, is_decided))
     }
 
+    /// A bit of a line arrives. Returns whether it decides a report, which is then the journal's last.
+    pub(crate) fn step(&mut self, line: Line, bit: bool) -> Result<bool, PlaceLimit>
+        ensures limit { IsErr result ↔ (most_places ≤ (decoder_on self.old line).place) }
+        ensures sees { IfOk result (λ is. SeesArrivals C.check self.old ((line, bit) ∷ [])
+            (option_to_list (told_on (Some line) (decoder_on self.new line).octets is self.new.journal.last))
+            self.new) }
+        ensures unchanged { OnErr result (self.new ≡ self.old) }
+    {
+        match line {
+            Line::First => self.push_first(bit),
+            Line::Second => self.push_second(bit),
+        }
+    }
+
     /// The last report, if the last bit of a line decided it, as it is handed out.
-    fn lent(&self, line: Line, is_decided: bool) -> Option<Seen<'_>>
+    pub(crate) fn lent(&self, line: Line, is_decided: bool) -> Option<Seen<'_>>
         ensures shown { shown_option_on line result
             ≡ told_on (Some line) (decoder_on self.now line).octets is_decided self.now.journal.last }
         ensures fits { IsKeepable result }
@@ -192,8 +213,8 @@ impl<C: Check> TwoClockAnalyser<C> {
     /// A bit of the first line arrives. Returns whether it decides a report, which is then the journal's last.
     fn push_first(&mut self, bit: bool) -> Result<bool, PlaceLimit>
         ensures limit { IsErr result ↔ (most_places ≤ self.old.first.place) }
-        ensures pushes { IfOk result (λ is. (decided : List Heard) × Pushes C.check self.old (First, bit) decided
-            (told_on (Some First) self.new.first.octets is self.new.journal.last) self.new) }
+        ensures sees { IfOk result (λ is. SeesArrivals C.check self.old ((First, bit) ∷ [])
+            (option_to_list (told_on (Some First) self.new.first.octets is self.new.journal.last)) self.new) }
         ensures unchanged { OnErr result (self.new ≡ self.old) }
     {
         settled_places();
@@ -212,8 +233,8 @@ impl<C: Check> TwoClockAnalyser<C> {
     /// A bit of the second line arrives. Returns whether it decides a report, which is then the journal's last.
     fn push_second(&mut self, bit: bool) -> Result<bool, PlaceLimit>
         ensures limit { IsErr result ↔ (most_places ≤ self.old.second.place) }
-        ensures pushes { IfOk result (λ is. (decided : List Heard) × Pushes C.check self.old (Second, bit) decided
-            (told_on (Some Second) self.new.second.octets is self.new.journal.last) self.new) }
+        ensures sees { IfOk result (λ is. SeesArrivals C.check self.old ((Second, bit) ∷ [])
+            (option_to_list (told_on (Some Second) self.new.second.octets is self.new.journal.last)) self.new) }
         ensures unchanged { OnErr result (self.new ≡ self.old) }
     {
         settled_places();
@@ -268,6 +289,38 @@ impl<C: Check> TwoClockAnalyser<C> {
         ensures bound { self.now.journal.depth ≤ 1024 }
     {
         self.journal.kept_len()
+    }
+
+    /// What has begun and is not decided yet.
+    ///
+    /// A piece of the first line goes up to the place of the next bit. One of the second line goes from the
+    /// place of its first bit to past that of the line's last bit.
+    pub fn ending(&self) -> PairEnding
+        ensures first { (xs : List Arrival) → IsAfterArrivals C.check self.now xs →
+            result.first ≡ begun_span self.now.first.origin (own First xs) }
+        ensures second { (xs : List Arrival) → IsAfterArrivals C.check self.now xs →
+            result.second ≡ begun_places self.now.first.origin xs }
+        ensures pending { (xs : List Arrival) → IsAfterArrivals C.check self.now xs →
+            result.pending ≡ pending self.now.journal.dictionary (lines self.now xs) }
+    {
+        PairEnding {
+            first: begun_span(&self.first),
+            second: self.begun_second(),
+            pending: self.journal.pending(),
+        }
+    }
+
+    /// The piece that has begun on the second line, in places.
+    fn begun_second(&self) -> Option<Span>
+        ensures { (xs : List Arrival) → IsAfterArrivals C.check self.now xs →
+            result ≡ begun_places self.now.first.origin xs }
+    {
+        // Called for its bound.
+        let _place = self.first.place();
+        match self.second.begun() {
+            Some(_) => Some(self.places.open_span(self.second.place())),
+            None => None,
+        }
     }
 
     /// The dictionary that was handed in.

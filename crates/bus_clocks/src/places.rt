@@ -1,7 +1,7 @@
 //! The places of the second line's bits.
 
-ghost use Rattle.std.specs.Prelude.{◌≡◌, replicate, Some};
-ghost use Rattle.bus_clocks.specs.Internal.Pushes.{AreLocated, IsLocatable, IsLocated, Notes};
+ghost use Rattle.std.specs.Prelude.{◌≡◌, ◌+◌, ◌-◌, ◌%◌, ◌≤◌, ℕ, replicate, Some, slice_get};
+ghost use Rattle.bus_clocks.specs.Internal.Pushes.{AreLocated, FitsPast, IsLocatable, IsLocated, Notes};
 
 use bus_line::{Event, EventKind};
 use bus_talk::Span;
@@ -57,6 +57,19 @@ impl BitPlaces {
         self.recent[(k % 16) as usize] = self.reached;
         if opens {
             self.opened = self.reached;
+        }
+    }
+
+    /// The open piece of a line that had so many bits.
+    pub(crate) fn open_span(&self, count: u64) -> Span
+        requires some { 1 ≤ count }
+        requires fits { FitsPast self.now (count - 1) }
+        ensures first { result.first ≡ self.now.opened }
+        ensures past { (p : ℕ) → slice_get self.now.recent ((count - 1) % 16) ≡ Some p → result.past ≡ p + 1 }
+    {
+        Span {
+            first: self.opened,
+            past: self.recent[((count - 1) % 16) as usize] + 1,
         }
     }
 

@@ -13,9 +13,9 @@ const IDLE_ONES: u64 = 15;
 
 /// Brings the second line to rest where its clock has stopped, as with stations that drive it only while they send.
 ///
-/// After a number of bits of the first line without one of the second, fifteen 1s arrive on the second line. A piece that
-/// a station broke off then ends in an abort. Where the second line rests already, nothing is put in. It rests where its
-/// last fifteen bits are 1s, and before its first bit.
+/// After a number of bits of the first line without one of the second, fifteen 1s arrive on the second line.
+/// A piece that a station broke off then ends in an abort. Where the second line rests already, nothing is
+/// put in. It rests where its last fifteen bits are 1s, and before its first bit.
 #[derive(Drop)]
 pub struct RestRule {
     most: u64,
@@ -41,8 +41,8 @@ impl RestRule {
     /// The silence that suits a traffic cabinet, in bits of the first line.
     pub const SILENCE: u64 = 400;
 
-    /// The rule before the first arrival. `most` is the silence that brings the second line to rest, in bits of the first
-    /// line; with 0 none does.
+    /// The rule before the first arrival. `most` is the silence that brings the second line to rest, in bits
+    /// of the first line; with 0 none does.
     pub fn new(most: u64) -> Self
         ensures after { IsRestAfter result [] }
         ensures most { result.most ≡ most }

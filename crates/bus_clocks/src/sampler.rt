@@ -74,9 +74,12 @@ impl LineLevels {
     fn sample(&mut self, sample: u8, hold: u32) -> Option<bool>
         requires clock { self.old.clock.others ≤ hold }
         requires bits { self.old.bits.others ≤ hold }
-        ensures clock { held_state self.new.clock ≡ next_state hold (held_state self.old.clock) (clock_of First sample) }
-        ensures bits { held_state self.new.bits ≡ next_state hold (held_state self.old.bits) (data_of First sample) }
-        ensures bit { result ≡ (if not self.old.clock.level && self.new.clock.level then Some self.old.bits.level else None) }
+        ensures clock { held_state self.new.clock
+            ≡ next_state hold (held_state self.old.clock) (clock_of First sample) }
+        ensures bits { held_state self.new.bits
+            ≡ next_state hold (held_state self.old.bits) (data_of First sample) }
+        ensures bit { result
+            ≡ (if not self.old.clock.level && self.new.clock.level then Some self.old.bits.level else None) }
         ensures clock_within { self.new.clock.others ≤ hold }
         ensures bits_within { self.new.bits.others ≤ hold }
     {

@@ -10,13 +10,10 @@ use Rattle.bus_line.specs.Shown.{reported}
 use Rattle.bus_line.specs.Internal.LineState.{LineState}
 use Rattle.bus_line.specs.declared.event.Event.{Event}
 use Rattle.bus_line.specs.declared.event.EventKind.TheVariants as event
-use Rattle.bus_dictionary.specs.Dictionary.{longest_of}
 use Rattle.bus_talk.specs.Heard.{Heard}
 use Rattle.bus_talk.specs.Seen.{SeenReport, seen}
 use Rattle.bus_talk.specs.Journal.{JournalState, Keeps}
-use Rattle.bus_talk.specs.declared.line.Line.TheVariants.{First, Second}
-use Rattle.bus_clocks.specs.Arrival.{Arrival, own, decides}
-use Rattle.bus_clocks.specs.Clocks.{ClockState, PlacesState, KeepsPlaces, IsAfterArrivals}
+use Rattle.bus_clocks.specs.Clocks.{PlacesState}
 
 -- a bit leads a decoder from old to new, and decides this event, if it is one
 pub record Decodes {C : Type 0} (view : CheckView C) (old : LineState C) (bit : Bool) (event : Option Event)
@@ -55,10 +52,14 @@ abbrev pub AreLocated : PlacesState → Option Event → Option Event → Type 0
 AreLocated p None l = l ≡ None
 AreLocated p (Some e) l = (k : Event) × (l ≡ Some k) × IsLocated p e k
 
+-- the place past that of bit `k` fits
+abbrev pub FitsPast : PlacesState → ℕ → Type 0
+FitsPast p k = (n : ℕ) → slice_get p.recent (k % 16) ≡ Some n → n + 1 < 2 ^ 64
+
 -- it has bits, and the place past its last one fits
 pub record IsLocatable (p : PlacesState) (e : Event) : Type 0 where
   pub some : 1 ≤ e.span.past
-  pub fits : (n : ℕ) → slice_get p.recent ((e.span.past - 1) % 16) ≡ Some n → n + 1 < 2 ^ 64
+  pub fits : FitsPast p (e.span.past - 1)
 
 -- a report, or none, leads a journal from old to new, and this is seen of it
 pub record EntersAny (old : JournalState) (decided : List Heard) (found : Option SeenReport) (new : JournalState)
@@ -68,19 +69,3 @@ pub record EntersAny (old : JournalState) (decided : List Heard) (found : Option
       → seen old.dictionary (hs ++ decided) ≡ seen old.dictionary hs ++ option_to_list found
   pub dictionary : new.dictionary ≡ old.dictionary
   pub depth : new.depth ≡ old.depth
-
--- an arrival leads from old to new; it decides these reports, at most one, of which this is seen
-pub record Pushes {C : Type 0} (view : CheckView C) (old : ClockState C) (x : Arrival)
-    (decided : List Heard) (found : Option SeenReport) (new : ClockState C) : Type 0 where
-  pub first : (xs : List Arrival) → IsAfterArrivals view old xs → After view new.first (own First (xs ++ x ∷ []))
-  pub second : (xs : List Arrival) → IsAfterArrivals view old xs → After view new.second (own Second (xs ++ x ∷ []))
-  pub places : (xs : List Arrival) → IsAfterArrivals view old xs
-      → KeepsPlaces old.first.origin new.places (xs ++ x ∷ [])
-  pub decides : (xs : List Arrival) → IsAfterArrivals view old xs
-      → decides old.first.origin (longest_of old.journal.dictionary) xs x ≡ decided
-  pub enters : EntersAny old.journal decided found new.journal
-  pub origin : new.first.origin ≡ old.first.origin
-  pub origin_second : new.second.origin ≡ old.second.origin
-  pub longest : new.first.longest ≡ old.first.longest
-  pub longest_second : new.second.longest ≡ old.second.longest
-  pub place : new.first.place + new.second.place ≡ old.first.place + old.second.place + 1

@@ -1,11 +1,10 @@
 use Rattle.std.proofs.Common.{◌∷◌, ◌++◌, [], Some, refl, ap, ◌∙◌, arith}
-use Rattle.std.specs.Option.{option_map}
-use Rattle.bus_line.specs.Shown.{reported}
+use Rattle.std.specs.Option.{option_to_list}
 use Rattle.bus_talk.specs.declared.line.Line.TheVariants.{First}
-use Rattle.bus_watch.specs.Internal.Hears.{heard_option, told_on}
+use Rattle.bus_watch.specs.Internal.Hears.{told_on}
 use Rattle.bus_clocks.specs.Arrival.{own}
+use Rattle.bus_clocks.specs.Clocks.{SeesArrivals}
 use Rattle.bus_clocks.specs.Internal.ClockView.{clock_state}
-use Rattle.bus_clocks.specs.Internal.Pushes.{Pushes}
 use Rattle.bus_clocks.proofs.PushLemmas.{push-first, sees-arrival, whole-decoded}
 use Rattle.bus_clocks.proofs.RoomLemmas.{room-arrivals}
 use Rattle.bus_clocks.proofs.analyser.TwoClockAnalyser.push_first.Given.{Over}
@@ -24,28 +23,28 @@ enter-requires-clause-room g c =
     (omega (arith, c.place-place.ensures.value, c.place-place.ensures.fits, reached.first.has_taken.place))
     (omega (arith, c.place-bits.ensures.value, c.place-bits.ensures.fits, reached.second.has_taken.place))
 
-pushes : (g : Over) (c : goal.After-enter g) → Pushes g.C.Check.check (clock_state c.self.inside) (First, c.args.bit)
-    (heard_option (Some First) (option_map (reported c.decode.new.decoder.octets) c.in_ok-event.event))
-    (told_on (Some First) c.decode.new.decoder.octets c.enter.result c.enter.new.journal.last)
+sees : (g : Over) (c : goal.After-enter g) → SeesArrivals g.C.Check.check (clock_state c.self.inside)
+    ((First, c.args.bit) ∷ [])
+    (option_to_list (told_on (Some First) c.decode.new.decoder.octets c.enter.result c.enter.new.journal.last))
     (record {
       first = c.decode.new.decoder;
       second = c.self.inside.second;
       journal = c.enter.new.journal;
       places = c.reach.new.self;
     })
-pushes g c =
-    push-first g.C.Check.check (clock_state c.self.inside) _ c.args.bit c.in_ok-event.event
+sees g c =
+    sees-arrival g.C.Check.check (clock_state c.self.inside) _ _ _ _
+    (push-first g.C.Check.check (clock_state c.self.inside) _ c.args.bit c.in_ok-event.event
     (told_on (Some First) c.decode.new.decoder.octets c.enter.result c.enter.new.journal.last)
     c.in_ok-event.ensures.decodes (rw (c.octets-octets.ensures.value) at c.enter.ensures) refl
-    (c.reach.ensures ∙ ap (λ k. record c.self.inside.places { reached = k }) c.place-place.ensures.value)
+    (c.reach.ensures ∙ ap (λ k. record c.self.inside.places { reached = k }) c.place-place.ensures.value))
 
 pub invariant_of-self-2 : goal.invariant_of-self-2
 invariant_of-self-2 g c = record {
   depth = omega (arith, c.self.invariant.depth, c.enter.ensures.depth);
   arrivals = c.self.invariant.arrivals ++ (First, c.args.bit) ∷ [];
-  reached = (sees-arrival g.C.Check.check (clock_state c.self.inside) _ _ _ _ (pushes g c)).is_after
-      c.self.invariant.arrivals c.self.invariant.reached;
+  reached = (sees g c).is_after c.self.invariant.arrivals c.self.invariant.reached;
 }
 
-pub returns-clause-pushes : goal.returns-clause-pushes
-returns-clause-pushes g c = rw (← c.self.view_is) (_, pushes g c)
+pub returns-clause-sees : goal.returns-clause-sees
+returns-clause-sees g c = rw (← c.self.view_is) (sees g c)

@@ -1,11 +1,10 @@
 use Rattle.std.proofs.Common.{◌∷◌, ◌++◌, [], Some, refl, arith}
-use Rattle.std.specs.Option.{option_map}
-use Rattle.bus_line.specs.Shown.{reported}
+use Rattle.std.specs.Option.{option_to_list}
 use Rattle.bus_talk.specs.declared.line.Line.TheVariants.{Second}
-use Rattle.bus_watch.specs.Internal.Hears.{heard_option, told_on}
+use Rattle.bus_watch.specs.Internal.Hears.{told_on}
 use Rattle.bus_clocks.specs.Arrival.{own}
+use Rattle.bus_clocks.specs.Clocks.{SeesArrivals}
 use Rattle.bus_clocks.specs.Internal.ClockView.{clock_state}
-use Rattle.bus_clocks.specs.Internal.Pushes.{Pushes}
 use Rattle.bus_clocks.proofs.PushLemmas.{PushesSecond, push-second, locatable, sees-arrival, whole-decoded}
 use Rattle.bus_clocks.proofs.PushLemmas.{whole-located}
 use Rattle.bus_clocks.proofs.RoomLemmas.{room-arrivals}
@@ -40,17 +39,18 @@ enter-requires-clause-room g c =
     (omega (arith, c.place-place.ensures.value, c.place-place.ensures.fits, reached.first.has_taken.place))
     (omega (arith, c.place-number.ensures.value, c.place-number.ensures.fits, reached.second.has_taken.place))
 
-pushes : (g : Over) (c : goal.After-enter g) → Pushes g.C.Check.check (clock_state c.self.inside) (Second, c.args.bit)
-    (heard_option (Some Second) (option_map (reported c.decode.new.decoder.octets) c.located_option-event.result))
-    (told_on (Some Second) c.decode.new.decoder.octets c.enter.result c.enter.new.journal.last)
+sees : (g : Over) (c : goal.After-enter g) → SeesArrivals g.C.Check.check (clock_state c.self.inside)
+    ((Second, c.args.bit) ∷ [])
+    (option_to_list (told_on (Some Second) c.decode.new.decoder.octets c.enter.result c.enter.new.journal.last))
     (record {
       first = c.self.inside.first;
       second = c.decode.new.decoder;
       journal = c.enter.new.journal;
       places = c.note.new.self;
     })
-pushes g c =
-    push-second g.C.Check.check (clock_state c.self.inside) _ c.args.bit c.in_ok-event.event
+sees g c =
+    sees-arrival g.C.Check.check (clock_state c.self.inside) _ _ _ _
+    (push-second g.C.Check.check (clock_state c.self.inside) _ c.args.bit c.in_ok-event.event
     c.located_option-event.result c.place-number.result c.begins-opens.result
     (told_on (Some Second) c.decode.new.decoder.octets c.enter.result c.enter.new.journal.last)
     c.reports_are.ensures.due
@@ -59,15 +59,14 @@ pushes g c =
       at_place = c.place-number.ensures.value;
       notes = c.note.ensures;
       begins = c.begins-opens.ensures;
-    }) c.located_option-event.ensures (rw (c.octets-octets.ensures.value) at c.enter.ensures) refl
+    }) c.located_option-event.ensures (rw (c.octets-octets.ensures.value) at c.enter.ensures) refl)
 
 pub invariant_of-self-2 : goal.invariant_of-self-2
 invariant_of-self-2 g c = record {
   depth = omega (arith, c.self.invariant.depth, c.enter.ensures.depth);
   arrivals = c.self.invariant.arrivals ++ (Second, c.args.bit) ∷ [];
-  reached = (sees-arrival g.C.Check.check (clock_state c.self.inside) _ _ _ _ (pushes g c)).is_after
-      c.self.invariant.arrivals c.self.invariant.reached;
+  reached = (sees g c).is_after c.self.invariant.arrivals c.self.invariant.reached;
 }
 
-pub returns-clause-pushes : goal.returns-clause-pushes
-returns-clause-pushes g c = rw (← c.self.view_is) (_, pushes g c)
+pub returns-clause-sees : goal.returns-clause-sees
+returns-clause-sees g c = rw (← c.self.view_is) (sees g c)
