@@ -9,3 +9,5 @@ pub mod EachLemmas
 pub mod RestLemmas
 pub mod SampledLemmas
 pub mod SameSampleLemmas
+pub mod FeedLemmas
+pub mod RunLemmas

@@ -25,6 +25,7 @@ use Rattle.bus_watch.specs.Internal.Hears.{heard_option}
 use Rattle.bus_watch.proofs.AnalyserViewLemmas.{whole}
 use Rattle.bus_clocks.specs.Arrival.{Arrival, own, place_of, at_places, decides, arrived}
 use Rattle.bus_clocks.specs.Clocks.{ClockState, PlacesState, KeepsPlaces, IsAfterArrivals, SeesArrivals, lines}
+use Rattle.bus_clocks.specs.Clocks.{CountsOn}
 use Rattle.bus_clocks.specs.Internal.Pushes.{Decodes, Begins, Notes, IsLocated, AreLocated, IsLocatable}
 use Rattle.bus_clocks.specs.Internal.Pushes.{EntersAny, FitsPast}
 use Rattle.bus_clocks.proofs.ArrivalLemmas.{own-append, arrived-more, IsNear, report-near, before-append, before-within}
@@ -44,7 +45,22 @@ pub record Pushes {C : Type 0} (view : CheckView C) (old : ClockState C) (x : Ar
   pub origin_second : new.second.origin ≡ old.second.origin
   pub longest : new.first.longest ≡ old.first.longest
   pub longest_second : new.second.longest ≡ old.second.longest
-  pub place : new.first.place + new.second.place ≡ old.first.place + old.second.place + 1
+  pub counts : CountsOn old x new
+
+place-more : {C : Type 0} (old new : ClockState C) (x : Arrival) → CountsOn old x new →
+    new.first.place + new.second.place ≡ old.first.place + old.second.place + 1
+place-more old new (First, bit) counts = omega (arith, counts First, counts Second)
+place-more old new (Second, bit) counts = omega (arith, counts First, counts Second)
+
+counts-first : {C : Type 0} (old new : ClockState C) (bit : Bool) → new.first.place ≡ old.first.place + 1 →
+    new.second.place ≡ old.second.place → CountsOn old (First, bit) new
+counts-first old new bit one none First = one
+counts-first old new bit one none Second = none ∙ omega arith
+
+counts-second : {C : Type 0} (old new : ClockState C) (bit : Bool) → new.second.place ≡ old.second.place + 1 →
+    new.first.place ≡ old.first.place → CountsOn old (Second, bit) new
+counts-second old new bit one none First = none ∙ omega arith
+counts-second old new bit one none Second = one
 
 pub sees-arrival : {C : Type 0} (view : CheckView C) (old new : ClockState C) (x : Arrival) (decided : List Heard)
     (found : Option SeenReport) → Pushes view old x decided found new →
@@ -72,7 +88,7 @@ sees-arrival view old new x decided found pushes =
       dictionary = enters.dictionary;
       depth = enters.depth;
       origin = pushes.origin;
-      place = pushes.place;
+      place = place-more old new x pushes.counts;
     }
 
 -- what a journal makes of no report, and of one
@@ -134,7 +150,7 @@ push-first view old new bit e found decodes enters second places =
       origin_second = ap (λ d. d.origin) second;
       longest = led.longest;
       longest_second = ap (λ d. d.longest) second;
-      place = omega (arith, led.place, ap (λ d. d.place) second);
+      counts = counts-first old new bit led.place (ap (λ d. d.place) second);
     }
 
 pub none-is : {X Y : Type 0} (f : X → Y) (o : Option X) → None ≡ option_map f o → o ≡ None
@@ -332,7 +348,7 @@ push-second view old new bit e l number opens found it pushed located enters fir
       origin_second = led.origin;
       longest = ap (λ d. d.longest) first;
       longest_second = led.longest;
-      place = omega (arith, led.place, ap (λ d. d.place) first);
+      counts = counts-second old new bit led.place (ap (λ d. d.place) first);
     }
 
 -- whether a piece begins with a bit, by where one has begun

@@ -108,7 +108,7 @@ few : (line : Line) (f : Report → Report) (o : Option Report) →
 few line f None = omega arith
 few line f (Some r) = omega arith
 
-decides-few : (origin longest : ℕ) (xs : List Arrival) (x : Arrival) → length (decides origin longest xs x) ≤ 1
+pub decides-few : (origin longest : ℕ) (xs : List Arrival) (x : Arrival) → length (decides origin longest xs x) ≤ 1
 decides-few origin longest xs (First, bit) =
     few First (moved origin) (due_at longest (own First xs ++ bit ∷ []) (length (own First xs)))
 decides-few origin longest xs (Second, bit) =

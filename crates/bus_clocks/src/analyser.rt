@@ -1,7 +1,7 @@
 //! The analyser of two lines with a clock each, bit by bit in the order of arrival, in fixed memory.
 
 ghost use Rattle.std.specs.Prelude.{◌≡◌, ◌+◌, ◌*◌, ◌≤◌, ◌<◌, ◌↔◌, ◌⊎◌, List, Bool, [], ◌∷◌, ◌++◌, length};
-ghost use Rattle.std.specs.Prelude.{slice_get, Option, Some, Err, IsErr, IfOk, OnErr};
+ghost use Rattle.std.specs.Prelude.{slice_get, Option, Some, Err, IsErr, IfOk, OnOk, OnErr};
 ghost use Rattle.bus_dictionary.specs.Dictionary.{longest_of};
 ghost use Rattle.std.specs.Option.{option_map, option_to_list};
 ghost use Rattle.std.specs.Borrow.{sem};
@@ -109,6 +109,7 @@ impl<C: Check> TwoClockAnalyser<C> {
     ghost use Rattle.bus_clocks.specs.contracts.analyser.TwoClockAnalyser.{the_row};
     ghost use Rattle.bus_clocks.specs.Arrival.{own, begun_places};
     ghost use Rattle.bus_clocks.specs.Clocks.{IsAfterArrivals, SeesArrivals, lines, seen_after_arrivals, decoder_on};
+    ghost use Rattle.bus_clocks.specs.Clocks.{CountsOn};
     ghost use Rattle.bus_watch.specs.PairShown.{shown_option_on};
     ghost use Rattle.bus_talk.specs.Shown.{kept_pair_option, IsKeepable};
     ghost use Rattle.bus_talk.specs.Talk.{pending};
@@ -190,6 +191,7 @@ impl<C: Check> TwoClockAnalyser<C> {
         ensures sees { IfOk result (λ is. SeesArrivals C.check self.old ((line, bit) ∷ [])
             (option_to_list (told_on (Some line) (decoder_on self.new line).octets is self.new.journal.last))
             self.new) }
+        ensures counts { OnOk result (CountsOn self.old (line, bit) self.new) }
         ensures unchanged { OnErr result (self.new ≡ self.old) }
     {
         match line {
@@ -215,6 +217,7 @@ impl<C: Check> TwoClockAnalyser<C> {
         ensures limit { IsErr result ↔ (most_places ≤ self.old.first.place) }
         ensures sees { IfOk result (λ is. SeesArrivals C.check self.old ((First, bit) ∷ [])
             (option_to_list (told_on (Some First) self.new.first.octets is self.new.journal.last)) self.new) }
+        ensures counts { OnOk result (CountsOn self.old (First, bit) self.new) }
         ensures unchanged { OnErr result (self.new ≡ self.old) }
     {
         settled_places();
@@ -235,6 +238,7 @@ impl<C: Check> TwoClockAnalyser<C> {
         ensures limit { IsErr result ↔ (most_places ≤ self.old.second.place) }
         ensures sees { IfOk result (λ is. SeesArrivals C.check self.old ((Second, bit) ∷ [])
             (option_to_list (told_on (Some Second) self.new.second.octets is self.new.journal.last)) self.new) }
+        ensures counts { OnOk result (CountsOn self.old (Second, bit) self.new) }
         ensures unchanged { OnErr result (self.new ≡ self.old) }
     {
         settled_places();
@@ -250,6 +254,17 @@ impl<C: Check> TwoClockAnalyser<C> {
         let event = self.places.located_option(event);
         let octets = self.second.octets();
         Ok(enter(&mut self.journal, Line::Second, event, octets))
+    }
+
+    /// The place of a line's next bit; on the second line its own bits are counted, from 0.
+    pub(crate) fn place_on(&self, line: Line) -> u64
+        ensures value { result ≡ (decoder_on self.now line).place }
+        ensures fits { result ≤ most_places }
+    {
+        match line {
+            Line::First => self.first.place(),
+            Line::Second => self.second.place(),
+        }
     }
 
     /// The octets of the frame that the last bit of a line closed. After any other bit they are not those of a frame.

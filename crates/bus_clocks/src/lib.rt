@@ -5,11 +5,15 @@
 #![tactic(auto)]
 
 mod analyser;
+mod feed;
 pub mod laws;
 mod places;
 mod rest;
+mod run;
 mod sampler;
 
 pub use analyser::TwoClockAnalyser;
+pub use feed::Arrival;
 pub use rest::RestRule;
+pub use run::{ClockRun, run_clocks};
 pub use sampler::{Edges, Sampler};
