@@ -11,3 +11,4 @@ pub mod SampledLemmas
 pub mod SameSampleLemmas
 pub mod FeedLemmas
 pub mod RunLemmas
+pub mod SumLemmas

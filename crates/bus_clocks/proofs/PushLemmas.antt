@@ -28,7 +28,9 @@ use Rattle.bus_clocks.specs.Clocks.{ClockState, PlacesState, KeepsPlaces, IsAfte
 use Rattle.bus_clocks.specs.Clocks.{CountsOn}
 use Rattle.bus_clocks.specs.Internal.Pushes.{Decodes, Begins, Notes, IsLocated, AreLocated, IsLocatable}
 use Rattle.bus_clocks.specs.Internal.Pushes.{EntersAny, FitsPast}
-use Rattle.bus_clocks.proofs.ArrivalLemmas.{own-append, arrived-more, IsNear, report-near, before-append, before-within}
+use Rattle.bus_clocks.specs.Laws.{ArrivalsGrow}
+use Rattle.bus_clocks.proofs.ArrivalLemmas.{own-append, IsNear, report-near, before-append, before-within}
+use Rattle.bus_clocks.proofs.ArrivalLemmas.{decides-first, decides-second}
 use Rattle.bus_clocks.proofs.PlacesLemmas.{places-first, places-second, was-open, WasOpen, begun-within}
 
 -- an arrival leads from old to new; it decides these reports, at most one, of which this is seen
@@ -63,12 +65,12 @@ counts-second old new bit one none First = none ∙ omega arith
 counts-second old new bit one none Second = one
 
 pub sees-arrival : {C : Type 0} (view : CheckView C) (old new : ClockState C) (x : Arrival) (decided : List Heard)
-    (found : Option SeenReport) → Pushes view old x decided found new →
+    (found : Option SeenReport) → ArrivalsGrow → Pushes view old x decided found new →
     SeesArrivals view old (x ∷ []) (option_to_list found) new
-sees-arrival view old new x decided found pushes =
+sees-arrival view old new x decided found grow pushes =
     let enters = pushes.enters in
     let grown : (xs : List Arrival) → IsAfterArrivals view old xs → lines old (xs ++ x ∷ []) ≡ lines old xs ++ decided =
-    λ xs reached. arrived-more old.first.origin (longest_of old.journal.dictionary) xs x
+    λ xs reached. grow old.first.origin (longest_of old.journal.dictionary) xs x
     ∙ ap (λ hs. lines old xs ++ hs) (pushes.decides xs reached) in
     let same : (ys : List Arrival) → lines new ys ≡ lines old ys = λ ys.
     ap (λ o. arrived o (longest_of new.journal.dictionary) ys) pushes.origin
@@ -144,7 +146,9 @@ push-first view old new bit e found decodes enters second places =
           rw (places) (places-first old.first.origin old.first.place old.places xs bit reached.places
           reached.first.has_taken.place);
       decides = λ xs reached.
-          ap (heard_option (Some First)) (sym (rw (← reached.longest) (decodes.answer (own First xs) reached.first)));
+          decides-first old.first.origin (longest_of old.journal.dictionary) xs bit
+          ∙ ap (heard_option (Some First))
+          (sym (rw (← reached.longest) (decodes.answer (own First xs) reached.first)));
       enters = enters;
       origin = led.origin;
       origin_second = ap (λ d. d.origin) second;
@@ -317,12 +321,14 @@ decides-located : {C : Type 0} {view : CheckView C} {old : ClockState C} {bit : 
     IsAfterArrivals view old xs → decides old.first.origin old.second.longest xs (Second, bit)
     ≡ heard_option (Some Second) (option_map (reported second.octets) l)
 decides-located {old = old} {bit = bit} {second = second} None l it pushed located xs reached =
-    ap (λ o. heard_option (Some Second)
+    decides-second old.first.origin old.second.longest xs bit
+    ∙ ap (λ o. heard_option (Some Second)
     (option_map (λ r. moved old.first.origin (at_places (xs ++ (Second, bit) ∷ []) r)) o))
     (none-is (moved old.second.origin) _ (pushed.decodes.answer (own Second xs) reached.second))
     ∙ ap (λ o. heard_option (Some Second) (option_map (reported second.octets) o)) (sym located)
 decides-located {old = old} {bit = bit} {second = second} (Some e) l it pushed located xs reached =
-    ap (λ o. heard_option (Some Second)
+    decides-second old.first.origin old.second.longest xs bit
+    ∙ ap (λ o. heard_option (Some Second)
     (option_map (λ r. moved old.first.origin (at_places (xs ++ (Second, bit) ∷ []) r)) o))
     (due-now it pushed xs reached).due
     ∙ (ap (λ s. heard_option (Some Second) (Some s)) (sym (located-is it pushed xs reached located.0 located.2))

@@ -20,7 +20,7 @@ use Rattle.bus_watch.specs.declared.pair.usage.PairUsage.{PairUsage}
 use Rattle.bus_clocks.specs.Arrival.{Arrival, own, arrived, decides}
 use Rattle.bus_clocks.specs.Clocks.{ClockState, IsAfterArrivals, RunsPast, two_clocks}
 use Rattle.bus_clocks.specs.Headline.{ClockHeadline, WholeClockRun, StoppedAtArrival, ClockFails, all_seen_of_arrivals}
-use Rattle.bus_clocks.proofs.ArrivalLemmas.{arrived-more}
+use Rattle.bus_clocks.specs.Laws.{ArrivalsGrow}
 use Rattle.bus_clocks.proofs.FeedLemmas.{arrival_at, front-more, room-all}
 use Rattle.bus_clocks.proofs.RoomLemmas.{decides-few}
 
@@ -35,15 +35,16 @@ fed-clock-headline view sink a e xs s t u new fed whole =
     let origin = a.first.origin in
     let headline = whole a (xs ∷ []) (fed.seen ∷ []) new (called a e e xs fed.seen [] [] fed.sees (ended e)) in
     subst (λ x. ClockHeadline view.cost d depth origin x fed.seen e.journal.history u) (append-nil xs)
-    (subst (λ y. ClockHeadline view.cost d depth origin (xs ++ []) y e.journal.history u) (append-nil fed.seen) headline)
+    (subst (λ y. ClockHeadline view.cost d depth origin (xs ++ []) y e.journal.history u) (append-nil fed.seen)
+    headline)
 
 -- an arrival shows one report at most
 seen-length : SeenAreReports → (d : List FrameType) (hs : List Heard) → length (seen d hs) ≡ length hs
 seen-length are d hs = sym (length-map (seen d hs) heard_in) ∙ ap length (are d hs)
 
-seen-few : SeenAreReports → (d : List FrameType) (origin n : ℕ) (xs : List Arrival) → 0 < n → n ≤ length xs →
+seen-few : SeenAreReports → ArrivalsGrow → (d : List FrameType) (origin n : ℕ) (xs : List Arrival) → 0 < n → n ≤ length xs →
     length (all_seen_of_arrivals d origin (take n xs)) ≤ length (all_seen_of_arrivals d origin (take (n - 1) xs)) + 1
-seen-few are d origin n xs some within =
+seen-few are grow d origin n xs some within =
     let longest = longest_of d in
     let front = take (n - 1) xs in
     let x = arrival_at xs (n - 1) in
@@ -55,7 +56,7 @@ seen-few are d origin n xs some within =
       seen-length are d (arrived origin longest (take n xs)),
       seen-length are d (arrived origin longest front),
       ap (λ ys. length (arrived origin longest ys)) all,
-      ap length (arrived-more origin longest front x),
+      ap length (grow origin longest front x),
       length-append (arrived origin longest front) (decides origin longest front x),
       decides-few origin longest front x,
     )
@@ -80,10 +81,10 @@ lost-one _ _ _ (refused s (x ∷ ss) ts n rest) one few = absurd (omega (arith, 
 
 -- where a sink refused a report of what a new analyser was fed
 pub stopped-at-arrival : {C S : Type 0} (view : CheckView C) (sink : SinkView S)
-    (a e : ClockState C) (xs : List Arrival) (s t : S) (consumed : ℕ) → SeenAreReports
+    (a e : ClockState C) (xs : List Arrival) (s t : S) (consumed : ℕ) → SeenAreReports → ArrivalsGrow
     → IsAfterArrivals view a [] → RefusedByAt (two_clocks view) sink 1 a xs consumed e s t
     → StoppedAtArrival sink a.journal.dictionary a.first.origin xs s t consumed
-stopped-at-arrival view sink a e xs s t consumed are new at =
+stopped-at-arrival view sink a e xs s t consumed are grow new at =
     let refused = at.refused in
     let d = a.journal.dictionary in
     let origin = a.first.origin in
@@ -97,7 +98,7 @@ stopped-at-arrival view sink a e xs s t consumed are new at =
     refused.sees.seen [] new ∙ ap (λ ys. ys ++ refused.at_last) (sym before) in
     let few : length refused.at_last ≤ 1 = omega (
       arith,
-      seen-few are d origin consumed xs at.some at.within,
+      seen-few are grow d origin consumed xs at.some at.within,
       ap length seen_then,
       length-append (all_seen_of_arrivals d origin (take (consumed - 1) xs)) refused.at_last,
     ) in

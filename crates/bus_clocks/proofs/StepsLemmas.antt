@@ -1,103 +1,25 @@
 -- The steps of both lines, added up.
-use Rattle.std.proofs.Common.{◌≡◌, ℕ, ◌+◌, ◌*◌, ◌≤◌, Bool, List, [], ◌∷◌, ◌++◌, length, map, Option, Some, None, refl}
-use Rattle.std.proofs.Common.{ap, ◌∙◌, arith, append-nil}
-use Rattle.std.specs.List.{sum_by}
-use Rattle.std.specs.Option.{option_map, option_to_list}
-use Rattle.std.proofs.lemmas.List.Sums.{sum_by-append}
+use Rattle.std.proofs.Common.{◌≡◌, ℕ, ◌+◌, ◌*◌, ◌≤◌, Bool, List, length, refl}
+use Rattle.std.proofs.Common.{ap, ◌∙◌, arith}
 use Rattle.bus_bits.specs.declared.spent.Spent.{Spent}
 use Rattle.bus_fcs.specs.Check.{CheckView}
-use Rattle.bus_line.specs.Report.{Report, moved}
-use Rattle.bus_line.specs.Due.{reports, due_at}
-use Rattle.bus_line.specs.Ledger.{copied, stored, IsLedger as IsLineLedger}
+use Rattle.bus_line.specs.Due.{reports}
+use Rattle.bus_line.specs.Ledger.{octet_count, copied, stored, IsLedger as IsLineLedger}
 use Rattle.bus_line.specs.Laws.{OneMore, StoredPaid, AssembledWithin}
 use Rattle.bus_dictionary.specs.Dictionary.{longest_of}
-use Rattle.bus_talk.specs.Heard.{Heard, heard_on}
-use Rattle.bus_talk.specs.Ledger.{steps, handled, handled_of, total, plus, IsLedger}
-use Rattle.bus_talk.specs.declared.line.Line.{Line}
+use Rattle.bus_talk.specs.Ledger.{steps, handled, total, plus, IsLedger}
 use Rattle.bus_talk.specs.declared.line.Line.TheVariants.{First, Second}
 use Rattle.bus_talk.proofs.LedgerLemmas.{cost-within}
 use Rattle.bus_watch.specs.Laws.{StepsWithinFour, StepsWithinThree}
-use Rattle.bus_clocks.specs.Arrival.{Arrival, own, at_places, decides, arrived}
+use Rattle.bus_clocks.specs.Arrival.{Arrival, own}
 use Rattle.bus_clocks.specs.Clocks.{ClockState, IsAfterArrivals}
 use Rattle.bus_clocks.specs.Ledger.{IsClockLedger}
-use Rattle.bus_clocks.proofs.ArrivalLemmas.{own-append, arrived-more}
-use Rattle.bus_clocks.proofs.RoomLemmas.{one-by-one, copied-arrived, own-count}
-
-handled-adds : (xs ys : List Heard) → handled_of (xs ++ ys) ≡ handled_of xs + handled_of ys
-handled-adds xs ys = sum_by-append (λ (h : Heard). steps h.report) xs ys
+use Rattle.bus_clocks.specs.Laws.{ArrivalsGrow}
+use Rattle.bus_clocks.proofs.RoomLemmas.{own-count}
+use Rattle.bus_clocks.proofs.SumLemmas.{sum-arrived}
 
 abbrev steps_of : ℕ → List Bool → ℕ
 steps_of longest b = handled (reports longest b)
-
--- the steps of one line's reports
-handled-more : OneMore → (longest : ℕ) (b : List Bool) (bit : Bool) → steps_of longest (b ++ bit ∷ [])
-    ≡ steps_of longest b + sum_by steps (option_to_list (due_at longest (b ++ bit ∷ []) (length b)))
-handled-more more longest b bit =
-    ap (sum_by steps) (more longest b bit)
-    ∙ sum_by-append steps (reports longest b) (option_to_list (due_at longest (b ++ bit ∷ []) (length b)))
-
-handled-option : (line : Line) (f : Report → Report) → ((r : Report) → steps (f r) ≡ steps r) →
-    (o : Option Report) →
-    handled_of (map (heard_on (Some line)) (option_to_list (option_map f o))) ≡ sum_by steps (option_to_list o)
-handled-option line f same None = refl
-handled-option line f same (Some r) = omega (arith, same r)
-
-handled-first : OneMore → (origin longest : ℕ) (xs : List Arrival) (bit : Bool) →
-    steps_of longest (own First (xs ++ (First, bit) ∷ [])) + steps_of longest (own Second (xs ++ (First, bit) ∷ []))
-    ≡ (steps_of longest (own First xs) + steps_of longest (own Second xs))
-    + handled_of (decides origin longest xs (First, bit))
-handled-first more origin longest xs bit =
-    omega (
-      arith,
-      ap (steps_of longest) (own-append First xs ((First, bit) ∷ [])),
-      ap (steps_of longest) (own-append Second xs ((First, bit) ∷ []) ∙ append-nil (own Second xs)),
-      handled-more more longest (own First xs) bit,
-      handled-option First (moved origin) (λ r. refl)
-          (due_at longest (own First xs ++ bit ∷ []) (length (own First xs))),
-    )
-
-handled-second : OneMore → (origin longest : ℕ) (xs : List Arrival) (bit : Bool) →
-    steps_of longest (own First (xs ++ (Second, bit) ∷ [])) + steps_of longest (own Second (xs ++ (Second, bit) ∷ []))
-    ≡ (steps_of longest (own First xs) + steps_of longest (own Second xs))
-    + handled_of (decides origin longest xs (Second, bit))
-handled-second more origin longest xs bit =
-    omega (
-      arith,
-      ap (steps_of longest) (own-append First xs ((Second, bit) ∷ []) ∙ append-nil (own First xs)),
-      ap (steps_of longest) (own-append Second xs ((Second, bit) ∷ [])),
-      handled-more more longest (own Second xs) bit,
-      handled-option Second (λ r. moved origin (at_places (xs ++ (Second, bit) ∷ []) r)) (λ r. refl)
-          (due_at longest (own Second xs ++ bit ∷ []) (length (own Second xs))),
-    )
-
--- the steps of what is heard are those of both lines
-pub handled-arrived : OneMore → (origin longest : ℕ) (xs : List Arrival) →
-    handled_of (arrived origin longest xs) ≡ steps_of longest (own First xs) + steps_of longest (own Second xs)
-handled-arrived more origin longest xs =
-    one-by-one
-    (λ ys. handled_of (arrived origin longest ys) ≡ steps_of longest (own First ys) + steps_of longest (own Second ys))
-    refl step xs
-  where
-    step : (ys : List Arrival) (x : Arrival) →
-        handled_of (arrived origin longest ys) ≡ steps_of longest (own First ys) + steps_of longest (own Second ys) →
-        handled_of (arrived origin longest (ys ++ x ∷ []))
-        ≡ steps_of longest (own First (ys ++ x ∷ [])) + steps_of longest (own Second (ys ++ x ∷ []))
-    step ys (First, bit) same =
-        omega (
-          arith,
-          ap handled_of (arrived-more origin longest ys (First, bit)),
-          handled-adds (arrived origin longest ys) (decides origin longest ys (First, bit)),
-          same,
-          handled-first more origin longest ys bit,
-        )
-    step ys (Second, bit) same =
-        omega (
-          arith,
-          ap handled_of (arrived-more origin longest ys (Second, bit)),
-          handled-adds (arrived origin longest ys) (decides origin longest ys (Second, bit)),
-          same,
-          handled-second more origin longest ys bit,
-        )
 
 line-ledger : (cost longest : ℕ) (b : List Bool) (d : Spent) → IsLineLedger cost longest b d →
     IsLedger cost longest b (record d { copied = copied longest b; handled = handled (reports longest b) })
@@ -111,6 +33,7 @@ line-ledger cost longest b d ledger = record {
 }
 
 pub clock-ledger : {C : Type 0} (view : CheckView C) (a : ClockState C) (xs : List Arrival) (d e j : Spent) → OneMore →
+    ArrivalsGrow →
     IsAfterArrivals view a xs → IsLineLedger view.cost a.first.longest (own First xs) d →
     IsLineLedger view.cost a.second.longest (own Second xs) e → j.copied ≡ a.journal.copied →
     j.handled ≡ a.journal.handled
@@ -123,13 +46,13 @@ pub clock-ledger : {C : Type 0} (view : CheckView C) (a : ClockState C) (xs : Li
       copied = j.copied;
       handled = j.handled;
     })
-clock-ledger view a xs d e j more reached first second copied_is handled_is =
+clock-ledger view a xs d e j more grow reached first second copied_is handled_is =
     let longest = longest_of a.journal.dictionary in
     let o = a.first.origin in
     let kept : j.copied ≡ copied longest (own First xs) + copied longest (own Second xs) =
-    copied_is ∙ reached.journal.copied ∙ copied-arrived more o longest xs in
+    copied_is ∙ reached.journal.copied ∙ sum-arrived octet_count (λ kind i k l m. refl) more grow o longest xs in
     let steps_are : j.handled ≡ steps_of longest (own First xs) + steps_of longest (own Second xs) =
-    handled_is ∙ reached.journal.handled ∙ handled-arrived more o longest xs in
+    handled_is ∙ reached.journal.handled ∙ sum-arrived steps (λ kind i k l m. refl) more grow o longest xs in
     record {
       first = record d { copied = copied longest (own First xs); handled = steps_of longest (own First xs) };
       second = record e { copied = copied longest (own Second xs); handled = steps_of longest (own Second xs) };

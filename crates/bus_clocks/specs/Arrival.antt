@@ -3,12 +3,13 @@
 -- The first line's bits number the places. The second line has a clock of its own: it may be quicker or slower, and may
 -- stop. So a bit of the second line has no place of its own, and stands at that of the last bit of the first line
 -- before it. Each line is decoded from its own bits alone, and its reports come when these decide.
-use Rattle.std.specs.Prelude.{ℕ, zero, suc, ◌+◌, ◌-◌, Bool, List, [], ◌∷◌, ◌++◌, length, map, Option, Some}
+use Rattle.std.specs.Prelude.{ℕ, zero, suc, ◌+◌, ◌-◌, Bool, List, [], ◌∷◌, ◌++◌, length, map, take, drop, Option, Some}
 use Rattle.std.specs.Prelude.{option_map}
+use Rattle.std.specs.List.{flat_map}
 use Rattle.std.specs.Option.{option_to_list}
 use Rattle.bus_line.specs.Report.{Report, moved}
 use Rattle.bus_bits.specs.declared.span.Span.{Span}
-use Rattle.bus_line.specs.Due.{due_at, begun}
+use Rattle.bus_line.specs.Due.{places, due_at, begun}
 use Rattle.bus_talk.specs.Heard.{Heard, heard_on, heard_at}
 use Rattle.bus_talk.specs.declared.line.Line.{Line}
 use Rattle.bus_talk.specs.declared.line.Line.TheVariants.{First, Second}
@@ -49,22 +50,22 @@ begun_places origin xs = option_map (λ first. record {
   past = origin + (place_of xs (length (own Second xs) - 1) + 1);
 }) (begun (own Second xs))
 
--- what one bit more decides: what is due at it on its line
-abbrev pub decides : ℕ → ℕ → List Arrival → Arrival → List Heard
-decides origin longest before (First, bit) =
-    heard_at First origin longest (own First before ++ bit ∷ []) (length (own First before))
-decides origin longest before (Second, bit) =
+-- what is due at bit `k` of a line; the first bit of the first line has the place `origin`
+abbrev pub due_on : ℕ → ℕ → List Arrival → Line → ℕ → List Heard
+due_on origin longest xs First k = heard_at First origin longest (own First xs) k
+due_on origin longest xs Second k =
     map (heard_on (Some Second))
-    (option_to_list (option_map (λ r. moved origin (at_places (before ++ (Second, bit) ∷ []) r))
-    (due_at longest (own Second before ++ bit ∷ []) (length (own Second before)))))
+    (option_to_list (option_map (λ r. moved origin (at_places xs r)) (due_at longest (own Second xs) k)))
 
--- what is heard of these arrivals after those before them
-abbrev pub decided_after : ℕ → ℕ → List Arrival → List Arrival → List Heard
-decided_after origin longest before [] = []
-decided_after origin longest before (x ∷ xs) =
-    decides origin longest before x ++ decided_after origin longest (before ++ x ∷ []) xs
+-- what arrival `i` decides: what is due at its bit, on its line
+abbrev pub decided_at : ℕ → ℕ → List Arrival → ℕ → List Heard
+decided_at origin longest xs i =
+    flat_map (λ (x : Arrival). due_on origin longest xs x.0 (length (own x.0 (take i xs)))) (take 1 (drop i xs))
 
--- the reports of both lines in the order in which they are decided; the first bit of the first line has the place
--- `origin`
+-- the reports of both lines, in the order of the arrivals that decide them
 abbrev pub arrived : ℕ → ℕ → List Arrival → List Heard
-arrived origin longest xs = decided_after origin longest [] xs
+arrived origin longest xs = flat_map (decided_at origin longest xs) (places (length xs))
+
+-- what one arrival more decides
+abbrev pub decides : ℕ → ℕ → List Arrival → Arrival → List Heard
+decides origin longest xs x = due_on origin longest (xs ++ x ∷ []) x.0 (length (own x.0 xs))

@@ -25,7 +25,7 @@ abbrev pub ArrivalsGrow : Type 0
 ArrivalsGrow = (origin longest : ℕ) (xs : List Arrival) (x : Arrival) →
     arrived origin longest (xs ++ x ∷ []) ≡ arrived origin longest xs ++ decides origin longest xs x
 
--- the reports of either line are those of its own bits, all of them and no others; those of the second stand in places
+-- the reports of either line are those of its own bits; those of the second stand in places
 abbrev pub LinesApart : Type 0
 LinesApart = (origin longest : ℕ) (xs : List Arrival) →
     (of_side First (arrived origin longest xs) ≡ placed origin longest (own First xs))

@@ -224,6 +224,7 @@ impl<C: Check> TwoClockAnalyser<C> {
         reports_grow();
         reports_are();
         frame_is_spelled();
+        arrivals_are();
         // Called for its bound.
         let _bits = self.second.place();
         let place = self.first.place();
@@ -245,6 +246,7 @@ impl<C: Check> TwoClockAnalyser<C> {
         reports_grow();
         reports_are();
         frame_is_spelled();
+        arrivals_are();
         // Called for its bound.
         let _place = self.first.place();
         let number = self.second.place();
@@ -370,6 +372,7 @@ impl<C: Check> TwoClockAnalyser<C> {
         steps_are_bounded();
         settled_places();
         reports_grow();
+        arrivals_are();
         // Called for their bounds: no more than 2^60 bits each, so that no sum overflows.
         let _first_bits = self.first.place();
         let _second_bits = self.second.place();

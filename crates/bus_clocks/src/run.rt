@@ -10,6 +10,7 @@ ghost use Rattle.bus_watch.specs.Headline.{CanBeMade, UnlessStopped};
 
 use crate::analyser::TwoClockAnalyser;
 use crate::feed::Arrival;
+use crate::laws::arrivals_are;
 use bus_dictionary::Dictionary;
 use bus_fcs::Check;
 use bus_talk::PairSink;
@@ -66,6 +67,7 @@ pub fn run_clocks<C: Check, S: PairSink>(
         Err(fault) => return Err(RunFault::New(fault)),
     };
     seen_grows();
+    arrivals_are();
     match analyser.feed(arrivals, sink) {
         Ok(()) => {
             let usage = analyser.usage();

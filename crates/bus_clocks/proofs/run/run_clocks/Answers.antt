@@ -28,6 +28,6 @@ returns-in-Err-feed-clause-fails g c =
       refused.0,
       rw (← given.0, ← given.2)
           (stopped-at-arrival g.C.Check.check g.S.PairSink.sink c.in-Ok.analyser c.feed.new.self _ _ _ consumed
-          c.seen_grows.ensures.reports c.in-Ok.ensures.is_after refused.1),
+          c.seen_grows.ensures.reports c.arrivals_are.ensures.grow c.in-Ok.ensures.is_after refused.1),
     ))
     c.in-Err-feed.ensures.refused c.in-Err-feed.ensures.refused)

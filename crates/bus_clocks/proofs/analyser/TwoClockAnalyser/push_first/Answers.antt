@@ -19,7 +19,7 @@ pub enter-requires-clause-room : goal.enter-requires-clause-room
 enter-requires-clause-room g c =
     let reached = c.self.invariant.reached in
     room-arrivals g.C.Check.check (clock_state c.self.inside) c.self.invariant.arrivals c.reports_grow.ensures.more
-    c.settled_places.ensures.frames c.settled_places.ensures.paid c.settled_places.ensures.within reached
+    c.arrivals_are.ensures.grow c.settled_places.ensures.frames c.settled_places.ensures.paid c.settled_places.ensures.within reached
     (omega (arith, c.place-place.ensures.value, c.place-place.ensures.fits, reached.first.has_taken.place))
     (omega (arith, c.place-bits.ensures.value, c.place-bits.ensures.fits, reached.second.has_taken.place))
 
@@ -33,7 +33,7 @@ sees : (g : Over) (c : goal.After-enter g) → SeesArrivals g.C.Check.check (clo
       places = c.reach.new.self;
     })
 sees g c =
-    sees-arrival g.C.Check.check (clock_state c.self.inside) _ _ _ _
+    sees-arrival g.C.Check.check (clock_state c.self.inside) _ _ _ _ c.arrivals_are.ensures.grow
     (push-first g.C.Check.check (clock_state c.self.inside) _ c.args.bit c.in_ok-event.event
     (told_on (Some First) c.decode.new.decoder.octets c.enter.result c.enter.new.journal.last)
     c.in_ok-event.ensures.decodes (rw (c.octets-octets.ensures.value) at c.enter.ensures) refl

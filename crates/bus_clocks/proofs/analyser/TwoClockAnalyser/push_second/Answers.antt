@@ -35,7 +35,7 @@ pub enter-requires-clause-room : goal.enter-requires-clause-room
 enter-requires-clause-room g c =
     let reached = c.self.invariant.reached in
     room-arrivals g.C.Check.check (clock_state c.self.inside) c.self.invariant.arrivals c.reports_grow.ensures.more
-    c.settled_places.ensures.frames c.settled_places.ensures.paid c.settled_places.ensures.within reached
+    c.arrivals_are.ensures.grow c.settled_places.ensures.frames c.settled_places.ensures.paid c.settled_places.ensures.within reached
     (omega (arith, c.place-place.ensures.value, c.place-place.ensures.fits, reached.first.has_taken.place))
     (omega (arith, c.place-number.ensures.value, c.place-number.ensures.fits, reached.second.has_taken.place))
 
@@ -49,7 +49,7 @@ sees : (g : Over) (c : goal.After-enter g) → SeesArrivals g.C.Check.check (clo
       places = c.note.new.self;
     })
 sees g c =
-    sees-arrival g.C.Check.check (clock_state c.self.inside) _ _ _ _
+    sees-arrival g.C.Check.check (clock_state c.self.inside) _ _ _ _ c.arrivals_are.ensures.grow
     (push-second g.C.Check.check (clock_state c.self.inside) _ c.args.bit c.in_ok-event.event
     c.located_option-event.result c.place-number.result c.begins-opens.result
     (told_on (Some Second) c.decode.new.decoder.octets c.enter.result c.enter.new.journal.last)
