@@ -12,3 +12,4 @@ pub mod SameSampleLemmas
 pub mod FeedLemmas
 pub mod RunLemmas
 pub mod SumLemmas
+pub mod CountedLemmas

@@ -11,6 +11,7 @@ use Rattle.bus_talk.specs.declared.line.Line.TheVariants.{First, Second}
 use Rattle.bus_clocks.specs.Arrival.{Arrival, own, firsts_before}
 use Rattle.bus_clocks.specs.Rested.{rests, silence, comes_to_rest, fill, rested, RestState, IsRestAfter}
 use Rattle.bus_clocks.proofs.ArrivalLemmas.{own-append, before-append, before-now, before-within}
+use Rattle.bus_clocks.proofs.SumLemmas.{one-by-one}
 use Rattle.bus_clocks.proofs.EachLemmas.{each-more, alone-front, alone-last, upto-last}
 
 pub rested-more : (most : ℕ) (xs : List Arrival) (x : Arrival) (is : Bool) → comes_to_rest most (xs ++ x ∷ []) ≡ is →
@@ -131,3 +132,20 @@ comes-second most xs bit =
   where
     none : (x : Bool) → (ltb 0 most && ((0 == most) && x)) ≡ false
     none x = grind (arith, nat_tests)
+
+-- the first line stays
+pub rest-first : (most : ℕ) (xs : List Arrival) → own First (rested most xs) ≡ own First xs
+rest-first most xs =
+    one-by-one (λ ys. own First (rested most ys) ≡ own First ys) refl
+    (λ ys y before.
+    let is = comes_to_rest most (ys ++ y ∷ []) in
+    ap (own First) (rested-more most ys y is refl)
+    ∙ (own-append First (rested most ys) (y ∷ fill is)
+    ∙ (ap (λ b. b ++ own First (y ∷ fill is)) before
+    ∙ (ap (λ b. own First ys ++ b) (own-append First (y ∷ []) (fill is) ∙ (ap (λ b. own First (y ∷ []) ++ b) (none is)
+    ∙ append-nil (own First (y ∷ []))))
+    ∙ sym (own-append First ys (y ∷ [])))))) xs
+  where
+    none : (is : Bool) → own First (fill is) ≡ []
+    none true = refl
+    none false = refl

@@ -63,7 +63,7 @@ beq-other false false other = absurd (cc)
 beq-other true false other = refl
 beq-other false true other = refl
 
-same-bool : (x y : Bool) → beq x y ≡ true → x ≡ y
+pub same-bool : (x y : Bool) → beq x y ≡ true → x ≡ y
 same-bool true true same = refl
 same-bool false false same = refl
 same-bool true false same = absurd (cc)

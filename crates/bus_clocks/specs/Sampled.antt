@@ -28,12 +28,24 @@ data_of Second sample = sample / 4 / 2 % 2 == 1
 abbrev pub level : Channel → List ℕ → ℕ → Bool
 level channel ss i = channel (slice_index ss i)
 
--- it had this level in the `hold` samples before as well; what came before the first sample was like that one
+-- it has had this level in `hold + 1` samples in a row, of which sample `i` is the last; what came before the first
+-- sample was like that one
+abbrev pub HasStood : ℕ → Channel → List ℕ → ℕ → Bool → Type 0
+HasStood hold channel ss i l = (j : ℕ) → j ≤ hold → level channel ss (i - j) ≡ l
+
+-- the level that counts at sample `i` is the last one up to there that has stood
+pub record IsCounted (hold : ℕ) (channel : Channel) (ss : List ℕ) (i : ℕ) (l : Bool) : Type 0 where
+  pub at : ℕ
+  pub upto : at ≤ i
+  pub stood : HasStood hold channel ss at l
+  pub last : (k : ℕ) (m : Bool) → at < k → k ≤ i → HasStood hold channel ss k m → m ≡ l
+
+-- computed: its level in sample `i` has stood
 abbrev pub stood : Channel → List ℕ → ℕ → ℕ → Bool
 stood channel ss i zero = true
 stood channel ss i (suc hold) = beq (level channel ss (i - suc hold)) (level channel ss i) && stood channel ss i hold
 
--- the level that counts at sample `i`: the last one up to there that stood in `hold + 1` samples in a row
+-- computed: the level that counts at sample `i`
 abbrev pub counted : ℕ → Channel → List ℕ → ℕ → Bool
 counted hold channel ss zero = level channel ss 0
 counted hold channel ss (suc i) =
