@@ -37,7 +37,8 @@ module _ (channel : Channel) (ss : List ℕ) where
   }
   counted-is hold (suc i) = cases (counted-is hold i) (stood channel ss (suc i) hold) refl
     where
-      cases : IsCounted hold channel ss i (counted hold channel ss i) → (b : Bool) → stood channel ss (suc i) hold ≡ b → IsCounted hold channel ss (suc i)
+      cases : IsCounted hold channel ss i (counted hold channel ss i) → (b : Bool) →
+          stood channel ss (suc i) hold ≡ b → IsCounted hold channel ss (suc i)
           (if b then level channel ss (suc i) else counted hold channel ss i)
       cases before true is = record {
         at = suc i;

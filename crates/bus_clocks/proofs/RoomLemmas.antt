@@ -40,7 +40,8 @@ decides-few origin longest xs (Second, bit) =
           (due_at longest (own Second xs ++ bit ∷ []) (length (own Second xs))),
     )
 
-pub arrived-few : ArrivalsGrow → (origin longest : ℕ) (xs : List Arrival) → length (arrived origin longest xs) ≤ length xs
+pub arrived-few : ArrivalsGrow → (origin longest : ℕ) (xs : List Arrival) →
+    length (arrived origin longest xs) ≤ length xs
 arrived-few grow origin longest xs =
     one-by-one (λ ys. length (arrived origin longest ys) ≤ length ys) (omega arith)
     (λ ys y before. omega (
@@ -58,7 +59,8 @@ own-count ((First, bit) ∷ xs) = omega (arith, own-count xs)
 own-count ((Second, bit) ∷ xs) = omega (arith, own-count xs)
 
 pub room-arrivals : {C : Type 0} (view : CheckView C) (a : ClockState C) (xs : List Arrival) → OneMore →
-    ArrivalsGrow → FramesStored → StoredPaid → AssembledWithin → IsAfterArrivals view a xs → length (own First xs) ≤ 2 ^ 60 →
+    ArrivalsGrow → FramesStored → StoredPaid → AssembledWithin → IsAfterArrivals view a xs →
+    length (own First xs) ≤ 2 ^ 60 →
     length (own Second xs) ≤ 2 ^ 60 → HasRoom a.journal
 room-arrivals view a xs more grow frames paid within reached first second =
     let o = a.first.origin in

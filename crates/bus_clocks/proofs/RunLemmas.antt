@@ -42,7 +42,8 @@ fed-clock-headline view sink a e xs s t u new fed whole =
 seen-length : SeenAreReports → (d : List FrameType) (hs : List Heard) → length (seen d hs) ≡ length hs
 seen-length are d hs = sym (length-map (seen d hs) heard_in) ∙ ap length (are d hs)
 
-seen-few : SeenAreReports → ArrivalsGrow → (d : List FrameType) (origin n : ℕ) (xs : List Arrival) → 0 < n → n ≤ length xs →
+seen-few : SeenAreReports → ArrivalsGrow → (d : List FrameType) (origin n : ℕ) (xs : List Arrival) → 0 < n →
+    n ≤ length xs →
     length (all_seen_of_arrivals d origin (take n xs)) ≤ length (all_seen_of_arrivals d origin (take (n - 1) xs)) + 1
 seen-few are grow d origin n xs some within =
     let longest = longest_of d in
@@ -106,7 +107,7 @@ stopped-at-arrival view sink a e xs s t consumed are grow new at =
     record {
       some = at.some;
       within = at.within;
-      took = refused.took ∙ (ap (λ ys. told (sink.taken s) (refused.seen ++ ys)) one.no_other
+      others = refused.took ∙ (ap (λ ys. told (sink.taken s) (refused.seen ++ ys)) one.no_other
           ∙ (ap (told (sink.taken s)) (append-nil refused.seen) ∙ ap (told (sink.taken s)) (sym before)));
       lost = one.lost;
       refused = seen_then ∙ ap (λ ys. all_seen_of_arrivals d origin (take (consumed - 1) xs) ++ ys) one.alone;

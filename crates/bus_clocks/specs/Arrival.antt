@@ -1,4 +1,4 @@
--- Bits of two lines with a clock each, in the order in which they arrive, and what is heard of them.
+-- Bits of two lines with a clock each, in the order in which they arrive, and the reports of these lines.
 --
 -- The first line's bits number the places. The second line has a clock of its own: it may be quicker or slower, and may
 -- stop. So a bit of the second line has no place of its own, and stands at that of the last bit of the first line

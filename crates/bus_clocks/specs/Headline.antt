@@ -63,13 +63,13 @@ WholeClockRun {C} view end usage =
     → ClockHeadline view.cost start.journal.dictionary start.journal.depth start.first.origin
     (joined pieces) (joined shown) end.journal.history usage
 
--- a sink refused the report that the last of the first `consumed` arrivals decides, and took all those before
+-- a sink refused the report that the last of the first `consumed` arrivals decides, and has all those before
 pub record StoppedAtArrival
     {S : Type 0} (sink : SinkView S) (d : List FrameType) (origin : ℕ) (xs : List Arrival)
     (before after : S) (consumed : ℕ) : Type 0 where
   pub some : 0 < consumed
   pub within : consumed ≤ length xs
-  pub took : sink.taken after ≡ told (sink.taken before) (all_seen_of_arrivals d origin (take (consumed - 1) xs))
+  pub others : sink.taken after ≡ told (sink.taken before) (all_seen_of_arrivals d origin (take (consumed - 1) xs))
   pub lost : SeenReport
   pub refused : all_seen_of_arrivals d origin (take consumed xs)
       ≡ all_seen_of_arrivals d origin (take (consumed - 1) xs) ++ lost ∷ []

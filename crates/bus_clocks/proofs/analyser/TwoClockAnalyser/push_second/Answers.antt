@@ -35,7 +35,8 @@ pub enter-requires-clause-room : goal.enter-requires-clause-room
 enter-requires-clause-room g c =
     let reached = c.self.invariant.reached in
     room-arrivals g.C.Check.check (clock_state c.self.inside) c.self.invariant.arrivals c.reports_grow.ensures.more
-    c.arrivals_are.ensures.grow c.settled_places.ensures.frames c.settled_places.ensures.paid c.settled_places.ensures.within reached
+    c.arrivals_are.ensures.grow c.settled_places.ensures.frames c.settled_places.ensures.paid
+    c.settled_places.ensures.within reached
     (omega (arith, c.place-place.ensures.value, c.place-place.ensures.fits, reached.first.has_taken.place))
     (omega (arith, c.place-number.ensures.value, c.place-number.ensures.fits, reached.second.has_taken.place))
 
