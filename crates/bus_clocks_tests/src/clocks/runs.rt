@@ -5,11 +5,12 @@ use super::{
     pushed,
 };
 use crate::expect::{holds, same};
+use bus_bits::Spent;
 use bus_clocks::{ClockRun, TwoClockAnalyser, run_clocks};
 use bus_dictionary::Dictionary;
 use bus_fcs::OctetCheck;
 use bus_line::Span;
-use bus_rows::FAR;
+use bus_rows::{FAR, joined};
 use bus_watch::{FeedFault, Line, NewFault, PairAnalyser, PairLog, PairSink, RunFault};
 use std::alloc::Global;
 use std::process::Abort;
@@ -78,18 +79,39 @@ fn all_is_logged(rt: HostRuntime) {
         "the reply",
     );
     holds(&rt, done.analyser.history(2).is_none(), "no third frame");
-    same(
-        &rt,
-        done.analyser.spent().shifted,
-        257,
-        "the bits of both lines",
-    );
+    let spent = Spent {
+        shifted: 257,
+        assembled: 80,
+        folded: 10,
+        stored: 10,
+        copied: 10,
+        handled: 15,
+    };
+    same(&rt, done.analyser.spent(), spent, "the steps of both lines");
     same(
         &rt,
         done.analyser.dictionary().longest(),
         3,
         "the longest frame",
     );
+}
+
+/// Of the bits of an open piece all but the last eight are settled: of twenty bits one octet.
+#[test]
+fn buffers_of_open_pieces(rt: HostRuntime) {
+    let alloc = rt.alloc();
+    let broken = "flag 00001000 11000001 0000";
+    let arrivals = arrivals_in(&rt, alloc, CALL, broken, &[(60, 0, 1), (1, 1, 28)]);
+    let mut analyser = analyser::<OctetCheck>(&rt, alloc);
+    pushed(&rt, alloc, &mut analyser, &arrivals);
+    let buffered = (
+        analyser.buffered(Line::First),
+        analyser.buffered(Line::Second),
+    );
+    same(&rt, buffered, (0, 1), "octets in the buffers");
+    let usage = analyser.usage();
+    let buffered = (usage.first_buffered, usage.second_buffered);
+    same(&rt, buffered, (0, 1), "octets by the usage");
 }
 
 /// How a run ends early.
@@ -166,6 +188,20 @@ fn faults_of_runs(rt: HostRuntime) {
     }
 }
 
+const SEEN_CALL: &str = "8 49 frame 108300fde5 station 16 type 0 on 1";
+
+const SEEN_IDLE: &str = "57 72 idle on 1";
+
+const SEEN_REPLY: &str =
+    "68 109 frame 108380f561 station 16 type 128, answered 8 49 station 16 type 0 on 2";
+
+/// A report is refused, the bit that decides it is the last of so many, and these are not.
+const REFUSALS: [(u64, usize, [&str; 2]); 3] = [
+    (1, 57, [SEEN_IDLE, SEEN_REPLY]),
+    (2, 83, [SEEN_CALL, SEEN_REPLY]),
+    (3, 174, [SEEN_CALL, SEEN_IDLE]),
+];
+
 /// After a refused report feeding goes on behind the bit that decided it, and the analyser stands as if all was taken.
 #[test]
 fn refusing_sinks(rt: HostRuntime) {
@@ -173,7 +209,7 @@ fn refusing_sinks(rt: HostRuntime) {
     let arrivals = gated(&rt, alloc);
     let mut one_by_one = analyser::<OctetCheck>(&rt, alloc);
     pushed(&rt, alloc, &mut one_by_one, &arrivals);
-    for (refuses, stop) in [(1, 57), (2, 83), (3, 174)] {
+    for (refuses, stop, others) in REFUSALS {
         let case = format_args!("report {refuses} is refused");
         let mut fed = analyser::<OctetCheck>(&rt, alloc);
         let mut sink = Collector::new(alloc, refuses);
@@ -181,7 +217,8 @@ fn refusing_sinks(rt: HostRuntime) {
         same(&rt, fault, Some(FeedFault::Sink { consumed: stop }), &case);
         let rest = arrivals.get(stop..).expect(&rt, "arrivals");
         feed(&rt, &mut fed, rest, &mut sink).expect(&rt, "room");
-        same(&rt, sink.count, 3, &case);
+        let want = joined(alloc, &others).expect(&rt, "memory");
+        same(&rt, sink.text.as_str(), want.as_str(), &case);
         same(&rt, fed.usage(), one_by_one.usage(), &case);
         same(&rt, fed.tally(16), one_by_one.tally(16), &case);
         holds(&rt, !sink.lacks, &case);

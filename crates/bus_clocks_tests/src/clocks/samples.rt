@@ -11,7 +11,7 @@ struct SampleRow {
     want: &'static str,
 }
 
-const SAMPLE_ROWS: [SampleRow; 20] = [
+const SAMPLE_ROWS: [SampleRow; 21] = [
     SampleRow {
         hold: 0,
         samples: "01",
@@ -114,6 +114,12 @@ const SAMPLE_ROWS: [SampleRow; 20] = [
         hold: 2,
         samples: "00011000111",
         want: "0",
+    },
+    // and a sample between begins them anew
+    SampleRow {
+        hold: 2,
+        samples: "01011",
+        want: "",
     },
     // the data has a glitch as its clock rises
     SampleRow {
