@@ -1,0 +1,15 @@
+pub mod ArrivalLemmas
+pub mod PlacesLemmas
+pub mod RoomLemmas
+pub mod PushLemmas
+pub mod ApartLemmas
+pub mod HeadlineLemmas
+pub mod StepsLemmas
+pub mod EachLemmas
+pub mod RestLemmas
+pub mod SampledLemmas
+pub mod SameSampleLemmas
+pub mod FeedLemmas
+pub mod RunLemmas
+pub mod SumLemmas
+pub mod CountedLemmas

@@ -1,0 +1,150 @@
+//! Bits from samples of four channels.
+
+ghost use Rattle.std.specs.Prelude.{◌≡◌, ◌+◌, ◌≤◌, ◌/◌, ◌%◌, ◌==◌, ◌&&◌, ◌++◌, ◌∷◌, [], List, ℕ, not, Some, None};
+ghost use Rattle.std.specs.Prelude.{if◌then◌else◌};
+ghost use Rattle.bus_pairing.specs.declared.line.Line.TheVariants.{First};
+ghost use Rattle.bus_clocks.specs.Internal.Held.{held_state, next_state};
+ghost use Rattle.bus_clocks.specs.Sampled.{IsAfterSamples, sampled, bits_in, clock_of, data_of};
+
+use std::marker::Model;
+
+/// The bits that arrive with one sample. The first line's arrives first.
+#[derive(Clone, Copy, Debug, PartialEq, Eq)]
+pub struct Edges {
+    /// The first line's, if its clock rises.
+    pub first: Option<bool>,
+    /// The second line's.
+    pub second: Option<bool>,
+}
+
+/// A channel.
+#[derive(Clone, Copy)]
+pub(crate) struct HeldLevel {
+    /// The level that counts.
+    level: bool,
+    /// For how many samples the other level has stood.
+    others: u32,
+}
+
+impl HeldLevel {
+    /// A sample of this level; a level counts once it stood in `hold` samples more.
+    fn sample(&mut self, level: bool, hold: u32)
+        requires { self.old.others ≤ hold }
+        ensures next { held_state self.new ≡ next_state hold (held_state self.old) level }
+        ensures within { self.new.others ≤ hold }
+    {
+        if level == self.level {
+            self.others = 0;
+        } else if self.others == hold {
+            self.level = level;
+            self.others = 0;
+        } else {
+            self.others += 1;
+        }
+    }
+}
+
+/// The two channels of a line.
+#[derive(Clone, Copy)]
+pub(crate) struct LineLevels {
+    clock: HeldLevel,
+    /// Its data.
+    bits: HeldLevel,
+}
+
+impl LineLevels {
+    /// With the levels of the first sample: the clock's in bit 0, that of the data in bit 1.
+    fn new(sample: u8) -> Self
+        ensures clock { result.clock ≡ record { level = clock_of First sample; others = 0 } }
+        ensures bits { result.bits ≡ record { level = data_of First sample; others = 0 } }
+    {
+        LineLevels {
+            clock: HeldLevel {
+                level: sample % 2 == 1,
+                others: 0,
+            },
+            bits: HeldLevel {
+                level: sample / 2 % 2 == 1,
+                others: 0,
+            },
+        }
+    }
+
+    /// A sample. Returns the bit that arrives with it, if the clock rises: the level of the data just before.
+    fn sample(&mut self, sample: u8, hold: u32) -> Option<bool>
+        requires clock { self.old.clock.others ≤ hold }
+        requires bits { self.old.bits.others ≤ hold }
+        ensures clock { held_state self.new.clock
+            ≡ next_state hold (held_state self.old.clock) (clock_of First sample) }
+        ensures bits { held_state self.new.bits
+            ≡ next_state hold (held_state self.old.bits) (data_of First sample) }
+        ensures bit { result
+            ≡ (if not self.old.clock.level && self.new.clock.level then Some self.old.bits.level else None) }
+        ensures clock_within { self.new.clock.others ≤ hold }
+        ensures bits_within { self.new.bits.others ≤ hold }
+    {
+        let before = *self;
+        self.clock.sample(sample % 2 == 1, hold);
+        self.bits.sample(sample / 2 % 2 == 1, hold);
+        if !before.clock.level && self.clock.level {
+            Some(before.bits.level)
+        } else {
+            None
+        }
+    }
+}
+
+/// Finds the bits of two lines in the samples of a logic analyser. Where a line's clock rises, a bit of it arrives: the
+/// level of its data just before. Of two bits in one sample the first line's arrives first.
+///
+/// A sample has the levels of four channels, from bit 0 up: the first line's clock and data, then those of the second
+/// line. Its other bits say nothing.
+///
+/// Glitches are left out: a level counts once it stood in a number of samples in a row, on all channels alike.
+#[derive(Drop)]
+pub struct Sampler {
+    /// In how many samples more than one.
+    hold: u32,
+    first: LineLevels,
+    second: LineLevels,
+}
+
+impl Model for Sampler {
+    ghost use Rattle.bus_clocks.specs.Sampled.{SamplerState};
+
+    ghost Value = { SamplerState };
+
+    ghost use Rattle.bus_clocks.specs.Internal.Held.{sampler_state, AreHeldWithin};
+
+    ghost view = { sampler_state };
+
+    ghost invariant = { AreHeldWithin };
+}
+
+impl Sampler {
+    /// With the first sample, which brings no bit. A level counts once it stood in `hold` + 1 samples in a row; with 0
+    /// each level counts at once.
+    pub fn new(hold: u32, first: u8) -> Self
+        ensures after { IsAfterSamples result (first ∷ []) }
+        ensures hold { result.hold ≡ hold }
+    {
+        Sampler {
+            hold,
+            first: LineLevels::new(first),
+            second: LineLevels::new(first / 4),
+        }
+    }
+
+    /// The next sample. Returns the bits that arrive with it.
+    pub fn sample(&mut self, sample: u8) -> Edges
+        ensures sampled { (ss : List ℕ) → IsAfterSamples self.old ss →
+            sampled self.old.hold (ss ++ sample ∷ []) ≡ sampled self.old.hold ss ++ bits_in result }
+        ensures after { (ss : List ℕ) → IsAfterSamples self.old ss → IsAfterSamples self.new (ss ++ sample ∷ []) }
+        ensures hold { self.new.hold ≡ self.old.hold }
+    {
+        Edges {
+            first: self.first.sample(sample, self.hold),
+            second: self.second.sample(sample / 4, self.hold),
+        }
+    }
+}

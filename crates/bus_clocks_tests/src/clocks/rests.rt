@@ -1,0 +1,132 @@
+//! A second line whose clock stops, brought to rest.
+
+use super::{Arrival, CALL, Turn, analyser, arrivals_in, push};
+use crate::expect::same;
+use bus_clocks::RestRule;
+use bus_fcs::OctetCheck;
+use bus_watch::Line;
+use std::alloc::Global;
+use std::process::Abort;
+
+/// What is seen of a call, and of these bits of the second line, where its silence lasts for `most` places.
+struct RestRow {
+    name: &'static str,
+    most: u64,
+    second: &'static str,
+    turns: &'static [Turn],
+    want: &'static str,
+}
+
+/// The first twenty bits of a reply, after a flag.
+const BROKEN: &str = "flag 00001000 11000001 0000";
+
+/// They arrive from place 60 on.
+const FROM_60: &[Turn] = &[(60, 0, 1), (1, 1, 28)];
+
+const SILENT: &str = "8 49 frame 108300fde5 station 16 type 0 on 1; 57 72 idle on 1";
+
+const REST_ROWS: [RestRow; 7] = [
+    // the last bit of the second line is at place 87; the 64th after it is at place 151
+    RestRow {
+        name: "silence of 64 places",
+        most: 64,
+        second: BROKEN,
+        turns: FROM_60,
+        want: "8 49 frame 108300fde5 station 16 type 0 on 1; 57 72 idle on 1; \
+            68 88 abort, spoilt 8 49 station 16 type 0 on 2; 151 152 idle on 2",
+    },
+    // the first line has 200 bits: 112 after that bit
+    RestRow {
+        name: "silence up to the last place",
+        most: 112,
+        second: BROKEN,
+        turns: FROM_60,
+        want: "8 49 frame 108300fde5 station 16 type 0 on 1; 57 72 idle on 1; \
+            68 88 abort, spoilt 8 49 station 16 type 0 on 2; 199 200 idle on 2",
+    },
+    RestRow {
+        name: "a place too few",
+        most: 113,
+        second: BROKEN,
+        turns: FROM_60,
+        want: SILENT,
+    },
+    RestRow {
+        name: "no rest",
+        most: 0,
+        second: BROKEN,
+        turns: FROM_60,
+        want: SILENT,
+    },
+    RestRow {
+        name: "before the first bit",
+        most: 64,
+        second: "",
+        turns: &[],
+        want: SILENT,
+    },
+    // fifteen ones of its own: the idle line begins at place 88, and lasts up to place 102
+    RestRow {
+        name: "at rest already",
+        most: 64,
+        second: "flag 00001000 11000001 0000 idle",
+        turns: &[(60, 0, 1), (1, 1, 43)],
+        want: "8 49 frame 108300fde5 station 16 type 0 on 1; 57 72 idle on 1; \
+            68 88 abort, spoilt 8 49 station 16 type 0 on 2; 88 103 idle on 2",
+    },
+    // silence that a bit ends in time
+    RestRow {
+        name: "a stop of 63 places",
+        most: 64,
+        second: "flag reply flag",
+        turns: &[(50, 0, 1), (1, 1, 28), (63, 1, 1), (1, 1, 28)],
+        want: "8 49 frame 108300fde5 station 16 type 0 on 1; 57 72 idle on 1; \
+            58 161 frame 108380f561 station 16 type 128, answered 8 49 station 16 type 0 on 2",
+    },
+];
+
+/// What is seen of arrivals with rest put in.
+fn rested(rt: &impl Abort, alloc: Global, most: u64, arrivals: &[Arrival]) -> String {
+    let mut analyser = analyser::<OctetCheck>(rt, alloc);
+    let mut rule = RestRule::new(most);
+    let mut text = String::new(alloc);
+    for arrival in arrivals {
+        push(rt, &mut analyser, *arrival, &mut text);
+        if rule.push(arrival.0, arrival.1) {
+            for _ in 0..15 {
+                push(rt, &mut analyser, (Line::Second, true), &mut text);
+            }
+        }
+    }
+    text
+}
+
+#[test]
+fn rows_of_rest(rt: HostRuntime) {
+    let alloc = rt.alloc();
+    for row in &REST_ROWS {
+        let arrivals = arrivals_in(&rt, alloc, CALL, row.second, row.turns);
+        let text = rested(&rt, alloc, row.most, &arrivals);
+        same(&rt, text.as_str(), row.want, row.name);
+    }
+}
+
+/// The silence that suits a cabinet.
+#[test]
+fn usual_silence(rt: HostRuntime) {
+    let mut rule = RestRule::new(RestRule::SILENCE);
+    same(
+        &rt,
+        rule.push(Line::Second, false),
+        false,
+        "a bit of the second line",
+    );
+    for place in 1..=500 {
+        same(
+            &rt,
+            rule.push(Line::First, true),
+            place == 400,
+            format_args!("place {place}"),
+        );
+    }
+}
