@@ -112,7 +112,7 @@ fn eight_at_most(octets: &[u8]) -> u64
     ])
 }
 
-/// Octet `i`, or 0 past the end. Not by `get`: the pointer in its `Option` is misread where `contrib/mcu/build`
+/// Octet `i`, or 0 past the end. Not by `get`: the pointer in its `Option` is misread where `c/targets/build`
 /// compiles the 64-bit module of this crate for 32-bit pointers.
 #[inline(always)]
 fn octet_or_zero(octets: &[u8], i: usize) -> u8

@@ -55,7 +55,7 @@ report_told r octets =
     if r.kind == 0
     then None else Some (record { kind = kind_told r.kind r.cause octets; first = r.first; past = r.past })
 
--- the numbers of include/port1.h: a kind up to 5, and a cause of 1 to 4 for a damaged piece alone
+-- the numbers of c/include/port1.h: a kind up to 5, and a cause of 1 to 4 for a damaged piece alone
 pub record IsCoded (r : Port1Report) : Type 0 where
   pub kind_fits : r.kind ≤ 5
   pub damaged : r.kind ≡ 2 → (1 ≤ r.cause) × (r.cause ≤ 4)

@@ -4,7 +4,7 @@ ghost use Rattle.port1_c.specs.Pair.{entries_told};
 
 use bus_dictionary::{Rule, Rules};
 
-/// What a table says of one frame type. Its layout is that of `include/port1.h`.
+/// What a table says of one frame type. Its layout is that of `c/include/port1.h`.
 #[repr(C)]
 #[derive(Clone, Copy)]
 pub struct Port1Entry {

@@ -4,7 +4,7 @@ ghost use Rattle.std.specs.Prelude.{◌≡◌, replicate, take};
 
 use bus_line::FrameBuffer;
 
-/// The octets of a piece, and beside them the register of their check. The layout is that of `include/port1.h`.
+/// The octets of a piece, and beside them the register of their check. The layout is that of `c/include/port1.h`.
 #[repr(C)]
 #[derive(Drop)]
 pub struct LentFrame {

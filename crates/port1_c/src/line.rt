@@ -11,7 +11,7 @@ use crate::report::Port1Report;
 use bus_fcs::OctetCheck;
 use bus_line::{DecoderWords, PlaceLimit};
 
-/// A decoder between two calls. Its layout is that of `include/port1.h`.
+/// A decoder between two calls. Its layout is that of `c/include/port1.h`.
 #[repr(C)]
 #[derive(Drop)]
 pub struct Port1Line {

@@ -6,7 +6,7 @@ ghost use Rattle.port1_c.specs.Pair.{no_reports, waiting};
 use bus_bits::Span;
 use bus_pairing::{Pairing, Pending};
 
-/// What pairing keeps between two calls. Its layout is that of `include/port1.h`.
+/// What pairing keeps between two calls. Its layout is that of `c/include/port1.h`.
 #[repr(C)]
 #[derive(Clone, Copy)]
 pub struct Port1Pair {

@@ -9,7 +9,7 @@ ghost use Rattle.port1_c.specs.Pair.{CanBeReport, heard_told};
 use bus_bits::Span;
 use bus_line::{Cause, Event, EventKind};
 
-/// The kinds of a report. The numbers are those of `include/port1.h`, with PORT1_ before each name.
+/// The kinds of a report. The numbers are those of `c/include/port1.h`, with PORT1_ before each name.
 pub(crate) const NONE: u32 = 0;
 
 const FRAME: u32 = 1;
@@ -31,7 +31,7 @@ const UNALIGNED: u32 = 3;
 
 const FCS: u32 = 4;
 
-/// What a bit decided. Its layout is that of `include/port1.h`.
+/// What a bit decided. Its layout is that of `c/include/port1.h`.
 #[repr(C)]
 #[derive(Clone, Copy)]
 pub struct Port1Report {

@@ -7,7 +7,7 @@ use bus_dictionary::Standing;
 use bus_pairing::{Finding, Outcome};
 
 /// How a frame stands to the table, or 0 for a piece that is no frame. The numbers are those of
-/// `include/port1.h`, with PORT1_ before each name.
+/// `c/include/port1.h`, with PORT1_ before each name.
 const OTHER_CONTROL: u32 = 1;
 
 const UNTYPED: u32 = 2;
@@ -27,7 +27,7 @@ const MISSING: u32 = 3;
 
 const SPOILT: u32 = 4;
 
-/// What follows from a report. Its layout is that of `include/port1.h`.
+/// What follows from a report. Its layout is that of `c/include/port1.h`.
 #[repr(C)]
 #[derive(Clone, Copy)]
 pub struct Port1Seen {

@@ -1,6 +1,6 @@
 //! A sender in a caller's memory.
 
-/// What a sender keeps between two calls. Its layout is that of `include/port1.h`.
+/// What a sender keeps between two calls. Its layout is that of `c/include/port1.h`.
 #[repr(C)]
 #[derive(Clone, Copy)]
 pub struct Port1Sender {

@@ -1,4 +1,4 @@
-//! What a call returns. The numbers are those of `include/port1.h`, with PORT1_ before each name.
+//! What a call returns. The numbers are those of `c/include/port1.h`, with PORT1_ before each name.
 
 /// The call did what it says.
 pub(crate) const OK: u32 = 0;

@@ -1,4 +1,4 @@
-//! Calls of the library on worked bits. What is wanted is what the rules of the line and `include/port1.h` say.
+//! Calls of the library on worked bits. What is wanted is what the rules of the line and `c/include/port1.h` say.
 
 mod expect;
 mod feeds;

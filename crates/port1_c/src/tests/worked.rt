@@ -1,4 +1,4 @@
-//! Numbers, bits and octets of worked examples. The numbers are those of `include/port1.h`, with PORT1_ before each
+//! Numbers, bits and octets of worked examples. The numbers are those of `c/include/port1.h`, with PORT1_ before each
 //! name.
 
 use crate::{LentFrame, Port1Line, Port1Report};
