@@ -45,8 +45,7 @@ abbrev pub unused : ℕ → List Bool → List Bool
 unused n d = take (next_multiple_of n 8 - n) (drop n d)
 
 -- what the bits `d` of whole octets give, of which the first `n` are wanted: an octet with an unused 1 gives none, and
--- an octet
--- past the last wanted bit is one too many
+-- an octet past the last wanted bit is one too many
 unfoldable pub wanted : ℕ → List Bool → Capture
 wanted n d =
     if list_any (λ b. b) (unused n d) then record { bits = take (n / 8 * 8) d; fault = Some pad_bits }

@@ -1,4 +1,4 @@
-//! ReportsSeen what is seen: counts it, and writes its lines.
+//! Reports what is seen: counts it, and writes its lines.
 
 ghost use Rattle.std.specs.Prelude.{◌≡◌, ℕ, Option, List, [], length};
 ghost use Rattle.arrayvec.specs.ArrayVec.{array_vec_len};

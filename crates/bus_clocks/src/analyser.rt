@@ -88,8 +88,7 @@ fn begun_span<C: Check>(decoder: &LineDecoder<C>) -> Option<Span>
 }
 
 /// The conversation gets what a bit of a line decided, if anything; a frame has these octets. Returns whether there is
-/// a
-/// report, which is then its last.
+/// a report, which is then its last.
 fn enter(conversation: &mut Conversation, line: Line, event: Option<Event>, octets: &[u8]) -> bool
     requires whole { (e : Event) → event ≡ Some e → IsWhole e.kind octets.now }
     requires fits { length octets.now ≤ most_octets }

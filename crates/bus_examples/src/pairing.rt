@@ -38,8 +38,7 @@ fn is_whole(kind: EventKind, octets: &[u8]) -> bool
 }
 
 /// Pairs commands with replies among these reports, in the order in which they are decided. The conversation then has
-/// the
-/// verdicts of each station, the last frames and the command that waits.
+/// the verdicts of each station, the last frames and the command that waits.
 ///
 /// # Errors
 ///

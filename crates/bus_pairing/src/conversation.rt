@@ -91,8 +91,7 @@ impl Conversation {
     }
 
     /// Takes a report of a line, a frame with these octets; [`Conversation::last`] returns what follows from it. `line`
-    /// is
-    /// `None` where there is one line.
+    /// is `None` where there is one line.
     ///
     /// A frame has 4 to 258 octets, and the counters have room for one report more: [`Conversation::has_room`].
     // Every caller passes a constant line, so that `enter` is compiled once for one line and once for two.

@@ -2,9 +2,8 @@
 //! section 3.3), the verdicts of each station, the last frames, and who is told.
 //!
 //! [`Pairing`] pairs commands with answers by rules in any memory; [`Conversation`] also keeps the verdicts and the
-//! last
-//! frames. Both are given reports, of one line or of two in the order in which they are decided, and know nothing of
-//! bits. What they find is a [`Finding`], and with a frame's octets a [`Seen`]; sinks take these one after another.
+//! last frames. Both are given reports, of one line or of two in the order in which they are decided, and know nothing
+//! of bits. What they find is a [`Finding`], and with a frame's octets a [`Seen`]; sinks take these one after another.
 //! `pair_reports` of the crate `bus_examples` gives a conversation the reports of a decoder of one's own.
 #![tactic(auto)]
 

@@ -52,7 +52,7 @@ fn verdict<E: Write>(ending: Result<Summary, ToolFault>, e: &mut E) -> u8
     }
 }
 
-/// ReportsSeen a fault, and returns its status. That this fails is ignored.
+/// Reports a fault, and returns its status. That this fails is ignored.
 pub fn fail<E: Write>(fault: &ToolFault, e: &mut E) -> u8
     ensures status { result ≡ 2 }
 {

@@ -36,7 +36,7 @@ pub fn run<R: Read, W: Write, E: Write>(
     }
 }
 
-/// ReportsSeen what the words have wrong, or the help that they ask for.
+/// Reports what the words have wrong, or the help that they ask for.
 fn refuse<W: Write, E: Write>(alloc: Global, error: &Error, w: &mut W, e: &mut E) -> u8
     ensures { (result ≡ 0) ⊎ (result ≡ 2) }
 {

@@ -24,8 +24,7 @@ use bus_line::{Event, LineDecoder, PlaceLimit, Scanned};
 use bus_pairing::{Conversation, Finding, Line, Seen};
 
 /// The conversation takes the event that the last bit of a line decided, if it decided one. `line` is `None` where
-/// there is
-/// one line.
+/// there is one line.
 #[inline(always)]
 pub(crate) fn record<C: Check>(
     decoder: &LineDecoder<C>,

@@ -45,8 +45,7 @@ abbrev pub line_reports_of : Option Line → Option Report → List LineReport
 line_reports_of line o = map (line_report line) (option_to_list o)
 
 -- these bits on a line lead a decoder and a conversation on; the last of them decides what is told, and no other
--- decides a
--- report
+-- decides a report
 pub record Decodes {C : Type 0} (view : CheckView C) (line : Option Line) (old : LineState C)
     (before : ConversationState) (bits : List Bool) (told : Option SeenReport)
     (new : LineState C) (after : ConversationState) : Type 0 where
@@ -76,8 +75,7 @@ pub record DecodesMany {C : Type 0} (view : CheckView C) (line : Option Line) (o
   pub told : is_told seen_now
 
 -- a decoder stands after some list of bits, and a conversation after what is reported on its line in these and after no
--- more of
--- another line than 2^60 bits may hold
+-- more of another line than 2^60 bits may hold
 pub record KeepsUp {C : Type 0} (view : CheckView C) (d : LineState C) (j : ConversationState)
     : Type 0 where
   pub bits : List Bool
