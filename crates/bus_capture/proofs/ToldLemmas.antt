@@ -18,52 +18,52 @@ use Rattle.bus_capture.proofs.WatchingLemmas.{halted, halts-more, lines-more, wa
 module _ {A X B : Type 0} (t : KindView A X B) (w v : CaptureRun A) (xs : List X) (before after : Option (List ℕ))
     (all : LeadsTold t.watch w.analyser xs v.analyser
     (λ ss. ReportsSeen (t.watch.dictionary w.analyser) (record w.reporter { cut = None }) before ss v.reporter after))
-    where
-  pub told-sound : t.watch.place w.analyser + length xs ≤ 2 ^ 60 → IsSound t w → IsSound t v
-  told-sound room sound =
-      let place = t.watch.place w.analyser in
-      record {
-        places = omega (arith, all.sees.place, room);
-        counts = few-within (2 * place + length all.seen) (2 * t.watch.place v.analyser) v.reporter.summary
-            (omega (arith, all.sees.place, all.few)) (all.told.few (2 * place) sound.counts);
-        octets = let before = sound.octets in omega (arith, all.sees.place, all.few, all.told.octets, before);
-      }
+  where
+    pub told-sound : t.watch.place w.analyser + length xs ≤ 2 ^ 60 → IsSound t w → IsSound t v
+    told-sound room sound =
+        let place = t.watch.place w.analyser in
+        record {
+          places = omega (arith, all.sees.place, room);
+          counts = few-within (2 * place + length all.seen) (2 * t.watch.place v.analyser) v.reporter.summary
+              (omega (arith, all.sees.place, all.few)) (all.told.few (2 * place) sound.counts);
+          octets = let before = sound.octets in omega (arith, all.sees.place, all.few, all.told.octets, before);
+        }
 
-  -- the lines that were told
-  out : (start : Option (List ℕ)) (b : List X) → Watches t start before w b
-      → IsOut start after v.reporter.page v.reporter.cut
-      (lines t w b ++ printed w.reporter.printer (t.watch.dictionary w.analyser) all.seen)
-  out start b followed = all.told.out start (lines t w b) followed.page
+    -- the lines that were told
+    out : (start : Option (List ℕ)) (b : List X) → Watches t start before w b
+        → IsOut start after v.reporter.page v.reporter.cut
+        (lines t w b ++ printed w.reporter.printer (t.watch.dictionary w.analyser) all.seen)
+    out start b followed = all.told.out start (lines t w b) followed.page
 
-  pub told-watched : v.reporter.cut ≡ None → (start : Option (List ℕ)) (b : List X) → Watches t start before w b →
-      Watches t start after v (b ++ xs)
-  told-watched none start b followed =
-      watched t start before after w v b xs all.seen all.told.printer followed all.sees
-      (all.told.counted (seen_by t.watch w.analyser b) followed.counts none)
-      (subst (λ cut. IsOut start after v.reporter.page cut
-      (lines t w b ++ printed w.reporter.printer (t.watch.dictionary w.analyser) all.seen)) none (out start b followed))
+    pub told-watched : v.reporter.cut ≡ None → (start : Option (List ℕ)) (b : List X) → Watches t start before w b →
+        Watches t start after v (b ++ xs)
+    told-watched none start b followed =
+        watched t start before after w v b xs all.seen all.told.printer followed all.sees
+        (all.told.counted (seen_by t.watch w.analyser b) followed.counts none)
+        (subst (λ cut. IsOut start after v.reporter.page cut
+        (lines t w b ++ printed w.reporter.printer (t.watch.dictionary w.analyser) all.seen)) none (out start b followed))
 
-  -- the writer was cut off
-  pub told-cut : KindLaws t → (cut : ShortWrite) → v.reporter.cut ≡ Some cut →
-      t.watch.place w.analyser + length xs ≤ 2 ^ 60
-      → (start : Option (List ℕ)) (b : List X) → Watches t start before w b →
-      Halts t start after v (b ++ xs) (fault.Write cut.sent)
-  told-cut law cut some room start b followed =
-      let text = lines-more t w v b xs all.seen all.told.printer followed.is_after all.sees in
-      let short =
-      subst
-      (λ o. IsOut start after v.reporter.page o
-      (lines t w b ++ printed w.reporter.printer (t.watch.dictionary w.analyser) all.seen)) some
-      (out start b followed) in
-      let fits : t.watch.origin v.analyser + length (b ++ xs) ≤ 2 ^ 60 =
-      omega (arith, all.sees.origin, law.placed w.analyser b followed.is_after, room, length-append b xs) in
-      record {
-        front = b ++ xs;
-        more = [];
-        all = within-all (t.watch.origin v.analyser) (b ++ xs) fits ∙ sym (append-nil (b ++ xs));
-        cut = subst (λ (ys : List ℕ). Cuts start after ys cut.sent) (sym text) short.0;
-        short = subst (λ (ys : List ℕ). cut.sent < length ys) (sym text) short.1;
-      }
+    -- the writer was cut off
+    pub told-cut : KindLaws t → (cut : ShortWrite) → v.reporter.cut ≡ Some cut →
+        t.watch.place w.analyser + length xs ≤ 2 ^ 60
+        → (start : Option (List ℕ)) (b : List X) → Watches t start before w b →
+        Halts t start after v (b ++ xs) (fault.Write cut.sent)
+    told-cut law cut some room start b followed =
+        let text = lines-more t w v b xs all.seen all.told.printer followed.is_after all.sees in
+        let short =
+        subst
+        (λ o. IsOut start after v.reporter.page o
+        (lines t w b ++ printed w.reporter.printer (t.watch.dictionary w.analyser) all.seen)) some
+        (out start b followed) in
+        let fits : t.watch.origin v.analyser + length (b ++ xs) ≤ 2 ^ 60 =
+        omega (arith, all.sees.origin, law.placed w.analyser b followed.is_after, room, length-append b xs) in
+        record {
+          front = b ++ xs;
+          more = [];
+          all = within-all (t.watch.origin v.analyser) (b ++ xs) fits ∙ sym (append-nil (b ++ xs));
+          cut = subst (λ (ys : List ℕ). Cuts start after ys cut.sent) (sym text) short.0;
+          short = subst (λ (ys : List ℕ). cut.sent < length ys) (sym text) short.1;
+        }
 
 -- the first pairs of octets' bits, and those after them
 pairs-behind : (b : List (Bool × Bool)) (os ys : List ℕ) (n count : ℕ) → n ≤ count

@@ -24,7 +24,7 @@ use bus_dictionary::Dictionary;
 use bus_fcs::Check;
 use bus_line::laws::{frame_is_spelled, reports_are, reports_grow, settled_places};
 use bus_line::{Event, LineDecoder, LineFault, PlaceLimit};
-use bus_pairing::{Counts, Conversation, Line, PairEnding, PairKept, Seen, Span};
+use bus_pairing::{Conversation, Counts, Line, PairEnding, PairKept, Seen, Span};
 use bus_watch::laws::{seen_grows, steps_are_bounded};
 use bus_watch::{NewFault, PairUsage};
 use std::alloc::Global;
@@ -138,8 +138,7 @@ impl<C: Check> TwoClockAnalyser<C> {
         ensures origin { (result ≡ Err NewFault.Origin) ↔ ((1 ≤ depth) × (depth ≤ 1024) × (most_places < origin)) }
         ensures is_after { IfOk result (λ a. IsAfterArrivals C.check a []) }
         ensures given { IfOk result
-            (λ a. (a.conversation.dictionary ≡ dictionary) × (a.conversation.depth ≡ depth) × (a.first.origin ≡ origin))
-            }
+            (λ a. (a.conversation.dictionary ≡ dictionary) × (a.conversation.depth ≡ depth) × (a.first.origin ≡ origin)) }
     {
         if depth < 1 || depth > 1024 {
             return Err(NewFault::DepthRange);

@@ -39,9 +39,11 @@ pub no_stop-before : (w n : ℕ) (b bits : List Bool) → IsWord w b bits → n 
     ((i : ℕ) → i < n → IsStop w i → ⊥) → HasNoStop b bits n
 no_stop-before w n b bits word within no_stop = λ i before.
     let six = word-just 6 9 w i b bits refl word (omega (arith, within, before)) in
-    let more = word-just 14 1 w i b bits refl word (omega (arith, within, before)) in
-    ((λ run. no_stop i before (inl (omega (arith, six.1 run)))), λ run. no_stop i before
-    (inr (omega (arith, more.1 run))))
+    let more = word-just 14 1 w i b bits refl word (omega (arith, within, before)) in (
+      (λ run. no_stop i before (inl (omega (arith, six.1 run)))),
+      λ run. no_stop i before
+          (inr (omega (arith, more.1 run))),
+    )
 
 -- ---- bits without a stop decide nothing
 

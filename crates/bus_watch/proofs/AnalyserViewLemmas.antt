@@ -51,8 +51,11 @@ steps-six Kind.Idle = omega arith
 
 steps-within : (hs : List LineReport) → handled_of hs ≤ 6 * length hs
 steps-within hs =
-    omega (arith, sum_by-le (λ (h : LineReport). steps h.report) 6 hs
-    (λ i d inside. steps-six (get_or hs i d).report.kind))
+    omega (
+      arith,
+      sum_by-le (λ (h : LineReport). steps h.report) 6 hs
+          (λ i d inside. steps-six (get_or hs i d).report.kind),
+    )
 
 pub octets-moved : (origin : ℕ) (rs : List Report) → sum_by octet_count (map (moved origin) rs) ≡ sum_by octet_count rs
 octets-moved origin [] = refl

@@ -58,7 +58,7 @@ both-rise it origin longest b c i =
     (alone First origin longest b i) (alone Second origin longest c i)
     (λ k m d k_inside m_inside. inr (
       reports-due it First origin longest b i k d k_inside ∙ sym
-      (reports-due it Second origin longest c i m d m_inside),
+          (reports-due it Second origin longest c i m d m_inside),
       reports-line First origin longest b i k d k_inside,
       reports-line Second origin longest c i m d m_inside,
     ))

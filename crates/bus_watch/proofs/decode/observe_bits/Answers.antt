@@ -28,8 +28,11 @@ record-requires-clause-decided g c =
     let bits = keeps_up.bits ++ next in
     let last : length keeps_up.bits + n - 1 ≡ length bits - 1 =
     omega (arith, length-append keeps_up.bits next, length-from c.args.octets.now c.loop-at.at n) in
-    record { bits = bits; due = rw (led.longest, led.origin, ← last)
-    (c.in-Ok.ensures.answer keeps_up.bits keeps_up.after) }
+    record {
+      bits = bits;
+      due = rw (led.longest, led.origin, ← last)
+          (c.in-Ok.ensures.answer keeps_up.bits keeps_up.after);
+    }
 
 pub record-requires-clause-room : goal.record-requires-clause-room
 record-requires-clause-room g c =

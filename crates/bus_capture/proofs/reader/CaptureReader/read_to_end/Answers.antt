@@ -23,7 +23,7 @@ returns-in-Ok-eq0-clause-read g c =
       before.0,
       consumes_end _ _ after before.0 _ (search rules) before.1 c.in-Ok-eq0.ensures.bytes.0,
       subst (λ (b : Bool). Finishes g.T.CaptureKind.kind b c.args.reads after start now self.run before.0
-      c.finish.result)
+          c.finish.result)
           c.loop-turn.invariant.text ends,
     )
 
@@ -57,7 +57,7 @@ returns-in_err-analyse_read-clause-read g c =
       xs,
       consumes_both _ _ _ before.0 _ before.1 c.in-Ok.ensures.bytes.0,
       stops-finishes g.T.CaptureKind.kind (is_text c.args.self.now.source) c.args.reads
-      (g.R.Read.remaining c.read.new.self)
+          (g.R.Read.remaining c.read.new.self)
           start now c.analyse_read.new.self.run xs c.in_err-analyse_read.field-0.0 stops,
     )
 
@@ -92,6 +92,6 @@ returns-clause-read g c =
       (
         omega (arith, before.3, c.loop-turn-test.false),
         subst (λ (b : Bool). IsClean g.T.CaptureKind.kind b start now self.run before.0) c.loop-turn.invariant.text
-        clean,
+            clean,
       ),
     )

@@ -20,8 +20,13 @@ returns-then-before-count-clause-advances g c =
     let x = c.args.word.bits in
     let long = length-bits n x in
     let all : c.from.result ≡ n =
-    omega (arith, c.from.ensures, c.min-taken.ensures, least (c.bits_before_stop-before.result + 1) n,
-    c.if-before-count.true) in
+    omega (
+      arith,
+      c.from.ensures,
+      c.min-taken.ensures,
+      least (c.bits_before_stop-before.result + 1) n,
+      c.if-before-count.true,
+    ) in
     let no_stop : (b : List Bool) → After view old b → HasNoStop b (bits_of n x) n = λ b stands.
     let word = word-joined old n x b stands.has_taken c.requires.word.few c.requires.word.small in
     (has_no_stop _ n c.bits_before_stop-before.result x b word c.if-before-count.true
@@ -45,8 +50,13 @@ returns-clause-advances g c =
     let t = c.min-taken.result in
     let long = length-bits t x in
     let more : t ≡ m + 1 =
-    omega (arith, c.min-taken.ensures, least (m + 1) n, c.bits_before_stop-before.ensures.within,
-    c.if-before-count.false) in
+    omega (
+      arith,
+      c.min-taken.ensures,
+      least (m + 1) n,
+      c.bits_before_stop-before.ensures.within,
+      c.if-before-count.false,
+    ) in
     let no_stop : (b : List Bool) → After view old b → HasNoStop b (bits_of t x) (t - 1) = λ b stands.
     let word = word-joined old n x b stands.has_taken c.requires.word.few c.requires.word.small in
     let last =

@@ -26,8 +26,12 @@ decode_bit-requires-2-clause-room g c = λ below.
 
 abbrev next-state : (g : Over) (c : goal.In-Ok g) → PairState g.row.C.Denot
 next-state g c =
-    record { first = c.decode_bit.new.decoder; second = c.decode_bit-2.new.decoder; conversation =
-    c.decode_bit-2.new.conversation }
+    record {
+      first = c.decode_bit.new.decoder;
+      second = c.decode_bit-2.new.decoder;
+      conversation =
+          c.decode_bit-2.new.conversation;
+    }
 
 sees : (g : Over) (c : goal.In-Ok g) → SeesPairs g.C.Check.check (pair_state c.self.inside)
     ((c.args.first, c.args.second) ∷ [])
