@@ -16,7 +16,7 @@ overflow_add-count g c =
     omega (
       arith,
       one,
-      c.frames_in-count.ensures [],
+      c.frames_in.ensures [],
       c.loop-bit.invariant.few,
       c.loop-bit-test.true,
       c.loop-bit.auto.bit-index-end,
@@ -32,10 +32,10 @@ loop-bit-preserved g c =
     let told = c.in_ok-advance.ensures in
     let inv = c.loop-bit.invariant in
     let next : take (i + 1) bits ≡ take i bits ++ bit ∷ [] = next_bit bits i c.loop-bit-test.true in
-    let counted = c.frames_in-count.ensures c.advance.new.self.octets in
+    let counted = c.frames_in.ensures c.advance.new.self.octets in
     let decides = told.advances.decides in
     let more = decides.says (take i bits) inv.after in
-    let all : frame_count (placed 0 256 (take (i + 1) bits)) ≡ c.loop-bit.count + c.frames_in-count.result =
+    let all : frame_count (placed 0 256 (take (i + 1) bits)) ≡ c.loop-bit.count + c.frames_in.result =
     ap (λ (x : List Bool). frame_count (placed 0 256 x)) next
     ∙ ap frame_count (rw (inv.origin, inv.longest) at more)
     ∙ count-append (placed 0 256 (take i bits))
@@ -53,7 +53,7 @@ loop-bit-preserved g c =
       few = omega (arith, counted, at_most_one c.advance.new.self.octets event, inv.few);
       place = decides.leads.place ∙ ap (λ (n : ℕ). n + 1) inv.place;
       room = elim (cases_lt (2 ^ 60) (old.place + 1)) [
-        | inl far ↦ absurd (let e = told.limit.1 far in cc)
+        | inl far ↦ absurd (let e = told.limit.1 (omega (arith, far)) in cc)
         | inr near ↦ omega (arith, near, inv.place)
       ];
     }
