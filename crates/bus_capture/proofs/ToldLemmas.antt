@@ -41,7 +41,8 @@ module _ {A X B : Type 0} (t : KindView A X B) (w v : CaptureRun A) (xs : List X
         watched t start before after w v b xs all.seen all.told.printer followed all.sees
         (all.told.counted (seen_by t.watch w.analyser b) followed.counts none)
         (subst (λ cut. IsOut start after v.reporter.page cut
-        (lines t w b ++ printed w.reporter.printer (t.watch.dictionary w.analyser) all.seen)) none (out start b followed))
+        (lines t w b ++ printed w.reporter.printer (t.watch.dictionary w.analyser) all.seen))
+        none (out start b followed))
 
     -- the writer was cut off
     pub told-cut : KindLaws t → (cut : ShortWrite) → v.reporter.cut ≡ Some cut →

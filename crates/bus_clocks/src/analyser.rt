@@ -138,7 +138,8 @@ impl<C: Check> TwoClockAnalyser<C> {
         ensures origin { (result ≡ Err NewFault.Origin) ↔ ((1 ≤ depth) × (depth ≤ 1024) × (most_places < origin)) }
         ensures is_after { IfOk result (λ a. IsAfterArrivals C.check a []) }
         ensures given { IfOk result
-            (λ a. (a.conversation.dictionary ≡ dictionary) × (a.conversation.depth ≡ depth) × (a.first.origin ≡ origin)) }
+            (λ a. (a.conversation.dictionary ≡ dictionary) × (a.conversation.depth ≡ depth)
+            × (a.first.origin ≡ origin)) }
     {
         if depth < 1 || depth > 1024 {
             return Err(NewFault::DepthRange);

@@ -59,7 +59,8 @@ fn bits_of(encoder: &mut LineEncoder, request: &EncodeRequest) -> ArrayVec<bool,
     requires sized { IsSized (call_of request.now) }
     ensures after { (calls : List Call) → AfterCalls encoder.old calls →
         AfterCalls encoder.new (calls ++ call_of request.now ∷ []) }
-    ensures bits { (calls : List Call) → AfterCalls encoder.old calls → result.items ≡ gain calls (call_of request.now) }
+    ensures bits { (calls : List Call) → AfterCalls encoder.old calls
+        → result.items ≡ gain calls (call_of request.now) }
 {
     let mut sink = CallBits::new();
     let outcome = match request {

@@ -30,7 +30,8 @@ pub fn execute<R: Read, W: Write, E: Write>(
     w: &mut W,
     e: &mut E,
 ) -> u8
-    ensures { Executes request.now (R.remaining r.old) (R.remaining r.new) (W.contents w.old) (W.contents w.new) result }
+    ensures { Executes request.now (R.remaining r.old) (R.remaining r.new) (W.contents w.old)
+        (W.contents w.new) result }
 {
     match request {
         Request::List(options) => status(list_capture(alloc, options, r, w), e),
