@@ -4,14 +4,14 @@ use Rattle.std.proofs.Common.{Some, refl, sym, ap, ◌∙◌, subst, arith, inl,
 use Rattle.std.proofs.lemmas.Bool.{cases_lt}
 use Rattle.std.proofs.lemmas.List.{take-append-drop}
 use Rattle.bus_bits.specs.Capture.{CaptureOf, CaptureFault, place_limit, capped, GrowsTo}
-use Rattle.bus_capture.specs.Internal.Kinds.{KindView, KindLaws}
-use Rattle.bus_capture.specs.Internal.Watching.{IsSound, Watches, Halts, within}
-use Rattle.bus_capture.specs.Internal.Sessions.{Faulty, StopsAt}
-use Rattle.bus_capture.specs.Captures.{IsSameFault}
-use Rattle.bus_capture.specs.declared.run.CaptureRun.{CaptureRun}
+use Rattle.bus_calls.specs.Internal.Kinds.{KindView, KindLaws}
+use Rattle.bus_calls.specs.Internal.Watching.{IsSound, Watches, Halts, within}
+use Rattle.bus_calls.specs.Internal.Sessions.{Faulty, StopsAt}
+use Rattle.bus_calls.specs.Captures.{IsSameFault}
+use Rattle.bus_calls.specs.declared.run.CaptureRun.{CaptureRun}
 use Rattle.bus_text.specs.declared.fault.ToolFault.{ToolFault}
 use Rattle.bus_text.specs.declared.fault.ToolFault.TheVariants as fault
-use Rattle.bus_capture.proofs.WatchingLemmas.{within-all}
+use Rattle.bus_calls.proofs.WatchingLemmas.{within-all}
 use Rattle.bus_bits.proofs.CaptureLemmas.{capped_all, lt_true}
 
 -- of more symbols than there are places

@@ -8,24 +8,24 @@ use Rattle.bus_bits.specs.Capture.{CaptureOf}
 use Rattle.bus_dictionary.specs.Entry.{FrameType}
 use Rattle.bus_pairing.specs.History.{history, tally}
 use Rattle.bus_watch.specs.Watch.{seen_by}
-use Rattle.bus_capture.specs.Captures.{Form, capture, whole_capture, reports_of_form, reports_seen, HasFault}
+use Rattle.bus_calls.specs.Captures.{Form, capture, whole_capture, reports_of_form, reports_seen, HasFault}
 use Rattle.bus_text.specs.CheckText.{check_text}
 use Rattle.bus_text.specs.Summary.{summary_of}
 use Rattle.bus_text.specs.Put.{Cuts}
 use Rattle.bus_text.specs.Pages.{Pages}
-use Rattle.bus_capture.specs.Begins.{Begins, Refuses}
-use Rattle.bus_capture.specs.Internal.Asked.{IsMade}
-use Rattle.bus_capture.specs.Internal.Kinds.{KindView, KindLaws}
-use Rattle.bus_capture.specs.Internal.Watching.{Watches, IsSame, IsCutIn, reports_by, lines, reported, printed}
-use Rattle.bus_capture.specs.Internal.Reading.{IsClean, IsWhole, Finishes}
-use Rattle.bus_capture.specs.Lists.{in_all}
-use Rattle.bus_capture.specs.Checks.{check_report, IsAll, ChecksSoFar, ChecksBy}
-use Rattle.bus_capture.specs.declared.run.CaptureRun.{CaptureRun}
+use Rattle.bus_calls.specs.Begins.{Begins, Refuses}
+use Rattle.bus_calls.specs.Internal.Asked.{IsMade}
+use Rattle.bus_calls.specs.Internal.Kinds.{KindView, KindLaws}
+use Rattle.bus_calls.specs.Internal.Watching.{Watches, IsSame, IsCutIn, reports_by, lines, reported, printed}
+use Rattle.bus_calls.specs.Internal.Reading.{IsClean, IsWhole, Finishes}
+use Rattle.bus_calls.specs.Lists.{in_all}
+use Rattle.bus_calls.specs.Checks.{check_report, IsAll, ChecksSoFar, ChecksBy}
+use Rattle.bus_calls.specs.declared.run.CaptureRun.{CaptureRun}
 use Rattle.bus_text.specs.declared.options.Options.{Options}
 use Rattle.bus_text.specs.declared.summary.Summary.{Summary}
 use Rattle.bus_text.specs.declared.fault.ToolFault.{ToolFault}
 use Rattle.bus_text.specs.declared.fault.ToolFault.TheVariants as fault
-use Rattle.bus_capture.proofs.ListsLemmas.{counts-are, reports-is, so-far-is, in-all-is}
+use Rattle.bus_calls.proofs.ListsLemmas.{counts-are, reports-is, so-far-is, in-all-is}
 
 -- what was asked of a check, and is kept
 pub record IsChecked {A X B : Type 0} (kind : KindView A X B) (o : Options) (d : List FrameType) (w : CaptureRun A) :

@@ -7,12 +7,12 @@ use Rattle.std.proofs.lemmas.Grind.{common_steps}
 use Rattle.std.proofs.lemmas.Bool.Decides.{nat_tests}
 use Rattle.std.specs.Io.BufRead.{strip_last, ends_with_byte}
 use Rattle.bus_line.specs.Line.{Call, gain}
-use Rattle.bus_encode.specs.Lines.{ended_lines, open_line, last_line}
-use Rattle.bus_encode.specs.Encode.{Asked, unless_fault, and_then, line_asked, line_call, text_line, asked_behind}
-use Rattle.bus_encode.specs.Encode.{open_asked, asked_so_far, asked_in_all, bits_text, text_behind, encode_text}
+use Rattle.bus_calls.specs.Lines.{ended_lines, open_line, last_line}
+use Rattle.bus_calls.specs.Encode.{Asked, unless_fault, and_then, line_asked, line_call, text_line, asked_behind}
+use Rattle.bus_calls.specs.Encode.{open_asked, asked_so_far, asked_in_all, bits_text, text_behind, encode_text}
 use Rattle.bus_text.specs.declared.fault.ToolFault.{ToolFault}
 use Rattle.bus_text.specs.declared.fault.ToolFault.TheVariants.{BadLine}
-use Rattle.bus_encode.proofs.LinesLemmas.{ended_behind, open_behind, ended-append, open-append, ended-by_lf, open-by_lf}
+use Rattle.bus_calls.proofs.LinesLemmas.{ended_behind, open_behind, ended-append, open-append, ended-by_lf, open-by_lf}
 
 -- ---- one thing asked for after another
 

@@ -11,18 +11,18 @@ use Rattle.std.proofs.lemmas.Bool.Decides.{nat_tests}
 use Rattle.bus_line.specs.Line.{Call, gain}
 use Rattle.bus_line.specs.Internal.EncoderState.{EncoderState}
 use Rattle.bus_line.specs.Encoding.{AfterCalls}
-use Rattle.bus_encode.specs.Lines.{ended_lines, open_line}
-use Rattle.bus_encode.specs.Encode.{Asked, and_then, one_asked, line_asked, line_call, text_line, asked_behind}
-use Rattle.bus_encode.specs.Encode.{asked_so_far, asked_in_all, bits_text, text_behind, encode_text}
-use Rattle.bus_encode.specs.Encodes.{Asks, Encodes, EncodesAll}
-use Rattle.bus_encode.specs.Internal.EncodeState.{HasEncoded, Takes, EncodeHalts, Ends, EncodeFinishes}
+use Rattle.bus_calls.specs.Lines.{ended_lines, open_line}
+use Rattle.bus_calls.specs.Encode.{Asked, and_then, one_asked, line_asked, line_call, text_line, asked_behind}
+use Rattle.bus_calls.specs.Encode.{asked_so_far, asked_in_all, bits_text, text_behind, encode_text}
+use Rattle.bus_calls.specs.Encodes.{Asks, Encodes, EncodesAll}
+use Rattle.bus_calls.specs.Internal.EncodeState.{HasEncoded, Takes, EncodeHalts, Ends, EncodeFinishes}
 use Rattle.bus_text.specs.declared.fault.ToolFault.{ToolFault}
 use Rattle.bus_text.specs.declared.fault.ToolFault.TheVariants.{Read, ReadsLimit, Write, BadLine, FrameLength}
 use Rattle.bus_text.proofs.KnownBytesLemmas.{appends_nothing, appends_both, appends_kept, part_out}
-use Rattle.bus_encode.proofs.LinesLemmas.{ended-by_lf, open-by_lf, ended-by_other, open-by_other}
-use Rattle.bus_encode.proofs.EncodeLemmas.{bad, is_long, long_is, short_is, nothing, then-nothing, then-clean}
-use Rattle.bus_encode.proofs.EncodeLemmas.{then-fault, then-text, so_far-short, so_far-long, ended_clean, ended_calls}
-use Rattle.bus_encode.proofs.EncodeLemmas.{lf-asked, asked-push, so_far-grows, in_all-is, all-grows, text-push}
+use Rattle.bus_calls.proofs.LinesLemmas.{ended-by_lf, open-by_lf, ended-by_other, open-by_other}
+use Rattle.bus_calls.proofs.EncodeLemmas.{bad, is_long, long_is, short_is, nothing, then-nothing, then-clean}
+use Rattle.bus_calls.proofs.EncodeLemmas.{then-fault, then-text, so_far-short, so_far-long, ended_clean, ended_calls}
+use Rattle.bus_calls.proofs.EncodeLemmas.{lf-asked, asked-push, so_far-grows, in_all-is, all-grows, text-push}
 
 pub none_takes : (start : Option (List ℕ)) (line : List ℕ) (number : ℕ) (e : EncoderState) → line ≡ [] → number ≡ 1 →
     AfterCalls e [] → Takes start start line number e 0 []

@@ -6,8 +6,8 @@ use Rattle.bus_bits.specs.Octet.{bits_of, bits_of_octets, number, octets}
 use Rattle.bus_fcs.specs.Division.{add, step, divided, remainder}
 use Rattle.bus_fcs.specs.FrameCheck.{ends_inverted, fcs}
 use Rattle.bus_line.specs.Line.{Flag, raw_bits}
-use Rattle.bus_encode.specs.Lines.{ended_lines, open_line}
-use Rattle.bus_encode.specs.Encode.{asked_behind, asked_in_all, bits_text, encode_text, line_call, text_behind}
+use Rattle.bus_calls.specs.Lines.{ended_lines, open_line}
+use Rattle.bus_calls.specs.Encode.{asked_behind, asked_in_all, bits_text, encode_text, line_call, text_behind}
 use Rattle.bus_text.specs.declared.fault.ToolFault.TheVariants.{BadLine, FrameLength}
 
 -- a frame, an idle and a frame

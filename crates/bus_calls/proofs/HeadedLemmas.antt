@@ -4,7 +4,7 @@ use Rattle.std.proofs.Common.{Some, None, Result, Ok, Err, MatchResult, refl, sy
 use Rattle.bus_bits.specs.Capture.{CaptureOf, CaptureFault, short_head}
 use Rattle.bus_bits.specs.Packed.{capture_by, filled, head_bits, headed, packed_fault_of, whole_by}
 use Rattle.bus_bits.specs.declared.format.packed_bits.PackedFault.{PackedFault}
-use Rattle.bus_capture.specs.Internal.Headed.{IsHeaded}
+use Rattle.bus_calls.specs.Internal.Headed.{IsHeaded}
 
 -- the end of the input adds no symbol
 pub whole-bits : {A : Type 0} (fault : Option CaptureFault) (body : ℕ → List ℕ → CaptureOf A) (xs : List ℕ) →

@@ -7,22 +7,22 @@ use Rattle.std.proofs.Common.{arith}
 use Rattle.bus_bits.specs.Capture.{CaptureOf, CaptureFault, GrowsTo}
 use Rattle.bus_dictionary.specs.Entry.{FrameType}
 use Rattle.bus_dictionary.specs.Dictionary.{longest_of}
-use Rattle.bus_capture.specs.Captures.{Form, unplaced, unplaced_whole, reports_seen}
+use Rattle.bus_calls.specs.Captures.{Form, unplaced, unplaced_whole, reports_seen}
 use Rattle.bus_text.specs.Given.{printer_of}
 use Rattle.bus_text.specs.Listing.{listing}
 use Rattle.bus_text.specs.Put.{Cuts}
-use Rattle.bus_capture.specs.Begins.{Begins}
-use Rattle.bus_capture.specs.Internal.Kinds.{FormLaws}
-use Rattle.bus_capture.specs.Lists.{so_far, in_all, listing_of, ending_of, whole_listing, ListsSoFar, ListsToFault}
-use Rattle.bus_capture.specs.Lists.{ListsCut, ListsBy}
-use Rattle.bus_capture.specs.Known.{text_with, listing_in_all, IsItsFault, ListsIt, ListsKnownBy, ChecksIt, CutsIt}
-use Rattle.bus_capture.specs.Known.{ChecksKnownBy}
-use Rattle.bus_capture.specs.Checks.{ChecksToFault, ChecksSoFar, ChecksBy}
+use Rattle.bus_calls.specs.Begins.{Begins}
+use Rattle.bus_calls.specs.Internal.Kinds.{FormLaws}
+use Rattle.bus_calls.specs.Lists.{so_far, in_all, listing_of, ending_of, whole_listing, ListsSoFar, ListsToFault}
+use Rattle.bus_calls.specs.Lists.{ListsCut, ListsBy}
+use Rattle.bus_calls.specs.Known.{text_with, listing_in_all, IsItsFault, ListsIt, ListsKnownBy, ChecksIt, CutsIt}
+use Rattle.bus_calls.specs.Known.{ChecksKnownBy}
+use Rattle.bus_calls.specs.Checks.{ChecksToFault, ChecksSoFar, ChecksBy}
 use Rattle.bus_text.specs.declared.options.Options.{Options}
 use Rattle.bus_text.specs.declared.summary.Summary.{Summary}
 use Rattle.bus_text.specs.declared.fault.ToolFault.{ToolFault}
 use Rattle.bus_text.specs.declared.fault.ToolFault.TheVariants as fault
-use Rattle.bus_capture.proofs.CapturesLemmas.{placed-bits}
+use Rattle.bus_calls.proofs.CapturesLemmas.{placed-bits}
 use Rattle.bus_text.proofs.ListingLemmas.{listing-append}
 use Rattle.bus_text.proofs.PagesLemmas.{cuts-more}
 use Rattle.bus_bits.proofs.CaptureLemmas.{grows-trans}

@@ -14,3 +14,8 @@ pub mod ReadingLemmas
 pub mod ListsLemmas
 pub mod KnownLemmas
 pub mod ChecksLemmas
+pub mod LinesLemmas
+pub mod EncodeLemmas
+pub mod EncodeStateLemmas
+pub mod OrderLemmas
+mod Examples

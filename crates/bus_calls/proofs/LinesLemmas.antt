@@ -9,7 +9,7 @@ use Rattle.std.proofs.lemmas.List.{append_assoc, append-nil, map-append, length_
 use Rattle.std.proofs.lemmas.List.{take_all, take-append-le, drop-append-le, drop_all}
 use Rattle.std.proofs.lemmas.List.Elements.{filter-append}
 use Rattle.bus_line.specs.Due.{places}
-use Rattle.bus_encode.specs.Lines.{behind_last, open_line, ended_lines}
+use Rattle.bus_calls.specs.Lines.{behind_last, open_line, ended_lines}
 
 -- ---- one octet more
 

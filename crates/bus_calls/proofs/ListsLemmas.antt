@@ -8,27 +8,27 @@ use Rattle.bus_dictionary.specs.Dictionary.{longest_of}
 use Rattle.bus_pairing.specs.Seen.{SeenReport, seen}
 use Rattle.bus_pairing.specs.Talk.{pending}
 use Rattle.bus_watch.specs.Watch.{seen_by}
-use Rattle.bus_capture.specs.Captures.{Form, capture, whole_capture, reports_of_form, reports_seen, HasFault}
+use Rattle.bus_calls.specs.Captures.{Form, capture, whole_capture, reports_of_form, reports_seen, HasFault}
 use Rattle.bus_text.specs.Given.{printer_of}
 use Rattle.bus_text.specs.Listing.{listing, ending_text}
 use Rattle.bus_text.specs.Summary.{summary_of}
 use Rattle.bus_text.specs.Put.{Cuts}
 use Rattle.bus_text.specs.Pages.{Pages}
-use Rattle.bus_capture.specs.Internal.Closes.{IsNoWrite, Closes}
-use Rattle.bus_capture.specs.Begins.{Begins, Refuses}
-use Rattle.bus_capture.specs.Internal.Asked.{IsMade}
-use Rattle.bus_capture.specs.Internal.Kinds.{KindView, KindLaws}
-use Rattle.bus_capture.specs.Internal.Watching.{IsSame, IsCutOff, IsCutIn, reports_by, lines, last_lines, printed}
-use Rattle.bus_capture.specs.Internal.Watching.{ended}
-use Rattle.bus_capture.specs.Internal.Reading.{IsClean, IsWhole, IsFaulty, Finishes}
-use Rattle.bus_capture.specs.Lists.{so_far, in_all, listing_of, ending_of, whole_listing, ListsSoFar, ListsToFault}
-use Rattle.bus_capture.specs.Lists.{ListsBy}
-use Rattle.bus_capture.specs.declared.run.CaptureRun.{CaptureRun}
+use Rattle.bus_calls.specs.Internal.Closes.{IsNoWrite, Closes}
+use Rattle.bus_calls.specs.Begins.{Begins, Refuses}
+use Rattle.bus_calls.specs.Internal.Asked.{IsMade}
+use Rattle.bus_calls.specs.Internal.Kinds.{KindView, KindLaws}
+use Rattle.bus_calls.specs.Internal.Watching.{IsSame, IsCutOff, IsCutIn, reports_by, lines, last_lines, printed}
+use Rattle.bus_calls.specs.Internal.Watching.{ended}
+use Rattle.bus_calls.specs.Internal.Reading.{IsClean, IsWhole, IsFaulty, Finishes}
+use Rattle.bus_calls.specs.Lists.{so_far, in_all, listing_of, ending_of, whole_listing, ListsSoFar, ListsToFault}
+use Rattle.bus_calls.specs.Lists.{ListsBy}
+use Rattle.bus_calls.specs.declared.run.CaptureRun.{CaptureRun}
 use Rattle.bus_text.specs.declared.options.Options.{Options}
 use Rattle.bus_text.specs.declared.summary.Summary.{Summary}
 use Rattle.bus_text.specs.declared.fault.ToolFault.{ToolFault}
 use Rattle.bus_text.specs.declared.fault.ToolFault.TheVariants as fault
-use Rattle.bus_capture.specs.Internal.ReportingLaws.{printed-append}
+use Rattle.bus_calls.specs.Internal.ReportingLaws.{printed-append}
 use Rattle.bus_text.proofs.PagesLemmas.{cuts-more}
 
 -- what is seen of more bits goes on

@@ -14,11 +14,11 @@ use Rattle.bus_bits.specs.Capture.{Capture, pad_bits, trailing}
 use Rattle.bus_bits.specs.Packed.{packed_capture, packed_whole, packed_body, wanted, unused, head_fault}
 use Rattle.bus_text.specs.declared.fault.ToolFault.{ToolFault}
 use Rattle.bus_text.specs.declared.fault.ToolFault.TheVariants as fault
-use Rattle.bus_capture.specs.Internal.Kinds.{KindView, KindLaws}
-use Rattle.bus_capture.specs.Internal.Watching.{Halts, IsSound, Watches}
-use Rattle.bus_capture.specs.declared.run.CaptureRun.{CaptureRun}
-use Rattle.bus_capture.proofs.HeadedLemmas.{whole-bits}
-use Rattle.bus_capture.proofs.WatchingLemmas.{halted, halts-more}
+use Rattle.bus_calls.specs.Internal.Kinds.{KindView, KindLaws}
+use Rattle.bus_calls.specs.Internal.Watching.{Halts, IsSound, Watches}
+use Rattle.bus_calls.specs.declared.run.CaptureRun.{CaptureRun}
+use Rattle.bus_calls.proofs.HeadedLemmas.{whole-bits}
+use Rattle.bus_calls.proofs.WatchingLemmas.{halted, halts-more}
 
 -- a bit alone, in an octet
 pub bit-alone : (x : ℕ) (bit : Bool) → x ≡ bool_byte bit → bits_from (x ∷ []) 0 1 ≡ bit ∷ []

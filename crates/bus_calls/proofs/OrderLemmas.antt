@@ -14,9 +14,9 @@ use Rattle.bus_line.specs.Internal.EncoderState.{EncoderState}
 use Rattle.bus_line.specs.Encoding.{AfterCalls, Calls, HasBadLength, Refused}
 use Rattle.bus_line.specs.declared.fault.EncodeFault.{EncodeFault}
 use Rattle.bus_line.specs.declared.fault.EncodeFault.TheVariants.{Ended, LengthRange, Sink}
-use Rattle.bus_encode.specs.Encode.{sized_frame, decoded_frame, line_call, is_word}
+use Rattle.bus_calls.specs.Encode.{sized_frame, decoded_frame, line_call, is_word}
 use Rattle.bus_text.specs.declared.fault.ToolFault.TheVariants.{BadLine, FrameLength}
-use Rattle.bus_encode.specs.declared.bits.CallBits.{CallBits}
+use Rattle.bus_calls.specs.declared.encode.bits.CallBits.{CallBits}
 use Rattle.bus_text.proofs.ShowLemmas.{even_digits}
 
 -- ---- frames

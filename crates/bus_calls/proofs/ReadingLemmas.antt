@@ -8,23 +8,23 @@ use Rattle.bus_bits.specs.Capture.{CaptureOf, CaptureFault, capped}
 use Rattle.bus_dictionary.specs.Dictionary.{longest_of}
 use Rattle.bus_pairing.specs.Seen.{seen}
 use Rattle.bus_watch.specs.Watch.{seen_by}
-use Rattle.bus_capture.specs.Captures.{unplaced, unplaced_whole, IsSameFault}
-use Rattle.bus_capture.specs.Internal.Kinds.{KindView, KindLaws}
+use Rattle.bus_calls.specs.Captures.{unplaced, unplaced_whole, IsSameFault}
+use Rattle.bus_calls.specs.Internal.Kinds.{KindView, KindLaws}
 use Rattle.bus_text.specs.Summary.{summary_of}
 use Rattle.bus_text.specs.Pages.{Pages}
 use Rattle.bus_text.specs.Put.{Cuts}
-use Rattle.bus_capture.specs.Internal.Watching.{IsSound, Watches, IsCutOff, lines, printed}
-use Rattle.bus_capture.specs.Internal.Sessions.{IsRead, IsReadBy, is_text, Follows, FollowsText, FollowsPacked, Stops}
-use Rattle.bus_capture.specs.Internal.Reading.{IsClean, IsFaulty, Finishes}
-use Rattle.bus_capture.specs.declared.run.CaptureRun.{CaptureRun}
-use Rattle.bus_capture.specs.declared.text.TextCapture.{TextCapture}
-use Rattle.bus_capture.specs.declared.packed.PackedCapture.{PackedCapture}
-use Rattle.bus_capture.specs.declared.reader.Source.{Source}
-use Rattle.bus_capture.specs.declared.reader.Source.TheVariants as source
+use Rattle.bus_calls.specs.Internal.Watching.{IsSound, Watches, IsCutOff, lines, printed}
+use Rattle.bus_calls.specs.Internal.Sessions.{IsRead, IsReadBy, is_text, Follows, FollowsText, FollowsPacked, Stops}
+use Rattle.bus_calls.specs.Internal.Reading.{IsClean, IsFaulty, Finishes}
+use Rattle.bus_calls.specs.declared.run.CaptureRun.{CaptureRun}
+use Rattle.bus_calls.specs.declared.text.TextCapture.{TextCapture}
+use Rattle.bus_calls.specs.declared.packed.PackedCapture.{PackedCapture}
+use Rattle.bus_calls.specs.declared.reader.Source.{Source}
+use Rattle.bus_calls.specs.declared.reader.Source.TheVariants as source
 use Rattle.bus_text.specs.declared.fault.ToolFault.{ToolFault}
 use Rattle.bus_text.specs.declared.fault.ToolFault.TheVariants as fault
-use Rattle.bus_capture.proofs.PutLemmas.{listing-nothing}
-use Rattle.bus_capture.proofs.CapturesLemmas.{followed-fits}
+use Rattle.bus_calls.proofs.PutLemmas.{listing-nothing}
+use Rattle.bus_calls.proofs.CapturesLemmas.{followed-fits}
 use Rattle.bus_bits.proofs.CaptureLemmas.{capped_all}
 
 -- nothing seen has no lines

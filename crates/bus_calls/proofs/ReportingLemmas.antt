@@ -11,7 +11,7 @@ use Rattle.bus_pairing.specs.declared.line.Line.{Line}
 use Rattle.bus_text.specs.Summary.{summary_of}
 use Rattle.bus_text.proofs.PagesLemmas.{cuts-more}
 use Rattle.bus_text.proofs.SummaryLemmas.{summary-more}
-use Rattle.bus_capture.specs.Internal.Reporting.{IsOut}
+use Rattle.bus_calls.specs.Internal.Reporting.{IsOut}
 
 -- the writer was not cut off
 pub not-cut : (o : Option ShortWrite) → false ≡ is_some o → o ≡ None

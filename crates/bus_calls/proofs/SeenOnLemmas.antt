@@ -2,8 +2,8 @@
 use Rattle.std.proofs.Common.{◌≡◌, ℕ, List, [], ◌∷◌, ◌++◌, sym, ap, ◌∙◌, append_assoc, append-nil}
 use Rattle.bus_dictionary.specs.Entry.{FrameType}
 use Rattle.bus_pairing.specs.Seen.{SeenReport, seen}
-use Rattle.bus_capture.specs.Captures.{Form}
-use Rattle.bus_capture.specs.Internal.Kinds.{SeenOn}
+use Rattle.bus_calls.specs.Captures.{Form}
+use Rattle.bus_calls.specs.Internal.Kinds.{SeenOn}
 
 -- it goes on, where it does with each symbol
 pub seen-on : {X : Type 0} (f : Form X) (d : List FrameType) (longest origin : ℕ) (told : List X → X → List SeenReport)

@@ -4,14 +4,14 @@ use Rattle.std.proofs.Common.{Option, Some, Result, Ok, Err, MatchResult, refl, 
 use Rattle.std.specs.Result.{IsErrAnd}
 use Rattle.std.proofs.lemmas.Grind.{common_steps}
 use Rattle.bus_bits.specs.Capture.{CaptureOf}
-use Rattle.bus_capture.specs.Internal.Kinds.{KindView}
-use Rattle.bus_capture.specs.Internal.Watching.{Watches, Halts}
-use Rattle.bus_capture.specs.Internal.Sessions.{IsRead, FollowsBody, FollowsPacked, Faulty, StopsAt, Stops}
-use Rattle.bus_capture.specs.declared.run.CaptureRun.{CaptureRun}
-use Rattle.bus_capture.specs.declared.packed.PackedCapture.{PackedCapture}
+use Rattle.bus_calls.specs.Internal.Kinds.{KindView}
+use Rattle.bus_calls.specs.Internal.Watching.{Watches, Halts}
+use Rattle.bus_calls.specs.Internal.Sessions.{IsRead, FollowsBody, FollowsPacked, Faulty, StopsAt, Stops}
+use Rattle.bus_calls.specs.declared.run.CaptureRun.{CaptureRun}
+use Rattle.bus_calls.specs.declared.packed.PackedCapture.{PackedCapture}
 use Rattle.bus_text.specs.declared.fault.ToolFault.{ToolFault}
 use Rattle.bus_text.specs.declared.fault.ToolFault.TheVariants as fault
-use Rattle.bus_capture.proofs.CapturesLemmas.{halts-stops}
+use Rattle.bus_calls.proofs.CapturesLemmas.{halts-stops}
 
 -- the first octet
 pub first-octet : (xs os : List ℕ) → 0 < length os → xs ++ get_or os 0 0 ∷ [] ≡ xs ++ take 1 os

@@ -2,12 +2,12 @@
 use Rattle.std.proofs.Common.{◌≡◌, ℕ, ◌+◌, ◌<◌, ◌≤◌, ◌^◌, List, ◌++◌, length, take, Option, None, sym, ap, ◌∙◌, subst}
 use Rattle.std.proofs.Common.{arith, append-nil, true, Result, Ok, Err, MatchResult}
 use Rattle.std.proofs.lemmas.Grind.{common_steps}
-use Rattle.bus_capture.specs.Internal.Kinds.{KindView}
-use Rattle.bus_capture.specs.Internal.Watching.{Watches, Halts}
-use Rattle.bus_capture.specs.Internal.Sessions.{FollowsOctets, Stops}
-use Rattle.bus_capture.specs.declared.run.CaptureRun.{CaptureRun}
+use Rattle.bus_calls.specs.Internal.Kinds.{KindView}
+use Rattle.bus_calls.specs.Internal.Watching.{Watches, Halts}
+use Rattle.bus_calls.specs.Internal.Sessions.{FollowsOctets, Stops}
+use Rattle.bus_calls.specs.declared.run.CaptureRun.{CaptureRun}
 use Rattle.bus_text.specs.declared.fault.ToolFault.{ToolFault}
-use Rattle.bus_capture.proofs.CapturesLemmas.{halts-stops}
+use Rattle.bus_calls.proofs.CapturesLemmas.{halts-stops}
 
 -- how many octets stand before it
 pub octets-before : (xs os : List ℕ) (i : ℕ) → i < length os → length (xs ++ take i os) ≡ length xs + i

@@ -7,13 +7,13 @@ use Rattle.bus_text.specs.Put.{Cuts}
 use Rattle.bus_text.specs.declared.fault.ToolFault.{ToolFault}
 use Rattle.bus_text.specs.declared.fault.ToolFault.TheVariants as fault
 use Rattle.bus_text.specs.declared.put.ShortWrite.{ShortWrite}
-use Rattle.bus_capture.specs.Internal.Kinds.{KindView, KindLaws}
-use Rattle.bus_capture.specs.Internal.Reporting.{IsOut, ReportsSeen}
-use Rattle.bus_capture.specs.Internal.Watching.{Halts, IsSame, IsSound, Watches, lines, printed}
-use Rattle.bus_capture.specs.declared.run.CaptureRun.{CaptureRun}
-use Rattle.bus_capture.specs.Internal.ReportingLaws.{few-within}
+use Rattle.bus_calls.specs.Internal.Kinds.{KindView, KindLaws}
+use Rattle.bus_calls.specs.Internal.Reporting.{IsOut, ReportsSeen}
+use Rattle.bus_calls.specs.Internal.Watching.{Halts, IsSame, IsSound, Watches, lines, printed}
+use Rattle.bus_calls.specs.declared.run.CaptureRun.{CaptureRun}
+use Rattle.bus_calls.specs.Internal.ReportingLaws.{few-within}
 use Rattle.bus_watch.proofs.PairScanLemmas.{length-zipped, zip-met}
-use Rattle.bus_capture.proofs.WatchingLemmas.{halted, halts-more, lines-more, watched, within-all}
+use Rattle.bus_calls.proofs.WatchingLemmas.{halted, halts-more, lines-more, watched, within-all}
 
 module _ {A X B : Type 0} (t : KindView A X B) (w v : CaptureRun A) (xs : List X) (before after : Option (List ℕ))
     (all : LeadsTold t.watch w.analyser xs v.analyser

@@ -12,8 +12,8 @@ use Rattle.bus_pairing.specs.declared.finding.Finding.{Finding}
 use Rattle.bus_pairing.specs.declared.line.Line.{Line}
 use Rattle.bus_text.specs.Summary.{summary_of}
 use Rattle.bus_text.proofs.SummaryLemmas.{summary-more}
-use Rattle.bus_capture.proofs.HeadedLemmas.{whole-bits}
-use Rattle.bus_capture.proofs.OneLineLemmas.{bit-alone, no_body}
+use Rattle.bus_calls.proofs.HeadedLemmas.{whole-bits}
+use Rattle.bus_calls.proofs.OneLineLemmas.{bit-alone, no_body}
 
 -- a pair alone, in an octet of either line
 pub pair-alone : (x y : ℕ) (a b : Bool) → x ≡ bool_byte a → y ≡ bool_byte b →

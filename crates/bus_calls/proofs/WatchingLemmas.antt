@@ -17,16 +17,16 @@ use Rattle.bus_text.specs.Summary.{summary_of}
 use Rattle.bus_text.specs.Counting.{IsFew}
 use Rattle.bus_text.specs.Pages.{Pages}
 use Rattle.bus_text.specs.Put.{Cuts}
-use Rattle.bus_capture.specs.Internal.Kinds.{KindView, KindLaws}
-use Rattle.bus_capture.specs.Internal.Watching.{IsSound, Watches, IsSame, Halts, printed, ended, lines, last_lines}
-use Rattle.bus_capture.specs.Internal.Watching.{reports_by, within}
+use Rattle.bus_calls.specs.Internal.Kinds.{KindView, KindLaws}
+use Rattle.bus_calls.specs.Internal.Watching.{IsSound, Watches, IsSame, Halts, printed, ended, lines, last_lines}
+use Rattle.bus_calls.specs.Internal.Watching.{reports_by, within}
 use Rattle.bus_text.specs.declared.printer.Printer.{Printer}
-use Rattle.bus_capture.specs.declared.run.CaptureRun.{CaptureRun}
+use Rattle.bus_calls.specs.declared.run.CaptureRun.{CaptureRun}
 use Rattle.bus_text.specs.declared.fault.ToolFault.{ToolFault}
 use Rattle.bus_text.specs.declared.fault.ToolFault.TheVariants as fault
 use Rattle.bus_text.specs.declared.page.Page.{Page}
 use Rattle.bus_text.proofs.PagesLemmas.{pages-more}
-use Rattle.bus_capture.specs.Internal.ReportingLaws.{few-within, printed-append, printed-none}
+use Rattle.bus_calls.specs.Internal.ReportingLaws.{few-within, printed-append, printed-none}
 
 -- symbols that all have a place
 pub within-all : {X : Type 0} (origin : ℕ) (b : List X) → origin + length b ≤ 2 ^ 60 → within origin b ≡ b

@@ -4,13 +4,13 @@ use Rattle.std.specs.Io.KnownBytes.{Appends, IsAtEnd}
 use Rattle.bus_bits.specs.Capture.{CaptureFault}
 use Rattle.bus_dictionary.specs.Entry.{FrameType}
 use Rattle.bus_pairing.specs.History.{history, tally}
-use Rattle.bus_capture.specs.Captures.{Form, HasFault, IsSameFault, form_of_one, form_of_two, reports_of_form}
-use Rattle.bus_capture.specs.Captures.{reports_seen}
+use Rattle.bus_calls.specs.Captures.{Form, HasFault, IsSameFault, form_of_one, form_of_two, reports_of_form}
+use Rattle.bus_calls.specs.Captures.{reports_seen}
 use Rattle.bus_text.specs.CheckText.{check_text}
 use Rattle.bus_text.specs.Summary.{summary_of}
 use Rattle.bus_text.specs.Put.{Cuts}
-use Rattle.bus_capture.specs.Begins.{Begins}
-use Rattle.bus_capture.specs.Lists.{so_far, in_all, DoesNothing, by_lines}
+use Rattle.bus_calls.specs.Begins.{Begins}
+use Rattle.bus_calls.specs.Lists.{so_far, in_all, DoesNothing, by_lines}
 use Rattle.bus_text.specs.declared.options.Options.{Options}
 use Rattle.bus_text.specs.declared.summary.Summary.{Summary}
 use Rattle.bus_text.specs.declared.fault.ToolFault.{ToolFault}

@@ -6,7 +6,7 @@ use Rattle.std.specs.Io.BufRead.{strip_last}
 use Rattle.hex.specs.Hex.{decode_of}
 use Rattle.hex.specs.declared.error.FromHexError.{FromHexError}
 use Rattle.bus_line.specs.Line.{Call, Flag, Idle, Frame, gain}
-use Rattle.bus_encode.specs.Lines.{ended_lines, open_line, all_lines}
+use Rattle.bus_calls.specs.Lines.{ended_lines, open_line, all_lines}
 use Rattle.bus_text.specs.declared.fault.ToolFault.{ToolFault}
 use Rattle.bus_text.specs.declared.fault.ToolFault.TheVariants.{BadLine, FrameLength}
 

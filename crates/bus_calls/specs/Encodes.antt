@@ -1,7 +1,7 @@
 -- What a call that encodes lines did to its reader and its writer.
 use Rattle.std.specs.Prelude.{◌≡◌, ℕ, ◌≤◌, ◌⊎◌, List, length, take, Option, Some, None, Result, Ok, Err}
 use Rattle.std.specs.Io.KnownBytes.{Appends, IsAtEnd}
-use Rattle.bus_encode.specs.Encode.{Asked, asked_so_far, asked_in_all, encode_text}
+use Rattle.bus_calls.specs.Encode.{Asked, asked_so_far, asked_in_all, encode_text}
 use Rattle.bus_text.specs.declared.fault.ToolFault.{ToolFault}
 use Rattle.bus_text.specs.declared.fault.ToolFault.TheVariants.{Read, ReadsLimit, Write, BadLine, FrameLength}
 

@@ -5,11 +5,11 @@ use Rattle.std.specs.Io.KnownBytes.{Consumes}
 use Rattle.bus_text.specs.Show.{Shows}
 use Rattle.bus_text.specs.declared.summary.Summary.{Summary}
 use Rattle.bus_text.specs.declared.fault.ToolFault.{ToolFault}
-use Rattle.bus_capture.specs.Lists.{Lists}
-use Rattle.bus_capture.specs.Checks.{Checks}
-use Rattle.bus_encode.specs.Encodes.{Encodes}
-use Rattle.bus_serve.specs.declared.request.Request.{Request}
-use Rattle.bus_serve.specs.declared.request.Request.TheVariants as request
+use Rattle.bus_calls.specs.Lists.{Lists}
+use Rattle.bus_calls.specs.Checks.{Checks}
+use Rattle.bus_calls.specs.Encodes.{Encodes}
+use Rattle.bus_calls.specs.declared.request.Request.{Request}
+use Rattle.bus_calls.specs.declared.request.Request.TheVariants as request
 
 -- nothing was damaged, overlong, missing, spoilt or late
 abbrev pub IsFaultless : Summary → Type 0

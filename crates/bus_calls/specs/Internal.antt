@@ -10,3 +10,4 @@ pub mod Sessions
 pub mod Reading
 pub mod Closes
 pub mod Asked
+pub mod EncodeState

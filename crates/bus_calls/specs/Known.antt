@@ -3,12 +3,12 @@ use Rattle.std.specs.Prelude.{◌≡◌, ℕ, List, [], ◌++◌, take, Option, 
 use Rattle.std.specs.Io.KnownBytes.{Appends}
 use Rattle.bus_bits.specs.Capture.{CaptureFault}
 use Rattle.bus_dictionary.specs.Entry.{FrameType}
-use Rattle.bus_capture.specs.Captures.{Form, form_of_one, form_of_two, reports_seen, IsSameFault}
+use Rattle.bus_calls.specs.Captures.{Form, form_of_one, form_of_two, reports_seen, IsSameFault}
 use Rattle.bus_text.specs.Summary.{summary_of}
 use Rattle.bus_text.specs.Put.{Cuts}
-use Rattle.bus_capture.specs.Begins.{Begins, Refuses}
-use Rattle.bus_capture.specs.Lists.{in_all, listing_of, ending_of, ListsSoFar, by_lines}
-use Rattle.bus_capture.specs.Checks.{check_report, ChecksSoFar}
+use Rattle.bus_calls.specs.Begins.{Begins, Refuses}
+use Rattle.bus_calls.specs.Lists.{in_all, listing_of, ending_of, ListsSoFar, by_lines}
+use Rattle.bus_calls.specs.Checks.{check_report, ChecksSoFar}
 use Rattle.bus_text.specs.declared.options.Options.{Options}
 use Rattle.bus_text.specs.declared.summary.Summary.{Summary}
 use Rattle.bus_text.specs.declared.fault.ToolFault.{ToolFault}

@@ -3,4 +3,8 @@ pub mod Begins
 pub mod Lists
 pub mod Checks
 pub mod Known
+pub mod Lines
+pub mod Encode
+pub mod Encodes
+pub mod Executes
 pub mod Internal

@@ -5,14 +5,14 @@ use Rattle.std.specs.Io.KnownBytes.{Appends, IsAtEnd}
 use Rattle.bus_bits.specs.Capture.{CaptureOf, CaptureFault}
 use Rattle.bus_dictionary.specs.Entry.{FrameType}
 use Rattle.bus_pairing.specs.Talk.{pending}
-use Rattle.bus_capture.specs.Captures.{Form, capture, form_of_one, form_of_two, reports_of_form, reports_seen}
-use Rattle.bus_capture.specs.Captures.{whole_capture}
-use Rattle.bus_capture.specs.Captures.{IsSameFault, HasFault}
+use Rattle.bus_calls.specs.Captures.{Form, capture, form_of_one, form_of_two, reports_of_form, reports_seen}
+use Rattle.bus_calls.specs.Captures.{whole_capture}
+use Rattle.bus_calls.specs.Captures.{IsSameFault, HasFault}
 use Rattle.bus_text.specs.Given.{printer_of}
 use Rattle.bus_text.specs.Listing.{listing, ending_text}
 use Rattle.bus_text.specs.Summary.{summary_of}
 use Rattle.bus_text.specs.Put.{Cuts}
-use Rattle.bus_capture.specs.Begins.{Begins, Refuses}
+use Rattle.bus_calls.specs.Begins.{Begins, Refuses}
 use Rattle.bus_text.specs.declared.options.Options.{Options}
 use Rattle.bus_text.specs.declared.summary.Summary.{Summary}
 use Rattle.bus_text.specs.declared.fault.ToolFault.{ToolFault}

@@ -19,10 +19,10 @@ ghost use Rattle.bus_text.specs.Pages.{HasRoomFor, Pages};
 ghost use Rattle.bus_text.specs.Listing.{listing, ending_text};
 ghost use Rattle.bus_text.specs.Put.{Cuts};
 ghost use Rattle.bus_text.specs.Summary.{summary_of};
-ghost use Rattle.bus_capture.specs.Internal.Asked.{IsMade};
-ghost use Rattle.bus_capture.specs.Internal.Kinds.{KindView, KindLaws};
-ghost use Rattle.bus_capture.specs.Internal.Watching.{Halts, reports_by, IsSame, IsSound, Watches};
-ghost use Rattle.bus_capture.specs.Internal.Sessions.{FollowsBody, FollowsOctets, Stops};
+ghost use Rattle.bus_calls.specs.Internal.Asked.{IsMade};
+ghost use Rattle.bus_calls.specs.Internal.Kinds.{KindView, KindLaws};
+ghost use Rattle.bus_calls.specs.Internal.Watching.{Halts, reports_by, IsSame, IsSound, Watches};
+ghost use Rattle.bus_calls.specs.Internal.Sessions.{FollowsBody, FollowsOctets, Stops};
 
 use crate::run::CaptureRun;
 use bus_bits::{BadMark, HeadFault, PackedFault};

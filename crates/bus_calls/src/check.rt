@@ -2,8 +2,8 @@
 
 ghost use Rattle.std.specs.Prelude.{ℕ, List, IfSome};
 ghost use Rattle.std.specs.Io.KnownBytes.{Consumes};
-ghost use Rattle.bus_capture.specs.Checks.{Checks, ChecksBy};
-ghost use Rattle.bus_capture.specs.Known.{ChecksKnown, ChecksKnownBy};
+ghost use Rattle.bus_calls.specs.Checks.{Checks, ChecksBy};
+ghost use Rattle.bus_calls.specs.Known.{ChecksKnown, ChecksKnownBy};
 
 use crate::capture_kind::CaptureKind;
 use crate::reader::CaptureReader;

@@ -2,9 +2,14 @@
 
 ghost use Rattle.std.specs.Prelude.{ℕ, List, IfSome};
 ghost use Rattle.std.specs.Io.KnownBytes.{Consumes};
-ghost use Rattle.bus_encode.specs.Encodes.{Encodes, EncodesAll};
+ghost use Rattle.bus_calls.specs.Encodes.{Encodes, EncodesAll};
 
-use crate::reader::LineReader;
+mod bits;
+mod line;
+mod reader;
+mod request;
+
+use crate::encode::reader::LineReader;
 use bus_text::ToolFault;
 use std::io::{Read, Write};
 

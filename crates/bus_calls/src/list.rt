@@ -2,10 +2,10 @@
 
 ghost use Rattle.std.specs.Prelude.{◌≡◌, ◌<◌, ◌^◌, ℕ, List, Option, IfSome};
 ghost use Rattle.bus_text.specs.Pages.{Pages};
-ghost use Rattle.bus_capture.specs.Internal.Closes.{IsNoWrite, Closes};
+ghost use Rattle.bus_calls.specs.Internal.Closes.{IsNoWrite, Closes};
 ghost use Rattle.std.specs.Io.KnownBytes.{Consumes};
-ghost use Rattle.bus_capture.specs.Lists.{Lists, ListsBy};
-ghost use Rattle.bus_capture.specs.Known.{ListsKnown, ListsKnownBy};
+ghost use Rattle.bus_calls.specs.Lists.{Lists, ListsBy};
+ghost use Rattle.bus_calls.specs.Known.{ListsKnown, ListsKnownBy};
 
 use crate::capture_kind::CaptureKind;
 use crate::reader::CaptureReader;

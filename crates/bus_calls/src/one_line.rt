@@ -3,9 +3,9 @@
 ghost use Rattle.std.specs.Prelude.{◌≡◌, ◌+◌, ◌-◌, ◌*◌, ◌≤◌, ◌<◌, ◌^◌, ℕ, Bool, List, true, Option, ◌++◌, length, take};
 ghost use Rattle.std.specs.Prelude.{None, IfOk, MatchResult};
 ghost use Rattle.bus_bits.specs.Bits.{bits_from};
-ghost use Rattle.bus_capture.specs.Internal.OneLine.{one_line_kind};
-ghost use Rattle.bus_capture.specs.Internal.Sessions.{FollowsOctets, Stops};
-ghost use Rattle.bus_capture.specs.Internal.Watching.{Halts, IsSame, IsSound, Watches};
+ghost use Rattle.bus_calls.specs.Internal.OneLine.{one_line_kind};
+ghost use Rattle.bus_calls.specs.Internal.Sessions.{FollowsOctets, Stops};
+ghost use Rattle.bus_calls.specs.Internal.Watching.{Halts, IsSame, IsSound, Watches};
 
 use crate::capture_kind::CaptureKind;
 use crate::run::CaptureRun;

@@ -4,9 +4,9 @@ ghost use Rattle.std.specs.Prelude.{◌≡◌, ◌+◌, ◌≤◌, ◌<◌, ℕ,
 ghost use Rattle.std.specs.Prelude.{length, take, false};
 ghost use Rattle.bus_bits.specs.Capture.{CaptureFault};
 ghost use Rattle.bus_bits.specs.Packed.{head_fault_of, packed_fault_of};
-ghost use Rattle.bus_capture.specs.Internal.Watching.{Halts, IsSame, IsSound, Watches};
-ghost use Rattle.bus_capture.specs.Internal.Sessions.{FollowsPacked, FollowsBody, IsRead, Stops};
-ghost use Rattle.bus_capture.specs.Captures.{IsSameFault};
+ghost use Rattle.bus_calls.specs.Internal.Watching.{Halts, IsSame, IsSound, Watches};
+ghost use Rattle.bus_calls.specs.Internal.Sessions.{FollowsPacked, FollowsBody, IsRead, Stops};
+ghost use Rattle.bus_calls.specs.Captures.{IsSameFault};
 
 use crate::capture_kind::CaptureKind;
 use crate::run::CaptureRun;

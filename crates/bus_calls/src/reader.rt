@@ -5,12 +5,12 @@ ghost use Rattle.std.specs.Prelude.{IfOk, length};
 ghost use Rattle.std.specs.Io.KnownBytes.{Consumes};
 ghost use Rattle.bus_bits.specs.Capture.{CaptureFault};
 ghost use Rattle.bus_dictionary.specs.Entry.{FrameType};
-ghost use Rattle.bus_capture.specs.Begins.{Begins, Refuses};
-ghost use Rattle.bus_capture.specs.Internal.Asked.{IsMade};
-ghost use Rattle.bus_capture.specs.Captures.{unplaced, unplaced_whole, IsSameFault};
-ghost use Rattle.bus_capture.specs.Internal.Sessions.{IsReadBy, Follows, Stops, is_text};
-ghost use Rattle.bus_capture.specs.Internal.Reading.{octets_taken, Finishes};
-ghost use Rattle.bus_capture.specs.Internal.Watching.{IsSound, IsSame};
+ghost use Rattle.bus_calls.specs.Begins.{Begins, Refuses};
+ghost use Rattle.bus_calls.specs.Internal.Asked.{IsMade};
+ghost use Rattle.bus_calls.specs.Captures.{unplaced, unplaced_whole, IsSameFault};
+ghost use Rattle.bus_calls.specs.Internal.Sessions.{IsReadBy, Follows, Stops, is_text};
+ghost use Rattle.bus_calls.specs.Internal.Reading.{octets_taken, Finishes};
+ghost use Rattle.bus_calls.specs.Internal.Watching.{IsSound, IsSame};
 
 use crate::capture_kind::CaptureKind;
 use crate::packed::PackedCapture;

@@ -6,7 +6,7 @@ ghost use Rattle.bus_pairing.specs.History.{history, tally};
 ghost use Rattle.bus_text.specs.CheckText.{tallies_text, history_text, check_text};
 ghost use Rattle.bus_text.specs.Put.{Cuts};
 ghost use Rattle.bus_text.specs.Pages.{Pages};
-ghost use Rattle.bus_capture.specs.Internal.Watching.{reports_by};
+ghost use Rattle.bus_calls.specs.Internal.Watching.{reports_by};
 
 use crate::capture_kind::CaptureKind;
 use bus_text::{Page, ShortWrite, Summary, put_summary, put_tally};

@@ -5,8 +5,8 @@ ghost use Rattle.arrayvec.specs.ArrayVec.{array_vec_len};
 ghost use Rattle.bus_text.specs.Counting.{IsFew};
 ghost use Rattle.bus_text.specs.Pages.{Pages};
 ghost use Rattle.bus_text.specs.Summary.{summary_of};
-ghost use Rattle.bus_capture.specs.Internal.Reporting.{HasRoom, ReportsSeen};
-ghost use Rattle.bus_capture.specs.Internal.ReportingLaws.{has-less, reports-more, reports-none};
+ghost use Rattle.bus_calls.specs.Internal.Reporting.{HasRoom, ReportsSeen};
+ghost use Rattle.bus_calls.specs.Internal.ReportingLaws.{has-less, reports-more, reports-none};
 
 use bus_dictionary::Dictionary;
 use bus_text::{Page, Printer, ShortWrite, Summary};

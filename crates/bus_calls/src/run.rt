@@ -17,8 +17,8 @@ pub struct CaptureRun<T> {
 }
 
 impl<T: CaptureKind> CaptureRun<T> {
-    ghost use Rattle.bus_capture.specs.Internal.Watching.{IsSound, Watches, IsCutIn, lines, last_lines};
-    ghost use Rattle.bus_capture.specs.Internal.Watching.{reported};
+    ghost use Rattle.bus_calls.specs.Internal.Watching.{IsSound, Watches, IsCutIn, lines, last_lines};
+    ghost use Rattle.bus_calls.specs.Internal.Watching.{reported};
 
     /// Writes the lines of the end of a capture, and what is left of the page, and flushes.
     pub fn end<W: Write>(self, w: &mut W) -> Result<Summary, ToolFault>

@@ -1,11 +1,12 @@
 //! Requests, and the statuses that they end with.
 
 ghost use Rattle.std.specs.Prelude.{◌≡◌};
-ghost use Rattle.bus_serve.specs.Executes.{IsCheckStatus, IsStatus, Executes};
+ghost use Rattle.bus_calls.specs.Executes.{IsCheckStatus, IsStatus, Executes};
 
+use crate::check::check_capture;
+use crate::encode::encode_frames;
+use crate::list::list_capture;
 use crate::request::Request;
-use bus_capture::{check_capture, list_capture};
-use bus_encode::encode_frames;
 use bus_text::{Summary, ToolFault, show_frame};
 use std::alloc::Global;
 use std::io::{Read, Write};

@@ -2,8 +2,8 @@
 
 ghost use Rattle.std.specs.Prelude.{◌≡◌, ◌+◌, ◌≤◌, ◌<◌, ◌^◌, ℕ, List, [], ◌∷◌, ◌++◌, Option, MatchResult, OnOk, IfOk};
 ghost use Rattle.std.specs.Prelude.{length, take, true};
-ghost use Rattle.bus_capture.specs.Internal.Watching.{IsSound, IsSame};
-ghost use Rattle.bus_capture.specs.Internal.Sessions.{FollowsOctets, FollowsText, Stops};
+ghost use Rattle.bus_calls.specs.Internal.Watching.{IsSound, IsSame};
+ghost use Rattle.bus_calls.specs.Internal.Sessions.{FollowsOctets, FollowsText, Stops};
 
 use crate::capture_kind::CaptureKind;
 use crate::run::CaptureRun;

@@ -3,8 +3,8 @@
 ghost use Rattle.std.specs.Prelude.{◌≡◌, ◌+◌, ◌*◌, ◌≤◌, ◌<◌, ◌^◌, ℕ, Bool, List, Option, ◌++◌, length, MatchResult};
 ghost use Rattle.std.specs.Prelude.{zip};
 ghost use Rattle.bus_bits.specs.Bits.{bits_from};
-ghost use Rattle.bus_capture.specs.Internal.TwoLines.{two_line_kind};
-ghost use Rattle.bus_capture.specs.Internal.Watching.{Halts, IsSame, IsSound, Watches};
+ghost use Rattle.bus_calls.specs.Internal.TwoLines.{two_line_kind};
+ghost use Rattle.bus_calls.specs.Internal.Watching.{Halts, IsSame, IsSound, Watches};
 ghost use Rattle.bus_text.specs.Counting.{IsFew};
 ghost use Rattle.bus_text.specs.Adds.{Prints};
 ghost use Rattle.bus_text.specs.Pages.{HasRoomFor};

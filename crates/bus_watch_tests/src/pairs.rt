@@ -16,7 +16,7 @@ use bus_dictionary::Dictionary;
 use bus_fcs::{BitCheck, Check, OctetCheck};
 use bus_line::PlaceLimit;
 use bus_rows::{CALLS, DAMAGE, FAR, FRAMES, row_of};
-use bus_seen::{NONE, push_ending, push_seen};
+use crate::seen::{NONE, push_ending, push_seen};
 use bus_watch::{
     Counts, Ending, FeedFault, Finding, Line, NewFault, PairAnalyser, PairEnding, PairSink,
     PairUsage, Pending, ReportObserver, Seen, SinkRefused,

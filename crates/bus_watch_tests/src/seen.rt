@@ -1,5 +1,4 @@
-//! What the tests of both analysers share: what is seen, as a line of text, and the worked dictionary of calls.
-#![tactic(auto)]
+//! What the tests of the analysers share: what is seen, as a line of text, and the worked dictionary of calls.
 
 mod text;
 

@@ -4,13 +4,13 @@ use Rattle.std.specs.Io.KnownBytes.{Appends, IsAtEnd}
 use Rattle.bus_line.specs.Line.{Call, Flag, Idle, Frame}
 use Rattle.bus_line.specs.Internal.EncoderState.{EncoderState}
 use Rattle.bus_line.specs.Encoding.{AfterCalls}
-use Rattle.bus_encode.specs.Lines.{ended_lines, open_line}
-use Rattle.bus_encode.specs.Encode.{Asked, text_line, asked_behind, asked_so_far, asked_in_all, encode_text}
-use Rattle.bus_encode.specs.Encodes.{Asks}
+use Rattle.bus_calls.specs.Lines.{ended_lines, open_line}
+use Rattle.bus_calls.specs.Encode.{Asked, text_line, asked_behind, asked_so_far, asked_in_all, encode_text}
+use Rattle.bus_calls.specs.Encodes.{Asks}
 use Rattle.bus_text.specs.declared.fault.ToolFault.{ToolFault}
 use Rattle.bus_text.specs.declared.fault.ToolFault.TheVariants.{Read, ReadsLimit, Write, BadLine, FrameLength}
-use Rattle.bus_encode.specs.declared.encode_request.EncodeRequest.{EncodeRequest}
-use Rattle.bus_encode.specs.declared.encode_request.EncodeRequest.TheVariants as request
+use Rattle.bus_calls.specs.declared.encode.request.EncodeRequest.{EncodeRequest}
+use Rattle.bus_calls.specs.declared.encode.request.EncodeRequest.TheVariants as request
 
 -- the call that is asked for
 abbrev pub call_of : EncodeRequest → Call

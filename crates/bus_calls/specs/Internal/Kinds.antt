@@ -4,7 +4,7 @@ use Rattle.bus_bits.specs.Capture.{CaptureOf, GrowsTo, capped, short_head}
 use Rattle.bus_dictionary.specs.Entry.{FrameType}
 use Rattle.bus_pairing.specs.Seen.{SeenReport, seen}
 use Rattle.bus_watch.specs.Watch.{Watch}
-use Rattle.bus_capture.specs.Captures.{Form}
+use Rattle.bus_calls.specs.Captures.{Form}
 
 -- an analyser A that takes X, and its captures; readers B of the octets after a packed head
 pub record KindView (A X B : Type 0) : Type 1 where

@@ -5,9 +5,9 @@ use Rattle.bus_bits.specs.Packed.{PackedAfter, head_fault}
 use Rattle.bus_fcs.specs.Check.{CheckView}
 use Rattle.bus_watch.specs.After as after
 use Rattle.bus_watch.specs.After.{AnalyserState}
-use Rattle.bus_capture.specs.Captures.{form_of_one}
-use Rattle.bus_capture.specs.Internal.Headed.{IsHeaded}
-use Rattle.bus_capture.specs.Internal.Kinds.{KindView}
+use Rattle.bus_calls.specs.Captures.{form_of_one}
+use Rattle.bus_calls.specs.Internal.Headed.{IsHeaded}
+use Rattle.bus_calls.specs.Internal.Kinds.{KindView}
 
 abbrev pub one_line_kind : {C : Type 0} → CheckView C → KindView (AnalyserState C) Bool ℕ
 one_line_kind view = record {

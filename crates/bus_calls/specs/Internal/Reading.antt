@@ -2,12 +2,12 @@
 use Rattle.std.specs.Prelude.{◌≡◌, ℕ, ◌≤◌, Bool, List, length, Option, None, Result, Ok, Err}
 use Rattle.std.specs.Io.KnownBytes.{IsAtEnd}
 use Rattle.bus_bits.specs.Capture.{CaptureFault}
-use Rattle.bus_capture.specs.Captures.{capture, whole_capture, IsSameFault, HasFault}
-use Rattle.bus_capture.specs.Internal.Kinds.{KindView}
-use Rattle.bus_capture.specs.Internal.Watching.{Watches, IsCutOff}
-use Rattle.bus_capture.specs.declared.run.CaptureRun.{CaptureRun}
-use Rattle.bus_capture.specs.declared.reader.Source.{Source}
-use Rattle.bus_capture.specs.declared.reader.Source.TheVariants as source
+use Rattle.bus_calls.specs.Captures.{capture, whole_capture, IsSameFault, HasFault}
+use Rattle.bus_calls.specs.Internal.Kinds.{KindView}
+use Rattle.bus_calls.specs.Internal.Watching.{Watches, IsCutOff}
+use Rattle.bus_calls.specs.declared.run.CaptureRun.{CaptureRun}
+use Rattle.bus_calls.specs.declared.reader.Source.{Source}
+use Rattle.bus_calls.specs.declared.reader.Source.TheVariants as source
 use Rattle.bus_text.specs.declared.fault.ToolFault.{ToolFault}
 use Rattle.bus_text.specs.declared.fault.ToolFault.TheVariants.{Read, ReadsLimit, Write}
 

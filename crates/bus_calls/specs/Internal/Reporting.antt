@@ -9,8 +9,8 @@ use Rattle.bus_text.specs.Put.{Cuts}
 use Rattle.bus_text.specs.Summary.{summary_of}
 use Rattle.bus_text.specs.declared.page.Page.{Page}
 use Rattle.bus_text.specs.declared.put.ShortWrite.{ShortWrite}
-use Rattle.bus_capture.specs.Internal.Watching.{printed}
-use Rattle.bus_capture.specs.declared.reporter.Reporter.{Reporter}
+use Rattle.bus_calls.specs.Internal.Watching.{printed}
+use Rattle.bus_calls.specs.declared.reporter.Reporter.{Reporter}
 
 -- the writer went from `start` to `now` by a text, the last part of which stands on the page, or it was cut off in it
 abbrev pub IsOut : Option (List ℕ) → Option (List ℕ) → Page → Option ShortWrite → List ℕ → Type 0

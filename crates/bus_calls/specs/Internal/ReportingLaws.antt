@@ -6,9 +6,9 @@ use Rattle.bus_pairing.specs.Seen.{SeenReport}
 use Rattle.bus_text.specs.Counting.{IsFew}
 use Rattle.bus_text.specs.Summary.{summary_of}
 use Rattle.bus_text.specs.declared.put.ShortWrite.{ShortWrite}
-use Rattle.bus_capture.specs.Internal.Reporting.{HasRoom, IsOut, ReportsSeen}
-use Rattle.bus_capture.specs.Internal.Watching.{printed}
-use Rattle.bus_capture.specs.declared.reporter.Reporter.{Reporter}
+use Rattle.bus_calls.specs.Internal.Reporting.{HasRoom, IsOut, ReportsSeen}
+use Rattle.bus_calls.specs.Internal.Watching.{printed}
+use Rattle.bus_calls.specs.declared.reporter.Reporter.{Reporter}
 use Rattle.bus_text.proofs.ListingLemmas.{listing-append}
 use Rattle.bus_text.specs.Listing.{text_of}
 use Rattle.bus_text.specs.declared.printer.Printer.{Printer}

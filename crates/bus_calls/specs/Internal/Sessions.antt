@@ -1,14 +1,14 @@
 -- What is known while the octets of a capture are read.
 use Rattle.std.specs.Prelude.{◌≡◌, ℕ, ◌<◌, Bool, true, false, List, length, Option, Some, None}
 use Rattle.bus_bits.specs.Capture.{CaptureOf, CaptureFault}
-use Rattle.bus_capture.specs.Captures.{capture, IsSameFault}
-use Rattle.bus_capture.specs.Internal.Kinds.{KindView}
-use Rattle.bus_capture.specs.Internal.Watching.{Watches, IsCutOff}
-use Rattle.bus_capture.specs.declared.run.CaptureRun.{CaptureRun}
-use Rattle.bus_capture.specs.declared.text.TextCapture.{TextCapture}
-use Rattle.bus_capture.specs.declared.packed.PackedCapture.{PackedCapture}
-use Rattle.bus_capture.specs.declared.reader.Source.{Source}
-use Rattle.bus_capture.specs.declared.reader.Source.TheVariants as source
+use Rattle.bus_calls.specs.Captures.{capture, IsSameFault}
+use Rattle.bus_calls.specs.Internal.Kinds.{KindView}
+use Rattle.bus_calls.specs.Internal.Watching.{Watches, IsCutOff}
+use Rattle.bus_calls.specs.declared.run.CaptureRun.{CaptureRun}
+use Rattle.bus_calls.specs.declared.text.TextCapture.{TextCapture}
+use Rattle.bus_calls.specs.declared.packed.PackedCapture.{PackedCapture}
+use Rattle.bus_calls.specs.declared.reader.Source.{Source}
+use Rattle.bus_calls.specs.declared.reader.Source.TheVariants as source
 use Rattle.bus_text.specs.declared.fault.ToolFault.{ToolFault}
 use Rattle.bus_text.specs.declared.fault.ToolFault.TheVariants.{Write}
 

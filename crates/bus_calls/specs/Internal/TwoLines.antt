@@ -6,9 +6,9 @@ use Rattle.bus_fcs.specs.Check.{CheckView}
 use Rattle.bus_pairing.specs.LineReport.{pairs_of}
 use Rattle.bus_watch.specs.Pairs as pairs
 use Rattle.bus_watch.specs.Pairs.{PairState}
-use Rattle.bus_capture.specs.Captures.{form_of_two}
-use Rattle.bus_capture.specs.Internal.Headed.{IsHeaded}
-use Rattle.bus_capture.specs.Internal.Kinds.{KindView}
+use Rattle.bus_calls.specs.Captures.{form_of_two}
+use Rattle.bus_calls.specs.Internal.Headed.{IsHeaded}
+use Rattle.bus_calls.specs.Internal.Kinds.{KindView}
 
 abbrev pub two_line_kind : {C : Type 0} → CheckView C → KindView (PairState C) (Bool × Bool) ℕ
 two_line_kind view = record {

@@ -16,8 +16,8 @@ use Rattle.bus_text.specs.Pages.{Pages}
 use Rattle.bus_text.specs.Put.{Cuts}
 use Rattle.bus_text.specs.CheckText.{check_text}
 use Rattle.bus_text.specs.declared.printer.Printer.{Printer}
-use Rattle.bus_capture.specs.Internal.Kinds.{KindView}
-use Rattle.bus_capture.specs.declared.run.CaptureRun.{CaptureRun}
+use Rattle.bus_calls.specs.Internal.Kinds.{KindView}
+use Rattle.bus_calls.specs.declared.run.CaptureRun.{CaptureRun}
 use Rattle.bus_text.specs.declared.fault.ToolFault.{ToolFault}
 use Rattle.bus_text.specs.declared.fault.ToolFault.TheVariants.{PlaceLimit, Write}
 

@@ -3,10 +3,10 @@
 ghost use Rattle.std.specs.Prelude.{◌≡◌, ◌+◌, ◌-◌, ◌<◌, ◌≤◌, [], ◌∷◌, ◌++◌, List, Some, false, length};
 ghost use Rattle.bus_line.specs.Line.{Call, gain};
 ghost use Rattle.bus_line.specs.Encoding.{AfterCalls};
-ghost use Rattle.bus_encode.specs.Encode.{bits_text};
-ghost use Rattle.bus_encode.specs.Internal.EncodeState.{call_of, IsSized};
+ghost use Rattle.bus_calls.specs.Encode.{bits_text};
+ghost use Rattle.bus_calls.specs.Internal.EncodeState.{call_of, IsSized};
 
-use crate::encode_request::EncodeRequest;
+use crate::encode::request::EncodeRequest;
 use arrayvec::ArrayVec;
 use bus_line::{BitSink, LineEncoder, SinkRefused};
 

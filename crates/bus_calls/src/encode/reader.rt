@@ -5,14 +5,14 @@ ghost use Rattle.std.specs.Prelude.{[], ◌∷◌, ◌++◌, length, MatchResult
 ghost use Rattle.std.specs.Io.BufRead.{strip_last};
 ghost use Rattle.std.specs.Io.KnownBytes.{Consumes};
 ghost use Rattle.bus_line.specs.Line.{Call};
-ghost use Rattle.bus_encode.specs.Encode.{one_asked, line_call, asked_so_far};
-ghost use Rattle.bus_encode.specs.Encodes.{Encodes};
-ghost use Rattle.bus_encode.specs.Internal.EncodeState.{EncodeFinishes, EncodeHalts, Ends, HasEncoded, IsSized, Takes};
-ghost use Rattle.bus_encode.specs.Internal.EncodeState.{call_of};
+ghost use Rattle.bus_calls.specs.Encode.{one_asked, line_call, asked_so_far};
+ghost use Rattle.bus_calls.specs.Encodes.{Encodes};
+ghost use Rattle.bus_calls.specs.Internal.EncodeState.{EncodeFinishes, EncodeHalts, Ends, HasEncoded, IsSized, Takes};
+ghost use Rattle.bus_calls.specs.Internal.EncodeState.{call_of};
 
-use crate::bits::call_text;
-use crate::encode_request::{EncodeRequest, read_request};
-use crate::line::OpenLine;
+use crate::encode::bits::call_text;
+use crate::encode::line::OpenLine;
+use crate::encode::request::{EncodeRequest, read_request};
 use bus_line::LineEncoder;
 use bus_text::{ToolFault, put_text};
 use std::io::{Read, Write};

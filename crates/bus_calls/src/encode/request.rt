@@ -3,8 +3,8 @@
 ghost use Rattle.std.specs.Prelude.{◌≡◌, ◌≤◌, ◌⊎◌, Ok, Err, Some, MatchResult, IfOk, IfErr, IfSome, length, option_map};
 ghost use Rattle.hex.specs.Hex.{decode_of};
 ghost use Rattle.bus_line.specs.Line.{Frame};
-ghost use Rattle.bus_encode.specs.Encode.{decoded_frame, line_call};
-ghost use Rattle.bus_encode.specs.Internal.EncodeState.{call_of, IsSized};
+ghost use Rattle.bus_calls.specs.Encode.{decoded_frame, line_call};
+ghost use Rattle.bus_calls.specs.Internal.EncodeState.{call_of, IsSized};
 
 use arrayvec::ArrayVec;
 use bus_text::{ToolFault, is_hex, octets_of};

@@ -6,7 +6,7 @@ use bus_dictionary::Dictionary;
 use bus_fcs::{BitCheck, Check, OctetCheck};
 use bus_line::Span;
 use bus_rows::{DAMAGED, ROUND_BITS, ROUNDS, round_octets, round_of, round_pairs};
-use bus_seen::calls_if_memory;
+use crate::seen::calls_if_memory;
 use bus_watch::{
     Counts, Finding, Line, NewFault, PairAnalyser, PairEnding, PairSink, ReportObserver, Seen,
     SinkRefused,

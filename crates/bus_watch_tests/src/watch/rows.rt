@@ -7,7 +7,7 @@ use crate::expect::{holds, same};
 use bus_fcs::{BitCheck, Check, OctetCheck};
 use bus_line::Span;
 use bus_rows::{CALLS, DAMAGE, FRAMES, WITHIN};
-use bus_seen::{NONE, push_ending};
+use crate::seen::{NONE, push_ending};
 use bus_watch::{Analyser, Counts};
 use std::alloc::Global;
 use std::process::Abort;

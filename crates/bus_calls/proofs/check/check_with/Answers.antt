@@ -1,11 +1,11 @@
 use Rattle.std.proofs.Common.{[], Err}
 use Rattle.std.proofs.lemmas.Result.{err_from_is_err_and}
-use Rattle.bus_capture.specs.Captures.{whole_capture}
-use Rattle.bus_capture.specs.Internal.Sessions.{is_text}
+use Rattle.bus_calls.specs.Captures.{whole_capture}
+use Rattle.bus_calls.specs.Internal.Sessions.{is_text}
 use Rattle.bus_text.proofs.KnownBytesLemmas.{consumes_nothing, appends_nothing}
-use Rattle.bus_capture.proofs.ChecksLemmas.{checked, checks-nothing, ends-checks, stops-checks}
-use Rattle.bus_capture.proofs.KnownLemmas.{known-checks}
-use Rattle.bus_capture.proofs.check.check_with.Goals as goal
+use Rattle.bus_calls.proofs.ChecksLemmas.{checked, checks-nothing, ends-checks, stops-checks}
+use Rattle.bus_calls.proofs.KnownLemmas.{known-checks}
+use Rattle.bus_calls.proofs.check.check_with.Goals as goal
 
 pub returns-in_err-reader : goal.returns-in_err-reader
 returns-in_err-reader g c =

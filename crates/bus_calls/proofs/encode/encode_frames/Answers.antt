@@ -1,5 +1,5 @@
-use Rattle.bus_encode.proofs.EncodeStateLemmas.{known_encodes}
-use Rattle.bus_encode.proofs.encode.encode_frames.Goals as goal
+use Rattle.bus_calls.proofs.EncodeStateLemmas.{known_encodes}
+use Rattle.bus_calls.proofs.encode.encode_frames.Goals as goal
 
 pub returns-clause-encoded : goal.returns-clause-encoded
 returns-clause-encoded g c =

@@ -1,5 +1,5 @@
 use Rattle.std.proofs.Common.{inr}
-use Rattle.bus_capture.proofs.list.close_behind.Goals as goal
+use Rattle.bus_calls.proofs.list.close_behind.Goals as goal
 
 pub returns-in-Err : goal.returns-in-Err
 returns-in-Err g c = record {

@@ -1,12 +1,12 @@
 use Rattle.std.proofs.Common.{◌≡◌, [], Some, Err, ap, ◌∙◌}
 use Rattle.std.proofs.lemmas.Result.{err_from_is_err_and}
-use Rattle.bus_capture.specs.Captures.{whole_capture}
+use Rattle.bus_calls.specs.Captures.{whole_capture}
 use Rattle.bus_text.specs.Given.{printer_of}
-use Rattle.bus_capture.specs.Internal.Sessions.{is_text}
+use Rattle.bus_calls.specs.Internal.Sessions.{is_text}
 use Rattle.bus_text.proofs.KnownBytesLemmas.{consumes_nothing, appends_nothing}
-use Rattle.bus_capture.proofs.ListsLemmas.{listed, does-nothing, ends-lists, stops-lists}
-use Rattle.bus_capture.proofs.KnownLemmas.{known-lists}
-use Rattle.bus_capture.proofs.list.list_with.Goals as goal
+use Rattle.bus_calls.proofs.ListsLemmas.{listed, does-nothing, ends-lists, stops-lists}
+use Rattle.bus_calls.proofs.KnownLemmas.{known-lists}
+use Rattle.bus_calls.proofs.list.list_with.Goals as goal
 
 pub returns-in_err-reader : goal.returns-in_err-reader
 returns-in_err-reader g c =

@@ -1,15 +1,15 @@
 use Rattle.std.proofs.Common.{◌≡◌, ◌+◌, ◌≤◌, ◌^◌, ◌++◌, ℕ, length, subst, arith}
 use Rattle.bus_bits.specs.Bits.{bits_from}
-use Rattle.bus_capture.specs.Internal.OneLine.{one_line_kind}
-use Rattle.bus_capture.specs.Internal.Watching.{Watches}
-use Rattle.bus_capture.specs.declared.run.CaptureRun.{CaptureRun}
+use Rattle.bus_calls.specs.Internal.OneLine.{one_line_kind}
+use Rattle.bus_calls.specs.Internal.Watching.{Watches}
+use Rattle.bus_calls.specs.declared.run.CaptureRun.{CaptureRun}
 use Rattle.bus_watch.specs.After.{AnalyserState}
 use Rattle.bus_text.specs.declared.fault.ToolFault.TheVariants as fault
 use Rattle.bus_bits.proofs.BitLemmas.{length-from}
-use Rattle.bus_capture.proofs.ReportingLemmas.{none-cut}
-use Rattle.bus_capture.proofs.OneLineLemmas.{halts-within, limited}
-use Rattle.bus_capture.proofs.ToldLemmas.{told-cut, told-sound, told-watched}
-use Rattle.bus_capture.proofs.one_line.analyse_bits.Goals as goal
+use Rattle.bus_calls.proofs.ReportingLemmas.{none-cut}
+use Rattle.bus_calls.proofs.OneLineLemmas.{halts-within, limited}
+use Rattle.bus_calls.proofs.ToldLemmas.{told-cut, told-sound, told-watched}
+use Rattle.bus_calls.proofs.one_line.analyse_bits.Goals as goal
 
 pub returns-in-Some-clause-taken : goal.returns-in-Some-clause-taken
 returns-in-Some-clause-taken g c = λ start b followed.

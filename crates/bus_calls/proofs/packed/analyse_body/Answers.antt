@@ -2,11 +2,11 @@ use Rattle.std.proofs.Common.{ℕ, ◌+◌, List, ◌++◌, take, false, subst, 
 use Rattle.std.proofs.lemmas.Result.{err_from_is_err_and}
 use Rattle.std.proofs.lemmas.List.{take_all}
 use Rattle.bus_bits.specs.Capture.{capped}
-use Rattle.bus_capture.specs.Internal.Sessions.{FollowsBody, Stops}
-use Rattle.bus_capture.proofs.WatchingLemmas.{same-both}
-use Rattle.bus_capture.proofs.CapturesLemmas.{stops-more, front-grown}
+use Rattle.bus_calls.specs.Internal.Sessions.{FollowsBody, Stops}
+use Rattle.bus_calls.proofs.WatchingLemmas.{same-both}
+use Rattle.bus_calls.proofs.CapturesLemmas.{stops-more, front-grown}
 use Rattle.bus_bits.proofs.GatherLemmas.{octets-next}
-use Rattle.bus_capture.proofs.packed.analyse_body.Goals as goal
+use Rattle.bus_calls.proofs.packed.analyse_body.Goals as goal
 
 pub returns-in_err-taken-clause-taken : goal.returns-in_err-taken-clause-taken
 returns-in_err-taken-clause-taken g c =

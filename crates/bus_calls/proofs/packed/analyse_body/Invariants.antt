@@ -1,7 +1,7 @@
 use Rattle.std.proofs.Common.{ℕ, ◌-◌, List, ◌++◌, Option, length, take}
-use Rattle.bus_capture.specs.Internal.Watching.{IsSound, IsSame}
-use Rattle.bus_capture.specs.Internal.Sessions.{FollowsBody}
-use Rattle.bus_capture.proofs.packed.analyse_body.Given as goal
+use Rattle.bus_calls.specs.Internal.Watching.{IsSound, IsSame}
+use Rattle.bus_calls.specs.Internal.Sessions.{FollowsBody}
+use Rattle.bus_calls.proofs.packed.analyse_body.Given as goal
 
 abbrev pub invariant-loop-taken : goal.invariant-loop-taken
 invariant-loop-taken g l = record {

@@ -1,9 +1,9 @@
 use Rattle.std.proofs.Common.{List, ℕ, false, subst, arith}
 use Rattle.std.proofs.lemmas.Result.{err_from_is_err_and}
-use Rattle.bus_capture.specs.Internal.Sessions.{FollowsBody, Stops}
-use Rattle.bus_capture.proofs.SessionsPackedLemmas.{first-octet, none-read}
-use Rattle.bus_capture.proofs.WatchingLemmas.{same-both}
-use Rattle.bus_capture.proofs.packed.analyse_some.Goals as goal
+use Rattle.bus_calls.specs.Internal.Sessions.{FollowsBody, Stops}
+use Rattle.bus_calls.proofs.SessionsPackedLemmas.{first-octet, none-read}
+use Rattle.bus_calls.proofs.WatchingLemmas.{same-both}
+use Rattle.bus_calls.proofs.packed.analyse_some.Goals as goal
 
 pub returns-in_err-decode_octet-clause-taken : goal.returns-in_err-decode_octet-clause-taken
 returns-in_err-decode_octet-clause-taken g c =

@@ -1,9 +1,9 @@
 use Rattle.std.proofs.Common.{List, [], ◌∷◌, ◌++◌, ◌+◌, take, drop, subst, arith}
 use Rattle.std.proofs.lemmas.Result.{err_from_is_err_and}
 use Rattle.std.proofs.lemmas.List.{take_all}
-use Rattle.bus_capture.specs.Internal.Watching.{Watches, Halts}
-use Rattle.bus_capture.proofs.WatchingLemmas.{same-both, halts-more, item-middle, item-next}
-use Rattle.bus_capture.proofs.packed.analyse_symbols.Goals as goal
+use Rattle.bus_calls.specs.Internal.Watching.{Watches, Halts}
+use Rattle.bus_calls.proofs.WatchingLemmas.{same-both, halts-more, item-middle, item-next}
+use Rattle.bus_calls.proofs.packed.analyse_symbols.Goals as goal
 
 pub returns-in_err-analyse_symbol-clause-taken : goal.returns-in_err-analyse_symbol-clause-taken
 returns-in_err-analyse_symbol-clause-taken g c =

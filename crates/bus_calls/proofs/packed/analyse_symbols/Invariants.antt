@@ -1,6 +1,6 @@
 use Rattle.std.proofs.Common.{ℕ, List, ◌++◌, Option, take}
-use Rattle.bus_capture.specs.Internal.Watching.{IsSound, Watches, IsSame}
-use Rattle.bus_capture.proofs.packed.analyse_symbols.Given as goal
+use Rattle.bus_calls.specs.Internal.Watching.{IsSound, Watches, IsSame}
+use Rattle.bus_calls.proofs.packed.analyse_symbols.Given as goal
 
 abbrev pub invariant-loop-symbol : goal.invariant-loop-symbol
 invariant-loop-symbol g l = record {

@@ -1,9 +1,9 @@
 use Rattle.std.proofs.Common.{◌≤◌, ◌^◌, List, [], ◌∷◌, ◌++◌, sym, ap, ◌∙◌, arith}
 use Rattle.bus_bits.specs.Capture.{CaptureOf}
 use Rattle.bus_bits.specs.Packed.{packed_fault_of}
-use Rattle.bus_capture.proofs.CapturesLemmas.{fault-in, followed-fits}
-use Rattle.bus_capture.proofs.SessionsPackedLemmas.{faulty-stops, octets-taken}
-use Rattle.bus_capture.proofs.packed.decode_octet.Goals as goal
+use Rattle.bus_calls.proofs.CapturesLemmas.{fault-in, followed-fits}
+use Rattle.bus_calls.proofs.SessionsPackedLemmas.{faulty-stops, octets-taken}
+use Rattle.bus_calls.proofs.packed.decode_octet.Goals as goal
 
 pub returns-in-Ok-clause-taken : goal.returns-in-Ok-clause-taken
 returns-in-Ok-clause-taken g c =

@@ -4,9 +4,9 @@ use Rattle.std.proofs.lemmas.Result.{err_from_is_err_and}
 use Rattle.bus_pairing.specs.History.{KeptFrame, history}
 use Rattle.bus_text.specs.CheckText.{history_text}
 use Rattle.bus_text.specs.Pages.{Pages}
-use Rattle.bus_capture.specs.Internal.Watching.{reports_by}
-use Rattle.bus_capture.proofs.ReportLemmas.{frame-at, pages-kept, cuts-kept}
-use Rattle.bus_capture.proofs.report.put_history.Goals as goal
+use Rattle.bus_calls.specs.Internal.Watching.{reports_by}
+use Rattle.bus_calls.proofs.ReportLemmas.{frame-at, pages-kept, cuts-kept}
+use Rattle.bus_calls.proofs.report.put_history.Goals as goal
 
 pub returns-in_err-put_last-clause-put : goal.returns-in_err-put_last-clause-put
 returns-in_err-put_last-clause-put g c =

@@ -1,10 +1,10 @@
 use Rattle.std.proofs.Common.{ℕ, ◌+◌, ◌*◌, ◌≤◌, List, ◌++◌, take, Option}
 use Rattle.arrayvec.specs.ArrayVec.{array_vec_len}
-use Rattle.bus_capture.specs.Internal.Watching.{reports_by}
+use Rattle.bus_calls.specs.Internal.Watching.{reports_by}
 use Rattle.bus_pairing.specs.History.{history}
 use Rattle.bus_text.specs.CheckText.{history_text}
 use Rattle.bus_text.specs.Pages.{Pages}
-use Rattle.bus_capture.proofs.report.put_history.Given as goal
+use Rattle.bus_calls.proofs.report.put_history.Given as goal
 
 -- the first frames were put
 abbrev pub invariant-loop-i : goal.invariant-loop-i

@@ -1,13 +1,13 @@
 use Rattle.std.proofs.Common.{ℕ, List, ◌++◌, MatchResult, subst}
 use Rattle.std.proofs.lemmas.Result.{err_from_is_err_and}
-use Rattle.bus_capture.specs.Internal.Watching.{reports_by}
+use Rattle.bus_calls.specs.Internal.Watching.{reports_by}
 use Rattle.bus_pairing.specs.History.{history, tally}
 use Rattle.bus_text.specs.CheckText.{summary_text, tallies_text, history_text}
 use Rattle.bus_text.specs.Put.{Cuts}
 use Rattle.bus_text.specs.Pages.{Pages}
 use Rattle.bus_text.proofs.PagesLemmas.{cuts-more}
-use Rattle.bus_capture.proofs.ReportLemmas.{report-parts}
-use Rattle.bus_capture.proofs.report.put_report.Goals as goal
+use Rattle.bus_calls.proofs.ReportLemmas.{report-parts}
+use Rattle.bus_calls.proofs.report.put_report.Goals as goal
 
 pub returns-in_err-put_summary-clause-put : goal.returns-in_err-put_summary-clause-put
 returns-in_err-put_summary-clause-put g c =

@@ -1,11 +1,11 @@
 use Rattle.std.proofs.Common.{rules, ◌≡◌, ◌+◌, ◌++◌, sym, ap, ◌∙◌, subst, arith, append-nil}
 use Rattle.std.proofs.lemmas.Result.{err_from_is_err_and}
-use Rattle.bus_capture.specs.Internal.Watching.{reports_by}
+use Rattle.bus_calls.specs.Internal.Watching.{reports_by}
 use Rattle.bus_pairing.specs.History.{tally}
 use Rattle.bus_text.specs.CheckText.{tallies_text}
 use Rattle.bus_text.specs.Pages.{Pages}
-use Rattle.bus_capture.proofs.ReportLemmas.{tallies-none, pages-tally, cuts-tally}
-use Rattle.bus_capture.proofs.report.put_tallies.Goals as goal
+use Rattle.bus_calls.proofs.ReportLemmas.{tallies-none, pages-tally, cuts-tally}
+use Rattle.bus_calls.proofs.report.put_tallies.Goals as goal
 
 pub loop-station-init : goal.loop-station-init
 loop-station-init g c = record {

@@ -1,10 +1,10 @@
 use Rattle.std.proofs.Common.{ℕ, ◌+◌, ◌*◌, ◌≤◌, List, ◌++◌, Option}
 use Rattle.arrayvec.specs.ArrayVec.{array_vec_len}
-use Rattle.bus_capture.specs.Internal.Watching.{reports_by}
+use Rattle.bus_calls.specs.Internal.Watching.{reports_by}
 use Rattle.bus_pairing.specs.History.{tally}
 use Rattle.bus_text.specs.CheckText.{tallies_text}
 use Rattle.bus_text.specs.Pages.{Pages}
-use Rattle.bus_capture.proofs.report.put_tallies.Given as goal
+use Rattle.bus_calls.proofs.report.put_tallies.Given as goal
 
 -- the lines of the first stations were put
 abbrev pub invariant-loop-station : goal.invariant-loop-station

@@ -2,11 +2,11 @@ use Rattle.std.proofs.Common.{◌≡◌, ◌≤◌, ◌^◌, [], ◌∷◌, ◌+
 use Rattle.std.proofs.Common.{append-nil}
 use Rattle.std.specs.Option.{option_to_list}
 use Rattle.bus_bits.specs.Capture.{bad_mark}
-use Rattle.bus_capture.specs.Internal.Watching.{Watches}
+use Rattle.bus_calls.specs.Internal.Watching.{Watches}
 use Rattle.bus_text.specs.declared.fault.ToolFault.TheVariants as fault
-use Rattle.bus_capture.proofs.CapturesLemmas.{followed-fits, fault-in}
-use Rattle.bus_capture.proofs.SessionsTextLemmas.{mark-taken}
-use Rattle.bus_capture.proofs.text.analyse_octet.Goals as goal
+use Rattle.bus_calls.proofs.CapturesLemmas.{followed-fits, fault-in}
+use Rattle.bus_calls.proofs.SessionsTextLemmas.{mark-taken}
+use Rattle.bus_calls.proofs.text.analyse_octet.Goals as goal
 
 pub returns-in-Ok-Some-clause-taken : goal.returns-in-Ok-Some-clause-taken
 returns-in-Ok-Some-clause-taken g c =

@@ -1,14 +1,14 @@
 use Rattle.std.proofs.Common.{◌≡◌, ◌+◌, ◌≤◌, ◌^◌, ◌++◌, ℕ, length, zip, subst, arith}
 use Rattle.bus_bits.specs.Bits.{bits_from}
-use Rattle.bus_capture.specs.Internal.TwoLines.{two_line_kind}
-use Rattle.bus_capture.specs.Internal.Watching.{Watches}
-use Rattle.bus_capture.specs.declared.run.CaptureRun.{CaptureRun}
+use Rattle.bus_calls.specs.Internal.TwoLines.{two_line_kind}
+use Rattle.bus_calls.specs.Internal.Watching.{Watches}
+use Rattle.bus_calls.specs.declared.run.CaptureRun.{CaptureRun}
 use Rattle.bus_watch.specs.Pairs.{PairState}
 use Rattle.bus_text.specs.declared.fault.ToolFault.TheVariants as fault
 use Rattle.bus_watch.proofs.PairScanLemmas.{length-zipped}
-use Rattle.bus_capture.proofs.ReportingLemmas.{none-cut}
-use Rattle.bus_capture.proofs.ToldLemmas.{halts-behind, limited, told-cut, told-sound, told-watched}
-use Rattle.bus_capture.proofs.two_lines.analyse_pairs.Goals as goal
+use Rattle.bus_calls.proofs.ReportingLemmas.{none-cut}
+use Rattle.bus_calls.proofs.ToldLemmas.{halts-behind, limited, told-cut, told-sound, told-watched}
+use Rattle.bus_calls.proofs.two_lines.analyse_pairs.Goals as goal
 
 pub returns-in-Some-clause-taken : goal.returns-in-Some-clause-taken
 returns-in-Some-clause-taken g c = λ start b followed.

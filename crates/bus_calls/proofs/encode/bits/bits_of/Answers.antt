@@ -1,9 +1,9 @@
 use Rattle.std.proofs.Common.{inl, inr, sym, ◌∙◌, arith}
 use Rattle.bus_line.specs.Line.{Flag, Idle, Frame}
-use Rattle.bus_encode.specs.Internal.EncodeState.{IsSized}
-use Rattle.bus_encode.proofs.OrderLemmas.{never_fails, flag_fits, idle_fits}
-use Rattle.bus_encode.proofs.bits.bits_of.Goals as goal
-use Rattle.bus_encode.proofs.bits.bits_of.Goals.{in-Flag, in-Idle, in-Frame}
+use Rattle.bus_calls.specs.Internal.EncodeState.{IsSized}
+use Rattle.bus_calls.proofs.OrderLemmas.{never_fails, flag_fits, idle_fits}
+use Rattle.bus_calls.proofs.encode.bits.bits_of.Goals as goal
+use Rattle.bus_calls.proofs.encode.bits.bits_of.Goals.{in-Flag, in-Idle, in-Frame}
 
 pub unreachable-requires : goal.unreachable-requires
 unreachable-requires c = elim c.match-request.branch [

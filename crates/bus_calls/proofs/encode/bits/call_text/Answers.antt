@@ -1,5 +1,5 @@
-use Rattle.bus_encode.proofs.OrderLemmas.{some_calls}
-use Rattle.bus_encode.proofs.bits.call_text.Goals as goal
+use Rattle.bus_calls.proofs.OrderLemmas.{some_calls}
+use Rattle.bus_calls.proofs.encode.bits.call_text.Goals as goal
 
 pub returns-clause-going : goal.returns-clause-going
 returns-clause-going c =

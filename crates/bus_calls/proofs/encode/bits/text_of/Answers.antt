@@ -1,7 +1,7 @@
 use Rattle.std.proofs.Common.{List, ℕ, [], ◌∷◌, ◌++◌, map, ap, ◌∙◌}
-use Rattle.bus_encode.specs.Encode.{bit_char, bits_text}
-use Rattle.bus_encode.proofs.OrderLemmas.{all_bits}
-use Rattle.bus_encode.proofs.bits.text_of.Goals as goal
+use Rattle.bus_calls.specs.Encode.{bit_char, bits_text}
+use Rattle.bus_calls.proofs.OrderLemmas.{all_bits}
+use Rattle.bus_calls.proofs.encode.bits.text_of.Goals as goal
 
 pub returns : goal.returns
 unfolding bits_text

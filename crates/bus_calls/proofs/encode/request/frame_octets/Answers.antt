@@ -1,8 +1,8 @@
 use Rattle.std.proofs.Common.{◌≡◌, true, arith}
-use Rattle.bus_encode.proofs.OrderLemmas.{no_frame, too_short, too_long, framed}
-use Rattle.bus_encode.proofs.encode_request.frame_octets.Goals as goal
-use Rattle.bus_encode.proofs.encode_request.frame_octets.Goals.{then-count-lt2-via-then-count-lt2}
-use Rattle.bus_encode.proofs.encode_request.frame_octets.Goals.{then-count-lt2-via-else-count-lt2+then-count-gt-MOST}
+use Rattle.bus_calls.proofs.OrderLemmas.{no_frame, too_short, too_long, framed}
+use Rattle.bus_calls.proofs.encode.request.frame_octets.Goals as goal
+use Rattle.bus_calls.proofs.encode.request.frame_octets.Goals.{then-count-lt2-via-then-count-lt2}
+use Rattle.bus_calls.proofs.encode.request.frame_octets.Goals.{then-count-lt2-via-else-count-lt2+then-count-gt-MOST}
 
 pub returns-then-not-is_hex-clause-octets : goal.returns-then-not-is_hex-clause-octets
 returns-then-not-is_hex-clause-octets c =

@@ -1,8 +1,8 @@
 use Rattle.std.proofs.Common.{◌≡◌, Bool, List, ℕ, length, take, drop, codes, sym, ap, ◌∙◌}
 use Rattle.std.proofs.lemmas.Result.{err_from_is_err_and}
-use Rattle.bus_encode.specs.Encode.{is_word}
-use Rattle.bus_encode.proofs.OrderLemmas.{call-none, call-flag, call-idle, call-other, call-frame}
-use Rattle.bus_encode.proofs.encode_request.read_request.Goals as goal
+use Rattle.bus_calls.specs.Encode.{is_word}
+use Rattle.bus_calls.proofs.OrderLemmas.{call-none, call-flag, call-idle, call-other, call-frame}
+use Rattle.bus_calls.proofs.encode.request.read_request.Goals as goal
 
 -- what the test of a line for a text tells, of the word that the text is
 word_is : (line word text : List ℕ) (result b : Bool) → text ≡ word → result ≡ is_word text line → result ≡ b

@@ -2,11 +2,11 @@ use Rattle.std.proofs.Common.{◌≤◌, ◌*◌, ◌^◌, ◌++◌, Ok, Err, le
 use Rattle.std.proofs.lemmas.Result.{err_from_is_err_and}
 use Rattle.bus_bits.specs.Bits.{bits_from}
 use Rattle.bus_bits.specs.Packed.{PackedAfter, packed_capture, packed_body, head_fault}
-use Rattle.bus_capture.specs.Internal.OneLine.{one_line_kind}
-use Rattle.bus_capture.proofs.CapturesLemmas.{followed-fits}
-use Rattle.bus_capture.proofs.HeadedLemmas.{octets-read}
-use Rattle.bus_capture.proofs.SessionsPackedLemmas.{octets-taken}
-use Rattle.bus_capture.proofs.one_line.AnalyserCaptureKind.analyse_packed.Goals as goal
+use Rattle.bus_calls.specs.Internal.OneLine.{one_line_kind}
+use Rattle.bus_calls.proofs.CapturesLemmas.{followed-fits}
+use Rattle.bus_calls.proofs.HeadedLemmas.{octets-read}
+use Rattle.bus_calls.proofs.SessionsPackedLemmas.{octets-taken}
+use Rattle.bus_calls.proofs.one_line.AnalyserCaptureKind.analyse_packed.Goals as goal
 
 pub returns-in_err-analyse_bits-clause-taken : goal.returns-in_err-analyse_bits-clause-taken
 returns-in_err-analyse_bits-clause-taken g c =

@@ -1,8 +1,8 @@
 use Rattle.std.proofs.Common.{List, Bool, ◌++◌, MatchResult, subst}
-use Rattle.bus_capture.specs.Internal.OneLine.{one_line_kind}
-use Rattle.bus_capture.specs.Internal.Watching.{Halts, Watches}
-use Rattle.bus_capture.proofs.OneLineLemmas.{bit-alone}
-use Rattle.bus_capture.proofs.one_line.AnalyserCaptureKind.analyse_symbol.Goals as goal
+use Rattle.bus_calls.specs.Internal.OneLine.{one_line_kind}
+use Rattle.bus_calls.specs.Internal.Watching.{Halts, Watches}
+use Rattle.bus_calls.proofs.OneLineLemmas.{bit-alone}
+use Rattle.bus_calls.proofs.one_line.AnalyserCaptureKind.analyse_symbol.Goals as goal
 
 pub returns-clause-taken : goal.returns-clause-taken
 returns-clause-taken g c = λ start b followed.

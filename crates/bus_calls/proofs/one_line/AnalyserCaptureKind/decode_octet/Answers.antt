@@ -1,7 +1,7 @@
 use Rattle.std.proofs.Common.{[], ◌∷◌}
 use Rattle.bus_bits.specs.Packed.{PackedAfter, packed_capture, packed_body, head_fault}
-use Rattle.bus_capture.proofs.HeadedLemmas.{octet-read}
-use Rattle.bus_capture.proofs.one_line.AnalyserCaptureKind.decode_octet.Goals as goal
+use Rattle.bus_calls.proofs.HeadedLemmas.{octet-read}
+use Rattle.bus_calls.proofs.one_line.AnalyserCaptureKind.decode_octet.Goals as goal
 
 pub returns : goal.returns
 returns g c = λ xs is-body.

@@ -4,11 +4,11 @@ use Rattle.std.specs.Option.{option_to_list}
 use Rattle.bus_line.specs.Due.{placed}
 use Rattle.bus_pairing.specs.LineReport.{of_line}
 use Rattle.bus_pairing.specs.Seen.{seen_at}
-use Rattle.bus_capture.specs.Captures.{form_of_one}
-use Rattle.bus_capture.proofs.HeadedLemmas.{head-clean}
-use Rattle.bus_capture.proofs.SeenOnLemmas.{seen-on}
-use Rattle.bus_capture.proofs.OneLineLemmas.{same_bits}
-use Rattle.bus_capture.proofs.one_line.AnalyserCaptureKind.laws.Goals as goal
+use Rattle.bus_calls.specs.Captures.{form_of_one}
+use Rattle.bus_calls.proofs.HeadedLemmas.{head-clean}
+use Rattle.bus_calls.proofs.SeenOnLemmas.{seen-on}
+use Rattle.bus_calls.proofs.OneLineLemmas.{same_bits}
+use Rattle.bus_calls.proofs.one_line.AnalyserCaptureKind.laws.Goals as goal
 
 pub returns : goal.returns
 returns g c =

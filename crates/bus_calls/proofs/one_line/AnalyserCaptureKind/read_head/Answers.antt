@@ -1,9 +1,9 @@
 use Rattle.std.proofs.Common.{[], sym, append-nil, subst}
 use Rattle.bus_bits.specs.Packed.{PackedAfter, packed_capture, packed_body, head_bits, head_fault}
-use Rattle.bus_capture.specs.Internal.Headed.{IsHeaded}
-use Rattle.bus_capture.proofs.HeadedLemmas.{head-alone}
-use Rattle.bus_capture.proofs.OneLineLemmas.{no_body}
-use Rattle.bus_capture.proofs.one_line.AnalyserCaptureKind.read_head.Goals as goal
+use Rattle.bus_calls.specs.Internal.Headed.{IsHeaded}
+use Rattle.bus_calls.proofs.HeadedLemmas.{head-alone}
+use Rattle.bus_calls.proofs.OneLineLemmas.{no_body}
+use Rattle.bus_calls.proofs.one_line.AnalyserCaptureKind.read_head.Goals as goal
 
 pub returns : goal.returns
 returns g c =

@@ -1,6 +1,6 @@
 use Rattle.std.proofs.Common.{◌++◌, Some, refl}
-use Rattle.bus_capture.proofs.SessionsPackedLemmas.{body-packed, packed-body}
-use Rattle.bus_capture.proofs.packed.PackedCapture.analyse.Goals as goal
+use Rattle.bus_calls.proofs.SessionsPackedLemmas.{body-packed, packed-body}
+use Rattle.bus_calls.proofs.packed.PackedCapture.analyse.Goals as goal
 
 pub returns-in-Some-clause-taken : goal.returns-in-Some-clause-taken
 returns-in-Some-clause-taken g c =

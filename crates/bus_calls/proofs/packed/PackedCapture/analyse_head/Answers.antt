@@ -4,14 +4,14 @@ use Rattle.std.proofs.lemmas.Result.{err_from_is_err_and}
 use Rattle.bus_bits.specs.declared.format.packed_head.HeadFault.{HeadFault}
 use Rattle.bus_bits.specs.Capture.{CaptureOf}
 use Rattle.bus_bits.specs.Packed.{head_fault_of}
-use Rattle.bus_capture.specs.Internal.Watching.{Watches}
+use Rattle.bus_calls.specs.Internal.Watching.{Watches}
 use Rattle.bus_text.specs.declared.fault.ToolFault.{ToolFault}
-use Rattle.bus_capture.specs.Internal.Sessions.{IsRead, FollowsBody}
-use Rattle.bus_capture.specs.Captures.{IsSameFault}
-use Rattle.bus_capture.proofs.CapturesLemmas.{fault-in}
-use Rattle.bus_capture.proofs.SessionsPackedLemmas.{faulty-stops, body-packed, err-mapped, ok-mapped, head-filled}
-use Rattle.bus_capture.proofs.SessionsPackedLemmas.{slice-rest}
-use Rattle.bus_capture.proofs.packed.PackedCapture.analyse_head.Goals as goal
+use Rattle.bus_calls.specs.Internal.Sessions.{IsRead, FollowsBody}
+use Rattle.bus_calls.specs.Captures.{IsSameFault}
+use Rattle.bus_calls.proofs.CapturesLemmas.{fault-in}
+use Rattle.bus_calls.proofs.SessionsPackedLemmas.{faulty-stops, body-packed, err-mapped, ok-mapped, head-filled}
+use Rattle.bus_calls.proofs.SessionsPackedLemmas.{slice-rest}
+use Rattle.bus_calls.proofs.packed.PackedCapture.analyse_head.Goals as goal
 
 pub returns-then-octets-missing-clause-taken : goal.returns-then-octets-missing-clause-taken
 returns-then-octets-missing-clause-taken g c = λ start xs followed.

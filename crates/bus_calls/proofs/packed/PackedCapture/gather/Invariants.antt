@@ -1,5 +1,5 @@
 use Rattle.std.proofs.Common.{◌≡◌, ◌++◌, take}
-use Rattle.bus_capture.proofs.packed.PackedCapture.gather.Given as goal
+use Rattle.bus_calls.proofs.packed.PackedCapture.gather.Given as goal
 
 abbrev pub invariant-loop-octet : goal.invariant-loop-octet
 invariant-loop-octet g l = record {

@@ -1,6 +1,6 @@
 use Rattle.std.proofs.Common.{◌++◌}
-use Rattle.bus_capture.proofs.ReadingLemmas.{follows-text, follows-packed, text-follows, packed-follows}
-use Rattle.bus_capture.proofs.reader.CaptureReader.analyse.Goals as goal
+use Rattle.bus_calls.proofs.ReadingLemmas.{follows-text, follows-packed, text-follows, packed-follows}
+use Rattle.bus_calls.proofs.reader.CaptureReader.analyse.Goals as goal
 
 pub returns-in-Text-clause-taken : goal.returns-in-Text-clause-taken
 returns-in-Text-clause-taken g c =

@@ -1,12 +1,12 @@
 use Rattle.std.proofs.Common.{◌++◌, Bool, subst}
 use Rattle.std.proofs.lemmas.Result.{err_from_is_err_and}
-use Rattle.bus_capture.specs.Captures.{capture}
-use Rattle.bus_capture.specs.Internal.Watching.{lines}
-use Rattle.bus_capture.specs.Internal.Sessions.{is_text}
-use Rattle.bus_capture.specs.Internal.Reading.{IsClean}
-use Rattle.bus_capture.proofs.ReadingLemmas.{follows-unplaced, is-clean, is-cut}
+use Rattle.bus_calls.specs.Captures.{capture}
+use Rattle.bus_calls.specs.Internal.Watching.{lines}
+use Rattle.bus_calls.specs.Internal.Sessions.{is_text}
+use Rattle.bus_calls.specs.Internal.Reading.{IsClean}
+use Rattle.bus_calls.proofs.ReadingLemmas.{follows-unplaced, is-clean, is-cut}
 use Rattle.bus_text.proofs.PagesLemmas.{cut-short}
-use Rattle.bus_capture.proofs.reader.CaptureReader.analyse_read.Goals as goal
+use Rattle.bus_calls.proofs.reader.CaptureReader.analyse_read.Goals as goal
 
 pub returns-in_err-write_out-clause-taken : goal.returns-in_err-write_out-clause-taken
 returns-in_err-write_out-clause-taken g c =

@@ -1,12 +1,12 @@
 use Rattle.std.proofs.Common.{◌≡◌, None, arith, [], refl, sym, ap, subst}
 use Rattle.bus_bits.specs.Capture.{CaptureOf}
-use Rattle.bus_capture.specs.Internal.Watching.{Watches}
-use Rattle.bus_capture.specs.Internal.Sessions.{Follows, IsRead}
-use Rattle.bus_capture.specs.declared.reader.Source.{Source}
-use Rattle.bus_capture.specs.declared.run.CaptureRun.{CaptureRun}
-use Rattle.bus_capture.proofs.ReadingLemmas.{watched-none}
-use Rattle.bus_capture.proofs.reader.CaptureReader.new.Goals as goal
-use Rattle.bus_capture.proofs.reader.CaptureReader.new.Goals.{then-options, else-options}
+use Rattle.bus_calls.specs.Internal.Watching.{Watches}
+use Rattle.bus_calls.specs.Internal.Sessions.{Follows, IsRead}
+use Rattle.bus_calls.specs.declared.reader.Source.{Source}
+use Rattle.bus_calls.specs.declared.run.CaptureRun.{CaptureRun}
+use Rattle.bus_calls.proofs.ReadingLemmas.{watched-none}
+use Rattle.bus_calls.proofs.reader.CaptureReader.new.Goals as goal
+use Rattle.bus_calls.proofs.reader.CaptureReader.new.Goals.{then-options, else-options}
 
 pub returns-clause-fresh : goal.returns-clause-fresh
 returns-clause-fresh g c =

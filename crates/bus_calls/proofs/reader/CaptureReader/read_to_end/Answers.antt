@@ -1,11 +1,11 @@
 use Rattle.std.proofs.Common.{rules, arith, Bool, ◌++◌, take, ◌∙◌, subst}
 use Rattle.std.proofs.lemmas.Result.{err_from_is_err_and}
-use Rattle.bus_capture.specs.Internal.Sessions.{is_text, Stops}
-use Rattle.bus_capture.specs.Internal.Reading.{IsClean, Finishes}
+use Rattle.bus_calls.specs.Internal.Sessions.{is_text, Stops}
+use Rattle.bus_calls.specs.Internal.Reading.{IsClean, Finishes}
 use Rattle.bus_text.proofs.KnownBytesLemmas.{consumes_both, consumes_end, consumes_kept, longer}
-use Rattle.bus_capture.proofs.WatchingLemmas.{same-both}
-use Rattle.bus_capture.proofs.ReadingLemmas.{follows-unplaced, is-clean, read-by, end-finishes, stops-finishes}
-use Rattle.bus_capture.proofs.reader.CaptureReader.read_to_end.Goals as goal
+use Rattle.bus_calls.proofs.WatchingLemmas.{same-both}
+use Rattle.bus_calls.proofs.ReadingLemmas.{follows-unplaced, is-clean, read-by, end-finishes, stops-finishes}
+use Rattle.bus_calls.proofs.reader.CaptureReader.read_to_end.Goals as goal
 
 pub returns-in-Ok-eq0-clause-read : goal.returns-in-Ok-eq0-clause-read
 returns-in-Ok-eq0-clause-read g c =

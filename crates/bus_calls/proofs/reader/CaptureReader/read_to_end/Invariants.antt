@@ -1,9 +1,9 @@
 use Rattle.std.proofs.Common.{◌≡◌, ℕ, ◌*◌, ◌≤◌, List, length}
 use Rattle.std.specs.Io.KnownBytes.{Consumes}
-use Rattle.bus_capture.specs.Internal.Watching.{IsSound, IsSame}
-use Rattle.bus_capture.specs.Internal.Sessions.{Follows, is_text}
-use Rattle.bus_capture.specs.Internal.Reading.{octets_taken}
-use Rattle.bus_capture.proofs.reader.CaptureReader.read_to_end.Given as goal
+use Rattle.bus_calls.specs.Internal.Watching.{IsSound, IsSame}
+use Rattle.bus_calls.specs.Internal.Sessions.{Follows, is_text}
+use Rattle.bus_calls.specs.Internal.Reading.{octets_taken}
+use Rattle.bus_calls.proofs.reader.CaptureReader.read_to_end.Given as goal
 
 -- some octets were read, at least one a turn, and taken
 abbrev pub invariant-loop-turn : goal.invariant-loop-turn

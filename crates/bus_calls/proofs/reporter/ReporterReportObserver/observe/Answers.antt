@@ -3,11 +3,11 @@ use Rattle.std.proofs.Common.{append-nil, length-append}
 use Rattle.arrayvec.specs.ArrayVec.{array_vec_len}
 use Rattle.bus_text.proofs.PagesLemmas.{cut-short, cuts-more, pages-printed}
 use Rattle.bus_pairing.specs.Shown.{found_on}
-use Rattle.bus_capture.specs.Internal.Reporting.{IsOut}
-use Rattle.bus_capture.specs.Internal.Watching.{printed}
-use Rattle.bus_capture.proofs.ReportingLemmas.{counted-on, not-both, not-cut, not-none, still-cut}
-use Rattle.bus_capture.specs.Internal.ReportingLaws.{few-within}
-use Rattle.bus_capture.proofs.reporter.ReporterReportObserver.observe.Goals as goal
+use Rattle.bus_calls.specs.Internal.Reporting.{IsOut}
+use Rattle.bus_calls.specs.Internal.Watching.{printed}
+use Rattle.bus_calls.proofs.ReportingLemmas.{counted-on, not-both, not-cut, not-none, still-cut}
+use Rattle.bus_calls.specs.Internal.ReportingLaws.{few-within}
+use Rattle.bus_calls.proofs.reporter.ReporterReportObserver.observe.Goals as goal
 
 pub returns-in_default-clause-left : goal.returns-in_default-clause-left
 returns-in_default-clause-left g c = λ more room.

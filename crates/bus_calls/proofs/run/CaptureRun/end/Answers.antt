@@ -2,10 +2,10 @@ use Rattle.std.proofs.Common.{◌++◌, refl}
 use Rattle.std.proofs.lemmas.Result.{err_from_is_err_and}
 use Rattle.bus_text.specs.Pages.{Pages}
 use Rattle.bus_text.proofs.PagesLemmas.{cuts-more}
-use Rattle.bus_capture.specs.Internal.Watching.{lines, last_lines}
-use Rattle.bus_capture.proofs.WatchingLemmas.{pages-ended, pages-unended}
-use Rattle.bus_capture.proofs.run.CaptureRun.end.Goals as goal
-use Rattle.bus_capture.proofs.run.CaptureRun.end.Goals.{in-Some, in_default}
+use Rattle.bus_calls.specs.Internal.Watching.{lines, last_lines}
+use Rattle.bus_calls.proofs.WatchingLemmas.{pages-ended, pages-unended}
+use Rattle.bus_calls.proofs.run.CaptureRun.end.Goals as goal
+use Rattle.bus_calls.proofs.run.CaptureRun.end.Goals.{in-Some, in_default}
 
 pub returns : goal.returns
 returns g c =

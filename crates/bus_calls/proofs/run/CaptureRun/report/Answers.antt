@@ -1,7 +1,7 @@
 use Rattle.std.proofs.Common.{◌++◌, refl}
 use Rattle.std.proofs.lemmas.Result.{err_from_is_err_and}
-use Rattle.bus_capture.specs.Internal.Watching.{lines, reported}
-use Rattle.bus_capture.proofs.run.CaptureRun.report.Goals as goal
+use Rattle.bus_calls.specs.Internal.Watching.{lines, reported}
+use Rattle.bus_calls.proofs.run.CaptureRun.report.Goals as goal
 
 pub returns-in_err-put_report : goal.returns-in_err-put_report
 returns-in_err-put_report g c =

@@ -3,12 +3,12 @@ use Rattle.std.proofs.Common.{length-append}
 use Rattle.std.proofs.lemmas.Result.{err_from_is_err_and}
 use Rattle.std.proofs.lemmas.List.{take_all}
 use Rattle.bus_bits.specs.Capture.{capped}
-use Rattle.bus_capture.specs.Internal.Sessions.{FollowsOctets, Stops}
-use Rattle.bus_capture.proofs.WatchingLemmas.{same-self, same-both, item-next}
-use Rattle.bus_capture.proofs.CapturesLemmas.{stops-more, front-grown}
+use Rattle.bus_calls.specs.Internal.Sessions.{FollowsOctets, Stops}
+use Rattle.bus_calls.proofs.WatchingLemmas.{same-self, same-both, item-next}
+use Rattle.bus_calls.proofs.CapturesLemmas.{stops-more, front-grown}
 use Rattle.bus_bits.proofs.GatherLemmas.{octets-next}
-use Rattle.bus_capture.proofs.SessionsTextLemmas.{octets-before, none-taken}
-use Rattle.bus_capture.proofs.text.TextCapture.analyse.Goals as goal
+use Rattle.bus_calls.proofs.SessionsTextLemmas.{octets-before, none-taken}
+use Rattle.bus_calls.proofs.text.TextCapture.analyse.Goals as goal
 
 pub loop-taken-init : goal.loop-taken-init
 loop-taken-init g c = record {

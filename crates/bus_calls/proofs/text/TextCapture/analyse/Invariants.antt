@@ -1,7 +1,7 @@
 use Rattle.std.proofs.Common.{ℕ, ◌-◌, List, ◌++◌, Option, length, take}
-use Rattle.bus_capture.specs.Internal.Watching.{IsSound, IsSame}
-use Rattle.bus_capture.specs.Internal.Sessions.{FollowsText, FollowsOctets}
-use Rattle.bus_capture.proofs.text.TextCapture.analyse.Given as goal
+use Rattle.bus_calls.specs.Internal.Watching.{IsSound, IsSame}
+use Rattle.bus_calls.specs.Internal.Sessions.{FollowsText, FollowsOctets}
+use Rattle.bus_calls.proofs.text.TextCapture.analyse.Given as goal
 
 abbrev pub invariant-loop-taken : goal.invariant-loop-taken
 invariant-loop-taken g l = record {

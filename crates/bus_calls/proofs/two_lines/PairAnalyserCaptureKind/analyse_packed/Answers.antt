@@ -4,11 +4,11 @@ use Rattle.std.proofs.lemmas.Result.{err_from_is_err_and}
 use Rattle.bus_bits.specs.Bits.{bits_from}
 use Rattle.bus_bits.proofs.OctetLemmas.{least}
 use Rattle.bus_bits.specs.Packed.{PairsAfter, packed_pair_capture, pair_body, pair_head_fault}
-use Rattle.bus_capture.specs.Internal.TwoLines.{two_line_kind}
-use Rattle.bus_capture.proofs.CapturesLemmas.{followed-fits}
-use Rattle.bus_capture.proofs.HeadedLemmas.{octets-read}
-use Rattle.bus_capture.proofs.SessionsPackedLemmas.{octets-taken}
-use Rattle.bus_capture.proofs.two_lines.PairAnalyserCaptureKind.analyse_packed.Goals as goal
+use Rattle.bus_calls.specs.Internal.TwoLines.{two_line_kind}
+use Rattle.bus_calls.proofs.CapturesLemmas.{followed-fits}
+use Rattle.bus_calls.proofs.HeadedLemmas.{octets-read}
+use Rattle.bus_calls.proofs.SessionsPackedLemmas.{octets-taken}
+use Rattle.bus_calls.proofs.two_lines.PairAnalyserCaptureKind.analyse_packed.Goals as goal
 
 pub take_all-requires-clause-sixteens : goal.take_all-requires-clause-sixteens
 take_all-requires-clause-sixteens g c =

@@ -1,8 +1,8 @@
 use Rattle.std.proofs.Common.{List, Bool, ◌++◌, MatchResult, subst}
-use Rattle.bus_capture.specs.Internal.TwoLines.{two_line_kind}
-use Rattle.bus_capture.specs.Internal.Watching.{Halts, Watches}
-use Rattle.bus_capture.proofs.TwoLinesLemmas.{pair-alone}
-use Rattle.bus_capture.proofs.two_lines.PairAnalyserCaptureKind.analyse_symbol.Goals as goal
+use Rattle.bus_calls.specs.Internal.TwoLines.{two_line_kind}
+use Rattle.bus_calls.specs.Internal.Watching.{Halts, Watches}
+use Rattle.bus_calls.proofs.TwoLinesLemmas.{pair-alone}
+use Rattle.bus_calls.proofs.two_lines.PairAnalyserCaptureKind.analyse_symbol.Goals as goal
 
 pub returns-clause-taken : goal.returns-clause-taken
 returns-clause-taken g c = λ start b followed.

@@ -1,10 +1,10 @@
 use Rattle.std.proofs.Common.{◌≤◌, ◌^◌, ◌*◌, ◌++◌, Err, Ok, take, zip, arith}
 use Rattle.std.proofs.lemmas.Result.{err_from_is_err_and}
 use Rattle.bus_bits.specs.Bits.{bits_from}
-use Rattle.bus_capture.specs.Internal.TwoLines.{two_line_kind}
-use Rattle.bus_capture.proofs.CapturesLemmas.{followed-fits}
-use Rattle.bus_capture.proofs.SessionsTextLemmas.{mark-taken}
-use Rattle.bus_capture.proofs.two_lines.PairAnalyserCaptureKind.analyse_text.Goals as goal
+use Rattle.bus_calls.specs.Internal.TwoLines.{two_line_kind}
+use Rattle.bus_calls.proofs.CapturesLemmas.{followed-fits}
+use Rattle.bus_calls.proofs.SessionsTextLemmas.{mark-taken}
+use Rattle.bus_calls.proofs.two_lines.PairAnalyserCaptureKind.analyse_text.Goals as goal
 
 pub returns-in_err-analyse_pairs-clause-taken : goal.returns-in_err-analyse_pairs-clause-taken
 returns-in_err-analyse_pairs-clause-taken g c =

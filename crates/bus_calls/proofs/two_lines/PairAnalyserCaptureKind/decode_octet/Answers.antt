@@ -1,7 +1,7 @@
 use Rattle.std.proofs.Common.{[], ◌∷◌}
 use Rattle.bus_bits.specs.Packed.{PairsAfter, packed_pair_capture, pair_body, pair_head_fault}
-use Rattle.bus_capture.proofs.HeadedLemmas.{octet-read}
-use Rattle.bus_capture.proofs.two_lines.PairAnalyserCaptureKind.decode_octet.Goals as goal
+use Rattle.bus_calls.proofs.HeadedLemmas.{octet-read}
+use Rattle.bus_calls.proofs.two_lines.PairAnalyserCaptureKind.decode_octet.Goals as goal
 
 pub returns : goal.returns
 returns g c = λ xs is-body.

@@ -2,11 +2,11 @@ use Rattle.std.proofs.Common.{[], ◌∷◌, ◌++◌, ◌+◌, length, refl, sy
 use Rattle.bus_bits.specs.Packed.{PairsAfter, packed_pair_capture, pair_body, pair_head_fault}
 use Rattle.bus_pairing.specs.LineReport.{merged}
 use Rattle.bus_pairing.specs.Seen.{all_seen_at}
-use Rattle.bus_capture.specs.Captures.{form_of_two}
-use Rattle.bus_capture.proofs.HeadedLemmas.{head-clean}
-use Rattle.bus_capture.proofs.SeenOnLemmas.{seen-on}
-use Rattle.bus_capture.proofs.TwoLinesLemmas.{same_pairs, placed-pairs}
-use Rattle.bus_capture.proofs.two_lines.PairAnalyserCaptureKind.laws.Goals as goal
+use Rattle.bus_calls.specs.Captures.{form_of_two}
+use Rattle.bus_calls.proofs.HeadedLemmas.{head-clean}
+use Rattle.bus_calls.proofs.SeenOnLemmas.{seen-on}
+use Rattle.bus_calls.proofs.TwoLinesLemmas.{same_pairs, placed-pairs}
+use Rattle.bus_calls.proofs.two_lines.PairAnalyserCaptureKind.laws.Goals as goal
 
 pub returns : goal.returns
 returns g c =

@@ -1,9 +1,9 @@
 use Rattle.std.proofs.Common.{[], sym, append-nil, subst}
 use Rattle.bus_bits.specs.Packed.{PairsAfter, packed_pair_capture, pair_body, head_bits, pair_head_fault}
-use Rattle.bus_capture.specs.Internal.Headed.{IsHeaded}
-use Rattle.bus_capture.proofs.HeadedLemmas.{head-alone}
-use Rattle.bus_capture.proofs.TwoLinesLemmas.{no_pair_body}
-use Rattle.bus_capture.proofs.two_lines.PairAnalyserCaptureKind.read_head.Goals as goal
+use Rattle.bus_calls.specs.Internal.Headed.{IsHeaded}
+use Rattle.bus_calls.proofs.HeadedLemmas.{head-alone}
+use Rattle.bus_calls.proofs.TwoLinesLemmas.{no_pair_body}
+use Rattle.bus_calls.proofs.two_lines.PairAnalyserCaptureKind.read_head.Goals as goal
 
 pub returns : goal.returns
 returns g c =

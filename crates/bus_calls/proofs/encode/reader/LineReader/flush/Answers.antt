@@ -1,6 +1,6 @@
 use Rattle.std.proofs.Common.{◌≡◌, true}
-use Rattle.bus_encode.proofs.EncodeStateLemmas.{flush_fails}
-use Rattle.bus_encode.proofs.reader.LineReader.flush.Goals as goal
+use Rattle.bus_calls.proofs.EncodeStateLemmas.{flush_fails}
+use Rattle.bus_calls.proofs.encode.reader.LineReader.flush.Goals as goal
 
 pub returns-in-Err : goal.returns-in-Err
 returns-in-Err g c = λ reads after start xs ends.

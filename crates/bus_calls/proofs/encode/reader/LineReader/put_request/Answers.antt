@@ -1,5 +1,5 @@
-use Rattle.bus_encode.proofs.EncodeStateLemmas.{put_encoded, put_halts}
-use Rattle.bus_encode.proofs.reader.LineReader.put_request.Goals as goal
+use Rattle.bus_calls.proofs.EncodeStateLemmas.{put_encoded, put_halts}
+use Rattle.bus_calls.proofs.encode.reader.LineReader.put_request.Goals as goal
 
 pub returns-in-Ok-clause-put : goal.returns-in-Ok-clause-put
 returns-in-Ok-clause-put g c = λ start calls encoded.

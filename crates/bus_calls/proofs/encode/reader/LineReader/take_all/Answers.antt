@@ -1,7 +1,7 @@
 use Rattle.std.proofs.Common.{◌++◌, take, rules}
 use Rattle.std.proofs.lemmas.Result.{err_from_is_err_and}
-use Rattle.bus_encode.proofs.EncodeStateLemmas.{middle_halts, all_octets}
-use Rattle.bus_encode.proofs.reader.LineReader.take_all.Goals as goal
+use Rattle.bus_calls.proofs.EncodeStateLemmas.{middle_halts, all_octets}
+use Rattle.bus_calls.proofs.encode.reader.LineReader.take_all.Goals as goal
 
 pub returns-in_err-take_one-clause-taken : goal.returns-in_err-take_one-clause-taken
 returns-in_err-take_one-clause-taken g c =

@@ -1,10 +1,10 @@
 use Rattle.std.proofs.Common.{rules, [], ◌++◌, take, inl, refl}
 use Rattle.std.proofs.lemmas.Result.{err_from_is_err_and}
-use Rattle.bus_encode.specs.Lines.{ended_lines}
-use Rattle.bus_encode.specs.Encode.{asked_behind, asked_so_far}
+use Rattle.bus_calls.specs.Lines.{ended_lines}
+use Rattle.bus_calls.specs.Encode.{asked_behind, asked_so_far}
 use Rattle.bus_text.proofs.KnownBytesLemmas.{consumes_nothing, consumes_both, consumes_end, consumes_kept, longer}
-use Rattle.bus_encode.proofs.EncodeStateLemmas.{end_finishes, halts_finishes, clean_so_far}
-use Rattle.bus_encode.proofs.reader.LineReader.take_input.Goals as goal
+use Rattle.bus_calls.proofs.EncodeStateLemmas.{end_finishes, halts_finishes, clean_so_far}
+use Rattle.bus_calls.proofs.encode.reader.LineReader.take_input.Goals as goal
 
 pub loop-turn-init : goal.loop-turn-init
 loop-turn-init g c = record {
