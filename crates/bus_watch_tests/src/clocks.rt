@@ -7,11 +7,11 @@ mod runs;
 mod samples;
 
 use crate::expect::{holds, same};
+use crate::seen::{NONE, push_seen};
 use bus_bits::Span;
 use bus_clocks::{Arrival, TwoClockAnalyser};
 use bus_dictionary::Dictionary;
 use bus_fcs::{BitCheck, Check, OctetCheck};
-use crate::seen::{NONE, push_seen};
 use bus_watch::{
     Counts, FeedFault, Line, PairEnding, PairSink, PairUsage, Pending, Seen, SinkRefused,
 };

@@ -11,12 +11,12 @@ mod sinks;
 
 use self::memory::Counting;
 use crate::expect::{holds, same};
+use crate::seen::{NONE, push_ending, push_seen};
 use bus_bits::{Span, Spent, bits_number};
 use bus_dictionary::Dictionary;
 use bus_fcs::{BitCheck, Check, OctetCheck};
 use bus_line::PlaceLimit;
 use bus_rows::{CALLS, DAMAGE, FAR, FRAMES, row_of};
-use crate::seen::{NONE, push_ending, push_seen};
 use bus_watch::{
     Counts, Ending, FeedFault, Finding, Line, NewFault, PairAnalyser, PairEnding, PairSink,
     PairUsage, Pending, ReportObserver, Seen, SinkRefused,

@@ -2,11 +2,11 @@
 //! refused in turn, and counts the requests.
 
 use crate::expect::{holds, same};
+use crate::seen::calls_if_memory;
 use bus_dictionary::Dictionary;
 use bus_fcs::{BitCheck, Check, OctetCheck};
 use bus_line::Span;
 use bus_rows::{DAMAGED, ROUND_BITS, ROUNDS, round_octets, round_of, round_pairs};
-use crate::seen::calls_if_memory;
 use bus_watch::{
     Counts, Finding, Line, NewFault, PairAnalyser, PairEnding, PairSink, ReportObserver, Seen,
     SinkRefused,
