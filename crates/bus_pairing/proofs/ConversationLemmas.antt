@@ -22,12 +22,12 @@ use Rattle.bus_line.specs.Ledger.{octet_count, kind_octets}
 use Rattle.bus_dictionary.specs.Entry.{FrameType}
 use Rattle.bus_dictionary.specs.Standing.{standing}
 use Rattle.bus_pairing.specs.Talk.{is_idle, standing_of, command_on, waits, verdict, verdicts, pending}
-use Rattle.bus_pairing.specs.Seen.{SeenReport, decided, seen_of}
+use Rattle.bus_pairing.specs.Seen.{SeenReport, decided}
 use Rattle.bus_pairing.specs.History.{KeptFrame, kept_frame, line_of, frame_at, frame_of, frames, history, tally}
 use Rattle.bus_pairing.specs.History.{verdicts_of, is_outcome, kept_pair}
 use Rattle.bus_pairing.specs.Ledger.{kind_steps, steps}
 use Rattle.bus_pairing.specs.Internal.Counted.{one_more, counted, Counted}
-use Rattle.bus_pairing.specs.Conversation.{ConversationState, Enters, Keeps}
+use Rattle.bus_pairing.specs.Conversation.{AdvancesPairing, ConversationState, Enters, Keeps}
 use Rattle.bus_pairing.specs.declared.pair_kept.PairKept.{PairKept}
 use Rattle.bus_pairing.specs.declared.counts.Counts.{Counts}
 use Rattle.bus_pairing.specs.declared.outcome.Outcome.{Outcome}
@@ -156,14 +156,12 @@ keeps-more old new rs r kept waiting takes = record {
 }
 
 pub enters : (old new : ConversationState) (r : LineReport) (found : SeenReport)
-    → ((hs : List LineReport) → old.waiting ≡ pending old.dictionary hs
-    → new.waiting ≡ pending old.dictionary (hs ++ r ∷ []))
-    → ((hs : List LineReport) → old.waiting ≡ pending old.dictionary hs → found ≡ seen_of old.dictionary hs r)
-    → Takes old new r found.verdict → Enters old r found new
-enters old new r found waiting says takes = record {
-  keeps = λ hs kept. keeps-more old new hs r kept (waiting hs kept.waiting)
-      (subst (λ (s : SeenReport). Takes old new r s.verdict) (says hs kept.waiting) takes);
-  says = λ hs kept. says hs kept.waiting;
+    → AdvancesPairing old.dictionary old.waiting r found new.waiting → Takes old new r found.verdict
+    → Enters old r found new
+enters old new r found pairing takes = record {
+  keeps = λ hs kept. keeps-more old new hs r kept (pairing.keeps hs kept.waiting)
+      (subst (λ (s : SeenReport). Takes old new r s.verdict) (pairing.says hs kept.waiting) takes);
+  says = λ hs kept. pairing.says hs kept.waiting;
   dictionary = takes.dictionary;
   depth = takes.depth;
 }

@@ -32,6 +32,12 @@ pub record Keeps (j : ConversationState) (hs : List LineReport) : Type 0 where
   pub copied : j.copied ≡ copied_of hs
   pub handled : j.handled ≡ handled_of hs
 
+-- one report more leads from one waiting command, or none, to another, and this is found of it
+pub record AdvancesPairing (d : List FrameType) (old : Option Pending) (report : LineReport) (found : SeenReport)
+    (new : Option Pending) : Type 0 where
+  pub keeps : (hs : List LineReport) → old ≡ pending d hs → new ≡ pending d (hs ++ report ∷ [])
+  pub says : (hs : List LineReport) → old ≡ pending d hs → found ≡ seen_of d hs report
+
 -- the conversation took one report more, and found this of it
 pub record Enters (old : ConversationState) (report : LineReport) (found : SeenReport) (new : ConversationState) : Type
     0 where

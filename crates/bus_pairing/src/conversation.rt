@@ -98,7 +98,8 @@ impl Conversation {
         ensures enters { Enters self.old (line_report line (reported octets.now event))
             (found_on line octets.now self.new.last) self.new }
     {
-        self.last = self.pairing.take(&self.dictionary, line, event, octets);
+        self.pairing
+            .judge(&self.dictionary, line, event, octets, &mut self.last);
         self.spent.tick_handled();
         self.spent.tick_handled();
         self.count(self.last.verdict);

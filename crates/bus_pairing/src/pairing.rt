@@ -1,13 +1,12 @@
 //! Commands and answers, without a tally and without a history.
 
-ghost use Rattle.std.specs.Prelude.{◌≡◌, ◌≤◌, List, ℕ, Option, [], ◌∷◌, ◌++◌, length, true, Some, None, option_map};
-ghost use Rattle.bus_line.specs.Report.{Frame};
+ghost use Rattle.std.specs.Prelude.{◌≡◌, ◌≤◌, List, ℕ, Option, length, true, None, option_map};
 ghost use Rattle.bus_line.specs.Shown.{kind_with, reported};
-ghost use Rattle.bus_pairing.specs.LineReport.{LineReport, line_report};
+ghost use Rattle.bus_pairing.specs.Conversation.{AdvancesPairing, IsWhole};
+ghost use Rattle.bus_pairing.specs.LineReport.{line_report};
 ghost use Rattle.bus_pairing.specs.Internal.Damage.{is_damage};
-ghost use Rattle.bus_pairing.specs.Seen.{seen_of};
 ghost use Rattle.bus_pairing.specs.Shown.{found_on};
-ghost use Rattle.bus_pairing.specs.Talk.{pending, verdict};
+ghost use Rattle.bus_pairing.specs.Talk.{verdict};
 
 mod decide;
 mod stray;
@@ -16,7 +15,6 @@ use crate::finding::Finding;
 use crate::line::Line;
 use crate::pending::Pending;
 use crate::verdict::Verdict;
-use bus_bits::Span;
 use bus_dictionary::{Rules, Standing};
 use bus_line::{Event, EventKind};
 pub(crate) use decide::{command, verdict};
@@ -39,7 +37,7 @@ impl Pairing {
         Pairing { waiting: None }
     }
 
-    /// Takes a report of a line, a frame with these octets, and answers what follows from it. `line` is `None`
+    /// Takes a report of a line, a frame with these octets, and returns what follows from it. `line` is `None`
     /// where there is one line.
     pub fn take<R: Rules>(
         &mut self,
@@ -48,77 +46,86 @@ impl Pairing {
         event: Event,
         octets: &[u8],
     ) -> Finding
-        requires whole { event.kind ≡ EventKind.Frame → 4 ≤ length octets.now }
-        ensures keeps { (hs : List LineReport) → self.old.waiting ≡ pending (R.entries rules.now) hs →
-            self.new.waiting ≡ pending (R.entries rules.now) (hs ++ line_report line (reported octets.now event) ∷ []) }
-        ensures says { (hs : List LineReport) → self.old.waiting ≡ pending (R.entries rules.now) hs →
-            found_on line octets.now result
-            ≡ seen_of (R.entries rules.now) hs (line_report line (reported octets.now event)) }
+        requires whole { IsWhole event.kind octets.now }
+        ensures advances { AdvancesPairing (R.entries rules.now) self.old.waiting
+            (line_report line (reported octets.now event)) (found_on line octets.now result) self.new.waiting }
     {
+        let mut found = Finding::nothing();
+        self.judge(rules, line, event, octets, &mut found);
+        found
+    }
+
+    /// Takes a report of a line, and writes what follows from it where the last finding stood.
+    #[inline(always)]
+    pub(crate) fn judge<R: Rules>(
+        &mut self,
+        rules: &R,
+        line: Option<Line>,
+        event: Event,
+        octets: &[u8],
+        found: &mut Finding,
+    )
+        requires whole { IsWhole event.kind octets.now }
+        ensures advances { AdvancesPairing (R.entries rules.now) self.old.waiting
+            (line_report line (reported octets.now event)) (found_on line octets.now found.new) self.new.waiting }
+        ensures event { found.new.event ≡ event }
+    {
+        found.event = event;
         match event.kind {
-            EventKind::Frame => self.frame(rules, line, event.span, octets),
-            EventKind::Idle => Finding {
-                event,
-                standing: None,
-                verdict: None,
-                stray: false,
-            },
+            EventKind::Frame => self.judge_frame(rules, line, octets, found),
+            EventKind::Idle => {
+                found.standing = None;
+                found.verdict = None;
+                found.stray = false;
+            }
             EventKind::Damaged(_) | EventKind::Overlong | EventKind::Abort => {
-                self.damage(rules, event)
+                self.judge_damage(rules, found);
             }
         }
     }
 
-    /// Takes a piece that is no frame.
-    fn damage<R: Rules>(&mut self, rules: &R, event: Event) -> Finding
-        requires damage { (octets : List ℕ) → is_damage (kind_with octets event.kind) ≡ true }
-        ensures keeps { (line : Option Line) (octets : List ℕ) (hs : List LineReport) →
-            self.old.waiting ≡ pending (R.entries rules.now) hs →
-            self.new.waiting ≡ pending (R.entries rules.now) (hs ++ line_report line (reported octets event) ∷ []) }
-        ensures says { (line : Option Line) (octets : List ℕ) (hs : List LineReport) →
-            self.old.waiting ≡ pending (R.entries rules.now) hs →
-            found_on line octets result ≡ seen_of (R.entries rules.now) hs (line_report line (reported octets event)) }
+    /// What follows from a piece that is no frame.
+    #[inline(always)]
+    fn judge_damage<R: Rules>(&mut self, rules: &R, found: &mut Finding)
+        requires damage { (octets : List ℕ) → is_damage (kind_with octets found.old.event.kind) ≡ true }
+        ensures advances { (line : Option Line) (octets : List ℕ) →
+            AdvancesPairing (R.entries rules.now) self.old.waiting
+            (line_report line (reported octets found.old.event)) (found_on line octets found.new) self.new.waiting }
+        ensures event { found.new.event ≡ found.old.event }
     {
-        Finding {
-            event,
-            standing: None,
-            verdict: self.decide(rules, None),
-            stray: false,
-        }
+        found.standing = None;
+        found.verdict = self.decide(rules, None);
+        found.stray = false;
     }
 
-    /// Takes a frame of a line.
-    fn frame<R: Rules>(
+    /// What follows from a frame of a line.
+    #[inline(always)]
+    fn judge_frame<R: Rules>(
         &mut self,
         rules: &R,
         line: Option<Line>,
-        span: Span,
         octets: &[u8],
-    ) -> Finding
-        requires { 4 ≤ length octets.now }
-        ensures keeps { (hs : List LineReport) → self.old.waiting ≡ pending (R.entries rules.now) hs →
-            self.new.waiting ≡ pending (R.entries rules.now)
-            (hs ++ line_report line (record { kind = Frame octets.now; first = span.first; past = span.past }) ∷ []) }
-        ensures says { (hs : List LineReport) → self.old.waiting ≡ pending (R.entries rules.now) hs →
-            found_on line octets.now result ≡ seen_of (R.entries rules.now) hs
-            (line_report line (record { kind = Frame octets.now; first = span.first; past = span.past })) }
+        found: &mut Finding,
+    )
+        requires frame { found.old.event.kind ≡ EventKind.Frame }
+        requires whole { 4 ≤ length octets.now }
+        ensures advances { AdvancesPairing (R.entries rules.now) self.old.waiting
+            (line_report line (reported octets.now found.old.event)) (found_on line octets.now found.new)
+            self.new.waiting }
+        ensures event { found.new.event ≡ found.old.event }
     {
+        let span = found.event.span;
         let standing = Standing::read(octets, rules);
         let verdict = self.decide(rules, Some((line, span.first, standing)));
         self.waiting = command(rules, line, span, standing);
-        Finding {
-            event: Event {
-                kind: EventKind::Frame,
-                span,
-            },
-            standing: Some(standing),
-            verdict,
-            stray: is_stray(standing, verdict),
-        }
+        found.standing = Some(standing);
+        found.verdict = verdict;
+        found.stray = is_stray(standing, verdict);
     }
 
     /// Decides the command that waits, if there is one, by the line, the place of the first bit and the
     /// standing of the frame that came next: `None` for a piece that is no frame.
+    #[inline(always)]
     fn decide<R: Rules>(
         &mut self,
         rules: &R,
@@ -127,7 +134,8 @@ impl Pairing {
         ensures value { result ≡ option_map (verdict (R.entries rules.now) right) self.old.waiting }
         ensures none { self.new.waiting ≡ None }
     {
-        let pending = self.waiting.take()?;
+        let pending = self.waiting?;
+        self.waiting = None;
         Some(verdict(rules, pending, right))
     }
 }
