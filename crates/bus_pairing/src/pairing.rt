@@ -14,7 +14,6 @@ mod stray;
 use crate::finding::Finding;
 use crate::line::Line;
 use crate::pending::Pending;
-use crate::verdict::Verdict;
 use bus_dictionary::{Rules, Standing};
 use bus_line::{Event, EventKind};
 pub(crate) use decide::{command, verdict};
@@ -93,8 +92,8 @@ impl Pairing {
             (line_report line (reported octets found.old.event)) (found_on line octets found.new) self.new.waiting }
         ensures event { found.new.event ≡ found.old.event }
     {
+        self.decide(rules, None, found);
         found.standing = None;
-        found.verdict = self.decide(rules, None);
         found.stray = false;
     }
 
@@ -116,11 +115,12 @@ impl Pairing {
     {
         let span = found.event.span;
         let standing = Standing::read(octets, rules);
-        let verdict = self.decide(rules, Some((line, span.first, standing)));
-        self.waiting = command(rules, line, span, standing);
+        self.decide(rules, Some((line, span.first, standing)), found);
         found.standing = Some(standing);
-        found.verdict = verdict;
-        found.stray = is_stray(standing, verdict);
+        found.stray = is_stray(standing, found.verdict);
+        if let Some(command) = command(rules, line, span, standing) {
+            self.waiting = Some(command);
+        }
     }
 
     /// Decides the command that waits, if there is one, by the line, the place of the first bit and the
@@ -130,12 +130,17 @@ impl Pairing {
         &mut self,
         rules: &R,
         right: Option<(Option<Line>, u64, Standing)>,
-    ) -> Option<Verdict>
-        ensures value { result ≡ option_map (verdict (R.entries rules.now) right) self.old.waiting }
+        found: &mut Finding,
+    )
+        ensures value { found.new
+            ≡ record found.old { verdict = option_map (verdict (R.entries rules.now) right) self.old.waiting } }
         ensures none { self.new.waiting ≡ None }
     {
-        let pending = self.waiting?;
+        let Some(pending) = self.waiting else {
+            found.verdict = None;
+            return;
+        };
         self.waiting = None;
-        Some(verdict(rules, pending, right))
+        found.verdict = Some(verdict(rules, pending, right));
     }
 }
