@@ -58,10 +58,10 @@ unfolding number
 none_number = refl
 
 -- a flag has come: nothing of its piece is there yet
-pub tracks-flag : {C : Type 0} (view : CheckView C) (d : LineState C) (c : List Bool) (mark : Mark)
-    (p : ℕ) → Tracks view d c mark → p + 8 ≡ length c
+pub tracks-flag : {C : Type 0} {view : CheckView C} {d : LineState C} {c : List Bool} {mark : Mark} {p : ℕ}
+    → Tracks view d c mark → p + 8 ≡ length c
     → Tracks view (record d { first = Some d.place; data_bits = 0; partial = 0 }) c (FlagAt p)
-tracks-flag view d c mark p tracks end =
+tracks-flag {C} {view} {d} {c} {mark} {p} tracks end =
     let none : settled_data c p ≡ [] = data-start c p (omega (arith, end)) in
     record {
       has_taken = record { place = tracks.has_taken.place; last_bits = tracks.has_taken.last_bits };
@@ -84,10 +84,9 @@ tracks-flag view d c mark p tracks end =
     }
 
 -- an abort has come: no piece is open
-pub tracks-abort : {C : Type 0} (view : CheckView C) (d : LineState C) (c : List Bool)
-    (mark : Mark) (a : ℕ) → Tracks view d c mark
-    → Tracks view (record d { first = None }) c (AbortAt a)
-tracks-abort view d c mark a tracks = record {
+pub tracks-abort : {C : Type 0} {view : CheckView C} {d : LineState C} {c : List Bool} {mark : Mark} (a : ℕ)
+    → Tracks view d c mark → Tracks view (record d { first = None }) c (AbortAt a)
+tracks-abort a tracks = record {
   has_taken = record { place = tracks.has_taken.place; last_bits = tracks.has_taken.last_bits };
   first = refl;
   piece = tt;
@@ -110,12 +109,11 @@ pub ones_within : (b : List Bool) → ones_at_end b ≤ length b
 ones_within b = omega (arith, run-within 0 b)
 
 -- what was found in the last sixteen bits, by all of them
-pub found-here : {C : Type 0} (e d : LineState C) → e ≡ d → (b : List Bool) (bit : Bool) → HasTaken d (b ++ bit ∷ []) →
+pub found-here : {C : Type 0} {d : LineState C} (b : List Bool) (bit : Bool) → HasTaken d (b ++ bit ∷ []) →
     (f : EndedMark)
-    → ((b : List Bool) (bit : Bool) → e.last_bits ≡ number (drop (length (b ++ bit ∷ [])) (padded (b ++ bit ∷ []))) →
-    e.place - 1 - e.origin ≡ length b → HasEnded bit (ones_at_end b) (e.place - 1 - e.origin) f)
+    → ((b : List Bool) (bit : Bool) → d.last_bits ≡ number (drop (length (b ++ bit ∷ [])) (padded (b ++ bit ∷ []))) →
+    d.place - 1 - d.origin ≡ length b → HasEnded bit (ones_at_end b) (d.place - 1 - d.origin) f)
     → HasEnded bit (ones_at_end b) (length b) f
-found-here e d same b bit taken f found =
-    let here : HasTaken e (b ++ bit ∷ []) = subst (λ x. HasTaken x (b ++ bit ∷ [])) (sym same) taken in
-    let count : e.place - 1 - e.origin ≡ length b = omega (arith, here.place, length_push b bit) in
-    subst (λ k. HasEnded bit (ones_at_end b) k f) count (found b bit here.last_bits count)
+found-here {C} {d} b bit taken f found =
+    let count : d.place - 1 - d.origin ≡ length b = omega (arith, taken.place, length_push b bit) in
+    subst (λ k. HasEnded bit (ones_at_end b) k f) count (found b bit taken.last_bits count)

@@ -31,7 +31,7 @@ use Rattle.bus_line.specs.Internal.Tracks.{padded, HasTaken}
 use Rattle.bus_line.proofs.WordLemmas.{last-below, word-made}
 use Rattle.bus_line.proofs.AdvanceLemmas.{no_stop-before, no_stop-placed, no_stop-after}
 use Rattle.bus_line.proofs.SettleLemmas.{word-unsettled}
-use Rattle.bus_line.proofs.WordsLemmas.{flags-skipped, shift-lags, shows-flag}
+use Rattle.bus_line.proofs.WordsLemmas.{flags-skipped, shifted, shows-flag}
 use Rattle.bus_line.proofs.FlagRunLemmas.{flags-length, flags-placed}
 use Rattle.bus_line.proofs.DecidesLemmas.{decides-none, decides-more}
 
@@ -232,11 +232,9 @@ module _ {C : Type 0} (view : CheckView C) (check : C) (octets : List ℕ) where
       record {
         leads = record {
           after = λ b stands.
-              let lags = shift-lags view w next check octets b (true ∷ []) 131071 1 same stands (word b stands)
-              (omega arith) in
-              let few : HasNoStop b (true ∷ []) 0 = λ i before. absurd (omega (arith, before)) in
-              let tracks = word-unsettled view (2 ^ 62) 131071 1 None e b (true ∷ []) (word b stands)
-              (omega arith) few lags closed refl (omega (arith, room)) in
+              let one = shifted w next check octets b (true ∷ []) 131071 1 same stands (word b stands)
+              (omega arith) (λ i before. absurd (omega (arith, before))) in
+              let tracks = word-unsettled (2 ^ 62) None one closed refl (omega (arith, room)) in
               no_stop-after view 1 e b (true ∷ []) (no_stop b stands) (omega arith) tracks;
           longest = refl;
           origin = refl;

@@ -11,7 +11,7 @@ use Rattle.bus_line.proofs.decoder_words.DecoderWords.run_to_stop.Goals as goal
 pub loop-at-init : goal.loop-at-init
 loop-at-init g c = record {
   begun = omega arith;
-  ends = omega (arith, c.requires.some);
+  ends = omega (arith, c.requires.long);
   decides = decides-from g.C.Check.check c.args.octets.now c.args.from (c.args.from - c.args.from)
       (state c.args.self.now c.args.check.now (g.F.FrameBuffer.octets c.args.frame.now)) (omega arith);
   sound = c.requires.sound;
@@ -22,7 +22,7 @@ stride-turn-requires-clause-room g c =
     let now = c.loop-at.invariant in
     omega (
       arith,
-      c.requires.room,
+      c.requires.bits.room,
       now.begun,
       c.loop-at-test.true,
       place-on g.C.Check.check c.args.octets.now c.args.from c.loop-at.at now.begun now.decides,

@@ -11,22 +11,21 @@ use Rattle.bus_line.proofs.decoder_words.DecoderWords.scan_all.Goals as goal
 pub loop-at-init : goal.loop-at-init
 loop-at-init g c = record {
   begun = omega arith;
-  ends = c.requires.some;
+  ends = omega (arith, c.requires.bits.some);
   decides = decides-from g.C.Check.check c.args.octets.now c.args.from (c.args.from - c.args.from)
       (state c.args.self.now c.args.check.now (g.F.FrameBuffer.octets c.args.frame.now)) (omega arith);
   sound = c.requires.sound;
 }
 
-pub scan_some-scanned-requires-clause-room : goal.scan_some-scanned-requires-clause-room
-scan_some-scanned-requires-clause-room g c =
+pub scan_some-scanned-requires-clause-bits : goal.scan_some-scanned-requires-clause-bits
+scan_some-scanned-requires-clause-bits g c =
     let now = c.loop-at.invariant in
-    omega (
-      arith,
-      c.requires.room,
-      now.begun,
-      now.ends,
-      place-on g.C.Check.check c.args.octets.now c.args.from c.loop-at.at now.begun now.decides,
-    )
+    let place = place-on g.C.Check.check c.args.octets.now c.args.from c.loop-at.at now.begun now.decides in
+    record {
+      some = c.loop-at-test.true;
+      enough = c.requires.bits.enough;
+      room = omega (arith, c.requires.bits.room, now.begun, now.ends, place);
+    }
 
 pub returns-then-is_some-clause-advances : goal.returns-then-is_some-clause-advances
 returns-then-is_some-clause-advances g c =

@@ -14,7 +14,7 @@ returns-then-self-eq-NEVER-clause-decides g c = λ check held.
     subst (λ (z : List Bool). Decides view (state old check held) z None (state new check held))
     (sym c.skip_ones.ensures.bits)
     (skipped-ones view check held old new count c.skip_ones.ensures.passes c.if-self-eq-NEVER.true
-    (omega (arith, c.requires.room, c.skip_ones.ensures.within)))
+    (omega (arith, c.requires.bits.room, c.skip_ones.ensures.within)))
 
 pub returns-then-self-clause-decides : goal.returns-then-self-clause-decides
 returns-then-self-clause-decides g c = λ check held.
