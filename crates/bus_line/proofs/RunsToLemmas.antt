@@ -139,9 +139,9 @@ decided {C} {view} {old} {mid} {new} {bits} {event} reached decision =
 
 -- ---- after bits that decide nothing
 
-runs-more : {C : Type 0} (view : CheckView C) {a c e : LineState C} {xs ys : List Bool}
+runs-more : {C : Type 0} {view : CheckView C} {a c e : LineState C} {xs ys : List Bool}
     → Decides view a xs None c → RunsTo view c ys e → RunsTo view a (xs ++ ys) e
-runs-more view {a} {c} {e} {xs} {ys} quiet reached =
+runs-more {C} {view} {a} {c} {e} {xs} {ys} quiet reached =
     let more : xs ++ ys ≡ (xs ++ reached.front) ++ reached.last ∷ [] =
     ap (λ (z : List Bool). xs ++ z) reached.all ∙ sym (append_assoc xs reached.front (reached.last ∷ [])) in
     record {
@@ -153,19 +153,10 @@ runs-more view {a} {c} {e} {xs} {ys} quiet reached =
       place = omega (arith, length-append xs ys, quiet.leads.place, reached.place);
       tracks = λ b stands.
           rw (← append_assoc b xs reached.front) (reached.tracks (b ++ xs) (quiet.leads.after b stands));
-      before = decide-more view quiet reached.before;
+      before = decide-more quiet reached.before;
     }
 
-runs-to-more : {C : Type 0} (view : CheckView C) {a c : LineState C} {xs : List Bool}
-    (e : LineState C) (ys : List Bool) (is_stop : Bool) → Decides view a xs None c
-    → RunsToStop view c ys is_stop e → RunsToStop view a (xs ++ ys) is_stop e
-runs-to-more view e ys true quiet reached = runs-more view quiet reached
-runs-to-more view e ys false quiet reached = decides-more view quiet reached
-
-pub runs-on : {C : Type 0} (view : CheckView C) (os : List ℕ) (from at : ℕ) → from ≤ at
-    → {a c : LineState C} → Decides view a (bits_from os from (at - from)) None c
-    → (e : LineState C) (n m : ℕ) (is_stop : Bool) → m ≡ at - from + n
-    → RunsToStop view c (bits_from os at n) is_stop e → RunsToStop view a (bits_from os from m) is_stop e
-runs-on view os from at begun {a} {c} quiet e n m is_stop count reached =
-    rw (← joins view os from at begun quiet n m count)
-    (runs-to-more view e (bits_from os at n) is_stop quiet reached)
+pub runs-on : {C : Type 0} {view : CheckView C} (os : List ℕ) {from at : ℕ} {a c e : LineState C} → from ≤ at
+    → Decides view a (bits_from os from (at - from)) None c → (n m : ℕ) → m ≡ at - from + n
+    → RunsTo view c (bits_from os at n) e → RunsTo view a (bits_from os from m) e
+runs-on os begun quiet n m count reached = rw (← joins os begun quiet n m count) (runs-more quiet reached)

@@ -250,13 +250,13 @@ module _ {C : Type 0} (view : CheckView C) (check : C) (octets : List ℕ) where
       (state (record w { place = w.place + n }) check octets)
   ones-decide zero w ones idle room =
       let end : w.place + 0 ≡ w.place = omega arith in
-      rw end (decides-none view (state w check octets))
+      rw end decides-none
   ones-decide (suc n) w ones idle room =
       let next : DecoderWords = record w { place = w.place + 1 } in
       let end : w.place + 1 + n ≡ w.place + suc n = omega arith in
       let rest = ones-decide n next (λ _. ones (omega arith)) idle (omega (arith, room)) in
       rw (← end)
-      (decides-more view (one-more w (ones (omega arith)) idle (omega (arith, room))) rest)
+      (decides-more (one-more w (ones (omega arith)) idle (omega (arith, room))) rest)
 
   pub skipped-ones : (old new : DecoderWords) (n : ℕ) → SkipsOnes old n new → old.settles_at ≡ 2 ^ 62 →
       old.place + n ≤ 2 ^ 60 → Decides view (state old check octets) (replicate n true) None (state new check octets)

@@ -35,7 +35,7 @@ returns-then-before-count-clause-advances g c =
     omega (arith, c.from.ensures, c.min-taken.ensures, least (before.result + 1) n, c.if-before-count.true) in
     let consumed = subst (λ (k : ℕ). ConsumesBits g.C.Check.check old (bits_of k x) new) all
     c.consume.ensures.consumes in
-    advances-quiet g.C.Check.check (ran-all consumed (λ b stands.
+    advances-quiet (ran-all consumed (λ b stands.
     let word = word-joined old n x b stands.has_taken c.requires.word.few c.requires.word.small in
     subst (HasNoStop b (bits_of n x)) (sym (length-bits n x))
     (has_no_stop _ n before.result x b word c.if-before-count.true before.ensures.no_stop).no_stop))

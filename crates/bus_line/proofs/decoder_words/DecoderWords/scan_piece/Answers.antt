@@ -21,5 +21,5 @@ returns-else-reached-clause-advances g c =
     let old = state c.args.self.now c.args.check.now (g.F.FrameBuffer.octets c.args.frame.now) in
     let mid = state reached.new.self reached.new.check (g.F.FrameBuffer.octets reached.new.frame) in
     let bits = bits_from c.args.octets.now c.args.from reached.result.count in
-    advances-quiet g.C.Check.check (subst (λ (stop : Bool). RunsToStop g.C.Check.check old bits stop mid)
+    advances-quiet (subst (λ (stop : Bool). RunsToStop g.C.Check.check old bits stop mid)
     c.if-reached.false reached.ensures.reaches)

@@ -16,7 +16,7 @@ pub advance-requires-then-past-from-clause-room : goal.advance-requires-then-pas
 advance-requires-then-past-from-clause-room g c =
     let past = c.skip_time_fill-past in
     let decides = past.ensures.decides c.args.check.now (g.F.FrameBuffer.octets c.args.frame.now) in
-    let place = place-on g.C.Check.check c.args.octets.now c.args.from past.result past.ensures.within.0 decides in
+    let place = place-on c.args.octets.now past.ensures.within.0 decides in
     omega (arith, place, c.requires.bits.room, c.word_at-then-past-from.ensures.within, c.if-past-from.true)
 
 pub returns-then-past-from-clause-advances : goal.returns-then-past-from-clause-advances
@@ -29,8 +29,8 @@ returns-then-past-from-clause-advances g c =
     let past = c.skip_time_fill-past in
     let here : bits_from os c.args.from n ≡ bits_from os past.result n =
     ap (λ (at : ℕ). bits_from os at n) (sym c.if-past-from.true) in
-    advances-on g.C.Check.check os c.args.from past.result past.ensures.within.0
-    (past.ensures.decides c.args.check.now (octets c.args.frame.now)) n n (omega (arith, c.if-past-from.true))
+    advances-on os past.ensures.within.0 (past.ensures.decides c.args.check.now (octets c.args.frame.now)) n n
+    (omega (arith, c.if-past-from.true))
     (subst (λ (bits : List Bool). AdvancesWith g.C.Check.check
     (state past.new.self c.args.check.now (octets c.args.frame.now)) bits scanned.result.event
     (state scanned.new.self scanned.new.check (octets scanned.new.frame)))
@@ -38,8 +38,7 @@ returns-then-past-from-clause-advances g c =
 
 pub returns-clause-advances : goal.returns-clause-advances
 returns-clause-advances g c =
-    advances-quiet g.C.Check.check (c.skip_time_fill-past.ensures.decides c.args.check.now
-    (g.F.FrameBuffer.octets c.args.frame.now))
+    advances-quiet (c.skip_time_fill-past.ensures.decides c.args.check.now (g.F.FrameBuffer.octets c.args.frame.now))
 
 pub returns-clause-sound : goal.returns-clause-sound
 returns-clause-sound g c =

@@ -29,5 +29,4 @@ returns-then-self-clause-decides g c = λ check held.
 
 pub returns-clause-decides : goal.returns-clause-decides
 returns-clause-decides g c = λ check held.
-    decides-from g.C.Check.check c.args.octets.now c.args.from (c.args.from - c.args.from)
-    (state c.args.self.now check held) (omega arith)
+    decides-from c.args.octets.now c.args.from (c.args.from - c.args.from) (omega arith)
