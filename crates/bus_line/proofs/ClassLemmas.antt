@@ -18,15 +18,13 @@ use Rattle.bus_line.specs.Due.{FlagAt, current, class_of, class_of_read}
 use Rattle.bus_line.specs.Internal.LineState.{LineState}
 use Rattle.bus_line.specs.Internal.Tracks.{settled_data, Holds, HoldsFor, Tracks}
 use Rattle.bus_line.proofs.RunLemmas.{IsLow, low-from, low-unspelled, ones_after-more}
-use Rattle.bus_line.proofs.MarkLemmas.{stands-bit}
-use Rattle.bus_line.proofs.MarkLastLemmas.{last_mark-flag}
+use Rattle.bus_line.proofs.MarkLemmas.{stands-bit, last_mark-flag}
 use Rattle.bus_line.proofs.DueMoreLemmas.{range-append}
 use Rattle.bus_line.proofs.SpellingRawLemmas.{current-low, low-ones}
 use Rattle.bus_line.proofs.DueStreamLemmas.{flag-fits}
 use Rattle.bus_line.proofs.WordLemmas.{last-bits-five}
-use Rattle.bus_line.proofs.TracksHoldLemmas.{length-octets}
+use Rattle.bus_line.proofs.WholeLemmas.{length-octets, take_next, data-checked}
 use Rattle.bus_fcs.proofs.FrameCheckLemmas.{same_test}
-use Rattle.bus_line.proofs.WholeLemmas.{take_next, data-checked}
 
 ones_after-append : (k : ℕ) (x y : List Bool) → ones_after k (x ++ y) ≡ ones_after (ones_after k x) y
 ones_after-append k [] y = refl

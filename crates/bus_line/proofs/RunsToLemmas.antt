@@ -20,7 +20,7 @@ use Rattle.bus_line.specs.Internal.Tracks.{HasTaken, Tracks}
 use Rattle.bus_line.proofs.DueMoreLemmas.{placed-more}
 use Rattle.bus_line.proofs.AdvanceLemmas.{no_stop-after, no_stop-before, no_stop-placed, tracks-last}
 use Rattle.bus_line.proofs.TimeFillLemmas.{last-bits-small, no-stop, word-behind, word-is, word_of}
-use Rattle.bus_line.proofs.DecidesLemmas.{decide-more, joins, last-bit, decides-more}
+use Rattle.bus_line.proofs.DecidesLemmas.{decide-more, joins, last-bit}
 
 -- ---- bits without a stop
 

@@ -24,8 +24,7 @@ use Rattle.bus_line.proofs.WordLemmas.{length-front, word-inserted, word-bit, wo
 use Rattle.bus_line.proofs.WholeLemmas.{take_next}
 use Rattle.bus_line.proofs.StepLemmas.{first-Some, none-holds, none-settled, early-settled, inserted-settled}
 use Rattle.bus_line.proofs.StepLemmas.{data-settled, stored-false, data-early, data-inserted, data-more, counts-kept}
-use Rattle.bus_line.proofs.StepLemmas.{holds-of, holds-for, stands-same, moved-counts, moved-holds}
-use Rattle.bus_line.proofs.DecideLemmas.{mark-kept}
+use Rattle.bus_line.proofs.StepLemmas.{holds-of, holds-for, stands-same, moved-counts, moved-holds, mark-kept}
 
 -- ---- what bits settle
 

@@ -1,11 +1,10 @@
 -- Bits that decide nothing, 56 at a time.
-use Rattle.std.proofs.Common.{◌≡◌, ◌≢◌, ℕ, zero, suc, ◌+◌, ◌-◌, ◌*◌, ◌/◌, ◌%◌, ◌^◌, ◌≤◌, ◌<◌, Bool, true, List}
-use Rattle.std.proofs.Common.{[], ◌∷◌, ◌++◌, length, take, drop, replicate, None, refl, sym, ap, ◌∙◌, arith, inl, inr}
+use Rattle.std.proofs.Common.{◌≡◌, ◌≢◌, ℕ, zero, suc, ◌+◌, ◌-◌, ◌*◌, ◌/◌, ◌%◌, ◌^◌, ◌≤◌, ◌<◌, Bool, true, List, [], ◌∷◌}
+use Rattle.std.proofs.Common.{◌++◌, length, take, drop, replicate, None, refl, sym, ap, ◌∙◌, arith, inl, inr}
 use Rattle.std.specs.Prelude.{bit_and, bit_or}
 use Rattle.std.specs.Int.{bit_at, trailing_zeros, w64}
 use Rattle.std.specs.Int.Bits.{or_shifted_r}
-use Rattle.std.proofs.lemmas.Nat.{and_le_r}
-use Rattle.std.proofs.lemmas.Nat.{shr-shr, field_of}
+use Rattle.std.proofs.lemmas.Nat.{and_le_r, shr-shr, field_of}
 use Rattle.std.proofs.Math.Pow.{mod-mod-pow}
 use Rattle.std.proofs.lemmas.List.{append-nil, append_assoc, replicate-append-replicate}
 use Rattle.bus_bits.specs.Bits.{bits_from}
@@ -17,12 +16,11 @@ use Rattle.bus_bits.specs.Octet.{bits_of, number}
 use Rattle.bus_bits.proofs.OctetLemmas.{bits-front, bits-low, number-bits}
 use Rattle.bus_fcs.specs.Check.{CheckView}
 use Rattle.bus_line.specs.Mark.{flag}
-use Rattle.bus_line.specs.Internal.Flags.{flags, EndsInFlag}
+use Rattle.bus_line.specs.Internal.Flags.{flags, EndsInFlag, SkipsFlags}
 use Rattle.bus_line.specs.Due.{placed}
 use Rattle.bus_line.specs.After.{After, Decides}
 use Rattle.bus_line.specs.Words.{first_in, IsWithin, state}
 use Rattle.bus_line.specs.declared.decoder_words.DecoderWords.{DecoderWords}
-use Rattle.bus_line.specs.Internal.Flags.{SkipsFlags}
 use Rattle.bus_line.specs.Internal.TimeFill.{AreFlags, SkipsOnes}
 use Rattle.bus_line.specs.Internal.Settled.{HasNoStop, IsStop, IsWord, data_in_word}
 use Rattle.bus_line.proofs.SettledDataLemmas.{six, six-ones, six-shr}
@@ -32,7 +30,7 @@ use Rattle.bus_line.proofs.WordLemmas.{last-below, word-made}
 use Rattle.bus_line.proofs.AdvanceLemmas.{no_stop-before, no_stop-placed, no_stop-after}
 use Rattle.bus_line.proofs.SettleLemmas.{word-unsettled}
 use Rattle.bus_line.proofs.WordsLemmas.{flags-skipped, shifted, shows-flag}
-use Rattle.bus_line.proofs.FlagRunLemmas.{flags-length, flags-placed}
+use Rattle.bus_line.proofs.FlagLemmas.{flags-length, flags-placed}
 use Rattle.bus_line.proofs.DecidesLemmas.{decides-none, decides-more}
 
 -- ---- where six ones end

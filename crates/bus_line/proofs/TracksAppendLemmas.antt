@@ -14,10 +14,9 @@ use Rattle.bus_fcs.specs.Check.{CheckView}
 use Rattle.bus_line.specs.Internal.LineState.{LineState}
 use Rattle.bus_line.specs.Internal.Tracks.{Holds}
 use Rattle.bus_line.specs.Internal.Settled.{Appends, Keeps, Stores, gain, octets_more, octets_of}
-use Rattle.bus_line.proofs.WholeLemmas.{octets-short}
+use Rattle.bus_line.proofs.WholeLemmas.{octets-short, whole, part, whole-is, part-is, whole-part, length-whole}
+use Rattle.bus_line.proofs.WholeLemmas.{length-part, octets-here, length-octets}
 use Rattle.bus_line.proofs.WordLemmas.{number-drop, number-take}
-use Rattle.bus_line.proofs.TracksHoldLemmas.{whole, part, whole-is, part-is, whole-part, length-whole, length-part}
-use Rattle.bus_line.proofs.TracksHoldLemmas.{octets-here, length-octets}
 
 -- ---- octets of a number
 

@@ -1,7 +1,6 @@
 -- Words, with a check and octets beside them, as a decoder.
-use Rattle.std.proofs.Common.{◌≡◌, ℕ, zero, suc, ◌+◌, ◌-◌, ◌*◌, ◌≤◌, ◌<◌, ◌^◌, ◌==◌, Bool, true, false, List}
-use Rattle.std.proofs.Common.{◌++◌, length, ◌/◌, ◌%◌, Some, None, refl, ap, ◌∙◌, arith}
-use Rattle.std.proofs.Common.{append-nil, if◌then◌else◌}
+use Rattle.std.proofs.Common.{◌≡◌, ℕ, zero, suc, ◌+◌, ◌-◌, ◌*◌, ◌≤◌, ◌<◌, ◌^◌, ◌==◌, Bool, true, false, List, ◌++◌}
+use Rattle.std.proofs.Common.{length, ◌/◌, ◌%◌, Some, None, refl, ap, ◌∙◌, arith, append-nil, if◌then◌else◌}
 use Rattle.std.proofs.lemmas.Bool.{eqb-true}
 use Rattle.std.specs.Prelude.{nat_lt}
 use Rattle.bus_bits.proofs.CaptureLemmas.{lt_true}
@@ -17,8 +16,7 @@ use Rattle.bus_line.specs.Internal.LineView.{settles_from}
 use Rattle.bus_line.specs.Internal.Flags.{EndsInFlag, flags, SkipsFlags}
 use Rattle.bus_line.specs.Internal.Settled.{HasNoStop, IsWord}
 use Rattle.bus_line.proofs.SettleLemmas.{Shifted, shifted-word}
-use Rattle.bus_line.proofs.FlagLemmas.{flags-after}
-use Rattle.bus_line.proofs.FlagRunLemmas.{mark-is}
+use Rattle.bus_line.proofs.FlagLemmas.{flags-after, mark-is}
 
 -- the place after which bits settle, by the first place of the piece
 pub settles-told : (at : ℕ) → 8 ≤ at → at ≡ settles_from (first_in at)

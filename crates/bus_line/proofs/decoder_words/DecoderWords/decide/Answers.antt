@@ -6,8 +6,8 @@ use Rattle.bus_line.specs.Due.{FlagAt, current}
 use Rattle.bus_line.specs.Words.{state}
 use Rattle.bus_line.specs.Internal.Tracks.{Tracks}
 use Rattle.bus_line.specs.declared.decoder.ended_mark.EndedMark.TheVariants.{FlagMark, AbortMark, IdleMark, Other}
-use Rattle.bus_line.proofs.DecideLemmas.{closing, seven, fifteen, other, tracks-flag, tracks-abort, ones_within}
-use Rattle.bus_line.proofs.DecideLemmas.{found-here}
+use Rattle.bus_line.proofs.StepLemmas.{closing, seven, fifteen, other, tracks-flag, tracks-abort, ones_within}
+use Rattle.bus_line.proofs.StepLemmas.{found-here}
 use Rattle.bus_line.proofs.WordsLemmas.{first-at}
 use Rattle.bus_line.proofs.decoder_words.DecoderWords.decide.Goals as goal
 

@@ -1,4 +1,4 @@
-use Rattle.std.proofs.Common.{◌+◌, ◌-◌, List, Bool, true, None, subst, arith}
+use Rattle.std.proofs.Common.{◌+◌, ◌-◌, List, Bool, None, subst, arith}
 use Rattle.bus_bits.specs.Octet.{bits_of}
 use Rattle.bus_line.specs.After.{Decides}
 use Rattle.bus_line.specs.Words.{state}
