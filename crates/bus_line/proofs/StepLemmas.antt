@@ -11,9 +11,10 @@ use Rattle.bus_bits.specs.Octet.{number}
 use Rattle.bus_bits.specs.declared.spent.Spent.{Spent}
 use Rattle.bus_fcs.specs.Check.{CheckView}
 use Rattle.bus_line.specs.Internal.Run.{ones_at_end, data_so_far, ones_after}
-use Rattle.bus_line.specs.Due.{Mark, NoMark, FlagAt, AbortAt, current, class_of, piece_report, due_at}
+use Rattle.bus_line.specs.Due.{Mark, NoMark, FlagAt, AbortAt, current, piece_report, due_at}
 use Rattle.bus_line.specs.Ledger.{is_settled, belongs, is_inserted, assembled, is_stored, stored}
 use Rattle.bus_line.specs.Internal.LineState.{LineState}
+use Rattle.bus_line.specs.Internal.RunsTo.{closed_piece}
 use Rattle.bus_line.specs.Internal.LineView.{settles_from}
 use Rattle.bus_line.specs.Internal.Tracks.{first_of, settled_data, padded, Holds, HoldsFor, Counts, HasTaken, Tracks}
 use Rattle.bus_line.proofs.RunLemmas.{data_after-more}
@@ -225,9 +226,7 @@ mark-kept b bit six fourteen = (decides-nothing 3 b bit six fourteen).leaves
 
 -- what the bit decides, by what was found
 pub closing : (longest : ℕ) (b : List Bool) (bit : Bool) → HasEnded bit (ones_at_end b) (length b) FlagMark
-    → Decides longest b bit
-    (piece_report (λ p. class_of longest (slice_range (b ++ bit ∷ []) (p + 8) (length b - 7))) (current b)
-    (length b - 7)) (FlagAt (length b - 7))
+    → Decides longest b bit (closed_piece longest b bit) (FlagAt (length b - 7))
 closing longest b true found = absurd (cc (found.0))
 closing longest b false found = at-flag longest b found.1 found.2
 

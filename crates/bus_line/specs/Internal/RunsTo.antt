@@ -5,7 +5,7 @@ use Rattle.std.specs.Option.{option_map}
 use Rattle.bus_fcs.specs.Check.{CheckView}
 use Rattle.bus_line.specs.After.{After, DecideNothing, Decides, due_of}
 use Rattle.bus_line.specs.Due.{Mark, FlagAt, class_of, current, piece_report}
-use Rattle.bus_line.specs.Report.{Abort, moved}
+use Rattle.bus_line.specs.Report.{Abort, Report, moved}
 use Rattle.bus_line.specs.Shown.{kind_with, reported}
 use Rattle.bus_line.specs.Words.{first_in}
 use Rattle.bus_line.specs.declared.decoder_words.DecoderWords.{DecoderWords}
@@ -54,15 +54,17 @@ pub record DecidesLast {C : Type 0} (view : CheckView C) (old : LineState C) (ev
   pub after : (b : List Bool) (bit : Bool) → Tracks view old (b ++ bit ∷ []) (current b)
       → After view new (b ++ bit ∷ [])
 
+-- the piece, if it is not empty, that a flag closes which ends with this bit after b
+abbrev pub closed_piece : ℕ → List Bool → Bool → Option Report
+closed_piece longest b bit =
+    piece_report (λ p. class_of longest (slice_range (b ++ bit ∷ []) (p + 8) (length b - 7))) (current b) (length b - 7)
+
 -- the event is the piece, if it is not empty, that a flag at place `past` closes with the last bit
 abbrev pub Closes : {C : Type 0} → CheckView C → LineState C → ℕ → Option Event → Type 0
 Closes view d past event =
     (b : List Bool) (bit : Bool) → Tracks view d (b ++ bit ∷ []) (current b) → 7 ≤ length b
     → past ≡ d.origin + (length b - 7)
-    → option_map (reported d.octets) event
-    ≡ option_map (moved d.origin)
-    (piece_report (λ p. class_of d.longest (slice_range (b ++ bit ∷ []) (p + 8) (length b - 7)))
-    (current b) (length b - 7))
+    → option_map (reported d.octets) event ≡ option_map (moved d.origin) (closed_piece d.longest b bit)
 
 -- and this is what that piece is
 abbrev pub ClosesAs : {C : Type 0} → CheckView C → LineState C → EventKind → Type 0
