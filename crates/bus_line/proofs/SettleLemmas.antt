@@ -259,8 +259,8 @@ pub record Shifted {C : Type 0} (view : CheckView C) (d : LineState C) (w t : �
   pub no_stop : HasNoStop b bits (t - 1)
   pub lags : LagsBy view d b (take t bits)
 
-pub shifted-word : {C : Type 0} {view : CheckView C} (d : LineState C) (b bits : List Bool) (w t place last_bits shifted : ℕ)
-    → After view d b → IsWord w b bits → t ≤ length bits → HasNoStop b bits (t - 1)
+pub shifted-word : {C : Type 0} {view : CheckView C} (d : LineState C) (b bits : List Bool)
+    (w t place last_bits shifted : ℕ) → After view d b → IsWord w b bits → t ≤ length bits → HasNoStop b bits (t - 1)
     → place ≡ d.place + t → last_bits ≡ w / 2 ^ t % 65536
     → Shifted view (record d { place = place; last_bits = last_bits; spent = record d.spent { shifted = shifted } })
     w t b bits

@@ -19,8 +19,8 @@ use Rattle.bus_line.proofs.WordsLemmas.{settles-told, shifted}
 use Rattle.bus_line.proofs.decoder_words.DecoderWords.consume.Goals as goal
 
 -- the newest bits, as the front of 56
-newest : {C : Type 0} {view : CheckView C} (old : DecoderWords) (check : C) (octets : List ℕ) (b : List Bool) (x n last : ℕ)
-    → After view (state old check octets) b → n ≤ 56
+newest : {C : Type 0} {view : CheckView C} (old : DecoderWords) (check : C) (octets : List ℕ) (b : List Bool)
+    (x n last : ℕ) → After view (state old check octets) b → n ≤ 56
     → (old.last_bits < 65536 → last ≡ word_of old.last_bits x / 2 ^ n % 65536)
     → HasNoStop b (bits_of n x) (length (bits_of n x) - 1)
     → Shifted view (state (record old { place = old.place + n; last_bits = last }) check octets)

@@ -30,8 +30,8 @@ returns-then-turn-clause-reaches g c =
     let new = state turn.new.self turn.new.check (g.F.FrameBuffer.octets turn.new.frame) in
     let bits = turn-bits c.args.octets.now c.loop-at.at c.seven_octets_at.result n c.seven_octets_at.ensures
     (omega (arith, turn.ensures.count)) in
-    let reached = subst (λ (stop : Bool).
-    RunsToStop g.C.Check.check old (bits_of n c.seven_octets_at.result) stop new) c.if-turn.true turn.ensures.reaches in
+    let reached = subst (λ (stop : Bool). RunsToStop g.C.Check.check old (bits_of n c.seven_octets_at.result) stop new)
+    c.if-turn.true turn.ensures.reaches in
     runs-on c.args.octets.now c.loop-at.invariant.begun c.loop-at.invariant.decides n (c.loop-at.at + n - c.args.from)
     (omega (arith, c.loop-at.invariant.begun))
     (subst (λ (z : List Bool). RunsTo g.C.Check.check old z new) bits reached)
@@ -45,8 +45,8 @@ loop-at-preserved g c =
     let new = state turn.new.self turn.new.check (g.F.FrameBuffer.octets turn.new.frame) in
     let bits = turn-bits c.args.octets.now c.loop-at.at c.seven_octets_at.result n c.seven_octets_at.ensures
     (omega (arith, turn.ensures.count)) in
-    let quiet = subst (λ (stop : Bool).
-    RunsToStop g.C.Check.check old (bits_of n c.seven_octets_at.result) stop new) c.if-turn.false turn.ensures.reaches in
+    let quiet = subst (λ (stop : Bool). RunsToStop g.C.Check.check old (bits_of n c.seven_octets_at.result) stop new)
+    c.if-turn.false turn.ensures.reaches in
     record {
       begun = omega (arith, now.begun);
       ends = omega (arith, c.loop-at-test.true, turn.ensures.count);

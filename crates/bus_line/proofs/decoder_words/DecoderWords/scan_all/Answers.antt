@@ -29,8 +29,8 @@ pub returns-then-is_some-clause-advances : goal.returns-then-is_some-clause-adva
 returns-then-is_some-clause-advances g c =
     let now = c.loop-at.invariant in
     let scanned = c.scan_some-scanned in
-    advances-on c.args.octets.now now.begun now.decides scanned.result.count (c.loop-at.at + scanned.result.count - c.args.from)
-    (omega (arith, now.begun)) scanned.ensures.advances
+    advances-on c.args.octets.now now.begun now.decides scanned.result.count
+    (c.loop-at.at + scanned.result.count - c.args.from) (omega (arith, now.begun)) scanned.ensures.advances
 
 pub loop-at-preserved : goal.loop-at-preserved
 loop-at-preserved g c =

@@ -5,7 +5,8 @@ use Rattle.bus_bits.proofs.OctetLemmas.{length-bits}
 use Rattle.bus_line.specs.Internal.StuffingWriter.{Cut}
 use Rattle.bus_line.specs.Internal.Inserting.{raw_after, run_after}
 use Rattle.bus_line.proofs.WholeLemmas.{take_next}
-use Rattle.bus_line.proofs.InsertingLemmas.{on_err, next-of, raw-few, run-append, data-sent, data-cut-before, data-cut-behind}
+use Rattle.bus_line.proofs.InsertingLemmas.{on_err, next-of, raw-few, run-append, data-sent, data-cut-before}
+use Rattle.bus_line.proofs.InsertingLemmas.{data-cut-behind}
 use Rattle.bus_line.proofs.encoder.stuffing_writer.StuffingWriter.send_octet.Goals as goal
 
 pub send_data-requires-clause-room : goal.send_data-requires-clause-room

@@ -4,8 +4,8 @@ use Rattle.bus_bits.specs.Octet.{bits_of, bits_of_octets}
 use Rattle.bus_bits.proofs.OctetLemmas.{length-bits_of_octets}
 use Rattle.bus_line.specs.Internal.StuffingWriter.{Cut}
 use Rattle.bus_line.specs.Internal.Inserting.{raw_after, run_after}
-use Rattle.bus_line.proofs.InsertingLemmas.{on_err, raw-few, run-append, data-sent, data-cut-before, data-cut-behind, octets-next, octets-split}
-use Rattle.bus_line.proofs.InsertingLemmas.{sent-nil}
+use Rattle.bus_line.proofs.InsertingLemmas.{on_err, raw-few, run-append, data-sent, data-cut-before, data-cut-behind}
+use Rattle.bus_line.proofs.InsertingLemmas.{octets-next, octets-split, sent-nil}
 use Rattle.bus_line.proofs.encoder.stuffing_writer.StuffingWriter.send_octets.Goals as goal
 
 pub loop-octet-init : goal.loop-octet-init
