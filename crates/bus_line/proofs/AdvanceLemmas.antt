@@ -1,7 +1,6 @@
 -- Bits taken at once: what they decide.
-use Rattle.std.proofs.Common.{◌≡◌, ◌≢◌, ℕ, zero, suc, ◌+◌, ◌*◌, ◌%◌, ◌^◌, ◌≤◌, ◌<◌, Bool, false, List, [], ◌∷◌}
-use Rattle.std.proofs.Common.{◌++◌, length, take, get_or, None, refl, sym, ap, ◌∙◌, subst, arith, inl}
-use Rattle.std.proofs.Common.{inr}
+use Rattle.std.proofs.Common.{◌≡◌, ◌≢◌, ℕ, zero, suc, ◌+◌, ◌*◌, ◌%◌, ◌^◌, ◌≤◌, ◌<◌, Bool, false, List, [], ◌∷◌, ◌++◌}
+use Rattle.std.proofs.Common.{length, take, get_or, None, refl, sym, ap, ◌∙◌, subst, arith, inl, inr}
 use Rattle.std.specs.Prelude.{bit_or}
 use Rattle.std.specs.Option.{option_map}
 use Rattle.std.specs.Int.Bits.{or_shifted_r}
@@ -18,7 +17,7 @@ use Rattle.bus_line.specs.Internal.Tracks.{HasTaken, Tracks}
 use Rattle.bus_line.specs.After.{After}
 use Rattle.bus_line.specs.Internal.Settled.{HasNoStop, IsWord, IsStop}
 use Rattle.bus_line.proofs.DueMoreLemmas.{placed-more}
-use Rattle.bus_line.proofs.DecideLemmas.{nothing-due}
+use Rattle.bus_line.proofs.StepLemmas.{nothing-due}
 use Rattle.bus_line.proofs.WordLemmas.{last-below, word-made, word-just}
 use Rattle.bus_line.proofs.SettleLemmas.{next-bit, mark-no_stop}
 

@@ -18,15 +18,13 @@ use Rattle.bus_line.specs.Due.{FlagAt, current, class_of, class_of_read}
 use Rattle.bus_line.specs.Internal.LineState.{LineState}
 use Rattle.bus_line.specs.Internal.Tracks.{settled_data, Holds, HoldsFor, Tracks}
 use Rattle.bus_line.proofs.RunLemmas.{IsLow, low-from, low-unspelled, ones_after-more}
-use Rattle.bus_line.proofs.MarkLemmas.{stands-bit}
-use Rattle.bus_line.proofs.MarkLastLemmas.{last_mark-flag}
+use Rattle.bus_line.proofs.MarkLemmas.{stands-bit, last_mark-flag}
 use Rattle.bus_line.proofs.DueMoreLemmas.{range-append}
 use Rattle.bus_line.proofs.SpellingRawLemmas.{current-low, low-ones}
 use Rattle.bus_line.proofs.DueStreamLemmas.{flag-fits}
 use Rattle.bus_line.proofs.WordLemmas.{last-bits-five}
-use Rattle.bus_line.proofs.TracksHoldLemmas.{length-octets}
+use Rattle.bus_line.proofs.WholeLemmas.{length-octets, take_next, data-checked}
 use Rattle.bus_fcs.proofs.FrameCheckLemmas.{same_test}
-use Rattle.bus_line.proofs.WholeLemmas.{take_next, data-checked}
 
 ones_after-append : (k : ℕ) (x y : List Bool) → ones_after k (x ++ y) ≡ ones_after (ones_after k x) y
 ones_after-append k [] y = refl
@@ -59,10 +57,10 @@ pub record IsClosed {C : Type 0} (folded : C → List ℕ → Type 0) (d : LineS
   pub fewer : 5 ≤ ones_at_end raw → d.last_bits / 8 % 32 ≡ 31
   pub holds : Holds folded d (data_so_far raw)
 
-pub is_closed : {C : Type 0} (view : CheckView C) (d : LineState C) (b : List Bool) (bit : Bool)
-    (p : ℕ) → Tracks view d (b ++ bit ∷ []) (current b) → current b ≡ FlagAt p → p + 15 < length b
+pub is_closed : {C : Type 0} {view : CheckView C} {d : LineState C} (b : List Bool) (bit : Bool) (p : ℕ)
+    → Tracks view d (b ++ bit ∷ []) (current b) → current b ≡ FlagAt p → p + 15 < length b
     → IsClosed view.folded d (slice_range (b ++ bit ∷ []) (p + 8) (length b - 7))
-is_closed view d b bit p tracks last some =
+is_closed {C} {view} {d} b bit p tracks last some =
     let m = length b - 7 in
     let same : slice_range (b ++ bit ∷ []) (p + 8) m ≡ slice_range b (p + 8) m =
     range-append b (bit ∷ []) (p + 8) m (omega arith) in
@@ -80,16 +78,16 @@ is_closed view d b bit p tracks last some =
     }
 
 -- five ones before the flag
-pub class-five : {C : Type 0} (folded : C → List ℕ → Type 0) (longest : ℕ) (d : LineState C) (raw : List Bool) →
+pub class-five : {C : Type 0} {folded : C → List ℕ → Type 0} {d : LineState C} {raw : List Bool} (longest : ℕ) →
     IsClosed folded d raw → d.last_bits / 8 % 32 ≡ 31 → class_of longest raw ≡ Damaged Unstuffed
-class-five folded longest d raw closed shown =
+class-five {C} {folded} {d} {raw} longest closed shown =
     let five : (ones_at_end raw == 5) ≡ true = grind (arith, nat_tests, closed.five shown, low-ones 0 raw closed.low) in
     ap (class_of_read longest) (low-unspelled raw closed.low) ∙ rw five refl
 
 -- no five: the data are read
-pub class-read : {C : Type 0} (folded : C → List ℕ → Type 0) (longest : ℕ) (d : LineState C) (raw : List Bool) →
+pub class-read : {C : Type 0} {folded : C → List ℕ → Type 0} {d : LineState C} {raw : List Bool} (longest : ℕ) →
     IsClosed folded d raw → d.last_bits / 8 % 32 ≢ 31 → class_of longest raw ≡ class_of_data longest (data_so_far raw)
-class-read folded longest d raw closed not-shown =
+class-read {C} {folded} {d} {raw} longest closed not-shown =
     let not-five : (ones_at_end raw == 5) ≡ false =
     false_from_ne_true _ (λ is. not-shown (closed.fewer (omega (arith, eqb-true (ones_at_end raw) 5 is)))) in
     ap (class_of_read longest) (low-unspelled raw closed.low) ∙ rw not-five refl
@@ -129,11 +127,11 @@ all-held folded d bits holds least most =
     )
 
 -- data that were checked
-pub class-checked : {C : Type 0} (folded : C → List ℕ → Type 0) (d : LineState C) (bits : List Bool) (good : Bool) →
+pub class-checked : {C : Type 0} {folded : C → List ℕ → Type 0} {d : LineState C} {bits : List Bool} (good : Bool) →
     Holds folded d bits → 32 ≤ length bits → length bits ≤ 8 * (d.longest + 2) → length bits % 8 ≡ 0
     → ((os : List ℕ) → folded d.check os → 4 ≤ length os → (IsTrue good ↔ Good (bits_of_octets os))) →
     class_of_data d.longest bits ≡ (if good then Frame d.octets else Damaged Fcs)
-class-checked folded d bits good holds least most whole test =
+class-checked {C} {folded} {d} {bits} good holds least most whole test =
     let held = all-held folded d bits holds least most in
     let same : good ≡ is_good (bits_of_octets (octets bits)) =
     same_test good (bits_of_octets (octets bits)) (test (octets bits) held.1 held.2) in

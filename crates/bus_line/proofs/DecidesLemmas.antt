@@ -15,9 +15,8 @@ use Rattle.bus_line.specs.After.{Advances, After, DecideNothing, Decides}
 use Rattle.bus_line.proofs.DueMoreLemmas.{placed-more, reports-append}
 
 -- no bits
-pub decides-none : {C : Type 0} (view : CheckView C) (d : LineState C) →
-    Decides view d [] None d
-decides-none view d = record {
+pub decides-none : {C : Type 0} {view : CheckView C} {d : LineState C} → Decides view d [] None d
+decides-none {C} {view} {d} = record {
   leads = record {
     after = λ b stands. subst (After view d) (sym (append-nil b)) stands;
     longest = refl;
@@ -27,7 +26,7 @@ decides-none view d = record {
   says = λ b stands. ap (placed d.origin d.longest) (append-nil b) ∙ sym (append-nil (placed d.origin d.longest b));
 }
 
-module _ {C : Type 0} (view : CheckView C) {a c : LineState C} {xs : List Bool}
+module _ {C : Type 0} {view : CheckView C} {a c : LineState C} {xs : List Bool}
     (quiet : Decides view a xs None c) where
   silent : (b : List Bool) → After view a b → placed a.origin a.longest (b ++ xs) ≡ placed a.origin a.longest b
   silent b stands = quiet.says b stands ∙ append-nil (placed a.origin a.longest b)
@@ -67,8 +66,8 @@ is-none None is = refl
 is-none (Some x) is = absurd (true≢false is)
 
 -- bits of octets from bit `from` on and before bit `at`, and bits after them
-module _ {C : Type 0} (view : CheckView C) (os : List ℕ) (from at : ℕ) (begun : from ≤ at)
-    {a c : LineState C} (quiet : Decides view a (bits_from os from (at - from)) None c) where
+module _ {C : Type 0} {view : CheckView C} (os : List ℕ) {from at : ℕ} {a c : LineState C} (begun : from ≤ at)
+    (quiet : Decides view a (bits_from os from (at - from)) None c) where
   pub joins : (n m : ℕ) → m ≡ at - from + n → bits_from os from (at - from) ++ bits_from os at n ≡ bits_from os from m
   joins n m count =
       let there : at ≡ from + (at - from) = omega (arith, begun) in
@@ -77,11 +76,11 @@ module _ {C : Type 0} (view : CheckView C) (os : List ℕ) (from at : ℕ) (begu
 
   pub decides-on : {e : LineState C} {r : Option Report} (n m : ℕ) → m ≡ at - from + n →
       Decides view c (bits_from os at n) r e → Decides view a (bits_from os from m) r e
-  decides-on {e} {r} n m count told = rw (← joins n m count) (decides-more view quiet told)
+  decides-on {e} {r} n m count told = rw (← joins n m count) (decides-more quiet told)
 
   pub decide-on : (n m : ℕ) → m ≡ at - from + n → DecideNothing view c (bits_from os at n) →
       DecideNothing view a (bits_from os from m)
-  decide-on n m count told = subst (DecideNothing view a) (joins n m count) (decide-more view quiet told)
+  decide-on n m count told = subst (DecideNothing view a) (joins n m count) (decide-more quiet told)
 
   pub place-on : c.place ≡ a.place + (at - from)
   place-on = quiet.leads.place ∙ ap (λ (n : ℕ). a.place + n) (length-from os from (at - from))
@@ -113,9 +112,9 @@ none-before origin longest b xs ys is =
     no-items (r ∷ rs) empty = absurd (omega (arith, empty))
 
 -- bits that decide nothing, as bits of which the last decides nothing
-pub advances-quiet : {C : Type 0} (view : CheckView C) {a c : LineState C} {bits : List Bool}
+pub advances-quiet : {C : Type 0} {view : CheckView C} {a c : LineState C} {bits : List Bool}
     → Decides view a bits None c → Advances view a bits None c
-advances-quiet view {a} {c} {bits} quiet = record {
+advances-quiet {C} {view} {a} {c} {bits} quiet = record {
   decides = quiet;
   before = λ b stands.
       let front = take (length bits - 1) bits in
@@ -123,24 +122,24 @@ advances-quiet view {a} {c} {bits} quiet = record {
       let all : (b ++ front) ++ last ≡ b ++ bits =
       append_assoc b front last ∙ ap (λ (z : List Bool). b ++ z) (take-append-drop (length bits - 1) bits) in
       none-before a.origin a.longest b front last
-      (ap (placed a.origin a.longest) all ∙ silent view quiet b stands);
+      (ap (placed a.origin a.longest) all ∙ silent quiet b stands);
 }
 
 -- bits after those, of which the last may decide a report
-pub advances-on : {C : Type 0} (view : CheckView C) (os : List ℕ) (from at : ℕ) → from ≤ at
-    → {a c e : LineState C} {r : Option Report} → Decides view a (bits_from os from (at - from)) None c
+pub advances-on : {C : Type 0} {view : CheckView C} (os : List ℕ) {from at : ℕ} {a c e : LineState C}
+    {r : Option Report} → from ≤ at → Decides view a (bits_from os from (at - from)) None c
     → (n m : ℕ) → m ≡ at - from + n
     → Advances view c (bits_from os at n) r e → Advances view a (bits_from os from m) r e
-advances-on view os from at begun {a} {c} quiet n m count advances = record {
-  decides = decides-on view os from at begun quiet n m count advances.decides;
+advances-on {C} {view} os {from} {at} {a} {c} begun quiet n m count advances = record {
+  decides = decides-on os begun quiet n m count advances.decides;
   before = elim (cases_lt 0 n) [
     | inl some ↦
         let behind = subst (DecideNothing view c) (front-from os at n) advances.before in
         subst (DecideNothing view a) (sym (front-from os from m))
-        (decide-on view os from at begun quiet (n - 1) (m - 1) (omega (arith, count, some)) behind)
+        (decide-on os begun quiet (n - 1) (m - 1) (omega (arith, count, some)) behind)
     | inr none ↦
         let all : at - from ≡ m = omega (arith, count, none) in
-        rw (← all) (advances-quiet view quiet).before
+        rw (← all) (advances-quiet quiet).before
   ];
 }
 
@@ -160,22 +159,22 @@ last-bit bits some =
     ∙ take_more bits before false (omega (arith, some))
 
 -- of a bit alone
-pub bit-due : {C : Type 0} (view : CheckView C) {a c : LineState C} {bit : Bool}
+pub bit-due : {C : Type 0} {view : CheckView C} {a c : LineState C} {bit : Bool}
     {r : Option Report} → Decides view a (bit ∷ []) r c
     → (b : List Bool) → After view a b
     → r ≡ option_map (moved a.origin) (due_at a.longest (b ++ bit ∷ []) (length b))
-bit-due view {a} {c} {bit} {r} told b stands =
+bit-due {C} {view} {a} {c} {bit} {r} told b stands =
     let due = option_map (moved a.origin) (due_at a.longest (b ++ bit ∷ []) (length b)) in
     let before = placed a.origin a.longest b in
     same-option r due (append_cancel_left before (option_to_list r) (option_to_list due)
     (sym (told.says b stands) ∙ placed-more a.origin a.longest b bit due refl))
 
 -- of several
-pub last-due : {C : Type 0} (view : CheckView C) {a c : LineState C} {bits : List Bool}
+pub last-due : {C : Type 0} {view : CheckView C} {a c : LineState C} {bits : List Bool}
     {r : Option Report} → 1 ≤ length bits → Advances view a bits r c
     → (b : List Bool) → After view a b
     → r ≡ option_map (moved a.origin) (due_at a.longest (b ++ bits) (length b + length bits - 1))
-last-due view {a} {c} {bits} {r} some advances b stands =
+last-due {C} {view} {a} {c} {bits} {r} some advances b stands =
     let front = take (length bits - 1) bits in
     let last = get_or bits (length bits - 1) false in
     let before = placed a.origin a.longest b in
@@ -194,8 +193,7 @@ last-due view {a} {c} {bits} {r} some advances b stands =
     ∙ ap (due_at a.longest (b ++ bits)) place)
 
 -- no bits of octets
-pub decides-from : {C : Type 0} (view : CheckView C) (os : List ℕ) (from n : ℕ) (d : LineState C) →
-    n ≡ 0 → Decides view d (bits_from os from n) None d
+pub decides-from : {C : Type 0} {view : CheckView C} {d : LineState C} (os : List ℕ) (from n : ℕ) → n ≡ 0
+    → Decides view d (bits_from os from n) None d
 unfolding bits_from
-decides-from view os from n d none =
-    rw none (decides-none view d)
+decides-from os from n none = rw none decides-none

@@ -10,14 +10,23 @@ use Rattle.bus_line.specs.Spelling.{ones}
 use Rattle.bus_line.specs.Internal.Run.{ones_after, ones_at_end}
 use Rattle.bus_line.proofs.RunLemmas.{ones_after-more}
 use Rattle.bus_line.specs.Mark.{flag, StandsAt, StartsRun, IsFlag, IsAbort, IsMark}
-use Rattle.bus_line.specs.Report.{Abort, Idle}
+use Rattle.bus_line.specs.Report.{Abort, Idle, Report}
 use Rattle.bus_line.specs.Due.{is_flag, is_abort, FlagAt, AbortAt, last_mark, class_of, piece_report, due_at, current}
-use Rattle.bus_line.proofs.StepStreamLemmas.{Decides}
+use Rattle.bus_line.specs.Due.{Mark}
 use Rattle.bus_line.proofs.MarkLemmas.{flag-true, flag-is, abort-true, abort-is, stands-within, stands-bit}
-use Rattle.bus_line.proofs.MarkLemmas.{window-append, is_abort-append, last_mark-append}
+use Rattle.bus_line.proofs.MarkLemmas.{window-append, is_abort-append, last_mark-append, flag-abort}
 use Rattle.bus_line.proofs.DueMoreLemmas.{range-append}
-use Rattle.bus_line.proofs.MarkLastLemmas.{flag-abort}
 use Rattle.bus_line.proofs.DueLemmas.{due_at-flag, due_at-abort, due_at-idle, no-flag, no-abort, no-idle}
+use Rattle.std.specs.Prelude.{◌≡◌, ℕ, Bool, List, [], ◌∷◌, ◌++◌, length, Option}
+
+-- ---- what one bit more does, in terms of the ones at the end and the last mark
+
+-- the bit decides this report, or none, and leaves this mark as the last
+pub record Decides (longest : ℕ) (b : List Bool) (bit : Bool) (report : Option Report) (mark : Mark) : Type 0 where
+  pub answers : due_at longest (b ++ bit ∷ []) (length b) ≡ report
+  pub leaves : current (b ++ bit ∷ []) ≡ mark
+
+-- ---- what one bit more does
 
 -- the ones at the end
 pub ones_after-ones : (j k : ℕ) → ones_after j (ones k) ≡ j + k

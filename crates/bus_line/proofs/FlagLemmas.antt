@@ -1,11 +1,11 @@
 -- Flags right after a flag: they decide nothing, and each is the last mark.
 use Rattle.std.proofs.Common.{◌≡◌, ℕ, zero, suc, ◌+◌, ◌-◌, ◌*◌, ◌/◌, ◌%◌, ◌^◌, ◌≤◌, ◌<◌, Bool, false, List, [], ◌∷◌}
 use Rattle.std.proofs.Common.{◌++◌, length, take, drop, replicate, get_or, Some, None, refl, sym, ap, ◌∙◌, subst, arith}
-use Rattle.std.proofs.Common.{append-nil, append_assoc, length-append}
+use Rattle.std.proofs.Common.{append-nil, append_assoc, length-append, Option, ◌==◌, inl, inr}
 use Rattle.std.specs.List.{slice_range}
 use Rattle.std.specs.Option.{option_map}
-use Rattle.std.proofs.lemmas.List.{drop_at}
-use Rattle.std.proofs.lemmas.Bool.{cond-false}
+use Rattle.std.proofs.lemmas.List.{drop_at, take-append-drop, take_all, length-drop}
+use Rattle.std.proofs.lemmas.Bool.{cond-false, cases_lt}
 use Rattle.bus_bits.specs.Octet.{number, bits_of}
 use Rattle.bus_bits.proofs.OctetLemmas.{bits-low, bits-split}
 use Rattle.bus_bits.proofs.CaptureLemmas.{le_false}
@@ -22,10 +22,16 @@ use Rattle.bus_line.specs.Internal.Tracks.{Holds, Counts, Tracks, padded, settle
 use Rattle.bus_line.specs.Internal.Settled.{HasNoStop}
 use Rattle.bus_line.proofs.DueMoreLemmas.{placed-more}
 use Rattle.bus_line.proofs.DueStreamLemmas.{at-flag, ones_after-last}
-use Rattle.bus_line.proofs.StepLemmas.{counts-kept, early-settled, data-start, holds-of, moved-counts}
+use Rattle.bus_line.proofs.StepLemmas.{counts-kept, early-settled, data-start, holds-of, moved-counts, first-Some}
 use Rattle.bus_line.proofs.WordLemmas.{length-front}
 use Rattle.bus_line.proofs.SettleLemmas.{next-bit, mark-no_stop}
 use Rattle.bus_line.proofs.AdvanceLemmas.{no_stop-placed}
+use Rattle.bus_line.specs.Internal.LineView.{settles_from}
+use Rattle.bus_line.proofs.MarkLemmas.{last_mark-flag}
+use Rattle.std.specs.Int.{bit_at, w64, trailing_zeros}
+use Rattle.std.specs.Int.Bits.{bit_xor}
+use Rattle.std.proofs.lemmas.Nat.Bits.{bit_at_lowest, bit_at-suc, bit_at-zero, bit_at-lt, bit_at_xor}
+use Rattle.std.proofs.lemmas.Nat.Bits.{bit_at-trailing_zeros}
 
 bits-flag : bits_of 8 126 ≡ flag
 unfolding bits_of
@@ -221,3 +227,95 @@ flags-after view d b (suc (suc k)) place shifted some ends stands at =
     (record d { place = place; last_bits = 32382; first = Some place; spent = record d.spent { shifted = shifted } }))
     (append_assoc b (flags (suc k)) flag)
     (flag-after view _ (b ++ flags (suc k)) place shifted (flags-end b (suc k) end) before (omega (arith, at)))
+
+-- ---- runs of flags right after a flag: how many bits they are, and how far a decoder goes
+
+-- ---- the bits of flags
+
+pub flags-length : (k : ℕ) → length (flags k) ≡ 8 * k
+flags-length zero = refl
+flags-length (suc k) = length-append (flags k) flag ∙ omega (arith, flags-length k)
+
+-- ---- whether there are any
+
+-- the decoder's place tells whether a flag ended there
+pub mark-is : {C : Type 0} (view : CheckView C) (d : LineState C) (at : ℕ) (b : List Bool) →
+    After view d b → at ≡ settles_from d.first → d.place ≤ 2 ^ 60 → at ≡ d.place + 8 → EndsInFlag b
+mark-is view d at b after settles fits at-flag = found d.first refl
+  where
+    found : (first : Option ℕ) → d.first ≡ first → EndsInFlag b
+    found None opened = absurd (omega (arith, ap settles_from opened, settles, fits, at-flag))
+    found (Some first) opened =
+        let mark = first-Some d.origin first (current b) (sym after.first ∙ opened) in
+        let place = after.has_taken.place in
+        let size : mark.0 + 8 ≡ length b = omega (arith, ap settles_from opened, settles, at-flag, mark.2, place) in
+        let stands = (last_mark-flag b (length b) mark.0 mark.1).flag in
+        let all = take_all 8 (drop mark.0 b) (omega (arith, length-drop mark.0 b, size)) in
+        record {
+          front = take mark.0 b;
+          all = sym (take-append-drop mark.0 b) ∙ ap (λ (z : List Bool). take mark.0 b ++ z) (sym all ∙ stands);
+        }
+
+-- ---- what they decide
+
+pub flags-placed : (origin longest : ℕ) (b : List Bool) (k : ℕ) → (0 < k → EndsInFlag b) →
+    placed origin longest (b ++ flags k) ≡ placed origin longest b
+flags-placed origin longest b zero ends = ap (placed origin longest) (append-nil b)
+flags-placed origin longest b (suc k) ends =
+    let end = ends (omega arith) in
+    ap (placed origin longest) (sym (append_assoc b (flags k) flag))
+    ∙ (flag-adds origin longest (b ++ flags k) (flags-end b k end) ∙ flags-placed origin longest b k (λ some. end))
+
+-- ---- how many flags bits begin with: the lowest bit that differs from those of seven flags tells
+
+-- seven flags in one word
+abbrev pub seven_flags : ℕ
+seven_flags = 35604928818740862
+
+same-low : (k x y : ℕ) → ((i : ℕ) → i < k → bit_at x i ≡ bit_at y i) → bits_of k x ≡ bits_of k y
+unfolding bits_of
+same-low zero x y h = refl
+same-low (suc k) x y h =
+    let e : x % 2 ≡ y % 2 = sym (bit_at_lowest x) ∙ (h 0 (omega arith) ∙ bit_at_lowest y) in
+    let r =
+    same-low k (x / 2) (y / 2) (λ i l. sym (bit_at-suc x i) ∙ (h (suc i) (omega (arith, l)) ∙ bit_at-suc y i)) in
+    ap (λ (n : ℕ). (n == 1) ∷ bits_of k (x / 2)) e ∙ ap (λ (z : List Bool). (y % 2 == 1) ∷ z) r
+
+octet-of : (k : ℕ) → k < 7 → seven_flags / 2 ^ (8 * k) % 256 ≡ 126
+octet-of zero h = refl
+octet-of (suc zero) h = refl
+octet-of (suc (suc zero)) h = refl
+octet-of (suc (suc (suc zero))) h = refl
+octet-of (suc (suc (suc (suc zero)))) h = refl
+octet-of (suc (suc (suc (suc (suc zero))))) h = refl
+octet-of (suc (suc (suc (suc (suc (suc zero)))))) h = refl
+octet-of (suc (suc (suc (suc (suc (suc (suc k))))))) h = absurd (omega (arith, h))
+
+flags-of : (k : ℕ) → k ≤ 7 → bits_of (8 * k) seven_flags ≡ flags k
+flags-of zero h = no-bits seven_flags
+flags-of (suc k) h =
+    let n : 8 * suc k ≡ 8 * (k + 1) = omega arith in
+    let m : k + 1 ≡ suc k = omega arith in
+    ap (λ (j : ℕ). bits_of j seven_flags) n
+    ∙ (flags-more k seven_flags (flags-of k (omega (arith, h))) (octet-of k (omega (arith, h))) ∙ ap flags m)
+
+-- the place of the lowest bit in which x differs from seven flags
+abbrev pub first_other : ℕ → ℕ
+first_other x = trailing_zeros w64 (bit_xor x seven_flags)
+
+same-bit : (x i : ℕ) → bit_at (bit_xor x seven_flags) i ≡ 0 → bit_at x i ≡ bit_at seven_flags i
+same-bit x i h = let a = bit_at-lt x i in let b = bit_at-lt seven_flags i in let e =
+    bit_at_xor x seven_flags i in omega (arith, h, a, b, e)
+
+agree-below : (x i : ℕ) → bit_xor x seven_flags < 2 ^ 64 → i < first_other x → bit_at x i ≡ bit_at seven_flags i
+agree-below x i h l =
+    same-bit x i (elim (cases_lt 0 (bit_xor x seven_flags)) [
+      | inl p ↦ (bit_at-trailing_zeros w64 (bit_xor x seven_flags) p h).2 i l
+      | inr z ↦ let e : bit_xor x seven_flags ≡ 0 = omega (arith, z) in ap (λ (n : ℕ). bit_at n i) e ∙ bit_at-zero i
+    ])
+
+-- the flags below that bit
+pub flags-below : (x r : ℕ) → bit_xor x seven_flags < 2 ^ 64 → 8 * r ≤ first_other x → r ≤ 7 → bits_of (8 * r) x ≡ flags
+    r
+flags-below x r h l few = same-low (8 * r) x seven_flags (λ i m. agree-below x i h (omega (arith, l, m))) ∙ flags-of r
+    few

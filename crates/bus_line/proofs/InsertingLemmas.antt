@@ -21,22 +21,22 @@ take-both [] ys k = ap (λ n. take n ys) (omega arith)
 take-both (x ∷ xs) ys k = let e : length (x ∷ xs) + k ≡ suc (length xs + k) =
     omega arith in rw e (ap (λ l. x ∷ l) (take-both xs ys k))
 
-module _ {S : Type 0} (sink : BitSinkView S) where
-  pub sent-nil : (a : StuffingWriter) (s : S) → Sent sink [] a a s s
-  sent-nil a s = record { took = told-nil (sink.taken s); kept = refl; written = omega arith }
+module _ {S : Type 0} {sink : BitSinkView S} where
+  pub sent-nil : {a : StuffingWriter} {s : S} → Sent sink [] a a s s
+  sent-nil {a} {s} = record { took = told-nil (sink.taken s); kept = refl; written = omega arith }
 
-  pub sent-more : (xs ys : List Bool) (a b c : StuffingWriter) (s t u : S) → Sent sink xs a b s t →
+  pub sent-more : {xs ys : List Bool} {a b c : StuffingWriter} {s t u : S} → Sent sink xs a b s t →
       Sent sink ys b c t u → Sent sink (xs ++ ys) a c s u
-  sent-more xs ys a b c s t u p q = record {
+  sent-more {xs} {ys} {a} {b} {c} {s} p q = record {
     took = q.took ∙ (ap (λ z. told z ys) p.took ∙ told-more (sink.taken s) xs ys);
     kept = q.kept ∙ p.kept;
     written = omega (arith, p.written, q.written, length-append xs ys);
   }
 
   -- the bits in front went out, and then the sink refused one
-  pub cut-behind : (xs ys : List Bool) (a b c : StuffingWriter) (s t u : S) → Sent sink xs a b s t →
+  pub cut-behind : {xs ys : List Bool} {a b c : StuffingWriter} {s t u : S} → Sent sink xs a b s t →
       Cut sink ys b c t u → Cut sink (xs ++ ys) a c s u
-  cut-behind xs ys a b c s t u p q = record {
+  cut-behind {xs} {ys} {a} {b} {c} {s} p q = record {
     count = length xs + q.count;
     within = omega (arith, length-append xs ys, q.within);
     took =
@@ -47,9 +47,9 @@ module _ {S : Type 0} (sink : BitSinkView S) where
   }
 
   -- more bits would have come after the one that was refused
-  pub cut-before : (xs ys : List Bool) (a b : StuffingWriter) (s t : S) → Cut sink xs a b s t →
+  pub cut-before : {xs : List Bool} {a b : StuffingWriter} {s t : S} (ys : List Bool) → Cut sink xs a b s t →
       Cut sink (xs ++ ys) a b s t
-  cut-before xs ys a b s t q = record {
+  cut-before {xs} {a} {b} {s} ys q = record {
     count = q.count;
     within = omega (arith, length-append xs ys, q.within);
     took = q.took ∙ ap (told (sink.taken s)) (sym (take-append-le q.count xs ys (omega (arith, q.within))));
@@ -123,31 +123,20 @@ pub next-of : {X : Type 0} (xs : List X) (i : ℕ) (d : X) → i < length xs →
 next-of xs i d h = split_at xs i d (get_or xs i d) h refl
     ∙ sym (append_assoc (take i xs) (get_or xs i d ∷ []) (drop (i + 1) xs))
 
-module _ {S : Type 0} (sink : BitSinkView S) where
+module _ {S : Type 0} {sink : BitSinkView S} (k : ℕ) (d e : List Bool) {a b : StuffingWriter} {s t : S} where
   -- data d, and after it e
-  pub data-sent : (k : ℕ) (d e : List Bool) (a b c : StuffingWriter) (s t u : S) →
-      Sent sink (raw_after k d) a b s t → b.run ≡ run_after k d →
+  pub data-sent : {c : StuffingWriter} {u : S} → Sent sink (raw_after k d) a b s t → b.run ≡ run_after k d →
       Sent sink (raw_after b.run e) b c t u → Sent sink (raw_after k (d ++ e)) a c s u
-  data-sent k d e a b c s t u p r q =
-      subst (λ z. Sent sink z a c s u) (sym (raw-append k d e))
-      (sent-more sink _ _ a b c s t u p (subst (λ n. Sent sink (raw_after n e) b c t u) r q))
+  data-sent {c} {u} p r q = subst (λ z. Sent sink z a c s u) (sym (raw-append k d e))
+      (sent-more p (subst (λ n. Sent sink (raw_after n e) b c t u) r q))
 
-  pub data-cut-before : (k : ℕ) (d e : List Bool) (a b : StuffingWriter) (s t : S) →
-      Cut sink (raw_after k d) a b s t → Cut sink (raw_after k (d ++ e)) a b s t
-  data-cut-before k d e a b s t q =
-      subst (λ z. Cut sink z a b s t) (sym (raw-append k d e)) (cut-before sink _ _ a b s t q)
+  pub data-cut-before : Cut sink (raw_after k d) a b s t → Cut sink (raw_after k (d ++ e)) a b s t
+  data-cut-before q = subst (λ z. Cut sink z a b s t) (sym (raw-append k d e)) (cut-before _ q)
 
-  pub data-cut-behind : (k : ℕ) (d e : List Bool) (a b c : StuffingWriter) (s t u : S) →
-      Sent sink (raw_after k d) a b s t → b.run ≡ run_after k d →
+  pub data-cut-behind : {c : StuffingWriter} {u : S} → Sent sink (raw_after k d) a b s t → b.run ≡ run_after k d →
       Cut sink (raw_after b.run e) b c t u → Cut sink (raw_after k (d ++ e)) a c s u
-  data-cut-behind k d e a b c s t u p r q =
-      subst (λ z. Cut sink z a c s u) (sym (raw-append k d e))
-      (cut-behind sink _ _ a b c s t u p (subst (λ n. Cut sink (raw_after n e) b c t u) r q))
-
-  pub data-cut : (k : ℕ) (d e f : List Bool) (a b c : StuffingWriter) (s t u : S) →
-      Sent sink (raw_after k d) a b s t → b.run ≡ run_after k d →
-      Cut sink (raw_after b.run e) b c t u → Cut sink (raw_after k ((d ++ e) ++ f)) a c s u
-  data-cut k d e f a b c s t u p r q = data-cut-before k (d ++ e) f a c s u (data-cut-behind k d e a b c s t u p r q)
+  data-cut-behind {c} {u} p r q = subst (λ z. Cut sink z a c s u) (sym (raw-append k d e))
+      (cut-behind p (subst (λ n. Cut sink (raw_after n e) b c t u) r q))
 
 pub octets-next : (os : List ℕ) (i : ℕ) → i < length os →
     bits_of_octets (take (i + 1) os) ≡ bits_of_octets (take i os) ++ bits_of 8 (get_or os i 0)

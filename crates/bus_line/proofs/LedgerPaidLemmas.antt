@@ -16,23 +16,20 @@ use Rattle.bus_line.specs.Due.{Mark, NoMark, FlagAt, AbortAt, current, class_of,
 use Rattle.bus_line.specs.Due.{reports, places}
 use Rattle.bus_line.specs.Ledger.{is_inserted, is_stored, stored, stored_from, kind_octets, octet_count, copied}
 use Rattle.bus_line.specs.Internal.EndedMark.{HasEnded}
+use Rattle.bus_line.specs.Internal.RunsTo.{closed_piece}
 use Rattle.bus_line.specs.declared.decoder.ended_mark.EndedMark.{EndedMark}
 use Rattle.bus_line.specs.declared.decoder.ended_mark.EndedMark.TheVariants.{FlagMark, AbortMark, IdleMark, Other}
 use Rattle.bus_line.specs.Internal.Tracks.{settled_data}
-use Rattle.bus_line.proofs.DueMoreLemmas.{reports-more}
+use Rattle.bus_line.proofs.DueMoreLemmas.{reports-more, range-append}
 use Rattle.bus_line.proofs.LedgerSettledLemmas.{one_if, one-place, stored-more, is_stored-append, is_settled-late}
-use Rattle.bus_line.proofs.LedgerStoredLemmas.{kept, stored_from-is, none-behind}
+use Rattle.bus_line.proofs.LedgerRankLemmas.{kept, stored_from-is, none-behind, stores-now}
 use Rattle.bus_fcs.specs.FrameCheck.{is_good}
 use Rattle.bus_line.specs.declared.cause.Cause.TheVariants.{Short, Unaligned, Fcs}
 use Rattle.bus_line.proofs.RunLemmas.{IsLow, low-from, low-unspelled}
 use Rattle.bus_line.proofs.SpellingRawLemmas.{current-low}
-use Rattle.bus_line.proofs.DueMoreLemmas.{range-append}
-use Rattle.bus_line.proofs.LedgerRankLemmas.{stores-now}
-use Rattle.bus_line.proofs.TracksHoldLemmas.{length-octets}
-use Rattle.bus_line.proofs.StepLemmas.{data-inserted, data-more, data-settled}
+use Rattle.bus_line.proofs.WholeLemmas.{length-octets, take_next}
+use Rattle.bus_line.proofs.StepLemmas.{data-inserted, data-more, data-settled, closing, seven, fifteen, other}
 use Rattle.std.proofs.lemmas.Bool.Decides.{nat_tests}
-use Rattle.bus_line.proofs.DecideLemmas.{closing, seven, fifteen, other}
-use Rattle.bus_line.proofs.WholeLemmas.{take_next}
 
 -- the octets stored for the piece after this mark
 abbrev open_stored : ℕ → List Bool → Mark → ℕ
@@ -223,9 +220,7 @@ piece-octets longest b bit (FlagAt p) mark =
 paid-flag : (longest : ℕ) (b : List Bool) (bit : Bool) (due : Option Report) → IsPaid longest b → 6 < length b →
     current (b ++ bit ∷ []) ≡ FlagAt (length b - 7)
     → copied longest (b ++ bit ∷ []) ≡ copied longest b
-    + sum_by octet_count
-    (option_to_list (piece_report (λ p. class_of longest (slice_range (b ++ bit ∷ []) (p + 8) (length b - 7)))
-    (current b) (length b - 7))) → IsPaid longest (b ++ bit ∷ [])
+    + sum_by octet_count (option_to_list (closed_piece longest b bit)) → IsPaid longest (b ++ bit ∷ [])
 paid-flag longest b bit due paid long mark copies =
     let c = b ++ bit ∷ [] in
     let opened = ap (open_stored longest c) mark in

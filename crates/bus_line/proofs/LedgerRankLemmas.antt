@@ -1,20 +1,28 @@
 -- How many data bits are settled.
 use Rattle.std.proofs.Common.{◌≡◌, ℕ, zero, suc, ◌+◌, ◌-◌, ◌*◌, ◌%◌, ◌≤◌, ◌<◌, ◌==◌, Bool, true, false, not, ◌&&◌}
 use Rattle.std.proofs.Common.{if◌then◌else◌, List, [], ◌∷◌, ◌++◌, length, take, drop, get_or, refl, sym, ap, ◌∙◌, ◌⊎◌}
-use Rattle.std.proofs.Common.{inl, inr, arith, nat_le, nat_lt}
+use Rattle.std.proofs.Common.{inl, inr, arith, nat_le, nat_lt, ◌≢◌, ◌/◌, min, Some, None}
 use Rattle.std.specs.List.{slice_range, count_by}
-use Rattle.std.proofs.lemmas.List.{length_push, length-drop, take_more, get_or-drop}
-use Rattle.std.proofs.lemmas.Bool.{cases_lt, cases_Bool, leb-true, le-leb, lt-leb, lt-ltb, and_left}
-use Rattle.std.proofs.lemmas.Bool.{and_right, and_from, and_parts, eqb-true}
+use Rattle.std.proofs.lemmas.List.{length_push, length-drop, take_more, get_or-drop, length-take}
+use Rattle.std.proofs.lemmas.Bool.{cases_lt, cases_Bool, leb-true, le-leb, lt-leb, lt-ltb, and_left, and_right}
+use Rattle.std.proofs.lemmas.Bool.{and_from, and_parts, eqb-true}
 use Rattle.bus_line.specs.Internal.Run.{ones_at_end, data_so_far}
 use Rattle.bus_line.proofs.RunLemmas.{data_after-more}
-use Rattle.bus_line.specs.Due.{Mark, NoMark, FlagAt, AbortAt, last_mark, places, current}
+use Rattle.bus_line.specs.Due.{Mark, NoMark, FlagAt, AbortAt, last_mark, places, current, begun_by}
 use Rattle.bus_line.specs.Ledger.{is_settled, belongs, is_inserted, rank_under, is_stored, stored, assembled}
-use Rattle.bus_line.proofs.MarkLemmas.{last_mark-append}
-use Rattle.bus_line.proofs.MarkLastLemmas.{last_mark-flag, last_mark-is}
-use Rattle.bus_line.proofs.DueStreamLemmas.{not-abort}
-use Rattle.bus_line.proofs.LedgerSettledLemmas.{one_if, count-more, count-same, is_settled-append}
+use Rattle.bus_line.specs.Ledger.{stored_from, stored_behind, stored_open}
+use Rattle.bus_line.proofs.MarkLemmas.{last_mark-append, last_mark-flag, last_mark-is}
+use Rattle.bus_line.proofs.DueStreamLemmas.{not-abort, flag-fits}
+use Rattle.bus_line.proofs.LedgerSettledLemmas.{one_if, count-more, count-same, is_settled-append, is_settled-late}
 use Rattle.bus_line.proofs.SpellingRawLemmas.{current-low, inserted-raw}
+use Rattle.std.specs.Prelude.{nat_le, nat_lt, if◌then◌else◌}
+use Rattle.std.proofs.lemmas.Bool.Decides.{nat_tests}
+use Rattle.bus_bits.specs.Octet.{octets}
+use Rattle.bus_fcs.specs.Check.{CheckView}
+use Rattle.bus_line.specs.Internal.LineState.{LineState}
+use Rattle.bus_line.specs.Internal.Tracks.{first_of, settled_data, HoldsFor}
+use Rattle.bus_line.specs.After.{After}
+use Rattle.bus_line.proofs.WholeLemmas.{length-octets}
 
 range-step : (b : List Bool) (x m : ℕ) → x ≤ m → m < length b →
     slice_range b x (suc m) ≡ slice_range b x m ++ get_or b m false ∷ []
@@ -180,3 +188,144 @@ paid longest b (suc m) =
 -- eight settled places for each octet that is stored
 pub stored-paid : (longest : ℕ) (b : List Bool) → 8 * stored longest b ≤ assembled b
 stored-paid longest b = omega (arith, paid longest b (length b))
+
+-- ---- how many octets are stored for the open piece
+
+-- the settled places of the flag, and those of them that fill a stored octet
+abbrev ranked : List Bool → ℕ → ℕ → Bool
+ranked b p j = nat_le (p + 8) j && is_settled b j
+
+abbrev pub kept : ℕ → List Bool → ℕ → ℕ → Bool
+kept longest b p j = nat_le (p + 8) j && is_stored longest b j
+
+-- one more settled place stores an octet where it is the eighth of one that fits
+one-stored : (limit rank : ℕ) → min limit ((rank + 1) / 8)
+    ≡ min limit (rank / 8) + one_if (((rank + 1) % 8 == 0) && nat_le (rank + 1) (8 * limit))
+one-stored limit rank =
+    elim (cases_Bool ((rank + 1) % 8 == 0)) [
+      | inl eighth ↦
+          let whole : (rank + 1) % 8 ≡ 0 = grind (arith, nat_tests) in
+          elim (cases_Bool (nat_le (rank + 1) (8 * limit))) [
+            | inl fits ↦ rw (eighth, fits) (omega (arith, whole, leb-true (rank + 1) (8 * limit) fits))
+            | inr full ↦ rw (eighth, full) (omega (arith, whole, not_below full))
+          ]
+      | inr odd ↦ rw odd (omega (arith, uneven odd))
+    ]
+  where
+    not_below : nat_le (rank + 1) (8 * limit) ≡ false → 8 * limit < rank + 1
+    not_below full = grind (arith, nat_tests)
+
+    uneven : ((rank + 1) % 8 == 0) ≡ false → (rank + 1) / 8 ≡ rank / 8
+    uneven odd = let not-whole : (rank + 1) % 8 ≢ 0 = grind (arith, nat_tests) in omega (arith, not-whole)
+
+stored-ranked : (longest : ℕ) (b : List Bool) (p m : ℕ) → current b ≡ FlagAt p → m ≤ length b →
+    count_by (kept longest b p) (places m) ≡ min (longest + 2) (count_by (ranked b p) (places m) / 8)
+stored-ranked longest b p zero mark within = omega arith
+stored-ranked longest b p (suc m) mark within =
+    let before = stored-ranked longest b p m mark (omega arith) in
+    let more-kept = count-more (kept longest b p) m in
+    let more-ranked = count-more (ranked b p) m in
+    elim (cases_Bool (ranked b p m)) [
+      | inr not-ranked ↦
+          let none : kept longest b p m ≡ false = unranked not-ranked in
+          omega (arith, before, more-kept, more-ranked, ap one_if not-ranked, ap one_if none)
+      | inl is-ranked ↦
+          let rank = count_by (ranked b p) (places m) in
+          let parts = and_parts (nat_le (p + 8) m) (is_settled b m) is-ranked in
+          let begun = leb-true (p + 8) m parts.0 in
+          let same = flag-stays b p (suc m) (length b) mark (omega (arith, begun)) within in
+          let size : count_by (ranked b p) (places (suc m)) ≡ rank + 1 =
+          omega (arith, more-ranked, ap one_if is-ranked) in
+          let now : kept longest b p m ≡ (((rank + 1) % 8 == 0) && nat_le (rank + 1) (8 * (longest + 2))) =
+          both (nat_le (p + 8) m) (is_settled b m) _ parts.0 parts.1
+          ∙ ap (λ k. (k % 8 == 0) && nat_le k (8 * (longest + 2))) (ap (λ k. rank_under b k m) same ∙ size) in
+          more-kept
+          ∙ (rw (before, now) (sym (ap (λ k. min (longest + 2) (k / 8)) size ∙ one-stored (longest + 2) rank)))
+    ]
+  where
+    both : (x y z : Bool) → x ≡ true → y ≡ true → (x && (y && z)) ≡ z
+    both x y z first second = rw (first, second) refl
+
+    unranked : ranked b p m ≡ false → kept longest b p m ≡ false
+    unranked no-rank = unranked-by (nat_le (p + 8) m) (is_settled b m) _ no-rank
+      where
+        unranked-by : (x y z : Bool) → (x && y) ≡ false → (x && (y && z)) ≡ false
+        unranked-by true true z no-rank = absurd (cc)
+        unranked-by true false z no-rank = refl
+        unranked-by false y z no-rank = refl
+
+count-up : (f : ℕ → Bool) (m n : ℕ) → ((i : ℕ) → m ≤ i → f i ≡ false) →
+    count_by f (places (m + n)) ≡ count_by f (places m)
+count-up f m zero none = let next : m + 0 ≡ m = omega arith in ap (λ k. count_by f (places k)) next
+count-up f m (suc n) none =
+    let next : m + suc n ≡ suc (m + n) = omega arith in
+    rw next (omega (arith, count-more f (m + n), count-up f m n none, ap one_if (none (m + n) (omega arith))))
+
+-- the octets stored for the open piece are as many as its settled data have, up to the buffer's room
+pub stored_from-is : (longest : ℕ) (b : List Bool) (p : ℕ) → current b ≡ FlagAt p →
+    stored_from longest b (p + 8) ≡ min (longest + 2) (length (data_so_far (slice_range b (p + 8) (length b - 8))) / 8)
+stored_from-is longest b p mark =
+    let fits = flag-fits b p (last_mark-flag b (length b) p mark).flag in
+    let size : length b ≡ (length b - 8) + 8 = omega arith in
+    let late = λ (i : ℕ) (l : length b - 8 ≤ i). settled-kept i (omega (arith, l)) in
+    ap (λ k. count_by (kept longest b p) (places k)) size
+    ∙ (count-up (kept longest b p) (length b - 8) 8 late
+    ∙ (stored-ranked longest b p (length b - 8) mark (omega arith)
+    ∙ ap (λ k. min (longest + 2) (k / 8)) (rank-data b p (length b - 8) mark (omega arith))))
+  where
+    settled-kept : (i : ℕ) → length b ≤ i + 8 → kept longest b p i ≡ false
+    settled-kept i late = rw (is_settled-late b i late) (and-none (nat_le (p + 8) i))
+      where
+        and-none : (x : Bool) → (x && false) ≡ false
+        and-none true = refl
+        and-none false = refl
+
+-- and none where nothing stands after the flag
+pub none-behind : (longest : ℕ) (b : List Bool) (p : ℕ) → length b ≤ p + 8 → stored_from longest b (p + 8) ≡ 0
+none-behind longest b p short =
+    count-none (kept longest b p) (length b) (λ i below. and_left _ _ (lt-leb (p + 8) i (omega (arith, short, below))))
+
+-- ---- what is buffered of the open piece
+
+-- after a flag that is the last mark as many are stored as the settled data have, up to the room
+stored-behind-flag : (longest : ℕ) (b : List Bool) (p : ℕ) → current b ≡ FlagAt p →
+    stored_open longest b ≡ min (longest + 2) (length (settled_data b p) / 8)
+stored-behind-flag longest b p e = ap (λ m. stored_behind longest b (begun_by m (length b))) e
+    ∙ (open_if (nat_lt (p + 8) (length b)) refl ∙ stored_from-is longest b p e)
+  where
+    open_if : (t : Bool) → nat_lt (p + 8) (length b) ≡ t → stored_behind longest b (if t then Some (p + 8) else None)
+        ≡ stored_from longest b (p + 8)
+    open_if true h = refl
+    open_if false h = sym (none-behind longest b p (grind (arith, nat_tests)))
+
+-- where no piece has begun none is stored
+none-behind-mark : (longest origin : ℕ) (b : List Bool) (m : Mark) → current b ≡ m → first_of origin m ≡ None →
+    0 ≡ stored_open longest b
+none-behind-mark longest origin b NoMark e f = sym (ap (λ m. stored_behind longest b (begun_by m (length b))) e)
+none-behind-mark longest origin b (AbortAt a) e f = sym (ap (λ m. stored_behind longest b (begun_by m (length b))) e)
+none-behind-mark longest origin b (FlagAt p) e f = absurd (cc)
+
+-- before the first octet none is stored
+pub none-stored : {C : Type 0} (view : CheckView C) (d : LineState C) (b : List Bool) →
+    After view d b → d.data_bits < 8 → 0 ≡ stored_open d.longest b
+none-stored view d b h l = by_mark (current b) refl h.piece
+  where
+    by_mark : (m : Mark) → current b ≡ m → HoldsFor view.folded d b m → 0 ≡ stored_open d.longest b
+    by_mark NoMark e k = none-behind-mark d.longest d.origin b NoMark e refl
+    by_mark (AbortAt a) e k = none-behind-mark d.longest d.origin b (AbortAt a) e refl
+    by_mark (FlagAt p) e k = omega (arith, stored-behind-flag d.longest b p e, k.count, l)
+
+-- from then on those that are held
+pub held-stored : {C : Type 0} (view : CheckView C) (d : LineState C) (b : List Bool) (first : ℕ) →
+    After view d b → d.first ≡ Some first → 8 ≤ d.data_bits → length d.octets ≡ stored_open d.longest b
+held-stored view d b first h f l = by_mark (current b) refl h.piece (sym h.first ∙ f)
+  where
+    by_mark : (m : Mark) → current b ≡ m → HoldsFor view.folded d b m → first_of d.origin m ≡ Some first →
+        length d.octets ≡ stored_open d.longest b
+    by_mark NoMark e k g = absurd (cc)
+    by_mark (AbortAt a) e k g = absurd (cc)
+    by_mark (FlagAt p) e k g =
+        let bits = settled_data b p in
+        let n : length (octets bits) ≡ length bits / 8 = length-octets (length bits / 8) bits refl in
+        let kept = ap length (k.held (omega (arith, k.count, l))) ∙ length-take (d.longest + 2) (octets bits) in
+        omega (arith, stored-behind-flag d.longest b p e, n, kept)

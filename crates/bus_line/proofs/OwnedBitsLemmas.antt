@@ -10,8 +10,7 @@ use Rattle.bus_line.specs.Report.{closed, aborted, idle}
 use Rattle.bus_line.specs.declared.cause.Cause.TheVariants.{Short, Unaligned, Fcs}
 use Rattle.bus_bits.specs.Octet.{octets}
 use Rattle.bus_line.specs.OwnedBits.{owned_by, owned_from}
-use Rattle.bus_line.proofs.MarkLemmas.{stands-bit}
-use Rattle.bus_line.proofs.MarkLastLemmas.{fresh-bit}
+use Rattle.bus_line.proofs.MarkLemmas.{stands-bit, fresh-bit}
 use Rattle.bus_line.proofs.DueLemmas.{class-due}
 use Rattle.bus_line.proofs.SpellingRawLemmas.{range-length}
 use Rattle.bus_line.proofs.DueStreamLemmas.{flag-not_abort, stands-part}

@@ -8,17 +8,19 @@ use Rattle.bus_bits.specs.Bits.{bits_from}
 use Rattle.bus_bits.specs.Octet.{bits_of}
 use Rattle.bus_bits.proofs.OctetLemmas.{bits-front, length-bits}
 use Rattle.bus_fcs.specs.Check.{CheckView}
-use Rattle.bus_line.specs.Report.{Report, moved}
-use Rattle.bus_line.specs.Due.{current, due_at, placed}
-use Rattle.bus_line.specs.After.{Advances, After, DecideNothing, Decides}
+use Rattle.bus_line.specs.Report.{Report}
+use Rattle.bus_line.specs.Shown.{reported}
+use Rattle.bus_line.specs.declared.event.Event.{Event}
+use Rattle.bus_line.specs.Due.{current, placed}
+use Rattle.bus_line.specs.After.{AdvancesWith, After, DecideNothing, Decides, due_of}
 use Rattle.bus_line.specs.Internal.LineState.{LineState}
-use Rattle.bus_line.specs.Internal.RunsTo.{RunsTo, RunsToStop}
+use Rattle.bus_line.specs.Internal.RunsTo.{ConsumesBits, DecidesLast, RunsTo, RunsToStop}
 use Rattle.bus_line.specs.Internal.Settled.{HasNoStop}
 use Rattle.bus_line.specs.Internal.Tracks.{HasTaken, Tracks}
 use Rattle.bus_line.proofs.DueMoreLemmas.{placed-more}
 use Rattle.bus_line.proofs.AdvanceLemmas.{no_stop-after, no_stop-before, no_stop-placed, tracks-last}
 use Rattle.bus_line.proofs.TimeFillLemmas.{last-bits-small, no-stop, word-behind, word-is, word_of}
-use Rattle.bus_line.proofs.DecidesLemmas.{decide-more, joins, last-bit, decides-more}
+use Rattle.bus_line.proofs.DecidesLemmas.{decide-more, joins, last-bit}
 
 -- ---- bits without a stop
 
@@ -41,25 +43,23 @@ no_stop-turn d x m n b taken none low lows =
     let within : m ≤ length (bits_of 56 x) = omega (arith, low, length-bits 56 x) in
     no_stop-front b x 56 n m (no_stop-before w m b (bits_of 56 x) word within (no-stop w _ m behind none)) low lows
 
-module _ {C : Type 0} (view : CheckView C) {old new : LineState C} {bits : List Bool}
-    (longest : new.longest ≡ old.longest) (origin : new.origin ≡ old.origin)
-    (place : new.place ≡ old.place + length bits) where
+module _ {C : Type 0} {view : CheckView C} {old new : LineState C} {bits : List Bool}
+    (consumed : ConsumesBits view old bits new) where
   -- which all are settled
-  pub ran-all : ((b : List Bool) → After view old b → HasNoStop b bits (length bits)) →
-      ((b : List Bool) → After view old b → Tracks view new (b ++ bits) (current b)) →
-      Decides view old bits None new
-  ran-all no_stop tracks =
+  pub ran-all : ((b : List Bool) → After view old b → HasNoStop b bits (length bits)) → Decides view old bits None new
+  ran-all no_stop =
       let all : take (length bits) bits ≡ bits = take_all (length bits) bits (omega arith) in
       record {
         leads = record {
           after = λ b stands.
-              let settled =
-              subst (λ (z : List Bool). Tracks view new (b ++ z) (current b)) (sym all) (tracks b stands) in
+              let front : HasNoStop b bits (length bits - 1) = λ i before. no_stop b stands i (omega (arith, before)) in
+              let settled = subst (λ (z : List Bool). Tracks view new (b ++ z) (current b)) (sym all)
+              (consumed.tracks b stands front) in
               subst (λ (z : List Bool). After view new (b ++ z)) all
               (no_stop-after view (length bits) new b bits (no_stop b stands) (omega arith) settled);
-          longest = longest;
-          origin = origin;
-          place = place;
+          longest = consumed.longest;
+          origin = consumed.origin;
+          place = consumed.place;
         };
         says = λ b stands.
             ap (λ (z : List Bool). placed old.origin old.longest (b ++ z)) (sym all)
@@ -68,23 +68,22 @@ module _ {C : Type 0} (view : CheckView C) {old new : LineState C} {bits : List 
       }
 
   -- and one after them
-  pub ran-last : 1 ≤ length bits →
-      ((b : List Bool) → After view old b → HasNoStop b bits (length bits - 1)) →
-      ((b : List Bool) → After view old b → Tracks view new (b ++ bits) (current b)) →
+  pub ran-last : 1 ≤ length bits → ((b : List Bool) → After view old b → HasNoStop b bits (length bits - 1)) →
       RunsTo view old bits new
-  ran-last some no_stop tracks =
+  ran-last some no_stop =
       let n : ℕ = length bits - 1 in
       let all : take (n + 1) bits ≡ bits = take_all (n + 1) bits (omega (arith, some)) in
       record {
         front = take n bits;
         last = get_or bits n false;
         all = last-bit bits some;
-        longest = longest;
-        origin = origin;
-        place = place;
+        longest = consumed.longest;
+        origin = consumed.origin;
+        place = consumed.place;
         tracks = λ b stands.
+            let settled = consumed.tracks b stands (no_stop b stands) in
             tracks-last view n new b bits (no_stop b stands) (omega (arith, some))
-            (subst (λ (z : List Bool). Tracks view new (b ++ z) (current b)) (sym all) (tracks b stands));
+            (subst (λ (z : List Bool). Tracks view new (b ++ z) (current b)) (sym all) settled);
         before = λ b stands.
             no_stop-placed old.origin old.longest n b bits (no_stop b stands) n (omega arith) (omega arith);
       }
@@ -92,40 +91,33 @@ module _ {C : Type 0} (view : CheckView C) {old new : LineState C} {bits : List 
   -- which all are settled, unless the last may decide a report
   pub ran-to : (is_stop : Bool) → 1 ≤ length bits →
       (is_stop ≡ false → (b : List Bool) → After view old b → HasNoStop b bits (length bits)) →
-      ((b : List Bool) → After view old b → HasNoStop b bits (length bits - 1)) →
-      ((b : List Bool) → After view old b → Tracks view new (b ++ bits) (current b)) →
-      RunsToStop view old bits is_stop new
-  ran-to true some all no_stop tracks = ran-last some no_stop tracks
-  ran-to false some all no_stop tracks = ran-all (all refl) tracks
+      ((b : List Bool) → After view old b → HasNoStop b bits (length bits - 1)) → RunsToStop view old bits is_stop new
+  ran-to true some all no_stop = ran-last some no_stop
+  ran-to false some all no_stop = ran-all (all refl)
 
 -- ---- what the last of them decides
 
-pub decided : {C : Type 0} (view : CheckView C) {old mid new : LineState C} {bits : List Bool}
-    {report : Option Report} → RunsTo view old bits mid
-    → new.longest ≡ mid.longest → new.origin ≡ mid.origin → new.place ≡ mid.place
-    → ((b : List Bool) (bit : Bool) → Tracks view mid (b ++ bit ∷ []) (current b) →
-    report ≡ option_map (moved mid.origin) (due_at mid.longest (b ++ bit ∷ []) (length b)))
-    → ((b : List Bool) (bit : Bool) → Tracks view mid (b ++ bit ∷ []) (current b) →
-    After view new (b ++ bit ∷ []))
-    → Advances view old bits report new
-decided view {old} {mid} {new} {bits} {report} reached longest origin place answer after =
+pub decided : {C : Type 0} {view : CheckView C} {old mid new : LineState C} {bits : List Bool}
+    {event : Option Event} → RunsTo view old bits mid → DecidesLast view mid event new
+    → AdvancesWith view old bits event new
+decided {C} {view} {old} {mid} {new} {bits} {event} reached decision =
     let front = reached.front in
     let last = reached.last in
+    let report = option_map (reported new.octets) event in
     let joined : (b : List Bool) → (b ++ front) ++ last ∷ [] ≡ b ++ bits =
     λ b. append_assoc b front (last ∷ []) ∙ ap (λ (z : List Bool). b ++ z) (sym reached.all) in
     let fewer : take (length bits - 1) bits ≡ front = but-last bits front last reached.all in
     record {
       decides = record {
         leads = record {
-          after = λ b stands. rw (← joined b) (after (b ++ front) last (reached.tracks b stands));
-          longest = longest ∙ reached.longest;
-          origin = origin ∙ reached.origin;
-          place = place ∙ reached.place;
+          after = λ b stands. rw (← joined b) (decision.after (b ++ front) last (reached.tracks b stands));
+          longest = decision.longest ∙ reached.longest;
+          origin = decision.origin ∙ reached.origin;
+          place = decision.place ∙ reached.place;
         };
         says = λ b stands.
-            let due = answer (b ++ front) last (reached.tracks b stands) in
-            let here : report ≡ option_map (moved old.origin)
-            (due_at old.longest ((b ++ front) ++ last ∷ []) (length (b ++ front))) =
+            let due = decision.answer (b ++ front) last (reached.tracks b stands) in
+            let here : report ≡ due_of old ((b ++ front) ++ last ∷ []) (length (b ++ front)) =
             rw (← reached.longest, ← reached.origin) due in
             ap (placed old.origin old.longest) (sym (joined b))
             ∙ (placed-more old.origin old.longest (b ++ front) last report here
@@ -147,9 +139,9 @@ decided view {old} {mid} {new} {bits} {report} reached longest origin place answ
 
 -- ---- after bits that decide nothing
 
-runs-more : {C : Type 0} (view : CheckView C) {a c e : LineState C} {xs ys : List Bool}
+runs-more : {C : Type 0} {view : CheckView C} {a c e : LineState C} {xs ys : List Bool}
     → Decides view a xs None c → RunsTo view c ys e → RunsTo view a (xs ++ ys) e
-runs-more view {a} {c} {e} {xs} {ys} quiet reached =
+runs-more {C} {view} {a} {c} {e} {xs} {ys} quiet reached =
     let more : xs ++ ys ≡ (xs ++ reached.front) ++ reached.last ∷ [] =
     ap (λ (z : List Bool). xs ++ z) reached.all ∙ sym (append_assoc xs reached.front (reached.last ∷ [])) in
     record {
@@ -161,19 +153,10 @@ runs-more view {a} {c} {e} {xs} {ys} quiet reached =
       place = omega (arith, length-append xs ys, quiet.leads.place, reached.place);
       tracks = λ b stands.
           rw (← append_assoc b xs reached.front) (reached.tracks (b ++ xs) (quiet.leads.after b stands));
-      before = decide-more view quiet reached.before;
+      before = decide-more quiet reached.before;
     }
 
-runs-to-more : {C : Type 0} (view : CheckView C) {a c : LineState C} {xs : List Bool}
-    (e : LineState C) (ys : List Bool) (is_stop : Bool) → Decides view a xs None c
-    → RunsToStop view c ys is_stop e → RunsToStop view a (xs ++ ys) is_stop e
-runs-to-more view e ys true quiet reached = runs-more view quiet reached
-runs-to-more view e ys false quiet reached = decides-more view quiet reached
-
-pub runs-on : {C : Type 0} (view : CheckView C) (os : List ℕ) (from at : ℕ) → from ≤ at
-    → {a c : LineState C} → Decides view a (bits_from os from (at - from)) None c
-    → (e : LineState C) (n m : ℕ) (is_stop : Bool) → m ≡ at - from + n
-    → RunsToStop view c (bits_from os at n) is_stop e → RunsToStop view a (bits_from os from m) is_stop e
-runs-on view os from at begun {a} {c} quiet e n m is_stop count reached =
-    rw (← joins view os from at begun quiet n m count)
-    (runs-to-more view e (bits_from os at n) is_stop quiet reached)
+pub runs-on : {C : Type 0} {view : CheckView C} (os : List ℕ) {from at : ℕ} {a c e : LineState C} → from ≤ at
+    → Decides view a (bits_from os from (at - from)) None c → (n m : ℕ) → m ≡ at - from + n
+    → RunsTo view c (bits_from os at n) e → RunsTo view a (bits_from os from m) e
+runs-on os begun quiet n m count reached = rw (← joins os begun quiet n m count) (runs-more quiet reached)

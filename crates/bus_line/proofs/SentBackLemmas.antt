@@ -11,7 +11,7 @@ use Rattle.std.proofs.lemmas.Bool.Decides.{nat_tests}
 use Rattle.bus_line.specs.Spelling.{ones, IsSpelledBy, ends, short, five}
 use Rattle.bus_line.specs.Internal.Run.{ones_after, ones_at_end}
 use Rattle.bus_line.specs.Mark.{flag}
-use Rattle.bus_line.specs.Report.{Kind, class_of_data}
+use Rattle.bus_line.specs.Report.{Kind, Report, class_of_data}
 use Rattle.bus_line.specs.Due.{reports, due_at, class_of, class_of_read, piece_report, FlagAt, AbortAt, current}
 use Rattle.bus_line.specs.Line.{Call, Flag, Idle, Frame, raw_bits, added, line_behind}
 use Rattle.bus_line.specs.Sent.{CanBeRead, idle_at, frame_at, read_of, read_behind, LineIsReadBack}
@@ -32,9 +32,9 @@ record Quiet (longest : ℕ) (b c : List Bool) (k : ℕ) : Type 0 where
 quiet-nil : (longest : ℕ) (b : List Bool) (k : ℕ) → ones_at_end b ≡ k → Quiet longest b [] k
 quiet-nil longest b k run = record { none = rw append-nil; mark = rw append-nil; run = rw append-nil run }
 
-quiet-more : (longest : ℕ) (b c d : List Bool) (j k : ℕ) → Quiet longest b c j → Quiet longest (b ++ c) d k →
+quiet-more : {longest : ℕ} {b c d : List Bool} {j k : ℕ} → Quiet longest b c j → Quiet longest (b ++ c) d k →
     Quiet longest b (c ++ d) k
-quiet-more longest b c d j k first more =
+quiet-more {longest} {b} {c} {d} first more =
     record {
       none = rw (← append_assoc b c d) (more.none ∙ first.none);
       mark = rw (← append_assoc b c d) (more.mark ∙ first.mark);
@@ -71,12 +71,12 @@ quiet-low longest b (true ∷ w) low =
     let run = ones_after-more 0 b true in
     let bit = quiet-bit longest b true (few-neither (ones_at_end b) (omega (arith, few))) in
     let more = quiet-low longest (b ++ true ∷ []) w (subst (λ n. IsLow n w) (sym run) low) in
-    subst (λ n. Quiet longest b (true ∷ w) (ones_after n w)) run (quiet-more longest b (true ∷ []) w _ _ bit more)
+    subst (λ n. Quiet longest b (true ∷ w) (ones_after n w)) run (quiet-more bit more)
 quiet-low longest b (false ∷ w) low =
     let run = ones_after-more 0 b false in
     let bit = quiet-bit longest b false (few-neither (ones_at_end b) low.0) in
     let more = quiet-low longest (b ++ false ∷ []) w (subst (λ n. IsLow n w) (sym run) low.1) in
-    subst (λ n. Quiet longest b (false ∷ w) (ones_after n w)) run (quiet-more longest b (false ∷ []) w _ _ bit more)
+    subst (λ n. Quiet longest b (false ∷ w) (ones_after n w)) run (quiet-more bit more)
 
 -- more ones, none of them the seventh or the fifteenth
 quiet-ones : (longest : ℕ) (b : List Bool) (j k : ℕ) → ones_at_end b ≡ j →
@@ -88,7 +88,12 @@ quiet-ones longest b j (suc k) run neither =
     let size : suc j + k ≡ j + suc k = omega arith in
     let more = quiet-ones longest (b ++ true ∷ []) (suc j) k (bit.run ∙ ap suc run)
     (λ i below. let at : j + suc i ≡ suc j + i = omega arith in subst IsNeither at (neither (suc i) (omega arith))) in
-    subst (Quiet longest b (ones (suc k))) size (quiet-more longest b (true ∷ []) (ones k) _ _ bit more)
+    subst (Quiet longest b (ones (suc k))) size (quiet-more bit more)
+
+-- the bits c after b add these reports, and then the bits end so
+record Adds (longest : ℕ) (b c : List Bool) (rs : List Report) (Ends : List Bool → Type 0) : Type 0 where
+  adds : reports longest (b ++ c) ≡ reports longest b ++ rs
+  ends : Ends (b ++ c)
 
 -- the last mark has no piece that a mark at the end would end
 abbrev IsShut : List Bool → Type 0
@@ -121,7 +126,7 @@ flag-added longest b neither =
     let first = quiet-bit longest b false neither in
     let more = quiet-ones longest (b ++ false ∷ []) 0 6 first.run
     (λ i below. few-neither (0 + i) (omega (arith, below))) in
-    let quiet = quiet-more longest b (false ∷ []) (ones 6) _ _ first more in
+    let quiet = quiet-more first more in
     let c = b ++ false ∷ ones 6 in
     let six : ones_at_end (b ++ false ∷ ones 6) ≡ 6 = quiet.run ∙ omega arith in
     let size : length (b ++ false ∷ ones 6) ≡ length b + 7 = length-append b (false ∷ ones 6) in
@@ -159,13 +164,9 @@ range-mid b r t =
     ∙ (ap (take (length r)) (drop_at b (r ++ t) (length b) refl) ∙ take_at r t (length r) refl))
 
 -- raw bits of data and a flag, after a flag
-record ContentAdded (longest : ℕ) (b d r : List Bool) : Type 0 where
-  adds : reports longest (b ++ (r ++ flag)) ≡ reports longest b
-      ++ record { kind = class_of_data longest d; first = length b; past = length b + length r } ∷ []
-  ends : EndsFlag (b ++ (r ++ flag))
-
-content-added : (longest : ℕ) (b d r : List Bool) → EndsFlag b → IsSpelledBy d r → 0 < length r →
-    ContentAdded longest b d r
+content-added : (longest : ℕ) (b d r : List Bool) → EndsFlag b → IsSpelledBy d r → 0 < length r
+    → Adds longest b (r ++ flag)
+    (record { kind = class_of_data longest d; first = length b; past = length b + length r } ∷ []) EndsFlag
 content-added longest b d r opened spelled some =
     let low : IsLow (ones_at_end b) r = subst (λ n. IsLow n r) (sym opened.run) (spelled-low d r spelled) in
     let quiet = quiet-low longest b r low in
@@ -199,12 +200,8 @@ spelled-some _ _ (ends k few) some = some
 spelled-some _ _ (short k d r few spelled) some = omega (arith, length-append (ones k) (false ∷ r))
 spelled-some _ _ (five d r spelled) some = omega arith
 
-record FrameAdded (longest : ℕ) (b : List Bool) (os : List ℕ) : Type 0 where
-  adds : reports longest (b ++ (raw_bits os ++ flag)) ≡ reports longest b ++ frame_at (length b) os ∷ []
-  ends : EndsFlag (b ++ (raw_bits os ++ flag))
-
 frame-added : (longest : ℕ) (b : List Bool) (os : List ℕ) → EndsFlag b → CanBeRead longest (Frame os) →
-    FrameAdded longest b os
+    Adds longest b (raw_bits os ++ flag) (frame_at (length b) os ∷ []) EndsFlag
 frame-added longest b os opened readable =
     let spelled = raw-spelled os in
     let content = content-added longest b (data_sent os) (raw_bits os) opened spelled
@@ -220,12 +217,9 @@ record EndsIdle (b : List Bool) : Type 0 where
 idle-shut : (b : List Bool) → EndsIdle b → IsShut b
 idle-shut b ended kind = ap (λ x. piece_report kind x (length b)) ended.mark
 
-record IdleAdded (longest : ℕ) (b : List Bool) : Type 0 where
-  adds : reports longest (b ++ ones 15) ≡ reports longest b ++ idle_at (length b) ∷ []
-  ends : EndsIdle (b ++ ones 15)
-
 -- fifteen ones after a 0, or at the start
-idle-added : (longest : ℕ) (b : List Bool) → ones_at_end b ≡ 0 → IsShut b → IdleAdded longest b
+idle-added : (longest : ℕ) (b : List Bool) → ones_at_end b ≡ 0 → IsShut b →
+    Adds longest b (ones 15) (idle_at (length b) ∷ []) EndsIdle
 idle-added longest b zero-run shut =
     let six-more = quiet-ones longest b 0 6 zero-run (λ i below. few-neither (0 + i) (omega (arith, below))) in
     let c = b ++ ones 6 in
@@ -266,16 +260,12 @@ idle-added longest b zero-run shut =
       };
     }
 
-record IdleGoesOn (longest : ℕ) (b : List Bool) : Type 0 where
-  adds : reports longest (b ++ ones 15) ≡ reports longest b
-  ends : EndsIdle (b ++ ones 15)
-
-idle-goes_on : (longest : ℕ) (b : List Bool) → EndsIdle b → IdleGoesOn longest b
+idle-goes_on : (longest : ℕ) (b : List Bool) → EndsIdle b → Adds longest b (ones 15) [] EndsIdle
 idle-goes_on longest b ended =
     let more = quiet-ones longest b (ones_at_end b) 15 refl
     (λ i below. many-neither (ones_at_end b + i) (omega (arith, ended.run))) in
     record {
-      adds = more.none;
+      adds = more.none ∙ sym (append-nil (reports longest b));
       ends = record { run = omega (arith, more.run, ended.run); abort = ended.abort; mark = more.mark ∙ ended.mark };
     }
 
@@ -288,30 +278,25 @@ EndsWith (Some Flag) b = EndsFlag b
 EndsWith (Some Idle) b = EndsIdle b
 EndsWith (Some (Frame os)) b = EndsFlag b
 
-record Added (longest : ℕ) (b : List Bool) (before : Option Call) (call : Call) : Type 0 where
-  adds : reports longest (b ++ added before call) ≡ reports longest b ++ read_of (length b) before call
-  ends : EndsWith (Some call) (b ++ added before call)
-
 -- a flag, where no piece has begun
-lone-flag : (longest : ℕ) (b : List Bool) → IsNeither (ones_at_end b) → IsShut b →
-    (reports longest (b ++ flag) ≡ reports longest b ++ []) × EndsFlag (b ++ flag)
-lone-flag longest b neither shut =
-    let closed = flag-added longest b neither in
-    (closed.adds ∙ ap (λ x. reports longest b ++ option_to_list x) (shut _), closed.ends)
+lone-flag : (longest : ℕ) (b : List Bool) → IsNeither (ones_at_end b) × IsShut b → Adds longest b flag [] EndsFlag
+lone-flag longest b rest =
+    let closed = flag-added longest b rest.0 in
+    record { adds = closed.adds ∙ ap (λ x. reports longest b ++ option_to_list x) (rest.1 _); ends = closed.ends }
 
 -- a flag and a frame, where no piece has begun
-flag-frame : (longest : ℕ) (b : List Bool) (os : List ℕ) → IsNeither (ones_at_end b) → IsShut b →
+flag-frame : (longest : ℕ) (b : List Bool) (os : List ℕ) → IsNeither (ones_at_end b) × IsShut b →
     CanBeRead longest (Frame os)
-    → (reports longest (b ++ (flag ++ (raw_bits os ++ flag))) ≡ reports longest b ++ frame_at (length b + 8) os ∷ [])
-    × EndsFlag (b ++ (flag ++ (raw_bits os ++ flag)))
-flag-frame longest b os neither shut readable =
-    let opened = lone-flag longest b neither shut in
-    let frame = frame-added longest (b ++ flag) os opened.1 readable in
-    let whole = append_assoc b flag (raw_bits os ++ flag) in (
-      ap (reports longest) (sym whole)
-          ∙ (frame.adds ∙ rw (opened.0 ∙ append-nil (reports longest b), length-append b flag) refl),
-      subst EndsFlag whole frame.ends,
-    )
+    → Adds longest b (flag ++ (raw_bits os ++ flag)) (frame_at (length b + 8) os ∷ []) EndsFlag
+flag-frame longest b os rest readable =
+    let opened = lone-flag longest b rest in
+    let frame = frame-added longest (b ++ flag) os opened.ends readable in
+    let whole = append_assoc b flag (raw_bits os ++ flag) in
+    record {
+      adds = ap (reports longest) (sym whole)
+          ∙ (frame.adds ∙ rw (opened.adds ∙ append-nil (reports longest b), length-append b flag) refl);
+      ends = subst EndsFlag whole frame.ends;
+    }
 
 -- after a call no piece has begun, and one bit more decides nothing
 at-rest : (before : Option Call) (b : List Bool) → EndsWith before b → IsNeither (ones_at_end b) × IsShut b
@@ -321,30 +306,16 @@ at-rest (Some Idle) b ended = (many-neither (ones_at_end b) ended.run, idle-shut
 at-rest (Some (Frame ps)) b ended = (few-neither (ones_at_end b) (omega (arith, ended.run)), flag-shut b ended)
 
 step : (longest : ℕ) (before : Option Call) (call : Call) (b : List Bool) → EndsWith before b → CanBeRead longest call →
-    Added longest b before call
-step longest before Flag b ended readable =
-    let rest = at-rest before b ended in
-    let sent = lone-flag longest b rest.0 rest.1 in record { adds = sent.0; ends = sent.1 }
-step longest None Idle b start readable =
-    let sent = idle-added longest b (ap ones_at_end start) (at-rest None b start).1 in
-    record { adds = sent.adds; ends = sent.ends }
-step longest (Some Flag) Idle b ended readable =
-    let sent = idle-added longest b ended.run (flag-shut b ended) in record { adds = sent.adds; ends = sent.ends }
-step longest (Some Idle) Idle b ended readable =
-    let more = idle-goes_on longest b ended in
-    record { adds = more.adds ∙ sym (append-nil (reports longest b)); ends = more.ends }
-step longest (Some (Frame ps)) Idle b ended readable =
-    let sent = idle-added longest b ended.run (flag-shut b ended) in record { adds = sent.adds; ends = sent.ends }
-step longest None (Frame os) b start readable =
-    let rest = at-rest None b start in
-    let sent = flag-frame longest b os rest.0 rest.1 readable in record { adds = sent.0; ends = sent.1 }
-step longest (Some Flag) (Frame os) b ended readable =
-    let sent = frame-added longest b os ended readable in record { adds = sent.adds; ends = sent.ends }
-step longest (Some Idle) (Frame os) b ended readable =
-    let rest = at-rest (Some Idle) b ended in
-    let sent = flag-frame longest b os rest.0 rest.1 readable in record { adds = sent.0; ends = sent.1 }
-step longest (Some (Frame ps)) (Frame os) b ended readable =
-    let sent = frame-added longest b os ended readable in record { adds = sent.adds; ends = sent.ends }
+    Adds longest b (added before call) (read_of (length b) before call) (EndsWith (Some call))
+step longest before Flag b ended readable = lone-flag longest b (at-rest before b ended)
+step longest None Idle b start readable = idle-added longest b (ap ones_at_end start) (at-rest None b start).1
+step longest (Some Flag) Idle b ended readable = idle-added longest b ended.run (flag-shut b ended)
+step longest (Some Idle) Idle b ended readable = idle-goes_on longest b ended
+step longest (Some (Frame ps)) Idle b ended readable = idle-added longest b ended.run (flag-shut b ended)
+step longest None (Frame os) b start readable = flag-frame longest b os (at-rest None b start) readable
+step longest (Some Flag) (Frame os) b ended readable = frame-added longest b os ended readable
+step longest (Some Idle) (Frame os) b ended readable = flag-frame longest b os (at-rest (Some Idle) b ended) readable
+step longest (Some (Frame ps)) (Frame os) b ended readable = frame-added longest b os ended readable
 
 back : (longest : ℕ) (before : Option Call) (calls : List Call) (b : List Bool) → EndsWith before b →
     All (CanBeRead longest) calls

@@ -9,24 +9,22 @@ use Rattle.std.proofs.lemmas.List.{length_push, append_assoc, append-nil}
 use Rattle.std.proofs.lemmas.Bool.{cases_Bool, cases_lt, false_from_ne_true, eqb-true}
 use Rattle.std.proofs.lemmas.Bool.Decides.{nat_tests}
 use Rattle.bus_bits.specs.Octet.{bits_of}
-use Rattle.bus_bits.proofs.OctetLemmas.{length-bits}
 use Rattle.bus_bits.specs.declared.spent.Spent.{Spent}
 use Rattle.bus_fcs.specs.Check.{CheckView}
 use Rattle.bus_line.specs.Due.{FlagAt, current}
 use Rattle.bus_line.specs.Ledger.{is_settled, is_inserted, assembled, stored}
 use Rattle.bus_line.specs.Internal.LineState.{LineState}
 use Rattle.bus_line.specs.Internal.LineView.{settles_from}
-use Rattle.bus_line.specs.Internal.Tracks.{first_of, settled_data, Holds, Counts, Tracks}
+use Rattle.bus_line.specs.Internal.Tracks.{first_of, settled_data, Counts, Tracks}
 use Rattle.bus_line.specs.After.{After}
-use Rattle.bus_line.specs.Internal.Settled.{HasNoStop, IsWord, LagsBy, data_in_word, octets_more}
+use Rattle.bus_line.specs.Internal.Settled.{Appends, HasNoStop, IsWord, LagsBy, data_in_word, octets_more}
 use Rattle.bus_line.proofs.LedgerSettledLemmas.{assembled-more, stored-more}
 use Rattle.bus_line.proofs.LedgerRankLemmas.{stores-now}
 use Rattle.bus_line.proofs.WordLemmas.{length-front, word-inserted, word-bit, word-next}
 use Rattle.bus_line.proofs.WholeLemmas.{take_next}
 use Rattle.bus_line.proofs.StepLemmas.{first-Some, none-holds, none-settled, early-settled, inserted-settled}
 use Rattle.bus_line.proofs.StepLemmas.{data-settled, stored-false, data-early, data-inserted, data-more, counts-kept}
-use Rattle.bus_line.proofs.StepLemmas.{holds-of, holds-for, stands-same, moved-counts, moved-holds}
-use Rattle.bus_line.proofs.DecideLemmas.{mark-kept}
+use Rattle.bus_line.proofs.StepLemmas.{holds-of, holds-for, stands-same, moved-counts, moved-holds, mark-kept}
 
 -- ---- what bits settle
 
@@ -200,28 +198,26 @@ settles-no_stop longest p w n skip b bits mark no_stop word skipped (suc i) with
 -- ---- what the decoder tracks after them
 
 -- data are appended, or none
-tracks-settled : {C : Type 0} (view : CheckView C) (p : ℕ) (d e : LineState C)
-    (b bits gained : List Bool) → LagsBy view d b bits → current b ≡ FlagAt p →
-    Settles d.longest p b (b ++ bits) gained
-    → e.longest ≡ d.longest → e.origin ≡ d.origin → e.place ≡ d.place → e.last_bits ≡ d.last_bits → e.first ≡ d.first
-    → Holds view.folded e (settled_data b p ++ gained)
-    → e.spent ≡ record d.spent {
-      assembled = d.spent.assembled + length gained;
-      stored = d.spent.stored + octets_more d.longest (length (settled_data b p)) (length gained);
-      folded =
-          d.spent.folded + view.cost * octets_more d.longest (length (settled_data b p)) (length gained);
-    }
+tracks-settled : {C : Type 0} {view : CheckView C} {p : ℕ} {d e : LineState C} {b bits gained : List Bool}
+    → LagsBy view d b bits → current b ≡ FlagAt p → Settles d.longest p b (b ++ bits) gained → Appends view d gained e
     → Tracks view e (b ++ bits) (current b)
-tracks-settled view p d e b bits gained lags mark settles longest origin place last first holds spent =
+tracks-settled {C} {view} {p} {d} {e} {b} {bits} {gained} lags mark settles appends =
+    let kept = appends.kept in
+    let longest = ap (λ (x : LineState C). x.longest) kept in
+    let origin = ap (λ (x : LineState C). x.origin) kept in
+    let held = holds-of view.folded d b p (current b) mark lags.piece in
+    let spent = appends.spent (settled_data b p) held in
     let n = octets_more d.longest (length (settled_data b p)) (length gained) in
     let more : length (settled_data (b ++ bits) p) ≡ length (settled_data b p) + length gained =
     ap length settles.more ∙ length-append (settled_data b p) gained in
     let full : stored d.longest (b ++ bits) ≡ stored d.longest b
     + octets_more d.longest (length (settled_data b p)) (length gained) = omega (arith, settles.filled, more) in
     record {
-      has_taken = stands-same d e (b ++ bits) place origin last lags.has_taken;
-      first = first ∙ (lags.first ∙ ap (λ k. first_of k (current b)) (sym origin));
-      piece = holds-for view.folded e (b ++ bits) p (current b) mark (rw settles.more holds);
+      has_taken = stands-same d e (b ++ bits) (ap (λ (x : LineState C). x.place) kept) origin
+          (ap (λ (x : LineState C). x.last_bits) kept) lags.has_taken;
+      first = ap (λ (x : LineState C). x.first) kept ∙ (lags.first ∙ ap (λ k. first_of k (current b)) (sym origin));
+      piece = holds-for view.folded e (b ++ bits) p (current b) mark
+          (rw settles.more (appends.holds (settled_data b p) held));
       counts = rw longest (record {
         settled = ap (λ (x : Spent). x.assembled) spent ∙ omega (arith, lags.counts.settled, settles.settled);
         filled = ap (λ (x : Spent). x.stored) spent ∙ (ap (λ (m : ℕ). m + n) lags.counts.filled ∙ sym full);
@@ -234,7 +230,7 @@ tracks-settled view p d e b bits gained lags mark settles longest origin place l
     }
 
 -- no data leave the counters
-pub spent-none : (s : Spent) (cost longest n : ℕ) →
+spent-none : (s : Spent) (cost longest n : ℕ) →
     s ≡ record s {
       assembled = s.assembled + 0;
       stored = s.stored + octets_more longest n 0;
@@ -248,77 +244,79 @@ spent-none s cost longest n =
     let same-folded : s.folded + cost * 0 ≡ s.folded = omega (arith, product) in
     rw (none, same-assembled, same-stored, same-folded) refl
 
--- the bits are among the last sixteen, and not yet settled
-pub lags-word : {C : Type 0} (view : CheckView C) (d : LineState C) (b bits : List Bool)
-    (w t place last_bits shifted : ℕ) → After view d b → IsWord w b bits → t ≤ length bits
-    → place ≡ d.place + t → last_bits ≡ w / 2 ^ t % 65536 → LagsBy view
-    (record d { place = place; last_bits = last_bits; spent = record d.spent { shifted = shifted } }) b (take t bits)
-lags-word view d b bits w t place last_bits shifted stands word within at last = record {
-  has_taken = record {
-    place = at ∙ omega (arith, stands.has_taken.place, length-front t b bits within);
-    last_bits = last ∙ word-next w t b bits word within;
+-- no data
+appends-none : {C : Type 0} {view : CheckView C} (d : LineState C) → Appends view d [] d
+appends-none {C} {view} d = record {
+  holds = λ bits held. rw (append-nil bits) held;
+  spent = λ bits held. spent-none d.spent view.cost d.longest (length bits);
+  kept = refl;
+}
+
+-- the first of these bits are among the last sixteen, and not yet settled; only the last of them may decide anything
+pub record Shifted {C : Type 0} (view : CheckView C) (d : LineState C) (w t : ℕ) (b bits : List Bool) : Type 0 where
+  pub word : IsWord w b bits
+  pub within : t ≤ length bits
+  pub no_stop : HasNoStop b bits (t - 1)
+  pub lags : LagsBy view d b (take t bits)
+
+pub shifted-word : {C : Type 0} {view : CheckView C} (d : LineState C) (b bits : List Bool)
+    (w t place last_bits shifted : ℕ) → After view d b → IsWord w b bits → t ≤ length bits → HasNoStop b bits (t - 1)
+    → place ≡ d.place + t → last_bits ≡ w / 2 ^ t % 65536
+    → Shifted view (record d { place = place; last_bits = last_bits; spent = record d.spent { shifted = shifted } })
+    w t b bits
+shifted-word {C} {view} d b bits w t place last_bits shifted stands word within no_stop at last = record {
+  word = word;
+  within = within;
+  no_stop = no_stop;
+  lags = record {
+    has_taken = record {
+      place = at ∙ omega (arith, stands.has_taken.place, length-front t b bits within);
+      last_bits = last ∙ word-next w t b bits word within;
+    };
+    first = stands.first;
+    piece =
+        moved-holds view.folded d b place last_bits (record d.spent { shifted = shifted }) (current b) stands.piece;
+    counts = moved-counts view.cost d b place last_bits shifted d.first stands.counts;
   };
-  first = stands.first;
-  piece = moved-holds view.folded d b place last_bits (record d.spent { shifted = shifted }) (current b) stands.piece;
-  counts = moved-counts view.cost d b place last_bits shifted d.first stands.counts;
 }
 
 -- no flag was last, or all bits come too early after it
-pub word-unsettled : {C : Type 0} (view : CheckView C) (at w t : ℕ) (first : Option ℕ) (d : LineState C)
-    (b bits : List Bool) → IsWord w b bits → t ≤ length bits → HasNoStop b bits (t - 1) →
-    LagsBy view d b (take t bits)
-    → d.first ≡ first → at ≡ settles_from first → d.place ≤ at → Tracks view d (b ++ take t bits) (current b)
-word-unsettled view at w t None d b bits word within no_stop lags opened settles-at early =
-    let none : first_of d.origin (current b) ≡ None = sym lags.first ∙ opened in
+pub word-unsettled : {C : Type 0} {view : CheckView C} {w t : ℕ} {d : LineState C} {b bits : List Bool} (at : ℕ)
+    (first : Option ℕ) → Shifted view d w t b bits → d.first ≡ first → at ≡ settles_from first → d.place ≤ at
+    → Tracks view d (b ++ take t bits) (current b)
+word-unsettled {C} {view} {w} {t} {d} {b} {bits} at None s opened settles-at early =
+    let none : first_of d.origin (current b) ≡ None = sym s.lags.first ∙ opened in
     record {
-      has_taken = lags.has_taken;
-      first = lags.first;
+      has_taken = s.lags.has_taken;
+      first = s.lags.first;
       piece = none-holds view.folded d (b ++ take t bits) d.origin (current b) none;
       counts =
-          counts-none view.cost d.origin (t - 1) d b bits no_stop none lags.counts t (omega arith) within;
+          counts-none view.cost d.origin (t - 1) d b bits s.no_stop none s.lags.counts t (omega arith) s.within;
     }
-word-unsettled view at w t (Some first) d b bits word within no_stop lags opened settles-at early =
-    let flag = first-Some d.origin first (current b) (sym lags.first ∙ opened) in
+word-unsettled {C} {view} {w} {t} {d} {b} {bits} at (Some first) s opened settles-at early =
+    let flag = first-Some d.origin first (current b) (sym s.lags.first ∙ opened) in
     let skip = flag.0 + 16 - length b in
-    let settles = settles-no_stop d.longest flag.0 w (t - 1) skip b bits flag.1 no_stop word refl t (omega arith)
-    within in
+    let settles = settles-no_stop d.longest flag.0 w (t - 1) skip b bits flag.1 s.no_stop s.word refl t (omega arith)
+    s.within in
     let none-late : t - skip ≡ 0 =
-    omega (arith, lags.has_taken.place, length-front t b bits within, flag.2, settles-at, early) in
-    let held = holds-of view.folded d b flag.0 (current b) flag.1 lags.piece in
-    tracks-settled view flag.0 d d b (take t bits) [] lags flag.1 (rw none-late at settles)
-    refl refl refl refl refl (rw (append-nil (settled_data b flag.0)) held)
-    (spent-none d.spent view.cost d.longest (length (settled_data b flag.0)))
+    omega (arith, s.lags.has_taken.place, length-front t b bits s.within, flag.2, settles-at, early) in
+    tracks-settled s.lags flag.1 (rw none-late at settles) (appends-none d)
 
 -- from there on data are appended
-pub word-settled : {C : Type 0} (view : CheckView C) (first w t late n x : ℕ)
-    (d e : LineState C) (b bits : List Bool) → IsWord w b bits → t ≤ length bits → HasNoStop b bits (t - 1) →
-    LagsBy view d b (take t bits)
+pub word-settled : {C : Type 0} {view : CheckView C} {w t : ℕ} {d e : LineState C} {b bits : List Bool}
+    (first late n x : ℕ) → Shifted view d w t b bits
     → d.first ≡ Some first → first + 8 < d.place → late ≡ min (d.place - (first + 8)) t
-    → bits_of n x ≡ data_in_word (w / 2 ^ (t - late)) late
-    → ((bits : List Bool) → Holds view.folded d bits → Holds view.folded e (bits ++ bits_of n x))
-    → ((bits : List Bool) → Holds view.folded d bits →
-    e.spent ≡ record d.spent {
-      assembled = d.spent.assembled + n;
-      stored = d.spent.stored + octets_more d.longest (length bits) n;
-      folded = d.spent.folded + view.cost * octets_more d.longest (length bits) n;
-    })
-    → e ≡ record d { data_bits = e.data_bits; partial = e.partial; octets = e.octets; check = e.check; spent = e.spent }
+    → bits_of n x ≡ data_in_word (w / 2 ^ (t - late)) late → Appends view d (bits_of n x) e
     → Tracks view e (b ++ take t bits) (current b)
-word-settled view first w t late n x d e b bits word within no_stop lags opened far is-late value holds spent kept =
-    let flag = first-Some d.origin first (current b) (sym lags.first ∙ opened) in
+word-settled {C} {view} {w} {t} {d} {e} {b} {bits} first late n x s opened far is-late value appends =
+    let flag = first-Some d.origin first (current b) (sym s.lags.first ∙ opened) in
     let skip = flag.0 + 16 - length b in
-    let held = holds-of view.folded d b flag.0 (current b) flag.1 lags.piece in
-    let front = length-front t b bits within in
-    let place = lags.has_taken.place in
-    let same-skip : t - late ≡ flag.0 + 16 - length b = omega (arith, place, front, flag.2, far, is-late) in
-    let same-late : late ≡ t - (flag.0 + 16 - length b) = omega (arith, place, front, flag.2, far, is-late) in
+    let front = length-front t b bits s.within in
+    let place = s.lags.has_taken.place in
+    let same-skip : t - late ≡ skip = omega (arith, place, front, flag.2, far, is-late) in
+    let same-late : late ≡ t - skip = omega (arith, place, front, flag.2, far, is-late) in
     let same-data : bits_of n x ≡ data_in_word (w / 2 ^ skip) (t - skip) =
     value ∙ (ap (λ (j : ℕ). data_in_word (w / 2 ^ j) late) same-skip ∙ ap (data_in_word (w / 2 ^ skip)) same-late) in
-    let settles = settles-no_stop d.longest flag.0 w (t - 1) skip b bits flag.1 no_stop word refl t (omega arith)
-    within in
-    let size : length (bits_of n x) ≡ n = length-bits n x in
-    tracks-settled view flag.0 d e b (take t bits) (bits_of n x) lags flag.1 (rw same-data settles)
-    (ap (λ (x : LineState _). x.longest) kept) (ap (λ (x : LineState _). x.origin) kept)
-    (ap (λ (x : LineState _). x.place) kept) (ap (λ (x : LineState _). x.last_bits) kept)
-    (ap (λ (x : LineState _). x.first) kept)
-    (holds (settled_data b flag.0) held) (rw size (spent (settled_data b flag.0) held))
+    let settles = settles-no_stop d.longest flag.0 w (t - 1) skip b bits flag.1 s.no_stop s.word refl t (omega arith)
+    s.within in
+    tracks-settled s.lags flag.1 (rw same-data settles) appends

@@ -1,14 +1,12 @@
 -- What is left of bits without the inserted 0s.
 use Rattle.std.proofs.Common.{◌≡◌, ◌≢◌, ℕ, zero, suc, ◌+◌, ◌-◌, ◌*◌, ◌/◌, ◌%◌, ◌^◌, ◌<◌, ◌≤◌, ◌==◌, Bool, List, [], ◌∷◌}
 use Rattle.std.proofs.Common.{◌++◌, ◌⊎◌, refl, sym, ap, ◌∙◌, subst, arith, nat_eq, not, inl, inr}
-use Rattle.std.specs.Prelude.{bit_and, cond, count_ones, false, ◌↔◌}
-use lib.Lanes.{mask_l}
-use Rattle.std.proofs.lemmas.Simd.{ones-mask_l_cons}
+use Rattle.std.specs.Prelude.{bit_and, false, ◌↔◌}
 use mir.Val.{bool_byte}
 use Rattle.std.specs.Int.Bits.{and_self, and_zero_r}
 use Rattle.std.specs.Int.{bit_at, w64, trailing_zeros}
 use Rattle.std.proofs.lemmas.Nat.{shr-shr, and_le_l, and_mask, and_shr, and_block, mod_below, mod-pow-add, mul-add-lt}
-use Rattle.std.proofs.lemmas.Nat.{ones_le_self, pow-add, pow_below, pow_pos, one_shl, shr_below, shr_high, shr_split}
+use Rattle.std.proofs.lemmas.Nat.{pow-add, pow_below, pow_pos, one_shl, shr_below, shr_high, shr_split}
 use Rattle.std.proofs.lemmas.Grind.{and-not_self}
 use Rattle.std.proofs.lemmas.Nat.Bits.{bit_at-zero, bit_at_and, bit_at_not, bit_at_ones, bit_at_above, bit_at_cat_low}
 use Rattle.std.proofs.lemmas.Nat.Bits.{bit_at_cat_high, bit_at-pow_other, bit_at-lt, bit_at-trailing_zeros}
@@ -191,16 +189,6 @@ unmarked-are x s n few below =
       zeros = and-not_self (bit_and x all) MAX s s refl (omega (arith, word)) refl;
       same = kept-others x (unmarked x s n) s n (λ i inside free. unmarked-at x s n i few word inside free);
     }
-
--- ---- how many are kept
-
-abbrev trues : List Bool → ℕ
-trues [] = 0
-trues (b ∷ bs) = cond b 1 0 + trues bs
-
-ones-are : (bs : List Bool) → count_ones (mask_l bs) ≡ trues bs
-ones-are [] = omega (arith, ones_le_self 0)
-ones-are (b ∷ bs) = ones-mask_l_cons b bs ∙ ap (λ (n : ℕ). cond b 1 0 + n) (ones-are bs)
 
 -- ---- the lowest marked bit taken out
 

@@ -9,16 +9,14 @@ use Rattle.std.proofs.lemmas.Bool.{cases_lt, false_from_ne_true, cases_Bool, le-
 use Rattle.std.proofs.lemmas.Bool.{and_left, and_right, and_from, and_parts, not-true, not_from_false, eq-eqb, eqb-true}
 use Rattle.bus_line.specs.Spelling.{ones}
 use Rattle.bus_line.specs.Internal.Run.{ones_after, ones_at_end}
-use Rattle.bus_line.proofs.RunLemmas.{HasSix}
-use Rattle.bus_line.proofs.RunLemmas.{zero-six, IsLow, low-from}
+use Rattle.bus_line.proofs.RunLemmas.{HasSix, zero-six, IsLow, low-from}
 use Rattle.bus_line.specs.Mark.{flag, StandsAt, IsFlag, IsMark}
 use Rattle.bus_line.specs.Due.{is_abort, FlagAt, AbortAt, last_mark, current}
 use Rattle.bus_line.specs.Ledger.{is_settled, belongs, is_inserted}
-use Rattle.bus_line.proofs.MarkLemmas.{stands-within, stands-bit, is_abort-append, last_mark-append}
-use Rattle.bus_line.proofs.MarkLastLemmas.{last_mark-flag}
+use Rattle.bus_line.proofs.MarkLemmas.{stands-within, stands-bit, is_abort-append, last_mark-append, last_mark-flag}
 use Rattle.bus_line.proofs.LedgerSettledLemmas.{inserted-true, inserted-is, is_inserted-append, is_settled-late}
-use Rattle.bus_line.proofs.DueStreamLemmas.{ones_after-ones, run-stands, last_mark-down, mark-fits, flag-fits}
-use Rattle.bus_line.proofs.DueStreamLemmas.{not-flag, stands-part}
+use Rattle.bus_line.proofs.DueStreamLemmas.{ones_after-ones, run-stands, last_mark-down, mark-fits, flag-fits, not-flag}
+use Rattle.bus_line.proofs.DueStreamLemmas.{stands-part}
 
 -- what stands in a part of the list
 stands-range : (b : List Bool) (x m : ℕ) (u w v : List Bool) → slice_range b x m ≡ u ++ w ++ v →

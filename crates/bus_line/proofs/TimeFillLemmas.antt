@@ -1,11 +1,10 @@
 -- Bits that decide nothing, 56 at a time.
-use Rattle.std.proofs.Common.{◌≡◌, ◌≢◌, ℕ, zero, suc, ◌+◌, ◌-◌, ◌*◌, ◌/◌, ◌%◌, ◌^◌, ◌≤◌, ◌<◌, Bool, true, List}
-use Rattle.std.proofs.Common.{[], ◌∷◌, ◌++◌, length, take, drop, replicate, None, refl, sym, ap, ◌∙◌, arith, inl, inr}
+use Rattle.std.proofs.Common.{◌≡◌, ◌≢◌, ℕ, zero, suc, ◌+◌, ◌-◌, ◌*◌, ◌/◌, ◌%◌, ◌^◌, ◌≤◌, ◌<◌, Bool, true, List, [], ◌∷◌}
+use Rattle.std.proofs.Common.{◌++◌, length, take, drop, replicate, None, refl, sym, ap, ◌∙◌, arith, inl, inr}
 use Rattle.std.specs.Prelude.{bit_and, bit_or}
 use Rattle.std.specs.Int.{bit_at, trailing_zeros, w64}
 use Rattle.std.specs.Int.Bits.{or_shifted_r}
-use Rattle.std.proofs.lemmas.Nat.{and_le_r}
-use Rattle.std.proofs.lemmas.Nat.{shr-shr, field_of}
+use Rattle.std.proofs.lemmas.Nat.{and_le_r, shr-shr, field_of}
 use Rattle.std.proofs.Math.Pow.{mod-mod-pow}
 use Rattle.std.proofs.lemmas.List.{append-nil, append_assoc, replicate-append-replicate}
 use Rattle.bus_bits.specs.Bits.{bits_from}
@@ -17,12 +16,11 @@ use Rattle.bus_bits.specs.Octet.{bits_of, number}
 use Rattle.bus_bits.proofs.OctetLemmas.{bits-front, bits-low, number-bits}
 use Rattle.bus_fcs.specs.Check.{CheckView}
 use Rattle.bus_line.specs.Mark.{flag}
-use Rattle.bus_line.specs.Internal.Flags.{flags, EndsInFlag}
+use Rattle.bus_line.specs.Internal.Flags.{flags, EndsInFlag, SkipsFlags}
 use Rattle.bus_line.specs.Due.{placed}
 use Rattle.bus_line.specs.After.{After, Decides}
 use Rattle.bus_line.specs.Words.{first_in, IsWithin, state}
 use Rattle.bus_line.specs.declared.decoder_words.DecoderWords.{DecoderWords}
-use Rattle.bus_line.specs.Internal.Flags.{SkipsFlags}
 use Rattle.bus_line.specs.Internal.TimeFill.{AreFlags, SkipsOnes}
 use Rattle.bus_line.specs.Internal.Settled.{HasNoStop, IsStop, IsWord, data_in_word}
 use Rattle.bus_line.proofs.SettledDataLemmas.{six, six-ones, six-shr}
@@ -31,8 +29,8 @@ use Rattle.bus_line.specs.Internal.Tracks.{padded, HasTaken}
 use Rattle.bus_line.proofs.WordLemmas.{last-below, word-made}
 use Rattle.bus_line.proofs.AdvanceLemmas.{no_stop-before, no_stop-placed, no_stop-after}
 use Rattle.bus_line.proofs.SettleLemmas.{word-unsettled}
-use Rattle.bus_line.proofs.WordsLemmas.{flags-skipped, shift-lags, shows-flag}
-use Rattle.bus_line.proofs.FlagRunLemmas.{flags-length, flags-placed}
+use Rattle.bus_line.proofs.WordsLemmas.{flags-skipped, shifted, shows-flag}
+use Rattle.bus_line.proofs.FlagLemmas.{flags-length, flags-placed}
 use Rattle.bus_line.proofs.DecidesLemmas.{decides-none, decides-more}
 
 -- ---- where six ones end
@@ -232,11 +230,9 @@ module _ {C : Type 0} (view : CheckView C) (check : C) (octets : List ℕ) where
       record {
         leads = record {
           after = λ b stands.
-              let lags = shift-lags view w next check octets b (true ∷ []) 131071 1 same stands (word b stands)
-              (omega arith) in
-              let few : HasNoStop b (true ∷ []) 0 = λ i before. absurd (omega (arith, before)) in
-              let tracks = word-unsettled view (2 ^ 62) 131071 1 None e b (true ∷ []) (word b stands)
-              (omega arith) few lags closed refl (omega (arith, room)) in
+              let one = shifted w next check octets b (true ∷ []) 131071 1 same stands (word b stands)
+              (omega arith) (λ i before. absurd (omega (arith, before))) in
+              let tracks = word-unsettled (2 ^ 62) None one closed refl (omega (arith, room)) in
               no_stop-after view 1 e b (true ∷ []) (no_stop b stands) (omega arith) tracks;
           longest = refl;
           origin = refl;
@@ -252,13 +248,13 @@ module _ {C : Type 0} (view : CheckView C) (check : C) (octets : List ℕ) where
       (state (record w { place = w.place + n }) check octets)
   ones-decide zero w ones idle room =
       let end : w.place + 0 ≡ w.place = omega arith in
-      rw end (decides-none view (state w check octets))
+      rw end decides-none
   ones-decide (suc n) w ones idle room =
       let next : DecoderWords = record w { place = w.place + 1 } in
       let end : w.place + 1 + n ≡ w.place + suc n = omega arith in
       let rest = ones-decide n next (λ _. ones (omega arith)) idle (omega (arith, room)) in
       rw (← end)
-      (decides-more view (one-more w (ones (omega arith)) idle (omega (arith, room))) rest)
+      (decides-more (one-more w (ones (omega arith)) idle (omega (arith, room))) rest)
 
   pub skipped-ones : (old new : DecoderWords) (n : ℕ) → SkipsOnes old n new → old.settles_at ≡ 2 ^ 62 →
       old.place + n ≤ 2 ^ 60 → Decides view (state old check octets) (replicate n true) None (state new check octets)

@@ -13,11 +13,10 @@ use Rattle.bus_bits.proofs.OctetLemmas.{number-append, number-bits, number-lt, l
 use Rattle.bus_fcs.specs.Check.{CheckView}
 use Rattle.bus_line.specs.Internal.LineState.{LineState}
 use Rattle.bus_line.specs.Internal.Tracks.{Holds}
-use Rattle.bus_line.specs.Internal.Settled.{octets_more, octets_of, gain, Keeps}
-use Rattle.bus_line.proofs.WholeLemmas.{octets-short}
+use Rattle.bus_line.specs.Internal.Settled.{Appends, Keeps, Stores, gain, octets_more, octets_of}
+use Rattle.bus_line.proofs.WholeLemmas.{octets-short, whole, part, whole-is, part-is, whole-part, length-whole}
+use Rattle.bus_line.proofs.WholeLemmas.{length-part, octets-here, length-octets}
 use Rattle.bus_line.proofs.WordLemmas.{number-drop, number-take}
-use Rattle.bus_line.proofs.TracksHoldLemmas.{whole, part, whole-is, part-is, whole-part, length-whole, length-part}
-use Rattle.bus_line.proofs.TracksHoldLemmas.{octets-here, length-octets}
 
 -- ---- octets of a number
 
@@ -209,48 +208,35 @@ keeps-set : {C : Type 0} (folded : C → List ℕ → Type 0) (a : LineState C) 
     Keeps folded (record a { data_bits = data_bits; partial = partial; spent = spent }) os
 keeps-set folded a data_bits partial spent os kept = record { held = kept.held; checked = kept.checked }
 
-pub append-holds : {C : Type 0} (folded : C → List ℕ → Type 0) (d a e : LineState C) (n bits j k : ℕ) (t : Spent)
-    (got : List Bool) → Holds folded d got → n ≤ 56 → bits < 2 ^ n
-    → j ≡ joined d.partial (d.data_bits % 8) bits → k ≡ (d.data_bits % 8 + n) / 8 → a.data_bits ≡ d.data_bits →
-    a.longest ≡ d.longest → Keeps folded a (octets got) → ((os : List ℕ)
-    → Keeps folded (record a { data_bits = a.data_bits + n; partial = j / 2 ^ (8 * k); spent = t }) os
-    → Keeps folded e (os ++ octets_of k j))
-    → e ≡ record a {
-      data_bits = a.data_bits + n;
+-- the data bits, the octets that they fill, and the counters
+pub appended : {C : Type 0} {view : CheckView C} (d a e : LineState C) (n bits j k : ℕ) → n ≤ 56 → bits < 2 ^ n
+    → j ≡ joined d.partial (d.data_bits % 8) bits → k ≡ (d.data_bits % 8 + n) / 8
+    → a ≡ record d { octets = a.octets; check = a.check }
+    → ((got : List Bool) → Holds view.folded d got → Keeps view.folded a (octets got))
+    → Stores view (record a {
+      data_bits = d.data_bits + n;
       partial = j / 2 ^ (8 * k);
-      octets = e.octets;
-      check = e.check;
-      spent = e.spent;
+      spent = record d.spent { assembled = d.spent.assembled + n };
+    }) (octets_of k j) e
+    → Appends view d (bits_of n bits) e
+appended {C} {view} d a e n bits j k few small is-joined is-full same begun stores =
+    let longest = ap (λ (s : LineState C). s.longest) same in
+    let t : Spent = record d.spent { assembled = d.spent.assembled + n } in
+    let set = λ (os : List ℕ) (kept : Keeps view.folded a os).
+    keeps-set view.folded a (d.data_bits + n) (j / 2 ^ (8 * k)) t os kept in
+    record {
+      holds = λ got holds.
+          holds-joined view.folded d e n bits got holds few small (ap (λ (s : LineState C). s.data_bits) stores.kept)
+          (ap (λ (s : LineState C). s.partial) stores.kept ∙ rw (is-joined, is-full) refl)
+          (ap (λ (s : LineState C). s.longest) stores.kept ∙ longest)
+          (rw (← is-full, ← is-joined) (stores.keeps (octets got) (set (octets got) (begun got holds))));
+      spent = λ got holds.
+          let gained : gain (a.longest + 2) (length (octets got)) (length (octets_of k j))
+          ≡ octets_more d.longest (length got) n =
+          rw (length-octets_of k j, longest, is-full) (gain-more view.folded d n got holds) in
+          stores.spent (octets got) (set (octets got) (begun got holds)) ∙ rw (length-bits n bits, gained) refl;
+      kept = rw (stores.kept, same) refl;
     }
-    → Holds folded e (got ++ bits_of n bits)
-append-holds folded d a e n bits j k t got holds few small is-joined is-full same-bits longest before keeps kept =
-    holds-joined folded d e n bits got holds few small
-    (ap (λ (s : LineState _). s.data_bits) kept ∙ ap (λ (i : ℕ). i + n) same-bits)
-    (ap (λ (s : LineState _). s.partial) kept ∙ rw (is-joined, is-full) refl)
-    (ap (λ (s : LineState _). s.longest) kept ∙ longest)
-    (rw (← is-full, ← is-joined)
-    (keeps (octets got) (keeps-set folded a (a.data_bits + n) (j / 2 ^ (8 * k)) t (octets got) before)))
-
-pub append-spent : {C : Type 0} (view : CheckView C) (d a e : LineState C) (n j k : ℕ) (t : Spent)
-    (got : List Bool) → Holds view.folded d got
-    → k ≡ (d.data_bits % 8 + n) / 8 → a.longest ≡ d.longest → Keeps view.folded a (octets got) → ((os : List ℕ)
-    → Keeps view.folded (record a { data_bits = a.data_bits + n; partial = j / 2 ^ (8 * k); spent = t }) os
-    → e.spent ≡ record t {
-      stored = t.stored + gain (a.longest + 2) (length os) k;
-      folded = t.folded + view.cost * gain (a.longest + 2) (length os) k;
-    })
-    → t ≡ record d.spent { assembled = d.spent.assembled + n }
-    → e.spent ≡ record d.spent {
-      assembled = d.spent.assembled + n;
-      stored = d.spent.stored + octets_more d.longest (length got) n;
-      folded =
-          d.spent.folded + view.cost * octets_more d.longest (length got) n;
-    }
-append-spent view d a e n j k t got holds is-full longest before spent is-spent =
-    let gained : gain (a.longest + 2) (length (octets got)) k ≡ octets_more d.longest (length got) n =
-    rw (longest, is-full) (gain-more view.folded d n got holds) in
-    spent (octets got) (keeps-set view.folded a (a.data_bits + n) (j / 2 ^ (8 * k)) t (octets got) before)
-    ∙ rw (gained, is-spent) refl
 
 pub keeps-none : {C : Type 0} (folded : C → List ℕ → Type 0) (e : LineState C) → e.octets ≡ [] → folded e.check [] →
     Keeps folded e []

@@ -1,7 +1,6 @@
 -- Words, with a check and octets beside them, as a decoder.
-use Rattle.std.proofs.Common.{◌≡◌, ℕ, zero, suc, ◌+◌, ◌-◌, ◌*◌, ◌≤◌, ◌<◌, ◌^◌, ◌==◌, Bool, true, false, List}
-use Rattle.std.proofs.Common.{◌++◌, length, ◌/◌, ◌%◌, take, Some, None, refl, ap, ◌∙◌, arith}
-use Rattle.std.proofs.Common.{append-nil, if◌then◌else◌}
+use Rattle.std.proofs.Common.{◌≡◌, ℕ, zero, suc, ◌+◌, ◌-◌, ◌*◌, ◌≤◌, ◌<◌, ◌^◌, ◌==◌, Bool, true, false, List, ◌++◌}
+use Rattle.std.proofs.Common.{length, ◌/◌, ◌%◌, Some, None, refl, ap, ◌∙◌, arith, append-nil, if◌then◌else◌}
 use Rattle.std.proofs.lemmas.Bool.{eqb-true}
 use Rattle.std.specs.Prelude.{nat_lt}
 use Rattle.bus_bits.proofs.CaptureLemmas.{lt_true}
@@ -15,10 +14,9 @@ use Rattle.bus_line.specs.declared.decoder_words.DecoderWords.{DecoderWords}
 use Rattle.bus_line.specs.After.{After}
 use Rattle.bus_line.specs.Internal.LineView.{settles_from}
 use Rattle.bus_line.specs.Internal.Flags.{EndsInFlag, flags, SkipsFlags}
-use Rattle.bus_line.specs.Internal.Settled.{IsWord, LagsBy}
-use Rattle.bus_line.proofs.SettleLemmas.{lags-word}
-use Rattle.bus_line.proofs.FlagLemmas.{flags-after}
-use Rattle.bus_line.proofs.FlagRunLemmas.{mark-is}
+use Rattle.bus_line.specs.Internal.Settled.{HasNoStop, IsWord}
+use Rattle.bus_line.proofs.SettleLemmas.{Shifted, shifted-word}
+use Rattle.bus_line.proofs.FlagLemmas.{flags-after, mark-is}
 
 -- the place after which bits settle, by the first place of the piece
 pub settles-told : (at : ℕ) → 8 ≤ at → at ≡ settles_from (first_in at)
@@ -77,36 +75,11 @@ flags-skipped view old new check octets b (suc k) passed ends fits stands =
     (omega arith) ends stands refl in
     rw (is, first) tracks
 
--- what stays of the words stays of the decoder
-pub kept-state : {C : Type 0} (old new : DecoderWords) (check before : C) (octets start : List ℕ)
-    → new ≡ record old {
-      data_bits = new.data_bits;
-      assembled = new.assembled;
-      folded = new.folded;
-      stored = new.stored;
-      partial = new.partial;
-    }
-    → state new check octets ≡ record (state old before start) {
-      data_bits = new.data_bits;
-      partial = new.partial;
-      octets = octets;
-      check = check;
-      spent = (state new check octets).spent;
-    }
-kept-state old new check before octets start kept = rw kept refl
-
-pub kept-put : {C : Type 0} (old new : DecoderWords) (check before : C) (octets start : List ℕ) →
-    new ≡ record old { folded = new.folded; stored = new.stored }
-    → state new check octets ≡ record (state old before start)
-    { octets = octets; check = check; spent = (state new check octets).spent }
-kept-put old new check before octets start kept = rw kept refl
-
 -- bits that are the last ones now
-pub shift-lags : {C : Type 0} (view : CheckView C) (old new : DecoderWords) (check : C)
-    (octets : List ℕ) (b bits : List Bool) (w t : ℕ) →
-    new ≡ record old { place = old.place + t; last_bits = w / 2 ^ t % 65536 }
-    → After view (state old check octets) b → IsWord w b bits → t ≤ length bits →
-    LagsBy view (state new check octets) b (take t bits)
-shift-lags view old new check octets b bits w t is stands word within =
-    rw is (lags-word view (state old check octets) b bits w t (old.place + t) (w / 2 ^ t % 65536)
-    (old.place + t - old.origin) stands word within refl refl)
+pub shifted : {C : Type 0} {view : CheckView C} (old new : DecoderWords) (check : C) (octets : List ℕ)
+    (b bits : List Bool) (w t : ℕ) → new ≡ record old { place = old.place + t; last_bits = w / 2 ^ t % 65536 }
+    → After view (state old check octets) b → IsWord w b bits → t ≤ length bits → HasNoStop b bits (t - 1)
+    → Shifted view (state new check octets) w t b bits
+shifted old new check octets b bits w t is stands word within no_stop =
+    rw is (shifted-word (state old check octets) b bits w t (old.place + t) (w / 2 ^ t % 65536)
+    (old.place + t - old.origin) stands word within no_stop refl refl)

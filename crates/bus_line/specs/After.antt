@@ -1,10 +1,12 @@
 -- The lists of bits after which a decoder may stand.
 use Rattle.std.specs.Prelude.{◌≡◌, ℕ, ◌+◌, ◌-◌, ◌≤◌, Bool, List, [], ◌∷◌, ◌++◌, length, take, Option, Some}
-use Rattle.std.specs.Option.{option_to_list}
+use Rattle.std.specs.Option.{option_map, option_to_list}
 use Rattle.bus_bits.specs.Octet.{octets}
 use Rattle.bus_fcs.specs.Check.{CheckView}
-use Rattle.bus_line.specs.Due.{current, placed}
-use Rattle.bus_line.specs.Report.{Report}
+use Rattle.bus_line.specs.Due.{current, due_at, placed}
+use Rattle.bus_line.specs.Report.{Report, moved}
+use Rattle.bus_line.specs.Shown.{reported}
+use Rattle.bus_line.specs.declared.event.Event.{Event}
 use Rattle.bus_line.specs.Internal.LineState.{LineState}
 use Rattle.bus_line.specs.declared.piece.Piece.{Piece}
 use Rattle.bus_line.specs.declared.piece.Piece.TheVariants as piece
@@ -13,6 +15,16 @@ use Rattle.bus_line.specs.Internal.Tracks.{Tracks}
 -- a decoder may stand after the bits b
 abbrev pub After : {C : Type 0} → CheckView C → LineState C → List Bool → Type 0
 After view d b = Tracks view d b (current b)
+
+-- the report that is due at place `i` of the list b, where the first bit has the decoder's origin
+abbrev pub due_of : {C : Type 0} → LineState C → List Bool → ℕ → Option Report
+due_of d b i = option_map (moved d.origin) (due_at d.longest b i)
+
+-- with these bits this report comes to those so far, or none
+abbrev pub Adds : {C : Type 0} → CheckView C → LineState C → List Bool → Option Report → Type 0
+Adds view d bits report =
+    (b : List Bool) → After view d b
+    → placed d.origin d.longest (b ++ bits) ≡ placed d.origin d.longest b ++ option_to_list report
 
 -- a frame that is answered stands in the buffer
 abbrev pub ShowsHeld : {C : Type 0} → LineState C → Option Piece → Type 0
@@ -40,8 +52,7 @@ pub record Led {C : Type 0} (view : CheckView C) (old : LineState C) (bits : Lis
 pub record Decides {C : Type 0} (view : CheckView C) (old : LineState C) (bits : List Bool)
     (report : Option Report) (new : LineState C) : Type 0 where
   pub leads : Led view old bits new
-  pub says : (b : List Bool) → After view old b
-      → placed old.origin old.longest (b ++ bits) ≡ placed old.origin old.longest b ++ option_to_list report
+  pub says : Adds view old bits report
 
 -- these bits decide no report
 abbrev pub DecideNothing : {C : Type 0} → CheckView C → LineState C → List Bool → Type 0
@@ -53,6 +64,10 @@ pub record Advances {C : Type 0} (view : CheckView C) (old : LineState C) (bits 
     (report : Option Report) (new : LineState C) : Type 0 where
   pub decides : Decides view old bits report new
   pub before : DecideNothing view old (take (length bits - 1) bits)
+
+-- the same of an event, of which the decoder holds a frame's octets
+abbrev pub AdvancesWith : {C : Type 0} → CheckView C → LineState C → List Bool → Option Event → LineState C → Type 0
+AdvancesWith view old bits event new = Advances view old bits (option_map (reported new.octets) event) new
 
 -- a frame has no more octets than the longest and its check
 abbrev pub FitsFrame : ℕ → Option Piece → Type 0

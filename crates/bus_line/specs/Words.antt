@@ -1,5 +1,6 @@
 -- A decoder's words, and the decoder that they make with a check and octets beside them.
-use Rattle.std.specs.Prelude.{◌≢◌, ◌==◌, ℕ, ◌+◌, ◌-◌, ◌*◌, ◌≤◌, ◌^◌, List, length, Option, Some, None, if◌then◌else◌}
+use Rattle.std.specs.Prelude.{◌≢◌, ◌==◌, ℕ, ◌+◌, ◌-◌, ◌*◌, ◌≤◌, ◌<◌, ◌^◌, List, length, Option, Some, None}
+use Rattle.std.specs.Prelude.{if◌then◌else◌}
 pub use Rattle.bus_line.specs.Internal.LineState.{LineState}
 use Rattle.bus_bits.specs.Limits.{most_places}
 use Rattle.bus_line.specs.declared.decoder_words.DecoderWords.{DecoderWords}
@@ -62,3 +63,9 @@ pub record IsWithin (w : DecoderWords) : Type 0 where
 pub record IsDecoder (w : DecoderWords) (octets : List ℕ) : Type 0 where
   pub within : IsWithin w
   pub room : length octets ≤ w.longest + 2
+
+-- the octets have bits from bit `from` on and before bit `end`, and all of these have places
+pub record HasBits (w : DecoderWords) (octets : List ℕ) (from end : ℕ) : Type 0 where
+  pub some : from < end
+  pub enough : end ≤ 8 * length octets
+  pub room : w.place + (end - from) ≤ most_places

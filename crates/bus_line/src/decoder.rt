@@ -18,7 +18,7 @@ ghost use Rattle.std.specs.Borrow.{sem};
 ghost use Rattle.std.specs.Io.BufRead.{Rests};
 ghost use Rattle.bus_bits.specs.Limits.{most_places};
 ghost use Rattle.bus_bits.specs.Word.{IsWordOf};
-ghost use Rattle.bus_line.specs.Due.{due_at, begun, placed};
+ghost use Rattle.bus_line.specs.Due.{begun};
 ghost use Rattle.bus_line.specs.Ledger.{stored_open, IsLedger};
 ghost use Rattle.bus_bits.specs.Bits.{bits_from};
 ghost use Rattle.bus_bits.specs.Octet.{bits_of};
@@ -63,9 +63,8 @@ impl<C: Check> Model for LineDecoder<C> {
 impl<C: Check> LineDecoder<C> {
     ghost use Rattle.bus_line.specs.contracts.decoder.LineDecoder.{the_row};
     ghost use Rattle.bus_line.specs.Internal.LineState.{LineState};
-    ghost use Rattle.bus_line.specs.After.{Advances, After, Pushed, ShowsHeld, FitsFrame};
+    ghost use Rattle.bus_line.specs.After.{Adds, AdvancesWith, After, Pushed, ShowsHeld, FitsFrame, due_of};
     ghost use Rattle.bus_line.specs.Shown.{shown, reported};
-    ghost use Rattle.bus_line.specs.Report.{moved};
 
     /// A decoder that took no bit, whose first bit has the place `origin`.
     ///
@@ -105,10 +104,9 @@ impl<C: Check> LineDecoder<C> {
         ensures all { IfOk result (λ s. s.event ≡ None → s.count < end - at → self.new.place ≡ most_places) }
         ensures answer { IfOk result (λ s. (b : List Bool) → After C.check self.old b →
             option_map (reported self.new.octets) s.event
-            ≡ option_map (moved self.old.origin)
-            (due_at self.old.longest (b ++ bits_from octets.now at s.count) (length b + s.count - 1))) }
-        ensures advances { IfOk result (λ s. Advances C.check self.old (bits_from octets.now at s.count)
-            (option_map (reported self.new.octets) s.event) self.new) }
+            ≡ due_of self.old (b ++ bits_from octets.now at s.count) (length b + s.count - 1)) }
+        ensures advances { IfOk result (λ s.
+            AdvancesWith C.check self.old (bits_from octets.now at s.count) s.event self.new) }
         ensures unchanged { OnErr result (self.new ≡ self.old) }
     {
         // The `?` parts the two cases for the proof.
@@ -126,10 +124,8 @@ impl<C: Check> LineDecoder<C> {
     pub fn advance(&mut self, bit: bool) -> Result<Option<Event>, PlaceLimit>
         ensures limit { IsErr result ↔ (most_places ≤ self.old.place) }
         ensures answer { IfOk result (λ event. (b : List Bool) → After C.check self.old b →
-            option_map (reported self.new.octets) event
-            ≡ option_map (moved self.old.origin) (due_at self.old.longest (b ++ bit ∷ []) (length b))) }
-        ensures advances { IfOk result (λ event. Advances C.check self.old (bit ∷ [])
-            (option_map (reported self.new.octets) event) self.new) }
+            option_map (reported self.new.octets) event ≡ due_of self.old (b ++ bit ∷ []) (length b)) }
+        ensures advances { IfOk result (λ event. AdvancesWith C.check self.old (bit ∷ []) event self.new) }
         ensures unchanged { OnErr result (self.new ≡ self.old) }
     {
         // The `?` parts the two cases for the proof.
@@ -144,10 +140,8 @@ impl<C: Check> LineDecoder<C> {
     pub fn push(&mut self, bit: bool) -> Result<Option<Piece<'_>>, PlaceLimit>
         ensures limit { IsErr result ↔ (most_places ≤ self.old.place) }
         ensures answer { IfOk result (λ o. (b : List Bool) → After C.check self.old b →
-            shown o ≡ option_map (moved self.old.origin) (due_at self.old.longest (b ++ bit ∷ []) (length b))) }
-        ensures more { IfOk result (λ o. (b : List Bool) → After C.check self.old b →
-            placed self.old.origin self.old.longest (b ++ bit ∷ [])
-            ≡ placed self.old.origin self.old.longest b ++ option_to_list (shown o)) }
+            shown o ≡ due_of self.old (b ++ bit ∷ []) (length b)) }
+        ensures more { IfOk result (λ o. Adds C.check self.old (bit ∷ []) (shown o)) }
         ensures fits { IfOk result (λ o. FitsFrame self.old.longest o) }
         // What becomes of the decoder: `new`, once the octets that are lent have been given back.
         ensures* rests { sem 𝓛 (Rests (the_row C.row C.Check) self.entry (λ new.

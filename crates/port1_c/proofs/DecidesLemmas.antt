@@ -27,4 +27,4 @@ pub advances-no-bits : (os : List ℕ) (at n : ℕ) (d : State) (r : Port1Report
     → Advances d (bits_from os at n) r d
 advances-no-bits os at n d r none kind =
     subst (λ (o : Option Report). line.Advances by_tables d (bits_from os at n) o d) (sym (told-none r d.octets kind))
-    (lines.advances-quiet by_tables (lines.decides-from by_tables os at n d none))
+    (lines.advances-quiet (lines.decides-from os at n none))

@@ -6,7 +6,7 @@ use Rattle.bus_fcs.specs.Check.{CheckView}
 use Rattle.bus_line.specs.Internal.Run.{ones_at_end}
 use Rattle.bus_line.specs.Due.{current}
 use Rattle.bus_line.specs.Internal.LineState.{LineState}
-use Rattle.bus_line.specs.Internal.Tracks.{HasTaken, HoldsFor, Counts, first_of, padded}
+use Rattle.bus_line.specs.Internal.Tracks.{HasTaken, Holds, HoldsFor, Counts, first_of, padded}
 
 -- none of the first `n` bits stands after exactly six ones or exactly fourteen
 abbrev pub HasNoStop : List Bool → List Bool → ℕ → Type 0
@@ -56,3 +56,33 @@ octets_of (suc k) n = octets_of k n ++ (n / 2 ^ (8 * k) % 256) ∷ []
 pub record Keeps {C : Type 0} (folded : C → List ℕ → Type 0) (d : LineState C) (os : List ℕ) : Type 0 where
   pub held : d.octets ≡ take (d.longest + 2) os
   pub checked : folded d.check (take (d.longest + 2) os)
+
+-- octets of a piece were stored and folded, as many as there is room for, and counted
+pub record Stores {C : Type 0} (view : CheckView C) (old : LineState C) (more : List ℕ)
+    (new : LineState C) : Type 0 where
+  pub keeps : (os : List ℕ) → Keeps view.folded old os → Keeps view.folded new (os ++ more)
+  pub spent : (os : List ℕ) → Keeps view.folded old os
+      → new.spent ≡ record old.spent {
+        stored = old.spent.stored + gain (old.longest + 2) (length os) (length more);
+        folded = old.spent.folded + view.cost * gain (old.longest + 2) (length os) (length more);
+      }
+  pub kept : new ≡ record old { octets = new.octets; check = new.check; spent = new.spent }
+
+-- data bits were appended to the piece, and counted
+pub record Appends {C : Type 0} (view : CheckView C) (old : LineState C) (more : List Bool)
+    (new : LineState C) : Type 0 where
+  pub holds : (bits : List Bool) → Holds view.folded old bits → Holds view.folded new (bits ++ more)
+  pub spent : (bits : List Bool) → Holds view.folded old bits
+      → new.spent ≡ record old.spent {
+        assembled = old.spent.assembled + length more;
+        stored = old.spent.stored + octets_more old.longest (length bits) (length more);
+        folded = old.spent.folded + view.cost * octets_more old.longest (length bits) (length more);
+      }
+  pub kept : new
+      ≡ record old {
+        data_bits = new.data_bits;
+        partial = new.partial;
+        octets = new.octets;
+        check = new.check;
+        spent = new.spent;
+      }

@@ -13,7 +13,7 @@ use std::cmp::min;
 impl DecoderWords {
     ghost use Rattle.bus_line.specs.Words.{IsDecoder, state};
     ghost use Rattle.bus_line.specs.Internal.Tracks.{Holds};
-    ghost use Rattle.bus_line.specs.Internal.Settled.{Keeps, octets_more, octets_of, gain};
+    ghost use Rattle.bus_line.specs.Internal.Settled.{Appends, Keeps, Stores, octets_of};
 
     /// Appends data bits to the piece. Its first bits empty the frame buffer.
     #[inline(always)]
@@ -24,27 +24,9 @@ impl DecoderWords {
         more: Data,
     )
         requires sound { IsDecoder self.old (F.octets frame.old) }
-        requires few { more.count ≤ 56 }
-        requires small { more.bits < 2 ^ more.count }
         requires room { self.old.assembled + more.count ≤ self.old.place - self.old.origin }
-        ensures holds { (bits : List Bool) → Holds C.check.folded (state self.old check.old (F.octets frame.old)) bits →
-            Holds C.check.folded (state self.new check.new (F.octets frame.new))
-            (bits ++ bits_of more.count more.bits) }
-        ensures spent { (bits : List Bool) → Holds C.check.folded (state self.old check.old (F.octets frame.old)) bits →
-            (state self.new check.new (F.octets frame.new)).spent
-            ≡ record (state self.old check.old (F.octets frame.old)).spent {
-              assembled = self.old.assembled + more.count;
-              stored = self.old.stored + octets_more self.old.longest (length bits) more.count;
-              folded = self.old.folded + C.check.cost * octets_more self.old.longest (length bits) more.count;
-            } }
-        ensures kept { self.new
-            ≡ record self.old {
-              data_bits = self.new.data_bits;
-              assembled = self.new.assembled;
-              folded = self.new.folded;
-              stored = self.new.stored;
-              partial = self.new.partial;
-            } }
+        ensures appends { Appends C.check (state self.old check.old (F.octets frame.old))
+            (bits_of more.count more.bits) (state self.new check.new (F.octets frame.new)) }
         ensures sound { IsDecoder self.new (F.octets frame.new) }
     {
         let held = self.data_bits % 8;
@@ -61,8 +43,7 @@ impl DecoderWords {
     #[inline(always)]
     fn begin<C: Check, F: FrameBuffer>(&self, check: &mut C, frame: &mut F)
         requires sound { IsDecoder self.now (F.octets frame.old) }
-        ensures keeps { (bits : List Bool) →
-            Holds C.check.folded (state self.now check.old (F.octets frame.old)) bits →
+        ensures keeps { (bits : List Bool) → Holds C.check.folded (state self.now check.old (F.octets frame.old)) bits →
             Keeps C.check.folded (state self.now check.new (F.octets frame.new)) (octets bits) }
         ensures sound { IsDecoder self.now (F.octets frame.new) }
     {
@@ -86,14 +67,8 @@ impl DecoderWords {
         requires sound { IsDecoder self.old (F.octets frame.old) }
         requires few { count ≤ 7 }
         requires room { self.old.stored + count ≤ self.old.assembled }
-        ensures keeps { (os : List ℕ) → Keeps C.check.folded (state self.old check.old (F.octets frame.old)) os →
-            Keeps C.check.folded (state self.new check.new (F.octets frame.new)) (os ++ octets_of count joined) }
-        ensures spent { (os : List ℕ) → Keeps C.check.folded (state self.old check.old (F.octets frame.old)) os →
-            (state self.new check.new (F.octets frame.new)).spent
-            ≡ record (state self.old check.old (F.octets frame.old)).spent {
-              stored = self.old.stored + gain (self.old.longest + 2) (length os) count;
-              folded = self.old.folded + C.check.cost * gain (self.old.longest + 2) (length os) count;
-            } }
+        ensures stores { Stores C.check (state self.old check.old (F.octets frame.old)) (octets_of count joined)
+            (state self.new check.new (F.octets frame.new)) }
         ensures kept { self.new ≡ record self.old { folded = self.new.folded; stored = self.new.stored } }
         ensures sound { IsDecoder self.new (F.octets frame.new) }
     {

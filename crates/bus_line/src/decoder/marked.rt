@@ -10,6 +10,10 @@ pub(crate) struct Marked {
     /// 1 at the place of each bit that is marked.
     pub(crate) marks: u64,
     pub(crate) count: u64,
+    ghost few: { count ≤ 56 },
+    ghost small: { bits < 2 ^ count },
+    ghost marked: { marks < 2 ^ count },
+    ghost zeros: { bit_and bits marks ≡ 0 },
 }
 
 impl Marked {
@@ -20,9 +24,6 @@ impl Marked {
         requires marked { marks < 2 ^ count }
         ensures same { kept result.bits result.marks result.count ≡ kept bits marks count }
         ensures count { result.count ≡ count }
-        ensures small { result.bits < 2 ^ result.count }
-        ensures marked { result.marks < 2 ^ result.count }
-        ensures zeros { bit_and result.bits result.marks ≡ 0 }
     {
         let all = (1 << count) - 1;
         Marked {
@@ -36,15 +37,8 @@ impl Marked {
     /// the line's data decide whether one is.
     #[inline(always)]
     pub(crate) fn without_lowest(self) -> Marked
-        requires few { self.count ≤ 56 }
-        requires small { self.bits < 2 ^ self.count }
-        requires marked { self.marks < 2 ^ self.count }
-        requires zeros { bit_and self.bits self.marks ≡ 0 }
         ensures same { kept result.bits result.marks result.count ≡ kept self.bits self.marks self.count }
         ensures few { result.count ≤ self.count }
-        ensures small { result.bits < 2 ^ result.count }
-        ensures marked { result.marks < 2 ^ result.count }
-        ensures zeros { bit_and result.bits result.marks ≡ 0 }
         ensures fewer { self.marks ≢ 0 → result.count < self.count }
     {
         let Marked { bits, marks, count } = self;

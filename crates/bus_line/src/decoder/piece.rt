@@ -19,7 +19,7 @@ pub(crate) struct Stopped {
 }
 
 impl DecoderWords {
-    ghost use Rattle.bus_line.specs.Words.{IsDecoder, state};
+    ghost use Rattle.bus_line.specs.Words.{HasBits, IsDecoder, state};
     ghost use Rattle.bus_line.specs.Internal.RunsTo.{RunsToStop};
 
     /// Takes bits up to the first after six ones, or as many as there are whole strides for.
@@ -33,9 +33,8 @@ impl DecoderWords {
         end: usize,
     ) -> Stopped
         requires sound { IsDecoder self.old (F.octets frame.old) }
-        requires some { from + 64 ≤ end }
-        requires enough { end ≤ 8 * length octets.now }
-        requires room { self.old.place + (end - from) ≤ most_places }
+        requires long { from + 64 ≤ end }
+        requires bits { HasBits self.old octets.now from end }
         ensures count { (1 ≤ result.count) × (result.count ≤ end - from) }
         ensures reaches { RunsToStop C.check (state self.old check.old (F.octets frame.old))
             (bits_from octets.now from result.count) result.is_stop (state self.new check.new (F.octets frame.new)) }

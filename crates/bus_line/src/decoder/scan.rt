@@ -17,9 +17,8 @@ use bus_fcs::Check;
 use std::cmp::min;
 
 impl DecoderWords {
-    ghost use Rattle.bus_line.specs.Words.{IsDecoder, IsWithin, state};
-    ghost use Rattle.bus_line.specs.Shown.{reported};
-    ghost use Rattle.bus_line.specs.After.{Advances, Decides};
+    ghost use Rattle.bus_line.specs.Words.{HasBits, IsDecoder, IsWithin, state};
+    ghost use Rattle.bus_line.specs.After.{AdvancesWith, Decides};
     ghost use Rattle.bus_line.specs.Internal.Flags.{SkipsFlags};
     ghost use Rattle.bus_line.specs.Internal.TimeFill.{SkipsOnes, AreFlags};
 
@@ -42,12 +41,9 @@ impl DecoderWords {
         ensures limit { IsErr result ↔ (most_places ≤ self.old.place) }
         ensures count { IfOk result (λ s. (1 ≤ s.count) × (s.count ≤ end - at)) }
         ensures all { IfOk result (λ s. s.event ≡ None → s.count < end - at → self.new.place ≡ most_places) }
-        ensures advances { IfOk result (λ s. Advances C.check (state self.old check.old (F.octets frame.old))
-            (bits_from octets.now at s.count)
-            (option_map (reported (state self.new check.new (F.octets frame.new)).octets) s.event)
-            (state self.new check.new (F.octets frame.new))) }
-        ensures unchanged { OnErr result ((self.new ≡ self.old) × (check.new ≡ check.old)
-            × (frame.new ≡ frame.old)) }
+        ensures advances { IfOk result (λ s. AdvancesWith C.check (state self.old check.old (F.octets frame.old))
+            (bits_from octets.now at s.count) s.event (state self.new check.new (F.octets frame.new))) }
+        ensures unchanged { OnErr result ((self.new ≡ self.old) × (check.new ≡ check.old) × (frame.new ≡ frame.old)) }
         ensures sound { IsDecoder self.new (F.octets frame.new) }
     {
         let room = PLACES - self.place;
@@ -69,16 +65,11 @@ impl DecoderWords {
         end: usize,
     ) -> Scanned
         requires sound { IsDecoder self.old (F.octets frame.old) }
-        requires some { from ≤ end }
-        requires enough { end ≤ 8 * length octets.now }
-        requires room { self.old.place + (end - from) ≤ most_places }
-        ensures count { result.count ≤ end - from }
-        ensures some { from < end → 1 ≤ result.count }
+        requires bits { HasBits self.old octets.now from end }
+        ensures count { (1 ≤ result.count) × (result.count ≤ end - from) }
         ensures all { result.event ≡ None → result.count ≡ end - from }
-        ensures advances { Advances C.check (state self.old check.old (F.octets frame.old))
-            (bits_from octets.now from result.count)
-            (option_map (reported (state self.new check.new (F.octets frame.new)).octets) result.event)
-            (state self.new check.new (F.octets frame.new)) }
+        ensures advances { AdvancesWith C.check (state self.old check.old (F.octets frame.old))
+            (bits_from octets.now from result.count) result.event (state self.new check.new (F.octets frame.new)) }
         ensures sound { IsDecoder self.new (F.octets frame.new) }
     {
         let mut at = from;
@@ -110,25 +101,21 @@ impl DecoderWords {
         end: usize,
     ) -> Scanned
         requires sound { IsDecoder self.old (F.octets frame.old) }
-        requires some { from < end }
-        requires enough { end ≤ 8 * length octets.now }
-        requires room { self.old.place + (end - from) ≤ most_places }
+        requires bits { HasBits self.old octets.now from end }
         ensures count { (1 ≤ result.count) × (result.count ≤ end - from) }
-        ensures advances { Advances C.check (state self.old check.old (F.octets frame.old))
-            (bits_from octets.now from result.count)
-            (option_map (reported (state self.new check.new (F.octets frame.new)).octets) result.event)
-            (state self.new check.new (F.octets frame.new)) }
+        ensures advances { AdvancesWith C.check (state self.old check.old (F.octets frame.old))
+            (bits_from octets.now from result.count) result.event (state self.new check.new (F.octets frame.new)) }
         ensures sound { IsDecoder self.new (F.octets frame.new) }
     {
         if end - from < 64 {
-            return self.scan_word(check, frame, octets, from, end);
+            return self.advance(check, frame, word_at(octets, from, end));
         }
         if self.begins_piece(octets, from) {
             return self.scan_piece(check, frame, octets, from, end);
         }
         let past = self.skip_time_fill::<C>(octets, from, end);
         if past == from {
-            return self.scan_word(check, frame, octets, from, end);
+            return self.advance(check, frame, word_at(octets, from, end));
         }
         Scanned {
             count: past - from,
@@ -147,30 +134,6 @@ impl DecoderWords {
             || self.settles_at == self.place + 8 && seven_octets_at(octets, from) & 0xff != 0x7e
     }
 
-    /// Takes up to 48 bits, or those of them up to the first that may decide a report.
-    #[inline(always)]
-    fn scan_word<C: Check, F: FrameBuffer>(
-        &mut self,
-        check: &mut C,
-        frame: &mut F,
-        octets: &[u8],
-        from: usize,
-        end: usize,
-    ) -> Scanned
-        requires sound { IsDecoder self.old (F.octets frame.old) }
-        requires some { from < end }
-        requires enough { end ≤ 8 * length octets.now }
-        requires room { self.old.place + (end - from) ≤ most_places }
-        ensures count { (1 ≤ result.count) × (result.count ≤ end - from) }
-        ensures advances { Advances C.check (state self.old check.old (F.octets frame.old))
-            (bits_from octets.now from result.count)
-            (option_map (reported (state self.new check.new (F.octets frame.new)).octets) result.event)
-            (state self.new check.new (F.octets frame.new)) }
-        ensures sound { IsDecoder self.new (F.octets frame.new) }
-    {
-        self.advance(check, frame, word_at(octets, from, end))
-    }
-
     /// Takes bits of the piece that the last flag opens.
     #[inline(always)]
     fn scan_piece<C: Check, F: FrameBuffer>(
@@ -182,14 +145,11 @@ impl DecoderWords {
         end: usize,
     ) -> Scanned
         requires sound { IsDecoder self.old (F.octets frame.old) }
-        requires some { from + 64 ≤ end }
-        requires enough { end ≤ 8 * length octets.now }
-        requires room { self.old.place + (end - from) ≤ most_places }
+        requires long { from + 64 ≤ end }
+        requires bits { HasBits self.old octets.now from end }
         ensures count { (1 ≤ result.count) × (result.count ≤ end - from) }
-        ensures advances { Advances C.check (state self.old check.old (F.octets frame.old))
-            (bits_from octets.now from result.count)
-            (option_map (reported (state self.new check.new (F.octets frame.new)).octets) result.event)
-            (state self.new check.new (F.octets frame.new)) }
+        ensures advances { AdvancesWith C.check (state self.old check.old (F.octets frame.old))
+            (bits_from octets.now from result.count) result.event (state self.new check.new (F.octets frame.new)) }
         ensures sound { IsDecoder self.new (F.octets frame.new) }
     {
         let reached = self.run_to_stop(check, frame, octets, from, end);
@@ -213,13 +173,10 @@ impl DecoderWords {
         end: usize,
     ) -> usize
         requires within { IsWithin self.old }
-        requires some { from ≤ end }
-        requires enough { end ≤ 8 * length octets.now }
-        requires room { self.old.place + (end - from) ≤ most_places }
+        requires bits { HasBits self.old octets.now from end }
         ensures within { (from ≤ result) × (result ≤ end) }
         ensures decides { (check : C) (held : List ℕ) → Decides C.check (state self.old check held)
             (bits_from octets.now from (result - from)) None (state self.new check held) }
-        ensures none { result ≡ from → self.new ≡ self.old }
         ensures sound { IsWithin self.new }
     {
         if self.settles_at == NEVER {
@@ -236,13 +193,10 @@ impl DecoderWords {
     pub(crate) fn skip_ones(&mut self, octets: &[u8], from: usize, end: usize) -> usize
         requires within { IsWithin self.old }
         requires idle { self.old.settles_at ≡ 2 ^ 62 }
-        requires some { from ≤ end }
-        requires enough { end ≤ 8 * length octets.now }
-        requires room { self.old.place + (end - from) ≤ most_places }
+        requires bits { HasBits self.old octets.now from end }
         ensures within { (from ≤ result) × (result ≤ end) }
         ensures bits { bits_from octets.now from (result - from) ≡ replicate (result - from) true }
         ensures passes { SkipsOnes self.old (result - from) self.new }
-        ensures none { result ≡ from → self.new ≡ self.old }
         ensures sound { IsWithin self.new }
     {
         if self.last_bits != 0xffff {
@@ -258,13 +212,10 @@ impl DecoderWords {
     pub(crate) fn skip_flags(&mut self, octets: &[u8], from: usize, end: usize) -> usize
         requires within { IsWithin self.old }
         requires flag { self.old.settles_at ≡ self.old.place + 8 }
-        requires some { from ≤ end }
-        requires enough { end ≤ 8 * length octets.now }
-        requires room { self.old.place + (end - from) ≤ most_places }
+        requires bits { HasBits self.old octets.now from end }
         ensures within { (from ≤ result) × (result ≤ end) }
         ensures flags { AreFlags octets.now from result }
         ensures passes { SkipsFlags self.old ((result - from) / 8) self.new }
-        ensures none { result ≡ from → self.new ≡ self.old }
         ensures sound { IsWithin self.new }
     {
         let at = flags_end(octets, from, end);

@@ -11,6 +11,8 @@ use crate::decoder::marked::Marked;
 pub(crate) struct Data {
     pub(crate) bits: u64,
     pub(crate) count: u64,
+    ghost few: { count ≤ 56 },
+    ghost small: { bits < 2 ^ count },
 }
 
 /// The data among the `count` bits after the eight lowest of the word: those that are no inserted
@@ -20,7 +22,6 @@ pub(crate) fn data_in_word(word: u64, count: u64) -> Data
     requires { count ≤ 56 }
     ensures value { bits_of result.count result.bits ≡ data_in_word word count }
     ensures few { result.count ≤ count }
-    ensures small { result.bits < 2 ^ result.count }
 {
     let all = (1 << count) - 1;
     unstuffed(word >> 8, inserted_zeros(word) & all, count)
@@ -44,7 +45,6 @@ fn unstuffed(bits: u64, inserted: u64, count: u64) -> Data
     requires marked { inserted < 2 ^ count }
     ensures value { bits_of result.count result.bits ≡ kept bits inserted count }
     ensures few { result.count ≤ count }
-    ensures small { result.bits < 2 ^ result.count }
 {
     let mut left = Marked::of(bits, inserted, count).without_lowest();
     while left.marks != 0 {

@@ -2,11 +2,9 @@
 
 ghost use Rattle.std.specs.Prelude.{◌≡◌, ◌+◌, ◌-◌, ◌*◌, ◌/◌, ◌%◌, ◌≤◌, ◌<◌, ◌^◌, ◌↔◌, List, Bool, [], ◌∷◌, ◌++◌};
 ghost use Rattle.std.specs.Prelude.{IsErr, IfOk, OnErr, ℕ};
-ghost use Rattle.std.specs.Option.{option_map};
 ghost use Rattle.bus_bits.specs.Limits.{most_places};
 ghost use Rattle.bus_bits.specs.Octet.{bits_of};
 ghost use Rattle.bus_bits.specs.Word.{IsWordOf};
-ghost use Rattle.bus_line.specs.Due.{current};
 
 use crate::decoder::settled::data_in_word;
 use crate::decoder::stop::bits_before_stop;
@@ -37,10 +35,8 @@ fn newest(last_bits: u64, bits: u64, count: u64) -> u64
 
 impl DecoderWords {
     ghost use Rattle.bus_line.specs.Words.{IsDecoder, IsWithin, state};
-    ghost use Rattle.bus_line.specs.Internal.Tracks.{Tracks};
-    ghost use Rattle.bus_line.specs.Shown.{reported};
-    ghost use Rattle.bus_line.specs.After.{Advances, After};
-    ghost use Rattle.bus_line.specs.Internal.Settled.{IsWord, HasNoStop, LagsBy};
+    ghost use Rattle.bus_line.specs.After.{AdvancesWith};
+    ghost use Rattle.bus_line.specs.Internal.RunsTo.{ConsumesBits};
 
     /// Takes a bit as [`LineDecoder::push`](crate::LineDecoder::push) does, with the octets of the piece and their
     /// check in the caller's hands. Returns the report that it decides, if it decides one.
@@ -55,11 +51,9 @@ impl DecoderWords {
     ) -> Result<Option<Event>, PlaceLimit>
         requires sound { IsDecoder self.old (F.octets frame.old) }
         ensures limit { IsErr result ↔ (most_places ≤ self.old.place) }
-        ensures advances { IfOk result (λ event. Advances C.check (state self.old check.old (F.octets frame.old))
-            (bit ∷ []) (option_map (reported (state self.new check.new (F.octets frame.new)).octets) event)
-            (state self.new check.new (F.octets frame.new))) }
-        ensures unchanged { OnErr result ((self.new ≡ self.old) × (check.new ≡ check.old)
-            × (frame.new ≡ frame.old)) }
+        ensures advances { IfOk result (λ event. AdvancesWith C.check (state self.old check.old (F.octets frame.old))
+            (bit ∷ []) event (state self.new check.new (F.octets frame.new))) }
+        ensures unchanged { OnErr result ((self.new ≡ self.old) × (check.new ≡ check.old) × (frame.new ≡ frame.old)) }
         ensures sound { IsDecoder self.new (F.octets frame.new) }
     {
         if self.place >= PLACES {
@@ -81,12 +75,9 @@ impl DecoderWords {
         requires sound { IsDecoder self.old (F.octets frame.old) }
         requires word { IsWordOf word.count word.bits }
         requires room { self.old.place + word.count ≤ most_places }
-        ensures some { 1 ≤ result.count }
-        ensures count { result.count ≤ word.count }
-        ensures advances { Advances C.check (state self.old check.old (F.octets frame.old))
-            (bits_of result.count word.bits)
-            (option_map (reported (state self.new check.new (F.octets frame.new)).octets) result.event)
-            (state self.new check.new (F.octets frame.new)) }
+        ensures count { (1 ≤ result.count) × (result.count ≤ word.count) }
+        ensures advances { AdvancesWith C.check (state self.old check.old (F.octets frame.old))
+            (bits_of result.count word.bits) result.event (state self.new check.new (F.octets frame.new)) }
         ensures sound { IsDecoder self.new (F.octets frame.new) }
     {
         let Word { bits, count } = word;
@@ -116,15 +107,10 @@ impl DecoderWords {
         count: u64,
     )
         requires sound { IsDecoder self.old (F.octets frame.old) }
-        requires some { 1 ≤ count }
-        requires few { count ≤ 56 }
+        requires count { (1 ≤ count) × (count ≤ 56) }
         requires room { self.old.place + count ≤ most_places }
-        ensures tracks { (b : List Bool) → After C.check (state self.old check.old (F.octets frame.old)) b →
-            HasNoStop b (bits_of count bits) (count - 1) →
-            Tracks C.check (state self.new check.new (F.octets frame.new)) (b ++ bits_of count bits) (current b) }
-        ensures longest { self.new.longest ≡ self.old.longest }
-        ensures origin { self.new.origin ≡ self.old.origin }
-        ensures place { self.new.place ≡ self.old.place + count }
+        ensures consumes { ConsumesBits C.check (state self.old check.old (F.octets frame.old)) (bits_of count bits)
+            (state self.new check.new (F.octets frame.new)) }
         ensures sound { IsDecoder self.new (F.octets frame.new) }
     {
         let word = self.last_bits | bits << 16;

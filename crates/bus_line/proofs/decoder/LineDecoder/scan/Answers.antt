@@ -11,7 +11,7 @@ returns-clause-answer g c = rw (← c.self.view_is) (
     let count = length-from c.args.octets.now c.args.at scanned.scanned.count in
     let some : 1 ≤ length (bits_from c.args.octets.now c.args.at scanned.scanned.count) =
     omega (arith, count, scanned.ensures.count.0) in
-    rw count at (last-due _ some scanned.ensures.advances))
+    rw count at (last-due some scanned.ensures.advances))
 
 pub returns-clause-fits : goal.returns-clause-fits
 returns-clause-fits g c =

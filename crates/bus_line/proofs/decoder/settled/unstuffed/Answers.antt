@@ -4,16 +4,10 @@ use Rattle.bus_line.proofs.SettledKeptLemmas.{kept-all}
 use Rattle.bus_line.proofs.decoder.settled.unstuffed.Goals as goal
 
 pub loop-left-init : goal.loop-left-init
-loop-left-init c =
-    let first = c.without_lowest-left.ensures in
-    let all = c.of.ensures in
-    record {
-      few = omega (arith, first.few, all.count);
-      small = first.small;
-      marked = first.marked;
-      zeros = first.zeros;
-      done = first.same ∙ all.same;
-    }
+loop-left-init c = record {
+  few = omega (arith, c.without_lowest-left.ensures.few, c.of.ensures.count);
+  done = c.without_lowest-left.ensures.same ∙ c.of.ensures.same;
+}
 
 pub returns-clause-value : goal.returns-clause-value
 returns-clause-value c =

@@ -2,7 +2,7 @@ use Rattle.std.proofs.Common.{◌≡◌, ◌/◌, ◌^◌, ◌<◌, ◌∙◌, m
 use Rattle.std.specs.Int.Bits.{bit_xor}
 use Rattle.std.proofs.lemmas.Nat.{xor_lt}
 use Rattle.bus_bits.proofs.OctetLemmas.{least}
-use Rattle.bus_line.proofs.FlagCountLemmas.{seven_flags, first_other, flags-below}
+use Rattle.bus_line.proofs.FlagLemmas.{seven_flags, first_other, flags-below}
 use Rattle.bus_line.proofs.decoder.time_fill.flags_in.Goals as goal
 
 pub returns-clause-are : goal.returns-clause-are

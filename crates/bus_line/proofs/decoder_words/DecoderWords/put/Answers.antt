@@ -1,12 +1,13 @@
 use Rattle.std.proofs.Common.{◌≡◌, ◌≤◌, ◌+◌, ◌-◌, ◌*◌, ◌/◌, ◌^◌, [], ◌∷◌, ◌++◌, ℕ, List, length, length-append, min}
 use Rattle.std.proofs.Common.{refl, sym, ap, ◌∙◌, subst, append_assoc, arith}
 use Rattle.std.specs.Prelude.{bit_and}
+use Rattle.std.proofs.lemmas.List.{length-take}
 use Rattle.std.proofs.lemmas.Nat.{and_mask, shr-shr}
 use Rattle.std.proofs.Math.Nat.{mul-le-mul_right}
 use Rattle.bus_bits.specs.declared.spent.Spent.{Spent}
 use Rattle.bus_bits.proofs.OctetLemmas.{least}
 use Rattle.bus_line.specs.Words.{state}
-use Rattle.bus_line.specs.Internal.Settled.{octets_of}
+use Rattle.bus_line.specs.Internal.Settled.{gain, octets_of}
 use Rattle.bus_line.proofs.TracksAppendLemmas.{keeps-more, length-octets_of, octets-next}
 use Rattle.bus_line.proofs.decoder_words.DecoderWords.put.Goals as goal
 
@@ -52,15 +53,38 @@ loop-preserved g c =
           ∙ ap (λ (f : ℕ). record c.zero.result { folded = f }) (omega arith));
     }
 
-pub returns-clause-keeps : goal.returns-clause-keeps
-returns-clause-keeps g c = λ os kept.
+pub returns-clause-stores : goal.returns-clause-stores
+returns-clause-stores g c =
     let w = c.args.self.now in
     let d = state w c.args.check.now (g.F.FrameBuffer.octets c.args.frame.now) in
-    let all : c.loop.counter ≡ c.min-stored.result = omega (arith, c.loop-test.false, c.loop.auto.counter-end) in
-    let room : w.longest + 2 - c.len.result ≡ w.longest + 2 - length d.octets = omega (arith, c.len.ensures) in
-    keeps-more _ d _ c.args.count c.loop.counter c.args.joined os kept
-    (all ∙ c.min-stored.ensures ∙ least c.args.count (w.longest + 2 - c.len.result) ∙ ap (min c.args.count) room)
-    refl c.loop.invariant.held c.loop.invariant.folded
+    let n = c.args.count in
+    let k = c.loop.counter in
+    let all : k ≡ c.min-stored.result = omega (arith, c.loop-test.false, c.loop.auto.counter-end) in
+    let count : k ≡ min n (w.longest + 2 - length d.octets) =
+    all ∙ c.min-stored.ensures ∙ least n (w.longest + 2 - c.len.result)
+    ∙ ap (λ (j : ℕ). min n (w.longest + 2 - j)) c.len.ensures in
+    record {
+      keeps = λ os kept. keeps-more _ d _ n k c.args.joined os kept count refl c.loop.invariant.held
+          c.loop.invariant.folded;
+      spent = λ os kept.
+          let gained : k ≡ gain (w.longest + 2) (length os) (length (octets_of n c.args.joined)) =
+          omega (
+            arith,
+            count,
+            ap length kept.held,
+            length-take (w.longest + 2) os,
+            length-octets_of n c.args.joined,
+          ) in
+          let folded = ap (λ (s : Spent). s.folded) c.loop.invariant.spent
+          ∙ ap (λ (j : ℕ). w.folded + g.C.Check.check.cost * j) gained in
+          ap (λ (f : ℕ). record d.spent { stored = w.stored + c.min-stored.result; folded = f }) folded
+          ∙ ap (λ (j : ℕ). record d.spent {
+            stored = w.stored + j;
+            folded = w.folded + g.C.Check.check.cost * gain (w.longest + 2) (length os)
+                (length (octets_of n c.args.joined));
+          }) (sym all ∙ gained);
+      kept = refl;
+    }
 
 pub returns-clause-sound : goal.returns-clause-sound
 returns-clause-sound g c =

@@ -11,31 +11,26 @@ use Rattle.bus_line.proofs.decoder_words.DecoderWords.scan_all.Goals as goal
 pub loop-at-init : goal.loop-at-init
 loop-at-init g c = record {
   begun = omega arith;
-  ends = c.requires.some;
-  decides = decides-from g.C.Check.check c.args.octets.now c.args.from (c.args.from - c.args.from)
-      (state c.args.self.now c.args.check.now (g.F.FrameBuffer.octets c.args.frame.now)) (omega arith);
+  ends = omega (arith, c.requires.bits.some);
+  decides = decides-from c.args.octets.now c.args.from (c.args.from - c.args.from) (omega arith);
   sound = c.requires.sound;
 }
 
-pub scan_some-scanned-requires-clause-room : goal.scan_some-scanned-requires-clause-room
-scan_some-scanned-requires-clause-room g c =
+pub scan_some-scanned-requires-clause-bits : goal.scan_some-scanned-requires-clause-bits
+scan_some-scanned-requires-clause-bits g c =
     let now = c.loop-at.invariant in
-    omega (
-      arith,
-      c.requires.room,
-      now.begun,
-      now.ends,
-      place-on g.C.Check.check c.args.octets.now c.args.from c.loop-at.at now.begun now.decides,
-    )
+    record {
+      some = c.loop-at-test.true;
+      enough = c.requires.bits.enough;
+      room = omega (arith, c.requires.bits.room, now.begun, now.ends, place-on c.args.octets.now now.begun now.decides);
+    }
 
 pub returns-then-is_some-clause-advances : goal.returns-then-is_some-clause-advances
 returns-then-is_some-clause-advances g c =
     let now = c.loop-at.invariant in
     let scanned = c.scan_some-scanned in
-    let n = scanned.result.count in
-    let count : c.loop-at.at + n - c.args.from ≡ c.loop-at.at - c.args.from + n = omega (arith, now.begun) in
-    advances-on g.C.Check.check c.args.octets.now c.args.from c.loop-at.at now.begun now.decides
-    n (c.loop-at.at + n - c.args.from) count scanned.ensures.advances
+    advances-on c.args.octets.now now.begun now.decides scanned.result.count
+    (c.loop-at.at + scanned.result.count - c.args.from) (omega (arith, now.begun)) scanned.ensures.advances
 
 pub loop-at-preserved : goal.loop-at-preserved
 loop-at-preserved g c =
@@ -46,26 +41,22 @@ loop-at-preserved g c =
     let new = state scanned.new.self scanned.new.check (g.F.FrameBuffer.octets scanned.new.frame) in
     let none : scanned.result.event ≡ None =
     is-none scanned.result.event (sym c.is_some.ensures ∙ c.if-is_some.false) in
-    let told = ap (option_map (reported new.octets)) none in
-    let bits = bits_from c.args.octets.now c.loop-at.at n in
-    let quiet = subst (λ (r : Option Report). Decides g.C.Check.check old bits r new)
-    told scanned.ensures.advances.decides in
-    let count : c.loop-at.at + n - c.args.from ≡ c.loop-at.at - c.args.from + n = omega (arith, now.begun) in
+    let quiet = subst (λ (r : Option Report).
+    Decides g.C.Check.check old (bits_from c.args.octets.now c.loop-at.at n) r new)
+    (ap (option_map (reported new.octets)) none) scanned.ensures.advances.decides in
     record {
       begun = omega (arith, now.begun);
       ends = omega (arith, now.ends, scanned.ensures.count);
-      decides = decides-on g.C.Check.check c.args.octets.now c.args.from c.loop-at.at now.begun now.decides
-          n (c.loop-at.at + n - c.args.from) count quiet;
+      decides = decides-on c.args.octets.now now.begun now.decides n (c.loop-at.at + n - c.args.from)
+          (omega (arith, now.begun)) quiet;
       sound = scanned.ensures.sound;
     }
 
 pub returns-clause-advances : goal.returns-clause-advances
 returns-clause-advances g c =
-    let view = g.C.Check.check in
     let now = c.loop-at.invariant in
     let old = state c.args.self.now c.args.check.now (g.F.FrameBuffer.octets c.args.frame.now) in
     let new = state c.loop-at.self c.loop-at.check (g.F.FrameBuffer.octets c.loop-at.frame) in
     let end : c.loop-at.at ≡ c.args.end = omega (arith, now.ends, c.loop-at-test.false) in
-    advances-quiet view
-    (subst (λ (n : ℕ). Decides view old (bits_from c.args.octets.now c.args.from (n - c.args.from)) None new)
-    end now.decides)
+    advances-quiet (subst (λ (n : ℕ).
+    Decides g.C.Check.check old (bits_from c.args.octets.now c.args.from (n - c.args.from)) None new) end now.decides)

@@ -8,27 +8,18 @@ use Rattle.bus_line.proofs.decoder_words.DecoderWords.scan_piece.Goals as goal
 
 pub returns-then-reached-clause-advances : goal.returns-then-reached-clause-advances
 returns-then-reached-clause-advances g c =
-    let view = g.C.Check.check in
-    let check = c.args.check.now in
-    let octets = g.F.FrameBuffer.octets c.args.frame.now in
     let reached = c.run_to_stop-reached in
+    let old = state c.args.self.now c.args.check.now (g.F.FrameBuffer.octets c.args.frame.now) in
     let mid = state reached.new.self reached.new.check (g.F.FrameBuffer.octets reached.new.frame) in
     let bits = bits_from c.args.octets.now c.args.from reached.result.count in
-    let stopped = subst (λ (stop : Bool). RunsToStop view (state c.args.self.now check octets) bits stop mid)
-    c.if-reached.true reached.ensures.reaches in
-    let decision = c.decide-event.ensures in
-    decided view stopped decision.longest decision.origin decision.place
-    (decision.answer (g.F.FrameBuffer.octets reached.new.frame)) (decision.after
-    (g.F.FrameBuffer.octets reached.new.frame))
+    decided (subst (λ (stop : Bool). RunsToStop g.C.Check.check old bits stop mid) c.if-reached.true
+    reached.ensures.reaches) (c.decide-event.ensures.decides (g.F.FrameBuffer.octets reached.new.frame))
 
 pub returns-else-reached-clause-advances : goal.returns-else-reached-clause-advances
 returns-else-reached-clause-advances g c =
-    let view = g.C.Check.check in
-    let check = c.args.check.now in
-    let octets = g.F.FrameBuffer.octets c.args.frame.now in
     let reached = c.run_to_stop-reached in
+    let old = state c.args.self.now c.args.check.now (g.F.FrameBuffer.octets c.args.frame.now) in
     let mid = state reached.new.self reached.new.check (g.F.FrameBuffer.octets reached.new.frame) in
     let bits = bits_from c.args.octets.now c.args.from reached.result.count in
-    advances-quiet view
-    (subst (λ (stop : Bool). RunsToStop view (state c.args.self.now check octets) bits stop mid)
+    advances-quiet (subst (λ (stop : Bool). RunsToStop g.C.Check.check old bits stop mid)
     c.if-reached.false reached.ensures.reaches)

@@ -14,7 +14,7 @@ returns-then-self-eq-NEVER-clause-decides g c = λ check held.
     subst (λ (z : List Bool). Decides view (state old check held) z None (state new check held))
     (sym c.skip_ones.ensures.bits)
     (skipped-ones view check held old new count c.skip_ones.ensures.passes c.if-self-eq-NEVER.true
-    (omega (arith, c.requires.room, c.skip_ones.ensures.within)))
+    (omega (arith, c.requires.bits.room, c.skip_ones.ensures.within)))
 
 pub returns-then-self-clause-decides : goal.returns-then-self-clause-decides
 returns-then-self-clause-decides g c = λ check held.
@@ -29,5 +29,4 @@ returns-then-self-clause-decides g c = λ check held.
 
 pub returns-clause-decides : goal.returns-clause-decides
 returns-clause-decides g c = λ check held.
-    decides-from g.C.Check.check c.args.octets.now c.args.from (c.args.from - c.args.from)
-    (state c.args.self.now check held) (omega arith)
+    decides-from c.args.octets.now c.args.from (c.args.from - c.args.from) (omega arith)

@@ -5,7 +5,8 @@ use Rattle.bus_bits.proofs.OctetLemmas.{length-bits}
 use Rattle.bus_line.specs.Internal.StuffingWriter.{Cut}
 use Rattle.bus_line.specs.Internal.Inserting.{raw_after, run_after}
 use Rattle.bus_line.proofs.WholeLemmas.{take_next}
-use Rattle.bus_line.proofs.InsertingLemmas.{on_err, next-of, raw-few, run-append, data-sent, data-cut}
+use Rattle.bus_line.proofs.InsertingLemmas.{on_err, next-of, raw-few, run-append, data-sent, data-cut-before}
+use Rattle.bus_line.proofs.InsertingLemmas.{data-cut-behind}
 use Rattle.bus_line.proofs.encoder.stuffing_writer.StuffingWriter.send_octet.Goals as goal
 
 pub send_data-requires-clause-room : goal.send_data-requires-clause-room
@@ -24,8 +25,9 @@ returns-in_err-send_data-clause-cut g c =
     on_err c.from_residual.result
     (subst (λ z. Cut g.S.BitSink.sink (raw_after c.args.self.now.run z) c.args.self.now
     c.send_data.new.self c.args.sink.now c.send_data.new.sink) (sym parts)
-    (data-cut g.S.BitSink.sink _ (take i bits) _ _ _ c.loop-bit.self _ _ c.loop-bit.sink _
-    c.loop-bit.invariant.sent c.loop-bit.invariant.run c.in_err-send_data.ensures.cut))
+    (data-cut-before c.args.self.now.run (take i bits ++ get_or bits i false ∷ []) (drop (i + 1) bits)
+    (data-cut-behind c.args.self.now.run (take i bits) (get_or bits i false ∷ []) c.loop-bit.invariant.sent
+    c.loop-bit.invariant.run c.in_err-send_data.ensures.cut)))
 
 pub loop-bit-preserved : goal.loop-bit-preserved
 loop-bit-preserved g c =
@@ -34,7 +36,7 @@ loop-bit-preserved g c =
     let next : take (i + 1) bits ≡ take i bits ++ get_or bits i false ∷ [] =
     take_next bits i false (omega (arith, ap length c.octet_bits-bits.ensures, length-bits 8 c.args.octet)) in
     rw next (record {
-      sent = data-sent g.S.BitSink.sink _ (take i bits) _ _ c.loop-bit.self _ _ c.loop-bit.sink _
+      sent = data-sent c.args.self.now.run (take i bits) (get_or bits i false ∷ [])
           c.loop-bit.invariant.sent c.loop-bit.invariant.run c.in_ok-send_data.ensures.sent;
       run = c.in_ok-send_data.ensures.run
           ∙ (ap (λ n. run_after n (get_or bits i false ∷ [])) c.loop-bit.invariant.run
