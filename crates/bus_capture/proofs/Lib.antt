@@ -14,3 +14,4 @@ pub mod ReadingLemmas
 pub mod ListsLemmas
 pub mod KnownLemmas
 pub mod ChecksLemmas
+pub mod ArrivalsLemmas

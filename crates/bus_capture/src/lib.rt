@@ -1,6 +1,8 @@
-//! Captures of one line or of two, from their octets to what is seen at their bits, listed or checked.
+//! Captures of one line, of two, or of two with a clock each: from their octets to what is seen at their bits, listed
+//! or checked.
 #![tactic(auto)]
 
+mod arrivals;
 mod capture_kind;
 mod check;
 mod list;
