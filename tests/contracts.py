@@ -8,7 +8,7 @@ from typing import Dict, Iterator, List, NamedTuple, Optional, Set, Tuple
 CRATES = [
     "bus_bits", "bus_fcs", "bus_line", "bus_dictionary", "bus_pairing", "bus_watch", "port1_c", "bus_examples", "bus_tool",
 ]
-BELOW = ["bus_text", "bus_capture", "bus_encode"]
+BELOW = ["bus_text", "bus_calls"]
 
 FUNCTION = re.compile(r'\s*(pub(?:\([a-z]+\))? )?(?:const )?(?:unsafe )?(?:extern "C" )?fn (\w+)')
 

@@ -32,10 +32,10 @@ from definitions.values import Case, Items, Record, items_of
 MOST_PLACES = 2**60
 
 # What is run, by file and name. A definition in a block with a form takes the form first.
-LISTING = ("bus_capture.specs.Known", "listing_in_all")
-REPORT = ("bus_capture.specs.Checks", "check_report")
-WHOLE = ("bus_capture.specs.Lists", "in_all")
-FORMS = [("bus_capture.specs.Captures", name) for name in ["form_of_one", "form_of_two", "form_of_arrivals"]]
+LISTING = ("bus_calls.specs.Known", "listing_in_all")
+REPORT = ("bus_calls.specs.Checks", "check_report")
+WHOLE = ("bus_calls.specs.Lists", "in_all")
+FORMS = [("bus_calls.specs.Captures", name) for name in ["form_of_one", "form_of_two", "form_of_arrivals"]]
 DICTIONARY = ("bus_text.specs.Show", "given_dictionary")
 DICTIONARY_TEXT = ("bus_text.specs.Given", "dictionary_text")
 KIND = ("bus_text.specs.Kinds", "kind_named")

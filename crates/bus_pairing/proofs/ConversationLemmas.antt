@@ -1,5 +1,5 @@
 -- One report more: the tally, the history and the steps of a conversation.
-use Rattle.std.proofs.Common.{◌≡◌, ℕ, ◌+◌, ◌<◌, ◌-◌, ◌==◌, ◌&&◌, Bool, true, false, if◌then◌else◌, List, [], ◌∷◌, ◌++◌}
+use Rattle.std.proofs.Common.{◌≡◌, ◌≢◌, ℕ, ◌+◌, ◌<◌, ◌-◌, ◌==◌, ◌&&◌, Bool, true, false, if◌then◌else◌, List, [], ◌∷◌, ◌++◌}
 use Rattle.std.proofs.Common.{length, drop, Option, Some, None, inl, inr, refl, sym, ap, ◌∙◌, arith, subst, slice_get}
 use Rattle.std.proofs.Common.{map, replicate}
 use Rattle.std.specs.List.{cons_option, All}
@@ -12,7 +12,9 @@ use Rattle.std.proofs.lemmas.List.Sums.{sum_by_push}
 use Rattle.circular_buffer.specs.Buffer.{keep_last}
 use Rattle.bus_bits.specs.declared.span.Span.{Span}
 use Rattle.bus_line.specs.Report.{Report, Kind, Frame, Damaged, Overlong, Abort, Idle}
-use Rattle.bus_line.specs.Shown.{span_of}
+use Rattle.bus_line.specs.Shown.{kind_with, span_of}
+use Rattle.bus_line.specs.declared.event.EventKind.{EventKind}
+use Rattle.bus_line.specs.declared.event.EventKind.TheVariants as event
 use Rattle.bus_pairing.specs.LineReport.{LineReport, line_report, of_line}
 use Rattle.bus_pairing.specs.declared.line.Line.{Line}
 use Rattle.bus_pairing.specs.declared.line.Line.TheVariants.{First}
@@ -20,13 +22,12 @@ use Rattle.bus_line.specs.Ledger.{octet_count, kind_octets}
 use Rattle.bus_dictionary.specs.Entry.{FrameType}
 use Rattle.bus_dictionary.specs.Standing.{standing}
 use Rattle.bus_pairing.specs.Talk.{is_idle, standing_of, command_on, waits, verdict, verdicts, pending}
-use Rattle.bus_pairing.specs.Seen.{decided}
+use Rattle.bus_pairing.specs.Seen.{SeenReport, decided, seen_of}
 use Rattle.bus_pairing.specs.History.{KeptFrame, kept_frame, line_of, frame_at, frame_of, frames, history, tally}
 use Rattle.bus_pairing.specs.History.{verdicts_of, is_outcome, kept_pair}
 use Rattle.bus_pairing.specs.Ledger.{kind_steps, steps}
 use Rattle.bus_pairing.specs.Internal.Counted.{one_more, counted, Counted}
-use Rattle.bus_pairing.specs.Internal.Damage.{is_damage}
-use Rattle.bus_pairing.specs.Conversation.{ConversationState, Keeps}
+use Rattle.bus_pairing.specs.Conversation.{ConversationState, Enters, Keeps}
 use Rattle.bus_pairing.specs.declared.pair_kept.PairKept.{PairKept}
 use Rattle.bus_pairing.specs.declared.counts.Counts.{Counts}
 use Rattle.bus_pairing.specs.declared.outcome.Outcome.{Outcome}
@@ -127,32 +128,22 @@ history-more depth rs r = ap (keep_last depth) (frames-more rs r) ∙ one (frame
     one None = ap (keep_last depth) (append-nil (frames rs))
     one (Some f) = sym (keep_last-more depth (frames rs) f)
 
-pending-more : (d : List FrameType) (rs : List LineReport) (r : LineReport) →
-    (if is_idle r.report.kind then pending d rs else waits d r) ≡ pending d (rs ++ r ∷ [])
-pending-more d rs r = step (is_idle r.report.kind) refl
-  where
-    step : (b : Bool) → is_idle r.report.kind ≡ b → (if is_idle r.report.kind then pending d rs else waits d r)
-        ≡ pending d (rs ++ r ∷ [])
-    step true kind_is = rw kind_is (sym (pending-idle d rs r kind_is))
-    step false kind_is = rw kind_is (sym (pending-talk d rs r kind_is))
-
 -- what a report changes in a conversation
 pub record Takes (old new : ConversationState) (r : LineReport) (verdict : Option Verdict) : Type 0 where
   pub dictionary : new.dictionary ≡ old.dictionary
   pub depth : new.depth ≡ old.depth
   pub history : new.history ≡ keeping old.depth old.history (frame_of r)
-  pub waiting : new.waiting ≡ (if is_idle r.report.kind then old.waiting else waits old.dictionary r)
   pub tally : Counted verdict old.tally new.tally
   pub copied : new.copied ≡ old.copied + octet_count r.report
   pub handled : new.handled ≡ old.handled + steps r.report
 
 pub keeps-more : (old new : ConversationState) (rs : List LineReport) (r : LineReport) → Keeps old rs →
-    Takes old new r (decided old.dictionary rs r) → Keeps new (rs ++ r ∷ [])
-keeps-more old new rs r kept takes = record {
+    new.waiting ≡ pending old.dictionary (rs ++ r ∷ []) → Takes old new r (decided old.dictionary rs r) →
+    Keeps new (rs ++ r ∷ [])
+keeps-more old new rs r kept waiting takes = record {
   history = takes.history ∙ ap (λ h. keeping old.depth h (frame_of r)) kept.history ∙ sym (history-more old.depth rs r)
       ∙ ap (λ n. history n (rs ++ r ∷ [])) (sym takes.depth);
-  waiting = takes.waiting ∙ ap (λ w. if is_idle r.report.kind then w else waits old.dictionary r) kept.waiting
-      ∙ pending-more old.dictionary rs r ∙ ap (λ d. pending d (rs ++ r ∷ [])) (sym takes.dictionary);
+  waiting = waiting ∙ ap (λ d. pending d (rs ++ r ∷ [])) (sym takes.dictionary);
   tally = λ station within. takes.tally station _ (kept.tally station within)
       ∙ ap Some (sym (tally-more old.dictionary rs r station)
       ∙ ap (λ d. tally d (rs ++ r ∷ []) station) (sym takes.dictionary));
@@ -164,103 +155,31 @@ keeps-more old new rs r kept takes = record {
       ∙ sym (sum_by_push (λ (h : LineReport). steps h.report) rs r));
 }
 
--- neither the history nor the command that waits are concerned by this kind
-pub record IsQuiet (d : List FrameType) (kind : Kind) : Type 0 where
+pub enters : (old new : ConversationState) (r : LineReport) (found : SeenReport)
+    → ((hs : List LineReport) → old.waiting ≡ pending old.dictionary hs
+    → new.waiting ≡ pending old.dictionary (hs ++ r ∷ []))
+    → ((hs : List LineReport) → old.waiting ≡ pending old.dictionary hs → found ≡ seen_of old.dictionary hs r)
+    → Takes old new r found.verdict → Enters old r found new
+enters old new r found waiting says takes = record {
+  keeps = λ hs kept. keeps-more old new hs r kept (waiting hs kept.waiting)
+      (subst (λ (s : SeenReport). Takes old new r s.verdict) (says hs kept.waiting) takes);
+  says = λ hs kept. says hs kept.waiting;
+  dictionary = takes.dictionary;
+  depth = takes.depth;
+}
+
+-- a report that is no frame leaves the history and the copied octets, and has three steps
+pub record IsNoFrame (kind : Kind) : Type 0 where
   pub no_frame : (line : Line) (span : Span) → frame_at line span kind ≡ None
-  pub no_standing : standing_of d kind ≡ None
   pub no_octets : kind_octets kind ≡ 0
   pub three : kind_steps kind ≡ 3
 
-pub damage-quiet : (d : List FrameType) (kind : Kind) → is_damage kind ≡ true → (is_idle kind ≡ false) × IsQuiet d kind
-damage-quiet d (Frame octets) damage = absurd (cc)
-damage-quiet d (Damaged cause) damage =
-    (refl, record { no_frame = λ line span. refl; no_standing = refl; no_octets = refl; three = refl })
-damage-quiet d Overlong damage =
-    (refl, record { no_frame = λ line span. refl; no_standing = refl; no_octets = refl; three = refl })
-damage-quiet d Abort damage =
-    (refl, record { no_frame = λ line span. refl; no_standing = refl; no_octets = refl; three = refl })
-damage-quiet d Idle damage = absurd (cc)
-
-pub idle-quiet : (d : List FrameType) (kind : Kind) → is_idle kind ≡ true → IsQuiet d kind
-idle-quiet d Idle idle = record { no_frame = λ line span. refl; no_standing = refl; no_octets = refl; three = refl }
-idle-quiet d (Frame octets) idle = absurd (cc)
-idle-quiet d (Damaged cause) idle = absurd (cc)
-idle-quiet d Overlong idle = absurd (cc)
-idle-quiet d Abort idle = absurd (cc)
-
--- what a piece that is no frame changes
-pub keeps-damage : (old new : ConversationState) (rs : List LineReport) (r : LineReport) → Keeps old rs →
-    is_damage r.report.kind ≡ true
-    → new ≡ record old { waiting = None; tally = new.tally; last = new.last; handled = new.handled }
-    → new.handled ≡ old.handled + 3 →
-    Counted (option_map (verdict old.dictionary None) old.waiting) old.tally new.tally → Keeps new (rs ++ r ∷ [])
-keeps-damage old new rs r kept damage is three_steps verdict_counted =
-    let quiet = damage-quiet old.dictionary r.report.kind damage in
-    let j : ConversationState = record old
-    { waiting = None; tally = new.tally; last = new.last; handled = new.handled } in
-    let judged : option_map (verdict old.dictionary None) old.waiting ≡ decided old.dictionary rs r =
-    rw (decided-talk old.dictionary rs r quiet.0, quiet.1.no_standing, kept.waiting) refl in
-    subst (λ j. Keeps j (rs ++ r ∷ [])) (sym is) (keeps-more old j rs r kept (record {
-      dictionary = refl;
-      depth = refl;
-      history = rw (quiet.1.no_frame) refl;
-      waiting = rw (quiet.0, quiet.1.no_standing) refl;
-      tally = subst (λ v. Counted v old.tally new.tally) judged verdict_counted;
-      copied = rw (quiet.1.no_octets) (omega arith);
-      handled = rw (quiet.1.three) three_steps;
-    }))
-
--- and what an idle changes
-pub keeps-idle : (old new : ConversationState) (rs : List LineReport) (r : LineReport) → Keeps old rs → is_idle
-    r.report.kind ≡ true
-    → new ≡ record old { last = new.last; handled = new.handled } → new.handled ≡ old.handled + 3
-    → Keeps new (rs ++ r ∷ [])
-keeps-idle old new rs r kept idle is three_steps =
-    let quiet = idle-quiet old.dictionary r.report.kind idle in
-    let j : ConversationState = record old { last = new.last; handled = new.handled } in
-    subst (λ j. Keeps j (rs ++ r ∷ [])) (sym is) (keeps-more old j rs r kept (record {
-      dictionary = refl;
-      depth = refl;
-      history = rw (quiet.no_frame) refl;
-      waiting = rw idle refl;
-      tally = rw (decided-idle old.dictionary rs r idle) (λ station c same. same);
-      copied = rw (quiet.no_octets) (omega arith);
-      handled = rw (quiet.three) three_steps;
-    }))
-
--- what a frame changes
-pub keeps-frame : (old new : ConversationState) (rs : List LineReport) (line : Option Line) (span : Span)
-    (octets : List ℕ) →
-    Keeps old rs
-    → new
-    ≡ record old {
-      history = keep_last old.depth
-          (old.history ++ record { line = line_of line; span = span; octets = octets } ∷ []);
-      waiting =
-          command_on line old.dictionary span (standing octets old.dictionary);
-      tally = new.tally;
-      last = new.last;
-      copied =
-          new.copied;
-      handled = new.handled;
-    }
-    → new.copied ≡ old.copied + length octets → new.handled ≡ old.handled + 6
-    → Counted (option_map (verdict old.dictionary (Some (line, span.first, standing octets old.dictionary)))
-    old.waiting) old.tally new.tally
-    → Keeps new (rs ++ line_report line (record { kind = Frame octets; first = span.first; past = span.past }) ∷ [])
-keeps-frame old new rs line span octets kept is octets_copied six_steps verdict_counted =
-    let r : LineReport = line_report line (record { kind = Frame octets; first = span.first; past = span.past }) in
-    let judged : option_map (verdict old.dictionary (Some (line, span.first, standing octets old.dictionary)))
-    old.waiting ≡ decided old.dictionary rs r = rw (decided-talk old.dictionary rs r refl, kept.waiting) refl in
-    rw is (keeps-more old _ rs r kept (record {
-      dictionary = refl;
-      depth = refl;
-      history = refl;
-      waiting = refl;
-      tally = subst (λ v. Counted v old.tally new.tally) judged verdict_counted;
-      copied = octets_copied;
-      handled = six_steps;
-    }))
+pub no-frame : (octets : List ℕ) (kind : EventKind) → kind ≢ event.Frame → IsNoFrame (kind_with octets kind)
+no-frame octets event.Frame other = absurd (other refl)
+no-frame octets (event.Damaged cause) other = record { no_frame = λ line span. refl; no_octets = refl; three = refl }
+no-frame octets event.Overlong other = record { no_frame = λ line span. refl; no_octets = refl; three = refl }
+no-frame octets event.Abort other = record { no_frame = λ line span. refl; no_octets = refl; three = refl }
+no-frame octets event.Idle other = record { no_frame = λ line span. refl; no_octets = refl; three = refl }
 
 -- frames of the only line count as the first's
 abbrev IsFirst : KeptFrame → Type 0

@@ -5,8 +5,9 @@ use Rattle.std.proofs.lemmas.Bool.Decides.{eqb_tells}
 use Rattle.std.proofs.lemmas.List.{length-replicate}
 use Rattle.std.proofs.lemmas.Option.{slice_get_within}
 use Rattle.circular_buffer.proofs.Places.{slice_get-set_same, slice_get-set_other}
-use Rattle.bus_pairing.specs.Internal.Counted.{one_more, IsWithin}
+use Rattle.bus_pairing.specs.Internal.Counted.{one_more, Counted, IsWithin}
 use Rattle.bus_pairing.specs.declared.counts.Counts.{Counts}
+use Rattle.bus_pairing.specs.declared.verdict.Verdict.{Verdict}
 use Rattle.bus_pairing.proofs.ConversationLemmas.{slice_get-replicate}
 use Rattle.bus_pairing.specs.declared.outcome.Outcome.{Outcome}
 use Rattle.bus_pairing.specs.declared.outcome.Outcome.TheVariants.{Answered, Late, Missing, Spoilt}
@@ -37,6 +38,18 @@ within-counted most tally at o c here within station d is = elim (eqb_tells stat
   | inr other ↦
       let old = within station d (sym (slice_get-set_other tally at station (one_more o c) other.1) ∙ is) in
       (omega (arith, old), omega (arith, old), omega (arith, old), omega (arith, old))
+]
+
+pub counted-set : (tally : List Counts) (v : Verdict) (c : Counts) → slice_get tally v.station ≡ Some c →
+    Counted (Some v) tally (set tally v.station (one_more v.outcome c))
+counted-set tally v c here station d is = elim (eqb_tells v.station station) [
+  | inl same ↦
+      let both : Some c ≡ Some d = sym here ∙ (ap (slice_get tally) same.1 ∙ is) in
+      let one : c ≡ d = cc in
+      rw (same.0, ← same.1, ← one) (slice_get-set_same tally v.station (one_more v.outcome c)
+      (slice_get_within tally v.station c here))
+  | inr other ↦
+      rw (other.0) (slice_get-set_other tally v.station station (one_more v.outcome c) (λ is. other.1 (sym is)) ∙ is)
 ]
 
 -- the same counts for each station

@@ -4,17 +4,17 @@ ghost use Rattle.std.specs.Prelude.{◌≡◌, ◌+◌, ◌≤◌, ◌<◌, ◌^
 ghost use Rattle.std.specs.Prelude.{◌↔◌, IsTrue, Some, None, slice_get};
 ghost use Rattle.bus_line.specs.Limits.{most_octets};
 
+mod count;
 mod keep;
-mod verdict;
 
 use crate::counts::Counts;
 use crate::finding::Finding;
 use crate::line::Line;
 use crate::pair_kept::PairKept;
-use crate::pairing::{command, is_stray};
+use crate::pairing::Pairing;
 use crate::pending::Pending;
 use bus_bits::{Span, Spent};
-use bus_dictionary::{Dictionary, Standing};
+use bus_dictionary::Dictionary;
 use bus_line::{Event, EventKind};
 use circular_buffer::HeapCircularBuffer;
 use std::alloc::{AllocError, Global};
@@ -28,7 +28,7 @@ use std::marker::Model;
 #[derive(Drop)]
 pub struct Conversation {
     dictionary: Dictionary,
-    waiting: Option<Pending>,
+    pairing: Pairing,
     /// By station.
     tally: [Counts; 256],
     history: HeapCircularBuffer<PairKept>,
@@ -63,14 +63,10 @@ fn no_counts() -> [Counts; 256]
 }
 
 impl Conversation {
-    ghost use Rattle.bus_line.specs.Shown.{kind_with, reported};
-    ghost use Rattle.bus_line.specs.Report.{Frame};
-    ghost use Rattle.bus_pairing.specs.LineReport.{LineReport, line_report};
-    ghost use Rattle.bus_pairing.specs.Internal.Damage.{is_damage};
+    ghost use Rattle.bus_line.specs.Shown.{reported};
+    ghost use Rattle.bus_pairing.specs.LineReport.{line_report};
     ghost use Rattle.bus_pairing.specs.Conversation.{Enters, HasRoom, IsWhole, Keeps};
     ghost use Rattle.bus_pairing.specs.Shown.{found_on, kept_pair_option};
-    ghost use Rattle.bus_pairing.specs.Talk.{is_idle};
-    ghost use Rattle.bus_dictionary.specs.Standing.{standing};
 
     /// A conversation of no reports, whose history keeps `depth` frames, one or more. Fails only where memory was
     /// refused.
@@ -82,7 +78,7 @@ impl Conversation {
         let history = HeapCircularBuffer::with_capacity(alloc, depth)?;
         Ok(Conversation {
             dictionary,
-            waiting: None,
+            pairing: Pairing::new(),
             tally: no_counts(),
             history,
             last: Finding::nothing(),
@@ -94,8 +90,7 @@ impl Conversation {
     /// is `None` where there is one line.
     ///
     /// A frame has 4 to 258 octets, and the counters have room for one report more: [`Conversation::has_room`].
-    // Every caller passes a constant line, so that `enter` is compiled once for one line and once for two.
-    #[inline(always)]
+    #[inline(never)]
     pub fn take(&mut self, line: Option<Line>, event: Event, octets: &[u8])
         requires whole { IsWhole event.kind octets.now }
         requires fits { length octets.now ≤ most_octets }
@@ -103,49 +98,14 @@ impl Conversation {
         ensures enters { Enters self.old (line_report line (reported octets.now event))
             (found_on line octets.now self.new.last) self.new }
     {
-        match line {
-            None => self.take_of_one(event, octets),
-            Some(line) => self.take_of_two(line, event, octets),
-        }
-    }
-
-    /// A report of the only line.
-    #[inline(never)]
-    fn take_of_one(&mut self, event: Event, octets: &[u8])
-        requires whole { IsWhole event.kind octets.now }
-        requires fits { length octets.now ≤ most_octets }
-        requires room { HasRoom self.old }
-        ensures enters { Enters self.old (line_report None (reported octets.now event))
-            (found_on None octets.now self.new.last) self.new }
-    {
-        self.enter(None, event, octets);
-    }
-
-    /// A report of one of two lines.
-    #[inline(never)]
-    fn take_of_two(&mut self, line: Line, event: Event, octets: &[u8])
-        requires whole { IsWhole event.kind octets.now }
-        requires fits { length octets.now ≤ most_octets }
-        requires room { HasRoom self.old }
-        ensures enters { Enters self.old (line_report (Some line) (reported octets.now event))
-            (found_on (Some line) octets.now self.new.last) self.new }
-    {
-        self.enter(Some(line), event, octets);
-    }
-
-    /// Takes a report of a line.
-    #[inline(always)]
-    fn enter(&mut self, line: Option<Line>, event: Event, octets: &[u8])
-        requires whole { IsWhole event.kind octets.now }
-        requires fits { length octets.now ≤ most_octets }
-        requires room { HasRoom self.old }
-        ensures enters { Enters self.old (line_report line (reported octets.now event))
-            (found_on line octets.now self.new.last) self.new }
-    {
-        match event.kind {
-            EventKind::Frame => self.frame(line, event.span, octets),
-            EventKind::Idle => self.idle(event),
-            EventKind::Damaged(_) | EventKind::Overlong | EventKind::Abort => self.damage(event),
+        self.last = self.pairing.take(&self.dictionary, line, event, octets);
+        self.spent.tick_handled();
+        self.spent.tick_handled();
+        self.count(self.last.verdict);
+        if let EventKind::Frame = event.kind {
+            self.spent.tick_handled();
+            self.spent.tick_handled();
+            self.keep(line, event.span, octets);
         }
     }
 
@@ -162,78 +122,6 @@ impl Conversation {
         ensures { result.now ≡ self.now.last }
     {
         &self.last
-    }
-
-    /// Takes a frame of a line.
-    #[inline(always)]
-    fn frame(&mut self, line: Option<Line>, span: Span, octets: &[u8])
-        requires at_least { 4 ≤ length octets.now }
-        requires at_most { length octets.now ≤ most_octets }
-        requires room { HasRoom self.old }
-        ensures enters { Enters self.old
-            (line_report line (record { kind = Frame octets.now; first = span.first; past = span.past }))
-            (found_on line octets.now self.new.last) self.new }
-    {
-        self.spent.tick_handled();
-        let standing = self.standing(octets);
-        self.decide(Some((line, span.first, standing)));
-        self.last.event = Event {
-            kind: EventKind::Frame,
-            span,
-        };
-        self.last.standing = Some(standing);
-        self.last.stray = is_stray(standing, self.last.verdict);
-        if let Some(command) = command(&self.dictionary, line, span, standing) {
-            self.waiting = Some(command);
-        }
-        self.keep(line, span, octets);
-    }
-
-    /// Takes a piece that is no frame.
-    #[inline(always)]
-    fn damage(&mut self, event: Event)
-        requires damage { (octets : List ℕ) → is_damage (kind_with octets event.kind) ≡ true }
-        requires room { HasRoom self.old }
-        ensures enters { (line : Option Line) (octets : List ℕ) →
-            Enters self.old (line_report line (reported octets event))
-            (found_on line octets self.new.last) self.new }
-    {
-        self.spent.tick_handled();
-        self.decide(None);
-        self.last.event = event;
-        self.last.standing = None;
-        self.last.stray = false;
-    }
-
-    /// Takes an idle: neither pairing nor tally changes.
-    #[inline(always)]
-    fn idle(&mut self, event: Event)
-        requires idle { (octets : List ℕ) → is_idle (kind_with octets event.kind) ≡ true }
-        requires room { HasRoom self.old }
-        ensures enters { (line : Option Line) (octets : List ℕ) →
-            Enters self.old (line_report line (reported octets event))
-            (found_on line octets self.new.last) self.new }
-    {
-        self.spent.tick_handled();
-        self.spent.tick_handled();
-        self.spent.tick_handled();
-        self.last.event = event;
-        self.last.standing = None;
-        self.last.verdict = None;
-        self.last.stray = false;
-    }
-
-    /// How a frame's head matches the dictionary, by its head and its type's entry.
-    #[inline(always)]
-    fn standing(&mut self, octets: &[u8]) -> Standing
-        requires whole { 4 ≤ length octets.now }
-        requires room { self.old.handled + 2 < 2 ^ 64 }
-        ensures value { result ≡ standing octets.now self.old.dictionary }
-        ensures kept { self.new ≡ record self.old { handled = self.old.handled + 2 } }
-    {
-        self.spent.tick_handled();
-        self.spent.tick_handled();
-        Standing::read(octets, &self.dictionary)
     }
 
     /// A frame of the history, of which the oldest has the number 0.
@@ -262,7 +150,7 @@ impl Conversation {
     pub fn pending(&self) -> Option<Pending>
         ensures { result ≡ self.now.waiting }
     {
-        self.waiting
+        self.pairing.waiting
     }
 
     /// The dictionary.

@@ -4,7 +4,6 @@
 mod arguments;
 mod program;
 
-pub use bus_capture::{check_capture, list_capture};
-pub use bus_encode::encode_frames;
+pub use bus_calls::{check_capture, encode_frames, list_capture};
 pub use bus_text::{Kind, Options, Summary, ToolFault, show_frame};
 pub use program::run;

@@ -1,11 +1,11 @@
 //! The program.
 
 ghost use Rattle.std.specs.Prelude.{◌≡◌, ◌≢◌, ◌≤◌, ◌^◌, ◌⊎◌};
-ghost use Rattle.bus_serve.specs.Executes.{AllowsReads, Executes};
-ghost use Rattle.bus_serve.specs.declared.request.Request.{Request};
+ghost use Rattle.bus_calls.specs.Executes.{AllowsReads, Executes};
+ghost use Rattle.bus_calls.specs.declared.request.Request.{Request};
 
 use crate::arguments::{Refusal, read_arguments};
-use bus_serve::{FAULT, execute, fail, status};
+use bus_calls::{FAULT, execute, fail, status};
 use bus_text::{ToolFault, put_text};
 use clap::Error;
 use clap::error::ErrorKind;

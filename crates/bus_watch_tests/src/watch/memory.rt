@@ -3,11 +3,11 @@
 
 use super::limits::analyser_of;
 use crate::expect::{holds, same};
+use crate::seen::calls_if_memory;
 use bus_dictionary::Dictionary;
 use bus_fcs::{BitCheck, Check, OctetCheck};
 use bus_line::Span;
 use bus_rows::{CALLS, DAMAGED, ROUND_BITS, ROUND_OCTETS, ROUNDS, round_octets, round_of};
-use bus_seen::calls_if_memory;
 use bus_watch::{
     Analyser, Counts, Finding, Line, NewFault, ReportObserver, ReportSink, Seen, SinkRefused,
 };

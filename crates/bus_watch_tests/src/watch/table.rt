@@ -2,11 +2,11 @@
 
 use super::{bits_of, new_analyser};
 use crate::expect::same;
+use crate::seen::{push_ending, push_seen};
 use bus_bits::bits_number;
 use bus_dictionary::Dictionary;
 use bus_fcs::Check;
 use bus_rows::row_of;
-use bus_seen::{push_ending, push_seen};
 use bus_watch::{Analyser, Finding, Line, ReportObserver};
 use std::alloc::Global;
 use std::process::Abort;

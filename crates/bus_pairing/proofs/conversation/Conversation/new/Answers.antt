@@ -9,7 +9,7 @@ use Rattle.bus_pairing.proofs.conversation.Conversation.new.Goals as goal
 pub returns-clause-keeps : goal.returns-clause-keeps
 returns-clause-keeps c = record {
   history = rw (c.in_ok-history.ensures) (sym (drop-nil (0 - c.args.depth)));
-  waiting = refl;
+  waiting = c.new.ensures;
   tally = λ station within. rw (c.no_counts.ensures) (slice_get-replicate 256 _ station within);
   copied = rw (c.zero.ensures) refl;
   handled = rw (c.zero.ensures) refl;

@@ -1,0 +1,22 @@
+pub mod HeadedLemmas
+pub mod SeenOnLemmas
+pub mod OneLineLemmas
+pub mod PutLemmas
+pub mod TwoLinesLemmas
+pub mod WatchingLemmas
+pub mod ReportingLemmas
+pub mod ToldLemmas
+pub mod CapturesLemmas
+pub mod SessionsTextLemmas
+pub mod SessionsPackedLemmas
+pub mod ReportLemmas
+pub mod ReadingLemmas
+pub mod ListsLemmas
+pub mod KnownLemmas
+pub mod ChecksLemmas
+pub mod ArrivalsLemmas
+pub mod LinesLemmas
+pub mod EncodeLemmas
+pub mod EncodeStateLemmas
+pub mod OrderLemmas
+mod Examples

@@ -1,0 +1,105 @@
+-- Packed captures, some octets more at a time.
+use Rattle.std.proofs.Common.{◌≡◌, ℕ, ◌-◌, ◌<◌, ◌≤◌, ◌^◌, false, List, [], ◌∷◌, ◌++◌, length, take, drop, get_or}
+use Rattle.std.proofs.Common.{Option, Some, Result, Ok, Err, MatchResult, refl, sym, ap, ◌∙◌, subst, append-nil, arith}
+use Rattle.std.specs.Result.{IsErrAnd}
+use Rattle.std.proofs.lemmas.Grind.{common_steps}
+use Rattle.bus_bits.specs.Capture.{CaptureOf}
+use Rattle.bus_calls.specs.Captures.{fed_by}
+use Rattle.bus_calls.specs.Internal.Kinds.{KindView}
+use Rattle.bus_calls.specs.Internal.Watching.{Feeds, FeedHalts}
+use Rattle.bus_calls.specs.Internal.Sessions.{IsRead, FollowsBody, FollowsPacked, Faulty, StopsAt, Stops}
+use Rattle.bus_calls.specs.declared.run.CaptureRun.{CaptureRun}
+use Rattle.bus_calls.specs.declared.packed.PackedCapture.{PackedCapture}
+use Rattle.bus_text.specs.declared.fault.ToolFault.{ToolFault}
+use Rattle.bus_text.specs.declared.fault.ToolFault.TheVariants as fault
+use Rattle.bus_calls.proofs.CapturesLemmas.{halts-stops}
+
+-- the first octet
+pub first-octet : (xs os : List ℕ) → 0 < length os → xs ++ get_or os 0 0 ∷ [] ≡ xs ++ take 1 os
+first-octet xs [] some = absurd (omega (arith, some))
+first-octet xs (o ∷ os) some = refl
+
+-- no octets were read
+pub none-read : {A R X B : Type 0} (t : KindView A R X B) (start now : Option (List ℕ)) (run : CaptureRun A) (body : B)
+    (xs os : List ℕ) (n : ℕ) → n ≡ 0 → FollowsBody t start now body run (xs ++ take n os) →
+    FollowsBody t start now body run xs
+none-read t start now run body xs os n none followed =
+    subst (FollowsBody t start now body run) (ap (λ (k : ℕ). xs ++ take k os) none ∙ append-nil xs) followed
+
+-- a head is filled from the front of some octets
+pub filled-head : (xs os : List ℕ) → (xs ++ take (16 - length xs) os) ++ drop (16 - length xs) os ≡ xs ++ os
+filled-head xs os = grind (arith, common_steps)
+
+pub filled-long : (xs os : List ℕ) → length xs < 16 → 16 - length xs ≤ length os →
+    length (xs ++ take (16 - length xs) os) ≡ 16
+filled-long xs os short enough = grind (arith, common_steps)
+
+-- a head that was filled from some octets
+pub head-filled : (items xs os h : List ℕ) (n : ℕ) → items ≡ xs → n ≡ length items → length xs < 16 →
+    16 - n ≤ length os → h ≡ items ++ take (16 - n) os
+    → (length h ≡ 16) × (h ++ drop (16 - n) os ≡ xs ++ os)
+head-filled items xs os h n same count short enough is =
+    let long : n ≡ length xs = count ∙ ap length same in
+    let here : h ≡ xs ++ take (16 - length xs) os = is ∙ ap (λ (ys : List ℕ). ys ++ take (16 - n) os) same
+    ∙ ap (λ (j : ℕ). xs ++ take (16 - j) os) long in (
+      ap length here ∙ filled-long xs os short (omega (arith, long, enough)),
+      ap (λ (ys : List ℕ). ys ++ drop (16 - n) os) here
+          ∙ ap (λ (j : ℕ). (xs ++ take (16 - length xs) os) ++ drop (16 - j) os) long ∙ filled-head xs os,
+    )
+
+-- a slice to the end
+pub slice-rest : (k : ℕ) (os : List ℕ) → take (length os - k) (drop k os) ≡ drop k os
+slice-rest k os = grind (arith, common_steps)
+
+-- what was refused, where `map_err` answered an error
+pub err-mapped : {T E D : Type 0} (P : T → Type 0) (Q : E → Type 0) (Gives : E → D → Type 0) (r : Result T E)
+    (m : Result T D) (d : D)
+    → m ≡ Err d → MatchResult r (λ x. m ≡ Ok x) (λ e. IsErrAnd m (Gives e)) → MatchResult r P Q →
+    (e : E) × Gives e d × Q e
+err-mapped P Q Gives (Ok x) m d is made matched = absurd (let never : ⊥ = cc in never)
+err-mapped P Q Gives (Err e) m d is made matched = (e, subst (λ k. IsErrAnd k (Gives e)) is made, matched)
+
+-- what was made, where it answered a value
+pub ok-mapped : {T E D : Type 0} (P : T → Type 0) (Q : E → Type 0) (Gives : E → D → Type 0) (r : Result T E)
+    (m : Result T D) (y : T)
+    → m ≡ Ok y → MatchResult r (λ x. m ≡ Ok x) (λ e. IsErrAnd m (Gives e)) → MatchResult r P Q → P y
+ok-mapped P Q Gives (Ok x) m y is made matched = let same : x ≡ y = cc in subst P same matched
+ok-mapped P Q Gives (Err e) m y is made matched = absurd (subst (λ k. IsErrAnd k (Gives e)) is made)
+
+module _ {A R X B : Type 0} (t : KindView A R X B) where
+  -- a fault of a capture that is answered stops
+  pub faulty-stops : (start now : Option (List ℕ)) (w : CaptureRun A) (c : CaptureOf X) (f : ToolFault) →
+      Faulty t start now w c f → StopsAt t start now w c f
+  faulty-stops start now w c (fault.Write sent) faulty = absurd faulty.answered
+  faulty-stops start now w c f faulty = faulty
+
+  -- the symbols of octets were taken, or not
+  pub octets-taken : (start now : Option (List ℕ)) (w : CaptureRun A) (xs : List ℕ) (body : B) (b : List R)
+      (r : Result (Unit {0}) ToolFault)
+      → t.watch.origin w.analyser ≤ 2 ^ 60 → t.is_body body xs → (t.form.packed xs).bits ≡ b
+      → MatchResult r (λ _. Feeds t start now w b) (λ f. FeedHalts t start now w b f)
+      → MatchResult r (λ _. FollowsBody t start now body w xs) (λ f. Stops t false start now w xs f)
+  octets-taken start now w xs body b (Ok u) low read is taken =
+      record { read = read; bits = subst (Feeds t start now w) (sym is) taken }
+  octets-taken start now w xs body b (Err f) low read is taken =
+      halts-stops t start now w (fed_by t.form (t.rest w.analyser) (t.form.packed xs)) f low
+      (subst (λ (x : List R). FeedHalts t start now w x f) (sym is) taken)
+
+  -- a body that was followed is a capture that was followed
+  pub body-packed : (start now : Option (List ℕ)) (w : CaptureRun A) (p : PackedCapture B) (body : B) (ys zs : List ℕ)
+      (r : Result (Unit {0}) ToolFault)
+      → p.body ≡ Some body → ys ≡ zs
+      → MatchResult r (λ _. FollowsBody t start now body w ys) (λ f. Stops t false start now w ys f)
+      → MatchResult r (λ _. FollowsPacked t start now p w zs) (λ f. Stops t false start now w zs f)
+  body-packed start now w p body ys zs (Ok u) is same taken = record {
+    read = subst (λ b. IsRead t p.head.items b zs) (sym is) (subst (t.is_body body) same taken.read);
+    bits = subst (λ (x : List ℕ). Feeds t start now w (t.form.packed x).bits) same taken.bits;
+  }
+  body-packed start now w p body ys zs (Err f) is same taken =
+      subst (λ (x : List ℕ). Stops t false start now w x f) same taken
+
+  -- a body of a capture that was followed
+  pub packed-body : (start now : Option (List ℕ)) (w : CaptureRun A) (p : PackedCapture B) (body : B) (xs : List ℕ)
+      → p.body ≡ Some body → FollowsPacked t start now p w xs → FollowsBody t start now body w xs
+  packed-body start now w p body xs is followed =
+      record { read = subst (λ b. IsRead t p.head.items b xs) is followed.read; bits = followed.bits }

@@ -1,0 +1,97 @@
+use Rattle.std.proofs.Common.{rules, arith, Bool, ◌++◌, take, ◌∙◌, subst}
+use Rattle.std.proofs.lemmas.Result.{err_from_is_err_and}
+use Rattle.bus_calls.specs.Internal.Sessions.{is_text, Stops}
+use Rattle.bus_calls.specs.Internal.Reading.{IsClean, Finishes}
+use Rattle.bus_text.proofs.KnownBytesLemmas.{consumes_both, consumes_end, consumes_kept, longer}
+use Rattle.bus_calls.proofs.WatchingLemmas.{same-both}
+use Rattle.bus_calls.proofs.ReadingLemmas.{follows-unplaced, is-clean, read-by, end-finishes, stops-finishes}
+use Rattle.bus_calls.proofs.reader.CaptureReader.read_to_end.Goals as goal
+
+pub returns-in-Ok-eq0-clause-read : goal.returns-in-Ok-eq0-clause-read
+returns-in-Ok-eq0-clause-read g c =
+    let before = c.loop-turn.invariant.taken in
+    let start = g.W.Write.contents c.args.w.now in
+    let now = g.W.Write.contents c.loop-turn.w in
+    let self = c.loop-turn.self in
+    let law = c.laws.ensures in
+    let after = g.R.Read.remaining c.read.new.self in
+    let ends = end-finishes g.T.CaptureKind.kind law (is_text self.source) c.args.reads after start now self.run
+    before.0
+    c.finish.result c.loop-turn.invariant.sound (search rules)
+    (follows-unplaced g.T.CaptureKind.kind start now self.source self.run before.0 law before.2)
+    (c.finish.ensures before.0 (read-by g.T.CaptureKind.kind start now self.source self.run before.0 before.2)) in (
+      before.0,
+      consumes_end _ _ after before.0 _ (search rules) before.1 c.in-Ok-eq0.ensures.bytes.0,
+      subst (λ (b : Bool). Finishes g.T.CaptureKind.kind b c.args.reads after start now self.run before.0
+          c.finish.result)
+          c.loop-turn.invariant.text ends,
+    )
+
+pub returns-in-Err-clause-read : goal.returns-in-Err-clause-read
+returns-in-Err-clause-read g c =
+    let before = c.loop-turn.invariant.taken in
+    let start = g.W.Write.contents c.args.w.now in
+    let now = g.W.Write.contents c.loop-turn.w in
+    let self = c.loop-turn.self in
+    let law = c.laws.ensures in
+    let clean = is-clean g.T.CaptureKind.kind law (is_text self.source) start now self.run before.0
+    c.loop-turn.invariant.sound
+    (follows-unplaced g.T.CaptureKind.kind start now self.source self.run before.0 law before.2) in (
+      before.0,
+      consumes_kept _ _ _ _ before.1 c.in-Err.ensures.bytes,
+      subst (λ (b : Bool). IsClean g.T.CaptureKind.kind b start now self.run before.0) c.loop-turn.invariant.text clean,
+    )
+
+pub returns-in_err-analyse_read-clause-read : goal.returns-in_err-analyse_read-clause-read
+returns-in_err-analyse_read-clause-read g c =
+    let failed = err_from_is_err_and c.from_residual.result c.from_residual.ensures.1 in
+    let before = c.loop-turn.invariant.taken in
+    let start = g.W.Write.contents c.args.w.now in
+    let now = g.W.Write.contents c.analyse_read.new.w in
+    let xs = before.0 ++ take c.in-Ok.count c.read.new.buf in
+    let stops =
+    subst (λ (b : Bool). Stops g.T.CaptureKind.kind b start now c.analyse_read.new.self.run xs
+    c.in_err-analyse_read.field-0.0)
+    c.loop-turn.invariant.text (c.in_err-analyse_read.ensures.taken start before.0 before.2) in
+    rw (failed.1, failed.2) (
+      xs,
+      consumes_both _ _ _ before.0 _ before.1 c.in-Ok.ensures.bytes.0,
+      stops-finishes g.T.CaptureKind.kind (is_text c.args.self.now.source) c.args.reads
+          (g.R.Read.remaining c.read.new.self)
+          start now c.analyse_read.new.self.run xs c.in_err-analyse_read.field-0.0 stops,
+    )
+
+pub loop-turn-preserved : goal.loop-turn-preserved
+loop-turn-preserved g c =
+    let before = c.loop-turn.invariant.taken in record {
+      sound = c.analyse_read.ensures.sound;
+      same = same-both g.T.CaptureKind.kind c.args.self.now.run c.loop-turn.self.run c.analyse_read.new.self.run
+          c.loop-turn.invariant.same c.analyse_read.ensures.same;
+      text = c.analyse_read.ensures.text ∙ c.loop-turn.invariant.text;
+      few = let added = c.in_ok-analyse_read.ensures.few in let earlier = c.loop-turn.invariant.few in search rules;
+      taken = (
+        _,
+        consumes_both _ _ _ before.0 _ before.1 c.in-Ok.ensures.bytes.0,
+        c.in_ok-analyse_read.ensures.taken (g.W.Write.contents c.args.w.now) before.0 before.2,
+        longer before.0 c.read.new.buf c.in-Ok.count c.loop-turn._turn before.3 (search rules) (search rules),
+      );
+    }
+
+pub returns-clause-read : goal.returns-clause-read
+returns-clause-read g c =
+    let before = c.loop-turn.invariant.taken in
+    let start = g.W.Write.contents c.args.w.now in
+    let now = g.W.Write.contents c.loop-turn.w in
+    let self = c.loop-turn.self in
+    let law = c.laws.ensures in
+    let clean = is-clean g.T.CaptureKind.kind law (is_text self.source) start now self.run before.0
+    c.loop-turn.invariant.sound
+    (follows-unplaced g.T.CaptureKind.kind start now self.source self.run before.0 law before.2) in (
+      before.0,
+      before.1,
+      (
+        omega (arith, before.3, c.loop-turn-test.false),
+        subst (λ (b : Bool). IsClean g.T.CaptureKind.kind b start now self.run before.0) c.loop-turn.invariant.text
+            clean,
+      ),
+    )

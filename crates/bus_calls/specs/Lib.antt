@@ -1,0 +1,10 @@
+pub mod Captures
+pub mod Begins
+pub mod Lists
+pub mod Checks
+pub mod Known
+pub mod Lines
+pub mod Encode
+pub mod Encodes
+pub mod Executes
+pub mod Internal

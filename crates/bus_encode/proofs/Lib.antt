@@ -1,5 +1,0 @@
-pub mod LinesLemmas
-pub mod EncodeLemmas
-pub mod EncodeStateLemmas
-pub mod OrderLemmas
-mod Examples

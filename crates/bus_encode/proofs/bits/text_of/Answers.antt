@@ -1,9 +1,0 @@
-use Rattle.std.proofs.Common.{List, ℕ, [], ◌∷◌, ◌++◌, map, ap, ◌∙◌}
-use Rattle.bus_encode.specs.Encode.{bit_char, bits_text}
-use Rattle.bus_encode.proofs.OrderLemmas.{all_bits}
-use Rattle.bus_encode.proofs.bits.text_of.Goals as goal
-
-pub returns : goal.returns
-unfolding bits_text
-returns c = c.push-2.ensures.items ∙ ap (λ (l : List ℕ). l ++ 10 ∷ [])
-    (c.loop-bit.invariant ∙ ap (map bit_char) (all_bits c.loop-bit.bit-index c.args.bits.now c.loop-bit-test.false))

@@ -1,6 +1,0 @@
-use Rattle.std.proofs.Common.{◌≡◌, map, take}
-use Rattle.bus_encode.specs.Encode.{bit_char}
-use Rattle.bus_encode.proofs.bits.text_of.Given as goal
-
-abbrev pub invariant-loop-bit : goal.invariant-loop-bit
-invariant-loop-bit l = l.text.items ≡ map bit_char (take l.bit-index l.bits)

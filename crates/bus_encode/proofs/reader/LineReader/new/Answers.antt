@@ -1,5 +1,0 @@
-use Rattle.bus_encode.proofs.EncodeStateLemmas.{none_takes}
-use Rattle.bus_encode.proofs.reader.LineReader.new.Goals as goal
-
-pub returns-clause-fresh : goal.returns-clause-fresh
-returns-clause-fresh c = λ start. none_takes start _ _ _ c.first.ensures.0 c.first.ensures.1 c.new.ensures

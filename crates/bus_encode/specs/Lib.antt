@@ -1,4 +1,0 @@
-pub mod Lines
-pub mod Encode
-pub mod Encodes
-pub mod Internal

@@ -1,0 +1,603 @@
+//! Worked lists of two lines: what is seen, the end, the tally, the history and the steps, however the
+//! pairs are cut.
+
+ghost use Rattle.std.specs.Prelude.{◌<◌};
+
+mod every_list;
+mod memory;
+mod random_lists;
+mod runs;
+mod sinks;
+
+use self::memory::Counting;
+use crate::expect::{holds, same};
+use crate::seen::{NONE, push_ending, push_seen};
+use bus_bits::{Span, Spent, bits_number};
+use bus_dictionary::Dictionary;
+use bus_fcs::{BitCheck, Check, OctetCheck};
+use bus_line::PlaceLimit;
+use bus_rows::{CALLS, DAMAGE, FAR, FRAMES, row_of};
+use bus_watch::{
+    Counts, Ending, FeedFault, Finding, Line, NewFault, PairAnalyser, PairEnding, PairSink,
+    PairUsage, Pending, ReportObserver, Seen, SinkRefused,
+};
+use std::alloc::{AllocError, Global};
+use std::process::Abort;
+
+/// The dictionary of a text.
+fn read(rt: &impl Abort, alloc: Global, text: &str) -> Dictionary {
+    Dictionary::read(alloc, text).expect(rt, "a dictionary")
+}
+
+/// The bits of words.
+fn bits_of(rt: &impl Abort, alloc: Global, words: &str) -> Vec<bool> {
+    bus_rows::bits_of(alloc, words).expect(rt, "memory")
+}
+
+/// The words of two lists of bits, and what is seen of them with the example dictionary of calls. The
+/// shorter list goes on with ones.
+struct PairRow {
+    first: &'static str,
+    second: &'static str,
+    want: &'static str,
+    ending: PairEnding,
+    /// How many verdicts named station 16.
+    tally: Counts,
+}
+
+const NOTHING_OPEN: PairEnding = PairEnding {
+    first: None,
+    second: None,
+    pending: None,
+};
+
+const PAIR_ROWS: [PairRow; 7] = [
+    // the reply comes on the second line, after the call
+    PairRow {
+        first: "flag call flag",
+        second: "ones-57 flag reply flag",
+        want: "0 15 idle on 2; 8 49 frame 108300fde5 station 16 type 0 on 1; 57 72 idle on 1; \
+            65 106 frame 108380f561 station 16 type 128, answered 8 49 station 16 type 0 on 2",
+        ending: NOTHING_OPEN,
+        tally: Counts {
+            answered: 1,
+            ..NONE
+        },
+    },
+    // on the first line it answers nothing
+    PairRow {
+        first: "flag call flag reply flag",
+        second: "",
+        want: "0 15 idle on 2; 8 49 frame 108300fde5 station 16 type 0 on 1; \
+            57 98 frame 108380f561 station 16 type 128, missing 8 49 station 16 type 0, stray on 1",
+        ending: NOTHING_OPEN,
+        tally: Counts { missing: 1, ..NONE },
+    },
+    // both end at one place: the first line's comes first
+    PairRow {
+        first: "flag call flag",
+        second: "flag reply flag",
+        want: "8 49 frame 108300fde5 station 16 type 0 on 1; \
+            8 49 frame 108380f561 station 16 type 128, answered 8 49 station 16 type 0 on 2",
+        ending: NOTHING_OPEN,
+        tally: Counts {
+            answered: 1,
+            ..NONE
+        },
+    },
+    // a call on the second line waits for nothing
+    PairRow {
+        first: "flag",
+        second: "flag call flag",
+        want: "8 23 idle on 1; 8 49 frame 108300fde5 station 16 type 0 on 2",
+        ending: NOTHING_OPEN,
+        tally: NONE,
+    },
+    // and damage on it spoils a call on the first
+    PairRow {
+        first: "flag call flag",
+        second: "flag short short flag",
+        want: "8 49 frame 108300fde5 station 16 type 0 on 1; \
+            8 56 overlong, spoilt 8 49 station 16 type 0 on 2",
+        ending: NOTHING_OPEN,
+        tally: Counts { spoilt: 1, ..NONE },
+    },
+    // a frame of the first line between the two leaves the call without an answer
+    PairRow {
+        first: "flag call flag notice flag",
+        second: "ones-57 ones-57 flag reply flag",
+        want: "0 15 idle on 2; 8 49 frame 108300fde5 station 16 type 0 on 1; \
+            57 99 frame ff83095a3b station 255 type 9, missing 8 49 station 16 type 0 on 1; \
+            107 122 idle on 1; 122 163 frame 108380f561 station 16 type 128, stray on 2",
+        ending: NOTHING_OPEN,
+        tally: Counts { missing: 1, ..NONE },
+    },
+    // the call waits still
+    PairRow {
+        first: "flag call flag 000",
+        second: "",
+        want: "0 15 idle on 2; 8 49 frame 108300fde5 station 16 type 0 on 1",
+        ending: PairEnding {
+            first: Some(Span {
+                first: 57,
+                past: 60,
+            }),
+            second: None,
+            pending: Some(Pending {
+                span: Span { first: 8, past: 49 },
+                station: 16,
+                ftype: 0,
+            }),
+        },
+        tally: NONE,
+    },
+];
+
+/// Two lists of bits of one length, and their pairs.
+#[derive(Drop)]
+struct TwoLines {
+    first: Vec<bool>,
+    second: Vec<bool>,
+    pairs: Vec<(bool, bool)>,
+}
+
+/// The pairs of the bits of two lines, as many on both.
+fn pairs_of(rt: &impl Abort, alloc: Global, first: &[bool], second: &[bool]) -> Vec<(bool, bool)> {
+    bus_rows::pairs_of(alloc, first, second).expect(rt, "memory")
+}
+
+/// The lists of these words, the shorter going on with one bit value.
+fn two_lines(rt: &impl Abort, alloc: Global, first: &str, second: &str, rest: bool) -> TwoLines {
+    let mut first = bits_of(rt, alloc, first);
+    let mut second = bits_of(rt, alloc, second);
+    let length = first.len().max(second.len());
+    first.resize(length, rest).expect(rt, "memory");
+    second.resize(length, rest).expect(rt, "memory");
+    let pairs = pairs_of(rt, alloc, &first, &second);
+    TwoLines {
+        first,
+        second,
+        pairs,
+    }
+}
+
+/// Collects the texts of what it takes, and refuses some reports, counted from 1.
+#[derive(Drop)]
+struct PairCollector {
+    text: String,
+    refuses: [u64; 2],
+    count: u64,
+    refusals: u64,
+    /// Memory was refused for a text.
+    lacks: bool,
+}
+
+impl PairCollector {
+    fn new(alloc: Global, refuses: [u64; 2]) -> Self {
+        PairCollector {
+            text: String::new(alloc),
+            refuses,
+            count: 0,
+            refusals: 0,
+            lacks: false,
+        }
+    }
+}
+
+/// What is seen on a line, after what the text has.
+fn push_seen_on(text: &mut String, line: Line, seen: &Seen<'_>) -> Result<(), AllocError> {
+    push_seen(text, seen)?;
+    text.push_str(match line {
+        Line::First => " on 1",
+        Line::Second => " on 2",
+    })
+}
+
+impl PairSink for PairCollector {
+    ghost use Rattle.std.specs.Prelude.{None};
+
+    ghost sink = { record { taken = λ s. None; room = λ s. None; refusals = λ s. s.refusals } };
+
+    fn refused(&self) -> u64 {
+        self.refusals
+    }
+
+    fn take(&mut self, line: Line, seen: &Seen<'_>) -> Result<(), SinkRefused> {
+        self.count = self.count.saturating_add(1);
+        if self.count == self.refuses[0] || self.count == self.refuses[1] {
+            self.refusals += 1;
+            return Err(SinkRefused);
+        }
+        if push_seen_on(&mut self.text, line, seen).is_err() {
+            self.lacks = true;
+        }
+        Ok(())
+    }
+}
+
+/// An analyser of a dictionary, with a history of `depth` frames.
+fn new_analyser<C: Check>(
+    rt: &impl Abort,
+    alloc: Global,
+    dictionary: Dictionary,
+    depth: usize,
+) -> PairAnalyser<C> {
+    PairAnalyser::new(alloc, dictionary, depth, 0).expect(rt, "an analyser")
+}
+
+/// An analyser of the example dictionary of calls, with a history of two frames.
+fn analyser<C: Check>(rt: &impl Abort, alloc: Global) -> PairAnalyser<C> {
+    new_analyser(rt, alloc, read(rt, alloc, CALLS), 2)
+}
+
+/// Feeds pairs to a sink whose count of refusals has room for two more.
+fn feed<C: Check>(
+    rt: &impl Abort,
+    analyser: &mut PairAnalyser<C>,
+    pairs: &[(bool, bool)],
+    sink: &mut PairCollector,
+) -> Result<(), FeedFault> {
+    assert!(rt; sink.refused() < u64::MAX - 1);
+    analyser.feed(pairs, sink)
+}
+
+/// What is seen of pairs that are pushed one by one.
+fn pushed<C: Check>(
+    rt: &impl Abort,
+    alloc: Global,
+    analyser: &mut PairAnalyser<C>,
+    pairs: &[(bool, bool)],
+) -> String {
+    let mut text = String::new(alloc);
+    for pair in pairs {
+        let seen = analyser.push(pair.0, pair.1).expect(rt, "a place");
+        if let Some(first) = &seen.first {
+            push_seen_on(&mut text, Line::First, first).expect(rt, "text");
+        }
+        if let Some(second) = &seen.second {
+            push_seen_on(&mut text, Line::Second, second).expect(rt, "text");
+        }
+    }
+    text
+}
+
+/// An observer that writes what is seen.
+#[derive(Drop)]
+struct Writing;
+
+impl ReportObserver<String> for Writing {
+    ghost observes = { λ d l before seen m behind. Unit {0} };
+
+    ghost has_room = { λ l more. Unit {0} };
+
+    fn observe(
+        &mut self,
+        line: Option<Line>,
+        finding: &Finding,
+        octets: &[u8],
+        _dictionary: &Dictionary,
+        text: &mut String,
+    ) {
+        if let Some(line) = line {
+            let _ = push_seen_on(text, line, &finding.with_octets(octets));
+        }
+    }
+
+    ghost observes_none = { λ d l text. tt };
+
+    ghost observes_more = { λ d k l m before between behind seen more told further. tt };
+
+    ghost has_less = { λ l more less fewer room. tt };
+}
+
+/// Scans up to `size` of these pairs with one call, and what is seen at them goes after what the text has; how many
+/// these are.
+fn scan_some<C: Check>(
+    rt: &impl Abort,
+    text: &mut String,
+    analyser: &mut PairAnalyser<C>,
+    first: &[bool],
+    second: &[bool],
+    size: u32,
+) -> usize {
+    let count = first.len().min(second.len()).min(size as usize);
+    assert!(rt; count <= 48, "bits of eight octets");
+    let one = bits_number(&first[..count]).to_le_bytes();
+    let other = bits_number(&second[..count]).to_le_bytes();
+    analyser.scan(&one, &other, count, &mut Writing, text)
+}
+
+/// The same where up to `size` pairs are scanned with each call.
+fn scanned<C: Check>(
+    rt: &impl Abort,
+    alloc: Global,
+    analyser: &mut PairAnalyser<C>,
+    lines: &TwoLines,
+    size: u32,
+) -> String {
+    let mut text = String::new(alloc);
+    let mut first: &[bool] = &lines.first;
+    let mut second: &[bool] = &lines.second;
+    for _ in &lines.pairs {
+        if first.is_empty() {
+            break;
+        }
+        let taken = scan_some(rt, &mut text, analyser, first, second, size);
+        first = &first[first.len().min(taken)..];
+        second = &second[second.len().min(taken)..];
+    }
+    text
+}
+
+fn check_row<C: Check>(rt: &impl Abort, alloc: Global, row: &PairRow) {
+    let lines = two_lines(rt, alloc, row.first, row.second, true);
+    let mut one_by_one = analyser::<C>(rt, alloc);
+    let text = pushed(rt, alloc, &mut one_by_one, &lines.pairs);
+    same(rt, text.as_str(), row.want, row.first);
+    same(rt, one_by_one.ending(), row.ending, row.first);
+    same(rt, one_by_one.tally(16), row.tally, row.first);
+    same(rt, one_by_one.tally(17), NONE, row.first);
+    for size in [1, 5, 8, 48] {
+        let case = format_args!("{size} pairs at most a call");
+        let mut by_octets = analyser::<C>(rt, alloc);
+        let text = scanned(rt, alloc, &mut by_octets, &lines, size);
+        same(rt, text.as_str(), row.want, &case);
+        same(rt, by_octets.ending(), row.ending, &case);
+        same(rt, by_octets.usage(), one_by_one.usage(), &case);
+    }
+    for cut in 0..=lines.pairs.len() {
+        check_cut::<C>(rt, alloc, row, &lines.pairs, cut, one_by_one.usage());
+    }
+}
+
+/// The pairs of a row, fed in two lists.
+fn check_cut<C: Check>(
+    rt: &impl Abort,
+    alloc: Global,
+    row: &PairRow,
+    pairs: &[(bool, bool)],
+    cut: usize,
+    usage: PairUsage,
+) {
+    let (front, rest) = pairs.split_at_checked(cut).expect(rt, "a cut");
+    let mut fed = analyser::<C>(rt, alloc);
+    let mut sink = PairCollector::new(alloc, [0, 0]);
+    feed(rt, &mut fed, front, &mut sink).expect(rt, "room");
+    feed(rt, &mut fed, rest, &mut sink).expect(rt, "room");
+    let case = format_args!("cut at {cut}");
+    same(rt, sink.text.as_str(), row.want, &case);
+    same(rt, fed.usage(), usage, &case);
+    holds(rt, !sink.lacks, &case);
+}
+
+/// Each row by calls of every kind, with both checks.
+#[test]
+fn rows_of_two_lines(rt: HostRuntime) {
+    let alloc = rt.alloc();
+    for row in &PAIR_ROWS {
+        check_row::<BitCheck>(&rt, alloc, row);
+        check_row::<OctetCheck>(&rt, alloc, row);
+    }
+}
+
+/// A row of one line as the first of two, the second of which is silent: what is seen is the same
+/// but for answers, which come on the second line alone.
+fn check_first(rt: &impl Abort, alloc: Global, line: &str) {
+    if line.contains("answered") || line.contains("late") {
+        return;
+    }
+    let row = row_of(line).expect(rt, "a row");
+    let dictionary = read(rt, alloc, row.dictionary);
+    let mut analyser = new_analyser::<OctetCheck>(rt, alloc, dictionary, 16);
+    let mut text = String::new(alloc);
+    for bit in &bits_of(rt, alloc, row.words) {
+        let seen = analyser.push(*bit, false).expect(rt, "a place");
+        holds(rt, seen.second.is_none(), line);
+        if let Some(first) = &seen.first {
+            push_seen(&mut text, first).expect(rt, "text");
+        }
+    }
+    let PairEnding {
+        first,
+        second,
+        pending,
+    } = analyser.ending();
+    let ending = Ending {
+        begun: first,
+        pending,
+    };
+    push_ending(&mut text, ending).expect(rt, "text");
+    same(rt, text.as_str(), row.want, line);
+    same(rt, second, None, line);
+}
+
+#[test]
+fn rows_of_one_line_beside_silence(rt: HostRuntime) {
+    let alloc = rt.alloc();
+    for line in FRAMES.lines() {
+        check_first(&rt, alloc, line);
+    }
+    for line in DAMAGE.lines() {
+        check_first(&rt, alloc, line);
+    }
+}
+
+/// The words of two lists, the shorter going on with ones, and the steps with a check that costs one an octet.
+struct StepsRow {
+    first: &'static str,
+    second: &'static str,
+    spent: Spent,
+}
+
+const STEPS: [StepsRow; 2] = [
+    // a frame and an idle on either line
+    StepsRow {
+        first: "flag call flag",
+        second: "ones-57 flag reply flag",
+        spent: Spent {
+            shifted: 228,
+            assembled: 80,
+            folded: 10,
+            stored: 10,
+            copied: 10,
+            handled: 18,
+        },
+    },
+    // an idle on the first, and a frame on the second alone
+    StepsRow {
+        first: "",
+        second: "flag call flag",
+        spent: Spent {
+            shifted: 114,
+            assembled: 40,
+            folded: 5,
+            stored: 5,
+            copied: 5,
+            handled: 9,
+        },
+    },
+];
+
+#[test]
+fn steps_of_two_lines(rt: HostRuntime) {
+    let alloc = rt.alloc();
+    for row in &STEPS {
+        let lines = two_lines(&rt, alloc, row.first, row.second, true);
+        let mut analyser = analyser::<OctetCheck>(&rt, alloc);
+        pushed(&rt, alloc, &mut analyser, &lines.pairs);
+        same(&rt, analyser.spent(), row.spent, row.second);
+    }
+}
+
+fn check_kept(
+    rt: &impl Abort,
+    analyser: &PairAnalyser<OctetCheck>,
+    index: usize,
+    line: Line,
+    span: Span,
+    octets: &[u8],
+) {
+    let frame = analyser.history(index).expect(rt, "a frame");
+    same(rt, frame.line, line, "the line of a kept frame");
+    same(rt, frame.kept.span, span, "the span of a kept frame");
+    same(
+        rt,
+        frame.kept.octets.as_slice(),
+        octets,
+        "the octets of a kept frame",
+    );
+}
+
+/// The last two of three frames, with their lines.
+#[test]
+fn history_of_two_lines(rt: HostRuntime) {
+    let alloc = rt.alloc();
+    let lines = two_lines(
+        &rt,
+        alloc,
+        "flag call flag notice flag",
+        "flag reply flag",
+        false,
+    );
+    let mut analyser = analyser::<OctetCheck>(&rt, alloc);
+    pushed(&rt, alloc, &mut analyser, &lines.pairs);
+    same(&rt, analyser.history_len(), 2, "how many frames are kept");
+    let reply = [0x10, 0x83, 0x80, 0xf5, 0x61];
+    let span = Span { first: 8, past: 49 };
+    check_kept(&rt, &analyser, 0, Line::Second, span, &reply);
+    let notice = [0xff, 0x83, 0x09, 0x5a, 0x3b];
+    let span = Span {
+        first: 57,
+        past: 99,
+    };
+    check_kept(&rt, &analyser, 1, Line::First, span, &notice);
+    holds(&rt, analyser.history(2).is_none(), "no third frame is kept");
+    same(
+        &rt,
+        analyser.dictionary().longest(),
+        3,
+        "the longest frame of the dictionary",
+    );
+}
+
+fn new_at(
+    rt: &impl Abort,
+    alloc: Global,
+    depth: usize,
+    origin: u64,
+) -> Result<PairAnalyser<OctetCheck>, NewFault> {
+    PairAnalyser::new(alloc, read(rt, alloc, CALLS), depth, origin)
+}
+
+/// The depths and origins that are refused, and the last places.
+#[test]
+fn limits_of_two_lines(rt: HostRuntime) {
+    let alloc = rt.alloc();
+    for depth in [0, 1025] {
+        let fault = new_at(&rt, alloc, depth, 0).err();
+        same(
+            &rt,
+            fault,
+            Some(NewFault::DepthRange),
+            format_args!("depth {depth}"),
+        );
+    }
+    let past_all = (1 << 60) + 1;
+    let fault = new_at(&rt, alloc, 1, past_all).err();
+    same(
+        &rt,
+        fault,
+        Some(NewFault::Origin),
+        "an origin past all places",
+    );
+    let mut analyser = new_at(&rt, alloc, 1, (1 << 60) - 3).expect(&rt, "an analyser");
+    let mut sink = PairCollector::new(alloc, [0, 0]);
+    let pairs = [(true, false); 4];
+    let fault = feed(&rt, &mut analyser, &pairs, &mut sink).err();
+    same(&rt, fault, Some(FeedFault::PlaceLimit), "four pairs fed");
+    same(&rt, analyser.spent().shifted, 0, "the bits of four pairs");
+    feed(&rt, &mut analyser, &pairs[..3], &mut sink).expect(&rt, "room");
+    same(&rt, analyser.spent().shifted, 6, "the bits of three pairs");
+    holds(
+        &rt,
+        analyser.push(true, true).is_err(),
+        "a fourth pair is refused",
+    );
+}
+
+/// Pairs are taken up to the place before 2^60, and no more.
+#[test]
+fn last_taken_pairs(rt: HostRuntime) {
+    let alloc = rt.alloc();
+    for room in [0u64, 1, 3, 48] {
+        let origin = FAR.wrapping_sub(room);
+        let mut analyser = new_at(&rt, alloc, 1, origin).expect(&rt, "an analyser");
+        let case = format_args!("{room} places to take");
+        for _ in 0..room {
+            holds(&rt, analyser.push(true, false).is_ok(), &case);
+        }
+        same(&rt, analyser.spent().shifted, room.saturating_mul(2), &case);
+        same(
+            &rt,
+            analyser.push(true, false).err(),
+            Some(PlaceLimit),
+            &case,
+        );
+    }
+}
+
+/// Scanning stops in front of the place 2^60.
+#[test]
+fn last_scanned_pairs(rt: HostRuntime) {
+    let alloc = rt.alloc();
+    for room in [0u64, 1, 3, 7, 8, 9] {
+        let origin = FAR.wrapping_sub(room);
+        let mut analyser = new_at(&rt, alloc, 1, origin).expect(&rt, "an analyser");
+        let mut observed = 0;
+        let taken = analyser.scan(&[0xff], &[0xff], 8, &mut Counting, &mut observed);
+        let want = room.min(8);
+        let case = format_args!("{room} places to scan");
+        same(&rt, (taken as u64, observed), (want, 0), &case);
+        same(&rt, analyser.spent().shifted, want.saturating_mul(2), &case);
+    }
+}

@@ -1,0 +1,26 @@
+//! What the tests of the analysers share: what is seen, as a line of text, and the worked dictionary of calls.
+
+mod text;
+
+use bus_dictionary::{DictFault, Dictionary};
+use bus_pairing::Counts;
+use bus_rows::CALLS;
+use std::alloc::Global;
+pub use text::{push_ending, push_seen};
+
+/// No verdict.
+pub const NONE: Counts = Counts {
+    answered: 0,
+    missing: 0,
+    spoilt: 0,
+    late: 0,
+};
+
+/// The dictionary of calls, and none where memory is refused.
+pub fn calls_if_memory(alloc: Global) -> Result<Option<Dictionary>, DictFault> {
+    match Dictionary::read(alloc, CALLS) {
+        Ok(dictionary) => Ok(Some(dictionary)),
+        Err(DictFault::Memory) => Ok(None),
+        Err(fault) => Err(fault),
+    }
+}
