@@ -15,15 +15,15 @@ _port1() {
     --kind)
         words='frame damaged overlong abort idle stray answered missing spoilt late open pending'
         ;;
-    --dict | --origin | --station | --type | --depth)
+    --dict | --origin | --rest | --station | --type | --depth)
         # A text or a number: no file names, but whatever bash completes within "$(cat FILE)".
         [[ $word == *'$('* ]] || compopt +o default 2> /dev/null
         return
         ;;
     *)
         case ${COMP_WORDS[1]} in
-        list) words='--dict --origin --bits --two --station --type --kind -h --help' ;;
-        check) words='--dict --origin --bits --two --depth -h --help' ;;
+        list) words='--dict --origin --bits --two --arrivals --rest --station --type --kind -h --help' ;;
+        check) words='--dict --origin --bits --two --arrivals --rest --depth -h --help' ;;
         show) words='--dict -h --help' ;;
         encode) words='-h --help' ;;
         help) words='list check show encode help' ;;

@@ -15,6 +15,8 @@ complete -c port1 -n "__fish_seen_subcommand_from list check show" -l dict -x -d
 complete -c port1 -n "__fish_seen_subcommand_from list check" -l origin -x -d 'The place of the first bit'
 complete -c port1 -n "__fish_seen_subcommand_from list check" -l bits -d 'The capture is text'
 complete -c port1 -n "__fish_seen_subcommand_from list check" -l two -d 'The capture is of two lines'
+complete -c port1 -n "__fish_seen_subcommand_from list check" -l arrivals -d 'The bits of two lines as they arrived'
+complete -c port1 -n "__fish_seen_subcommand_from list check" -l rest -x -d 'The silence after which the second line rests'
 complete -c port1 -n "__fish_seen_subcommand_from list" -l station -x -d 'Only lines of this station'
 complete -c port1 -n "__fish_seen_subcommand_from list" -l type -x -d 'Only lines of this frame type'
 complete -c port1 -n "__fish_seen_subcommand_from list" -l kind -x -d 'Only lines of this kind' \

@@ -35,7 +35,7 @@ MOST_PLACES = 2**60
 LISTING = ("bus_calls.specs.Known", "listing_in_all")
 REPORT = ("bus_calls.specs.Checks", "check_report")
 WHOLE = ("bus_calls.specs.Lists", "in_all")
-FORMS = [("bus_calls.specs.Captures", "form_of_one"), ("bus_calls.specs.Captures", "form_of_two")]
+FORMS = [("bus_calls.specs.Captures", name) for name in ["form_of_one", "form_of_two", "form_of_arrivals"]]
 DICTIONARY = ("bus_text.specs.Show", "given_dictionary")
 DICTIONARY_TEXT = ("bus_text.specs.Given", "dictionary_text")
 KIND = ("bus_text.specs.Kinds", "kind_named")
@@ -85,7 +85,11 @@ def read_words(words: Optional[Sequence[str]] = None) -> argparse.Namespace:
         texts.add_argument("--dict", metavar="TEXT", help="the text of a dictionary")
         texts.add_argument("--dictionary", metavar="FILE", type=Path, help="the file of a dictionary")
         command.add_argument("--bits", action="store_true", help="the capture is text")
-        command.add_argument("--two", action="store_true", help="the capture is of two lines")
+        forms = command.add_mutually_exclusive_group()
+        forms.add_argument("--two", action="store_true", help="the capture is of two lines")
+        if name != "ledger":
+            forms.add_argument("--arrivals", action="store_true", help="it has the bits of two lines as they arrived")
+            command.add_argument("--rest", metavar="N", type=manners.natural, default=400)
         command.add_argument("--origin", metavar="N", type=whole_number(0, MOST_PLACES), default=0)
         if name == "list":
             add_filters(command)
@@ -133,6 +137,7 @@ class Definitions:
         return Record(
             dictionary=option(None if text is None else Record(now=items_of(text))),
             text=words.bits,
+            rest=given.get("rest", 0),
             origin=words.origin,
             depth=given.get("depth"),
             station=option(given.get("station")),
@@ -161,7 +166,7 @@ class Definitions:
         """What a call comes to whose capture has these octets."""
         options = self.options(words)
         entries = self.dictionary(options)
-        form = self.run(FORMS[words.two])
+        form = self.run(FORMS[2 if vars(words).get("arrivals") else words.two])
         capture = items_of(octets)
         whole = self.run(WHOLE, form, options, capture)
         fault = f"capture: {told(whole.fault.values[0])}" if whole.fault.name == "Some" else ""

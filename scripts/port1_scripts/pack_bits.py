@@ -1,23 +1,21 @@
 """Packs a text capture: the same bits as a packed capture, which takes an eighth of the room.
 
-    pack-bits [--two] < TEXT > PACKED
+    pack-bits [--two | --arrivals] < TEXT > PACKED
 
 The text has the octets 0 and 1; spaces, tabs and line ends are skipped. At any other octet it stops
 with status 2 and writes nothing. The packed bits are kept in memory, since their number comes first.
-With --two it packs a capture of two lines, whose text has the octets 0 to 3, in a fourth of the room.
+With --two it packs a capture of two lines, whose text has the octets 0 to 3, in a fourth of the room, and
+with --arrivals one of two lines with a clock each, of 0, 1, o and i.
 """
 
 import sys
 from typing import BinaryIO
 
 from common import manners
-from common.capture import MAGIC, PAIR_MAGIC, head, packed
+from common.capture import Form, add_forms, form_of, head, packed
 from common.manners import Fault
 
 BLANKS = b" \t\r\n"
-
-# The bits of a mark of two lines, the first line's before the second's.
-PAIRS = str.maketrans({"0": "00", "1": "10", "2": "01", "3": "11"})
 
 # The octets of one read.
 PIECE = 1 << 20
@@ -32,19 +30,20 @@ def checked(piece: bytes, before: int, marks: bytes) -> str:
     return found.decode("ascii")
 
 
-def pack(source: BinaryIO, sink: BinaryIO, two: bool) -> None:
+def pack(source: BinaryIO, sink: BinaryIO, form: Form) -> None:
+    # The bits of each mark, the lowest first.
+    bits = str.maketrans({mark: f"{at:0{form.width}b}"[::-1] for at, mark in enumerate(form.marks)})
     body = bytearray()
     rest = ""
     before = 0
     while piece := source.read(PIECE):
-        marks = checked(piece, before, b"0123" if two else b"01")
-        rest += marks.translate(PAIRS) if two else marks
+        rest += checked(piece, before, form.marks.encode()).translate(bits)
         before += len(piece)
         whole = len(rest) // 8 * 8
         body += packed(rest[:whole])
         rest = rest[whole:]
     count = 8 * len(body) + len(rest)
-    sink.write(head(count // 2, PAIR_MAGIC) if two else head(count, MAGIC))
+    sink.write(head(count // form.width, form.magic))
     sink.write(body)
     sink.write(packed(rest))
     sink.flush()
@@ -52,8 +51,8 @@ def pack(source: BinaryIO, sink: BinaryIO, two: bool) -> None:
 
 def main() -> None:
     parser = manners.parser(__doc__)
-    parser.add_argument("--two", action="store_true", help="the capture is of two lines")
-    pack(sys.stdin.buffer, sys.stdout.buffer, parser.parse_args().two)
+    add_forms(parser)
+    pack(sys.stdin.buffer, sys.stdout.buffer, form_of(parser.parse_args()))
 
 
 if __name__ == "__main__":

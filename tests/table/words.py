@@ -100,6 +100,12 @@ def twice(words: Sequence[str], option: str) -> Case:
     return refusal(words, error(why, usage=USAGES[words[0]]))
 
 
+def together(words: Sequence[str], option: str, other: str) -> Case:
+    """Two options of which one excludes the other."""
+    why = f"the argument '{option}' cannot be used with '{other}'"
+    return refusal(words, error(why, usage=USAGES[words[0]]))
+
+
 NO_NUMBER = "invalid digit found in string"
 PAST_ORIGIN = str(LAST_ORIGIN + 1)
 NO_ORIGIN = f"{PAST_ORIGIN} is not in 0..={LAST_ORIGIN}"
@@ -187,6 +193,8 @@ VALUES = [
             usage=USAGES["check"],
         ),
     ),
+    together(["list", "--two", "--arrivals"], "--two", "--arrivals"),
+    together(["check", "--two", "--arrivals"], "--two", "--arrivals"),
     twice(["list", "--bits", "--bits"], "--bits"),
     twice(["check", "--two", "--two"], "--two"),
     twice(["list", "--origin", "1", "--origin", "1"], "--origin <N>"),

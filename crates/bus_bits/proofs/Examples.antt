@@ -3,9 +3,9 @@ use Rattle.std.proofs.Common.{◌≡◌, ℕ, List, Bool, true, false, [], ◌�
 use Rattle.std.proofs.Common.{refl}
 use Rattle.bus_bits.specs.Octet.{bits_of, bits_of_octets}
 use Rattle.bus_bits.specs.Capture.{bad_mark, magic, too_many, pad_bits, trailing, place_limit, short_head, short_body}
-use Rattle.bus_bits.specs.Capture.{text_bits, text_capture, text_pair_capture, capped}
+use Rattle.bus_bits.specs.Capture.{text_bits, text_capture, text_pair_capture, text_arrival_capture, capped}
 use Rattle.bus_bits.specs.Packed.{packed_whole, packed_capture, packed_pair_whole, packed_pair_capture, wanted}
-use Rattle.bus_bits.specs.Packed.{in_pairs}
+use Rattle.bus_bits.specs.Packed.{packed_arrival_whole, packed_arrival_capture, in_pairs}
 
 -- a head that counts 57 bits, and the whole octets after it
 abbrev head : List ℕ
@@ -155,3 +155,23 @@ pairs_at_limit : capped (2 ^ 60 - 14) (packed_pair_whole (pair_head 15 ++ 255 �
     ≡ record { bits = take 14 fifteen; fault = Some place_limit }
 unfolding packed_pair_whole packed_pair_capture wanted bits_of_octets bits_of in_pairs
 pairs_at_limit = refl
+
+-- ---- two lines with a clock each
+
+-- a low and a high bit of the first line, and then of the second, with a space and a line end between them
+arrival_marks : text_arrival_capture (codes "01 o" ++ 13 ∷ 10 ∷ codes "i") ≡ record { bits = each; fault = None }
+arrival_marks = refl
+
+-- the same in an octet `11100100`: in the two bits of each the level is the lower, and the line the higher
+arrival_octet : packed_arrival_whole (codes "TS2BITS3" ++ 4 ∷ 0 ∷ 0 ∷ 0 ∷ 0 ∷ 0 ∷ 0 ∷ 0 ∷ 228 ∷ [])
+    ≡ record { bits = each; fault = None }
+unfolding packed_arrival_whole packed_arrival_capture wanted bits_of_octets bits_of in_pairs
+arrival_octet = refl
+
+-- a mark of pairs, and the head of pairs
+bad_arrival : text_arrival_capture (codes "0o2") ≡ record { bits = take 1 each ++ take 1 (drop 2 each); fault = Some (bad_mark 2) }
+bad_arrival = refl
+
+arrivals_other : packed_arrival_whole (pair_head 4 ++ 228 ∷ []) ≡ record { bits = []; fault = Some magic }
+unfolding packed_arrival_whole packed_arrival_capture wanted bits_of_octets bits_of in_pairs
+arrivals_other = refl

@@ -8,6 +8,7 @@ use Rattle.bus_bits.specs.Octet.{bits_of, bits_of_octets}
 use Rattle.bus_bits.specs.Capture.{mark_pair, Capture, PairCapture, pad_bits, trailing, short_head, GrowsTo}
 use Rattle.bus_bits.specs.Packed.{head_bits, pair_head_fault, wanted, packed_body, in_pairs, pair_body, headed}
 use Rattle.bus_bits.specs.Packed.{packed_pair_capture, filled, packed_pair_whole, PackedAfter, PairsAfter}
+use Rattle.bus_bits.specs.Packed.{arrival_head_fault, packed_arrival_capture, packed_arrival_whole}
 use Rattle.bus_bits.proofs.CaptureLemmas.{le_or_lt, same}
 use Rattle.bus_bits.proofs.OctetLemmas.{length-bits, bits_of_eight}
 use Rattle.bus_bits.proofs.TextBitsLemmas.{both_ones}
@@ -182,6 +183,9 @@ pairs-taken n xs os left after enough =
 letters-few : length (codes "TS2BITS2") ≤ 16
 letters-few = let eight : length (codes "TS2BITS2") ≡ 8 = refl in omega arith
 
+arrival-letters-few : length (codes "TS2BITS3") ≤ 16
+arrival-letters-few = let eight : length (codes "TS2BITS3") ≡ 8 = refl in omega arith
+
 pub packed-pairs-grow : (xs ys : List ℕ) → GrowsTo (packed_pair_capture xs) (packed_pair_capture (xs ++ ys))
 unfolding packed_pair_capture
 packed-pairs-grow = behind-grows (codes "TS2BITS2") pair_body letters-few pair-body-grows
@@ -202,3 +206,26 @@ pub pairs-headed : (head xs : List ℕ) → length head ≡ 16
     (headed (pair_head_fault head) (pair_body (head_bits head) xs)))
 unfolding packed_pair_capture packed_pair_whole
 pairs-headed = behind-headed (codes "TS2BITS2") pair_body letters-few
+
+-- ---- the same of arrivals
+
+pub packed-arrivals-grow : (xs ys : List ℕ) → GrowsTo (packed_arrival_capture xs) (packed_arrival_capture (xs ++ ys))
+unfolding packed_arrival_capture
+packed-arrivals-grow = behind-grows (codes "TS2BITS3") pair_body arrival-letters-few pair-body-grows
+
+pub packed-arrivals-end : (xs : List ℕ) → GrowsTo (packed_arrival_capture xs) (packed_arrival_whole xs)
+unfolding packed_arrival_capture packed_arrival_whole
+packed-arrivals-end = behind-ends (codes "TS2BITS3") pair_body
+
+pub arrivals-short_head : (xs : List ℕ) → length xs < 16
+    → (packed_arrival_capture xs ≡ record { bits = []; fault = None })
+    × (packed_arrival_whole xs ≡ record { bits = []; fault = Some short_head })
+unfolding packed_arrival_capture packed_arrival_whole
+arrivals-short_head = behind-short (codes "TS2BITS3") pair_body
+
+pub arrivals-headed : (head xs : List ℕ) → length head ≡ 16
+    → (packed_arrival_capture (head ++ xs) ≡ headed (arrival_head_fault head) (pair_body (head_bits head) xs))
+    × (packed_arrival_whole (head ++ xs) ≡ filled (head_bits head)
+    (headed (arrival_head_fault head) (pair_body (head_bits head) xs)))
+unfolding packed_arrival_capture packed_arrival_whole
+arrivals-headed = behind-headed (codes "TS2BITS3") pair_body arrival-letters-few

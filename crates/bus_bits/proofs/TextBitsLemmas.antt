@@ -1,7 +1,7 @@
 -- Text captures, one octet more and any cut.
 use Rattle.std.proofs.Common.{◌≡◌, ℕ, ◌-◌, ◌/◌, ◌%◌, ◌<◌, ◌==◌, ◌||◌, ◌⊎◌, inl, inr, Bool, true, false, cond, nat_lt}
 use Rattle.std.proofs.Common.{◌≢◌, length-append, List, [], ◌∷◌, ◌++◌, length, map, filter, take_while}
-use Rattle.std.proofs.Common.{Some, None, refl, sym, ap, ◌∙◌, arith}
+use Rattle.std.proofs.Common.{Some, None, if◌then◌else◌, refl, sym, ap, ◌∙◌, arith}
 use Rattle.std.proofs.lemmas.List.{append-nil, map-append}
 use Rattle.std.proofs.lemmas.List.Elements.{filter-append}
 use Rattle.std.proofs.lemmas.List.Sums.{take_while-cons}
@@ -10,7 +10,8 @@ use Rattle.std.proofs.lemmas.Bool.Decides.{nat_tests}
 use Rattle.bus_bits.proofs.CaptureLemmas.{lt_true, le_false, same}
 use Rattle.bus_bits.specs.Capture.{CaptureOf, bad_mark, is_bit, is_pair, is_space, front_by, marks_by, fault_by}
 use Rattle.bus_bits.specs.Capture.{mark_pair, text_bits, text_fault, text_capture, text_pairs, text_pairs_fault}
-use Rattle.bus_bits.specs.Capture.{text_pair_capture, GrowsTo}
+use Rattle.bus_bits.specs.Capture.{text_pair_capture, is_arrival, mark_arrival, text_arrivals, text_arrivals_fault}
+use Rattle.bus_bits.specs.Capture.{text_arrival_capture, GrowsTo}
 
 pub passes : (p : ℕ → Bool) (x : ℕ) (xs : List ℕ) → p x ≡ true → take_while p (x ∷ xs) ≡ x ∷ take_while p xs
 passes p x xs is = take_while-cons p x xs ∙ rw is refl
@@ -189,3 +190,38 @@ mark_pair_is x quarter =
 
 pub pair_space : (x : ℕ) → is_space x ≡ true → is_pair_text x ≡ true
 pair_space x space = rw space (or-true (is_pair x))
+
+-- ---- two lines with a clock each
+
+abbrev pub is_arrival_text : ℕ → Bool
+is_arrival_text x = is_arrival x || is_space x
+
+pub arrivals-more : (xs : List ℕ) (x : ℕ) → text_arrivals_fault xs ≡ None → is_arrival_text x ≡ true
+    → (text_arrivals_fault (xs ++ x ∷ []) ≡ None)
+    × (text_arrivals (xs ++ x ∷ []) ≡ text_arrivals xs ++ cond (is_arrival x) (mark_arrival x ∷ []) [])
+arrivals-more = values-more is_arrival mark_arrival
+
+pub arrivals-stop : (xs : List ℕ) (x : ℕ) → text_arrivals_fault xs ≡ None → is_arrival_text x ≡ false
+    → (text_arrivals_fault (xs ++ x ∷ []) ≡ Some (bad_mark (length xs)))
+    × (text_arrivals (xs ++ x ∷ []) ≡ text_arrivals xs)
+arrivals-stop = values-stop is_arrival mark_arrival
+
+pub text-arrivals-grow : (xs ys : List ℕ) → GrowsTo (text_arrival_capture xs) (text_arrival_capture (xs ++ ys))
+text-arrivals-grow = values-grow is_arrival mark_arrival
+
+pub arrival_space : (x : ℕ) → is_space x ≡ true → is_arrival_text x ≡ true
+arrival_space x space = rw space (or-true (is_arrival x))
+
+-- the mark of an octet, if it is one
+pub marked-some : (x : ℕ) (a : Bool × Bool) → Some a ≡ (if is_arrival x then Some (mark_arrival x) else None) →
+    (is_arrival x ≡ true) × (mark_arrival x ≡ a)
+marked-some x a is = elim (same (is_arrival x)) [
+  | inl mark ↦ let here : Some a ≡ Some (mark_arrival x) = is ∙ rw mark refl in (mark, cc)
+  | inr none ↦ let here : Some a ≡ None = is ∙ rw none refl in absurd (cc)
+]
+
+pub marked-none : (x : ℕ) → None ≡ (if is_arrival x then Some (mark_arrival x) else None) → is_arrival x ≡ false
+marked-none x is = elim (same (is_arrival x)) [
+  | inl mark ↦ let here : None ≡ Some (mark_arrival x) = is ∙ rw mark refl in absurd (cc)
+  | inr none ↦ none
+]

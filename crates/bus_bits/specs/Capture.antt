@@ -24,7 +24,8 @@ pub record CaptureOf (A : Type 0) : Type 0 where
 abbrev pub Capture : Type 0
 Capture = CaptureOf Bool
 
--- the pairs of two lines: at each place the bit of the first line, and that of the second
+-- the pairs of two lines: at each place the bit of the first line, and that of the second; or, of lines with a clock
+-- each, in the order of arrival a bit, and whether it is one of the second line
 abbrev pub PairCapture : Type 0
 PairCapture = CaptureOf (Bool × Bool)
 
@@ -73,6 +74,20 @@ text_pairs xs = map mark_pair (marks_by is_pair xs)
 abbrev pub text_pairs_fault : List ℕ → Option CaptureFault
 text_pairs_fault xs = fault_by is_pair xs
 
+-- two lines with a clock each: `0` or `1` on the first, `o` or `i` on the second
+abbrev pub is_arrival : ℕ → Bool
+is_arrival x = is_bit x || ((x == 111) || (x == 105))
+
+-- the bit of a mark, and whether it is one of the second line
+abbrev pub mark_arrival : ℕ → Bool × Bool
+mark_arrival x = ((x == 49) || (x == 105), (x == 111) || (x == 105))
+
+abbrev pub text_arrivals : List ℕ → List (Bool × Bool)
+text_arrivals xs = map mark_arrival (marks_by is_arrival xs)
+
+abbrev pub text_arrivals_fault : List ℕ → Option CaptureFault
+text_arrivals_fault xs = fault_by is_arrival xs
+
 -- the first `n` octets have no fault, and eight marks
 abbrev pub EightBy : (ℕ → Bool) → ℕ → List ℕ → Type 0
 EightBy is_mark n xs =
@@ -100,6 +115,10 @@ text_capture xs = record { bits = text_bits xs; fault = text_fault xs }
 abbrev pub text_pair_capture : List ℕ → PairCapture
 text_pair_capture xs = record { bits = text_pairs xs; fault = text_pairs_fault xs }
 
+-- text of two lines with a clock each: a `0`, `1`, `o` or `i` is a bit that arrives
+abbrev pub text_arrival_capture : List ℕ → PairCapture
+text_arrival_capture xs = record { bits = text_arrivals xs; fault = text_arrivals_fault xs }
+
 -- no bit has the place 2^60, where the first has the place of the origin
 abbrev pub capped : {A : Type 0} → ℕ → CaptureOf A → CaptureOf A
 capped origin c =
@@ -112,6 +131,9 @@ TextGrows = (xs ys : List ℕ) → GrowsTo (text_capture xs) (text_capture (xs +
 
 abbrev pub TextPairsGrow : Type 0
 TextPairsGrow = (xs ys : List ℕ) → GrowsTo (text_pair_capture xs) (text_pair_capture (xs ++ ys))
+
+abbrev pub TextArrivalsGrow : Type 0
+TextArrivalsGrow = (xs ys : List ℕ) → GrowsTo (text_arrival_capture xs) (text_arrival_capture (xs ++ ys))
 
 -- and so with places
 abbrev pub CappedGrows : Type 0

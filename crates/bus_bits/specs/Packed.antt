@@ -22,7 +22,7 @@ packed_fault_of Trailing = trailing
 packed_fault_of PadBits = pad_bits
 packed_fault_of ShortBody = short_body
 
--- the number of bits or pairs that a head counts: its last eight octets, the lowest first
+-- the number of bits, pairs or arrivals that a head counts: its last eight octets, the lowest first
 abbrev pub head_bits : List ℕ → ℕ
 head_bits xs = from_le_bytes w64 (slice_range xs 8 16)
 
@@ -39,6 +39,10 @@ head_fault xs = head_fault_by (codes "TS2BITS1") xs
 -- of two lines
 abbrev pub pair_head_fault : List ℕ → Option CaptureFault
 pair_head_fault xs = head_fault_by (codes "TS2BITS2") xs
+
+-- of two lines with a clock each
+abbrev pub arrival_head_fault : List ℕ → Option CaptureFault
+arrival_head_fault xs = head_fault_by (codes "TS2BITS3") xs
 
 -- of the bits `d` of whole octets, those that share an octet with the `n`th and come after it
 abbrev pub unused : ℕ → List Bool → List Bool
@@ -81,12 +85,16 @@ packed_capture xs = capture_by (head_fault xs) packed_body xs
 unfoldable pub packed_pair_capture : List ℕ → PairCapture
 packed_pair_capture xs = capture_by (pair_head_fault xs) pair_body xs
 
+-- arrivals are packed as pairs: in each the bit is the lower, and the line the higher
+unfoldable pub packed_arrival_capture : List ℕ → PairCapture
+packed_arrival_capture xs = capture_by (arrival_head_fault xs) pair_body xs
+
 -- the first fault
 abbrev pub or_fault : Option CaptureFault → Option CaptureFault → Option CaptureFault
 or_fault None g = g
 or_fault (Some f) g = Some f
 
--- at the end of the input all `n` bits or pairs came
+-- at the end of the input all `n` bits, pairs or arrivals came
 abbrev pub filled : {A : Type 0} → ℕ → CaptureOf A → CaptureOf A
 filled n c =
     record { bits = c.bits; fault = or_fault c.fault (if nat_lt (length c.bits) n then Some short_body else None) }
@@ -101,12 +109,15 @@ packed_whole xs = whole_by (packed_capture xs) xs
 unfoldable pub packed_pair_whole : List ℕ → PairCapture
 packed_pair_whole xs = whole_by (packed_pair_capture xs) xs
 
+unfoldable pub packed_arrival_whole : List ℕ → PairCapture
+packed_arrival_whole xs = whole_by (packed_arrival_capture xs) xs
+
 -- the octets `xs` after a head that counts `n` bits have no fault, and `left` of the bits are still to come
 pub record PackedAfter (n : ℕ) (xs : List ℕ) (left : ℕ) : Type 0 where
   pub clean : (packed_body n xs).fault ≡ None
   pub left_over : length (packed_body n xs).bits + left ≡ n
 
--- and so of two lines, with pairs
+-- and so of two lines, with pairs or arrivals
 pub record PairsAfter (n : ℕ) (xs : List ℕ) (left : ℕ) : Type 0 where
   pub clean : (pair_body n xs).fault ≡ None
   pub left_over : length (pair_body n xs).bits + left ≡ n
@@ -130,6 +141,13 @@ PairsAreHeaded =
     × (packed_pair_whole (head ++ xs)
     ≡ filled (head_bits head) (headed (pair_head_fault head) (pair_body (head_bits head) xs)))
 
+abbrev pub ArrivalsAreHeaded : Type 0
+ArrivalsAreHeaded =
+    (head xs : List ℕ) → length head ≡ 16
+    → (packed_arrival_capture (head ++ xs) ≡ headed (arrival_head_fault head) (pair_body (head_bits head) xs))
+    × (packed_arrival_whole (head ++ xs)
+    ≡ filled (head_bits head) (headed (arrival_head_fault head) (pair_body (head_bits head) xs)))
+
 -- and fewer are none
 abbrev pub PackedIsShort : Type 0
 PackedIsShort =
@@ -143,6 +161,12 @@ PairsAreShort =
     → (packed_pair_capture xs ≡ record { bits = []; fault = None })
     × (packed_pair_whole xs ≡ record { bits = []; fault = Some short_head })
 
+abbrev pub ArrivalsAreShort : Type 0
+ArrivalsAreShort =
+    (xs : List ℕ) → length xs < 16
+    → (packed_arrival_capture xs ≡ record { bits = []; fault = None })
+    × (packed_arrival_whole xs ≡ record { bits = []; fault = Some short_head })
+
 -- however a packed capture is cut, its bits are the same
 abbrev pub PackedGrows : Type 0
 PackedGrows = (xs ys : List ℕ) → GrowsTo (packed_capture xs) (packed_capture (xs ++ ys))
@@ -150,9 +174,15 @@ PackedGrows = (xs ys : List ℕ) → GrowsTo (packed_capture xs) (packed_capture
 abbrev pub PackedPairsGrow : Type 0
 PackedPairsGrow = (xs ys : List ℕ) → GrowsTo (packed_pair_capture xs) (packed_pair_capture (xs ++ ys))
 
+abbrev pub PackedArrivalsGrow : Type 0
+PackedArrivalsGrow = (xs ys : List ℕ) → GrowsTo (packed_arrival_capture xs) (packed_arrival_capture (xs ++ ys))
+
 -- and the end of the input adds no bit
 abbrev pub PackedEnds : Type 0
 PackedEnds = (xs : List ℕ) → GrowsTo (packed_capture xs) (packed_whole xs)
 
 abbrev pub PackedPairsEnd : Type 0
 PackedPairsEnd = (xs : List ℕ) → GrowsTo (packed_pair_capture xs) (packed_pair_whole xs)
+
+abbrev pub PackedArrivalsEnd : Type 0
+PackedArrivalsEnd = (xs : List ℕ) → GrowsTo (packed_arrival_capture xs) (packed_arrival_whole xs)

@@ -1,8 +1,9 @@
 //! Laws over the definitions.
 
-ghost use Rattle.bus_bits.specs.Capture.{TextGrows, TextPairsGrow, CappedGrows, CappedPairsGrow};
+ghost use Rattle.bus_bits.specs.Capture.{TextGrows, TextPairsGrow, TextArrivalsGrow, CappedGrows, CappedPairsGrow};
 ghost use Rattle.bus_bits.specs.Packed.{PackedIsHeaded, PackedIsShort, PackedGrows, PackedEnds, PairsAreHeaded};
 ghost use Rattle.bus_bits.specs.Packed.{PairsAreShort, OctetIsFourMarks, PackedPairsGrow, PackedPairsEnd};
+ghost use Rattle.bus_bits.specs.Packed.{ArrivalsAreHeaded, ArrivalsAreShort, PackedArrivalsGrow, PackedArrivalsEnd};
 ghost use Rattle.bus_bits.specs.Octet.{NumberOfBits, BitsOfNumber, BitsOfOctets, OctetsOfBits};
 
 /// An octet and its eight bits determine each other.
@@ -52,5 +53,21 @@ pub fn pair_captures_grow()
     ensures text { TextPairsGrow }
     ensures packed { PackedPairsGrow }
     ensures ended { PackedPairsEnd }
+    ensures capped { CappedPairsGrow }
+{}
+
+/// A packed capture of arrivals of sixteen octets or more is a head and what follows it, and one of fewer
+/// gives no arrival.
+pub fn arrivals_are_head_and_body()
+    ensures headed { ArrivalsAreHeaded }
+    ensures short { ArrivalsAreShort }
+{}
+
+/// However the octets of a capture of arrivals are cut, its arrivals are the same. The end of the input
+/// adds none.
+pub fn arrival_captures_grow()
+    ensures text { TextArrivalsGrow }
+    ensures packed { PackedArrivalsGrow }
+    ensures ended { PackedArrivalsEnd }
     ensures capped { CappedPairsGrow }
 {}

@@ -9,8 +9,8 @@ mod spent;
 mod word;
 
 pub use format::{
-    BadMark, EightBits, EightPairs, HeadFault, PackedBits, PackedFault, PackedHead, PackedPairs,
-    PairHead, PairWords, PartedText, TextBits, TextBlock, TextPairs,
+    ArrivalHead, BadMark, EightBits, EightPairs, HeadFault, PackedBits, PackedFault, PackedHead,
+    PackedPairs, PairHead, PairWords, PartedText, TextArrivals, TextBits, TextBlock, TextPairs,
 };
 pub use octet::{bits_number, bits_octet, octet_bits};
 pub use span::Span;

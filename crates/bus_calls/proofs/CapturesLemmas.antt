@@ -4,10 +4,10 @@ use Rattle.std.proofs.Common.{Some, refl, sym, ap, ◌∙◌, subst, arith, inl,
 use Rattle.std.proofs.lemmas.Bool.{cases_lt}
 use Rattle.std.proofs.lemmas.List.{take-append-drop}
 use Rattle.bus_bits.specs.Capture.{CaptureOf, CaptureFault, place_limit, capped, GrowsTo}
-use Rattle.bus_calls.specs.Internal.Kinds.{KindView, KindLaws}
+use Rattle.bus_calls.specs.Internal.Kinds.{KindView, FormLaws, KindLaws}
 use Rattle.bus_calls.specs.Internal.Watching.{IsSound, Watches, Halts, within}
 use Rattle.bus_calls.specs.Internal.Sessions.{Faulty, StopsAt}
-use Rattle.bus_calls.specs.Captures.{IsSameFault}
+use Rattle.bus_calls.specs.Captures.{Form, IsSameFault, fed_by}
 use Rattle.bus_calls.specs.declared.run.CaptureRun.{CaptureRun}
 use Rattle.bus_text.specs.declared.fault.ToolFault.{ToolFault}
 use Rattle.bus_text.specs.declared.fault.ToolFault.TheVariants as fault
@@ -29,18 +29,26 @@ placed-bits {X} origin c low = elim (cases_lt (2 ^ 60 - origin) (length c.bits))
       ∙ sym (within-all origin c.bits (omega (arith, fits, low)))
 ]
 
--- all octets give more than some of their first, places counted from an origin
-pub front-grown : {X : Type 0} (f : List ℕ → CaptureOf X) → ((xs ys : List ℕ) → GrowsTo (f xs) (f (xs ++ ys)))
-    → ((origin : ℕ) (c d : CaptureOf X) → GrowsTo c d → GrowsTo (capped origin c) (capped origin d))
-    → (origin : ℕ) (xs os : List ℕ) (k : ℕ) →
-    GrowsTo (capped origin (f (xs ++ take k os))) (capped origin (f (xs ++ os)))
-front-grown f law places origin xs os k =
-    places origin (f (xs ++ take k os)) (f (xs ++ os))
-    (subst (λ (ys : List ℕ). GrowsTo (f (xs ++ take k os)) (f ys))
-    (append_assoc xs (take k os) (drop k os) ∙ ap (λ (ys : List ℕ). xs ++ ys) (take-append-drop k os))
-    (law (xs ++ take k os) (drop k os)))
+-- what an analyser takes grows
+pub fed-grows : {R X : Type 0} (f : Form R X) → FormLaws f → (rest : ℕ) (c d : CaptureOf R) → GrowsTo c d →
+    GrowsTo (fed_by f rest c) (fed_by f rest d)
+fed-grows f law rest c d grows =
+    let on = law.fed rest c.bits grows.0 in
+    (on.taken, ap (f.fed rest) grows.1 ∙ on.is, λ g found. ap (fed_by f rest) (grows.2 g found))
 
-module _ {A X B : Type 0} (t : KindView A X B) where
+-- all octets give more than some of their first, places counted from an origin
+pub front-grown : {R X : Type 0} (f : Form R X) → FormLaws f → (read : List ℕ → CaptureOf R)
+    → ((xs ys : List ℕ) → GrowsTo (read xs) (read (xs ++ ys)))
+    → (rest origin : ℕ) (xs os : List ℕ) (k : ℕ) →
+    GrowsTo (capped origin (fed_by f rest (read (xs ++ take k os)))) (capped origin (fed_by f rest (read (xs ++ os))))
+front-grown f laws read law rest origin xs os k =
+    laws.places origin (fed_by f rest (read (xs ++ take k os))) (fed_by f rest (read (xs ++ os)))
+    (fed-grows f laws rest (read (xs ++ take k os)) (read (xs ++ os))
+    (subst (λ (ys : List ℕ). GrowsTo (read (xs ++ take k os)) (read ys))
+    (append_assoc xs (take k os) (drop k os) ∙ ap (λ (ys : List ℕ). xs ++ ys) (take-append-drop k os))
+    (law (xs ++ take k os) (drop k os))))
+
+module _ {A R X B : Type 0} (t : KindView A R X B) where
   -- the symbols that were followed have a place
   pub followed-fits : KindLaws t → (start now : Option (List ℕ)) (w : CaptureRun A) (b : List X)
       → IsSound t w → Watches t start now w b → t.watch.origin w.analyser + length b ≤ 2 ^ 60

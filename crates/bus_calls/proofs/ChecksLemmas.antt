@@ -14,9 +14,10 @@ use Rattle.bus_text.specs.Summary.{summary_of}
 use Rattle.bus_text.specs.Put.{Cuts}
 use Rattle.bus_text.specs.Pages.{Pages}
 use Rattle.bus_calls.specs.Begins.{Begins, Refuses}
-use Rattle.bus_calls.specs.Internal.Asked.{IsMade}
+use Rattle.bus_calls.specs.Internal.Asked.{IsMade, IsRuled}
 use Rattle.bus_calls.specs.Internal.Kinds.{KindView, KindLaws}
 use Rattle.bus_calls.specs.Internal.Watching.{Watches, IsSame, IsCutIn, reports_by, lines, reported, printed}
+use Rattle.bus_calls.specs.Internal.Sessions.{taken_of, whole_of}
 use Rattle.bus_calls.specs.Internal.Reading.{IsClean, IsWhole, Finishes}
 use Rattle.bus_calls.specs.Lists.{in_all}
 use Rattle.bus_calls.specs.Checks.{check_report, IsAll, ChecksSoFar, ChecksBy}
@@ -25,33 +26,38 @@ use Rattle.bus_text.specs.declared.options.Options.{Options}
 use Rattle.bus_text.specs.declared.summary.Summary.{Summary}
 use Rattle.bus_text.specs.declared.fault.ToolFault.{ToolFault}
 use Rattle.bus_text.specs.declared.fault.ToolFault.TheVariants as fault
-use Rattle.bus_calls.proofs.ListsLemmas.{counts-are, reports-is, so-far-is, in-all-is}
+use Rattle.bus_calls.proofs.ListsLemmas.{counts-are, fault-is, reports-is, so-far-is, in-all-is}
 
 -- what was asked of a check, and is kept
-pub record IsChecked {A X B : Type 0} (kind : KindView A X B) (o : Options) (d : List FrameType) (w : CaptureRun A) :
+pub record IsChecked {A R X B : Type 0} (kind : KindView A R X B) (o : Options) (d : List FrameType)
+    (w : CaptureRun A) :
     Type 0 where
   pub printer : w.reporter.printer ≡ None
   pub dictionary : (kind.watch.dictionary w.analyser) ≡ d
   pub depth : (kind.watch.depth w.analyser) ≡ o.depth
   pub origin : (kind.watch.origin w.analyser) ≡ o.origin
+  pub rest : (b : List R) → kind.form.fed (kind.rest w.analyser) b ≡ kind.form.fed o.rest b
 
-pub checked : {A X B : Type 0} (kind : KindView A X B) (o : Options) (d : List FrameType) (w v : CaptureRun A) →
-    w.reporter.printer ≡ None → IsMade kind.watch d o.depth o.origin w.analyser → IsSame kind w v → IsChecked kind o d v
-checked kind o d w v printer made same =
+pub checked : {A R X B : Type 0} (kind : KindView A R X B) (o : Options) (d : List FrameType) (w v : CaptureRun A) →
+    w.reporter.printer ≡ None → IsMade kind.watch d o.depth o.origin w.analyser →
+    IsRuled kind o.rest w.analyser → IsSame kind w v → IsChecked kind o d v
+checked kind o d w v printer made ruled same =
     record {
       printer = same.printer ∙ printer;
       dictionary = same.dictionary ∙ made.dictionary;
       depth = same.depth ∙ made.depth;
       origin = same.origin ∙ made.origin;
+      rest = λ b. ap (λ (n : ℕ). kind.form.fed n b) same.rest ∙ ruled.same b;
     }
 
 -- a check has no lines
-pub no-lines : {A X B : Type 0} (kind : KindView A X B) (w : CaptureRun A) (b : List X) → w.reporter.printer ≡ None →
+pub no-lines : {A R X B : Type 0} (kind : KindView A R X B) (w : CaptureRun A) (b : List X) →
+    w.reporter.printer ≡ None →
     lines kind w b ≡ []
 no-lines kind w b none = ap (λ p. printed p (kind.watch.dictionary w.analyser) (seen_by kind.watch w.analyser b)) none
 
 -- the report of bits, as the options tell of it
-report-is : {A X B : Type 0} (kind : KindView A X B) → KindLaws kind →
+report-is : {A R X B : Type 0} (kind : KindView A R X B) → KindLaws kind →
     (o : Options) (d : List FrameType) (w : CaptureRun A) (b : List X) → IsChecked kind o d w →
     w.reporter.summary ≡ summary_of (reports_seen kind.form o.origin d b) → reported kind w b ≡ check_report kind.form o
     d b
@@ -69,7 +75,8 @@ report-is kind law o d w b asked counts =
     (history n (reports_of_form kind.form o.origin d b))) asked.depth
 
 -- the options can't be met
-pub checks-nothing : {X : Type 0} (form : Form X) (o : Options) (after start now : Option (List ℕ)) (f : ToolFault) →
+pub checks-nothing : {R X : Type 0} (form : Form R X) (o : Options) (after start now : Option (List ℕ))
+    (f : ToolFault) →
     Refuses o f → Appends start now [] → ChecksBy form o after start now [] (Err f)
 checks-nothing form o after start now (fault.Dictionary x) why out =
     record { why = why; unread = refl; unwritten = out }
@@ -79,23 +86,24 @@ checks-nothing form o after start now fault.Memory why out = record { why = why;
 checks-nothing form o after start now _ why out = absurd why
 
 -- the end of a clean capture
-pub ends-checks : {A X B : Type 0} (kind : KindView A X B) (o : Options) (d : List FrameType) (text : Bool)
+pub ends-checks : {A R X B : Type 0} (kind : KindView A R X B) (o : Options) (d : List FrameType) (text : Bool)
     (after start now later : Option (List ℕ)) (w : CaptureRun A) (xs : List ℕ) (r : Result Summary ToolFault)
     → KindLaws kind → Begins o d → IsChecked kind o d w → text ≡ o.text → IsWhole kind text after start now w xs
     → MatchResult r
-    (λ s. Appends start later (lines kind w (whole_capture kind.form text (kind.watch.origin w.analyser) xs).bits
-    ++ reported kind w (whole_capture kind.form text (kind.watch.origin w.analyser) xs).bits)
+    (λ s. Appends start later (lines kind w (whole_of kind text w xs).bits
+    ++ reported kind w (whole_of kind text w xs).bits)
     × (s ≡ w.reporter.summary))
-    (λ f. IsCutIn start later (lines kind w (whole_capture kind.form text (kind.watch.origin w.analyser) xs).bits
-    ++ reported kind w (whole_capture kind.form text (kind.watch.origin w.analyser) xs).bits) f)
+    (λ f. IsCutIn start later (lines kind w (whole_of kind text w xs).bits
+    ++ reported kind w (whole_of kind text w xs).bits) f)
     → ChecksBy kind.form o after start later xs r
-ends-checks {A} {X} kind o d text after start now later w xs r law begins asked same-text read ends = cases r ends
+ends-checks {A} {R} {X} kind o d text after start now later w xs r law begins asked same-text read ends = cases r ends
   where
     all : CaptureOf X
-    all = whole_capture kind.form text (kind.watch.origin w.analyser) xs
+    all = whole_of kind text w xs
 
     is : all ≡ in_all kind.form o xs
-    is = in-all-is kind.form o text (kind.watch.origin w.analyser) xs same-text asked.origin
+    is = in-all-is kind.form o text (kind.rest w.analyser) (kind.watch.origin w.analyser) xs same-text asked.rest
+        asked.origin
 
     whole : IsAll kind.form o after xs
     whole = record { at = read.at; clean = sym (ap (λ (c : CaptureOf X). c.fault) is) ∙ read.clean }
@@ -137,24 +145,25 @@ none-out start now page written text empty pages =
     subst (Appends start now) none pages.out
 
 -- a fault that ended the reading: without lines no writer is cut off
-pub stops-checks : {A X B : Type 0} (kind : KindView A X B) (o : Options) (d : List FrameType) (text : Bool)
+pub stops-checks : {A R X B : Type 0} (kind : KindView A R X B) (o : Options) (d : List FrameType) (text : Bool)
     (after start now : Option (List ℕ)) (w : CaptureRun A) (xs : List ℕ) (f : ToolFault)
     → Begins o d → IsChecked kind o d w → text ≡ o.text → Finishes kind text o.reads after start now w xs (Err f) →
     ChecksBy kind.form o after start now xs (Err f)
-stops-checks {A} {X} kind o d text after start now w xs f begins asked same-text = cases f
+stops-checks {A} {R} {X} kind o d text after start now w xs f begins asked same-text = cases f
   where
-    out : Watches kind start now w (capture kind.form text (kind.watch.origin w.analyser) xs).bits → Appends start now
+    out : Watches kind start now w (taken_of kind text w xs).bits → Appends start now
         []
     out ended = none-out start now w.reporter.page.text w.reporter.page.written
-        (lines kind w (capture kind.form text (kind.watch.origin w.analyser) xs).bits)
-        (no-lines kind w (capture kind.form text (kind.watch.origin w.analyser) xs).bits asked.printer) ended.page
+        (lines kind w (taken_of kind text w xs).bits)
+        (no-lines kind w (taken_of kind text w xs).bits asked.printer) ended.page
 
     clean-is : IsClean kind text start now w xs → ChecksSoFar kind.form o start now xs
     clean-is ended =
         record {
           clean =
               sym (ap (λ (c : CaptureOf X). c.fault)
-              (so-far-is kind.form o text (kind.watch.origin w.analyser) xs same-text asked.origin))
+              (so-far-is kind.form o text (kind.rest w.analyser) (kind.watch.origin w.analyser) xs same-text asked.rest
+              asked.origin))
               ∙ ended.clean;
           unwritten = out ended.bits;
         }
@@ -176,9 +185,8 @@ stops-checks {A} {X} kind o d text after start now w xs f begins asked same-text
       record {
         cause = ended.cause;
         answered = ended.answered;
-        found = subst (λ (n : ℕ). HasFault kind.form o.text n after xs ended.cause) asked.origin
-            (subst (λ (b : Bool). HasFault kind.form b (kind.watch.origin w.analyser) after xs ended.cause) same-text
-            ended.found);
+        found = fault-is kind.form o text (kind.rest w.analyser) (kind.watch.origin w.analyser) after xs ended.cause
+            same-text asked.rest asked.origin ended.found;
         unwritten = out ended.bits;
       },
     )

@@ -7,7 +7,7 @@ use Rattle.std.proofs.Common.{arith}
 use Rattle.bus_bits.specs.Capture.{CaptureOf, CaptureFault, GrowsTo}
 use Rattle.bus_dictionary.specs.Entry.{FrameType}
 use Rattle.bus_dictionary.specs.Dictionary.{longest_of}
-use Rattle.bus_calls.specs.Captures.{Form, unplaced, unplaced_whole, reports_seen}
+use Rattle.bus_calls.specs.Captures.{fed_by, Form, unplaced, unplaced_whole, reports_seen}
 use Rattle.bus_text.specs.Given.{printer_of}
 use Rattle.bus_text.specs.Listing.{listing}
 use Rattle.bus_text.specs.Put.{Cuts}
@@ -22,7 +22,7 @@ use Rattle.bus_text.specs.declared.options.Options.{Options}
 use Rattle.bus_text.specs.declared.summary.Summary.{Summary}
 use Rattle.bus_text.specs.declared.fault.ToolFault.{ToolFault}
 use Rattle.bus_text.specs.declared.fault.ToolFault.TheVariants as fault
-use Rattle.bus_calls.proofs.CapturesLemmas.{placed-bits}
+use Rattle.bus_calls.proofs.CapturesLemmas.{fed-grows, placed-bits}
 use Rattle.bus_text.proofs.ListingLemmas.{listing-append}
 use Rattle.bus_text.proofs.PagesLemmas.{cuts-more}
 use Rattle.bus_bits.proofs.CaptureLemmas.{grows-trans}
@@ -31,38 +31,38 @@ use Rattle.bus_bits.proofs.CaptureLemmas.{grows-trans}
 grows-self : {X : Type 0} (c : CaptureOf X) → GrowsTo c c
 grows-self c = ([], sym (append-nil c.bits), λ f is. refl)
 
-unplaced-grows : {X : Type 0} (f : Form X) → FormLaws f → (text : Bool) (xs ys : List ℕ) →
+unplaced-grows : {R X : Type 0} (f : Form R X) → FormLaws f → (text : Bool) (xs ys : List ℕ) →
     GrowsTo (unplaced f text xs) (unplaced f text (xs ++ ys))
 unplaced-grows f law true xs ys = law.text xs ys
 unplaced-grows f law false xs ys = law.packed xs ys
 
-unplaced-ends : {X : Type 0} (f : Form X) → FormLaws f → (text : Bool) (xs : List ℕ) →
+unplaced-ends : {R X : Type 0} (f : Form R X) → FormLaws f → (text : Bool) (xs : List ℕ) →
     GrowsTo (unplaced f text xs) (unplaced_whole f text xs)
 unplaced-ends f law true xs = grows-self (f.text xs)
 unplaced-ends f law false xs = law.ended xs
 
 -- what was read, and then all
-all-grows : {X : Type 0} (form : Form X) → FormLaws form → (o : Options) (all xs ys : List ℕ) → all ≡ xs ++ ys →
+all-grows : {R X : Type 0} (form : Form R X) → FormLaws form → (o : Options) (all xs ys : List ℕ) → all ≡ xs ++ ys →
     GrowsTo (so_far form o xs) (in_all form o all)
 all-grows form law o all xs ys parts =
     subst (λ (z : List ℕ). GrowsTo (so_far form o xs) (in_all form o z)) (sym parts)
     (grows-trans (so_far form o xs) (so_far form o (xs ++ ys)) (in_all form o (xs ++ ys))
-    (law.places o.origin (unplaced form o.text xs) (unplaced form o.text (xs ++ ys))
-    (unplaced-grows form law o.text xs ys))
-    (law.places o.origin (unplaced form o.text (xs ++ ys)) (unplaced_whole form o.text (xs ++ ys))
-    (unplaced-ends form law o.text (xs ++ ys))))
+    (law.places o.origin _ _ (fed-grows form law o.rest (unplaced form o.text xs) (unplaced form o.text (xs ++ ys))
+    (unplaced-grows form law o.text xs ys)))
+    (law.places o.origin _ _ (fed-grows form law o.rest (unplaced form o.text (xs ++ ys))
+    (unplaced_whole form o.text (xs ++ ys)) (unplaced-ends form law o.text (xs ++ ys)))))
 
-unplaced_bits : {X : Type 0} (f : Form X) → FormLaws f → (text : Bool) (xs : List ℕ) →
+unplaced_bits : {R X : Type 0} (f : Form R X) → FormLaws f → (text : Bool) (xs : List ℕ) →
     (unplaced_whole f text xs).bits ≡ (unplaced f text xs).bits
 unplaced_bits f law true xs = refl
 unplaced_bits f law false xs = law.same xs
 
-same_bits : {X : Type 0} (form : Form X) → FormLaws form → (o : Options) (d : List FrameType) (xs : List ℕ) →
+same_bits : {R X : Type 0} (form : Form R X) → FormLaws form → (o : Options) (d : List FrameType) (xs : List ℕ) →
     Begins o d → (in_all form o xs).bits ≡ (so_far form o xs).bits
 same_bits form law o d xs begins =
-    placed-bits o.origin (unplaced_whole form o.text xs) begins.places
-    ∙ ap (take (2 ^ 60 - o.origin)) (unplaced_bits form law o.text xs)
-    ∙ sym (placed-bits o.origin (unplaced form o.text xs) begins.places)
+    placed-bits o.origin (fed_by form o.rest (unplaced_whole form o.text xs)) begins.places
+    ∙ ap (λ b. take (2 ^ 60 - o.origin) (form.fed o.rest b)) (unplaced_bits form law o.text xs)
+    ∙ sym (placed-bits o.origin (fed_by form o.rest (unplaced form o.text xs)) begins.places)
 
 front_is : (all xs ys : List ℕ) → all ≡ xs ++ ys → take (length xs) all ≡ xs
 front_is all xs ys parts = grind (arith, common_steps)
@@ -71,11 +71,11 @@ at-end : (all xs ys : List ℕ) → all ≡ xs ++ ys → IsAtEnd (Some ys) → x
 at-end all xs ys parts at = sym (append-nil xs) ∙ ap (λ (l : List ℕ). xs ++ l) (sym at) ∙ sym parts
 
 -- the listing of more bits
-record GoesOn {X : Type 0} (form : Form X) (o : Options) (d : List FrameType) (b c : List X) : Type 0 where
+record GoesOn {R X : Type 0} (form : Form R X) (o : Options) (d : List FrameType) (b c : List X) : Type 0 where
   more : List ℕ
   is : listing_of form o d c ≡ listing_of form o d b ++ more
 
-goes-on : {X : Type 0} (form : Form X) → FormLaws form → (o : Options) (d : List FrameType) (b rest c : List X) →
+goes-on : {R X : Type 0} (form : Form R X) → FormLaws form → (o : Options) (d : List FrameType) (b rest c : List X) →
     c ≡ b ++ rest → GoesOn form o d b c
 goes-on form law o d b rest c parts =
     let on = law.seen d (longest_of d) o.origin b rest in
@@ -86,14 +86,15 @@ goes-on form law o d b rest c parts =
     }
 
 -- the end comes after it
-cut-with : {X : Type 0} (form : Form X) (o : Options) (d : List FrameType) (start now : Option (List ℕ)) (b : List X)
+cut-with : {R X : Type 0} (form : Form R X) (o : Options) (d : List FrameType) (start now : Option (List ℕ))
+    (b : List X)
     (f : Option CaptureFault) (sent : ℕ) → Cuts start now (listing_of form o d b) sent →
     Cuts start now (text_with form o d b f) sent
 cut-with form o d start now b None sent cut =
     cuts-more start now (listing_of form o d b) (ending_of form o d b) sent cut
 cut-with form o d start now b (Some cause) sent cut = cut
 
-fault-known : {X : Type 0} (form : Form X) → FormLaws form →
+fault-known : {R X : Type 0} (form : Form R X) → FormLaws form →
     (o : Options) (d : List FrameType) (start now : Option (List ℕ)) (all xs ys : List ℕ) (f : ToolFault) →
     all ≡ xs ++ ys → Begins o d → ListsToFault form o d (Some ys) start now xs f
     → IsItsFault form o all f × Appends start now (listing_in_all form o d all)
@@ -120,7 +121,7 @@ fault-known {X} form law o d start now all xs ys f parts begins stopped = elim s
       )
 ]
 
-cut-known : {X : Type 0} (form : Form X) → FormLaws form →
+cut-known : {R X : Type 0} (form : Form R X) → FormLaws form →
     (o : Options) (d : List FrameType) (start now : Option (List ℕ)) (all xs ys : List ℕ) (sent : ℕ) → all ≡ xs ++ ys →
     ListsCut form o d (Some ys) start now xs sent → Cuts start now (listing_in_all form o d all) sent
 cut-known form law o d start now all xs ys sent parts stopped = elim stopped.said [
@@ -139,7 +140,7 @@ cut-known form law o d start now all xs ys sent parts stopped = elim stopped.sai
       (subst (λ (t : List ℕ). Cuts start now t sent) (end.2 ∙ sym text) stopped.cut)
 ]
 
-lists-known : {X : Type 0} (form : Form X) → FormLaws form →
+lists-known : {R X : Type 0} (form : Form R X) → FormLaws form →
     (o : Options) (start now : Option (List ℕ)) (all xs ys : List ℕ) (r : Result Summary ToolFault) → all ≡ xs ++ ys →
     ListsBy form o (Some ys) start now xs r → ListsKnownBy form o start now all r
 lists-known form law o start now all xs ys (Ok s) parts listed =
@@ -186,7 +187,7 @@ lists-known form law o start now all xs ys (Err f) parts listed =
     (listed.0, listed.1, known.0, known.1)
 
 -- what a listing answered is what all octets of a reader that tells give
-pub known-lists : {X : Type 0} (form : Form X) → FormLaws form →
+pub known-lists : {R X : Type 0} (form : Form R X) → FormLaws form →
     (o : Options) (before after start now : Option (List ℕ)) (xs : List ℕ) (r : Result Summary ToolFault) →
     Consumes before after xs
     → ListsBy form o after start now xs r → IfSome before (λ all. ListsKnownBy form o start now all r)
@@ -197,7 +198,7 @@ known-lists form law o (Some all) (Some ys) start now xs r read listed =
 
 -- ---- the check
 
-check-fault : {X : Type 0} (form : Form X) → FormLaws form →
+check-fault : {R X : Type 0} (form : Form R X) → FormLaws form →
     (o : Options) (d : List FrameType) (start now : Option (List ℕ)) (all xs ys : List ℕ) (f : ToolFault) →
     all ≡ xs ++ ys → ChecksToFault form o (Some ys) start now xs f → IsItsFault form o all f
 check-fault {X} form law o d start now all xs ys f parts stopped = elim stopped.found [
@@ -213,7 +214,7 @@ check-fault {X} form law o d start now all xs ys f parts stopped = elim stopped.
   }
 ]
 
-checks-known : {X : Type 0} (form : Form X) → FormLaws form →
+checks-known : {R X : Type 0} (form : Form R X) → FormLaws form →
     (o : Options) (start now : Option (List ℕ)) (all xs ys : List ℕ) (r : Result Summary ToolFault) → all ≡ xs ++ ys →
     ChecksBy form o (Some ys) start now xs r → ChecksKnownBy form o start now all r
 checks-known form law o start now all xs ys (Ok s) parts checked = (
@@ -258,7 +259,7 @@ checks-known form law o start now all xs ys (Err f) parts checked =
     (checked.0, checked.1, check-fault form law o checked.0 start now all xs ys f parts checked.2, checked.2.unwritten)
 
 -- what a check answered is what all octets of a reader that tells give
-pub known-checks : {X : Type 0} (form : Form X) → FormLaws form →
+pub known-checks : {R X : Type 0} (form : Form R X) → FormLaws form →
     (o : Options) (before after start now : Option (List ℕ)) (xs : List ℕ) (r : Result Summary ToolFault) →
     Consumes before after xs
     → ChecksBy form o after start now xs r → IfSome before (λ all. ChecksKnownBy form o start now all r)

@@ -2,13 +2,14 @@
 use Rattle.std.proofs.Common.{◌≡◌, ℕ, Bool, List, [], ◌++◌, Option, Some, None, Result, Ok, Err, MatchResult, refl, sym}
 use Rattle.std.proofs.Common.{ap, ◌∙◌, subst, inl, inr}
 use Rattle.std.specs.Io.KnownBytes.{Appends}
-use Rattle.bus_bits.specs.Capture.{CaptureOf}
+use Rattle.bus_bits.specs.Capture.{CaptureOf, CaptureFault, capped}
 use Rattle.bus_dictionary.specs.Entry.{FrameType}
 use Rattle.bus_dictionary.specs.Dictionary.{longest_of}
 use Rattle.bus_pairing.specs.Seen.{SeenReport, seen}
 use Rattle.bus_pairing.specs.Talk.{pending}
 use Rattle.bus_watch.specs.Watch.{seen_by}
-use Rattle.bus_calls.specs.Captures.{Form, capture, whole_capture, reports_of_form, reports_seen, HasFault}
+use Rattle.bus_calls.specs.Captures.{Form, capture, whole_capture, unplaced, unplaced_whole, reports_of_form}
+use Rattle.bus_calls.specs.Captures.{reports_seen, HasFault}
 use Rattle.bus_text.specs.Given.{printer_of}
 use Rattle.bus_text.specs.Listing.{listing, ending_text}
 use Rattle.bus_text.specs.Summary.{summary_of}
@@ -16,10 +17,11 @@ use Rattle.bus_text.specs.Put.{Cuts}
 use Rattle.bus_text.specs.Pages.{Pages}
 use Rattle.bus_calls.specs.Internal.Closes.{IsNoWrite, Closes}
 use Rattle.bus_calls.specs.Begins.{Begins, Refuses}
-use Rattle.bus_calls.specs.Internal.Asked.{IsMade}
+use Rattle.bus_calls.specs.Internal.Asked.{IsMade, IsRuled}
 use Rattle.bus_calls.specs.Internal.Kinds.{KindView, KindLaws}
 use Rattle.bus_calls.specs.Internal.Watching.{IsSame, IsCutOff, IsCutIn, reports_by, lines, last_lines, printed}
 use Rattle.bus_calls.specs.Internal.Watching.{ended}
+use Rattle.bus_calls.specs.Internal.Sessions.{taken_of, whole_of}
 use Rattle.bus_calls.specs.Internal.Reading.{IsClean, IsWhole, IsFaulty, Finishes}
 use Rattle.bus_calls.specs.Lists.{so_far, in_all, listing_of, ending_of, whole_listing, ListsSoFar, ListsToFault}
 use Rattle.bus_calls.specs.Lists.{ListsBy}
@@ -32,7 +34,8 @@ use Rattle.bus_calls.specs.Internal.ReportingLaws.{printed-append}
 use Rattle.bus_text.proofs.PagesLemmas.{cuts-more}
 
 -- what is seen of more bits goes on
-seen-on : {A X B : Type 0} (kind : KindView A X B) → KindLaws kind → (d : List FrameType) (origin : ℕ) (b more : List X)
+seen-on : {A R X B : Type 0} (kind : KindView A R X B) → KindLaws kind →
+    (d : List FrameType) (origin : ℕ) (b more : List X)
     → (rest : List SeenReport)
     × (seen d (kind.watch.reports origin (longest_of d) (b ++ more)) ≡ seen d
     (kind.watch.reports origin (longest_of d) b)
@@ -43,7 +46,7 @@ seen-on {X = X} kind law d origin b more =
     (on.rest, here (b ++ more) ∙ on.is ∙ ap (λ z. z ++ on.rest) (sym (here b)))
 
 -- a cut in the lines of a front is one in the lines of all
-pub cut-all : {A X B : Type 0} (kind : KindView A X B) → KindLaws kind →
+pub cut-all : {A R X B : Type 0} (kind : KindView A R X B) → KindLaws kind →
     (start now : Option (List ℕ)) (w : CaptureRun A) (b : List X) (sent : ℕ) → IsCutOff kind start now w b sent →
     Cuts start now (lines kind w b) sent
 cut-all kind law start now w b sent cut =
@@ -56,24 +59,26 @@ cut-all kind law start now w b sent cut =
     (cuts-more start now (lines kind w cut.front) (printed w.reporter.printer d on.0) sent cut.cut)
 
 -- what was asked of a listing, and is kept
-pub record IsListed {A X B : Type 0} (kind : KindView A X B) (o : Options) (d : List FrameType) (w : CaptureRun A) :
+pub record IsListed {A R X B : Type 0} (kind : KindView A R X B) (o : Options) (d : List FrameType) (w : CaptureRun A) :
     Type 0 where
   pub printer : w.reporter.printer ≡ Some (printer_of o)
   pub dictionary : kind.watch.dictionary w.analyser ≡ d
   pub origin : kind.watch.origin w.analyser ≡ o.origin
+  pub rest : (b : List R) → kind.form.fed (kind.rest w.analyser) b ≡ kind.form.fed o.rest b
 
-pub listed : {A X B : Type 0} (kind : KindView A X B) (o : Options) (d : List FrameType) (w v : CaptureRun A) →
-    w.reporter.printer ≡ Some (printer_of o) → IsMade kind.watch d o.depth o.origin w.analyser → IsSame kind w v →
-    IsListed kind o d v
-listed kind o d w v printer made same =
+pub listed : {A R X B : Type 0} (kind : KindView A R X B) (o : Options) (d : List FrameType) (w v : CaptureRun A) →
+    w.reporter.printer ≡ Some (printer_of o) → IsMade kind.watch d o.depth o.origin w.analyser →
+    IsRuled kind o.rest w.analyser → IsSame kind w v → IsListed kind o d v
+listed kind o d w v printer made ruled same =
     record {
       printer = same.printer ∙ printer;
       dictionary = same.dictionary ∙ made.dictionary;
       origin = same.origin ∙ made.origin;
+      rest = λ b. ap (λ (n : ℕ). kind.form.fed n b) same.rest ∙ ruled.same b;
     }
 
 -- the reports, as the options tell of them
-pub reports-is : {A X B : Type 0} (kind : KindView A X B) → KindLaws kind →
+pub reports-is : {A R X B : Type 0} (kind : KindView A R X B) → KindLaws kind →
     (o : Options) (d : List FrameType) (a : A) (b : List X) → kind.watch.dictionary a ≡ d →
     kind.watch.origin a ≡ o.origin →
     reports_by kind.watch a b ≡ reports_of_form kind.form o.origin d b
@@ -83,7 +88,7 @@ reports-is kind law o d a b dictionary origin =
     ∙ ap (λ (x : List FrameType). kind.form.reports o.origin (longest_of x) b) dictionary
 
 -- and what is seen of them
-pub seen-is : {A X B : Type 0} (kind : KindView A X B) → KindLaws kind →
+pub seen-is : {A R X B : Type 0} (kind : KindView A R X B) → KindLaws kind →
     (o : Options) (d : List FrameType) (a : A) (b : List X) → kind.watch.dictionary a ≡ d →
     kind.watch.origin a ≡ o.origin →
     seen_by kind.watch a b ≡ reports_seen kind.form o.origin d b
@@ -91,7 +96,7 @@ seen-is kind law o d a b dictionary origin =
     ap (seen (kind.watch.dictionary a)) (reports-is kind law o d a b dictionary origin)
     ∙ ap (λ (x : List FrameType). seen x (reports_of_form kind.form o.origin d b)) dictionary
 
-pub lines-are : {A X B : Type 0} (kind : KindView A X B) → KindLaws kind →
+pub lines-are : {A R X B : Type 0} (kind : KindView A R X B) → KindLaws kind →
     (o : Options) (d : List FrameType) (w : CaptureRun A) (b : List X) → IsListed kind o d w →
     lines kind w b ≡ listing_of kind.form o d b
 lines-are kind law o d w b asked =
@@ -99,7 +104,7 @@ lines-are kind law o d w b asked =
     ∙ ap (λ (x : List FrameType). listing (printer_of o) x (seen_by kind.watch w.analyser b)) asked.dictionary
     ∙ ap (listing (printer_of o) d) (seen-is kind law o d w.analyser b asked.dictionary asked.origin)
 
-pub last-are : {A X B : Type 0} (kind : KindView A X B) → KindLaws kind →
+pub last-are : {A R X B : Type 0} (kind : KindView A R X B) → KindLaws kind →
     (o : Options) (d : List FrameType) (w : CaptureRun A) (b : List X) → IsListed kind o d w →
     last_lines kind w b ≡ ending_of kind.form o d b
 last-are kind law o d w b asked =
@@ -114,7 +119,7 @@ last-are kind law o d w b asked =
     ∙ ap (λ hs. ending_text (printer_of o) (kind.form.ending o.origin b (pending d hs)))
     (reports-is kind law o d w.analyser b asked.dictionary asked.origin)
 
-pub counts-are : {A X B : Type 0} (kind : KindView A X B) → KindLaws kind →
+pub counts-are : {A R X B : Type 0} (kind : KindView A R X B) → KindLaws kind →
     (o : Options) (d : List FrameType) (w : CaptureRun A) (b : List X) → kind.watch.dictionary w.analyser ≡ d →
     kind.watch.origin w.analyser ≡ o.origin → w.reporter.summary ≡ summary_of (seen_by kind.watch w.analyser b) →
     w.reporter.summary ≡ summary_of (reports_seen kind.form o.origin d b)
@@ -122,7 +127,7 @@ counts-are kind law o d w b dictionary origin counts =
     counts ∙ ap summary_of (seen-is kind law o d w.analyser b dictionary origin)
 
 -- the options can't be met
-pub does-nothing : {X : Type 0} (f : Form X) (o : Options) (after start now : Option (List ℕ)) (fault : ToolFault) →
+pub does-nothing : {R X : Type 0} (f : Form R X) (o : Options) (after start now : Option (List ℕ)) (fault : ToolFault) →
     Refuses o fault → Appends start now [] → ListsBy f o after start now [] (Err fault)
 does-nothing f o after start now (fault.Dictionary x) why out = record { why = why; unread = refl; unwritten = out }
 does-nothing f o after start now fault.Depth why out = record { why = why; unread = refl; unwritten = out }
@@ -131,45 +136,59 @@ does-nothing f o after start now fault.Memory why out = record { why = why; unre
 does-nothing f o after start now _ why out = absurd why
 
 -- a capture as the options tell of it
-pub so-far-is : {X : Type 0} (f : Form X) (o : Options) (text : Bool) (n : ℕ) (xs : List ℕ) → text ≡ o.text →
-    n ≡ o.origin → capture f text n xs ≡ so_far f o xs
-so-far-is f o text n xs same-text same-origin = ap (λ (b : Bool). capture f b n xs) same-text
-    ∙ ap (λ (k : ℕ). capture f o.text k xs) same-origin
+pub so-far-is : {R X : Type 0} (f : Form R X) (o : Options) (text : Bool) (rest n : ℕ) (xs : List ℕ) → text ≡ o.text →
+    ((b : List R) → f.fed rest b ≡ f.fed o.rest b) → n ≡ o.origin → capture f text rest n xs ≡ so_far f o xs
+so-far-is f o text rest n xs same-text same-rest same-origin = ap (λ (b : Bool). capture f b rest n xs) same-text
+    ∙ ap (λ (k : ℕ). capture f o.text rest k xs) same-origin
+    ∙ ap (λ b. capped o.origin (record { bits = b; fault = (unplaced f o.text xs).fault }))
+    (same-rest (unplaced f o.text xs).bits)
 
-pub in-all-is : {X : Type 0} (f : Form X) (o : Options) (text : Bool) (n : ℕ) (xs : List ℕ) → text ≡ o.text →
-    n ≡ o.origin → whole_capture f text n xs ≡ in_all f o xs
-in-all-is f o text n xs same-text same-origin = ap (λ (b : Bool). whole_capture f b n xs) same-text
-    ∙ ap (λ (k : ℕ). whole_capture f o.text k xs) same-origin
+pub in-all-is : {R X : Type 0} (f : Form R X) (o : Options) (text : Bool) (rest n : ℕ) (xs : List ℕ) → text ≡ o.text →
+    ((b : List R) → f.fed rest b ≡ f.fed o.rest b) → n ≡ o.origin → whole_capture f text rest n xs ≡ in_all f o xs
+in-all-is f o text rest n xs same-text same-rest same-origin = ap (λ (b : Bool). whole_capture f b rest n xs) same-text
+    ∙ ap (λ (k : ℕ). whole_capture f o.text rest k xs) same-origin
+    ∙ ap (λ b. capped o.origin (record { bits = b; fault = (unplaced_whole f o.text xs).fault }))
+    (same-rest (unplaced_whole f o.text xs).bits)
+
+pub fault-is : {R X : Type 0} (f : Form R X) (o : Options) (text : Bool) (rest n : ℕ) (after : Option (List ℕ))
+    (xs : List ℕ) (cause : CaptureFault) → text ≡ o.text → ((b : List R) → f.fed rest b ≡ f.fed o.rest b) →
+    n ≡ o.origin → HasFault f text rest n after xs cause → HasFault f o.text o.rest o.origin after xs cause
+fault-is f o text rest n after xs cause same-text same-rest same-origin (inl found) =
+    inl (sym (ap (λ c. c.fault) (so-far-is f o text rest n xs same-text same-rest same-origin)) ∙ found)
+fault-is f o text rest n after xs cause same-text same-rest same-origin (inr found) =
+    inr (found.0, sym (ap (λ c. c.fault) (in-all-is f o text rest n xs same-text same-rest same-origin)) ∙ found.1)
 
 -- the lines of the bits so far are their listing
-lines-so-far : {A X B : Type 0} (kind : KindView A X B) → KindLaws kind →
+lines-so-far : {A R X B : Type 0} (kind : KindView A R X B) → KindLaws kind →
     (o : Options) (d : List FrameType) (text : Bool) (w : CaptureRun A) (xs : List ℕ) → text ≡ o.text →
     IsListed kind o d w
-    → lines kind w (capture kind.form text (kind.watch.origin w.analyser) xs).bits
+    → lines kind w (taken_of kind text w xs).bits
     ≡ listing_of kind.form o d (so_far kind.form o xs).bits
 lines-so-far {X = X} kind law o d text w xs same-text asked =
     ap (λ (c : CaptureOf X). lines kind w c.bits)
-    (so-far-is kind.form o text (kind.watch.origin w.analyser) xs same-text asked.origin)
+    (so-far-is kind.form o text (kind.rest w.analyser) (kind.watch.origin w.analyser) xs same-text asked.rest
+    asked.origin)
     ∙ lines-are kind law o d w (so_far kind.form o xs).bits asked
 
 -- the end of a clean capture
-pub ends-lists : {A X B : Type 0} (kind : KindView A X B) (o : Options) (d : List FrameType) (text : Bool)
+pub ends-lists : {A R X B : Type 0} (kind : KindView A R X B) (o : Options) (d : List FrameType) (text : Bool)
     (after start now later : Option (List ℕ)) (w : CaptureRun A) (xs : List ℕ) (r : Result Summary ToolFault)
     → KindLaws kind → Begins o d → IsListed kind o d w → text ≡ o.text → IsWhole kind text after start now w xs
     → MatchResult r
-    (λ s. Appends start later (lines kind w (whole_capture kind.form text (kind.watch.origin w.analyser) xs).bits
-    ++ last_lines kind w (whole_capture kind.form text (kind.watch.origin w.analyser) xs).bits)
+    (λ s. Appends start later (lines kind w (whole_of kind text w xs).bits
+    ++ last_lines kind w (whole_of kind text w xs).bits)
     × (s ≡ w.reporter.summary))
-    (λ f. IsCutIn start later (lines kind w (whole_capture kind.form text (kind.watch.origin w.analyser) xs).bits
-    ++ last_lines kind w (whole_capture kind.form text (kind.watch.origin w.analyser) xs).bits) f)
+    (λ f. IsCutIn start later (lines kind w (whole_of kind text w xs).bits
+    ++ last_lines kind w (whole_of kind text w xs).bits) f)
     → ListsBy kind.form o after start later xs r
-ends-lists {A} {X} kind o d text after start now later w xs r law begins asked same-text whole ends = cases r ends
+ends-lists {A} {R} {X} kind o d text after start now later w xs r law begins asked same-text whole ends = cases r ends
   where
     all : CaptureOf X
-    all = whole_capture kind.form text (kind.watch.origin w.analyser) xs
+    all = whole_of kind text w xs
 
     is : all ≡ in_all kind.form o xs
-    is = in-all-is kind.form o text (kind.watch.origin w.analyser) xs same-text asked.origin
+    is = in-all-is kind.form o text (kind.rest w.analyser)
+        (kind.watch.origin w.analyser) xs same-text asked.rest asked.origin
 
     clean : (in_all kind.form o xs).fault ≡ None
     clean = sym (ap (λ (c : CaptureOf X). c.fault) is) ∙ whole.clean
@@ -210,14 +229,14 @@ ends-lists {A} {X} kind o d text after start now later w xs r law begins asked s
     cases (Err _) ended = absurd ended
 
 -- a cut in the listing so far
-cut-lists : {X : Type 0} (form : Form X) (o : Options) (d : List FrameType) (after start now : Option (List ℕ))
+cut-lists : {R X : Type 0} (form : Form R X) (o : Options) (d : List FrameType) (after start now : Option (List ℕ))
     (xs : List ℕ) (sent : ℕ) → Begins o d → Cuts start now (listing_of form o d (so_far form o xs).bits) sent →
     ListsBy form o after start now xs (Err (fault.Write sent))
 cut-lists form o d after start now xs sent begins cut =
     (d, begins, record { text = listing_of form o d (so_far form o xs).bits; said = inl refl; cut = cut })
 
 -- a text that was closed after a fault
-closed-lists : {X : Type 0} (form : Form X) (o : Options) (d : List FrameType) (after start later : Option (List ℕ))
+closed-lists : {R X : Type 0} (form : Form R X) (o : Options) (d : List FrameType) (after start later : Option (List ℕ))
     (xs : List ℕ) (f answer : ToolFault) (text : List ℕ) → Begins o d →
     text ≡ listing_of form o d (so_far form o xs).bits
     → (Appends start later (listing_of form o d (so_far form o xs).bits) →
@@ -232,7 +251,7 @@ closed-lists form o d after start later xs f answer text begins is go (inr close
     (subst (λ (t : List ℕ). Cuts start later t closed.0) is closed.2))
 
 -- a fault that ended the reading
-pub stops-lists : {A X B : Type 0} (kind : KindView A X B) (o : Options) (d : List FrameType) (text : Bool)
+pub stops-lists : {A R X B : Type 0} (kind : KindView A R X B) (o : Options) (d : List FrameType) (text : Bool)
     (after start now later : Option (List ℕ)) (w : CaptureRun A) (xs : List ℕ) (f answer : ToolFault)
     → KindLaws kind → Begins o d → IsListed kind o d w → text ≡ o.text →
     Finishes kind text o.reads after start now w xs (Err f)
@@ -240,10 +259,10 @@ pub stops-lists : {A X B : Type 0} (kind : KindView A X B) (o : Options) (d : Li
     → (IsNoWrite f → (start : Option (List ℕ)) (t : List ℕ) →
     Pages start now w.reporter.page.text w.reporter.page.written t → Closes start later t f answer)
     → ListsBy kind.form o after start later xs (Err answer)
-stops-lists {A} {X} kind o d text after start now later w xs f answer law begins asked same-text = cases f
+stops-lists {A} {R} {X} kind o d text after start now later w xs f answer law begins asked same-text = cases f
   where
     bits : List X
-    bits = (capture kind.form text (kind.watch.origin w.analyser) xs).bits
+    bits = (taken_of kind text w xs).bits
 
     is : lines kind w bits ≡ listing_of kind.form o d (so_far kind.form o xs).bits
     is = lines-so-far kind law o d text w xs same-text asked
@@ -255,7 +274,8 @@ stops-lists {A} {X} kind o d text after start now later w xs f answer law begins
         record {
           clean =
               sym (ap (λ (c : CaptureOf X). c.fault)
-              (so-far-is kind.form o text (kind.watch.origin w.analyser) xs same-text asked.origin))
+              (so-far-is kind.form o text (kind.rest w.analyser) (kind.watch.origin w.analyser) xs same-text asked.rest
+              asked.origin))
               ∙ ended.clean;
           out = out;
         }
@@ -266,9 +286,8 @@ stops-lists {A} {X} kind o d text after start now later w xs f answer law begins
     faulty-is x ended out = record {
       cause = ended.cause;
       answered = ended.answered;
-      found = subst (λ (n : ℕ). HasFault kind.form o.text n after xs ended.cause) asked.origin
-          (subst (λ (b : Bool). HasFault kind.form b (kind.watch.origin w.analyser) after xs ended.cause) same-text
-          ended.found);
+      found = fault-is kind.form o text (kind.rest w.analyser) (kind.watch.origin w.analyser) after xs ended.cause
+          same-text asked.rest asked.origin ended.found;
       out = out;
     }
 

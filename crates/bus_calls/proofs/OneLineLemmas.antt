@@ -60,7 +60,7 @@ bits-behind b os n count within =
     ∙ sym (append_assoc b (bits_from os 0 n) (bits_from os n (count - n))))
 
 -- what stopped in the first of them, stops in all
-pub halts-within : {A B : Type 0} (t : KindView A Bool B) (start now : Option (List ℕ)) (w : CaptureRun A)
+pub halts-within : {A B : Type 0} (t : KindView A Bool Bool B) (start now : Option (List ℕ)) (w : CaptureRun A)
     (b : List Bool) (os : List ℕ) (n count : ℕ) (f : ToolFault)
     → n ≤ count → Halts t start now w (b ++ bits_from os 0 n) f → Halts t start now w (b ++ bits_from os 0 count) f
 halts-within t start now w b os n count f within stopped =
@@ -68,7 +68,7 @@ halts-within t start now w b os n count f within stopped =
     (halts-more t start now w _ _ f stopped)
 
 -- all that have a place were followed, and others have none
-pub limited : {A B : Type 0} (t : KindView A Bool B) → KindLaws t →
+pub limited : {A B : Type 0} (t : KindView A Bool Bool B) → KindLaws t →
     (start now : Option (List ℕ)) (w : CaptureRun A) (b : List Bool) (os : List ℕ) (n count : ℕ)
     → n < count → 2 ^ 60 ≤ t.watch.place w.analyser → IsSound t w → Watches t start now w (b ++ bits_from os 0 n)
     → Halts t start now w (b ++ bits_from os 0 count) fault.PlaceLimit

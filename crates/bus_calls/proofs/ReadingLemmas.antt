@@ -8,12 +8,12 @@ use Rattle.bus_bits.specs.Capture.{CaptureOf, CaptureFault, capped}
 use Rattle.bus_dictionary.specs.Dictionary.{longest_of}
 use Rattle.bus_pairing.specs.Seen.{seen}
 use Rattle.bus_watch.specs.Watch.{seen_by}
-use Rattle.bus_calls.specs.Captures.{unplaced, unplaced_whole, IsSameFault}
+use Rattle.bus_calls.specs.Captures.{fed_by, unplaced, unplaced_whole, IsSameFault}
 use Rattle.bus_calls.specs.Internal.Kinds.{KindView, KindLaws}
 use Rattle.bus_text.specs.Summary.{summary_of}
 use Rattle.bus_text.specs.Pages.{Pages}
 use Rattle.bus_text.specs.Put.{Cuts}
-use Rattle.bus_calls.specs.Internal.Watching.{IsSound, Watches, IsCutOff, lines, printed}
+use Rattle.bus_calls.specs.Internal.Watching.{IsSound, Watches, IsCutOff, fed, lines, printed}
 use Rattle.bus_calls.specs.Internal.Sessions.{IsRead, IsReadBy, is_text, Follows, FollowsText, FollowsPacked, Stops}
 use Rattle.bus_calls.specs.Internal.Reading.{IsClean, IsFaulty, Finishes}
 use Rattle.bus_calls.specs.declared.run.CaptureRun.{CaptureRun}
@@ -33,14 +33,14 @@ printed-nothing None d = refl
 printed-nothing (Some p) d = listing-nothing p d
 
 -- nothing is seen of nothing
-seen-none : {A X B : Type 0} (kind : KindView A X B) → KindLaws kind → (a : A) → seen_by kind.watch a [] ≡ []
+seen-none : {A R X B : Type 0} (kind : KindView A R X B) → KindLaws kind → (a : A) → seen_by kind.watch a [] ≡ []
 seen-none kind law a =
     ap (seen (kind.watch.dictionary a))
     (ap (λ reports. reports (kind.watch.origin a) (longest_of (kind.watch.dictionary a)) []) law.reports
     ∙ law.form.silent (kind.watch.origin a) (longest_of (kind.watch.dictionary a)))
 
 -- nothing was followed yet
-pub watched-none : {A X B : Type 0} (kind : KindView A X B) → KindLaws kind →
+pub watched-none : {A R X B : Type 0} (kind : KindView A R X B) → KindLaws kind →
     (start : Option (List ℕ)) (w : CaptureRun A)
     → kind.watch.is_after w.analyser [] → w.reporter.summary ≡ summary_of [] →
     Pages start start w.reporter.page.text w.reporter.page.written [] → Watches kind start start w []
@@ -54,17 +54,17 @@ watched-none kind law start w is_after counts page =
     }
 
 -- what is known of a text, of a packed capture
-pub follows-text : {A X B : Type 0} (kind : KindView A X B) (start now : Option (List ℕ)) (s : Source B)
+pub follows-text : {A R X B : Type 0} (kind : KindView A R X B) (start now : Option (List ℕ)) (s : Source B)
     (text : TextCapture) (w : CaptureRun A) (xs : List ℕ)
     → s ≡ source.Text text → Follows kind start now s w xs → FollowsText kind start now text w xs
 follows-text kind start now s text w xs is followed = subst (λ x. Follows kind start now x w xs) is followed
 
-pub follows-packed : {A X B : Type 0} (kind : KindView A X B) (start now : Option (List ℕ)) (s : Source B)
+pub follows-packed : {A R X B : Type 0} (kind : KindView A R X B) (start now : Option (List ℕ)) (s : Source B)
     (p : PackedCapture B) (w : CaptureRun A) (xs : List ℕ)
     → s ≡ source.Packed p → Follows kind start now s w xs → FollowsPacked kind start now p w xs
 follows-packed kind start now s p w xs is followed = subst (λ x. Follows kind start now x w xs) is followed
 
-pub text-follows : {A X B : Type 0} (kind : KindView A X B) (start now : Option (List ℕ)) (s : Source B)
+pub text-follows : {A R X B : Type 0} (kind : KindView A R X B) (start now : Option (List ℕ)) (s : Source B)
     (text later : TextCapture) (w : CaptureRun A) (xs : List ℕ) (r : Result (Unit {0}) ToolFault)
     → s ≡ source.Text text → MatchResult r (λ _. FollowsText kind start now later w xs)
     (λ f. Stops kind true start now w xs f)
@@ -74,7 +74,7 @@ text-follows kind start now s text later w xs (Ok v) is taken = taken
 text-follows kind start now s text later w xs (Err f) is taken =
     subst (λ (b : Bool). Stops kind b start now w xs f) (sym (ap is_text is)) taken
 
-pub packed-follows : {A X B : Type 0} (kind : KindView A X B) (start now : Option (List ℕ)) (s : Source B)
+pub packed-follows : {A R X B : Type 0} (kind : KindView A R X B) (start now : Option (List ℕ)) (s : Source B)
     (p q : PackedCapture B) (w : CaptureRun A) (xs : List ℕ) (r : Result (Unit {0}) ToolFault)
     → s ≡ source.Packed p → MatchResult r (λ _. FollowsPacked kind start now q w xs)
     (λ f. Stops kind false start now w xs f)
@@ -83,32 +83,33 @@ packed-follows kind start now s p q w xs (Ok v) is taken = taken
 packed-follows kind start now s p q w xs (Err f) is taken =
     subst (λ (b : Bool). Stops kind b start now w xs f) (sym (ap is_text is)) taken
 
-pub read-by : {A X B : Type 0} (kind : KindView A X B) (start now : Option (List ℕ)) (s : Source B) (w : CaptureRun A)
+pub read-by : {A R X B : Type 0} (kind : KindView A R X B) (start now : Option (List ℕ)) (s : Source B)
+    (w : CaptureRun A)
     (xs : List ℕ) → Follows kind start now s w xs → IsReadBy kind s xs
 read-by kind start now (source.Text text) w xs followed = followed.clean
 read-by kind start now (source.Packed p) w xs followed = followed.read
 
-packed-clean : {A X B : Type 0} (kind : KindView A X B) → KindLaws kind →
+packed-clean : {A R X B : Type 0} (kind : KindView A R X B) → KindLaws kind →
     (head : List ℕ) (body : Option B) (xs : List ℕ) → IsRead kind head body xs → (kind.form.packed xs).fault ≡ None
-packed-clean {A} {X} kind law head None xs read = ap (λ (c : CaptureOf X). c.fault) (law.form.short xs read.1).0
+packed-clean {A} {R} kind law head None xs read = ap (λ (c : CaptureOf R). c.fault) (law.form.short xs read.1).0
 packed-clean kind law head (Some body) xs read = law.clean body xs read
 
 -- what was read has no fault, and its bits were followed
-pub record IsUnplaced {A X B : Type 0} (kind : KindView A X B) (text : Bool) (start now : Option (List ℕ))
+pub record IsUnplaced {A R X B : Type 0} (kind : KindView A R X B) (text : Bool) (start now : Option (List ℕ))
     (w : CaptureRun A) (xs : List ℕ) : Type 0 where
   pub clean : (unplaced kind.form text xs).fault ≡ None
-  pub bits : Watches kind start now w (unplaced kind.form text xs).bits
+  pub bits : Watches kind start now w (fed kind w (unplaced kind.form text xs).bits)
 
-pub follows-unplaced : {A X B : Type 0} (kind : KindView A X B) (start now : Option (List ℕ)) (s : Source B)
+pub follows-unplaced : {A R X B : Type 0} (kind : KindView A R X B) (start now : Option (List ℕ)) (s : Source B)
     (w : CaptureRun A) (xs : List ℕ)
     → KindLaws kind → Follows kind start now s w xs → IsUnplaced kind (is_text s) start now w xs
 follows-unplaced kind start now (source.Text text) w xs law followed =
-    record { clean = followed.clean; bits = followed.bits }
+    record { clean = followed.clean; bits = followed.bits.bits }
 follows-unplaced kind start now (source.Packed p) w xs law followed =
-    record { clean = packed-clean kind law p.head.items p.body xs followed.read; bits = followed.bits }
+    record { clean = packed-clean kind law p.head.items p.body xs followed.read; bits = followed.bits.bits }
 
 -- bits that were followed have a place, and so their capture is as it is
-pub all-placed : {A X B : Type 0} (kind : KindView A X B) → KindLaws kind →
+pub all-placed : {A R X B : Type 0} (kind : KindView A R X B) → KindLaws kind →
     (start now : Option (List ℕ)) (w : CaptureRun A) (c : CaptureOf X) → IsSound kind w →
     Watches kind start now w c.bits →
     capped (kind.watch.origin w.analyser) c ≡ c
@@ -116,24 +117,26 @@ all-placed kind law start now w c sound followed =
     let fits = followed-fits kind law start now w c.bits sound followed in
     capped_all (kind.watch.origin w.analyser) c (omega (arith, fits))
 
-pub is-clean : {A X B : Type 0} (kind : KindView A X B) → KindLaws kind →
+pub is-clean : {A R X B : Type 0} (kind : KindView A R X B) → KindLaws kind →
     (text : Bool) (start now : Option (List ℕ)) (w : CaptureRun A) (xs : List ℕ)
     → IsSound kind w → IsUnplaced kind text start now w xs → IsClean kind text start now w xs
-is-clean {A} {X} kind law text start now w xs sound followed =
-    let is = all-placed kind law start now w (unplaced kind.form text xs) sound followed.bits in record {
+is-clean {A} {R} {X} kind law text start now w xs sound followed =
+    let is = all-placed kind law start now w (fed_by kind.form (kind.rest w.analyser)
+    (unplaced kind.form text xs)) sound
+    followed.bits in record {
       clean = ap (λ (c : CaptureOf X). c.fault) is ∙ followed.clean;
       bits = subst (λ (c : CaptureOf X). Watches kind start now w c.bits) (sym is) followed.bits;
     }
 
 -- a writer was cut off in the lines of all of these
-pub is-cut : {A X B : Type 0} (kind : KindView A X B) (start now : Option (List ℕ)) (w : CaptureRun A) (b : List X)
+pub is-cut : {A R X B : Type 0} (kind : KindView A R X B) (start now : Option (List ℕ)) (w : CaptureRun A) (b : List X)
     (sent : ℕ) → Cuts start now (lines kind w b) sent → sent < length (lines kind w b) → IsCutOff kind start now w b
     sent
 is-cut kind start now w b sent cut short =
     record { front = b; more = []; all = sym (append-nil b); cut = cut; short = short }
 
 -- a fault ends the reading
-pub faulty-finishes : {A X B : Type 0} (kind : KindView A X B) (text : Bool) (reads : ℕ)
+pub faulty-finishes : {A R X B : Type 0} (kind : KindView A R X B) (text : Bool) (reads : ℕ)
     (after start now : Option (List ℕ)) (w : CaptureRun A) (xs : List ℕ) (f : ToolFault)
     → IsFaulty kind text after start now w xs f → Finishes kind text reads after start now w xs (Err f)
 faulty-finishes kind text reads after start now w xs fault.Read faulty = absurd faulty.answered
@@ -142,7 +145,7 @@ faulty-finishes kind text reads after start now w xs (fault.Write sent) faulty =
 faulty-finishes kind text reads after start now w xs f faulty = faulty
 
 -- what stopped the taking of octets ends the reading
-pub stops-finishes : {A X B : Type 0} (kind : KindView A X B) (text : Bool) (reads : ℕ)
+pub stops-finishes : {A R X B : Type 0} (kind : KindView A R X B) (text : Bool) (reads : ℕ)
     (after start now : Option (List ℕ)) (w : CaptureRun A) (xs : List ℕ) (f : ToolFault)
     → Stops kind text start now w xs f → Finishes kind text reads after start now w xs (Err f)
 stops-finishes kind text reads after start now w xs (fault.Write sent) stopped = stopped
@@ -151,7 +154,7 @@ stops-finishes kind text reads after start now w xs f stopped =
     (record { cause = stopped.cause; answered = stopped.answered; found = inl stopped.found; bits = stopped.bits })
 
 -- the end of the input ends it
-pub end-finishes : {A X B : Type 0} (kind : KindView A X B) → KindLaws kind →
+pub end-finishes : {A R X B : Type 0} (kind : KindView A R X B) → KindLaws kind →
     (text : Bool) (reads : ℕ) (after start now : Option (List ℕ)) (w : CaptureRun A) (xs : List ℕ)
     (r : Result (Unit {0}) ToolFault)
     → IsSound kind w → IsAtEnd after → IsUnplaced kind text start now w xs
@@ -160,19 +163,23 @@ pub end-finishes : {A X B : Type 0} (kind : KindView A X B) → KindLaws kind �
     (λ f. (cause : CaptureFault) × IsSameFault f cause
     × (unplaced_whole kind.form text xs ≡ record { bits = (unplaced kind.form text xs).bits; fault = Some cause }))
     → Finishes kind text reads after start now w xs r
-end-finishes {A} {X} kind law text reads after start now w xs (Ok u) sound at read is =
-    let bits = subst (λ (c : CaptureOf X). Watches kind start now w c.bits) (sym is) read.bits in
-    let all = all-placed kind law start now w (unplaced_whole kind.form text xs) sound bits in record {
+end-finishes {A} {R} {X} kind law text reads after start now w xs (Ok u) sound at read is =
+    let bits = subst (λ (c : CaptureOf R). Watches kind start now w (fed kind w c.bits)) (sym is) read.bits in
+    let all = all-placed kind law start now w (fed_by kind.form (kind.rest w.analyser)
+    (unplaced_whole kind.form text xs))
+    sound bits in record {
       at = at;
-      clean = ap (λ (c : CaptureOf X). c.fault) (all ∙ is);
+      clean = ap (λ (c : CaptureOf X). c.fault) all ∙ ap (λ (c : CaptureOf R). c.fault) is;
       bits = subst (λ (c : CaptureOf X). Watches kind start now w c.bits) (sym all) bits;
     }
-end-finishes {A} {X} kind law text reads after start now w xs (Err f) sound at read found =
-    let bits = subst (λ (c : CaptureOf X). Watches kind start now w c.bits) (sym found.2) read.bits in
-    let all = all-placed kind law start now w (unplaced_whole kind.form text xs) sound bits in
+end-finishes {A} {R} {X} kind law text reads after start now w xs (Err f) sound at read found =
+    let bits = subst (λ (c : CaptureOf R). Watches kind start now w (fed kind w c.bits)) (sym found.2) read.bits in
+    let all = all-placed kind law start now w (fed_by kind.form (kind.rest w.analyser)
+    (unplaced_whole kind.form text xs))
+    sound bits in
     faulty-finishes kind text reads after start now w xs f (record {
       cause = found.0;
       answered = found.1;
-      found = inr (at, ap (λ (c : CaptureOf X). c.fault) (all ∙ found.2));
+      found = inr (at, ap (λ (c : CaptureOf X). c.fault) all ∙ ap (λ (c : CaptureOf R). c.fault) found.2);
       bits = (is-clean kind law text start now w xs sound read).bits;
     })

@@ -6,7 +6,8 @@ use Rattle.bus_calls.specs.Captures.{Form}
 use Rattle.bus_calls.specs.Internal.Kinds.{SeenOn}
 
 -- it goes on, where it does with each symbol
-pub seen-on : {X : Type 0} (f : Form X) (d : List FrameType) (longest origin : ℕ) (told : List X → X → List SeenReport)
+pub seen-on : {R X : Type 0} (f : Form R X) (d : List FrameType) (longest origin : ℕ) (told : List X → X →
+    List SeenReport)
     → ((b : List X) (x : X) → seen d (f.reports origin longest (b ++ x ∷ []))
     ≡ seen d (f.reports origin longest b) ++ told b x)
     → (b more : List X) → SeenOn f d longest origin b more

@@ -4,8 +4,9 @@ use Rattle.std.proofs.Common.{Option, Some, Result, Ok, Err, MatchResult, refl, 
 use Rattle.std.specs.Result.{IsErrAnd}
 use Rattle.std.proofs.lemmas.Grind.{common_steps}
 use Rattle.bus_bits.specs.Capture.{CaptureOf}
+use Rattle.bus_calls.specs.Captures.{fed_by}
 use Rattle.bus_calls.specs.Internal.Kinds.{KindView}
-use Rattle.bus_calls.specs.Internal.Watching.{Watches, Halts}
+use Rattle.bus_calls.specs.Internal.Watching.{Feeds, FeedHalts}
 use Rattle.bus_calls.specs.Internal.Sessions.{IsRead, FollowsBody, FollowsPacked, Faulty, StopsAt, Stops}
 use Rattle.bus_calls.specs.declared.run.CaptureRun.{CaptureRun}
 use Rattle.bus_calls.specs.declared.packed.PackedCapture.{PackedCapture}
@@ -19,7 +20,7 @@ first-octet xs [] some = absurd (omega (arith, some))
 first-octet xs (o ∷ os) some = refl
 
 -- no octets were read
-pub none-read : {A X B : Type 0} (t : KindView A X B) (start now : Option (List ℕ)) (run : CaptureRun A) (body : B)
+pub none-read : {A R X B : Type 0} (t : KindView A R X B) (start now : Option (List ℕ)) (run : CaptureRun A) (body : B)
     (xs os : List ℕ) (n : ℕ) → n ≡ 0 → FollowsBody t start now body run (xs ++ take n os) →
     FollowsBody t start now body run xs
 none-read t start now run body xs os n none followed =
@@ -65,7 +66,7 @@ pub ok-mapped : {T E D : Type 0} (P : T → Type 0) (Q : E → Type 0) (Gives : 
 ok-mapped P Q Gives (Ok x) m y is made matched = let same : x ≡ y = cc in subst P same matched
 ok-mapped P Q Gives (Err e) m y is made matched = absurd (subst (λ k. IsErrAnd k (Gives e)) is made)
 
-module _ {A X B : Type 0} (t : KindView A X B) where
+module _ {A R X B : Type 0} (t : KindView A R X B) where
   -- a fault of a capture that is answered stops
   pub faulty-stops : (start now : Option (List ℕ)) (w : CaptureRun A) (c : CaptureOf X) (f : ToolFault) →
       Faulty t start now w c f → StopsAt t start now w c f
@@ -73,16 +74,16 @@ module _ {A X B : Type 0} (t : KindView A X B) where
   faulty-stops start now w c f faulty = faulty
 
   -- the symbols of octets were taken, or not
-  pub octets-taken : (start now : Option (List ℕ)) (w : CaptureRun A) (xs : List ℕ) (body : B) (b : List X)
+  pub octets-taken : (start now : Option (List ℕ)) (w : CaptureRun A) (xs : List ℕ) (body : B) (b : List R)
       (r : Result (Unit {0}) ToolFault)
       → t.watch.origin w.analyser ≤ 2 ^ 60 → t.is_body body xs → (t.form.packed xs).bits ≡ b
-      → MatchResult r (λ _. Watches t start now w b) (λ f. Halts t start now w b f)
+      → MatchResult r (λ _. Feeds t start now w b) (λ f. FeedHalts t start now w b f)
       → MatchResult r (λ _. FollowsBody t start now body w xs) (λ f. Stops t false start now w xs f)
   octets-taken start now w xs body b (Ok u) low read is taken =
-      record { read = read; bits = subst (Watches t start now w) (sym is) taken }
+      record { read = read; bits = subst (Feeds t start now w) (sym is) taken }
   octets-taken start now w xs body b (Err f) low read is taken =
-      halts-stops t start now w (t.form.packed xs) f low
-      (subst (λ (x : List X). Halts t start now w x f) (sym is) taken)
+      halts-stops t start now w (fed_by t.form (t.rest w.analyser) (t.form.packed xs)) f low
+      (subst (λ (x : List R). FeedHalts t start now w x f) (sym is) taken)
 
   -- a body that was followed is a capture that was followed
   pub body-packed : (start now : Option (List ℕ)) (w : CaptureRun A) (p : PackedCapture B) (body : B) (ys zs : List ℕ)
@@ -92,7 +93,7 @@ module _ {A X B : Type 0} (t : KindView A X B) where
       → MatchResult r (λ _. FollowsPacked t start now p w zs) (λ f. Stops t false start now w zs f)
   body-packed start now w p body ys zs (Ok u) is same taken = record {
     read = subst (λ b. IsRead t p.head.items b zs) (sym is) (subst (t.is_body body) same taken.read);
-    bits = subst (λ (x : List ℕ). Watches t start now w (t.form.packed x).bits) same taken.bits;
+    bits = subst (λ (x : List ℕ). Feeds t start now w (t.form.packed x).bits) same taken.bits;
   }
   body-packed start now w p body ys zs (Err f) is same taken =
       subst (λ (x : List ℕ). Stops t false start now w x f) same taken

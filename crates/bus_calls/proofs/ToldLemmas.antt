@@ -15,7 +15,7 @@ use Rattle.bus_calls.specs.Internal.ReportingLaws.{few-within}
 use Rattle.bus_watch.proofs.PairScanLemmas.{length-zipped, zip-met}
 use Rattle.bus_calls.proofs.WatchingLemmas.{halted, halts-more, lines-more, watched, within-all}
 
-module _ {A X B : Type 0} (t : KindView A X B) (w v : CaptureRun A) (xs : List X) (before after : Option (List ℕ))
+module _ {A R X B : Type 0} (t : KindView A R X B) (w v : CaptureRun A) (xs : List X) (before after : Option (List ℕ))
     (all : LeadsTold t.watch w.analyser xs v.analyser
     (λ ss. ReportsSeen (t.watch.dictionary w.analyser) (record w.reporter { cut = None }) before ss v.reporter after))
   where
@@ -78,7 +78,8 @@ pairs-behind b os ys n count within =
     (zip (bits_from os n (count - n)) (bits_from ys n (count - n)))))
 
 -- what stopped in the first of them, stops in all
-pub halts-behind : {A B : Type 0} (t : KindView A (Bool × Bool) B) (start now : Option (List ℕ)) (w : CaptureRun A)
+pub halts-behind : {A B : Type 0} (t : KindView A (Bool × Bool) (Bool × Bool) B) (start now : Option (List ℕ))
+    (w : CaptureRun A)
     (b : List (Bool × Bool)) (os ys : List ℕ) (n count : ℕ) (f : ToolFault)
     → n ≤ count → Halts t start now w (b ++ zip (bits_from os 0 n) (bits_from ys 0 n)) f →
     Halts t start now w (b ++ zip (bits_from os 0 count) (bits_from ys 0 count)) f
@@ -87,7 +88,7 @@ halts-behind t start now w b os ys n count f within stopped =
     (halts-more t start now w _ _ f stopped)
 
 -- all that have a place were followed, and others have none
-pub limited : {A B : Type 0} (t : KindView A (Bool × Bool) B) → KindLaws t →
+pub limited : {A B : Type 0} (t : KindView A (Bool × Bool) (Bool × Bool) B) → KindLaws t →
     (start now : Option (List ℕ)) (w : CaptureRun A) (b : List (Bool × Bool)) (os ys : List ℕ) (n count : ℕ)
     → n < count → 2 ^ 60 ≤ t.watch.place w.analyser → IsSound t w →
     Watches t start now w (b ++ zip (bits_from os 0 n) (bits_from ys 0 n))

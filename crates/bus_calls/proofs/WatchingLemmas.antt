@@ -18,8 +18,8 @@ use Rattle.bus_text.specs.Counting.{IsFew}
 use Rattle.bus_text.specs.Pages.{Pages}
 use Rattle.bus_text.specs.Put.{Cuts}
 use Rattle.bus_calls.specs.Internal.Kinds.{KindView, KindLaws}
-use Rattle.bus_calls.specs.Internal.Watching.{IsSound, Watches, IsSame, Halts, printed, ended, lines, last_lines}
-use Rattle.bus_calls.specs.Internal.Watching.{reports_by, within}
+use Rattle.bus_calls.specs.Internal.Watching.{IsSound, Watches, IsSame, Halts, FeedHalts, printed, ended, lines}
+use Rattle.bus_calls.specs.Internal.Watching.{last_lines, reports_by, within}
 use Rattle.bus_text.specs.declared.printer.Printer.{Printer}
 use Rattle.bus_calls.specs.declared.run.CaptureRun.{CaptureRun}
 use Rattle.bus_text.specs.declared.fault.ToolFault.{ToolFault}
@@ -60,7 +60,7 @@ pub below : (place : ℕ) → (2 ^ 60 < place → false ≡ true) → place ≤ 
 below place never =
     elim (cases_lt (2 ^ 60) place) [ inl over ↦ absurd (let wrong = never over in cc) | inr within ↦ within ]
 
-module _ {A X B : Type 0} (t : KindView A X B) where
+module _ {A R X B : Type 0} (t : KindView A R X B) where
   -- what is seen depends on dictionary and origin alone
   pub seen-same : (a c : A) (b : List X) → t.watch.dictionary c ≡ t.watch.dictionary a →
       t.watch.origin c ≡ t.watch.origin a → seen_by t.watch c b ≡ seen_by t.watch a b
@@ -135,6 +135,14 @@ module _ {A X B : Type 0} (t : KindView A X B) where
       }
   halts-more start now w b more _ stopped = absurd stopped
 
+  -- what the analyser takes stops as well
+  pub feed-halts-more : KindLaws t → (start now : Option (List ℕ)) (w : CaptureRun A) (b more : List R) (f : ToolFault)
+      → FeedHalts t start now w b f → FeedHalts t start now w (b ++ more) f
+  feed-halts-more law start now w b more f stopped =
+      let on = law.form.fed (t.rest w.analyser) b more in
+      subst (λ (x : List X). Halts t start now w x f) (sym on.is)
+      (halts-more start now w (t.form.fed (t.rest w.analyser) b) on.taken f stopped)
+
   -- what stays the same twice, stays the same
   pub same-both : (u v w : CaptureRun A) → IsSame t u v → IsSame t v w → IsSame t u w
   same-both u v w first second = record {
@@ -142,10 +150,11 @@ module _ {A X B : Type 0} (t : KindView A X B) where
     dictionary = second.dictionary ∙ first.dictionary;
     depth = second.depth ∙ first.depth;
     origin = second.origin ∙ first.origin;
+    rest = second.rest ∙ first.rest;
   }
 
   pub same-self : (w : CaptureRun A) → IsSame t w w
-  same-self w = record { printer = refl; dictionary = refl; depth = refl; origin = refl }
+  same-self w = record { printer = refl; dictionary = refl; depth = refl; origin = refl; rest = refl }
 
   -- without a printer there are no lines of the end
   pub pages-unended : (start now : Option (List ℕ)) (w : CaptureRun A) (b : List X) (page later : Page)

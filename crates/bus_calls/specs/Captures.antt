@@ -1,8 +1,10 @@
--- The captures of one line and of two, and what is seen of them.
-use Rattle.std.specs.Prelude.{◌≡◌, ◌⊎◌, ℕ, Bool, true, false, List, if◌then◌else◌, Option, Some}
+-- The captures of one line, of two, and of two with a clock each, and what is seen of them.
+use Rattle.std.specs.Prelude.{◌≡◌, ◌⊎◌, ℕ, Bool, true, false, List, map, if◌then◌else◌, Option, Some}
 use Rattle.std.specs.Io.KnownBytes.{IsAtEnd}
 use Rattle.bus_bits.specs.Capture.{CaptureOf, text_capture, text_pair_capture, capped, CaptureFault, bad_mark, magic}
 use Rattle.bus_bits.specs.Capture.{too_many, pad_bits, trailing, place_limit, short_head, short_body}
+use Rattle.bus_bits.specs.Capture.{text_arrival_capture}
+use Rattle.bus_bits.specs.Packed.{packed_arrival_capture, packed_arrival_whole}
 use Rattle.bus_bits.specs.Packed.{packed_capture, packed_whole, packed_pair_capture, packed_pair_whole}
 use Rattle.bus_dictionary.specs.Entry.{FrameType}
 use Rattle.bus_dictionary.specs.Dictionary.{longest_of}
@@ -10,59 +12,88 @@ use Rattle.bus_line.specs.Due as line
 use Rattle.bus_pairing.specs.LineReport.{LineReport, of_line, firsts, seconds, merged}
 use Rattle.bus_pairing.specs.Seen.{SeenReport, seen}
 use Rattle.bus_pairing.specs.Shown.{begun_span}
+use Rattle.bus_pairing.specs.declared.line.Line.TheVariants.{First, Second}
 use Rattle.bus_pairing.specs.declared.pending.Pending.{Pending}
+use Rattle.bus_clocks.specs.Arrival.{Arrival, own, arrived, begun_places}
+use Rattle.bus_clocks.specs.Rested.{rested}
 use Rattle.bus_text.specs.Listing.{Line, ending_lines, pair_ending_lines}
 use Rattle.bus_text.specs.declared.fault.ToolFault.{ToolFault}
 use Rattle.bus_text.specs.declared.fault.ToolFault.TheVariants.{BadMark, Magic, TooMany, PadBits, Trailing, PlaceLimit}
 use Rattle.bus_text.specs.declared.fault.ToolFault.TheVariants.{ShortHead, ShortBody}
 
--- in what captures of one line and of two differ; X is what they have at each place, a bit or a pair of bits
-pub record Form (X : Type 0) : Type 0 where
-  pub text : List ℕ → CaptureOf X  -- what octets of a text give
-  pub packed : List ℕ → CaptureOf X  -- what those of a packed capture give, while more may come
-  pub packed_whole : List ℕ → CaptureOf X  -- and what those give that are the whole input
+-- an arrival, by its bit and whether it is one of the second line
+abbrev pub arrival_of : Bool × Bool → Arrival
+arrival_of (bit, is_second) = (if is_second then Second else First, bit)
+
+-- in what captures differ; R is what they have, bits, pairs of bits or arrivals, and X what an analyser takes
+pub record Form (R X : Type 0) : Type 0 where
+  pub text : List ℕ → CaptureOf R  -- what octets of a text give
+  pub packed : List ℕ → CaptureOf R  -- what those of a packed capture give, while more may come
+  pub packed_whole : List ℕ → CaptureOf R  -- and what those give that are the whole input
+  -- what the analyser takes of them, by the silence after which a second line comes to rest
+  pub fed : ℕ → List R → List X
   pub reports : ℕ → ℕ → List X → List LineReport  -- the reports, by the place of the first X and the longest frame
   -- the lines of the end, by the place of the first X and the command that waits
   pub ending : ℕ → List X → Option Pending → List Line
   pub is_two : Bool  -- the frames of the history are told with the number of their line
 
 -- one line
-abbrev pub form_of_one : Form Bool
+abbrev pub form_of_one : Form Bool Bool
 form_of_one = record {
   text = text_capture;
   packed = packed_capture;
   packed_whole = packed_whole;
+  fed = λ rest b. b;
   reports = λ origin longest b. of_line (line.placed origin longest b);
   ending = λ origin b waits. ending_lines (begun_span origin b) waits;
   is_two = false;
 }
 
 -- two lines
-abbrev pub form_of_two : Form (Bool × Bool)
+abbrev pub form_of_two : Form (Bool × Bool) (Bool × Bool)
 form_of_two = record {
   text = text_pair_capture;
   packed = packed_pair_capture;
   packed_whole = packed_pair_whole;
+  fed = λ rest ps. ps;
   reports = merged;
   ending = λ origin ps waits. pair_ending_lines (begun_span origin (firsts ps)) (begun_span origin (seconds ps)) waits;
   is_two = true;
 }
 
-module _ {X : Type 0} (f : Form X) where
+-- two lines with a clock each
+abbrev pub form_of_arrivals : Form (Bool × Bool) Arrival
+form_of_arrivals = record {
+  text = text_arrival_capture;
+  packed = packed_arrival_capture;
+  packed_whole = packed_arrival_whole;
+  fed = λ rest xs. rested rest (map arrival_of xs);
+  reports = arrived;
+  ending = λ origin xs waits.
+      pair_ending_lines (begun_span origin (own First xs)) (begun_places origin xs) waits;
+  is_two = true;
+}
+
+module _ {R X : Type 0} (f : Form R X) where
   -- what octets give, while more may come: text, or packed
-  abbrev pub unplaced : Bool → List ℕ → CaptureOf X
+  abbrev pub unplaced : Bool → List ℕ → CaptureOf R
   unplaced text xs = if text then f.text xs else f.packed xs
 
   -- what octets give that are the whole input
-  abbrev pub unplaced_whole : Bool → List ℕ → CaptureOf X
+  abbrev pub unplaced_whole : Bool → List ℕ → CaptureOf R
   unplaced_whole text xs = if text then f.text xs else f.packed_whole xs
 
-  -- where the first bit, or pair of bits, has the place `origin`
-  abbrev pub capture : Bool → ℕ → List ℕ → CaptureOf X
-  capture text origin xs = capped origin (unplaced text xs)
+  -- as an analyser takes it
+  abbrev pub fed_by : ℕ → CaptureOf R → CaptureOf X
+  fed_by rest c = record { bits = f.fed rest c.bits; fault = c.fault }
 
-  abbrev pub whole_capture : Bool → ℕ → List ℕ → CaptureOf X
-  whole_capture text origin xs = capped origin (unplaced_whole text xs)
+  -- where the first bit, or pair of bits, has the place `origin`; of arrivals the origin and the bits of both lines
+  -- come to no more than the places
+  abbrev pub capture : Bool → ℕ → ℕ → List ℕ → CaptureOf X
+  capture text rest origin xs = capped origin (fed_by rest (unplaced text xs))
+
+  abbrev pub whole_capture : Bool → ℕ → ℕ → List ℕ → CaptureOf X
+  whole_capture text rest origin xs = capped origin (fed_by rest (unplaced_whole text xs))
 
   -- the reports, by a dictionary, whose longest frame bounds the frames
   abbrev pub reports_of_form : ℕ → List FrameType → List X → List LineReport
@@ -73,10 +104,10 @@ module _ {X : Type 0} (f : Form X) where
   reports_seen origin d b = seen d (reports_of_form origin d b)
 
   -- the octets have this fault, or they are the whole input and have it
-  abbrev pub HasFault : Bool → ℕ → Option (List ℕ) → List ℕ → CaptureFault → Type 0
-  HasFault text origin after xs cause =
-      ((capture text origin xs).fault ≡ Some cause)
-      ⊎ (IsAtEnd after × ((whole_capture text origin xs).fault ≡ Some cause))
+  abbrev pub HasFault : Bool → ℕ → ℕ → Option (List ℕ) → List ℕ → CaptureFault → Type 0
+  HasFault text rest origin after xs cause =
+      ((capture text rest origin xs).fault ≡ Some cause)
+      ⊎ (IsAtEnd after × ((whole_capture text rest origin xs).fault ≡ Some cause))
 
 -- the fault of a capture, as it is answered
 abbrev pub IsSameFault : ToolFault → CaptureFault → Type 0

@@ -5,7 +5,7 @@ use Rattle.bus_bits.specs.Capture.{CaptureFault}
 use Rattle.bus_dictionary.specs.Entry.{FrameType}
 use Rattle.bus_pairing.specs.History.{history, tally}
 use Rattle.bus_calls.specs.Captures.{Form, HasFault, IsSameFault, form_of_one, form_of_two, reports_of_form}
-use Rattle.bus_calls.specs.Captures.{reports_seen}
+use Rattle.bus_calls.specs.Captures.{reports_seen, form_of_arrivals}
 use Rattle.bus_text.specs.CheckText.{check_text}
 use Rattle.bus_text.specs.Summary.{summary_of}
 use Rattle.bus_text.specs.Put.{Cuts}
@@ -17,7 +17,7 @@ use Rattle.bus_text.specs.declared.fault.ToolFault.{ToolFault}
 use Rattle.bus_text.specs.declared.fault.ToolFault.TheVariants.{Dictionary, Depth, Origin, Memory, Read, ReadsLimit}
 use Rattle.bus_text.specs.declared.fault.ToolFault.TheVariants.{Write}
 
-module _ {X : Type 0} (f : Form X) where
+module _ {R X : Type 0} (f : Form R X) where
   -- the report of bits: how often each thing is seen, the verdicts of each station, and the last frames
   abbrev pub check_report : Options → List FrameType → List X → List ℕ
   check_report o d b =
@@ -46,7 +46,7 @@ module _ {X : Type 0} (f : Form X) where
       (fault : ToolFault) : Type 0 where
     pub cause : CaptureFault
     pub answered : IsSameFault fault cause
-    pub found : HasFault f o.text o.origin after xs cause
+    pub found : HasFault f o.text o.rest o.origin after xs cause
     pub unwritten : Appends start now []
 
   -- the writer was cut off in their report
@@ -72,9 +72,11 @@ module _ {X : Type 0} (f : Form X) where
   ChecksBy o after start now xs (Err fault) =
       (d : List FrameType) × Begins o d × ChecksToFault o after start now xs fault
 
--- What the call answered that checks a capture of one line, or of two: it read the octets xs, leaves its reader with
--- `after`, and led its writer from `start` to `now`.
+-- What the call answered that checks a capture of one line, of two, or of arrivals: it read the octets xs, leaves its
+-- reader with `after`, and led its writer from `start` to `now`.
 abbrev pub Checks : Options → Option (List ℕ) → Option (List ℕ) → Option (List ℕ) → List ℕ → Result Summary ToolFault
     → Type 0
 Checks o after start now xs r =
-    by_lines o.two (ChecksBy form_of_one o after start now xs r) (ChecksBy form_of_two o after start now xs r)
+    by_lines o.arrivals
+    (by_lines o.two (ChecksBy form_of_one o after start now xs r) (ChecksBy form_of_two o after start now xs r))
+    (ChecksBy form_of_arrivals o after start now xs r)

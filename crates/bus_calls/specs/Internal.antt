@@ -3,6 +3,7 @@ pub mod Kinds
 pub mod Headed
 pub mod OneLine
 pub mod TwoLines
+pub mod Arrivals
 pub mod Watching
 pub mod Reporting
 pub mod ReportingLaws

@@ -3,7 +3,7 @@ use Rattle.std.specs.Prelude.{◌≡◌, ℕ, List, [], ◌++◌, take, Option, 
 use Rattle.std.specs.Io.KnownBytes.{Appends}
 use Rattle.bus_bits.specs.Capture.{CaptureFault}
 use Rattle.bus_dictionary.specs.Entry.{FrameType}
-use Rattle.bus_calls.specs.Captures.{Form, form_of_one, form_of_two, reports_seen, IsSameFault}
+use Rattle.bus_calls.specs.Captures.{Form, form_of_one, form_of_two, form_of_arrivals, reports_seen, IsSameFault}
 use Rattle.bus_text.specs.Summary.{summary_of}
 use Rattle.bus_text.specs.Put.{Cuts}
 use Rattle.bus_calls.specs.Begins.{Begins, Refuses}
@@ -20,7 +20,7 @@ pub record WritesNothing (o : Options) (start now : Option (List ℕ)) (fault : 
   pub why : Refuses o fault
   pub unwritten : Appends start now []
 
-module _ {X : Type 0} (f : Form X) where
+module _ {R X : Type 0} (f : Form R X) where
   -- the listing of a capture: with the lines of the end where it has no fault
   abbrev pub text_with : Options → List FrameType → List X → Option CaptureFault → List ℕ
   text_with o d b None = listing_of f o d b ++ ending_of f o d b
@@ -91,13 +91,17 @@ module _ {X : Type 0} (f : Form X) where
   ChecksKnownBy o start now all (Err fault) =
       (d : List FrameType) × Begins o d × IsItsFault o all fault × Appends start now []
 
--- What the listing of a capture of one line, or of two, answered, whose reader had all these octets left, and which
--- led its writer from `start` to `now`.
+-- What the listing of a capture of one line, of two, or of arrivals answered, whose reader had all these octets left,
+-- and which led its writer from `start` to `now`.
 abbrev pub ListsKnown : Options → Option (List ℕ) → Option (List ℕ) → List ℕ → Result Summary ToolFault → Type 0
 ListsKnown o start now all r =
-    by_lines o.two (ListsKnownBy form_of_one o start now all r) (ListsKnownBy form_of_two o start now all r)
+    by_lines o.arrivals
+    (by_lines o.two (ListsKnownBy form_of_one o start now all r) (ListsKnownBy form_of_two o start now all r))
+    (ListsKnownBy form_of_arrivals o start now all r)
 
 -- What the check of one answered.
 abbrev pub ChecksKnown : Options → Option (List ℕ) → Option (List ℕ) → List ℕ → Result Summary ToolFault → Type 0
 ChecksKnown o start now all r =
-    by_lines o.two (ChecksKnownBy form_of_one o start now all r) (ChecksKnownBy form_of_two o start now all r)
+    by_lines o.arrivals
+    (by_lines o.two (ChecksKnownBy form_of_one o start now all r) (ChecksKnownBy form_of_two o start now all r))
+    (ChecksKnownBy form_of_arrivals o start now all r)

@@ -6,7 +6,7 @@ use Rattle.bus_bits.specs.Capture.{CaptureOf, CaptureFault}
 use Rattle.bus_dictionary.specs.Entry.{FrameType}
 use Rattle.bus_pairing.specs.Talk.{pending}
 use Rattle.bus_calls.specs.Captures.{Form, capture, form_of_one, form_of_two, reports_of_form, reports_seen}
-use Rattle.bus_calls.specs.Captures.{whole_capture}
+use Rattle.bus_calls.specs.Captures.{whole_capture, form_of_arrivals}
 use Rattle.bus_calls.specs.Captures.{IsSameFault, HasFault}
 use Rattle.bus_text.specs.Given.{printer_of}
 use Rattle.bus_text.specs.Listing.{listing, ending_text}
@@ -19,13 +19,13 @@ use Rattle.bus_text.specs.declared.fault.ToolFault.{ToolFault}
 use Rattle.bus_text.specs.declared.fault.ToolFault.TheVariants.{Dictionary, Depth, Origin, Memory, Read, ReadsLimit}
 use Rattle.bus_text.specs.declared.fault.ToolFault.TheVariants.{Write}
 
-module _ {X : Type 0} (f : Form X) where
+module _ {R X : Type 0} (f : Form R X) where
   -- the bits of the octets so far, and their fault; and of octets that are the whole input
   abbrev pub so_far : Options → List ℕ → CaptureOf X
-  so_far o xs = capture f o.text o.origin xs
+  so_far o xs = capture f o.text o.rest o.origin xs
 
   abbrev pub in_all : Options → List ℕ → CaptureOf X
-  in_all o xs = whole_capture f o.text o.origin xs
+  in_all o xs = whole_capture f o.text o.rest o.origin xs
 
   -- the listing of bits, without the lines of the end
   abbrev pub listing_of : Options → List FrameType → List X → List ℕ
@@ -44,7 +44,7 @@ pub record DoesNothing (o : Options) (start now : Option (List ℕ)) (xs : List 
   pub unread : xs ≡ []
   pub unwritten : Appends start now []
 
-module _ {X : Type 0} (f : Form X) where
+module _ {R X : Type 0} (f : Form R X) where
   -- these octets are the whole input and have no fault: their listing was written, with the lines of the end
   pub record ListsAll (o : Options) (d : List FrameType) (after start now : Option (List ℕ)) (xs : List ℕ)
       (s : Summary) : Type 0 where
@@ -63,7 +63,7 @@ module _ {X : Type 0} (f : Form X) where
       (fault : ToolFault) : Type 0 where
     pub cause : CaptureFault
     pub answered : IsSameFault fault cause
-    pub found : HasFault f o.text o.origin after xs cause
+    pub found : HasFault f o.text o.rest o.origin after xs cause
     pub out : Appends start now (listing_of f o d (so_far f o xs).bits)
 
   -- what is to be written of these octets: the lines of the end only where they are the whole input and have no fault
@@ -96,14 +96,16 @@ module _ {X : Type 0} (f : Form X) where
   ListsBy o after start now xs (Err fault) =
       (d : List FrameType) × Begins o d × ListsToFault o d after start now xs fault
 
--- as it is of two lines, or of one
+-- as it is by an option, or without it
 abbrev pub by_lines : Bool → Type 0 → Type 0 → Type 0
 by_lines false one two = one
 by_lines true one two = two
 
--- What the call answered that lists a capture of one line, or of two: it read the octets xs, leaves its reader with
--- `after`, and led its writer from `start` to `now`.
+-- What the call answered that lists a capture of one line, of two, or of arrivals: it read the octets xs, leaves its
+-- reader with `after`, and led its writer from `start` to `now`.
 abbrev pub Lists : Options → Option (List ℕ) → Option (List ℕ) → Option (List ℕ) → List ℕ → Result Summary ToolFault
     → Type 0
 Lists o after start now xs r =
-    by_lines o.two (ListsBy form_of_one o after start now xs r) (ListsBy form_of_two o after start now xs r)
+    by_lines o.arrivals
+    (by_lines o.two (ListsBy form_of_one o after start now xs r) (ListsBy form_of_two o after start now xs r))
+    (ListsBy form_of_arrivals o after start now xs r)

@@ -1,4 +1,4 @@
-//! What a capture is read into: the analyser of one line, or that of two.
+//! What a capture is read into: the analyser of one line, that of two, or that of two with a clock each.
 
 ghost use Rattle.std.specs.Prelude.{◌≡◌, ◌+◌, ◌<◌, ◌≤◌, ◌^◌, ◌↔◌, ◌⊎◌, ℕ, false, List, [], ◌∷◌, ◌++◌, length, take};
 ghost use Rattle.std.specs.Prelude.{true, Option, Some, None, Err, MatchResult, IsErr, IfOk, OnOk, OnErr, IsTrue};
@@ -19,9 +19,9 @@ ghost use Rattle.bus_text.specs.Pages.{HasRoomFor, Pages};
 ghost use Rattle.bus_text.specs.Listing.{listing, ending_text};
 ghost use Rattle.bus_text.specs.Put.{Cuts};
 ghost use Rattle.bus_text.specs.Summary.{summary_of};
-ghost use Rattle.bus_calls.specs.Internal.Asked.{IsMade};
+ghost use Rattle.bus_calls.specs.Internal.Asked.{IsMade, IsRuled};
 ghost use Rattle.bus_calls.specs.Internal.Kinds.{KindView, KindLaws};
-ghost use Rattle.bus_calls.specs.Internal.Watching.{Halts, reports_by, IsSame, IsSound, Watches};
+ghost use Rattle.bus_calls.specs.Internal.Watching.{FeedHalts, Feeds, reports_by, IsSame, IsSound};
 ghost use Rattle.bus_calls.specs.Internal.Sessions.{FollowsBody, FollowsOctets, Stops};
 
 use crate::run::CaptureRun;
@@ -33,10 +33,13 @@ use std::alloc::Global;
 use std::convert::AsSlice;
 use std::io::Write;
 
-/// An analyser of one line, or of two, and how its captures are written: at each place they have a
-/// symbol, a bit or a pair of bits.
+/// An analyser of one line, or of two, and how its captures are written: they have symbols, which are bits, pairs of
+/// bits, or bits in their order of arrival.
 pub trait CaptureKind: Drop {
     type Symbol: Copy;
+
+    /// What the analyser takes of them.
+    type Taken;
 
     /// Reads the octets of a packed capture after its head.
     type Body: Drop;
@@ -44,24 +47,26 @@ pub trait CaptureKind: Drop {
     /// The symbols of one of these octets.
     type Few: AsSlice<Self::Symbol> + Drop;
 
-    ghost kind: { KindView Self Self.Symbol Self.Body };
+    ghost kind: { KindView Self Self.Symbol Self.Taken Self.Body };
 
     /// An analyser that took no symbol. `depth` is how many frames its history keeps, and `origin` the
-    /// place of its first symbol.
+    /// place of its first symbol. `rest` is the silence after which a second line with its own clock comes to rest.
     fn new(
         alloc: Global,
         dictionary: Dictionary,
         depth: usize,
         origin: u64,
+        rest: u64,
     ) -> Result<Self, NewFault>
         ensures depth { (result ≡ Err NewFault.DepthRange) ↔ ((depth < 1) ⊎ (1024 < depth)) }
         ensures origin { (result ≡ Err NewFault.Origin) ↔ ((1 ≤ depth) × (depth ≤ 1024) × (most_places < origin)) }
-        ensures made { IfOk result (λ a. IsMade kind.watch dictionary depth origin a) };
+        ensures made { IfOk result (λ a. IsMade kind.watch dictionary depth origin a) }
+        ensures rule { IfOk result (λ a. IsRuled kind rest a) };
 
     /// Puts the lines of the end on the page.
     fn put_ending(&self, printer: &Printer, page: &mut Page)
         requires room { HasRoomFor 300 page.old }
-        ensures bytes { (b : List Self.Symbol) → kind.watch.is_after self.now b → page.new.text.items
+        ensures bytes { (b : List Self.Taken) → kind.watch.is_after self.now b → page.new.text.items
             ≡ page.old.text.items ++ ending_text printer.now (kind.form.ending (kind.watch.origin self.now) b
             (pending (kind.watch.dictionary self.now) (reports_by kind.watch self.now b))) }
         ensures len { array_vec_len page.new.text ≤ array_vec_len page.old.text + 300 }
@@ -69,19 +74,19 @@ pub trait CaptureKind: Drop {
 
     /// How many verdicts named a station.
     fn tally(&self, station: u8) -> Counts
-        ensures { (b : List Self.Symbol) → kind.watch.is_after self.now b →
+        ensures { (b : List Self.Taken) → kind.watch.is_after self.now b →
             result ≡ tally (kind.watch.dictionary self.now) (reports_by kind.watch self.now b) station };
 
     /// How many frames the history has.
     fn history_len(&self) -> usize
-        ensures value { (b : List Self.Symbol) → kind.watch.is_after self.now b →
+        ensures value { (b : List Self.Taken) → kind.watch.is_after self.now b →
             result ≡ length (history (kind.watch.depth self.now) (reports_by kind.watch self.now b)) }
         ensures bound { result ≤ 1024 };
 
     /// Puts the line of a frame of the history on the page, of which the oldest has the number 0.
     fn put_last<W: Write>(&self, i: usize, page: &mut Page, w: &mut W) -> Result<(), ShortWrite>
         requires { page.old.written < 2 ^ 100 }
-        ensures put { (start : Option (List ℕ)) (text : List ℕ) (b : List Self.Symbol) (k : KeptFrame) →
+        ensures put { (start : Option (List ℕ)) (text : List ℕ) (b : List Self.Taken) (k : KeptFrame) →
             kind.watch.is_after self.now b →
             slice_get (history (kind.watch.depth self.now) (reports_by kind.watch self.now b)) i ≡ Some k →
             Pages start (W.contents w.old) page.old.text page.old.written text → MatchResult result
@@ -130,9 +135,9 @@ pub trait CaptureKind: Drop {
     ) -> Result<(), ToolFault>
         requires { IsSound kind run.old }
         ensures taken { (start : Option (List ℕ)) (b : List Self.Symbol) →
-            Watches kind start (W.contents w.old) run.old b → MatchResult result
-            (λ _. Watches kind start (W.contents w.new) run.new (b ++ symbol ∷ []))
-            (λ fault. Halts kind start (W.contents w.new) run.new (b ++ symbol ∷ []) fault) }
+            Feeds kind start (W.contents w.old) run.old b → MatchResult result
+            (λ _. Feeds kind start (W.contents w.new) run.new (b ++ symbol ∷ []))
+            (λ fault. FeedHalts kind start (W.contents w.new) run.new (b ++ symbol ∷ []) fault) }
         ensures same { IsSame kind run.old run.new }
         ensures sound { IsSound kind run.new };
 

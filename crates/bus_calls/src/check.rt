@@ -5,6 +5,7 @@ ghost use Rattle.std.specs.Io.KnownBytes.{Consumes};
 ghost use Rattle.bus_calls.specs.Checks.{Checks, ChecksBy};
 ghost use Rattle.bus_calls.specs.Known.{ChecksKnown, ChecksKnownBy};
 
+use crate::arrivals::ClockAnalyser;
 use crate::capture_kind::CaptureKind;
 use crate::reader::CaptureReader;
 use bus_fcs::OctetCheck;
@@ -35,14 +36,16 @@ pub fn check_capture<R: Read, W: Write>(
     ensures known { IfSome (R.remaining r.old)
         (λ all. ChecksKnown o.now (W.contents w.old) (W.contents w.new) all result) }
 {
-    if o.two {
+    if o.arrivals {
+        check_with::<ClockAnalyser<OctetCheck>, R, W>(alloc, o, r, w)
+    } else if o.two {
         check_with::<PairAnalyser<OctetCheck>, R, W>(alloc, o, r, w)
     } else {
         check_with::<Analyser<OctetCheck>, R, W>(alloc, o, r, w)
     }
 }
 
-/// Checks a capture of one line or of two.
+/// Checks a capture of one line, of two, or of arrivals.
 fn check_with<T: CaptureKind, R: Read, W: Write>(
     alloc: Global,
     o: &Options<'_>,

@@ -1,7 +1,8 @@
-//! What the program does: it lists or checks a capture of one line or of two, and encodes lines. A request names one of
-//! these calls, or the text of one frame, and its execution ends with a status.
+//! What the program does: it lists or checks a capture of one line, of two, or of two with a clock each, and encodes
+//! lines. A request names one of these calls, or the text of one frame, and its execution ends with a status.
 #![tactic(auto)]
 
+mod arrivals;
 mod capture_kind;
 mod check;
 mod encode;

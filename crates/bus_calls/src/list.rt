@@ -7,6 +7,7 @@ ghost use Rattle.std.specs.Io.KnownBytes.{Consumes};
 ghost use Rattle.bus_calls.specs.Lists.{Lists, ListsBy};
 ghost use Rattle.bus_calls.specs.Known.{ListsKnown, ListsKnownBy};
 
+use crate::arrivals::ClockAnalyser;
 use crate::capture_kind::CaptureKind;
 use crate::reader::CaptureReader;
 use bus_fcs::OctetCheck;
@@ -45,14 +46,16 @@ pub fn list_capture<R: Read, W: Write>(
     ensures known { IfSome (R.remaining r.old)
         (λ all. ListsKnown o.now (W.contents w.old) (W.contents w.new) all result) }
 {
-    if o.two {
+    if o.arrivals {
+        list_with::<ClockAnalyser<OctetCheck>, R, W>(alloc, o, r, w)
+    } else if o.two {
         list_with::<PairAnalyser<OctetCheck>, R, W>(alloc, o, r, w)
     } else {
         list_with::<Analyser<OctetCheck>, R, W>(alloc, o, r, w)
     }
 }
 
-/// Lists a capture of one line or of two.
+/// Lists a capture of one line, of two, or of arrivals.
 fn list_with<T: CaptureKind, R: Read, W: Write>(
     alloc: Global,
     o: &Options<'_>,

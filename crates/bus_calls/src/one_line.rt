@@ -5,7 +5,7 @@ ghost use Rattle.std.specs.Prelude.{None, IfOk, MatchResult};
 ghost use Rattle.bus_bits.specs.Bits.{bits_from};
 ghost use Rattle.bus_calls.specs.Internal.OneLine.{one_line_kind};
 ghost use Rattle.bus_calls.specs.Internal.Sessions.{FollowsOctets, Stops};
-ghost use Rattle.bus_calls.specs.Internal.Watching.{Halts, IsSame, IsSound, Watches};
+ghost use Rattle.bus_calls.specs.Internal.Watching.{FeedHalts, Feeds, IsSame, IsSound};
 
 use crate::capture_kind::CaptureKind;
 use crate::run::CaptureRun;
@@ -32,9 +32,9 @@ fn analyse_bits<C: Check, W: Write>(
     requires sound { IsSound (one_line_kind C.check) run.old }
     requires within { end ≤ 8 * length octets.now }
     ensures taken { (start : Option (List ℕ)) (b : List Bool) →
-        Watches (one_line_kind C.check) start (W.contents w.old) run.old b → MatchResult result
-        (λ _. Watches (one_line_kind C.check) start (W.contents w.new) run.new (b ++ bits_from octets.now 0 end))
-        (λ fault. Halts (one_line_kind C.check) start (W.contents w.new) run.new
+        Feeds (one_line_kind C.check) start (W.contents w.old) run.old b → MatchResult result
+        (λ _. Feeds (one_line_kind C.check) start (W.contents w.new) run.new (b ++ bits_from octets.now 0 end))
+        (λ fault. FeedHalts (one_line_kind C.check) start (W.contents w.new) run.new
         (b ++ bits_from octets.now 0 end) fault) }
     ensures same { IsSame (one_line_kind C.check) run.old run.new }
     ensures sound { IsSound (one_line_kind C.check) run.new }
@@ -106,6 +106,8 @@ fn analyse_block<C: Check, W: Write, const N: usize>(
 impl<C: Check> CaptureKind for Analyser<C> {
     type Symbol = bool;
 
+    type Taken = bool;
+
     type Body = PackedBits;
 
     type Few = ArrayVec<bool, 8>;
@@ -117,6 +119,7 @@ impl<C: Check> CaptureKind for Analyser<C> {
         dictionary: Dictionary,
         depth: usize,
         origin: u64,
+        _rest: u64,
     ) -> Result<Self, NewFault> {
         Analyser::new(alloc, dictionary, depth, origin)
     }

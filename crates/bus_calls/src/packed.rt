@@ -4,7 +4,7 @@ ghost use Rattle.std.specs.Prelude.{◌≡◌, ◌+◌, ◌≤◌, ◌<◌, ℕ,
 ghost use Rattle.std.specs.Prelude.{length, take, false};
 ghost use Rattle.bus_bits.specs.Capture.{CaptureFault};
 ghost use Rattle.bus_bits.specs.Packed.{head_fault_of, packed_fault_of};
-ghost use Rattle.bus_calls.specs.Internal.Watching.{Halts, IsSame, IsSound, Watches};
+ghost use Rattle.bus_calls.specs.Internal.Watching.{FeedHalts, Feeds, IsSame, IsSound};
 ghost use Rattle.bus_calls.specs.Internal.Sessions.{FollowsPacked, FollowsBody, IsRead, Stops};
 ghost use Rattle.bus_calls.specs.Captures.{IsSameFault};
 
@@ -58,9 +58,9 @@ fn analyse_symbols<T: CaptureKind, W: Write>(
 ) -> Result<(), ToolFault>
     requires { IsSound T.kind run.old }
     ensures taken { (start : Option (List ℕ)) (b : List T.Symbol) →
-        Watches T.kind start (W.contents w.old) run.old b → MatchResult result
-        (λ _. Watches T.kind start (W.contents w.new) run.new (b ++ symbols.now))
-        (λ fault. Halts T.kind start (W.contents w.new) run.new (b ++ symbols.now) fault) }
+        Feeds T.kind start (W.contents w.old) run.old b → MatchResult result
+        (λ _. Feeds T.kind start (W.contents w.new) run.new (b ++ symbols.now))
+        (λ fault. FeedHalts T.kind start (W.contents w.new) run.new (b ++ symbols.now) fault) }
     ensures same { IsSame T.kind run.old run.new }
     ensures sound { IsSound T.kind run.new }
 {

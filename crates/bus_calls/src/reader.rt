@@ -6,7 +6,7 @@ ghost use Rattle.std.specs.Io.KnownBytes.{Consumes};
 ghost use Rattle.bus_bits.specs.Capture.{CaptureFault};
 ghost use Rattle.bus_dictionary.specs.Entry.{FrameType};
 ghost use Rattle.bus_calls.specs.Begins.{Begins, Refuses};
-ghost use Rattle.bus_calls.specs.Internal.Asked.{IsMade};
+ghost use Rattle.bus_calls.specs.Internal.Asked.{IsMade, IsRuled};
 ghost use Rattle.bus_calls.specs.Captures.{unplaced, unplaced_whole, IsSameFault};
 ghost use Rattle.bus_calls.specs.Internal.Sessions.{IsReadBy, Follows, Stops, is_text};
 ghost use Rattle.bus_calls.specs.Internal.Reading.{octets_taken, Finishes};
@@ -43,11 +43,19 @@ pub struct CaptureReader<T: CaptureKind> {
 fn new_analyser<T: CaptureKind>(alloc: Global, options: &Options<'_>) -> Result<T, ToolFault>
     ensures { MatchResult result
         (λ analyser. (d : List FrameType) × Begins options.now d
-        × IsMade T.kind.watch d options.now.depth options.now.origin analyser)
+        × IsMade T.kind.watch d options.now.depth options.now.origin analyser
+        × IsRuled T.kind options.now.rest analyser)
         (λ fault. Refuses options.now fault) }
 {
     let dictionary = read_dictionary(alloc, options.dictionary)?;
-    match T::new(alloc, dictionary, options.depth, options.origin) {
+    let analyser = T::new(
+        alloc,
+        dictionary,
+        options.depth,
+        options.origin,
+        options.rest,
+    );
+    match analyser {
         Ok(analyser) => Ok(analyser),
         Err(NewFault::DepthRange) => Err(ToolFault::Depth),
         Err(NewFault::Origin) => Err(ToolFault::Origin),
@@ -64,7 +72,8 @@ impl<T: CaptureKind> CaptureReader<T> {
     ) -> Result<Self, ToolFault>
         ensures made { MatchResult result
             (λ reader. (d : List FrameType) × Begins options.now d
-            × IsMade T.kind.watch d options.now.depth options.now.origin reader.run.analyser)
+            × IsMade T.kind.watch d options.now.depth options.now.origin reader.run.analyser
+            × IsRuled T.kind options.now.rest reader.run.analyser)
             (λ fault. Refuses options.now fault) }
         ensures fresh { IfOk result
             (λ reader. (start : Option (List ℕ)) → Follows T.kind start start reader.source reader.run []) }

@@ -19,7 +19,7 @@ fn put_tallies<T: CaptureKind, W: Write>(
     w: &mut W,
 ) -> Result<(), ShortWrite>
     requires { page.old.written + array_vec_len page.old.text < 2 ^ 90 }
-    ensures put { (start : Option (List ℕ)) (text : List ℕ) (b : List T.Symbol) →
+    ensures put { (start : Option (List ℕ)) (text : List ℕ) (b : List T.Taken) →
         T.kind.watch.is_after analyser.now b →
         Pages start (W.contents w.old) page.old.text page.old.written text → MatchResult result
         (λ _. Pages start (W.contents w.new) page.new.text page.new.written
@@ -46,7 +46,7 @@ fn put_history<T: CaptureKind, W: Write>(
     w: &mut W,
 ) -> Result<(), ShortWrite>
     requires { page.old.written + array_vec_len page.old.text < 2 ^ 95 }
-    ensures put { (start : Option (List ℕ)) (text : List ℕ) (b : List T.Symbol) →
+    ensures put { (start : Option (List ℕ)) (text : List ℕ) (b : List T.Taken) →
         T.kind.watch.is_after analyser.now b →
         Pages start (W.contents w.old) page.old.text page.old.written text → MatchResult result
         (λ _. Pages start (W.contents w.new) page.new.text page.new.written
@@ -71,7 +71,7 @@ pub fn put_report<T: CaptureKind, W: Write>(
     w: &mut W,
 ) -> Result<(), ShortWrite>
     requires { page.old.written + array_vec_len page.old.text < 2 ^ 80 }
-    ensures put { (start : Option (List ℕ)) (text : List ℕ) (b : List T.Symbol) →
+    ensures put { (start : Option (List ℕ)) (text : List ℕ) (b : List T.Taken) →
         T.kind.watch.is_after analyser.now b →
         Pages start (W.contents w.old) page.old.text page.old.written text → MatchResult result
         (λ _. Pages start (W.contents w.new) page.new.text page.new.written

@@ -23,7 +23,7 @@ impl<T: CaptureKind> CaptureRun<T> {
     /// Writes the lines of the end of a capture, and what is left of the page, and flushes.
     pub fn end<W: Write>(self, w: &mut W) -> Result<Summary, ToolFault>
         requires { IsSound T.kind self }
-        ensures { (start : Option (List ℕ)) (b : List T.Symbol) →
+        ensures { (start : Option (List ℕ)) (b : List T.Taken) →
             Watches T.kind start (W.contents w.old) self b → MatchResult result
             (λ s. Appends start (W.contents w.new) (lines T.kind self b ++ last_lines T.kind self b)
             × (s ≡ self.reporter.summary))
@@ -47,7 +47,7 @@ impl<T: CaptureKind> CaptureRun<T> {
     /// Writes the report of a check, and flushes.
     pub fn report<W: Write>(self, w: &mut W) -> Result<Summary, ToolFault>
         requires { IsSound T.kind self }
-        ensures { (start : Option (List ℕ)) (b : List T.Symbol) →
+        ensures { (start : Option (List ℕ)) (b : List T.Taken) →
             Watches T.kind start (W.contents w.old) self b → MatchResult result
             (λ s. Appends start (W.contents w.new) (lines T.kind self b ++ reported T.kind self b)
             × (s ≡ self.reporter.summary))

@@ -4,7 +4,7 @@ ghost use Rattle.std.specs.Prelude.{◌≡◌, ◌+◌, ◌*◌, ◌≤◌, ◌<
 ghost use Rattle.std.specs.Prelude.{zip};
 ghost use Rattle.bus_bits.specs.Bits.{bits_from};
 ghost use Rattle.bus_calls.specs.Internal.TwoLines.{two_line_kind};
-ghost use Rattle.bus_calls.specs.Internal.Watching.{Halts, IsSame, IsSound, Watches};
+ghost use Rattle.bus_calls.specs.Internal.Watching.{FeedHalts, Feeds, IsSame, IsSound};
 ghost use Rattle.bus_text.specs.Counting.{IsFew};
 ghost use Rattle.bus_text.specs.Adds.{Prints};
 ghost use Rattle.bus_text.specs.Pages.{HasRoomFor};
@@ -43,10 +43,10 @@ fn analyse_pairs<C: Check, W: Write>(
     requires sound { IsSound (two_line_kind C.check) run.old }
     requires enough { (count ≤ 8 * length first.now) × (count ≤ 8 * length second.now) }
     ensures taken { (start : Option (List ℕ)) (b : List (Bool × Bool)) →
-        Watches (two_line_kind C.check) start (W.contents w.old) run.old b → MatchResult result
-        (λ _. Watches (two_line_kind C.check) start (W.contents w.new) run.new
+        Feeds (two_line_kind C.check) start (W.contents w.old) run.old b → MatchResult result
+        (λ _. Feeds (two_line_kind C.check) start (W.contents w.new) run.new
         (b ++ zip (bits_from first.now 0 count) (bits_from second.now 0 count)))
-        (λ fault. Halts (two_line_kind C.check) start (W.contents w.new) run.new
+        (λ fault. FeedHalts (two_line_kind C.check) start (W.contents w.new) run.new
         (b ++ zip (bits_from first.now 0 count) (bits_from second.now 0 count)) fault) }
     ensures same { IsSame (two_line_kind C.check) run.old run.new }
     ensures sound { IsSound (two_line_kind C.check) run.new }
@@ -68,6 +68,8 @@ fn analyse_pairs<C: Check, W: Write>(
 impl<C: Check> CaptureKind for PairAnalyser<C> {
     type Symbol = (bool, bool);
 
+    type Taken = (bool, bool);
+
     type Body = PackedPairs;
 
     type Few = ArrayVec<(bool, bool), 4>;
@@ -79,6 +81,7 @@ impl<C: Check> CaptureKind for PairAnalyser<C> {
         dictionary: Dictionary,
         depth: usize,
         origin: u64,
+        _rest: u64,
     ) -> Result<Self, NewFault> {
         PairAnalyser::new(alloc, dictionary, depth, origin)
     }

@@ -11,5 +11,6 @@ pub mod SampledLemmas
 pub mod SameSampleLemmas
 pub mod FeedLemmas
 pub mod RunLemmas
+pub mod ScanLemmas
 pub mod SumLemmas
 pub mod CountedLemmas

@@ -43,7 +43,7 @@ pub struct TwoClockAnalyser<C: Check> {
     first: LineDecoder<C>,
     /// Its own bits are counted from 0.
     second: LineDecoder<C>,
-    conversation: Conversation,
+    pub(crate) conversation: Conversation,
     places: BitPlaces,
 }
 
@@ -271,7 +271,7 @@ impl<C: Check> TwoClockAnalyser<C> {
     }
 
     /// The octets of the frame that the last bit of a line closed. After any other bit they are not those of a frame.
-    fn octets(&self, line: Line) -> &[u8]
+    pub(crate) fn octets(&self, line: Line) -> &[u8]
         ensures value { result.now ≡ (decoder_on self.now line).octets }
         ensures bound { length result.now ≤ longest_of self.now.conversation.dictionary + 2 }
         ensures longest { longest_of self.now.conversation.dictionary ≤ 256 }

@@ -18,7 +18,7 @@ use bus_watch::FeedFault;
 pub type Arrival = (Line, bool);
 
 /// The first place that no bit can have.
-const PLACES: u64 = 1 << 60;
+pub(crate) const PLACES: u64 = 1 << 60;
 
 /// How many of these bits arrive on the first line.
 fn count_first(arrivals: &[Arrival]) -> usize

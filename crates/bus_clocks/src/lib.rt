@@ -11,6 +11,7 @@ mod places;
 mod rest;
 mod run;
 mod sampler;
+mod scan;
 
 pub use analyser::TwoClockAnalyser;
 pub use feed::Arrival;

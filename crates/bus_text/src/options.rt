@@ -11,6 +11,11 @@ pub struct Options<'a> {
     pub text: bool,
     /// Whether it is of two lines; otherwise it is of one.
     pub two: bool,
+    /// Whether it has the arrivals of two lines with a clock each, whatever `two` says.
+    pub arrivals: bool,
+    /// After how many bits of the first line without one of the second this comes to rest; 0 for never. Only
+    /// arrivals heed it.
+    pub rest: u64,
     /// The place of the first bit, at most 2^60.
     pub origin: u64,
     /// How many frames the history keeps, 1 to 1024.

@@ -16,6 +16,9 @@ const READS: u64 = 1 << 40;
 /// How many frames the history keeps where only lines are wanted.
 const LISTED_DEPTH: usize = 1;
 
+/// The silence that brings a second line with its own clock to rest, unless it is said.
+const REST: u64 = 400;
+
 /// How many frames a check tells at its end, unless it is said.
 const CHECKED_DEPTH: usize = 16;
 
@@ -58,6 +61,26 @@ fn two_arg<'a>(alloc: Global) -> Arg<'a> {
         .long("two")
         .action(ArgAction::SetTrue)
         .help("The capture is of two lines; without this it is of one")
+}
+
+fn arrivals_arg<'a>(alloc: Global) -> Result<Arg<'a>, Error> {
+    Ok(
+        Arg::new(alloc, "arrivals")
+            .long("arrivals")
+            .action(ArgAction::SetTrue)
+            .help("The capture has the bits of two lines with a clock each, as they arrived")
+            .conflicts_with("two")?,
+    )
+}
+
+fn rest_arg<'a>(alloc: Global) -> Arg<'a> {
+    Arg::new(alloc, "rest")
+        .long("rest")
+        .value_name("N")
+        .action(ArgAction::Set)
+        .value_parser(value_parser!(u64))
+        .default_value("400")
+        .help("With --arrivals, the silence after which the second line rests")
 }
 
 fn depth_arg<'a>(alloc: Global) -> Arg<'a> {
@@ -105,6 +128,8 @@ fn list_command<'a>(alloc: Global) -> Result<Command<'a>, Error> {
             .arg(origin_arg(alloc))?
             .arg(bits_arg(alloc))?
             .arg(two_arg(alloc))?
+            .arg(arrivals_arg(alloc)?)?
+            .arg(rest_arg(alloc))?
             .arg(octet_arg(alloc, "station", "Only lines of this station, 0 to 255"))?
             .arg(octet_arg(alloc, "type", "Only lines of this frame type, 0 to 255"))?
             .arg(kind_arg(alloc))?
@@ -121,6 +146,8 @@ fn check_command<'a>(alloc: Global) -> Result<Command<'a>, Error> {
             .arg(origin_arg(alloc))?
             .arg(bits_arg(alloc))?
             .arg(two_arg(alloc))?
+            .arg(arrivals_arg(alloc)?)?
+            .arg(rest_arg(alloc))?
             .arg(depth_arg(alloc))?
             .after_help(help::CHECK),
     )
@@ -166,6 +193,8 @@ fn plain_listing<'a>() -> Options<'a>
         dictionary: None,
         text: true,
         two: false,
+        arrivals: false,
+        rest: REST,
         origin: 0,
         depth: LISTED_DEPTH,
         station: None,
@@ -186,6 +215,8 @@ fn list_options<'a>(found: &ArgMatches<'a>) -> Result<Options<'a>, Refusal>
         dictionary: found.get_str("dict"),
         text: found.get_flag("bits"),
         two: found.get_flag("two"),
+        arrivals: found.get_flag("arrivals"),
+        rest: found.get_one("rest").unwrap_or(REST),
         origin: found.get_one("origin").unwrap_or(0),
         station: found.get_one("station"),
         ftype: found.get_one("type"),
@@ -201,6 +232,8 @@ fn check_options<'a>(found: &ArgMatches<'a>) -> Options<'a>
         dictionary: found.get_str("dict"),
         text: found.get_flag("bits"),
         two: found.get_flag("two"),
+        arrivals: found.get_flag("arrivals"),
+        rest: found.get_one("rest").unwrap_or(REST),
         origin: found.get_one("origin").unwrap_or(0),
         depth: found.get_one("depth").unwrap_or(CHECKED_DEPTH),
         ..plain_listing()

@@ -146,6 +146,8 @@ pub fn of_text(dictionary: Option<&str>) -> Options<'_> {
         dictionary,
         text: true,
         two: false,
+        arrivals: false,
+        rest: 0,
         origin: 0,
         depth: 16,
         station: None,

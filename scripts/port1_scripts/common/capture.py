@@ -1,5 +1,8 @@
 """Packed captures: the format of `port1 --help`."""
 
+from argparse import ArgumentParser, Namespace
+from typing import NamedTuple
+
 from common.manners import Fault
 
 MAGIC = b"TS2BITS1"
@@ -7,9 +10,44 @@ MAGIC = b"TS2BITS1"
 # Of a capture of two lines, whose places have a pair of bits.
 PAIR_MAGIC = b"TS2BITS2"
 
+# Of the bits of two lines as they arrived: in each pair the bit, and whether it is of the second line.
+ARRIVAL_MAGIC = b"TS2BITS3"
+
+
+class Form(NamedTuple):
+    """How a packed capture begins, and the marks of a text, each the number of its bits, the first lowest."""
+
+    magic: bytes
+    marks: str
+
+    @property
+    def width(self) -> int:
+        """How many bits a mark has."""
+        return len(self.marks) // 2
+
+
+ONE_LINE = Form(MAGIC, "01")
+
+TWO_LINES = Form(PAIR_MAGIC, "0123")
+
+ARRIVALS = Form(ARRIVAL_MAGIC, "01oi")
+
 HEAD = len(MAGIC) + 8
 
 MOST_BITS = 2**60
+
+
+def add_forms(parser: ArgumentParser) -> None:
+    """The options that say which form a capture has."""
+    forms = parser.add_mutually_exclusive_group()
+    forms.add_argument("--two", action="store_true", help="the capture is of two lines")
+    forms.add_argument("--arrivals", action="store_true", help="it has the bits of two lines as they arrived")
+
+
+def form_of(words: Namespace) -> Form:
+    if words.arrivals:
+        return ARRIVALS
+    return TWO_LINES if words.two else ONE_LINE
 
 
 def head(bits: int, magic: bytes = MAGIC) -> bytes:

@@ -1,7 +1,8 @@
-//! The heads of packed captures, of one line and of two.
+//! The heads of packed captures, of one line and of two, with one clock or a clock each.
 
 ghost use Rattle.std.specs.Prelude.{◌≡◌, MatchResult, Some, None};
 ghost use Rattle.bus_bits.specs.Packed.{head_bits, head_fault_by, head_fault, pair_head_fault, head_fault_of};
+ghost use Rattle.bus_bits.specs.Packed.{arrival_head_fault};
 
 /// How the head of one line begins.
 const MAGIC: &[u8; 8] = b"TS2BITS1";
@@ -9,16 +10,19 @@ const MAGIC: &[u8; 8] = b"TS2BITS1";
 /// How the head of two lines begins.
 const PAIR_MAGIC: &[u8; 8] = b"TS2BITS2";
 
-/// The highest count of bits, or of pairs.
+/// How the head of two lines with a clock each begins.
+const ARRIVAL_MAGIC: &[u8; 8] = b"TS2BITS3";
+
+/// The highest count of bits, of pairs or of arrivals.
 const MOST_BITS: u64 = 1 << 60;
 
 /// Why sixteen octets are no head.
 #[derive(Clone, Copy, Debug, PartialEq, Eq)]
 pub enum HeadFault {
-    /// They do not begin with the letters of their form, `TS2BITS1` for one line and `TS2BITS2`
-    /// for two.
+    /// They do not begin with the letters of their form: `TS2BITS1` for one line, `TS2BITS2` for two
+    /// with one clock, and `TS2BITS3` for two with a clock each.
     Magic,
-    /// They count more than 2^60 bits, or pairs.
+    /// They count more than 2^60 bits, pairs or arrivals.
     TooMany,
 }
 
@@ -58,6 +62,26 @@ impl PairHead {
     {
         Ok(PairHead {
             pairs: read_count(head, PAIR_MAGIC)?,
+        })
+    }
+}
+
+/// What the head of a packed capture of two lines with a clock each says.
+#[derive(Clone, Copy, Debug, PartialEq, Eq)]
+pub struct ArrivalHead {
+    /// How many bits arrive.
+    pub arrivals: u64,
+}
+
+impl ArrivalHead {
+    /// Reads a head: the letters `TS2BITS3`, and the number of arrivals, its lowest octet first.
+    pub fn read(head: &[u8; 16]) -> Result<Self, HeadFault>
+        ensures { MatchResult result
+            (λ read. (arrival_head_fault head.now ≡ None) × (read.arrivals ≡ head_bits head.now))
+            (λ fault. arrival_head_fault head.now ≡ Some (head_fault_of fault)) }
+    {
+        Ok(ArrivalHead {
+            arrivals: read_count(head, ARRIVAL_MAGIC)?,
         })
     }
 }

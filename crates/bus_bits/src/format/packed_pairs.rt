@@ -7,7 +7,7 @@ ghost use Rattle.bus_bits.specs.Octet.{bits_of};
 ghost use Rattle.bus_bits.specs.Packed.{PairsAfter, pair_body, packed_fault_of, filled, in_pairs};
 
 use super::packed_bits::{PackedFault, gathered, has_one};
-use super::packed_head::PairHead;
+use super::packed_head::{ArrivalHead, PairHead};
 use super::pair_block::part;
 use crate::octet::octet_bits;
 use arrayvec::ArrayVec;
@@ -18,6 +18,9 @@ use std::marker::Model;
 /// on: of the two bits of a pair the lower is the first line's, and the higher the second line's. The
 /// last octet gives the pairs that are left, and its other bits are 0. In contracts it is the number
 /// of pairs left.
+///
+/// The arrivals of two lines with a clock each are packed alike: the lower bit is the one that arrives,
+/// and the higher says whether it is one of the second line.
 #[derive(Clone, Copy, Debug, PartialEq, Eq)]
 pub struct PackedPairs {
     left: u64,
@@ -37,6 +40,15 @@ impl PackedPairs {
         ensures { PairsAfter head.pairs [] result }
     {
         PackedPairs { left: head.pairs }
+    }
+
+    /// A reader of arrivals that has taken no octet.
+    pub fn of_arrivals(head: ArrivalHead) -> Self
+        ensures { PairsAfter head.arrivals [] result }
+    {
+        PackedPairs {
+            left: head.arrivals,
+        }
     }
 
     /// How many pairs are not yet given.

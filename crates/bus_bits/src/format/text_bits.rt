@@ -10,7 +10,8 @@ use super::eight_bits::{BIT_HIGH, EightBits, eight_marks, gathered, other_bits};
 
 const ONE: u8 = b'1';
 
-/// The octet is neither a mark (`0` or `1`; of two lines `0` to `3`) nor white space (space, tab, CR or LF).
+/// The octet is neither a mark (`0` or `1`; of two lines `0` to `3`; with a clock each `0`, `1`, `o` or `i`) nor white
+/// space (space, tab, CR or LF).
 #[derive(Clone, Copy, Debug, PartialEq, Eq)]
 pub struct BadMark;
 

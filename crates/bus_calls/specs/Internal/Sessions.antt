@@ -1,9 +1,9 @@
 -- What is known while the octets of a capture are read.
 use Rattle.std.specs.Prelude.{◌≡◌, ℕ, ◌<◌, Bool, true, false, List, length, Option, Some, None}
 use Rattle.bus_bits.specs.Capture.{CaptureOf, CaptureFault}
-use Rattle.bus_calls.specs.Captures.{capture, IsSameFault}
+use Rattle.bus_calls.specs.Captures.{capture, whole_capture, IsSameFault}
 use Rattle.bus_calls.specs.Internal.Kinds.{KindView}
-use Rattle.bus_calls.specs.Internal.Watching.{Watches, IsCutOff}
+use Rattle.bus_calls.specs.Internal.Watching.{Watches, Feeds, IsCutOff}
 use Rattle.bus_calls.specs.declared.run.CaptureRun.{CaptureRun}
 use Rattle.bus_calls.specs.declared.text.TextCapture.{TextCapture}
 use Rattle.bus_calls.specs.declared.packed.PackedCapture.{PackedCapture}
@@ -17,7 +17,14 @@ abbrev pub is_text : {B : Type 0} → Source B → Bool
 is_text (source.Text t) = true
 is_text (source.Packed p) = false
 
-module _ {A X B : Type 0} (t : KindView A X B) where
+module _ {A R X B : Type 0} (t : KindView A R X B) where
+  -- what the analyser takes of the octets so far, and of octets that are the whole input
+  abbrev pub taken_of : Bool → CaptureRun A → List ℕ → CaptureOf X
+  taken_of text run xs = capture t.form text (t.rest run.analyser) (t.watch.origin run.analyser) xs
+
+  abbrev pub whole_of : Bool → CaptureRun A → List ℕ → CaptureOf X
+  whole_of text run xs = whole_capture t.form text (t.rest run.analyser) (t.watch.origin run.analyser) xs
+
   -- these octets were read: the front of a head, or a head and others after it
   abbrev pub IsRead : List ℕ → Option B → List ℕ → Type 0
   IsRead head None xs = (head ≡ xs) × (length xs < 16)
@@ -31,25 +38,25 @@ module _ {A X B : Type 0} (t : KindView A X B) where
   -- these octets of a text have no fault, and their bits were followed
   pub record FollowsOctets (start now : Option (List ℕ)) (run : CaptureRun A) (xs : List ℕ) : Type 0 where
     pub clean : (t.form.text xs).fault ≡ None
-    pub bits : Watches t start now run (t.form.text xs).bits
+    pub bits : Feeds t start now run (t.form.text xs).bits
 
   -- these octets of a text were taken, and their bits followed
   pub record FollowsText (start now : Option (List ℕ)) (text : TextCapture) (run : CaptureRun A)
       (xs : List ℕ) : Type 0 where
     pub at : text.at ≡ length xs
     pub clean : (t.form.text xs).fault ≡ None
-    pub bits : Watches t start now run (t.form.text xs).bits
+    pub bits : Feeds t start now run (t.form.text xs).bits
 
   -- these octets of a packed capture begin with a good head, and their bits were followed
   pub record FollowsBody (start now : Option (List ℕ)) (body : B) (run : CaptureRun A) (xs : List ℕ) : Type 0 where
     pub read : t.is_body body xs
-    pub bits : Watches t start now run (t.form.packed xs).bits
+    pub bits : Feeds t start now run (t.form.packed xs).bits
 
   -- these octets of a packed capture were taken, and their bits followed
   pub record FollowsPacked (start now : Option (List ℕ)) (p : PackedCapture B) (run : CaptureRun A)
       (xs : List ℕ) : Type 0 where
     pub read : IsRead p.head.items p.body xs
-    pub bits : Watches t start now run (t.form.packed xs).bits
+    pub bits : Feeds t start now run (t.form.packed xs).bits
 
   abbrev pub Follows : Option (List ℕ) → Option (List ℕ) → Source B → CaptureRun A → List ℕ → Type 0
   Follows start now (source.Text text) run xs = FollowsText start now text run xs
@@ -70,4 +77,4 @@ module _ {A X B : Type 0} (t : KindView A X B) where
   StopsAt start now run c fault = Faulty start now run c fault
 
   abbrev pub Stops : Bool → Option (List ℕ) → Option (List ℕ) → CaptureRun A → List ℕ → ToolFault → Type 0
-  Stops text start now run xs fault = StopsAt start now run (capture t.form text (t.watch.origin run.analyser) xs) fault
+  Stops text start now run xs fault = StopsAt start now run (taken_of text run xs) fault

@@ -44,7 +44,7 @@ within origin b = take (most_places - origin) b
 abbrev pub reports_by : {A X : Type 0} → Watch A X → A → List X → List LineReport
 reports_by w a b = w.reports (w.origin a) (longest_of (w.dictionary a)) b
 
-module _ {A X B : Type 0} (t : KindView A X B) where
+module _ {A R X B : Type 0} (t : KindView A R X B) where
   -- the place bounds the counts, and the octets of the lines: at a place there are two reports at most
   pub record IsSound (run : CaptureRun A) : Type 0 where
     pub places : t.watch.place run.analyser ≤ most_places
@@ -80,6 +80,7 @@ module _ {A X B : Type 0} (t : KindView A X B) where
     pub dictionary : t.watch.dictionary new.analyser ≡ t.watch.dictionary old.analyser
     pub depth : t.watch.depth new.analyser ≡ t.watch.depth old.analyser
     pub origin : t.watch.origin new.analyser ≡ t.watch.origin old.analyser
+    pub rest : t.rest new.analyser ≡ t.rest old.analyser
 
   -- the writer was cut off in the lines of the front of some bits
   pub record IsCutOff (start now : Option (List ℕ)) (run : CaptureRun A) (bits : List X) (sent : ℕ) : Type 0 where
@@ -96,3 +97,16 @@ module _ {A X B : Type 0} (t : KindView A X B) where
       × Watches start now run (within (t.watch.origin run.analyser) b)
   Halts start now run b (Write sent) = IsCutOff start now run (within (t.watch.origin run.analyser) b) sent
   Halts start now run b fault = ⊥
+
+  -- what the analyser takes of these symbols
+  abbrev pub fed : CaptureRun A → List R → List X
+  fed run b = t.form.fed (t.rest run.analyser) b
+
+  -- these symbols came: what the analyser takes of them was followed
+  pub record Feeds (start now : Option (List ℕ)) (run : CaptureRun A) (b : List R) : Type 0 where
+    pub rule : t.is_fed run.analyser b
+    pub bits : Watches start now run (fed run b)
+
+  -- why the following of what the analyser takes of them stopped
+  abbrev pub FeedHalts : Option (List ℕ) → Option (List ℕ) → CaptureRun A → List R → ToolFault → Type 0
+  FeedHalts start now run b fault = Halts start now run (fed run b) fault

@@ -21,6 +21,10 @@ line, the second of the answering line. In a text this is one octet, 0 to 3: the
 bits: their number, then four in each octet, the first of them lowest, and the first bit of
 each pair below the second.
 
+A capture for --arrivals is of two lines with a clock each, and has their bits as they arrived.
+In a text 0 and 1 are bits of the controller's line, o and i of the answering line. A packed
+one begins with TS2BITS3, and has a pair for each bit: the bit, and above it 1 on the second.
+
 Output goes to standard output, faults to standard error. The status is 0, or 1 where `check`
 found a damaged or overlong piece or a command that is missing, spoilt or late, or 2 for any
 fault.
@@ -46,9 +50,12 @@ place, the place past the last bit, and what is there. Places count bits.
 A line without a station or type is left out where --station or --type asks for one. Without
 a dictionary no type is known: no command waits, and strays have no line.
 
-With --two each line of text begins with 1 or 2, the line of the bus that it is about. Commands
-wait on the first and answers come on the second, so lines with answered, missing, spoilt, late
-and pending begin with 1. A place counts pairs of bits, and is the same on both.
+With --two or --arrivals each line of text begins with 1 or 2, the line of the bus that it is
+about. Commands wait on the first and answers come on the second, so lines with answered,
+missing, spoilt, late and pending begin with 1. A place counts pairs of bits, and is the same on
+both. With --arrivals it counts bits of the first line, and a bit of the second has the place of
+the last one before it. Where none of the second came for N places, fifteen 1s end its piece, if
+its clock runs only while a station sends: --rest N, 0 for never.
 
 The status is 0, or 2 for any fault, reported on standard error, after the lines before it.
 
@@ -73,8 +80,8 @@ missing, spoilt and answered late, these four again for each station that has an
 frames with their places, the oldest first. Where the capture has a fault, nothing is written.
 Without a dictionary no command waits, and every frame of type 128 or more counts as a stray.
 
-With --two the counts are those of both lines together, and the 1 or 2 after `last` is the line
-of the frame.
+With --two or --arrivals the counts are those of both lines together, and the 1 or 2 after
+`last` is the line of the frame.
 
 The status is 0; 1 where anything was damaged, overlong, missing, spoilt or late; 2 for any
 fault, reported on standard error. It is 0 with aborts, idle lines and strays, with a piece that

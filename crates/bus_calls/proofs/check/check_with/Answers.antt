@@ -27,13 +27,14 @@ returns g c =
     let made = c.in_ok-reader.ensures.made in
     let given = c.in_ok-reader.ensures.given in
     let read = c.in_ok-read_to_end.ensures.read in
-    let asked = checked g.T.CaptureKind.kind o made.0 c.in_ok-reader.reader.run w given.1 made.2
+    let asked = checked g.T.CaptureKind.kind o made.0 c.in_ok-reader.reader.run w given.1 made.2 made.3
     c.read_to_end.ensures.same in
     let checks = ends-checks g.T.CaptureKind.kind o made.0 (is_text c.in_ok-reader.reader.source)
     (g.R.Read.remaining c.read_to_end.new.r) start _ _ w read.0 c.report.result c.laws.ensures made.1 asked given.0
     read.2
     (c.report.ensures start
     (whole_capture g.T.CaptureKind.kind.form (is_text c.in_ok-reader.reader.source)
+    (g.T.CaptureKind.kind.rest w.analyser)
     (g.T.CaptureKind.kind.watch.origin w.analyser)
     read.0).bits read.2.bits) in
     record {
@@ -52,7 +53,7 @@ returns-in_err-read_to_end g c =
     let made = c.in_ok-reader.ensures.made in
     let given = c.in_ok-reader.ensures.given in
     let read = c.in_err-read_to_end.ensures.read in
-    let asked = checked g.T.CaptureKind.kind o made.0 c.in_ok-reader.reader.run w given.1 made.2
+    let asked = checked g.T.CaptureKind.kind o made.0 c.in_ok-reader.reader.run w given.1 made.2 made.3
     c.read_to_end.ensures.same in
     let checks = stops-checks g.T.CaptureKind.kind o made.0 (is_text c.in_ok-reader.reader.source)
     (g.R.Read.remaining c.read_to_end.new.r) start _ w read.0 c.in_err-read_to_end.field-0.0 made.1 asked given.0

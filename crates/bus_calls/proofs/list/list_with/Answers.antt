@@ -29,12 +29,13 @@ returns-in-Ok g c =
     let given = c.in_ok-reader.ensures.given in
     let read = c.in-Ok.ensures.read in
     let printer : c.in_ok-reader.reader.run.reporter.printer ≡ Some (printer_of o) = given.1 ∙ ap Some c.of.ensures in
-    let asked = listed g.T.CaptureKind.kind o made.0 c.in_ok-reader.reader.run w printer made.2
+    let asked = listed g.T.CaptureKind.kind o made.0 c.in_ok-reader.reader.run w printer made.2 made.3
     c.read_to_end.ensures.same in
     let lists = ends-lists g.T.CaptureKind.kind o made.0 (is_text c.in_ok-reader.reader.source)
     (g.R.Read.remaining c.read_to_end.new.r) start _ _ w read.0 c.end.result c.laws.ensures made.1 asked given.0 read.2
     (c.end.ensures start
     (whole_capture g.T.CaptureKind.kind.form (is_text c.in_ok-reader.reader.source)
+    (g.T.CaptureKind.kind.rest w.analyser)
     (g.T.CaptureKind.kind.watch.origin w.analyser)
     read.0).bits read.2.bits) in
     record {
@@ -52,7 +53,7 @@ returns-in-Err g c =
     let given = c.in_ok-reader.ensures.given in
     let read = c.in-Err.ensures.read in
     let printer : c.in_ok-reader.reader.run.reporter.printer ≡ Some (printer_of o) = given.1 ∙ ap Some c.of.ensures in
-    let asked = listed g.T.CaptureKind.kind o made.0 c.in_ok-reader.reader.run w printer made.2
+    let asked = listed g.T.CaptureKind.kind o made.0 c.in_ok-reader.reader.run w printer made.2 made.3
     c.read_to_end.ensures.same in
     let lists = stops-lists g.T.CaptureKind.kind o made.0 (is_text c.in_ok-reader.reader.source)
     (g.R.Read.remaining c.read_to_end.new.r) start _ _ w read.0 c.in-Err.fault c.close_behind.result

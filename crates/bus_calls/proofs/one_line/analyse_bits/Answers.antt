@@ -22,7 +22,7 @@ returns-in-Some-clause-taken g c = λ start b followed.
     (told-cut kind c.args.run.now _ (bits_from os 0 n) (g.W.Write.contents c.args.w.now)
     (g.W.Write.contents c.scan-taken.new.out) c.scan-taken.ensures.told
     c.laws.ensures c.in-Some.cut c.in-Some.is
-    (omega (arith, length-from os 0 n, c.scan-taken.ensures.taken, c.requires.sound.places)) start b followed))
+    (omega (arith, length-from os 0 n, c.scan-taken.ensures.taken, c.requires.sound.places)) start b followed.bits))
 
 pub returns-in-Some-clause-sound : goal.returns-in-Some-clause-sound
 returns-in-Some-clause-sound g c =
@@ -54,7 +54,7 @@ returns-then-taken-end-clause-taken g c = λ start b before.
     let sound = told-sound kind c.args.run.now _ ps (g.W.Write.contents c.args.w.now)
     (g.W.Write.contents c.scan-taken.new.out) told room c.requires.sound in
     let followed = told-watched kind c.args.run.now _ ps (g.W.Write.contents c.args.w.now)
-    (g.W.Write.contents c.scan-taken.new.out) told (none-cut _ c.in_default.not-Some) start b before in
+    (g.W.Write.contents c.scan-taken.new.out) told (none-cut _ c.in_default.not-Some) start b before.bits in
     limited kind c.laws.ensures start (g.W.Write.contents c.scan-taken.new.out) _ b os n c.args.end
     c.if-taken-end.true
     (omega (arith, told.sees.place, length-from os 0 n, c.scan-taken.ensures.taken, c.if-taken-end.true)) sound
@@ -68,11 +68,14 @@ returns-clause-taken g c = λ start b followed.
     let all : n ≡ c.args.end = omega (arith, c.scan-taken.ensures.taken, c.if-taken-end.false) in
     let now : CaptureRun (AnalyserState g.row.C.Denot) =
     record { analyser = c.scan-taken.new.self; reporter = c.scan-taken.new.observer } in
-    subst (λ (k : ℕ). Watches kind start (g.W.Write.contents c.scan-taken.new.out) now
-    (b ++ bits_from os 0 k)) all
-    (told-watched kind c.args.run.now now (bits_from os 0 n) (g.W.Write.contents c.args.w.now)
-    (g.W.Write.contents c.scan-taken.new.out) c.scan-taken.ensures.told
-    (none-cut _ c.in_default.not-Some) start b followed)
+    record {
+      rule = tt;
+      bits = subst (λ (k : ℕ). Watches kind start (g.W.Write.contents c.scan-taken.new.out) now
+          (b ++ bits_from os 0 k)) all
+          (told-watched kind c.args.run.now now (bits_from os 0 n) (g.W.Write.contents c.args.w.now)
+          (g.W.Write.contents c.scan-taken.new.out) c.scan-taken.ensures.told
+          (none-cut _ c.in_default.not-Some) start b followed.bits);
+    }
 
 pub returns-clause-sound : goal.returns-clause-sound
 returns-clause-sound g c =

@@ -14,7 +14,7 @@ returns-in_err-analyse_bits-clause-taken g c =
     let packed = c.pack-packed in
     let b = (kind.form.text xs).bits in
     let given = packed.ensures.given xs followed.clean in
-    let fits = followed-fits kind c.laws.ensures start _ c.args.run.now b c.requires.sound followed.bits in
+    let fits = followed-fits kind c.laws.ensures start _ c.args.run.now b c.requires.sound followed.bits.bits in
     let low : kind.watch.origin c.analyse_bits.new.run.analyser ≤ 2 ^ 60 =
     omega (arith, fits, c.analyse_bits.ensures.same.origin) in (
       packed.result.taken,
@@ -31,7 +31,7 @@ returns-clause-taken g c = λ start xs followed.
     let packed = c.pack-packed in
     let b = (kind.form.text xs).bits in
     let given = packed.ensures.given xs followed.clean in
-    let fits = followed-fits kind c.laws.ensures start _ c.args.run.now b c.requires.sound followed.bits in
+    let fits = followed-fits kind c.laws.ensures start _ c.args.run.now b c.requires.sound followed.bits.bits in
     let low : kind.watch.origin c.analyse_bits.new.run.analyser ≤ 2 ^ 60 =
     omega (arith, fits, c.analyse_bits.ensures.same.origin) in
     mark-taken kind start _ c.analyse_bits.new.run (xs ++ take packed.result.taken c.args.text.now)

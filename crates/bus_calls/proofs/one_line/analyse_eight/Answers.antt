@@ -21,7 +21,7 @@ returns-in_err-analyse_bits-clause-taken g c =
     let same : bits_of 8 eight.octet ≡ bits_from (eight.octet ∷ []) 0 8 = ap (bits_of 8) (omega arith) ∙ bit in
     let bits = given.1 ∙ ap (λ (z : List Bool). text_bits xs ++ z) same in
     let fewest = c.in-Some.ensures.fewest eight refl in
-    let fits = followed-fits kind c.laws.ensures start _ c.args.run.now b c.requires followed.bits in
+    let fits = followed-fits kind c.laws.ensures start _ c.args.run.now b c.requires followed.bits.bits in
     let low : kind.watch.origin c.analyse_bits.new.run.analyser ≤ 2 ^ 60 =
     omega (arith, fits, c.analyse_bits.ensures.same.origin) in (
       eight.taken,
@@ -40,7 +40,7 @@ returns-clause-taken g c = λ start xs followed.
     let bit = bits-in (eight.octet ∷ []) 0 0 0 8 (omega arith) (omega arith) in
     let same : bits_of 8 eight.octet ≡ bits_from (eight.octet ∷ []) 0 8 = ap (bits_of 8) (omega arith) ∙ bit in
     let bits = given.1 ∙ ap (λ (z : List Bool). text_bits xs ++ z) same in
-    let fits = followed-fits kind c.laws.ensures start _ c.args.run.now b c.requires followed.bits in
+    let fits = followed-fits kind c.laws.ensures start _ c.args.run.now b c.requires followed.bits.bits in
     let low : kind.watch.origin c.analyse_bits.new.run.analyser ≤ 2 ^ 60 =
     omega (arith, fits, c.analyse_bits.ensures.same.origin) in
     mark-taken kind start _ c.analyse_bits.new.run (xs ++ take eight.taken c.args.text.now)

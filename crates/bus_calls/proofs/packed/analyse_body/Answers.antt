@@ -2,6 +2,7 @@ use Rattle.std.proofs.Common.{ℕ, ◌+◌, List, ◌++◌, take, false, subst, 
 use Rattle.std.proofs.lemmas.Result.{err_from_is_err_and}
 use Rattle.std.proofs.lemmas.List.{take_all}
 use Rattle.bus_bits.specs.Capture.{capped}
+use Rattle.bus_calls.specs.Captures.{fed_by}
 use Rattle.bus_calls.specs.Internal.Sessions.{FollowsBody, Stops}
 use Rattle.bus_calls.proofs.WatchingLemmas.{same-both}
 use Rattle.bus_calls.proofs.CapturesLemmas.{stops-more, front-grown}
@@ -18,9 +19,11 @@ returns-in_err-taken-clause-taken g c =
     let stops = c.in_err-taken.ensures.taken start (xs ++ take i os) (c.loop-taken.invariant.front start xs followed) in
     let n = stops.0 in
     let origin = kind.watch.origin c.analyse_some.new.run.analyser in
-    stops-more kind start _ c.analyse_some.new.run (capped origin (kind.form.packed (xs ++ take (i + n) os)))
-    (capped origin (kind.form.packed (xs ++ os))) c.in_err-taken.field-0.0
-    (front-grown kind.form.packed c.laws.ensures.form.packed c.laws.ensures.form.places origin xs os (i + n))
+    let rest = kind.rest c.analyse_some.new.run.analyser in
+    stops-more kind start _ c.analyse_some.new.run (capped origin (fed_by kind.form rest (kind.form.packed
+    (xs ++ take (i + n) os))))
+    (capped origin (fed_by kind.form rest (kind.form.packed (xs ++ os)))) c.in_err-taken.field-0.0
+    (front-grown kind.form c.laws.ensures.form kind.form.packed c.laws.ensures.form.packed rest origin xs os (i + n))
     (subst (λ (ys : List ℕ). Stops kind false start (g.W.Write.contents c.analyse_some.new.w) c.analyse_some.new.run ys
     c.in_err-taken.field-0.0) (octets-next xs os i n) stops.1))
 

@@ -1,8 +1,8 @@
 use Rattle.std.proofs.Common.{List, [], ◌∷◌, ◌++◌, ◌+◌, take, drop, subst, arith}
 use Rattle.std.proofs.lemmas.Result.{err_from_is_err_and}
 use Rattle.std.proofs.lemmas.List.{take_all}
-use Rattle.bus_calls.specs.Internal.Watching.{Watches, Halts}
-use Rattle.bus_calls.proofs.WatchingLemmas.{same-both, halts-more, item-middle, item-next}
+use Rattle.bus_calls.specs.Internal.Watching.{Feeds, FeedHalts}
+use Rattle.bus_calls.proofs.WatchingLemmas.{same-both, feed-halts-more, item-middle, item-next}
 use Rattle.bus_calls.proofs.packed.analyse_symbols.Goals as goal
 
 pub returns-in_err-analyse_symbol-clause-taken : goal.returns-in_err-analyse_symbol-clause-taken
@@ -15,10 +15,11 @@ returns-in_err-analyse_symbol-clause-taken g c =
     let halts = c.in_err-analyse_symbol.ensures.taken start (b ++ take i all)
     (c.loop-symbol.invariant.followed start b followed) in
     subst (λ (z : List g.row.T-Symbol.Denot).
-    Halts g.T.CaptureKind.kind start (g.W.Write.contents c.analyse_symbol.new.w) c.analyse_symbol.new.run z
+    FeedHalts g.T.CaptureKind.kind start (g.W.Write.contents c.analyse_symbol.new.w) c.analyse_symbol.new.run z
     c.in_err-analyse_symbol.field-0.0)
     (item-middle b all i x x c.loop-symbol-test.true c.symbol-item.is)
-    (halts-more g.T.CaptureKind.kind start _ c.analyse_symbol.new.run ((b ++ take i all) ++ x ∷ []) (drop (i + 1) all)
+    (feed-halts-more g.T.CaptureKind.kind c.laws.ensures start _ c.analyse_symbol.new.run
+    ((b ++ take i all) ++ x ∷ []) (drop (i + 1) all)
     c.in_err-analyse_symbol.field-0.0 halts))
 
 pub loop-symbol-preserved : goal.loop-symbol-preserved
@@ -31,7 +32,7 @@ loop-symbol-preserved g c = record {
       let all = c.args.symbols.now in
       let i = c.loop-symbol.symbol-index in
       let x = c.symbol-item.result in
-      subst (Watches g.T.CaptureKind.kind start (g.W.Write.contents c.analyse_symbol.new.w) c.analyse_symbol.new.run)
+      subst (Feeds g.T.CaptureKind.kind start (g.W.Write.contents c.analyse_symbol.new.w) c.analyse_symbol.new.run)
       (item-next b all i x x c.loop-symbol-test.true c.symbol-item.is)
       (c.in_ok-analyse_symbol.ensures.taken start (b ++ take i all)
       (c.loop-symbol.invariant.followed start b followed));
@@ -41,6 +42,6 @@ pub returns-clause-taken : goal.returns-clause-taken
 returns-clause-taken g c =
     λ start b followed.
     subst (λ (x : List g.row.T-Symbol.Denot).
-    Watches g.T.CaptureKind.kind start (g.W.Write.contents c.loop-symbol.w) c.loop-symbol.run (b ++ x))
+    Feeds g.T.CaptureKind.kind start (g.W.Write.contents c.loop-symbol.w) c.loop-symbol.run (b ++ x))
     (take_all c.loop-symbol.symbol-index c.args.symbols.now (omega arith))
     (c.loop-symbol.invariant.followed start b followed)

@@ -2,7 +2,8 @@ use Rattle.std.proofs.Common.{◌≡◌, ◌≤◌, ◌^◌, [], ◌∷◌, ◌+
 use Rattle.std.proofs.Common.{append-nil}
 use Rattle.std.specs.Option.{option_to_list}
 use Rattle.bus_bits.specs.Capture.{bad_mark}
-use Rattle.bus_calls.specs.Internal.Watching.{Watches}
+use Rattle.bus_calls.specs.Captures.{fed_by}
+use Rattle.bus_calls.specs.Internal.Watching.{Feeds}
 use Rattle.bus_text.specs.declared.fault.ToolFault.TheVariants as fault
 use Rattle.bus_calls.proofs.CapturesLemmas.{followed-fits, fault-in}
 use Rattle.bus_calls.proofs.SessionsTextLemmas.{mark-taken}
@@ -18,7 +19,7 @@ returns-in-Ok-Some-clause-taken g c =
     subst (λ (o : Option g.row.T-Symbol.Denot). ((kind.form.text more).fault ≡ None)
     × ((kind.form.text more).bits ≡ b ++ option_to_list o)) c.in-Ok-Some.field-0-is
     (c.in-Ok-Some.ensures xs f.clean) in
-    let fits = followed-fits kind c.laws.ensures start _ c.args.run.now b c.requires f.bits in
+    let fits = followed-fits kind c.laws.ensures start _ c.args.run.now _ c.requires f.bits.bits in
     let low : kind.watch.origin c.analyse_symbol.new.run.analyser ≤ 2 ^ 60 =
     omega (arith, fits, c.analyse_symbol.ensures.same.origin) in
     mark-taken kind start _ c.analyse_symbol.new.run more (b ++ c.in-Ok-Some.symbol ∷ []) c.analyse_symbol.result low
@@ -37,7 +38,7 @@ returns-in-Ok-None-clause-taken g c =
     (c.in-Ok-None.ensures xs f.clean) in
     record {
       clean = given.0;
-      bits = subst (Watches kind start (g.W.Write.contents c.args.w.now) c.args.run.now)
+      bits = subst (Feeds kind start (g.W.Write.contents c.args.w.now) c.args.run.now)
           (sym (given.1 ∙ append-nil b)) f.bits;
     }
 
@@ -45,8 +46,10 @@ pub returns-in-Err-clause-taken : goal.returns-in-Err-clause-taken
 returns-in-Err-clause-taken g c =
     λ start xs at f.
     let kind = g.T.CaptureKind.kind in
+    let rest = kind.rest c.args.run.now.analyser in
     let given = c.in-Err.ensures xs f.clean in
-    fault-in kind c.laws.ensures start _ c.args.run.now (kind.form.text (xs ++ c.args.octet ∷ []))
-    (kind.form.text xs).bits
+    fault-in kind c.laws.ensures start _ c.args.run.now
+    (fed_by kind.form rest (kind.form.text (xs ++ c.args.octet ∷ [])))
+    (kind.form.fed rest (kind.form.text xs).bits)
     (bad_mark (length xs)) (fault.BadMark c.args.at)
-    c.requires (sym (ap bad_mark at)) given.1 given.0 f.bits
+    c.requires (sym (ap bad_mark at)) (ap (kind.form.fed rest) given.1) given.0 f.bits.bits

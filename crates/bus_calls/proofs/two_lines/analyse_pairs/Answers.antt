@@ -22,7 +22,8 @@ returns-in-Some-clause-taken g c = λ start b followed.
     (told-cut kind c.args.run.now _ (zip (bits_from os 0 n) (bits_from ys 0 n)) (g.W.Write.contents c.args.w.now)
     (g.W.Write.contents c.scan-taken.new.out) c.scan-taken.ensures.told
     c.laws.ensures c.in-Some.cut c.in-Some.is
-    (omega (arith, length-zipped os ys 0 n, c.scan-taken.ensures.taken, c.requires.sound.places)) start b followed))
+    (omega (arith, length-zipped os ys 0 n, c.scan-taken.ensures.taken, c.requires.sound.places)) start b
+    followed.bits))
 
 pub returns-in-Some-clause-sound : goal.returns-in-Some-clause-sound
 returns-in-Some-clause-sound g c =
@@ -57,7 +58,7 @@ returns-then-taken-count-clause-taken g c = λ start b before.
     let sound = told-sound kind c.args.run.now _ ps (g.W.Write.contents c.args.w.now)
     (g.W.Write.contents c.scan-taken.new.out) told room c.requires.sound in
     let followed = told-watched kind c.args.run.now _ ps (g.W.Write.contents c.args.w.now)
-    (g.W.Write.contents c.scan-taken.new.out) told (none-cut _ c.in_default.not-Some) start b before in
+    (g.W.Write.contents c.scan-taken.new.out) told (none-cut _ c.in_default.not-Some) start b before.bits in
     limited kind c.laws.ensures start (g.W.Write.contents c.scan-taken.new.out) _ b os ys n c.args.count
     c.if-taken-count.true
     (omega (arith, told.sees.place, length-zipped os ys 0 n, c.scan-taken.ensures.taken, c.if-taken-count.true)) sound
@@ -72,11 +73,15 @@ returns-clause-taken g c = λ start b followed.
     let all : n ≡ c.args.count = omega (arith, c.scan-taken.ensures.taken, c.if-taken-count.false) in
     let now : CaptureRun (PairState g.row.C.Denot) =
     record { analyser = c.scan-taken.new.self; reporter = c.scan-taken.new.observer } in
-    subst (λ (k : ℕ). Watches kind start (g.W.Write.contents c.scan-taken.new.out) now
-    (b ++ zip (bits_from os 0 k) (bits_from ys 0 k))) all
-    (told-watched kind c.args.run.now now (zip (bits_from os 0 n) (bits_from ys 0 n)) (g.W.Write.contents c.args.w.now)
-    (g.W.Write.contents c.scan-taken.new.out) c.scan-taken.ensures.told
-    (none-cut _ c.in_default.not-Some) start b followed)
+    record {
+      rule = tt;
+      bits = subst (λ (k : ℕ). Watches kind start (g.W.Write.contents c.scan-taken.new.out) now
+          (b ++ zip (bits_from os 0 k) (bits_from ys 0 k))) all
+          (told-watched kind c.args.run.now now (zip (bits_from os 0 n) (bits_from ys 0 n))
+          (g.W.Write.contents c.args.w.now)
+          (g.W.Write.contents c.scan-taken.new.out) c.scan-taken.ensures.told
+          (none-cut _ c.in_default.not-Some) start b followed.bits);
+    }
 
 pub returns-clause-sound : goal.returns-clause-sound
 returns-clause-sound g c =

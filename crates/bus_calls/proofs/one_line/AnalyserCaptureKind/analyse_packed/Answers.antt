@@ -20,7 +20,7 @@ returns-in_err-analyse_bits-clause-taken g c =
     (λ head zs long. (c.packed_is_head_and_body.ensures.headed head zs long).0)
     c.args.body.now c.take_all.new.self xs whole (bits_from whole 0 (8 * length whole)) c.take_all.ensures.given
     followed.read in
-    let fits = followed-fits kind c.laws.ensures start _ c.args.run.now b c.requires followed.bits in
+    let fits = followed-fits kind c.laws.ensures start _ c.args.run.now b c.requires followed.bits.bits in
     let low : kind.watch.origin c.analyse_bits.new.run.analyser ≤ 2 ^ 60 =
     omega (arith, fits, c.analyse_bits.ensures.same.origin) in (
       count,
@@ -38,7 +38,7 @@ returns-clause-taken g c = λ start xs followed.
     (λ head zs long. (c.packed_is_head_and_body.ensures.headed head zs long).0)
     c.args.body.now c.take_all.new.self xs whole (bits_from whole 0 (8 * length whole)) c.take_all.ensures.given
     followed.read in
-    let fits = followed-fits kind c.laws.ensures start _ c.args.run.now b c.requires followed.bits in
+    let fits = followed-fits kind c.laws.ensures start _ c.args.run.now b c.requires followed.bits.bits in
     let low : kind.watch.origin c.analyse_bits.new.run.analyser ≤ 2 ^ 60 =
     omega (arith, fits, c.analyse_bits.ensures.same.origin) in
     octets-taken kind start _ c.analyse_bits.new.run (xs ++ whole) c.take_all.new.self

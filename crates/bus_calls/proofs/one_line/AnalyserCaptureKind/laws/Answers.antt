@@ -23,6 +23,8 @@ returns g c =
         same = same_bits;
         short = head.short;
         places = grow.capped;
+        fed_none = λ rest. refl;
+        fed = λ rest b more. record { taken = more; is = refl };
         silent = λ origin longest. refl;
         seen = λ d longest origin. seen-on form_of_one d longest origin
             (λ b bit. option_to_list (seen_at d (of_line (placed origin longest (b ++ bit ∷ []))) (origin + length b)))

@@ -4,10 +4,10 @@ use Rattle.std.proofs.lemmas.Result.{err_from_is_err_and}
 use Rattle.bus_bits.specs.declared.format.packed_head.HeadFault.{HeadFault}
 use Rattle.bus_bits.specs.Capture.{CaptureOf}
 use Rattle.bus_bits.specs.Packed.{head_fault_of}
-use Rattle.bus_calls.specs.Internal.Watching.{Watches}
+use Rattle.bus_calls.specs.Internal.Watching.{Feeds}
 use Rattle.bus_text.specs.declared.fault.ToolFault.{ToolFault}
 use Rattle.bus_calls.specs.Internal.Sessions.{IsRead, FollowsBody}
-use Rattle.bus_calls.specs.Captures.{IsSameFault}
+use Rattle.bus_calls.specs.Captures.{IsSameFault, fed_by}
 use Rattle.bus_calls.proofs.CapturesLemmas.{fault-in}
 use Rattle.bus_calls.proofs.SessionsPackedLemmas.{faulty-stops, body-packed, err-mapped, ok-mapped, head-filled}
 use Rattle.bus_calls.proofs.SessionsPackedLemmas.{slice-rest}
@@ -28,7 +28,7 @@ returns-then-octets-missing-clause-taken g c = λ start xs followed.
     ((law.short xs read.1).0 ∙ sym (law.short (xs ++ os) short).0) in
     record {
       read = subst (λ b. IsRead kind items b (xs ++ os)) (sym (c.gather.ensures.body ∙ c.requires.none)) (all, short);
-      bits = subst (Watches kind start (g.W.Write.contents c.args.w.now) c.args.run.now) bits followed.bits;
+      bits = subst (Feeds kind start (g.W.Write.contents c.args.w.now) c.args.run.now) bits followed.bits;
     }
 
 pub returns-in_err-body-clause-taken : goal.returns-in_err-body-clause-taken
@@ -48,13 +48,16 @@ returns-in_err-body-clause-taken g c =
     let is = ap kind.form.packed (sym filled.1) ∙ refused.2 (drop (16 - n) os) in
     let none =
     subst (λ (d : CaptureOf g.row.T-Symbol.Denot).
-    Watches kind start (g.W.Write.contents c.args.w.now) c.args.run.now d.bits) (c.laws.ensures.form.short xs read.1).0
+    Feeds kind start (g.W.Write.contents c.args.w.now) c.args.run.now d.bits) (c.laws.ensures.form.short xs read.1).0
     followed.bits in
     faulty-stops kind start _ c.args.run.now _ fault
-    (fault-in kind c.laws.ensures start _ c.args.run.now (kind.form.packed (xs ++ os)) [] (head_fault_of refused.0)
+    (fault-in kind c.laws.ensures start _ c.args.run.now
+    (fed_by kind.form (kind.rest c.args.run.now.analyser) (kind.form.packed (xs ++ os)))
+    (kind.form.fed (kind.rest c.args.run.now.analyser) []) (head_fault_of refused.0)
     fault
-    c.requires.sound refused.1 (ap (λ (d : CaptureOf g.row.T-Symbol.Denot). d.bits) is)
-    (ap (λ (d : CaptureOf g.row.T-Symbol.Denot). d.fault) is) none))
+    c.requires.sound refused.1 (ap (λ (d : CaptureOf g.row.T-Symbol.Denot). kind.form.fed
+    (kind.rest c.args.run.now.analyser) d.bits) is)
+    (ap (λ (d : CaptureOf g.row.T-Symbol.Denot). d.fault) is) none.bits))
 
 pub returns-clause-taken : goal.returns-clause-taken
 returns-clause-taken g c =
@@ -68,13 +71,13 @@ returns-clause-taken g c =
     (omega arith) (c.head.ensures ∙ c.gather-2.ensures.items) in
     let none =
     subst (λ (d : CaptureOf g.row.T-Symbol.Denot).
-    Watches kind start (g.W.Write.contents c.args.w.now) c.args.run.now d.bits) (c.laws.ensures.form.short xs read.1).0
+    Feeds kind start (g.W.Write.contents c.args.w.now) c.args.run.now d.bits) (c.laws.ensures.form.short xs read.1).0
     followed.bits in
     let made = ok-mapped _ _ (λ (e : HeadFault) (t : ToolFault). IsSameFault t (head_fault_of e)) c.read_head.result
     (Ok c.in_ok-body.body) c.in_ok-body.body refl c.in_ok-body.ensures.cases c.read_head.ensures in
     let body : FollowsBody kind start (g.W.Write.contents c.args.w.now) c.in_ok-body.body c.args.run.now h = record {
       read = made.0;
-      bits = subst (Watches kind start (g.W.Write.contents c.args.w.now) c.args.run.now) (sym made.1) none;
+      bits = subst (Feeds kind start (g.W.Write.contents c.args.w.now) c.args.run.now) (sym made.1) none;
     } in
     body-packed kind start _ c.analyse_body-ending.new.run
     (record { head = c.gather-2.new.self.head; body = Some c.analyse_body-ending.new.body })

@@ -25,6 +25,7 @@ returns-in_err-write_out-clause-taken g c =
     c.analyse.ensures.text clean in
     let bits =
     (capture g.T.CaptureKind.kind.form (is_text c.args.self.now.source)
+    (g.T.CaptureKind.kind.rest c.analyse.new.self.run.analyser)
     (g.T.CaptureKind.kind.watch.origin c.analyse.new.self.run.analyser)
     ys).bits in
     is-cut g.T.CaptureKind.kind start _

@@ -1,6 +1,6 @@
 use Rattle.std.proofs.Common.{◌≡◌, None, arith, [], refl, sym, ap, subst}
 use Rattle.bus_bits.specs.Capture.{CaptureOf}
-use Rattle.bus_calls.specs.Internal.Watching.{Watches}
+use Rattle.bus_calls.specs.Internal.Watching.{Feeds, Watches}
 use Rattle.bus_calls.specs.Internal.Sessions.{Follows, IsRead}
 use Rattle.bus_calls.specs.declared.reader.Source.{Source}
 use Rattle.bus_calls.specs.declared.run.CaptureRun.{CaptureRun}
@@ -14,10 +14,14 @@ returns-clause-fresh g c =
     let kind = g.T.CaptureKind.kind in
     let law = c.laws.ensures in
     let run : CaptureRun g.row.T.Denot = record { analyser = c.in_ok-analyser.analyser; reporter = c.new-2.result } in
-    let none = watched-none kind law start run c.in_ok-analyser.ensures.2.is_after c.new-2.ensures.none
-    (c.new-2.ensures.blank start) in
+    let made = c.in_ok-analyser.ensures in
+    let none : Feeds kind start start run [] = record {
+      rule = made.3.none;
+      bits = subst (Watches kind start start run) (sym (law.form.fed_none (kind.rest run.analyser)))
+          (watched-none kind law start run made.2.is_after c.new-2.ensures.none (c.new-2.ensures.blank start));
+    } in
     let followed = λ (d : CaptureOf g.row.T-Symbol.Denot) (e : d ≡ record { bits = []; fault = None }).
-    subst (λ (x : CaptureOf g.row.T-Symbol.Denot). Watches kind start start run x.bits) (sym e) none in
+    subst (λ (x : CaptureOf g.row.T-Symbol.Denot). Feeds kind start start run x.bits) (sym e) none in
     elim c.if-options.branch [
       | then-options w ↦ subst (λ (s : Source g.row.T-Body.Denot). Follows kind start start s run []) (sym w.source-is)
           (record {

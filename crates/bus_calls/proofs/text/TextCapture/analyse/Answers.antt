@@ -3,6 +3,7 @@ use Rattle.std.proofs.Common.{length-append}
 use Rattle.std.proofs.lemmas.Result.{err_from_is_err_and}
 use Rattle.std.proofs.lemmas.List.{take_all}
 use Rattle.bus_bits.specs.Capture.{capped}
+use Rattle.bus_calls.specs.Captures.{fed_by}
 use Rattle.bus_calls.specs.Internal.Sessions.{FollowsOctets, Stops}
 use Rattle.bus_calls.proofs.WatchingLemmas.{same-self, same-both, item-next}
 use Rattle.bus_calls.proofs.CapturesLemmas.{stops-more, front-grown}
@@ -29,9 +30,11 @@ returns-in_err-many-clause-taken g c =
     let stops = c.in_err-many.ensures.taken start (xs ++ take i os) (c.loop-taken.invariant.front start xs followed) in
     let n = stops.0 in
     let origin = kind.watch.origin c.analyse_text.new.run.analyser in
-    stops-more kind start _ c.analyse_text.new.run (capped origin (kind.form.text (xs ++ take (i + n) os)))
-    (capped origin (kind.form.text (xs ++ os))) c.in_err-many.field-0.0
-    (front-grown kind.form.text c.laws.ensures.form.text c.laws.ensures.form.places origin xs os (i + n))
+    let rest = kind.rest c.analyse_text.new.run.analyser in
+    stops-more kind start _ c.analyse_text.new.run (capped origin (fed_by kind.form rest (kind.form.text (xs ++ take
+    (i + n) os))))
+    (capped origin (fed_by kind.form rest (kind.form.text (xs ++ os)))) c.in_err-many.field-0.0
+    (front-grown kind.form c.laws.ensures.form kind.form.text c.laws.ensures.form.text rest origin xs os (i + n))
     (subst (λ (ys : List ℕ). Stops kind true start (g.W.Write.contents c.analyse_text.new.w) c.analyse_text.new.run ys
     c.in_err-many.field-0.0) (octets-next xs os i n) stops.2))
 
@@ -70,9 +73,11 @@ returns-in_err-analyse_octet-clause-taken g c =
     (c.in_ok-many.ensures.taken start front (c.loop-taken.invariant.front start xs followed)) in
     let stops = c.in_err-analyse_octet.ensures.taken start front at here in
     let origin = kind.watch.origin c.analyse_octet.new.run.analyser in
-    stops-more kind start _ c.analyse_octet.new.run (capped origin (kind.form.text (xs ++ take (i + 1) os)))
-    (capped origin (kind.form.text (xs ++ os))) c.in_err-analyse_octet.field-0.0
-    (front-grown kind.form.text c.laws.ensures.form.text c.laws.ensures.form.places origin xs os (i + 1))
+    let rest = kind.rest c.analyse_octet.new.run.analyser in
+    stops-more kind start _ c.analyse_octet.new.run (capped origin (fed_by kind.form rest (kind.form.text
+    (xs ++ take (i + 1) os))))
+    (capped origin (fed_by kind.form rest (kind.form.text (xs ++ os)))) c.in_err-analyse_octet.field-0.0
+    (front-grown kind.form c.laws.ensures.form kind.form.text c.laws.ensures.form.text rest origin xs os (i + 1))
     (subst (λ (ys : List ℕ). Stops kind true start (g.W.Write.contents c.analyse_octet.new.w) c.analyse_octet.new.run ys
     c.in_err-analyse_octet.field-0.0) (item-next xs os i x 0 c.loop-taken-test.true refl) stops))
 

@@ -35,7 +35,7 @@ returns-in_err-analyse_pairs-clause-taken g c =
     let read = octets-read packed_pair_capture pair_body pair_head_fault PairsAfter
     (λ head zs wide. (c.pairs_are_head_and_body.ensures.headed head zs wide).0)
     c.args.body.now c.take_all.new.self xs whole ps c.take_all.ensures.given followed.read in
-    let fits = followed-fits kind c.laws.ensures start _ c.args.run.now b c.requires followed.bits in
+    let fits = followed-fits kind c.laws.ensures start _ c.args.run.now b c.requires followed.bits.bits in
     let low : kind.watch.origin c.analyse_pairs.new.run.analyser ≤ 2 ^ 60 =
     omega (arith, fits, c.analyse_pairs.ensures.same.origin) in (
       count,
@@ -55,7 +55,7 @@ returns-clause-taken g c = λ start xs followed.
     let read = octets-read packed_pair_capture pair_body pair_head_fault PairsAfter
     (λ head zs wide. (c.pairs_are_head_and_body.ensures.headed head zs wide).0)
     c.args.body.now c.take_all.new.self xs whole ps c.take_all.ensures.given followed.read in
-    let fits = followed-fits kind c.laws.ensures start _ c.args.run.now b c.requires followed.bits in
+    let fits = followed-fits kind c.laws.ensures start _ c.args.run.now b c.requires followed.bits.bits in
     let low : kind.watch.origin c.analyse_pairs.new.run.analyser ≤ 2 ^ 60 =
     omega (arith, fits, c.analyse_pairs.ensures.same.origin) in
     octets-taken kind start _ c.analyse_pairs.new.run (xs ++ whole) c.take_all.new.self (b ++ ps) (Ok tt) low read.0

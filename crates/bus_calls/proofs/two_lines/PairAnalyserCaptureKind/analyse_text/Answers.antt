@@ -14,7 +14,7 @@ returns-in_err-analyse_pairs-clause-taken g c =
     let next = c.part-next.result in
     let b = (kind.form.text xs).bits in
     let given = c.part-next.ensures.given xs followed.clean in
-    let fits = followed-fits kind c.laws.ensures start _ c.args.run.now b c.requires followed.bits in
+    let fits = followed-fits kind c.laws.ensures start _ c.args.run.now b c.requires followed.bits.bits in
     let low : kind.watch.origin c.analyse_pairs.new.run.analyser ≤ 2 ^ 60 =
     omega (arith, fits, c.analyse_pairs.ensures.same.origin) in
     let all = b ++ zip (bits_from c.part-next.new.first 0 (8 * next.filled))
@@ -32,7 +32,7 @@ returns-clause-taken g c = λ start xs followed.
     let next = c.part-next.result in
     let b = (kind.form.text xs).bits in
     let given = c.part-next.ensures.given xs followed.clean in
-    let fits = followed-fits kind c.laws.ensures start _ c.args.run.now b c.requires followed.bits in
+    let fits = followed-fits kind c.laws.ensures start _ c.args.run.now b c.requires followed.bits.bits in
     let low : kind.watch.origin c.analyse_pairs.new.run.analyser ≤ 2 ^ 60 =
     omega (arith, fits, c.analyse_pairs.ensures.same.origin) in
     let all = b ++ zip (bits_from c.part-next.new.first 0 (8 * next.filled))

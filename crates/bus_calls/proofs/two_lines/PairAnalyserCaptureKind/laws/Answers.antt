@@ -21,6 +21,8 @@ returns g c =
         same = same_pairs;
         short = head.short;
         places = grow.capped;
+        fed_none = λ rest. refl;
+        fed = λ rest b more. record { taken = more; is = refl };
         silent = λ origin longest. refl;
         seen = λ d longest origin. seen-on form_of_two d longest origin
             (λ ps p. all_seen_at d (merged origin longest (ps ++ p ∷ [])) (origin + length ps))

@@ -1,0 +1,16 @@
+use Rattle.bus_bits.proofs.CaptureLemmas.{capped-grows}
+use Rattle.bus_bits.proofs.PairsLemmas.{packed-arrivals-grow, packed-arrivals-end}
+use Rattle.bus_bits.proofs.TextBitsLemmas.{text-arrivals-grow}
+use Rattle.bus_bits.proofs.laws.arrival_captures_grow.Goals as goal
+
+pub returns-clause-text : goal.returns-clause-text
+returns-clause-text c = text-arrivals-grow
+
+pub returns-clause-packed : goal.returns-clause-packed
+returns-clause-packed c = packed-arrivals-grow
+
+pub returns-clause-ended : goal.returns-clause-ended
+returns-clause-ended c = packed-arrivals-end
+
+pub returns-clause-capped : goal.returns-clause-capped
+returns-clause-capped c = capped-grows

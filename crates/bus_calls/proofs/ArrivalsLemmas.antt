@@ -1,0 +1,153 @@
+-- Captures of two lines with a clock each.
+use Rattle.std.proofs.Common.{◌≡◌, ℕ, ◌+◌, ◌-◌, ◌<◌, ◌≤◌, ◌^◌, Bool, true, false, List, [], ◌∷◌, ◌++◌, length, map}
+use Rattle.std.proofs.Common.{take, drop, Option, Some, Result, Ok, Err, MatchResult, refl, sym, ap, ◌∙◌, subst, arith}
+use Rattle.std.proofs.Common.{append-nil, append_assoc}
+use Rattle.std.proofs.lemmas.List.{map-append, take-append-drop, length-drop}
+use Rattle.bus_bits.specs.Packed.{packed_arrival_capture, packed_arrival_whole, pair_body, arrival_head_fault}
+use Rattle.bus_fcs.specs.Check.{CheckView}
+use Rattle.bus_dictionary.specs.Entry.{FrameType}
+use Rattle.bus_pairing.specs.LineReport.{LineReport}
+use Rattle.bus_pairing.specs.Seen.{SeenReport, seen}
+use Rattle.bus_pairing.proofs.SeenLemmas.{seen-more}
+use Rattle.bus_watch.specs.Watch.{Leads, LeadsTold}
+use Rattle.bus_clocks.specs.Arrival.{Arrival, own, arrived, decides}
+use Rattle.bus_clocks.specs.Clocks.{IsAfterArrivals, numbered, two_clocks}
+use Rattle.bus_clocks.specs.Laws.{ArrivalsGrow}
+use Rattle.bus_clocks.specs.Rested.{IsRestAfter, comes_to_rest, rested, fill}
+use Rattle.bus_clocks.proofs.RestLemmas.{rested-more}
+use Rattle.bus_clocks.proofs.RoomLemmas.{own-count}
+use Rattle.bus_text.specs.declared.fault.ToolFault.{ToolFault}
+use Rattle.bus_text.specs.declared.fault.ToolFault.TheVariants as fault
+use Rattle.bus_calls.specs.Captures.{arrival_of, form_of_arrivals}
+use Rattle.bus_calls.specs.Internal.Arrivals.{arrivals_kind, clocks_behind}
+use Rattle.bus_calls.specs.Internal.Kinds.{FedOn, KindLaws}
+use Rattle.bus_calls.specs.Internal.Watching.{FeedHalts, Feeds, Halts, IsSound, Watches}
+use Rattle.bus_calls.specs.declared.arrivals.ClockAnalyser.{ClockAnalyser}
+use Rattle.bus_calls.specs.declared.run.CaptureRun.{CaptureRun}
+use Rattle.bus_calls.proofs.HeadedLemmas.{whole-bits}
+use Rattle.bus_calls.proofs.WatchingLemmas.{halted, halts-more}
+
+-- the end of the input adds no arrival
+pub same_arrivals : (xs : List ℕ) → (packed_arrival_whole xs).bits ≡ (packed_arrival_capture xs).bits
+unfolding packed_arrival_whole packed_arrival_capture
+same_arrivals xs = whole-bits (arrival_head_fault xs) pair_body xs
+
+-- ---- the rule of rest
+
+record RestsOn (most : ℕ) (xs ys : List Arrival) : Type 0 where
+  taken : List Arrival
+  is : rested most (xs ++ ys) ≡ rested most xs ++ taken
+
+rests-on : (most : ℕ) (xs ys : List Arrival) → RestsOn most xs ys
+rests-on most xs [] =
+    record { taken = []; is = ap (rested most) (append-nil xs) ∙ sym (append-nil (rested most xs)) }
+rests-on most xs (y ∷ ys) =
+    let on = rests-on most (xs ++ y ∷ []) ys in
+    let one = y ∷ fill (comes_to_rest most (xs ++ y ∷ [])) in
+    record {
+      taken = one ++ on.taken;
+      is = ap (rested most) (sym (append_assoc xs (y ∷ []) ys)) ∙ on.is
+          ∙ ap (λ (zs : List Arrival). zs ++ on.taken) (rested-more most xs y (comes_to_rest most (xs ++ y ∷ [])) refl)
+          ∙ append_assoc (rested most xs) one on.taken;
+    }
+
+pub fed-on : (rest : ℕ) (b more : List (Bool × Bool)) → FedOn form_of_arrivals rest b more
+fed-on rest b more =
+    let on = rests-on rest (map arrival_of b) (map arrival_of more) in
+    record { taken = on.taken; is = ap (rested rest) (map-append arrival_of b more) ∙ on.is }
+
+-- ---- what is seen
+
+pub reports-on : (d : List FrameType) (hs more : List LineReport) → (rest : List SeenReport)
+    × (seen d (hs ++ more) ≡ seen d hs ++ rest)
+reports-on d hs [] = ([], ap (seen d) (append-nil hs) ∙ sym (append-nil (seen d hs)))
+reports-on d hs (h ∷ more) =
+    let rest = reports-on d (hs ++ h ∷ []) more in (
+      _ ∷ rest.0,
+      ap (seen d) (sym (append_assoc hs (h ∷ []) more))
+          ∙ (rest.1 ∙ (ap (λ ss. ss ++ rest.0) (seen-more d hs h) ∙ append_assoc (seen d hs) (_ ∷ []) rest.0)),
+    )
+
+module _ (grow : ArrivalsGrow) (d : List FrameType) (longest origin : ℕ) where
+  -- at one arrival more
+  abbrev pub shown-at : List Arrival → Arrival → List SeenReport
+  shown-at xs x = (reports-on d (arrived origin longest xs) (decides origin longest xs x)).0
+
+  pub shown-more : (xs : List Arrival) (x : Arrival) → seen d (arrived origin longest (xs ++ x ∷ []))
+      ≡ seen d (arrived origin longest xs) ++ shown-at xs x
+  shown-more xs x = ap (seen d) (grow origin longest xs x)
+      ∙ (reports-on d (arrived origin longest xs) (decides origin longest xs x)).1
+
+module _ {C : Type 0} (view : CheckView C) where
+  -- the origin and the bits of both lines
+  pub numbered-arrivals : (a : ClockAnalyser C) (xs : List Arrival) → IsAfterArrivals view a.analyser xs →
+      numbered a.analyser ≡ a.analyser.first.origin + length xs
+  numbered-arrivals a xs after = omega (
+    arith,
+    after.first.has_taken.place,
+    after.second.has_taken.place,
+    after.origin,
+    own-count xs,
+  )
+
+  -- behind the rule of rest
+  pub told-behind : (a c : ClockAnalyser C) (xs : List Arrival) (told : List SeenReport → Type 0) →
+      LeadsTold (two_clocks view) a.analyser xs c.analyser told → LeadsTold (clocks_behind view) a xs c told
+  told-behind a c xs told all = record {
+    seen = all.seen;
+    sees = record {
+      is_after = all.sees.is_after;
+      seen = all.sees.seen;
+      dictionary = all.sees.dictionary;
+      depth = all.sees.depth;
+      origin = all.sees.origin;
+      place = all.sees.place;
+    };
+    few = all.few;
+    told = all.told;
+  }
+
+  -- the rule of rest changes nothing of what was followed
+  pub watched-behind : (start now : Option (List ℕ)) (w v : CaptureRun (ClockAnalyser C)) (xs : List Arrival) →
+      v.analyser.analyser ≡ w.analyser.analyser → v.reporter ≡ w.reporter →
+      Watches (arrivals_kind view) start now w xs → Watches (arrivals_kind view) start now v xs
+  watched-behind start now w v xs analyser reporter followed =
+      rw (analyser, reporter)
+      (record { is_after = followed.is_after; counts = followed.counts; page = followed.page })
+
+  -- a symbol was taken, or not
+  pub symbol-taken : (start now : Option (List ℕ)) (w : CaptureRun (ClockAnalyser C)) (b : List (Bool × Bool))
+      (ys : List Arrival) (r : Result (Unit {0}) ToolFault)
+      → IsRestAfter w.analyser.rest (map arrival_of b)
+      → rested w.analyser.rest.most (map arrival_of b) ≡ ys
+      → MatchResult r (λ _. Watches (arrivals_kind view) start now w ys)
+      (λ f. Halts (arrivals_kind view) start now w ys f)
+      → MatchResult r (λ _. Feeds (arrivals_kind view) start now w b)
+      (λ f. FeedHalts (arrivals_kind view) start now w b f)
+  symbol-taken start now w b ys (Ok u) rule is taken =
+      record { rule = rule; bits = subst (Watches (arrivals_kind view) start now w) (sym is) taken }
+  symbol-taken start now w b ys (Err f) rule is taken =
+      subst (λ (zs : List Arrival). Halts (arrivals_kind view) start now w zs f) (sym is) taken
+
+  -- the first of some arrivals, and the others
+  arrivals-behind : (b xs : List Arrival) (n : ℕ) → (b ++ take n xs) ++ drop n xs ≡ b ++ xs
+  arrivals-behind b xs n =
+      append_assoc b (take n xs) (drop n xs) ∙ ap (λ (ys : List Arrival). b ++ ys) (take-append-drop n xs)
+
+  pub arrivals-halt : (start now : Option (List ℕ)) (w : CaptureRun (ClockAnalyser C)) (b xs : List Arrival) (n : ℕ)
+      (f : ToolFault) → Halts (arrivals_kind view) start now w (b ++ take n xs) f →
+      Halts (arrivals_kind view) start now w (b ++ xs) f
+  arrivals-halt start now w b xs n f stopped =
+      subst (λ ys. Halts (arrivals_kind view) start now w ys f) (arrivals-behind b xs n)
+      (halts-more (arrivals_kind view) start now w (b ++ take n xs) (drop n xs) f stopped)
+
+  -- all that have a place were followed, and others have none
+  pub arrivals-limited : KindLaws (arrivals_kind view) → (start now : Option (List ℕ))
+      (w : CaptureRun (ClockAnalyser C)) (b xs : List Arrival) (n : ℕ)
+      → n < length xs → 2 ^ 60 ≤ numbered w.analyser.analyser → IsSound (arrivals_kind view) w →
+      Watches (arrivals_kind view) start now w (b ++ take n xs)
+      → Halts (arrivals_kind view) start now w (b ++ xs) fault.PlaceLimit
+  arrivals-limited law start now w b xs n more limit sound followed =
+      subst (λ ys. Halts (arrivals_kind view) start now w ys fault.PlaceLimit) (arrivals-behind b xs n)
+      (halted (arrivals_kind view) law start now w w (b ++ take n xs) (drop n xs) refl
+      (omega (arith, more, length-drop n xs)) limit sound followed)
