@@ -169,7 +169,8 @@ unfolding packed_arrival_whole packed_arrival_capture wanted bits_of_octets bits
 arrival_octet = refl
 
 -- a mark of pairs, and the head of pairs
-bad_arrival : text_arrival_capture (codes "0o2") ≡ record { bits = take 1 each ++ take 1 (drop 2 each); fault = Some (bad_mark 2) }
+bad_arrival : text_arrival_capture (codes "0o2")
+    ≡ record { bits = take 1 each ++ take 1 (drop 2 each); fault = Some (bad_mark 2) }
 bad_arrival = refl
 
 arrivals_other : packed_arrival_whole (pair_head 4 ++ 228 ∷ []) ≡ record { bits = []; fault = Some magic }

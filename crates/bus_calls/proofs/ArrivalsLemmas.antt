@@ -9,9 +9,9 @@ use Rattle.bus_dictionary.specs.Entry.{FrameType}
 use Rattle.bus_pairing.specs.LineReport.{LineReport}
 use Rattle.bus_pairing.specs.Seen.{SeenReport, seen}
 use Rattle.bus_pairing.proofs.SeenLemmas.{seen-more}
-use Rattle.bus_watch.specs.Watch.{Leads, LeadsTold}
+use Rattle.bus_watch.specs.Watch.{AdvancesWatch, AdvancesWatchShown}
 use Rattle.bus_clocks.specs.Arrival.{Arrival, own, arrived, decides}
-use Rattle.bus_clocks.specs.Clocks.{IsAfterArrivals, numbered, two_clocks}
+use Rattle.bus_clocks.specs.Clocks.{IsAfterArrivals, bits_taken, two_clocks}
 use Rattle.bus_clocks.specs.Laws.{ArrivalsGrow}
 use Rattle.bus_clocks.specs.Rested.{IsRestAfter, comes_to_rest, rested, fill}
 use Rattle.bus_clocks.proofs.RestLemmas.{rested-more}
@@ -81,7 +81,7 @@ module _ (grow : ArrivalsGrow) (d : List FrameType) (longest origin : ℕ) where
 module _ {C : Type 0} (view : CheckView C) where
   -- the origin and the bits of both lines
   pub numbered-arrivals : (a : ClockAnalyser C) (xs : List Arrival) → IsAfterArrivals view a.analyser xs →
-      numbered a.analyser ≡ a.analyser.first.origin + length xs
+      bits_taken a.analyser ≡ a.analyser.first.origin + length xs
   numbered-arrivals a xs after = omega (
     arith,
     after.first.has_taken.place,
@@ -92,7 +92,8 @@ module _ {C : Type 0} (view : CheckView C) where
 
   -- behind the rule of rest
   pub told-behind : (a c : ClockAnalyser C) (xs : List Arrival) (told : List SeenReport → Type 0) →
-      LeadsTold (two_clocks view) a.analyser xs c.analyser told → LeadsTold (clocks_behind view) a xs c told
+      AdvancesWatchShown (two_clocks view) a.analyser xs c.analyser told
+      → AdvancesWatchShown (clocks_behind view) a xs c told
   told-behind a c xs told all = record {
     seen = all.seen;
     sees = record {
@@ -144,7 +145,7 @@ module _ {C : Type 0} (view : CheckView C) where
   -- all that have a place were followed, and others have none
   pub arrivals-limited : KindLaws (arrivals_kind view) → (start now : Option (List ℕ))
       (w : CaptureRun (ClockAnalyser C)) (b xs : List Arrival) (n : ℕ)
-      → n < length xs → 2 ^ 60 ≤ numbered w.analyser.analyser → IsSound (arrivals_kind view) w →
+      → n < length xs → 2 ^ 60 ≤ bits_taken w.analyser.analyser → IsSound (arrivals_kind view) w →
       Watches (arrivals_kind view) start now w (b ++ take n xs)
       → Halts (arrivals_kind view) start now w (b ++ xs) fault.PlaceLimit
   arrivals-limited law start now w b xs n more limit sound followed =

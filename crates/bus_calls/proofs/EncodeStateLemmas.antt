@@ -15,7 +15,7 @@ use Rattle.bus_calls.specs.Lines.{ended_lines, open_line}
 use Rattle.bus_calls.specs.Encode.{Asked, and_then, one_asked, line_asked, line_call, text_line, asked_behind}
 use Rattle.bus_calls.specs.Encode.{asked_so_far, asked_in_all, bits_text, text_behind, encode_text}
 use Rattle.bus_calls.specs.Encodes.{Asks, Encodes, EncodesAll}
-use Rattle.bus_calls.specs.Internal.EncodeState.{HasEncoded, Takes, EncodeHalts, Ends, EncodeFinishes}
+use Rattle.bus_calls.specs.Internal.EncodeState.{HasEncoded, EncodedAfter, EncodeHalts, Ends, EncodeFinishes}
 use Rattle.bus_text.specs.declared.fault.ToolFault.{ToolFault}
 use Rattle.bus_text.specs.declared.fault.ToolFault.TheVariants.{Read, ReadsLimit, Write, BadLine, FrameLength}
 use Rattle.bus_text.proofs.KnownBytesLemmas.{appends_nothing, appends_both, appends_kept, part_out}
@@ -25,7 +25,7 @@ use Rattle.bus_calls.proofs.EncodeLemmas.{then-fault, then-text, so_far-short, s
 use Rattle.bus_calls.proofs.EncodeLemmas.{lf-asked, asked-push, so_far-grows, in_all-is, all-grows, text-push}
 
 pub none_takes : (start : Option (List ℕ)) (line : List ℕ) (number : ℕ) (e : EncoderState) → line ≡ [] → number ≡ 1 →
-    AfterCalls e [] → Takes start start line number e 0 []
+    AfterCalls e [] → EncodedAfter start start line number e 0 []
 unfolding asked_so_far asked_behind ended_lines open_line rsplit_once text_behind
 none_takes start line number e empty first after = record {
   here = empty;
@@ -86,8 +86,8 @@ put_halts start before now e written sent calls call bytes text encoded is same 
 
 pub other_takes : (start now : Option (List ℕ)) (line new : List ℕ) (number x : ℕ) (e : EncoderState) (written : ℕ)
     (xs : List ℕ) → (x == 10) ≡ false → new ≡ line ++ x ∷ []
-    → length (strip_last 13 new) ≤ 600 → Takes start now line number e written xs →
-    Takes start now new number e written (xs ++ x ∷ [])
+    → length (strip_last 13 new) ≤ 600 → EncodedAfter start now line number e written xs →
+    EncodedAfter start now new number e written (xs ++ x ∷ [])
 other_takes start now line new number x e written xs other is fits taken =
     let ended = ended-by_other xs x other in
     let here : new ≡ open_line (xs ++ x ∷ []) =
@@ -102,7 +102,7 @@ other_takes start now line new number x e written xs other is fits taken =
 
 pub long_halts : (start now : Option (List ℕ)) (line : List ℕ) (number x : ℕ) (e : EncoderState) (written : ℕ)
     (xs : List ℕ) (fault : ToolFault) → (x == 10) ≡ false → fault ≡ BadLine number
-    → 600 < length (strip_last 13 (line ++ x ∷ [])) → Takes start now line number e written xs →
+    → 600 < length (strip_last 13 (line ++ x ∷ [])) → EncodedAfter start now line number e written xs →
     EncodeHalts start now written (asked_so_far (xs ++ x ∷ [])) fault
 long_halts start now line number x e written xs fault other is-fault long taken =
     let ended = asked_behind 0 (ended_lines xs) in
@@ -122,10 +122,10 @@ not_lf x other = grind (arith, nat_tests)
 
 pub push_cases : (start now : Option (List ℕ)) (line new : List ℕ) (number same x : ℕ) (e : EncoderState) (written : ℕ)
     (xs : List ℕ) (r : Result (Unit {0}) ToolFault) → (x == 10) ≡ false
-    → length (strip_last 13 new) ≤ 600 → Takes start now line number e written xs
+    → length (strip_last 13 new) ≤ 600 → EncodedAfter start now line number e written xs
     → MatchResult r (λ _. (new ≡ line ++ x ∷ []) × (same ≡ number))
     (λ fault. (fault ≡ BadLine number) × (600 < length (strip_last 13 (line ++ x ∷ []))))
-    → MatchResult r (λ _. Takes start now new same e written (xs ++ x ∷ []))
+    → MatchResult r (λ _. EncodedAfter start now new same e written (xs ++ x ∷ []))
     (λ fault. EncodeHalts start now written (asked_so_far (xs ++ x ∷ [])) fault)
 push_cases start now line new number same x e written xs (Ok u) other fits taken pushed =
     rw pushed.1 (other_takes start now line new number x e written xs other pushed.0 fits taken)
@@ -136,7 +136,7 @@ push_cases start now line new number same x e written xs (Err fault) other fits 
 
 -- what the open line asks for
 pub one_is : (start now : Option (List ℕ)) (line : List ℕ) (number : ℕ) (e : EncoderState) (written : ℕ) (xs : List ℕ) →
-    Takes start now line number e written xs
+    EncodedAfter start now line number e written xs
     → one_asked (line_call number (strip_last 13 line)) ≡ line_asked (length (ended_lines xs)) (open_line xs)
 one_is start now line number e written xs taken = rw (taken.lines, taken.here) refl
 
@@ -157,10 +157,10 @@ push_is xs one clean is =
     rw (ended-by_lf xs, asked-push (ended_lines xs) (open_line xs), ← lf-asked xs) (lf_is xs one clean is)
 
 pub lf_takes : (start before now : Option (List ℕ)) (line new : List ℕ) (number next : ℕ) (e f : EncoderState)
-    (written more : ℕ) (xs : List ℕ) → Takes start before line number e written xs
+    (written more : ℕ) (xs : List ℕ) → EncodedAfter start before line number e written xs
     → Ends start now f more (asked_behind 0 (ended_lines xs)).calls (one_asked (line_call number (strip_last 13 line)))
     (Ok tt) → new ≡ [] → next ≡ number + 1
-    → Takes start now new next f more (xs ++ 10 ∷ [])
+    → EncodedAfter start now new next f more (xs ++ 10 ∷ [])
 lf_takes start before now line new number next e f written more xs taken ends empty is =
     let one = one_asked (line_call number (strip_last 13 line)) in
     let same = one_is start before line number e written xs taken in
@@ -174,7 +174,7 @@ lf_takes start before now line new number next e f written more xs taken ends em
     }
 
 pub lf_halts : (start before now : Option (List ℕ)) (line : List ℕ) (number : ℕ) (e f : EncoderState) (written more : ℕ)
-    (xs : List ℕ) (fault : ToolFault) → Takes start before line number e written xs
+    (xs : List ℕ) (fault : ToolFault) → EncodedAfter start before line number e written xs
     → Ends start now f more (asked_behind 0 (ended_lines xs)).calls (one_asked (line_call number (strip_last 13 line)))
     (Err fault)
     → EncodeHalts start now more (asked_so_far (xs ++ 10 ∷ [])) fault
@@ -232,7 +232,7 @@ halts_finishes reads after start now written xs a _ asks halts = (a, asks, halts
 
 pub end_finishes : (reads : ℕ) (after start before now : Option (List ℕ)) (line : List ℕ) (number : ℕ)
     (e f : EncoderState) (written more : ℕ) (xs : List ℕ) (r : Result (Unit {0}) ToolFault)
-    → IsAtEnd after → Takes start before line number e written xs
+    → IsAtEnd after → EncodedAfter start before line number e written xs
     → Ends start now f more (asked_behind 0 (ended_lines xs)).calls (one_asked (line_call number (strip_last 13 line)))
     r → EncodeFinishes reads after start now more xs r
 end_finishes reads after start before now line number e f written more xs r at taken ends = cases r ends
@@ -257,7 +257,7 @@ end_finishes reads after start before now line number e f written more xs r at t
 
 -- no fault in the octets so far
 pub clean_so_far : (start now : Option (List ℕ)) (line : List ℕ) (number : ℕ) (e : EncoderState) (written : ℕ)
-    (xs : List ℕ) → Takes start now line number e written xs
+    (xs : List ℕ) → EncodedAfter start now line number e written xs
     → ((asked_so_far xs).fault ≡ None) × Appends start now (encode_text (asked_so_far xs).calls)
     × (written ≡ length (encode_text (asked_so_far xs).calls))
 clean_so_far start now line number e written xs taken =

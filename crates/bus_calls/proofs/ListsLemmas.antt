@@ -15,7 +15,7 @@ use Rattle.bus_text.specs.Listing.{listing, ending_text}
 use Rattle.bus_text.specs.Summary.{summary_of}
 use Rattle.bus_text.specs.Put.{Cuts}
 use Rattle.bus_text.specs.Pages.{Pages}
-use Rattle.bus_calls.specs.Internal.Closes.{IsNoWrite, Closes}
+use Rattle.bus_calls.specs.Internal.Closes.{IsNoWrite, ClosesPage}
 use Rattle.bus_calls.specs.Begins.{Begins, Refuses}
 use Rattle.bus_calls.specs.Internal.Asked.{IsMade, IsRuled}
 use Rattle.bus_calls.specs.Internal.Kinds.{KindView, KindLaws}
@@ -240,7 +240,7 @@ closed-lists : {R X : Type 0} (form : Form R X) (o : Options) (d : List FrameTyp
     (xs : List ℕ) (f answer : ToolFault) (text : List ℕ) → Begins o d →
     text ≡ listing_of form o d (so_far form o xs).bits
     → (Appends start later (listing_of form o d (so_far form o xs).bits) →
-    ListsBy form o after start later xs (Err f)) → Closes start later text f answer →
+    ListsBy form o after start later xs (Err f)) → ClosesPage start later text f answer →
     ListsBy form o after start later xs (Err answer)
 closed-lists form o d after start later xs f answer text begins is go (inl closed) =
     subst (λ (x : ToolFault). ListsBy form o after start later xs (Err x)) (sym closed.0)
@@ -257,7 +257,7 @@ pub stops-lists : {A R X B : Type 0} (kind : KindView A R X B) (o : Options) (d 
     Finishes kind text o.reads after start now w xs (Err f)
     → ((sent : ℕ) → f ≡ fault.Write sent → (answer ≡ fault.Write sent) × (later ≡ now))
     → (IsNoWrite f → (start : Option (List ℕ)) (t : List ℕ) →
-    Pages start now w.reporter.page.text w.reporter.page.written t → Closes start later t f answer)
+    Pages start now w.reporter.page.text w.reporter.page.written t → ClosesPage start later t f answer)
     → ListsBy kind.form o after start later xs (Err answer)
 stops-lists {A} {R} {X} kind o d text after start now later w xs f answer law begins asked same-text = cases f
   where
@@ -294,7 +294,7 @@ stops-lists {A} {R} {X} kind o d text after start now later w xs f answer law be
     cases : (f : ToolFault) → Finishes kind text o.reads after start now w xs (Err f)
         → ((sent : ℕ) → f ≡ fault.Write sent → (answer ≡ fault.Write sent) × (later ≡ now))
         → (IsNoWrite f → (start : Option (List ℕ)) (t : List ℕ) →
-        Pages start now w.reporter.page.text w.reporter.page.written t → Closes start later t f answer)
+        Pages start now w.reporter.page.text w.reporter.page.written t → ClosesPage start later t f answer)
         → ListsBy kind.form o after start later xs (Err answer)
     cases fault.Read ended cut close =
         closed-lists kind.form o d after start later xs fault.Read answer (lines kind w bits) begins is

@@ -2,7 +2,7 @@
 use Rattle.std.proofs.Common.{◌≡◌, ℕ, ◌+◌, ◌-◌, ◌*◌, ◌<◌, ◌≤◌, ◌^◌, Bool, List, [], ◌++◌, length, zip, Option, Some}
 use Rattle.std.proofs.Common.{None, refl, sym, ap, ◌∙◌, subst, arith, length-append, append-nil, append_assoc}
 use Rattle.bus_bits.specs.Bits.{bits_from}
-use Rattle.bus_watch.specs.Watch.{LeadsTold, seen_by}
+use Rattle.bus_watch.specs.Watch.{AdvancesWatchShown, seen_by}
 use Rattle.bus_text.specs.Put.{Cuts}
 use Rattle.bus_text.specs.declared.fault.ToolFault.{ToolFault}
 use Rattle.bus_text.specs.declared.fault.ToolFault.TheVariants as fault
@@ -16,7 +16,7 @@ use Rattle.bus_watch.proofs.PairScanLemmas.{length-zipped, zip-met}
 use Rattle.bus_calls.proofs.WatchingLemmas.{halted, halts-more, lines-more, watched, within-all}
 
 module _ {A R X B : Type 0} (t : KindView A R X B) (w v : CaptureRun A) (xs : List X) (before after : Option (List ℕ))
-    (all : LeadsTold t.watch w.analyser xs v.analyser
+    (all : AdvancesWatchShown t.watch w.analyser xs v.analyser
     (λ ss. ReportsSeen (t.watch.dictionary w.analyser) (record w.reporter { cut = None }) before ss v.reporter after))
   where
     pub told-sound : t.watch.place w.analyser + length xs ≤ 2 ^ 60 → IsSound t w → IsSound t v

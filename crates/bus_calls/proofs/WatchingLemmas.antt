@@ -11,7 +11,7 @@ use Rattle.bus_dictionary.specs.Entry.{FrameType}
 use Rattle.bus_dictionary.specs.Dictionary.{longest_of}
 use Rattle.bus_pairing.specs.Seen.{SeenReport, seen}
 use Rattle.bus_pairing.specs.Talk.{pending}
-use Rattle.bus_watch.specs.Watch.{Leads, seen_by}
+use Rattle.bus_watch.specs.Watch.{AdvancesWatch, seen_by}
 use Rattle.bus_text.specs.Listing.{ending_text}
 use Rattle.bus_text.specs.Summary.{summary_of}
 use Rattle.bus_text.specs.Counting.{IsFew}
@@ -70,13 +70,14 @@ module _ {A R X B : Type 0} (t : KindView A R X B) where
 
   -- what is seen of more symbols
   pub seen-more : (a c : A) (b more : List X) (told : List SeenReport)
-      → t.watch.is_after a b → Leads t.watch a more told c → seen_by t.watch c (b ++ more) ≡ seen_by t.watch a b ++ told
+      → t.watch.is_after a b → AdvancesWatch t.watch a more told c
+      → seen_by t.watch c (b ++ more) ≡ seen_by t.watch a b ++ told
   seen-more a c b more told after leads = seen-same a c (b ++ more) leads.dictionary leads.origin ∙ leads.seen b after
 
   -- the lines of more symbols
   pub lines-more : (w v : CaptureRun A) (b more : List X) (told : List SeenReport)
       → v.reporter.printer ≡ w.reporter.printer → t.watch.is_after w.analyser b →
-      Leads t.watch w.analyser more told v.analyser
+      AdvancesWatch t.watch w.analyser more told v.analyser
       → lines t v (b ++ more) ≡ lines t w b ++ printed w.reporter.printer (t.watch.dictionary w.analyser) told
   lines-more w v b more told printer after leads =
       ap (λ x. printed x (t.watch.dictionary v.analyser) (seen_by t.watch v.analyser (b ++ more))) printer
@@ -88,7 +89,7 @@ module _ {A R X B : Type 0} (t : KindView A R X B) where
 
   -- symbols that tell this were followed
   pub watched : (start now later : Option (List ℕ)) (w v : CaptureRun A) (b more : List X) (told : List SeenReport)
-      → v.reporter.printer ≡ w.reporter.printer → Watches t start now w b → Leads t.watch w.analyser more told
+      → v.reporter.printer ≡ w.reporter.printer → Watches t start now w b → AdvancesWatch t.watch w.analyser more told
       v.analyser
       → v.reporter.summary ≡ summary_of (seen_by t.watch w.analyser b ++ told)
       → Pages start later v.reporter.page.text v.reporter.page.written

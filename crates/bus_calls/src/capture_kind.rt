@@ -11,7 +11,7 @@ ghost use Rattle.bus_bits.specs.Packed.{head_fault_of, packed_fault_of};
 ghost use Rattle.bus_pairing.specs.History.{KeptFrame, history, tally};
 ghost use Rattle.bus_pairing.specs.Seen.{SeenReport};
 ghost use Rattle.bus_pairing.specs.Talk.{pending};
-ghost use Rattle.bus_watch.specs.Watch.{Leads};
+ghost use Rattle.bus_watch.specs.Watch.{AdvancesWatch};
 ghost use Rattle.bus_text.specs.CheckText.{kept_text};
 ghost use Rattle.bus_text.specs.Counting.{IsFew};
 ghost use Rattle.bus_text.specs.Adds.{Prints};

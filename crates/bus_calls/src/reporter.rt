@@ -5,7 +5,7 @@ ghost use Rattle.arrayvec.specs.ArrayVec.{array_vec_len};
 ghost use Rattle.bus_text.specs.Counting.{IsFew};
 ghost use Rattle.bus_text.specs.Pages.{Pages};
 ghost use Rattle.bus_text.specs.Summary.{summary_of};
-ghost use Rattle.bus_calls.specs.Internal.Reporting.{HasRoom, ReportsSeen};
+ghost use Rattle.bus_calls.specs.Internal.Reporting.{HasReporterRoom, ReportsSeen};
 ghost use Rattle.bus_calls.specs.Internal.ReportingLaws.{has-less, reports-more, reports-none};
 
 use bus_dictionary::Dictionary;
@@ -45,7 +45,7 @@ impl Reporter {
 impl<W: Write> ReportObserver<W> for Reporter {
     ghost observes = { λ d l w seen m v. ReportsSeen d l (W.contents w) seen m (W.contents v) };
 
-    ghost has_room = { HasRoom };
+    ghost has_room = { HasReporterRoom };
 
     fn observe(
         &mut self,

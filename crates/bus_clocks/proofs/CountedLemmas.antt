@@ -3,7 +3,7 @@ use Rattle.std.proofs.Common.{◌≡◌, ℕ, zero, suc, ◌-◌, ◌↔◌, ◌
 use Rattle.std.proofs.Common.{refl, sym, ap, ◌∙◌, subst, inl, inr, arith}
 use Rattle.std.proofs.lemmas.Bool.{cases_lt}
 use Rattle.std.specs.Bool.{beq}
-use Rattle.bus_clocks.specs.Sampled.{Channel, level, stood, counted, HasStood, IsCounted}
+use Rattle.bus_clocks.specs.Sampled.{Channel, level, stood, counted_level, HasStood, IsCounted}
 use Rattle.bus_clocks.proofs.SampledLemmas.{same-bool, stood-all}
 
 both-true : (x y : Bool) → (x && y) ≡ true → (x ≡ true) × (y ≡ true)
@@ -28,7 +28,7 @@ module _ (channel : Channel) (ss : List ℕ) where
       stood-all channel ss i hold
       (λ j within. has j within ∙ sym (ap (level channel ss) (omega arith) ∙ has 0 (omega arith)))
 
-  counted-is : (hold i : ℕ) → IsCounted hold channel ss i (counted hold channel ss i)
+  counted-is : (hold i : ℕ) → IsCounted hold channel ss i (counted_level hold channel ss i)
   counted-is hold zero = record {
     at = 0;
     upto = omega arith;
@@ -37,9 +37,9 @@ module _ (channel : Channel) (ss : List ℕ) where
   }
   counted-is hold (suc i) = cases (counted-is hold i) (stood channel ss (suc i) hold) refl
     where
-      cases : IsCounted hold channel ss i (counted hold channel ss i) → (b : Bool) →
+      cases : IsCounted hold channel ss i (counted_level hold channel ss i) → (b : Bool) →
           stood channel ss (suc i) hold ≡ b → IsCounted hold channel ss (suc i)
-          (if b then level channel ss (suc i) else counted hold channel ss i)
+          (if b then level channel ss (suc i) else counted_level hold channel ss i)
       cases before true is = record {
         at = suc i;
         upto = omega arith;
@@ -70,8 +70,8 @@ module _ (channel : Channel) (ss : List ℕ) where
     ]
   ]
 
-  pub counted-it : (hold i : ℕ) (l : Bool) → (counted hold channel ss i ≡ l) ↔ IsCounted hold channel ss i l
+  pub counted-it : (hold i : ℕ) (l : Bool) → (counted_level hold channel ss i ≡ l) ↔ IsCounted hold channel ss i l
   counted-it hold i l = (
     (λ is. subst (IsCounted hold channel ss i) is (counted-is hold i)),
-    (λ has. one-counted hold i (counted hold channel ss i) l (counted-is hold i) has),
+    (λ has. one-counted hold i (counted_level hold channel ss i) l (counted-is hold i) has),
   )

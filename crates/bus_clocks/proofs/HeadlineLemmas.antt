@@ -15,7 +15,7 @@ use Rattle.bus_watch.specs.declared.pair.usage.PairUsage.{PairUsage}
 use Rattle.bus_watch.proofs.FedLemmas.{same-seen}
 use Rattle.bus_watch.proofs.HeadlineLemmas.{runs-alike}
 use Rattle.bus_clocks.specs.Arrival.{Arrival, own, arrived}
-use Rattle.bus_clocks.specs.Clocks.{ClockState, IsAfterArrivals, two_clocks, lines}
+use Rattle.bus_clocks.specs.Clocks.{ClockState, IsAfterArrivals, two_clocks, arrival_reports}
 use Rattle.bus_clocks.specs.Laws.{AnyCutOfArrivals, LinesApart}
 use Rattle.bus_clocks.specs.Ledger.{IsClockLedger}
 use Rattle.bus_clocks.specs.Headline.{WholeClockRun}
@@ -29,7 +29,7 @@ pub record Answers {C : Type 0} (view : CheckView C) (e : ClockState C) (u : Pai
   pub second_buffered : (xs : List Arrival) → IsAfterArrivals view e xs →
       u.second_buffered ≡ stored_open (longest_of e.conversation.dictionary) (own Second xs)
   pub kept : (xs : List Arrival) → IsAfterArrivals view e xs →
-      u.history_len ≡ length (history e.conversation.depth (lines e xs))
+      u.history_len ≡ length (history e.conversation.depth (arrival_reports e xs))
   pub deep : u.history_len ≤ e.conversation.depth
   pub ledger : (xs : List Arrival) → IsAfterArrivals view e xs →
       IsClockLedger view.cost (longest_of e.conversation.dictionary) xs u.spent

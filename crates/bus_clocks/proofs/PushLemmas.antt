@@ -18,16 +18,17 @@ use Rattle.bus_line.specs.declared.event.EventKind.TheVariants as event
 use Rattle.bus_dictionary.specs.Dictionary.{longest_of}
 use Rattle.bus_pairing.specs.LineReport.{LineReport}
 use Rattle.bus_pairing.specs.Seen.{SeenReport, seen}
-use Rattle.bus_pairing.specs.Conversation.{ConversationState, Keeps, Enters, IsWhole}
+use Rattle.bus_pairing.specs.Conversation.{ConversationState, ConversationAfter, AdvancesConversation, IsWhole}
 use Rattle.bus_pairing.specs.declared.line.Line.TheVariants.{First, Second}
 use Rattle.bus_pairing.proofs.SeenLemmas.{seen-more}
 use Rattle.bus_watch.specs.Internal.Decodes.{line_reports_of}
 use Rattle.bus_watch.proofs.AnalyserViewLemmas.{whole}
 use Rattle.bus_clocks.specs.Arrival.{Arrival, own, place_of, at_places, decides, arrived}
-use Rattle.bus_clocks.specs.Clocks.{ClockState, PlacesState, KeepsPlaces, IsAfterArrivals, SeesArrivals, lines}
+use Rattle.bus_clocks.specs.Clocks.{ClockState, PlacesState, KeepsPlaces, IsAfterArrivals, AdvancesArrivals}
+use Rattle.bus_clocks.specs.Clocks.{arrival_reports}
 use Rattle.bus_clocks.specs.Clocks.{CountsOn}
-use Rattle.bus_clocks.specs.Internal.Pushes.{Decodes, Begins, Notes, IsLocated, AreLocated, IsLocatable}
-use Rattle.bus_clocks.specs.Internal.Pushes.{EntersAny, FitsPast}
+use Rattle.bus_clocks.specs.Internal.Pushes.{DecodesBit, OpensWith, Notes, IsLocated, AreLocated, IsLocatable}
+use Rattle.bus_clocks.specs.Internal.Pushes.{AdvancesConversationBy, FitsPast}
 use Rattle.bus_clocks.specs.Laws.{ArrivalsGrow}
 use Rattle.bus_clocks.proofs.ArrivalLemmas.{own-append, IsNear, report-near, before-append, before-within}
 use Rattle.bus_clocks.proofs.ArrivalLemmas.{decides-first, decides-second}
@@ -42,7 +43,7 @@ pub record Pushes {C : Type 0} (view : CheckView C) (old : ClockState C) (x : Ar
       → KeepsPlaces old.first.origin new.places (xs ++ x ∷ [])
   pub decides : (xs : List Arrival) → IsAfterArrivals view old xs
       → decides old.first.origin (longest_of old.conversation.dictionary) xs x ≡ decided
-  pub enters : EntersAny old.conversation decided found new.conversation
+  pub enters : AdvancesConversationBy old.conversation decided found new.conversation
   pub origin : new.first.origin ≡ old.first.origin
   pub origin_second : new.second.origin ≡ old.second.origin
   pub longest : new.first.longest ≡ old.first.longest
@@ -66,13 +67,14 @@ counts-second old new bit one none Second = one
 
 pub sees-arrival : {C : Type 0} (view : CheckView C) (old new : ClockState C) (x : Arrival) (decided : List LineReport)
     (found : Option SeenReport) → ArrivalsGrow → Pushes view old x decided found new →
-    SeesArrivals view old (x ∷ []) (option_to_list found) new
+    AdvancesArrivals view old (x ∷ []) (option_to_list found) new
 sees-arrival view old new x decided found grow pushes =
     let enters = pushes.enters in
-    let grown : (xs : List Arrival) → IsAfterArrivals view old xs → lines old (xs ++ x ∷ []) ≡ lines old xs ++ decided =
+    let grown : (xs : List Arrival) → IsAfterArrivals view old xs
+    → arrival_reports old (xs ++ x ∷ []) ≡ arrival_reports old xs ++ decided =
     λ xs reached. grow old.first.origin (longest_of old.conversation.dictionary) xs x
-    ∙ ap (λ hs. lines old xs ++ hs) (pushes.decides xs reached) in
-    let same : (ys : List Arrival) → lines new ys ≡ lines old ys = λ ys.
+    ∙ ap (λ hs. arrival_reports old xs ++ hs) (pushes.decides xs reached) in
+    let same : (ys : List Arrival) → arrival_reports new ys ≡ arrival_reports old ys = λ ys.
     ap (λ o. arrived o (longest_of new.conversation.dictionary) ys) pushes.origin
     ∙ ap (λ d. arrived old.first.origin (longest_of d) ys) enters.dictionary in
     record {
@@ -83,10 +85,11 @@ sees-arrival view old new x decided found grow pushes =
         longest = pushes.longest ∙ reached.longest ∙ ap longest_of (sym enters.dictionary);
         longest_second = pushes.longest_second ∙ reached.longest_second ∙ ap longest_of (sym enters.dictionary);
         places = rw (pushes.origin) (pushes.places xs reached);
-        conversation = rw (same (xs ++ x ∷ []), grown xs reached) (enters.keeps (lines old xs) reached.conversation);
+        conversation = rw (same (xs ++ x ∷ []), grown xs reached) (enters.keeps
+            (arrival_reports old xs) reached.conversation);
       };
       seen = λ xs reached. ap (seen old.conversation.dictionary) (grown xs reached)
-          ∙ enters.seen (lines old xs) reached.conversation;
+          ∙ enters.seen (arrival_reports old xs) reached.conversation;
       dictionary = enters.dictionary;
       depth = enters.depth;
       origin = pushes.origin;
@@ -94,16 +97,16 @@ sees-arrival view old new x decided found grow pushes =
     }
 
 -- what a conversation makes of no report, and of one
-pub enters-none : (j : ConversationState) → EntersAny j [] None j
+pub enters-none : (j : ConversationState) → AdvancesConversationBy j [] None j
 enters-none j = record {
-  keeps = λ hs kept. subst (Keeps j) (sym (append-nil hs)) kept;
+  keeps = λ hs kept. subst (ConversationAfter j) (sym (append-nil hs)) kept;
   seen = λ hs kept. ap (seen j.dictionary) (append-nil hs) ∙ sym (append-nil (seen j.dictionary hs));
   dictionary = refl;
   depth = refl;
 }
 
-pub enters-one : (j k : ConversationState) (h : LineReport) (found : SeenReport) → Enters j h found k →
-    EntersAny j (h ∷ []) (Some found) k
+pub enters-one : (j k : ConversationState) (h : LineReport) (found : SeenReport) → AdvancesConversation j h found k →
+    AdvancesConversationBy j (h ∷ []) (Some found) k
 enters-one j k h found enters = record {
   keeps = enters.keeps;
   seen = λ hs kept. seen-more j.dictionary hs h ∙ ap (λ s. seen j.dictionary hs ++ s ∷ []) (sym (enters.says hs kept));
@@ -113,7 +116,7 @@ enters-one j k h found enters = record {
 
 -- a frame that a bit decides has station, control and check, and so has the same in places
 pub whole-decoded : {C : Type 0} {view : CheckView C} {old new : LineState C} {bit : Bool} {o : Option Event} →
-    DueIsIt → FrameIsSpelled → Decodes view old bit o new → (b : List Bool) → After view old b → (os : List ℕ) →
+    DueIsIt → FrameIsSpelled → DecodesBit view old bit o new → (b : List Bool) → After view old b → (os : List ℕ) →
     os ≡ new.octets → (e : Event) → o ≡ Some e → IsWhole e.kind os
 whole-decoded {old = old} {new = new} {bit = bit} due spelled decodes b after os same e is =
     rw same (whole old.longest old.origin (b ++ bit ∷ []) (length b) new.octets e due spelled
@@ -131,8 +134,9 @@ whole-located p (Some e) l os located each k is =
 
 -- a bit of the first line
 pub push-first : {C : Type 0} (view : CheckView C) (old new : ClockState C) (bit : Bool) (e : Option Event)
-    (found : Option SeenReport) → Decodes view old.first bit e new.first →
-    EntersAny old.conversation (line_reports_of (Some First) (option_map (reported new.first.octets) e)) found
+    (found : Option SeenReport) → DecodesBit view old.first bit e new.first →
+    AdvancesConversationBy old.conversation (line_reports_of (Some First) (option_map
+    (reported new.first.octets) e)) found
     new.conversation →
     new.second ≡ old.second → new.places ≡ record old.places { reached = old.first.place } →
     Pushes view old (First, bit) (line_reports_of (Some First) (option_map (reported new.first.octets) e)) found new
@@ -170,10 +174,10 @@ some-is f (Some x) y is = (x, refl, cc)
 -- decoder and places after a bit of the second line
 pub record PushesSecond {C : Type 0} (view : CheckView C) (old : ClockState C) (bit : Bool) (e : Option Event)
     (number : ℕ) (opens : Bool) (second : LineState C) (places : PlacesState) : Type 0 where
-  pub decodes : Decodes view old.second bit e second
+  pub decodes : DecodesBit view old.second bit e second
   pub at_place : number ≡ old.second.place
   pub notes : Notes old.places places number opens
-  pub begins : Begins view second number opens
+  pub begins : OpensWith view second number opens
 
 module _ {C : Type 0} {view : CheckView C} {old : ClockState C} {bit : Bool} {e : Option Event} {number : ℕ}
     {opens : Bool} {second : LineState C} {places : PlacesState}
@@ -339,7 +343,8 @@ decides-located {old = old} {bit = bit} {second = second} (Some e) l it pushed l
 pub push-second : {C : Type 0} (view : CheckView C) (old new : ClockState C) (bit : Bool) (e l : Option Event)
     (number : ℕ) (opens : Bool) (found : Option SeenReport) → DueIsIt →
     PushesSecond view old bit e number opens new.second new.places → AreLocated new.places e l →
-    EntersAny old.conversation (line_reports_of (Some Second) (option_map (reported new.second.octets) l)) found
+    AdvancesConversationBy old.conversation (line_reports_of (Some Second) (option_map
+    (reported new.second.octets) l)) found
     new.conversation →
     new.first ≡ old.first →
     Pushes view old (Second, bit) (line_reports_of (Some Second) (option_map (reported new.second.octets) l)) found new

@@ -14,7 +14,7 @@ use Rattle.bus_pairing.specs.declared.line.Line.{Line}
 use Rattle.bus_pairing.specs.declared.line.Line.TheVariants.{First, Second}
 use Rattle.bus_watch.proofs.AnalyserViewLemmas.{room-of}
 use Rattle.bus_clocks.specs.Arrival.{Arrival, own, at_places, decides, arrived}
-use Rattle.bus_clocks.specs.Clocks.{ClockState, IsAfterArrivals, lines}
+use Rattle.bus_clocks.specs.Clocks.{ClockState, IsAfterArrivals, arrival_reports}
 use Rattle.bus_clocks.specs.Laws.{ArrivalsGrow}
 use Rattle.bus_clocks.proofs.ArrivalLemmas.{decides-first, decides-second}
 use Rattle.bus_clocks.proofs.SumLemmas.{one-by-one, sum-arrived}
@@ -65,7 +65,7 @@ pub room-arrivals : {C : Type 0} (view : CheckView C) (a : ClockState C) (xs : L
 room-arrivals view a xs more grow frames paid within reached first second =
     let o = a.first.origin in
     let longest = longest_of a.conversation.dictionary in
-    room-of a.conversation (lines a xs) reached.conversation
+    room-of a.conversation (arrival_reports a xs) reached.conversation
     (omega (
       arith,
       sum-arrived octet_count (λ kind i j k l. refl) more grow o longest xs,

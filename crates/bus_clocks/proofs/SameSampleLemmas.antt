@@ -11,21 +11,21 @@ use Rattle.bus_line.specs.Due.{places}
 use Rattle.bus_pairing.specs.declared.line.Line.{Line}
 use Rattle.bus_pairing.specs.declared.line.Line.TheVariants.{First, Second}
 use Rattle.bus_clocks.specs.Arrival.{Arrival}
-use Rattle.bus_clocks.specs.Sampled.{Channel, clock_of, data_of, level, stood, counted, rises, edge, sampled}
+use Rattle.bus_clocks.specs.Sampled.{Channel, clock_of, data_of, level, stood, counted_level, rises, edge, sampled}
 use Rattle.bus_clocks.proofs.EachLemmas.{places-more}
 use Rattle.bus_clocks.proofs.SampledLemmas.{counted-front, edge-front, stood-all}
 
 -- a bit arrives by what counts there and before
 edge-same : (hold : ℕ) (line : Line) (xs ys : List ℕ) (i j : ℕ) →
-    counted hold (clock_of line) xs i ≡ counted hold (clock_of line) ys j →
-    counted hold (clock_of line) xs (i - 1) ≡ counted hold (clock_of line) ys (j - 1) →
-    counted hold (data_of line) xs (i - 1) ≡ counted hold (data_of line) ys (j - 1) →
+    counted_level hold (clock_of line) xs i ≡ counted_level hold (clock_of line) ys j →
+    counted_level hold (clock_of line) xs (i - 1) ≡ counted_level hold (clock_of line) ys (j - 1) →
+    counted_level hold (data_of line) xs (i - 1) ≡ counted_level hold (data_of line) ys (j - 1) →
     edge hold xs line i ≡ edge hold ys line j
 edge-same hold line xs ys i j now before bit =
-    ap (λ c. if not (counted hold (clock_of line) xs (i - 1)) && c
-    then (line, counted hold (data_of line) xs (i - 1)) ∷ [] else []) now
-    ∙ (ap (λ c. if not c && counted hold (clock_of line) ys j
-    then (line, counted hold (data_of line) xs (i - 1)) ∷ [] else []) before
+    ap (λ c. if not (counted_level hold (clock_of line) xs (i - 1)) && c
+    then (line, counted_level hold (data_of line) xs (i - 1)) ∷ [] else []) now
+    ∙ (ap (λ c. if not c && counted_level hold (clock_of line) ys j
+    then (line, counted_level hold (data_of line) xs (i - 1)) ∷ [] else []) before
     ∙ ap (λ (c : Bool). if rises hold (clock_of line) ys j then (line, c) ∷ [] else []) bit)
 
 module _ (hold s : ℕ) (ss ts : List ℕ) where
@@ -92,12 +92,13 @@ module _ (hold s : ℕ) (ss ts : List ℕ) where
         (λ j within. run-level j within ∙ (sym (run-level 0 (omega arith))
         ∙ ap (level channel (run ++ ts)) (omega arith)))
 
-    run-counted : (i : ℕ) → i ≡ length ss + hold → counted hold channel (run ++ ts) i ≡ level channel (run ++ ts) i
+    run-counted : (i : ℕ) → i ≡ length ss + hold
+        → counted_level hold channel (run ++ ts) i ≡ level channel (run ++ ts) i
     run-counted zero is = refl
     run-counted (suc i) is = rw (ap (λ k. stood channel (run ++ ts) k hold) is ∙ run-stood) refl
 
-    shift-counted : (k : ℕ) → counted hold channel (run ++ s ∷ ts) (suc (length ss + hold + k))
-        ≡ counted hold channel (run ++ ts) (length ss + hold + k)
+    shift-counted : (k : ℕ) → counted_level hold channel (run ++ s ∷ ts) (suc (length ss + hold + k))
+        ≡ counted_level hold channel (run ++ ts) (length ss + hold + k)
     shift-counted zero =
         let at : length ss + hold + zero ≡ length ss + hold = omega arith in
         rw at
@@ -118,16 +119,16 @@ module _ (hold s : ℕ) (ss ts : List ℕ) where
   shift-edge line k =
       let i = length ss + hold + k in
       let after : length ss + hold + suc k ≡ suc i = omega arith in
-      let next : counted hold (clock_of line) (run ++ s ∷ ts) (suc (suc i))
-      ≡ counted hold (clock_of line) (run ++ ts) (suc i) =
-      ap (λ j. counted hold (clock_of line) (run ++ s ∷ ts) (suc j)) (sym after)
-      ∙ (shift-counted (clock_of line) (suc k) ∙ ap (counted hold (clock_of line) (run ++ ts)) after) in
+      let next : counted_level hold (clock_of line) (run ++ s ∷ ts) (suc (suc i))
+      ≡ counted_level hold (clock_of line) (run ++ ts) (suc i) =
+      ap (λ j. counted_level hold (clock_of line) (run ++ s ∷ ts) (suc j)) (sym after)
+      ∙ (shift-counted (clock_of line) (suc k) ∙ ap (counted_level hold (clock_of line) (run ++ ts)) after) in
       let one : i ≡ suc i - 1 = omega arith in
       let two : suc (suc i) - 1 ≡ suc i = omega arith in
-      let now : (channel : Channel) → counted hold channel (run ++ s ∷ ts) (suc (suc i) - 1)
-      ≡ counted hold channel (run ++ ts) (suc i - 1) = λ channel.
-      ap (counted hold channel (run ++ s ∷ ts)) two
-      ∙ (shift-counted channel k ∙ ap (counted hold channel (run ++ ts)) one) in
+      let now : (channel : Channel) → counted_level hold channel (run ++ s ∷ ts) (suc (suc i) - 1)
+      ≡ counted_level hold channel (run ++ ts) (suc i - 1) = λ channel.
+      ap (counted_level hold channel (run ++ s ∷ ts)) two
+      ∙ (shift-counted channel k ∙ ap (counted_level hold channel (run ++ ts)) one) in
       edge-same hold line (run ++ s ∷ ts) (run ++ ts) (suc (suc i)) (suc i) next (now (clock_of line))
       (now (data_of line))
 
@@ -144,14 +145,14 @@ module _ (hold s : ℕ) (ss ts : List ℕ) where
       let here : i ≡ suc (length ss + hold + 0) = omega (arith, run-length, is) in
       let same : length ss + hold + 0 ≡ length ss + hold = omega arith in
       let inside : length ss + hold < length run = omega (arith, run-length) in
-      let now : counted hold channel (run ++ s ∷ ts) i ≡ counted hold channel run (length ss + hold) =
-      ap (counted hold channel (run ++ s ∷ ts)) here
-      ∙ (shift-counted channel 0 ∙ (ap (counted hold channel (run ++ ts)) same
+      let now : counted_level hold channel (run ++ s ∷ ts) i ≡ counted_level hold channel run (length ss + hold) =
+      ap (counted_level hold channel (run ++ s ∷ ts)) here
+      ∙ (shift-counted channel 0 ∙ (ap (counted_level hold channel (run ++ ts)) same
       ∙ counted-front channel run ts hold (length ss + hold) inside)) in
-      let was : counted hold channel (run ++ s ∷ ts) (i - 1) ≡ counted hold channel run (length ss + hold) =
-      ap (counted hold channel (run ++ s ∷ ts)) before
+      let was : counted_level hold channel (run ++ s ∷ ts) (i - 1) ≡ counted_level hold channel run (length ss + hold) =
+      ap (counted_level hold channel (run ++ s ∷ ts)) before
       ∙ counted-front channel run (s ∷ ts) hold (length ss + hold) inside in
-      rw (now, was) (never (counted hold channel run (length ss + hold)) _)
+      rw (now, was) (never (counted_level hold channel run (length ss + hold)) _)
     where
       never : (c : Bool) (x : List Arrival) → (if not c && c then x else []) ≡ []
       never true x = refl

@@ -7,7 +7,7 @@ use Rattle.std.proofs.Math.Seq.{get_or-append_seam}
 use Rattle.std.proofs.lemmas.Bool.{cases_lt, eqb-true, eqb-false}
 use Rattle.bus_pairing.specs.declared.line.Line.{Line}
 use Rattle.bus_pairing.specs.declared.line.Line.TheVariants.{First, Second}
-use Rattle.bus_clocks.specs.Sampled.{Channel, clock_of, data_of, level, stood, counted, edge, sampled, bit_on}
+use Rattle.bus_clocks.specs.Sampled.{Channel, clock_of, data_of, level, stood, counted_level, edge, sampled, bit_on}
 use Rattle.bus_clocks.specs.Sampled.{HeldState, IsHeldAfter}
 use Rattle.bus_clocks.specs.Internal.Held.{next_state}
 use Rattle.bus_clocks.proofs.EachLemmas.{each-more, length-more}
@@ -22,7 +22,8 @@ module _ (channel : Channel) (ss ts : List ℕ) where
   stood-front i (suc hold) inside =
       rw (level-front i inside, level-front (i - suc hold) (omega (arith, inside)), stood-front i hold inside) refl
 
-  pub counted-front : (hold i : ℕ) → i < length ss → counted hold channel (ss ++ ts) i ≡ counted hold channel ss i
+  pub counted-front : (hold i : ℕ) → i < length ss
+      → counted_level hold channel (ss ++ ts) i ≡ counted_level hold channel ss i
   counted-front hold zero inside = level-front 0 inside
   counted-front hold (suc i) inside =
       rw (
@@ -108,8 +109,8 @@ if-both : (b x y z : Bool) → x ≡ z → y ≡ z → (if b then x else y) ≡ 
 if-both true x y z one other = one
 if-both false x y z one other = other
 
-counted-at : (hold : ℕ) (channel : Channel) (ss : List ℕ) (i : ℕ) → 1 ≤ i → counted hold channel ss i
-    ≡ (if stood channel ss i hold then level channel ss i else counted hold channel ss (i - 1))
+counted-at : (hold : ℕ) (channel : Channel) (ss : List ℕ) (i : ℕ) → 1 ≤ i → counted_level hold channel ss i
+    ≡ (if stood channel ss i hold then level channel ss i else counted_level hold channel ss (i - 1))
 counted-at hold channel ss zero some = absurd (omega (arith, some))
 counted-at hold channel ss (suc i) some =
     let before : suc i - 1 ≡ i = omega arith in
@@ -127,10 +128,10 @@ module _ (hold : ℕ) (channel : Channel) (h : HeldState) (ss : List ℕ) (s : �
       let index : length ss - j ≡ length ss - 1 - (j - 1) = omega (arith, some) in
       level-front channel ss (s ∷ []) (length ss - j) (omega (arith, some, after.some)) ∙ ap (level channel ss) index
 
-  held-at : (i : ℕ) → i ≡ length ss → counted hold channel (ss ++ s ∷ []) i
+  held-at : (i : ℕ) → i ≡ length ss → counted_level hold channel (ss ++ s ∷ []) i
       ≡ (if stood channel (ss ++ s ∷ []) (length ss) hold then channel s else h.level)
   held-at i is =
-      ap (counted hold channel (ss ++ s ∷ [])) is
+      ap (counted_level hold channel (ss ++ s ∷ [])) is
       ∙ (counted-at hold channel (ss ++ s ∷ []) (length ss) after.some
       ∙ rw (
         held-last,

@@ -7,7 +7,7 @@ use Rattle.bus_line.specs.Due.{reports}
 use Rattle.bus_line.specs.Ledger.{octet_count, copied, stored, IsLedger as IsLineLedger}
 use Rattle.bus_line.specs.Laws.{OneMore, StoredPaid, AssembledWithin}
 use Rattle.bus_dictionary.specs.Dictionary.{longest_of}
-use Rattle.bus_pairing.specs.Ledger.{steps, handled, total, plus, IsLedger}
+use Rattle.bus_pairing.specs.Ledger.{steps, handled, total, sum_of_steps, IsAnalyserLedger}
 use Rattle.bus_pairing.specs.declared.line.Line.TheVariants.{First, Second}
 use Rattle.bus_pairing.proofs.LedgerLemmas.{cost-within}
 use Rattle.bus_watch.specs.Laws.{StepsWithinFour, StepsWithinThree}
@@ -22,7 +22,7 @@ abbrev steps_of : ℕ → List Bool → ℕ
 steps_of longest b = handled (reports longest b)
 
 line-ledger : (cost longest : ℕ) (b : List Bool) (d : Spent) → IsLineLedger cost longest b d →
-    IsLedger cost longest b (record d { copied = copied longest b; handled = handled (reports longest b) })
+    IsAnalyserLedger cost longest b (record d { copied = copied longest b; handled = handled (reports longest b) })
 line-ledger cost longest b d ledger = record {
   bits = ledger.bits;
   settled = ledger.settled;
@@ -61,7 +61,7 @@ clock-ledger view a xs d e j more grow reached first second copied_is handled_is
       sum = rw (kept, steps_are) refl;
     }
 
-plus-total : (s t : Spent) → total (plus s t) ≡ total s + total t
+plus-total : (s t : Spent) → total (sum_of_steps s t) ≡ total s + total t
 plus-total s t = omega arith
 
 pub clock-four : (cost longest : ℕ) (xs : List Arrival) (spent : Spent) → StepsWithinFour → cost ≤ 8 →

@@ -10,7 +10,7 @@ use Rattle.bus_watch.specs.Laws.{IsAnyCut}
 use Rattle.bus_clocks.specs.Arrival.{Arrival, own, at_places, arrived, decides}
 use Rattle.bus_clocks.specs.Clocks.{two_clocks}
 use Rattle.bus_clocks.specs.Rested.{rested}
-use Rattle.bus_clocks.specs.Sampled.{Channel, IsCounted, counted, sampled}
+use Rattle.bus_clocks.specs.Sampled.{Channel, IsCounted, counted_level, sampled}
 
 -- pairs of bits as they arrive with one clock for both: first a bit of the first line, then one of the second
 abbrev pub in_turn : List (Bool × Bool) → List Arrival
@@ -44,7 +44,7 @@ RestLeavesFirst = (most : ℕ) (xs : List Arrival) → own First (rested most xs
 -- which level counts is computed
 abbrev pub CountedIsIt : Type 0
 CountedIsIt = (hold : ℕ) (channel : Channel) (ss : List ℕ) (i : ℕ) (l : Bool) →
-    (counted hold channel ss i ≡ l) ↔ IsCounted hold channel ss i l
+    (counted_level hold channel ss i ≡ l) ↔ IsCounted hold channel ss i l
 
 -- of samples in a row that are the same, those after the first `hold + 1` bring no bit, and change none that comes
 -- later; where each level counts at once, a sample that changes nothing may be left out

@@ -46,19 +46,19 @@ stood channel ss i zero = true
 stood channel ss i (suc hold) = beq (level channel ss (i - suc hold)) (level channel ss i) && stood channel ss i hold
 
 -- computed: the level that counts at sample `i`
-abbrev pub counted : ℕ → Channel → List ℕ → ℕ → Bool
-counted hold channel ss zero = level channel ss 0
-counted hold channel ss (suc i) =
-    if stood channel ss (suc i) hold then level channel ss (suc i) else counted hold channel ss i
+abbrev pub counted_level : ℕ → Channel → List ℕ → ℕ → Bool
+counted_level hold channel ss zero = level channel ss 0
+counted_level hold channel ss (suc i) =
+    if stood channel ss (suc i) hold then level channel ss (suc i) else counted_level hold channel ss i
 
 -- the level that counts rises at sample `i`
 abbrev pub rises : ℕ → Channel → List ℕ → ℕ → Bool
-rises hold channel ss i = not (counted hold channel ss (i - 1)) && counted hold channel ss i
+rises hold channel ss i = not (counted_level hold channel ss (i - 1)) && counted_level hold channel ss i
 
 -- where a line's clock rises, a bit of it arrives: the level of its data just before
 abbrev pub edge : ℕ → List ℕ → Line → ℕ → List Arrival
 edge hold ss line i =
-    if rises hold (clock_of line) ss i then (line, counted hold (data_of line) ss (i - 1)) ∷ [] else []
+    if rises hold (clock_of line) ss i then (line, counted_level hold (data_of line) ss (i - 1)) ∷ [] else []
 
 -- what arrives in these samples, of two bits in one sample the first line's first
 abbrev pub sampled : ℕ → List ℕ → List Arrival
@@ -69,8 +69,8 @@ abbrev pub bit_on : Line → Option Bool → List Arrival
 bit_on line None = []
 bit_on line (Some bit) = (line, bit) ∷ []
 
-abbrev pub bits_in : Edges → List Arrival
-bits_in e = bit_on First e.first ++ bit_on Second e.second
+abbrev pub bits_of_edges : Edges → List Arrival
+bits_of_edges e = bit_on First e.first ++ bit_on Second e.second
 
 -- a channel as it is kept: the level that counts, and for how many samples the other level has stood
 pub record HeldState : Type 0 where
@@ -80,7 +80,7 @@ pub record HeldState : Type 0 where
 -- it may be kept so after these samples
 pub record IsHeldAfter (hold : ℕ) (channel : Channel) (h : HeldState) (ss : List ℕ) : Type 0 where
   pub some : 1 ≤ length ss
-  pub counts : h.level ≡ counted hold channel ss (length ss - 1)
+  pub counts : h.level ≡ counted_level hold channel ss (length ss - 1)
   pub within : h.others ≤ hold
   pub others : (k : ℕ) → k < h.others → level channel ss (length ss - 1 - k) ≡ not h.level
   pub before : level channel ss (length ss - 1 - h.others) ≡ h.level

@@ -8,7 +8,7 @@ ghost use Rattle.std.specs.Borrow.{sem};
 ghost use Rattle.std.specs.Io.BufRead.{Rests};
 ghost use Rattle.bus_bits.specs.Limits.{most_places};
 ghost use Rattle.bus_clocks.specs.Arrival.{Arrival};
-ghost use Rattle.bus_clocks.specs.Internal.Pushes.{Begins, Decodes, EntersAny};
+ghost use Rattle.bus_clocks.specs.Internal.Pushes.{OpensWith, DecodesBit, AdvancesConversationBy};
 ghost use Rattle.bus_line.specs.Limits.{most_octets};
 ghost use Rattle.bus_line.specs.Shown.{reported};
 ghost use Rattle.bus_line.specs.After.{After};
@@ -62,7 +62,7 @@ impl<C: Check> Model for TwoClockAnalyser<C> {
 /// A decoder gets a bit. Returns what the bit decides, if anything.
 fn decode<C: Check>(decoder: &mut LineDecoder<C>, bit: bool) -> Result<Option<Event>, PlaceLimit>
     ensures limit { IsErr result ↔ (most_places ≤ decoder.old.place) }
-    ensures decodes { IfOk result (λ event. Decodes C.check decoder.old bit event decoder.new) }
+    ensures decodes { IfOk result (λ event. DecodesBit C.check decoder.old bit event decoder.new) }
     ensures unchanged { OnErr result (decoder.new ≡ decoder.old) }
 {
     let event = decoder.advance(bit)?;
@@ -71,7 +71,7 @@ fn decode<C: Check>(decoder: &mut LineDecoder<C>, bit: bool) -> Result<Option<Ev
 
 /// Whether a piece begins with a decoder's last bit, which has this number.
 fn begins<C: Check>(decoder: &LineDecoder<C>, number: u64) -> bool
-    ensures { Begins C.check decoder.now number result }
+    ensures { OpensWith C.check decoder.now number result }
 {
     match decoder.begun() {
         Some(first) => first == number,
@@ -93,7 +93,8 @@ fn enter(conversation: &mut Conversation, line: Line, event: Option<Event>, octe
     requires whole { (e : Event) → event ≡ Some e → IsWhole e.kind octets.now }
     requires fits { length octets.now ≤ most_octets }
     requires room { HasRoom conversation.old }
-    ensures { EntersAny conversation.old (line_reports_of (Some line) (option_map (reported octets.now) event))
+    ensures { AdvancesConversationBy conversation.old (line_reports_of (Some line) (option_map
+        (reported octets.now) event))
         (told_on (Some line) octets.now result conversation.new.last) conversation.new }
 {
     match event {
@@ -108,7 +109,8 @@ fn enter(conversation: &mut Conversation, line: Line, event: Option<Event>, octe
 impl<C: Check> TwoClockAnalyser<C> {
     ghost use Rattle.bus_clocks.specs.contracts.analyser.TwoClockAnalyser.{the_row};
     ghost use Rattle.bus_clocks.specs.Arrival.{own, begun_places};
-    ghost use Rattle.bus_clocks.specs.Clocks.{IsAfterArrivals, SeesArrivals, lines, seen_after_arrivals, decoder_on};
+    ghost use Rattle.bus_clocks.specs.Clocks.{IsAfterArrivals, AdvancesArrivals, arrival_reports, seen_after_arrivals};
+    ghost use Rattle.bus_clocks.specs.Clocks.{decoder_on};
     ghost use Rattle.bus_clocks.specs.Clocks.{CountsOn};
     ghost use Rattle.bus_watch.specs.PairShown.{shown_option_on};
     ghost use Rattle.bus_pairing.specs.Shown.{kept_pair_option, IsKeepable};
@@ -178,7 +180,7 @@ impl<C: Check> TwoClockAnalyser<C> {
         ensures fits { IfOk result IsKeepable }
         // What becomes of the analyser: `new`, once the octets that are lent have been given back.
         ensures* rests { sem 𝓛 (Rests (the_row C.row C.Check) self.entry (λ new.
-            IfOk result (λ o. SeesArrivals C.check self.old ((line, bit) ∷ [])
+            IfOk result (λ o. AdvancesArrivals C.check self.old ((line, bit) ∷ [])
             (option_to_list (shown_option_on line o)) new)
             × OnErr result (new ≡ self.old))) }
     {
@@ -189,7 +191,7 @@ impl<C: Check> TwoClockAnalyser<C> {
     /// A bit of a line arrives. Returns whether it decides a report, which is then the conversation's last.
     pub(crate) fn step(&mut self, line: Line, bit: bool) -> Result<bool, PlaceLimit>
         ensures limit { IsErr result ↔ (most_places ≤ (decoder_on self.old line).place) }
-        ensures sees { IfOk result (λ is. SeesArrivals C.check self.old ((line, bit) ∷ [])
+        ensures sees { IfOk result (λ is. AdvancesArrivals C.check self.old ((line, bit) ∷ [])
             (option_to_list (told_on (Some line) (decoder_on self.new line).octets is self.new.conversation.last))
             self.new) }
         ensures counts { OnOk result (CountsOn self.old (line, bit) self.new) }
@@ -216,7 +218,7 @@ impl<C: Check> TwoClockAnalyser<C> {
     /// A bit of the first line arrives. Returns whether it decides a report, which is then the conversation's last.
     fn push_first(&mut self, bit: bool) -> Result<bool, PlaceLimit>
         ensures limit { IsErr result ↔ (most_places ≤ self.old.first.place) }
-        ensures sees { IfOk result (λ is. SeesArrivals C.check self.old ((First, bit) ∷ [])
+        ensures sees { IfOk result (λ is. AdvancesArrivals C.check self.old ((First, bit) ∷ [])
             (option_to_list (told_on (Some First) self.new.first.octets is self.new.conversation.last)) self.new) }
         ensures counts { OnOk result (CountsOn self.old (First, bit) self.new) }
         ensures unchanged { OnErr result (self.new ≡ self.old) }
@@ -238,7 +240,7 @@ impl<C: Check> TwoClockAnalyser<C> {
     /// A bit of the second line arrives. Returns whether it decides a report, which is then the conversation's last.
     fn push_second(&mut self, bit: bool) -> Result<bool, PlaceLimit>
         ensures limit { IsErr result ↔ (most_places ≤ self.old.second.place) }
-        ensures sees { IfOk result (λ is. SeesArrivals C.check self.old ((Second, bit) ∷ [])
+        ensures sees { IfOk result (λ is. AdvancesArrivals C.check self.old ((Second, bit) ∷ [])
             (option_to_list (told_on (Some Second) self.new.second.octets is self.new.conversation.last)) self.new) }
         ensures counts { OnOk result (CountsOn self.old (Second, bit) self.new) }
         ensures unchanged { OnErr result (self.new ≡ self.old) }
@@ -286,7 +288,7 @@ impl<C: Check> TwoClockAnalyser<C> {
     pub fn history(&self, i: usize) -> Option<&PairKept>
         ensures lent { kept_pair_option result ≡ slice_get self.now.conversation.history i }
         ensures value { (xs : List Arrival) → IsAfterArrivals C.check self.now xs →
-            kept_pair_option result ≡ slice_get (history self.now.conversation.depth (lines self.now xs)) i }
+            kept_pair_option result ≡ slice_get (history self.now.conversation.depth (arrival_reports self.now xs)) i }
     {
         self.conversation.kept(i)
     }
@@ -294,7 +296,7 @@ impl<C: Check> TwoClockAnalyser<C> {
     /// How many verdicts named a station.
     pub fn tally(&self, station: u8) -> Counts
         ensures { (xs : List Arrival) → IsAfterArrivals C.check self.now xs →
-            result ≡ tally self.now.conversation.dictionary (lines self.now xs) station }
+            result ≡ tally self.now.conversation.dictionary (arrival_reports self.now xs) station }
     {
         self.conversation.counts(station)
     }
@@ -302,7 +304,7 @@ impl<C: Check> TwoClockAnalyser<C> {
     /// How many frames the history has: at most its depth, which is at most 1024.
     pub fn history_len(&self) -> usize
         ensures value { (xs : List Arrival) → IsAfterArrivals C.check self.now xs →
-            result ≡ length (history self.now.conversation.depth (lines self.now xs)) }
+            result ≡ length (history self.now.conversation.depth (arrival_reports self.now xs)) }
         ensures depth { result ≤ self.now.conversation.depth }
         ensures bound { self.now.conversation.depth ≤ 1024 }
     {
@@ -319,7 +321,7 @@ impl<C: Check> TwoClockAnalyser<C> {
         ensures second { (xs : List Arrival) → IsAfterArrivals C.check self.now xs →
             result.second ≡ begun_places self.now.first.origin xs }
         ensures pending { (xs : List Arrival) → IsAfterArrivals C.check self.now xs →
-            result.pending ≡ pending self.now.conversation.dictionary (lines self.now xs) }
+            result.pending ≡ pending self.now.conversation.dictionary (arrival_reports self.now xs) }
     {
         PairEnding {
             first: begun_span(&self.first),

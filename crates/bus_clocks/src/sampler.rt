@@ -4,7 +4,7 @@ ghost use Rattle.std.specs.Prelude.{◌≡◌, ◌+◌, ◌≤◌, ◌/◌, ◌%
 ghost use Rattle.std.specs.Prelude.{if◌then◌else◌};
 ghost use Rattle.bus_pairing.specs.declared.line.Line.TheVariants.{First};
 ghost use Rattle.bus_clocks.specs.Internal.Held.{held_state, next_state};
-ghost use Rattle.bus_clocks.specs.Sampled.{IsAfterSamples, sampled, bits_in, clock_of, data_of};
+ghost use Rattle.bus_clocks.specs.Sampled.{IsAfterSamples, sampled, bits_of_edges, clock_of, data_of};
 
 use std::marker::Model;
 
@@ -138,7 +138,7 @@ impl Sampler {
     /// The next sample. Returns the bits that arrive with it.
     pub fn sample(&mut self, sample: u8) -> Edges
         ensures sampled { (ss : List ℕ) → IsAfterSamples self.old ss →
-            sampled self.old.hold (ss ++ sample ∷ []) ≡ sampled self.old.hold ss ++ bits_in result }
+            sampled self.old.hold (ss ++ sample ∷ []) ≡ sampled self.old.hold ss ++ bits_of_edges result }
         ensures after { (ss : List ℕ) → IsAfterSamples self.old ss → IsAfterSamples self.new (ss ++ sample ∷ []) }
         ensures hold { self.new.hold ≡ self.old.hold }
     {

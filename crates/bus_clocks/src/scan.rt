@@ -3,9 +3,9 @@
 ghost use Rattle.std.specs.Prelude.{◌≡◌, ◌+◌, ◌-◌, ◌≤◌, ◌<◌, ℕ, ◌∷◌, [], Some, length, take, min};
 ghost use Rattle.std.specs.Option.{option_to_list};
 ghost use Rattle.bus_bits.specs.Limits.{most_places};
-ghost use Rattle.bus_clocks.specs.Clocks.{two_clocks, decoder_on, CountsOn, numbered};
+ghost use Rattle.bus_clocks.specs.Clocks.{two_clocks, decoder_on, CountsOn, bits_taken};
 ghost use Rattle.bus_watch.specs.Internal.Decodes.{told_on};
-ghost use Rattle.bus_watch.specs.Watch.{LeadsTold};
+ghost use Rattle.bus_watch.specs.Watch.{AdvancesWatchShown};
 
 use crate::analyser::TwoClockAnalyser;
 use crate::feed::{Arrival, PLACES};
@@ -24,9 +24,9 @@ impl<C: Check> TwoClockAnalyser<C> {
         observer: &mut L,
         out: &mut X,
     ) -> usize
-        requires room { L.has_room observer.old (min (length arrivals.now) (most_places - numbered self.old)) }
-        ensures taken { result ≡ min (length arrivals.now) (most_places - numbered self.old) }
-        ensures told { LeadsTold (two_clocks C.check) self.old (take result arrivals.now) self.new
+        requires room { L.has_room observer.old (min (length arrivals.now) (most_places - bits_taken self.old)) }
+        ensures taken { result ≡ min (length arrivals.now) (most_places - bits_taken self.old) }
+        ensures told { AdvancesWatchShown (two_clocks C.check) self.old (take result arrivals.now) self.new
             (λ ss. L.observes self.old.conversation.dictionary observer.old out.old ss observer.new out.new) }
     {
         let places = PLACES.saturating_sub(
@@ -52,7 +52,7 @@ impl<C: Check> TwoClockAnalyser<C> {
     )
         requires place { (decoder_on self.old line).place < most_places }
         requires room { L.has_room observer.old 1 }
-        ensures told { LeadsTold (two_clocks C.check) self.old ((line, bit) ∷ []) self.new
+        ensures told { AdvancesWatchShown (two_clocks C.check) self.old ((line, bit) ∷ []) self.new
             (λ ss. L.observes self.old.conversation.dictionary observer.old out.old ss observer.new out.new) }
         ensures left { (more : ℕ) → L.has_room observer.old (1 + more) → L.has_room observer.new more }
     {

@@ -2,7 +2,7 @@
 use Rattle.std.specs.Prelude.{◌≡◌, ℕ, List, ◌++◌, Some, map, slice_get}
 use Rattle.bus_line.specs.Shown.{reported}
 use Rattle.bus_pairing.specs.LineReport.{LineReport, line_report}
-use Rattle.bus_pairing.specs.Conversation.{ConversationState, HasRoom, IsWhole, Keeps}
+use Rattle.bus_pairing.specs.Conversation.{ConversationState, HasRoom, IsWhole, ConversationAfter}
 use Rattle.bus_examples.specs.declared.pairing.Received.{Received}
 use Rattle.bus_examples.specs.declared.pairing.PairFault.{PairFault}
 use Rattle.bus_examples.specs.declared.pairing.PairFault.TheVariants.{ShortFrame, NoRoom}
@@ -12,7 +12,8 @@ heard_of r = line_report r.line (reported r.octets.items r.event)
 
 -- the conversation stands after these reports, too
 abbrev pub Takes : ConversationState → List Received → ConversationState → Type 0
-Takes old reports new = (hs : List LineReport) → Keeps old hs → Keeps new (hs ++ map heard_of reports)
+Takes old reports new = (hs : List LineReport) → ConversationAfter old hs
+    → ConversationAfter new (hs ++ map heard_of reports)
 
 -- how many reports were taken
 abbrev pub taken_of : PairFault → ℕ

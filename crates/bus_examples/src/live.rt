@@ -6,8 +6,8 @@ ghost use Rattle.std.specs.Option.{option_to_list};
 ghost use Rattle.bus_bits.specs.Limits.{most_places};
 ghost use Rattle.bus_line.specs.After.{After, Led};
 ghost use Rattle.bus_line.specs.Due.{due_at};
-ghost use Rattle.bus_line.specs.Shown.{shown};
-ghost use Rattle.bus_watch.specs.After.{IsAfter, Sees, line};
+ghost use Rattle.bus_line.specs.Shown.{report_option};
+ghost use Rattle.bus_watch.specs.After.{IsAfter, AdvancesAnalyser, line_reports};
 ghost use Rattle.bus_pairing.specs.Seen.{SeenReport, seen_at};
 ghost use Rattle.bus_examples.specs.Live.{closes_for, unanswered_in};
 
@@ -17,7 +17,7 @@ use bus_watch::{Analyser, Outcome, Verdict};
 
 /// Whether this is a good frame of a station, which its first octet names.
 fn is_frame_of(piece: Option<Piece<'_>>, station: u8) -> bool
-    ensures { result ≡ closes_for station (shown piece.entry) }
+    ensures { result ≡ closes_for station (report_option piece.entry) }
 {
     match piece {
         Some(Piece::Frame { octets, .. }) => match octets {
@@ -62,10 +62,10 @@ pub fn unanswered<C: Check>(analyser: &mut Analyser<C>, bit: bool) -> Result<Opt
     ensures limit { IsErr result ↔ (most_places ≤ analyser.old.decoder.place) }
     ensures station { IfOk result (λ station. (b : List Bool) → IsAfter C.check analyser.old b →
         station ≡ option_and_then (λ s. unanswered_in s.verdict) (seen_at analyser.old.conversation.dictionary
-        (line analyser.old (b ++ bit ∷ [])) analyser.old.decoder.place)) }
+        (line_reports analyser.old (b ++ bit ∷ [])) analyser.old.decoder.place)) }
     ensures sees { IfOk result (λ station. (seen : Option SeenReport)
         × (station ≡ option_and_then (λ s. unanswered_in s.verdict) seen)
-        × Sees C.check analyser.old (bit ∷ []) (option_to_list seen) analyser.new) }
+        × AdvancesAnalyser C.check analyser.old (bit ∷ []) (option_to_list seen) analyser.new) }
     ensures unchanged { OnErr result (analyser.new ≡ analyser.old) }
 {
     let Some(seen) = analyser.push(bit)? else {

@@ -14,7 +14,7 @@ use Rattle.bus_line.specs.Mark.{flag}
 use Rattle.bus_line.specs.Report.{Kind, Report, class_of_data}
 use Rattle.bus_line.specs.Due.{reports, due_at, class_of, class_of_read, piece_report, FlagAt, AbortAt, current}
 use Rattle.bus_line.specs.Line.{Call, Flag, Idle, Frame, raw_bits, added, line_behind}
-use Rattle.bus_line.specs.Sent.{CanBeRead, idle_at, frame_at, read_of, read_behind, LineIsReadBack}
+use Rattle.bus_line.specs.Sent.{CanBeRead, idle_at, sent_frame, read_of, read_behind, LineIsReadBack}
 use Rattle.bus_line.proofs.SpellingLemmas.{unspelled-is}
 use Rattle.bus_line.proofs.RunLemmas.{IsLow, IsLow-start, spelled-low, ones_after-more}
 use Rattle.bus_line.proofs.DueMoreLemmas.{reports-more}
@@ -201,7 +201,7 @@ spelled-some _ _ (short k d r few spelled) some = omega (arith, length-append (o
 spelled-some _ _ (five d r spelled) some = omega arith
 
 frame-added : (longest : ℕ) (b : List Bool) (os : List ℕ) → EndsFlag b → CanBeRead longest (Frame os) →
-    Adds longest b (raw_bits os ++ flag) (frame_at (length b) os ∷ []) EndsFlag
+    Adds longest b (raw_bits os ++ flag) (sent_frame (length b) os ∷ []) EndsFlag
 frame-added longest b os opened readable =
     let spelled = raw-spelled os in
     let content = content-added longest b (data_sent os) (raw_bits os) opened spelled
@@ -287,7 +287,7 @@ lone-flag longest b rest =
 -- a flag and a frame, where no piece has begun
 flag-frame : (longest : ℕ) (b : List Bool) (os : List ℕ) → IsNeither (ones_at_end b) × IsShut b →
     CanBeRead longest (Frame os)
-    → Adds longest b (flag ++ (raw_bits os ++ flag)) (frame_at (length b + 8) os ∷ []) EndsFlag
+    → Adds longest b (flag ++ (raw_bits os ++ flag)) (sent_frame (length b + 8) os ∷ []) EndsFlag
 flag-frame longest b os rest readable =
     let opened = lone-flag longest b rest in
     let frame = frame-added longest (b ++ flag) os opened.ends readable in

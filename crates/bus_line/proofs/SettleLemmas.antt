@@ -17,7 +17,7 @@ use Rattle.bus_line.specs.Internal.LineState.{LineState}
 use Rattle.bus_line.specs.Internal.LineView.{settles_from}
 use Rattle.bus_line.specs.Internal.Tracks.{first_of, settled_data, Counts, Tracks}
 use Rattle.bus_line.specs.After.{After}
-use Rattle.bus_line.specs.Internal.Settled.{Appends, HasNoStop, IsWord, LagsBy, data_in_word, octets_more}
+use Rattle.bus_line.specs.Internal.Settled.{AppendsBits, HasNoStop, IsWord, LagsBy, data_in_word, octets_more}
 use Rattle.bus_line.proofs.LedgerSettledLemmas.{assembled-more, stored-more}
 use Rattle.bus_line.proofs.LedgerRankLemmas.{stores-now}
 use Rattle.bus_line.proofs.WordLemmas.{length-front, word-inserted, word-bit, word-next}
@@ -199,7 +199,8 @@ settles-no_stop longest p w n skip b bits mark no_stop word skipped (suc i) with
 
 -- data are appended, or none
 tracks-settled : {C : Type 0} {view : CheckView C} {p : ℕ} {d e : LineState C} {b bits gained : List Bool}
-    → LagsBy view d b bits → current b ≡ FlagAt p → Settles d.longest p b (b ++ bits) gained → Appends view d gained e
+    → LagsBy view d b bits → current b ≡ FlagAt p → Settles d.longest p b (b ++ bits) gained
+    → AppendsBits view d gained e
     → Tracks view e (b ++ bits) (current b)
 tracks-settled {C} {view} {p} {d} {e} {b} {bits} {gained} lags mark settles appends =
     let kept = appends.kept in
@@ -245,7 +246,7 @@ spent-none s cost longest n =
     rw (none, same-assembled, same-stored, same-folded) refl
 
 -- no data
-appends-none : {C : Type 0} {view : CheckView C} (d : LineState C) → Appends view d [] d
+appends-none : {C : Type 0} {view : CheckView C} (d : LineState C) → AppendsBits view d [] d
 appends-none {C} {view} d = record {
   holds = λ bits held. rw (append-nil bits) held;
   spent = λ bits held. spent-none d.spent view.cost d.longest (length bits);
@@ -306,7 +307,7 @@ word-unsettled {C} {view} {w} {t} {d} {b} {bits} at (Some first) s opened settle
 pub word-settled : {C : Type 0} {view : CheckView C} {w t : ℕ} {d e : LineState C} {b bits : List Bool}
     (first late n x : ℕ) → Shifted view d w t b bits
     → d.first ≡ Some first → first + 8 < d.place → late ≡ min (d.place - (first + 8)) t
-    → bits_of n x ≡ data_in_word (w / 2 ^ (t - late)) late → Appends view d (bits_of n x) e
+    → bits_of n x ≡ data_in_word (w / 2 ^ (t - late)) late → AppendsBits view d (bits_of n x) e
     → Tracks view e (b ++ take t bits) (current b)
 word-settled {C} {view} {w} {t} {d} {e} {b} {bits} first late n x s opened far is-late value appends =
     let flag = first-Some d.origin first (current b) (sym s.lags.first ∙ opened) in

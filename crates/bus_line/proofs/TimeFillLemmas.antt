@@ -19,7 +19,7 @@ use Rattle.bus_line.specs.Mark.{flag}
 use Rattle.bus_line.specs.Internal.Flags.{flags, EndsInFlag, SkipsFlags}
 use Rattle.bus_line.specs.Due.{placed}
 use Rattle.bus_line.specs.After.{After, Decides}
-use Rattle.bus_line.specs.Words.{first_in, IsWithin, state}
+use Rattle.bus_line.specs.Words.{first_in, AreDecoderWords, state}
 use Rattle.bus_line.specs.declared.decoder_words.DecoderWords.{DecoderWords}
 use Rattle.bus_line.specs.Internal.TimeFill.{AreFlags, SkipsOnes}
 use Rattle.bus_line.specs.Internal.Settled.{HasNoStop, IsStop, IsWord, data_in_word}
@@ -261,7 +261,7 @@ module _ {C : Type 0} (view : CheckView C) (check : C) (octets : List ℕ) where
   skipped-ones old new n passed idle room = rw passed.new_is (ones-decide n old passed.behind idle room)
 
   -- flags after a flag
-  pub skipped-flags : (old new : DecoderWords) (k : ℕ) → SkipsFlags old k new → IsWithin old →
+  pub skipped-flags : (old new : DecoderWords) (k : ℕ) → SkipsFlags old k new → AreDecoderWords old →
       old.settles_at ≡ old.place + 8 → new.place ≤ 2 ^ 60 →
       Decides view (state old check octets) (flags k) None (state new check octets)
   skipped-flags old new k passed within flag fits =

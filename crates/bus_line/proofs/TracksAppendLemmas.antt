@@ -13,7 +13,8 @@ use Rattle.bus_bits.proofs.OctetLemmas.{number-append, number-bits, number-lt, l
 use Rattle.bus_fcs.specs.Check.{CheckView}
 use Rattle.bus_line.specs.Internal.LineState.{LineState}
 use Rattle.bus_line.specs.Internal.Tracks.{Holds}
-use Rattle.bus_line.specs.Internal.Settled.{Appends, Keeps, Stores, gain, octets_more, octets_of}
+use Rattle.bus_line.specs.Internal.Settled.{AppendsBits, HoldsOctets, StoresOctets, more_within, octets_more}
+use Rattle.bus_line.specs.Internal.Settled.{low_octets}
 use Rattle.bus_line.proofs.WholeLemmas.{octets-short, whole, part, whole-is, part-is, whole-part, length-whole}
 use Rattle.bus_line.proofs.WholeLemmas.{length-part, octets-here, length-octets}
 use Rattle.bus_line.proofs.WordLemmas.{number-drop, number-take}
@@ -25,7 +26,7 @@ unfolding octets
 none_octets = refl
 
 -- the first octets of bits are those of their number
-octets-first : (k : ℕ) (d : List Bool) → 8 * k ≤ length d → octets (take (8 * k) d) ≡ octets_of k (number d)
+octets-first : (k : ℕ) (d : List Bool) → 8 * k ≤ length d → octets (take (8 * k) d) ≡ low_octets k (number d)
 octets-first zero d within = none_octets
 octets-first (suc k) d within =
     let a = take (8 * k) d in
@@ -39,14 +40,14 @@ octets-first (suc k) d within =
     ap (λ (j : ℕ). octets (take j d)) next ∙ (ap octets (take-add (8 * k) 8 d)
     ∙ (octets-push a b (omega (arith, size)) eight ∙ rw (octets-first k d (omega (arith, within)), octet) refl))
 
-octets-all : (k : ℕ) (d : List Bool) → length d / 8 ≡ k → octets d ≡ octets_of k (number d)
+octets-all : (k : ℕ) (d : List Bool) → length d / 8 ≡ k → octets d ≡ low_octets k (number d)
 octets-all k d full =
     octets-here d
     ∙ (ap octets (whole-is d) ∙ (ap (λ (j : ℕ). octets (take (8 * j) d)) full ∙ octets-first k d (omega (arith, full))))
 
 -- the octets of bits and of further ones
 octets-both : (d e : List Bool) → octets (d ++ e) ≡ octets d
-    ++ octets_of (length (part d ++ e) / 8) (number (part d ++ e))
+    ++ low_octets (length (part d ++ e) / 8) (number (part d ++ e))
 octets-both d e =
     ap octets (ap (λ (z : List Bool). z ++ e) (sym (whole-part d)) ∙ append_assoc (whole d) (part d) e)
     ∙ (octets-append (whole d) (part d ++ e) (omega (arith, length-whole d))
@@ -91,7 +92,8 @@ pub holds-joined : {C : Type 0} (folded : C → List ℕ → Type 0) (d e : Line
     Holds folded d got → n ≤ 56 → bits < 2 ^ n
     → e.data_bits ≡ d.data_bits + n → e.partial ≡ joined d.partial (d.data_bits % 8) bits /
     2 ^ (8 * ((d.data_bits % 8 + n) / 8)) → e.longest ≡ d.longest
-    → Keeps folded e (octets got ++ octets_of ((d.data_bits % 8 + n) / 8) (joined d.partial (d.data_bits % 8) bits))
+    → HoldsOctets folded e (octets got ++ low_octets ((d.data_bits % 8 + n) / 8) (joined d.partial
+    (d.data_bits % 8) bits))
     → Holds folded e (got ++ bits_of n bits)
 holds-joined folded d e n bits got holds few small grown left longest kept =
     let x = bits_of n bits in
@@ -100,9 +102,9 @@ holds-joined folded d e n bits got holds few small grown left longest kept =
     (ap (λ (m : ℕ). m % 8) holds.count) few small in
     let full : (d.data_bits % 8 + n) / 8 ≡ length (part got ++ bits_of n bits) / 8 =
     omega (arith, holds.count, length-part got, length-append (part got) (bits_of n bits), length-bits n bits) in
-    let same : octets got ++ octets_of ((d.data_bits % 8 + n) / 8) (joined d.partial (d.data_bits % 8) bits)
+    let same : octets got ++ low_octets ((d.data_bits % 8 + n) / 8) (joined d.partial (d.data_bits % 8) bits)
     ≡ octets (got ++ bits_of n bits) = rw (full, one) (sym (octets-both got x)) in
-    let keeps = subst (Keeps folded e) same kept in
+    let keeps = subst (HoldsOctets folded e) same kept in
     record {
       count = grown ∙ omega (arith, holds.count, length-append got (bits_of n bits), length-bits n bits);
       partial = left ∙ rw (full, one) (sym (part-both got x) ∙ ap number (part-is (got ++ x)));
@@ -118,14 +120,14 @@ none-yet folded d got holds few = octets-short got (omega (arith, holds.count, f
 -- and after it some
 pub keeps-held : {C : Type 0} (folded : C → List ℕ → Type 0) (d e : LineState C) (got : List Bool) →
     Holds folded d got → 8 ≤ d.data_bits → e.longest ≡ d.longest → e.octets ≡ d.octets → e.check ≡ d.check →
-    Keeps folded e (octets got)
+    HoldsOctets folded e (octets got)
 keeps-held folded d e got holds some longest os check =
     let full : 8 ≤ length got = omega (arith, holds.count, some) in
     record { held = rw longest (os ∙ holds.held full); checked = rw (check, longest) (holds.checked full) }
 
 -- as many octets more as the ledger counts
 pub gain-more : {C : Type 0} (folded : C → List ℕ → Type 0) (d : LineState C) (n : ℕ) (got : List Bool) →
-    Holds folded d got → gain (d.longest + 2) (length (octets got)) ((d.data_bits % 8 + n) / 8)
+    Holds folded d got → more_within (d.longest + 2) (length (octets got)) ((d.data_bits % 8 + n) / 8)
     ≡ octets_more d.longest (length got) n
 gain-more folded d n got holds =
     let size : length (octets got) ≡ length got / 8 = length-octets (length got / 8) got refl in
@@ -147,82 +149,82 @@ take-over (suc k) (x ∷ xs) ys =
     let left : k - length xs ≡ suc k - suc (length xs) = omega arith in
     ap (λ (z : List _). x ∷ z) (take-over k xs ys) ∙ ap (λ (j : ℕ). x ∷ take k xs ++ take j ys) left
 
-pub length-octets_of : (k n : ℕ) → length (octets_of k n) ≡ k
+pub length-octets_of : (k n : ℕ) → length (low_octets k n) ≡ k
 length-octets_of zero n = refl
-length-octets_of (suc k) n = length-append (octets_of k n) (n / 2 ^ (8 * k) % 256 ∷ [])
+length-octets_of (suc k) n = length-append (low_octets k n) (n / 2 ^ (8 * k) % 256 ∷ [])
     ∙ omega (arith, length-octets_of k n)
 
 -- fewer of the lowest octets
-octets-fewer : (k m n : ℕ) → k ≤ m → take k (octets_of m n) ≡ octets_of k n
+octets-fewer : (k m n : ℕ) → k ≤ m → take k (low_octets m n) ≡ low_octets k n
 octets-fewer k zero n within = let none : k ≡ 0 = omega (arith, within) in rw none refl
 octets-fewer k (suc m) n within = elim (cases_lt m k) [
   | inl past ↦
       let all : k ≡ suc m = omega (arith, past, within) in
-      rw all (take_all (suc m) (octets_of (suc m) n) (omega (arith, length-octets_of (suc m) n)))
+      rw all (take_all (suc m) (low_octets (suc m) n) (omega (arith, length-octets_of (suc m) n)))
   | inr fewer ↦
-      take-append-le k (octets_of m n) (n / 2 ^ (8 * m) % 256 ∷ []) (omega (arith, length-octets_of m n, fewer))
+      take-append-le k (low_octets m n) (n / 2 ^ (8 * m) % 256 ∷ []) (omega (arith, length-octets_of m n, fewer))
       ∙ octets-fewer k m n (omega (arith, fewer))
 ]
 
 -- one octet more
 pub octets-next : (k n rest octet : ℕ) → rest ≡ n / 2 ^ (8 * k) → octet ≡ rest % 256 →
-    octets_of (k + 1) n ≡ octets_of k n ++ octet ∷ []
+    low_octets (k + 1) n ≡ low_octets k n ++ octet ∷ []
 octets-next k n rest octet left lowest =
     let next : k + 1 ≡ suc k = omega arith in
-    ap (λ (m : ℕ). octets_of m n) next
-    ∙ ap (λ (o : ℕ). octets_of k n ++ o ∷ []) (sym (lowest ∙ ap (λ (r : ℕ). r % 256) left))
+    ap (λ (m : ℕ). low_octets m n) next
+    ∙ ap (λ (o : ℕ). low_octets k n ++ o ∷ []) (sym (lowest ∙ ap (λ (r : ℕ). r % 256) left))
 
 -- as many of them as there is room for
-octets-room : (k room m n : ℕ) → m ≡ min k room → octets_of m n ≡ take room (octets_of k n)
+octets-room : (k room m n : ℕ) → m ≡ min k room → low_octets m n ≡ take room (low_octets k n)
 octets-room k room m n is = elim (cases_lt room k) [
   | inl over ↦
       let all-room : m ≡ room = omega (arith, is, over) in
       rw all-room (sym (octets-fewer room k n (omega (arith, over))))
   | inr fits ↦
       let all : m ≡ k = omega (arith, is, fits) in
-      rw all (sym (take_all room (octets_of k n) (omega (arith, length-octets_of k n, fits))))
+      rw all (sym (take_all room (low_octets k n) (omega (arith, length-octets_of k n, fits))))
 ]
 
 -- the buffer and its check have as many octets more as there is room for
 pub keeps-more : {C : Type 0} (folded : C → List ℕ → Type 0) (d e : LineState C) (k m n : ℕ) (os : List ℕ) →
-    Keeps folded d os → m ≡ min k (d.longest + 2 - length d.octets)
-    → e.longest ≡ d.longest → e.octets ≡ d.octets ++ octets_of m n →
-    ((xs : List ℕ) → folded d.check xs → folded e.check (xs ++ octets_of m n))
-    → Keeps folded e (os ++ octets_of k n)
+    HoldsOctets folded d os → m ≡ min k (d.longest + 2 - length d.octets)
+    → e.longest ≡ d.longest → e.octets ≡ d.octets ++ low_octets m n →
+    ((xs : List ℕ) → folded d.check xs → folded e.check (xs ++ low_octets m n))
+    → HoldsOctets folded e (os ++ low_octets k n)
 keeps-more folded d e k m n os kept count longest same-octets checks =
     let limit = d.longest + 2 in
     let held : length d.octets ≡ min limit (length os) = ap length kept.held ∙ length-take limit os in
     let room : m ≡ min k (limit - length os) = omega (arith, count, held) in
-    let all : take limit (os ++ octets_of k n) ≡ take limit os ++ octets_of m n =
-    take-over limit os (octets_of k n) ∙ ap (λ (z : List ℕ). take limit os ++ z)
+    let all : take limit (os ++ low_octets k n) ≡ take limit os ++ low_octets m n =
+    take-over limit os (low_octets k n) ∙ ap (λ (z : List ℕ). take limit os ++ z)
     (sym (octets-room k (limit - length os) m n room)) in
     record {
-      held = rw longest (same-octets ∙ (ap (λ (z : List ℕ). z ++ octets_of m n) kept.held ∙ sym all));
+      held = rw longest (same-octets ∙ (ap (λ (z : List ℕ). z ++ low_octets m n) kept.held ∙ sym all));
       checked = rw longest (subst (folded e.check) (sym all) (checks (take limit os) kept.checked));
     }
 
 -- ---- all together
 
 keeps-set : {C : Type 0} (folded : C → List ℕ → Type 0) (a : LineState C) (data_bits partial : ℕ) (spent : Spent)
-    (os : List ℕ) → Keeps folded a os →
-    Keeps folded (record a { data_bits = data_bits; partial = partial; spent = spent }) os
+    (os : List ℕ) → HoldsOctets folded a os →
+    HoldsOctets folded (record a { data_bits = data_bits; partial = partial; spent = spent }) os
 keeps-set folded a data_bits partial spent os kept = record { held = kept.held; checked = kept.checked }
 
 -- the data bits, the octets that they fill, and the counters
 pub appended : {C : Type 0} {view : CheckView C} (d a e : LineState C) (n bits j k : ℕ) → n ≤ 56 → bits < 2 ^ n
     → j ≡ joined d.partial (d.data_bits % 8) bits → k ≡ (d.data_bits % 8 + n) / 8
     → a ≡ record d { octets = a.octets; check = a.check }
-    → ((got : List Bool) → Holds view.folded d got → Keeps view.folded a (octets got))
-    → Stores view (record a {
+    → ((got : List Bool) → Holds view.folded d got → HoldsOctets view.folded a (octets got))
+    → StoresOctets view (record a {
       data_bits = d.data_bits + n;
       partial = j / 2 ^ (8 * k);
       spent = record d.spent { assembled = d.spent.assembled + n };
-    }) (octets_of k j) e
-    → Appends view d (bits_of n bits) e
+    }) (low_octets k j) e
+    → AppendsBits view d (bits_of n bits) e
 appended {C} {view} d a e n bits j k few small is-joined is-full same begun stores =
     let longest = ap (λ (s : LineState C). s.longest) same in
     let t : Spent = record d.spent { assembled = d.spent.assembled + n } in
-    let set = λ (os : List ℕ) (kept : Keeps view.folded a os).
+    let set = λ (os : List ℕ) (kept : HoldsOctets view.folded a os).
     keeps-set view.folded a (d.data_bits + n) (j / 2 ^ (8 * k)) t os kept in
     record {
       holds = λ got holds.
@@ -231,7 +233,7 @@ appended {C} {view} d a e n bits j k few small is-joined is-full same begun stor
           (ap (λ (s : LineState C). s.longest) stores.kept ∙ longest)
           (rw (← is-full, ← is-joined) (stores.keeps (octets got) (set (octets got) (begun got holds))));
       spent = λ got holds.
-          let gained : gain (a.longest + 2) (length (octets got)) (length (octets_of k j))
+          let gained : more_within (a.longest + 2) (length (octets got)) (length (low_octets k j))
           ≡ octets_more d.longest (length got) n =
           rw (length-octets_of k j, longest, is-full) (gain-more view.folded d n got holds) in
           stores.spent (octets got) (set (octets got) (begun got holds)) ∙ rw (length-bits n bits, gained) refl;
@@ -239,7 +241,7 @@ appended {C} {view} d a e n bits j k few small is-joined is-full same begun stor
     }
 
 pub keeps-none : {C : Type 0} (folded : C → List ℕ → Type 0) (e : LineState C) → e.octets ≡ [] → folded e.check [] →
-    Keeps folded e []
+    HoldsOctets folded e []
 keeps-none folded e none check =
     let still : take {A = ℕ} (e.longest + 2) [] ≡ [] = nothing (e.longest + 2) in
     record { held = none ∙ sym still; checked = subst (folded e.check) (sym still) check }

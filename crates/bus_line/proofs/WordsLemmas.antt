@@ -9,7 +9,7 @@ use Rattle.std.specs.Option.{option_map}
 use Rattle.bus_line.specs.Report.{Abort, moved}
 use Rattle.bus_line.specs.Due.{Mark, NoMark, FlagAt, AbortAt, piece_report}
 use Rattle.bus_line.specs.Internal.Tracks.{first_of}
-use Rattle.bus_line.specs.Words.{first_in, IsWithin, state}
+use Rattle.bus_line.specs.Words.{first_in, AreDecoderWords, state}
 use Rattle.bus_line.specs.declared.decoder_words.DecoderWords.{DecoderWords}
 use Rattle.bus_line.specs.After.{After}
 use Rattle.bus_line.specs.Internal.LineView.{settles_from}
@@ -54,7 +54,8 @@ aborts origin at past end place (FlagAt q) opened is-end within fits late some =
 
 -- a flag ended at the last bit
 pub shows-flag : {C : Type 0} (view : CheckView C) (w : DecoderWords) (check : C) (octets : List ℕ)
-    (b : List Bool) → IsWithin w → After view (state w check octets) b → w.settles_at ≡ w.place + 8 → EndsInFlag b
+    (b : List Bool) → AreDecoderWords w → After view (state w check octets) b → w.settles_at ≡ w.place + 8
+    → EndsInFlag b
 shows-flag view w check octets b within stands at =
     mark-is view (state w check octets) w.settles_at b stands (settles-told w.settles_at within.settles_late)
     within.place_fits at

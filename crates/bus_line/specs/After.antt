@@ -21,8 +21,8 @@ abbrev pub due_of : {C : Type 0} → LineState C → List Bool → ℕ → Optio
 due_of d b i = option_map (moved d.origin) (due_at d.longest b i)
 
 -- with these bits this report comes to those so far, or none
-abbrev pub Adds : {C : Type 0} → CheckView C → LineState C → List Bool → Option Report → Type 0
-Adds view d bits report =
+abbrev pub AddsReport : {C : Type 0} → CheckView C → LineState C → List Bool → Option Report → Type 0
+AddsReport view d bits report =
     (b : List Bool) → After view d b
     → placed d.origin d.longest (b ++ bits) ≡ placed d.origin d.longest b ++ option_to_list report
 
@@ -52,7 +52,7 @@ pub record Led {C : Type 0} (view : CheckView C) (old : LineState C) (bits : Lis
 pub record Decides {C : Type 0} (view : CheckView C) (old : LineState C) (bits : List Bool)
     (report : Option Report) (new : LineState C) : Type 0 where
   pub leads : Led view old bits new
-  pub says : Adds view old bits report
+  pub says : AddsReport view old bits report
 
 -- these bits decide no report
 abbrev pub DecideNothing : {C : Type 0} → CheckView C → LineState C → List Bool → Type 0

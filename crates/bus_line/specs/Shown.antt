@@ -17,9 +17,9 @@ report_of (piece.Overlong span) = record { kind = Kind.Overlong; first = span.fi
 report_of (piece.Abort span) = record { kind = Kind.Abort; first = span.first; past = span.past }
 report_of (piece.Idle span) = record { kind = Kind.Idle; first = span.first; past = span.past }
 
-abbrev pub shown : Option Piece → Option Report
-shown None = None
-shown (Some p) = Some (report_of p)
+abbrev pub report_option : Option Piece → Option Report
+report_option None = None
+report_option (Some p) = Some (report_of p)
 
 -- what an event reports, a frame's octets being these
 abbrev pub kind_with : List ℕ → EventKind → Kind

@@ -47,7 +47,7 @@ fresh_words longest origin = record {
 }
 
 -- they are within the bounds of a decoder
-pub record IsWithin (w : DecoderWords) : Type 0 where
+pub record AreDecoderWords (w : DecoderWords) : Type 0 where
   pub longest_least : 3 ≤ w.longest
   pub longest_most : w.longest ≤ 256
   pub place_fits : w.place ≤ most_places
@@ -61,7 +61,7 @@ pub record IsWithin (w : DecoderWords) : Type 0 where
 
 -- and there is room for these octets of a piece
 pub record IsDecoder (w : DecoderWords) (octets : List ℕ) : Type 0 where
-  pub within : IsWithin w
+  pub within : AreDecoderWords w
   pub room : length octets ≤ w.longest + 2
 
 -- the octets have bits from bit `from` on and before bit `end`, and all of these have places

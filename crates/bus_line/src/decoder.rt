@@ -63,8 +63,8 @@ impl<C: Check> Model for LineDecoder<C> {
 impl<C: Check> LineDecoder<C> {
     ghost use Rattle.bus_line.specs.contracts.decoder.LineDecoder.{the_row};
     ghost use Rattle.bus_line.specs.Internal.LineState.{LineState};
-    ghost use Rattle.bus_line.specs.After.{Adds, AdvancesWith, After, Pushed, ShowsHeld, FitsFrame, due_of};
-    ghost use Rattle.bus_line.specs.Shown.{shown, reported};
+    ghost use Rattle.bus_line.specs.After.{AddsReport, AdvancesWith, After, Pushed, ShowsHeld, FitsFrame, due_of};
+    ghost use Rattle.bus_line.specs.Shown.{report_option, reported};
 
     /// A decoder that took no bit, whose first bit has the place `origin`.
     ///
@@ -140,8 +140,8 @@ impl<C: Check> LineDecoder<C> {
     pub fn push(&mut self, bit: bool) -> Result<Option<Piece<'_>>, PlaceLimit>
         ensures limit { IsErr result ↔ (most_places ≤ self.old.place) }
         ensures answer { IfOk result (λ o. (b : List Bool) → After C.check self.old b →
-            shown o ≡ due_of self.old (b ++ bit ∷ []) (length b)) }
-        ensures more { IfOk result (λ o. Adds C.check self.old (bit ∷ []) (shown o)) }
+            report_option o ≡ due_of self.old (b ++ bit ∷ []) (length b)) }
+        ensures more { IfOk result (λ o. AddsReport C.check self.old (bit ∷ []) (report_option o)) }
         ensures fits { IfOk result (λ o. FitsFrame self.old.longest o) }
         // What becomes of the decoder: `new`, once the octets that are lent have been given back.
         ensures* rests { sem 𝓛 (Rests (the_row C.row C.Check) self.entry (λ new.
@@ -154,7 +154,7 @@ impl<C: Check> LineDecoder<C> {
     /// The report of an event, if there is one. A frame's octets are borrowed from the buffer.
     #[inline(always)]
     fn lent(&self, event: Option<Event>) -> Option<Piece<'_>>
-        ensures shows { shown result ≡ option_map (reported self.now.octets) event }
+        ensures shows { report_option result ≡ option_map (reported self.now.octets) event }
         ensures held { ShowsHeld self.now result }
         ensures fits { FitsFrame self.now.longest result }
     {

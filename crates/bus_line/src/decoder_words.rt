@@ -5,7 +5,7 @@ ghost use Rattle.std.specs.Option.{option_map};
 ghost use Rattle.bus_bits.specs.Limits.{most_places};
 ghost use Rattle.bus_line.specs.Due.{begun, current};
 ghost use Rattle.bus_line.specs.Internal.Tracks.{first_of};
-ghost use Rattle.bus_line.specs.Words.{first_in, fresh_words, IsWithin};
+ghost use Rattle.bus_line.specs.Words.{first_in, fresh_words, AreDecoderWords};
 
 use crate::fault::LineFault;
 
@@ -52,7 +52,7 @@ impl DecoderWords {
     pub fn new(longest: usize, origin: u64) -> Result<Self, LineFault>
         ensures range { (result ≡ Err LineFault.LongestRange) ↔ ((longest < 3) ⊎ (256 < longest)) }
         ensures origin { (result ≡ Err LineFault.Origin) ↔ ((3 ≤ longest) × (longest ≤ 256) × (most_places < origin)) }
-        ensures within { IfOk result IsWithin }
+        ensures within { IfOk result AreDecoderWords }
         ensures value { IfOk result (λ w. w ≡ fresh_words longest origin) }
     {
         if longest < 3 || longest > 256 {
@@ -78,7 +78,7 @@ impl DecoderWords {
     /// Whether these are words of a decoder.
     #[inline(always)]
     pub fn are_valid(&self) -> bool
-        ensures { IsTrue result ↔ IsWithin self.now }
+        ensures { IsTrue result ↔ AreDecoderWords self.now }
     {
         self.longest >= 3
             && self.longest <= 256
@@ -94,7 +94,7 @@ impl DecoderWords {
     /// The first place of the open piece, and past all places where the last mark is no flag.
     #[inline(always)]
     pub(crate) fn first_or_never(&self) -> u64
-        requires { IsWithin self.now }
+        requires { AreDecoderWords self.now }
         ensures { result ≡ self.now.settles_at - 8 }
     {
         self.settles_at - 8
@@ -102,7 +102,7 @@ impl DecoderWords {
 
     /// The first place of a piece that has begun and is not ended yet.
     pub fn begun(&self) -> Option<u64>
-        requires { IsWithin self.now }
+        requires { AreDecoderWords self.now }
         ensures { (b : List Bool) → first_in self.now.settles_at ≡ first_of self.now.origin (current b) →
             self.now.place ≡ self.now.origin + length b →
             result ≡ option_map (λ first. self.now.origin + first) (begun b) }

@@ -1,5 +1,6 @@
 -- One report more: the tally, the history and the steps of a conversation.
-use Rattle.std.proofs.Common.{◌≡◌, ◌≢◌, ℕ, ◌+◌, ◌<◌, ◌-◌, ◌==◌, ◌&&◌, Bool, true, false, if◌then◌else◌, List, [], ◌∷◌, ◌++◌}
+use Rattle.std.proofs.Common.{◌≡◌, ◌≢◌, ℕ, ◌+◌, ◌<◌, ◌-◌, ◌==◌, ◌&&◌, Bool, true, false, if◌then◌else◌, List, [], ◌∷◌}
+use Rattle.std.proofs.Common.{◌++◌}
 use Rattle.std.proofs.Common.{length, drop, Option, Some, None, inl, inr, refl, sym, ap, ◌∙◌, arith, subst, slice_get}
 use Rattle.std.proofs.Common.{map, replicate}
 use Rattle.std.specs.List.{cons_option, All}
@@ -21,13 +22,13 @@ use Rattle.bus_pairing.specs.declared.line.Line.TheVariants.{First}
 use Rattle.bus_line.specs.Ledger.{octet_count, kind_octets}
 use Rattle.bus_dictionary.specs.Entry.{FrameType}
 use Rattle.bus_dictionary.specs.Standing.{standing}
-use Rattle.bus_pairing.specs.Talk.{is_idle, standing_of, command_on, waits, verdict, verdicts, pending}
+use Rattle.bus_pairing.specs.Talk.{is_idle_kind, standing_of, command_on, waits, verdict, verdicts, pending}
 use Rattle.bus_pairing.specs.Seen.{SeenReport, decided}
 use Rattle.bus_pairing.specs.History.{KeptFrame, kept_frame, line_of, frame_at, frame_of, frames, history, tally}
 use Rattle.bus_pairing.specs.History.{verdicts_of, is_outcome, kept_pair}
 use Rattle.bus_pairing.specs.Ledger.{kind_steps, steps}
 use Rattle.bus_pairing.specs.Internal.Counted.{one_more, counted, Counted}
-use Rattle.bus_pairing.specs.Conversation.{AdvancesPairing, ConversationState, Enters, Keeps}
+use Rattle.bus_pairing.specs.Conversation.{AdvancesPairing, ConversationState, AdvancesConversation, ConversationAfter}
 use Rattle.bus_pairing.specs.declared.pair_kept.PairKept.{PairKept}
 use Rattle.bus_pairing.specs.declared.counts.Counts.{Counts}
 use Rattle.bus_pairing.specs.declared.outcome.Outcome.{Outcome}
@@ -137,9 +138,9 @@ pub record Takes (old new : ConversationState) (r : LineReport) (verdict : Optio
   pub copied : new.copied ≡ old.copied + octet_count r.report
   pub handled : new.handled ≡ old.handled + steps r.report
 
-pub keeps-more : (old new : ConversationState) (rs : List LineReport) (r : LineReport) → Keeps old rs →
+pub keeps-more : (old new : ConversationState) (rs : List LineReport) (r : LineReport) → ConversationAfter old rs →
     new.waiting ≡ pending old.dictionary (rs ++ r ∷ []) → Takes old new r (decided old.dictionary rs r) →
-    Keeps new (rs ++ r ∷ [])
+    ConversationAfter new (rs ++ r ∷ [])
 keeps-more old new rs r kept waiting takes = record {
   history = takes.history ∙ ap (λ h. keeping old.depth h (frame_of r)) kept.history ∙ sym (history-more old.depth rs r)
       ∙ ap (λ n. history n (rs ++ r ∷ [])) (sym takes.depth);
@@ -157,7 +158,7 @@ keeps-more old new rs r kept waiting takes = record {
 
 pub enters : (old new : ConversationState) (r : LineReport) (found : SeenReport)
     → AdvancesPairing old.dictionary old.waiting r found new.waiting → Takes old new r found.verdict
-    → Enters old r found new
+    → AdvancesConversation old r found new
 enters old new r found pairing takes = record {
   keeps = λ hs kept. keeps-more old new hs r kept (pairing.keeps hs kept.waiting)
       (subst (λ (s : SeenReport). Takes old new r s.verdict) (pairing.says hs kept.waiting) takes);

@@ -9,7 +9,7 @@ use Rattle.bus_line.specs.Due.{reports}
 use Rattle.bus_line.specs.Ledger.{stored}
 use Rattle.bus_line.specs.Laws.{ReportsAre, DueWithin, FramesStored, StoredPaid, AssembledWithin}
 use Rattle.bus_line.specs.OwnedBits.{owned_from, OwnsEight, FrameOwns, OwnApart}
-use Rattle.bus_pairing.specs.Ledger.{kind_steps, steps, handled, total, IsLedger}
+use Rattle.bus_pairing.specs.Ledger.{kind_steps, steps, handled, total, IsAnalyserLedger}
 
 -- eight times the steps of a report are at most three times its own bits
 abbrev Pays : ℕ → Report → Type 0
@@ -65,7 +65,8 @@ cost-within cost zero within = omega arith
 cost-within cost (suc s) within = omega (arith, cost-within cost s within, within)
 
 pub within-four : (cost longest : ℕ) (b : List Bool) (spent : Spent) → 8 * handled (reports longest b) ≤ 3 * length b →
-    FramesStored → StoredPaid → AssembledWithin → IsLedger cost longest b spent → cost ≤ 8 → total spent ≤ 4 * length b
+    FramesStored → StoredPaid → AssembledWithin → IsAnalyserLedger cost longest b spent → cost ≤ 8
+    → total spent ≤ 4 * length b
 within-four cost longest b spent paces frames paid within ledger cost_within_eight =
     omega (
       arith,
@@ -83,7 +84,7 @@ within-four cost longest b spent paces frames paid within ledger cost_within_eig
     )
 
 pub within-three : (longest : ℕ) (b : List Bool) (spent : Spent) → 8 * handled (reports longest b) ≤ 3 * length b →
-    FramesStored → StoredPaid → AssembledWithin → IsLedger 1 longest b spent →
+    FramesStored → StoredPaid → AssembledWithin → IsAnalyserLedger 1 longest b spent →
     (spent.folded ≡ spent.stored) × (total spent ≤ 3 * length b)
 within-three longest b spent paces frames paid within ledger = (
   omega (arith, ledger.filled, ledger.paid),

@@ -11,11 +11,11 @@ use Rattle.bus_pairing.specs.LineReport.{LineReport, line_report}
 use Rattle.bus_pairing.specs.declared.line.Line.{Line}
 use Rattle.bus_pairing.specs.declared.pending.Pending.{Pending}
 use Rattle.bus_pairing.specs.Internal.Damage.{is_damage}
-use Rattle.bus_pairing.specs.Talk.{command_on, is_idle, pending, standing_of}
+use Rattle.bus_pairing.specs.Talk.{command_on, is_idle_kind, pending, standing_of}
 use Rattle.bus_pairing.proofs.TalkLemmas.{pending-talk}
 
 damage-has-no-standing : (d : List FrameType) (kind : Kind) → is_damage kind ≡ true →
-    (is_idle kind ≡ false) × (standing_of d kind ≡ None)
+    (is_idle_kind kind ≡ false) × (standing_of d kind ≡ None)
 damage-has-no-standing d (Damaged cause) damage = (refl, refl)
 damage-has-no-standing d Overlong damage = (refl, refl)
 damage-has-no-standing d Abort damage = (refl, refl)

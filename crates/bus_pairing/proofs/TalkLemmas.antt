@@ -7,7 +7,8 @@ use Rattle.std.proofs.lemmas.List.{append-nil}
 use Rattle.std.proofs.lemmas.List.Elements.{filter-append, filter_map-append}
 use Rattle.bus_pairing.specs.LineReport.{LineReport}
 use Rattle.bus_dictionary.specs.Entry.{FrameType}
-use Rattle.bus_pairing.specs.Talk.{is_idle, talk, neighbours, begins, waits, verdict, verdict_on, verdicts, pending}
+use Rattle.bus_pairing.specs.Talk.{is_idle_kind, talk, neighbours, begins, waits, verdict, verdict_on, verdicts}
+use Rattle.bus_pairing.specs.Talk.{pending}
 use Rattle.bus_pairing.specs.Seen.{decided}
 use Rattle.bus_pairing.specs.declared.pending.Pending.{Pending}
 use Rattle.bus_pairing.specs.declared.verdict.Verdict.{Verdict}
@@ -32,17 +33,18 @@ neighbours-push [] x = refl
 neighbours-push (y ∷ xs) x = neighbours-from y xs x
 
 talk-more : (rs : List LineReport) (r : LineReport) → talk (rs ++ r ∷ [])
-    ≡ talk rs ++ (if is_idle r.report.kind then [] else r ∷ [])
-talk-more rs r = filter-append _ rs (r ∷ []) ∙ ap (λ xs. talk rs ++ xs) (one (is_idle r.report.kind))
+    ≡ talk rs ++ (if is_idle_kind r.report.kind then [] else r ∷ [])
+talk-more rs r = filter-append _ rs (r ∷ []) ∙ ap (λ xs. talk rs ++ xs) (one (is_idle_kind r.report.kind))
   where
     one : (b : Bool) → (if not b then r ∷ [] else []) ≡ (if b then [] else r ∷ [])
     one true = refl
     one false = refl
 
-talk-idle : (rs : List LineReport) (r : LineReport) → is_idle r.report.kind ≡ true → talk (rs ++ r ∷ []) ≡ talk rs
+talk-idle : (rs : List LineReport) (r : LineReport) → is_idle_kind r.report.kind ≡ true → talk (rs ++ r ∷ []) ≡ talk rs
 talk-idle rs r idle = talk-more rs r ∙ rw idle (append-nil (talk rs))
 
-talk-one : (rs : List LineReport) (r : LineReport) → is_idle r.report.kind ≡ false → talk (rs ++ r ∷ []) ≡ talk rs ++ r
+talk-one : (rs : List LineReport) (r : LineReport) → is_idle_kind r.report.kind ≡ false
+    → talk (rs ++ r ∷ []) ≡ talk rs ++ r
     ∷ []
 talk-one rs r talks = talk-more rs r ∙ rw talks refl
 
@@ -50,17 +52,17 @@ talk-one rs r talks = talk-more rs r ∙ rw talks refl
 abbrev pending-of : List FrameType → List LineReport → Option Pending
 pending-of d xs = option_and_then (waits d) (last_or None xs)
 
-pub pending-idle : (d : List FrameType) (rs : List LineReport) (r : LineReport) → is_idle r.report.kind ≡ true →
+pub pending-idle : (d : List FrameType) (rs : List LineReport) (r : LineReport) → is_idle_kind r.report.kind ≡ true →
     pending d (rs ++ r ∷ []) ≡ pending d rs
 pending-idle d rs r idle = ap (pending-of d) (talk-idle rs r idle)
 
-pub pending-talk : (d : List FrameType) (rs : List LineReport) (r : LineReport) → is_idle r.report.kind ≡ false →
+pub pending-talk : (d : List FrameType) (rs : List LineReport) (r : LineReport) → is_idle_kind r.report.kind ≡ false →
     pending d (rs ++ r ∷ []) ≡ waits d r
 pending-talk d rs r talks =
     ap (pending-of d) (talk-one rs r talks)
     ∙ ap (option_and_then (waits d)) (last_or-push None (talk rs) r)
 
-pub decided-idle : (d : List FrameType) (rs : List LineReport) (r : LineReport) → is_idle r.report.kind ≡ true →
+pub decided-idle : (d : List FrameType) (rs : List LineReport) (r : LineReport) → is_idle_kind r.report.kind ≡ true →
     decided d rs r ≡ None
 decided-idle d rs r idle = rw idle refl
 
@@ -70,7 +72,7 @@ judged : (d : List FrameType) (r : LineReport) (o : Option LineReport) →
 judged d r None = refl
 judged d r (Some left) = refl
 
-pub decided-talk : (d : List FrameType) (rs : List LineReport) (r : LineReport) → is_idle r.report.kind ≡ false →
+pub decided-talk : (d : List FrameType) (rs : List LineReport) (r : LineReport) → is_idle_kind r.report.kind ≡ false →
     decided d rs r ≡ option_map (verdict d (begins d r)) (pending d rs)
 decided-talk d rs r talks = rw talks (judged d r (last_or None (talk rs)))
 
@@ -88,9 +90,9 @@ judged-pair d (Some left) r = one (verdict_on d left r)
 
 pub verdicts-more : (d : List FrameType) (rs : List LineReport) (r : LineReport) →
     verdicts d (rs ++ r ∷ []) ≡ verdicts d rs ++ option_to_list (decided d rs r)
-verdicts-more d rs r = step (is_idle r.report.kind) refl
+verdicts-more d rs r = step (is_idle_kind r.report.kind) refl
   where
-    step : (b : Bool) → is_idle r.report.kind ≡ b → verdicts d (rs ++ r ∷ [])
+    step : (b : Bool) → is_idle_kind r.report.kind ≡ b → verdicts d (rs ++ r ∷ [])
         ≡ verdicts d rs ++ option_to_list (decided d rs r)
     step true kind_is =
         ap (λ xs. verdicts-of d (neighbours xs)) (talk-idle rs r kind_is)

@@ -5,7 +5,7 @@ use Rattle.std.proofs.lemmas.Bool.Decides.{eqb_tells}
 use Rattle.std.proofs.lemmas.List.{length-replicate}
 use Rattle.std.proofs.lemmas.Option.{slice_get_within}
 use Rattle.circular_buffer.proofs.Places.{slice_get-set_same, slice_get-set_other}
-use Rattle.bus_pairing.specs.Internal.Counted.{one_more, Counted, IsWithin}
+use Rattle.bus_pairing.specs.Internal.Counted.{one_more, Counted, AreAtMost}
 use Rattle.bus_pairing.specs.declared.counts.Counts.{Counts}
 use Rattle.bus_pairing.specs.declared.verdict.Verdict.{Verdict}
 use Rattle.bus_pairing.proofs.ConversationLemmas.{slice_get-replicate}
@@ -27,7 +27,7 @@ same-counts most c d same are = let is : c ≡ d = cc in rw (← is) are
 
 -- one verdict more, and one step more
 pub within-counted : (most : ℕ) (tally : List Counts) (at : ℕ) (o : Outcome) (c : Counts) →
-    slice_get tally at ≡ Some c → IsWithin most tally → IsWithin (most + 1) (set tally at (one_more o c))
+    slice_get tally at ≡ Some c → AreAtMost most tally → AreAtMost (most + 1) (set tally at (one_more o c))
 within-counted most tally at o c here within station d is = elim (eqb_tells station at) [
   | inl same ↦
       let now : slice_get (set tally at (one_more o c)) at ≡ Some d =
@@ -53,7 +53,7 @@ counted-set tally v c here station d is = elim (eqb_tells v.station station) [
 ]
 
 -- the same counts for each station
-pub within-replicate : (most n : ℕ) (c : Counts) → AreWithin most c → IsWithin most (replicate n c)
+pub within-replicate : (most n : ℕ) (c : Counts) → AreWithin most c → AreAtMost most (replicate n c)
 within-replicate most n c are station d is =
     let inside : station < n = omega (arith, slice_get_within (replicate n c) station d is, length-replicate n c) in
     same-counts most c d (sym (slice_get-replicate n c station inside) ∙ is) are

@@ -25,7 +25,7 @@ pub record ConversationState : Type 0 where
   pub handled : ℕ
 
 -- the conversation may stand after these reports
-pub record Keeps (j : ConversationState) (hs : List LineReport) : Type 0 where
+pub record ConversationAfter (j : ConversationState) (hs : List LineReport) : Type 0 where
   pub history : j.history ≡ history j.depth hs
   pub waiting : j.waiting ≡ pending j.dictionary hs
   pub tally : (station : ℕ) → station < 256 → slice_get j.tally station ≡ Some (tally j.dictionary hs station)
@@ -39,10 +39,11 @@ pub record AdvancesPairing (d : List FrameType) (old : Option Pending) (report :
   pub says : (hs : List LineReport) → old ≡ pending d hs → found ≡ seen_of d hs report
 
 -- the conversation took one report more, and found this of it
-pub record Enters (old : ConversationState) (report : LineReport) (found : SeenReport) (new : ConversationState) : Type
+pub record AdvancesConversation (old : ConversationState) (report : LineReport) (found : SeenReport)
+    (new : ConversationState) : Type
     0 where
-  pub keeps : (hs : List LineReport) → Keeps old hs → Keeps new (hs ++ report ∷ [])
-  pub says : (hs : List LineReport) → Keeps old hs → found ≡ seen_of old.dictionary hs report
+  pub keeps : (hs : List LineReport) → ConversationAfter old hs → ConversationAfter new (hs ++ report ∷ [])
+  pub says : (hs : List LineReport) → ConversationAfter old hs → found ≡ seen_of old.dictionary hs report
   pub dictionary : new.dictionary ≡ old.dictionary
   pub depth : new.depth ≡ old.depth
 

@@ -30,7 +30,7 @@ abbrev pub total : Spent → ℕ
 total s = s.shifted + s.assembled + s.folded + s.stored + s.copied + s.handled
 
 -- the counters of an analyser after the bits b, whose check costs so much an octet
-pub record IsLedger (cost longest : ℕ) (b : List Bool) (spent : Spent) : Type 0 where
+pub record IsAnalyserLedger (cost longest : ℕ) (b : List Bool) (spent : Spent) : Type 0 where
   pub bits : spent.shifted ≡ length b
   pub settled : spent.assembled ≡ assembled b
   pub filled : spent.stored ≡ stored longest b
@@ -39,8 +39,8 @@ pub record IsLedger (cost longest : ℕ) (b : List Bool) (spent : Spent) : Type 
   pub reported : spent.handled ≡ handled (reports longest b)
 
 -- two counts of steps, added up
-abbrev pub plus : Spent → Spent → Spent
-plus s t = record {
+abbrev pub sum_of_steps : Spent → Spent → Spent
+sum_of_steps s t = record {
   shifted = s.shifted + t.shifted;
   assembled = s.assembled + t.assembled;
   folded = s.folded + t.folded;
@@ -53,6 +53,6 @@ plus s t = record {
 pub record IsPairLedger (cost longest : ℕ) (ps : List (Bool × Bool)) (spent : Spent) : Type 0 where
   pub first : Spent
   pub second : Spent
-  pub first_is : IsLedger cost longest (firsts ps) first
-  pub second_is : IsLedger cost longest (seconds ps) second
-  pub sum : spent ≡ plus first second
+  pub first_is : IsAnalyserLedger cost longest (firsts ps) first
+  pub second_is : IsAnalyserLedger cost longest (seconds ps) second
+  pub sum : spent ≡ sum_of_steps first second

@@ -9,7 +9,7 @@ use Rattle.bus_pairing.specs.declared.line.Line.{Line}
 use Rattle.bus_dictionary.specs.Entry.{FrameType}
 use Rattle.bus_dictionary.specs.declared.standing.Standing.{Standing}
 use Rattle.bus_dictionary.specs.Standing.{type_in}
-use Rattle.bus_pairing.specs.Talk.{talk, is_idle, standing_of, verdict_on}
+use Rattle.bus_pairing.specs.Talk.{talk, is_idle_kind, standing_of, verdict_on}
 use Rattle.bus_pairing.specs.declared.outcome.Outcome.{Outcome}
 use Rattle.bus_pairing.specs.declared.outcome.Outcome.TheVariants.{Answered, Late}
 use Rattle.bus_pairing.specs.declared.verdict.Verdict.{Verdict}
@@ -28,7 +28,8 @@ report_in s = line_report s.line s.report
 -- the verdict that a report decides: that on its left neighbour in the talk
 abbrev pub decided : List FrameType → List LineReport → LineReport → Option Verdict
 decided d before h =
-    if is_idle h.report.kind then None else option_and_then (λ left. verdict_on d left h) (last_or None (talk before))
+    if is_idle_kind h.report.kind then None else option_and_then (λ left. verdict_on d left h) (last_or None
+    (talk before))
 
 -- the frame type, if it has a standing that gives one
 abbrev pub type_of : Option Standing → Option ℕ

@@ -17,13 +17,13 @@ use Rattle.bus_pairing.specs.declared.outcome.Outcome.TheVariants.{Answered, Lat
 use Rattle.bus_pairing.specs.declared.pending.Pending.{Pending}
 use Rattle.bus_pairing.specs.declared.verdict.Verdict.{Verdict}
 
-abbrev pub is_idle : Kind → Bool
-is_idle Idle = true
-is_idle kind = false
+abbrev pub is_idle_kind : Kind → Bool
+is_idle_kind Idle = true
+is_idle_kind kind = false
 
 -- the reports without idles
 abbrev pub talk : List LineReport → List LineReport
-talk hs = filter (λ h. not (is_idle h.report.kind)) hs
+talk hs = filter (λ h. not (is_idle_kind h.report.kind)) hs
 
 -- each item but the last, with the one right of it
 abbrev pub neighbours : {A : Type 0} → List A → List (A × A)

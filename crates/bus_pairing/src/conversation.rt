@@ -65,14 +65,14 @@ fn no_counts() -> [Counts; 256]
 impl Conversation {
     ghost use Rattle.bus_line.specs.Shown.{reported};
     ghost use Rattle.bus_pairing.specs.LineReport.{line_report};
-    ghost use Rattle.bus_pairing.specs.Conversation.{Enters, HasRoom, IsWhole, Keeps};
+    ghost use Rattle.bus_pairing.specs.Conversation.{AdvancesConversation, HasRoom, IsWhole, ConversationAfter};
     ghost use Rattle.bus_pairing.specs.Shown.{found_on, kept_pair_option};
 
     /// A conversation of no reports, whose history keeps `depth` frames, one or more. Fails only where memory was
     /// refused.
     pub fn new(alloc: Global, dictionary: Dictionary, depth: usize) -> Result<Self, AllocError>
         requires { 1 ≤ depth }
-        ensures keeps { IfOk result (λ j. Keeps j []) }
+        ensures keeps { IfOk result (λ j. ConversationAfter j []) }
         ensures given { IfOk result (λ j. (j.dictionary ≡ dictionary) × (j.depth ≡ depth)) }
     {
         let history = HeapCircularBuffer::with_capacity(alloc, depth)?;
@@ -95,7 +95,7 @@ impl Conversation {
         requires whole { IsWhole event.kind octets.now }
         requires fits { length octets.now ≤ most_octets }
         requires room { HasRoom self.old }
-        ensures enters { Enters self.old (line_report line (reported octets.now event))
+        ensures enters { AdvancesConversation self.old (line_report line (reported octets.now event))
             (found_on line octets.now self.new.last) self.new }
     {
         self.pairing

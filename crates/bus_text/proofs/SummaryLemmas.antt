@@ -5,7 +5,7 @@ use Rattle.std.specs.Prelude.{cond}
 use Rattle.std.proofs.lemmas.List.Sums.{sum_by-append}
 use Rattle.bus_pairing.specs.Seen.{SeenReport}
 use Rattle.bus_pairing.specs.declared.outcome.Outcome.TheVariants.{Answered, Late, Missing, Spoilt}
-use Rattle.bus_pairing.specs.Talk.{is_idle}
+use Rattle.bus_pairing.specs.Talk.{is_idle_kind}
 use Rattle.bus_text.specs.Summary.{shows_frame, shows_damaged, shows_overlong, shows_abort, has_outcome, summary_of}
 use Rattle.bus_text.specs.Counting.{one_more_if, with_kind, with_seen}
 use Rattle.bus_text.specs.declared.summary.Summary.{Summary}
@@ -32,7 +32,7 @@ summary-more before s =
       count-last (λ (s : SeenReport). shows_damaged s.report.kind) before s,
       count-last (λ (s : SeenReport). shows_overlong s.report.kind) before s,
       count-last (λ (s : SeenReport). shows_abort s.report.kind) before s,
-      count-last (λ (s : SeenReport). is_idle s.report.kind) before s,
+      count-last (λ (s : SeenReport). is_idle_kind s.report.kind) before s,
       count-last (λ (s : SeenReport). s.stray) before s,
       count-last (λ (s : SeenReport). has_outcome Answered s.verdict) before s,
       count-last (λ (s : SeenReport). has_outcome Missing s.verdict) before s,

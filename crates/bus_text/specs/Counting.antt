@@ -1,7 +1,7 @@
 -- A summary with one report more.
 use Rattle.std.specs.Prelude.{ℕ, ◌+◌, ◌≤◌, Bool, Option, if◌then◌else◌}
 use Rattle.bus_line.specs.Report.{Kind}
-use Rattle.bus_pairing.specs.Talk.{is_idle}
+use Rattle.bus_pairing.specs.Talk.{is_idle_kind}
 use Rattle.bus_pairing.specs.Seen.{SeenReport}
 use Rattle.bus_pairing.specs.declared.outcome.Outcome.TheVariants.{Answered, Late, Missing, Spoilt}
 use Rattle.bus_pairing.specs.declared.verdict.Verdict.{Verdict}
@@ -19,7 +19,7 @@ with_kind k s = record s {
   damaged = one_more_if (shows_damaged k) s.damaged;
   overlong = one_more_if (shows_overlong k) s.overlong;
   aborts = one_more_if (shows_abort k) s.aborts;
-  idles = one_more_if (is_idle k) s.idles;
+  idles = one_more_if (is_idle_kind k) s.idles;
 }
 
 -- a verdict is counted

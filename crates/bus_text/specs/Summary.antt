@@ -1,7 +1,7 @@
 -- How often each thing is seen.
 use Rattle.std.specs.Prelude.{Bool, true, false, List, count_by, Option, Some, None}
 use Rattle.bus_line.specs.Report.{Kind, Frame, Damaged, Overlong, Abort}
-use Rattle.bus_pairing.specs.Talk.{is_idle}
+use Rattle.bus_pairing.specs.Talk.{is_idle_kind}
 use Rattle.bus_pairing.specs.Seen.{SeenReport}
 use Rattle.bus_pairing.specs.History.{is_outcome}
 use Rattle.bus_pairing.specs.declared.outcome.Outcome.{Outcome}
@@ -37,7 +37,7 @@ summary_of seen = record {
   damaged = count_by (λ s. shows_damaged s.report.kind) seen;
   overlong = count_by (λ s. shows_overlong s.report.kind) seen;
   aborts = count_by (λ s. shows_abort s.report.kind) seen;
-  idles = count_by (λ s. is_idle s.report.kind) seen;
+  idles = count_by (λ s. is_idle_kind s.report.kind) seen;
   strays = count_by (λ s. s.stray) seen;
   answered = count_by (λ s. has_outcome Answered s.verdict) seen;
   missing = count_by (λ s. has_outcome Missing s.verdict) seen;

@@ -12,10 +12,10 @@ use Rattle.bus_dictionary.specs.Dictionary.{longest_of}
 use Rattle.bus_pairing.specs.LineReport.{LineReport, line_report}
 use Rattle.bus_pairing.specs.Seen.{SeenReport, seen_of, seen}
 use Rattle.bus_pairing.specs.declared.line.Line.{Line}
-use Rattle.bus_pairing.specs.Conversation.{ConversationState, Keeps}
+use Rattle.bus_pairing.specs.Conversation.{ConversationState, ConversationAfter}
 use Rattle.bus_watch.specs.Internal.Decodes.{Decodes}
 use Rattle.bus_watch.specs.After.{AnalyserState, IsAfter}
-use Rattle.bus_pairing.specs.Ledger.{IsLedger}
+use Rattle.bus_pairing.specs.Ledger.{IsAnalyserLedger}
 use Rattle.bus_pairing.proofs.SeenLemmas.{seen-more}
 use Rattle.bus_watch.proofs.AnalyserViewLemmas.{octets-moved, steps-moved, reports-octets, reports-steps}
 
@@ -23,8 +23,8 @@ use Rattle.bus_watch.proofs.AnalyserViewLemmas.{octets-moved, steps-moved, repor
 pub decodes-some : {C : Type 0} (view : CheckView C) (on : Option Line) (old new : LineState C)
     (j k : ConversationState) (bits : List Bool) (report : Report) (told : Option SeenReport)
     → Advances view old bits (Some report) new
-    → ((hs : List LineReport) → Keeps j hs → Keeps k (hs ++ line_report on report ∷ []))
-    → ((hs : List LineReport) → Keeps j hs → told ≡ Some (seen_of j.dictionary hs (line_report on report)))
+    → ((hs : List LineReport) → ConversationAfter j hs → ConversationAfter k (hs ++ line_report on report ∷ []))
+    → ((hs : List LineReport) → ConversationAfter j hs → told ≡ Some (seen_of j.dictionary hs (line_report on report)))
     → k.dictionary ≡ j.dictionary → k.depth ≡ j.depth
     → Decodes view on old j bits told new k
 decodes-some view on old new j k bits report told advances keeps says dictionary depth = record {
@@ -43,7 +43,8 @@ pub ledger-is : {C : Type 0} (view : CheckView C) (a : AnalyserState C) (b : Lis
     (d j : Spent) → IsAfter view a b
     → IsLineLedger view.cost a.decoder.longest b d → j.copied ≡ a.conversation.copied → j.handled
     ≡ a.conversation.handled
-    → IsLedger view.cost (longest_of a.conversation.dictionary) b (record d { copied = j.copied; handled = j.handled })
+    → IsAnalyserLedger view.cost (longest_of a.conversation.dictionary) b
+    (record d { copied = j.copied; handled = j.handled })
 ledger-is view a b d j reached ledger copied handled =
     let rs = placed a.decoder.origin (longest_of a.conversation.dictionary) b in
     record {

@@ -18,8 +18,8 @@ use Rattle.bus_dictionary.specs.Dictionary.{longest_of}
 use Rattle.bus_pairing.specs.LineReport.{LineReport, line_report}
 use Rattle.bus_pairing.specs.declared.line.Line.{Line}
 use Rattle.bus_pairing.specs.Ledger.{kind_steps, steps, handled, handled_of, copied_of}
-use Rattle.bus_pairing.specs.Conversation.{ConversationState, Keeps, HasRoom, IsWhole}
-use Rattle.bus_watch.specs.After.{AnalyserState, IsAfter, line}
+use Rattle.bus_pairing.specs.Conversation.{ConversationState, ConversationAfter, HasRoom, IsWhole}
+use Rattle.bus_watch.specs.After.{AnalyserState, IsAfter, line_reports}
 
 length-places : (n : ℕ) → length (places n) ≡ n
 length-places zero = refl
@@ -70,7 +70,8 @@ steps-moved origin (r ∷ rs) =
     ∙ (ap (λ n. sum_by steps (r ∷ []) + n) (steps-moved origin rs) ∙ sym (sum_by-append steps (r ∷ []) rs))
 
 -- after no more reports than two lines have, all counters have room for one more
-pub room-of : (j : ConversationState) (hs : List LineReport) → Keeps j hs → copied_of hs ≤ 2 ^ 62 → length hs ≤ 2 ^ 61
+pub room-of : (j : ConversationState) (hs : List LineReport) → ConversationAfter j hs → copied_of hs ≤ 2 ^ 62
+    → length hs ≤ 2 ^ 61
     + 1 →
     HasRoom j
 room-of j hs kept octets few = record {
@@ -98,7 +99,7 @@ pub room : {C : Type 0} (view : CheckView C) (a : AnalyserState C) (b : List Boo
 room view a b frames paid within reached few =
     let longest = longest_of a.conversation.dictionary in
     let rs = placed a.decoder.origin longest b in
-    room-of a.conversation (line a b) reached.conversation
+    room-of a.conversation (line_reports a b) reached.conversation
     (omega (
       arith,
       reports-octets None rs,

@@ -8,7 +8,7 @@ use Rattle.bus_line.specs.Due.{reports, placed}
 use Rattle.bus_line.specs.Suffix.{CutAtFlag}
 use Rattle.bus_dictionary.specs.Entry.{FrameType}
 use Rattle.bus_pairing.specs.LineReport.{LineReport, line_report, of_line}
-use Rattle.bus_pairing.specs.Talk.{talk, is_idle, begins, verdict, pending, standing_of}
+use Rattle.bus_pairing.specs.Talk.{talk, is_idle_kind, begins, verdict, pending, standing_of}
 use Rattle.bus_pairing.specs.Seen.{SeenReport, seen, seen_of, decided, is_stray}
 use Rattle.bus_watch.specs.Cut.{CutLosesNothing, CutLosesVerdict, FlagLosesNothing}
 use Rattle.bus_pairing.specs.declared.verdict.Verdict.{Verdict}
@@ -45,9 +45,9 @@ with_verdict d h v = record {
 -- only the command that waits counts of the reports before
 decided-alike : (d : List FrameType) (a c : List LineReport) (h : LineReport) → pending d a ≡ pending d c →
     decided d a h ≡ decided d c h
-decided-alike d a c h same_pending = step (is_idle h.report.kind) refl
+decided-alike d a c h same_pending = step (is_idle_kind h.report.kind) refl
   where
-    step : (b : Bool) → is_idle h.report.kind ≡ b → decided d a h ≡ decided d c h
+    step : (b : Bool) → is_idle_kind h.report.kind ≡ b → decided d a h ≡ decided d c h
     step true kind_is = decided-idle d a h kind_is ∙ sym (decided-idle d c h kind_is)
     step false kind_is =
         decided-talk d a h kind_is ∙ ap (option_map (verdict d (begins d h))) same_pending
@@ -55,9 +55,9 @@ decided-alike d a c h same_pending = step (is_idle h.report.kind) refl
 
 pending-alike : (d : List FrameType) (a c : List LineReport) (h : LineReport) → pending d a ≡ pending d c →
     pending d (a ++ h ∷ []) ≡ pending d (c ++ h ∷ [])
-pending-alike d a c h same_pending = step (is_idle h.report.kind) refl
+pending-alike d a c h same_pending = step (is_idle_kind h.report.kind) refl
   where
-    step : (b : Bool) → is_idle h.report.kind ≡ b → pending d (a ++ h ∷ []) ≡ pending d (c ++ h ∷ [])
+    step : (b : Bool) → is_idle_kind h.report.kind ≡ b → pending d (a ++ h ∷ []) ≡ pending d (c ++ h ∷ [])
     step true kind_is = pending-idle d a h kind_is ∙ same_pending ∙ sym (pending-idle d c h kind_is)
     step false kind_is = pending-talk d a h kind_is ∙ sym (pending-talk d c h kind_is)
 
@@ -83,11 +83,11 @@ behind-append d before (x ∷ xs) ys =
     ∙ ap (λ (a : List LineReport). behind d (before ++ x ∷ []) xs ++ behind d a ys) (append_assoc before (x ∷ []) xs))
 
 -- where all are idle lines, so is the first, and the others are
-idle-first : (h : LineReport) (hs : List LineReport) → talk (h ∷ hs) ≡ [] → (is_idle h.report.kind ≡ true)
+idle-first : (h : LineReport) (hs : List LineReport) → talk (h ∷ hs) ≡ [] → (is_idle_kind h.report.kind ≡ true)
     × (talk hs ≡ [])
-idle-first h hs all_idle = step (is_idle h.report.kind) refl
+idle-first h hs all_idle = step (is_idle_kind h.report.kind) refl
   where
-    step : (b : Bool) → is_idle h.report.kind ≡ b → (is_idle h.report.kind ≡ true) × (talk hs ≡ [])
+    step : (b : Bool) → is_idle_kind h.report.kind ≡ b → (is_idle_kind h.report.kind ≡ true) × (talk hs ≡ [])
     step true kind_is = (kind_is, rw kind_is at all_idle)
     step false kind_is = absurd (omega (arith, ap (length {A = LineReport}) (rw kind_is at all_idle)))
 

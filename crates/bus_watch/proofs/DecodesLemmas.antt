@@ -17,10 +17,10 @@ use Rattle.bus_line.specs.After.{After}
 use Rattle.bus_dictionary.specs.Dictionary.{longest_of}
 use Rattle.bus_pairing.specs.LineReport.{LineReport, line_report, of_line}
 use Rattle.bus_pairing.specs.Seen.{SeenReport, seen}
-use Rattle.bus_pairing.specs.Conversation.{ConversationState, Keeps, HasRoom}
+use Rattle.bus_pairing.specs.Conversation.{ConversationState, ConversationAfter, HasRoom}
 use Rattle.bus_watch.specs.Internal.Decodes.{Decodes, DecodesMany, KeepsUp, line_reports_of}
-use Rattle.bus_watch.specs.After.{AnalyserState, IsAfter, Sees, line, one_line}
-use Rattle.bus_watch.specs.Watch.{LeadsTold}
+use Rattle.bus_watch.specs.After.{AnalyserState, IsAfter, AdvancesAnalyser, line_reports, one_line}
+use Rattle.bus_watch.specs.Watch.{AdvancesWatchShown}
 use Rattle.bus_pairing.specs.declared.line.Line.{Line}
 use Rattle.bus_watch.proofs.AnalyserViewLemmas.{reports-octets, line-length, octets-moved, room-of}
 use Rattle.bus_watch.proofs.PairLemmas.{copied-adds, few-option}
@@ -54,7 +54,7 @@ module _ {C : Type 0} (view : CheckView C) (on : Option Line) where
       place = omega arith;
     };
     grows = λ b _. ap (placed d.origin d.longest) (append-nil b) ∙ sym (append-nil (placed d.origin d.longest b));
-    keeps = λ hs kept. subst (Keeps j) (sym (append-nil hs)) kept;
+    keeps = λ hs kept. subst (ConversationAfter j) (sym (append-nil hs)) kept;
     seen = λ hs _. ap (seen j.dictionary) (append-nil hs) ∙ sym (append-nil (seen j.dictionary hs));
     dictionary = refl;
     depth = refl;
@@ -107,7 +107,7 @@ module _ {C : Type 0} (view : CheckView C) (on : Option Line) where
             ap (placed a.origin a.longest) (sym (append_assoc bs xs ys))
             ∙ (last ∙ (ap (λ more. more ++ rs) (first.grows bs reached)
             ∙ append_assoc (placed a.origin a.longest bs) first.reports rs));
-        keeps = λ hs kept. subst (Keeps k) (sym (whole hs))
+        keeps = λ hs kept. subst (ConversationAfter k) (sym (whole hs))
             (next.keeps (hs ++ map (line_report on) first.reports) (first.keeps hs kept));
         seen = λ hs kept.
             let last : seen i.dictionary ((hs ++ map (line_report on) first.reports) ++ line_reports_of on next.report)
@@ -186,14 +186,14 @@ keeps_up-room view d j frames paid within keeps_up place =
 pub leads-decoded : {C : Type 0} (view : CheckView C) (old new : AnalyserState C) (bits : List Bool)
     (told : List SeenReport → Type 0)
     → DecodesMany view None old.decoder old.conversation bits new.decoder new.conversation told
-    → LeadsTold (one_line view) old bits new told
+    → AdvancesWatchShown (one_line view) old bits new told
 leads-decoded view old new bits told decoded =
     let led = decoded.led in
-    let same : (bs : List Bool) → line new bs ≡ line old bs = λ bs.
+    let same : (bs : List Bool) → line_reports new bs ≡ line_reports old bs = λ bs.
     ap (λ o. of_line (placed o (longest_of new.conversation.dictionary) bs)) led.origin
     ∙ ap (λ d. of_line (placed old.decoder.origin (longest_of d) bs)) decoded.dictionary in
     let grown : (b : List Bool) → IsAfter view old b →
-    line old (b ++ bits) ≡ line old b ++ map (line_report None) decoded.reports = λ b reached.
+    line_reports old (b ++ bits) ≡ line_reports old b ++ map (line_report None) decoded.reports = λ b reached.
     let before = placed old.decoder.origin (longest_of old.conversation.dictionary) b in
     let more : placed old.decoder.origin (longest_of old.conversation.dictionary) (b ++ bits) ≡ before
     ++ decoded.reports =
@@ -205,10 +205,12 @@ leads-decoded view old new bits told decoded =
         is_after = λ b reached. record {
           decoder = led.after b reached.decoder;
           longest = led.longest ∙ reached.longest ∙ ap longest_of (sym decoded.dictionary);
-          conversation = rw (same (b ++ bits), grown b reached) (decoded.keeps (line old b) reached.conversation);
+          conversation = rw (same (b ++ bits), grown b reached) (decoded.keeps
+              (line_reports old b) reached.conversation);
         };
         seen = λ b reached.
-            ap (seen old.conversation.dictionary) (grown b reached) ∙ decoded.seen (line old b) reached.conversation;
+            ap (seen old.conversation.dictionary) (grown b reached)
+            ∙ decoded.seen (line_reports old b) reached.conversation;
         dictionary = decoded.dictionary;
         depth = decoded.depth;
         origin = led.origin;
@@ -221,7 +223,7 @@ leads-decoded view old new bits told decoded =
 pub sees-decoded : {C : Type 0} (view : CheckView C) (old new : AnalyserState C) (bits : List Bool)
     (told : Option SeenReport) → 0 < length bits
     → Decodes view None old.decoder old.conversation bits told new.decoder new.conversation →
-    Sees view old bits (option_to_list told) new
+    AdvancesAnalyser view old bits (option_to_list told) new
 unfolding leads-decoded
 sees-decoded view old new bits told some reports =
     (leads-decoded view old new bits _ (decodes-one view None _ _ _ _ bits told some reports)).sees
@@ -236,7 +238,7 @@ line-keeps_up view a b reached =
     record {
       bits = b;
       after = reached.decoder;
-      decoded = line a b;
+      decoded = line_reports a b;
       keeps = reached.conversation;
       copied = omega (arith, reports-octets None rs, ap (sum_by octet_count) same);
       count = omega (arith, length-map rs (line_report None), ap length same);

@@ -11,8 +11,8 @@ use Rattle.bus_line.specs.Told.{told}
 use Rattle.bus_line.proofs.ToldLemmas.{told-nil, told-more}
 use Rattle.bus_pairing.specs.Sink.{SinkView}
 use Rattle.bus_dictionary.specs.Dictionary.{longest_of}
-use Rattle.bus_watch.specs.Watch.{Watch, Leads, seen_by}
-use Rattle.bus_watch.specs.After.{AnalyserState, Sees, seen_after}
+use Rattle.bus_watch.specs.Watch.{Watch, AdvancesWatch, seen_by}
+use Rattle.bus_watch.specs.After.{AnalyserState, AdvancesAnalyser, seen_after}
 use Rattle.bus_watch.specs.Laws.{joined, Runs, ended, called}
 use Rattle.bus_watch.specs.Fed.{FedBy, Fed, Refused, RefusedAt}
 
@@ -30,7 +30,7 @@ pub same-seen : {A X : Type 0} (w : Watch A X) (a c : A) (xs : List X) → w.dic
 same-seen w a c xs dictionary origin = ap (λ d. seen d (w.reports (w.origin c) (longest_of d) xs)) dictionary
     ∙ ap (λ o. seen (w.dictionary a) (w.reports o (longest_of (w.dictionary a)) xs)) origin
 
-pub leads-nil : {A X : Type 0} (w : Watch A X) (a : A) → Leads w a [] [] a
+pub leads-nil : {A X : Type 0} (w : Watch A X) (a : A) → AdvancesWatch w a [] [] a
 leads-nil w a = record {
   is_after = λ b reached. subst (w.is_after a) (sym (append-nil b)) reached;
   seen = λ b _. ap (seen_by w a) (append-nil b) ∙ sym (append-nil (seen_by w a b));
@@ -42,7 +42,8 @@ leads-nil w a = record {
 
 module _ {A X : Type 0} {w : Watch A X} where
   -- what is seen of more, from where some lead
-  seen-on : {a b : A} {xs : List X} {ss : List SeenReport} (bs ys : List X) (ts : List SeenReport) → Leads w a xs ss b →
+  seen-on : {a b : A} {xs : List X} {ss : List SeenReport} (bs ys : List X) (ts : List SeenReport)
+      → AdvancesWatch w a xs ss b →
       w.is_after a bs → seen_by w b ((bs ++ xs) ++ ys) ≡ seen_by w b (bs ++ xs) ++ ts
       → seen_by w a (bs ++ (xs ++ ys)) ≡ seen_by w a bs ++ (ss ++ ts)
   seen-on {a} {b} {xs} {ss} bs ys ts leads reached more =
@@ -51,8 +52,9 @@ module _ {A X : Type 0} {w : Watch A X} where
       ap (seen_by w a) (sym (append_assoc bs xs ys)) ∙ sym (same ((bs ++ xs) ++ ys)) ∙ (more
       ∙ (ap (λ l. l ++ ts) (same (bs ++ xs) ∙ leads.seen bs reached) ∙ append_assoc (seen_by w a bs) ss ts))
 
-  pub leads-more : {a b c : A} {xs ys : List X} {ss ts : List SeenReport} → Leads w a xs ss b → Leads w b ys ts c →
-      Leads w a (xs ++ ys) (ss ++ ts) c
+  pub leads-more : {a b c : A} {xs ys : List X} {ss ts : List SeenReport} → AdvancesWatch w a xs ss b
+      → AdvancesWatch w b ys ts c →
+      AdvancesWatch w a (xs ++ ys) (ss ++ ts) c
   leads-more {a} {b} {c} {xs} {ys} {ss} {ts} first next = record {
     is_after = λ bs reached. subst (w.is_after c) (append_assoc bs xs ys)
         (next.is_after (bs ++ xs) (first.is_after bs reached));
@@ -65,7 +67,7 @@ module _ {A X : Type 0} {w : Watch A X} where
 
   -- what is seen of all but the last of more
   pub front-more : {a b : A} {xs : List X} {ss : List SeenReport} (bs ys : List X) (ts : List SeenReport) →
-      Leads w a xs ss b → w.is_after a bs → 0 < length ys
+      AdvancesWatch w a xs ss b → w.is_after a bs → 0 < length ys
       → seen_by w b ((bs ++ xs) ++ take (length ys - 1) ys) ≡ seen_by w b (bs ++ xs) ++ ts
       → seen_by w a (bs ++ take (length (xs ++ ys) - 1) (xs ++ ys)) ≡ seen_by w a bs ++ (ss ++ ts)
   front-more {a} {b} {xs} {ss} bs ys ts leads reached some front =
@@ -106,7 +108,8 @@ module _ {C : Type 0} {view : CheckView C} {S : Type 0} {sink : SinkView S}
   where
     -- the sink refused what is seen at a bit
     pub refused-bit : {a c : AnalyserState C} {bit : Bool} {lost : SeenReport} {s t : S} →
-        Sees view a (bit ∷ []) (lost ∷ []) c → sink.taken t ≡ sink.taken s → Refused view sink a (bit ∷ []) c s t
+        AdvancesAnalyser view a (bit ∷ []) (lost ∷ []) c → sink.taken t ≡ sink.taken s
+        → Refused view sink a (bit ∷ []) c s t
     refused-bit {a} {lost = lost} {s = s} sees same = record {
       seen = [];
       lost = lost;

@@ -14,9 +14,9 @@ use Rattle.bus_line.specs.Told.{told}
 use Rattle.bus_pairing.specs.Sink.{SinkView}
 use Rattle.bus_pairing.specs.Seen.{SeenReport, report_in}
 use Rattle.bus_pairing.specs.History.{history}
-use Rattle.bus_pairing.specs.Ledger.{IsLedger, total}
+use Rattle.bus_pairing.specs.Ledger.{IsAnalyserLedger, total}
 use Rattle.bus_watch.specs.Watch.{Watch}
-use Rattle.bus_watch.specs.After.{AnalyserState, IsAfter, line, one_line}
+use Rattle.bus_watch.specs.After.{AnalyserState, IsAfter, line_reports, one_line}
 use Rattle.bus_watch.specs.Laws.{AnyCut, SeenAreReports, Runs, ended, called, joined}
 use Rattle.bus_watch.proofs.FedLemmas.{same-seen}
 use Rattle.bus_watch.specs.Fed.{Fed, RefusedAt}
@@ -46,9 +46,11 @@ pub record Answers {C : Type 0} (view : CheckView C) (e : AnalyserState C) (u : 
   pub room : u.buffered ≤ longest_of e.conversation.dictionary + 2
   pub buffered : (b : List Bool) → IsAfter view e b →
       u.buffered ≡ stored_open (longest_of e.conversation.dictionary) b
-  pub kept : (b : List Bool) → IsAfter view e b → u.history_len ≡ length (history e.conversation.depth (line e b))
+  pub kept : (b : List Bool) → IsAfter view e b
+      → u.history_len ≡ length (history e.conversation.depth (line_reports e b))
   pub deep : u.history_len ≤ e.conversation.depth
-  pub ledger : (b : List Bool) → IsAfter view e b → IsLedger view.cost (longest_of e.conversation.dictionary) b u.spent
+  pub ledger : (b : List Bool) → IsAfter view e b
+      → IsAnalyserLedger view.cost (longest_of e.conversation.dictionary) b u.spent
   pub seventeen : (b : List Bool) → IsAfter view e b → total u.spent ≤ 17 * length b
   pub four : (b : List Bool) → IsAfter view e b → total u.spent ≤ 4 * length b
   pub three : view.cost ≡ 1 → (b : List Bool) → IsAfter view e b → total u.spent ≤ 3 * length b

@@ -16,7 +16,7 @@ use Rattle.bus_dictionary.specs.Dictionary.{longest_of}
 use Rattle.bus_pairing.specs.Talk.{verdicts}
 use Rattle.bus_pairing.specs.LineReport.{LineReport, line_report, of_line}
 use Rattle.bus_pairing.specs.Seen.{SeenReport, report_in, decided, seen_of, seen, seen_at}
-use Rattle.bus_watch.specs.After.{AnalyserState, IsAfter, line, seen_after}
+use Rattle.bus_watch.specs.After.{AnalyserState, IsAfter, line_reports, seen_after}
 use Rattle.bus_watch.specs.Laws.{SeenGrows}
 use Rattle.bus_pairing.proofs.TalkLemmas.{verdicts-more}
 use Rattle.bus_pairing.specs.declared.verdict.Verdict.{Verdict}
@@ -145,10 +145,10 @@ same-told (Some s) (Some t) same = cc
 pub answer-is : {C : Type 0} (view : CheckView C) (a : AnalyserState C) (b : List Bool)
     (bit : Bool) (o : Option SeenReport) → SeenGrows → IsAfter view a b
     → seen_after a (b ++ bit ∷ []) ≡ seen_after a b ++ option_to_list o →
-    o ≡ seen_at a.conversation.dictionary (line a (b ++ bit ∷ [])) a.decoder.place
+    o ≡ seen_at a.conversation.dictionary (line_reports a (b ++ bit ∷ [])) a.decoder.place
 answer-is view a b bit o grows reached adds =
     let d = a.conversation.dictionary in
-    let rs = line a (b ++ bit ∷ []) in
+    let rs = line_reports a (b ++ bit ∷ []) in
     let at : o ≡ seen_at d rs (a.decoder.origin + length b) =
     same-told o (seen_at d rs (a.decoder.origin + length b))
     (append_cancel_left (seen_after a b) _ _ (sym adds ∙ grows d (longest_of d) a.decoder.origin b bit)) in

@@ -5,7 +5,7 @@ use Rattle.std.proofs.Common.{length-append, subst}
 use Rattle.bus_pairing.specs.Seen.{SeenReport}
 use Rattle.bus_line.specs.Told.{told}
 use Rattle.bus_pairing.specs.Sink.{SinkView, SinkTook}
-use Rattle.bus_watch.specs.Watch.{Watch, Leads, seen_by}
+use Rattle.bus_watch.specs.Watch.{Watch, AdvancesWatch, seen_by}
 use Rattle.bus_watch.specs.Fed.{FedBy, RefusedBy, Lacks, none, took, refused, Offered}
 use Rattle.bus_pairing.proofs.SinkLemmas.{took-none, took-more}
 use Rattle.bus_line.proofs.ToldLemmas.{told-nil, told-more}
@@ -40,7 +40,7 @@ module _ {S : Type 0} {sink : SinkView S} where
   offered-none {s = s} = record { took_of = []; lacks = none; took = told-nil (sink.taken s); counts = took-none }
 
   pub fed-offered : {A X : Type 0} {w : Watch A X} {a c : A} {xs : List X} {s t : S} {all : List SeenReport} →
-      Leads w a xs all c → Offered sink all 0 s t → FedBy w sink a xs c s t
+      AdvancesWatch w a xs all c → Offered sink all 0 s t → FedBy w sink a xs c s t
   fed-offered {s = s} {all = all} sees offered = record {
     seen = all;
     sees = sees;
@@ -48,7 +48,7 @@ module _ {S : Type 0} {sink : SinkView S} where
   }
 
   pub refused-offered : {A X : Type 0} {w : Watch A X} {n : ℕ} {a c : A} {xs : List X} {s t : S}
-      {all : List SeenReport} → 0 < length xs → 0 < n → Leads w a xs all c
+      {all : List SeenReport} → 0 < length xs → 0 < n → AdvancesWatch w a xs all c
       → ((b : List X) → w.is_after a b → seen_by w a (b ++ take (length xs - 1) xs) ≡ seen_by w a b) →
       Offered sink all n s t → RefusedBy w sink n a xs c s t
   refused-offered {w = w} {a = a} {all = all} some some_refused sees quiet offered = record {

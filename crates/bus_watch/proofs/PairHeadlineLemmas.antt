@@ -12,7 +12,7 @@ use Rattle.bus_pairing.specs.History.{history}
 use Rattle.bus_pairing.specs.Seen.{report_in}
 use Rattle.bus_pairing.specs.declared.line.Line.TheVariants.{First, Second}
 use Rattle.bus_pairing.specs.Ledger.{IsPairLedger, total}
-use Rattle.bus_watch.specs.Pairs.{PairState, IsAfterPairs, two_lines, lines}
+use Rattle.bus_watch.specs.Pairs.{PairState, IsAfterPairs, two_lines, pair_reports}
 use Rattle.bus_watch.specs.Laws.{AnyCutOfPairs, SeenAreReports, MergedIsMerged, joined, ended, called}
 use Rattle.bus_watch.specs.PairHeadline.{PairHeadline, StoppedAtPair, WholePairRun, all_seen_on_both}
 use Rattle.bus_watch.specs.Fed.{FedBy, RefusedByAt}
@@ -32,7 +32,7 @@ pub record Answers {C : Type 0} (view : CheckView C) (e : PairState C) (u : Pair
   pub second_buffered : (ps : List (Bool × Bool)) → IsAfterPairs view e ps →
       u.second_buffered ≡ stored_open (longest_of e.conversation.dictionary) (seconds ps)
   pub kept : (ps : List (Bool × Bool)) → IsAfterPairs view e ps →
-      u.history_len ≡ length (history e.conversation.depth (lines e ps))
+      u.history_len ≡ length (history e.conversation.depth (pair_reports e ps))
   pub deep : u.history_len ≤ e.conversation.depth
   pub ledger : (ps : List (Bool × Bool)) → IsAfterPairs view e ps →
       IsPairLedger view.cost (longest_of e.conversation.dictionary) ps u.spent

@@ -22,8 +22,9 @@ use Rattle.bus_pairing.specs.LineReport.{LineReport, line_report, firsts, second
 use Rattle.bus_pairing.specs.Seen.{SeenReport, report_in, seen, all_seen_at}
 use Rattle.bus_pairing.specs.Conversation.{ConversationState, HasRoom}
 use Rattle.bus_watch.specs.Internal.Decodes.{Decodes, line_reports_of}
-use Rattle.bus_pairing.specs.Ledger.{steps, handled, handled_of, copied_of, total, plus, IsLedger, IsPairLedger}
-use Rattle.bus_watch.specs.Pairs.{PairState, IsAfterPairs, lines, seen_after_pairs}
+use Rattle.bus_pairing.specs.Ledger.{steps, handled, handled_of, copied_of, total, sum_of_steps, IsAnalyserLedger}
+use Rattle.bus_pairing.specs.Ledger.{IsPairLedger}
+use Rattle.bus_watch.specs.Pairs.{PairState, IsAfterPairs, pair_reports, seen_after_pairs}
 use Rattle.bus_watch.specs.Laws.{PairsGrow, StepsWithinFour, StepsWithinThree}
 use Rattle.bus_pairing.specs.declared.line.Line.{Line}
 use Rattle.bus_pairing.specs.declared.line.Line.TheVariants.{First, Second}
@@ -86,7 +87,7 @@ pub room-first : {C : Type 0} (view : CheckView C) (a : PairState C) (ps : List 
 room-first view a ps frames paid within reached few =
     let o = a.first.origin in
     let longest = longest_of a.conversation.dictionary in
-    room-of a.conversation (lines a ps) reached.conversation
+    room-of a.conversation (pair_reports a ps) reached.conversation
     (omega (
       arith,
       merged-adds copied_of refl copied-adds o longest ps,
@@ -119,10 +120,10 @@ room-second view a d j bits s ps frames paid within first reached few =
     let grown : of_one First o longest (b ++ bits) ≡ of_one First o longest b ++ new =
     ap (map (line_report (Some First))) adds ∙ map-append (line_report (Some First)) (placed o longest b)
     (option_to_list first.report) in
-    room-of j (lines a ps ++ new) (first.keeps (lines a ps) reached.conversation)
+    room-of j (pair_reports a ps ++ new) (first.keeps (pair_reports a ps) reached.conversation)
     (omega (
       arith,
-      copied-adds (lines a ps) new,
+      copied-adds (pair_reports a ps) new,
       merged-adds copied_of refl copied-adds o longest ps,
       ap copied_of grown,
       copied-adds (of_one First o longest b) new,
@@ -135,7 +136,7 @@ room-second view a d j bits s ps frames paid within first reached few =
     ))
     (omega (
       arith,
-      length-append (lines a ps) new,
+      length-append (pair_reports a ps) new,
       merged-length o longest ps,
       length-map (option_to_list first.report) (line_report (Some First)),
       few-option first.report,
@@ -237,16 +238,16 @@ pairs-grow stays it = λ d longest origin ps p.
 pub answer-pair : {C : Type 0} (view : CheckView C) (a : PairState C) (ps : List (Bool × Bool))
     (p : Bool × Bool) (told : List SeenReport) → PairsGrow → IsAfterPairs view a ps
     → seen_after_pairs a (ps ++ p ∷ []) ≡ seen_after_pairs a ps ++ told →
-    told ≡ all_seen_at a.conversation.dictionary (lines a (ps ++ p ∷ [])) a.first.place
+    told ≡ all_seen_at a.conversation.dictionary (pair_reports a (ps ++ p ∷ [])) a.first.place
 answer-pair view a ps p told grows reached adds =
     let d = a.conversation.dictionary in
-    let hs = lines a (ps ++ p ∷ []) in
+    let hs = pair_reports a (ps ++ p ∷ []) in
     append_cancel_left (seen_after_pairs a ps) _ _ (sym adds ∙ grows d (longest_of d) a.first.origin ps p)
     ∙ ap (all_seen_at d hs) (ap (λ n. a.first.origin + n) (sym (length-firsts ps)) ∙ sym reached.first.has_taken.place)
 
 -- the steps of a decoder, and those that its reports add
 line-ledger : (cost longest : ℕ) (b : List Bool) (d : Spent) → IsLineLedger cost longest b d →
-    IsLedger cost longest b (record d { copied = copied longest b; handled = handled (reports longest b) })
+    IsAnalyserLedger cost longest b (record d { copied = copied longest b; handled = handled (reports longest b) })
 line-ledger cost longest b d ledger = record {
   bits = ledger.bits;
   settled = ledger.settled;
@@ -306,7 +307,7 @@ pair-ledger view a ps d e j reached first second copied_is handled_is =
       sum = rw (kept, told) refl;
     }
 
-plus-total : (s t : Spent) → total (plus s t) ≡ total s + total t
+plus-total : (s t : Spent) → total (sum_of_steps s t) ≡ total s + total t
 plus-total s t = omega arith
 
 -- and so four a bit, and three

@@ -16,10 +16,10 @@ use Rattle.bus_dictionary.specs.Dictionary.{longest_of}
 use Rattle.bus_pairing.specs.LineReport.{LineReport, line_report, firsts, seconds, merged}
 use Rattle.bus_pairing.specs.Seen.{SeenReport, seen}
 use Rattle.bus_pairing.specs.Ledger.{copied_of}
-use Rattle.bus_pairing.specs.Conversation.{ConversationState, Keeps}
+use Rattle.bus_pairing.specs.Conversation.{ConversationState, ConversationAfter}
 use Rattle.bus_watch.specs.Internal.Decodes.{Decodes, DecodesMany, KeepsUp, line_reports_of}
-use Rattle.bus_watch.specs.Pairs.{PairState, IsAfterPairs, SeesPairs, lines, two_lines}
-use Rattle.bus_watch.specs.Watch.{LeadsTold, Watch}
+use Rattle.bus_watch.specs.Pairs.{PairState, IsAfterPairs, AdvancesPairs, pair_reports, two_lines}
+use Rattle.bus_watch.specs.Watch.{AdvancesWatchShown, Watch}
 use Rattle.bus_watch.proofs.FedLemmas.{leads-more, leads-nil}
 use Rattle.bus_watch.proofs.DecodesLemmas.{decodes-one}
 use Rattle.bus_pairing.specs.declared.line.Line.TheVariants.{First, Second}
@@ -41,7 +41,7 @@ pairs-keep_up view a ps frames paid within reached few =
     record {
       bits = firsts ps;
       after = reached.first;
-      decoded = lines a ps;
+      decoded = pair_reports a ps;
       keeps = reached.conversation;
       copied = omega (
         arith,
@@ -95,7 +95,7 @@ module _ {C : Type 0} (view : CheckView C) (old new : PairState C) (j : Conversa
   first-lines = map (line_report (Some First)) first.reports
 
   lines-more : (ps : List (Bool × Bool)) → IsAfterPairs view old ps →
-      lines old (ps ++ zs) ≡ (lines old ps ++ first-lines) ++ line_reports_of (Some Second) second.report
+      pair_reports old (ps ++ zs) ≡ (pair_reports old ps ++ first-lines) ++ line_reports_of (Some Second) second.report
   lines-more ps reached =
       let o = old.first.origin in
       let quiet : placed o longest (seconds ps ++ seconds all-but) ≡ placed o longest (seconds ps) =
@@ -108,16 +108,16 @@ module _ {C : Type 0} (view : CheckView C) (old new : PairState C) (j : Conversa
       ≡ placed o longest (seconds ps) ++ option_to_list second.report =
       rw (← whole, ← seconds_are, ← reached.longest_second, ← reached.origin)
       (second.advances.decides.says (seconds ps) reached.second) in
-      ap (λ (qs : List (Bool × Bool)). lines old (ps ++ qs)) whole
+      ap (λ (qs : List (Bool × Bool)). pair_reports old (ps ++ qs)) whole
       ∙ (merged-led stays more grow o longest ps all-but last-one first.reports second.report first_adds quiet
       second_adds
-      ∙ sym (append_assoc (lines old ps) first-lines (line_reports_of (Some Second) second.report)))
+      ∙ sym (append_assoc (pair_reports old ps) first-lines (line_reports_of (Some Second) second.report)))
 
-  pub sees-scanned : SeesPairs view old zs (first.seen_now ++ option_to_list t) new
+  pub sees-scanned : AdvancesPairs view old zs (first.seen_now ++ option_to_list t) new
   sees-scanned =
       let d = second.dictionary ∙ first.dictionary in
       let second_led = second.advances.decides.leads in
-      let same : (ps : List (Bool × Bool)) → lines new ps ≡ lines old ps = λ ps.
+      let same : (ps : List (Bool × Bool)) → pair_reports new ps ≡ pair_reports old ps = λ ps.
       ap (λ o. merged o (longest_of new.conversation.dictionary) ps) first.led.origin
       ∙ ap (λ es. merged old.first.origin (longest_of es) ps) d in
       record {
@@ -127,19 +127,20 @@ module _ {C : Type 0} (view : CheckView C) (old new : PairState C) (j : Conversa
           origin = second_led.origin ∙ reached.origin ∙ sym first.led.origin;
           longest = first.led.longest ∙ reached.longest ∙ ap longest_of (sym d);
           longest_second = second_led.longest ∙ reached.longest_second ∙ ap longest_of (sym d);
-          conversation = subst (Keeps new.conversation) (sym (same (ps ++ zs) ∙ lines-more ps reached))
-              (second.keeps (lines old ps ++ first-lines) (first.keeps (lines old ps) reached.conversation));
+          conversation = subst (ConversationAfter new.conversation) (sym (same (ps ++ zs) ∙ lines-more ps reached))
+              (second.keeps (pair_reports old ps ++ first-lines) (first.keeps
+              (pair_reports old ps) reached.conversation));
         };
         seen = λ ps reached.
             let e = old.conversation.dictionary in
-            let half : List LineReport = lines old ps ++ first-lines in
+            let half : List LineReport = pair_reports old ps ++ first-lines in
             let last : seen e (half ++ line_reports_of (Some Second) second.report) ≡ seen e half ++ option_to_list t =
             subst (λ es. seen es (half ++ line_reports_of (Some Second) second.report) ≡ seen es half ++ option_to_list
             t)
-            first.dictionary (second.seen half (first.keeps (lines old ps) reached.conversation)) in
+            first.dictionary (second.seen half (first.keeps (pair_reports old ps) reached.conversation)) in
             ap (seen e) (lines-more ps reached) ∙ (last
-            ∙ (ap (λ ss. ss ++ option_to_list t) (first.seen (lines old ps) reached.conversation)
-            ∙ append_assoc (seen e (lines old ps)) first.seen_now (option_to_list t)));
+            ∙ (ap (λ ss. ss ++ option_to_list t) (first.seen (pair_reports old ps) reached.conversation)
+            ∙ append_assoc (seen e (pair_reports old ps)) first.seen_now (option_to_list t)));
         dictionary = d;
         depth = second.depth ∙ first.depth;
         origin = first.led.origin;
@@ -151,7 +152,7 @@ pub sees-pair : {C : Type 0} (view : CheckView C) (x y : Bool) (old new : PairSt
     (s t : Option SeenReport) → DueStays → OneMore → ReportsGrow
     → Decodes view (Some First) old.first old.conversation (x ∷ []) s new.first j
     → Decodes view (Some Second) old.second j (y ∷ []) t new.second new.conversation
-    → SeesPairs view old ((x, y) ∷ []) (option_to_list s ++ option_to_list t) new
+    → AdvancesPairs view old ((x, y) ∷ []) (option_to_list s ++ option_to_list t) new
 sees-pair view x y old new j s t stays more grow first second =
     sees-scanned view old new j ((x, y) ∷ []) (x ∷ []) (y ∷ []) t (λ _. Unit {0})
     stays more grow (omega arith) refl refl
@@ -177,7 +178,7 @@ pub leads-scanned : {C : Type 0} (view : CheckView C) (old new : PairState C) (j
     → (first : DecodesMany view (Some First) old.first old.conversation (bits_from os i n) new.first j told)
     → Decodes view (Some Second) old.second j (bits_from ys i n) t new.second new.conversation
     → further (first.seen_now ++ option_to_list t)
-    → LeadsTold (two_lines view) old (zip (bits_from os i n) (bits_from ys i n)) new further
+    → AdvancesWatchShown (two_lines view) old (zip (bits_from os i n) (bits_from ys i n)) new further
 leads-scanned view old new j os ys i n t told further stays more grow some first second all_told = record {
   seen = first.seen_now ++ option_to_list t;
   sees = sees-scanned view old new j (zip (bits_from os i n) (bits_from ys i n)) (bits_from os i n)
@@ -211,8 +212,8 @@ zip-met os ys i n =
 -- more pairs
 pub leads-further : {A X : Type 0} (w : Watch A X) (a b c : A) (xs ys : List X)
     (told last further : List SeenReport → Type 0)
-    → LeadsTold w a xs b told → LeadsTold w b ys c last →
-    ((ss ts : List SeenReport) → told ss → last ts → further (ss ++ ts)) → LeadsTold w a (xs ++ ys) c further
+    → AdvancesWatchShown w a xs b told → AdvancesWatchShown w b ys c last →
+    ((ss ts : List SeenReport) → told ss → last ts → further (ss ++ ts)) → AdvancesWatchShown w a (xs ++ ys) c further
 leads-further w a b c xs ys told last further first next both = record {
   seen = first.seen ++ next.seen;
   sees = leads-more first.sees next.sees;
@@ -223,7 +224,7 @@ leads-further w a b c xs ys told last further first next both = record {
 -- no pair is taken
 pub leads-nowhere : {C : Type 0} (view : CheckView C) (a : PairState C) (os ys : List ℕ)
     (told : List SeenReport → Type 0) → told []
-    → LeadsTold (two_lines view) a (zip (bits_from os 0 0) (bits_from ys 0 0)) a told
+    → AdvancesWatchShown (two_lines view) a (zip (bits_from os 0 0) (bits_from ys 0 0)) a told
 unfolding bits_from
 leads-nowhere view a os ys told nothing_told =
     record { seen = []; sees = leads-nil (two_lines view) a; few = omega arith; told = nothing_told }

@@ -4,7 +4,7 @@ use Rattle.bus_line.specs.Mark.{flag}
 use Rattle.bus_line.specs.Due.{placed}
 use Rattle.bus_dictionary.specs.Entry.{FrameType}
 use Rattle.bus_pairing.specs.LineReport.{LineReport, of_line}
-use Rattle.bus_pairing.specs.Talk.{talk, is_idle, begins, verdict, pending}
+use Rattle.bus_pairing.specs.Talk.{talk, is_idle_kind, begins, verdict, pending}
 use Rattle.bus_pairing.specs.Seen.{SeenReport, seen, seen_of}
 
 -- where no command waits, nothing
@@ -23,7 +23,7 @@ pub record LosesOne (d : List FrameType) (before idles rest : List LineReport) (
 
 abbrev pub CutLosesVerdict : Type 0
 CutLosesVerdict = (d : List FrameType) (before idles rest : List LineReport) (h : LineReport) →
-    talk idles ≡ [] → is_idle h.report.kind ≡ false → LosesOne d before idles rest h
+    talk idles ≡ [] → is_idle_kind h.report.kind ≡ false → LosesOne d before idles rest h
 
 -- cut at a flag up to which no command waits, what is seen of bits is what is seen up to the end of the flag, and then
 -- what is seen from the flag on

@@ -4,8 +4,8 @@ use Rattle.bus_fcs.specs.Check.{CheckView}
 use Rattle.bus_pairing.specs.Seen.{SeenReport}
 use Rattle.bus_line.specs.Told.{told}
 use Rattle.bus_pairing.specs.Sink.{SinkView, SinkTook}
-use Rattle.bus_watch.specs.Watch.{Watch, Leads, seen_by}
-use Rattle.bus_watch.specs.After.{AnalyserState, IsAfter, Sees, seen_after, one_line}
+use Rattle.bus_watch.specs.Watch.{Watch, AdvancesWatch, seen_by}
+use Rattle.bus_watch.specs.After.{AnalyserState, IsAfter, AdvancesAnalyser, seen_after, one_line}
 use Rattle.bus_watch.specs.declared.fault.FeedFault.{FeedFault}
 use Rattle.bus_watch.specs.declared.fault.FeedFault.TheVariants.{PlaceLimit, Sink}
 
@@ -13,7 +13,7 @@ use Rattle.bus_watch.specs.declared.fault.FeedFault.TheVariants.{PlaceLimit, Sin
 pub record FedBy {A X S : Type 0} (w : Watch A X) (sink : SinkView S) (old : A) (xs : List X)
     (new : A) (before after : S) : Type 0 where
   pub seen : List SeenReport
-  pub sees : Leads w old xs seen new
+  pub sees : AdvancesWatch w old xs seen new
   pub took : sink.taken after ≡ told (sink.taken before) seen
 
 -- of these a sink took those, in their order, and refused so many
@@ -40,7 +40,7 @@ pub record RefusedBy {A X S : Type 0} (w : Watch A X) (sink : SinkView S) (refus
   pub some : 0 < length xs
   pub some_refused : 0 < refusals
   pub lacks : Lacks at_last of_last refusals
-  pub sees : Leads w old xs (seen ++ at_last) new
+  pub sees : AdvancesWatch w old xs (seen ++ at_last) new
   pub front : (b : List X) → w.is_after old b → seen_by w old (b ++ take (length xs - 1) xs) ≡ seen_by w old b ++ seen
   pub took : sink.taken after ≡ told (sink.taken before) (seen ++ of_last)
 
@@ -63,7 +63,7 @@ module _ {C S : Type 0} (view : CheckView C) (sink : SinkView S) where
     pub seen : List SeenReport
     pub lost : SeenReport
     pub some : 0 < length bits
-    pub sees : Sees view old bits (seen ++ lost ∷ []) new
+    pub sees : AdvancesAnalyser view old bits (seen ++ lost ∷ []) new
     pub front : (b : List Bool) → IsAfter view old b
         → seen_after old (b ++ take (length bits - 1) bits) ≡ seen_after old b ++ seen
     pub took : sink.taken after ≡ told (sink.taken before) seen

@@ -12,7 +12,7 @@ use Rattle.bus_dictionary.specs.Dictionary.{longest_of}
 use Rattle.bus_pairing.specs.LineReport.{of_line}
 use Rattle.bus_pairing.specs.Seen.{SeenReport, report_in, seen}
 use Rattle.bus_pairing.specs.History.{KeptFrame, history}
-use Rattle.bus_pairing.specs.Ledger.{IsLedger, total}
+use Rattle.bus_pairing.specs.Ledger.{IsAnalyserLedger, total}
 use Rattle.bus_line.specs.Told.{told}
 use Rattle.bus_pairing.specs.Sink.{SinkView}
 use Rattle.bus_watch.specs.After.{AnalyserState, IsAfter, one_line}
@@ -46,7 +46,7 @@ pub record Headline
   pub history_bound : usage.history_len ≤ depth
   -- the steps are those of the ledger: at most seventeen for each bit, even at most four, and at most three where the
   -- check costs one an octet
-  pub ledger : IsLedger cost (longest_of d) b usage.spent
+  pub ledger : IsAnalyserLedger cost (longest_of d) b usage.spent
   pub seventeen : total usage.spent ≤ 17 * length b
   pub four : total usage.spent ≤ 4 * length b
   pub three : cost ≡ 1 → total usage.spent ≤ 3 * length b

@@ -12,8 +12,8 @@ use Rattle.bus_dictionary.specs.Entry.{FrameType}
 use Rattle.bus_pairing.specs.Talk.{verdicts}
 use Rattle.bus_pairing.specs.LineReport.{LineReport, of_line, firsts, seconds, merged, of_side}
 use Rattle.bus_pairing.specs.Seen.{SeenReport, report_in, seen, seen_at, all_seen_at}
-use Rattle.bus_pairing.specs.Ledger.{IsLedger, IsPairLedger, total}
-use Rattle.bus_watch.specs.Watch.{Watch, Leads, seen_by}
+use Rattle.bus_pairing.specs.Ledger.{IsAnalyserLedger, IsPairLedger, total}
+use Rattle.bus_watch.specs.Watch.{Watch, AdvancesWatch, seen_by}
 use Rattle.bus_watch.specs.After.{one_line}
 use Rattle.bus_watch.specs.Pairs.{two_lines}
 use Rattle.bus_pairing.specs.declared.line.Line.TheVariants.{First, Second}
@@ -60,13 +60,13 @@ SeenDecides =
 -- the steps of a check that costs 1 to 8 an octet are at most four a bit
 abbrev pub StepsWithinFour : Type 0
 StepsWithinFour =
-    (cost longest : ℕ) (b : List Bool) (spent : Spent) → IsLedger cost longest b spent → cost ≤ 8
+    (cost longest : ℕ) (b : List Bool) (spent : Spent) → IsAnalyserLedger cost longest b spent → cost ≤ 8
     → total spent ≤ 4 * length b
 
 -- of a check that costs 1, at most three
 abbrev pub StepsWithinThree : Type 0
 StepsWithinThree =
-    (longest : ℕ) (b : List Bool) (spent : Spent) → IsLedger 1 longest b spent
+    (longest : ℕ) (b : List Bool) (spent : Spent) → IsAnalyserLedger 1 longest b spent
     → (spent.folded ≡ spent.stored) × (total spent ≤ 3 * length b)
 
 -- lists, one after the other
@@ -77,7 +77,7 @@ joined xss = flat_map (λ xs. xs) xss
 pub data Runs {A X : Type 0} (w : Watch A X) : A → List (List X) → List (List SeenReport) → A → Type 0 where
   ended : (a : A) → Runs w a [] [] a
   called : (a c e : A) (xs : List X) (told : List SeenReport) (pieces : List (List X)) (tolds : List (List SeenReport))
-      → Leads w a xs told c → Runs w c pieces tolds e → Runs w a (xs ∷ pieces) (told ∷ tolds) e
+      → AdvancesWatch w a xs told c → Runs w c pieces tolds e → Runs w a (xs ∷ pieces) (told ∷ tolds) e
 
 -- however a list is cut into calls, what they tell, one after the other, is what is seen of the whole list, and the
 -- analyser stands after it
@@ -101,7 +101,7 @@ closed_octets longest b bit = sum_by octet_count (option_to_list (due_at longest
 -- one bit more costs at most seventeen steps, and one for each octet of the frame that it closes
 abbrev pub BitCosts : Type 0
 BitCosts = (cost longest : ℕ) (b : List Bool) (bit : Bool) (before after : Spent) → cost ≤ 8
-    → IsLedger cost longest b before → IsLedger cost longest (b ++ bit ∷ []) after
+    → IsAnalyserLedger cost longest b before → IsAnalyserLedger cost longest (b ++ bit ∷ []) after
     → total after ≤ total before + 17 + closed_octets longest b bit
 
 -- and for each of these octets eight bits of the frame came before it

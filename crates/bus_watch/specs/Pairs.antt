@@ -6,8 +6,8 @@ use Rattle.bus_line.specs.After.{After}
 use Rattle.bus_dictionary.specs.Dictionary.{longest_of}
 use Rattle.bus_pairing.specs.LineReport.{LineReport, firsts, seconds, merged}
 use Rattle.bus_pairing.specs.Seen.{SeenReport, seen}
-use Rattle.bus_watch.specs.Watch.{Watch, Leads}
-use Rattle.bus_pairing.specs.Conversation.{ConversationState, Keeps}
+use Rattle.bus_watch.specs.Watch.{Watch, AdvancesWatch}
+use Rattle.bus_pairing.specs.Conversation.{ConversationState, ConversationAfter}
 
 -- what contracts see of an analyser of two lines
 pub record PairState (C : Type 0) : Type 0 where
@@ -16,12 +16,12 @@ pub record PairState (C : Type 0) : Type 0 where
   pub conversation : ConversationState
 
 -- the reports of both lines, by the dictionary's longest frame
-abbrev pub lines : {C : Type 0} → PairState C → List (Bool × Bool) → List LineReport
-lines a ps = merged a.first.origin (longest_of a.conversation.dictionary) ps
+abbrev pub pair_reports : {C : Type 0} → PairState C → List (Bool × Bool) → List LineReport
+pair_reports a ps = merged a.first.origin (longest_of a.conversation.dictionary) ps
 
 -- what is seen of them
 abbrev pub seen_after_pairs : {C : Type 0} → PairState C → List (Bool × Bool) → List SeenReport
-seen_after_pairs a ps = seen a.conversation.dictionary (lines a ps)
+seen_after_pairs a ps = seen a.conversation.dictionary (pair_reports a ps)
 
 -- an analyser of two lines may stand after these pairs
 pub record IsAfterPairs {C : Type 0} (view : CheckView C) (a : PairState C)
@@ -31,7 +31,7 @@ pub record IsAfterPairs {C : Type 0} (view : CheckView C) (a : PairState C)
   pub origin : a.second.origin ≡ a.first.origin
   pub longest : a.first.longest ≡ longest_of a.conversation.dictionary
   pub longest_second : a.second.longest ≡ longest_of a.conversation.dictionary
-  pub conversation : Keeps a.conversation (lines a ps)
+  pub conversation : ConversationAfter a.conversation (pair_reports a ps)
 
 -- two lines
 abbrev pub two_lines : {C : Type 0} → CheckView C → Watch (PairState C) (Bool × Bool)
@@ -45,6 +45,6 @@ two_lines view = record {
 }
 
 -- these pairs lead from old to new, and this is seen at them
-abbrev pub SeesPairs : {C : Type 0} → CheckView C → PairState C → List (Bool × Bool) → List SeenReport
+abbrev pub AdvancesPairs : {C : Type 0} → CheckView C → PairState C → List (Bool × Bool) → List SeenReport
     → PairState C → Type 0
-SeesPairs view old pairs told new = Leads (two_lines view) old pairs told new
+AdvancesPairs view old pairs told new = AdvancesWatch (two_lines view) old pairs told new

@@ -20,7 +20,7 @@ abbrev pub seen_by : {A X : Type 0} → Watch A X → A → List X → List Seen
 seen_by w a xs = seen (w.dictionary a) (w.reports (w.origin a) (longest_of (w.dictionary a)) xs)
 
 -- these lead from old to new, and this is seen at them
-pub record Leads {A X : Type 0} (w : Watch A X) (old : A) (xs : List X) (told : List SeenReport)
+pub record AdvancesWatch {A X : Type 0} (w : Watch A X) (old : A) (xs : List X) (told : List SeenReport)
     (new : A) : Type 0 where
   pub is_after : (b : List X) → w.is_after old b → w.is_after new (b ++ xs)
   pub seen : (b : List X) → w.is_after old b → seen_by w old (b ++ xs) ≡ seen_by w old b ++ told
@@ -30,10 +30,10 @@ pub record Leads {A X : Type 0} (w : Watch A X) (old : A) (xs : List X) (told : 
   pub place : w.place new ≡ w.place old + length xs
 
 -- these lead from old to new, and what is seen at them was told, at most two reports at each
-pub record LeadsTold {A X : Type 0} (w : Watch A X) (old : A) (xs : List X) (new : A)
+pub record AdvancesWatchShown {A X : Type 0} (w : Watch A X) (old : A) (xs : List X) (new : A)
     (is_told : List SeenReport → Type 0)
     : Type 0 where
   pub seen : List SeenReport
-  pub sees : Leads w old xs seen new
+  pub sees : AdvancesWatch w old xs seen new
   pub few : length seen ≤ 2 * length xs
   pub told : is_told seen

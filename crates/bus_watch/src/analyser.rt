@@ -50,13 +50,13 @@ impl<C: Check> Model for Analyser<C> {
 
 impl<C: Check> Analyser<C> {
     ghost use Rattle.bus_watch.specs.contracts.analyser.Analyser.{the_row};
-    ghost use Rattle.bus_watch.specs.After.{IsAfter, Sees, line, one_line};
-    ghost use Rattle.bus_watch.specs.Watch.{LeadsTold};
+    ghost use Rattle.bus_watch.specs.After.{IsAfter, AdvancesAnalyser, line_reports, one_line};
+    ghost use Rattle.bus_watch.specs.Watch.{AdvancesWatchShown};
     ghost use Rattle.bus_pairing.specs.Seen.{seen_at};
     ghost use Rattle.bus_pairing.specs.Shown.{shown_option, found, kept_option, begun_span, IsKeepable};
     ghost use Rattle.bus_pairing.specs.History.{history, tally};
     ghost use Rattle.bus_pairing.specs.Talk.{pending};
-    ghost use Rattle.bus_pairing.specs.Ledger.{IsLedger, total};
+    ghost use Rattle.bus_pairing.specs.Ledger.{IsAnalyserLedger, total};
 
     /// An analyser that took no bit, whose first bit has the place `origin`.
     ///
@@ -112,7 +112,7 @@ impl<C: Check> Analyser<C> {
         requires enough { end ≤ 8 * length octets.now }
         requires room { L.has_room observer.old (min (end - from) (most_places - self.old.decoder.place)) }
         ensures taken { result ≡ min (end - from) (most_places - self.old.decoder.place) }
-        ensures told { LeadsTold (one_line C.check) self.old (bits_from octets.now from result) self.new
+        ensures told { AdvancesWatchShown (one_line C.check) self.old (bits_from octets.now from result) self.new
             (λ ss. L.observes self.old.conversation.dictionary observer.old out.old ss observer.new out.new) }
     {
         settled_places();
@@ -135,7 +135,7 @@ impl<C: Check> Analyser<C> {
     #[inline(always)]
     pub(crate) fn advance(&mut self, bit: bool) -> Result<Option<Finding>, PlaceLimit>
         ensures limit { IsErr result ↔ (most_places ≤ self.old.decoder.place) }
-        ensures sees { IfOk result (λ finding. Sees C.check self.old (bit ∷ [])
+        ensures sees { IfOk result (λ finding. AdvancesAnalyser C.check self.old (bit ∷ [])
             (option_to_list (option_map (found self.new.decoder.octets) finding)) self.new) }
         ensures unchanged { OnErr result (self.new ≡ self.old) }
     {
@@ -153,11 +153,11 @@ impl<C: Check> Analyser<C> {
         ensures limit { IsErr result ↔ (most_places ≤ self.old.decoder.place) }
         ensures answer { IfOk result (λ o. (b : List Bool) → IsAfter C.check self.old b →
             shown_option o ≡ seen_at self.old.conversation.dictionary
-            (line self.old (b ++ bit ∷ [])) self.old.decoder.place) }
+            (line_reports self.old (b ++ bit ∷ [])) self.old.decoder.place) }
         ensures fits { IfOk result IsKeepable }
         // What becomes of the analyser: `new`, once the octets that are lent have been given back.
         ensures* rests { sem 𝓛 (Rests (the_row C.row C.Check) self.entry (λ new.
-            IfOk result (λ o. Sees C.check self.old (bit ∷ []) (option_to_list (shown_option o)) new)
+            IfOk result (λ o. AdvancesAnalyser C.check self.old (bit ∷ []) (option_to_list (shown_option o)) new)
             × OnErr result (new ≡ self.old))) }
     {
         seen_grows();
@@ -169,7 +169,7 @@ impl<C: Check> Analyser<C> {
     pub fn history(&self, i: usize) -> Option<&Kept>
         ensures lent { kept_option result ≡ slice_get self.now.conversation.history i }
         ensures value { (b : List Bool) → IsAfter C.check self.now b →
-            kept_option result ≡ slice_get (history self.now.conversation.depth (line self.now b)) i }
+            kept_option result ≡ slice_get (history self.now.conversation.depth (line_reports self.now b)) i }
     {
         match self.conversation.kept(i) {
             Some(kept) => Some(kept.frame()),
@@ -180,7 +180,7 @@ impl<C: Check> Analyser<C> {
     /// How many frames the history has: at most its depth, which is at most 1024.
     pub fn history_len(&self) -> usize
         ensures value { (b : List Bool) → IsAfter C.check self.now b →
-            result ≡ length (history self.now.conversation.depth (line self.now b)) }
+            result ≡ length (history self.now.conversation.depth (line_reports self.now b)) }
         ensures depth { result ≤ self.now.conversation.depth }
         ensures bound { self.now.conversation.depth ≤ 1024 }
     {
@@ -190,7 +190,7 @@ impl<C: Check> Analyser<C> {
     /// How many verdicts named a station.
     pub fn tally(&self, station: u8) -> Counts
         ensures { (b : List Bool) → IsAfter C.check self.now b →
-            result ≡ tally self.now.conversation.dictionary (line self.now b) station }
+            result ≡ tally self.now.conversation.dictionary (line_reports self.now b) station }
     {
         self.conversation.counts(station)
     }
@@ -200,7 +200,7 @@ impl<C: Check> Analyser<C> {
         ensures begun { (b : List Bool) → IsAfter C.check self.now b →
             result.begun ≡ begun_span self.now.decoder.origin b }
         ensures pending { (b : List Bool) → IsAfter C.check self.now b →
-            result.pending ≡ pending self.now.conversation.dictionary (line self.now b) }
+            result.pending ≡ pending self.now.conversation.dictionary (line_reports self.now b) }
     {
         Ending {
             begun: begun_span(&self.decoder),
@@ -233,7 +233,7 @@ impl<C: Check> Analyser<C> {
     /// bit, and to at most three with a check that costs one.
     pub fn spent(&self) -> Spent
         ensures ledger { (b : List Bool) → IsAfter C.check self.now b →
-            IsLedger C.check.cost (longest_of self.now.conversation.dictionary) b result }
+            IsAnalyserLedger C.check.cost (longest_of self.now.conversation.dictionary) b result }
         ensures seventeen { (b : List Bool) → IsAfter C.check self.now b → total result ≤ 17 * length b }
         ensures four { (b : List Bool) → IsAfter C.check self.now b → total result ≤ 4 * length b }
         ensures three { C.check.cost ≡ 1 → (b : List Bool) → IsAfter C.check self.now b →

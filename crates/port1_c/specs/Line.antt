@@ -62,9 +62,9 @@ pub record IsCoded (r : Port1Report) : Type 0 where
   pub others : r.kind ≢ 2 → r.cause ≡ 0
 
 -- these bits lead from old to new, and decide just this report, if it is one
-abbrev pub Decides : LineState OctetCheck → List Bool → Port1Report → LineState OctetCheck → Type 0
-Decides old bits r new = line.Decides by_tables old bits (report_told r new.octets) new
+abbrev pub DecidesLine : LineState OctetCheck → List Bool → Port1Report → LineState OctetCheck → Type 0
+DecidesLine old bits r new = line.Decides by_tables old bits (report_told r new.octets) new
 
 -- these bits lead from old to new; the last of them decides this report, if it is one, and no other decides a report
-abbrev pub Advances : LineState OctetCheck → List Bool → Port1Report → LineState OctetCheck → Type 0
-Advances old bits r new = line.Advances by_tables old bits (report_told r new.octets) new
+abbrev pub AdvancesLine : LineState OctetCheck → List Bool → Port1Report → LineState OctetCheck → Type 0
+AdvancesLine old bits r new = line.Advances by_tables old bits (report_told r new.octets) new

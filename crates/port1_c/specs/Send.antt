@@ -3,7 +3,7 @@ use Rattle.std.specs.Prelude.{◌≡◌, ◌≢◌, ◌↔◌, ◌⊎◌, ◌<�
 use Rattle.std.specs.Prelude.{length, replicate, if◌then◌else◌}
 use Rattle.std.specs.List.{last_or}
 use Rattle.bus_line.specs.Due.{reports}
-use Rattle.bus_line.specs.Line.{Call, Idle, ends_with_flag, line, line_behind}
+use Rattle.bus_line.specs.Line.{Call, Idle, ends_with_flag, line_of_calls, line_behind}
 use Rattle.bus_line.specs.Sent.{CanBeRead, idle_at, is_idle_call, sent}
 use Rattle.port1_c.specs.Bits.{PutsBits}
 use Rattle.port1_c.specs.declared.sender.Port1Sender.{Port1Sender}
@@ -49,5 +49,5 @@ pub record Sends (more : List Call) (status : ℕ) (old new : Sending) : Type 0 
 abbrev pub IdlesAreReadBack : Type 0
 IdlesAreReadBack =
     (longest : ℕ) (calls : List Call) (n : ℕ) → All (CanBeRead longest) calls → 0 < n
-    → reports longest (line (calls ++ idles n))
-    ≡ sent calls ++ (if is_idle_call (last_or None calls) then [] else idle_at (length (line calls)) ∷ [])
+    → reports longest (line_of_calls (calls ++ idles n))
+    ≡ sent calls ++ (if is_idle_call (last_or None calls) then [] else idle_at (length (line_of_calls calls)) ∷ [])

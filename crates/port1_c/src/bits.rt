@@ -3,7 +3,7 @@
 ghost use Rattle.std.specs.Prelude.{◌≡◌, ◌≢◌, ◌-◌, ◌*◌, ◌≤◌, ◌<◌, ◌⊎◌, length};
 ghost use Rattle.bus_bits.specs.Bits.{bits_from};
 ghost use Rattle.bus_bits.specs.Limits.{most_places};
-ghost use Rattle.port1_c.specs.Line.{Advances, IsCoded, Sound, held};
+ghost use Rattle.port1_c.specs.Line.{AdvancesLine, IsCoded, Sound, held};
 ghost use Rattle.port1_c.specs.declared.status.TheConstants.{OK, PLACE_LIMIT, BAD_STATE};
 
 use crate::line::Port1Line;
@@ -43,7 +43,7 @@ pub(crate) fn feed(
         × (line.new.words.place ≡ most_places) }
     ensures coded { result < BAD_STATE → IsCoded report.new }
     ensures advances { result < BAD_STATE →
-        Advances (held line.old) (bits_from octets.now at.old (at.new - at.old)) report.new (held line.new) }
+        AdvancesLine (held line.old) (bits_from octets.now at.old (at.new - at.old)) report.new (held line.new) }
     ensures sound { result < BAD_STATE → Sound line.new }
 {
     if !line.is_sound() {

@@ -7,7 +7,7 @@ ghost use Rattle.bus_bits.specs.Limits.{most_places};
 ghost use Rattle.bus_line.specs.Due.{begun};
 ghost use Rattle.bus_bits.specs.Bits.{bits_from};
 ghost use Rattle.port1_c.specs.Bits.{high_first};
-ghost use Rattle.port1_c.specs.Line.{Advances, IsCoded, Sound, LineAfter, Decides, bit_told, first_told, held};
+ghost use Rattle.port1_c.specs.Line.{AdvancesLine, IsCoded, Sound, LineAfter, DecidesLine, bit_told, first_told, held};
 ghost use Rattle.port1_c.specs.declared.status.TheConstants.{OK, BAD_LENGTH, PLACE_LIMIT, BAD_STATE, BAD_ARGUMENT};
 
 use crate::bits;
@@ -57,7 +57,7 @@ pub extern "C" fn port1_line_push(line: &mut Port1Line, bit: u8, report: &mut Po
     ensures kept { result ≢ OK → (line.new ≡ line.old) × (report.new ≡ report.old) }
     ensures sound { result ≡ OK → Sound line.new }
     ensures coded { result ≡ OK → IsCoded report.new }
-    ensures decides { result ≡ OK → Decides (held line.old) (bit_told bit ∷ []) report.new (held line.new) }
+    ensures decides { result ≡ OK → DecidesLine (held line.old) (bit_told bit ∷ []) report.new (held line.new) }
 {
     if !line.is_sound() {
         return BAD_STATE;
@@ -106,7 +106,7 @@ pub extern "C" fn port1_line_feed(
     ensures limit { result ≡ PLACE_LIMIT → (report.new.kind ≡ 0) × (at.new < end)
         × (line.new.words.place ≡ most_places) }
     ensures advances { result < BAD_STATE →
-        Advances (held line.old) (bits_from octets.now at.old (at.new - at.old)) report.new (held line.new) }
+        AdvancesLine (held line.old) (bits_from octets.now at.old (at.new - at.old)) report.new (held line.new) }
 {
     if !are_within(octets, *at, end) {
         return BAD_ARGUMENT;
@@ -137,7 +137,7 @@ pub extern "C" fn port1_line_feed_high_first(
     ensures all { result ≡ OK → report.new.kind ≡ 0 → at.new ≡ 8 }
     ensures limit { result ≡ PLACE_LIMIT → (report.new.kind ≡ 0) × (at.new < 8) × (line.new.words.place ≡ most_places) }
     ensures advances { result < BAD_STATE →
-        Advances (held line.old) (high_first octet at.old (at.new - at.old)) report.new (held line.new) }
+        AdvancesLine (held line.old) (high_first octet at.old (at.new - at.old)) report.new (held line.new) }
 {
     if *at > 8 {
         return BAD_ARGUMENT;

@@ -3,7 +3,7 @@
 ghost use Rattle.std.specs.Prelude.{◌≡◌, ◌-◌, ◌*◌, ◌≤◌, ◌<◌, ◌↔◌, IsErr, IfOk, IsTrue, OnErr, ◌∷◌, [], length};
 ghost use Rattle.bus_bits.specs.Bits.{bits_from};
 ghost use Rattle.bus_bits.specs.Limits.{most_places};
-ghost use Rattle.port1_c.specs.Line.{Advances, IsCoded, Sound, Decides, held};
+ghost use Rattle.port1_c.specs.Line.{AdvancesLine, IsCoded, Sound, DecidesLine, held};
 
 use crate::bits::Told;
 use crate::lent_frame::LentFrame;
@@ -43,7 +43,7 @@ impl Port1Line {
         ensures all { IfOk result (λ t. t.report.kind ≡ 0 → t.count < end - at → self.new.words.place ≡ most_places) }
         ensures coded { IfOk result (λ t. IsCoded t.report) }
         ensures advances { IfOk result (λ t.
-            Advances (held self.old) (bits_from octets.now at t.count) t.report (held self.new)) }
+            AdvancesLine (held self.old) (bits_from octets.now at t.count) t.report (held self.new)) }
         ensures sound { Sound self.new }
     {
         let mut check = OctetCheck::with_register(self.frame.register);
@@ -69,7 +69,7 @@ impl Port1Line {
         ensures limit { IsErr result ↔ (most_places ≤ self.old.words.place) }
         ensures kept { OnErr result (self.new ≡ self.old) }
         ensures coded { IfOk result IsCoded }
-        ensures decides { IfOk result (λ r. Decides (held self.old) (bit ∷ []) r (held self.new)) }
+        ensures decides { IfOk result (λ r. DecidesLine (held self.old) (bit ∷ []) r (held self.new)) }
         ensures sound { Sound self.new }
     {
         let mut check = OctetCheck::with_register(self.frame.register);

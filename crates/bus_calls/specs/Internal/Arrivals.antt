@@ -4,7 +4,7 @@ use Rattle.bus_bits.specs.Packed.{PairsAfter, arrival_head_fault}
 use Rattle.bus_fcs.specs.Check.{CheckView}
 use Rattle.bus_watch.specs.Watch.{Watch}
 use Rattle.bus_clocks.specs.Arrival.{Arrival}
-use Rattle.bus_clocks.specs.Clocks.{IsAfterArrivals, numbered, two_clocks}
+use Rattle.bus_clocks.specs.Clocks.{IsAfterArrivals, bits_taken, two_clocks}
 use Rattle.bus_clocks.specs.Rested.{IsRestAfter}
 use Rattle.bus_calls.specs.Captures.{arrival_of, form_of_arrivals}
 use Rattle.bus_calls.specs.Internal.Headed.{IsHeaded}
@@ -18,7 +18,7 @@ clocks_behind view = record {
   dictionary = λ a. a.analyser.conversation.dictionary;
   depth = λ a. a.analyser.conversation.depth;
   origin = λ a. a.analyser.first.origin;
-  place = λ a. numbered a.analyser;
+  place = λ a. bits_taken a.analyser;
   reports = (two_clocks view).reports;
 }
 

@@ -9,7 +9,7 @@ abbrev pub IsNoWrite : ToolFault → Type 0
 IsNoWrite fault = (sent : ℕ) → fault ≡ Write sent → ⊥
 
 -- the text went out and the fault is answered, or the writer was cut off in it
-abbrev pub Closes : Option (List ℕ) → Option (List ℕ) → List ℕ → ToolFault → ToolFault → Type 0
-Closes start now text fault answer =
+abbrev pub ClosesPage : Option (List ℕ) → Option (List ℕ) → List ℕ → ToolFault → ToolFault → Type 0
+ClosesPage start now text fault answer =
     ((answer ≡ fault) × Appends start now text)
     ⊎ ((sent : ℕ) × (answer ≡ Write sent) × Cuts start now text sent)

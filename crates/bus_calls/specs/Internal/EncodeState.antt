@@ -31,7 +31,8 @@ pub record HasEncoded (start now : Option (List ℕ)) (encoder : EncoderState) (
   pub count : written ≡ length (encode_text calls)
 
 -- these octets were taken, none of their lines is refused, and their text went out
-pub record Takes (start now : Option (List ℕ)) (line : List ℕ) (number : ℕ) (encoder : EncoderState) (written : ℕ)
+pub record EncodedAfter (start now : Option (List ℕ)) (line : List ℕ) (number : ℕ) (encoder : EncoderState)
+    (written : ℕ)
     (xs : List ℕ) : Type 0 where
   pub here : line ≡ open_line xs
   pub lines : number ≡ text_line (length (ended_lines xs))

@@ -32,7 +32,7 @@ pub record ReportsSeen (d : List FrameType) (old : Reporter) (before : Option (L
       * length seen
 
 -- so many reports more can be told
-abbrev pub HasRoom : Reporter → ℕ → Type 0
-HasRoom t more =
+abbrev pub HasReporterRoom : Reporter → ℕ → Type 0
+HasReporterRoom t more =
     ((most : ℕ) × IsFew most t.summary × (most + more < 2 ^ 62))
     × (t.page.written + array_vec_len t.page.text + 1024 * more < 2 ^ 100)

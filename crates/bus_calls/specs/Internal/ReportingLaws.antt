@@ -6,7 +6,7 @@ use Rattle.bus_pairing.specs.Seen.{SeenReport}
 use Rattle.bus_text.specs.Counting.{IsFew}
 use Rattle.bus_text.specs.Summary.{summary_of}
 use Rattle.bus_text.specs.declared.put.ShortWrite.{ShortWrite}
-use Rattle.bus_calls.specs.Internal.Reporting.{HasRoom, IsOut, ReportsSeen}
+use Rattle.bus_calls.specs.Internal.Reporting.{HasReporterRoom, IsOut, ReportsSeen}
 use Rattle.bus_calls.specs.Internal.Watching.{printed}
 use Rattle.bus_calls.specs.declared.reporter.Reporter.{Reporter}
 use Rattle.bus_text.proofs.ListingLemmas.{listing-append}
@@ -77,5 +77,5 @@ module _ (d : List FrameType) (k l m : Reporter) (u v w : Option (List ℕ)) (ss
     octets = omega (arith, length-append ss ts, p.octets, q.octets);
   }
 
-pub has-less : (t : Reporter) (more less : ℕ) → less ≤ more → HasRoom t more → HasRoom t less
+pub has-less : (t : Reporter) (more less : ℕ) → less ≤ more → HasReporterRoom t more → HasReporterRoom t less
 has-less t more less l h = ((h.0.0, h.0.1, omega (arith, h.0.2, l)), omega (arith, h.1, l))

@@ -7,7 +7,8 @@ ghost use Rattle.std.specs.Io.KnownBytes.{Consumes};
 ghost use Rattle.bus_line.specs.Line.{Call};
 ghost use Rattle.bus_calls.specs.Encode.{one_asked, line_call, asked_so_far};
 ghost use Rattle.bus_calls.specs.Encodes.{Encodes};
-ghost use Rattle.bus_calls.specs.Internal.EncodeState.{EncodeFinishes, EncodeHalts, Ends, HasEncoded, IsSized, Takes};
+ghost use Rattle.bus_calls.specs.Internal.EncodeState.{EncodeFinishes, EncodeHalts, Ends, HasEncoded, IsSized};
+ghost use Rattle.bus_calls.specs.Internal.EncodeState.{EncodedAfter};
 ghost use Rattle.bus_calls.specs.Internal.EncodeState.{call_of};
 
 use crate::encode::bits::call_text;
@@ -41,7 +42,7 @@ impl LineReader {
     /// No octets.
     pub fn new() -> Self
         ensures fresh { (start : Option (List ℕ)) →
-            Takes start start result.line.octets.items result.line.number result.encoder result.written [] }
+            EncodedAfter start start result.line.octets.items result.line.number result.encoder result.written [] }
         ensures none { (result.written ≡ 0) × (result.line.number ≡ 1) }
     {
         LineReader {
@@ -97,9 +98,9 @@ impl LineReader {
         requires few { self.old.written < 2 ^ 100 }
         requires lines { self.old.line.number < 2 ^ 100 }
         ensures taken { (start : Option (List ℕ)) (xs : List ℕ) →
-            Takes start (W.contents w.old) self.old.line.octets.items self.old.line.number self.old.encoder
+            EncodedAfter start (W.contents w.old) self.old.line.octets.items self.old.line.number self.old.encoder
             self.old.written xs → MatchResult result
-            (λ _. Takes start (W.contents w.new) self.new.line.octets.items self.new.line.number self.new.encoder
+            (λ _. EncodedAfter start (W.contents w.new) self.new.line.octets.items self.new.line.number self.new.encoder
             self.new.written (xs ++ octet ∷ []))
             (λ fault. EncodeHalts start (W.contents w.new) self.new.written (asked_so_far (xs ++ octet ∷ [])) fault) }
         ensures few { self.new.written ≤ self.old.written + 2493 }
@@ -118,9 +119,9 @@ impl LineReader {
         requires few { self.old.written + 2493 * length octets.now < 2 ^ 100 }
         requires lines { self.old.line.number + length octets.now < 2 ^ 100 }
         ensures taken { (start : Option (List ℕ)) (xs : List ℕ) →
-            Takes start (W.contents w.old) self.old.line.octets.items self.old.line.number self.old.encoder
+            EncodedAfter start (W.contents w.old) self.old.line.octets.items self.old.line.number self.old.encoder
             self.old.written xs → MatchResult result
-            (λ _. Takes start (W.contents w.new) self.new.line.octets.items self.new.line.number self.new.encoder
+            (λ _. EncodedAfter start (W.contents w.new) self.new.line.octets.items self.new.line.number self.new.encoder
             self.new.written (xs ++ octets.now))
             (λ fault. EncodeHalts start (W.contents w.new) self.new.written (asked_so_far (xs ++ octets.now)) fault) }
         ensures few { self.new.written ≤ self.old.written + 2493 * length octets.now }
@@ -140,7 +141,8 @@ impl LineReader {
         w: &mut W,
     ) -> Result<(), ToolFault>
         requires fresh { (start : Option (List ℕ)) →
-            Takes start start self.old.line.octets.items self.old.line.number self.old.encoder self.old.written [] }
+            EncodedAfter start start self.old.line.octets.items self.old.line.number self.old.encoder self.old.written
+            [] }
         requires none { (self.old.written ≡ 0) × (self.old.line.number ≡ 1) }
         ensures { (xs : List ℕ) × Consumes (R.remaining r.old) (R.remaining r.new) xs
             × EncodeFinishes reads (R.remaining r.new) (W.contents w.old) (W.contents w.new)

@@ -12,11 +12,11 @@ use Rattle.bus_line.specs.declared.event.Event.{Event}
 use Rattle.bus_line.specs.declared.event.EventKind.TheVariants as event
 use Rattle.bus_pairing.specs.LineReport.{LineReport}
 use Rattle.bus_pairing.specs.Seen.{SeenReport, seen}
-use Rattle.bus_pairing.specs.Conversation.{ConversationState, Keeps}
+use Rattle.bus_pairing.specs.Conversation.{ConversationState, ConversationAfter}
 use Rattle.bus_clocks.specs.Clocks.{PlacesState}
 
 -- a bit leads a decoder from old to new, and decides this event, if it is one
-pub record Decodes {C : Type 0} (view : CheckView C) (old : LineState C) (bit : Bool) (event : Option Event)
+pub record DecodesBit {C : Type 0} (view : CheckView C) (old : LineState C) (bit : Bool) (event : Option Event)
     (new : LineState C) : Type 0 where
   pub advances : Advances view old (bit ∷ []) (option_map (reported new.octets) event) new
   pub answer : (b : List Bool) → After view old b → option_map (reported new.octets) event
@@ -29,8 +29,8 @@ BeginsAt opens b bit =
     ⊎ ((opens ≡ false) × (begun (b ++ bit ∷ []) ≡ Some (length b) → ⊥))
 
 -- of a decoder whose last bit has this number
-abbrev pub Begins : {C : Type 0} → CheckView C → LineState C → ℕ → Bool → Type 0
-Begins view d number opens = (b : List Bool) (bit : Bool) → After view d (b ++ bit ∷ []) → d.origin ≡ 0
+abbrev pub OpensWith : {C : Type 0} → CheckView C → LineState C → ℕ → Bool → Type 0
+OpensWith view d number opens = (b : List Bool) (bit : Bool) → After view d (b ++ bit ∷ []) → d.origin ≡ 0
     → number ≡ length b → BeginsAt opens b bit
 
 -- what becomes of the places with bit number n of the second line
@@ -62,11 +62,11 @@ pub record IsLocatable (p : PlacesState) (e : Event) : Type 0 where
   pub fits : FitsPast p (e.span.past - 1)
 
 -- a report, or none, leads a conversation from old to new, and this is seen of it
-pub record EntersAny (old : ConversationState) (decided : List LineReport) (found : Option SeenReport)
+pub record AdvancesConversationBy (old : ConversationState) (decided : List LineReport) (found : Option SeenReport)
     (new : ConversationState)
     : Type 0 where
-  pub keeps : (hs : List LineReport) → Keeps old hs → Keeps new (hs ++ decided)
-  pub seen : (hs : List LineReport) → Keeps old hs
+  pub keeps : (hs : List LineReport) → ConversationAfter old hs → ConversationAfter new (hs ++ decided)
+  pub seen : (hs : List LineReport) → ConversationAfter old hs
       → seen old.dictionary (hs ++ decided) ≡ seen old.dictionary hs ++ option_to_list found
   pub dictionary : new.dictionary ≡ old.dictionary
   pub depth : new.depth ≡ old.depth

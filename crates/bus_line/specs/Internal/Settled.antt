@@ -40,36 +40,36 @@ pub record LagsBy {C : Type 0} (view : CheckView C) (d : LineState C)
   pub counts : Counts view.cost d b
 
 -- how many more of the first `limit` there are where `k` come after `n`
-abbrev pub gain : ℕ → ℕ → ℕ → ℕ
-gain limit n k = min (n + k) limit - min n limit
+abbrev pub more_within : ℕ → ℕ → ℕ → ℕ
+more_within limit n k = min (n + k) limit - min n limit
 
 -- how many octets more of a piece of `n` data bits are stored, where `k` come after them
 abbrev pub octets_more : ℕ → ℕ → ℕ → ℕ
 octets_more longest n k = min ((n + k) / 8) (longest + 2) - min (n / 8) (longest + 2)
 
 -- the lowest `k` octets of a number, the lowest first
-abbrev pub octets_of : ℕ → ℕ → List ℕ
-octets_of zero n = []
-octets_of (suc k) n = octets_of k n ++ (n / 2 ^ (8 * k) % 256) ∷ []
+abbrev pub low_octets : ℕ → ℕ → List ℕ
+low_octets zero n = []
+low_octets (suc k) n = low_octets k n ++ (n / 2 ^ (8 * k) % 256) ∷ []
 
 -- the buffer has the first of these octets, and their check
-pub record Keeps {C : Type 0} (folded : C → List ℕ → Type 0) (d : LineState C) (os : List ℕ) : Type 0 where
+pub record HoldsOctets {C : Type 0} (folded : C → List ℕ → Type 0) (d : LineState C) (os : List ℕ) : Type 0 where
   pub held : d.octets ≡ take (d.longest + 2) os
   pub checked : folded d.check (take (d.longest + 2) os)
 
 -- octets of a piece were stored and folded, as many as there is room for, and counted
-pub record Stores {C : Type 0} (view : CheckView C) (old : LineState C) (more : List ℕ)
+pub record StoresOctets {C : Type 0} (view : CheckView C) (old : LineState C) (more : List ℕ)
     (new : LineState C) : Type 0 where
-  pub keeps : (os : List ℕ) → Keeps view.folded old os → Keeps view.folded new (os ++ more)
-  pub spent : (os : List ℕ) → Keeps view.folded old os
+  pub keeps : (os : List ℕ) → HoldsOctets view.folded old os → HoldsOctets view.folded new (os ++ more)
+  pub spent : (os : List ℕ) → HoldsOctets view.folded old os
       → new.spent ≡ record old.spent {
-        stored = old.spent.stored + gain (old.longest + 2) (length os) (length more);
-        folded = old.spent.folded + view.cost * gain (old.longest + 2) (length os) (length more);
+        stored = old.spent.stored + more_within (old.longest + 2) (length os) (length more);
+        folded = old.spent.folded + view.cost * more_within (old.longest + 2) (length os) (length more);
       }
   pub kept : new ≡ record old { octets = new.octets; check = new.check; spent = new.spent }
 
 -- data bits were appended to the piece, and counted
-pub record Appends {C : Type 0} (view : CheckView C) (old : LineState C) (more : List Bool)
+pub record AppendsBits {C : Type 0} (view : CheckView C) (old : LineState C) (more : List Bool)
     (new : LineState C) : Type 0 where
   pub holds : (bits : List Bool) → Holds view.folded old bits → Holds view.folded new (bits ++ more)
   pub spent : (bits : List Bool) → Holds view.folded old bits

@@ -13,7 +13,7 @@ use std::cmp::min;
 impl DecoderWords {
     ghost use Rattle.bus_line.specs.Words.{IsDecoder, state};
     ghost use Rattle.bus_line.specs.Internal.Tracks.{Holds};
-    ghost use Rattle.bus_line.specs.Internal.Settled.{Appends, Keeps, Stores, octets_of};
+    ghost use Rattle.bus_line.specs.Internal.Settled.{AppendsBits, HoldsOctets, StoresOctets, low_octets};
 
     /// Appends data bits to the piece. Its first bits empty the frame buffer.
     #[inline(always)]
@@ -25,7 +25,7 @@ impl DecoderWords {
     )
         requires sound { IsDecoder self.old (F.octets frame.old) }
         requires room { self.old.assembled + more.count ≤ self.old.place - self.old.origin }
-        ensures appends { Appends C.check (state self.old check.old (F.octets frame.old))
+        ensures appends { AppendsBits C.check (state self.old check.old (F.octets frame.old))
             (bits_of more.count more.bits) (state self.new check.new (F.octets frame.new)) }
         ensures sound { IsDecoder self.new (F.octets frame.new) }
     {
@@ -44,7 +44,7 @@ impl DecoderWords {
     fn begin<C: Check, F: FrameBuffer>(&self, check: &mut C, frame: &mut F)
         requires sound { IsDecoder self.now (F.octets frame.old) }
         ensures keeps { (bits : List Bool) → Holds C.check.folded (state self.now check.old (F.octets frame.old)) bits →
-            Keeps C.check.folded (state self.now check.new (F.octets frame.new)) (octets bits) }
+            HoldsOctets C.check.folded (state self.now check.new (F.octets frame.new)) (octets bits) }
         ensures sound { IsDecoder self.now (F.octets frame.new) }
     {
         if self.data_bits >= 8 {
@@ -67,7 +67,7 @@ impl DecoderWords {
         requires sound { IsDecoder self.old (F.octets frame.old) }
         requires few { count ≤ 7 }
         requires room { self.old.stored + count ≤ self.old.assembled }
-        ensures stores { Stores C.check (state self.old check.old (F.octets frame.old)) (octets_of count joined)
+        ensures stores { StoresOctets C.check (state self.old check.old (F.octets frame.old)) (low_octets count joined)
             (state self.new check.new (F.octets frame.new)) }
         ensures kept { self.new ≡ record self.old { folded = self.new.folded; stored = self.new.stored } }
         ensures sound { IsDecoder self.new (F.octets frame.new) }

@@ -10,14 +10,14 @@ use bus_bits::Span;
 use bus_fcs::Check;
 
 impl DecoderWords {
-    ghost use Rattle.bus_line.specs.Words.{IsDecoder, IsWithin, state};
+    ghost use Rattle.bus_line.specs.Words.{IsDecoder, AreDecoderWords, state};
     ghost use Rattle.bus_line.specs.Internal.RunsTo.{Aborts, Closes, ClosesAs, DecidesLast};
 
     /// Finds whether the newest bit ends a flag, or is the seventh or the fifteenth one of a run, and
     /// returns what that decides.
     #[inline(always)]
     pub(crate) fn decide<C: Check>(&mut self, check: &C) -> Option<Event>
-        requires within { IsWithin self.old }
+        requires within { AreDecoderWords self.old }
         requires some { self.old.origin < self.old.place }
         ensures decides { (octets : List ℕ) →
             DecidesLast C.check (state self.old check.now octets) result (state self.new check.now octets) }
@@ -51,7 +51,7 @@ impl DecoderWords {
 
     /// The piece that a flag at `past` closes, if it is not empty.
     fn closed<C: Check>(&self, check: &C, past: u64) -> Option<Event>
-        requires { IsWithin self.now }
+        requires { AreDecoderWords self.now }
         ensures { (octets : List ℕ) → Closes C.check (state self.now check.now octets) past result }
     {
         let first = self.first_or_never();
@@ -66,7 +66,7 @@ impl DecoderWords {
 
     /// The piece that an abort mark at `past` ends, if it is not empty.
     fn aborted(&self, past: u64) -> Option<Event>
-        requires within { IsWithin self.now }
+        requires within { AreDecoderWords self.now }
         requires past { past ≤ self.now.place }
         ensures { Aborts self.now past result }
     {
@@ -82,7 +82,7 @@ impl DecoderWords {
 
     /// What the piece between the last flag and the one that the newest bit ends is, the first that fits.
     fn class<C: Check>(&self, check: &C) -> EventKind
-        requires { IsWithin self.now }
+        requires { AreDecoderWords self.now }
         ensures { (octets : List ℕ) → ClosesAs C.check (state self.now check.now octets) result }
     {
         if (self.last_bits >> 3) & 0x1f == 0x1f {

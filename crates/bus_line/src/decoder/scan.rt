@@ -17,7 +17,7 @@ use bus_fcs::Check;
 use std::cmp::min;
 
 impl DecoderWords {
-    ghost use Rattle.bus_line.specs.Words.{HasBits, IsDecoder, IsWithin, state};
+    ghost use Rattle.bus_line.specs.Words.{HasBits, IsDecoder, AreDecoderWords, state};
     ghost use Rattle.bus_line.specs.After.{AdvancesWith, Decides};
     ghost use Rattle.bus_line.specs.Internal.Flags.{SkipsFlags};
     ghost use Rattle.bus_line.specs.Internal.TimeFill.{SkipsOnes, AreFlags};
@@ -127,7 +127,7 @@ impl DecoderWords {
     /// (ISO/IEC 13239, interframe time fill).
     #[inline(always)]
     fn begins_piece(&self, octets: &[u8], from: usize) -> bool
-        requires within { IsWithin self.now }
+        requires within { AreDecoderWords self.now }
         requires enough { from + 64 ≤ 8 * length octets.now }
     {
         self.settles_at < self.place + 8
@@ -172,12 +172,12 @@ impl DecoderWords {
         from: usize,
         end: usize,
     ) -> usize
-        requires within { IsWithin self.old }
+        requires within { AreDecoderWords self.old }
         requires bits { HasBits self.old octets.now from end }
         ensures within { (from ≤ result) × (result ≤ end) }
         ensures decides { (check : C) (held : List ℕ) → Decides C.check (state self.old check held)
             (bits_from octets.now from (result - from)) None (state self.new check held) }
-        ensures sound { IsWithin self.new }
+        ensures sound { AreDecoderWords self.new }
     {
         if self.settles_at == NEVER {
             return self.skip_ones(octets, from, end);
@@ -191,13 +191,13 @@ impl DecoderWords {
     /// Takes ones of an idle line, where no piece is open, 56 at a time.
     #[inline(always)]
     pub(crate) fn skip_ones(&mut self, octets: &[u8], from: usize, end: usize) -> usize
-        requires within { IsWithin self.old }
+        requires within { AreDecoderWords self.old }
         requires idle { self.old.settles_at ≡ 2 ^ 62 }
         requires bits { HasBits self.old octets.now from end }
         ensures within { (from ≤ result) × (result ≤ end) }
         ensures bits { bits_from octets.now from (result - from) ≡ replicate (result - from) true }
         ensures passes { SkipsOnes self.old (result - from) self.new }
-        ensures sound { IsWithin self.new }
+        ensures sound { AreDecoderWords self.new }
     {
         if self.last_bits != 0xffff {
             return from;
@@ -210,13 +210,13 @@ impl DecoderWords {
     /// Takes flags after a flag.
     #[inline(always)]
     pub(crate) fn skip_flags(&mut self, octets: &[u8], from: usize, end: usize) -> usize
-        requires within { IsWithin self.old }
+        requires within { AreDecoderWords self.old }
         requires flag { self.old.settles_at ≡ self.old.place + 8 }
         requires bits { HasBits self.old octets.now from end }
         ensures within { (from ≤ result) × (result ≤ end) }
         ensures flags { AreFlags octets.now from result }
         ensures passes { SkipsFlags self.old ((result - from) / 8) self.new }
-        ensures sound { IsWithin self.new }
+        ensures sound { AreDecoderWords self.new }
     {
         let at = flags_end(octets, from, end);
         if at > from {

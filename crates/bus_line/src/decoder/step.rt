@@ -34,7 +34,7 @@ fn newest(last_bits: u64, bits: u64, count: u64) -> u64
 }
 
 impl DecoderWords {
-    ghost use Rattle.bus_line.specs.Words.{IsDecoder, IsWithin, state};
+    ghost use Rattle.bus_line.specs.Words.{IsDecoder, AreDecoderWords, state};
     ghost use Rattle.bus_line.specs.After.{AdvancesWith};
     ghost use Rattle.bus_line.specs.Internal.RunsTo.{ConsumesBits};
 

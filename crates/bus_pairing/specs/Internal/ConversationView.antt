@@ -2,7 +2,7 @@
 use Rattle.std.specs.Prelude.{◌≡◌, ◌≤◌, length, map}
 use Rattle.bus_pairing.specs.History.{kept_pair}
 use Rattle.bus_pairing.specs.Conversation.{ConversationState}
-use Rattle.bus_pairing.specs.Internal.Counted.{IsWithin}
+use Rattle.bus_pairing.specs.Internal.Counted.{AreAtMost}
 use Rattle.bus_pairing.specs.declared.conversation.Conversation.TheInside.{Inside}
 
 abbrev pub conversation_state : Inside → ConversationState
@@ -20,5 +20,5 @@ conversation_state j = record {
 -- each station has its counts, none above the steps, and the history room for a frame
 pub record IsConversation (j : Inside) : Type 0 where
   pub stations : length j.tally ≡ 256
-  pub counts : IsWithin j.spent.handled j.tally
+  pub counts : AreAtMost j.spent.handled j.tally
   pub depth : 1 ≤ j.history.capacity

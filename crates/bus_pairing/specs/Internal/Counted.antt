@@ -23,7 +23,7 @@ Counted verdict old new =
     → slice_get new station ≡ Some (counted station verdict c)
 
 -- no count of a station is above this
-abbrev pub IsWithin : ℕ → List Counts → Type 0
-IsWithin most tally =
+abbrev pub AreAtMost : ℕ → List Counts → Type 0
+AreAtMost most tally =
     (station : ℕ) (c : Counts) → slice_get tally station ≡ Some c
     → (c.answered ≤ most) × (c.missing ≤ most) × (c.spoilt ≤ most) × (c.late ≤ most)

@@ -16,7 +16,7 @@ use Rattle.bus_pairing.specs.LineReport.{LineReport, line_report}
 use Rattle.bus_pairing.specs.Seen.{SeenReport, seen}
 use Rattle.bus_pairing.specs.Shown.{found_on}
 use Rattle.bus_pairing.specs.Ledger.{copied_of}
-use Rattle.bus_pairing.specs.Conversation.{ConversationState, Keeps}
+use Rattle.bus_pairing.specs.Conversation.{ConversationState, ConversationAfter}
 use Rattle.bus_pairing.specs.declared.finding.Finding.{Finding}
 use Rattle.bus_pairing.specs.declared.line.Line.{Line}
 
@@ -51,8 +51,9 @@ pub record Decodes {C : Type 0} (view : CheckView C) (line : Option Line) (old :
     (new : LineState C) (after : ConversationState) : Type 0 where
   pub report : Option Report
   pub advances : Advances view old bits report new
-  pub keeps : (hs : List LineReport) → Keeps before hs → Keeps after (hs ++ line_reports_of line report)
-  pub seen : (hs : List LineReport) → Keeps before hs
+  pub keeps : (hs : List LineReport) → ConversationAfter before hs
+      → ConversationAfter after (hs ++ line_reports_of line report)
+  pub seen : (hs : List LineReport) → ConversationAfter before hs
       → seen before.dictionary (hs ++ line_reports_of line report) ≡ seen before.dictionary hs ++ option_to_list told
   pub dictionary : after.dictionary ≡ before.dictionary
   pub depth : after.depth ≡ before.depth
@@ -66,8 +67,9 @@ pub record DecodesMany {C : Type 0} (view : CheckView C) (line : Option Line) (o
   pub led : Led view old bits new
   pub grows : (b : List Bool) → After view old b
       → placed old.origin old.longest (b ++ bits) ≡ placed old.origin old.longest b ++ reports
-  pub keeps : (hs : List LineReport) → Keeps before hs → Keeps after (hs ++ map (line_report line) reports)
-  pub seen : (hs : List LineReport) → Keeps before hs
+  pub keeps : (hs : List LineReport) → ConversationAfter before hs
+      → ConversationAfter after (hs ++ map (line_report line) reports)
+  pub seen : (hs : List LineReport) → ConversationAfter before hs
       → seen before.dictionary (hs ++ map (line_report line) reports) ≡ seen before.dictionary hs ++ seen_now
   pub dictionary : after.dictionary ≡ before.dictionary
   pub depth : after.depth ≡ before.depth
@@ -81,6 +83,6 @@ pub record KeepsUp {C : Type 0} (view : CheckView C) (d : LineState C) (j : Conv
   pub bits : List Bool
   pub after : After view d bits
   pub decoded : List LineReport
-  pub keeps : Keeps j decoded
+  pub keeps : ConversationAfter j decoded
   pub copied : copied_of decoded ≤ sum_by octet_count (placed d.origin d.longest bits) + 2 ^ 60
   pub count : length decoded ≤ length (placed d.origin d.longest bits) + 2 ^ 60

@@ -56,7 +56,7 @@ impl<C: Check> Model for PairAnalyser<C> {
 
 impl<C: Check> PairAnalyser<C> {
     ghost use Rattle.bus_watch.specs.contracts.pair.analyser.PairAnalyser.{the_row};
-    ghost use Rattle.bus_watch.specs.Pairs.{IsAfterPairs, SeesPairs, lines};
+    ghost use Rattle.bus_watch.specs.Pairs.{IsAfterPairs, AdvancesPairs, pair_reports};
     ghost use Rattle.bus_pairing.specs.Seen.{all_seen_at};
     ghost use Rattle.bus_pairing.specs.Shown.{kept_pair_option};
     ghost use Rattle.bus_watch.specs.PairShown.{seen_of_pair, shown_pair};
@@ -114,7 +114,7 @@ impl<C: Check> PairAnalyser<C> {
     pub(crate) fn advance(&mut self, first: bool, second: bool) -> Result<PairFound, PlaceLimit>
         ensures limit { IsErr result ↔ (most_places ≤ self.old.first.place) }
         ensures sees { IfOk result (λ found.
-            SeesPairs C.check self.old ((first, second) ∷ []) (seen_of_pair self.new found) self.new) }
+            AdvancesPairs C.check self.old ((first, second) ∷ []) (seen_of_pair self.new found) self.new) }
         ensures unchanged { OnErr result (self.new ≡ self.old) }
     {
         settled_places();
@@ -160,11 +160,11 @@ impl<C: Check> PairAnalyser<C> {
         ensures limit { IsErr result ↔ (most_places ≤ self.old.first.place) }
         ensures answer { IfOk result (λ o. (ps : List (Bool × Bool)) → IsAfterPairs C.check self.old ps →
             shown_pair o ≡ all_seen_at self.old.conversation.dictionary
-            (lines self.old (ps ++ (first, second) ∷ [])) self.old.first.place) }
+            (pair_reports self.old (ps ++ (first, second) ∷ [])) self.old.first.place) }
         ensures fits { IfOk result (λ o. IsKeepable o.first × IsKeepable o.second) }
         // What becomes of the analyser: `new`, once the octets that are lent have been given back.
         ensures* rests { sem 𝓛 (Rests (the_row C.row C.Check) self.entry (λ new.
-            IfOk result (λ o. SeesPairs C.check self.old ((first, second) ∷ []) (shown_pair o) new)
+            IfOk result (λ o. AdvancesPairs C.check self.old ((first, second) ∷ []) (shown_pair o) new)
             × OnErr result (new ≡ self.old))) }
     {
         pairs_grow();
@@ -176,7 +176,7 @@ impl<C: Check> PairAnalyser<C> {
     pub fn history(&self, i: usize) -> Option<&PairKept>
         ensures lent { kept_pair_option result ≡ slice_get self.now.conversation.history i }
         ensures value { (ps : List (Bool × Bool)) → IsAfterPairs C.check self.now ps →
-            kept_pair_option result ≡ slice_get (history self.now.conversation.depth (lines self.now ps)) i }
+            kept_pair_option result ≡ slice_get (history self.now.conversation.depth (pair_reports self.now ps)) i }
     {
         self.conversation.kept(i)
     }
@@ -184,7 +184,7 @@ impl<C: Check> PairAnalyser<C> {
     /// How many frames the history has: at most its depth, which is at most 1024.
     pub fn history_len(&self) -> usize
         ensures value { (ps : List (Bool × Bool)) → IsAfterPairs C.check self.now ps →
-            result ≡ length (history self.now.conversation.depth (lines self.now ps)) }
+            result ≡ length (history self.now.conversation.depth (pair_reports self.now ps)) }
         ensures depth { result ≤ self.now.conversation.depth }
         ensures bound { self.now.conversation.depth ≤ 1024 }
     {
@@ -194,7 +194,7 @@ impl<C: Check> PairAnalyser<C> {
     /// How many verdicts named a station.
     pub fn tally(&self, station: u8) -> Counts
         ensures { (ps : List (Bool × Bool)) → IsAfterPairs C.check self.now ps →
-            result ≡ tally self.now.conversation.dictionary (lines self.now ps) station }
+            result ≡ tally self.now.conversation.dictionary (pair_reports self.now ps) station }
     {
         self.conversation.counts(station)
     }
@@ -206,7 +206,7 @@ impl<C: Check> PairAnalyser<C> {
         ensures second { (ps : List (Bool × Bool)) → IsAfterPairs C.check self.now ps →
             result.second ≡ begun_span self.now.first.origin (seconds ps) }
         ensures pending { (ps : List (Bool × Bool)) → IsAfterPairs C.check self.now ps →
-            result.pending ≡ pending self.now.conversation.dictionary (lines self.now ps) }
+            result.pending ≡ pending self.now.conversation.dictionary (pair_reports self.now ps) }
     {
         PairEnding {
             first: begun_span(&self.first),

@@ -1,7 +1,7 @@
 use Rattle.std.proofs.Common.{◌≡◌, ◌+◌, ◌-◌, ◌≤◌, ◌<◌, ◌^◌, ◌++◌, ℕ, min, List, length, take, ◌∙◌, subst, sym, arith}
 use Rattle.std.proofs.lemmas.List.{length-take, take_all}
 use Rattle.bus_clocks.specs.Arrival.{Arrival}
-use Rattle.bus_clocks.specs.Clocks.{numbered}
+use Rattle.bus_clocks.specs.Clocks.{bits_taken}
 use Rattle.bus_calls.specs.declared.arrivals.ClockAnalyser.{ClockAnalyser}
 use Rattle.bus_calls.specs.declared.run.CaptureRun.{CaptureRun}
 use Rattle.bus_calls.specs.Internal.Arrivals.{arrivals_kind}
@@ -19,7 +19,7 @@ returns-in-Some-clause-taken g c = λ start b followed.
     let n = c.scan-taken.result in
     let xs = c.args.arrivals.now in
     let old = c.args.run.now.analyser in
-    let taken : n ≡ min (length xs) (2 ^ 60 - numbered old.analyser) = c.scan-taken.ensures.taken in
+    let taken : n ≡ min (length xs) (2 ^ 60 - bits_taken old.analyser) = c.scan-taken.ensures.taken in
     let all = told-behind view old (record old { analyser = c.scan-taken.new.self })
     (take n xs) _ c.scan-taken.ensures.told in
     rw (c.from.ensures)
@@ -35,7 +35,7 @@ returns-in-Some-clause-sound g c =
     let n = c.scan-taken.result in
     let xs = c.args.arrivals.now in
     let old = c.args.run.now.analyser in
-    let taken : n ≡ min (length xs) (2 ^ 60 - numbered old.analyser) = c.scan-taken.ensures.taken in
+    let taken : n ≡ min (length xs) (2 ^ 60 - bits_taken old.analyser) = c.scan-taken.ensures.taken in
     told-sound (arrivals_kind view) c.args.run.now _ (take n xs) (g.W.Write.contents c.args.w.now)
     (g.W.Write.contents c.scan-taken.new.out)
     (told-behind view old (record old { analyser = c.scan-taken.new.self }) (take n xs) _ c.scan-taken.ensures.told)
@@ -47,7 +47,7 @@ returns-then-taken-arrivals-clause-sound g c =
     let n = c.scan-taken.result in
     let xs = c.args.arrivals.now in
     let old = c.args.run.now.analyser in
-    let taken : n ≡ min (length xs) (2 ^ 60 - numbered old.analyser) = c.scan-taken.ensures.taken in
+    let taken : n ≡ min (length xs) (2 ^ 60 - bits_taken old.analyser) = c.scan-taken.ensures.taken in
     told-sound (arrivals_kind view) c.args.run.now _ (take n xs) (g.W.Write.contents c.args.w.now)
     (g.W.Write.contents c.scan-taken.new.out)
     (told-behind view old (record old { analyser = c.scan-taken.new.self }) (take n xs) _ c.scan-taken.ensures.told)
@@ -59,7 +59,7 @@ returns-then-taken-arrivals-clause-taken g c = λ start b before.
     let n = c.scan-taken.result in
     let xs = c.args.arrivals.now in
     let old = c.args.run.now.analyser in
-    let taken : n ≡ min (length xs) (2 ^ 60 - numbered old.analyser) = c.scan-taken.ensures.taken in
+    let taken : n ≡ min (length xs) (2 ^ 60 - bits_taken old.analyser) = c.scan-taken.ensures.taken in
     let all = told-behind view old (record old { analyser = c.scan-taken.new.self })
     (take n xs) _ c.scan-taken.ensures.told in
     let followed = told-watched (arrivals_kind view) c.args.run.now _ (take n xs) (g.W.Write.contents c.args.w.now)
@@ -81,7 +81,7 @@ returns-clause-taken g c = λ start b followed.
     let n = c.scan-taken.result in
     let xs = c.args.arrivals.now in
     let old = c.args.run.now.analyser in
-    let taken : n ≡ min (length xs) (2 ^ 60 - numbered old.analyser) = c.scan-taken.ensures.taken in
+    let taken : n ≡ min (length xs) (2 ^ 60 - bits_taken old.analyser) = c.scan-taken.ensures.taken in
     let all = told-behind view old (record old { analyser = c.scan-taken.new.self })
     (take n xs) _ c.scan-taken.ensures.told in
     let now : CaptureRun (ClockAnalyser g.row.C.Denot) =
@@ -98,7 +98,7 @@ returns-clause-sound g c =
     let n = c.scan-taken.result in
     let xs = c.args.arrivals.now in
     let old = c.args.run.now.analyser in
-    let taken : n ≡ min (length xs) (2 ^ 60 - numbered old.analyser) = c.scan-taken.ensures.taken in
+    let taken : n ≡ min (length xs) (2 ^ 60 - bits_taken old.analyser) = c.scan-taken.ensures.taken in
     told-sound (arrivals_kind view) c.args.run.now _ (take n xs) (g.W.Write.contents c.args.w.now)
     (g.W.Write.contents c.scan-taken.new.out)
     (told-behind view old (record old { analyser = c.scan-taken.new.self }) (take n xs) _ c.scan-taken.ensures.told)

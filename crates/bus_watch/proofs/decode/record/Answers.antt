@@ -5,7 +5,7 @@ use Rattle.bus_line.specs.Due.{due_at}
 use Rattle.bus_line.specs.Report.{moved}
 use Rattle.bus_line.specs.Shown.{reported}
 use Rattle.bus_pairing.specs.LineReport.{line_report}
-use Rattle.bus_pairing.specs.Conversation.{Enters}
+use Rattle.bus_pairing.specs.Conversation.{AdvancesConversation}
 use Rattle.bus_pairing.specs.Shown.{found_on}
 use Rattle.bus_watch.specs.Internal.Decodes.{told_on}
 use Rattle.bus_watch.proofs.AfterLemmas.{decodes-some}
@@ -32,7 +32,8 @@ returns-in-Some g c = λ old bits advances.
     let before = c.args.conversation.now in
     let after = c.take.new.self in
     let enters = subst
-    (λ (os : List ℕ). Enters before (line_report line (reported os event)) (found_on line os after.last) after)
+    (λ (os : List ℕ). AdvancesConversation before (line_report line (reported os event))
+    (found_on line os after.last) after)
     c.octets.ensures.value c.take.ensures.enters in
     let decides = subst (λ o. Advances view old bits (option_map (reported d.octets) o) d) c.in-Some.is advances in
     rw (c.in-Some.is)

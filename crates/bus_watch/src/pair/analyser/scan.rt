@@ -3,7 +3,7 @@
 ghost use Rattle.std.specs.Prelude.{◌≡◌, ◌+◌, ◌-◌, ◌*◌, ◌≤◌, ◌<◌, length, min, zip};
 ghost use Rattle.bus_bits.specs.Bits.{bits_from};
 ghost use Rattle.bus_bits.specs.Limits.{most_places};
-ghost use Rattle.bus_watch.specs.Watch.{LeadsTold};
+ghost use Rattle.bus_watch.specs.Watch.{AdvancesWatchShown};
 ghost use Rattle.bus_watch.specs.Pairs.{two_lines};
 
 use crate::decode::{newest, observe_bits, record, show};
@@ -34,7 +34,7 @@ impl<C: Check> PairAnalyser<C> {
         requires enough { (count ≤ 8 * length first.now) × (count ≤ 8 * length second.now) }
         requires room { L.has_room observer.old (2 * min count (most_places - self.old.first.place)) }
         ensures taken { result ≡ min count (most_places - self.old.first.place) }
-        ensures told { LeadsTold (two_lines C.check) self.old
+        ensures told { AdvancesWatchShown (two_lines C.check) self.old
             (zip (bits_from first.now 0 result) (bits_from second.now 0 result)) self.new
             (λ ss. L.observes self.old.conversation.dictionary observer.old out.old ss observer.new out.new) }
     {
@@ -63,7 +63,7 @@ impl<C: Check> PairAnalyser<C> {
         requires places { self.old.first.place + (end - from) ≤ most_places }
         requires room { L.has_room observer.old (2 * (end - from)) }
         ensures within { (from < result) × (result ≤ end) }
-        ensures told { LeadsTold (two_lines C.check) self.old
+        ensures told { AdvancesWatchShown (two_lines C.check) self.old
             (zip (bits_from first.now from (result - from)) (bits_from second.now from (result - from))) self.new
             (λ ss. L.observes self.old.conversation.dictionary observer.old out.old ss observer.new out.new) }
         ensures left { L.has_room observer.new (2 * (end - result)) }

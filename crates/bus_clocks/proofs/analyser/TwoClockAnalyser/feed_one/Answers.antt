@@ -4,7 +4,7 @@ use Rattle.bus_pairing.proofs.SinkLemmas.{refused-one}
 use Rattle.bus_pairing.specs.Shown.{shown_on}
 use Rattle.bus_watch.specs.Watch.{seen_by}
 use Rattle.bus_watch.proofs.PairFedLemmas.{offered-not, refused-offered}
-use Rattle.bus_clocks.specs.Clocks.{SeesArrivals, two_clocks}
+use Rattle.bus_clocks.specs.Clocks.{AdvancesArrivals, two_clocks}
 use Rattle.bus_clocks.proofs.analyser.TwoClockAnalyser.feed_one.Goals as goal
 
 pub returns-in-Some-clause-refused : goal.returns-in-Some-clause-refused
@@ -12,7 +12,7 @@ returns-in-Some-clause-refused g c =
     let view = g.C.Check.check in
     let sink = g.S.PairSink.sink in
     let shown = shown_on (Some c.args.line) c.in-Some.seen in
-    let sees : SeesArrivals view c.args.self.now ((c.args.line, c.args.bit) ∷ []) (shown ∷ []) c.step.new.self =
+    let sees : AdvancesArrivals view c.args.self.now ((c.args.line, c.args.bit) ∷ []) (shown ∷ []) c.step.new.self =
     rw (← c.lent.ensures.shown, c.in-Some.is) at c.in-Ok.ensures.sees in
     on_err_weaker c.take.result
     (λ offered. (

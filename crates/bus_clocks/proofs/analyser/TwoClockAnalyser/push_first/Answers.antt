@@ -3,7 +3,7 @@ use Rattle.std.specs.Option.{option_to_list}
 use Rattle.bus_pairing.specs.declared.line.Line.TheVariants.{First}
 use Rattle.bus_watch.specs.Internal.Decodes.{told_on}
 use Rattle.bus_clocks.specs.Arrival.{own}
-use Rattle.bus_clocks.specs.Clocks.{SeesArrivals}
+use Rattle.bus_clocks.specs.Clocks.{AdvancesArrivals}
 use Rattle.bus_clocks.specs.Internal.ClockView.{clock_state}
 use Rattle.bus_clocks.proofs.PushLemmas.{push-first, sees-arrival, whole-decoded}
 use Rattle.bus_clocks.proofs.RoomLemmas.{room-arrivals}
@@ -24,7 +24,7 @@ enter-requires-clause-room g c =
     (omega (arith, c.place-place.ensures.value, c.place-place.ensures.fits, reached.first.has_taken.place))
     (omega (arith, c.place-bits.ensures.value, c.place-bits.ensures.fits, reached.second.has_taken.place))
 
-sees : (g : Over) (c : goal.After-enter g) → SeesArrivals g.C.Check.check (clock_state c.self.inside)
+sees : (g : Over) (c : goal.After-enter g) → AdvancesArrivals g.C.Check.check (clock_state c.self.inside)
     ((First, c.args.bit) ∷ [])
     (option_to_list (told_on (Some First) c.decode.new.decoder.octets c.enter.result c.enter.new.conversation.last))
     (record {

@@ -3,7 +3,7 @@ use Rattle.std.specs.Option.{option_to_list}
 use Rattle.bus_pairing.specs.declared.line.Line.TheVariants.{Second}
 use Rattle.bus_watch.specs.Internal.Decodes.{told_on}
 use Rattle.bus_clocks.specs.Arrival.{own}
-use Rattle.bus_clocks.specs.Clocks.{SeesArrivals}
+use Rattle.bus_clocks.specs.Clocks.{AdvancesArrivals}
 use Rattle.bus_clocks.specs.Internal.ClockView.{clock_state}
 use Rattle.bus_clocks.proofs.PushLemmas.{PushesSecond, push-second, locatable, sees-arrival, whole-decoded}
 use Rattle.bus_clocks.proofs.PushLemmas.{whole-located}
@@ -40,7 +40,7 @@ enter-requires-clause-room g c =
     (omega (arith, c.place-place.ensures.value, c.place-place.ensures.fits, reached.first.has_taken.place))
     (omega (arith, c.place-number.ensures.value, c.place-number.ensures.fits, reached.second.has_taken.place))
 
-sees : (g : Over) (c : goal.After-enter g) → SeesArrivals g.C.Check.check (clock_state c.self.inside)
+sees : (g : Over) (c : goal.After-enter g) → AdvancesArrivals g.C.Check.check (clock_state c.self.inside)
     ((Second, c.args.bit) ∷ [])
     (option_to_list (told_on (Some Second) c.decode.new.decoder.octets c.enter.result c.enter.new.conversation.last))
     (record {

@@ -1,6 +1,6 @@
 use Rattle.std.proofs.Common.{sym, subst, refl}
 use Rattle.bus_line.specs.Words.{state}
-use Rattle.bus_line.specs.Internal.Settled.{Keeps}
+use Rattle.bus_line.specs.Internal.Settled.{HoldsOctets}
 use Rattle.bus_line.proofs.TracksAppendLemmas.{none-yet, keeps-held, keeps-none}
 use Rattle.bus_line.proofs.decoder_words.DecoderWords.begin.Goals as goal
 
@@ -12,5 +12,5 @@ returns-then-self-ge8-clause-keeps g c = λ bits holds.
 pub returns-clause-keeps : goal.returns-clause-keeps
 returns-clause-keeps g c = λ bits holds.
     let d = state c.args.self.now c.args.check.now (g.F.FrameBuffer.octets c.args.frame.now) in
-    subst (Keeps g.C.Check.check.folded _) (sym (none-yet _ d bits holds c.if-self-ge8.false))
+    subst (HoldsOctets g.C.Check.check.folded _) (sym (none-yet _ d bits holds c.if-self-ge8.false))
     (keeps-none _ _ c.clear.ensures c.fresh.ensures)

@@ -7,14 +7,14 @@ use Rattle.std.proofs.Math.Nat.{mul-le-mul_right}
 use Rattle.bus_bits.specs.declared.spent.Spent.{Spent}
 use Rattle.bus_bits.proofs.OctetLemmas.{least}
 use Rattle.bus_line.specs.Words.{state}
-use Rattle.bus_line.specs.Internal.Settled.{gain, octets_of}
+use Rattle.bus_line.specs.Internal.Settled.{more_within, low_octets}
 use Rattle.bus_line.proofs.TracksAppendLemmas.{keeps-more, length-octets_of, octets-next}
 use Rattle.bus_line.proofs.decoder_words.DecoderWords.put.Goals as goal
 
 pub push-requires : goal.push-requires
 push-requires g c =
     let held = g.F.FrameBuffer.octets c.args.frame.now in
-    let so-far = octets_of c.loop.counter c.args.joined in
+    let so-far = low_octets c.loop.counter c.args.joined in
     omega (
       arith,
       ap length c.loop.invariant.held,
@@ -35,15 +35,15 @@ loop-preserved g c =
     let so-far = c.loop.invariant in
     let held = g.F.FrameBuffer.octets c.args.frame.now in
     let octet = bit_and c.loop.rest 255 in
-    let next : octets_of (k + 1) n ≡ octets_of k n ++ octet ∷ [] =
+    let next : low_octets (k + 1) n ≡ low_octets k n ++ octet ∷ [] =
     octets-next k n c.loop.rest octet so-far.rest (and_mask c.loop.rest 8) in
-    let more : (os : List ℕ) → (os ++ octets_of k n) ++ octet ∷ [] ≡ os ++ octets_of (k + 1) n = λ os.
-    append_assoc os (octets_of k n) (octet ∷ []) ∙ ap (λ (z : List ℕ). os ++ z) (sym next) in
+    let more : (os : List ℕ) → (os ++ low_octets k n) ++ octet ∷ [] ≡ os ++ low_octets (k + 1) n = λ os.
+    append_assoc os (low_octets k n) (octet ∷ []) ∙ ap (λ (z : List ℕ). os ++ z) (sym next) in
     record {
       held = c.push.ensures ∙ ap (λ (z : List ℕ). z ++ octet ∷ []) so-far.held ∙ more held;
       folded = λ before folded.
           subst (g.C.Check.check.folded c.fold.new.self) (more before)
-          (c.fold.ensures.folded (before ++ octets_of k n) (so-far.folded before folded));
+          (c.fold.ensures.folded (before ++ low_octets k n) (so-far.folded before folded));
       rest =
           ap (λ (r : ℕ). r / 256) so-far.rest
           ∙ (shr-shr n (8 * k) 8 ∙ ap (λ (j : ℕ). n / 2 ^ j) (omega arith));
@@ -67,7 +67,7 @@ returns-clause-stores g c =
       keeps = λ os kept. keeps-more _ d _ n k c.args.joined os kept count refl c.loop.invariant.held
           c.loop.invariant.folded;
       spent = λ os kept.
-          let gained : k ≡ gain (w.longest + 2) (length os) (length (octets_of n c.args.joined)) =
+          let gained : k ≡ more_within (w.longest + 2) (length os) (length (low_octets n c.args.joined)) =
           omega (
             arith,
             count,
@@ -80,8 +80,8 @@ returns-clause-stores g c =
           ap (λ (f : ℕ). record d.spent { stored = w.stored + c.min-stored.result; folded = f }) folded
           ∙ ap (λ (j : ℕ). record d.spent {
             stored = w.stored + j;
-            folded = w.folded + g.C.Check.check.cost * gain (w.longest + 2) (length os)
-                (length (octets_of n c.args.joined));
+            folded = w.folded + g.C.Check.check.cost * more_within (w.longest + 2) (length os)
+                (length (low_octets n c.args.joined));
           }) (sym all ∙ gained);
       kept = refl;
     }
@@ -116,7 +116,7 @@ returns-clause-sound g c =
       room = omega (
         arith,
         ap length c.loop.invariant.held,
-        length-append held (octets_of k c.args.joined),
+        length-append held (low_octets k c.args.joined),
         length-octets_of k c.args.joined,
         c.loop.auto.counter-end,
         c.min-stored.ensures,

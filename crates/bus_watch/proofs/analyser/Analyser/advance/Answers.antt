@@ -3,7 +3,7 @@ use Rattle.std.specs.Option.{option_map, option_to_list}
 use Rattle.bus_dictionary.specs.Dictionary.{longest_of}
 use Rattle.bus_pairing.specs.Shown.{found}
 use Rattle.bus_watch.specs.Internal.AnalyserView.{analyser_state}
-use Rattle.bus_watch.specs.After.{AnalyserState, Sees}
+use Rattle.bus_watch.specs.After.{AnalyserState, AdvancesAnalyser}
 use Rattle.bus_watch.proofs.DecodesLemmas.{sees-decoded}
 use Rattle.bus_watch.proofs.AnalyserViewLemmas.{room}
 use Rattle.bus_watch.proofs.analyser.Analyser.advance.Goals as goal
@@ -34,6 +34,6 @@ returns-clause-sees g c =
     let new : AnalyserState g.row.C.Denot = record
     { decoder = c.decode_bit.new.decoder; conversation = c.decode_bit.new.conversation } in
     let told = option_to_list (option_map (found c.decode_bit.new.decoder.octets) c.in_ok-finding.finding) in
-    subst (λ a. Sees g.C.Check.check a (c.args.bit ∷ []) told new) c.self.view_is
+    subst (λ a. AdvancesAnalyser g.C.Check.check a (c.args.bit ∷ []) told new) c.self.view_is
     (sees-decoded g.C.Check.check (analyser_state c.self.inside) new (c.args.bit ∷ []) _ (omega arith)
     c.in_ok-finding.ensures.reports)

@@ -1,7 +1,7 @@
 use Rattle.std.proofs.Common.{[], ◌∷◌, refl, sym, subst}
 use Rattle.std.specs.Option.{option_map, option_to_list}
 use Rattle.bus_pairing.specs.Shown.{found, shown_option}
-use Rattle.bus_watch.specs.After.{AnalyserState, Sees}
+use Rattle.bus_watch.specs.After.{AnalyserState, AdvancesAnalyser}
 use Rattle.bus_watch.specs.Internal.AnalyserView.{analyser_state}
 use Rattle.bus_watch.proofs.LawsLemmas.{answer-is}
 use Rattle.bus_watch.proofs.analyser.Analyser.push.Goals as goal
@@ -9,10 +9,10 @@ use Rattle.bus_watch.proofs.analyser.Analyser.push.Goals as goal
 pub returns : goal.returns
 returns g c =
     let now = analyser_state c.self.inside in
-    let sees : Sees g.C.Check.check c.args.self.now (c.args.bit ∷ [])
+    let sees : AdvancesAnalyser g.C.Check.check c.args.self.now (c.args.bit ∷ [])
     (option_to_list (shown_option c.lent.result)) now =
     rw (c.lent.ensures.only_line)
-    (subst (λ (a : AnalyserState g.row.C.Denot). Sees g.C.Check.check c.args.self.now (c.args.bit ∷ [])
+    (subst (λ (a : AnalyserState g.row.C.Denot). AdvancesAnalyser g.C.Check.check c.args.self.now (c.args.bit ∷ [])
     (option_to_list (option_map (found a.decoder.octets) c.in_ok-finding.finding)) a) (sym c.self.view_is)
     c.in_ok-finding.ensures.sees) in (
       (refl, (λ _. tt), (sees, tt)),

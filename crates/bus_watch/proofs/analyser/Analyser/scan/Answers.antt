@@ -6,7 +6,7 @@ use Rattle.bus_pairing.specs.Seen.{SeenReport}
 use Rattle.bus_watch.specs.After.{AnalyserState, one_line}
 use Rattle.bus_watch.specs.Internal.AnalyserView.{analyser_state}
 use Rattle.bus_watch.specs.Internal.Decodes.{DecodesMany}
-use Rattle.bus_watch.specs.Watch.{LeadsTold}
+use Rattle.bus_watch.specs.Watch.{AdvancesWatchShown}
 use Rattle.bus_watch.proofs.DecodesLemmas.{leads-decoded, line-keeps_up}
 use Rattle.bus_watch.proofs.analyser.Analyser.scan.Goals as goal
 
@@ -69,7 +69,7 @@ returns-clause-told g c =
     g.L.ReportObserver.observes a.conversation.dictionary c.args.observer.now c.args.out.now ss
     c.observe_bits.new.observer
     c.observe_bits.new.out in
-    subst (λ (a : AnalyserState g.row.C.Denot). LeadsTold (one_line view) a x new (told a)) c.self.view_is
+    subst (λ (a : AnalyserState g.row.C.Denot). AdvancesWatchShown (one_line view) a x new (told a)) c.self.view_is
     (leads-decoded view old new x (told old)
     (subst (λ (k : ℕ). DecodesMany view None c.self.inside.decoder c.self.inside.conversation
     (bits_from c.args.octets.now c.args.from k) c.observe_bits.new.decoder c.observe_bits.new.conversation (told old))

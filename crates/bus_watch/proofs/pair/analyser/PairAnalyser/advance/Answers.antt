@@ -1,6 +1,6 @@
 use Rattle.std.proofs.Common.{[], ◌∷◌, ◌++◌, arith}
 use Rattle.bus_watch.specs.Internal.PairView.{pair_state}
-use Rattle.bus_watch.specs.Pairs.{PairState, SeesPairs}
+use Rattle.bus_watch.specs.Pairs.{PairState, AdvancesPairs}
 use Rattle.bus_watch.specs.PairShown.{seen_of_pair}
 use Rattle.bus_watch.proofs.PairLemmas.{room-first, room-second}
 use Rattle.bus_watch.proofs.PairScanLemmas.{sees-pair}
@@ -33,7 +33,7 @@ next-state g c =
           c.decode_bit-2.new.conversation;
     }
 
-sees : (g : Over) (c : goal.In-Ok g) → SeesPairs g.C.Check.check (pair_state c.self.inside)
+sees : (g : Over) (c : goal.In-Ok g) → AdvancesPairs g.C.Check.check (pair_state c.self.inside)
     ((c.args.first, c.args.second) ∷ [])
     (seen_of_pair (next-state g c) (record { first = c.in_ok-found_first.found_first; second = c.in-Ok.finding }))
     (next-state g c)

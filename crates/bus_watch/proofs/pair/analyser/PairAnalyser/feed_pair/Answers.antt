@@ -1,12 +1,12 @@
 use Rattle.std.proofs.Common.{[], ◌∷◌, append-nil, ap, arith}
 use Rattle.std.proofs.lemmas.Result.{on_ok_weaker, on_err_weaker}
 use Rattle.bus_watch.specs.PairShown.{shown_pair}
-use Rattle.bus_watch.specs.Pairs.{SeesPairs, seen_after_pairs}
+use Rattle.bus_watch.specs.Pairs.{AdvancesPairs, seen_after_pairs}
 use Rattle.bus_watch.proofs.PairFedLemmas.{fed-offered, refused-offered}
 use Rattle.bus_watch.proofs.pair.analyser.PairAnalyser.feed_pair.Given.{Over}
 use Rattle.bus_watch.proofs.pair.analyser.PairAnalyser.feed_pair.Goals as goal
 
-sees : (g : Over) (c : goal.After-offer_both g) → SeesPairs g.C.Check.check c.args.self.now
+sees : (g : Over) (c : goal.After-offer_both g) → AdvancesPairs g.C.Check.check c.args.self.now
     (c.args.pair ∷ []) (shown_pair c.lent.result) c.advance.new.self
 sees g c = rw (c.lent.ensures.shown) c.in-Ok.ensures.sees
 

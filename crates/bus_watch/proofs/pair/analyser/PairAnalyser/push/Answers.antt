@@ -1,13 +1,13 @@
 use Rattle.std.proofs.Common.{Bool, [], ◌∷◌, refl}
 use Rattle.bus_watch.specs.PairShown.{shown_pair}
-use Rattle.bus_watch.specs.Pairs.{SeesPairs}
+use Rattle.bus_watch.specs.Pairs.{AdvancesPairs}
 use Rattle.bus_watch.proofs.PairLemmas.{answer-pair}
 use Rattle.bus_watch.proofs.pair.analyser.PairAnalyser.push.Goals as goal
 
 pub returns : goal.returns
 returns g c =
     let pair : Bool × Bool = (c.args.first, c.args.second) in
-    let sees : SeesPairs g.C.Check.check c.args.self.now (pair ∷ []) (shown_pair c.lent.result) c.advance.new.self =
+    let sees : AdvancesPairs g.C.Check.check c.args.self.now (pair ∷ []) (shown_pair c.lent.result) c.advance.new.self =
     rw (c.lent.ensures.shown) c.in_ok-found.ensures.sees in (
       (refl, (λ _. tt), (sees, tt)),
       record {

@@ -1,7 +1,7 @@
 use Rattle.std.proofs.Common.{◌≡◌, ◌+◌, ◌-◌, ◌*◌, ◌^◌, ℕ, min, zip, ◌∙◌, subst, arith}
 use Rattle.bus_bits.specs.Bits.{bits_from}
 use Rattle.bus_bits.proofs.OctetLemmas.{least}
-use Rattle.bus_watch.specs.Watch.{LeadsTold}
+use Rattle.bus_watch.specs.Watch.{AdvancesWatchShown}
 use Rattle.bus_watch.specs.Pairs.{two_lines}
 use Rattle.bus_watch.proofs.PairScanLemmas.{leads-further, leads-nowhere, length-zipped, zip-met}
 use Rattle.bus_watch.proofs.pair.analyser.PairAnalyser.scan.Goals as goal
@@ -44,7 +44,7 @@ loop-at-preserved g c =
     record {
       within = scanned.ensures.within.1;
       told =
-          subst (λ (k : ℕ). LeadsTold (two_lines g.C.Check.check) c.args.self.now
+          subst (λ (k : ℕ). AdvancesWatchShown (two_lines g.C.Check.check) c.args.self.now
           (zip (bits_from c.args.first.now 0 k) (bits_from c.args.second.now 0 k)) scanned.new.self
           (λ ss. g.L.ReportObserver.observes c.args.self.now.conversation.dictionary c.args.observer.now c.args.out.now
           ss

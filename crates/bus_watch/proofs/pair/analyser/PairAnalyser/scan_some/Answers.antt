@@ -8,7 +8,7 @@ use Rattle.bus_pairing.specs.Seen.{SeenReport}
 use Rattle.bus_watch.specs.Internal.Decodes.{newest, told_on}
 use Rattle.bus_watch.specs.Internal.PairView.{pair_state}
 use Rattle.bus_watch.specs.Pairs.{PairState, two_lines}
-use Rattle.bus_watch.specs.Watch.{LeadsTold}
+use Rattle.bus_watch.specs.Watch.{AdvancesWatchShown}
 use Rattle.bus_pairing.specs.declared.line.Line.TheVariants.{Second}
 use Rattle.bus_watch.proofs.DecodesLemmas.{keeps_up-room}
 use Rattle.bus_watch.proofs.PairScanLemmas.{leads-scanned, pairs-keep_up}
@@ -98,7 +98,7 @@ pairs-taken g c =
 
 leads-on : (g : Over) (c : goal.After-show g) (told : List SeenReport → Type 0) →
     told (c.observe_bits.ensures.observes.seen_now ++ option_to_list (last-seen g c))
-    → LeadsTold (two_lines g.C.Check.check) (pair_state c.self.inside) (pairs-taken g c) (next-state g c) told
+    → AdvancesWatchShown (two_lines g.C.Check.check) (pair_state c.self.inside) (pairs-taken g c) (next-state g c) told
 leads-on g c told all_told =
     let n = c.in-Ok.scanned.count in
     let all : c.args.from + n - c.args.from ≡ n = omega arith in
@@ -129,7 +129,8 @@ returns-clause-told g c =
     let told : g.L.ReportObserver.observes c.self.inside.conversation.dictionary c.observe_bits.new.observer
     c.observe_bits.new.out (option_to_list last) c.show.new.observer c.show.new.out =
     rw (← dictionary, ← found, ← c.octets.ensures.value) c.show.ensures.observed in
-    subst (λ (a : PairState g.row.C.Denot). LeadsTold (two_lines g.C.Check.check) a (pairs-taken g c) (next-state g c)
+    subst (λ (a : PairState g.row.C.Denot). AdvancesWatchShown (two_lines g.C.Check.check) a (pairs-taken g c)
+    (next-state g c)
     (λ ss. g.L.ReportObserver.observes a.conversation.dictionary c.args.observer.now c.args.out.now ss
     c.show.new.observer
     c.show.new.out)) c.self.view_is
