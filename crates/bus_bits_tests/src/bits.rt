@@ -369,7 +369,7 @@ fn whole_octets_are_taken(rt: HostRuntime) {
     same(&rt, packed.whole(3), 3, "whole octets in three");
     same(&rt, packed.whole(8), 7, "whole octets in eight");
     assert!(rt; packed.left() >= 56, "seven octets");
-    packed.take_all(&[0x7e, 0x10, 0x83, 0x00, 0x7d, 0xcb, 0xfd]);
+    packed.consume_octets(&[0x7e, 0x10, 0x83, 0x00, 0x7d, 0xcb, 0xfd]);
     same(&rt, packed.left(), 1, "bits left");
     same(&rt, packed.whole(1), 0, "whole octets in one");
     same(

@@ -334,7 +334,7 @@ fn sixteen_octets_are_parted(rt: HostRuntime) {
     same(&rt, packed.whole(15), 0, "whole octets in 15");
     same(&rt, packed.whole(40), 16, "whole octets in 40");
     if packed.left() >= 64 {
-        packed.take_all(&octets, &mut first, &mut second);
+        packed.unpack_octets(&octets, &mut first, &mut second);
     }
     same(
         &rt,

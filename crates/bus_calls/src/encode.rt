@@ -37,6 +37,6 @@ pub fn encode_frames<R: Read, W: Write>(reads: u64, r: &mut R, w: &mut W) -> Res
     ensures known { IfSome (R.remaining r.old) (λ all. EncodesAll (W.contents w.old) (W.contents w.new) all result) }
 {
     let mut reader = LineReader::new();
-    let ending = reader.take_input(reads, r, w);
+    let ending = reader.read_to_end(reads, r, w);
     reader.flush(ending, w)
 }

@@ -200,7 +200,7 @@ impl<C: Check> CaptureKind for Analyser<C> {
         Self::laws();
         let count = body.whole(octets.len());
         let whole = &octets[..count];
-        body.take_all(whole);
+        body.consume_octets(whole);
         analyse_bits(whole, 8 * whole.len(), run, w)?;
         Ok(count)
     }

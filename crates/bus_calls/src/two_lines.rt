@@ -173,7 +173,7 @@ impl<C: Check> CaptureKind for PairAnalyser<C> {
         let whole = &octets[..count];
         let mut first = [0; BLOCK];
         let mut second = [0; BLOCK];
-        body.take_all(whole, &mut first, &mut second);
+        body.unpack_octets(whole, &mut first, &mut second);
         analyse_pairs(&first, &second, 4 * whole.len(), run, w)?;
         Ok(count)
     }

@@ -100,7 +100,7 @@ fn enter(conversation: &mut Conversation, line: Line, event: Option<Event>, octe
     match event {
         None => false,
         Some(event) => {
-            conversation.take(Some(line), event, octets);
+            conversation.add_report(Some(line), event, octets);
             true
         }
     }

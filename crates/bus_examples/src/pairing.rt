@@ -56,7 +56,7 @@ pub fn pair_reports(conversation: &mut Conversation, reports: &[Received]) -> Re
         if !conversation.has_room() {
             return Err(PairFault::NoRoom { taken });
         }
-        conversation.take(report.line, report.event, &report.octets);
+        conversation.add_report(report.line, report.event, &report.octets);
     }
     Ok(())
 }

@@ -23,12 +23,12 @@ ghost use Rattle.bus_line.specs.Ledger.{stored_open, IsLedger};
 ghost use Rattle.bus_bits.specs.Bits.{bits_from};
 ghost use Rattle.bus_bits.specs.Octet.{bits_of};
 
+use crate::consumed::Consumed;
 use crate::decoder_words::{DecoderWords, NEVER};
 use crate::event::Event;
 use crate::fault::LineFault;
 use crate::piece::Piece;
 use crate::place_limit::PlaceLimit;
-use crate::scanned::Scanned;
 use arrayvec::ArrayVec;
 use bus_bits::Spent;
 use bus_fcs::Check;
@@ -95,7 +95,7 @@ impl<C: Check> LineDecoder<C> {
     /// It stops in front of a bit whose place would be 2^60, and refuses as [`PlaceLimit`], with nothing changed, where
     /// that is the first. `end` is at most eight times the number of octets.
     #[inline(always)]
-    pub fn scan(&mut self, octets: &[u8], at: usize, end: usize) -> Result<Scanned, PlaceLimit>
+    pub fn scan(&mut self, octets: &[u8], at: usize, end: usize) -> Result<Consumed, PlaceLimit>
         requires some { at < end }
         requires enough { end ≤ 8 * length octets.now }
         ensures limit { IsErr result ↔ (most_places ≤ self.old.place) }

@@ -27,6 +27,7 @@
 
 mod bit_sink;
 mod cause;
+mod consumed;
 mod decoder;
 mod decoder_words;
 mod encoder;
@@ -38,13 +39,13 @@ pub mod laws;
 mod owned_piece;
 mod piece;
 mod place_limit;
-mod scanned;
 mod sink_refused;
 mod whole;
 
 pub use bit_sink::BitSink;
 pub use bus_bits::Span;
 pub use cause::Cause;
+pub use consumed::Consumed;
 pub use decoder::LineDecoder;
 pub use decoder_words::DecoderWords;
 pub use encoder::LineEncoder;
@@ -54,6 +55,5 @@ pub use frame_buffer::FrameBuffer;
 pub use owned_piece::OwnedPiece;
 pub use piece::Piece;
 pub use place_limit::PlaceLimit;
-pub use scanned::Scanned;
 pub use sink_refused::SinkRefused;
 pub use whole::reports_whole;

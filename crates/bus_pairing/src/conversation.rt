@@ -91,7 +91,7 @@ impl Conversation {
     ///
     /// A frame has 4 to 258 octets, and the counters have room for one report more: [`Conversation::has_room`].
     #[inline(never)]
-    pub fn take(&mut self, line: Option<Line>, event: Event, octets: &[u8])
+    pub fn add_report(&mut self, line: Option<Line>, event: Event, octets: &[u8])
         requires whole { IsWhole event.kind octets.now }
         requires fits { length octets.now ≤ most_octets }
         requires room { HasRoom self.old }

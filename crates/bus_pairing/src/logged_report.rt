@@ -48,7 +48,7 @@ fn copied(span: Span, octets: &[u8]) -> Kept
     ensures octets { result.octets.items ≡ octets.now }
 {
     let mut kept = Kept::blank();
-    kept.put(span, octets, &mut Spent::zero());
+    kept.copy_frame(span, octets, &mut Spent::zero());
     kept
 }
 

@@ -38,7 +38,7 @@ impl Pairing {
 
     /// Takes a report of a line, a frame with these octets, and returns what follows from it. `line` is `None`
     /// where there is one line.
-    pub fn take<R: Rules>(
+    pub fn pair<R: Rules>(
         &mut self,
         rules: &R,
         line: Option<Line>,

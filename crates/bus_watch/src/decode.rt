@@ -20,7 +20,7 @@ use bus_bits::Span;
 use bus_dictionary::Dictionary;
 use bus_fcs::Check;
 use bus_line::laws::{frame_is_spelled, reports_are, settled_places};
-use bus_line::{Event, LineDecoder, PlaceLimit, Scanned};
+use bus_line::{Consumed, Event, LineDecoder, PlaceLimit};
 use bus_pairing::{Conversation, Finding, Line, Seen};
 
 /// The conversation takes the event that the last bit of a line decided, if it decided one. `line` is `None` where
@@ -42,7 +42,7 @@ pub(crate) fn record<C: Check>(
     if let Some(event) = event {
         reports_are();
         frame_is_spelled();
-        conversation.take(line, event, decoder.octets());
+        conversation.add_report(line, event, decoder.octets());
     }
 }
 
@@ -115,7 +115,7 @@ pub(crate) fn observe_bits<C: Check, X, L: ReportObserver<X>>(
     settled_places();
     let mut at = from;
     while at < past {
-        let Scanned { count, event } = match decoder.scan(octets, at, past) {
+        let Consumed { count, event } = match decoder.scan(octets, at, past) {
             Ok(scanned) => scanned,
             Err(PlaceLimit) => unreachable!(),
         };

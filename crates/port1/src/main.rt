@@ -10,14 +10,14 @@ fn main(rt: HostRuntime) -> ExitCode {
     match start(&rt) {
         Ok(status) => ExitCode::from(status),
         Err(error) => {
-            tell(&rt, &error);
+            report(&rt, &error);
             ExitCode::from(2)
         }
     }
 }
 
 /// Tells why the program did not start; that this fails is ignored.
-fn tell(rt: &HostRuntime, error: &io::Error) {
+fn report(rt: &HostRuntime, error: &io::Error) {
     let _ = match error.kind() {
         ErrorKind::OutOfMemory => writeln!(rt.stderr(), "port1: {}", ToolFault::Memory),
         // Only `env::args` tells this, of a word that is no text.

@@ -68,7 +68,7 @@ pub extern "C" fn port1_pair_take(
         return BAD_ARGUMENT;
     };
     let mut pairing = pair.load();
-    let finding = pairing.take(&Table { entries }, line, event, octets);
+    let finding = pairing.pair(&Table { entries }, line, event, octets);
     *pair = Port1Pair::of(pairing);
     *seen = Port1Seen::of(&finding);
     OK

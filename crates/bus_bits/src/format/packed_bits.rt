@@ -71,7 +71,7 @@ impl PackedBits {
         }
         let bits = octet_bits(octet);
         if self.left >= 8 {
-            self.take_whole();
+            self.consume_octet();
             return Ok(ArrayVec::from(bits));
         }
         let used = self.left as usize;
@@ -95,7 +95,7 @@ impl PackedBits {
 
     /// Takes octets of which all eight bits are wanted, without giving these.
     #[inline(always)]
-    pub fn take_all(&mut self, octets: &[u8])
+    pub fn consume_octets(&mut self, octets: &[u8])
         requires { 8 * length octets.now ≤ self.old }
         ensures given { (n : ℕ) (xs : List ℕ) → PackedAfter n xs self.old →
             PackedAfter n (xs ++ octets.now) self.new
@@ -107,7 +107,7 @@ impl PackedBits {
     }
 
     /// Takes an octet of which all eight bits are wanted, without giving them.
-    fn take_whole(&mut self)
+    fn consume_octet(&mut self)
         requires { 8 ≤ self.old }
         ensures given { (n : ℕ) (xs : List ℕ) (octet : ℕ) → PackedAfter n xs self.old →
             PackedAfter n (xs ++ octet ∷ []) self.new

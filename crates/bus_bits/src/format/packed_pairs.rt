@@ -95,7 +95,7 @@ impl PackedPairs {
     /// Takes sixteens of octets of which all pairs are wanted, and parts them: the first line's bits are then those of
     /// one block and the second line's those of another, each in octets whose lowest bit is the first.
     #[inline(always)]
-    pub fn take_all(&mut self, octets: &[u8], first: &mut [u8], second: &mut [u8])
+    pub fn unpack_octets(&mut self, octets: &[u8], first: &mut [u8], second: &mut [u8])
         requires wanted { 4 * length octets.now ≤ self.old }
         requires sixteens { length octets.now % 16 ≡ 0 }
         requires room { (length octets.now ≤ 2 * length first.old) × (length octets.now ≤ 2 * length second.old) }

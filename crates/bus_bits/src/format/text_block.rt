@@ -150,8 +150,8 @@ fn pack_sixty_four(text: &[u8], block: &mut [u8], packing: Packing) -> Packing
     if marks.bits != u64::MAX {
         return packing;
     }
-    let half = put_bits(block, marks.ones & 0xffff_ffff, 32, packing);
-    put_bits(block, marks.ones >> 32, 32, half)
+    let half = append_bits(block, marks.ones & 0xffff_ffff, 32, packing);
+    append_bits(block, marks.ones >> 32, 32, half)
 }
 
 /// Packs the bits before the first of the next sixteen octets that is none.
@@ -171,10 +171,10 @@ fn pack_sixteen(text: &[u8], block: &mut [u8], packing: Packing) -> Packing
     };
     let marks = marks_of_sixteen(front);
     if marks.bits == 0xffff {
-        return put_bits(block, marks.ones, 16, packing);
+        return append_bits(block, marks.ones, 16, packing);
     }
     let count = marks.bits.trailing_ones();
-    put_bits(block, marks.ones & ((1 << count) - 1), count, packing)
+    append_bits(block, marks.ones & ((1 << count) - 1), count, packing)
 }
 
 /// Takes the next octets of the text that are skipped.
@@ -196,7 +196,7 @@ fn pass_spaces(text: &[u8], packing: Packing) -> Packing
 /// Puts the bits of as many octets of the text after those that a block has. Eight octets are stored, though fewer may
 /// be full.
 #[inline(always)]
-fn put_bits(block: &mut [u8], bits: u64, count: u32, packing: Packing) -> Packing
+fn append_bits(block: &mut [u8], bits: u64, count: u32, packing: Packing) -> Packing
     requires room { packing.filled + 8 ≤ length block.old }
     requires held { packing.held < 8 }
     requires rest { packing.rest < 2 ^ packing.held }

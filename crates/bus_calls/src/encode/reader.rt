@@ -94,7 +94,7 @@ impl LineReader {
     }
 
     /// Takes the next octet.
-    fn take_one<W: Write>(&mut self, octet: u8, w: &mut W) -> Result<(), ToolFault>
+    fn consume_octet<W: Write>(&mut self, octet: u8, w: &mut W) -> Result<(), ToolFault>
         requires few { self.old.written < 2 ^ 100 }
         requires lines { self.old.line.number < 2 ^ 100 }
         ensures taken { (start : Option (List ℕ)) (xs : List ℕ) →
@@ -115,7 +115,7 @@ impl LineReader {
     }
 
     /// Takes some octets, up to the first fault.
-    fn take_all<W: Write>(&mut self, octets: &[u8], w: &mut W) -> Result<(), ToolFault>
+    fn consume_octets<W: Write>(&mut self, octets: &[u8], w: &mut W) -> Result<(), ToolFault>
         requires few { self.old.written + 2493 * length octets.now < 2 ^ 100 }
         requires lines { self.old.line.number + length octets.now < 2 ^ 100 }
         ensures taken { (start : Option (List ℕ)) (xs : List ℕ) →
@@ -128,13 +128,13 @@ impl LineReader {
         ensures lines { self.new.line.number ≤ self.old.line.number + length octets.now }
     {
         for octet in octets {
-            self.take_one(*octet, w)?;
+            self.consume_octet(*octet, w)?;
         }
         Ok(())
     }
 
     /// Reads to the end or the first fault, by at most `reads` calls of the reader.
-    pub fn take_input<R: Read, W: Write>(
+    pub fn read_to_end<R: Read, W: Write>(
         &mut self,
         reads: u64,
         r: &mut R,
@@ -155,7 +155,7 @@ impl LineReader {
                 Ok(count) => count,
                 Err(_) => return Err(ToolFault::Read),
             };
-            self.take_all(&buffer[..count], w)?;
+            self.consume_octets(&buffer[..count], w)?;
         }
         Err(ToolFault::ReadsLimit)
     }

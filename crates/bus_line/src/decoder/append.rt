@@ -3,7 +3,7 @@
 ghost use Rattle.std.specs.Prelude.{◌≡◌, ◌+◌, ◌-◌, ◌*◌, ◌/◌, ◌≤◌, ◌<◌, ◌^◌, List, Bool, ◌++◌, length, ℕ};
 ghost use Rattle.bus_bits.specs.Octet.{bits_of, octets};
 
-use crate::decoder::settled::Data;
+use crate::decoder::settled::Bits;
 use crate::decoder_words::DecoderWords;
 use crate::frame_buffer::FrameBuffer;
 use bus_bits::Spent;
@@ -21,7 +21,7 @@ impl DecoderWords {
         &mut self,
         check: &mut C,
         frame: &mut F,
-        more: Data,
+        more: Bits,
     )
         requires sound { IsDecoder self.old (F.octets frame.old) }
         requires room { self.old.assembled + more.count ≤ self.old.place - self.old.origin }
@@ -36,7 +36,7 @@ impl DecoderWords {
         self.assembled += more.count;
         self.data_bits += more.count;
         self.partial = joined >> (8 * whole);
-        self.put(check, frame, joined, whole);
+        self.store(check, frame, joined, whole);
     }
 
     /// Empties the frame buffer, and begins its check, where no octet of the piece is there yet.
@@ -57,7 +57,7 @@ impl DecoderWords {
     /// Puts the lowest `count` octets of a number into the frame buffer and its check, as many as there is
     /// room for.
     #[inline(always)]
-    fn put<C: Check, F: FrameBuffer>(
+    fn store<C: Check, F: FrameBuffer>(
         &mut self,
         check: &mut C,
         frame: &mut F,

@@ -7,11 +7,11 @@ ghost use Rattle.bus_bits.specs.Bits.{bits_from};
 ghost use Rattle.bus_bits.specs.Limits.{most_places};
 ghost use Rattle.bus_bits.specs.Octet.{bits_of};
 
+use crate::consumed::Consumed;
 use crate::decoder::time_fill::{flags_end, ones_end};
 use crate::decoder_words::{DecoderWords, NEVER, PLACES};
 use crate::frame_buffer::FrameBuffer;
 use crate::place_limit::PlaceLimit;
-use crate::scanned::Scanned;
 use bus_bits::{seven_octets_at, word_at};
 use bus_fcs::Check;
 use std::cmp::min;
@@ -34,7 +34,7 @@ impl DecoderWords {
         octets: &[u8],
         at: usize,
         end: usize,
-    ) -> Result<Scanned, PlaceLimit>
+    ) -> Result<Consumed, PlaceLimit>
         requires sound { IsDecoder self.old (F.octets frame.old) }
         requires some { at < end }
         requires enough { end ≤ 8 * length octets.now }
@@ -63,7 +63,7 @@ impl DecoderWords {
         octets: &[u8],
         from: usize,
         end: usize,
-    ) -> Scanned
+    ) -> Consumed
         requires sound { IsDecoder self.old (F.octets frame.old) }
         requires bits { HasBits self.old octets.now from end }
         ensures count { (1 ≤ result.count) × (result.count ≤ end - from) }
@@ -77,13 +77,13 @@ impl DecoderWords {
             let scanned = self.scan_some(check, frame, octets, at, end);
             at += scanned.count;
             if scanned.event.is_some() {
-                return Scanned {
+                return Consumed {
                     count: at - from,
                     event: scanned.event,
                 };
             }
         }
-        Scanned {
+        Consumed {
             count: end - from,
             event: None,
         }
@@ -99,7 +99,7 @@ impl DecoderWords {
         octets: &[u8],
         from: usize,
         end: usize,
-    ) -> Scanned
+    ) -> Consumed
         requires sound { IsDecoder self.old (F.octets frame.old) }
         requires bits { HasBits self.old octets.now from end }
         ensures count { (1 ≤ result.count) × (result.count ≤ end - from) }
@@ -117,7 +117,7 @@ impl DecoderWords {
         if past == from {
             return self.advance(check, frame, word_at(octets, from, end));
         }
-        Scanned {
+        Consumed {
             count: past - from,
             event: None,
         }
@@ -143,7 +143,7 @@ impl DecoderWords {
         octets: &[u8],
         from: usize,
         end: usize,
-    ) -> Scanned
+    ) -> Consumed
         requires sound { IsDecoder self.old (F.octets frame.old) }
         requires long { from + 64 ≤ end }
         requires bits { HasBits self.old octets.now from end }
@@ -158,7 +158,7 @@ impl DecoderWords {
         } else {
             None
         };
-        Scanned {
+        Consumed {
             count: reached.count,
             event,
         }

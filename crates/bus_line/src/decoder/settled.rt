@@ -8,7 +8,7 @@ use crate::decoder::marked::Marked;
 
 /// Data bits, at most 56, the first lowest.
 #[derive(Clone, Copy)]
-pub(crate) struct Data {
+pub(crate) struct Bits {
     pub(crate) bits: u64,
     pub(crate) count: u64,
     ghost few: { count ≤ 56 },
@@ -18,7 +18,7 @@ pub(crate) struct Data {
 /// The data among the `count` bits after the eight lowest of the word: those that are no inserted
 /// 0 (ISO/IEC 13239, transparency).
 #[inline(always)]
-pub(crate) fn data_in_word(word: u64, count: u64) -> Data
+pub(crate) fn data_in_word(word: u64, count: u64) -> Bits
     requires { count ≤ 56 }
     ensures value { bits_of result.count result.bits ≡ data_in_word word count }
     ensures few { result.count ≤ count }
@@ -40,7 +40,7 @@ fn inserted_zeros(word: u64) -> u64
 
 /// So many bits without those marked as inserted, the first lowest.
 #[inline(always)]
-fn unstuffed(bits: u64, inserted: u64, count: u64) -> Data
+fn unstuffed(bits: u64, inserted: u64, count: u64) -> Bits
     requires few { count ≤ 56 }
     requires marked { inserted < 2 ^ count }
     ensures value { bits_of result.count result.bits ≡ kept bits inserted count }
@@ -50,7 +50,7 @@ fn unstuffed(bits: u64, inserted: u64, count: u64) -> Data
     while left.marks != 0 {
         left = left.without_lowest();
     }
-    Data {
+    Bits {
         bits: left.bits,
         count: left.count,
     }

@@ -6,13 +6,13 @@ ghost use Rattle.bus_bits.specs.Limits.{most_places};
 ghost use Rattle.bus_bits.specs.Octet.{bits_of};
 ghost use Rattle.bus_bits.specs.Word.{IsWordOf};
 
+use crate::consumed::Consumed;
 use crate::decoder::settled::data_in_word;
 use crate::decoder::stop::bits_before_stop;
 use crate::decoder_words::{DecoderWords, PLACES};
 use crate::event::Event;
 use crate::frame_buffer::FrameBuffer;
 use crate::place_limit::PlaceLimit;
-use crate::scanned::Scanned;
 use bus_bits::Word;
 use bus_fcs::Check;
 use std::cmp::min;
@@ -71,7 +71,7 @@ impl DecoderWords {
         check: &mut C,
         frame: &mut F,
         word: Word,
-    ) -> Scanned
+    ) -> Consumed
         requires sound { IsDecoder self.old (F.octets frame.old) }
         requires word { IsWordOf word.count word.bits }
         requires room { self.old.place + word.count ≤ most_places }
@@ -85,12 +85,12 @@ impl DecoderWords {
         let taken = min(before + 1, count);
         self.consume(check, frame, bits, u64::from(taken));
         if before == count {
-            return Scanned {
+            return Consumed {
                 count: count as usize,
                 event: None,
             };
         }
-        Scanned {
+        Consumed {
             count: taken as usize,
             event: self.decide(check),
         }

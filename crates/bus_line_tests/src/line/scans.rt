@@ -7,7 +7,7 @@ use super::text::push_report;
 use crate::expect::{holds, same};
 use bus_bits::bits_octet;
 use bus_fcs::OctetCheck;
-use bus_line::{LineDecoder, PlaceLimit, Scanned};
+use bus_line::{Consumed, LineDecoder, PlaceLimit};
 use std::alloc::Global;
 use std::process::Abort;
 
@@ -26,7 +26,7 @@ fn scan(
     octets: &[u8],
     at: usize,
     end: usize,
-) -> Result<Scanned, PlaceLimit> {
+) -> Result<Consumed, PlaceLimit> {
     assert!(rt;
         at < end && end / 8 <= octets.len() && octets.len() < 10_000,
         "bits of octets"
@@ -275,7 +275,7 @@ fn at_the_place_limit(rt: HostRuntime) {
         let answer = scan(&rt, &mut decoder, &[0; 16], 0, 128);
         let want = match room {
             0 => Err(PlaceLimit),
-            _ => Ok(Scanned {
+            _ => Ok(Consumed {
                 count: room.min(128) as usize,
                 event: None,
             }),

@@ -55,7 +55,7 @@ fn append(
     match ring.get_mut(place) {
         Some(frame) => {
             frame.line = line;
-            frame.kept.put(span, octets, spent);
+            frame.kept.copy_frame(span, octets, spent);
         }
         None => unreachable!(),
     }

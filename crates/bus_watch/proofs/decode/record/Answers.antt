@@ -12,8 +12,8 @@ use Rattle.bus_watch.proofs.AfterLemmas.{decodes-some}
 use Rattle.bus_watch.proofs.AnalyserViewLemmas.{whole}
 use Rattle.bus_watch.proofs.decode.record.Goals as goal
 
-pub take-requires-clause-whole : goal.take-requires-clause-whole
-take-requires-clause-whole g c =
+pub add_report-requires-clause-whole : goal.add_report-requires-clause-whole
+add_report-requires-clause-whole g c =
     let decided = c.requires.decided in
     let d = c.args.decoder.now in
     let i = length decided.bits - 1 in
@@ -30,11 +30,11 @@ returns-in-Some g c = λ old bits advances.
     let line = c.args.line in
     let event = c.in-Some.event in
     let before = c.args.conversation.now in
-    let after = c.take.new.self in
+    let after = c.add_report.new.self in
     let enters = subst
     (λ (os : List ℕ). AdvancesConversation before (line_report line (reported os event))
     (found_on line os after.last) after)
-    c.octets.ensures.value c.take.ensures.enters in
+    c.octets.ensures.value c.add_report.ensures.enters in
     let decides = subst (λ o. Advances view old bits (option_map (reported d.octets) o) d) c.in-Some.is advances in
     rw (c.in-Some.is)
     (decodes-some view line old d before after bits (reported d.octets event) (told_on line d.octets true after.last)

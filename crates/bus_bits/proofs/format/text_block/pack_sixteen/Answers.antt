@@ -19,7 +19,7 @@ returns-then-marks-eq65535-clause-packed c =
     let os : List ℕ = take (length text - p.taken) (drop p.taken text) in
     let front = c.in-Some.front.now in
     let marks = c.marks_of_sixteen-marks in
-    let put = c.put_bits in
+    let put = c.append_bits in
     let chunk = c.in-Some.ensures.cases in
     packed-more text c.args.block.now put.new.block p put.result 16 (bits_of 16 marks.result.ones) c.requires.packed
     put.ensures.taken chunk.enough
@@ -35,8 +35,8 @@ ones-most : (n : ℕ) → n < 2 ^ 16 → trailing_ones w64 n ≤ 16
 ones-most n small =
     ones-few n (trailing_ones w64 n) small (bit_at-trailing_ones w64 n (omega (arith, small))).2
 
-pub put_bits-requires-2-clause-few : goal.put_bits-requires-2-clause-few
-put_bits-requires-2-clause-few c =
+pub append_bits-requires-2-clause-few : goal.append_bits-requires-2-clause-few
+append_bits-requires-2-clause-few c =
     let marks = c.marks_of_sixteen-marks in
     omega (arith, c.trailing_ones-count.ensures, ones-most marks.result.bits marks.ensures.few.1)
 
@@ -48,7 +48,7 @@ returns-clause-packed c =
     let front = c.in-Some.front.now in
     let marks = c.marks_of_sixteen-marks in
     let count = c.trailing_ones-count.result in
-    let put = c.put_bits-2 in
+    let put = c.append_bits-2 in
     let chunk = c.in-Some.ensures.cases in
     let ones = bit_at-trailing_ones w64 marks.result.bits (omega (arith, marks.ensures.few.1)) in
     let each : (i : ℕ) → i < count → bit_at marks.result.bits i ≡ 1 =
@@ -73,8 +73,8 @@ returns-clause-room c =
       arith,
       c.trailing_ones-count.ensures,
       ones-most marks.result.bits marks.ensures.few.1,
-      c.put_bits-2.ensures.count,
-      c.put_bits-2.ensures.held,
+      c.append_bits-2.ensures.count,
+      c.append_bits-2.ensures.held,
       c.requires.packed.few,
     )
 
@@ -86,7 +86,7 @@ returns-clause-most c = λ none.
     let chunk = c.in-Some.ensures.cases in
     let ones = bit_at-trailing_ones w64 marks.result.bits (omega (arith, marks.ensures.few.1)) in
     let count : trailing_ones w64 marks.result.bits ≡ 0 =
-    omega (arith, none, c.put_bits-2.ensures.taken, c.trailing_ones-count.ensures) in
+    omega (arith, none, c.append_bits-2.ensures.taken, c.trailing_ones-count.ensures) in
     let some : p.taken < length text =
     omega (arith, chunk.enough, length-take (length text - p.taken) (drop p.taken text), length-drop p.taken text) in
     inr (ap (λ n. is_bit (slice_index text n)) none

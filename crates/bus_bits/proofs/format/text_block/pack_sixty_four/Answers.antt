@@ -13,8 +13,8 @@ returns-clause-packed c =
     let os : List ℕ = take (length text - p.taken) (drop p.taken text) in
     let front = c.in-Some.front.now in
     let marks = c.marks_of_sixty_four-marks in
-    let half = c.put_bits-half in
-    let put = c.put_bits in
+    let half = c.append_bits-half in
+    let put = c.append_bits in
     let chunk = c.in-Some.ensures.cases in
     packed-more text c.args.block.now put.new.block p put.result 64 (bits_of 64 marks.result.ones) c.requires.packed
     (omega (arith, half.ensures.taken, put.ensures.taken)) chunk.enough

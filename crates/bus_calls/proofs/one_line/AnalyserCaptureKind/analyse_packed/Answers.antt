@@ -18,13 +18,14 @@ returns-in_err-analyse_bits-clause-taken g c =
     let b = (kind.form.packed xs).bits in
     let read = octets-read packed_capture packed_body head_fault PackedAfter
     (λ head zs long. (c.packed_is_head_and_body.ensures.headed head zs long).0)
-    c.args.body.now c.take_all.new.self xs whole (bits_from whole 0 (8 * length whole)) c.take_all.ensures.given
+    c.args.body.now c.consume_octets.new.self xs whole (bits_from whole 0
+    (8 * length whole)) c.consume_octets.ensures.given
     followed.read in
     let fits = followed-fits kind c.laws.ensures start _ c.args.run.now b c.requires followed.bits.bits in
     let low : kind.watch.origin c.analyse_bits.new.run.analyser ≤ 2 ^ 60 =
     omega (arith, fits, c.analyse_bits.ensures.same.origin) in (
       count,
-      octets-taken kind start _ c.analyse_bits.new.run (xs ++ whole) c.take_all.new.self
+      octets-taken kind start _ c.analyse_bits.new.run (xs ++ whole) c.consume_octets.new.self
           (b ++ bits_from whole 0 (8 * length whole)) (Err c.in_err-analyse_bits.field-0.0) low read.0 read.1
           (c.in_err-analyse_bits.ensures.taken start b followed.bits),
     ))
@@ -36,11 +37,12 @@ returns-clause-taken g c = λ start xs followed.
     let b = (kind.form.packed xs).bits in
     let read = octets-read packed_capture packed_body head_fault PackedAfter
     (λ head zs long. (c.packed_is_head_and_body.ensures.headed head zs long).0)
-    c.args.body.now c.take_all.new.self xs whole (bits_from whole 0 (8 * length whole)) c.take_all.ensures.given
+    c.args.body.now c.consume_octets.new.self xs whole (bits_from whole 0
+    (8 * length whole)) c.consume_octets.ensures.given
     followed.read in
     let fits = followed-fits kind c.laws.ensures start _ c.args.run.now b c.requires followed.bits.bits in
     let low : kind.watch.origin c.analyse_bits.new.run.analyser ≤ 2 ^ 60 =
     omega (arith, fits, c.analyse_bits.ensures.same.origin) in
-    octets-taken kind start _ c.analyse_bits.new.run (xs ++ whole) c.take_all.new.self
+    octets-taken kind start _ c.analyse_bits.new.run (xs ++ whole) c.consume_octets.new.self
     (b ++ bits_from whole 0 (8 * length whole)) (Ok tt) low read.0 read.1
     (c.in_ok-analyse_bits.ensures.taken start b followed.bits)

@@ -10,8 +10,8 @@ use Rattle.bus_calls.proofs.HeadedLemmas.{octets-read}
 use Rattle.bus_calls.proofs.SessionsPackedLemmas.{octets-taken}
 use Rattle.bus_calls.proofs.two_lines.PairAnalyserCaptureKind.analyse_packed.Goals as goal
 
-pub take_all-requires-clause-sixteens : goal.take_all-requires-clause-sixteens
-take_all-requires-clause-sixteens g c =
+pub unpack_octets-requires-clause-sixteens : goal.unpack_octets-requires-clause-sixteens
+unpack_octets-requires-clause-sixteens g c =
     let count = c.whole-count.result in
     omega (
       arith,
@@ -30,16 +30,16 @@ returns-in_err-analyse_pairs-clause-taken g c =
     let count = c.whole-count.result in
     let whole = take count c.args.octets.now in
     let b = (kind.form.packed xs).bits in
-    let ps = zip (bits_from c.take_all.new.first 0 (4 * length whole))
-    (bits_from c.take_all.new.second 0 (4 * length whole)) in
+    let ps = zip (bits_from c.unpack_octets.new.first 0 (4 * length whole))
+    (bits_from c.unpack_octets.new.second 0 (4 * length whole)) in
     let read = octets-read packed_pair_capture pair_body pair_head_fault PairsAfter
     (λ head zs wide. (c.pairs_are_head_and_body.ensures.headed head zs wide).0)
-    c.args.body.now c.take_all.new.self xs whole ps c.take_all.ensures.given followed.read in
+    c.args.body.now c.unpack_octets.new.self xs whole ps c.unpack_octets.ensures.given followed.read in
     let fits = followed-fits kind c.laws.ensures start _ c.args.run.now b c.requires followed.bits.bits in
     let low : kind.watch.origin c.analyse_pairs.new.run.analyser ≤ 2 ^ 60 =
     omega (arith, fits, c.analyse_pairs.ensures.same.origin) in (
       count,
-      octets-taken kind start _ c.analyse_pairs.new.run (xs ++ whole) c.take_all.new.self (b ++ ps)
+      octets-taken kind start _ c.analyse_pairs.new.run (xs ++ whole) c.unpack_octets.new.self (b ++ ps)
           (Err c.in_err-analyse_pairs.field-0.0) low read.0 read.1
           (c.in_err-analyse_pairs.ensures.taken start b followed.bits),
     ))
@@ -50,14 +50,15 @@ returns-clause-taken g c = λ start xs followed.
     let count = c.whole-count.result in
     let whole = take count c.args.octets.now in
     let b = (kind.form.packed xs).bits in
-    let ps = zip (bits_from c.take_all.new.first 0 (4 * length whole))
-    (bits_from c.take_all.new.second 0 (4 * length whole)) in
+    let ps = zip (bits_from c.unpack_octets.new.first 0 (4 * length whole))
+    (bits_from c.unpack_octets.new.second 0 (4 * length whole)) in
     let read = octets-read packed_pair_capture pair_body pair_head_fault PairsAfter
     (λ head zs wide. (c.pairs_are_head_and_body.ensures.headed head zs wide).0)
-    c.args.body.now c.take_all.new.self xs whole ps c.take_all.ensures.given followed.read in
+    c.args.body.now c.unpack_octets.new.self xs whole ps c.unpack_octets.ensures.given followed.read in
     let fits = followed-fits kind c.laws.ensures start _ c.args.run.now b c.requires followed.bits.bits in
     let low : kind.watch.origin c.analyse_pairs.new.run.analyser ≤ 2 ^ 60 =
     omega (arith, fits, c.analyse_pairs.ensures.same.origin) in
-    octets-taken kind start _ c.analyse_pairs.new.run (xs ++ whole) c.take_all.new.self (b ++ ps) (Ok tt) low read.0
+    octets-taken kind start _ c.analyse_pairs.new.run (xs ++ whole) c.unpack_octets.new.self (b ++ ps)
+    (Ok tt) low read.0
     read.1
     (c.in_ok-analyse_pairs.ensures.taken start b followed.bits)

@@ -7,7 +7,7 @@ use Rattle.bus_pairing.proofs.conversation.keep.append.Goals as goal
 pub returns-clause-items : goal.returns-clause-items
 returns-clause-items c =
     let ring = c.args.ring.now in
-    let frame : PairKept = record { line = c.args.line; kept = c.put.new.self } in
+    let frame : PairKept = record { line = c.args.line; kept = c.copy_frame.new.self } in
     let shown : KeptFrame = record { line = c.args.line; span = c.args.span; octets = c.args.octets.now } in
-    let is : kept_pair frame ≡ shown = rw (c.put.ensures.span, c.put.ensures.octets) refl in
+    let is : kept_pair frame ≡ shown = rw (c.copy_frame.ensures.span, c.copy_frame.ensures.octets) refl in
     ap (map kept_pair) (c.next_place-place.ensures.items frame) ∙ keep-frame ring.capacity ring.items frame shown is

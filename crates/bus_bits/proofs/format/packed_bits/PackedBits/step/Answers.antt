@@ -48,5 +48,5 @@ returns-clause-given c =
 pub returns-then-self-ge8-clause-given : goal.returns-then-self-ge8-clause-given
 returns-then-self-ge8-clause-given c =
     λ n xs before.
-    let taken = c.take_whole.ensures.given n xs c.args.octet before in
+    let taken = c.consume_octet.ensures.given n xs c.args.octet before in
     (taken.0, taken.1 ∙ rw (c.from.ensures.0, c.octet_bits-bits.ensures) refl)

@@ -1,7 +1,7 @@
 use Rattle.std.proofs.Common.{◌+◌, ◌-◌, ◌++◌, ℕ, List, length, take, ap, ◌∙◌, arith}
 use Rattle.std.proofs.lemmas.Slice.{take-put_mid}
 use Rattle.bus_bits.proofs.TextBlockLemmas.{joined-is, put-bits, rest-small}
-use Rattle.bus_bits.proofs.format.text_block.put_bits.Goals as goal
+use Rattle.bus_bits.proofs.format.text_block.append_bits.Goals as goal
 
 pub returns-clause-bits : goal.returns-clause-bits
 returns-clause-bits c =

@@ -1,7 +1,7 @@
 use Rattle.std.proofs.Common.{◌≡◌, ◌-◌, ◌∷◌, [], ◌++◌, arith, subst}
 use Rattle.bus_bits.specs.Packed.{PackedAfter}
 use Rattle.bus_bits.proofs.PackedLemmas.{whole-taken}
-use Rattle.bus_bits.proofs.format.packed_bits.PackedBits.take_whole.Goals as goal
+use Rattle.bus_bits.proofs.format.packed_bits.PackedBits.consume_octet.Goals as goal
 
 pub returns : goal.returns
 returns c = record {

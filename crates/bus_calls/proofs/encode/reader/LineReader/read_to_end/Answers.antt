@@ -4,7 +4,7 @@ use Rattle.bus_calls.specs.Lines.{ended_lines}
 use Rattle.bus_calls.specs.Encode.{asked_behind, asked_so_far}
 use Rattle.bus_text.proofs.KnownBytesLemmas.{consumes_nothing, consumes_both, consumes_end, consumes_kept, longer}
 use Rattle.bus_calls.proofs.EncodeStateLemmas.{end_finishes, halts_finishes, clean_so_far}
-use Rattle.bus_calls.proofs.encode.reader.LineReader.take_input.Goals as goal
+use Rattle.bus_calls.proofs.encode.reader.LineReader.read_to_end.Goals as goal
 
 pub loop-turn-init : goal.loop-turn-init
 loop-turn-init g c = record {
@@ -33,8 +33,8 @@ returns-in-Err g c =
     let before = c.loop-turn.invariant.taken in
     (before.0, consumes_kept _ _ _ _ before.1 c.in-Err.ensures.bytes, clean_so_far _ _ _ _ _ _ before.0 before.2)
 
-pub returns-in_err-take_all : goal.returns-in_err-take_all
-returns-in_err-take_all g c =
+pub returns-in_err-consume_octets : goal.returns-in_err-consume_octets
+returns-in_err-consume_octets g c =
     let raised = err_from_is_err_and c.from_residual.result c.from_residual.ensures.1 in
     let before = c.loop-turn.invariant.taken in
     let start = g.W.Write.contents c.args.w.now in
@@ -42,9 +42,9 @@ returns-in_err-take_all g c =
     rw (raised.1, raised.2) (
       xs,
       consumes_both _ _ _ before.0 _ before.1 c.in-Ok.ensures.bytes.0,
-      halts_finishes c.args.reads (g.R.Read.remaining c.read.new.self) start (g.W.Write.contents c.take_all.new.w)
-          c.take_all.new.self.written xs (asked_so_far xs) c.in_err-take_all.field-0.0 (inl refl)
-          (c.in_err-take_all.ensures.taken start before.0 before.2),
+      halts_finishes c.args.reads (g.R.Read.remaining c.read.new.self) start (g.W.Write.contents c.consume_octets.new.w)
+          c.consume_octets.new.self.written xs (asked_so_far xs) c.in_err-consume_octets.field-0.0 (inl refl)
+          (c.in_err-consume_octets.ensures.taken start before.0 before.2),
     )
 
 pub loop-turn-preserved : goal.loop-turn-preserved
@@ -55,7 +55,7 @@ loop-turn-preserved g c =
       taken = (
         _,
         consumes_both _ _ _ before.0 _ before.1 c.in-Ok.ensures.bytes.0,
-        c.in_ok-take_all.ensures.taken (g.W.Write.contents c.args.w.now) before.0 before.2,
+        c.in_ok-consume_octets.ensures.taken (g.W.Write.contents c.args.w.now) before.0 before.2,
         longer before.0 c.read.new.buf c.in-Ok.count c.loop-turn._turn before.3 (search rules) (search rules),
       );
     }

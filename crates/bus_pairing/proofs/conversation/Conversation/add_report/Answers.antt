@@ -1,6 +1,6 @@
 use Rattle.std.proofs.Common.{rules}
 use Rattle.bus_pairing.proofs.ConversationLemmas.{enters, no-frame}
-use Rattle.bus_pairing.proofs.conversation.Conversation.take.Goals as goal
+use Rattle.bus_pairing.proofs.conversation.Conversation.add_report.Goals as goal
 
 pub returns-in-Frame : goal.returns-in-Frame
 returns-in-Frame c = record {

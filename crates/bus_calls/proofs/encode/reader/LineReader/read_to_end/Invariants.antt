@@ -1,7 +1,7 @@
 use Rattle.std.proofs.Common.{ℕ, ◌+◌, ◌*◌, ◌≤◌, List, length}
 use Rattle.std.specs.Io.KnownBytes.{Consumes}
 use Rattle.bus_calls.specs.Internal.EncodeState.{EncodedAfter}
-use Rattle.bus_calls.proofs.encode.reader.LineReader.take_input.Given as goal
+use Rattle.bus_calls.proofs.encode.reader.LineReader.read_to_end.Given as goal
 
 -- some octets were read, at least one a turn, and taken
 abbrev pub invariant-loop-turn : goal.invariant-loop-turn

@@ -1,6 +1,6 @@
 use Rattle.std.proofs.Common.{ℕ, ◌+◌, ◌*◌, ◌≤◌, List, ◌++◌, Option, take}
 use Rattle.bus_calls.specs.Internal.EncodeState.{EncodedAfter}
-use Rattle.bus_calls.proofs.encode.reader.LineReader.take_all.Given as goal
+use Rattle.bus_calls.proofs.encode.reader.LineReader.consume_octets.Given as goal
 
 -- the octets so far were taken
 abbrev pub invariant-loop-octet : goal.invariant-loop-octet

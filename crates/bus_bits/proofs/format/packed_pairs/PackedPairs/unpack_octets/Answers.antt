@@ -1,7 +1,7 @@
 use Rattle.std.proofs.Common.{◌≡◌, ◌-◌, ◌*◌, ◌++◌, length, arith, refl, ◌∙◌, subst}
 use Rattle.bus_bits.specs.Packed.{PairsAfter}
 use Rattle.bus_bits.proofs.PairsLemmas.{pairs-taken}
-use Rattle.bus_bits.proofs.format.packed_pairs.PackedPairs.take_all.Goals as goal
+use Rattle.bus_bits.proofs.format.packed_pairs.PackedPairs.unpack_octets.Goals as goal
 
 pub returns-clause-given : goal.returns-clause-given
 returns-clause-given c = λ n xs before.

@@ -4,7 +4,7 @@ use Rattle.bus_calls.specs.Lines.{ended_lines}
 use Rattle.bus_calls.specs.Encode.{asked_behind}
 use Rattle.bus_calls.specs.declared.encode.line.OpenLine.{OpenLine}
 use Rattle.bus_calls.proofs.EncodeStateLemmas.{not_lf, push_cases, lf_takes, lf_halts}
-use Rattle.bus_calls.proofs.encode.reader.LineReader.take_one.Goals as goal
+use Rattle.bus_calls.proofs.encode.reader.LineReader.consume_octet.Goals as goal
 
 pub returns-then-octet-ne10-clause-taken : goal.returns-then-octet-ne10-clause-taken
 returns-then-octet-ne10-clause-taken g c = λ start xs taken.

@@ -1,6 +1,6 @@
 use Rattle.std.proofs.Common.{◌≡◌, ◌+◌, ◌*◌, ◌/◌, ◌^◌, ◌++◌, List, ℕ}
 use Rattle.bus_line.specs.Internal.Settled.{low_octets}
-use Rattle.bus_line.proofs.decoder_words.DecoderWords.put.Given as goal
+use Rattle.bus_line.proofs.decoder_words.DecoderWords.store.Given as goal
 
 -- the octets so far are stored, folded, and counted
 abbrev pub invariant-loop : goal.invariant-loop

@@ -9,7 +9,7 @@ use Rattle.bus_bits.proofs.OctetLemmas.{least}
 use Rattle.bus_line.specs.Words.{state}
 use Rattle.bus_line.specs.Internal.Settled.{more_within, low_octets}
 use Rattle.bus_line.proofs.TracksAppendLemmas.{keeps-more, length-octets_of, octets-next}
-use Rattle.bus_line.proofs.decoder_words.DecoderWords.put.Goals as goal
+use Rattle.bus_line.proofs.decoder_words.DecoderWords.store.Goals as goal
 
 pub push-requires : goal.push-requires
 push-requires g c =

@@ -2,7 +2,7 @@ use Rattle.std.proofs.Common.{◌≡◌, ◌-◌, ◌*◌, ◌++◌, length, ari
 use Rattle.bus_bits.specs.Packed.{PackedAfter}
 use Rattle.bus_bits.proofs.PackedLemmas.{wholes-taken}
 use Rattle.bus_bits.proofs.WordLemmas.{bits-whole}
-use Rattle.bus_bits.proofs.format.packed_bits.PackedBits.take_all.Goals as goal
+use Rattle.bus_bits.proofs.format.packed_bits.PackedBits.consume_octets.Goals as goal
 
 pub returns : goal.returns
 returns c = record {
