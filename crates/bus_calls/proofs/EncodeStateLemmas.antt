@@ -264,25 +264,6 @@ clean_so_far start now line number e written xs taken =
     let calls = ended_calls xs taken.clean in
     (taken.clean, rw calls taken.done.out, rw calls taken.done.count)
 
--- ---- the flush
-
-pub flushed : (reads : ℕ) (after start now then : Option (List ℕ)) (written : ℕ) (xs : List ℕ)
-    (r : Result (Unit {0}) ToolFault) → Keeps now then → EncodeFinishes reads after start now written xs r →
-    Encodes reads after start then xs r
-flushed reads after start now then written xs (Ok u) kept ends =
-    (ends.0, ends.1, appends_kept start now then _ ends.2 kept)
-flushed reads after start now then written xs (Err Read) kept ends =
-    (ends.0, appends_kept start now then _ ends.1 kept)
-flushed reads after start now then written xs (Err ReadsLimit) kept ends =
-    (ends.0, ends.1, appends_kept start now then _ ends.2 kept)
-flushed reads after start now then written xs (Err (BadLine n)) kept ends =
-    (ends.0, ends.1, ends.2.0, appends_kept start now then _ ends.2.1 kept)
-flushed reads after start now then written xs (Err (FrameLength n)) kept ends =
-    (ends.0, ends.1, ends.2.0, appends_kept start now then _ ends.2.1 kept)
-flushed reads after start now then written xs (Err (Write n)) kept ends =
-    (ends.0, ends.1, ends.2.0, appends_kept start now then _ ends.2.1 kept)
-flushed reads after start now then written xs (Err _) kept ends = absurd ends.2
-
 -- a flush that fails kept all of the text that went out
 fails : (reads : ℕ) (after start now then : Option (List ℕ)) (written : ℕ) (xs : List ℕ) (a : Asked) → Asks after xs a
     → written ≡ length (encode_text a.calls) → Appends start now (encode_text a.calls) → Keeps now then

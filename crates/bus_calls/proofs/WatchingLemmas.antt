@@ -55,11 +55,6 @@ pub item-next : {X : Type 0} (b xs : List X) (i : ℕ) (x d : X) → i < length 
     (b ++ take i xs) ++ x ∷ [] ≡ b ++ take (i + 1) xs
 item-next b xs i x d inside is = grind (arith, common_steps)
 
--- the places of symbols that were taken
-pub below : (place : ℕ) → (2 ^ 60 < place → false ≡ true) → place ≤ 2 ^ 60
-below place never =
-    elim (cases_lt (2 ^ 60) place) [ inl over ↦ absurd (let wrong = never over in cc) | inr within ↦ within ]
-
 module _ {A R X B : Type 0} (t : KindView A R X B) where
   -- what is seen depends on dictionary and origin alone
   pub seen-same : (a c : A) (b : List X) → t.watch.dictionary c ≡ t.watch.dictionary a →
