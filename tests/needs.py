@@ -47,7 +47,6 @@ GATE = [
     Package("nodejs", ["node"]),
     Package("parallel", ["parallel"]),
     Package("pkg-config", ["pkg-config"]),
-    Package("python3-jsonschema", modules=["jsonschema"]),
     Package("python3-numpy", modules=["numpy"]),
     Package("python3-pytest", modules=["pytest"]),
     Package("python3-websocket", modules=["websocket"]),
@@ -72,7 +71,7 @@ BESIDE = [
 ]
 
 # The scripts that need a module of Python which is not Python's own.
-MODULES = {"check-dictionary": "jsonschema", "recording-to-bits": "numpy", "vcd-to-bits": "numpy"}
+MODULES = {"recording-to-bits": "numpy", "vcd-to-bits": "numpy"}
 
 LEAST_NODE = 20
 

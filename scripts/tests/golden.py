@@ -32,7 +32,7 @@ SHORT = 400
 MADE = 24
 
 MADE_LISTINGS = f"""
-import {{ madeListing }} from "{TOP}/page/tests/support/made_listing.js";
+import {{ madeListing }} from "{SCRIPTS}/modules/tests/support/made_listing.js";
 const texts = Array.from({{ length: {MADE} }}, (_, seed) => madeListing(seed + 1, seed % 2 === 0));
 process.stdout.write(JSON.stringify(texts));
 """

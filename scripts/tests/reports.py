@@ -40,7 +40,7 @@ RUNS = [
         [SCRIPT, f"--page={PAGE}", "--recording=/no/tap.sr", "title"],
         b"",
         b"",
-        f"{SCRIPT}: [Errno 2] No such file or directory: '/no/tap.sr'\n",
+        f"{SCRIPT}: ENOENT: no such file or directory, open '/no/tap.sr'\n",
         2,
     ),
 ]
@@ -125,7 +125,7 @@ def tells_of_the_recording(folder: Path) -> List[str]:
 def refuses_other_lines(_: Path) -> List[str]:
     """A line that is none of a listing is told, with its number."""
     got = ran([SCRIPT, f"--page={PAGE}", "A title"], b"0 15 idle\nport1: write failed\n")
-    told = f"{SCRIPT}: line 2 is no line of `port1 list`: 'port1: write failed'\n"
+    told = f"{SCRIPT}: line 2 is no line of `port1 list`: \"port1: write failed\"\n"
     return [] if (got.returncode, got.stderr.decode()) == (2, told) else [f"{got.returncode}: {got.stderr!r}"]
 
 

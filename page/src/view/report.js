@@ -1,12 +1,12 @@
-import { fixed } from "../statistics/numbers.js";
-import { counted } from "../statistics/units.js";
+import { fixed } from "../../../scripts/modules/statistics/numbers.js";
+import { counted } from "../../../scripts/modules/statistics/units.js";
 import { element, fillList, make } from "./dom.js";
 
 /** The columns that are bad where they are not 0, and those of a gap that is reported. */
 const BAD = new Set(["late", "missing", "spoilt"]);
 const OF_GAP = new Set(["longest", "from s"]);
 
-/** The table of stations and types. @param {import("../findings/findings.js").Finding[]} findings */
+/** The table of stations and types. @param {import("../../../scripts/modules/findings/findings.js").Finding[]} findings */
 export function showTable({ heads, rows }, findings) {
   const gaps = findings.filter(({ sort }) => sort === "gap").map(({ kind }) => kind);
   const head = make("tr");
