@@ -61,8 +61,10 @@ def spoilt_files(folder: Path) -> List[str]:
     for what, text, said in [
         ("not UTF-8", WINDOWS.replace("reply", "r\xe9ply"), ["8: not UTF-8"]),
         ("line ends", WINDOWS.replace("\n", "\r\n"), [f"1: port1 says: not TOML{windows}"]),
-        ("deep", deep, ["2: unknown key `x`", "1: port1 says: not TOML"]),
-        ("very deep", "x = " + "[" * 5000, ["1: not TOML: brackets too deep in one another"]),
+        ("deep", deep, ["2: not TOML: brackets too deep in one another (at line 2, column 85)"]),
+        ("very deep", "x = " + "[" * 5000, ["1: not TOML: brackets too deep in one another (at line 1, column 85)"]),
+        ("as port1 reads it", "\xef\xbb\xbf" + WINDOWS + "[[frame]]\ntype = 10\nname = \"a\"\nlength = 1\nbits = [{at = 1,\n"
+                              "name = \"b\",},]\n", []),
         ("long", long, ["1: port1 says: longer than the 131071 octets that Linux takes in one argument of a command"]),
         ("empty", "", ["1: there is no `version` and no `frame`", "1: port1 says: version is not 1 or 2"]),
         ("an option", "--help = 1", ["1: there is no `version` and no `frame`", "1: unknown key `--help`",

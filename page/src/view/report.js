@@ -1,4 +1,3 @@
-import { fixed } from "../../../scripts/modules/statistics/numbers.js";
 import { counted } from "../../../scripts/modules/statistics/units.js";
 import { element, fillList, make } from "./dom.js";
 
@@ -40,7 +39,7 @@ function cellOf(text, { name, isLeft }, hasGap) {
 /** The damage by its cause, and where most of it lies. */
 export function showDamage({ sentence, where, stretches }, count) {
   element("damage").textContent = sentence ? `${sentence} ${where}` : "Nothing is damaged.";
-  const told = stretches.map(({ text, pieces, share }) => `${text}: ${counted(pieces, "piece")}, ${fixed(share, 0)} % of all`);
+  const told = stretches.map(({ text, pieces, share }) => `${text}: ${counted(pieces, "piece")}, ${share.toFixed(0)} % of all`);
   fillList(element("stretches"), told);
   element("tab-damage").textContent = count > 0 ? `Damage (${count})` : "Damage";
 }

@@ -1,7 +1,5 @@
 import { Fault } from "../fault.js";
-import { closest } from "./closest.js";
 import { readDictionary } from "./dictionary.js";
-import { json, text as pythonText } from "./python.js";
 import { faultsBySchema } from "./schema.js";
 import { TomlFault, readToml } from "./toml.js";
 
@@ -27,9 +25,6 @@ const KINDS = {
 // How much of a value is shown.
 const SHOWN = 60;
 
-// How like a known key an unknown one is to be, from 0 to 1, for the known one to be named.
-const NEAR = 0.7;
-
 // What the reader says of a dictionary: of an entry, by its number, or of a frame type.
 const JUDGEMENT = /^dictionary: ((?:frame (\d+)|type (\d+)( twice)?)?.*)/;
 
@@ -50,13 +45,35 @@ function label(path) {
   return texts.map((text) => `${text}: `).join("");
 }
 
+/** A value as TOML writes it: 16.0 is no whole number. */
+function valueText(value) {
+  if (Array.isArray(value)) return `[${value.map(valueText).join(", ")}]`;
+  if (value instanceof Map) return `{${[...value].map(([key, inner]) => `${key} = ${valueText(inner)}`).join(", ")}}`;
+  if (typeof value === "string") return JSON.stringify(value);
+  return Number.isInteger(value) ? value.toFixed(1) : String(value);
+}
+
 function shown(value) {
-  const text = json(value);
+  const text = valueText(value);
   return text.length <= SHOWN ? text : `${text.slice(0, SHOWN)}..`;
 }
 
+/** How many letters are to be put in, left out or replaced to make one word another. */
+function editsBetween(one, other) {
+  let row = Array.from({ length: other.length + 1 }, (_, at) => at);
+  for (const letter of one) {
+    const next = [row[0] + 1];
+    for (let at = 0; at < other.length; at++) {
+      next.push(Math.min(row[at] + (letter === other[at] ? 0 : 1), row[at + 1] + 1, next[at] + 1));
+    }
+    row = next;
+  }
+  return row[other.length];
+}
+
+/** A known key that may be meant by an unknown one: fewer than half of their letters differ. */
 function unknownKey(key, known) {
-  const near = closest(key, known, NEAR);
+  const near = known.find((word) => 2 * editsBetween(key, word) < Math.max(key.length, word.length));
   return `unknown key \`${key}\`${near === undefined ? "" : `; is \`${near}\` meant?`}`;
 }
 
@@ -93,20 +110,17 @@ function tablesOfFrames(table) {
   return entries.map((entry) => (entry instanceof Map ? entry : new Map()));
 }
 
-/** Whether a version is a number as Python compares them: there `true` is 1, and so is 1.0. */
-function isVersion(version, number) {
-  return ["bigint", "number", "boolean"].includes(typeof version) && Number(version) === number;
-}
-
 function remarks(table, place) {
   const version = table.get("version");
   return tablesOfFrames(table).flatMap((entry, at) => {
-    const what = `frame ${at + 1}: remark: type ${pythonText(entry.get("type"))} (${pythonText(entry.get("name"))})`;
-    if (isVersion(version, 2) && entry.get("answered") === true && !entry.has("window")) {
+    const [type, name] = [entry.get("type"), entry.get("name")];
+    if (typeof type !== "bigint" || typeof name !== "string") return [];
+    const what = `frame ${at + 1}: remark: type ${type} (${name})`;
+    if (version === 2n && entry.get("answered") === true && !entry.has("window")) {
       const text = `${what} is answered and has no window: no answer to it is ever late`;
       return [remark(place.lineOf(["frame", at]), text)];
     }
-    if (isVersion(version, 1) && entry.has("window")) {
+    if (version === 1n && entry.has("window")) {
       const text = `${what} has a window, which means nothing in version 1`;
       return [remark(place.lineOf(["frame", at, "window"]), text)];
     }

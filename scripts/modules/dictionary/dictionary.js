@@ -1,6 +1,6 @@
 import { Fault } from "../fault.js";
 import { ANSWER } from "../port1.js";
-import { OF_PROGRAM, TomlFault, readToml } from "./toml.js";
+import { TomlFault, readToml } from "./toml.js";
 
 /**
  * A frame type of a dictionary.
@@ -90,7 +90,7 @@ function entryOf(table, number, version, types) {
 /** The root table of a text. */
 function tableOf(text) {
   try {
-    return readToml(text, OF_PROGRAM).table;
+    return readToml(text).table;
   } catch (fault) {
     throw fault instanceof TomlFault ? faultOf("not TOML") : fault;
   }

@@ -1,4 +1,3 @@
-import { OF_PROGRAM, TOML_1_0 } from "./toml/editions.js";
 import { Place } from "./toml/places.js";
 import { readScalar } from "./toml/scalars.js";
 import { Source } from "./toml/source.js";
@@ -7,7 +6,6 @@ import { Tables } from "./toml/tables.js";
 
 export { DateTime } from "./toml/scalars.js";
 export { TomlFault } from "./toml/source.js";
-export { OF_PROGRAM, TOML_1_0 };
 
 /**
  * A document that has been read. Tables are maps in the order of the text; integers are BigInts and floats numbers, so
@@ -16,15 +14,12 @@ export { OF_PROGRAM, TOML_1_0 };
  */
 
 /** Reads what stands in brackets, for which there has to be room. */
-function nested(source, sort, read) {
-  const width = source.edition.nesting[sort];
-  if (source.room < width) {
-    throw source.deepFault();
-  }
-  source.room -= width;
+function nested(source, read) {
+  if (source.room === 0) throw source.fault("brackets too deep in one another");
+  source.room -= 1;
   source.at += 1;
   const value = read();
-  source.room += width;
+  source.room += 1;
   return value;
 }
 
@@ -62,22 +57,20 @@ function readPair(source, place) {
 }
 
 function readInlineTable(source, place) {
-  const { hasLooseTables } = source.edition;
-  const skip = () => (hasLooseTables ? source.skipLines() : source.skipSpaces());
   const tables = new Tables(source);
-  skip();
+  source.skipLines();
   let isOver = source.takes("}");
   while (!isOver) {
     const { key, value } = readPair(source, place);
     tables.defineInline(key, value);
-    skip();
+    source.skipLines();
     isOver = source.takes("}");
     if (!isOver) {
       if (!source.takes(",")) {
         throw source.fault("Unclosed inline table");
       }
-      skip();
-      isOver = hasLooseTables && source.takes("}");
+      source.skipLines();
+      isOver = source.takes("}");
     }
   }
   return tables.root;
@@ -89,9 +82,9 @@ function readValue(source, place) {
     case "'":
       return readString(source);
     case "[":
-      return nested(source, "array", () => readArray(source, place));
+      return nested(source, () => readArray(source, place));
     case "{":
-      return nested(source, "table", () => readInlineTable(source, place));
+      return nested(source, () => readInlineTable(source, place));
     default:
       return readScalar(source);
   }
@@ -139,14 +132,13 @@ function endStatement(source) {
 }
 
 /**
- * Reads a TOML document.
+ * Reads a document of TOML 1.1, within the bounds of `port1`.
  * @param {string} text
- * @param {import("./toml/editions.js").Edition} [edition] TOML 1.0 unless given
  * @returns {Document}
  * @throws {import("./toml/source.js").TomlFault}
  */
-export function readToml(text, edition = TOML_1_0) {
-  const source = new Source(text, edition);
+export function readToml(text) {
+  const source = new Source(text);
   const tables = new Tables(source);
   const place = new Place();
   let section = { table: tables.root, head: [], place };

@@ -1,4 +1,3 @@
-import { ceilingQuotient, fixed, floorQuotient, product, quotient, sum } from "./numbers.js";
 import { piecesNamed } from "./pieces.js";
 
 // Into how many slots the time is cut, at most, to see where damage is; the most stretches that are shown, and the
@@ -24,12 +23,12 @@ function roundMilliseconds(least, base) {
 
 /** The stretches of slots side by side, of a width, that have more pieces each than a limit. */
 function joined(slots, width, limit) {
-  const full = [...slots].filter(([, count]) => count > limit).sort((one, other) => (one[0] < other[0] ? -1 : 1));
+  const full = [...slots].filter(([, count]) => count > limit).sort((one, other) => one[0] - other[0]);
   const found = [];
   for (const [slot, pieces] of full) {
-    const begin = product(slot, width);
+    const begin = slot * width;
     const before = found.at(-1);
-    if (before !== undefined && sum(before.begin, before.length) === begin) {
+    if (before !== undefined && before.begin + before.length === begin) {
       before.length += width;
       before.pieces += pieces;
     } else {
@@ -46,10 +45,10 @@ function joined(slots, width, limit) {
  * spread evenly is to be less than half, by two and a half standard deviations.
  */
 function stretchesOf(bus, many) {
-  const length = floorQuotient(product(bus.past - bus.first, 1000), bus.rate);
-  const width = roundMilliseconds(ceilingQuotient(length, many), bus.slots.milliseconds);
+  const length = Math.floor(((bus.past - bus.first) * 1000) / bus.rate);
+  const width = roundMilliseconds(Math.ceil(length / many), bus.slots.milliseconds);
   const slots = bus.slots.merged(width / bus.slots.milliseconds);
-  const mean = quotient(product(bus.damaged, width), length > width ? length : width);
+  const mean = (bus.damaged * width) / Math.max(length, width);
   return joined(slots, width, 2 * mean).filter((stretch) => {
     const even = (mean * stretch.length) / width;
     return stretch.pieces >= Math.max(FEWEST_PIECES, 2 * even + 2.5 * Math.sqrt(even));
@@ -69,10 +68,9 @@ function stretches(bus) {
 
 /** A stretch as it is told. */
 function toldStretch({ begin, length, pieces }, damaged) {
-  const past = sum(begin, length);
-  const seconds = (milliseconds) => fixed(quotient(milliseconds, 1000), 3);
-  const text = `${seconds(begin)} to ${seconds(past)} s`;
-  return { begin: Number(begin), past: Number(past), text, pieces, share: (100 * pieces) / damaged };
+  const past = begin + length;
+  const text = `${(begin / 1000).toFixed(3)} to ${(past / 1000).toFixed(3)} s`;
+  return { begin, past, text, pieces, share: (100 * pieces) / damaged };
 }
 
 /**

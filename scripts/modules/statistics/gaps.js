@@ -1,5 +1,3 @@
-import { rounded } from "./numbers.js";
-
 // The fewest gaps of which one is called usual, and how many times that one a gap has to be to be told.
 const FEWEST_GAPS = 3;
 const FAR = 1.5;
@@ -61,7 +59,7 @@ function holesOf(kind, commands, bus) {
   return far.map(({ from, to, where, others }) => {
     const gap = gapBetween(from, to, bus.damage);
     const times = gap.length / usual;
-    return { kind, commands, gap, usual, limit, times, lacking: rounded(times) - 1, where, others };
+    return { kind, commands, gap, usual, limit, times, lacking: Math.round(times) - 1, where, others };
   });
 }
 

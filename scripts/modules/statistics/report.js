@@ -1,18 +1,23 @@
 import { damageOf } from "./damage.js";
-import { fixed } from "./numbers.js";
 import { allIsWell, headLine, unknown, wrong } from "./sentences.js";
 import { tableOf } from "./table.js";
 import { counted } from "./units.js";
-import { wrapped } from "./wrap.js";
 
 // Columns of the sentences.
 const WIDTH = 108;
 
-const UNIT = /(\d) (ms|s)\b/g;
+/** What ends a line: a space, but not the one between a number and its unit. */
+const GAP = /(?<!\d(?= (?:ms|s)\b)) /;
 
-/** A text in lines, which do not end between a number and its unit. */
+/** A text in lines, which may be longer where a word is. */
 function filled(text, indent = "") {
-  return wrapped(text.replace(UNIT, "$1\u00a0$2"), WIDTH, indent).replaceAll("\u00a0", " ");
+  const [first, ...words] = text.split(GAP);
+  const lines = [first];
+  for (const word of words) {
+    if (lines[lines.length - 1].length + 1 + word.length <= WIDTH) lines.push(`${lines.pop()} ${word}`);
+    else lines.push(indent + word);
+  }
+  return lines.join("\n");
 }
 
 /** The sentences at the head of the report. */
@@ -43,7 +48,7 @@ function tableLines(bus) {
 function damageLines(bus) {
   const { sentence, where, stretches } = damageOf(bus);
   const lines = stretches.map(
-    ({ text, pieces, share }) => `  ${text}: ${counted(pieces, "piece")}, ${fixed(share, 0)} % of all`,
+    ({ text, pieces, share }) => `  ${text}: ${counted(pieces, "piece")}, ${share.toFixed(0)} % of all`,
   );
   return sentence === "" ? [] : ["", sentence, ...(where === "" ? [] : [where]), ...lines];
 }

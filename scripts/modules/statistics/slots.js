@@ -1,5 +1,3 @@
-import { floorQuotient, product } from "./numbers.js";
-
 // How many slots of time with damage are kept apart; when there are more, each is made ten times as long.
 const MOST_SLOTS = 4096;
 
@@ -9,13 +7,13 @@ export class Slots {
   constructor(rate) {
     this.rate = rate;
     this.milliseconds = 1; // in a slot, a power of ten
-    /** @type {Map<import("./numbers.js").Whole, number>} */
+    /** @type {Map<number, number>} */
     this.counts = new Map();
   }
 
   /** @param {number} place */
   add(place) {
-    const slot = floorQuotient(product(place, 1000), product(this.rate, this.milliseconds));
+    const slot = Math.floor((place * 1000) / (this.rate * this.milliseconds));
     this.counts.set(slot, (this.counts.get(slot) ?? 0) + 1);
     while (this.counts.size > MOST_SLOTS) {
       this.milliseconds *= 10;
@@ -26,12 +24,12 @@ export class Slots {
   /**
    * The counts of so many slots together each.
    * @param {number} many
-   * @returns {Map<import("./numbers.js").Whole, number>}
+   * @returns {Map<number, number>}
    */
   merged(many) {
     const merged = new Map();
     for (const [slot, count] of this.counts) {
-      const wide = floorQuotient(slot, many);
+      const wide = Math.floor(slot / many);
       merged.set(wide, (merged.get(wide) ?? 0) + count);
     }
     return merged;

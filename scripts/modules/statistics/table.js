@@ -1,5 +1,4 @@
 import { usualGap } from "./gaps.js";
-import { fixed } from "./numbers.js";
 import { unitsOf } from "./units.js";
 
 /**
@@ -34,7 +33,7 @@ function verdictCells(commands) {
     return ["-", "-", "-", "-", "-"];
   }
   const counts = [verdicts.answered, verdicts.late, verdicts.missing, verdicts.spoilt];
-  return [...counts.map(String), fixed((100 * bad) / decided, 1)];
+  return [...counts.map(String), ((100 * bad) / decided).toFixed(1)];
 }
 
 function replyCells(times, units) {

@@ -1,17 +1,15 @@
-import { fixed, product, quotient } from "./numbers.js";
-
 /**
  * Places and bits as times.
  * @param {number} rate bits a second
  */
 export function unitsOf(rate) {
-  const inMilliseconds = (bits) => quotient(product(bits, 1000), rate);
+  const inMilliseconds = (bits) => (bits * 1000) / rate;
   return {
     /** @param {number} place */
-    seconds: (place) => fixed(quotient(place, rate), 3),
+    seconds: (place) => (place / rate).toFixed(3),
 
     /** @param {number} bits */
-    milliseconds: (bits) => fixed(inMilliseconds(bits), 2),
+    milliseconds: (bits) => inMilliseconds(bits).toFixed(2),
 
     /**
      * A length of time, in three digits or whole milliseconds.
@@ -25,7 +23,7 @@ export function unitsOf(rate) {
 
 function durationText(milliseconds) {
   const decimals = milliseconds < 10 ? 2 : milliseconds < 100 ? 1 : 0;
-  const text = fixed(milliseconds, decimals);
+  const text = milliseconds.toFixed(decimals);
   return `${decimals > 0 ? text.replace(/\.?0+$/, "") : text} ms`;
 }
 

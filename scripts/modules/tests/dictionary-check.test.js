@@ -5,10 +5,8 @@ import { readFileSync } from "node:fs";
 import { test } from "node:test";
 
 import { findingsOf, findingsOfFile } from "../dictionary/check.js";
-import { closest } from "../dictionary/closest.js";
 import { faultsBySchema } from "../dictionary/schema.js";
-import { TOP, askPython } from "./support/scripts.js";
-import { randomOf } from "./support/random.js";
+import { TOP } from "./support/scripts.js";
 
 const SCHEMA = JSON.parse(readFileSync(`${TOP}examples/dictionary.schema.json`, "utf8"));
 
@@ -21,12 +19,6 @@ function example(name) {
 const VECTORS = JSON.parse(example("vectors/dictionaries.json"));
 
 const textOf = ({ text, file, replace, by }) => text ?? (replace === "" ? example(file) : example(file).replaceAll(replace, by));
-
-const CLOSEST = `
-import difflib
-found = [difflib.get_close_matches(word, known, 1, 0.7) for word, known in json.load(sys.stdin)]
-json.dump([near[0] if near else None for near in found], sys.stdout)
-`;
 
 const said = (findings) => findings.map(({ line, text }) => `${line}: ${text}`);
 
@@ -49,31 +41,14 @@ test("files that are no UTF-8 or no TOML, too deep, empty, or with line ends of 
     [Buffer.from([0x61, 0xe2, 0x82]), ["1: not UTF-8"]],
     [Buffer.from("a = 1\n\xed\xa0\x80", "latin1"), ["2: not UTF-8"]],
     [Buffer.from("\n\na = '\xc0\x80'\n", "latin1"), ["3: not UTF-8"]],
-    [Buffer.from(`\ufeff${POLL}`), ["1: not TOML: Invalid statement (at line 1, column 1)"]],
+    [Buffer.from(`\ufeff${POLL}`), []],
     [Buffer.from(WINDOWS.replaceAll("\n", "\r\n")), [`1: port1 says: not TOML${windows}`]],
-    [Buffer.from(deep), ["1: port1 says: not TOML", "2: unknown key `x`"]],
-    [Buffer.from(`x = ${"[".repeat(5000)}`), ["1: not TOML: brackets too deep in one another"]],
+    [Buffer.from(deep), ["2: not TOML: brackets too deep in one another (at line 2, column 85)"]],
+    [Buffer.from(`x = ${"[".repeat(5000)}`), ["1: not TOML: brackets too deep in one another (at line 1, column 85)"]],
     [Buffer.from(""), ["1: there is no `version` and no `frame`", "1: port1 says: version is not 1 or 2"]],
     [Buffer.from(POLL), []],
   ]) {
     assert.deepEqual(said(findingsOfFile(octets, SCHEMA)), wanted);
-  }
-});
-
-test("the known word that is closest", () => {
-  const random = randomOf(51);
-  const known = ["type", "name", "length", "answered", "window", "bits", "at", "version", "frame"];
-  const cases = Array.from({ length: 20_000 }, () => {
-    const word = [...random.one(known)];
-    for (let changes = random.below(4); changes > 0; changes -= 1) {
-      word.splice(random.below(word.length + 1), random.below(2), ...random.one(["", "e", "s", "na", "t"]));
-    }
-    const others = ["aab", "aba", "baa", "abab", "test", "tset", [...word].reverse().join("")];
-    return [word.join(""), random.once(2) ? known : others];
-  });
-  const wanted = askPython(CLOSEST, cases);
-  for (const [at, [word, words]] of cases.entries()) {
-    assert.equal(closest(word, words, 0.7) ?? null, wanted[at], JSON.stringify([word, words]));
   }
 });
 

@@ -6,21 +6,18 @@ const NUMBER = new RegExp(
   "y",
 );
 
-const TIME = "([01][0-9]|2[0-3]):([0-5][0-9]):([0-5][0-9])(?:\\.([0-9]+))?";
-const WIDE_TIME = "([01][0-9]|2[0-3]):([0-5][0-9])(?::([0-5][0-9]|60)(?:\\.([0-9]+))?)?";
+const TIME = "([01][0-9]|2[0-3]):([0-5][0-9])(?::([0-5][0-9]|60)(?:\\.([0-9]+))?)?";
 const DATE = "([0-9]{4})-(0[1-9]|1[0-2])-(0[1-9]|[12][0-9]|3[01])";
 const OFFSET = "(?:([Zz])|([+-])([01][0-9]|2[0-3]):([0-5][0-9]))?";
 
-const dateTimes = (time) => new RegExp(`${DATE}(?:[Tt ]${time}${OFFSET})?`, "y");
-
-const DATE_TIMES = { narrow: dateTimes(TIME), wide: dateTimes(WIDE_TIME) };
-const LOCAL_TIMES = { narrow: new RegExp(TIME, "y"), wide: new RegExp(WIDE_TIME, "y") };
+const DATE_TIME = new RegExp(`${DATE}(?:[Tt ]${TIME}${OFFSET})?`, "y");
+const LOCAL_TIME = new RegExp(TIME, "y");
 
 const SPECIAL_FLOAT = /([+-]?)(inf|nan)/y;
 
 const LEAST_INTEGER = -(2n ** 63n);
 
-/** A date, a time or both, as text: what Python's `str` gives. */
+/** A date, a time or both, as it is written. */
 export class DateTime {
   /** @param {string} text */
   constructor(text) {
@@ -37,44 +34,29 @@ function daysIn(year, month) {
   return [31, isLeap ? 29 : 28, 31, 30, 31, 30, 31, 31, 30, 31, 30, 31][month - 1];
 }
 
-function timeText(hour, minute, second = "00", fraction = "") {
-  const micros = fraction.slice(0, 6).padEnd(6, "0");
-  return `${hour}:${minute}:${second}${micros === "000000" ? "" : `.${micros}`}`;
-}
-
-function offsetText(zulu, sign, hours, minutes) {
-  if (zulu === undefined && sign === undefined) {
-    return "";
-  }
-  return sign === undefined || `${hours}${minutes}` === "0000" ? "+00:00" : `${sign}${hours}:${minutes}`;
-}
-
 /** A date, with a time and an offset or without. */
 function dateTime(source) {
   const begin = source.at;
-  const { hasWideTimes } = source.edition;
-  const found = source.match(DATE_TIMES[hasWideTimes ? "wide" : "narrow"]);
+  const found = source.match(DATE_TIME);
   if (found === null) {
     return undefined;
   }
-  const [, year, month, day, hour, minute, second, fraction, ...offset] = found;
-  if (Number(day) > daysIn(Number(year), Number(month)) || (year === "0000" && !hasWideTimes)) {
+  const [text, year, month, day] = found;
+  if (Number(day) > daysIn(Number(year), Number(month))) {
     source.at = begin;
     throw source.fault("Invalid date or datetime");
   }
-  const date = `${year}-${month}-${day}`;
-  const time = hour === undefined ? "" : ` ${timeText(hour, minute, second, fraction)}`;
-  return new DateTime(date + time + offsetText(...offset));
+  return new DateTime(text);
 }
 
 function localTime(source) {
-  const found = source.match(LOCAL_TIMES[source.edition.hasWideTimes ? "wide" : "narrow"]);
-  return found === null ? undefined : new DateTime(timeText(...found.slice(1)));
+  const found = source.match(LOCAL_TIME);
+  return found === null ? undefined : new DateTime(found[0]);
 }
 
 function integer(source, text) {
   const value = BigInt(text);
-  if (source.edition.hasNarrowNumbers && (value < LEAST_INTEGER || value >= -LEAST_INTEGER)) {
+  if (value < LEAST_INTEGER || value >= -LEAST_INTEGER) {
     throw source.fault("Integer out of range");
   }
   return value;
@@ -82,7 +64,7 @@ function integer(source, text) {
 
 function float(source, text) {
   const value = Number(text);
-  if (source.edition.hasNarrowNumbers && !Number.isFinite(value)) {
+  if (!Number.isFinite(value)) {
     throw source.fault("Float out of range");
   }
   return value;

@@ -1,5 +1,4 @@
 import { Fault } from "../../fault.js";
-import { quoted } from "../python.js";
 
 const SPACES = /[ \t]*/y;
 const SPACES_AND_ENDS = /[ \t\n]*/y;
@@ -7,14 +6,9 @@ const SPACES_AND_ENDS = /[ \t\n]*/y;
 // What a comment, and a text in one line, must not have in it.
 const CONTROLS = /[\0-\x08\x0a-\x1f\x7f]/;
 
-// What ends a line for those who count the lines of a text that ends too early.
-const LINE_END = /\r\n|[\n\v\f\r\x1c-\x1e\x85\u2028\u2029]/;
-
-/** The lines of a text that is not empty. */
-function linesOf(text) {
-  const lines = text.split(LINE_END);
-  return lines.at(-1) === "" ? lines.slice(0, -1) : lines;
-}
+/** How deep arrays and inline tables may lie in one another, and how many parts a key may have: as `port1` has it. */
+const DEEPEST = 80;
+export const MOST_KEY_PARTS = 80;
 
 /** Why a text is no TOML. Lines and columns, which count characters, begin with 1. */
 export class TomlFault extends Fault {
@@ -32,16 +26,11 @@ export class TomlFault extends Fault {
 
 /** A text, and how far it has been read. Line ends are LF within. */
 export class Source {
-  /**
-   * @param {string} text
-   * @param {import("./editions.js").Edition} edition
-   */
-  constructor(text, edition) {
-    const isMarked = edition.hasByteOrderMark && text.startsWith("\ufeff");
-    this.text = text.slice(isMarked ? 1 : 0).replaceAll("\r\n", "\n");
+  /** @param {string} text which may begin with a byte order mark */
+  constructor(text) {
+    this.text = text.replace(/^\ufeff/, "").replaceAll("\r\n", "\n");
     this.at = 0;
-    this.edition = edition;
-    this.room = edition.nesting.room; // for arrays and inline tables in one another
+    this.room = DEEPEST; // for arrays and inline tables in one another
     this.counted = { at: 0, line: 1 }; // up to where lines have been counted
   }
 
@@ -112,13 +101,13 @@ export class Source {
     const found = this.text.indexOf(end, begin);
     this.at = found < 0 ? this.text.length : found;
     if (found < 0 && isNeeded) {
-      throw this.fault(`Expected ${quoted(end)}`);
+      throw this.fault(`Expected ${end}`);
     }
     const passed = this.text.slice(begin, this.at);
     const bad = passed.search(forbidden);
     if (bad >= 0) {
       this.at = begin + bad;
-      throw this.fault(`Found invalid character ${quoted(this.next())}`);
+      throw this.fault(`Found invalid character ${JSON.stringify(this.next())}`);
     }
     return passed;
   }
@@ -144,20 +133,9 @@ export class Source {
    * @returns {TomlFault}
    */
   fault(what) {
-    if (this.at >= this.text.length) {
-      const lines = linesOf(this.text);
-      return new TomlFault(`${what} (at end of document)`, lines.length, [...lines.at(-1)].length + 1);
-    }
     const line = this.lineAt(this.at);
-    const column = [...this.text.slice(this.text.lastIndexOf("\n", this.at - 1) + 1, this.at)].length + 1;
-    return new TomlFault(`${what} (at line ${line}, column ${column})`, line, column);
-  }
-
-  /**
-   * The fault where brackets are too deep in one another. It has no place of its own.
-   * @returns {TomlFault}
-   */
-  deepFault() {
-    return new TomlFault("brackets too deep in one another", linesOf(this.text).length, 1);
+    const column = [...this.text.slice(this.text.slice(0, this.at).lastIndexOf("\n") + 1, this.at)].length + 1;
+    const where = this.at < this.text.length ? `line ${line}, column ${column}` : "end of document";
+    return new TomlFault(`${what} (at ${where})`, line, column);
   }
 }

@@ -1,6 +1,6 @@
 // Strings and keys of TOML.
 
-import { quoted } from "../python.js";
+import { MOST_KEY_PARTS } from "./source.js";
 
 const BARE = /[A-Za-z0-9_-]+/y;
 
@@ -21,17 +21,16 @@ const ESCAPES = new Map([
   ["n", "\n"],
   ["f", "\f"],
   ["r", "\r"],
+  ["e", "\x1b"],
   ['"', '"'],
   ["\\", "\\"],
 ]);
 
 const HEX_DIGITS = new Map([
+  ["x", 2],
   ["u", 4],
   ["U", 8],
 ]);
-
-const MORE_ESCAPES = new Map([["e", "\x1b"]]);
-const MORE_HEX_DIGITS = new Map([["x", 2]]);
 
 const isScalar = (code) => code < 0xd800 || (code > 0xdfff && code < 0x110000);
 
@@ -66,12 +65,11 @@ function escape(source, isOfLines) {
     return cutLine(source);
   }
   source.at += 2;
-  const { hasMoreEscapes } = source.edition;
-  const count = HEX_DIGITS.get(letter) ?? (hasMoreEscapes ? MORE_HEX_DIGITS.get(letter) : undefined);
+  const count = HEX_DIGITS.get(letter);
   if (count !== undefined) {
     return hexCharacter(source, count);
   }
-  const character = ESCAPES.get(letter) ?? (hasMoreEscapes ? MORE_ESCAPES.get(letter) : undefined);
+  const character = ESCAPES.get(letter);
   if (character === undefined) {
     throw source.fault("Unescaped '\\' in a string");
   }
@@ -90,7 +88,7 @@ function basicBody(source, isOfLines) {
       throw source.fault("Unterminated string");
     }
     if (source.next() !== "\\") {
-      throw source.fault(`Illegal character ${quoted(source.next())}`);
+      throw source.fault(`Illegal character ${JSON.stringify(source.next())}`);
     }
     text += escape(source, isOfLines);
   }
@@ -156,7 +154,7 @@ export function readKey(source) {
     parts.push(keyPart(source));
     source.skipSpaces();
   } while (source.takes("."));
-  if (parts.length > source.edition.mostKeyParts) {
+  if (parts.length > MOST_KEY_PARTS) {
     throw source.fault("Too many parts in a key");
   }
   return parts;

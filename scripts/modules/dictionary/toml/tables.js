@@ -1,7 +1,5 @@
 // Which keys and heads of tables may stand after others.
 
-import { quoted, tuple } from "../python.js";
-
 /** @typedef {Map<string, unknown>} Table */
 
 // How a table came about: a head passed through it, dotted keys did, or a head named it; and an array of tables whose
@@ -46,7 +44,7 @@ export class Tables {
       const found = table.get(part) ?? this.make(table, part, DOTTED);
       const origin = this.origins.get(found);
       if (origin === NAMED || origin === ELEMENTS) {
-        throw this.source.fault(`Cannot redefine namespace ${tuple([...head, ...parents.slice(0, at + 1)])}`);
+        throw this.source.fault(`Cannot redefine namespace ${[...head, ...parents.slice(0, at + 1)].join(".")}`);
       }
       if (origin === undefined) {
         throw this.inTheWay(found, frozen);
@@ -60,7 +58,7 @@ export class Tables {
   /** The fault where a value is in the way. */
   inTheWay(value, key) {
     const isFrozen = isCollection(value);
-    return this.source.fault(isFrozen ? `Cannot mutate immutable namespace ${tuple(key)}` : "Cannot overwrite a value");
+    return this.source.fault(isFrozen ? `Cannot mutate immutable namespace ${key.join(".")}` : "Cannot overwrite a value");
   }
 
   /**
@@ -90,7 +88,7 @@ export class Tables {
     if (table.has(last)) {
       const before = table.get(last);
       const isFrozen = isCollection(before) && !this.origins.has(before);
-      throw isFrozen ? this.inTheWay(before, key) : this.source.fault(`Duplicate inline table key ${quoted(last)}`);
+      throw isFrozen ? this.inTheWay(before, key) : this.source.fault(`Duplicate inline table key ${last}`);
     }
     table.set(last, value);
   }
@@ -123,7 +121,7 @@ export class Tables {
    * @param {number} line
    */
   head(key, place, line) {
-    const twice = `Cannot declare ${tuple(key)} twice`;
+    const twice = `Cannot declare ${key.join(".")} twice`;
     const { table, at } = this.alongHead(key.slice(0, -1), place, twice);
     const last = key.at(-1);
     const found = table.get(last) ?? this.make(table, last, PASSED);
@@ -143,7 +141,7 @@ export class Tables {
    * @param {number} line
    */
   element(key, place, line) {
-    const immutable = `Cannot mutate immutable namespace ${tuple(key)}`;
+    const immutable = `Cannot mutate immutable namespace ${key.join(".")}`;
     const { table, at } = this.alongHead(key.slice(0, -1), place, immutable);
     const last = key.at(-1);
     if (!table.has(last)) {
