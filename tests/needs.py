@@ -53,7 +53,6 @@ GATE = [
     Package("sigrok-cli", ["sigrok-cli"]),
     Package("tshark", ["tshark"]),
     Package("valgrind", ["valgrind"]),
-    Package("wireshark-common", ["mergecap", "text2pcap"]),
     Package("zsh", ["zsh"]),
 ]
 

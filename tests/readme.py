@@ -37,7 +37,7 @@ PROMPT = f"{INDENT}$ "
 HEADINGS = ("## ", "**")
 
 # The programs of other projects that examples may need.
-FOREIGN = {"parallel", "sigrok-cli", "text2pcap", "tshark"}
+FOREIGN = {"parallel", "sigrok-cli", "tshark"}
 
 # A variable that is set for the examples after it.
 ASSIGNMENT = re.compile(r"[A-Z]+=\"[^\"]*\"")

@@ -8,7 +8,6 @@ from itertools import product
 from pathlib import Path
 from typing import Any, Dict, Iterator, List, NamedTuple, Sequence, Tuple
 
-from common.listing import Row, rows
 from needs import needs, needs_module
 from tests.case import CALL, SCRIPTS, TOP, Run, lines, plain, ran, written_by
 
@@ -278,10 +277,24 @@ def session_of_sigrok(folder: Path) -> List[str]:
 # Simulated cabinets.
 
 
+class Row(NamedTuple):
+    """A line of a listing of two lines of the bus."""
+
+    line: int
+    first: int
+    past: int
+    rest: str
+
+
+def row_of(text: str) -> Row:
+    line, first, past, rest = text.split(" ", 3)
+    return Row(int(line), int(first), int(past), rest)
+
+
 def listing_of(marks: bytes) -> List[Row]:
     words = [os.environ["PORT1"], "list", "--bits", "--two", f"--dict={cabinet.DICTIONARY}"]
     listed = subprocess.run(words, input=marks, stdout=subprocess.PIPE, check=True, text=False)
-    return list(rows(listed.stdout.decode().splitlines()))
+    return [row_of(text) for text in listed.stdout.decode().splitlines()]
 
 
 class Outcome(NamedTuple):
@@ -303,11 +316,11 @@ def outcome_of(recorded: "Recorded", samples: int, *options: str) -> Outcome:
 
 
 def without_places(row: Row) -> Row:
-    return row._replace(first=0, past=0, reply_bits=None)
+    return row._replace(first=0, past=0)
 
 
 def is_idle(row: Row) -> bool:
-    return row.kind == "idle"
+    return row.rest == "idle"
 
 
 def order_of(listing: List[Row]) -> Dict[str, List[Row]]:

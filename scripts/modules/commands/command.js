@@ -44,8 +44,8 @@ function help() {
   return text.replace(/^usage: \S+/, `usage: ${name}`);
 }
 
-/** @param {string} text */
-const misuse = (text) => new Misuse(`${help().split("\n\n")[0]}\n${name}: error: ${text}\n`);
+/** A wrong call, and why. @param {string} text */
+export const misuse = (text) => new Misuse(`${help().split("\n\n")[0]}\n${name}: error: ${text}\n`);
 
 /**
  * An option: what reads its value, or `true` where it takes none.
@@ -70,7 +70,10 @@ export function wordsOf(options = {}, words = [], most = words.length) {
   const others = found.positionals;
   if (others.length < words.length) throw misuse(`there is no ${words[others.length]}`);
   if (others.length > most) throw misuse(`${others[most]} is one word too many`);
-  const values = Object.entries(found.values).map(([key, value]) => [key, valueOf(key, value, options[key])]);
+  const values = Object.entries(found.values).map(([key, value]) => {
+    const read = options[key];
+    return [key, read === true ? value : wordOf(`--${key}`, value, read)];
+  });
   return { values: Object.fromEntries(values), words: others };
 }
 
@@ -83,12 +86,12 @@ function parsed(config) {
   }
 }
 
-/** @param {string} key @param {any} value @param {Option} read */
-function valueOf(key, value, read) {
+/** What one of the other words says. @template T @param {string} what @param {string} text @param {(text: string) => T} read */
+export function wordOf(what, text, read) {
   try {
-    return read === true ? value : read(value);
+    return read(text);
   } catch (fault) {
-    throw fault instanceof Fault ? misuse(`--${key}: ${fault.message}`) : fault;
+    throw fault instanceof Fault ? misuse(`${what}: ${fault.message}`) : fault;
   }
 }
 

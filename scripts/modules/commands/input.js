@@ -40,6 +40,13 @@ export async function* standardInput(size = PIECE, isWhole = false) {
   }
 }
 
+/** All of standard input, as text. */
+export async function textOfInput() {
+  const pieces = [];
+  for await (const piece of standardInput()) pieces.push(Buffer.from(piece));
+  return Buffer.concat(pieces).toString();
+}
+
 /**
  * The rows of a listing on standard input, in memory that does not grow with it. Those before a line that is none of a
  * listing come before its fault is thrown.

@@ -21,10 +21,14 @@ json.dump([REFUSED, [case.words[2] for case in TAKEN]], sys.stdout)
 `;
 
 const ENTRIES = `
-from common.dictionary import entries_of
-def fields(entry):
-    return {**entry._asdict(), "bits": [{"at": at, "name": name} for at, name in entry.bits]}
-json.dump([[fields(entry) for entry in entries_of(text)] for text in json.load(sys.stdin)], sys.stdout)
+import tomllib
+def fields(table, version):
+    bits = [{"at": at, "name": name} for at, name in sorted((bit["at"], bit["name"]) for bit in table.get("bits", []))]
+    window = table.get("window", 0) if version == 2 else 0
+    given = {key: table[key] for key in ("type", "name", "length")}
+    return {**given, "answered": table.get("answered", False), "window": window, "bits": bits}
+roots = [tomllib.loads(text) for text in json.load(sys.stdin)]
+json.dump([[fields(table, root["version"]) for table in root["frame"]] for root in roots], sys.stdout)
 `;
 
 /** What is wrong with a dictionary; nothing where it is good. */
