@@ -44,6 +44,7 @@ GATE = [
     Package("git", ["git"]),
     Package("make", ["make"]),
     Package("node-d3", files=[f"{NODE_MODULES}/d3"]),
+    Package("node-typescript", ["tsc"]),
     Package("nodejs", ["node"]),
     Package("parallel", ["parallel"]),
     Package("pkg-config", ["pkg-config"]),

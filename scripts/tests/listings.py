@@ -6,6 +6,7 @@ import random
 import re
 import subprocess
 import sys
+from decimal import ROUND_HALF_UP, Decimal
 from pathlib import Path
 from typing import Any, Dict, Iterator, List, Sequence, Tuple
 
@@ -351,6 +352,11 @@ def quantile(times: Sequence[int], percent: int) -> int:
     return next(time for time in sorted(times) if 100 * sum(other <= time for other in times) >= percent * len(times))
 
 
+def shown(value: float, decimals: int) -> str:
+    """A number with so many decimals; from halfway it is rounded up."""
+    return str(Decimal(value).quantize(Decimal(1).scaleb(-decimals), ROUND_HALF_UP))
+
+
 def reply_times(_: Path) -> List[str]:
     """Known times, of which short ones are told exactly, and long ones as near as two digits show."""
     generator = random.Random(11)
@@ -362,8 +368,8 @@ def reply_times(_: Path) -> List[str]:
             listing.exchange(16, 0, number * 200_000, reply_bits, generator.choice(["answered", "late"]))
         got = table_of(summary_of(listing.octets()))[16, 0][6:10]
         wanted = [min(times), quantile(times, 50), quantile(times, 99), max(times)]
-        exact = [f"{1000 * bits / RATE:.2f}" for bits in wanted]
-        far = [abs(float(shown) * RATE / 1000 - bits) > 0.00013 * bits + 1 for shown, bits in zip(got, wanted)]
+        exact = [shown(1000 * bits / RATE, 2) for bits in wanted]
+        far = [abs(float(text) * RATE / 1000 - bits) > 0.00013 * bits + 1 for text, bits in zip(got, wanted)]
         if any(far) or (most <= 16384 and got != exact):
             problems.append(f"{count} times up to {most} bits: wanted {exact}, got {got}")
     return problems
@@ -388,7 +394,7 @@ def damage_in_time(_: Path) -> List[str]:
         lines = summary_of(listing.octets()).partition("Most of it lies here:\n")[2].splitlines()
         counts = [(begin, end, sum(begin * RATE <= place < end * RATE for place in places)) for begin, end, _ in wanted]
         texts = [
-            f"  {begin}.000 to {end}.000 s: {count} pieces, {100 * count / len(places):.0f} % of all"
+            f"  {begin}.000 to {end}.000 s: {count} pieces, {shown(100 * count / len(places), 0)} % of all"
             for begin, end, count in counts
         ]
         problems += differing(texts, lines, "stretches")

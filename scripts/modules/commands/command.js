@@ -36,7 +36,7 @@ export const writeText = (text) => write(Buffer.from(text));
 export const warn = (text) => write(Buffer.from(`${name}: ${text}\n`), 2);
 
 /** Whether an error comes from the system, with this code if one is given. @param {any} error @param {string} [code] */
-const isOfSystem = (error, code = error?.code) => error instanceof Error && "code" in error && error.code === code;
+const isOfSystem = (error, code = error.code) => error.code !== undefined && error.code === code;
 
 /** The text that --help writes: it begins with the usage, which ends with an empty line. */
 function help() {

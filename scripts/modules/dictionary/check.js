@@ -93,7 +93,8 @@ const COMPLAINTS = {
 
 function findingsOfSchema(table, place, schema) {
   return faultsBySchema(table, schema).flatMap((found) => {
-    const { keyword, value, path } = found;
+    const { keyword, path } = found;
+    const value = /** @type {any} */ (found.value);
     if (keyword !== "additionalProperties") {
       return [fault(place.lineOf(path), label(path) + COMPLAINTS[keyword](found))];
     }
@@ -129,6 +130,7 @@ function remarks(table, place) {
 }
 
 /** The entry that a judgement speaks of; of a type that comes twice, the second one. */
+/** @param {string[]} judgement @param {Map<string, any>} table */
 function pathOfJudgement([, , number, type, twice], table) {
   if (number !== undefined) {
     return ["frame", Number(number) - 1];

@@ -62,7 +62,7 @@ function bitsAt(table, length) {
   const bits = members.map((member) => ({ at: numberAt(member, "at", 8 * length), name: nameAt(member) }));
   const isGood = bits.every(({ at, name }) => at !== undefined && name !== undefined);
   const isOnce = new Set(bits.map(({ at }) => at)).size === bits.length;
-  return isGood && isOnce ? bits.sort((one, other) => one.at - other.at) : undefined;
+  return isGood && isOnce ? bits.sort((one, other) => Number(one.at) - Number(other.at)) : undefined;
 }
 
 /** What is good, or the fault that entry number so and so has a bad part. */

@@ -59,14 +59,15 @@ export class Survey {
     }
     const seen = this.types.get(row.type) ?? nothingSeen();
     this.types.set(row.type, seen);
-    const length = row.octets.length - AROUND;
+    const length = (row.octets?.length ?? 0) - AROUND;
     seen.frames += 1;
     seen.lengths.set(length, (seen.lengths.get(length) ?? 0) + 1);
     seen.stations.add(row.station);
-    if (isAnswer(row, this.before)) {
-      const command = this.types.get(this.before.type);
+    const { before } = this;
+    const command = before?.type == null ? undefined : this.types.get(before.type);
+    if (before && command && isAnswer(row, before)) {
       command.replies += 1;
-      command.longest = Math.max(command.longest, row.first - this.before.past);
+      command.longest = Math.max(command.longest, row.first - before.past);
     }
   }
 

@@ -30,7 +30,8 @@ export function lengthOf(bits, rate) {
  * @param {number|null} end of the recording in bits, where it is known
  */
 export function deadEnd(bus, { reached, longest, last }, end) {
-  const rest = end === null ? 0 : end - reached;
+  if (end === null) return [];
+  const rest = end - reached;
   const usual = bus.commands.sorted().map(([, commands]) => usualGap(commands)).filter((gap) => gap > 0);
   const least = usual.length > 0 ? GAP_TIMES * Math.min(...usual) : LONG_SECONDS * bus.rate;
   if (last < 0 || rest < least || rest < REST_TIMES * longest || rest < REST_SECONDS * bus.rate) return [];

@@ -20,7 +20,9 @@ export class Rows {
    * @param {(at: number) => boolean} [agrees] whether a line of these kinds is one
    */
   constructor(listing, kinds, agrees = () => true) {
-    Object.assign(this, { listing, kinds, agrees });
+    this.listing = listing;
+    this.kinds = kinds;
+    this.agrees = agrees;
     this.count = 0;
     /** @type {Place[]} */
     this.places = [];
@@ -44,9 +46,13 @@ export class Gaps {
   constructor(listing, holes) {
     this.listing = listing;
     this.kinds = [FRAME];
-    const newOf = ({ limit }) => ({ limit, before: -1, found: [], rows: new Map() });
-    this.byKind = new Map(holes.map((hole) => [keyOf(hole.kind), newOf(hole)]));
-    for (const { kind, gap } of holes) this.byKind.get(keyOf(kind)).rows.set(gap.first, -1);
+    /** @type {Map<number, { limit: number, before: number, found: Place[], rows: Map<number, number> }>} */
+    this.byKind = new Map();
+    for (const { kind, limit, gap } of holes) {
+      const own = this.byKind.get(keyOf(kind)) ?? { limit, before: -1, found: [], rows: new Map() };
+      own.rows.set(gap.first, -1);
+      this.byKind.set(keyOf(kind), own);
+    }
   }
 
   take(at) {
@@ -62,8 +68,8 @@ export class Gaps {
 
   /** The gaps of a hole's kind that are like it, itself among them, or it alone at an end of the listing. */
   placesOf({ kind, gap, where }) {
-    const { found, rows } = this.byKind.get(keyOf(kind));
-    const own = { row: rows.get(gap.first), first: gap.first, past: gap.first + gap.length };
+    const { found, rows } = this.byKind.get(keyOf(kind)) ?? { found: [], rows: new Map() };
+    const own = { row: rows.get(gap.first) ?? -1, first: gap.first, past: gap.first + gap.length };
     if (where !== "") return [own];
     return [own, ...found.filter(({ first }) => first !== own.first)];
   }
@@ -77,12 +83,13 @@ export class Rests {
    * @param {number} begin the place where the listing begins
    */
   constructor(listing, least, begin) {
-    Object.assign(this, { listing, least });
+    this.listing = listing;
+    this.least = least;
     this.kinds = PIECES;
     this.reached = begin; // of both lines
     this.longest = 0; // before that
     this.last = -1; // the row that reaches so far
-    this.ofCommands = { reached: begin, row: -1, found: [] };
+    this.ofCommands = { reached: begin, row: -1, found: /** @type {Place[]} */ ([]) };
   }
 
   take(at) {
@@ -99,6 +106,9 @@ export class Rests {
   }
 }
 
+/** Commands without an answer: how many, the row of the first, and how many of each kind. */
+const nothingMissing = () => ({ count: 0, first: -1, byKind: new Map() });
+
 /** How many answers there are, and which commands had none since the last of them. */
 export class Answers {
   constructor(listing) {
@@ -107,11 +117,7 @@ export class Answers {
     this.answers = 0;
     this.onSecond = 0; // frames of any kind on line 2
     this.last = -1; // the row of the last answer
-    this.begin();
-  }
-
-  begin() {
-    this.missing = { count: 0, first: -1, byKind: new Map() };
+    this.missing = nothingMissing();
   }
 
   take(at) {
@@ -124,7 +130,7 @@ export class Answers {
     if (lines[at] === 1 || types[at] < ANSWER) return;
     this.answers += 1;
     this.last = at;
-    if (this.missing.count > 0) this.begin();
+    if (this.missing.count > 0) this.missing = nothingMissing();
   }
 
   miss(at) {

@@ -1,5 +1,5 @@
 import { ANSWER } from "../port1.js";
-import { Columns, OctetHeap } from "./columns.js";
+import { FIRST_CAPACITY, OctetHeap, widened } from "./columns.js";
 import { ANSWERED, CAUSES, FRAME, KINDS, LATE, typeOf } from "./kinds.js";
 
 /**
@@ -13,20 +13,13 @@ export const UNKNOWN = 3;
 export const WRONG_LENGTH = 4;
 const HEADS = ["", "", "", "unknown", "length"];
 
-const COLUMNS = {
-  firsts: Float64Array,
-  pasts: Float64Array,
-  begins: Uint32Array, // of a frame, where its octets begin
-  counts: Uint16Array, // of a frame, how many octets it has
-  kinds: Uint8Array,
-  causes: Uint8Array,
-  lines: Uint8Array, // of the bus; 0 in a listing of one line
-  stations: Uint8Array,
-  types: Int16Array, // or -1
-  heads: Uint16Array, // of a frame, what stands after its octets
-};
-
 const DIGITS = Array.from({ length: 256 }, (_, octet) => octet.toString(16).padStart(2, "0"));
+
+/**
+ * The lines of the bus by their numbers.
+ * @type {(1|2|null)[]}
+ */
+const LINES = [null, 1, 2];
 
 /** Octets in hexadecimal. @param {Uint8Array} octets */
 export function hexOf(octets) {
@@ -50,15 +43,51 @@ export function hexOf(octets) {
  * @property {string} cause of damage, else empty
  * @property {number|null} replyBits from the end of a command to the first bit of its answer
  */
-export class Listing extends Columns {
-  constructor() {
-    super(COLUMNS);
-    this.heap = new OctetHeap();
-    this.names = [...HEADS];
-    this.numbers = new Map([
-      [HEADS[UNKNOWN], UNKNOWN],
-      [HEADS[WRONG_LENGTH], WRONG_LENGTH],
-    ]);
+export class Listing {
+  length = 0;
+  firsts = new Float64Array(FIRST_CAPACITY);
+  pasts = new Float64Array(FIRST_CAPACITY);
+  begins = new Uint32Array(FIRST_CAPACITY); // of a frame, where its octets begin
+  counts = new Uint16Array(FIRST_CAPACITY); // of a frame, how many octets it has
+  kinds = new Uint8Array(FIRST_CAPACITY);
+  causes = new Uint8Array(FIRST_CAPACITY);
+  lines = new Uint8Array(FIRST_CAPACITY); // of the bus; 0 in a listing of one line
+  stations = new Uint8Array(FIRST_CAPACITY);
+  types = new Int16Array(FIRST_CAPACITY); // or -1
+  heads = new Uint16Array(FIRST_CAPACITY); // of a frame, what stands after its octets
+  heap = new OctetHeap();
+  names = [...HEADS];
+  numbers = new Map([
+    [HEADS[UNKNOWN], UNKNOWN],
+    [HEADS[WRONG_LENGTH], WRONG_LENGTH],
+  ]);
+
+  columns() {
+    const { firsts, pasts, begins, counts, kinds, causes, lines, stations, types, heads } = this;
+    return [firsts, pasts, begins, counts, kinds, causes, lines, stations, types, heads];
+  }
+
+  /** Makes room for so many lines. @param {number} count */
+  reserve(count) {
+    if (count <= this.firsts.length) return;
+    const capacity = Math.max(count, 2 * this.firsts.length);
+    [this.firsts, this.pasts] = [widened(this.firsts, capacity), widened(this.pasts, capacity)];
+    [this.begins, this.counts] = [widened(this.begins, capacity), widened(this.counts, capacity)];
+    [this.kinds, this.causes] = [widened(this.kinds, capacity), widened(this.causes, capacity)];
+    [this.lines, this.stations] = [widened(this.lines, capacity), widened(this.stations, capacity)];
+    [this.types, this.heads] = [widened(this.types, capacity), widened(this.heads, capacity)];
+  }
+
+  /** Adds a line of zeros. @returns {number} its number */
+  add() {
+    this.reserve(this.length + 1);
+    return this.length++;
+  }
+
+  /** Drops the lines from one on. @param {number} from */
+  drop(from) {
+    for (const column of this.columns()) column.fill(0, from, this.length);
+    this.length = from;
   }
 
   /** The number that stands for a name, which may come for the first time. */
@@ -152,7 +181,7 @@ export class Listing extends Columns {
     const isFrame = this.kinds[at] === FRAME;
     const type = this.types[at];
     return {
-      line: this.lines[at] || null,
+      line: LINES[this.lines[at]],
       first: this.firsts[at],
       past: this.pasts[at],
       kind: KINDS[this.kinds[at]],
@@ -167,10 +196,12 @@ export class Listing extends Columns {
 
   /** Forgets all lines but the last one, which may be the answer of which the next one speaks. */
   keepLast() {
-    super.keepLast();
-    if (this.length === 0) return;
-    this.heap.keep(this.begins[0], this.counts[0]);
-    this.begins[0] = 0;
+    const last = this.length - 1;
+    if (last < 0) return;
+    this.heap.keep(this.begins[last], this.counts[last]);
+    this.begins[last] = 0;
+    for (const column of this.columns()) column[0] = column[last];
+    this.drop(1);
   }
 
   /** The lines from one on, as rows. */

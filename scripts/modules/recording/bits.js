@@ -30,6 +30,7 @@ export { channelsOf, formOf } from "./forms.js";
  * @property {import("./doubts.js").Warning[]} warnings, then
  */
 
+/** @type {Record<string, (source: Source, channels: string[], size: number, session: any) => any>} */
 const READERS = {
   vcd: dumpOf,
   csv: tableOf,
@@ -47,6 +48,7 @@ export function bitsOf(pieces, wanted) {
   return { marks: marksOf(new Source(pieces), wanted, told, warnings), told, warnings };
 }
 
+/** @param {Source} source @param {Wanted} wanted @param {string[]} told @param {import("./doubts.js").Warning[]} warnings */
 async function* marksOf(source, { form, channels, rising = true, inverted = 0, size = PIECE, session }, told, warnings) {
   try {
     if (channels.length < 2 || channels.length > 4) {

@@ -37,7 +37,7 @@ export class Unknown extends Fault {
  * @param {import("./doubts.js").Moments} when
  */
 export function checkKnown(edges, channel, when) {
-  const unknown = edges.levels.findIndex((levels) => (levels >> (channel + MOST)) & 1);
+  const unknown = edges.levels.findIndex((levels) => ((levels >> (channel + MOST)) & 1) === 1);
   if (unknown >= 0) {
     throw new Unknown(unknown, `at ${when.of(edges.times[unknown])} the data has no known level`);
   }
@@ -92,11 +92,16 @@ export class Clock {
    * @param {import("./doubts.js").Doubts} doubts
    */
   constructor(name, channel, data, rising, period, doubts) {
-    Object.assign(this, { name, channel, data, period, doubts });
+    this.name = name;
+    this.channel = channel;
+    this.data = data;
+    this.period = period;
+    this.doubts = doubts;
     this.up = rising ? 1 : 0;
     this.count = 0;
     this.held = 0; // no edge before this time is still to come
     this.lastLevels = ALL_UNKNOWN;
+    /** @type {number|null} */
     this.lastEdge = null;
     this.lastChange = new Map(data.map((channel) => [channel, -Infinity]));
     this.nearTaken = 0;
@@ -167,7 +172,7 @@ export class Clock {
   /** Counts which edges the data changes near, and pulses of the data that are too short. */
   lookAtData(channel, changes, kept) {
     const times = timesOfToggles(changes, this.lastLevels, channel);
-    let last = this.lastChange.get(channel);
+    let last = this.lastChange.get(channel) ?? -Infinity;
     for (const time of times) {
       if (time - last < this.period / 2) {
         this.doubts.add("shortData", time, this.name);

@@ -14,6 +14,7 @@ export class Conversion {
    * @param {import("./doubts.js").Moments} when
    */
   constructor(names, rising, period, when) {
+    /** @type {[number, number[]][]} */
     const own = names.length === 4 ? [[0, [1]], [2, [3]]] : [[0, names.length === 3 ? [1, 2] : [1]]];
     if (period === null && own.length === 2) {
       throw new Fault(`fewer than two edges of ${names[0]}, and of ${names[2]}`);

@@ -199,7 +199,7 @@ export async function tableOf(source, names, size) {
   const columns = names.map((name) => positionOf(name, table.names) + (hasTimes ? 1 : 0));
   // Seconds have a fraction of nine digits, other units are counted.
   const scale = table.unit === 1 ? 1e9 : 1;
-  const ticks = hasTimes ? table.unit * scale : table.ticks;
+  const ticks = table.unit === null ? table.ticks : table.unit * scale;
   return { ticks, changes: changesOf(source, size, new RowReader(columns, hasTimes, scale), line) };
 }
 

@@ -66,6 +66,7 @@ export class Doubts {
 
 const HOW_OFTEN = /^(.*?)(?: \((?:(\d+) times, first )?at (?:([\d.]+) s|sample \d+)\))?$/;
 
+/** @type {[string, RegExp][]} */
 const PATTERNS = Object.entries(TEXTS).map(([sort, textOf]) => [
   sort,
   new RegExp(`^${textOf("\0").replace(/[()]/g, "\\$&").replace("\0", "(.+)")}$`),
@@ -77,7 +78,7 @@ const PATTERNS = Object.entries(TEXTS).map(([sort, textOf]) => [
  * @returns {Warning}
  */
 export function warningOf(text) {
-  const [, what, count = "1", second] = HOW_OFTEN.exec(text);
+  const [, what = "", count = "1", second] = HOW_OFTEN.exec(text) ?? [];
   for (const [sort, pattern] of PATTERNS) {
     const found = pattern.exec(what);
     if (found) {

@@ -48,7 +48,8 @@ export class Placed {
    * @param {import("./doubts.js").Doubts} doubts
    */
   constructor(period, doubts) {
-    Object.assign(this, { period, doubts });
+    this.period = period;
+    this.doubts = doubts;
     this.base = 0; // the first place that has not been given yet
     this.times = new Float64Array(0); // of the places from the base on
     this.bits = new Uint8Array(0); // of the first line there
@@ -149,6 +150,7 @@ export class Placed {
    */
   heads({ indices, times }, isLast) {
     const heads = new Uint8Array(indices.length);
+    /** @type {{ index: number, time: number, distance?: number }} */
     let last = this.last ?? FAR_AWAY;
     let before = last.distance;
     for (let at = 0; at < indices.length; at++) {
@@ -222,7 +224,7 @@ export class Placed {
       this.doubts.add("stop", this.lastEdge);
     }
     const past = this.base + this.bits.length;
-    if (this.zeros.length > 0 && this.zeros.at(-1) > past + MOST_DRIFT) {
+    if (this.zeros.length > 0 && this.zeros[this.zeros.length - 1] > past + MOST_DRIFT) {
       this.doubts.add("beyond", end);
     }
     this.zeros = this.zeros.filter((place) => place < past);

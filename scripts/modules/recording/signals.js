@@ -73,7 +73,7 @@ function addCode(codes, name, code) {
 /** Ticks a second of a timescale such as `1us` or `100 ns`. */
 function ticksOf(scale) {
   const found = /^(\d*[1-9]\d*)([munpf]?s)$/.exec(scale);
-  return found === null ? null : Math.floor(UNITS.get(found[2]) / Number(found[1]));
+  return found === null ? null : Math.floor((UNITS.get(found[2]) ?? 0) / Number(found[1]));
 }
 
 /**

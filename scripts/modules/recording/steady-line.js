@@ -24,7 +24,9 @@ export class SteadyLine {
    * @param {import("./doubts.js").Doubts} doubts
    */
   constructor(data, period, doubts) {
-    Object.assign(this, { data, period, doubts });
+    this.data = data;
+    this.period = period;
+    this.doubts = doubts;
     this.last = 0; // the time of the last place, or of the beginning
     this.filled = 0;
     this.before = { times: new Float64Array(0), levels: new Uint8Array(0) };

@@ -22,6 +22,6 @@ export function hertz(text) {
     throw new Fault(`${quoted(text)} is no rate`);
   }
   const [, whole, decimals = "", prefix] = found;
-  const zeros = ZEROS.get(prefix);
+  const zeros = ZEROS.get(prefix) ?? 0;
   return Number(whole + decimals.slice(0, zeros).padEnd(zeros, "0"));
 }

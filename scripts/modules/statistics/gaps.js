@@ -50,6 +50,7 @@ function holesOf(kind, commands, bus) {
   const { gaps, first, last, longest } = commands;
   const limit = farGap(gaps, usual);
   const begin = { place: bus.first, damage: [], framesBefore: 0, framesAfter: 0 };
+  /** @type {{ from: any, to: any, where: ""|"begin"|"end", others: number }[]} */
   const candidates = [
     { from: longest.from, to: longest.to, where: "", others: Math.max(0, gaps.above(limit) - 1) },
     { from: begin, to: first, where: "begin", others: 0 },

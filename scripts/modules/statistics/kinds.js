@@ -39,6 +39,7 @@ export class Kinds {
    * @returns {[Kind, V][]}
    */
   sorted() {
+    /** @type {[Kind, V][]} */
     const found = [];
     for (const [station, types] of this.stations) {
       for (const [type, value] of types) {
@@ -74,6 +75,7 @@ export class Counts {
    * @returns {[Kind, number][]}
    */
   first(most) {
+    /** @type {[Kind, number][]} */
     const found = this.kinds.sorted().map(([kind, { count }]) => [kind, count]);
     return found.sort((one, other) => other[1] - one[1]).slice(0, most);
   }

@@ -255,7 +255,7 @@ function lackOf(bus) {
 /**
  * What the listing leaves open.
  * @param {import("./bus.js").Bus} bus
- * @returns {{sort: "lines"|"frames"|"dictionary"|"verdicts"|"pending", text: string, shown: string}[]}
+ * @returns {{sort: string, text: string, shown: string}[]} sorts: lines, frames, dictionary, verdicts and pending
  */
 export function unknown(bus) {
   const lack = lackOf(bus);

@@ -34,7 +34,9 @@ export class Place {
    * @returns {number}
    */
   lineOf(path) {
-    let [line, place] = [1, this];
+    let line = 1;
+    /** @type {Place|undefined} */
+    let place = this;
     for (const part of path) {
       place = place.parts.get(part);
       if (place === undefined) {

@@ -1,6 +1,9 @@
 // Which keys and heads of tables may stand after others.
 
-/** @typedef {Map<string, unknown>} Table */
+/** @typedef {Map<string, any>} Table */
+
+/** The last part of a key. @param {readonly string[]} key */
+const lastOf = (key) => key[key.length - 1];
 
 // How a table came about: a head passed through it, dotted keys did, or a head named it; and an array of tables whose
 // heads have double brackets. What has none of these is a value, to which nothing can be added.
@@ -71,10 +74,10 @@ export class Tables {
   define(section, head, key, value) {
     const parents = key.slice(0, -1);
     const table = this.alongDots(section, head, parents, [...head, ...parents]);
-    if (table.has(key.at(-1))) {
+    if (table.has(lastOf(key))) {
       throw this.source.fault("Cannot overwrite a value");
     }
-    table.set(key.at(-1), value);
+    table.set(lastOf(key), value);
   }
 
   /**
@@ -84,7 +87,7 @@ export class Tables {
    */
   defineInline(key, value) {
     const table = this.alongDots(this.root, [], key.slice(0, -1), key);
-    const last = key.at(-1);
+    const last = lastOf(key);
     if (table.has(last)) {
       const before = table.get(last);
       const isFrozen = isCollection(before) && !this.origins.has(before);
@@ -109,7 +112,7 @@ export class Tables {
       }
       at = at.part(part);
       at = origin === ELEMENTS ? at.part(found.length - 1) : at;
-      table = origin === ELEMENTS ? found.at(-1) : found;
+      table = origin === ELEMENTS ? found[found.length - 1] : found;
     }
     return { table, at };
   }
@@ -123,7 +126,7 @@ export class Tables {
   head(key, place, line) {
     const twice = `Cannot declare ${key.join(".")} twice`;
     const { table, at } = this.alongHead(key.slice(0, -1), place, twice);
-    const last = key.at(-1);
+    const last = lastOf(key);
     const found = table.get(last) ?? this.make(table, last, PASSED);
     if (this.origins.get(found) !== PASSED) {
       throw this.source.fault(isCollection(found) ? twice : "Cannot overwrite a value");
@@ -143,7 +146,7 @@ export class Tables {
   element(key, place, line) {
     const immutable = `Cannot mutate immutable namespace ${key.join(".")}`;
     const { table, at } = this.alongHead(key.slice(0, -1), place, immutable);
-    const last = key.at(-1);
+    const last = lastOf(key);
     if (!table.has(last)) {
       table.set(last, []);
       this.origins.set(table.get(last), ELEMENTS);
