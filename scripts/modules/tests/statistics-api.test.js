@@ -52,6 +52,21 @@ test("what is wrong, without numbers and unwrapped", () => {
   assert.equal(headLine(bus), "0.030 s of two lines at 153600 bits a second: 7 frames, 1 damaged piece.");
 });
 
+test("what came in place of an answer came on the line of answers", () => {
+  const saidOf = (line) => {
+    const other = `${line} 100 141 frame 098380fde5 station 9 type 128 unknown\n`;
+    const [first] = textsOf(wrong(busOf(command(8, "10", "00") + other + verdict("missing", 8))));
+    return first;
+  };
+  const silent = "Station 16 is silent: it answered none of 1 command, of type 0 (call).";
+  assert.equal(saidOf(1), silent);
+  assert.equal(saidOf(2), `${silent} In place of the answer came once another one, last of station 9, type 128, unknown.`);
+});
+
+test("a listing begins at its least place, wherever that stands", () => {
+  assert.match(headLine(busOf("307200 307215 idle\n153600 153615 idle\n460785 460800 idle\n")), /^2\.000 s of one line/);
+});
+
 test("where nothing is wrong, that and the doubts are said", () => {
   const said = (listing) => {
     const bus = busOf(listing);
