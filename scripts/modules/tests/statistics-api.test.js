@@ -112,6 +112,12 @@ test("where the damage is", () => {
   assert.deepEqual(damageOf(busOf("")), { sentence: "", where: "", stretches: [] });
 });
 
+test("damage that only wider slots of time show: 3 of 6 pieces in the first half of a second", () => {
+  const pieces = [0.05, 0.25, 0.45, 2.1, 3.7, 5.1].map((second) => Math.round(second * 153600));
+  const bus = busOf(`${pieces.map((place) => `${place} ${place + 9} abort\n`).join("")}0 15 idle\n921585 921600 idle\n`);
+  assert.deepEqual(damageOf(bus).stretches, [{ begin: 0, past: 500, text: "0.000 to 0.500 s", pieces: 3, share: 50 }]);
+});
+
 test("times to answers by kinds, and of all", () => {
   const poll = "1 9000 9041 frame 118301fde5 station 17 type 1 poll\n";
   const state = "2 9050 9091 frame 118381fde5 station 17 type 129 state\n";
