@@ -157,7 +157,7 @@ RUNS = [
         [SCRIPT, "Channel 0", "Channel 1 (data)"],
         table("Time,Channel 0,Channel 1 (data)\n", ["2026-11-25T12:00:00,0,1"]),
         b"",
-        f"{SCRIPT}: the times of the column 'Time' have no known unit: export them in seconds\n",
+        f'{SCRIPT}: the times of the column "Time" have no known unit: export them in seconds\n',
         2,
     ),
     Run(
@@ -248,7 +248,7 @@ RUNS = [
         [SCRIPT, "0", "1", "--samplerate=fast"],
         bytes(9),
         b"",
-        f"{USAGE}\n{SCRIPT}: error: --samplerate: 'fast' is no rate\n",
+        f'{USAGE}\n{SCRIPT}: error: --samplerate: "fast" is no rate\n',
         2,
     ),
 ]

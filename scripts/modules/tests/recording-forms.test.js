@@ -49,7 +49,7 @@ for (const [name, form, head, wanted] of HEADS) {
 }
 
 test("channels of a table whose times have no unit", () => {
-  const fault = new Fault("the times of the column 'Time' have no known unit: export them in seconds");
+  const fault = new Fault('the times of the column "Time" have no known unit: export them in seconds');
   assert.throws(() => channelsOf(octetsOf("Time,a\n0,1\n"), "csv"), fault);
 });
 
