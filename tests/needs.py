@@ -44,17 +44,16 @@ GATE = [
     Package("git", ["git"]),
     Package("make", ["make"]),
     Package("node-d3", files=[f"{NODE_MODULES}/d3"]),
+    Package("node-typescript", ["tsc"]),
     Package("nodejs", ["node"]),
     Package("parallel", ["parallel"]),
     Package("pkg-config", ["pkg-config"]),
-    Package("python3-jsonschema", modules=["jsonschema"]),
     Package("python3-numpy", modules=["numpy"]),
     Package("python3-pytest", modules=["pytest"]),
     Package("python3-websocket", modules=["websocket"]),
     Package("sigrok-cli", ["sigrok-cli"]),
     Package("tshark", ["tshark"]),
     Package("valgrind", ["valgrind"]),
-    Package("wireshark-common", ["mergecap", "text2pcap"]),
     Package("zsh", ["zsh"]),
 ]
 
@@ -70,9 +69,6 @@ BESIDE = [
     Package("slurm-client", ["sbatch", "scancel", "sinfo", "squeue"]),
     Package("slurm-wlm", ["slurmctld", "slurmd"]),
 ]
-
-# The scripts that need a module of Python which is not Python's own.
-MODULES = {"check-dictionary": "jsonschema", "recording-to-bits": "numpy", "vcd-to-bits": "numpy"}
 
 LEAST_NODE = 20
 
@@ -131,10 +127,6 @@ def needs(*programs: str) -> None:
 def needs_module(name: str) -> None:
     if not has_module(name):
         raise Skipped(told_of(name))
-
-
-def lacks_module(script: str) -> bool:
-    return script in MODULES and not has_module(MODULES[script])
 
 
 def needs_file(name: str) -> None:

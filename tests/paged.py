@@ -32,8 +32,8 @@ NODE = ["node", "--no-warnings", "--experimental-wasm-memory64"]
 # The test that says how long something may take.
 TIMED = "statistics-api.test.js"
 
-# By how the name of a test begins, the module that the script needs with which it compares.
-MODULES = {"recording": "numpy", "dictionary-check": "jsonschema", "dictionary": "tomllib"}
+# By how the name of a test begins, the module of Python that makes its inputs, or against which it compares.
+MODULES = {"recording-cabinets": "numpy", "recording-session": "numpy", "dictionary": "tomllib"}
 
 SECONDS = 1800
 
@@ -138,6 +138,7 @@ def problems_of_layout() -> List[str]:
 def sources_of_page() -> Iterator[Path]:
     page = TOP / "page"
     yield from [page / "build", page / "index.html", page / "style.css", *(page / "src").rglob("*.js")]
+    yield from (TOP / "scripts" / "modules").rglob("*.js")
     examples = [TOP / "examples" / name for name in ("dictionary.schema.json", "port1-failure.bits", "port1-failure.toml")]
     yield from [*examples, TOP / "crates" / "bus_tool" / "src" / "arguments.rt"]
     yield from sources_of(TOP, "port1_c")
@@ -613,7 +614,7 @@ def take_picture(page: Path, file: Path) -> List[str]:
 
 def tests_of(page: Path, is_long: bool) -> Iterator[Test]:
     yield Test("build", partial(problems_of_build, page), is_alone=True)
-    for file in sorted((TOP / "page" / "tests").glob("*.test.js")):
+    for file in sorted([*TOP.glob("page/tests/*.test.js"), *TOP.glob("scripts/modules/tests/*.test.js")]):
         yield Test(f"modules: {file.name}", partial(problems_of_modules, file, is_long), file.name == TIMED)
     yield Test("the layout of the library", problems_of_layout)
     yield Test("listings: examples", partial(problems_of_jobs, page, example_jobs))

@@ -14,7 +14,7 @@ from itertools import takewhile
 from pathlib import Path
 from typing import FrozenSet, Iterator, List, Tuple
 
-from needs import MODULES, Skipped, needs, needs_module
+from needs import Skipped, needs
 
 TOP = Path(__file__).resolve().parent.parent
 
@@ -37,7 +37,7 @@ PROMPT = f"{INDENT}$ "
 HEADINGS = ("## ", "**")
 
 # The programs of other projects that examples may need.
-FOREIGN = {"parallel", "sigrok-cli", "text2pcap", "tshark"}
+FOREIGN = {"parallel", "sigrok-cli", "tshark"}
 
 # A variable that is set for the examples after it.
 ASSIGNMENT = re.compile(r"[A-Z]+=\"[^\"]*\"")
@@ -106,8 +106,6 @@ def missing_tool(example: Example) -> str:
     its heading, whose files it may read; or nothing."""
     try:
         needs(*sorted(FOREIGN & example.words))
-        for word in sorted(MODULES.keys() & example.words):
-            needs_module(MODULES[word])
     except Skipped as why:
         return str(why)
     return ""

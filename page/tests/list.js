@@ -7,8 +7,8 @@
  * of a dictionary, and of a recording its channels and edges. RESULTS are the texts, notes and faults, in that order.
  */
 import { openAsBlob, readFileSync, writeFileSync } from "node:fs";
-import { readDictionary } from "../src/dictionary/dictionary.js";
-import { Fault } from "../src/fault.js";
+import { readDictionary } from "../../scripts/modules/dictionary/dictionary.js";
+import { Fault } from "../../scripts/modules/fault.js";
 import { formOf, HEAD } from "../src/worker/forms.js";
 import { read } from "../src/worker/source.js";
 

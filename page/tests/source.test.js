@@ -2,7 +2,7 @@
 
 import assert from "node:assert/strict";
 import { test } from "node:test";
-import { Fault } from "../src/fault.js";
+import { Fault } from "../../scripts/modules/fault.js";
 import { piecesOf } from "../src/worker/pieces.js";
 import { read } from "../src/worker/source.js";
 
@@ -28,7 +28,7 @@ for (const cut of [1, 5, 9]) {
 }
 
 test("a wrong line that is not the last is a fault", async () => {
-  const wanted = { constructor: Fault, message: "line 51 is no line of `port1 list`: what" };
+  const wanted = { constructor: Fault, message: 'line 51 is no line of `port1 list`: "what"' };
   await assert.rejects(readText(`${LINES.join("")}what\n${LINES.join("")}cut of`), wanted);
 });
 

@@ -3,7 +3,7 @@
 import assert from "node:assert/strict";
 import { test } from "node:test";
 import { KeptBits } from "../src/engine/bits.js";
-import { ListingReader } from "../src/listing/read.js";
+import { ListingReader } from "../../scripts/modules/listing/read.js";
 import { structureOf } from "../src/worker/structure.js";
 
 const FLAG = "01111110";

@@ -6,10 +6,10 @@ import random
 import re
 import subprocess
 import sys
+from decimal import ROUND_HALF_UP, Decimal
 from pathlib import Path
 from typing import Any, Dict, Iterator, List, Sequence, Tuple
 
-from common.histogram import Histogram
 from tests.case import SCRIPTS, SECONDS, TOP, Run, listed, ran
 from tests.failing_bus import RATE, ROUNDS, failing_bus
 
@@ -25,115 +25,21 @@ MOST_MEMORY = 60_000
 # How much more memory ten times as many lines may take, in KiB.
 MORE_MEMORY = 4_000
 
-# Each kind of line of a listing of one line of the bus.
-ONE_LINE = b"""\
-8 49 frame 108300fde5 station 16 type 0 call
-149 190 frame 108380f561 station 16 type 128 reply
-8 49 answered station 16 type 0
-198 214 damaged unaligned
-214 230 overlong
-230 238 abort
-238 253 idle
-307200 307232 frame 1083452c untyped
-307240 307272 frame 1013ccb8 control 19
-307280 307330 frame 10830aaabbfe13 station 16 type 10 unknown
-307340 307381 frame 108380f561 station 16 type 128 reply
-307340 307381 stray station 16 type 128
-307390 307431 missing station 17 type 1
-307390 307431 spoilt station 17 type 1
-307500 307501 open
-307390 307431 pending station 17 type 1
-"""
+VECTORS = json.loads((TOP / "examples" / "vectors" / "listings.json").read_text(encoding="ascii"))
 
-ONE_LINE_OBJECTS = b"""\
-{"first": 8, "past": 49, "kind": "frame", "octets": "108300fde5", "station": 16, "type": 0, "name": "call"}
-{"first": 149, "past": 190, "kind": "frame", "octets": "108380f561", "station": 16, "type": 128, "name": "reply"}
-{"first": 8, "past": 49, "kind": "answered", "station": 16, "type": 0, "reply_bits": 100}
-{"first": 198, "past": 214, "kind": "damaged", "cause": "unaligned"}
-{"first": 214, "past": 230, "kind": "overlong"}
-{"first": 230, "past": 238, "kind": "abort"}
-{"first": 238, "past": 253, "kind": "idle"}
-{"first": 307200, "past": 307232, "kind": "frame", "octets": "1083452c", "station": 16}
-{"first": 307240, "past": 307272, "kind": "frame", "octets": "1013ccb8", "station": 16}
-{"first": 307280, "past": 307330, "kind": "frame", "octets": "10830aaabbfe13", "station": 16, "type": 10, \
-"name": "unknown"}
-{"first": 307340, "past": 307381, "kind": "frame", "octets": "108380f561", "station": 16, "type": 128, "name": "reply"}
-{"first": 307340, "past": 307381, "kind": "stray", "station": 16, "type": 128}
-{"first": 307390, "past": 307431, "kind": "missing", "station": 17, "type": 1}
-{"first": 307390, "past": 307431, "kind": "spoilt", "station": 17, "type": 1}
-{"first": 307500, "past": 307501, "kind": "open"}
-{"first": 307390, "past": 307431, "kind": "pending", "station": 17, "type": 1}
-"""
 
-TWO_LINES = b"""\
-2 0 15 idle
-1 153600 153641 frame 108300fde5 station 16 type 0 call
-2 154409 154450 frame 108380f561 station 16 type 128 reply
-1 153600 153641 late station 16 type 0
-"""
+def text_of(lines: Sequence[str]) -> bytes:
+    return "".join(line + "\n" for line in lines).encode()
 
-TWO_LINES_OBJECTS = b"""\
-{"line": 2, "first": 0, "past": 15, "kind": "idle", "time": 0.0}
-{"line": 1, "first": 153600, "past": 153641, "kind": "frame", "octets": "108300fde5", "station": 16, "type": 0, \
-"name": "call", "time": 1.0}
-{"line": 2, "first": 154409, "past": 154450, "kind": "frame", "octets": "108380f561", "station": 16, "type": 128, \
-"name": "reply", "time": 1.005266927}
-{"line": 1, "first": 153600, "past": 153641, "kind": "late", "station": 16, "type": 0, "reply_bits": 768, \
-"time": 1.0, "reply_ms": 5.0}
-"""
 
-# The lines of a listing without a dictionary: three commands to two stations with answers, of two lengths, and others.
-PLAIN = b"""\
-8 49 frame 108300fde5
-149 190 frame 108380f561
-300 341 frame 118300fde5
-341 356 idle
-441 482 frame 118380f561
-500 541 frame 108300fde5
-548 564 damaged fcs
-600 641 frame 108380f561
-700 757 frame 138301aabbfde5
-800 849 frame 158301aafde5
-900 949 frame 158301aafde5
-1000 1032 frame 1083452c
-1100 1149 frame 108385aafde5
-"""
+def listing_named(name: str) -> bytes:
+    """The listing of a vector."""
+    return next(text_of(row["listing"]) for row in VECTORS if row["name"] == name)
 
-DRAFT = b"""\
-# Drafted from a listing: numbers, lengths and `answered` are as seen there, the names are to be given by hand.
-version = 2
-# Left out: 1 frame with another control octet than 131, or without a type.
 
-# 3 frames, to stations 16, 17.
-[[frame]]
-type = 0
-name = "type0"
-length = 0
-answered = true
-# The longest time from a command to its answer was 100 bits; all 2 answers began within it.
-# window = 100
-
-# 3 frames, from stations 16, 17.
-[[frame]]
-type = 128
-name = "type128"
-length = 0
-
-# 3 frames, to stations 19, 21.
-# THE LENGTHS DIFFER: 1 in 2 frames, 2 in 1 frame.
-# Not marked as answered: no frame of type 129 was seen.
-[[frame]]
-type = 1
-name = "type1"
-length = 1
-
-# 1 frame, from station 16.
-# No command of type 5 was seen.
-[[frame]]
-type = 133
-name = "type133"
-length = 1
-"""
+# Each kind of line of a listing of one line of the bus; of two lines; and one without a dictionary, with three commands
+# to two stations with answers, of two lengths, and others.
+ONE_LINE, TWO_LINES, PLAIN = map(listing_named, ["each kind of line", "two lines, with times", "a draft"])
 
 
 class Listing:
@@ -176,61 +82,17 @@ def good_listing() -> Listing:
     return listing
 
 
-GOOD = b"""\
-0.031 s of one line at 153600 bits a second: 8 frames, 0 damaged pieces.
-
-Nothing is wrong: nothing is damaged, missing, spoilt or late, and no gap between commands stands out.
-
-                                                     bad  reply                     gap
-station type name sent answered late missing spoilt    %    min median 99 %  max  usual longest from s
-     16    0 call    4        4    0       0      0  0.0   0.65   0.65 0.65 0.65  10.00   10.00  0.000
-"""
-
-NAMELESS = b"""\
-0.007 s of one line at 153600 bits a second: 11 frames, 1 damaged piece.
-
-What is wrong, the most serious first:
-1. 1 piece is damaged; see below.
-The listing was made without a dictionary: which commands were answered, and when, is not known.
-
-                                                     bad  reply                    gap
-station type name sent answered late missing spoilt    %    min median 99 % max  usual longest from s
-     16    0 -       2        -    -       -      -    -      -      -    -   -      -    3.20  0.000
-     17    0 -       1        -    -       -      -    -      -      -    -   -      -       -      -
-     19    1 -       1        -    -       -      -    -      -      -    -   -      -       -      -
-     21    1 -       2        -    -       -      -    -      -      -    -   -      -    0.65  0.005
-
-Damage by cause: 1 fcs.
-"""
-
 EMPTY = b"""\
 0.000 s of one line at 153600 bits a second: 0 frames, 0 damaged pieces.
 
 The listing is empty: nothing is known of the bus. Where a fault was told, mend that first.
 """
 
-NO_FRAMES = b"""\
-0.000 s of one line at 153600 bits a second: 0 frames, 0 damaged pieces.
-
-The listing has no frames: the bus had none, or a filter left them out.
-"""
-
-UNANSWERED = b"""\
-0.001 s of one line at 153600 bits a second: 2 frames, 0 damaged pieces.
-
-Nothing is wrong: nothing is damaged, missing, spoilt or late, and no gap between commands stands out.
-No command asked for an answer: the dictionary may lack `answered = true`.
-
-                                                     bad  reply                    gap
-station type name sent answered late missing spoilt    %    min median 99 % max  usual longest from s
-     16    0 call    1        -    -       -      -    -      -      -    -   -      -       -      -
-"""
-
-RATE_USAGE = "usage: {0} [-h] [--rate RATE]\n{0}: error: argument --rate: '{1}' is no whole number above 0\n"
+RATE_USAGE = "usage: {0} [-h] [--rate RATE]\n{0}: error: --rate: \"{1}\" is no whole number above 0\n"
 
 NO_TYPE = "the listing has no frame of a type"
 
-DRAFT_USAGE = "usage: draft-dictionary [-h]\ndraft-dictionary: error: unrecognized arguments: x.txt\n"
+DRAFT_USAGE = "usage: draft-dictionary [-h]\ndraft-dictionary: error: x.txt is one word too many\n"
 
 # Texts that are no line of a listing.
 BAD_LINES = [
@@ -240,12 +102,11 @@ BAD_LINES = [
 
 
 def bad_line(script: str, text: str) -> str:
-    return f"{script}: line 2 is no line of `port1 list`: {text.rstrip()!r}\n"
+    return f"{script}: line 2 is no line of `port1 list`: {json.dumps(text.rstrip())}\n"
 
 
 RUNS = [
-    Run("each kind of line", ["list-to-jsonl"], ONE_LINE, ONE_LINE_OBJECTS),
-    Run("two lines, with times", ["list-to-jsonl", "--rate", "153600"], TWO_LINES, TWO_LINES_OBJECTS),
+    *(Run(row["name"], row["words"], text_of(row["listing"]), text_of(row["output"])) for row in VECTORS),
     Run("nothing", ["list-to-jsonl"], b""),
     Run("a last line without an end", ["list-to-jsonl"], b"8 9 open", b'{"first": 8, "past": 9, "kind": "open"}\n'),
     Run("no rate", ["list-to-jsonl", "--rate", "0"], b"", b"", RATE_USAGE.format("list-to-jsonl", "0"), 2),
@@ -254,7 +115,7 @@ RUNS = [
         ["list-to-jsonl"],
         b"8 9 open\n\xff8 9 open\n",
         b'{"first": 8, "past": 9, "kind": "open"}\n',
-        "list-to-jsonl: line 2 is no line of `port1 list`: '\\\\xff8 9 open'\n",
+        "list-to-jsonl: line 2 is no line of `port1 list`: \"\ufffd8 9 open\"\n",
         2,
     ),
     *(
@@ -268,18 +129,12 @@ RUNS = [
         )
         for text in BAD_LINES
     ),
-    Run("a draft", ["draft-dictionary"], PLAIN, DRAFT),
     Run("no typed frame", ["draft-dictionary"], b"8 40 frame 1083452c\n", b"", f"draft-dictionary: {NO_TYPE}\n", 2),
     Run("no line", ["draft-dictionary"], b"8 9 open\n8 9\n", b"", bad_line("draft-dictionary", "8 9"), 2),
     Run("a wrong call", ["draft-dictionary", "x.txt"], b"", b"", DRAFT_USAGE, 2),
-    Run("nothing wrong", ["bus-summary"], good_listing().of_one_line(), GOOD),
-    Run("two lines", ["bus-summary"], good_listing().octets(), GOOD.replace(b"one line", b"two lines")),
-    Run("no dictionary", ["bus-summary"], PLAIN, NAMELESS),
     Run("an empty listing", ["bus-summary"], b"", EMPTY),
-    Run("no frames", ["bus-summary"], b"8 23 idle\n", NO_FRAMES),
-    Run("no verdicts", ["bus-summary"], b"".join(ONE_LINE.splitlines(True)[:2]), UNANSWERED),
     Run("no line", ["bus-summary"], b"8 9 open\n8 9\n", b"", bad_line("bus-summary", "8 9"), 2),
-    Run("no rate", ["bus-summary", "--rate", "-1"], b"", b"", RATE_USAGE.format("bus-summary", "-1"), 2),
+    Run("no rate", ["bus-summary", "--rate=-1"], b"", b"", RATE_USAGE.format("bus-summary", "-1"), 2),
 ]
 
 
@@ -497,6 +352,11 @@ def quantile(times: Sequence[int], percent: int) -> int:
     return next(time for time in sorted(times) if 100 * sum(other <= time for other in times) >= percent * len(times))
 
 
+def shown(value: float, decimals: int) -> str:
+    """A number with so many decimals; from halfway it is rounded up."""
+    return str(Decimal(value).quantize(Decimal(1).scaleb(-decimals), ROUND_HALF_UP))
+
+
 def reply_times(_: Path) -> List[str]:
     """Known times, of which short ones are told exactly, and long ones as near as two digits show."""
     generator = random.Random(11)
@@ -508,34 +368,11 @@ def reply_times(_: Path) -> List[str]:
             listing.exchange(16, 0, number * 200_000, reply_bits, generator.choice(["answered", "late"]))
         got = table_of(summary_of(listing.octets()))[16, 0][6:10]
         wanted = [min(times), quantile(times, 50), quantile(times, 99), max(times)]
-        exact = [f"{1000 * bits / RATE:.2f}" for bits in wanted]
-        far = [abs(float(shown) * RATE / 1000 - bits) > 0.00013 * bits + 1 for shown, bits in zip(got, wanted)]
+        exact = [shown(1000 * bits / RATE, 2) for bits in wanted]
+        far = [abs(float(text) * RATE / 1000 - bits) > 0.00013 * bits + 1 for text, bits in zip(got, wanted)]
         if any(far) or (most <= 16384 and got != exact):
             problems.append(f"{count} times up to {most} bits: wanted {exact}, got {got}")
     return problems
-
-
-def histograms(_: Path) -> List[str]:
-    """Against lists, and that memory is bounded."""
-    generator = random.Random(12)
-    problems = []
-    for _round in range(60):
-        numbers = [generator.randrange(1 << generator.randrange(1, 40)) for _ in range(generator.randrange(1, 60))]
-        halves = [Histogram(), Histogram()]
-        for number in numbers:
-            generator.choice(halves).add(number)
-        both = halves[0].with_those_of(halves[1])
-        problems += differing((min(numbers), max(numbers), len(numbers)), (both.least, both.most, both.total), "ends")
-        for percent in (1, 50, 90, 99, 100):
-            exact = quantile(numbers, percent)
-            if not exact * 0.99987 <= both.quantile(percent) <= exact:
-                problems.append(f"{percent} % of {numbers}: {both.quantile(percent)}, not {exact}")
-        limit = generator.randrange(16384)
-        problems += differing(sum(number > limit for number in numbers), both.above(limit), "above")
-    full = Histogram()
-    for number in range(0, 1 << 22, 7):
-        full.add(number)
-    return problems + ([] if len(full.counts) <= 16384 + 8 * 8192 else [f"{len(full.counts)} counts"])
 
 
 def damage_in_time(_: Path) -> List[str]:
@@ -557,7 +394,7 @@ def damage_in_time(_: Path) -> List[str]:
         lines = summary_of(listing.octets()).partition("Most of it lies here:\n")[2].splitlines()
         counts = [(begin, end, sum(begin * RATE <= place < end * RATE for place in places)) for begin, end, _ in wanted]
         texts = [
-            f"  {begin}.000 to {end}.000 s: {count} pieces, {100 * count / len(places):.0f} % of all"
+            f"  {begin}.000 to {end}.000 s: {count} pieces, {shown(100 * count / len(places), 0)} % of all"
             for begin, end, count in counts
         ]
         problems += differing(texts, lines, "stretches")
@@ -762,7 +599,6 @@ TESTS = [
     exchanged_lines,
     many_of_one_sort,
     reply_times,
-    histograms,
     damage_in_time,
     example_is_generated,
     example_places,

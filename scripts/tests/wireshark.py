@@ -34,7 +34,7 @@ RUNS = [
         ["list-to-pcap", "1", "--text"],
         b"frames 2\n",
         b"",
-        "list-to-pcap: line 1 is no line of `port1 list`: 'frames 2'\n",
+        "list-to-pcap: line 1 is no line of `port1 list`: \"frames 2\"\n",
         2,
     ),
     Run(
@@ -42,7 +42,7 @@ RUNS = [
         ["dictionary-to-lua"],
         b"version = 1\n",
         b"",
-        "dictionary-to-lua: no dictionary: 'frame'; see check-dictionary\n",
+        "dictionary-to-lua: dictionary: no frames\n",
         2,
     ),
 ]
@@ -72,7 +72,7 @@ def compared(got: Any, wanted: Any) -> List[str]:
 # Capture files of list-to-pcap.
 
 # How Wireshark shows the directions of a packet.
-UNSAID, INBOUND, OUTBOUND = "0x00000000", "0x00000001", "0x00000002"
+INBOUND, OUTBOUND = "0x00000001", "0x00000002"
 
 TWO_LINES = b"""1 0 7 damaged short
 1 8 49 frame 108300fde5 station 16 type 0 call
@@ -113,14 +113,8 @@ TWO_LINES_PACKETS = [
 SAID = ["frame.packet_flags_direction", "frame.time_epoch", "frame.comment"]
 
 
-def needs_all() -> None:
-    for tool in ("text2pcap", "editcap", "mergecap", "tshark"):
-        needs(tool)
-
-
-def pcap_by_text2pcap(folder: Path) -> List[str]:
-    """The real text2pcap makes a file with the link type and the packets that were asked for."""
-    needs("text2pcap")
+def pcap_octet_by_octet(folder: Path) -> List[str]:
+    """A file with the link type and the packets that were asked for."""
     path = folder / "x.pcap"
     got = ran(["list-to-pcap", RATE, str(path)], b"8 49 frame 108300fde5\n153608 153649 frame 108380f561\n")
     if got.returncode != 0:
@@ -137,7 +131,6 @@ def pcap_by_text2pcap(folder: Path) -> List[str]:
 
 def pcap_in_tshark(folder: Path) -> List[str]:
     """The real tshark reads the addresses and control octets that went in."""
-    needs("text2pcap")
     needs("tshark")
     path = folder / "y.pcap"
     ran(["list-to-pcap", RATE, str(path)], b"8 49 frame 108300fde5\n57 98 frame ff83095a3b\n")
@@ -147,7 +140,7 @@ def pcap_in_tshark(folder: Path) -> List[str]:
 
 def pcapng_of_two_lines(folder: Path) -> List[str]:
     """Directions, times and comments of a listing of two lines, all that a comment may say."""
-    needs_all()
+    needs("tshark")
     path = folder / "z.pcapng"
     got = ran(["list-to-pcap", RATE, path], TWO_LINES)
     told = compared((got.returncode, got.stdout, got.stderr), (0, b"", b""))
@@ -157,21 +150,31 @@ def pcapng_of_two_lines(folder: Path) -> List[str]:
     return told + compared(columns(folder, path, SAID), TWO_LINES_PACKETS)
 
 
+def pcapng_of_the_same_places(folder: Path) -> List[str]:
+    """What is said of a frame is not said of the frame on the other line that has the same places."""
+    needs("tshark")
+    path = folder / "z.pcapng"
+    listing = b"1 8 49 frame 108300fde5\n2 8 49 frame 118380f561\n2 8 49 stray station 17 type 128\n"
+    got = ran(["list-to-pcap", RATE, path], listing)
+    wanted = [[OUTBOUND, "0.000052000", ""], [INBOUND, "0.000052000", "stray"]]
+    return compared(got.stderr, b"") + compared(columns(folder, path, SAID), wanted)
+
+
 def pcapng_of_one_line(folder: Path) -> List[str]:
     """A listing of one line says nothing of directions; of much damage a comment tells the first eight."""
-    needs_all()
+    needs("tshark")
     path = folder / "z.pcapng"
     damage = [f"{place} {place + 9} damaged short" for place in range(60, 160, 10)]
     listing = "\n".join(["8 49 frame 108300fde5", *damage, "200 241 frame 108380f561", ""])
     got = ran(["list-to-pcap", RATE, path], listing.encode())
     comment = "; ".join([f"then {line}" for line in damage[:8]] + ["and 2 more"])
-    wanted = [[UNSAID, "0.000052000", comment], [UNSAID, "0.001302000", ""]]
+    wanted = [["", "0.000052000", comment], ["", "0.001302000", ""]]
     return compared(got.stderr, b"") + compared(columns(folder, path, SAID), wanted)
 
 
-def pcapng_of_many_parts(folder: Path) -> List[str]:
-    """Packets that go in by parts stay in order, each with its own comment."""
-    needs_all()
+def pcapng_of_many_packets(folder: Path) -> List[str]:
+    """Many packets stay in order, each with its own comment."""
+    needs("tshark")
     path = folder / "z.pcapng"
     texts, wanted = [], []
     for number in range(25_000):
@@ -191,39 +194,23 @@ def pcapng_of_many_parts(folder: Path) -> List[str]:
 
 def pcapng_of_nothing(folder: Path) -> List[str]:
     """A listing without frames is a capture without packets; a fault leaves no capture."""
-    needs_all()
+    needs("tshark")
     empty, bad = folder / "empty.pcapng", folder / "bad.pcapng"
     got = ran(["list-to-pcap", RATE, empty], b"8 30 damaged short\n")
     fault = ran(["list-to-pcap", RATE, bad], b"8 49 frame 108300fde5\nframe\n")
-    told = b"list-to-pcap: line 2 is no line of `port1 list`: 'frame'\n"
+    told = b'list-to-pcap: line 2 is no line of `port1 list`: "frame"\n'
     return compared(
-        (got.returncode, columns(folder, empty, SAID), fault.returncode, fault.stderr, bad.exists()),
-        (0, [], 2, told, False),
+        (got.returncode, columns(folder, empty, SAID), fault.returncode, fault.stderr, list(folder.glob("bad*"))),
+        (0, [], 2, told, []),
     )
-
-
-def failing_text2pcap(folder: Path) -> List[str]:
-    """Where a program of Wireshark's fails, whether it has read or not, it is told with what that says."""
-    stand_in = folder / "text2pcap"
-    listing = b"8 49 frame 108300fde5\n" * 20_000
-    problems = []
-    for reads in ("cat > read; ", ""):
-        stand_in.write_text(f"#!/bin/sh\n{reads}echo no room >&2\nexit 3\n", encoding="ascii")
-        stand_in.chmod(0o755)
-        path = {**os.environ, "PATH": f"{folder}:{os.environ.get('PATH', os.defpath)}"}
-        for name in ("x.pcap", "x.pcapng"):
-            got = ran(["list-to-pcap", RATE, folder / name], listing, cwd=folder, env=path)
-            told = b"list-to-pcap: text2pcap ended with status 3: no room\n"
-            problems += compared((got.returncode, got.stdout, got.stderr), (2, b"", told))
-    return problems
 
 
 def wrong_calls(folder: Path) -> List[str]:
     """Usage and reason on standard error, with status 2."""
     calls = {
         "no whole number above 0": ["list-to-pcap", "0", "x.pcap"],
-        "is required": ["list-to-pcap", RATE],
-        "not allowed with": ["list-to-pcap", RATE, "x.pcap", "--text"],
+        "there is no FILE": ["list-to-pcap", RATE],
+        "takes no FILE": ["list-to-pcap", RATE, "x.pcap", "--text"],
         "no name of lower-case letters": ["dictionary-to-lua", "--name", "Port 1"],
     }
     problems = []
@@ -243,9 +230,9 @@ name = 'q"u\\o]]%s%n'
 length = 0
 [[frame]]
 type = 9
-name = "Gr\\u00fcn-\\u4ea4"
+name = "Gr[n]-4"
 length = 2
-bits = [ { at = 0, name = '"' }, { at = 9, name = '\\' }, { at = 2, name = "\\u00fc" }, { at = 15, name = "1" } ]
+bits = [ { at = 0, name = '"' }, { at = 9, name = '\\' }, { at = 2, name = "#" }, { at = 15, name = "1" } ]
 [[frame]]
 type = 10
 name = "Walk"
@@ -322,7 +309,7 @@ def dissector_fields(folder: Path) -> List[str]:
     head = {"port1.station": "16", "port1.control": "0x83"}
     other = {"port1.station": "17", "port1.control": "0x83"}
     got = layers(folder, dissected(folder))
-    zero, nine = 'q"u\\o]]%s%n', "Gr\u00fcn-\u4ea4"
+    zero, nine = 'q"u\\o]]%s%n', "Gr[n]-4"
     bits = [f"port1.bit.{name}" for name in ("_", "__2", "__3", "1")]
     typed = {**head, "port1.type": "9", "port1.name": nine}
     wanted = {
@@ -347,10 +334,10 @@ def dissector_names(folder: Path) -> List[str]:
     wanted = [
         'NEMA TS 2 Port 1, station 16 type 0 q"u\\o]]%s%n',
         'Type: q"u\\o]]%s%n (0)',
-        "Name: Gr\u00fcn-\u4ea4",
+        "Name: Gr[n]-4",
         '.... ...1 = ": True',
         ".... ..1. = \\: True",
-        ".... .1.. = \u00fc: True",
+        ".... .1.. = #: True",
         "1... .... = A-b: True",
     ]
     return [f"no {line!r} in {text!r}" for line in wanted if line not in text]
@@ -431,7 +418,7 @@ def dissector_of_other_name(folder: Path) -> List[str]:
 
 def dissector_of_a_listing(folder: Path) -> List[str]:
     """From the bits of two lines to named packets, with what became of the commands."""
-    needs_all()
+    needs("tshark")
     words = dissected(folder, WINDOWS)[:2]
     capture = (TOP / "examples" / "two-lines.bits").read_bytes()
     path = folder / "two-lines.pcapng"
@@ -452,13 +439,13 @@ def dissector_of_a_listing(folder: Path) -> List[str]:
 
 
 TESTS = [
-    pcap_by_text2pcap,
+    pcap_octet_by_octet,
     pcap_in_tshark,
     pcapng_of_two_lines,
+    pcapng_of_the_same_places,
     pcapng_of_one_line,
-    pcapng_of_many_parts,
+    pcapng_of_many_packets,
     pcapng_of_nothing,
-    failing_text2pcap,
     wrong_calls,
     dissector_fields,
     dissector_names,

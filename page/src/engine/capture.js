@@ -1,4 +1,4 @@
-import { Fault } from "../fault.js";
+import { Fault } from "../../../scripts/modules/fault.js";
 import { BLOCK } from "./decoder.js";
 
 /** What each octet of a text capture is: a mark of one line or two, skipped, or else. */

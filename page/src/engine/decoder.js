@@ -1,5 +1,5 @@
-import { FRAME, IDLE, OPEN, PENDING, SPOILT, STRAY } from "../listing/kinds.js";
-import { Listing, WRONG_LENGTH } from "../listing/listing.js";
+import { FRAME, IDLE, OPEN, PENDING, SPOILT, STRAY } from "../../../scripts/modules/listing/kinds.js";
+import { Listing, WRONG_LENGTH } from "../../../scripts/modules/listing/listing.js";
 import { BEFORE_LENGTH, ENTRY, LINE, MOST_OCTETS, PAIR, REPORT, SEEN, TYPES } from "./layout.js";
 
 /** How many octets of bits a line is given at once, at most. */

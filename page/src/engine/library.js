@@ -1,4 +1,4 @@
-import { Fault } from "../fault.js";
+import { Fault } from "../../../scripts/modules/fault.js";
 
 const PAGE = 65536;
 

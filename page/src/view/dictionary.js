@@ -1,4 +1,4 @@
-import { counted } from "../statistics/units.js";
+import { counted } from "../../../scripts/modules/statistics/units.js";
 import { element, make, save } from "./dom.js";
 
 /** After so many milliseconds without a key, an edited dictionary is read. */

@@ -1,7 +1,7 @@
 import { canRun } from "../engine/library.js";
-import { KINDS } from "../listing/kinds.js";
-import { RATE } from "../port1.js";
-import { counted } from "../statistics/units.js";
+import { KINDS } from "../../../scripts/modules/listing/kinds.js";
+import { RATE } from "../../../scripts/modules/port1.js";
+import { counted } from "../../../scripts/modules/statistics/units.js";
 import { callerOf } from "../worker/rpc.js";
 import { Banners } from "./banners.js";
 import { Bar } from "./bar.js";

@@ -1,6 +1,6 @@
 import { axisBottom } from "d3-axis";
 import { scaleLinear } from "d3-scale";
-import { lengthOf } from "../findings/causes.js";
+import { lengthOf } from "../../../scripts/modules/findings/causes.js";
 import { drawDigits, heightOfDigits } from "./digits.js";
 import { SIGNS } from "./signs.js";
 import { seconds } from "./units.js";

@@ -1,12 +1,11 @@
-import { fixed } from "../statistics/numbers.js";
-import { counted } from "../statistics/units.js";
+import { counted } from "../../../scripts/modules/statistics/units.js";
 import { element, fillList, make } from "./dom.js";
 
 /** The columns that are bad where they are not 0, and those of a gap that is reported. */
 const BAD = new Set(["late", "missing", "spoilt"]);
 const OF_GAP = new Set(["longest", "from s"]);
 
-/** The table of stations and types. @param {import("../findings/findings.js").Finding[]} findings */
+/** The table of stations and types. @param {import("../../../scripts/modules/findings/findings.js").Finding[]} findings */
 export function showTable({ heads, rows }, findings) {
   const gaps = findings.filter(({ sort }) => sort === "gap").map(({ kind }) => kind);
   const head = make("tr");
@@ -40,7 +39,7 @@ function cellOf(text, { name, isLeft }, hasGap) {
 /** The damage by its cause, and where most of it lies. */
 export function showDamage({ sentence, where, stretches }, count) {
   element("damage").textContent = sentence ? `${sentence} ${where}` : "Nothing is damaged.";
-  const told = stretches.map(({ text, pieces, share }) => `${text}: ${counted(pieces, "piece")}, ${fixed(share, 0)} % of all`);
+  const told = stretches.map(({ text, pieces, share }) => `${text}: ${counted(pieces, "piece")}, ${share.toFixed(0)} % of all`);
   fillList(element("stretches"), told);
   element("tab-damage").textContent = count > 0 ? `Damage (${count})` : "Damage";
 }

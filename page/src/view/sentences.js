@@ -11,7 +11,7 @@ const STEPS = { ArrowRight: 1, ArrowDown: 1, ArrowLeft: -1, ArrowUp: -1 };
 
 /**
  * The sentences, each with the times of its places.
- * @typedef {import("../findings/findings.js").Finding} Finding
+ * @typedef {import("../../../scripts/modules/findings/findings.js").Finding} Finding
  */
 export class Sentences {
   /**

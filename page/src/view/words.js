@@ -27,7 +27,7 @@ const WARNINGS = {
   beyond: () => ["The stations' line goes on after the controller's ends, and is cut off there.", ""],
 };
 
-/** @param {import("../recording/doubts.js").Warning} warning @returns {Words} */
+/** @param {import("../../../scripts/modules/recording/doubts.js").Warning} warning @returns {Words} */
 export function wordsOf({ sort, name, count, second, text }) {
   const [said, cure = "", act = ""] = WARNINGS[sort]?.(name) ?? [text];
   const times = count > 1 ? `${count} times, first at ` : "At ";

@@ -1,4 +1,4 @@
-import { FRAME, IDLE, KINDS } from "../listing/kinds.js";
+import { FRAME, IDLE, KINDS } from "../../../scripts/modules/listing/kinds.js";
 
 /** How many lines are looked at before the worker may do something else. */
 const STRIDE = 100000;
@@ -32,7 +32,7 @@ function agrees(listing, at, demand) {
 
 /**
  * The lines that a query finds, all where it asks for nothing, and how many idle lines it left out.
- * @param {import("../listing/listing.js").Listing} listing
+ * @param {import("../../../scripts/modules/listing/listing.js").Listing} listing
  * @param {Query} query
  * @param {() => boolean} isOver whether another query came
  * @returns {Promise<{ rows: Uint32Array|null, idle: number }>}

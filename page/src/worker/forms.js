@@ -1,6 +1,6 @@
-import { isListing } from "../listing/read.js";
-import { formOf as formOfRecording } from "../recording/bits.js";
-import { characters } from "../recording/words.js";
+import { isListing } from "../../../scripts/modules/listing/read.js";
+import { formOf as formOfRecording } from "../../../scripts/modules/recording/bits.js";
+import { characters } from "../../../scripts/modules/recording/words.js";
 
 /** How many octets of a file tell its form. */
 export const HEAD = 65536;

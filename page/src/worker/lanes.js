@@ -1,5 +1,5 @@
-import { ABORT, DAMAGED, FRAME, KINDS, OVERLONG } from "../listing/kinds.js";
-import { ANSWER } from "../port1.js";
+import { ABORT, DAMAGED, FRAME, KINDS, OVERLONG } from "../../../scripts/modules/listing/kinds.js";
+import { ANSWER } from "../../../scripts/modules/port1.js";
 
 /** When there are more ticks than this in view, in all lanes, they are counted in bins. */
 const MOST_MARKS = 1500;
@@ -113,7 +113,7 @@ function shared(stations, sizeOf) {
 /** The timeline of a listing: a lane for each station, and one for the damage of each line. */
 export class Lanes {
   /**
-   * @param {import("../listing/listing.js").Listing} listing
+   * @param {import("../../../scripts/modules/listing/listing.js").Listing} listing
    * @param {Map<number, object[]>} gaps of stations
    * @param {Map<number, string>} names what is sent to them
    */

@@ -1,4 +1,4 @@
-import { FRAME } from "../listing/kinds.js";
+import { FRAME } from "../../../scripts/modules/listing/kinds.js";
 
 /** A line at rest is 1, and so most of its bits are. */
 const LEAST_ONES = 0.5;
@@ -19,8 +19,8 @@ function framesOf({ kinds, lines, length }, line) {
  * Warnings of the data of a recording, by its level: of a wire that never changes, and of one whose pair is exchanged.
  * @param {string[]} channels of the recording, as recording-to-bits takes them
  * @param {import("../engine/bits.js").KeptBits} bits
- * @param {import("../listing/listing.js").Listing} listing
- * @returns {import("../recording/doubts.js").Warning[]}
+ * @param {import("../../../scripts/modules/listing/listing.js").Listing} listing
+ * @returns {import("../../../scripts/modules/recording/doubts.js").Warning[]}
  */
 export function warningsOfLevels(channels, bits, listing) {
   const data = channels.length === 4 ? [channels[1], channels[3]] : channels.slice(1);

@@ -1,4 +1,4 @@
-import { octetsOf } from "../octets.js";
+import { octetsOf } from "../../../scripts/modules/octets.js";
 
 const PIECE = 1 << 22;
 

@@ -2,10 +2,10 @@ import { PackedReader, Packer, TextReader } from "../engine/capture.js";
 import { Decoder } from "../engine/decoder.js";
 import { KeptBits } from "../engine/bits.js";
 import { libraryOf } from "../engine/library.js";
-import { Fault } from "../fault.js";
-import { ListingReader } from "../listing/read.js";
-import { bitsOf } from "../recording/bits.js";
-import { sessionOf } from "../recording/session.js";
+import { Fault } from "../../../scripts/modules/fault.js";
+import { ListingReader } from "../../../scripts/modules/listing/read.js";
+import { bitsOf } from "../../../scripts/modules/recording/bits.js";
+import { sessionOf } from "../../../scripts/modules/recording/session.js";
 import { inWholeLines, piecesOf } from "./pieces.js";
 
 /**
@@ -27,11 +27,11 @@ import { inWholeLines, piecesOf } from "./pieces.js";
  * What was read.
  *
  * @typedef {object} Read
- * @property {import("../listing/listing.js").Listing} listing
+ * @property {import("../../../scripts/modules/listing/listing.js").Listing} listing
  * @property {KeptBits|null} bits
  * @property {string|null} fault at which reading stopped
  * @property {string[]} notes on a recording, its warnings among them
- * @property {import("../recording/doubts.js").Warning[]} warnings
+ * @property {import("../../../scripts/modules/recording/doubts.js").Warning[]} warnings
  */
 
 /** Forms that have lines, so that the end of a file that was cut off is known. */

@@ -11,7 +11,7 @@ const ONES = 5;
  */
 
 /**
- * @param {import("../listing/listing.js").Listing} listing
+ * @param {import("../../../scripts/modules/listing/listing.js").Listing} listing
  * @param {import("../engine/bits.js").KeptBits} bits
  * @param {number} row of a frame
  * @returns {Structure}

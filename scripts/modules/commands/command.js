@@ -1,0 +1,123 @@
+/**
+ * How the commands read their words, and how they end.
+ *
+ * Help goes to standard output, with status 0. Of a wrong call, usage and reason go to standard error, with status 2.
+ * Whatever else keeps a command from its work is one line on standard error, with status 2; where whoever read the
+ * output has gone, as `head` does, nothing is said.
+ */
+
+import { readFileSync, writeSync } from "node:fs";
+import { basename } from "node:path";
+import { parseArgs } from "node:util";
+import { Fault } from "../fault.js";
+
+/** What the command is called. */
+export const name = basename(process.argv[1], ".js");
+
+/** A wrong call. */
+class Misuse extends Error {}
+
+/** Writes all of some octets, also to a pipe that does not block. @param {Uint8Array} octets */
+export function write(octets, to = 1) {
+  for (let at = 0; at < octets.length; ) {
+    try {
+      at += writeSync(to, octets, at);
+    } catch (error) {
+      if (!isOfSystem(error, "EAGAIN")) throw error;
+      Atomics.wait(new Int32Array(new SharedArrayBuffer(4)), 0, 0, 1);
+    }
+  }
+}
+
+/** @param {string} text */
+export const writeText = (text) => write(Buffer.from(text));
+
+/** Writes a line on standard error. @param {string} text */
+export const warn = (text) => write(Buffer.from(`${name}: ${text}\n`), 2);
+
+/** Whether an error comes from the system, with this code if one is given. @param {any} error @param {string} [code] */
+const isOfSystem = (error, code = error.code) => error.code !== undefined && error.code === code;
+
+/** The text that --help writes: it begins with the usage, which ends with an empty line. */
+function help() {
+  const text = readFileSync(new URL(`${name}.txt`, import.meta.url), "utf8");
+  return text.replace(/^usage: \S+/, `usage: ${name}`);
+}
+
+/** A wrong call, and why. @param {string} text */
+export const misuse = (text) => new Misuse(`${help().split("\n\n")[0]}\n${name}: error: ${text}\n`);
+
+/**
+ * An option: what reads its value, or `true` where it takes none.
+ * @typedef {((text: string) => unknown)|true} Option
+ */
+
+/**
+ * The words of a call: the values of its options by name, and its other words, of which there are so many.
+ * @param {Record<string, Option>} [options]
+ * @param {string[]} [words] what each of the other words is
+ * @param {number} [most] how many of them there may be
+ * @returns {{ values: Record<string, any>, words: string[] }}
+ */
+export function wordsOf(options = {}, words = [], most = words.length) {
+  const typed = Object.entries(options).map(([key, read]) => [key, { type: read === true ? "boolean" : "string" }]);
+  const config = { options: { ...Object.fromEntries(typed), help: { type: "boolean", short: "h" } } };
+  const found = parsed(config);
+  if (found.values.help) {
+    writeText(help());
+    process.exit(0);
+  }
+  const others = found.positionals;
+  if (others.length < words.length) throw misuse(`there is no ${words[others.length]}`);
+  if (others.length > most) throw misuse(`${others[most]} is one word too many`);
+  const values = Object.entries(found.values).map(([key, value]) => {
+    const read = options[key];
+    return [key, read === true ? value : wordOf(`--${key}`, value, read)];
+  });
+  return { values: Object.fromEntries(values), words: others };
+}
+
+/** @param {any} config @returns {{ values: Record<string, any>, positionals: string[] }} */
+function parsed(config) {
+  try {
+    return parseArgs({ ...config, allowPositionals: true });
+  } catch (error) {
+    throw misuse(/** @type {Error} */ (error).message.replaceAll("\n", " "));
+  }
+}
+
+/** What one of the other words says. @template T @param {string} what @param {string} text @param {(text: string) => T} read */
+export function wordOf(what, text, read) {
+  try {
+    return read(text);
+  } catch (fault) {
+    throw fault instanceof Fault ? misuse(`${what}: ${fault.message}`) : fault;
+  }
+}
+
+/** A whole number above 0, for an option. @param {string} text */
+export function positive(text) {
+  if (!/^[0-9]*[1-9][0-9]*$/.test(text)) throw new Fault(`${JSON.stringify(text)} is no whole number above 0`);
+  return Number(text);
+}
+
+/** Says on standard error what keeps a command from its work. @param {unknown} error */
+function tell(error) {
+  if (error instanceof Misuse) write(Buffer.from(error.message), 2);
+  else if (error instanceof Fault || isOfSystem(error)) warn(/** @type {Error} */ (error).message);
+  else throw error;
+}
+
+/** Runs a command, and ends with its status. @param {() => Promise<number|void>|number|void} main */
+export async function run(main) {
+  process.on("SIGINT", () => {
+    warn("interrupted");
+    process.exit(130);
+  });
+  try {
+    process.exitCode = (await main()) ?? 0;
+  } catch (error) {
+    if (!isOfSystem(error, "EPIPE")) tell(error);
+    process.exit(2);
+  }
+}

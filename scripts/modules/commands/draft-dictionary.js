@@ -1,0 +1,10 @@
+import { Survey, draftOfSurvey } from "../dictionary/draft.js";
+import { run, wordsOf, writeText } from "./command.js";
+import { rowsOfInput } from "./input.js";
+
+run(async () => {
+  wordsOf();
+  const survey = new Survey();
+  for await (const rows of rowsOfInput()) survey.takeSome(rows);
+  writeText(draftOfSurvey(survey));
+});

@@ -1,0 +1,116 @@
+import { createHash } from "node:crypto";
+import { closeSync, existsSync, fstatSync, openSync, readFileSync, readSync } from "node:fs";
+import { basename, join } from "node:path";
+import { Readable } from "node:stream";
+import { createGzip } from "node:zlib";
+import { Fault } from "../fault.js";
+import { ListingReader } from "../listing/read.js";
+import { RATE } from "../port1.js";
+import { positive, run, wordsOf, writeText } from "./command.js";
+import { standardInput } from "./input.js";
+import { TOP } from "./program.js";
+
+/** Where the page is: in this repository, and where the scripts are installed. */
+const PAGES = ["page/out/port1.html", "page/port1.html"].map((page) => join(TOP, page));
+
+const ENGINE = /<script type="application\/wasm\+base64" id="engine">.*?<\/script>/s;
+
+const ABOUT = /(?<=<script type="application\/json" id="about">).*?(?=<\/script>)/s;
+
+/** Octets of one read of a recording. */
+const PIECE = 1 << 20;
+
+/** How each note begins. */
+const PREFIX = /^(?:recording|vcd)-to-bits: /;
+
+/** @type {Record<string, string>} */
+const ESCAPES = { "&": "&amp;", "<": "&lt;", ">": "&gt;", '"': "&quot;", "'": "&#x27;" };
+
+/** @param {string} text */
+const asHtml = (text) => text.replace(/[&<>"']/g, (character) => ESCAPES[character]);
+
+/** @param {string} file */
+function pageOf(file) {
+  if (!existsSync(file)) throw new Fault(`there is no page ${file}: \`make page\` builds it; --page says where it is`);
+  return readFileSync(file, "utf8");
+}
+
+/** What stands in the report before the listing, and after it. @param {string} page @param {{ title: string }} more */
+function partsOf(page, more) {
+  const known = ABOUT.exec(page);
+  if (!ENGINE.test(page) || known === null) throw new Fault("this is no page that `make page` built");
+  const about = JSON.stringify({ ...JSON.parse(known[0]), ...more }).replaceAll("<", "\\u003c");
+  const [before, after] = page.replace(ABOUT, () => about).split(ENGINE);
+  const titled = before.replace(/<title>.*?<\/title>/, () => `<title>${asHtml(more.title)}</title>`);
+  return [`${titled}<script type="application/gzip+base64" id="listing-data">`, `</script>${after}`];
+}
+
+/** @param {number} number */
+const twoDigits = (number) => String(number).padStart(2, "0");
+
+/** A date and time of day, here. @param {Date} date */
+function dateOf(date) {
+  const [month, day, hour, minute] = [date.getMonth() + 1, date.getDate(), date.getHours(), date.getMinutes()];
+  return `${date.getFullYear()}-${twoDigits(month)}-${twoDigits(day)} ${twoDigits(hour)}:${twoDigits(minute)}`;
+}
+
+/** What the report has of the recording's file. @param {string} recording */
+function factsOf(recording) {
+  const [file, digest, piece] = [openSync(recording, "r"), createHash("sha256"), new Uint8Array(PIECE)];
+  for (let count = readSync(file, piece); count > 0; count = readSync(file, piece)) digest.update(piece.subarray(0, count));
+  const { mtime, size } = fstatSync(file);
+  closeSync(file);
+  return { name: basename(recording), date: dateOf(mtime), size: String(size), sha256: digest.digest("hex") };
+}
+
+/** @param {string} notes */
+const notesOf = (notes) =>
+  readFileSync(notes, "utf8").split(/\r?\n/).filter((line) => line !== "").map((line) => line.replace(PREFIX, ""));
+
+/** The pieces of standard input, each of which has been read as lines of a listing. */
+async function* checked() {
+  const reader = new ListingReader();
+  for await (const piece of standardInput()) {
+    reader.take(piece);
+    reader.forget();
+    yield Buffer.from(piece);
+  }
+  reader.end();
+}
+
+/** @param {AsyncIterable<Buffer>} pieces */
+async function writeAsBase64(pieces) {
+  let rest = Buffer.alloc(0);
+  for await (const piece of pieces) {
+    const octets = Buffer.concat([rest, piece]);
+    const whole = octets.length - (octets.length % 3);
+    writeText(octets.toString("base64", 0, whole));
+    rest = octets.subarray(whole);
+  }
+  writeText(rest.toString("base64"));
+}
+
+/** The pieces as gzip. @param {AsyncIterable<Buffer>} pieces */
+function packed(pieces) {
+  const [source, gzip] = [Readable.from(pieces), createGzip()];
+  source.on("error", (fault) => gzip.destroy(fault));
+  return source.pipe(gzip);
+}
+
+const OPTIONS = { rate: positive, dictionary: String, command: String, recording: String, notes: String };
+
+run(async () => {
+  const { values, words: [title] } = wordsOf({ ...OPTIONS, bits: positive, page: String }, ["TITLE"]);
+  const { rate = RATE, command = "", recording, notes, bits } = values;
+  const dictionary = values.dictionary ? readFileSync(values.dictionary, "utf8") : "";
+  const page = pageOf(values.page ?? PAGES.find((file) => existsSync(file)) ?? PAGES[0]);
+  const [before, after] = partsOf(page, {
+    ...{ title, rate, dictionary, command },
+    ...(recording && { recording: factsOf(recording) }),
+    ...(bits && { bits }),
+    ...(notes && { notes: notesOf(notes) }),
+  });
+  writeText(before);
+  await writeAsBase64(packed(checked()));
+  writeText(after);
+});

@@ -1,0 +1,167 @@
+// Which keys and heads of tables may stand after others.
+
+/** @typedef {Map<string, any>} Table */
+
+/** The last part of a key. @param {readonly string[]} key */
+const lastOf = (key) => key[key.length - 1];
+
+// How a table came about: a head passed through it, dotted keys did, or a head named it; and an array of tables whose
+// heads have double brackets. What has none of these is a value, to which nothing can be added.
+const PASSED = "passed";
+const DOTTED = "dotted";
+const NAMED = "named";
+const ELEMENTS = "elements";
+
+const isCollection = (value) => value instanceof Map || Array.isArray(value);
+
+/** The tables of a document, or of an inline table, as they grow. */
+export class Tables {
+  /** @param {import("./source.js").Source} source */
+  constructor(source) {
+    this.source = source;
+    /** @type {Table} */
+    this.root = new Map();
+    /** @type {Map<Table|Table[], string>} */
+    this.origins = new Map();
+  }
+
+  /** @returns {Table} a new table at a key */
+  make(table, key, origin) {
+    const made = new Map();
+    table.set(key, made);
+    this.origins.set(made, origin);
+    return made;
+  }
+
+  /**
+   * The table into which a pair goes, found along the parts of its key before the last.
+   * @param {Table} section
+   * @param {readonly string[]} head that names the section
+   * @param {readonly string[]} parents
+   * @param {readonly string[]} frozen the key that is named where a value is in the way
+   * @returns {Table}
+   */
+  alongDots(section, head, parents, frozen) {
+    let table = section;
+    for (const [at, part] of parents.entries()) {
+      const found = table.get(part) ?? this.make(table, part, DOTTED);
+      const origin = this.origins.get(found);
+      if (origin === NAMED || origin === ELEMENTS) {
+        throw this.source.fault(`Cannot redefine namespace ${[...head, ...parents.slice(0, at + 1)].join(".")}`);
+      }
+      if (origin === undefined) {
+        throw this.inTheWay(found, frozen);
+      }
+      this.origins.set(found, DOTTED);
+      table = found;
+    }
+    return table;
+  }
+
+  /** The fault where a value is in the way. */
+  inTheWay(value, key) {
+    const isFrozen = isCollection(value);
+    return this.source.fault(isFrozen ? `Cannot mutate immutable namespace ${key.join(".")}` : "Cannot overwrite a value");
+  }
+
+  /**
+   * The value of a key.
+   * @param {Table} section
+   * @param {readonly string[]} head
+   * @param {readonly string[]} key
+   * @param {unknown} value
+   */
+  define(section, head, key, value) {
+    const parents = key.slice(0, -1);
+    const table = this.alongDots(section, head, parents, [...head, ...parents]);
+    if (table.has(lastOf(key))) {
+      throw this.source.fault("Cannot overwrite a value");
+    }
+    table.set(lastOf(key), value);
+  }
+
+  /**
+   * The value of a key of an inline table.
+   * @param {readonly string[]} key
+   * @param {unknown} value
+   */
+  defineInline(key, value) {
+    const table = this.alongDots(this.root, [], key.slice(0, -1), key);
+    const last = lastOf(key);
+    if (table.has(last)) {
+      const before = table.get(last);
+      const isFrozen = isCollection(before) && !this.origins.has(before);
+      throw isFrozen ? this.inTheWay(before, key) : this.source.fault(`Duplicate inline table key ${last}`);
+    }
+    table.set(last, value);
+  }
+
+  /**
+   * The table in which the last part of a head is, and where it stands.
+   * @param {readonly string[]} parents
+   * @param {import("./places.js").Place} place of the document
+   * @param {string} frozen what is said where a collection is in the way that is a value
+   */
+  alongHead(parents, place, frozen) {
+    let [table, at] = [this.root, place];
+    for (const part of parents) {
+      const found = table.get(part) ?? this.make(table, part, PASSED);
+      const origin = this.origins.get(found);
+      if (origin === undefined) {
+        throw this.source.fault(isCollection(found) ? frozen : "Cannot overwrite a value");
+      }
+      at = at.part(part);
+      at = origin === ELEMENTS ? at.part(found.length - 1) : at;
+      table = origin === ELEMENTS ? found[found.length - 1] : found;
+    }
+    return { table, at };
+  }
+
+  /**
+   * The table that a head names.
+   * @param {readonly string[]} key
+   * @param {import("./places.js").Place} place of the document
+   * @param {number} line
+   */
+  head(key, place, line) {
+    const twice = `Cannot declare ${key.join(".")} twice`;
+    const { table, at } = this.alongHead(key.slice(0, -1), place, twice);
+    const last = lastOf(key);
+    const found = table.get(last) ?? this.make(table, last, PASSED);
+    if (this.origins.get(found) !== PASSED) {
+      throw this.source.fault(isCollection(found) ? twice : "Cannot overwrite a value");
+    }
+    this.origins.set(found, NAMED);
+    const own = at.part(last);
+    own.note(line);
+    return { table: found, place: own };
+  }
+
+  /**
+   * A new element of an array of tables.
+   * @param {readonly string[]} key
+   * @param {import("./places.js").Place} place of the document
+   * @param {number} line
+   */
+  element(key, place, line) {
+    const immutable = `Cannot mutate immutable namespace ${key.join(".")}`;
+    const { table, at } = this.alongHead(key.slice(0, -1), place, immutable);
+    const last = lastOf(key);
+    if (!table.has(last)) {
+      table.set(last, []);
+      this.origins.set(table.get(last), ELEMENTS);
+    }
+    const found = table.get(last);
+    const origin = this.origins.get(found);
+    if (origin !== ELEMENTS) {
+      const isFrozen = isCollection(found) && origin === undefined;
+      throw this.source.fault(isFrozen ? immutable : "Cannot overwrite a value");
+    }
+    const element = new Map();
+    found.push(element);
+    at.part(last).note(line);
+    const own = at.part(last).part(found.length - 1);
+    own.note(line);
+    return { table: element, place: own };
+  }
+}

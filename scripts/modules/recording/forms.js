@@ -1,0 +1,90 @@
+import { Fault } from "../fault.js";
+import { TableHead } from "./csv-head.js";
+import { namesOf, signalsOf } from "./signals.js";
+import { Words, characters } from "./words.js";
+
+/**
+ * The forms of recordings that are read: value change dumps, tables with commas, and sessions of sigrok.
+ * @typedef {"vcd"|"csv"|"session"} Form
+ */
+
+/** What may stand before the first word of a recording. */
+const BEFORE_TEXT = Uint8Array.from([0xef, 0xbb, 0xbf, 9, 10, 13, 32]);
+
+const [LINE_END, DOLLAR, SEMICOLON, COMMA] = [10, 36, 59, 44];
+
+/** How a line begins that sigrok-cli may write before a recording. */
+const META = Uint8Array.from([77, 69, 84, 65, 32]);
+
+/**
+ * Of which form a recording is.
+ * @param {Uint8Array} head its first 4096 octets
+ * @returns {Form|null} none where these octets are of neither form
+ */
+export function formOf(head) {
+  const start = META.every((octet, at) => head[at] === octet) ? head.indexOf(LINE_END) + 1 : 0;
+  const first = head.subarray(start).find((octet) => !BEFORE_TEXT.includes(octet));
+  if (first === DOLLAR) {
+    return "vcd";
+  }
+  const isText = head.every((octet) => (octet >= 32 ? octet !== 127 : octet === 9 || octet === 10 || octet === 13));
+  return isText && (first === SEMICOLON || head.includes(COMMA)) ? "csv" : null;
+}
+
+/** How an archive begins (PKWARE's APPNOTE.TXT, 4.3). */
+const ARCHIVE = Uint8Array.from([80, 75, 3, 4]);
+
+/** Words and blanks in what is printed: so samples do not begin, whose higher bits hardly change. */
+const PRINTED = /^(?=[^]*[A-Za-z]{3})(?=[^]*[ \n])[\t\r\n -~]{16,}$/;
+
+/**
+ * Of which form a recording is, which may be samples.
+ * @param {Uint8Array} head its first 4096 octets
+ * @returns {Form|"binary"}
+ */
+export function formOfRecording(head) {
+  if (ARCHIVE.every((octet, at) => head[at] === octet)) return "session";
+  const form = formOf(head);
+  if (form === null && PRINTED.test(characters(head))) {
+    throw new Fault("this is text, and neither a VCD nor a CSV with commas; if it is samples, say --format binary");
+  }
+  return form ?? "binary";
+}
+
+/**
+ * The channels of a recording by which they are taken: their names, or the numbers of columns that share a name.
+ * @param {Uint8Array} head its first octets, as many as its definitions or the lines before its samples take
+ * @param {Form} form
+ * @returns {string[]}
+ */
+export function channelsOf(head, form) {
+  if (form === "vcd") {
+    return [...new Set(namesOf(signalsOf(new Words(head, head.length))))];
+  }
+  const names = namesOfTable(head);
+  const shared = sharedNames(names);
+  const all = new Set(names);
+  return names.map((name, at) => (shared.has(name) && !all.has(String(at)) ? String(at) : name));
+}
+
+/** The names that more than one column has. */
+function sharedNames(names) {
+  const known = new Set();
+  const shared = new Set();
+  for (const name of names) {
+    (known.has(name) ? shared : known).add(name);
+  }
+  return shared;
+}
+
+function namesOfTable(octets) {
+  const head = new TableHead();
+  let begin = 0;
+  for (let end = octets.indexOf(10); end >= 0; end = octets.indexOf(10, begin)) {
+    if (head.ends(octets.subarray(begin, end))) {
+      break;
+    }
+    begin = end + 1;
+  }
+  return head.table().names;
+}

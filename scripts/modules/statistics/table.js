@@ -1,0 +1,73 @@
+import { usualGap } from "./gaps.js";
+import { unitsOf } from "./units.js";
+
+/**
+ * The head of a column: its name, and the word above it for this column and those after it, if any.
+ * @typedef {{group: string, name: string, isLeft: boolean}} Head
+ */
+
+/**
+ * A line of the table: a kind of commands, and a text for each column, `-` where it is not known.
+ * @typedef {{kind: import("./kinds.js").Kind, name: string, cells: string[]}} TableRow
+ */
+
+const NAMES = [
+  ...["station", "type", "name", "sent", "answered", "late", "missing", "spoilt", "%"],
+  ...["min", "median", "99 %", "max", "usual", "longest", "from s"],
+];
+
+const GROUPS = new Map([
+  ["%", "bad"],
+  ["min", "reply"],
+  ["usual", "gap"],
+]);
+
+/** @type {readonly Head[]} */
+export const HEADS = Object.freeze(
+  NAMES.map((name) => Object.freeze({ group: GROUPS.get(name) ?? "", name, isLeft: name === "name" })),
+);
+
+function verdictCells(commands) {
+  const { decided, verdicts, bad } = commands;
+  if (decided === 0) {
+    return ["-", "-", "-", "-", "-"];
+  }
+  const counts = [verdicts.answered, verdicts.late, verdicts.missing, verdicts.spoilt];
+  return [...counts.map(String), ((100 * bad) / decided).toFixed(1)];
+}
+
+function replyCells(times, units) {
+  const bits = [times.least, times.quantile(50), times.quantile(99), times.most];
+  return bits.map((count) => (times.total > 0 ? units.milliseconds(count) : "-"));
+}
+
+function gapCells(commands, units) {
+  const usual = usualGap(commands);
+  const shown = usual === 0 ? "-" : units.milliseconds(usual);
+  if (commands.longest === null) {
+    return [shown, "-", "-"];
+  }
+  const { from, to } = commands.longest;
+  return [shown, units.milliseconds(to.place - from.place), units.seconds(from.place)];
+}
+
+function rowOf(kind, commands, units) {
+  const name = commands.name || "-";
+  const cells = [
+    ...[String(kind.station), String(kind.type), name, String(commands.sent)],
+    ...verdictCells(commands),
+    ...replyCells(commands.replies, units),
+    ...gapCells(commands, units),
+  ];
+  return { kind, name, cells };
+}
+
+/**
+ * A table with a line for each kind of commands, for HTML and for the report.
+ * @param {import("./bus.js").Bus} bus
+ * @returns {{heads: readonly Head[], rows: TableRow[]}}
+ */
+export function tableOf(bus) {
+  const units = unitsOf(bus.rate);
+  return { heads: HEADS, rows: bus.commands.sorted().map(([kind, commands]) => rowOf(kind, commands, units)) };
+}

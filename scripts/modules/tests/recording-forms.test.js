@@ -1,0 +1,60 @@
+import assert from "node:assert/strict";
+import { readFileSync } from "node:fs";
+import { test } from "node:test";
+import { channelsOf, formOf, formOfRecording } from "../recording/forms.js";
+import { Fault } from "../fault.js";
+
+/** What the beginning of a recording tells: its form, and its channels. */
+
+const BEGINNINGS = {
+  vcd: ["$", "  \r\n\t$date", "\xef\xbb\xbf$date", "\xbf\xbb\xef$", "META samplerate: 1\n$date"],
+  csv: [";", "; a", "a,b\n", "\t;", "\xef\xbb\xbf;", ",", "0,1\x80", "Time [s],a\r\n"],
+  session: ["PK\x03\x04,", "PK\x03\x04"],
+  binary: ["", "x$", "\0$", "a;b\n", "0,1\0", "0,1\x7f", "\xef\xbb\xbf", " ", "\x1b,", "\x0b,", "META samplerate: 1\n\0"],
+};
+
+function octetsOf(text) {
+  return new TextEncoder().encode(text);
+}
+
+test("the form by the beginning", () => {
+  for (const [form, beginnings] of Object.entries(BEGINNINGS)) {
+    for (const beginning of beginnings) {
+      const octets = Uint8Array.from(Buffer.from(beginning, "latin1"));
+      assert.equal(formOfRecording(octets), form, JSON.stringify(beginning));
+      if (form !== "session") assert.equal(formOf(octets), form === "binary" ? null : form);
+    }
+  }
+  const text = octetsOf("0 1 0 1 bits as text, but with no comma".replace(",", ";"));
+  assert.throws(() => formOfRecording(text), /^Error: this is text|this is text/);
+});
+
+const HEADS = [
+  ["names of a table of sigrok", "csv", "; Channels (2/2): clk, data in\nlogic,logic\n0,1\n", ["clk", "data in"]],
+  ["columns after the times", "csv", 'Time [s],"a",b c\n0.1,0,1\n', ["a", "b c"]],
+  ["columns after a remark", "csv", "; CSV\n\nTime [s],a,b\n0.1,0,1\n", ["a", "b"]],
+  ["columns without times", "csv", "a,b\n0,1\n", ["a", "b"]],
+  ["numbers of columns that share a name", "csv", "logic,logic,a\n0,1,1\n", ["0", "1", "a"]],
+  ["numbers that are names already", "csv", "a,a,0\n0,1,1\n", ["a", "1", "0"]],
+  ["a line that is cut", "csv", "; Channels: a, b\nlogic,lo", ["a", "b"]],
+  ["no line", "csv", "Time [s],a", []],
+  ["signals of one bit", "vcd", "$var wire 1 ! a [0] $end $var wire 2 # b $end $var reg 1 $ c $end", ["a [0]", "c"]],
+  ["a definition that is cut", "vcd", "$var wire 1 ! a $end $var wire 1 # da", ["a"]],
+  ["a signal in two scopes", "vcd", "$var wire 1 ! a $end $var wire 1 # a $end $enddefinitions $end", ["a"]],
+  ["nothing after the definitions", "vcd", "$enddefinitions $end $var wire 1 ! a $end", []],
+];
+
+for (const [name, form, head, wanted] of HEADS) {
+  test(`channels: ${name}`, () => assert.deepEqual(channelsOf(octetsOf(head), form), wanted));
+}
+
+test("channels of a table whose times have no unit", () => {
+  const fault = new Fault('the times of the column "Time" have no known unit: export them in seconds');
+  assert.throws(() => channelsOf(octetsOf("Time,a\n0,1\n"), "csv"), fault);
+});
+
+test("channels of the example of four wires", () => {
+  const head = readFileSync(new URL("../../../examples/four-wires.csv", import.meta.url)).subarray(0, 4096);
+  assert.equal(formOf(head), "csv");
+  assert.deepEqual(channelsOf(head, "csv"), ["TXC", "TXD", "RXC", "RXD"]);
+});

@@ -1,0 +1,54 @@
+import assert from "node:assert/strict";
+import { execFileSync, spawnSync } from "node:child_process";
+import { mkdtempSync, readFileSync, rmSync, writeFileSync } from "node:fs";
+import { tmpdir } from "node:os";
+import { join } from "node:path";
+import { test } from "node:test";
+import { inLines, inPieces, ran } from "./recording-helpers.js";
+
+/** Recordings in pieces, and those that sigrok-cli writes. */
+
+const TOP = new URL("../../../", import.meta.url);
+
+function example(name) {
+  return readFileSync(new URL(`examples/${name}`, TOP));
+}
+
+/** Wherever a recording is cut into two pieces, and in pieces of an octet each, the outcome is the same. */
+for (const [name, form, channels, length] of [
+  ["four-wires.csv", "csv", ["TXC", "TXD", "RXC", "RXD"], 3000],
+  ["call-and-reply.vcd", "vcd", ["clk", "tx", "rx"], 1500],
+]) {
+  test(`${name} in pieces`, async () => {
+    const input = example(name).subarray(0, length);
+    const wanted = await ran([input], { form, channels });
+    assert.deepEqual(await ran(inPieces(input, 1), { form, channels }), wanted);
+    for (let cut = 0; cut <= input.length; cut++) {
+      const pieces = [input.subarray(0, cut), input.subarray(cut)];
+      assert.deepEqual(await ran(pieces, { form, channels }), wanted, `cut at ${cut}`);
+    }
+  });
+}
+
+const BITS = "01111110000010001100000100000000101111101101001110111111011";
+
+const OUTPUTS = { csv: ["csv", "csv:time=true:dedup=true", "csv:time=true"], vcd: ["vcd"] };
+
+const hasSigrok = spawnSync("sigrok-cli", ["--version"]).status === 0;
+
+test("what sigrok-cli writes", { skip: hasSigrok ? false : "no sigrok-cli" }, async () => {
+  const folder = mkdtempSync(join(tmpdir(), "sigrok-"));
+  const [samples, session] = [join(folder, "tap.bin"), join(folder, "tap.sr")];
+  const written = (words) => execFileSync("sigrok-cli", words);
+  writeFileSync(samples, Uint8Array.from(Array.from(BITS).flatMap((bit) => [2 * Number(bit), 1 + 2 * Number(bit)])));
+  written(["-i", samples, "-I", "binary:numchannels=4:samplerate=1000000", "-o", session]);
+  const stderr = `recording-to-bits: 0 has ${BITS.length} edges\n`;
+  for (const [form, outputs] of Object.entries(OUTPUTS)) {
+    for (const output of outputs) {
+      const octets = written(["-i", session, "-O", output]);
+      const got = await ran([octets], { form, channels: ["0", "1"] });
+      assert.deepEqual(got, { stdout: inLines(BITS), stderr, status: 0 }, output);
+    }
+  }
+  rmSync(folder, { recursive: true });
+});
