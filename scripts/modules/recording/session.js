@@ -35,13 +35,15 @@ export async function sessionOf(blob, inflate = inflated) {
   const names = Array.from({ length: Math.max(...probes.map(([at]) => at)) + 1 }, (_, at) => `(${at})`);
   for (const [at, name] of probes) names[at] = name;
   const samples = membersOfSamples(members, prefix);
-  return { names, width: Number(width), ticks: hertz(rate), pieces: (heard) => piecesOf(blob, samples, heard, inflate) };
+  const pieces = (/** @type {(read: number, size: number) => void} */ heard) => piecesOf(blob, samples, heard, inflate);
+  return { names, width: Number(width), ticks: hertz(rate), pieces };
 }
 
 async function textOf(blob, member, inflate) {
   const decoder = new TextDecoder();
   let text = "";
-  for await (const piece of piecesOfMember(blob, member, PIECE, inflate)) text += decoder.decode(piece, { stream: true });
+  const pieces = piecesOfMember(blob, member, PIECE, inflate);
+  for await (const piece of pieces) text += decoder.decode(piece, { stream: true });
   return text;
 }
 
