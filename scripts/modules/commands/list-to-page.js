@@ -57,7 +57,9 @@ function dateOf(date) {
 /** What the report has of the recording's file. @param {string} recording */
 function factsOf(recording) {
   const [file, digest, piece] = [openSync(recording, "r"), createHash("sha256"), new Uint8Array(PIECE)];
-  for (let count = readSync(file, piece); count > 0; count = readSync(file, piece)) digest.update(piece.subarray(0, count));
+  for (let count = readSync(file, piece); count > 0; count = readSync(file, piece)) {
+    digest.update(piece.subarray(0, count));
+  }
   const { mtime, size } = fstatSync(file);
   closeSync(file);
   return { name: basename(recording), date: dateOf(mtime), size: String(size), sha256: digest.digest("hex") };

@@ -1,4 +1,6 @@
 import { fstatSync, readSync } from "node:fs";
+import { Readable } from "node:stream";
+import { createInflateRaw } from "node:zlib";
 import { Fault } from "../fault.js";
 import { bitsOf } from "../recording/bits.js";
 import { formOfRecording } from "../recording/forms.js";
@@ -57,6 +59,9 @@ class FilePart {
   }
 }
 
+/** Unpacks a stream: before Node 20 its `DecompressionStream` cannot. @param {ReadableStream<Uint8Array>} stream */
+const inflated = (stream) => Readable.toWeb(Readable.fromWeb(stream).pipe(createInflateRaw()));
+
 /** Writes marks as text, so many in each line. */
 class TextWriter {
   column = 0;
@@ -94,7 +99,7 @@ async function opened(values, channels) {
   if (form === "session") {
     const about = fstatSync(0);
     if (!about.isFile()) throw new Fault("a session of sigrok has to be a file: write `< tap.sr`");
-    const session = await sessionOf(/** @type {any} */ (new FilePart(0, about.size)));
+    const session = await sessionOf(/** @type {any} */ (new FilePart(0, about.size)), inflated);
     return { pieces: session.pieces(() => undefined), wanted: { ...wanted, session } };
   }
   const width = values.octets ?? 1;

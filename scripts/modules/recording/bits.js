@@ -56,7 +56,12 @@ export function bitsOf(pieces, wanted) {
   return { marks: marksOf(new Source(pieces), wanted, told, warnings), told, warnings };
 }
 
-/** @param {Source} source @param {Wanted} wanted @param {string[]} told @param {import("./doubts.js").Warning[]} warnings */
+/**
+ * @param {Source} source
+ * @param {Wanted} wanted
+ * @param {string[]} told
+ * @param {import("./doubts.js").Warning[]} warnings
+ */
 async function* marksOf(source, wanted, told, warnings) {
   const { form, channels, rising = true, inverted = 0, size = PIECE } = wanted;
   try {
