@@ -70,9 +70,6 @@ BESIDE = [
     Package("slurm-wlm", ["slurmctld", "slurmd"]),
 ]
 
-# The scripts that need a module of Python which is not Python's own.
-MODULES = {"recording-to-bits": "numpy", "vcd-to-bits": "numpy"}
-
 LEAST_NODE = 20
 
 # Its modules are those of the packages. The scripts are run by the `python3` that is first on the path.
@@ -130,10 +127,6 @@ def needs(*programs: str) -> None:
 def needs_module(name: str) -> None:
     if not has_module(name):
         raise Skipped(told_of(name))
-
-
-def lacks_module(script: str) -> bool:
-    return script in MODULES and not has_module(MODULES[script])
 
 
 def needs_file(name: str) -> None:

@@ -32,8 +32,8 @@ NODE = ["node", "--no-warnings", "--experimental-wasm-memory64"]
 # The test that says how long something may take.
 TIMED = "statistics-api.test.js"
 
-# By how the name of a test begins, the module that the script needs with which it compares.
-MODULES = {"recording": "numpy", "dictionary": "tomllib"}
+# By how the name of a test begins, the module of Python that makes its inputs, or against which it compares.
+MODULES = {"recording-cabinets": "numpy", "recording-session": "numpy", "dictionary": "tomllib"}
 
 SECONDS = 1800
 

@@ -14,7 +14,7 @@ from itertools import takewhile
 from pathlib import Path
 from typing import FrozenSet, Iterator, List, Tuple
 
-from needs import MODULES, Skipped, needs, needs_module
+from needs import Skipped, needs
 
 TOP = Path(__file__).resolve().parent.parent
 
@@ -106,8 +106,6 @@ def missing_tool(example: Example) -> str:
     its heading, whose files it may read; or nothing."""
     try:
         needs(*sorted(FOREIGN & example.words))
-        for word in sorted(MODULES.keys() & example.words):
-            needs_module(MODULES[word])
     except Skipped as why:
         return str(why)
     return ""

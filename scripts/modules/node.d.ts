@@ -72,6 +72,8 @@ declare module "node:path" {
 declare module "node:stream" {
   class Readable implements AsyncIterable<Buffer> {
     static from(pieces: AsyncIterable<Uint8Array>): Readable;
+    static fromWeb(stream: ReadableStream<Uint8Array>): Readable;
+    static toWeb(stream: Readable): ReadableStream<Uint8Array>;
     on(event: string, listener: (fault: Error) => void): this;
     pipe<T>(sink: T): T;
     destroy(fault?: Error): void;
@@ -91,4 +93,5 @@ declare module "node:util" {
 declare module "node:zlib" {
   import { Readable } from "node:stream";
   function createGzip(): Readable;
+  function createInflateRaw(): Readable;
 }

@@ -8,6 +8,8 @@ from dataclasses import dataclass
 from pathlib import Path
 from typing import Callable, List, Sequence, Union
 
+from needs import needs
+
 SCRIPTS = Path(__file__).resolve().parent.parent
 
 TOP = SCRIPTS.parent
@@ -41,6 +43,11 @@ class Run:
     status: int = 0
 
 
+def is_of_node(command: Word) -> bool:
+    """Whether Node runs a command."""
+    return (SCRIPTS / "modules" / "commands" / f"{command}.js").exists()
+
+
 def plain(bits: str) -> str:
     return "".join(bits.split())
 
@@ -62,6 +69,8 @@ ONE_CALL = packed(plain(CALL))
 
 
 def ran(words: Sequence[str], stdin: bytes = b"", **options) -> subprocess.CompletedProcess:
+    if is_of_node(words[0]):
+        needs("node")
     command: List[Word] = [SCRIPTS / words[0], *words[1:]]
     return subprocess.run(command, input=stdin, capture_output=True, timeout=SECONDS, **options)
 

@@ -115,7 +115,7 @@ def limits(folder: Path, text: str = LIMITS) -> str:
 
 
 def finds_what_is_planted(folder: Path) -> List[str]:
-    """Fifty units: each limit that is broken is named, and no other; text, JUnit, CSV and page agree on the verdicts."""
+    """Fifty units: each limit that is broken is named, and no other; all forms agree on the verdicts."""
     kinds = list(PLANTED)
     units = {f"unit{seed:02}": unit(seed, kinds[seed % len(kinds)]) for seed in range(50)}
     words = [f"{name}={wrote(folder, name, listing(made.capture))}" for name, made in units.items()]

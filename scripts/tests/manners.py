@@ -5,9 +5,9 @@ import re
 import subprocess
 import tempfile
 from pathlib import Path
-from typing import Dict, Iterator, List, NamedTuple, Tuple
+from typing import Dict, Iterator, List, NamedTuple
 
-from needs import lacks_module
+from needs import needs
 from tests.case import DICTIONARY, SCRIPTS, SECONDS, TOP, Run, Word
 
 
@@ -49,20 +49,12 @@ FILES: Dict[str, List[str]] = {"bus-limits": ["unit=unit.list"], "check-dictiona
 RUNS: List[Run] = []
 
 
-def calls() -> List[Tuple[str, Call]]:
-    """Those that this machine has the modules for."""
-    return [(name, call) for name, call in CALLS.items() if not lacks_module(name)]
-
-
-def files() -> List[str]:
-    return [name for name in FILES if not lacks_module(name)]
-
-
 def lines_of(octets: bytes) -> List[str]:
     return octets.decode("utf-8", "replace").splitlines()
 
 
 def called(name: str, words: List[Word], **options) -> "subprocess.CompletedProcess[bytes]":
+    needs("node")
     words = [SCRIPTS / name, *words]
     return subprocess.run(words, stdout=subprocess.PIPE, stderr=subprocess.PIPE, timeout=SECONDS, **options)
 
@@ -154,13 +146,13 @@ def is_one_line(got: "subprocess.CompletedProcess[bytes]", name: str) -> bool:
 
 def folders(folder: Path) -> Iterator[str]:
     """A folder as standard input, or as the file, is one line with status 2."""
-    for name, call in calls():
+    for name, call in CALLS.items():
         descriptor = os.open(folder, os.O_RDONLY)
         got = called(name, [*call.words], stdin=descriptor)
         os.close(descriptor)
         if not is_one_line(got, name):
             yield f"{name}: status {got.returncode}, {got.stderr!r}"
-    for name in files():
+    for name in FILES:
         got = called(name, [folder, *FILES[name]], stdin=subprocess.DEVNULL)
         if not is_one_line(got, name):
             yield f"{name}: status {got.returncode}, {got.stderr!r}"
@@ -173,7 +165,7 @@ def folders_as_input(folder: Path) -> List[str]:
 def files_that_are_not_there(folder: Path) -> List[str]:
     """A file that cannot be read is one line with status 2."""
     problems = []
-    for name in files():
+    for name in FILES:
         got = called(name, [folder / "nothing", *FILES[name]], stdin=subprocess.DEVNULL)
         if not is_one_line(got, name):
             problems.append(f"{name}: status {got.returncode}, {got.stderr!r}")
@@ -197,7 +189,7 @@ def told_without_reader(name: str, call: Call) -> "subprocess.CompletedProcess[b
 def nobody_reads(_: Path) -> List[str]:
     """Where the reader of the output has gone, nothing is said, and the status is 2."""
     problems = []
-    for name, call in calls():
+    for name, call in CALLS.items():
         got = told_without_reader(name, call)
         if (got.returncode, got.stderr) != (2, b""):
             problems.append(f"{name}: status {got.returncode}, {lines_of(got.stderr)}")

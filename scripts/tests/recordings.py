@@ -1,9 +1,10 @@
 """Recordings of logic analysers: their forms, and simulated cabinets whose truth is known."""
 
-import io
 import os
+import random
 import re
 import subprocess
+import zipfile
 from itertools import product
 from pathlib import Path
 from typing import Any, Dict, Iterator, List, NamedTuple, Sequence, Tuple
@@ -13,7 +14,6 @@ from tests.case import CALL, SCRIPTS, TOP, Run, lines, plain, ran, written_by
 
 try:
     import numpy as np
-    from common import conversion, recording
     from tests import cabinet
     from tests.cabinet import Cabinet, Recorded, recorded_of, truth_of
 except ModuleNotFoundError:
@@ -22,6 +22,8 @@ except ModuleNotFoundError:
 SCRIPT = "recording-to-bits"
 
 CHANNELS = ["0", "1", "2", "3"]
+
+USAGE = (SCRIPTS / "modules" / "commands" / f"{SCRIPT}.txt").read_text(encoding="ascii").partition("\n\n")[0]
 
 # What the clocks of the stations may be off, in parts per million, and samples a second, in millions.
 PPM = [0, 20, -20, 80, -80, 150, -150, 1000, -1000]
@@ -155,7 +157,7 @@ RUNS = [
         [SCRIPT, "Channel 0", "Channel 1 (data)"],
         table("Time,Channel 0,Channel 1 (data)\n", ["2026-11-25T12:00:00,0,1"]),
         b"",
-        f"{SCRIPT}: the times of the column 'Time' have no known unit: export them in seconds\n",
+        f'{SCRIPT}: the times of the column "Time" have no known unit: export them in seconds\n',
         2,
     ),
     Run(
@@ -215,7 +217,7 @@ RUNS = [
         [SCRIPT, "a", "d"],
         WIRES + b"#0 0a 1d #9223372036854775808 1a\n",
         b"",
-        f"{SCRIPT}: 9223372036854775808 is beyond the times that are read, which end at 9223372036854775807 ticks\n",
+        f"{SCRIPT}: #9223372036854775808 is beyond the times that are read, which end at 9007199254740991 ticks\n",
         2,
     ),
     Run(
@@ -246,7 +248,7 @@ RUNS = [
         [SCRIPT, "0", "1", "--samplerate=fast"],
         bytes(9),
         b"",
-        f"{SCRIPT}: 'fast' is no rate\n",
+        f'{USAGE}\n{SCRIPT}: error: --samplerate: "fast" is no rate\n',
         2,
     ),
 ]
@@ -538,22 +540,30 @@ def gaps_of_the_first_clock(_: Path) -> List[str]:
     return [*found, *differences(outcome)]
 
 
-def pieces(_: Path) -> List[str]:
-    """However a recording is cut into reads, the bits are the same."""
-    needs_module("numpy")
-    octets = recorded_of(Cabinet(5, -150, True, 1_000_000, polls=6)).samples.tobytes()
-    results = []
-    usual = recording.PIECE
-    for size in [usual, 7, 100, 999, 4096]:
-        recording.PIECE = size
-        made = conversion.Conversion(recording_from(octets), CHANNELS, True)
-        results.append((b"".join(marks.tobytes() for marks in made.marks()), made.notes))
-    recording.PIECE = usual
-    return [f"pieces of {size}" for size, result in zip([7, 100, 999, 4096], results[1:]) if result != results[0]]
-
-
-def recording_from(octets: bytes) -> "recording.Recording":
-    return recording.recording_of(io.BytesIO(octets), "binary", CHANNELS)
+def beyond_one_read(folder: Path) -> List[str]:
+    """Recordings of more than 4 MiB, which are read in several parts, have all the bits that were put in."""
+    generator = random.Random(4)
+    bits = "".join(generator.choice("01") for _ in range(700_000))
+    pairs = samples_of(bits)
+    clock, data = "clk", "data in"
+    wires = f"$timescale 1 us $end $var wire 1 ! {clock} $end $var wire 1 # {data} $end $enddefinitions $end\n"
+    changes = (f"#{at} {level}!{f' {bit}#' if level == 0 else ''}\n" for at, (level, bit) in enumerate(pairs))
+    session = folder / "tap.sr"
+    with zipfile.ZipFile(session, "w", zipfile.ZIP_DEFLATED) as archive:
+        metadata = "[device 1]\ncapturefile=logic-1\nsamplerate=1 MHz\nunitsize=4\nprobe1=0\nprobe2=1\n"
+        archive.writestr("metadata", metadata)
+        archive.writestr("logic-1", b"".join(bytes([level | bit << 1, 0, 0, 0]) for level, bit in pairs))
+    forms = {
+        "vcd": (wires + "".join(changes)).encode(),
+        "csv": f"{clock},{data}\n{''.join(f'{level},{bit}{chr(10)}' for level, bit in pairs)}".encode(),
+        "binary": b"".join(bytes([level | bit << 1, *bytes(7)]) for level, bit in pairs),
+    }
+    named = {form: [clock, data] if form != "binary" else CHANNELS[:2] for form in forms}
+    got = {form: ran([SCRIPT, "--format", form, "--octets=8", *named[form]], forms[form]) for form in forms}
+    with session.open("rb") as source:
+        got["session"] = subprocess.run([SCRIPTS / SCRIPT, *CHANNELS[:2]], stdin=source, capture_output=True)
+    good = {form: run.stdout == lines(bits) and run.stderr.count(b"\n") == 1 for form, run in got.items()}
+    return [f"{form}: {run.stderr!r}, {len(run.stdout)}" for form, run in got.items() if not good[form]]
 
 
 def long_recordings(_: Path) -> List[str]:
@@ -609,6 +619,6 @@ TESTS = [
     drift_is_told,
     falling_edges,
     gaps_of_the_first_clock,
-    pieces,
+    beyond_one_read,
     long_recordings,
 ]

@@ -5,6 +5,7 @@ import gzip
 import html
 import json
 import os
+import random
 import re
 from datetime import datetime
 from pathlib import Path
@@ -70,10 +71,17 @@ def report_of(words: List[str], listing: bytes) -> Report:
     return Report(found[1], gzip.decompress(base64.b64decode(found[2])), found[3], found[4])
 
 
+def mixed_listing() -> bytes:
+    """A listing that is large when it is packed, too: its octets are random."""
+    generator = random.Random(7)
+    frames = (f"{at * 100} {at * 100 + 81} frame 1083{generator.getrandbits(64):016x}fde5\n" for at in range(20_000))
+    return "".join(frames).encode()
+
+
 def holds_the_listing(_: Path) -> List[str]:
     """The listing is in the report octet for octet, in place of the decoder, and all else is as it was."""
     found = []
-    for listing in [b"", b"0 15 idle\n", b"0 15 idle", LISTING]:
+    for listing in [b"", b"0 15 idle\n", b"0 15 idle", LISTING, mixed_listing()]:
         report = report_of(["A title"], listing)
         if report.listing != listing:
             found.append(f"{len(listing)} octets became {len(report.listing)}")

@@ -150,6 +150,16 @@ def pcapng_of_two_lines(folder: Path) -> List[str]:
     return told + compared(columns(folder, path, SAID), TWO_LINES_PACKETS)
 
 
+def pcapng_of_the_same_places(folder: Path) -> List[str]:
+    """What is said of a frame is not said of the frame on the other line that has the same places."""
+    needs("tshark")
+    path = folder / "z.pcapng"
+    listing = b"1 8 49 frame 108300fde5\n2 8 49 frame 118380f561\n2 8 49 stray station 17 type 128\n"
+    got = ran(["list-to-pcap", RATE, path], listing)
+    wanted = [[OUTBOUND, "0.000052000", ""], [INBOUND, "0.000052000", "stray"]]
+    return compared(got.stderr, b"") + compared(columns(folder, path, SAID), wanted)
+
+
 def pcapng_of_one_line(folder: Path) -> List[str]:
     """A listing of one line says nothing of directions; of much damage a comment tells the first eight."""
     needs("tshark")
@@ -432,6 +442,7 @@ TESTS = [
     pcap_octet_by_octet,
     pcap_in_tshark,
     pcapng_of_two_lines,
+    pcapng_of_the_same_places,
     pcapng_of_one_line,
     pcapng_of_many_packets,
     pcapng_of_nothing,

@@ -31,7 +31,9 @@ export class Replies {
     return Math.max(WIDTH.least, Math.min(WIDTH.most, this.box.clientWidth));
   }
 
-  /** @param {{ name: string, inTime: [number, number][], late: [number, number][] }[]} kinds times in bits, and counts */
+  /**
+   * @param {{ name: string, inTime: [number, number][], late: [number, number][] }[]} kinds times in bits, and counts
+   */
   reset(kinds, rate, isJudged) {
     this.isJudged = isJudged; // whether a reply can be late
     const all = { name: "all commands", inTime: kinds.flatMap((kind) => kind.inTime), late: kinds.flatMap((kind) => kind.late) };

@@ -5,7 +5,10 @@ import { element, fillList, make } from "./dom.js";
 const BAD = new Set(["late", "missing", "spoilt"]);
 const OF_GAP = new Set(["longest", "from s"]);
 
-/** The table of stations and types. @param {import("../../../scripts/modules/findings/findings.js").Finding[]} findings */
+/**
+ * The table of stations and types.
+ * @param {import("../../../scripts/modules/findings/findings.js").Finding[]} findings
+ */
 export function showTable({ heads, rows }, findings) {
   const gaps = findings.filter(({ sort }) => sort === "gap").map(({ kind }) => kind);
   const head = make("tr");

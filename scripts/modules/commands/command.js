@@ -86,7 +86,13 @@ function parsed(config) {
   }
 }
 
-/** What one of the other words says. @template T @param {string} what @param {string} text @param {(text: string) => T} read */
+/**
+ * What one of the other words says.
+ * @template T
+ * @param {string} what
+ * @param {string} text
+ * @param {(text: string) => T} read
+ */
 export function wordOf(what, text, read) {
   try {
     return read(text);

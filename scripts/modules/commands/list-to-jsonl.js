@@ -17,7 +17,7 @@ class Writer {
     else this.length += this.room.write(text, this.length, "latin1");
   }
 
-  /** Puts down a whole number digit by digit: the engine keeps texts of numbers, and would need more and more memory. */
+  /** Puts down a whole number digit by digit: the engine keeps texts of numbers, and would need more memory. */
   number(/** @type {number} */ value) {
     let count = 1;
     for (let power = 10; power <= value; power *= 10) count += 1;

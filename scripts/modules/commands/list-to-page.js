@@ -3,6 +3,7 @@ import { basename, join } from "node:path";
 import { Readable } from "node:stream";
 import { createGzip } from "node:zlib";
 import { Fault } from "../fault.js";
+import { asHtml } from "../limits/forms.js";
 import { ListingReader } from "../listing/read.js";
 import { RATE } from "../port1.js";
 import { positive, run, wordsOf, writeText } from "./command.js";
@@ -19,12 +20,6 @@ const ABOUT = /(?<=<script type="application\/json" id="about">).*?(?=<\/script>
 
 /** How each note begins. */
 const PREFIX = /^(?:recording|vcd)-to-bits: /;
-
-/** @type {Record<string, string>} */
-const ESCAPES = { "&": "&amp;", "<": "&lt;", ">": "&gt;", '"': "&quot;", "'": "&#x27;" };
-
-/** @param {string} text */
-const asHtml = (text) => text.replace(/[&<>"']/g, (character) => ESCAPES[character]);
 
 /** @param {string} file */
 function pageOf(file) {
@@ -44,8 +39,9 @@ function partsOf(page, more) {
 
 /** What the report has of the recording's file. @param {string} recording */
 function factsOf(recording) {
+  const sha256 = sha256Of(recording);
   const { mtime, size } = statSync(recording);
-  return { name: basename(recording), date: dateOf(mtime), size: String(size), sha256: sha256Of(recording) };
+  return { name: basename(recording), date: dateOf(mtime), size: String(size), sha256 };
 }
 
 /** @param {string} notes */

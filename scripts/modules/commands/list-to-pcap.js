@@ -32,14 +32,21 @@ const damageText = ({ line, first, past, kind, cause }) =>
 /** @param {Row} row */
 const saidText = ({ kind, replyBits }) => (replyBits === null ? kind : `${kind}, answer after ${replyBits} bits`);
 
-/** Puts what a line says to the packet that it is about. @param {Row} row @param {Packet[]} packets @param {string[]} early */
+/**
+ * Puts what a line says to the packet that it is about.
+ * @param {Row} row
+ * @param {Packet[]} packets
+ * @param {string[]} early
+ */
 function remark(row, packets, early) {
   if (DAMAGE.includes(row.kind)) {
     const last = packets.at(-1);
     if (last) last.remarks.push(`then ${damageText(row)}`);
     else early.push(`after ${damageText(row)}`);
   } else if (SAID.includes(row.kind)) {
-    const own = packets.filter(({ row: { line, first, past } }) => line === row.line && first === row.first && past === row.past);
+    const { line, first, past } = row;
+    const isOwn = (/** @type {Packet} */ { row: its }) => its.line === line && its.first === first && its.past === past;
+    const own = packets.filter(isOwn);
     own.forEach(({ remarks }) => remarks.push(saidText(row)));
   }
 }

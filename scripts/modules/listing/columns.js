@@ -29,7 +29,8 @@ export class OctetHeap {
   add(others, from, count) {
     const begin = this.length;
     this.length += count;
-    if (this.length > this.octets.length) this.octets = widened(this.octets, Math.max(this.length, 2 * this.octets.length));
+    const { length } = this.octets;
+    if (this.length > length) this.octets = widened(this.octets, Math.max(this.length, 2 * length));
     const { octets } = this;
     for (let at = 0; at < count; at++) octets[begin + at] = others[from + at];
     return begin;

@@ -12,13 +12,20 @@ export { channelsOf, formOf } from "./forms.js";
 /**
  * What is wanted of a recording.
  * @typedef {object} Wanted
- * @property {import("./forms.js").Form} form
+ * @property {import("./forms.js").Form|"binary"} form
  * @property {string[]} channels by name: TXC TXD RXC RXD, two lines with a clock each; CLOCK DATA SECOND, two lines
  *   with one clock; CLOCK DATA, one line
  * @property {boolean} [rising] whether a bit is what the data has just before a rising edge, as it is unless told
  * @property {number} [inverted] the lines whose data is inverted: 1, 2, or 3 for both
  * @property {number} [size] octets that are read at a time
- * @property {import("./session.js").Session} [session] what the samples of a session are
+ * @property {Samples} [session] what the samples of a session are
+ * @property {Samples} [samples] and what others are
+ * @property {number} [ticks] in a second, in place of what the recording says
+ */
+
+/**
+ * Samples: the names of their channels, the octets of each, and how many there are a second, where that is known.
+ * @typedef {{ names: string[], width: number, ticks: number|null }} Samples
  */
 
 /**
@@ -30,11 +37,12 @@ export { channelsOf, formOf } from "./forms.js";
  * @property {import("./doubts.js").Warning[]} warnings, then
  */
 
-/** @type {Record<string, (source: Source, channels: string[], size: number, session: any) => any>} */
+/** @type {Record<string, (source: Source, channels: string[], size: number, wanted: Wanted) => any>} */
 const READERS = {
   vcd: dumpOf,
   csv: tableOf,
-  session: (source, channels, size, session) => samplesOf(source, channels, session),
+  session: (source, channels, size, { session }) => samplesOf(source, channels, /** @type {Samples} */ (session)),
+  binary: (source, channels, size, { samples }) => samplesOf(source, channels, /** @type {Samples} */ (samples)),
 };
 
 /**
@@ -48,14 +56,20 @@ export function bitsOf(pieces, wanted) {
   return { marks: marksOf(new Source(pieces), wanted, told, warnings), told, warnings };
 }
 
-/** @param {Source} source @param {Wanted} wanted @param {string[]} told @param {import("./doubts.js").Warning[]} warnings */
-async function* marksOf(source, { form, channels, rising = true, inverted = 0, size = PIECE, session }, told, warnings) {
+/**
+ * @param {Source} source
+ * @param {Wanted} wanted
+ * @param {string[]} told
+ * @param {import("./doubts.js").Warning[]} warnings
+ */
+async function* marksOf(source, wanted, told, warnings) {
+  const { form, channels, rising = true, inverted = 0, size = PIECE } = wanted;
   try {
     if (channels.length < 2 || channels.length > 4) {
       throw new Fault("two, three or four channels are to be named");
     }
-    const found = await READERS[form](source, channels, size, session);
-    const { ticks } = found;
+    const found = await READERS[form](source, channels, size, wanted);
+    const ticks = wanted.ticks ?? found.ticks;
     const changes = turned(found.changes, maskOf(inverted, channels.length));
     const own = channels.length === 4 ? [0, 2] : [0];
     const { period, read } = await measured(changes, own, rising);

@@ -1,5 +1,5 @@
 import { Fault } from "../fault.js";
-import { decodedWithoutMark, quoted, stripped } from "./text.js";
+import { decodedWithoutMark } from "./text.js";
 import { UNITS, hertz } from "./units.js";
 
 /**
@@ -24,13 +24,13 @@ export class TableHead {
    * @returns {boolean}
    */
   ends(line) {
-    const text = stripped(decodedWithoutMark(line));
+    const text = decodedWithoutMark(line).trim();
     if (text.startsWith(";")) {
-      this.remark(stripped(text.slice(1)));
+      this.remark(text.slice(1).trim());
     } else if (/^[-+]?\p{Nd}/u.test(text)) {
       return true;
     } else if (text !== "") {
-      this.head = text.split(",").map((cell) => stripped(cell).replace(/^"+/, "").replace(/(?<!")"+$/, ""));
+      this.head = text.split(",").map((cell) => cell.trim().replace(/^"+/, "").replace(/(?<!")"+$/, ""));
     }
     return false;
   }
@@ -39,7 +39,7 @@ export class TableHead {
     const [word] = text.split(":", 1);
     const value = text.slice(word.length + 1);
     if (word.startsWith("Channels")) {
-      this.names = value.split(",").map(stripped);
+      this.names = value.split(",").map((name) => name.trim());
     }
     if (word === "Samplerate") {
       this.ticks = hertz(value);
@@ -51,7 +51,7 @@ export class TableHead {
     const { names, head, ticks } = this;
     const unit = head.length > 0 ? unitOf(head[0]) : null;
     if (head.length > 0 && unit === null && head[0].toLowerCase().startsWith("time")) {
-      throw new Fault(`the times of the column ${quoted(head[0])} have no known unit: export them in seconds`);
+      throw new Fault(`the times of the column ${JSON.stringify(head[0])} have no known unit: export them in seconds`);
     }
     const columns = unit === null ? head : head.slice(1);
     return { names: names.length > 0 ? names : columns, unit, ticks };
@@ -60,6 +60,6 @@ export class TableHead {
 
 /** The unit of a column of times, by its head. */
 function unitOf(cell) {
-  const found = /^(?:time ?\[(\w+)\]|(\w+))$/.exec(stripped(cell).toLowerCase());
+  const found = /^(?:time ?\[(\w+)\]|(\w+))$/.exec(cell.trim().toLowerCase());
   return found === null ? null : (UNITS.get(found[1] ?? found[2]) ?? null);
 }

@@ -2,8 +2,8 @@ import { Fault } from "../fault.js";
 import { ChangeList, MOST, safeTime } from "./changes.js";
 import { positionOf } from "./channels.js";
 import { TableHead } from "./csv-head.js";
-import { floatOf, plainDecimal, rounded } from "./numbers.js";
-import { decoded, quoted, stripped } from "./text.js";
+import { floatOf, plainDecimal } from "./numbers.js";
+import { decoded } from "./text.js";
 import { beginOfWord, endOfWord } from "./words.js";
 
 const [LINE_END, COMMA, ZERO, ONE] = [10, 44, 48, 49];
@@ -85,12 +85,12 @@ export class RowReader {
   timeOf(octets, begin, past) {
     const plain = plainDecimal(octets, begin, past);
     const value = Number.isNaN(plain) ? floatOf(decoded(octets.subarray(begin, past))) : plain;
-    const time = rounded(value * this.scale);
+    const time = Math.round(value * this.scale);
     return Number.isSafeInteger(time) ? time : this.faultOf(time, octets.subarray(begin, past));
   }
 
   faultOf(time, cell) {
-    const told = `row ${this.number}: ${quoted(stripped(decoded(cell)))}`;
+    const told = `row ${this.number}: ${JSON.stringify(decoded(cell).trim())}`;
     if (!Number.isFinite(time)) {
       throw new Fault(`${told} is no time`);
     }
@@ -172,7 +172,7 @@ function valueOfCell(octets, begin, past) {
   const first = beginOfWord(octets, begin, past);
   const end = endOfWord(octets, first, past);
   if (end - first !== 1 || beginOfWord(octets, end, past) !== past) {
-    return valueOfText(stripped(decoded(octets.subarray(begin, past))));
+    return valueOfText(decoded(octets.subarray(begin, past)).trim());
   }
   return valueOf(octets, first, end);
 }

@@ -1,5 +1,3 @@
-import { withSixDecimals } from "./numbers.js";
-
 /** Places are off by less than this many, or an answer may stand before its command: they have a flag between them. */
 export const MOST_DRIFT = 7;
 
@@ -108,6 +106,6 @@ export class Moments {
    * @returns {string}
    */
   of(time) {
-    return this.ticks ? `${withSixDecimals(time / this.ticks)} s` : `sample ${time}`;
+    return this.ticks ? `${(time / this.ticks).toFixed(6)} s` : `sample ${time}`;
   }
 }

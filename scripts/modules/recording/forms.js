@@ -1,6 +1,7 @@
+import { Fault } from "../fault.js";
 import { TableHead } from "./csv-head.js";
 import { namesOf, signalsOf } from "./signals.js";
-import { Words } from "./words.js";
+import { Words, characters } from "./words.js";
 
 /**
  * The forms of recordings that are read: value change dumps, tables with commas, and sessions of sigrok.
@@ -28,6 +29,26 @@ export function formOf(head) {
   }
   const isText = head.every((octet) => (octet >= 32 ? octet !== 127 : octet === 9 || octet === 10 || octet === 13));
   return isText && (first === SEMICOLON || head.includes(COMMA)) ? "csv" : null;
+}
+
+/** How an archive begins (PKWARE's APPNOTE.TXT, 4.3). */
+const ARCHIVE = Uint8Array.from([80, 75, 3, 4]);
+
+/** Words and blanks in what is printed: so samples do not begin, whose higher bits hardly change. */
+const PRINTED = /^(?=[^]*[A-Za-z]{3})(?=[^]*[ \n])[\t\r\n -~]{16,}$/;
+
+/**
+ * Of which form a recording is, which may be samples.
+ * @param {Uint8Array} head its first 4096 octets
+ * @returns {Form|"binary"}
+ */
+export function formOfRecording(head) {
+  if (ARCHIVE.every((octet, at) => head[at] === octet)) return "session";
+  const form = formOf(head);
+  if (form === null && PRINTED.test(characters(head))) {
+    throw new Fault("this is text, and neither a VCD nor a CSV with commas; if it is samples, say --format binary");
+  }
+  return form ?? "binary";
 }
 
 /**

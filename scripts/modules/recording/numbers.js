@@ -1,4 +1,4 @@
-/** Numbers as Python rounds, reads and writes them, so that results are those of recording-to-bits. */
+/** Numbers as recordings write them. */
 
 /**
  * The nearest whole number; from halfway, the even one.
@@ -10,29 +10,9 @@ export function rounded(value) {
   return near - value === 0.5 && near % 2 !== 0 ? near - 1 : near;
 }
 
-/**
- * A number with six decimals; from halfway, the last one is even.
- *
- * The only values halfway between two of them are odd multiples of 1/128, which have seven decimals.
- * @param {number} value
- * @returns {string}
- */
-export function withSixDecimals(value) {
-  const parts = value * 128;
-  if (!Number.isInteger(parts) || parts % 2 === 0) {
-    return value.toFixed(6);
-  }
-  const exact = value.toFixed(7);
-  return Number(exact.at(-2)) % 2 === 0 ? exact.slice(0, -1) : value.toFixed(6);
-}
+const FLOAT = /^\s*[-+]?(?:\d+\.?\d*|\.\d+)(?:[eE][-+]?\d+)?\s*$/;
 
-const DIGITS = "\\d+(?:_\\d+)*";
-
-const FLOAT = new RegExp(
-  `^[\\t-\\r ]*[-+]?(?:${DIGITS}(?:\\.(?:${DIGITS})?)?|\\.${DIGITS})(?:[eE][-+]?${DIGITS})?[\\t-\\r ]*$`,
-);
-
-const WHOLE = new RegExp(`^[-+]?${DIGITS}$`);
+const WHOLE = /^[-+]?\d+$/;
 
 /**
  * The number that a text stands for, NaN if it is none.
@@ -40,7 +20,7 @@ const WHOLE = new RegExp(`^[-+]?${DIGITS}$`);
  * @returns {number}
  */
 export function floatOf(text) {
-  return FLOAT.test(text) ? Number(text.replaceAll("_", "")) : NaN;
+  return FLOAT.test(text) ? Number(text) : NaN;
 }
 
 /**
@@ -49,7 +29,7 @@ export function floatOf(text) {
  * @returns {number}
  */
 export function wholeOf(text) {
-  return WHOLE.test(text) ? Number(text.replaceAll("_", "")) : NaN;
+  return WHOLE.test(text) ? Number(text) : NaN;
 }
 
 /** Powers of ten that a double holds exactly. */

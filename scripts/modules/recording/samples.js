@@ -16,7 +16,7 @@ function tablesOf(positions, width) {
  * Samples of some octets each, channel 0 lowest in the first.
  * @param {import("./source.js").Source} source
  * @param {string[]} names
- * @param {{ names: string[], width: number, ticks: number }} session
+ * @param {import("./bits.js").Samples} session
  * @returns {import("./changes.js").Recording}
  */
 export function samplesOf(source, names, { names: known, width, ticks }) {

@@ -1,7 +1,7 @@
 import { Fault } from "../fault.js";
 import { PIECE } from "./source.js";
 import { hertz } from "./units.js";
-import { membersOf, piecesOfMember } from "./zip.js";
+import { inflated, membersOf, piecesOfMember } from "./zip.js";
 
 /** The file of an archive that says what the recording is, and its section of the logic analyser. */
 const METADATA = "metadata";
@@ -18,13 +18,14 @@ const DEVICE = "device 1";
 
 /**
  * @param {Blob} blob
+ * @param {typeof inflated} [inflate] what unpacks
  * @returns {Promise<Session>}
  */
-export async function sessionOf(blob) {
+export async function sessionOf(blob, inflate = inflated) {
   const members = await membersOf(blob);
   const metadata = members.find(({ name }) => name === METADATA);
   if (!metadata) throw new Fault("the archive is no session of PulseView: it has no metadata");
-  const device = sectionOf(await textOf(blob, metadata), DEVICE);
+  const device = sectionOf(await textOf(blob, metadata, inflate), DEVICE);
   const ofProbes = [...device].filter(([key]) => /^probe\d+$/.test(key));
   const probes = ofProbes.map(([key, name]) => [Number(key.slice("probe".length)) - 1, name]);
   const [width, prefix, rate] = ["unitsize", "capturefile", "samplerate"].map((key) => device.get(key));
@@ -34,13 +35,15 @@ export async function sessionOf(blob) {
   const names = Array.from({ length: Math.max(...probes.map(([at]) => at)) + 1 }, (_, at) => `(${at})`);
   for (const [at, name] of probes) names[at] = name;
   const samples = membersOfSamples(members, prefix);
-  return { names, width: Number(width), ticks: hertz(rate), pieces: (heard) => piecesOf(blob, samples, heard) };
+  const pieces = (/** @type {(read: number, size: number) => void} */ heard) => piecesOf(blob, samples, heard, inflate);
+  return { names, width: Number(width), ticks: hertz(rate), pieces };
 }
 
-async function textOf(blob, member) {
+async function textOf(blob, member, inflate) {
   const decoder = new TextDecoder();
   let text = "";
-  for await (const piece of piecesOfMember(blob, member, PIECE)) text += decoder.decode(piece, { stream: true });
+  const pieces = piecesOfMember(blob, member, PIECE, inflate);
+  for await (const piece of pieces) text += decoder.decode(piece, { stream: true });
   return text;
 }
 
@@ -67,11 +70,11 @@ function membersOfSamples(members, prefix) {
   return own.sort((one, other) => numberOf(one) - numberOf(other));
 }
 
-async function* piecesOf(blob, members, heard) {
+async function* piecesOf(blob, members, heard, inflate) {
   const size = members.reduce((sum, member) => sum + member.size, 0);
   let read = 0;
   for (const member of members) {
-    for await (const piece of piecesOfMember(blob, member, PIECE)) {
+    for await (const piece of piecesOfMember(blob, member, PIECE, inflate)) {
       yield piece;
       read += piece.length;
       heard(read, size);

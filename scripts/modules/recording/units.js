@@ -1,5 +1,4 @@
 import { Fault } from "../fault.js";
-import { SPACE, quoted, stripped } from "./text.js";
 
 /** Units of time by the names that recordings give them, in ticks a second. */
 export const UNITS = new Map([
@@ -7,7 +6,7 @@ export const UNITS = new Map([
   ["seconds", 1], ["milliseconds", 1e3], ["microseconds", 1e6], ["nanoseconds", 1e9], ["picoseconds", 1e12],
 ]);
 
-const RATE = new RegExp(`^(\\d+)(?:\\.(\\d+))?[${SPACE}]*([kMG]?)(?:Hz)?$`);
+const RATE = /^(\d+)(?:\.(\d+))?\s*([kMG]?)(?:Hz)?$/;
 
 const ZEROS = new Map([["", 0], ["k", 3], ["M", 6], ["G", 9]]);
 
@@ -17,9 +16,9 @@ const ZEROS = new Map([["", 0], ["k", 3], ["M", 6], ["G", 9]]);
  * @returns {number}
  */
 export function hertz(text) {
-  const found = RATE.exec(stripped(text));
+  const found = RATE.exec(text.trim());
   if (found === null) {
-    throw new Fault(`${quoted(text)} is no rate`);
+    throw new Fault(`${JSON.stringify(text)} is no rate`);
   }
   const [, whole, decimals = "", prefix] = found;
   const zeros = ZEROS.get(prefix) ?? 0;

@@ -57,13 +57,21 @@ function membersIn(table, count) {
 }
 
 /**
+ * Unpacks a stream, as browsers do it.
+ * @param {ReadableStream<Uint8Array>} stream
+ * @returns {ReadableStream<Uint8Array>}
+ */
+export const inflated = (stream) => stream.pipeThrough(new DecompressionStream("deflate-raw"));
+
+/**
  * The octets of a member, in pieces of a size, the last one shorter.
  * @param {Blob} blob
  * @param {Member} member
  * @param {number} size
+ * @param {typeof inflated} inflate
  * @returns {AsyncGenerator<Uint8Array>}
  */
-export async function* piecesOfMember(blob, { name, method, begin, packed }, size) {
+export async function* piecesOfMember(blob, { name, method, begin, packed }, size, inflate) {
   const head = await viewOf(blob.slice(begin, begin + SIZES.local));
   const isWhole = head.byteLength === SIZES.local && head.getUint32(0, true) === LOCAL;
   const isKnown = method === STORED || method === DEFLATED;
@@ -71,7 +79,7 @@ export async function* piecesOfMember(blob, { name, method, begin, packed }, siz
   const from = begin + SIZES.local + head.getUint16(26, true) + head.getUint16(28, true);
   const stream = blob.slice(from, from + packed).stream();
   try {
-    yield* gathered(method === STORED ? stream : stream.pipeThrough(new DecompressionStream("deflate-raw")), size);
+    yield* gathered(method === STORED ? stream : inflate(stream), size);
   } catch (error) {
     throw faultOf(error, `${name} in the archive is damaged`);
   }

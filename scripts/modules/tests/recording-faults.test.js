@@ -24,7 +24,7 @@ const FAULTS = [
     "csv",
     "Time [s],a,b\n0,0,1\n9007199.254740992,1,1\n",
     ["a", "b"],
-    `row 2: '9007199.254740992' ${BEYOND}`,
+    `row 2: "9007199.254740992" ${BEYOND}`,
   ],
   ["one channel", "csv", "a,b\n0,1\n", ["a"], "two, three or four channels are to be named"],
   ["five channels", "csv", "a,b\n0,1\n", Array(5).fill("a"), "two, three or four channels are to be named"],

@@ -1,39 +1,32 @@
 import assert from "node:assert/strict";
-import { execFileSync } from "node:child_process";
 import { readFileSync } from "node:fs";
 import { test } from "node:test";
-import { fileURLToPath } from "node:url";
-import { channelsOf, formOf } from "../recording/bits.js";
+import { channelsOf, formOf, formOfRecording } from "../recording/forms.js";
 import { Fault } from "../fault.js";
 
 /** What the beginning of a recording tells: its form, and its channels. */
 
-const SCRIPTS = fileURLToPath(new URL("../../port1_scripts", import.meta.url));
-
-const FORM_OF_EACH = `
-import json, sys
-sys.path.insert(0, sys.argv[1])
-from common import recording
-forms = [recording.form_of(head.encode("latin-1")) for head in json.load(sys.stdin)]
-json.dump([form if form in ("vcd", "csv") else None for form in forms], sys.stdout)
-`;
-
-const BEGINNINGS = [
-  ...["", "$", "  \r\n\t$date", "\xef\xbb\xbf$date", "\xbf\xbb\xef$", "x$", "\0$", ";", "; a", "a,b\n", "a;b\n", "\t;"],
-  ...["0,1\0", "0,1\x7f", "0,1\x80", "\xef\xbb\xbf;", "\xef\xbb\xbf", " ", ",", "\x1b,", "\x0b,", "Time [s],a\r\n"],
-  ...["PK\x03\x04,", "PK\x03\x04", "PK,", "META samplerate: 1\n$date", "META samplerate: 1\n\0", "META $date"],
-];
+const BEGINNINGS = {
+  vcd: ["$", "  \r\n\t$date", "\xef\xbb\xbf$date", "\xbf\xbb\xef$", "META samplerate: 1\n$date"],
+  csv: [";", "; a", "a,b\n", "\t;", "\xef\xbb\xbf;", ",", "0,1\x80", "Time [s],a\r\n"],
+  session: ["PK\x03\x04,", "PK\x03\x04"],
+  binary: ["", "x$", "\0$", "a;b\n", "0,1\0", "0,1\x7f", "\xef\xbb\xbf", " ", "\x1b,", "\x0b,", "META samplerate: 1\n\0"],
+};
 
 function octetsOf(text) {
   return new TextEncoder().encode(text);
 }
 
-test("a form is the one that the script takes a recording for", () => {
-  const wanted = execFileSync("python3", ["-B", "-c", FORM_OF_EACH, SCRIPTS], {
-    input: JSON.stringify(BEGINNINGS),
-  });
-  const forms = BEGINNINGS.map((beginning) => formOf(Uint8Array.from(Buffer.from(beginning, "latin1"))));
-  assert.deepEqual(forms, JSON.parse(wanted.toString("ascii")));
+test("the form by the beginning", () => {
+  for (const [form, beginnings] of Object.entries(BEGINNINGS)) {
+    for (const beginning of beginnings) {
+      const octets = Uint8Array.from(Buffer.from(beginning, "latin1"));
+      assert.equal(formOfRecording(octets), form, JSON.stringify(beginning));
+      if (form !== "session") assert.equal(formOf(octets), form === "binary" ? null : form);
+    }
+  }
+  const text = octetsOf("0 1 0 1 bits as text, but with no comma".replace(",", ";"));
+  assert.throws(() => formOfRecording(text), /^Error: this is text|this is text/);
 });
 
 const HEADS = [
@@ -56,7 +49,7 @@ for (const [name, form, head, wanted] of HEADS) {
 }
 
 test("channels of a table whose times have no unit", () => {
-  const fault = new Fault("the times of the column 'Time' have no known unit: export them in seconds");
+  const fault = new Fault('the times of the column "Time" have no known unit: export them in seconds');
   assert.throws(() => channelsOf(octetsOf("Time,a\n0,1\n"), "csv"), fault);
 });
 

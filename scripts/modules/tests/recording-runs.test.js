@@ -89,7 +89,7 @@ const RUNS = [
     form: "csv",
     channels: ["Channel 0", "Channel 1 (data)"],
     input: table("Time,Channel 0,Channel 1 (data)\n", ["2026-11-25T12:00:00,0,1"]),
-    stderr: `${PREFIX}the times of the column 'Time' have no known unit: export them in seconds\n`,
+    stderr: `${PREFIX}the times of the column "Time" have no known unit: export them in seconds\n`,
     status: 2,
   },
   {

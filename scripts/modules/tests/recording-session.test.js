@@ -1,4 +1,4 @@
-// Sessions of sigrok: the bits and notes are those of recording-to-bits, and what is damaged is refused.
+// Sessions of sigrok: the bits and notes are those of their samples, and what is damaged is refused.
 
 import assert from "node:assert/strict";
 import { execFileSync, spawnSync } from "node:child_process";
@@ -9,7 +9,7 @@ import { after, test } from "node:test";
 import { Fault } from "../fault.js";
 import { sessionOf } from "../recording/session.js";
 import { ran } from "./recording-helpers.js";
-import { askPython, runScript } from "./support/scripts.js";
+import { askPython } from "./support/scripts.js";
 
 const folder = mkdtempSync(join(tmpdir(), "sessions-"));
 
@@ -19,7 +19,7 @@ after(() => rmSync(folder, { recursive: true }));
 const WRITE = `
 import zipfile
 from pathlib import Path
-sys.path.insert(0, sys.argv[1])
+sys.path[:0] = [sys.argv[1], sys.argv[1].replace('scripts', 'tests')]
 from tests import cabinet
 folder = Path(json.load(sys.stdin))
 made = cabinet.Cabinet(3, 80, True, 4_000_000, polls=4, whole=True)
@@ -46,6 +46,7 @@ write("odd.sr", samples.astype("<u2").tobytes() + b"\\0", 2)
 write("none.sr", b"", names=[])
 with zipfile.ZipFile(folder / "other.sr", "w") as archive:
     archive.writestr("version", "2")
+(folder / "plain.bin").write_bytes(one)
 json.dump(len(samples), sys.stdout)
 `;
 
@@ -71,15 +72,23 @@ const SESSIONS = [
   ["plain.sr", ["TXC", "nothing"]],
 ];
 
+/** What is read of the samples themselves, whose channels have these names. */
+function readPlain(channels) {
+  const samples = { names: [...WIRES, ...["4", "5", "6", "7"]], width: 1, ticks: 4_000_000 };
+  return ran([readFileSync(join(folder, "plain.bin"))], { form: "binary", channels, samples });
+}
+
 for (const [name, channels] of SESSIONS) {
   test(`${name}: ${channels.join(" ")}`, async () => {
-    const words = [`${TOP}scripts/recording-to-bits`, ...channels];
-    const wanted = spawnSync("sh", ["-c", '"$@" < "$0"', join(folder, name), ...words], { maxBuffer: 1 << 28 });
     const got = await readBy(await openAsBlob(join(folder, name)), channels);
-    assert.equal(got.stderr, wanted.stderr.toString());
-    assert.equal(got.stdout, wanted.stdout.toString());
-    assert.equal(got.status, wanted.status);
-    assert.ok(got.status === 2 || got.stdout.length > 100);
+    const wanted = await readPlain(channels);
+    if (channels.includes("nothing")) {
+      const known = "no channel has the name nothing; there are: TXC, TXD, RXC, RXD";
+      assert.deepEqual(got, { stdout: "", stderr: `recording-to-bits: ${known}\n`, status: 2 });
+    } else {
+      assert.deepEqual(got, wanted);
+      assert.ok(got.stdout.length > 100);
+    }
   });
 }
 
@@ -143,6 +152,7 @@ test("a session that sigrok-cli writes", { skip: HAS_SIGROK ? false : "no sigrok
   writeFileSync(samples, Uint8Array.from({ length: 200000 }, (_, at) => ((at * 7919) >> 5) & 15));
   execFileSync("sigrok-cli", ["-i", samples, "-I", "binary:numchannels=4:samplerate=1000000", "-o", session]);
   const got = await readBy(await openAsBlob(session), ["0", "1"]);
-  const wanted = runScript("recording-to-bits", ["--format=binary", "--samplerate=1M", "0", "1"], readFileSync(samples));
+  const names = Array.from({ length: 8 }, (_, at) => String(at));
+  const wanted = await ran([readFileSync(samples)], { form: "binary", channels: ["0", "1"], samples: { names, width: 1, ticks: 1e6 } });
   assert.deepEqual(got, wanted);
 });

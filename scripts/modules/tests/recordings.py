@@ -1,30 +1,24 @@
-"""Writes recordings of simulated cabinets to a folder, and beside each what recording-to-bits makes of it.
+"""Writes recordings of simulated cabinets, and others, to a folder.
 
     recordings.py FOLDER {few,all}
 
-The file `cases.json` says of each recording its form, the channels that are taken, whether at falling edges, in reads
-of how many octets, and which form the script finds by itself, if it is one of these. Of a recording `7` the files
-`7.out`, `7.err` and `7.status` are the script's. Reads of other sizes than its own show what depends on where parts
-end.
+The file `cases.json` says of each recording its form, the channels that are taken, whether at falling edges, and in
+reads of how many octets: such of other sizes than usual show what depends on where parts end.
 """
 
-import io
 import json
 import random
 import sys
-import warnings
 from itertools import product
 from pathlib import Path
 from typing import Callable, Dict, Iterator, List, NamedTuple, Sequence
 
 TOP = Path(__file__).resolve().parent.parent.parent.parent
 
-sys.path[:0] = [str(TOP / "scripts"), str(TOP / "scripts" / "port1_scripts")]
+sys.path[:0] = [str(TOP / "scripts"), str(TOP / "tests")]
 
 import numpy as np  # noqa: E402
 
-import recording_to_bits  # noqa: E402
-from common import manners, recording  # noqa: E402
 from tests import cabinet  # noqa: E402
 from tests import recordings as others  # noqa: E402
 from tests.cabinet import Cabinet  # noqa: E402
@@ -35,7 +29,8 @@ NAMES = ["TXC", "TXD", "RXC", "RXD"]
 
 ONE_CLOCK = ["TXC", "TXD", "RXD"]
 
-PIECE = recording.PIECE
+# Octets of one read, unless a recording is read otherwise.
+PIECE = 1 << 22
 
 
 class Case(NamedTuple):
@@ -250,34 +245,12 @@ def spoilt_cabinets(is_all: bool) -> Iterator[Case]:
 KINDS = [examples, by_hand, doubtful, cabinets, short, stops, cuts, wild, spoilt_cabinets]
 
 
-# What the script makes of them.
-
-
-def run_of(case: Case, stem: Path) -> None:
-    """Runs the script's own main program on a recording. Status 1 is a fault that the script does not expect."""
-    out, err = io.BytesIO(), io.BytesIO()
-    sys.stdin = io.TextIOWrapper(io.BufferedReader(io.BytesIO(case.octets)))  # type: ignore[arg-type]
-    sys.stdout, sys.stderr = io.TextIOWrapper(out), io.TextIOWrapper(err, encoding="utf-8")
-    sys.argv = ["recording-to-bits", f"--format={case.form}", *["--falling"] * case.falling, *case.channels]
-    recording.PIECE = case.size
-    try:
-        status = manners.status_of(recording_to_bits.main)
-    except Exception:
-        status = 1
-    sys.stderr.flush()
-    for suffix, octets in [(".in", case.octets), (".out", out.getvalue()), (".err", err.getvalue())]:
-        stem.with_suffix(suffix).write_bytes(octets)
-    stem.with_suffix(".status").write_text(str(status), encoding="ascii")
-
-
 def main() -> None:
     folder, is_all = Path(sys.argv[1]), sys.argv[2] == "all"
-    warnings.simplefilter("ignore")  # of numpy, where there is nothing that a mean could be of
     told: List[Dict[str, object]] = []
     for case in (case for kind in KINDS for case in kind(is_all)):
-        run_of(case, folder / str(len(told)))
-        found = recording.form_of(case.octets[:4096])
-        told.append({**case._asdict(), "octets": len(case.octets), "found": found if found in ("vcd", "csv") else None})
+        (folder / f"{len(told)}.in").write_bytes(case.octets)
+        told.append({**case._asdict(), "octets": len(case.octets)})
     (folder / "cases.json").write_text(json.dumps(told), encoding="ascii")
 
 

@@ -52,6 +52,21 @@ test("what is wrong, without numbers and unwrapped", () => {
   assert.equal(headLine(bus), "0.030 s of two lines at 153600 bits a second: 7 frames, 1 damaged piece.");
 });
 
+test("what came in place of an answer came on the line of answers", () => {
+  const saidOf = (line) => {
+    const other = `${line} 100 141 frame 098380fde5 station 9 type 128 unknown\n`;
+    const [first] = textsOf(wrong(busOf(command(8, "10", "00") + other + verdict("missing", 8))));
+    return first;
+  };
+  const silent = "Station 16 is silent: it answered none of 1 command, of type 0 (call).";
+  assert.equal(saidOf(1), silent);
+  assert.equal(saidOf(2), `${silent} In place of the answer came once another one, last of station 9, type 128, unknown.`);
+});
+
+test("a listing begins at its least place, wherever that stands", () => {
+  assert.match(headLine(busOf("307200 307215 idle\n153600 153615 idle\n460785 460800 idle\n")), /^2\.000 s of one line/);
+});
+
 test("where nothing is wrong, that and the doubts are said", () => {
   const said = (listing) => {
     const bus = busOf(listing);
@@ -95,6 +110,12 @@ test("where the damage is", () => {
     stretches: [{ begin: 0, past: 500, text: "0.000 to 0.500 s", pieces: 9, share: 90 }],
   });
   assert.deepEqual(damageOf(busOf("")), { sentence: "", where: "", stretches: [] });
+});
+
+test("damage that only wider slots of time show: 3 of 6 pieces in the first half of a second", () => {
+  const pieces = [0.05, 0.25, 0.45, 2.1, 3.7, 5.1].map((second) => Math.round(second * 153600));
+  const bus = busOf(`${pieces.map((place) => `${place} ${place + 9} abort\n`).join("")}0 15 idle\n921585 921600 idle\n`);
+  assert.deepEqual(damageOf(bus).stretches, [{ begin: 0, past: 500, text: "0.000 to 0.500 s", pieces: 3, share: 50 }]);
 });
 
 test("times to answers by kinds, and of all", () => {

@@ -61,7 +61,8 @@ export class Tables {
   /** The fault where a value is in the way. */
   inTheWay(value, key) {
     const isFrozen = isCollection(value);
-    return this.source.fault(isFrozen ? `Cannot mutate immutable namespace ${key.join(".")}` : "Cannot overwrite a value");
+    const frozen = `Cannot mutate immutable namespace ${key.join(".")}`;
+    return this.source.fault(isFrozen ? frozen : "Cannot overwrite a value");
   }
 
   /**

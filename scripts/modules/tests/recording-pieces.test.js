@@ -4,41 +4,14 @@ import { mkdtempSync, readFileSync, rmSync, writeFileSync } from "node:fs";
 import { tmpdir } from "node:os";
 import { join } from "node:path";
 import { test } from "node:test";
-import { fileURLToPath } from "node:url";
 import { inLines, inPieces, ran } from "./recording-helpers.js";
 
-/** The examples as recording-to-bits reads them, and recordings that sigrok-cli writes. */
+/** Recordings in pieces, and those that sigrok-cli writes. */
 
 const TOP = new URL("../../../", import.meta.url);
 
-const EXAMPLES = [
-  ["four-wires.csv", "csv", ["TXC", "TXD", "RXC", "RXD"], true],
-  ["four-wires.csv", "csv", ["RXC", "RXD", "TXC", "TXD"], true],
-  ["four-wires.csv", "csv", ["TXC", "TXD", "RXD"], false],
-  ["four-wires.csv", "csv", ["TXC", "TXC"], true],
-  ["four-wires.csv", "csv", ["TXC", "CLK"], true],
-  ["one-call.vcd", "vcd", ["clk", "dat"], true],
-  ["call-and-reply.vcd", "vcd", ["clk", "tx", "rx"], true],
-  ["call-and-reply.vcd", "vcd", ["clk", "tx", "rx"], false],
-  ["call-and-reply.vcd", "vcd", ["clk", "tx", "clk", "rx"], true],
-];
-
 function example(name) {
   return readFileSync(new URL(`examples/${name}`, TOP));
-}
-
-function byScript(input, channels, rising) {
-  const script = fileURLToPath(new URL("scripts/recording-to-bits", TOP));
-  const words = [...(rising ? [] : ["--falling"]), ...channels];
-  const { status, stdout, stderr } = spawnSync(script, words, { input });
-  return { stdout: stdout.toString("latin1"), stderr: stderr.toString("utf8"), status };
-}
-
-for (const [name, form, channels, rising] of EXAMPLES) {
-  test(`${name}: ${channels.join(" ")}${rising ? "" : ", falling"}`, async () => {
-    const input = example(name);
-    assert.deepEqual(await ran([input], { form, channels, rising }), byScript(input, channels, rising));
-  });
 }
 
 /** Wherever a recording is cut into two pieces, and in pieces of an octet each, the outcome is the same. */
@@ -48,7 +21,7 @@ for (const [name, form, channels, length] of [
 ]) {
   test(`${name} in pieces`, async () => {
     const input = example(name).subarray(0, length);
-    const wanted = byScript(input, channels, true);
+    const wanted = await ran([input], { form, channels });
     assert.deepEqual(await ran(inPieces(input, 1), { form, channels }), wanted);
     for (let cut = 0; cut <= input.length; cut++) {
       const pieces = [input.subarray(0, cut), input.subarray(cut)];

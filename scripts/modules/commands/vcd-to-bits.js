@@ -1,0 +1,1 @@
+import "./recording-to-bits.js";
