@@ -45,6 +45,8 @@ declare module "node:fs" {
   function readSync(file: number, room: Uint8Array, at?: number, count?: number, place?: number | null): number;
   function renameSync(from: string, to: string): void;
   function rmSync(path: string, options: { force: boolean }): void;
+  function statSync(path: string): Stats;
+  function writeFileSync(path: string, text: string): void;
   function writeSync(file: number, octets: Uint8Array, at?: number): number;
 }
 

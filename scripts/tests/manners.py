@@ -43,8 +43,8 @@ CALLS: Dict[str, Call] = {
     "vcd-to-bits": Call(["0", "1"], bytes([0, 1, 2, 3]) * 200_000),
 }
 
-# Scripts that are given a file in their words.
-FILES = ["check-dictionary", "list-in-parts"]
+# Scripts that are given a file in their words, and the words after it.
+FILES: Dict[str, List[str]] = {"bus-limits": ["unit=unit.list"], "check-dictionary": [], "list-in-parts": []}
 
 RUNS: List[Run] = []
 
@@ -61,6 +61,7 @@ def called(name: str, words: List[Word], **options) -> "subprocess.CompletedProc
 
 # What is tested, and the modules whose tests run it: every script, and what stands elsewhere in the repository.
 MODULES: Dict[str, List[str]] = {
+    "bus-limits": ["limits"],
     "bus-summary": ["listings"],
     "by-definition": ["definitions"],
     "check-dictionary": ["dictionaries"],
@@ -152,7 +153,7 @@ def folders(folder: Path) -> Iterator[str]:
         if not is_one_line(got, name):
             yield f"{name}: status {got.returncode}, {got.stderr!r}"
     for name in FILES:
-        got = called(name, [folder], stdin=subprocess.DEVNULL)
+        got = called(name, [folder, *FILES[name]], stdin=subprocess.DEVNULL)
         if not is_one_line(got, name):
             yield f"{name}: status {got.returncode}, {got.stderr!r}"
 
@@ -165,7 +166,7 @@ def files_that_are_not_there(folder: Path) -> List[str]:
     """A file that cannot be read is one line with status 2."""
     problems = []
     for name in FILES:
-        got = called(name, [folder / "nothing"], stdin=subprocess.DEVNULL)
+        got = called(name, [folder / "nothing", *FILES[name]], stdin=subprocess.DEVNULL)
         if not is_one_line(got, name):
             problems.append(f"{name}: status {got.returncode}, {got.stderr!r}")
     return problems

@@ -48,14 +48,15 @@ export async function textOfInput() {
 }
 
 /**
- * The rows of a listing on standard input, in memory that does not grow with it. Those before a line that is none of a
- * listing come before its fault is thrown.
+ * The rows of a listing that comes in pieces, in memory that does not grow with it. Those before a line that is none of
+ * a listing come before its fault is thrown.
+ * @param {AsyncIterable<Uint8Array>|Iterable<Uint8Array>} [pieces] standard input, unless given
  * @returns {AsyncGenerator<Iterable<import("../listing/listing.js").Row>>}
  */
-export async function* rowsOfInput() {
+export async function* rowsOfInput(pieces = standardInput()) {
   const reader = new ListingReader();
   try {
-    for await (const piece of standardInput()) {
+    for await (const piece of pieces) {
       reader.take(piece);
       yield reader.newRows();
       reader.forget();

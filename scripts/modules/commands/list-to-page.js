@@ -1,12 +1,13 @@
-import { createHash } from "node:crypto";
-import { closeSync, existsSync, fstatSync, openSync, readFileSync, readSync } from "node:fs";
+import { existsSync, readFileSync, statSync } from "node:fs";
 import { basename, join } from "node:path";
 import { Readable } from "node:stream";
 import { createGzip } from "node:zlib";
 import { Fault } from "../fault.js";
+import { asHtml } from "../limits/forms.js";
 import { ListingReader } from "../listing/read.js";
 import { RATE } from "../port1.js";
 import { positive, run, wordsOf, writeText } from "./command.js";
+import { dateOf, sha256Of } from "./facts.js";
 import { standardInput } from "./input.js";
 import { TOP } from "./program.js";
 
@@ -17,17 +18,8 @@ const ENGINE = /<script type="application\/wasm\+base64" id="engine">.*?<\/scrip
 
 const ABOUT = /(?<=<script type="application\/json" id="about">).*?(?=<\/script>)/s;
 
-/** Octets of one read of a recording. */
-const PIECE = 1 << 20;
-
 /** How each note begins. */
 const PREFIX = /^(?:recording|vcd)-to-bits: /;
-
-/** @type {Record<string, string>} */
-const ESCAPES = { "&": "&amp;", "<": "&lt;", ">": "&gt;", '"': "&quot;", "'": "&#x27;" };
-
-/** @param {string} text */
-const asHtml = (text) => text.replace(/[&<>"']/g, (character) => ESCAPES[character]);
 
 /** @param {string} file */
 function pageOf(file) {
@@ -45,24 +37,11 @@ function partsOf(page, more) {
   return [`${titled}<script type="application/gzip+base64" id="listing-data">`, `</script>${after}`];
 }
 
-/** @param {number} number */
-const twoDigits = (number) => String(number).padStart(2, "0");
-
-/** A date and time of day, here. @param {Date} date */
-function dateOf(date) {
-  const [month, day, hour, minute] = [date.getMonth() + 1, date.getDate(), date.getHours(), date.getMinutes()];
-  return `${date.getFullYear()}-${twoDigits(month)}-${twoDigits(day)} ${twoDigits(hour)}:${twoDigits(minute)}`;
-}
-
 /** What the report has of the recording's file. @param {string} recording */
 function factsOf(recording) {
-  const [file, digest, piece] = [openSync(recording, "r"), createHash("sha256"), new Uint8Array(PIECE)];
-  for (let count = readSync(file, piece); count > 0; count = readSync(file, piece)) {
-    digest.update(piece.subarray(0, count));
-  }
-  const { mtime, size } = fstatSync(file);
-  closeSync(file);
-  return { name: basename(recording), date: dateOf(mtime), size: String(size), sha256: digest.digest("hex") };
+  const sha256 = sha256Of(recording);
+  const { mtime, size } = statSync(recording);
+  return { name: basename(recording), date: dateOf(mtime), size: String(size), sha256 };
 }
 
 /** @param {string} notes */

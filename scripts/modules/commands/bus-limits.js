@@ -1,0 +1,108 @@
+import { readFileSync, writeFileSync } from "node:fs";
+import { basename } from "node:path";
+import { Fault } from "../fault.js";
+import { csvOf, jsonOf, junitOf, textOf, verdictOf } from "../limits/forms.js";
+import { judge, worseThan } from "../limits/judge.js";
+import { limitsOf } from "../limits/limits.js";
+import { pageOf } from "../limits/page.js";
+import { RATE } from "../port1.js";
+import { Bus } from "../statistics/bus.js";
+import { objectOf } from "../statistics/object.js";
+import { misuse, positive, run, warn, wordsOf, writeText } from "./command.js";
+import { dateOf, piecesOf, sha256Of } from "./facts.js";
+import { rowsOfInput } from "./input.js";
+
+/** How JSON begins: a listing begins with a digit. */
+const BRACE = 123;
+
+/** A tolerance, for an option. @param {string} text */
+function percentOf(text) {
+  if (!/^[0-9]+(\.[0-9]+)?%?$/.test(text)) throw new Fault(`${JSON.stringify(text)} is no number of percent`);
+  return Number(text.replace("%", ""));
+}
+
+/** The name, listing and recording of a unit. @param {string} word */
+function unitOf(word) {
+  const [name, listing, recording, more] = word.split("=");
+  if (!name || !listing || recording === "" || more !== undefined) {
+    throw misuse(`${JSON.stringify(word)} is no NAME=LISTING or NAME=LISTING=RECORDING`);
+  }
+  return { name, listing, recording };
+}
+
+/** @param {string} file @param {number} rate */
+async function statisticsOf(file, rate) {
+  const bus = new Bus(rate);
+  for await (const rows of rowsOfInput(piecesOf(file, 1 << 16))) bus.takeSome(rows);
+  bus.end();
+  return objectOf(bus);
+}
+
+/** The units of an earlier run. @param {string} file @returns {any[]} */
+function unitsIn(file) {
+  try {
+    const { units } = JSON.parse(readFileSync(file, "utf8"));
+    if (Array.isArray(units)) return units;
+  } catch (error) {
+    if (!(error instanceof SyntaxError)) throw error;
+  }
+  throw new Fault(`${file} was not written by --json`);
+}
+
+/** What the earlier run knows of a unit, by its name. */
+async function baselineOf(file, rate) {
+  const [head] = piecesOf(file, 1);
+  if (head?.[0] !== BRACE) {
+    const statistics = await statisticsOf(file, rate);
+    return () => statistics;
+  }
+  const units = unitsIn(file);
+  return (name) => {
+    const found = units.find((unit) => unit.name === name)?.statistics;
+    if (!found) throw new Fault(`${file} has no statistics of ${name}`);
+    return found;
+  };
+}
+
+/** A unit with all that is judged of it; its fault is said, and the next unit follows. */
+async function judged({ name, listing, recording }, { limits, rate, before, within }) {
+  const unit = { name, source: { file: basename(recording ?? listing) }, judgements: [], worse: [] };
+  try {
+    const source = { ...unit.source, sha256: sha256Of(recording ?? listing) };
+    const statistics = await statisticsOf(listing, rate);
+    const judgements = judge(limits, statistics);
+    const worse = before === null ? [] : worseThan(before(name), statistics, within);
+    return { ...unit, source, statistics, judgements, worse };
+  } catch (error) {
+    const fault = /** @type {any} */ (error);
+    if (!(fault instanceof Fault) && fault.code === undefined) throw error;
+    warn(`${name}: ${fault.message}`);
+    return { ...unit, fault: fault.message };
+  }
+}
+
+const FILES = { junit: String, csv: String, json: String, page: String };
+
+run(async () => {
+  const options = { ...FILES, rate: positive, date: String, baseline: String, within: percentOf };
+  const { values, words: [file, ...others] } = wordsOf(options, ["LIMITS", "NAME=LISTING"], Infinity);
+  const units = others.map(unitOf);
+  const twice = units.find(({ name }, at) => units.findIndex((unit) => unit.name === name) < at);
+  if (twice) throw misuse(`${twice.name} stands there twice`);
+  const { rate = RATE, within = 20, date = dateOf(new Date()) } = values;
+  const limits = limitsOf(file, readFileSync(file, "utf8"));
+  const before = values.baseline === undefined ? null : await baselineOf(values.baseline, rate);
+  const found = [];
+  for (const unit of units) {
+    const one = await judged(unit, { limits, rate, before, within });
+    if (!("fault" in one)) writeText(textOf(one));
+    found.push(one);
+  }
+  const { junit, csv, json, page } = values;
+  if (junit) writeFileSync(junit, junitOf(found));
+  if (csv) writeFileSync(csv, csvOf(found));
+  if (json) writeFileSync(json, jsonOf(found, date));
+  if (page) writeFileSync(page, pageOf(found, date, { file: basename(file), sha256: sha256Of(file) }));
+  const verdicts = found.map(verdictOf);
+  return verdicts.includes("FAULT") ? 2 : Number(verdicts.includes("FAIL"));
+});

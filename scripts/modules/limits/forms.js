@@ -1,0 +1,92 @@
+import { measureOf } from "./judge.js";
+
+/** A value with its unit, as text. @param {number|null} value @param {string} key */
+export function shown(value, key) {
+  const { unit } = measureOf(key);
+  return value === null ? "nothing to judge" : `${Number(value.toFixed(3))}${unit && ` ${unit}`}`;
+}
+
+/** @param {import("./judge.js").Judgement} judgement */
+export const sentenceOf = ({ where, key, value, limit }) =>
+  `${where}: ${measureOf(key).text} ${shown(value, key)}, limit ${shown(limit, key)}`;
+
+export const worseText = ({ where, key, value, was }) =>
+  `${where}: ${measureOf(key).text} ${shown(value, key)}, before ${shown(was, key)}`;
+
+export const brokenOf = ({ judgements }) => judgements.filter(({ isKept }) => !isKept);
+
+export const verdictOf = (unit) => {
+  if (unit.fault) return "FAULT";
+  return brokenOf(unit).length + unit.worse.length > 0 ? "FAIL" : "PASS";
+};
+
+/** How many limits are kept. */
+export function keptText(unit) {
+  const [all, broken] = [unit.judgements.length, brokenOf(unit).length];
+  return `${all - broken} of ${all} limits kept`;
+}
+
+/** The lines of a unit that was judged. */
+export function textOf(unit) {
+  const broken = brokenOf(unit).map((judgement) => `     ${sentenceOf(judgement)}\n`);
+  const worse = unit.worse.map((some) => `     worse: ${worseText(some)}\n`);
+  return [`${verdictOf(unit)} ${unit.name}: ${keptText(unit)}\n`, ...broken, ...worse].join("");
+}
+
+/** @type {Record<string, string>} */
+const ESCAPES = { "&": "&amp;", "<": "&lt;", ">": "&gt;", '"': "&quot;", "'": "&#x27;" };
+
+/** A text for HTML and XML, without the characters that XML cannot have. @param {string} text */
+export const asHtml = (text) =>
+  text.replace(/[\0-\x08\x0b\x0c\x0e-\x1f]/g, "?").replace(/[&<>"']/g, (character) => ESCAPES[character]);
+
+function caseOf(unit, name, inner) {
+  return `<testcase classname="${asHtml(unit)}" name="${asHtml(name)}">${inner}</testcase>\n`;
+}
+
+const failure = (text) => `<failure message="${asHtml(text)}"/>`;
+
+/** The cases of a unit in JUnit's XML. */
+function casesOf(unit) {
+  if (unit.fault) return [caseOf(unit.name, "listing", `<error message="${asHtml(unit.fault)}"/>`)];
+  const limits = unit.judgements.map((judgement) => {
+    const name = `${judgement.where} ${judgement.key}`;
+    return caseOf(unit.name, name, judgement.isKept ? "" : failure(sentenceOf(judgement)));
+  });
+  const worse = unit.worse.map((some) => {
+    return caseOf(unit.name, `${some.where} ${some.key} worse`, failure(worseText(some)));
+  });
+  return [...limits, ...worse];
+}
+
+export function junitOf(units) {
+  const cases = units.flatMap(casesOf);
+  const count = (tag) => cases.filter((text) => text.includes(`><${tag} `)).length;
+  const head = `tests="${cases.length}" failures="${count("failure")}" errors="${count("error")}"`;
+  const suite = `<testsuite name="bus-limits" ${head}>\n${cases.join("")}</testsuite>\n`;
+  return `<?xml version="1.0" encoding="UTF-8"?>\n${suite}`;
+}
+
+const csvCell = (value) => {
+  const text = String(value ?? "");
+  return /[",\r\n]/.test(text) ? `"${text.replaceAll('"', '""')}"` : text;
+};
+
+/** A row for each limit of each unit. */
+export function csvOf(units) {
+  const rows = units.flatMap((unit) => {
+    const head = [unit.name, verdictOf(unit)];
+    if (unit.fault) return [[...head, "", "", "", "", unit.fault]];
+    return unit.judgements.map(({ where, key, value, limit, isKept }) => {
+      return [...head, where, key, value, limit, isKept ? "kept" : "not kept"];
+    });
+  });
+  const heads = ["unit", "verdict", "where", "key", "value", "limit", "result"];
+  return [heads, ...rows].map((row) => `${row.map(csvCell).join(",")}\r\n`).join("");
+}
+
+/** The whole run, which can be the baseline of another. */
+export function jsonOf(units, date) {
+  const told = units.map((unit) => ({ ...unit, verdict: verdictOf(unit) }));
+  return `${JSON.stringify({ date, units: told }, null, 2)}\n`;
+}

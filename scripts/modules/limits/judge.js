@@ -1,0 +1,67 @@
+import { Fault } from "../fault.js";
+import { BUS, KIND } from "./limits.js";
+
+/**
+ * A limit, what was seen (null: nothing to judge), and whether the limit is kept.
+ * @typedef {{ where: string, key: string, value: number|null, limit: number, isKept: boolean }} Judgement
+ */
+
+/** What statistics say of a kind of which no command was seen. */
+const NONE = { sent: 0, decided: 0, name: "", replyMs: { percent99: null, longest: null }, gapMs: { longest: null } };
+
+export const measureOf = (key) => KIND[key] ?? BUS[key];
+
+/** @returns {Judgement} */
+function judged(where, { key, limit }, seen) {
+  const { of, isLeast } = measureOf(key);
+  const value = of(seen);
+  return { where, key, value, limit, isKept: value !== null && (isLeast ? value >= limit : value <= limit) };
+}
+
+const kindIn = (statistics, { station, type }) =>
+  statistics.kinds.find((kind) => kind.station === station && kind.type === type) ?? NONE;
+
+/** A station and type, with the name that the dictionary gives it. */
+const whereOf = ({ station, type }, { name }) => `station ${station} type ${type}${name ? ` ${name}` : ""}`;
+
+/**
+ * Holds statistics to limits. Where there is nothing to judge at all, that is a fault.
+ * @returns {Judgement[]}
+ */
+export function judge(limits, statistics) {
+  if (statistics.frames === 0) throw new Fault("there is no frame: nothing to judge");
+  const all = [...limits.bus, ...limits.kinds.flatMap((kind) => kind.limits)];
+  const isJudging = all.some(({ key }) => measureOf(key).isJudged);
+  if (isJudging && !statistics.hasDictionary) {
+    throw new Fault("the listing was made without a dictionary: no answer can be judged");
+  }
+  const bus = limits.bus.map((limit) => judged("bus", limit, statistics));
+  const kinds = limits.kinds.flatMap((kind) => {
+    const seen = kindIn(statistics, kind);
+    return kind.limits.map((limit) => judged(whereOf(kind, seen), limit, seen));
+  });
+  return [...bus, ...kinds];
+}
+
+/** Room for the rounding of what is compared. */
+const EXACT = 1 + 1e-9;
+
+/** What is compared with an earlier run. */
+const COMPARED = ["bad_percent", "reply_99_ms", "reply_longest_ms", "gap_ms"];
+
+/** The measures of one place that are worse than before by more than a tolerance in percent. */
+function worseAt(where, keys, now, before, within) {
+  return keys.flatMap((key) => {
+    const [value, was] = [measureOf(key).of(now), measureOf(key).of(before)];
+    const isWorse = was !== null && (value === null || value * 100 > was * (100 + within) * EXACT);
+    return isWorse ? [{ where, key, value, was }] : [];
+  });
+}
+
+/** What got worse since an earlier run, by more than a tolerance in percent. */
+export function worseThan(before, now, within) {
+  const kinds = before.kinds.flatMap((kind) => {
+    return worseAt(whereOf(kind, kind), COMPARED, kindIn(now, kind), kind, within);
+  });
+  return [...worseAt("bus", ["damaged_percent"], now, before, within), ...kinds];
+}

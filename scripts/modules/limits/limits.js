@@ -1,0 +1,126 @@
+import { readToml } from "../dictionary/toml.js";
+import { TomlFault } from "../dictionary/toml/source.js";
+import { Fault } from "../fault.js";
+import { ANSWER } from "../port1.js";
+
+/**
+ * A limit: what it limits, what it reads of the statistics (null: nothing to judge), its unit, whether it is a least,
+ * and whether it needs verdicts.
+ * @typedef {object} Measure
+ * @property {string} text
+ * @property {(some: any) => number|null} of
+ * @property {string} unit
+ * @property {boolean} [isLeast]
+ * @property {boolean} [isJudged]
+ */
+
+/** @param {string} text @param {string} key @returns {Measure} */
+const verdicts = (text, key) => {
+  return { text, of: (kind) => (kind.decided > 0 ? kind[key] : null), unit: "", isJudged: true };
+};
+
+/** @type {Record<string, Measure>} */
+export const BUS = {
+  frames: { text: "frames", of: ({ frames }) => frames, unit: "", isLeast: true },
+  damaged: { text: "damaged pieces", of: ({ damaged }) => damaged, unit: "" },
+  pending: { text: "commands that still wait at the end", of: ({ pending }) => pending, unit: "", isJudged: true },
+  damaged_percent: { text: "share of damaged pieces", of: ({ damagedPercent }) => damagedPercent, unit: "%" },
+};
+
+/** @type {Record<string, Measure>} */
+export const KIND = {
+  sent: { text: "commands", of: ({ sent }) => sent, unit: "", isLeast: true },
+  missing: verdicts("missing answers", "missing"),
+  late: verdicts("late answers", "late"),
+  spoilt: verdicts("spoilt answers", "spoilt"),
+  bad_percent: { ...verdicts("share of missing, late and spoilt answers", "badPercent"), unit: "%" },
+  reply_99_ms: { text: "99 % of replies within", of: ({ replyMs }) => replyMs.percent99, unit: "ms", isJudged: true },
+  reply_longest_ms: { text: "longest reply", of: ({ replyMs }) => replyMs.longest, unit: "ms", isJudged: true },
+  gap_ms: { text: "longest gap between commands", of: ({ gapMs }) => gapMs.longest, unit: "ms" },
+};
+
+/** A number that is not below 0, as TOML has it, or nothing. */
+function numberOf(value) {
+  const number = typeof value === "bigint" ? Number(value) : value;
+  return typeof number === "number" && Number.isFinite(number) && number >= 0 ? number : null;
+}
+
+/** Reads tables of limits, and names what is wrong by its line and key. */
+class Reader {
+  constructor(file, place) {
+    this.file = file;
+    this.place = place;
+  }
+
+  fault(path, text) {
+    return new Fault(`${this.file}:${this.place.lineOf(path)}: ${path.at(-1) ?? "limits"}: ${text}`);
+  }
+
+  table(value, path) {
+    if (!(value instanceof Map)) throw this.fault(path, "is no table");
+    return value;
+  }
+
+  /** The limits of a table, of these measures. */
+  limits(table, path, measures) {
+    return [...table].map(([key, value]) => {
+      const own = [...path, key];
+      const keys = Object.keys(measures);
+      if (!keys.includes(key)) throw this.fault(own, `is no limit; limits are ${keys.join(", ")}`);
+      const limit = numberOf(value);
+      if (limit === null) throw this.fault(own, "is no number from 0");
+      if (measures[key].unit === "%" && limit > 100) throw this.fault(own, "is above 100 %");
+      return { key, limit };
+    });
+  }
+
+  whole(table, path, key, past) {
+    const value = table.get(key);
+    const own = [...path, key];
+    if (value === undefined) throw this.fault(own, "is lacking");
+    const isGood = typeof value === "bigint" && value >= 0n && value < past;
+    if (!isGood) throw this.fault(own, `is no whole number below ${past}`);
+    return Number(value);
+  }
+
+  /** The limits of one station and type. */
+  kind(value, path) {
+    const table = this.table(value, path);
+    const station = this.whole(table, path, "station", 256);
+    const type = this.whole(table, path, "type", ANSWER);
+    const others = [...table].filter(([key]) => key !== "station" && key !== "type");
+    const limits = this.limits(others, path, KIND);
+    if (limits.length === 0) throw this.fault([...path, "station"], `station ${station} type ${type} has no limit`);
+    return { station, type, limits };
+  }
+}
+
+function documentOf(file, text) {
+  try {
+    return readToml(text);
+  } catch (fault) {
+    throw fault instanceof TomlFault ? new Fault(`${file}:${fault.line}: ${fault.message}`) : fault;
+  }
+}
+
+/**
+ * The limits of a file.
+ * @param {string} file its name, for faults
+ * @param {string} text
+ */
+export function limitsOf(file, text) {
+  const { table, place } = documentOf(file, text);
+  const reader = new Reader(file, place);
+  const other = [...table.keys()].find((key) => key !== "bus" && key !== "limit");
+  if (other !== undefined) throw reader.fault([other], "is neither `bus` nor `limit`");
+  const bus = table.has("bus") ? reader.limits(reader.table(table.get("bus"), ["bus"]), ["bus"], BUS) : [];
+  const list = table.get("limit") ?? [];
+  if (!Array.isArray(list)) throw reader.fault(["limit"], "is no array of tables: write [[limit]]");
+  const kinds = list.map((value, at) => reader.kind(value, ["limit", at]));
+  kinds.forEach(({ station, type }, at) => {
+    const isBefore = kinds.slice(0, at).some((kind) => kind.station === station && kind.type === type);
+    if (isBefore) throw reader.fault(["limit", at, "station"], `station ${station} type ${type} stands there twice`);
+  });
+  if (bus.length + kinds.length === 0) throw reader.fault([], "there is no limit");
+  return { bus, kinds };
+}
