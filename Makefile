@@ -52,7 +52,7 @@ VERSION = $(shell sed -n 's/.*\.version("\(.*\)").*/\1/p' crates/bus_tool/src/ar
 # scripts runs; what `rt` builds has copies of these.
 EXAMPLES = find examples -name __pycache__ -prune -o -name .pytest_cache -prune -o -type f
 COMMANDS = find scripts -maxdepth 1 -type f -perm -u+x ! -name self-test -printf '%f\n'
-SPECS = find crates -name out -prune -o -path '*/specs/Internal' -prune -o -path '*/specs/*.antt' -type f
+SPECS = find crates -name out -prune -o -path '*/specs/*.antt' -type f
 
 # The folders that may be empty in the end, inner ones first. Folders of the system itself stay.
 FOLDERS = "$(MANDIR)" "$(BASHDIR)" "$(DATADIR)/bash-completion" "$(ZSHDIR)" "$(DATADIR)/zsh" "$(FISHDIR)" \

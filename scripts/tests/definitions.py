@@ -271,7 +271,7 @@ def as_it_is_written(folder: Path) -> List[str]:
     """The text is what runs: an edit of it changes the listing."""
     options = read_words(["list", "--bits", "--dict", DICTIONARY])
     capture = (TOP / "examples" / "in-time-late-missing.bits").read_bytes()
-    others = shutil.ignore_patterns("src", "proofs", "out", "Internal", "must-fail", "wrong-bodies")
+    others = shutil.ignore_patterns("src", "proofs", "out", "must-fail", "wrong-bodies")
     shutil.copytree(TOP / "crates", folder / "crates", ignore=others)
     plain = definitions_of(folder).answer(options, capture)
     problems = differing(answered(["list", "--bits", "--dict", DICTIONARY], capture), plain, "the copy")

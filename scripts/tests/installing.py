@@ -123,9 +123,7 @@ def sources_by_place() -> Iterator[Tuple[str, Path]]:
     """Where each file is installed that is one of this repository."""
     yield from ((place, TOP / source) for place, source in SAME_FILES.items())
     for form in ["*.md", "docs/*.md", "docs/*.toml", "docs/*.png", "crates/*/specs/**/*.antt"]:
-        for path in TOP.glob(form):
-            if "Internal" not in path.parts:
-                yield f"share/port1/{path.relative_to(TOP)}", path
+        yield from ((f"share/port1/{path.relative_to(TOP)}", path) for path in TOP.glob(form))
     for place, folder in SAME_FOLDERS.items():
         yield from ((f"{place}/{name}", TOP / folder / name) for name in files_of(TOP / folder))
     for path in (TOP / "examples").rglob("*.*"):

@@ -88,7 +88,7 @@ EMPTY = b"""\
 The listing is empty: nothing is known of the bus. Where a fault was told, mend that first.
 """
 
-RATE_USAGE = "usage: {0} [-h] [--rate RATE]\n{0}: error: --rate: \"{1}\" is no whole number above 0\n"
+RATE_USAGE = "usage: {0} [-h] [--rate RATE]{2}\n{0}: error: --rate: \"{1}\" is no whole number above 0\n"
 
 NO_TYPE = "the listing has no frame of a type"
 
@@ -109,7 +109,7 @@ RUNS = [
     *(Run(row["name"], row["words"], text_of(row["listing"]), text_of(row["output"])) for row in VECTORS),
     Run("nothing", ["list-to-jsonl"], b""),
     Run("a last line without an end", ["list-to-jsonl"], b"8 9 open", b'{"first": 8, "past": 9, "kind": "open"}\n'),
-    Run("no rate", ["list-to-jsonl", "--rate", "0"], b"", b"", RATE_USAGE.format("list-to-jsonl", "0"), 2),
+    Run("no rate", ["list-to-jsonl", "--rate", "0"], b"", b"", RATE_USAGE.format("list-to-jsonl", "0", ""), 2),
     Run(
         "octets above 127",
         ["list-to-jsonl"],
@@ -134,7 +134,7 @@ RUNS = [
     Run("a wrong call", ["draft-dictionary", "x.txt"], b"", b"", DRAFT_USAGE, 2),
     Run("an empty listing", ["bus-summary"], b"", EMPTY),
     Run("no line", ["bus-summary"], b"8 9 open\n8 9\n", b"", bad_line("bus-summary", "8 9"), 2),
-    Run("no rate", ["bus-summary", "--rate=-1"], b"", b"", RATE_USAGE.format("bus-summary", "-1"), 2),
+    Run("no rate", ["bus-summary", "--rate=-1"], b"", b"", RATE_USAGE.format("bus-summary", "-1", " [--json]"), 2),
 ]
 
 
