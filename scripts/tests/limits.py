@@ -161,7 +161,10 @@ def compares_with_an_earlier_run(folder: Path) -> List[str]:
     for within, status in (("19", 1), ("20", 0)):
         got = ran(["bus-limits", f"--baseline={slow}", f"--within={within}", loose, f"a={slower}"])
         found += [] if got.returncode == status else [f"within {within}: {got.returncode}, {got.stdout!r}"]
-    return found
+    strange = wrote(folder, "strange.json", b'{"units": [{"name": "a", "statistics": {"kinds": 1}}]}')
+    got = ran(["bus-limits", f"--baseline={strange}", loose, f"a={good}"])
+    told = f"bus-limits: a: {strange} has no statistics of a\n".encode()
+    return found + ([] if (got.returncode, got.stderr) == (2, told) else [f"strange: {got.stderr!r}"])
 
 
 def names_faults(folder: Path) -> List[str]:

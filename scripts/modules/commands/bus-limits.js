@@ -59,7 +59,7 @@ async function baselineOf(file, rate) {
   const units = unitsIn(file);
   return (name) => {
     const found = units.find((unit) => unit.name === name)?.statistics;
-    if (!found) throw new Fault(`${file} has no statistics of ${name}`);
+    if (!Array.isArray(found?.kinds)) throw new Fault(`${file} has no statistics of ${name}`);
     return found;
   };
 }
